@@ -6,31 +6,14 @@ use Rattle.hc_generate.specs.{declared.exchange.Exchange.{Exchange}, Hearing.{cl
 
 closes_in-any : (x : ℕ) (acts : List Act) → list_any (closes x) acts ≡ closes_in x acts
 closes_in-any x [] = refl
-closes_in-any x (act.Opened y c need request ∷ acts) = closes_in-any x acts
-closes_in-any x (act.Ask y ∷ acts) = closes_in-any x acts
 closes_in-any x (act.Close y ∷ acts) = ap (λ (b : Bool). y == x || b) (closes_in-any x acts)
-closes_in-any x (act.Shown c r why status fields lo hi ∷ acts) = closes_in-any x acts
-closes_in-any x (act.Given c y at bytes ∷ acts) = closes_in-any x acts
-closes_in-any x (act.Ended c ∷ acts) = closes_in-any x acts
-closes_in-any x (act.Failed c cause ∷ acts) = closes_in-any x acts
-closes_in-any x (act.Pending c wait ∷ acts) = closes_in-any x acts
-closes_in-any x (act.Lost r kind ∷ acts) = closes_in-any x acts
-closes_in-any x (act.Evicted r ∷ acts) = closes_in-any x acts
-closes_in-any x (act.Denied refusal ∷ acts) = closes_in-any x acts
+closes_in-any x (_ ∷ acts) = closes_in-any x acts
 
 leaves_in-any : (c : ℕ) (acts : List Act) → list_any (leaves c) acts ≡ leaves_in c acts
 leaves_in-any c [] = refl
-leaves_in-any c (act.Opened y d need request ∷ acts) = leaves_in-any c acts
-leaves_in-any c (act.Ask y ∷ acts) = leaves_in-any c acts
-leaves_in-any c (act.Close y ∷ acts) = leaves_in-any c acts
-leaves_in-any c (act.Shown d r why status fields lo hi ∷ acts) = leaves_in-any c acts
-leaves_in-any c (act.Given d y at bytes ∷ acts) = leaves_in-any c acts
 leaves_in-any c (act.Ended d ∷ acts) = ap (λ (b : Bool). d == c || b) (leaves_in-any c acts)
 leaves_in-any c (act.Failed d cause ∷ acts) = ap (λ (b : Bool). d == c || b) (leaves_in-any c acts)
-leaves_in-any c (act.Pending d wait ∷ acts) = leaves_in-any c acts
-leaves_in-any c (act.Lost r kind ∷ acts) = leaves_in-any c acts
-leaves_in-any c (act.Evicted r ∷ acts) = leaves_in-any c acts
-leaves_in-any c (act.Denied refusal ∷ acts) = leaves_in-any c acts
+leaves_in-any c (_ ∷ acts) = leaves_in-any c acts
 
 -- those of which no act says so
 pub still_open-any : (acts : List Act) (exchanges : List Exchange) → filter (λ (e : Exchange). not (list_any (closes e.x) acts)) exchanges ≡ still_open acts exchanges

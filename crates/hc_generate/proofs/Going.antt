@@ -103,14 +103,12 @@ goes_on wanted s u made small is =
     record { later = after.later; short = after.short; within_limits = after.within_limits }
 
 pub short_made : {E : Type 0} (wanted : List ℕ) (s u : State) (r : Result (Option Event) E) → s.last + 1 < 2 ^ 62 → IfOk r (λ made. IsRound wanted s made u) → IfOk r IsShortIfMade
-short_made wanted s u (Err e) small is = tt
-short_made wanted s u (Ok None) small is = tt
 short_made wanted s u (Ok (Some e)) small is = (goes_on wanted s u (Some e) small is).short e refl
+short_made wanted s u _ small is = tt
 
 pub within_limits_made : {E : Type 0} (wanted : List ℕ) (s u : State) (r : Result (Option Event) E) → s.last + 1 < 2 ^ 62 → IfOk r (λ made. IsRound wanted s made u) → IfOk r IsWithinLimitsIfMade
-within_limits_made wanted s u (Err e) small is = tt
-within_limits_made wanted s u (Ok None) small is = tt
 within_limits_made wanted s u (Ok (Some e)) small is = (goes_on wanted s u (Some e) small is).within_limits e refl
+within_limits_made wanted s u _ small is = tt
 
 pub later_made : {E : Type 0} (wanted : List ℕ) (s u : State) (r : Result (Option Event) E) → s.last + 1 < 2 ^ 62 → is_err r ≡ false → IfOk r (λ made. IsRound wanted s made u) → s.moment ≤ u.moment
 later_made wanted s u (Err e) small ok is = absurd (let never : true ≡ false = ok in cc)

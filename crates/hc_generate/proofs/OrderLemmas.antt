@@ -1,5 +1,6 @@
 -- Numbers stay in order.
-use Rattle.std.{proofs.{Common.{◌≡◌, ℕ, ◌+◌, ◌≤◌, List, [], ◌∷◌, Bool, true, false, eqb, refl, ap, ◌∙◌, sym, inl, inr, arith, ◌||◌, ◌⊎◌}, lemmas.Bool.{cases_Bool, eqb-true, eq-eqb, or_right}}, specs.Prelude.{filter, Some, is_some}}
+use Rattle.std.{proofs.{Common.{◌≡◌, ℕ, ◌+◌, ◌≤◌, List, [], ◌∷◌, Bool, true, false, eqb, refl, ap, ◌∙◌, sym, inl, inr, arith}, lemmas.Bool.{cases_Bool, eqb-true, eq-eqb, or_right}}, specs.Prelude.{filter, Some, is_some}}
+use Rattle.hc_text.proofs.Basics.{or_cases as or_parts}
 use Rattle.hc_sorted.specs.Sorted.{has, is_at, item_with, with_item, without}
 use Rattle.hc_sorted.proofs.SortedLemmas.{has-with, has-without, has-found}
 use Rattle.hc_generate.specs.{declared.exchange.Exchange.{Exchange}, Sending.{number_of}, States.{itself}}
@@ -7,10 +8,6 @@ use Rattle.hc_generate.specs.{declared.exchange.Exchange.{Exchange}, Sending.{nu
 -- those that are live are at most `last`
 abbrev pub AreStarted : ℕ → List ℕ → Type 0
 AreStarted last live = (c : ℕ) → has itself c live ≡ true → c ≤ last
-
-or_parts : (a b : Bool) → a || b ≡ true → (a ≡ true) ⊎ (b ≡ true)
-or_parts true b h = inl refl
-or_parts false b h = inr h
 
 pub AreStarted-with : (last : ℕ) (live : List ℕ) → AreStarted last live → AreStarted (last + 1) (with_item itself (last + 1) live)
 AreStarted-with last live before c is = elim (or_parts (is_at itself c (last + 1)) (has itself c live) (sym (has-with itself c (last + 1) live) ∙ is)) [

@@ -1,5 +1,5 @@
 -- The keys are targets.
-use Rattle.std.{proofs.{Common.{◌≡◌, ℕ, zero, suc, ◌<◌, Bool, true, refl, arith}, lemmas.Bool.{and_parts}}, specs.{Prelude.{◌&&◌}, Fmt.{digits}}}
+use Rattle.std.{proofs.{Common.{◌≡◌, ℕ, suc, ◌<◌, Bool, true, refl, arith}, lemmas.Bool.{and_parts}}, specs.{Prelude.{◌&&◌}, Fmt.{digits}}}
 use Rattle.hc_text.specs.Cuts.{cut, behind}
 use Rattle.hc_target.specs.{Targets.{is_target, is_short_word}, PlainTargets.{is_plain_target}}
 use Rattle.hc_target.proofs.PlainTargets.{plain_target}
@@ -12,15 +12,8 @@ is_plain i = is_short_word (key_of i) && is_plain_target (key_of i)
 
 each_is_plain : (i : ℕ) → i < 8 → is_plain i ≡ true
 unfolding is_short_word is_plain_target cut behind digits
-each_is_plain zero lt = refl
-each_is_plain (suc zero) lt = refl
-each_is_plain (suc (suc zero)) lt = refl
-each_is_plain (suc (suc (suc zero))) lt = refl
-each_is_plain (suc (suc (suc (suc zero)))) lt = refl
-each_is_plain (suc (suc (suc (suc (suc zero))))) lt = refl
-each_is_plain (suc (suc (suc (suc (suc (suc zero)))))) lt = refl
-each_is_plain (suc (suc (suc (suc (suc (suc (suc zero))))))) lt = refl
 each_is_plain (suc (suc (suc (suc (suc (suc (suc (suc i)))))))) lt = absurd (let less : suc (suc (suc (suc (suc (suc (suc (suc i))))))) < 8 = lt in omega arith)
+each_is_plain _ lt = refl
 
 pub key_is_target : (i : ℕ) → i < 8 → is_target (key_of i) ≡ true
 key_is_target i lt =

@@ -12,8 +12,7 @@ bad_call text none = record { asked = Denies error.BadHead; gives = inl refl; co
 pub short_call : (text : List ℕ) (len : ℕ) (h : RequestHead) → ReadsRequest text h (drop len text) → len < length text → CallsFor text (Err error.BadHead)
 short_call text len h reads short =
     bad_call text (λ head x.
-    let same = request_unique text head h [] (drop len text) x.reads reads in
-    omega (arith, ap length same.1, length-drop len text))
+    omega (arith, ap length (request_unique text head h [] (drop len text) x.reads reads).1, length-drop len text))
 
 -- a head with too many fields
 pub full_call : (text rest : List ℕ) (h : RequestHead) → ReadsRequest text h rest → 64 < length h.fields → CallsFor text (Err error.BadHead)
@@ -32,8 +31,7 @@ never_call text never = bad_call text (λ head x. never [] head [] (subst (λ (t
 pub over_call : (text : List ℕ) → ((more : List ℕ) (h : RequestHead) (rest : List ℕ) → ReadsRequest (text ++ more) h rest → 64 < length h.fields) → CallsFor text (Err error.BadHead)
 over_call text over =
     bad_call text (λ head x.
-    let long : 64 < length head.fields = over [] head [] (subst (λ (t : List ℕ). ReadsRequest t head []) (sym (append-nil text)) x.reads) in
-    omega (arith, x.few, long))
+    omega (arith, x.few, over [] head [] (rw (append-nil text) x.reads)))
 
 pub whole_call : (text : List ℕ) (len : ℕ) (method target : List ℕ) (minor : ℕ) (fields : List (List ℕ × List ℕ)) (h : RequestHead) (result : Result WireRequest MsgError)
     → ReadsRequest text h (drop len text) → length text ≤ len → length h.fields ≤ 64 → method ≡ h.method → target ≡ h.target → minor ≡ h.minor → fields ≡ fields_of h.fields

@@ -4,8 +4,9 @@
 -- the text (`request_prints`, `response_prints`): its lines and the parts of its first line make the text again. The
 -- grammar reads one head at most, so the head that the equations find is the one that counts. Where they find none,
 -- there is none. `asked_in_is` and `heard_in_is` join this.
-use Rattle.std.{proofs.{Common.{◌≡◌, ℕ, zero, suc, ◌<◌, ◌≤◌, ◌==◌, Bool, true, false, List, [], ◌∷◌, ◌++◌, length, take, drop, refl, sym, ap, subst, ◌∙◌, inl, inr, arith, append_assoc, length-append}, lemmas.{Bool.{cases_Bool, and_parts, eqb-true, ne_eqb, ltb-true, ltb-false, lt-ltb}, Str.{IsUtf8-from_is_utf8, is_utf8-from_IsUtf8}, List.{append-nil, take-append-drop, drop-drop, Sums.{AllPass-from_list_all, list_all-from_AllPass}}, Slice.Eq.{bytes_eq-Decides}}}, specs.{Prelude.{◌&&◌, nat_lt, map, All, bytes_eq, codes, Option, Some, None, option_map, option_and_then, if◌then◌else◌}, List.{list_all, flat_map}, Char.{is_ascii_digit}, Str.{is_utf8}}}
+use Rattle.std.{proofs.{lemmas.{Bool.{cases_Bool, and_parts, eqb-true, ne_eqb, ltb-true, ltb-false, lt-ltb, Decides.{nat_tests}}, Str.{IsUtf8-from_is_utf8, is_utf8-from_IsUtf8}, List.{append-nil, take-append-drop, Sums.{AllPass-from_list_all, list_all-from_AllPass}}, Slice.Eq.{bytes_eq-Decides}}, Common.{◌≡◌, ℕ, zero, suc, ◌<◌, ◌≤◌, ◌==◌, Bool, true, false, List, [], ◌∷◌, ◌++◌, length, take, drop, refl, sym, ap, subst, ◌∙◌, inl, inr, arith, append_assoc, length-append}}, specs.{Prelude.{◌&&◌, nat_lt, map, All, bytes_eq, codes, Option, Some, None, option_map, option_and_then}, List.{list_all, flat_map}, Char.{is_ascii_digit}, Str.{is_utf8}}}
 use Rattle.hc_text.proofs.Basics.{mapped_from, not_some, some_inj as some_same}
+use Rattle.hc_rules.proofs.RangeReads.{if_passes}
 use Rattle.httparse.specs.Grammar.{LineEnd, print_end, print_blank, print_version, Field, IsField, print_section, RequestHead, IsRequestHead, print_request, ReadsRequest, ResponseHead, IsResponseHead, print_response, print_reason, reason_phrase, AllPass, ReadsResponse, is_token, is_token_byte, is_uri_byte, is_value_byte}
 use Rattle.httparse.proofs.GrammarLemmas.{cons-append, print_request-append, print_response-append, request_unique, response_unique}
 use Rattle.hc_head.specs.{Requests.{IsAskedBy}, Responses.{IsHeardIn}, HeadLines.{Line, lines_behind, is_empty, blank_in, behind_blank, before, behind, minor_of, Section, section_of, is_request, request_with, request_by, request_of_lines, request_head, reason_of, has_status, response_with, response_by, response_of_lines, response_head}, Decoding.{asked_by_head, asked_in, heard_by_head, heard_in}}
@@ -13,9 +14,8 @@ use Rattle.hc_head.proofs.{LineTexts.{is_plain, all_not, all_plain, plain_append
 
 -- lines that are printed are read
 version_plain : (minor : ℕ) → minor ≤ 1 → list_all is_plain (print_version minor) ≡ true
-version_plain zero h = refl
-version_plain (suc zero) h = refl
 version_plain (suc (suc n)) h = absurd (omega arith)
+version_plain _ h = refl
 
 word_line : (word rest : List ℕ) (end : LineEnd) → 0 < length word → is_empty (record { text = word ++ rest; end = end }) ≡ false
 word_line word rest end some = ne_eqb (length (word ++ rest)) 0 (λ e. omega (arith, e, length-append word rest))
@@ -24,9 +24,7 @@ word_line word rest end some = ne_eqb (length (word ++ rest)) 0 (λ e. omega (ar
 pub head_lines : (ends : List LineEnd) (text : List ℕ) (end : LineEnd) (fs : List Field) (last : LineEnd) → list_all is_plain text ≡ true → All IsField fs
     → lines_behind [] (print_blank ends ++ (text ++ (print_end end ++ print_section fs last)))
     ≡ Some (map empty_line ends ++ record { text = text; end = end } ∷ (map field_line fs ++ record { text = []; end = last } ∷ []))
-head_lines ends text end fs last plain fields =
-    blank_lines ends (text ++ (print_end end ++ print_section fs last)) (record { text = text; end = end } ∷ (map field_line fs ++ record { text = []; end = last } ∷ []))
-    (line_printed text end (print_section fs last) (map field_line fs ++ record { text = []; end = last } ∷ []) plain (section_lines fs last fields))
+head_lines ends text end fs last plain fields = search (arith, blank_lines, field_line, line_printed, section_lines)
 
 -- REQUESTS
 
@@ -50,11 +48,7 @@ request_read h is =
     let behind_both : minor_of (behind 32 (behind 32 (request_text h))) ≡ Some h.minor = ap (λ (t : List ℕ). minor_of (behind 32 t)) rest ∙ ap minor_of version ∙ minor in
     let own : before 32 (behind 32 (request_text h)) ≡ h.target = ap (before 32) rest ∙ target in
     let holds : is_request h.method h.target ≡ true = rw (token, some, targets, utf8) refl in
-    ap (request_with h.blank (record { text = request_text h; end = h.line_end }) (record { fields = h.fields; last = h.last })) behind_both
-    ∙ made (before 32 (request_text h)) (before 32 (behind 32 (request_text h))) method own holds where
-      made : (m t : List ℕ) → m ≡ h.method → t ≡ h.target → is_request h.method h.target ≡ true
-          → (if is_request m t then Some (record { blank = h.blank; method = m; target = t; minor = h.minor; line_end = h.line_end; fields = h.fields; last = h.last }) else None) ≡ Some h
-      made m t same own holds = rw (same, own, holds) refl
+    rw (behind_both, method, own, holds) refl
 
 request_plain : (h : RequestHead) → IsRequestHead h → list_all is_plain (request_text h) ≡ true
 request_plain h is =
@@ -64,9 +58,7 @@ request_plain h is =
 
 request_layout : (h : RequestHead) → print_request h ≡ print_blank h.blank ++ (request_text h ++ (print_end h.line_end ++ print_section h.fields h.last))
 request_layout h =
-    sym (append-nil (print_request h)) ∙ print_request-append h []
-    ∙ ap (λ (t : List ℕ). print_blank h.blank ++ (h.method ++ 32 ∷ (h.target ++ 32 ∷ (print_version h.minor ++ (print_end h.line_end ++ t))))) (append-nil (print_section h.fields h.last))
-    ∙ simp (append_assoc, cons-append)
+    rw (← append-nil (print_request h), print_request-append h []) (simp (append-nil, append_assoc, cons-append))
 
 pub request_reads : (text : List ℕ) (h : RequestHead) → ReadsRequest text h [] → request_head text ≡ Some h
 request_reads text h reads =
@@ -78,10 +70,7 @@ request_reads text h reads =
     let some = word_line h.method (32 ∷ (h.target ++ 32 ∷ print_version h.minor)) h.line_end is.method.0 in
     let blank = blank_read h.blank first more some in
     let rest = behind_read h.blank first more some in
-    ap (λ (t : List ℕ). option_and_then request_of_lines (lines_behind [] t)) layout ∙ ap (option_and_then request_of_lines) lines
-    ∙ ap (λ (b : List LineEnd). request_by b (behind_blank (map empty_line h.blank ++ first ∷ more))) blank ∙ ap (request_by h.blank) rest
-    ∙ ap (option_and_then (λ section. request_with h.blank first section (minor_of (behind 32 (behind 32 first.text))))) (section_read h.fields h.last is.fields)
-    ∙ request_read h is
+    rw (layout, lines, blank, rest, section_read h.fields h.last is.fields) (request_read h is)
 
 -- the other way
 pub record IsRequestLine (blank : List LineEnd) (line : Line) (section : Section) (h : RequestHead) : Type 0 where
@@ -100,35 +89,33 @@ request_make : (blank : List LineEnd) (line : Line) (section : Section) (h : Req
 request_make blank line section h fields found = by (minor_of (behind 32 (behind 32 line.text))) refl found where
   by : (minor : Option ℕ) → minor_of (behind 32 (behind 32 line.text)) ≡ minor → request_with blank line section minor ≡ Some h → IsRequestLine blank line section h
   by None is found = absurd (not_some h found)
-  by (Some minor) is found = elim (cases_Bool (is_request (before 32 line.text) (before 32 (behind 32 line.text)))) [
-    | inr miss ↦ absurd (not_some h (rw miss at found))
-    | inl holds ↦ (let method = before 32 line.text in
-        let rest = behind 32 line.text in
-        let target = before 32 rest in
-        let version = minor_make (behind 32 rest) minor is in
-        let second : rest ≡ target ++ 32 ∷ behind 32 rest = cut_makes 32 rest (cut_within 32 rest (some_version (behind 32 rest) minor version.1)) in
-        let first : line.text ≡ method ++ 32 ∷ rest = cut_makes 32 line.text (cut_within 32 line.text (omega (arith, ap length second, length-append target (32 ∷ behind 32 rest)))) in
-        let outer = and_parts ((is_token method && nat_lt 0 (length target)) && list_all is_uri_byte target) (is_utf8 target) holds in
-        let inner = and_parts (is_token method && nat_lt 0 (length target)) (list_all is_uri_byte target) outer.0 in
-        let parts = and_parts (is_token method) (nat_lt 0 (length target)) inner.0 in
-        let token = and_parts (nat_lt 0 (length method)) (list_all is_token_byte method) parts.0 in
-        let made : RequestHead = record { blank = blank; method = method; target = target; minor = minor; line_end = line.end; fields = section.fields; last = section.last } in
-        let same : made ≡ h = some_same made h (rw holds at found) in
-        subst (IsRequestLine blank line section) same (record {
-          is = record {
-            method = (ltb-true 0 (length method) token.0, AllPass-from_list_all is_token_byte method token.1);
-            target = (ltb-true 0 (length target) parts.1, AllPass-from_list_all is_uri_byte target inner.1);
-            target_text = IsUtf8-from_is_utf8 target outer.1;
-            minor = version.0;
-            fields = fields;
-          };
-          blank_is = refl;
-          text_is = first ∙ ap (λ (t : List ℕ). method ++ 32 ∷ t) second ∙ ap (λ (t : List ℕ). method ++ 32 ∷ (target ++ 32 ∷ t)) version.1;
-          end_is = refl;
-          fields_are = refl;
-          last_is = refl;
-        }))
-  ]
+  by (Some minor) is found =
+      let method = before 32 line.text in
+      let rest = behind 32 line.text in
+      let target = before 32 rest in
+      let holds = if_passes (is_request method target) _ h found in
+      let version = minor_make (behind 32 rest) minor is in
+      let second : rest ≡ target ++ 32 ∷ behind 32 rest = cut_makes 32 rest (cut_within 32 rest (some_version (behind 32 rest) minor version.1)) in
+      let first : line.text ≡ method ++ 32 ∷ rest = cut_makes 32 line.text (cut_within 32 line.text (omega (arith, ap length second, length-append target (32 ∷ behind 32 rest)))) in
+      let outer = and_parts ((is_token method && nat_lt 0 (length target)) && list_all is_uri_byte target) (is_utf8 target) holds.0 in
+      let inner = and_parts (is_token method && nat_lt 0 (length target)) (list_all is_uri_byte target) outer.0 in
+      let parts = and_parts (is_token method) (nat_lt 0 (length target)) inner.0 in
+      let token = and_parts (nat_lt 0 (length method)) (list_all is_token_byte method) parts.0 in
+      let made : RequestHead = record { blank = blank; method = method; target = target; minor = minor; line_end = line.end; fields = section.fields; last = section.last } in
+      subst (IsRequestLine blank line section) (some_same made h holds.1) (record {
+        is = record {
+          method = (ltb-true 0 (length method) token.0, AllPass-from_list_all is_token_byte method token.1);
+          target = (ltb-true 0 (length target) parts.1, AllPass-from_list_all is_uri_byte target inner.1);
+          target_text = IsUtf8-from_is_utf8 target outer.1;
+          minor = version.0;
+          fields = fields;
+        };
+        blank_is = refl;
+        text_is = first ∙ ap (λ (t : List ℕ). method ++ 32 ∷ t) second ∙ ap (λ (t : List ℕ). method ++ 32 ∷ (target ++ 32 ∷ t)) version.1;
+        end_is = refl;
+        fields_are = refl;
+        last_is = refl;
+      })
 
 made_request : (text : List ℕ) (blank : List LineEnd) (lines : List Line) (h : RequestHead) → text ≡ print_blank blank ++ flat_map print_line lines → request_by blank lines ≡ Some h → ReadsRequest text h []
 made_request text blank [] h is found = absurd (not_some h found)
@@ -137,14 +124,8 @@ made_request text blank (line ∷ lines) h is found =
     let behind_it = section_make lines section.0 section.1 in
     let made = request_make blank line section.0 h behind_it.fields section.2 in (
       made.is,
-      is ∙ ap (λ (t : List ℕ). print_blank blank ++ (print_line line ++ t)) behind_it.printed
-          ∙ ap (λ (b : List LineEnd). print_blank b ++ (print_line line ++ print_section section.0.fields section.0.last)) made.blank_is
-          ∙ ap (λ (t : List ℕ). print_blank h.blank ++ ((t ++ print_end line.end) ++ print_section section.0.fields section.0.last)) made.text_is
-          ∙ ap (λ (e : LineEnd). print_blank h.blank ++ ((request_text h ++ print_end e) ++ print_section section.0.fields section.0.last)) made.end_is
-          ∙ ap (λ (fs : List Field). print_blank h.blank ++ ((request_text h ++ print_end h.line_end) ++ print_section fs section.0.last)) made.fields_are
-          ∙ ap (λ (e : LineEnd). print_blank h.blank ++ ((request_text h ++ print_end h.line_end) ++ print_section h.fields e)) made.last_is
-          ∙ ap (λ (t : List ℕ). print_blank h.blank ++ t) (append_assoc (request_text h) (print_end h.line_end) (print_section h.fields h.last))
-          ∙ sym (request_layout h) ∙ sym (append-nil (print_request h)),
+      rw (is, behind_it.printed, append-nil (print_request h), request_layout h)
+          (rw (← append_assoc (request_text h) (print_end h.line_end) (print_section h.fields h.last)) cc),
     )
 
 pub request_prints : (text : List ℕ) (h : RequestHead) → request_head text ≡ Some h → ReadsRequest text h []
@@ -179,13 +160,11 @@ reason_make : (text : List ℕ) (reason : Option (List ℕ)) → reason_of text 
 reason_make [] reason h =
     let same : None ≡ reason = some_same None reason h in
     subst (λ (r : Option (List ℕ)). AllPass is_value_byte (reason_phrase r) × ([] ≡ print_reason r)) same (λ k d lt. absurd (omega arith), refl)
-reason_make (b ∷ phrase) reason h = elim (cases_Bool (b == 32 && list_all is_value_byte phrase)) [
-  | inr miss ↦ absurd (not_some reason (rw miss at h))
-  | inl hit ↦ (let parts = and_parts (b == 32) (list_all is_value_byte phrase) hit in
-      let same : Some phrase ≡ reason = some_same (Some phrase) reason (rw hit at h) in
-      subst (λ (r : Option (List ℕ)). AllPass is_value_byte (reason_phrase r) × (b ∷ phrase ≡ print_reason r)) same
-      (AllPass-from_list_all is_value_byte phrase parts.1, ap (λ (c : ℕ). c ∷ phrase) (eqb-true b 32 parts.0)))
-]
+reason_make (b ∷ phrase) reason h =
+    let hit = if_passes (b == 32 && list_all is_value_byte phrase) (Some (Some phrase)) reason h in
+    let parts = and_parts (b == 32) (list_all is_value_byte phrase) hit.0 in
+    rw (← some_same (Some phrase) reason hit.1)
+    (AllPass-from_list_all is_value_byte phrase parts.1, ap (λ (c : ℕ). c ∷ phrase) (eqb-true b 32 parts.0))
 
 response_read : (h : ResponseHead) (lines : List Line) → IsResponseHead h → section_of lines ≡ Some (record { fields = h.fields; last = h.last })
     → response_by h.blank (record { text = response_line h; end = h.line_end } ∷ lines) ≡ Some h
@@ -196,13 +175,10 @@ response_read h lines is sections = go h.minor h.digits is.minor is.digits.0 (li
   go : (minor : ℕ) (digits : List ℕ) → minor ≤ 1 → length digits ≡ 3 → list_all is_ascii_digit digits ≡ true
       → response_by h.blank (record { text = print_version minor ++ 32 ∷ (digits ++ print_reason h.reason); end = h.line_end } ∷ lines)
       ≡ Some (record { blank = h.blank; minor = minor; digits = digits; reason = h.reason; line_end = h.line_end; fields = h.fields; last = h.last })
-  go minor [] low three all = absurd (omega (arith, three))
-  go minor (a ∷ []) low three all = absurd (omega (arith, three))
-  go minor (a ∷ b ∷ []) low three all = absurd (omega (arith, three))
   go zero (a ∷ b ∷ c ∷ []) low three all = rw (all, sections, reasons) refl
   go (suc zero) (a ∷ b ∷ c ∷ []) low three all = rw (all, sections, reasons) refl
   go (suc (suc n)) (a ∷ b ∷ c ∷ []) low three all = absurd (omega arith)
-  go minor (a ∷ b ∷ c ∷ d ∷ digits) low three all = absurd (omega (arith, three))
+  go minor _ low three all = absurd (omega (arith, three))
 
 digits_plain : (digits : List ℕ) → list_all is_ascii_digit digits ≡ true → list_all is_plain digits ≡ true
 digits_plain digits all = all_plain is_ascii_digit refl refl digits all
@@ -218,11 +194,7 @@ response_plain h is =
 
 response_layout : (h : ResponseHead) → print_response h ≡ print_blank h.blank ++ (response_line h ++ (print_end h.line_end ++ print_section h.fields h.last))
 response_layout h =
-    sym (append-nil (print_response h)) ∙ print_response-append h []
-    ∙ ap (λ (t : List ℕ). print_blank h.blank ++ (print_version h.minor ++ 32 ∷ (h.digits ++ (print_reason h.reason ++ (print_end h.line_end ++ t))))) (append-nil (print_section h.fields h.last))
-    ∙ ap (λ (t : List ℕ). print_blank h.blank ++ t) (regroup (print_version h.minor) h.digits (print_reason h.reason) (print_end h.line_end ++ print_section h.fields h.last)) where
-      regroup : (v d r t : List ℕ) → v ++ 32 ∷ (d ++ (r ++ t)) ≡ (v ++ 32 ∷ (d ++ r)) ++ t
-      regroup v d r t = simp (append_assoc, cons-append)
+    rw (← append-nil (print_response h), print_response-append h []) (simp (append-nil, append_assoc, cons-append))
 
 pub response_reads : (text : List ℕ) (h : ResponseHead) → ReadsResponse text h [] → response_head text ≡ Some h
 response_reads text h reads =
@@ -234,21 +206,14 @@ response_reads text h reads =
     let some = word_line (print_version h.minor) (32 ∷ (h.digits ++ print_reason h.reason)) h.line_end (omega arith) in
     let blank = blank_read h.blank first more some in
     let rest = behind_read h.blank first more some in
-    ap (λ (t : List ℕ). option_and_then response_of_lines (lines_behind [] t)) layout ∙ ap (option_and_then response_of_lines) lines
-    ∙ ap (λ (b : List LineEnd). response_by b (behind_blank (map empty_line h.blank ++ first ∷ more))) blank ∙ ap (response_by h.blank) rest
-    ∙ response_read h more is (section_read h.fields h.last is.fields)
+    rw (layout, lines, blank, rest) (response_read h more is (section_read h.fields h.last is.fields))
 
 -- the other way
 split_at : (n : ℕ) (text : List ℕ) → text ≡ take n text ++ drop n text
 split_at n text = sym (take-append-drop n text)
 
 line_parts : (text version digits tail : List ℕ) → take 8 text ≡ version → take 1 (drop 8 text) ≡ 32 ∷ [] → take 3 (drop 9 text) ≡ digits → drop 12 text ≡ tail → text ≡ version ++ 32 ∷ (digits ++ tail)
-line_parts text version digits tail v s d t =
-    let one : drop 1 (drop 8 text) ≡ drop 9 text = drop-drop 1 8 text in
-    let three : drop 3 (drop 9 text) ≡ drop 12 text = drop-drop 3 9 text in
-    let nine : drop 9 text ≡ digits ++ tail = split_at 3 (drop 9 text) ∙ ap (λ (l : List ℕ). l ++ drop 3 (drop 9 text)) d ∙ ap (λ (l : List ℕ). digits ++ l) (three ∙ t) in
-    let eight : drop 8 text ≡ 32 ∷ (digits ++ tail) = split_at 1 (drop 8 text) ∙ ap (λ (l : List ℕ). l ++ drop 1 (drop 8 text)) s ∙ ap (λ (l : List ℕ). 32 ∷ l) (one ∙ nine) in
-    split_at 8 text ∙ ap (λ (l : List ℕ). l ++ drop 8 text) v ∙ ap (λ (l : List ℕ). version ++ l) eight
+line_parts text version digits tail v s d t = grind (arith, nat_tests)
 
 pub record IsResponseLine (blank : List LineEnd) (line : Line) (section : Section) (h : ResponseHead) : Type 0 where
   pub is : IsResponseHead h
@@ -283,23 +248,16 @@ response_make blank line section h minor fields status minors found =
 
 made_response : (text : List ℕ) (blank : List LineEnd) (lines : List Line) (h : ResponseHead) → text ≡ print_blank blank ++ flat_map print_line lines → response_by blank lines ≡ Some h → ReadsResponse text h []
 made_response text blank [] h is found = absurd (not_some h found)
-made_response text blank (line ∷ lines) h is found = elim (cases_Bool (has_status line.text)) [
-  | inr miss ↦ absurd (not_some h (rw miss at found))
-  | inl status ↦ (let section = bound_from (λ s. option_and_then (λ minor. option_map (response_with blank line s minor) (reason_of (drop 12 line.text))) (minor_of (take 8 line.text))) (section_of lines) h (rw status at found) in
-      let minor = bound_from (λ n. option_map (response_with blank line section.0 n) (reason_of (drop 12 line.text))) (minor_of (take 8 line.text)) h section.2 in
-      let behind_it = section_make lines section.0 section.1 in
-      let made = response_make blank line section.0 h minor.0 behind_it.fields status minor.1 minor.2 in (
-        made.is,
-        is ∙ ap (λ (t : List ℕ). print_blank blank ++ (print_line line ++ t)) behind_it.printed
-            ∙ ap (λ (b : List LineEnd). print_blank b ++ (print_line line ++ print_section section.0.fields section.0.last)) made.blank_is
-            ∙ ap (λ (t : List ℕ). print_blank h.blank ++ ((t ++ print_end line.end) ++ print_section section.0.fields section.0.last)) made.text_is
-            ∙ ap (λ (e : LineEnd). print_blank h.blank ++ ((response_line h ++ print_end e) ++ print_section section.0.fields section.0.last)) made.end_is
-            ∙ ap (λ (fs : List Field). print_blank h.blank ++ ((response_line h ++ print_end h.line_end) ++ print_section fs section.0.last)) made.fields_are
-            ∙ ap (λ (e : LineEnd). print_blank h.blank ++ ((response_line h ++ print_end h.line_end) ++ print_section h.fields e)) made.last_is
-            ∙ ap (λ (t : List ℕ). print_blank h.blank ++ t) (append_assoc (response_line h) (print_end h.line_end) (print_section h.fields h.last))
-            ∙ sym (response_layout h) ∙ sym (append-nil (print_response h)),
-      ))
-]
+made_response text blank (line ∷ lines) h is found =
+    let status = if_passes (has_status line.text) _ h found in
+    let section = bound_from (λ s. option_and_then (λ minor. option_map (response_with blank line s minor) (reason_of (drop 12 line.text))) (minor_of (take 8 line.text))) (section_of lines) h status.1 in
+    let minor = bound_from (λ n. option_map (response_with blank line section.0 n) (reason_of (drop 12 line.text))) (minor_of (take 8 line.text)) h section.2 in
+    let behind_it = section_make lines section.0 section.1 in
+    let made = response_make blank line section.0 h minor.0 behind_it.fields status.0 minor.1 minor.2 in (
+      made.is,
+      rw (is, behind_it.printed, append-nil (print_response h), response_layout h)
+          (rw (← append_assoc (response_line h) (print_end h.line_end) (print_section h.fields h.last)) cc),
+    )
 
 pub response_prints : (text : List ℕ) (h : ResponseHead) → response_head text ≡ Some h → ReadsResponse text h []
 response_prints text h found =

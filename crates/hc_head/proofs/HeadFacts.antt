@@ -4,7 +4,7 @@
 -- longer than it was, and begins and ends with no blank (`own_value`). So each field that the grammar has is good for
 -- the code (`good_at`), and there are as many. Names and values have no more bytes than the lines that print them
 -- (`size_fields`). So they have no more than the text of the head (`small_headers`, `small_asked`).
-use Rattle.std.{proofs.{Common.{◌≡◌, ℕ, zero, suc, ◌+◌, ◌-◌, ◌<◌, ◌≤◌, ◌==◌, true, false, List, [], ◌∷◌, ◌++◌, length, reverse, get_or, refl, sym, ap, subst, ◌∙◌, inl, inr, arith, length-append}, lemmas.{Bool.{cases_Bool, ne_eqb}, List.{length-reverse, reverse-append, reverse-reverse, get_or_append_left, Sums.{list_all-from_AllPass, sum_by-cons}}}, Math.Seq.{get_or-append_seam}}, specs.{Prelude.{◌⊎◌, ◌||◌, map, All, IsTrue}, List.{list_all, flat_map}}}
+use Rattle.std.{proofs.{Common.{◌≡◌, ℕ, zero, suc, ◌+◌, ◌-◌, ◌<◌, ◌≤◌, ◌==◌, true, false, List, [], ◌∷◌, ◌++◌, length, reverse, get_or, refl, sym, ap, subst, ◌∙◌, inl, inr, arith, length-append}, lemmas.{Bool.{cases_Bool}, List.{length-reverse, reverse-append, reverse-reverse, get_or_append_left, Sums.{list_all-from_AllPass, sum_by-cons}}}, Math.Seq.{get_or-append_seam}}, specs.{Prelude.{◌⊎◌, ◌||◌, map, All, IsTrue}, List.{list_all, flat_map}}}
 use Rattle.hc_text.proofs.Basics.{cond_either}
 use Rattle.http_header.specs.Token as header
 use Rattle.httparse.specs.Grammar as grammar
@@ -53,11 +53,9 @@ trim_len raw =
 size_fields : (fs : List Field) → size_of (fields_of fs) ≤ length (flat_map print_field fs)
 size_fields [] = omega arith
 size_fields (f ∷ fs) =
-    let value = trim_len f.raw in
     let rest = size_fields fs in
-    let lower = length-lowercase f.name in
     rw (sum_by-cons (λ (g : List ℕ × List ℕ). length g.0 + length g.1) (lowercase_field (name_and_value f)) (fields_of fs))
-    (simp length-append (omega (arith, value, rest, lower)))
+    (simp length-append (omega (arith, trim_len f.raw, rest, length-lowercase f.name)))
 
 -- a value has no blanks at its ends
 skip_suffix : (xs : List ℕ) → (p : List ℕ) × (xs ≡ p ++ skip_ows xs)
@@ -73,33 +71,18 @@ IsKeptFirst xs = (length xs ≡ 0) ⊎ (is_ows (get_or xs 0 0) ≡ false)
 own_ends : (y w p : List ℕ) → reverse y ≡ p ++ w → IsKeptFirst w → IsKeptFirst y → has_own_ends (reverse w) ≡ true
 own_ends y [] p same last first = refl
 own_ends y (b ∷ rest) p same (inl none) first = absurd (omega arith)
-own_ends y (b ∷ rest) p same (inr last) first = bounded first where
-  turned : reverse (b ∷ rest) ≡ reverse rest ++ b ∷ []
-  turned = reverse-append (b ∷ []) rest
-
-  len : length (reverse (b ∷ rest)) ≡ length rest + 1
-  len = length-reverse (b ∷ rest) ∙ omega arith
-
-  whole : y ≡ reverse (b ∷ rest) ++ reverse p
-  whole = sym (reverse-reverse y) ∙ ap reverse same ∙ reverse-append p (b ∷ rest)
-
-  head_is : get_or y 0 0 ≡ get_or (reverse (b ∷ rest)) 0 0
-  head_is = ap (λ (l : List ℕ). get_or l 0 0) whole ∙ get_or_append_left (reverse (b ∷ rest)) (reverse p) 0 0 (omega (arith, len))
-
-  last_is : get_or (reverse (b ∷ rest)) (length (reverse (b ∷ rest)) - 1) 0 ≡ b
-  last_is =
-      let at : length (reverse (b ∷ rest)) - 1 ≡ length (reverse rest) = omega (arith, len, length-reverse rest) in
-      rw at (ap (λ (l : List ℕ). get_or l (length (reverse rest)) 0) turned ∙ get_or-append_seam (reverse rest) b [] 0)
-
-  some : (length (reverse (b ∷ rest)) == 0) ≡ false
-  some = ne_eqb (length (reverse (b ∷ rest))) 0 (omega (arith, len))
-
-  bounded : IsKeptFirst y → has_own_ends (reverse (b ∷ rest)) ≡ true
-  bounded (inl none) = absurd (omega (arith, ap length whole, length-append (reverse (b ∷ rest)) (reverse p), len))
-  bounded (inr kept) =
-      let low : is_blank (get_or (reverse (b ∷ rest)) 0 0) ≡ false = ap is_blank (sym head_is) ∙ kept in
-      let high : is_blank (get_or (reverse (b ∷ rest)) (length (reverse (b ∷ rest)) - 1) 0) ≡ false = ap is_blank last_is ∙ last in
-      rw (low, high) (cond_either (length (reverse (b ∷ rest)) == 0))
+own_ends y (b ∷ rest) p same (inr last) first =
+    let len = length-reverse (b ∷ rest) in
+    let whole : y ≡ reverse (b ∷ rest) ++ reverse p = sym (reverse-reverse y) ∙ ap reverse same ∙ reverse-append p (b ∷ rest) in
+    let at-end : length (reverse (b ∷ rest)) - 1 ≡ length (reverse rest) = omega (arith, len, length-reverse rest) in
+    elim first [
+      | inl none ↦ absurd (omega (arith, ap length whole, length-append (reverse (b ∷ rest)) (reverse p), len))
+      | inr kept ↦
+          let low = rw (whole, get_or_append_left (reverse (b ∷ rest)) (reverse p) 0 0 (omega (arith, len))) at kept in
+          let high : is_blank (get_or (reverse (b ∷ rest)) (length (reverse (b ∷ rest)) - 1) 0) ≡ false =
+          rw (at-end, reverse-append (b ∷ []) rest, get_or-append_seam (reverse rest) b [] 0) last in
+          rw (low, high) (cond_either (length (reverse (b ∷ rest)) == 0))
+    ]
 
 pub own_value : (raw : List ℕ) → AllPass grammar.is_value_byte raw → is_own_value (trim_ows raw) ≡ true
 unfolding trim_ows
@@ -107,23 +90,17 @@ own_value raw h =
     let y = skip_ows raw in
     let cut = skip_suffix (reverse y) in
     let ends : has_own_ends (reverse (skip_ows (reverse y))) ≡ true = own_ends y (skip_ows (reverse y)) cut.0 cut.1 (skip_first (reverse y)) (skip_first raw) in
-    let bytes : list_all header.is_value_byte (trim_ows raw) ≡ true = value_bytes (trim_ows raw) (AllPass-trim_ows grammar.is_value_byte raw h) in
-    rw (bytes, ends) refl
+    rw (value_bytes (trim_ows raw) (AllPass-trim_ows grammar.is_value_byte raw h), ends) refl
 
 -- so the fields that the code has are good
 good_one : (x : Header) (f : Field) → IsField f → header_parts x ≡ name_and_value f → IsGood x
-good_one x f h same = record {
-  name = subst (λ (n : List ℕ). header.IsToken n) (sym (ap (λ (p : List ℕ × List ℕ). p.0) same)) (is_token f.name h.name);
-  is_value = ap is_own_value (ap (λ (p : List ℕ × List ℕ). p.1) same) ∙ own_value f.raw h.raw;
-}
+good_one x f h same = search (arith, is_token, own_value)
 
 pub good_at : (headers : List Header) (fields : List Field) → map header_parts headers ≡ map name_and_value fields → All IsField fields
     → (k : ℕ) (d : Header) → k < length headers → IsGood (get_or headers k d)
 good_at [] fields same h k d lt = absurd (omega arith)
 good_at (x ∷ xs) [] same h k d lt = cc
-good_at (x ∷ xs) (f ∷ fs) same h zero d lt =
-    let first : header_parts x ≡ name_and_value f = cc in
-    good_one x f (h zero f (omega arith)) first
+good_at (x ∷ xs) (f ∷ fs) same h zero d lt = good_one x f (h zero f (omega arith)) cc
 good_at (x ∷ xs) (f ∷ fs) same h (suc k) d lt =
     let rest : map header_parts xs ≡ map name_and_value fs = cc in
     good_at xs fs rest (λ j e q. h (suc j) e (omega arith)) k d (omega arith)
@@ -144,12 +121,8 @@ small_request h = simp length-append (omega (arith, size_fields h.fields))
 
 pub small_headers : (headers : List Header) (h : ResponseHead) (text rest : List ℕ) → map header_parts headers ≡ map name_and_value h.fields → ReadsResponse text h rest → length text ≤ 32768
     → size_of (fields_in headers) ≤ 32768
-small_headers headers h text rest same reads short =
-    let equal : size_of (fields_in headers) ≡ size_of (fields_of h.fields) = ap (λ (l : List (List ℕ × List ℕ)). size_of (map lowercase_field l)) same in
-    omega (arith, equal, small_response h, ap length reads.1, length-append (print_response h) rest)
+small_headers headers h text rest same reads short = search (arith, small_response, length-append)
 
 pub small_asked : (headers : List Header) (h : RequestHead) (text rest : List ℕ) → map header_parts headers ≡ map name_and_value h.fields → ReadsRequest text h rest → length text ≤ 32768
     → size_of (fields_in headers) ≤ 32768
-small_asked headers h text rest same reads short =
-    let equal : size_of (fields_in headers) ≡ size_of (fields_of h.fields) = ap (λ (l : List (List ℕ × List ℕ)). size_of (map lowercase_field l)) same in
-    omega (arith, equal, small_request h, ap length reads.1, length-append (print_request h) rest)
+small_asked headers h text rest same reads short = search (arith, small_request, length-append)

@@ -4,8 +4,9 @@
 -- `blank_make`), and the version (`minor_read`, `minor_make`). A name is a token, so it has no colon and no space, and
 -- a field line is cut behind it (`field_read`). An empty line ends the section, and none of its fields is one. What a
 -- whole head comes to is put together of these, request and answer.
-use Rattle.std.{proofs.{Common.{◌≡◌, ℕ, zero, suc, ◌<◌, ◌≤◌, true, false, List, [], ◌∷◌, ◌++◌, length, refl, sym, ap, subst, ◌∙◌, inl, inr, arith, append_assoc}, lemmas.{Bool.{cases_Bool, and_parts, eqb-true, ltb-true, lt-ltb}, List.{append-nil, Elements.{All-cons, All-head, All-tail}, Sums.{AllPass-from_list_all, list_all-from_AllPass}}, Slice.Eq.{bytes_eq-Decides}}}, specs.{Prelude.{nat_lt, map, All, bytes_eq, codes, Option, Some, None, option_map, option_and_then}, List.{list_all, flat_map}}}
+use Rattle.std.{proofs.{lemmas.{Bool.{cases_Bool, and_parts, eqb-true, ltb-true, lt-ltb, Decides.{nat_tests}}, List.{append-nil, Elements.{All-cons, All-head, All-tail}, Sums.{AllPass-from_list_all, list_all-from_AllPass}}, Slice.Eq.{bytes_eq-Decides}}, Common.{◌≡◌, ℕ, suc, ◌<◌, ◌≤◌, true, false, List, [], ◌∷◌, ◌++◌, length, refl, sym, ap, subst, ◌∙◌, inl, inr, arith, append_assoc}}, specs.{Prelude.{nat_lt, map, All, bytes_eq, codes, Option, Some, None, option_map, option_and_then}, List.{list_all, flat_map}}}
 use Rattle.hc_text.proofs.Basics.{mapped_from, not_some, some_inj as some_same}
+use Rattle.hc_rules.proofs.RangeReads.{if_passes}
 use Rattle.httparse.specs.Grammar.{LineEnd, print_end, print_blank, print_version, Field, print_field, IsField, print_section, is_token, is_token_byte, is_value_byte}
 use Rattle.httparse.proofs.GrammarLemmas.{cons-append}
 use Rattle.hc_head.specs.HeadLines.{Line, lines_behind, is_empty, blank_in, behind_blank, is_not, has_byte, before, behind, minor_of, is_field, if_field, field_of, Section, with_field, section_of}
@@ -43,14 +44,7 @@ unfolding is_token_byte
 no_space bytes h = all_not is_token_byte 32 refl bytes h
 
 field_read : (f : Field) → IsField f → field_of (field_line f) ≡ Some f
-field_read f h =
-    let names = no_colon f.name (token_all f h) in
-    let has = cut_has 58 f.name f.raw names in
-    let name = cut_before 58 f.name f.raw names in
-    let raw = cut_behind 58 f.name f.raw names in
-    let token = token_true f.name h.name.0 (token_all f h) in
-    let value = value_all f h in
-    rw (has, name, raw, token, value) refl
+field_read f h = search (arith, no_colon, token_all, cut_has, cut_before, cut_behind, token_true, value_all)
 
 pub section_read : (fs : List Field) (last : LineEnd) → All IsField fs → section_of (map field_line fs ++ record { text = []; end = last } ∷ []) ≡ Some (record { fields = fs; last = last })
 section_read [] last h = refl
@@ -58,8 +52,7 @@ section_read (f ∷ []) last h = let one = field_read f (All-head IsField f [] h
 section_read (f ∷ g ∷ fs) last h =
     let one = field_read f (All-head IsField f (g ∷ fs) h) in
     let rest = section_read (g ∷ fs) last (All-tail IsField f (g ∷ fs) h) in
-    ap (option_and_then (λ section. option_map (with_field section) (field_of (field_line f)))) rest
-    ∙ ap (option_map (with_field (record { fields = g ∷ fs; last = last }))) one
+    grind (arith, nat_tests)
 
 pub section_lines : (fs : List Field) (last : LineEnd) → All IsField fs → lines_behind [] (print_section fs last) ≡ Some (map field_line fs ++ record { text = []; end = last } ∷ [])
 section_lines [] last h = ap (lines_behind []) (sym (append-nil (print_end last))) ∙ line_printed [] last [] [] refl refl
@@ -68,26 +61,24 @@ section_lines (f ∷ fs) last h =
     let rest = section_lines fs last (All-tail IsField f fs h) in
     let names = token_plain f.name (token_all f field) in
     let values = all_plain is_value_byte refl refl f.raw (value_all f field) in
-    let plain : list_all is_plain (f.name ++ 58 ∷ f.raw) ≡ true = plain_append f.name (58 ∷ f.raw) names values in
-    let same : print_section (f ∷ fs) last ≡ (f.name ++ 58 ∷ f.raw) ++ (print_end f.end ++ print_section fs last) = simp (append_assoc, cons-append) in
-    ap (lines_behind []) same ∙ line_printed (f.name ++ 58 ∷ f.raw) f.end (print_section fs last) _ plain rest
+    grind (arith, nat_tests, plain_append, append_assoc, line_printed)
 
 field_make : (line : Line) (f : Field) → field_of line ≡ Some f → IsField f × (print_line line ≡ print_field f)
-field_make line f h = elim (cases_Bool (has_byte 58 line.text)) [
-  | inr miss ↦ absurd (not_some f (rw miss at h))
-  | inl has ↦ (let found : if_field (record { name = before 58 line.text; raw = behind 58 line.text; end = line.end }) ≡ Some f = rw has at h in
-      made (record { name = before 58 line.text; raw = behind 58 line.text; end = line.end }) found (cut_makes 58 line.text (ltb-true _ _ has)) refl)
-] where
-  made : (g : Field) → if_field g ≡ Some f → line.text ≡ g.name ++ 58 ∷ g.raw → line.end ≡ g.end → IsField f × (print_line line ≡ print_field f)
-  made g found text end = elim (cases_Bool (is_field g)) [
-    | inr miss ↦ absurd (not_some f (rw miss at found))
-    | inl is ↦ (let equal : g ≡ f = some_same g f (rw is at found) in
-        let parts = and_parts (is_token g.name) (list_all is_value_byte g.raw) is in
-        let token = and_parts (nat_lt 0 (length g.name)) (list_all is_token_byte g.name) parts.0 in
-        let field : IsField g = record { name = (ltb-true 0 (length g.name) token.0, AllPass-from_list_all is_token_byte g.name token.1); raw = AllPass-from_list_all is_value_byte g.raw parts.1 } in
-        let printed : print_line line ≡ print_field g = ap (λ (t : List ℕ). t ++ print_end line.end) text ∙ ap (λ (e : LineEnd). (g.name ++ 58 ∷ g.raw) ++ print_end e) end ∙ simp (append_assoc, cons-append) in
-        subst (λ (k : Field). IsField k × (print_line line ≡ print_field k)) equal (field, printed))
-  ]
+field_make line f h =
+    let g : Field = record { name = before 58 line.text; raw = behind 58 line.text; end = line.end } in
+    let has = if_passes (has_byte 58 line.text) (if_field g) f h in
+    let is = if_passes (is_field g) (Some g) f has.1 in
+    let parts = and_parts (is_token g.name) (list_all is_value_byte g.raw) is.0 in
+    let token = and_parts (nat_lt 0 (length g.name)) (list_all is_token_byte g.name) parts.0 in
+    let text = cut_makes 58 line.text (ltb-true _ _ has.0) in
+    let printed : print_line line ≡ print_field g = ap (λ (t : List ℕ). t ++ print_end line.end) text ∙ simp (append_assoc, cons-append) in
+    subst (λ (k : Field). IsField k × (print_line line ≡ print_field k)) (some_same g f is.1) (
+      record {
+        name = (ltb-true 0 (length g.name) token.0, AllPass-from_list_all is_token_byte g.name token.1);
+        raw = AllPass-from_list_all is_value_byte g.raw parts.1;
+      },
+      printed,
+    )
 
 empty_text : (line : Line) → is_empty line ≡ true → line.text ≡ []
 empty_text line h = nothing line.text (eqb-true (length line.text) 0 h) where
@@ -101,11 +92,7 @@ pub record IsMade (lines : List Line) (section : Section) : Type 0 where
 
 pub section_make : (lines : List Line) (section : Section) → section_of lines ≡ Some section → IsMade lines section
 section_make [] section h = absurd (not_some section h)
-section_make (line ∷ []) section h = elim (cases_Bool (is_empty line)) [
-  | inr miss ↦ absurd (not_some section (rw miss at h))
-  | inl hit ↦ (let same : record { fields = []; last = line.end } ≡ section = some_same _ section (rw hit at h) in
-      subst (IsMade (line ∷ [])) same (record { fields = λ k d lt. absurd (omega arith); printed = append-nil (print_line line) ∙ ap (λ (t : List ℕ). t ++ print_end line.end) (empty_text line hit) }))
-]
+section_make (line ∷ []) section h = grind (arith, nat_tests, is_empty, not_some, some_same, empty_text)
 section_make (line ∷ next ∷ lines) section h =
     let rest = bound_from (λ s. option_map (with_field s) (field_of line)) (section_of (next ∷ lines)) section h in
     let made = mapped_from (with_field rest.0) (field_of line) section rest.2 in
@@ -145,9 +132,8 @@ blank_make (line ∷ lines) = elim (cases_Bool (is_empty line)) [
 -- THE VERSION
 
 pub minor_read : (minor : ℕ) → minor ≤ 1 → minor_of (print_version minor) ≡ Some minor
-minor_read zero h = refl
-minor_read (suc zero) h = refl
 minor_read (suc (suc n)) h = absurd (omega arith)
+minor_read _ h = refl
 
 pub minor_make : (text : List ℕ) (minor : ℕ) → minor_of text ≡ Some minor → (minor ≤ 1) × (text ≡ print_version minor)
 minor_make text minor h = elim (cases_Bool (bytes_eq text (codes "HTTP/1.0"))) [

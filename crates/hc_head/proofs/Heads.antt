@@ -14,15 +14,11 @@ any_cons test headers i d total lt all = ap (list_any test) (sym (fields_from he
 
 pub any_next : (test : List ℕ × List ℕ → Bool) (headers : List Header) (i : ℕ) (d : Header) (is total : Bool) → i < length headers → is ≡ test (field_in (get_or headers i d)) → is ≡ false
     → list_any test (fields_in (drop i headers)) ≡ total → list_any test (fields_in (drop (i + 1) headers)) ≡ total
-any_next test headers i d is total lt told miss all =
-    let none : test (field_in (get_or headers i d)) ≡ false = sym told ∙ miss in
-    rw none at (any_cons test headers i d total lt all)
+any_next test headers i d is total lt told miss all = rw (sym told ∙ miss) at (any_cons test headers i d total lt all)
 
 pub any_here : (test : List ℕ × List ℕ → Bool) (headers : List Header) (i : ℕ) (d : Header) (is total : Bool) → i < length headers → is ≡ test (field_in (get_or headers i d)) → is ≡ true
     → list_any test (fields_in (drop i headers)) ≡ total → true ≡ total
-any_here test headers i d is total lt told hit all =
-    let here : test (field_in (get_or headers i d)) ≡ true = sym told ∙ hit in
-    rw here at (any_cons test headers i d total lt all)
+any_here test headers i d is total lt told hit all = rw (sym told ∙ hit) at (any_cons test headers i d total lt all)
 
 -- no value is long where the fields are within limits
 pub within_limits_at : (headers : List Header) (i : ℕ) (d : Header) → i < length headers → is_within_limits (fields_in headers) ≡ true → length (get_or headers i d).value.now ≤ 8192
@@ -38,9 +34,7 @@ pub kept_next : (leaving : Leaving) (all sorted next total : List (List ℕ × L
     → next ≡ with_field leaving all sorted (field_in (get_or headers i d))
     → put_all sorted (filter (is_kept leaving all) (fields_in (drop i headers))) ≡ total
     → put_all next (filter (is_kept leaving all) (fields_in (drop (i + 1) headers))) ≡ total
-kept_next leaving all sorted next total headers i d lt is h =
-    rw is (put_more (is_kept leaving all) (field_in (get_or headers i d)) sorted (fields_in (drop (i + 1) headers)))
-    ∙ ap (λ (fs : List (List ℕ × List ℕ)). put_all sorted (filter (is_kept leaving all) fs)) (sym (fields_from headers i d lt)) ∙ h
+kept_next leaving all sorted next total headers i d lt is h = search (arith, put_more, is_kept, fields_from)
 
 pub size_from : (headers : List Header) (i : ℕ) (d : Header) → i < length headers
     → size_of (fields_in (drop i headers)) ≡ size_of (field_in (get_or headers i d) ∷ []) + size_of (fields_in (drop (i + 1) headers))

@@ -1,5 +1,5 @@
 -- Names of fields that concern the connection alone are told apart by their lengths.
-use Rattle.std.{proofs.{Common.{◌≡◌, ◌≢◌, ℕ, Bool, false, List, length, inl, inr, sym, ap, ◌∙◌, arith}, lemmas.{Bool.{cases_Bool, false_from_ne_true}, Slice.Eq.{bytes_eq-Decides}}}, specs.Prelude.{codes, bytes_eq}}
+use Rattle.std.{proofs.{Common.{◌≡◌, ◌≢◌, ℕ, Bool, false, List, length, sym, ap, ◌∙◌, arith}, lemmas.{Bool.{false_from_ne_true}, Slice.Eq.{bytes_eq-Decides}}}, specs.Prelude.{codes, bytes_eq}}
 use Rattle.http_header.specs.Token.{lowercase}
 use Rattle.hc_fields.proofs.Kept.{length-lowercase}
 use Rattle.hc_head.specs.Rules.{is_hop_name}
@@ -11,14 +11,4 @@ other_length name word h =
     (λ e. h (sym (length-lowercase name) ∙ ap length ((bytes_eq-Decides (lowercase name) word).0 e)))
 
 pub hop_of_16 : (name : List ℕ) (is : Bool) → length name ≡ 16 → is ≡ bytes_eq (lowercase name) (codes "proxy-connection") → is ≡ is_hop_name (lowercase name)
-hop_of_16 name is long told =
-    let connection = other_length name (codes "connection") (λ e. omega (arith, long, e)) in
-    let keep_alive = other_length name (codes "keep-alive") (λ e. omega (arith, long, e)) in
-    let short = other_length name (codes "te") (λ e. omega (arith, long, e)) in
-    let trailer = other_length name (codes "trailer") (λ e. omega (arith, long, e)) in
-    let transfer = other_length name (codes "transfer-encoding") (λ e. omega (arith, long, e)) in
-    let upgrade = other_length name (codes "upgrade") (λ e. omega (arith, long, e)) in
-    elim (cases_Bool (bytes_eq (lowercase name) (codes "proxy-connection"))) [
-      | inl same ↦ rw (connection, keep_alive, short, trailer, transfer, upgrade, same) (told ∙ same)
-      | inr unlike ↦ rw (connection, keep_alive, short, trailer, transfer, upgrade, unlike) (told ∙ unlike)
-    ]
+hop_of_16 name is long told = search (arith, other_length)

@@ -4,8 +4,8 @@
 -- bytes has them (`all_plain`). So a plain line and its end are read as that line and that end (`line_printed`). A word
 -- before the first byte of a kind is found as that word (`cut_before`, `cut_behind`). The other way, lines that were
 -- read make the text again (`lines_make`), and so does a word, the byte behind it and the rest (`cut_makes`).
-use Rattle.std.{proofs.{Common.{◌≡◌, ℕ, suc, ◌+◌, ◌-◌, ◌<◌, ◌==◌, Bool, true, false, true≢false, List, [], ◌∷◌, ◌++◌, length, drop, refl, sym, ap, ◌∙◌, inl, inr, arith, append_assoc, length-append, length-drop}, lemmas.{Bool.{cases_Bool, and_parts, eqb-true, eq-eqb, false_from_ne_true, ne_eqb, lt-ltb}, List.{append-nil, take_at, drop_at, take-append-drop}, Slice.Eq.{bytes_eq-Decides}}}, specs.{Prelude.{◌&&◌, not, bytes_eq, Some, option_map}, List.{list_all, prefix_len, flat_map}}}
-use Rattle.hc_text.proofs.Basics.{mapped_from, not_some, some_inj as some_same}
+use Rattle.std.{proofs.{lemmas.{Bool.{cases_Bool, and_parts, eqb-true, eq-eqb, lt-ltb, Decides.{nat_tests}}, List.{append-nil, take_at, drop_at, take-append-drop}, Slice.Eq.{bytes_eq-Decides}}, Common.{◌≡◌, ℕ, suc, ◌+◌, ◌-◌, ◌<◌, ◌==◌, Bool, true, false, List, [], ◌∷◌, ◌++◌, length, drop, refl, sym, ap, ◌∙◌, inl, inr, arith, append_assoc, length-append, length-drop}}, specs.{Prelude.{◌&&◌, bytes_eq, Some, option_map}, List.{list_all, prefix_len, flat_map}}}
+use Rattle.hc_text.proofs.Basics.{mapped_from, some_inj as some_same}
 use Rattle.httparse.specs.Grammar.{LineEnd, crlf, lf, print_end}
 use Rattle.hc_head.specs.HeadLines.{Line, front, line_of, with_line, lines_behind, is_not, has_byte, before, behind}
 
@@ -14,25 +14,19 @@ abbrev pub is_plain : ℕ → Bool
 is_plain b = is_not 10 b && is_not 13 b
 
 not_is : (test : ℕ → Bool) (c b : ℕ) → test c ≡ false → test b ≡ true → is_not c b ≡ true
-not_is test c b lacks has = elim (cases_Bool (b == c)) [
-  | inl same ↦ absurd (true≢false (sym has ∙ ap test (eqb-true b c same) ∙ lacks))
-  | inr other ↦ ap not other
-]
+not_is test c b lacks has = grind (arith, nat_tests)
 
 pub all_not : (test : ℕ → Bool) (c : ℕ) → test c ≡ false → (bytes : List ℕ) → list_all test bytes ≡ true → list_all (is_not c) bytes ≡ true
 all_not test c lacks [] h = refl
 all_not test c lacks (b ∷ bytes) h =
     let parts = and_parts (test b) (list_all test bytes) h in
-    let one = not_is test c b lacks parts.0 in
-    rw one (all_not test c lacks bytes parts.1)
+    rw (not_is test c b lacks parts.0) (all_not test c lacks bytes parts.1)
 
 pub all_plain : (test : ℕ → Bool) → test 10 ≡ false → test 13 ≡ false → (bytes : List ℕ) → list_all test bytes ≡ true → list_all is_plain bytes ≡ true
 all_plain test ten thirteen [] h = refl
 all_plain test ten thirteen (b ∷ bytes) h =
     let parts = and_parts (test b) (list_all test bytes) h in
-    let one = not_is test 10 b ten parts.0 in
-    let two = not_is test 13 b thirteen parts.0 in
-    rw (one, two) (all_plain test ten thirteen bytes parts.1)
+    rw (not_is test 10 b ten parts.0, not_is test 13 b thirteen parts.0) (all_plain test ten thirteen bytes parts.1)
 
 pub plain_append : (xs ys : List ℕ) → list_all is_plain xs ≡ true → list_all is_plain ys ≡ true → list_all is_plain (xs ++ ys) ≡ true
 plain_append [] ys x y = y
@@ -41,14 +35,7 @@ plain_append (b ∷ xs) ys x y = let parts = and_parts (is_plain b) (list_all is
 -- the end of a line
 last_plain : (text : List ℕ) → list_all is_plain text ≡ true → bytes_eq (drop (length text - 1) text) (13 ∷ []) ≡ false
 last_plain [] h = refl
-last_plain (b ∷ []) h =
-    let plain = and_parts (is_plain b) true h in
-    let parts = and_parts (is_not 10 b) (is_not 13 b) plain.0 in
-    false_from_ne_true (bytes_eq (b ∷ []) (13 ∷ [])) (λ e.
-    let same : b ∷ [] ≡ 13 ∷ [] = (bytes_eq-Decides (b ∷ []) (13 ∷ [])).0 e in
-    let equal : b ≡ 13 = cc in
-    let never : is_not 13 b ≡ false = ap (is_not 13) equal in
-    true≢false (sym parts.1 ∙ never))
+last_plain (b ∷ []) h = grind (arith, nat_tests)
 last_plain (b ∷ c ∷ text) h =
     let parts = and_parts (is_plain b) (list_all is_plain (c ∷ text)) h in
     let at : length (b ∷ c ∷ text) - 1 ≡ suc (length (c ∷ text) - 1) = omega arith in
@@ -60,19 +47,14 @@ lf_line text h = let none = last_plain text h in rw none refl
 crlf_line : (text : List ℕ) → line_of (text ++ 13 ∷ []) ≡ record { text = text; end = crlf }
 crlf_line text =
     let len : length (text ++ 13 ∷ []) - 1 ≡ length text = simp length-append (omega arith) in
-    let last : drop (length (text ++ 13 ∷ []) - 1) (text ++ 13 ∷ []) ≡ 13 ∷ [] = drop_at text (13 ∷ []) _ (sym len) in
-    let first : front (text ++ 13 ∷ []) ≡ text = take_at text (13 ∷ []) _ (sym len) in
-    rw (last, first) refl
+    rw (drop_at text (13 ∷ []) _ (sym len), take_at text (13 ∷ []) _ (sym len)) refl
 
 -- a plain line and its end
 abbrev pub print_line : Line → List ℕ
 print_line line = line.text ++ print_end line.end
 
 not_ten : (b : ℕ) → is_plain b ≡ true → (b == 10) ≡ false
-not_ten b h = elim (cases_Bool (b == 10)) [
-  | inl hit ↦ (let never = rw hit at h in cc)
-  | inr miss ↦ miss
-]
+not_ten b h = grind (arith, nat_tests)
 
 end_behind : (text : List ℕ) (end : LineEnd) (rest : List ℕ) → list_all is_plain text ≡ true
     → lines_behind text (print_end end ++ rest) ≡ option_map (λ lines. record { text = text; end = end } ∷ lines) (lines_behind [] rest)
@@ -85,9 +67,8 @@ line_behind pre [] end rest p h =
     end_behind pre end rest p ∙ ap (λ (t : List ℕ). option_map (λ lines. record { text = t; end = end } ∷ lines) (lines_behind [] rest)) (sym (append-nil pre))
 line_behind pre (b ∷ text) end rest p h =
     let parts = and_parts (is_plain b) (list_all is_plain text) h in
-    let other = not_ten b parts.0 in
     let one : list_all is_plain (b ∷ []) ≡ true = rw parts.0 refl in
-    rw other (line_behind (pre ++ b ∷ []) text end rest (plain_append pre (b ∷ []) p one) parts.1
+    rw (not_ten b parts.0) (line_behind (pre ++ b ∷ []) text end rest (plain_append pre (b ∷ []) p one) parts.1
     ∙ ap (λ (t : List ℕ). option_map (λ lines. record { text = t; end = end } ∷ lines) (lines_behind [] rest)) (append_assoc pre (b ∷ []) text))
 
 pub line_printed : (text : List ℕ) (end : LineEnd) (rest : List ℕ) (lines : List Line) → list_all is_plain text ≡ true → lines_behind [] rest ≡ Some lines
@@ -105,9 +86,7 @@ line_made text = elim (cases_Bool (bytes_eq (drop (length text - 1) text) (13 �
 
 pub lines_make : (text bytes : List ℕ) (lines : List Line) → lines_behind text bytes ≡ Some lines → text ++ bytes ≡ flat_map print_line lines
 lines_make [] [] lines h = ap (flat_map print_line) (some_same [] lines h)
-lines_make (b ∷ text) [] lines h =
-    let some : (length (b ∷ text) == 0) ≡ false = ne_eqb (length (b ∷ text)) 0 (omega arith) in
-    absurd (not_some lines (rw some at h))
+lines_make (b ∷ text) [] lines h = grind (arith, nat_tests)
 lines_make text (b ∷ bytes) lines h = elim (cases_Bool (b == 10)) [
   | inl hit ↦ (let made = mapped_from (with_line text) (lines_behind [] bytes) lines (rw hit at h) in
       let rest = lines_make [] bytes made.0 made.1 in
@@ -129,9 +108,8 @@ cut_before b word rest h = take_at word (b ∷ rest) _ (sym (cut_len b word rest
 
 pub cut_behind : (b : ℕ) (word rest : List ℕ) → list_all (is_not b) word ≡ true → behind b (word ++ b ∷ rest) ≡ rest
 cut_behind b word rest h =
-    let len = cut_len b word rest h in
     ap (drop (prefix_len (is_not b) (word ++ b ∷ rest) + 1)) (sym (append_assoc word (b ∷ []) rest))
-    ∙ drop_at (word ++ b ∷ []) rest _ (simp length-append (omega (arith, len)))
+    ∙ drop_at (word ++ b ∷ []) rest _ (simp length-append (omega (arith, cut_len b word rest h)))
 
 pub cut_has : (b : ℕ) (word rest : List ℕ) → list_all (is_not b) word ≡ true → has_byte b (word ++ b ∷ rest) ≡ true
 cut_has b word rest h = lt-ltb (prefix_len (is_not b) (word ++ b ∷ rest)) (length (word ++ b ∷ rest)) (simp length-append (omega (arith, cut_len b word rest h)))

@@ -1,10 +1,9 @@
 -- Where Connection names no field but those that concern the connection alone anyway, no other field is an option.
-use Rattle.std.{proofs.{Common.{◌≡◌, ℕ, ◌<◌, Bool, true, false, List, [], ◌∷◌, length, get_or, zero, suc, refl, sym, ap, ◌∙◌, inl, inr, arith}, lemmas.{Bool.{cases_Bool, or_parts, or_right, or_left, true≢false}, Slice.Eq.{bytes_eq-Decides}}}, specs.{Prelude.{◌&&◌, ◌||◌, not, codes, bytes_eq}, List.{list_any}}}
+use Rattle.std.{proofs.{lemmas.{Bool.{or_parts, or_right, or_left, Decides.{nat_tests}}, Slice.Eq.{bytes_eq-Decides}}, Common.{◌≡◌, ℕ, ◌<◌, Bool, true, false, List, [], ◌∷◌, length, get_or, zero, suc, refl, ap, ◌∙◌, arith}}, specs.{Prelude.{◌&&◌, ◌||◌, not, bytes_eq}, List.{list_any}}}
 use Rattle.http_header.specs.Token.{lowercase}
-use Rattle.hc_text.specs.Elements.{elements}
 use Rattle.hc_fields.specs.FieldList.{has_name}
 use Rattle.httparse.specs.declared.borrowed.Header.{Header}
-use Rattle.hc_head.specs.{Rules.{is_there, is_hop_name, is_option, lists_name}, Options.{names_other, lists_other, is_other, has_others}, Held.{field_in, fields_in}}
+use Rattle.hc_head.specs.{Rules.{is_there, is_hop_name, is_option}, Options.{names_other, is_other, has_others}, Held.{field_in, fields_in}}
 
 named_is_other : (all : List (List ℕ × List ℕ)) (name : List ℕ) → is_there name all ≡ true → is_hop_name name ≡ false
     → (e : List ℕ) → bytes_eq (lowercase e) name ≡ true → names_other all e ≡ true
@@ -18,18 +17,11 @@ no_element all name present plain [] h = refl
 no_element all name present plain (e ∷ es) h =
     let parts = or_parts (names_other all e) (list_any (names_other all) es) h in
     let rest = no_element all name present plain es parts.1 in
-    elim (cases_Bool (bytes_eq (lowercase e) name)) [
-      | inl same ↦ absurd (true≢false (sym (named_is_other all name present plain e same) ∙ parts.0))
-      | inr other ↦ ap (λ (b : Bool). b || list_any (λ element. bytes_eq (lowercase element) name) es) other ∙ rest
-    ]
+    grind (arith, nat_tests, named_is_other)
 
 no_field : (all : List (List ℕ × List ℕ)) (name : List ℕ) → is_there name all ≡ true → is_hop_name name ≡ false
     → (f : List ℕ × List ℕ) → is_other all f ≡ false → is_option name f ≡ false
-no_field all name present plain f h = elim (cases_Bool (has_name (codes "connection") f)) [
-  | inl same ↦ (let none : lists_other all f.1 ≡ false = ap (λ (b : Bool). b && lists_other all f.1) (sym same) ∙ h in
-      ap (λ (b : Bool). b && lists_name name f.1) same ∙ no_element all name present plain (elements f.1) none)
-  | inr other ↦ ap (λ (b : Bool). b && lists_name name f.1) other
-]
+no_field all name present plain f h = search (arith, no_element)
 
 no_option_in : (all : List (List ℕ × List ℕ)) (name : List ℕ) → is_there name all ≡ true → is_hop_name name ≡ false
     → (fields : List (List ℕ × List ℕ)) → list_any (is_other all) fields ≡ false → list_any (is_option name) fields ≡ false

@@ -1,5 +1,5 @@
 -- What the text of a head comes to.
-use Rattle.std.{proofs.{Common.{◌≡◌, ℕ, ◌<◌, ◌≤◌, Bool, List, [], ◌++◌, length, drop, length-drop, refl, sym, ap, subst, ◌∙◌, inl, inr, arith}, lemmas.List.{drop_all, append-nil}}, specs.Prelude.{Result, Err}}
+use Rattle.std.{proofs.{Common.{◌≡◌, ℕ, ◌<◌, ◌≤◌, Bool, List, [], ◌++◌, length, drop, length-drop, refl, sym, ap, ◌∙◌, inl, inr, arith}, lemmas.List.{drop_all, append-nil}}, specs.Prelude.{Result, Err}}
 use Rattle.httparse.specs.Grammar.{ResponseHead, ReadsResponse, status_code}
 use Rattle.httparse.proofs.GrammarLemmas.{response_unique}
 use Rattle.hc_head.specs.{declared.{message.MsgError.{MsgError}, response.Reply.{Reply}}, Rules.{fields_of}, Responses.{Heard, Refuses, heard_of, IsResponse, IsHeardIn}, Replies.{Hears, RepliesTo}}
@@ -12,8 +12,7 @@ bad_reply told text none = record { heard = Refuses error.BadHead; hears = inl r
 pub short_reply : (told : Bool) (text : List ℕ) (len : ℕ) (h : ResponseHead) → ReadsResponse text h (drop len text) → len < length text → RepliesTo told text (Err error.BadHead)
 short_reply told text len h reads short =
     bad_reply told text (λ head x.
-    let same = response_unique text head h [] (drop len text) x.reads reads in
-    omega (arith, ap length same.1, length-drop len text))
+    omega (arith, ap length (response_unique text head h [] (drop len text) x.reads reads).1, length-drop len text))
 
 -- a head with too many fields
 pub full_reply : (told : Bool) (text rest : List ℕ) (h : ResponseHead) → ReadsResponse text h rest → 64 < length h.fields → RepliesTo told text (Err error.BadHead)
@@ -28,8 +27,7 @@ no_reply told text none = bad_reply told text (λ head x. none head [] x.reads)
 pub over_reply : (told : Bool) (text : List ℕ) → ((more : List ℕ) (h : ResponseHead) (rest : List ℕ) → ReadsResponse (text ++ more) h rest → 64 < length h.fields) → RepliesTo told text (Err error.BadHead)
 over_reply told text over =
     bad_reply told text (λ head x.
-    let long : 64 < length head.fields = over [] head [] (subst (λ (t : List ℕ). ReadsResponse t head []) (sym (append-nil text)) x.reads) in
-    omega (arith, x.few, long))
+    omega (arith, x.few, over [] head [] (rw (append-nil text) x.reads)))
 
 pub whole_reply : (told : Bool) (text : List ℕ) (len status : ℕ) (fields : List (List ℕ × List ℕ)) (h : ResponseHead) (result : Result Reply MsgError)
     → ReadsResponse text h (drop len text) → length text ≤ len → length h.fields ≤ 64 → status ≡ status_code h → fields ≡ fields_of h.fields
@@ -37,9 +35,8 @@ pub whole_reply : (told : Bool) (text : List ℕ) (len status : ℕ) (fields : L
 whole_reply told text len status fields h result reads whole few status_is fields_are hears = record {
   heard = heard_of told (status_code h) (fields_of h.fields);
   hears =
-      subst (λ (fs : List (List ℕ × List ℕ)). Hears result (heard_of told (status_code h) fs)) fields_are
-      (subst (λ (n : ℕ). Hears result (heard_of told n fields)) status_is hears);
-  comes = inl (h, record { reads = subst (λ (rest : List ℕ). ReadsResponse text h rest) (drop_all len text whole) reads; few = few }, refl);
+      rw (← fields_are) (rw (← status_is) hears);
+  comes = inl (h, record { reads = rw (← drop_all len text whole) reads; few = few }, refl);
 }
 
 -- it comes to one thing

@@ -6,7 +6,7 @@
 -- (`Passed-ends`), and in the rest no line ends (`Passed-rest`). The loop that seeks the end answers by these.
 use Rattle.std.{proofs.{Common.{◌≡◌, ℕ, ◌+◌, ◌≤◌, ◌==◌, true, false, List, [], ◌∷◌, ◌++◌, length, take, drop, refl, sym, ap, ◌∙◌, inl, inr, arith, append_assoc, length-append}, lemmas.{Bool.{and_parts, cases_Bool}, List.{take_at, drop_at}}}, specs.Prelude.{not}}
 use Rattle.hc_text.specs.Texts.{lacks}
-use Rattle.hc_head.specs.{declared.scan.Scan.{Scan, TheVariants.{Before, BeforeReturn, Within, Beginning, BeginningReturn, Ended}}, Scans.{scan_byte, scan_all, is_open, IsHeadEnd, StaysOpen, IsLineBefore}}
+use Rattle.hc_head.specs.{declared.scan.Scan.{Scan, TheVariants.{Before, Within, Beginning, Ended}}, Scans.{scan_byte, scan_all, is_open, IsHeadEnd, StaysOpen, IsLineBefore}}
 
 pub scan_all-append : (scan : Scan) (xs ys : List ℕ) → scan_all scan (xs ++ ys) ≡ scan_all (scan_all scan xs) ys
 scan_all-append scan [] ys = refl
@@ -27,20 +27,17 @@ within_line (b ∷ bytes) h =
 
 two_bytes : (scan : Scan) (a b : ℕ) → is_open scan ≡ true → (a == 10) ≡ false → (b == 10) ≡ false → scan_byte (scan_byte scan a) b ≡ Within
 two_bytes Before a b h na nb = elim (cases_Bool (a == 13)) [ inl hit ↦ rw (na, hit, nb) refl | inr other ↦ rw (na, other, nb) refl ]
-two_bytes BeforeReturn a b h na nb = rw (na, nb) refl
-two_bytes Within a b h na nb = rw (na, nb) refl
 two_bytes Beginning a b h na nb = elim (cases_Bool (a == 13)) [ inl hit ↦ rw (na, hit, nb) refl | inr other ↦ rw (na, other, nb) refl ]
-two_bytes BeginningReturn a b h na nb = rw (na, nb) refl
 two_bytes Ended a b h na nb = cc
+two_bytes _ a b h na nb = rw (na, nb) refl
 
 -- two bytes of a line and more lead within it
 pub long_line : (scan : Scan) (bytes : List ℕ) → 2 ≤ length bytes → is_open scan ≡ true → lacks 10 bytes ≡ true → scan_all scan bytes ≡ Within
-long_line scan [] two h line = absurd (omega arith)
-long_line scan (a ∷ []) two h line = absurd (omega arith)
 long_line scan (a ∷ b ∷ bytes) two h line =
     let first = and_parts (not (a == 10)) (lacks 10 (b ∷ bytes)) line in
     let second = and_parts (not (b == 10)) (lacks 10 bytes) first.1 in
     rw (two_bytes scan a b h (not_equal a 10 first.0) (not_equal b 10 second.0)) (within_line bytes second.1)
+long_line scan _ two h line = absurd (omega arith)
 
 -- how far a search has come: the bytes that were passed, and where they lead
 pub record Passed (scan : Scan) (bytes : List ℕ) (used : ℕ) (next : Scan) (rest : List ℕ) : Type 0 where
@@ -51,12 +48,8 @@ pub record Passed (scan : Scan) (bytes : List ℕ) (used : ℕ) (next : Scan) (r
   pub still_open : is_open next ≡ true
 
 closed : (scan : Scan) → is_open scan ≡ false → scan ≡ Ended
-closed Before h = cc
-closed BeforeReturn h = cc
-closed Within h = cc
-closed Beginning h = cc
-closed BeginningReturn h = cc
 closed Ended h = refl
+closed _ h = cc
 
 -- where a line stands in the rest
 line_is : (rest : List ℕ) (at : ℕ) (h : IsLineBefore rest at) → h.line ≡ take at rest
@@ -107,8 +100,4 @@ Passed-ends scan bytes used next rest at mid last h line leads still step over =
 -- the rest, in which no line ends
 pub Passed-rest : (scan : Scan) (bytes : List ℕ) (used : ℕ) (next : Scan) (rest : List ℕ) (last : Scan) → Passed scan bytes used next rest
     → last ≡ scan_all next rest → is_open last ≡ true → StaysOpen scan bytes last
-Passed-rest scan bytes used next rest last h leads still = record {
-  leads =
-      leads ∙ ap (λ (s : Scan). scan_all s rest) h.leads ∙ sym (scan_all-append scan h.front rest) ∙ ap (scan_all scan) h.whole;
-  still_open = still;
-}
+Passed-rest scan bytes used next rest last h leads still = search (arith, scan_all-append)

@@ -4,16 +4,17 @@
 -- (`own_fields`). Put one behind another they stay a list, as few and as small as the head (`put_spelled`), and leaving
 -- some out keeps that (`kept_spelled`). The tests that come before a head is granted or shown say the rest: each is met
 -- by the cases of the definition (`granted_by`, `shown_by`). `granted_spelled` and `shown_spelled` join these.
-use Rattle.std.{proofs.{Common.{◌≡◌, ℕ, suc, ◌+◌, ◌≤◌, Bool, true, false, List, [], ◌∷◌, length, refl, sym, ap, subst, ◌∙◌, inl, inr, arith, length-append}, lemmas.{Bool.{cases_Bool, and_parts, or_parts, leb-true, leb-false, ltb-false}, List.{Elements.{All-cons, All-head, All-tail, All-filter}, Sums.{list_all-from_AllPass, sum_by-cons}, Filters.{length-filter_both, sum_by-filter_both}}}}, specs.{Prelude.{◌||◌, not, nat_le, nat_lt, filter, All, codes, bytes_eq, Option, Some, None, Ok, Err}, Option.{option_and_then}, Str.{is_utf8}}}
+use Rattle.std.{proofs.{lemmas.{Bool.{cases_Bool, and_parts, leb-true, ltb-false, Decides.{nat_tests}}, List.{Elements.{All-cons, All-head, All-tail, All-filter}, Sums.{list_all-from_AllPass, sum_by-cons}, Filters.{length-filter_both, sum_by-filter_both}}}, Common.{◌≡◌, ℕ, suc, ◌+◌, ◌≤◌, Bool, true, false, List, [], ◌∷◌, length, refl, sym, ap, subst, ◌∙◌, inl, inr, arith, length-append}}, specs.{Prelude.{not, nat_le, nat_lt, filter, All, codes, bytes_eq, Option, Some, None}, Option.{option_and_then}, Str.{is_utf8}}}
 use Rattle.http_header.specs.Token as header
 use Rattle.httparse.specs.Grammar as grammar
 use Rattle.httparse.specs.{Grammar.{Field, status_code, print_request, print_response}, Spans.{name_and_value}}
 use Rattle.hc_fields.specs.FieldList.{IsField, IsFieldList, field_list_with, size_of}
 use Rattle.hc_fields.proofs.{Kept.{IsField-lowered, length-lowercase}, Edits.{length-put, size_of-put, IsFieldList-put}, Ends.{IsFieldList-nil}}
-use Rattle.hc_head.specs.{declared.{fields.Leaving.{Leaving, TheVariants.{Address}}, framing.Framing.{Framing}, message.{MsgError.{MsgError, TheVariants.{BadHead, BadLength, UnsupportedMethod}}, WireRequest.{WireRequest}}}, Rules.{lowercase_field, fields_of, is_within_limits, is_kept, put_all, kept_of}, Requests.{Grants, Denies, asked_text, asked_of, own_key, key_in, key_of, may_have_body, request_of, with_key, IsAskedBy}, Responses.{Skips, Shows, Refuses, framing_of, left_out, with_framing, is_interim, heard_of, IsHeardIn}, Spellings.{AreSpelledFields, IsSpelledRequest, IsSpelledResponse}}
-use Rattle.url.specs.{Parts.{Parts, serialize}, Parser.{Parsed, parse_url}, Setters.{set_fragment}}
+use Rattle.hc_head.specs.{declared.{fields.Leaving.{Leaving, TheVariants.{Address}}, framing.Framing.{Framing}, message.{MsgError.{MsgError, TheVariants.{BadHead, BadLength, UnsupportedMethod}}, WireRequest.{WireRequest}}}, Rules.{lowercase_field, fields_of, is_within_limits, is_kept, put_all, kept_of}, Requests.{Grants, Denies, asked_text, asked_of, own_key, key_in, key_of, may_have_body, request_of, with_key, IsAskedBy}, Responses.{Skips, Shows, Refuses, left_out, with_framing, heard_of, IsHeardIn}, Spellings.{AreSpelledFields, IsSpelledRequest, IsSpelledResponse}}
+use Rattle.url.specs.{Parts.{Parts, serialize}, Parser.{Parsed, parse_url}}
 use Rattle.hc_event.specs.declared.event.Response.{Response}
 use Rattle.hc_target.specs.Targets.{is_target}
+use Rattle.hc_rules.proofs.RangeReads.{if_passes}
 use Rattle.hc_head.proofs.HeadFacts.{is_token, own_value, small_request, small_response}
 
 -- the fields of a head, one by one
@@ -37,12 +38,11 @@ own_fields (f ∷ fs) h short small =
 put_spelled : (fields sorted : List (List ℕ × List ℕ)) → IsFieldList sorted → All IsField fields → length sorted + length fields ≤ 64 → size_of sorted + size_of fields ≤ 32768 → AreSpelledFields (put_all sorted fields)
 put_spelled [] sorted list all few small = record { list = list; within_limits = record { few = omega arith; small = omega arith } }
 put_spelled (f ∷ fields) sorted list all few small =
-    let count = length-put f.0 f.1 sorted in
     let bytes = size_of-put f.0 f.1 sorted in
     let size = one_size f fields in
     put_spelled fields (field_list_with f.0 f.1 sorted)
     (IsFieldList-put f.0 f.1 sorted list (All-head IsField f fields all) (omega arith) (omega (arith, size)))
-    (All-tail IsField f fields all) (omega (arith, count)) (omega (arith, bytes, size))
+    (All-tail IsField f fields all) (omega (arith, length-put f.0 f.1 sorted)) (omega (arith, bytes, size))
 
 filter_few : (p : List ℕ × List ℕ → Bool) (fields : List (List ℕ × List ℕ)) → length (filter p fields) ≤ length fields
 filter_few p fields = omega (arith, length-filter_both p (λ (f : List ℕ × List ℕ). not (p f)) (λ _. refl) fields)
@@ -68,23 +68,17 @@ refused_granted : (e : MsgError) (request : WireRequest) → Grants request ≡ 
 refused_granted e request h = cc
 
 own_key_target : (url : Parts) (key : List ℕ) → own_key url ≡ Some key → is_target key ≡ true
-own_key_target url key h = elim (cases_Bool (is_target (serialize url))) [
-  | inl is ↦ (let same : Some (serialize url) ≡ Some key = rw is at h in
-      let equal : serialize url ≡ key = cc in
-      subst (λ (t : List ℕ). is_target t ≡ true) equal is)
-  | inr other ↦ absurd (none_some (own_key url) key (rw other refl) h)
-]
+own_key_target url key h =
+    let hit = if_passes (is_target (serialize url)) (Some (serialize url)) key h in
+    let equal : serialize url ≡ key = cc hit.1 in
+    rw (← equal) hit.0
 
 key_in_target : (read : Parsed Parts) (key : List ℕ) → key_in read ≡ Some key → is_target key ≡ true
-key_in_target (Ok url) key h = own_key_target (set_fragment url None) key h
-key_in_target (Err e) key h = absurd (none_some None key refl h)
+key_in_target read key h = grind (arith, nat_tests)
 
 key_target : (text key : List ℕ) → key_of text ≡ Some key → is_target key ≡ true
 unfolding key_of
-key_target text key h = elim (cases_Bool (is_utf8 text)) [
-  | inl is ↦ (let read : key_in (parse_url None text) ≡ Some key = rw is at h in key_in_target (parse_url None text) key read)
-  | inr other ↦ (let none : None ≡ Some key = rw other at h in absurd (none_some None key refl none))
-]
+key_target text key h = key_in_target (parse_url None text) key (if_passes (is_utf8 text) (key_in (parse_url None text)) key h).1
 
 asked_target : (text : Option (List ℕ)) (key : List ℕ) → option_and_then key_of text ≡ Some key → is_target key ≡ true
 asked_target None key h = absurd (none_some None key refl h)
@@ -105,8 +99,7 @@ keyed method target minor fields request None is h = absurd (refused_granted Bad
 keyed method target minor fields request (Some key) is h = elim (cases_Bool (may_have_body fields)) [
   | inl body ↦ absurd (refused_granted BadLength request (rw body at h))
   | inr none ↦ (let same : Grants request ≡ Grants (request_of method minor fields key) = rw none at h in
-      let equal : request ≡ request_of method minor fields key = cc in
-      (key, asked_target (asked_text target fields) key (sym is), equal))
+      (key, asked_target (asked_text target fields) key (sym is), cc))
 ]
 
 granted_by : (method target : List ℕ) (minor : ℕ) (fields : List (List ℕ × List ℕ)) (request : WireRequest) → Grants request ≡ asked_of method target minor fields → IsGranted method target minor fields request
@@ -149,30 +142,14 @@ pub record IsShown (told : Bool) (status : ℕ) (fields : List (List ℕ × List
 
 framed : (status : ℕ) (fields : List (List ℕ × List ℕ)) (response : Response) (framing : Framing) (found : Option Framing) → Shows response framing ≡ with_framing status fields found
     → response ≡ record { status = status; fields = kept_of (left_out framing) fields }
-framed status fields response framing None h = absurd (refused_shown BadLength response framing h)
-framed status fields response framing (Some f) h =
-    let same : f ≡ framing = cc in
-    let equal : response ≡ record { status = status; fields = kept_of (left_out f) fields } = cc in
-    equal ∙ ap (λ (g : Framing). record { status = status; fields = kept_of (left_out g) fields }) same
+framed status fields response framing found h = grind (arith, nat_tests)
 
 skipped_shown : (response : Response) (framing : Framing) → Shows response framing ≡ Skips → ⊥
 skipped_shown response framing h = cc
 
 shown_by : (told : Bool) (status : ℕ) (fields : List (List ℕ × List ℕ)) (response : Response) (framing : Framing) → Shows response framing ≡ heard_of told status fields → IsShown told status fields response framing
 unfolding heard_of
-shown_by told status fields response framing h = elim (cases_Bool (is_within_limits fields)) [
-  | inr far ↦ absurd (refused_shown BadHead response framing (rw far at h))
-  | inl within ↦ elim (cases_Bool (is_interim status)) [
-    | inl interim ↦ absurd (skipped_shown response framing (rw (within, interim) at h))
-    | inr own ↦ elim (cases_Bool (nat_lt status 200 || nat_le 600 status)) [
-      | inl out ↦ absurd (refused_shown BadHead response framing (rw (within, own, out) at h))
-      | inr inside ↦ (let bounds = or_parts (nat_lt status 200) (nat_le 600 status) inside in
-          let low = ltb-false status 200 bounds.0 in
-          let high = leb-false 600 status bounds.1 in
-          record { short_values = within; low = low; high = omega (arith, high); is = framed status fields response framing (framing_of told status fields) (rw (within, own, inside) at h) })
-    ]
-  ]
-]
+shown_by told status fields response framing h = search arith
 
 pub shown_spelled : (no_body : Bool) (text : List ℕ) (response : Response) (framing : Framing) → length text ≤ 32768 → IsHeardIn no_body text (Shows response framing) → IsSpelledResponse response
 shown_spelled no_body text response framing long (inr x) = absurd (refused_shown BadHead response framing x.1)

@@ -4,22 +4,18 @@
 -- tells it (`heading_ends`); `heading_cut` takes a head apart into these. A head that is too long, or with which none
 -- begins, leads to its error. Chunk lines go the same way up to a line feed (`line_on`, `line_ends`). Bytes of a body
 -- are told as they are (`counts_on`, `chunk_on`, `runs_on`). What the code makes of a piece is compared with these.
-use Rattle.std.{proofs.{Common.{◌≡◌, ℕ, suc, ◌+◌, ◌-◌, ◌<◌, ◌≤◌, ◌==◌, true, false, true≢false, inl, inr, List, [], ◌∷◌, ◌++◌, length, take, refl, sym, ap, subst, ◌∙◌, arith, append_assoc, length-append, lt-ltb}, lemmas.{Bool.{cases_Bool, and_parts, ne_eqb, le-ltb}, List.{append-nil, take_at}}}, specs.Prelude.{not, nat_lt, map}}
+use Rattle.std.{proofs.{lemmas.{Bool.{cases_Bool, and_parts, ne_eqb, le-ltb, Decides.{nat_tests}}, List.{append-nil, take_at}}, Common.{◌≡◌, ℕ, suc, ◌+◌, ◌-◌, ◌<◌, ◌≤◌, ◌==◌, true, false, true≢false, inl, inr, List, [], ◌∷◌, ◌++◌, length, take, refl, sym, ap, subst, ◌∙◌, arith, append_assoc, length-append, lt-ltb}}, specs.Prelude.{not, map}}
 use Rattle.hc_text.specs.Texts.{lacks}
 use Rattle.hc_head.specs.declared.message.MsgError.TheVariants as error
-use Rattle.hc_head.specs.{declared.scan.Scan.{Scan, TheVariants.{Before, BeforeReturn, Within, Beginning, BeginningReturn, Ended}}, Scans.{scan_byte, scan_all, is_open, IsHeadEnd, IsLineBefore}, Finding.{IsLong}}
+use Rattle.hc_head.specs.{declared.scan.Scan.{Scan, TheVariants.{Ended}}, Scans.{scan_byte, scan_all, is_open, IsHeadEnd, IsLineBefore}, Finding.{IsLong}}
 use Rattle.hc_msg.specs.{Reading.{Kind, Requests, Responses, Reading, Heading, Counts, Runs, Sizing, Chunk, Failed, Byte, Step, quiet, fails, counts, chunk, begins_head, move_of, HeadMakes, LineMakes, Makes, Leads, TellsAtLast, Token}, Chunks.{IsLongLine}}
 use Rattle.hc_head.proofs.{ScanLemmas.{not_equal}, Starts.{begins_front}}
 use Rattle.hc_msg.proofs.Leading.{leads_on, leads_byte, stays_failed}
 
 pub open_before : (scan : Scan) (bytes : List ℕ) → is_open (scan_all scan bytes) ≡ true → is_open scan ≡ true
-open_before Before bytes h = refl
-open_before BeforeReturn bytes h = refl
-open_before Within bytes h = refl
-open_before Beginning bytes h = refl
-open_before BeginningReturn bytes h = refl
 open_before Ended [] h = h
 open_before Ended (b ∷ bytes) h = open_before Ended bytes h
+open_before _ bytes h = refl
 
 -- what begins a head begins as it does
 head_front : (kind : Kind) (xs ys : List ℕ) → begins_head kind (xs ++ ys) ≡ true → begins_head kind xs ≡ true
@@ -29,29 +25,21 @@ head_front (Responses no_body) xs ys h = refl
 goes_in_head : (kind : Kind) (scan : Scan) (text : List ℕ) (b : ℕ) → length text < 32768 → is_open (scan_byte scan b) ≡ true → begins_head kind (text ++ b ∷ []) ≡ true
     → Makes (move_of (Heading kind scan text) b) (quiet (Heading kind (scan_byte scan b) (text ++ b ∷ [])))
 unfolding move_of
-goes_in_head kind scan text b short still begins =
-    let small : nat_lt (length text) 32768 ≡ true = lt-ltb (length text) 32768 short in
-    rw (small, begins, still) refl
+goes_in_head kind scan text b short still begins = rw (lt-ltb (length text) 32768 short, begins, still) refl
 
 ends_head : (kind : Kind) (scan : Scan) (text : List ℕ) (b : ℕ) (step : Step) → length text < 32768 → is_open (scan_byte scan b) ≡ false → begins_head kind (text ++ b ∷ []) ≡ true
     → HeadMakes kind (text ++ b ∷ []) step → Makes (move_of (Heading kind scan text) b) step
 unfolding move_of
-ends_head kind scan text b step short over begins h =
-    let small : nat_lt (length text) 32768 ≡ true = lt-ltb (length text) 32768 short in
-    rw (small, begins, over) h
+ends_head kind scan text b step short over begins h = rw (lt-ltb (length text) 32768 short, begins, over) h
 
 refuses_head : (kind : Kind) (scan : Scan) (text : List ℕ) (b : ℕ) → length text < 32768 → begins_head kind (text ++ b ∷ []) ≡ false
     → Makes (move_of (Heading kind scan text) b) (fails error.BadHead)
 unfolding move_of
-refuses_head kind scan text b short never =
-    let small : nat_lt (length text) 32768 ≡ true = lt-ltb (length text) 32768 short in
-    rw (small, never) refl
+refuses_head kind scan text b short never = rw (lt-ltb (length text) 32768 short, never) refl
 
 passes_head : (kind : Kind) (scan : Scan) (text : List ℕ) (b : ℕ) → 32768 ≤ length text → Makes (move_of (Heading kind scan text) b) (fails error.HeadTooLong)
 unfolding move_of
-passes_head kind scan text b long =
-    let large : nat_lt (length text) 32768 ≡ false = le-ltb (length text) 32768 long in
-    rw large refl
+passes_head kind scan text b long = rw (le-ltb (length text) 32768 long) refl
 
 pub heading_on : (kind : Kind) (bytes : List ℕ) (scan : Scan) (text : List ℕ) → is_open (scan_all scan bytes) ≡ true → length text + length bytes ≤ 32768 → begins_head kind (text ++ bytes) ≡ true
     → Leads (Heading kind scan text) bytes [] (Heading kind (scan_all scan bytes) (text ++ bytes))
@@ -121,8 +109,7 @@ heading_long kind scan text piece h begins = past h.rest h.some h.whole where
       let mid = Heading kind (scan_all scan h.front) (text ++ h.front) in
       let on = heading_on kind h.front scan text h.still_open (omega (arith, h.len)) begins in
       let over : Makes (move_of mid b) (fails error.HeadTooLong) = passes_head kind (scan_all scan h.front) (text ++ h.front) b (simp length-append (omega (arith, h.len))) in
-      subst (λ (t : List ℕ). Leads (Heading kind scan text) t [] (Failed error.HeadTooLong)) whole
-      (leads_on (Heading kind scan text) h.front (b ∷ rest) [] [] mid (Failed error.HeadTooLong) on
+      rw (← whole) (leads_on (Heading kind scan text) h.front (b ∷ rest) [] [] mid (Failed error.HeadTooLong) on
       (fails error.HeadTooLong, [], over, stays_failed error.HeadTooLong rest, refl))
 
 -- bytes with which no head begins, of which all but the last don't end it
@@ -130,8 +117,7 @@ pub heading_refused : (kind : Kind) (bytes : List ℕ) (scan : Scan) (text : Lis
     → length text + length bytes ≤ 32768 → ((k : ℕ) → k < length bytes → is_open (scan_all scan (take k bytes)) ≡ true)
     → Leads (Heading kind scan text) bytes [] (Failed error.BadHead)
 heading_refused kind [] scan text before never short opens =
-    let same : begins_head kind (text ++ []) ≡ begins_head kind text = ap (begins_head kind) (append-nil text) in
-    absurd (true≢false (sym before ∙ sym same ∙ never))
+    absurd (true≢false (sym before ∙ sym (ap (begins_head kind) (append-nil text)) ∙ never))
 heading_refused kind (b ∷ []) scan text before never short opens =
     (fails error.BadHead, [], refuses_head kind scan text b (omega arith) never, stays_failed error.BadHead [], refl)
 heading_refused kind (b ∷ c ∷ bytes) scan text before never short opens =
@@ -146,21 +132,15 @@ heading_refused kind (b ∷ c ∷ bytes) scan text before never short opens =
 -- chunk lines
 goes_in_line : (text : List ℕ) (b : ℕ) → length text < 1024 → (b == 10) ≡ false → Makes (move_of (Sizing text) b) (quiet (Sizing (text ++ b ∷ [])))
 unfolding move_of
-goes_in_line text b short other =
-    let small : nat_lt (length text) 1024 ≡ true = lt-ltb (length text) 1024 short in
-    rw (small, other) refl
+goes_in_line text b short other = rw (lt-ltb (length text) 1024 short, other) refl
 
 ends_line : (text : List ℕ) (step : Step) → length text < 1024 → LineMakes (text ++ 10 ∷ []) step → Makes (move_of (Sizing text) 10) step
 unfolding move_of
-ends_line text step short h =
-    let small : nat_lt (length text) 1024 ≡ true = lt-ltb (length text) 1024 short in
-    rw small h
+ends_line text step short h = rw (lt-ltb (length text) 1024 short) h
 
 passes_line : (text : List ℕ) (b : ℕ) → 1024 ≤ length text → Makes (move_of (Sizing text) b) (fails error.BadChunk)
 unfolding move_of
-passes_line text b long =
-    let large : nat_lt (length text) 1024 ≡ false = le-ltb (length text) 1024 long in
-    rw large refl
+passes_line text b long = rw (le-ltb (length text) 1024 long) refl
 
 pub line_on : (bytes text : List ℕ) → lacks 10 bytes ≡ true → length text + length bytes ≤ 1024 → Leads (Sizing text) bytes [] (Sizing (text ++ bytes))
 line_on [] text h short = (refl, ap Sizing (append-nil text))
@@ -214,13 +194,12 @@ pub counts_on : (bytes : List ℕ) (left : ℕ) → length bytes ≤ left → Le
 unfolding move_of
 counts_on [] left h = (refl, ap counts (less_none left))
 counts_on (b ∷ bytes) left h =
-    let rest = counts_on bytes (left - 1) (omega arith) in
     let same : (left - 1) - length bytes ≡ left - length (b ∷ bytes) = omega arith in
-    subst (λ (s : Reading). Leads s (b ∷ bytes) (map Byte (b ∷ bytes)) (counts (left - length (b ∷ bytes)))) (sym (counts_some left (omega arith))) (
+    rw (← sym (counts_some left (omega arith))) (
       record { tokens = Byte b ∷ []; next = counts (left - 1) },
       map Byte bytes,
       refl,
-      subst (λ (n : ℕ). Leads (counts (left - 1)) bytes (map Byte bytes) (counts n)) same rest,
+      rw (← same) (counts_on bytes (left - 1) (omega arith)),
       refl,
     )
 

@@ -4,8 +4,8 @@
 -- what may follow it (`GoesOn`). So behind further bytes it says whether a request can begin with all of them (`begun`,
 -- `not_begun`). Where it can't, the first byte that shows it leads to BadHead. Before that byte the search for the end
 -- of the head is open (`AreOfHead`), so the reading was still within the head (`call_refused`).
-use Rattle.std.{proofs.{Common.{◌≡◌, ℕ, ◌+◌, ◌-◌, ◌<◌, ◌≤◌, true, false, List, [], ◌∷◌, ◌++◌, length, take, drop, refl, sym, ap, subst, ◌∙◌, inl, inr, arith, append_assoc, length-append, length-take}, lemmas.List.{append-nil, take_at, take-append-le, take-append-drop}}, specs.Prelude.{◌⊎◌, Result, Ok, Err}}
-use Rattle.hc_head.specs.{declared.{message.{MsgError.{MsgError}, WireRequest.{WireRequest}}, scan.{Scan.{Scan}, Sought.{Sought}}, start.Start.{Start, TheVariants.{Before, BeforeReturn, Method, Past}}}, Scans.{scan_all, is_open, IsHeadEnd, StaysOpen}, Starts.{begins_request, goes_on_from}, Finding.{IsLong, Finds}, Requests.{Asked, Grants, IsAskedBy}, Calls.{Gives}}
+use Rattle.std.{proofs.{lemmas.{Bool.Decides.{nat_tests}, List.{append-nil, take_at, take-append-le, take-append-drop}}, Common.{◌≡◌, ℕ, ◌+◌, ◌-◌, ◌<◌, ◌≤◌, true, false, List, [], ◌∷◌, ◌++◌, length, take, drop, refl, sym, ap, subst, ◌∙◌, inl, inr, arith, append_assoc, length-append, length-take}}, specs.Prelude.{◌⊎◌, Result, Ok, Err}}
+use Rattle.hc_head.specs.{declared.{message.{MsgError.{MsgError}, WireRequest.{WireRequest}}, scan.{Scan.{Scan}, Sought.{Sought}}, start.Start.{Start, TheVariants.{Before}}}, Scans.{scan_all, is_open, IsHeadEnd, StaysOpen}, Starts.{begins_request, goes_on_from}, Finding.{IsLong, Finds}, Requests.{Asked, Grants, IsAskedBy}, Calls.{Gives}}
 use Rattle.hc_head.specs.declared.message.MsgError.TheVariants as error
 use Rattle.hc_head.specs.declared.scan.Sought.TheVariants as sought
 use Rattle.hc_msg.specs.{Reading.{Requests, Heading, Failed, Asks, heading, after_asked, Leads, TellsAtLast}, Asking.{Called, GoesOn, head_count}}
@@ -51,9 +51,7 @@ call_fails scan held rest n e result ends short begins (inr tokens) is =
 -- the beginning of a head
 started : (start : Start) → goes_on_from start [] ≡ true
 started Before = refl
-started BeforeReturn = refl
-started (Method n) = refl
-started Past = refl
+started _ = refl
 
 pub begins_now : (start : Start) (held : List ℕ) → GoesOn start held → begins_request held ≡ true
 begins_now start held goes = ap begins_request (sym (append-nil held)) ∙ sym (goes []) ∙ started start
@@ -74,8 +72,7 @@ taken_open : (scan : Scan) (front rest piece : List ℕ) (k : ℕ) → is_open (
 taken_open scan front rest piece k still whole within =
     let cut : take k piece ≡ take k front = ap (take k) (sym whole) ∙ take-append-le k front rest within in
     let split : take k front ++ drop k front ≡ front = take-append-drop k front in
-    let opens = ap (λ (l : List ℕ). is_open (scan_all scan l)) split ∙ still in
-    rw cut (open_before (scan_all scan (take k front)) (drop k front) (ap is_open (sym (scan_all-append scan (take k front) (drop k front))) ∙ opens))
+    grind (arith, nat_tests, is_open, open_before, scan_all-append)
 
 pub of_head : (held : ℕ) (scan : Scan) (piece : List ℕ) (found : Result Sought MsgError) → held ≤ 32768 → Finds held scan piece found → AreOfHead held scan piece (head_count held piece found)
 of_head held scan piece (Ok (sought.Ends n)) fits finds = record {
@@ -88,11 +85,7 @@ of_head held scan piece (Ok (sought.Open next)) fits finds = record {
   short = finds.1;
   still_open = λ k lt. taken_open scan piece [] piece k (ap is_open (sym finds.0.leads) ∙ finds.0.still_open) (append-nil piece) (omega arith);
 }
-of_head held scan piece (Err e) fits finds = record {
-  within = omega (arith, finds.1.len, ap length finds.1.whole, length-append finds.1.front finds.1.rest);
-  short = omega arith;
-  still_open = λ k lt. taken_open scan finds.1.front finds.1.rest piece k finds.1.still_open finds.1.whole (omega (arith, finds.1.len));
-}
+of_head held scan piece (Err e) fits finds = search (arith, length-append, taken_open)
 
 pub call_refused : (scan : Scan) (held piece : List ℕ) (n : ℕ) → AreOfHead (length held) scan piece n → begins_request held ≡ true → begins_request (held ++ take n piece) ≡ false
     → Leads (Heading Requests scan held) piece [] (Failed error.BadHead)

@@ -1,5 +1,5 @@
 -- Texts that are appended one behind another.
-use Rattle.std.{proofs.{Common.{◌≡◌, ℕ, false, List, [], ◌∷◌, ◌++◌, length, take, drop, refl, sym, ap, ◌∙◌, append_assoc}, lemmas.List.{append-nil, take_at, take-append-drop}}, specs.Prelude.{codes}}
+use Rattle.std.{proofs.{Common.{arith, ◌≡◌, ℕ, false, List, [], ◌∷◌, ◌++◌, length, take, drop, refl, sym, ap, ◌∙◌, append_assoc}, lemmas.List.{append-nil, take_at, take-append-drop}}, specs.Prelude.{codes}}
 use Rattle.hc_event.specs.declared.event.Response.{Response}
 use Rattle.hc_msg.specs.Writing.{Keeps, crlf, line_of, lines_of, status_line, response_text, closing_of}
 
@@ -20,10 +20,4 @@ lines_push (g ∷ fields) f = ap (λ (t : List ℕ). line_of g ++ t) (lines_push
 
 pub closing : (response : Response) (x y z u : List ℕ) → y ≡ x ++ status_line response.status → z ≡ y ++ lines_of response.fields → u ≡ z ++ (codes "connection: close" ++ (crlf ++ crlf))
     → u ≡ x ++ response_text (closing_of response) false
-closing response x y z u p q r =
-    let tail = codes "connection: close" ++ (crlf ++ crlf) in
-    let lines : lines_of (response.fields ++ (codes "connection", codes "close") ∷ []) ++ crlf ≡ lines_of response.fields ++ tail =
-    ap (λ (t : List ℕ). t ++ crlf) (lines_push response.fields (codes "connection", codes "close")) ∙ append_assoc (lines_of response.fields) (line_of (codes "connection", codes "close")) crlf in
-    r ∙ ap (λ (t : List ℕ). t ++ tail) (q ∙ ap (λ (t : List ℕ). t ++ lines_of response.fields) p)
-    ∙ append_assoc (x ++ status_line response.status) (lines_of response.fields) tail ∙ append_assoc x (status_line response.status) (lines_of response.fields ++ tail)
-    ∙ ap (λ (t : List ℕ). x ++ (status_line response.status ++ t)) (sym lines)
+closing response x y z u p q r = search (arith, lines_push, append_assoc)

@@ -23,26 +23,19 @@ makes_is Stays step h = absurd h
 
 -- what a step that tells nothing leaves, and what one that tells something names
 silent : (made step : Step) (input : List ℕ) (go_on : Reading → Next) → step ≡ made → step.tokens ≡ [] → told_or made.tokens made.next input go_on ≡ go_on step.next
-silent made step input go_on same none =
-    subst (λ (m : Step). told_or m.tokens m.next input go_on ≡ go_on step.next) same (ap (λ (l : List Token). told_or l step.next input go_on) none)
+silent made step input go_on same none = rw (← same, none) refl
 
 telling : (made step : Step) (token : Token) (input : List ℕ) (go_on : Reading → Next) → step ≡ made → step.tokens ≡ token ∷ [] → told_or made.tokens made.next input go_on ≡ Tells token step.next input
-telling made step token input go_on same one =
-    subst (λ (m : Step). told_or m.tokens m.next input go_on ≡ Tells token step.next input) same (ap (λ (l : List Token). told_or l step.next input go_on) one)
+telling made step token input go_on same one = rw (← same, one) refl
 
 -- a byte of a body is told
 no_byte : (made step : Step) (b : ℕ) (rest : List Token) → step ≡ made → made.tokens ≡ Byte b ∷ [] → step.tokens ++ rest ≡ [] → ⊥
-no_byte made step b rest same is none =
-    let told : step.tokens ≡ Byte b ∷ [] = ap (λ (m : Step). m.tokens) same ∙ is in
-    let never : Byte b ∷ rest ≡ [] = ap (λ (l : List Token). l ++ rest) (sym told) ∙ none in
-    cc
+no_byte made step b rest same is none = cc (rw (same, is) at none)
 
 other_byte : (made step : Step) (b : ℕ) (token : Token) (rest : List Token) → ((c : ℕ) → token ≡ Byte c → ⊥) → step ≡ made → made.tokens ≡ Byte b ∷ [] → token ∷ [] ≡ step.tokens ++ rest → ⊥
 other_byte made step b token rest other same is one =
-    let told : step.tokens ≡ Byte b ∷ [] = ap (λ (m : Step). m.tokens) same ∙ is in
-    let all : token ∷ [] ≡ Byte b ∷ rest = one ∙ ap (λ (l : List Token). l ++ rest) told in
-    let first : token ≡ Byte b = cc in
-    other b first
+    let all : token ∷ [] ≡ Byte b ∷ rest = rw (same, is) at one in
+    other b cc
 
 left_nil : (xs ys : List Token) → [] ≡ xs ++ ys → xs ≡ []
 left_nil [] ys h = refl
@@ -67,23 +60,19 @@ done_next most (b ∷ input) = refl
 
 byte_next : (most : ℕ) (s : Reading) (b : ℕ) (input : List ℕ) (step : Step) (rest : List Token) → Makes (move_of s b) step → [] ≡ step.tokens ++ rest → next_in most s (b ∷ input) ≡ next_in most step.next input
 unfolding next_in move_of
-byte_next most (Heading kind scan text) b input step rest h none =
-    silent _ step input (λ t. next_in most t input) (makes_is (move_of (Heading kind scan text) b) step h) (left_nil step.tokens rest none)
 byte_next most (Counts left) b input step rest h none = absurd (no_byte _ step b rest h refl (sym none))
 byte_next most Runs b input step rest h none = absurd (no_byte _ step b rest h refl (sym none))
-byte_next most (Sizing text) b input step rest h none =
-    silent _ step input (λ t. next_in most t input) (makes_is (move_of (Sizing text) b) step h) (left_nil step.tokens rest none)
 byte_next most (Chunk left) b input step rest h none = absurd (no_byte _ step b rest h refl (sym none))
 byte_next most ChunkEnd b input step rest h none =
     silent _ step input (λ t. next_in most t input) (makes_is (move_of ChunkEnd b) step h) (left_nil step.tokens rest none)
 byte_next most ChunkReturn b input step rest h none =
     silent _ step input (λ t. next_in most t input) (makes_is (move_of ChunkReturn b) step h) (left_nil step.tokens rest none)
-byte_next most (Trailing place count) b input step rest h none =
-    silent _ step input (λ t. next_in most t input) (makes_is (move_of (Trailing place count) b) step h) (left_nil step.tokens rest none)
 byte_next most Whole b input step rest h none = absurd h
 byte_next most Done b input step rest h none = absurd h
 byte_next most (Failed e) b input step rest h none =
     sym (ap (λ (m : Step). next_in most m.next input) h ∙ failed_next most e input)
+byte_next most v b input step rest h none =
+    silent _ step input (λ t. next_in most t input) (makes_is (move_of v b) step h) (left_nil step.tokens rest none)
 
 pub passes_next : (most : ℕ) (s mid : Reading) (xs ys : List ℕ) → Leads s xs [] mid → next_in most s (xs ++ ys) ≡ next_in most mid ys
 passes_next most s mid [] ys h = ap (λ (r : Reading). next_in most r ys) (sym h.1)
@@ -114,33 +103,26 @@ last_next most s b input token step rest other h none one = by s h where
   only = sym (append-nil step.tokens) ∙ ap (λ (l : List Token). step.tokens ++ l) (sym none) ∙ sym one
 
   by : (s : Reading) → Makes (move_of s b) step → next_in most s (b ∷ input) ≡ Tells token step.next input
-  by (Heading kind scan text) h = telling _ step token input (λ t. next_in most t input) (makes_is (move_of (Heading kind scan text) b) step h) only
   by (Counts left) h = absurd (other_byte _ step b token rest other h refl one)
   by Runs h = absurd (other_byte _ step b token rest other h refl one)
-  by (Sizing text) h = telling _ step token input (λ t. next_in most t input) (makes_is (move_of (Sizing text) b) step h) only
   by (Chunk left) h = absurd (other_byte _ step b token rest other h refl one)
   by ChunkEnd h = telling _ step token input (λ t. next_in most t input) (makes_is (move_of ChunkEnd b) step h) only
   by ChunkReturn h = telling _ step token input (λ t. next_in most t input) (makes_is (move_of ChunkReturn b) step h) only
-  by (Trailing place count) h = telling _ step token input (λ t. next_in most t input) (makes_is (move_of (Trailing place count) b) step h) only
   by Whole h = absurd h
   by Done h = absurd h
   by (Failed e) h = let never : [] ≡ token ∷ [] = ap (λ (m : Step). m.tokens) (sym h) ∙ only in absurd cc
+  by v h = telling _ step token input (λ t. next_in most t input) (makes_is (move_of v b) step h) only
 
 pub tells_next : (most : ℕ) (s : Reading) (text rest : List ℕ) (token : Token) (t : Reading) → ((c : ℕ) → token ≡ Byte c → ⊥) → TellsAtLast s text token t → next_in most s (text ++ rest) ≡ Tells token t rest
 tells_next most s text rest token t other h =
-    let same : text ++ rest ≡ h.before ++ (h.last ∷ rest) = ap (λ (l : List ℕ). l ++ rest) (sym h.whole) ∙ append_assoc h.before (h.last ∷ []) rest in
-    let there : h.tells.0.next ≡ t = sym h.tells.3.1 in
-    ap (next_in most s) same ∙ passes_next most s h.mid h.before (h.last ∷ rest) h.passes
-    ∙ last_next most h.mid h.last rest token h.tells.0 h.tells.1 other h.tells.2 h.tells.3.0 h.tells.4
-    ∙ ap (λ (r : Reading). Tells token r rest) there
+    rw (← h.whole, append_assoc, passes_next most s h.mid h.before (h.last ∷ rest) h.passes, h.tells.3.1)
+    (last_next most h.mid h.last rest token h.tells.0 h.tells.1 other h.tells.2 h.tells.3.0 h.tells.4)
 
 -- BYTES OF A BODY
 
 -- such bytes, which lead on
 brought_as : (k n : ℕ) (input bytes : List ℕ) (mid t : Reading) → k ≡ n → bytes ≡ take n input → t ≡ body_behind mid n → Brings (take k input) (body_behind mid k) (drop k input) ≡ Brings bytes t (drop n input)
-brought_as k n input bytes mid t same are there =
-    ap (λ (m : ℕ). Brings (take m input) (body_behind mid m) (drop m input)) same
-    ∙ ap (λ (l : List ℕ). Brings l (body_behind mid n) (drop n input)) (sym are) ∙ ap (λ (r : Reading). Brings bytes r (drop n input)) (sym there)
+brought_as k n input bytes mid t same are there = rw (same, are, there) refl
 
 body_next : (most : ℕ) (mid : Reading) (input bytes : List ℕ) (t : Reading) → 0 < length bytes → bytes ≡ take (length bytes) input → length bytes ≡ min most (stretch mid (length input))
     → Leads mid bytes (byte_tokens bytes) t → next_in most mid input ≡ Brings bytes t (drop (length bytes) input)
@@ -148,8 +130,7 @@ unfolding next_in
 body_next most mid [] bytes t some are count leads = absurd (omega (arith, ap length are, length-take {A = ℕ} (length bytes) []))
 body_next most (Counts left) (b ∷ input) bytes t some are count leads =
     let here : nat_lt 0 (min left 1) ≡ true = lt-ltb 0 (min left 1) (omega arith) in
-    let on : Leads (Counts left) bytes (byte_tokens bytes) (counts (left - length bytes)) =
-    subst (λ (s : Reading). Leads s bytes (byte_tokens bytes) (counts (left - length bytes))) (counts_some left (omega arith)) (counts_on bytes left (omega arith)) in
+    let on = rw (counts_some left (omega arith)) at (counts_on bytes left (omega arith)) in
     let one = leads_one (Counts left) bytes (byte_tokens bytes) (byte_tokens bytes) t (counts (left - length bytes)) leads on in
     rw here (brought_as _ (length bytes) (b ∷ input) bytes (Counts left) t (omega arith) are one.next)
 body_next most Runs (b ∷ input) bytes t some are count leads =
@@ -177,17 +158,9 @@ brings_next most s piece used bytes t h =
 -- WHAT THE READERS TAKE
 
 waits : (t : Reading) → goes_on t ≡ true → stopped t ≡ Waits t
-waits (Heading kind scan text) h = refl
-waits (Counts left) h = refl
-waits Runs h = refl
-waits (Sizing text) h = refl
-waits (Chunk left) h = refl
-waits ChunkEnd h = refl
-waits ChunkReturn h = refl
-waits (Trailing place count) h = refl
 waits Whole h = cc
-waits Done h = refl
 waits (Failed e) h = cc
+waits _ h = refl
 
 open_next : (most : ℕ) (t : Reading) → goes_on t ≡ true → next_in most t [] ≡ Waits t
 unfolding next_in
@@ -199,10 +172,8 @@ error_next most s piece e (inr failed) = inr (all_next most s (Failed e) piece f
 
 spent_next : (most : ℕ) (s : Reading) (piece : List ℕ) (used : ℕ) (t : Reading) → Leads s (take used piece) [] t → IsSpent s (length piece) used t → next_in most s piece ≡ Waits t
 spent_next most s piece used t leads (inl all) =
-    let none : drop used piece ≡ [] = drop_all used piece (omega (arith, all.0)) in
-    front_next most s t piece used leads ∙ ap (next_in most t) none ∙ open_next most t all.1
-spent_next most s piece used t leads (inr done) =
-    ap (λ (r : Reading). next_in most r piece) done.0 ∙ done_next most piece ∙ ap Waits (sym done.2)
+    rw (front_next most s t piece used leads, drop_all used piece (omega (arith, all.0))) (open_next most t all.1)
+spent_next most s piece used t leads (inr done) = rw (done.0, done.2) (done_next most piece)
 
 completes_next : (most : ℕ) (s : Reading) (piece : List ℕ) (used : ℕ) (got : Option WirePart) (t : Reading) → Completes s piece most used got t → IsNextPart (next_in most s piece) piece used got t
 completes_next most s piece used None t h = spent_next most s piece used t h.0 h.1

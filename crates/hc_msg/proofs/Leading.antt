@@ -4,12 +4,12 @@
 -- over the bytes what they lead to is one (`leads_one`). Bytes that are put together lead where the second lead from
 -- the first (`leads_on`), and what both lead to may be taken apart (`leads_apart`). An error stays. A token that is
 -- told at the last byte is told alone, behind bytes that tell nothing (`tells_on`).
-use Rattle.std.proofs.{Common.{◌≡◌, ℕ, Bool, List, [], ◌∷◌, ◌++◌, Option, Some, None, refl, sym, ap, subst, ◌∙◌, append_assoc}, lemmas.List.{append-nil}}
+use Rattle.std.proofs.{lemmas.{Bool.Decides.{nat_tests}, List.{append-nil}}, Common.{arith, ◌≡◌, ℕ, Bool, List, [], ◌∷◌, ◌++◌, Option, Some, None, refl, sym, ap, subst, ◌∙◌, append_assoc}}
 use Rattle.httparse.specs.Grammar.{ChunkLine, chunk_size}
 use Rattle.httparse.proofs.ChunkLemmas.{chunk_line_unique}
 use Rattle.hc_head.specs.declared.message.MsgError.{MsgError}
 use Rattle.hc_head.proofs.{Calls.{asked_one}, Replies.{heard_one}}
-use Rattle.hc_msg.specs.{Chunks.{LineSays}, Reading.{Kind, Requests, Responses, Reading, Failed, Token, Step, Move, Goes, EndsHead, EndsLine, Stays, fails, after_asked, after_heard, after_line, move_of, AsksFor, AnswersWith, HeadMakes, Makes, Leads, TellsAtLast}}
+use Rattle.hc_msg.specs.{Chunks.{LineSays}, Reading.{Kind, Requests, Responses, Reading, Failed, Token, Step, Move, fails, after_asked, after_heard, move_of, AsksFor, AnswersWith, HeadMakes, Makes, Leads, TellsAtLast}}
 
 asks_one : (text : List ℕ) (a b : Step) → AsksFor text a → AsksFor text b → a ≡ b
 asks_one text a b x y = x.2 ∙ ap after_asked (asked_one text x.0 y.0 x.1 y.1) ∙ sym y.2
@@ -30,10 +30,7 @@ size_one text (Some m) (Some n) x y =
     ap Some (x.1.size_is ∙ ap (λ (l : ChunkLine). chunk_size l) same.0 ∙ sym y.1.size_is)
 
 pub makes_one : (move : Move) (a b : Step) → Makes move a → Makes move b → a ≡ b
-makes_one (Goes step) a b x y = x ∙ sym y
-makes_one (EndsHead kind text) a b x y = head_one kind text a b x y
-makes_one (EndsLine text) a b x y = x.2 ∙ ap after_line (size_one text x.0 y.0 x.1 y.1) ∙ sym y.2
-makes_one Stays a b x y = absurd x
+makes_one move a b x y = search (arith, head_one, size_one)
 
 -- one reading
 pub record IsOne (tokens more : List Token) (t u : Reading) : Type 0 where
@@ -46,10 +43,7 @@ leads_one s (b ∷ text) tokens more t u x y =
     let same : x.0 ≡ y.0 = makes_one (move_of s b) x.0 y.0 x.2 y.2 in
     let moved : Leads x.0.next text y.1 u = subst (λ (step : Step). Leads step.next text y.1 u) (sym same) y.3 in
     let rest = leads_one x.0.next text x.1 y.1 t u x.3 moved in
-    record {
-      tells = x.4 ∙ ap (λ (l : List Token). x.0.tokens ++ l) rest.tells ∙ ap (λ (step : Step). step.tokens ++ y.1) same ∙ sym y.4;
-      next = rest.next;
-    }
+    search arith
 
 -- bytes that are put together
 pub leads_on : (s : Reading) (xs ys : List ℕ) (tokens more : List Token) (mid t : Reading) → Leads s xs tokens mid → Leads mid ys more t → Leads s (xs ++ ys) (tokens ++ more) t

@@ -1,5 +1,5 @@
 -- What a look shows is what stands next.
-use Rattle.std.{proofs.Common.{◌≡◌, ℕ, ◌<◌, Bool, true, false, true≢false, List, [], ◌∷◌, length, refl, sym, ap, subst, ◌∙◌, arith}, specs.Prelude.{IfOk, Option, Some, None, Result, Ok, Err}}
+use Rattle.std.{proofs.{lemmas.Bool.Decides.{nat_tests}, Common.{◌≡◌, ℕ, ◌<◌, Bool, true, false, true≢false, List, [], ◌∷◌, length, refl, sym, ap, subst, arith}}, specs.Prelude.{IfOk, Some, None, Result, Ok, Err}}
 use Rattle.hc_head.specs.declared.message.MsgError.{MsgError}
 use Rattle.hc_text.specs.declared.memory.NoMemory.{NoMemory}
 use Rattle.hc_msg.specs.{declared.{answer.State.{State}, message.{Look.{Look}, Taken.{Taken}, WirePart.{WirePart}}}, Reading.{Reading}, Taking.{reading_by, IsSoundAt, IsKeptAt, goes_on, Takes}, Inputs.{Next, stopped, is_in_body, next_in, IsNextError, IsNextPart, look_of}}
@@ -27,36 +27,25 @@ body_looks s (b ∷ piece) some on inside = rw (on, inside) refl
 
 -- what holds of an answer that is read on
 pub kept_sound : (nb : Bool) (s : State) (held : List ℕ) → goes_on (reading_by nb s held) ≡ true → IsKeptAt s held → IsSoundAt s held
-kept_sound nb (state.Heading scan) held on h = h
-kept_sound nb (state.Counts left) held on h = h
-kept_sound nb state.Runs held on h = h
-kept_sound nb state.Sizing held on h = h
-kept_sound nb (state.Chunk left) held on h = h
-kept_sound nb state.ChunkEnd held on h = h
-kept_sound nb state.ChunkReturn held on h = h
-kept_sound nb (state.Trailing place count) held on h = h
-kept_sound nb state.Whole held on h = h
 kept_sound nb state.Done held on h = absurd (true≢false (sym on))
 kept_sound nb (state.Failed e) held on h = absurd (true≢false (sym on))
+kept_sound nb _ held on h = h
 
 -- BY WHAT A COPY TAKES
 
 some_looks : (next : Next) (piece : List ℕ) (used : ℕ) (p : WirePart) (t : Reading) → IsNextPart next piece used (Some p) t → look.Part ≡ look_of next
 some_looks next piece used (part.Head response) t h = ap look_of (sym h)
-some_looks next piece used (part.Piece bytes) t h = ap look_of (sym h)
-some_looks next piece used part.End t h = ap look_of (sym h)
+some_looks next piece used _ t h = ap look_of (sym h)
 
 pub part_looks : (s copy : Reading) (piece : List ℕ) (taken : Taken WirePart) (p : WirePart) (t : Reading) → copy ≡ s → taken.got ≡ Some p → Takes copy piece 1 (Ok taken) t → look.Part ≡ look_of (next_in 1 s piece)
 part_looks s copy piece taken p t same is takes =
     let next : IsNextPart (next_in 1 copy piece) piece taken.used taken.got t = takes_next 1 copy piece (Ok taken) t takes in
-    some_looks (next_in 1 copy piece) piece taken.used p t (subst (λ (got : Option WirePart). IsNextPart (next_in 1 copy piece) piece taken.used got t) is next)
-    ∙ ap (λ (r : Reading). look_of (next_in 1 r piece)) same
+    grind (arith, nat_tests)
 
 pub none_looks : (s copy : Reading) (piece : List ℕ) (taken : Taken WirePart) (t : Reading) → copy ≡ s → taken.got ≡ None → Takes copy piece 1 (Ok taken) t → look.Waits ≡ look_of (next_in 1 s piece)
 none_looks s copy piece taken t same is takes =
     let next : IsNextPart (next_in 1 copy piece) piece taken.used taken.got t = takes_next 1 copy piece (Ok taken) t takes in
-    ap look_of (sym (subst (λ (got : Option WirePart). IsNextPart (next_in 1 copy piece) piece taken.used got t) is next))
-    ∙ ap (λ (r : Reading). look_of (next_in 1 r piece)) same
+    grind (arith, nat_tests)
 
 pub error_looks : (s copy : Reading) (piece : List ℕ) (e : MsgError) (t : Reading) (result : Result Look NoMemory) → copy ≡ s → Takes copy piece 1 (Err e) t
     → IfOk result (λ shown. (next : Next) → IsNextError next e → shown ≡ look_of next) → IfOk result (λ shown. shown ≡ look_of (next_in 1 s piece))

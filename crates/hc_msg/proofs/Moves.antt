@@ -4,10 +4,10 @@
 -- is whole, refused, too long or open (`head_moves`, `head_fails`, `head_long`, `head_open`); a chunk line the same. Of
 -- a body some bytes are given. A head that is skipped tells nothing, and one that is shown is told at its last byte
 -- (`shown_moves`). `gives_on` has the work of calls that follow: first what was passed, then what this one gives.
-use Rattle.std.{proofs.{Common.{◌≡◌, ℕ, ◌+◌, ◌-◌, ◌<◌, ◌≤◌, ◌==◌, Bool, true, List, [], ◌∷◌, ◌++◌, length, take, drop, get_or, refl, sym, ap, subst, ◌∙◌, inl, inr, arith, length-take, length-drop, take-add}, lemmas.List.{take_all, take-append-drop}}, specs.Prelude.{◌⊎◌, map, min, OnOk, Option, Some, None, Result, Ok, Err}}
-use Rattle.hc_msg.specs.{declared.{answer.{Moved.{Moved}, State.{State}}, trailer.Trailer.{Trailer}, message.WirePart.{WirePart}}, Chunks.{LineSays, IsLongLine, trail}, Reading.{Reading, Responses, Heading, Failed, Counts, Runs, Sizing, Chunk, ChunkEnd, ChunkReturn, Trailing, Byte, counts, chunk, reading_of_chunk, after_line, Answers, after_heard, heading, body, quiet, fails, Makes, move_of, Leads, TellsAtLast}, Taking.{reading_by, Moves, Takes, Completes, Replied, Enters, IsPieceOf, Expects, TrailMoves}}
+use Rattle.std.{proofs.{lemmas.{Bool.Decides.{nat_tests}, List.{take_all, take-append-drop}}, Common.{◌≡◌, ℕ, ◌+◌, ◌-◌, ◌<◌, ◌≤◌, ◌==◌, Bool, true, List, [], ◌∷◌, ◌++◌, length, take, drop, get_or, refl, sym, ap, subst, ◌∙◌, inl, inr, arith, length-take, length-drop, take-add}}, specs.Prelude.{◌⊎◌, min, OnOk, Option, Some, None, Result, Ok, Err}}
+use Rattle.hc_msg.specs.{declared.{answer.{Moved.{Moved}, State.{State}}, trailer.Trailer.{Trailer}, message.WirePart.{WirePart}}, Chunks.{LineSays, IsLongLine, trail}, Reading.{Reading, Responses, Heading, Failed, Counts, Runs, Sizing, Chunk, ChunkEnd, ChunkReturn, Trailing, counts, chunk, reading_of_chunk, after_line, Answers, after_heard, body, quiet, fails, Makes, move_of, Leads}, Taking.{reading_by, Moves, Takes, Completes, Replied, Enters, IsPieceOf, Expects, TrailMoves}}
 use Rattle.hc_msg.specs.declared.answer.Moved.TheVariants as moved
-use Rattle.hc_head.specs.{declared.{message.MsgError.{MsgError}, response.Reply.{Reply}, scan.Scan.{Scan}}, Scans.{scan_all, is_open, IsHeadEnd, StaysOpen, IsLineBefore}, Finding.{IsLong}, Responses.{Heard, Shows, IsHeardIn}, Replies.{Hears}}
+use Rattle.hc_head.specs.{declared.{message.MsgError.{MsgError}, response.Reply.{Reply}, scan.Scan.{Scan}}, Scans.{is_open, IsHeadEnd, StaysOpen, IsLineBefore}, Finding.{IsLong}, Responses.{Heard, Shows, IsHeardIn}, Replies.{Hears}}
 use Rattle.hc_head.specs.declared.message.MsgError.TheVariants as error
 use Rattle.hc_msg.specs.declared.message.WirePart.TheVariants as part
 use Rattle.hc_head.specs.declared.response.Reply.TheVariants as reply
@@ -28,18 +28,12 @@ shown_moves : (nb : Bool) (scan : Scan) (held rest : List ℕ) (n most : ℕ) (r
     → Hears (Ok rep) heard → IsHeardIn nb (held ++ take n rest) heard → Enters nb rep n made t
     → Moves (Heading (Responses nb) scan held) rest most (Ok made) t
 shown_moves nb scan held rest n most reply.Skips made t heard ends short within hears comes enters =
-    let s = Heading (Responses nb) scan held in
     let leads = heard_leads nb scan held rest n heard ends short comes in
-    let skipped : Leads s (take n rest) [] (heading (Responses nb)) =
-    subst (λ (h : Heard). Leads s (take n rest) (after_heard nb h).tokens (after_heard nb h).next) hears leads in
-    let there : Leads s (take n rest) [] t = subst (λ (r : Reading). Leads s (take n rest) [] r) (sym enters.1) skipped in
-    subst (λ (m : Moved). Moves s rest most (Ok m) t) (sym enters.0) (omega (arith, ends.len), within, there)
+    rw (enters.0, enters.1) (omega (arith, ends.len), within, rw hears at leads)
 shown_moves nb scan held rest n most (reply.Shows response framing) made t heard ends short within hears comes enters =
-    let s = Heading (Responses nb) scan held in
-    let shows : IsHeardIn nb (held ++ take n rest) (Shows response framing) = subst (IsHeardIn nb (held ++ take n rest)) hears comes in
+    let shows = rw hears at comes in
     let shown = heading_tells (Responses nb) scan held rest n (Answers response) (body framing) ends short refl (Shows response framing, shows, refl) in
-    let there : TellsAtLast s (take n rest) (Answers response) t = subst (TellsAtLast s (take n rest) (Answers response)) (sym enters.1) shown in
-    subst (λ (m : Moved). Moves s rest most (Ok m) t) (sym enters.0) (within, there)
+    rw (enters.0, enters.1) (within, shown)
 
 pub head_moves : (nb : Bool) (scan : Scan) (held rest : List ℕ) (n most : ℕ) (rep : Reply) (result : Result Reply MsgError) (made : Moved) (t : Reading) → IsHeadEnd scan rest n → length held + n ≤ 32768 → n ≤ length rest
     → Replied nb (held ++ take n rest) result → result ≡ Ok rep → Enters nb rep n made t → Moves (Heading (Responses nb) scan held) rest most (Ok made) t
@@ -53,7 +47,7 @@ refused_fails nb scan held rest n most e t heard ends short (inr memory) comes =
 refused_fails nb scan held rest n most e t heard ends short (inl refused) comes =
     let s = Heading (Responses nb) scan held in
     let leads = heard_leads nb scan held rest n heard ends short comes in
-    let failed : Leads s (take n rest) [] (Failed e) = subst (λ (h : Heard). Leads s (take n rest) (after_heard nb h).tokens (after_heard nb h).next) refused leads in
+    let failed = rw refused at leads in
     inr (subst (λ (l : List ℕ). Leads s l [] (Failed e)) (take-append-drop n rest)
     (leads_on s (take n rest) (drop n rest) [] [] (Failed e) (Failed e) failed (stays_failed e (drop n rest))))
 
@@ -63,33 +57,28 @@ head_fails nb scan held rest n most e f result t ends short (inl failed) is same
     let memory : e ≡ error.NoMemory = cc in
     inl (same ∙ memory)
 head_fails nb scan held rest n most e f result t ends short (inr tokens) is same =
-    subst (λ (x : MsgError). Moves (Heading (Responses nb) scan held) rest most (Err x) t) (sym same)
+    rw same
     (refused_fails nb scan held rest n most e t tokens.heard ends short (subst (λ (r : Result Reply MsgError). Hears r tokens.heard) is tokens.hears) tokens.comes)
 
 pub head_long : (nb : Bool) (scan : Scan) (held rest : List ℕ) (most : ℕ) (e : MsgError) (t : Reading) → e ≡ error.HeadTooLong → IsLong (length held) scan rest
     → Moves (Heading (Responses nb) scan held) rest most (Err e) t
-head_long nb scan held rest most e t same long =
-    inr (subst (λ (x : MsgError). Leads (Heading (Responses nb) scan held) rest [] (Failed x)) (sym same) (heading_long (Responses nb) scan held rest long refl))
+head_long nb scan held rest most e t same long = inr (rw same (heading_long (Responses nb) scan held rest long refl))
 
 pub head_open : (nb : Bool) (scan next : Scan) (held rest grown : List ℕ) (most : ℕ) → StaysOpen scan rest next → length held + length rest ≤ 32768 → grown ≡ held ++ rest → 0 < length rest
     → Moves (Heading (Responses nb) scan held) rest most (Ok (moved.Passes (length rest))) (Heading (Responses nb) next grown)
 head_open nb scan next held rest grown most stays short grows some =
     let s = Heading (Responses nb) scan held in
-    let still : is_open (scan_all scan rest) ≡ true = ap is_open (sym stays.leads) ∙ stays.still_open in
-    let leads = heading_on (Responses nb) rest scan held still short refl in
-    let all : take (length rest) rest ≡ rest = take_all (length rest) rest (omega arith) in
-    (some, omega arith, rw (all, grows, stays.leads) leads)
+    let leads = heading_on (Responses nb) rest scan held (ap is_open (sym stays.leads) ∙ stays.still_open) short refl in
+    (some, omega arith, rw (take_all (length rest) rest (omega arith), grows, stays.leads) leads)
 
 -- chunk lines
 pub line_too_long : (held rest : List ℕ) (most : ℕ) (e : MsgError) (t : Reading) → e ≡ error.BadChunk → IsLongLine (length held) rest → Moves (Sizing held) rest most (Err e) t
-line_too_long held rest most e t same long =
-    inr (subst (λ (x : MsgError). Leads (Sizing held) rest [] (Failed x)) (sym same) (line_long held rest long))
+line_too_long held rest most e t same long = inr (rw same (line_long held rest long))
 
 pub line_stays : (held rest grown : List ℕ) (most : ℕ) (t : Reading) → lacks 10 rest ≡ true → length held + length rest ≤ 1024 → grown ≡ held ++ rest → t ≡ Sizing grown → 0 < length rest
     → Moves (Sizing held) rest most (Ok (moved.Passes (length rest))) t
 line_stays held rest grown most t line short grows there some =
-    let all : take (length rest) rest ≡ rest = take_all (length rest) rest (omega arith) in
-    (some, omega arith, rw (all, there, grows) (line_on rest held line short))
+    (some, omega arith, rw (take_all (length rest) rest (omega arith), there, grows) (line_on rest held line short))
 
 line_leads : (held rest : List ℕ) (at : ℕ) (size : Option ℕ) → IsLineBefore rest at → length held + (at + 1) ≤ 1024 → LineSays (held ++ take (at + 1) rest) size
     → Leads (Sizing held) (take (at + 1) rest) (after_line size).tokens (after_line size).next
@@ -112,34 +101,27 @@ pub counted_moves : (left most n : ℕ) (rest : List ℕ) (made : Moved) (t : Re
     → made ≡ moved.Gives n (part.Piece (take n rest)) → t ≡ counts (left - n) → Moves (Counts left) rest most (Ok made) t
 counted_moves left most n rest made t some here much count is there =
     let len : length (take n rest) ≡ n = length-take n rest ∙ omega arith in
-    let leads = counts_on (take n rest) left (omega (arith, len)) in
-    let moved_on : Leads (Counts left) (take n rest) (map Byte (take n rest)) t =
-    subst (λ (s : Reading). Leads s (take n rest) (map Byte (take n rest)) t) (counts_some left some)
-    (subst (λ (r : Reading). Leads (counts left) (take n rest) (map Byte (take n rest)) r) (ap (λ (k : ℕ). counts (left - k)) len ∙ sym there) leads) in
-    subst (λ (m : Moved). Moves (Counts left) rest most (Ok m) t) (sym is) (omega arith, (refl, omega arith, count, moved_on))
+    let leads = rw (counts_some left some, len) at (counts_on (take n rest) left (omega (arith, len))) in
+    rw (is, there) (omega arith, (refl, omega arith, count, leads))
 
 pub chunk_moves : (left most n : ℕ) (rest : List ℕ) (made : Moved) (t : Reading) → 0 < left → 0 < length rest → 0 < most → n ≡ min most (min left (length rest))
     → made ≡ moved.Gives n (part.Piece (take n rest)) → t ≡ chunk (left - n) → Moves (Chunk left) rest most (Ok made) t
 chunk_moves left most n rest made t some here much count is there =
     let len : length (take n rest) ≡ n = length-take n rest ∙ omega arith in
-    let leads = chunk_on (take n rest) left (omega (arith, len)) some in
-    let moved_on : Leads (Chunk left) (take n rest) (map Byte (take n rest)) t =
-    subst (λ (r : Reading). Leads (Chunk left) (take n rest) (map Byte (take n rest)) r) (ap (λ (k : ℕ). chunk (left - k)) len ∙ sym there) leads in
-    subst (λ (m : Moved). Moves (Chunk left) rest most (Ok m) t) (sym is) (omega arith, (refl, omega arith, count, moved_on))
+    let leads = rw len at (chunk_on (take n rest) left (omega (arith, len)) some) in
+    rw (is, there) (omega arith, (refl, omega arith, count, leads))
 
 pub run_moves : (most n : ℕ) (rest : List ℕ) (result : Result Moved MsgError) → 0 < length rest → 0 < most → n ≡ min (length rest) most → IsPieceOf rest n result → Moves Runs rest most result Runs
 run_moves most n rest (Ok made) here much count is =
-    subst (λ (m : Moved). Moves Runs rest most (Ok m) Runs) (sym is) (omega arith, (refl, omega arith, omega arith, runs_on (take n rest)))
+    rw is (omega arith, (refl, omega arith, omega arith, runs_on (take n rest)))
 run_moves most n rest (Err e) here much count is = inl is
 
 -- single bytes
 first_byte : (rest : List ℕ) → 0 < length rest → take 1 rest ≡ get_or rest 0 0 ∷ []
-first_byte [] some = absurd (omega arith)
-first_byte (b ∷ rest) some = refl
+first_byte rest some = grind (arith, nat_tests)
 
 split_first : (rest : List ℕ) → 0 < length rest → rest ≡ get_or rest 0 0 ∷ drop 1 rest
-split_first [] some = absurd (omega arith)
-split_first (b ∷ rest) some = refl
+split_first rest some = grind (arith, nat_tests)
 
 pub byte_passes : (s t : Reading) (rest : List ℕ) (most : ℕ) → 0 < length rest → Makes (move_of s (get_or rest 0 0)) (quiet t) → Moves s rest most (Ok (moved.Passes 1)) t
 byte_passes s t rest most some makes =
@@ -153,35 +135,23 @@ pub chunk_end_moves : (nb : Bool) (next : State) (held rest : List ℕ) (most : 
     → OnOk result (next ≡ state.ChunkReturn) → Moves ChunkEnd rest most result (reading_by nb next held)
 unfolding move_of
 chunk_end_moves nb next held rest most (Ok made) some expects there =
-    let makes : Makes (move_of ChunkEnd (get_or rest 0 0)) (quiet ChunkReturn) = rw expects.0 refl in
-    let moves = byte_passes ChunkEnd ChunkReturn rest most some makes in
-    subst (λ (m : Moved). Moves ChunkEnd rest most (Ok m) (reading_by nb next held)) (sym expects.1)
-    (subst (λ (n : State). Moves ChunkEnd rest most (Ok (moved.Passes 1)) (reading_by nb n held)) (sym there) moves)
+    rw (expects.1, there) (byte_passes ChunkEnd ChunkReturn rest most some (rw expects.0 refl))
 chunk_end_moves nb next held rest most (Err e) some expects there =
-    let makes : Makes (move_of ChunkEnd (get_or rest 0 0)) (fails error.BadChunk) = rw expects.0 refl in
-    subst (λ (x : MsgError). Moves ChunkEnd rest most (Err x) (reading_by nb next held)) (sym expects.1)
-    (byte_fails ChunkEnd (reading_by nb next held) rest most error.BadChunk some makes)
+    rw expects.1 (byte_fails ChunkEnd (reading_by nb next held) rest most error.BadChunk some (rw expects.0 refl))
 
 pub chunk_return_moves : (nb : Bool) (next : State) (held rest : List ℕ) (most : ℕ) (result : Result Moved MsgError) → 0 < length rest → Expects (get_or rest 0 0 == 10) result
     → OnOk result (next ≡ state.Sizing) → held ≡ [] → Moves ChunkReturn rest most result (reading_by nb next held)
 unfolding move_of
 chunk_return_moves nb next held rest most (Ok made) some expects there none =
-    let makes : Makes (move_of ChunkReturn (get_or rest 0 0)) (quiet (Sizing [])) = rw expects.0 refl in
-    let moves = byte_passes ChunkReturn (Sizing []) rest most some makes in
-    let moved_on = subst (λ (l : List ℕ). Moves ChunkReturn rest most (Ok (moved.Passes 1)) (Sizing l)) (sym none) moves in
-    subst (λ (m : Moved). Moves ChunkReturn rest most (Ok m) (reading_by nb next held)) (sym expects.1)
-    (subst (λ (n : State). Moves ChunkReturn rest most (Ok (moved.Passes 1)) (reading_by nb n held)) (sym there) moved_on)
+    rw (expects.1, there, none) (byte_passes ChunkReturn (Sizing []) rest most some (rw expects.0 refl))
 chunk_return_moves nb next held rest most (Err e) some expects there none =
-    let makes : Makes (move_of ChunkReturn (get_or rest 0 0)) (fails error.BadChunk) = rw expects.0 refl in
-    subst (λ (x : MsgError). Moves ChunkReturn rest most (Err x) (reading_by nb next held)) (sym expects.1)
-    (byte_fails ChunkReturn (reading_by nb next held) rest most error.BadChunk some makes)
+    rw expects.1 (byte_fails ChunkReturn (reading_by nb next held) rest most error.BadChunk some (rw expects.0 refl))
 
 pub trail_moves : (place : Trailer) (count : ℕ) (rest : List ℕ) (most : ℕ) (result : Result Moved MsgError) (t : Reading) → 0 < length rest
     → TrailMoves (trail place count (get_or rest 0 0)) result t → Moves (Trailing place count) rest most result t
 unfolding move_of
 trail_moves place count rest most (Ok made) t some tokens =
-    subst (λ (m : Moved). Moves (Trailing place count) rest most (Ok m) t) (sym tokens.0)
-    (byte_passes (Trailing place count) t rest most some (sym tokens.1))
+    rw tokens.0 (byte_passes (Trailing place count) t rest most some (sym tokens.1))
 trail_moves place count rest most (Err e) t some tokens =
     byte_fails (Trailing place count) t rest most e some (sym tokens.1)
 
@@ -211,7 +181,7 @@ gives_on s mid t piece used n most (part.Piece bytes) within before moves =
         bytes_are = moves.1.0 ∙ ap (λ (k : ℕ). take k (drop used piece)) (sym same);
         some = omega (arith, same, moves.1.1);
         longest = same ∙ moves.1.2;
-        gives = subst (λ (l : List ℕ). Leads mid l (map Byte l) t) (sym moves.1.0) moves.1.3;
+        gives = rw moves.1.0 moves.1.3;
       },
     )
 gives_on s mid t piece used n most part.End within before moves = absurd moves.1

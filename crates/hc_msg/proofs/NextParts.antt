@@ -3,11 +3,11 @@
 -- By induction on the input. A step tells one head at most, and never leads behind the end of a message (`IsFair`), so
 -- where it tells nothing the rest of the input says what stands next (`passes_stands`), and where it tells something
 -- that stands next. Within a body the bytes that stand together lead on by the laws of bodies.
-use Rattle.std.{proofs.{Common.{◌≡◌, ℕ, ◌+◌, ◌-◌, ◌<◌, ◌≤◌, ◌==◌, Bool, true, false, List, [], ◌∷◌, ◌++◌, length, take, drop, refl, sym, ap, subst, ◌∙◌, inl, inr, arith, length-take}, lemmas.{Bool.{cases_Bool, ltb-true}, List.{take-append-drop}}}, specs.Prelude.{not, nat_lt, min, if◌then◌else◌, Option, Some, None}}
-use Rattle.hc_head.specs.{declared.framing.Framing.{Framing}, Decoding.{asked_in, heard_in}, Requests.{Asked, Grants, Denies}, Responses.{Heard, Skips, Shows, Refuses}, Scans.{scan_byte, is_open}}
+use Rattle.std.{proofs.{lemmas.{Bool.{cases_Bool, ltb-true, Decides.{nat_tests}}, List.{take-append-drop}}, Common.{◌≡◌, ℕ, ◌+◌, ◌-◌, ◌<◌, ◌≤◌, ◌==◌, Bool, true, false, List, [], ◌∷◌, ◌++◌, length, take, drop, refl, sym, ap, subst, ◌∙◌, inl, inr, arith, length-take}}, specs.Prelude.{not, nat_lt, min, if◌then◌else◌, Option}}
+use Rattle.hc_head.specs.{declared.framing.Framing.{Framing}, Decoding.{asked_in, heard_in}, Requests.{Asked}, Responses.{Heard, Shows}, Scans.{scan_byte, is_open}}
 use Rattle.hc_head.specs.declared.framing.Framing.TheVariants as framing
 use Rattle.hc_head.proofs.Decoding.{asked_in_is, heard_in_is}
-use Rattle.hc_msg.specs.{declared.trailer.Trails.{Trails, TheVariants.{On, Ends as Closes, TooLong}}, Chunks.{trail}, Sizes.{size_in}, Reading.{Kind, Requests, Responses, Reading, Heading, Counts, Runs, Sizing, Chunk, ChunkEnd, ChunkReturn, Trailing, Whole, Done, Failed, Token, Byte, Step, Move, Goes, EndsHead, EndsLine, Stays, quiet, counts, chunk, body, after_asked, after_heard, after_line, after_trail, begins_head, move_of, Makes, Leads}, Taking.{stretch, goes_on, byte_tokens}, Inputs.{Next, Waits, Tells, Brings, Ends, Fails, step_of, body_behind, brought, told_or, next_in}, NextParts.{StandsNext}}
+use Rattle.hc_msg.specs.{declared.trailer.Trails.{Trails, TheVariants.{On}}, Chunks.{trail}, Sizes.{size_in}, Reading.{Kind, Requests, Responses, Reading, Heading, Counts, Runs, Sizing, Chunk, ChunkEnd, ChunkReturn, Trailing, Whole, Done, Failed, Token, Byte, Step, Move, Goes, EndsHead, EndsLine, Stays, quiet, counts, chunk, body, after_asked, after_heard, after_line, after_trail, begins_head, move_of, Makes, Leads}, Taking.{stretch, goes_on, byte_tokens}, Inputs.{Next, Waits, Tells, Brings, Ends, Fails, step_of, body_behind, brought, told_or, next_in}, NextParts.{StandsNext}}
 use Rattle.hc_msg.proofs.{Leading.{leads_on, leads_byte, stays_failed, tells_on}, Sizes.{size_in_is}, Bytes.{counts_some, counts_on, chunk_on, runs_on}}
 
 -- STEPS
@@ -50,28 +50,22 @@ chunk_before : (left : ℕ) → IsBefore (chunk left)
 chunk_before left = choice IsBefore (left == 0) ChunkEnd (Chunk left) tt tt
 
 body_before : (f : Framing) → IsBefore (body f)
-body_before framing.Bodiless = tt
-body_before framing.Chunked = tt
 body_before (framing.Counted n) = counts_before n
-body_before framing.ToClose = tt
+body_before _ = tt
 
 asked_fair : (asked : Asked) → IsFair (after_asked asked)
-asked_fair (Grants request) = record { short = tt; before = tt }
-asked_fair (Denies e) = record { short = tt; before = tt }
+asked_fair asked = grind (arith, nat_tests)
 
 heard_fair : (nb : Bool) (heard : Heard) → IsFair (after_heard nb heard)
-heard_fair nb Skips = record { short = tt; before = tt }
 heard_fair nb (Shows response f) = record { short = tt; before = body_before f }
-heard_fair nb (Refuses e) = record { short = tt; before = tt }
+heard_fair nb _ = record { short = tt; before = tt }
 
 line_fair : (size : Option ℕ) → IsFair (after_line size)
-line_fair None = record { short = tt; before = tt }
-line_fair (Some size) = record { short = tt; before = choice IsBefore (size == 0) _ (Chunk size) tt tt }
+line_fair size = grind (arith, nat_tests)
 
 trail_fair : (trails : Trails) → IsFair (after_trail trails)
 trail_fair (On place count) = record { short = tt; before = tt }
-trail_fair Closes = record { short = tt; before = tt }
-trail_fair TooLong = record { short = tt; before = tt }
+trail_fair _ = record { short = tt; before = tt }
 
 -- the step that a move is, where it has one
 record IsFairMove (move : Move) : Type 0 where
@@ -79,8 +73,7 @@ record IsFairMove (move : Move) : Type 0 where
   fair : IsFair (step_of move)
 
 head_fair : (kind : Kind) (text : List ℕ) → IsFairMove (EndsHead kind text)
-head_fair Requests text = record { goes = tt; fair = asked_fair (asked_in text) }
-head_fair (Responses nb) text = record { goes = tt; fair = heard_fair nb (heard_in nb text) }
+head_fair kind text = grind (arith, nat_tests)
 
 quiet_fair : (t : Reading) → IsBefore t → IsFairMove (Goes (quiet t))
 quiet_fair t h = record { goes = tt; fair = record { short = tt; before = h } }
@@ -105,9 +98,8 @@ move_fair (Chunk left) b on = byte_fair b _ (chunk_before (left - 1))
 move_fair ChunkEnd b on = record { goes = tt; fair = choice IsFair (b == 13) _ _ (record { short = tt; before = tt }) (record { short = tt; before = tt }) }
 move_fair ChunkReturn b on = record { goes = tt; fair = choice IsFair (b == 10) _ _ (record { short = tt; before = tt }) (record { short = tt; before = tt }) }
 move_fair (Trailing place count) b on = record { goes = tt; fair = trail_fair (trail place count b) }
-move_fair Whole b on = let never : false ≡ true = on in absurd cc
-move_fair Done b on = let never : false ≡ true = on in absurd cc
 move_fair (Failed e) b on = quiet_fair _ tt
+move_fair _ b on = let never : false ≡ true = on in absurd cc
 
 -- WHAT STANDS NEXT
 
@@ -170,26 +162,15 @@ body_stands most n s input count fits leads =
 counted_leads : (left n : ℕ) (input : List ℕ) → 0 < left → n ≤ left → n ≤ length input → Leads (Counts left) (take n input) (byte_tokens (take n input)) (counts (left - n))
 counted_leads left n input some low fits =
     let len : length (take n input) ≡ n = length-take n input ∙ omega (arith, fits) in
-    let on = counts_on (take n input) left (omega (arith, len, low)) in
-    let at = subst (λ (s : Reading). Leads s (take n input) (byte_tokens (take n input)) (counts (left - length (take n input)))) (counts_some left some) on in
-    subst (λ (m : ℕ). Leads (Counts left) (take n input) (byte_tokens (take n input)) (counts (left - m))) len at
+    rw (counts_some left some, len) at (counts_on (take n input) left (omega (arith, len, low)))
 
 chunk_leads : (left n : ℕ) (input : List ℕ) → 0 < left → n ≤ left → n ≤ length input → Leads (Chunk left) (take n input) (byte_tokens (take n input)) (chunk (left - n))
 chunk_leads left n input some low fits =
     let len : length (take n input) ≡ n = length-take n input ∙ omega (arith, fits) in
-    let on = chunk_on (take n input) left (omega (arith, len, low)) some in
-    subst (λ (m : ℕ). Leads (Chunk left) (take n input) (byte_tokens (take n input)) (chunk (left - m))) len on
+    rw len at (chunk_on (take n input) left (omega (arith, len, low)) some)
 
 pub stands_next : (most : ℕ) (s : Reading) (input : List ℕ) → StandsNext most s input (next_in most s input)
 unfolding next_in
-stands_next most (Heading kind scan text) [] = inl ((refl, refl), refl)
-stands_next most (Counts left) [] = inl ((refl, refl), refl)
-stands_next most Runs [] = inl ((refl, refl), refl)
-stands_next most (Sizing text) [] = inl ((refl, refl), refl)
-stands_next most (Chunk left) [] = inl ((refl, refl), refl)
-stands_next most ChunkEnd [] = inl ((refl, refl), refl)
-stands_next most ChunkReturn [] = inl ((refl, refl), refl)
-stands_next most (Trailing place count) [] = inl ((refl, refl), refl)
 stands_next most Whole [] = record { front = []; rest = []; whole = refl; ends = (refl, refl) }
 stands_next most Done [] = inr (refl, refl)
 stands_next most (Failed e) [] = (refl, refl)
@@ -218,3 +199,4 @@ stands_next most (Trailing place count) (b ∷ input) = made_stands most (Traili
 stands_next most Whole (b ∷ input) = record { front = []; rest = b ∷ input; whole = refl; ends = (refl, refl) }
 stands_next most Done (b ∷ input) = inr (refl, refl)
 stands_next most (Failed e) (b ∷ input) = stays_failed e (b ∷ input)
+stands_next most _ [] = inl ((refl, refl), refl)

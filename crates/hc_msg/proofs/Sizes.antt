@@ -4,7 +4,7 @@
 -- begins with another byte, so each run ends where it was put (`run_len`). The other way, what was cut is a line that
 -- prints as the text (`size_makes`), which is the longer half: the test of the line is taken apart, and its parts are
 -- put together again. `size_in_is` joins both.
-use Rattle.std.{proofs.{Common.{◌≡◌, ℕ, suc, ◌+◌, ◌-◌, ◌^◌, ◌<◌, ◌==◌, Bool, true, false, List, [], ◌∷◌, ◌++◌, length, take, drop, refl, sym, ap, subst, ◌∙◌, inl, inr, arith, append_assoc, length-append}, lemmas.{Bool.{cases_Bool, and_parts, eqb-true, ltb-true, lt-ltb, leb-true, le-leb}, List.{append-nil, take_at, drop_at, take-append-drop, Sums.{AllPass-from_list_all, list_all-from_AllPass}}, Slice.Eq.{bytes_eq-Decides}}}, specs.{Prelude.{◌&&◌, nat_lt, nat_le, bytes_eq, Option, Some, None, if◌then◌else◌}, List.{list_all, prefix_len}, Char.{is_ascii_hexdigit}, Str.Parse.{digits_value}}}
+use Rattle.std.{proofs.{lemmas.{Bool.{cases_Bool, and_parts, eqb-true, ltb-true, lt-ltb, leb-true, le-leb, Decides.{nat_tests}}, List.{append-nil, take_at, drop_at, take-append-drop, Sums.{AllPass-from_list_all, list_all-from_AllPass}}, Slice.Eq.{bytes_eq-Decides}}, Common.{◌≡◌, ℕ, suc, ◌+◌, ◌-◌, ◌^◌, ◌<◌, ◌==◌, Bool, true, false, List, [], ◌∷◌, ◌++◌, length, take, drop, refl, sym, ap, subst, ◌∙◌, inl, inr, arith, append_assoc, length-append}}, specs.{Prelude.{◌&&◌, nat_lt, nat_le, bytes_eq, Option, Some, None, if◌then◌else◌}, List.{list_all, prefix_len}, Char.{is_ascii_hexdigit}, Str.Parse.{digits_value}}}
 use Rattle.hc_text.proofs.Basics.{not_some, some_inj as some_same}
 use Rattle.httparse.specs.Grammar.{ChunkLine, IsChunkLine, print_chunk_line, print_extension, IsExtension, chunk_size, is_ows, is_extension_byte}
 use Rattle.hc_msg.specs.{Chunks.{IsLineOf, LineSays}, Sizes.{digits_in, behind_digits, behind_pad, is_extension, is_chunk_line, size_by, size_in}}
@@ -24,25 +24,17 @@ run_all test (b ∷ text) = elim (cases_Bool (test b)) [
 ]
 
 ows_no_digit : (b : ℕ) → is_ows b ≡ true → is_ascii_hexdigit b ≡ false
-ows_no_digit b h = elim (cases_Bool (b == 32)) [
-  | inl hit ↦ ap is_ascii_hexdigit (eqb-true b 32 hit)
-  | inr miss ↦ (let tab : (b == 9) ≡ true = rw miss at h in ap is_ascii_hexdigit (eqb-true b 9 tab))
-]
+ows_no_digit b h = grind (arith, nat_tests)
 
 extension_no_digit : (extension : Option (List ℕ)) → prefix_len is_ascii_hexdigit (print_extension extension) ≡ 0
-extension_no_digit None = refl
-extension_no_digit (Some text) = refl
+extension_no_digit extension = grind (arith, nat_tests)
 
 extension_no_blank : (extension : Option (List ℕ)) → prefix_len is_ows (print_extension extension) ≡ 0
-extension_no_blank None = refl
-extension_no_blank (Some text) = refl
+extension_no_blank extension = grind (arith, nat_tests)
 
 pad_no_digit : (pad : List ℕ) (extension : Option (List ℕ)) → list_all is_ows pad ≡ true → prefix_len is_ascii_hexdigit (pad ++ print_extension extension) ≡ 0
 pad_no_digit [] extension h = extension_no_digit extension
-pad_no_digit (b ∷ pad) extension h =
-    let parts = and_parts (is_ows b) (list_all is_ows pad) h in
-    let other = ows_no_digit b parts.0 in
-    rw other refl
+pad_no_digit (b ∷ pad) extension h = grind (arith, nat_tests)
 
 extension_is : (extension : Option (List ℕ)) → IsExtension extension → is_extension (print_extension extension) ≡ true
 extension_is None h = refl
@@ -74,8 +66,7 @@ size_reads l is small =
           let some : nat_lt 0 (length l.digits) ≡ true = lt-ltb 0 (length l.digits) is.digits.0 in
           let few : nat_le (length l.digits) 16 ≡ true = le-leb (length l.digits) 16 is.digits.1 in
           let extension = extension_is l.extension is.extension in
-          let low : nat_lt (digits_value 16 l.digits) (2 ^ 62) ≡ true = lt-ltb (chunk_size l) (2 ^ 62) small in
-          rw (same, rest, some, few, extension, low) refl
+          rw (same, rest, some, few, extension, lt-ltb (chunk_size l) (2 ^ 62) small) refl
 
 printed_apart : (l : ChunkLine) → print_chunk_line l ≡ (l.digits ++ (l.pad ++ print_extension l.extension)) ++ 13 ∷ 10 ∷ []
 unfolding print_chunk_line
@@ -89,8 +80,7 @@ line_reads text l n x =
     let len : length body ≡ length text - 2 = omega (arith, ap length whole, length-append body (13 ∷ 10 ∷ [])) in
     let first : take (length text - 2) text ≡ body = ap (take (length text - 2)) whole ∙ take_at body (13 ∷ 10 ∷ []) _ len in
     let second : drop (length text - 2) text ≡ 13 ∷ 10 ∷ [] = ap (drop (length text - 2)) whole ∙ drop_at body (13 ∷ 10 ∷ []) _ len in
-    ap (λ (t : List ℕ). size_by t (drop (length text - 2) text)) first ∙ ap (size_by body) second
-    ∙ size_reads l x.reads.0 (omega (arith, x.size_is, x.small)) ∙ ap Some (sym x.size_is)
+    grind (arith, nat_tests, size_reads)
 
 -- and a size that is read is that of a line
 size_makes : (text end : List ℕ) (n : ℕ) → size_by text end ≡ Some n → (l : ChunkLine) × IsLineOf (text ++ end) l n

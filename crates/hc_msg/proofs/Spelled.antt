@@ -4,10 +4,10 @@
 -- tell no request and no head. In `heading_spelled` a byte goes on, ends the head or refuses it. A head that ends has
 -- at most 32,768 bytes, and what such a text asks or answers has a spelling (`asked_spelled`). By induction it holds of
 -- all tokens (`tokens_spelled`), and so of what a reader gives.
-use Rattle.std.{proofs.{Common.{◌≡◌, ℕ, ◌≤◌, ◌==◌, Bool, List, [], ◌∷◌, ◌++◌, length, sym, subst, inl, inr, arith, length-append}, lemmas.{Bool.{cases_Bool, ltb-true}, List.Elements.{All-cons, All-head, All-append}}}, specs.Prelude.{nat_lt, All, IfSome, if◌then◌else◌, Option, Some, None, Result, Ok, Err}}
-use Rattle.hc_head.specs.{declared.{message.{MsgError.{MsgError}, WireRequest.{WireRequest}}, scan.Scan.{Scan}}, Scans.{scan_byte, is_open}, Requests.{Asked, Grants, Denies, IsAskedBy}, Responses.{Heard, Skips, Shows, Refuses, IsHeardIn}}
+use Rattle.std.{proofs.{lemmas.{Bool.{cases_Bool, ltb-true, Decides.{nat_tests}}, List.Elements.{All-cons, All-head, All-append}}, Common.{◌≡◌, ℕ, ◌≤◌, ◌==◌, Bool, List, [], ◌∷◌, ◌++◌, length, sym, subst, inl, inr, arith, length-append}}, specs.Prelude.{nat_lt, All, IfSome, if◌then◌else◌, Option, Some, None, Result, Ok, Err}}
+use Rattle.hc_head.specs.{declared.{message.{MsgError.{MsgError}, WireRequest.{WireRequest}}, scan.Scan.{Scan}}, Scans.{scan_byte, is_open}, Requests.{Asked, Grants, Denies, IsAskedBy}, Responses.{Heard, Shows, IsHeardIn}}
 use Rattle.hc_head.proofs.Spellings.{granted_spelled, shown_spelled}
-use Rattle.hc_msg.specs.{declared.{message.{Taken.{Taken}, WirePart.{WirePart}}, trailer.Trails.{Trails, TheVariants.{On, Ends, TooLong}}}, Chunks.{trail}, Reading.{Kind, Requests, Responses, Reading, Heading, Counts, Runs, Sizing, Chunk, ChunkEnd, ChunkReturn, Trailing, Whole, Done, Failed, Token, Asks, Answers, Byte, Step, Goes, after_asked, after_heard, after_line, after_trail, begins_head, move_of, HeadMakes, Makes, Leads}, Asking.{TakesRequest, CompletesRequest}, Taking.{Takes, Completes}, Spelled.{IsSpelled, IsSpelledPart, GivesSpelled}}
+use Rattle.hc_msg.specs.{declared.{message.{Taken.{Taken}, WirePart.{WirePart}}, trailer.Trails.{Trails, TheVariants.{On}}}, Chunks.{trail}, Reading.{Kind, Requests, Responses, Reading, Heading, Sizing, ChunkEnd, ChunkReturn, Trailing, Whole, Done, Failed, Token, Asks, Answers, Byte, Step, Goes, after_asked, after_heard, after_line, after_trail, begins_head, move_of, HeadMakes, Makes, Leads}, Asking.{TakesRequest, CompletesRequest}, Taking.{Takes, Completes}, Spelled.{IsSpelled, IsSpelledPart, GivesSpelled}}
 use Rattle.hc_msg.specs.declared.message.WirePart.TheVariants as part
 use Rattle.hc_msg.proofs.Leading.{tells_leads}
 
@@ -20,9 +20,8 @@ asked_spelled text (Grants request) short h = All-cons IsSpelled (Asks request) 
 asked_spelled text (Denies e) short h = none_spelled
 
 heard_spelled : (no_body : Bool) (text : List ℕ) (heard : Heard) → length text ≤ 32768 → IsHeardIn no_body text heard → All IsSpelled (after_heard no_body heard).tokens
-heard_spelled no_body text Skips short h = none_spelled
 heard_spelled no_body text (Shows response framing) short h = All-cons IsSpelled (Answers response) [] (shown_spelled no_body text response framing short h) none_spelled
-heard_spelled no_body text (Refuses e) short h = none_spelled
+heard_spelled no_body text _ short h = none_spelled
 
 head_spelled : (kind : Kind) (text : List ℕ) (step : Step) → length text ≤ 32768 → HeadMakes kind text step → All IsSpelled step.tokens
 head_spelled Requests text step short h = subst (λ (s : Step). All IsSpelled s.tokens) (sym h.2) (asked_spelled text h.0 short h.1)
@@ -33,13 +32,11 @@ goes_spelled : (made step : Step) → All IsSpelled made.tokens → Makes (Goes 
 goes_spelled made step h is = subst (λ (s : Step). All IsSpelled s.tokens) (sym is) h
 
 line_spelled : (size : Option ℕ) → All IsSpelled (after_line size).tokens
-line_spelled None = none_spelled
-line_spelled (Some size) = none_spelled
+line_spelled size = grind (arith, nat_tests)
 
 trail_spelled : (trails : Trails) → All IsSpelled (after_trail trails).tokens
 trail_spelled (On place count) = none_spelled
-trail_spelled Ends = none_spelled
-trail_spelled TooLong = none_spelled
+trail_spelled _ = none_spelled
 
 byte_spelled : (b : ℕ) → All IsSpelled (Byte b ∷ [])
 byte_spelled b = All-cons IsSpelled (Byte b) [] tt none_spelled
@@ -61,33 +58,22 @@ heading_spelled kind scan text b step h = elim (cases_Bool (nat_lt (length text)
 
 sizing_spelled : (text : List ℕ) (b : ℕ) (step : Step) → Makes (move_of (Sizing text) b) step → All IsSpelled step.tokens
 unfolding move_of
-sizing_spelled text b step h = elim (cases_Bool (nat_lt (length text) 1024)) [
-  | inr long ↦ (let is = rw long at h in goes_spelled _ step none_spelled is)
-  | inl short ↦ elim (cases_Bool (b == 10)) [
-    | inr other ↦ (let is = rw (short, other) at h in goes_spelled _ step none_spelled is)
-    | inl end ↦ (let is = rw (short, end) at h in goes_spelled (after_line is.0) step (line_spelled is.0) is.2)
-  ]
-]
+sizing_spelled text b step h = grind (arith, nat_tests)
 
 returned_spelled : (b c : ℕ) (one two : Step) → All IsSpelled one.tokens → All IsSpelled two.tokens → (step : Step) → step ≡ (if b == c then one else two) → All IsSpelled step.tokens
-returned_spelled b c one two first second step h = elim (cases_Bool (b == c)) [
-  | inl hit ↦ (let is = rw hit at h in goes_spelled one step first is)
-  | inr miss ↦ (let is = rw miss at h in goes_spelled two step second is)
-]
+returned_spelled b c one two first second step h = grind (arith, nat_tests)
 
 step_spelled : (s : Reading) (b : ℕ) (step : Step) → Makes (move_of s b) step → All IsSpelled step.tokens
 unfolding move_of
 step_spelled (Heading kind scan text) b step h = heading_spelled kind scan text b step h
-step_spelled (Counts left) b step h = goes_spelled _ step (byte_spelled b) h
-step_spelled Runs b step h = goes_spelled _ step (byte_spelled b) h
 step_spelled (Sizing text) b step h = sizing_spelled text b step h
-step_spelled (Chunk left) b step h = goes_spelled _ step (byte_spelled b) h
 step_spelled ChunkEnd b step h = returned_spelled b 13 _ _ none_spelled none_spelled step h
 step_spelled ChunkReturn b step h = returned_spelled b 10 _ _ none_spelled none_spelled step h
 step_spelled (Trailing place count) b step h = goes_spelled _ step (trail_spelled (trail place count b)) h
 step_spelled Whole b step h = absurd h
 step_spelled Done b step h = absurd h
 step_spelled (Failed e) b step h = goes_spelled _ step none_spelled h
+step_spelled _ b step h = goes_spelled _ step (byte_spelled b) h
 
 pub tokens_spelled : (s : Reading) (text : List ℕ) (tokens : List Token) (t : Reading) → Leads s text tokens t → All IsSpelled tokens
 tokens_spelled s [] tokens t h = subst (All IsSpelled) (sym h.0) none_spelled
@@ -106,7 +92,6 @@ pub part_spelled : (s : Reading) (piece : List ℕ) (most : ℕ) (result : Resul
 part_spelled s piece most (Err e) t h = tt
 part_spelled s piece most (Ok taken) t h = given taken.got h.1 where
   given : (got : Option WirePart) → Completes s piece most taken.used got t → IfSome got (IsSpelledPart most)
-  given None h = tt
   given (Some (part.Head response)) h = All-head IsSpelled (Answers response) [] (tokens_spelled s _ (Answers response ∷ []) t (tells_leads s _ (Answers response) t h))
   given (Some (part.Piece bytes)) h = (h.some, omega (arith, h.longest))
-  given (Some part.End) h = tt
+  given _ h = tt

@@ -4,7 +4,7 @@
 -- spells a range is cut where the reader cuts it: at the unit, at the hyphen, or at the slash (`range_at`, `spec_at`,
 -- `response_at`). Which form it is shows by what is empty there (`asks_last`, `asks_from`), or by an asterisk, which is
 -- no positions (`star_positions`). Numbers have one reading, so the answers agree.
-use Rattle.std.{proofs.{Common.{◌≡◌, ◌≢◌, ℕ, ◌+◌, ◌<◌, ◌≤◌, Bool, true, false, eqb, not, List, [], ◌∷◌, ◌++◌, length, take, drop, map, Option, Some, refl, sym, ap, ◌∙◌, subst, inl, inr, arith, lit≤}, lemmas.{Bool.{cases_Bool, and_parts, and_from, eqb-true, eq-eqb, both_ways, not_from_false, not_from_true}, List.{append_assoc, length-append, length-map, take_at, drop_at}}}, specs.{Char.{digit_value, to_ascii_lowercase}, List.{list_all}, Str.Parse.{AllDigits}}}
+use Rattle.std.{proofs.{lemmas.{Bool.{cases_Bool, and_parts, and_from, eqb-true, eq-eqb, both_ways, not_from_false, not_from_true, Decides.{nat_tests}}, List.{append_assoc, length-append, length-map, take_at, drop_at}}, Common.{◌≡◌, ◌≢◌, ℕ, ◌+◌, ◌<◌, ◌≤◌, Bool, true, false, eqb, not, List, [], ◌∷◌, ◌++◌, length, take, drop, map, Option, Some, refl, sym, ap, ◌∙◌, subst, inl, inr, arith, lit≤}}, specs.{Char.{digit_value, to_ascii_lowercase}, List.{list_all}, Str.Parse.{AllDigits}}}
 use Rattle.hc_text.specs.Numbers.{IsNumber}
 use Rattle.hc_range.specs.{Bytes.{LacksByte}, declared.range.{Asked.{Asked, TheVariants.{From, FromTo, Last}}, ContentRange.{ContentRange, TheVariants.{Part, Unsatisfied}}}, Ranges.{SpellsPositions, SpellsSpec, SpellsRange, SpellsTotal, SpellsResponse, SpellsContentRange}}
 
@@ -24,10 +24,8 @@ split_unique c [] b [] y ha hx e = (refl, cc)
 split_unique c [] b (d ∷ x) y ha hx e = let same : c ≡ d = cc in absurd (both_ways (other c c) (not_other c) (ap (other c) same ∙ (parts c d x hx).0))
 split_unique c (d ∷ a) b [] y ha hx e = let same : c ≡ d = cc in absurd (both_ways (other c c) (not_other c) (ap (other c) same ∙ (parts c d a ha).0))
 split_unique c (d ∷ a) b (f ∷ x) y ha hx e =
-    let first : d ≡ f = cc in
     let later : a ++ c ∷ b ≡ x ++ c ∷ y = cc in
     let one = split_unique c a b x y (parts c d a ha).1 (parts c f x hx).1 later in
-    let same = one.0 in
     (cc, one.1)
 
 LacksByte-append : (c : ℕ) (a b : List ℕ) → LacksByte c a → LacksByte c b → LacksByte c (a ++ b)
@@ -44,7 +42,7 @@ LacksByte-digits c (b ∷ text) past h =
     ] in
     and_from (other c b) (list_all (other c) text) is_other (LacksByte-digits c text past h.1)
 
-LacksByte-number : (c : ℕ) (text : List ℕ) (n : ℕ) → 10 ≤ digit_value c → IsNumber text n → LacksByte c text
+pub LacksByte-number : (c : ℕ) (text : List ℕ) (n : ℕ) → 10 ≤ digit_value c → IsNumber text n → LacksByte c text
 LacksByte-number c text n past h = LacksByte-digits c text past h.1.1
 
 pub number_unique : (text : List ℕ) (m n : ℕ) → IsNumber text m → IsNumber text n → m ≡ n
@@ -75,9 +73,8 @@ spec_at text a b e lacks (From first) h =
     (subst (λ (t : List ℕ). IsNumber t first) one.0 h.1, sym one.1)
 spec_at text a b e lacks (FromTo first last) h = positions_at text a b e lacks first last h
 spec_at text a b e lacks (Last n) h =
-    let y = h.0 in
-    let one = split_unique 45 [] y a b refl lacks (sym h.2 ∙ e) in
-    (sym one.0, subst (λ (t : List ℕ). IsNumber t n) one.1 h.1)
+    let one = split_unique 45 [] h.0 a b refl lacks (sym h.2 ∙ e) in
+    (sym one.0, rw (← one.1) h.1)
 
 pub asks_last : (a b : List ℕ) (asked : Asked) → length a ≡ 0 → AsksBy a b asked → (n : ℕ) × (asked ≡ Last n) × IsNumber b n
 asks_last a b (From first) none h = absurd (number_some a first h.0 none)
@@ -115,7 +112,7 @@ content_range_at text unit response eu er range h =
     (ap (map to_ascii_lowercase) same.0 ∙ h.2, subst (λ (t : List ℕ). SpellsResponse t range) (sym same.1) h.3)
 
 -- positions have no slash, and are no asterisk
-lacks_slash : (text : List ℕ) (first last : ℕ) → SpellsPositions text first last → LacksByte 47 text
+pub lacks_slash : (text : List ℕ) (first last : ℕ) → SpellsPositions text first last → LacksByte 47 text
 lacks_slash text first last h =
     let a = h.0 in
     let b = h.1 in
@@ -125,10 +122,8 @@ pub star_positions : (text : List ℕ) (first last : ℕ) → text ≡ 42 ∷ []
 star_positions text first last star h =
     let a = h.0 in
     let b = h.1 in
-    let some : 0 < length a = h.2.1.0 in
-    let more : 0 < length b = h.3.1.0 in
     let long : length text ≡ length a + 1 + length b = ap length h.5 ∙ length-append (a ++ 45 ∷ []) b ∙ ap (λ (n : ℕ). n + length b) (length-append a (45 ∷ [])) in
-    omega (arith, some, more, long, ap length star)
+    omega (arith, h.2.1.0, h.3.1.0, long, ap length star)
 
 -- what a text tells that is cut at its first slash
 abbrev pub TellsBy : List ℕ → List ℕ → ContentRange → Type 0
@@ -142,9 +137,8 @@ response_at text p t e lacks (Part first last total) h =
     let one = split_unique 47 x y p t (lacks_slash x first last h.2) lacks (sym (append_assoc x (47 ∷ []) y) ∙ sym h.4 ∙ e) in
     (subst (λ (s : List ℕ). SpellsPositions s first last) one.0 h.2, subst (λ (s : List ℕ). SpellsTotal s last total) one.1 h.3)
 response_at text p t e lacks (Unsatisfied total) h =
-    let y = h.0 in
-    let one = split_unique 47 (42 ∷ []) y p t refl lacks (sym h.2 ∙ e) in
-    (sym one.0, subst (λ (s : List ℕ). IsNumber s total) one.1 h.1)
+    let one = split_unique 47 (42 ∷ []) h.0 p t refl lacks (sym h.2 ∙ e) in
+    (sym one.0, rw (← one.1) h.1)
 
 pub tells_unsatisfied : (p t : List ℕ) (range : ContentRange) → p ≡ 42 ∷ [] → TellsBy p t range → (total : ℕ) × (range ≡ Unsatisfied total) × IsNumber t total
 tells_unsatisfied p t (Part first last total) star h = absurd (star_positions p first last star h.0)
@@ -160,20 +154,11 @@ pub same_last : (r : Option (ℕ × ℕ)) (x y first last : ℕ) → r ≡ Some 
 same_last r x y first last read spelled = let pair : ◌≡◌ {A = ℕ × ℕ} (x, y) (first, last) = cc in ap (λ (p : ℕ × ℕ). p.1) pair
 
 pub same_positions : (r : Option (ℕ × ℕ)) (x y first last : ℕ) (asked : Asked) → r ≡ Some (x, y) → r ≡ Some (first, last) → asked ≡ FromTo first last → Some (FromTo x y) ≡ Some asked
-same_positions r x y first last asked read spelled is =
-    let pair : ◌≡◌ {A = ℕ × ℕ} (x, y) (first, last) = cc in
-    let one : x ≡ first = ap (λ (p : ℕ × ℕ). p.0) pair in
-    let two : y ≡ last = ap (λ (p : ℕ × ℕ). p.1) pair in
-    cc
+same_positions r x y first last asked read spelled is = grind (arith, nat_tests)
 
 pub same_part : (r : Option (ℕ × ℕ)) (x y first last : ℕ) (s : Option (Option ℕ)) (z total : Option ℕ) (range : ContentRange)
     → r ≡ Some (x, y) → r ≡ Some (first, last) → s ≡ Some z → s ≡ Some total → range ≡ Part first last total → Some (Part x y z) ≡ Some range
-same_part r x y first last s z total range read spelled told wants is =
-    let pair : ◌≡◌ {A = ℕ × ℕ} (x, y) (first, last) = cc in
-    let one : x ≡ first = ap (λ (p : ℕ × ℕ). p.0) pair in
-    let two : y ≡ last = ap (λ (p : ℕ × ℕ). p.1) pair in
-    let three : z ≡ total = cc in
-    cc
+same_part r x y first last s z total range read spelled told wants is = grind (arith, nat_tests)
 
 -- the asterisk in the place of positions
 pub same_total : (x total : ℕ) (range : ContentRange) → range ≡ Unsatisfied total → x ≡ total → Some (Unsatisfied x) ≡ Some range

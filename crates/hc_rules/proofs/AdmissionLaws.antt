@@ -1,36 +1,28 @@
 -- Who is admitted beside others is planned so.
-use Rattle.std.{proofs.Common.{◌≡◌, ℕ, Bool, true, false, cond, Option, Some, None, refl, ap, ◌∙◌}, specs.Prelude.{◌&&◌, is_some, is_none}}
+use Rattle.std.{proofs.{lemmas.Bool.Decides.{nat_tests}, Common.{arith, ◌≡◌, ℕ, Bool, cond, Option, Some, None, ap, ◌∙◌}}, specs.Prelude.{◌&&◌, is_some, is_none}}
 use Rattle.hc_range.specs.declared.range.{Asked.{Asked}, Span.{Span}}
 use Rattle.hc_event.specs.declared.act.Why.{Why}
 use Rattle.hc_rules.specs.{declared.{request.Wanted.{Wanted}, plan.{Plan.{Plan, TheVariants.{Bind}}, Candidate.{Candidate}, PlanView.{PlanView}}, admission.Admission.{Admission, TheVariants.{Reader}}}, Plans.{by_wanted, by_exclusive, by_hole, by_bound, busy}, Admissions.{admission_of, beside_writing, beside_exclusive, with_holes, least_of}, Laws.{carried_out, AdmitsAsPlanned}}
 use Rattle.hc_rules.specs.declared.admission.BoundKind.TheVariants as kind
 
 bound-planned : (v : PlanView) (why : Why) (span hole : Span) (least : Option ℕ) → by_bound v span hole least ≡ carried_out v why span (Some hole) (with_holes least)
-bound-planned v why span hole None = refl
-bound-planned v why span hole (Some d) = refl
+bound-planned v why span hole least = grind (arith, nat_tests)
 
 hole-planned : (v : PlanView) (s : Candidate) (why : Why) (span : Span) (hole : Option Span) → by_hole v s why span hole ≡ carried_out v why span hole (cond (is_some hole) (with_holes s.least_bound) Reader)
-hole-planned v s why span None = refl
-hole-planned v s why span (Some hole) = bound-planned v why span hole s.least_bound
+hole-planned v s why span hole = grind (arith, nat_tests)
 
 -- beside the exclusive writer, if there is one
 abbrev others : Candidate → Option ℕ → Admission
 others s exclusive = beside_exclusive exclusive (cond (is_some s.hole) (with_holes s.least_bound) Reader)
 
 exclusive-planned : (v : PlanView) (s : Candidate) (why : Why) (span : Span) (d : Option ℕ) → by_exclusive v s why span d ≡ carried_out v why span s.hole (others s d)
-exclusive-planned v s why span None = hole-planned v s why span s.hole
-exclusive-planned v s why span (Some d) = refl
+exclusive-planned v s why span d = grind (arith, nat_tests)
 
 writing-planned : (v : PlanView) (s : Candidate) (why : Why) (span : Span) (range : Option Asked) (writing : Bool) (shared : Option ℕ) → writing ≡ is_some shared
     → ((d : ℕ) → shared ≡ Some d → s.least_bound ≡ Some d)
     → cond (is_none range && writing) (Bind why None) (cond writing (busy v s.least_bound) (by_exclusive v s why span s.exclusive))
     ≡ carried_out v why span s.hole (beside_writing shared (is_some range) (others s s.exclusive))
-writing-planned v s why span range true None is together = absurd (cc)
-writing-planned v s why span range false (Some d) is together = absurd (cc)
-writing-planned v s why span None true (Some d) is together = refl
-writing-planned v s why span (Some asked) true (Some d) is together = ap (λ (least : Option ℕ). busy v least) (together d refl)
-writing-planned v s why span None false None is together = exclusive-planned v s why span s.exclusive
-writing-planned v s why span (Some asked) false None is together = exclusive-planned v s why span s.exclusive
+writing-planned v s why span range writing shared is together = grind (arith, nat_tests)
 
 pub admits-as-planned : AdmitsAsPlanned
 unfolding admission_of

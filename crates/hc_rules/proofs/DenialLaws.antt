@@ -4,9 +4,9 @@
 -- and each refusal of a lower rank doesn't, since the tests before it failed. Where none applies, nothing stops the
 -- event. Each test has a lemma for the bound on the rank. A piece has most of them (`piece-least`): no head, nothing
 -- asked, no bytes, or more than was promised (`promise-least`). `denials-least` joins the events.
-use Rattle.std.{proofs.{Common.{◌≡◌, ◌≢◌, ℕ, ◌+◌, ◌<◌, ◌≤◌, true, false, eqb, leb, ltb, length, Option, Some, None, refl, sym, ◌∙◌, arith, lit≤}, lemmas.Bool.{eqb-true, Decides.{nat_tests}}}, specs.Prelude.{not}}
+use Rattle.std.{proofs.{Common.{◌≡◌, ◌≢◌, ℕ, ◌+◌, ◌<◌, ◌≤◌, true, false, eqb, leb, ltb, length, Option, Some, None, refl, sym, ◌∙◌, arith}, lemmas.Bool.{eqb-true, Decides.{nat_tests}}}, specs.Prelude.{not}}
 use Rattle.hc_text.proofs.Basics.{not_true as denied, either, not_false as granted, leb-le, leb-lt, ltb-le, ltb-lt}
-use Rattle.hc_event.specs.declared.{event.Event.TheVariants.{Start, Poll, Head, Piece, End, Fault, Cancel, Doom}, act.Refusal.{Refusal, TheVariants.{NotRising, TooManyConsumers, NoConsumer, Finished, WantZero, NoExchange, HeadTwice, NoHeadYet, NotAsked, EmptyPiece, Overlong}}}
+use Rattle.hc_event.specs.declared.{event.Event.TheVariants.{Start, Poll, Head, Piece, End, Fault, Cancel, Doom}, act.Refusal.{Refusal}}
 use Rattle.hc_rules.specs.{declared.refusal.{Gate.{Gate}, OpenExchange.{OpenExchange}}, Refusals.{refusal_of, start_refusal, poll_refusal, consumer_refusal, head_refusal, piece_refusal, end_refusal, fault_refusal, overlong}, Laws.{rank, IsLeast, StopsClosed, DenialsAreLeast, StopsStart, StopsPoll, StopsCancel, StopsHead, StopsPiece, StopsEnd, StopsFault}}
 
 eqb-other : (m n : ℕ) → eqb m n ≡ false → m ≢ n
@@ -15,19 +15,13 @@ eqb-other m n h = grind (arith, nat_tests)
 -- STARTS
 
 start-first : (g : Gate) (c : ℕ) (s : Refusal) → StopsStart g c s → 1 ≤ rank s
-start-first g c (NotRising last) h = lit≤ tt
-start-first g c TooManyConsumers h = lit≤ tt
-start-first g c _ h = absurd h
+start-first g c s h = grind (arith, nat_tests)
 
 start-second : (g : Gate) (c : ℕ) → g.last_start < c → (s : Refusal) → StopsStart g c s → 2 ≤ rank s
-start-second g c is_sorted (NotRising last) h = absurd (let e : c ≤ g.last_start = h.0 in omega arith)
-start-second g c is_sorted TooManyConsumers h = lit≤ tt
-start-second g c is_sorted _ h = absurd h
+start-second g c is_sorted s h = grind (arith, nat_tests)
 
 start-none : (g : Gate) (c : ℕ) → g.last_start < c → g.live < 1024 → (s : Refusal) → StopsStart g c s → ⊥
-start-none g c is_sorted few (NotRising last) h = let e : c ≤ g.last_start = h.0 in omega arith
-start-none g c is_sorted few TooManyConsumers h = let e : 1024 ≤ g.live = h in omega arith
-start-none g c is_sorted few _ h = h
+start-none g c is_sorted few s h = grind (arith, nat_tests)
 
 start-least : (g : Gate) (c : ℕ) → IsLeast (StopsStart g c) (start_refusal g c)
 start-least g c =
@@ -39,28 +33,16 @@ start-least g c =
 -- POLLS AND CANCELS
 
 poll-first : (g : Gate) (c want : ℕ) (s : Refusal) → StopsPoll g c want s → 3 ≤ rank s
-poll-first g c want NoConsumer h = lit≤ tt
-poll-first g c want Finished h = lit≤ tt
-poll-first g c want WantZero h = lit≤ tt
-poll-first g c want _ h = absurd h
+poll-first g c want s h = grind (arith, nat_tests)
 
 poll-second : (g : Gate) (c want : ℕ) → c ≤ g.last_start → (s : Refusal) → StopsPoll g c want s → 4 ≤ rank s
-poll-second g c want known NoConsumer h = absurd (let e : g.last_start < c = h in omega arith)
-poll-second g c want known Finished h = lit≤ tt
-poll-second g c want known WantZero h = lit≤ tt
-poll-second g c want known _ h = absurd h
+poll-second g c want known s h = grind (arith, nat_tests)
 
 poll-third : (g : Gate) (c want : ℕ) → c ≤ g.last_start → g.is_live ≡ true → (s : Refusal) → StopsPoll g c want s → 5 ≤ rank s
-poll-third g c want known lives NoConsumer h = absurd (let e : g.last_start < c = h in omega arith)
-poll-third g c want known lives Finished h = let over : g.is_live ≡ false = h.1 in absurd (cc)
-poll-third g c want known lives WantZero h = lit≤ tt
-poll-third g c want known lives _ h = absurd h
+poll-third g c want known lives s h = grind (arith, nat_tests)
 
 poll-none : (g : Gate) (c want : ℕ) → c ≤ g.last_start → g.is_live ≡ true → want ≢ 0 → (s : Refusal) → StopsPoll g c want s → ⊥
-poll-none g c want known lives wants NoConsumer h = let e : g.last_start < c = h in omega arith
-poll-none g c want known lives wants Finished h = let over : g.is_live ≡ false = h.1 in cc
-poll-none g c want known lives wants WantZero h = wants h
-poll-none g c want known lives wants _ h = h
+poll-none g c want known lives wants s h = grind (arith, nat_tests)
 
 poll-least : (g : Gate) (c want : ℕ) → IsLeast (StopsPoll g c want) (poll_refusal g c want)
 poll-least g c want =
@@ -72,19 +54,13 @@ poll-least g c want =
     (λ wants. poll-none g c want within (granted g.is_live lives) (eqb-other want 0 wants))))
 
 cancel-first : (g : Gate) (c : ℕ) (s : Refusal) → StopsCancel g c s → 3 ≤ rank s
-cancel-first g c NoConsumer h = lit≤ tt
-cancel-first g c Finished h = lit≤ tt
-cancel-first g c _ h = absurd h
+cancel-first g c s h = grind (arith, nat_tests)
 
 cancel-second : (g : Gate) (c : ℕ) → c ≤ g.last_start → (s : Refusal) → StopsCancel g c s → 4 ≤ rank s
-cancel-second g c known NoConsumer h = absurd (let e : g.last_start < c = h in omega arith)
-cancel-second g c known Finished h = lit≤ tt
-cancel-second g c known _ h = absurd h
+cancel-second g c known s h = grind (arith, nat_tests)
 
 cancel-none : (g : Gate) (c : ℕ) → c ≤ g.last_start → g.is_live ≡ true → (s : Refusal) → StopsCancel g c s → ⊥
-cancel-none g c known lives NoConsumer h = let e : g.last_start < c = h in omega arith
-cancel-none g c known lives Finished h = let over : g.is_live ≡ false = h.1 in cc
-cancel-none g c known lives _ h = h
+cancel-none g c known lives s h = grind (arith, nat_tests)
 
 cancel-least : (g : Gate) (c : ℕ) → IsLeast (StopsCancel g c) (consumer_refusal g c)
 cancel-least g c =
@@ -97,28 +73,23 @@ cancel-least g c =
 -- EVENTS OF EXCHANGES
 
 closed-least : (s : Refusal) → StopsClosed s → 6 ≤ rank s
-closed-least NoExchange h = lit≤ tt
-closed-least _ h = absurd h
+closed-least s h = grind (arith, nat_tests)
 
 head-first : (x : OpenExchange) (s : Refusal) → StopsHead (Some x) s → 7 ≤ rank s
-head-first x HeadTwice h = lit≤ tt
-head-first x _ h = absurd h
+head-first x s h = grind (arith, nat_tests)
 
 head-none : (x : OpenExchange) → x.headed ≡ false → (s : Refusal) → StopsHead (Some x) s → ⊥
-head-none x headless HeadTwice h = cc
-head-none x headless _ h = h
+head-none x headless s h = grind (arith, nat_tests)
 
 head-least : (x : Option OpenExchange) → IsLeast (StopsHead x) (head_refusal x)
 head-least None = (tt, closed-least)
 head-least (Some x) = either (IsLeast (StopsHead (Some x))) x.headed _ _ (λ h. (h, head-first x)) (λ headless. head-none x headless)
 
 end-first : (x : OpenExchange) (s : Refusal) → StopsEnd (Some x) s → 8 ≤ rank s
-end-first x NoHeadYet h = lit≤ tt
-end-first x _ h = absurd h
+end-first x s h = grind (arith, nat_tests)
 
 end-none : (x : OpenExchange) → x.headed ≡ true → (s : Refusal) → StopsEnd (Some x) s → ⊥
-end-none x headed NoHeadYet h = cc
-end-none x headed _ h = h
+end-none x headed s h = grind (arith, nat_tests)
 
 end-least : (x : Option OpenExchange) → IsLeast (StopsEnd x) (end_refusal x)
 end-least None = (tt, closed-least)
@@ -130,40 +101,20 @@ fault-least None = (tt, closed-least)
 fault-least (Some x) = λ s h. h
 
 piece-first : (x : OpenExchange) (n : ℕ) (s : Refusal) → StopsPiece (Some x) n s → 8 ≤ rank s
-piece-first x n NoHeadYet h = lit≤ tt
-piece-first x n NotAsked h = lit≤ tt
-piece-first x n EmptyPiece h = lit≤ tt
-piece-first x n (Overlong promised) h = lit≤ tt
-piece-first x n _ h = absurd h
+piece-first x n s h = grind (arith, nat_tests)
 
 piece-second : (x : OpenExchange) (n : ℕ) → x.headed ≡ true → (s : Refusal) → StopsPiece (Some x) n s → 9 ≤ rank s
-piece-second x n headed NoHeadYet h = absurd (cc)
-piece-second x n headed NotAsked h = lit≤ tt
-piece-second x n headed EmptyPiece h = lit≤ tt
-piece-second x n headed (Overlong promised) h = lit≤ tt
-piece-second x n headed _ h = absurd h
+piece-second x n headed s h = grind (arith, nat_tests)
 
 piece-third : (x : OpenExchange) (n : ℕ) → x.headed ≡ true → x.asked ≡ true → (s : Refusal) → StopsPiece (Some x) n s → 10 ≤ rank s
-piece-third x n headed asked NoHeadYet h = absurd (cc)
-piece-third x n headed asked NotAsked h = absurd (cc)
-piece-third x n headed asked EmptyPiece h = lit≤ tt
-piece-third x n headed asked (Overlong promised) h = lit≤ tt
-piece-third x n headed asked _ h = absurd h
+piece-third x n headed asked s h = grind (arith, nat_tests)
 
 piece-last : (x : OpenExchange) (n : ℕ) → x.headed ≡ true → x.asked ≡ true → n ≢ 0 → (s : Refusal) → StopsPiece (Some x) n s → 11 ≤ rank s
-piece-last x n headed asked some NoHeadYet h = absurd (cc)
-piece-last x n headed asked some NotAsked h = absurd (cc)
-piece-last x n headed asked some EmptyPiece h = absurd (some h)
-piece-last x n headed asked some (Overlong promised) h = lit≤ tt
-piece-last x n headed asked some _ h = absurd h
+piece-last x n headed asked some s h = grind (arith, nat_tests)
 
 -- no piece that fits its promise is stopped
 piece-none : (x : OpenExchange) (n : ℕ) → x.headed ≡ true → x.asked ≡ true → n ≢ 0 → ((promised : ℕ) → x.promised ≡ Some promised → x.delivered + n ≤ promised) → (s : Refusal) → StopsPiece (Some x) n s → ⊥
-piece-none x n headed asked some fits NoHeadYet h = cc
-piece-none x n headed asked some fits NotAsked h = cc
-piece-none x n headed asked some fits EmptyPiece h = some h
-piece-none x n headed asked some fits (Overlong promised) h = let a : x.delivered + n ≤ promised = fits promised h.0 in let b : promised < x.delivered + n = h.1 in omega arith
-piece-none x n headed asked some fits _ h = h
+piece-none x n headed asked some fits s h = grind (arith, nat_tests)
 
 fits-same : (m promised n : ℕ) → Some m ≡ Some promised → n ≤ m → n ≤ promised
 fits-same m promised n same h = let e : m ≡ promised = cc in omega arith

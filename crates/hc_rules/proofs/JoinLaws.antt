@@ -1,11 +1,11 @@
 -- What joins brings bytes of the hole from the same representation, and nothing else does.
-use Rattle.std.{proofs.{Common.{◌≡◌, ℕ, ◌+◌, ◌<◌, Bool, true, false, eqb, leb, List, Option, Some, None, refl, sym, ap, ◌∙◌, inl, inr, arith}, lemmas.Bool.{and_parts, and_from, eqb-true, Decides.{nat_tests}}}, specs.Prelude.{◌&&◌, not, bytes_eq}}
-use Rattle.hc_text.proofs.Basics.{not_true as denied, eqb-same}
-use Rattle.hc_range.specs.declared.range.{Span.{Span}, ContentRange.{ContentRange, TheVariants.{Part, Unsatisfied}}}
+use Rattle.std.{proofs.{Common.{◌≡◌, ℕ, ◌+◌, ◌<◌, Bool, true, false, eqb, leb, List, Option, Some, refl, sym, ap, ◌∙◌, inl, inr, arith}, lemmas.Bool.{and_parts, and_from, eqb-true, Decides.{nat_tests}}}, specs.Prelude.{◌&&◌, not, bytes_eq}}
+use Rattle.hc_text.proofs.{Basics.{not_true as denied, eqb-same}, Cutting.{none_or_some as seen}}
+use Rattle.hc_range.specs.declared.range.{Span.{Span}, ContentRange.{ContentRange, TheVariants.{Part}}}
 use Rattle.hc_cachectl.specs.Directives.{of_response}
 use Rattle.hc_event.specs.declared.event.Response.{Response}
 use Rattle.hc_rules.specs.{RangeTexts.{content_range_of}, TagTexts.{strong_of, strongly_equals, is_same_tag}, Joins.{joins, fills}, Laws.{IsJoin, JoinsAreRight}}
-use Rattle.hc_rules.proofs.RangeReads.{seen, same_bytes, bytes_eq-same}
+use Rattle.hc_rules.proofs.RangeReads.{same_bytes, bytes_eq-same}
 
 leb-lt : (m n : ℕ) → leb (m + 1) n ≡ true → m < n
 leb-lt m n h = grind (arith, nat_tests)
@@ -17,13 +17,11 @@ same_part : (first last n start total : ℕ) → first ≡ start → n ≡ total
 same_part first last n start total a b = cc
 
 fills-some : (o : Option ContentRange) (total : ℕ) (hole : Span) → fills o total hole ≡ true → (last : ℕ) × ((o ≡ Some (Part hole.lo last (Some total))) × (last < hole.hi))
-fills-some None total hole h = absurd (cc)
-fills-some (Some (Unsatisfied n)) total hole h = absurd (cc)
-fills-some (Some (Part first last None)) total hole h = absurd (cc)
 fills-some (Some (Part first last (Some n))) total hole h =
     let a = and_parts (eqb n total && eqb first hole.lo) (leb (last + 1) hole.hi) h in
     let b = and_parts (eqb n total) (eqb first hole.lo) a.0 in
     (last, (same_part first last n hole.lo total (eqb-true first hole.lo b.1) (eqb-true n total b.0), leb-lt last hole.hi a.1))
+fills-some _ total hole h = absurd (cc)
 
 strong-some : (fields : List (List ℕ × List ℕ)) (weak : Bool) (opaque : List ℕ) → strongly_equals fields weak opaque ≡ true → (weak ≡ false) × (strong_of fields ≡ Some opaque)
 strong-some fields true opaque h = absurd (cc)

@@ -1,5 +1,5 @@
 -- The least of a list is one of it, and none is less.
-use Rattle.std.{proofs.{Common.{◌≡◌, ◌≢◌, ℕ, zero, suc, ◌≤◌, Bool, true, cond, min, List, [], ◌∷◌, map, get_or, Option, Some, None, refl, sym, subst, inl, inr, arith}, lemmas.{Bool.{cases_Bool, cases_lt}, List.Elements.{All-cons, All-nil}}}, specs.Prelude.{All, Contains, filter}}
+use Rattle.std.{proofs.{lemmas.{Bool.{cases_Bool, cases_lt, Decides.{nat_tests}}, List.Elements.{All-cons, All-nil}}, Common.{◌≡◌, ◌≢◌, ℕ, zero, suc, ◌≤◌, Bool, true, cond, min, List, [], ◌∷◌, map, get_or, Option, Some, None, refl, inl, inr, arith}}, specs.Prelude.{All, Contains, filter}}
 use Rattle.hc_text.proofs.Basics.{either}
 use Rattle.hc_rules.specs.{declared.{survivor.Member.{Member}, admission.Bound.{Bound}}, Least.{least, lesser}, Survivors.{stands_at}, Admissions.{admission_of, beside_writing, beside_exclusive, with_holes, is_of, numbers, least_of, least_bound}, Laws.{IsLeastOf, SurvivorsAreLeast, IsRightAdmission, AdmissionsAreRight, those}}
 use Rattle.hc_rules.specs.declared.admission.BoundKind.TheVariants as kind
@@ -20,12 +20,10 @@ least-cons n ns None none = rw none (contains-here n [], All-cons (λ x. n ≤ x
 least-cons n ns (Some m) h = elim (cases_lt n m) [
   | inl below ↦
       let e : min m n ≡ n = omega arith in
-      subst (λ (x : ℕ). IsLeastOf (n ∷ ns) (Some x)) (sym e)
-      (contains-here n ns, All-cons (λ x. n ≤ x) n ns (omega arith) (less-all n m ns (omega arith) h.1))
+      rw e (contains-here n ns, All-cons (λ x. n ≤ x) n ns (omega arith) (less-all n m ns (omega arith) h.1))
   | inr above ↦
       let e : min m n ≡ m = omega arith in
-      subst (λ (x : ℕ). IsLeastOf (n ∷ ns) (Some x)) (sym e)
-      (contains-there n m ns h.0, All-cons (λ x. m ≤ x) n ns above h.1)
+      rw e (contains-there n m ns h.0, All-cons (λ x. m ≤ x) n ns above h.1)
 ]
 
 pub least-is : (ns : List ℕ) → IsLeastOf ns (least ns)
@@ -48,8 +46,7 @@ contains-filter p (b ∷ bound) n h = elim (cases_Bool (p b)) [
 ]
 
 not_empty : (ns : List ℕ) (n : ℕ) → Contains ns n → ns ≢ []
-not_empty [] n (k, within, is) e = absurd (omega arith)
-not_empty (m ∷ ns) n h e = cc
+not_empty ns n h e = grind (arith, nat_tests)
 
 none-bound : (bound : List Bound) → numbers bound ≡ [] → bound ≡ []
 none-bound [] e = refl
@@ -61,8 +58,7 @@ holes-right bound ranged holes (Some d) there h = h.0
 
 exclusive-right : (bound : List Bound) (ranged holes : Bool) (o : Option ℕ) → those (is_of kind.Shared) bound ≡ [] → IsLeastOf (those (is_of kind.Exclusive) bound) o
     → IsRightAdmission bound ranged holes (beside_exclusive o (cond holes (with_holes (least_bound bound)) admission.Reader))
-exclusive-right bound ranged holes None none h =
-    either (IsRightAdmission bound ranged holes) holes _ _ (λ there. holes-right bound ranged holes (least_bound bound) there (least-is (numbers bound))) (λ whole. (whole, none, h))
+exclusive-right bound ranged holes None none h = grind (arith, nat_tests, either, holes-right, least-is)
 exclusive-right bound ranged holes (Some d) none h = contains-filter (is_of kind.Exclusive) bound d h.0
 
 writing-right : (bound : List Bound) (ranged holes : Bool) (o : Option ℕ) → IsLeastOf (those (is_of kind.Shared) bound) o

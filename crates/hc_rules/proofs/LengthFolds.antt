@@ -4,7 +4,7 @@ use Rattle.hc_text.proofs.Basics.{eqb-same}
 use Rattle.hc_text.specs.Elements.{elements}
 use Rattle.hc_rules.specs.{declared.length.Length.{Length, TheVariants.{Unknown, Promised, Bad}}, Lengths.{is_same_number, promised_or_bad, all_tell, content_length_of}, RangeTexts.{number_of}, LengthSoFar.{with_element, with_elements}}
 
-with_elements-append : (so_far : Length) (xs ys : List (List ℕ)) → with_elements so_far (xs ++ ys) ≡ with_elements (with_elements so_far xs) ys
+pub with_elements-append : (so_far : Length) (xs ys : List (List ℕ)) → with_elements so_far (xs ++ ys) ≡ with_elements (with_elements so_far xs) ys
 with_elements-append so_far [] ys = refl
 with_elements-append so_far (x ∷ xs) ys = with_elements-append (with_element so_far x) xs ys
 
@@ -12,9 +12,8 @@ with_elements-append so_far (x ∷ xs) ys = with_elements-append (with_element s
 pub one_more : (so_far next : Length) (values : List (List ℕ)) (i : ℕ) (value : List ℕ) → slice_get values i ≡ Some value → next ≡ with_elements so_far (elements value)
     → with_elements next (flat_map elements (drop (i + 1) values)) ≡ with_elements so_far (flat_map elements (drop i values))
 one_more so_far next values i value is next_is =
-    let later = flat_map elements (drop (i + 1) values) in
     rw (drop_more values i [] (slice_get_within values i value is), get_or_from_slice_get values i value [] is, next_is)
-    (sym (with_elements-append so_far (elements value) later))
+    (sym (with_elements-append so_far (elements value) (flat_map elements (drop (i + 1) values))))
 
 bad_stays : (es : List (List ℕ)) → with_elements Bad es ≡ Bad
 bad_stays [] = refl

@@ -1,5 +1,5 @@
 -- What is said of the length of a body is what its head says.
-use Rattle.std.{proofs.{Common.{◌≡◌, ◌≢◌, ◌⊎◌, ℕ, ◌+◌, ◌-◌, true, false, List, [], ◌∷◌, Option, Some, None, refl, sym, ap, inl, inr}, lemmas.{Bool.{and_parts, eqb-true, both_ways}, List.Elements.{All-nil, All-cons}}}, specs.{Prelude.{All}, List.{list_all}}}
+use Rattle.std.{proofs.{lemmas.{Bool.{and_parts, eqb-true, both_ways, Decides.{nat_tests}}, List.Elements.{All-nil, All-cons}}, Common.{arith, ◌≡◌, ◌≢◌, ◌⊎◌, ℕ, ◌+◌, ◌-◌, true, false, List, [], ◌∷◌, Option, Some, None, refl, sym, inl, inr}}, specs.{Prelude.{All}, List.{list_all}}}
 use Rattle.hc_text.proofs.Basics.{either}
 use Rattle.hc_range.specs.declared.range.ContentRange.{ContentRange}
 use Rattle.hc_range.specs.declared.range.ContentRange.TheVariants as range
@@ -8,8 +8,7 @@ use Rattle.hc_rules.specs.{declared.{need.Route.{Route}, length.Length.{Length, 
 use Rattle.hc_rules.specs.declared.need.Route.TheVariants as route
 
 same : (n : ℕ) (o : Option ℕ) → is_same_number (Some n) o ≡ true → o ≡ Some n
-same n None h = absurd (both_ways _ refl h)
-same n (Some m) h = ap Some (sym (eqb-true n m h))
+same n o h = grind (arith, nat_tests)
 
 all_say : (n : ℕ) (es : List (List ℕ)) → list_all (λ e. is_same_number (Some n) (number_of e)) es ≡ true → All (λ e. number_of e ≡ Some n) es
 all_say n [] h = All-nil (λ e. number_of e ≡ Some n)
@@ -38,10 +37,7 @@ told_right (e ∷ es) =
 
 module _ (need : Need) (request : Request) (response : Response) (body : has_no_body request response.status ≡ false) where
   whole : (said : Length) → Told (declared_in response) said → IsRightLength need request response said
-  whole Unknown t = (body, t)
-  whole (Promised n) t = inr t
-  whole (Part base n) t = absurd t
-  whole Bad t = (body, inl t)
+  whole said t = grind (arith, nat_tests)
 
   agreed : (said : Length) (n : ℕ) → Told (declared_in response) said → agrees said n ≡ true → (declared_in response ≡ []) ⊎ AllSay n (declared_in response)
   agreed Unknown n t h = inl t
@@ -51,12 +47,9 @@ module _ (need : Need) (request : Request) (response : Response) (body : has_no_
 
   turned : (r : Route) (status : ℕ) → tells_part r status ≡ true → (status ≡ 206) × (r ≢ route.Direct)
   turned route.Direct status h = absurd (both_ways _ refl h)
-  turned route.Turn status h = (eqb-true status 206 h, λ is. absurd (cc))
-  turned route.Hole status h = (eqb-true status 206 h, λ is. absurd (cc))
+  turned _ status h = (eqb-true status 206 h, λ is. absurd (cc))
 
   part : (said : Length) (told_range : Option ContentRange) → content_range_of response.fields ≡ told_range → Told (declared_in response) said → tells_part (route_of need) response.status ≡ true → IsRightLength need request response (part_length said told_range)
-  part said None is t tells = (body, inr tells)
-  part said (Some (range.Unsatisfied total)) is t tells = (body, inr tells)
   part said (Some (range.Part first last total)) is t tells =
       let turn = turned (route_of need) response.status tells in
       either (IsRightLength need request response) (agrees said (last + 1 - first)) _ _
@@ -72,6 +65,7 @@ module _ (need : Need) (request : Request) (response : Response) (body : has_no_
         },
       ))
       (λ _. (body, inr tells))
+  part said _ is t tells = (body, inr tells)
 
 pub lengths-right : LengthsAreRight
 unfolding length_of

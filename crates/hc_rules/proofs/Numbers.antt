@@ -1,5 +1,5 @@
 -- What is read as a number is one, and what isn't is none.
-use Rattle.std.{proofs.{Common.{◌≡◌, ◌≢◌, ℕ, ◌<◌, ◌≤◌, ◌^◌, List, length, Bool, true, leb, ltb, Option, Some, None, refl, sym, arith, lt-ltb, inl, inr}, lemmas.{Bool.{cases_Bool, and_parts}, Str.Parse.{IsNumeralModel, numerals_by_value, tells_all_ascii_digits}}}, specs.{Prelude.{◌&&◌, IfSome, IfNone}, Str.{all_ascii_digits, Parse.{digits_value, IsNumeral}}}}
+use Rattle.std.{proofs.{lemmas.{Bool.{cases_Bool, Decides.{nat_tests}}, Str.Parse.{IsNumeralModel, numerals_by_value, tells_all_ascii_digits}}, Common.{◌≡◌, ◌≢◌, ℕ, ◌<◌, ◌^◌, List, length, Bool, true, leb, ltb, Option, Some, None, refl, sym, arith, lt-ltb, inl, inr}}, specs.{Prelude.{◌&&◌, IfSome, IfNone}, Str.{all_ascii_digits, Parse.{digits_value}}}}
 use Rattle.hc_text.specs.Numbers.{IsNumber}
 use Rattle.hc_text.proofs.Basics.{le-leb, leb-le, ltb-lt}
 use Rattle.hc_rules.specs.RangeTexts.{number_of}
@@ -15,18 +15,11 @@ pub number_of-number : (text : List ℕ) (n : ℕ) → IsNumber text n → numbe
 number_of-number text n found =
     let (small, numeral, short, value) = found in
     let some : leb 1 (length text) ≡ true = le-leb _ _ (let h : 0 < length text = numeral.0 in omega arith) in
-    let few : leb (length text) 20 ≡ true = le-leb _ _ short in
-    let below : ltb n (2 ^ 62) ≡ true = lt-ltb n (2 ^ 62) small in
-    rw (some, few, digits.from text numeral.1, value, below) refl
+    rw (some, le-leb _ _ short, digits.from text numeral.1, value, lt-ltb n (2 ^ 62) small) refl
 
 -- what is told is a number
 IsNumber-tests : (text : List ℕ) → is_number text ≡ true → IsNumber text (digits_value 10 text)
-IsNumber-tests text is =
-    let (front, below) = and_parts (leb 1 (length text) && leb (length text) 20 && all_ascii_digits text) (ltb (digits_value 10 text) (2 ^ 62)) is in
-    let (sizes, all) = and_parts (leb 1 (length text) && leb (length text) 20) (all_ascii_digits text) front in
-    let (some, few) = and_parts (leb 1 (length text)) (leb (length text) 20) sizes in
-    let numeral : IsNumeral 10 text = (let h : 1 ≤ length text = leb-le _ _ some in omega arith, digits.to text all) in
-    (ltb-lt _ _ below, numeral, leb-le _ _ few, refl)
+IsNumber-tests text is = grind (arith, nat_tests, leb-le, ltb-lt, digits.to)
 
 pub IsNumber-told : (text : List ℕ) (n : ℕ) → number_of text ≡ Some n → IsNumber text n
 IsNumber-told text n told =

@@ -4,12 +4,12 @@
 -- view has where it applies: what is current, why it may be used, who has the turn (`IsBare`, `bare-right`). Whoever
 -- doesn't wait has the turn, or was let through and may still read (`turn_held`). Then the exceptions: a wait that took
 -- too long (`timed-right`), and a request for what is stored alone (`stored-right`). `plans-right` joins both.
-use Rattle.std.{proofs.{Common.{◌≡◌, ◌≢◌, ℕ, ◌+◌, ◌<◌, ◌⊎◌, Bool, true, false, eqb, leb, Option, Some, None, refl, ap, inl, inr, arith}, lemmas.Bool.{cases_Bool, eqb-true, and_parts, Decides.{nat_tests}}}, specs.Prelude.{IsSome, ◌&&◌, ◌||◌, not, is_none}}
+use Rattle.std.{proofs.{Common.{◌≡◌, ◌≢◌, ℕ, ◌+◌, ◌<◌, ◌⊎◌, Bool, true, false, eqb, leb, Option, Some, None, refl, inl, inr, arith}, lemmas.Bool.{cases_Bool, eqb-true, Decides.{nat_tests}}}, specs.Prelude.{IsSome, ◌&&◌, ◌||◌, not, is_none}}
 use Rattle.hc_text.proofs.Basics.{either, leb-lt}
 use Rattle.hc_range.specs.declared.range.Span.{Span}
 use Rattle.hc_event.specs.declared.act.Why.{Why}
 use Rattle.hc_rules.specs.declared.need.Route.TheVariants as route
-use Rattle.hc_rules.specs.{declared.{request.Wanted.{Wanted}, plan.{Plan.{Plan, TheVariants.{Direct, Turn, Fetch, Bind, FirstHole, Busy, Miss}}, Candidate.{Candidate}, PlanView.{PlanView}}}, Needs.{route_of}, Plans.{plan_of, bare_plan, by_current, by_why, by_wanted, by_exclusive, by_hole, by_bound, why_by, allowed_by, is_back, queues, in_time, from_store}, Laws.{IsRightPlan, HasTurn, MayRead, PlansAreRight}}
+use Rattle.hc_rules.specs.{declared.{request.Wanted.{Wanted}, plan.{Plan.{Plan, TheVariants.{Direct, Turn, Fetch, Bind, FirstHole, Busy, Miss}}, Candidate.{Candidate}, PlanView.{PlanView}}}, Needs.{route_of}, Plans.{plan_of, bare_plan, by_current, by_why, by_wanted, by_exclusive, by_hole, by_bound, why_by, allowed_by, in_time, from_store}, Laws.{IsRightPlan, HasTurn, MayRead, PlansAreRight}}
 use Rattle.hc_rules.specs.declared.request.Wanted.TheVariants as wants
 
 -- what the first row that applies says, before the exceptions
@@ -23,9 +23,7 @@ IsBare v (Busy d kept) = kept ≡ v.kept
 IsBare v Miss = ⊥
 
 some_why : (kept : Option ℕ) (allowed : Option Why) → (is_none kept && is_none allowed) ≡ false → IsSome (why_by kept allowed)
-some_why (Some x) allowed h = refl
-some_why None (Some why) h = refl
-some_why None None h = absurd (cc)
+some_why kept allowed h = grind (arith, nat_tests)
 
 -- whoever doesn't wait for the turn of another has it, or has passed and may still read
 turn_held : (passed only : Bool) (kept : Option ℕ) (allowed : Option Why) (turn c : ℕ) → only ≡ false
@@ -44,65 +42,42 @@ turn_held false false kept allowed turn c plain h = elim (cases_Bool (eqb turn c
 ]
 
 turn_other : (waits : Bool) (turn c : ℕ) (only : Bool) → (waits && not (eqb turn c) && not only) ≡ true → turn ≢ c
-turn_other waits turn c only h same =
-    let a = and_parts (waits && not (eqb turn c)) (not only) h in
-    let b = and_parts waits (not (eqb turn c)) a.0 in
-    let e : eqb turn c ≡ true = rw same (grind (arith, nat_tests)) in
-    let n : false ≡ true = rw e at b.1 in
-    absurd (cc)
+turn_other waits turn c only h same = grind (arith, nat_tests)
 
 bound-right : (v : PlanView) (span hole : Span) (least : Option ℕ) → (v.class.only ≡ false → HasTurn v) → IsBare v (by_bound v span hole least)
-bound-right v span hole None turn = turn
-bound-right v span hole (Some d) turn = refl
+bound-right v span hole least turn = grind (arith, nat_tests)
 
 hole-right : (v : PlanView) (s : Candidate) (why : Why) (span : Span) (hole : Option Span) → (v.class.only ≡ false → HasTurn v) → MayRead v why → IsBare v (by_hole v s why span hole)
-hole-right v s why span None turn may = may
-hole-right v s why span (Some hole) turn may = bound-right v span hole s.least_bound turn
+hole-right v s why span hole turn may = grind (arith, nat_tests)
 
 exclusive-right : (v : PlanView) (s : Candidate) (why : Why) (span : Span) (d : Option ℕ) → (v.class.only ≡ false → HasTurn v) → MayRead v why → IsBare v (by_exclusive v s why span d)
-exclusive-right v s why span None turn may = hole-right v s why span s.hole turn may
-exclusive-right v s why span (Some d) turn may = refl
+exclusive-right v s why span d turn may = grind (arith, nat_tests)
 
 wanted-right : (v : PlanView) (s : Candidate) (why : Why) (want : Wanted) → (v.class.only ≡ false → HasTurn v) → MayRead v why → IsBare v (by_wanted v s why want)
-wanted-right v s why wants.TotalUnknown turn may = refl
-wanted-right v s why wants.Unsatisfiable turn may = refl
 wanted-right v s why (wants.Interval span) turn may = either (IsBare v) s.writing _ _ (λ _. refl) (λ _. exclusive-right v s why span s.exclusive turn may)
+wanted-right v s why _ turn may = refl
 
 why-right : (v : PlanView) (s : Candidate) (why : Option Why) → (v.class.only ≡ false → HasTurn v) → why_by v.kept (allowed_by v.current) ≡ why → IsBare v (by_why v s why)
 why-right v s None turn is = (refl, turn)
 why-right v s (Some why) turn is = either (IsBare v) (is_none v.class.range && s.writing) _ _ (λ _. is) (λ _. wanted-right v s why s.span turn is)
 
 current-right : (v : PlanView) (current : Option Candidate) → (v.class.only ≡ false → HasTurn v) → v.current ≡ current → IsBare v (by_current v current)
-current-right v None turn is = (refl, turn)
-current-right v (Some s) turn is =
-    either (IsBare v) s.vary _ _
-    (λ _. why-right v s (why_by v.kept s.allowed) turn (ap (λ (o : Option Candidate). why_by v.kept (allowed_by o)) is))
-    (λ _. (refl, turn))
+current-right v current turn is = search (arith, either, why-right)
 
 bare-right : (v : PlanView) → IsBare v (bare_plan v)
-bare-right v =
-    either (IsBare v) v.class.disabled _ _ (λ _. refl) (λ _.
-    either (IsBare v) (queues v) _ _ (λ waits. turn_other (not v.passed || is_back v) v.turn v.c v.class.only waits) (λ free.
-    let turn : v.class.only ≡ false → HasTurn v = λ plain. turn_held v.passed v.class.only v.kept (allowed_by v.current) v.turn v.c plain free in
-    either (IsBare v) v.class.bypassing _ _ (λ _. (refl, turn)) (λ _. current-right v v.current turn refl)))
+bare-right v = search (arith, either, turn_other, turn_held, current-right)
 
 timed-right : (v : PlanView) (p : Plan) → v.class.only ≡ false → IsBare v p → IsRightPlan v (in_time v p)
 timed-right v (Direct n) plain h = (plain, h)
-timed-right v (Turn d) plain h = either (IsRightPlan v) (leb (v.since + 20) v.moment) _ _ (λ _. (plain, refl)) (λ early. (plain, h, leb-lt (v.since + 20) v.moment early))
 timed-right v (Fetch n) plain h = (plain, h.0, h.1 plain)
 timed-right v (Bind why span) plain h = h
 timed-right v (FirstHole span hole) plain h = (plain, h plain)
-timed-right v (Busy d kept) plain h = either (IsRightPlan v) (leb (v.since + 20) v.moment) _ _ (λ _. (plain, refl)) (λ early. (plain, h, leb-lt (v.since + 20) v.moment early))
 timed-right v Miss plain h = absurd h
+timed-right v _ plain h = either (IsRightPlan v) (leb (v.since + 20) v.moment) _ _ (λ _. (plain, refl)) (λ early. (plain, h, leb-lt (v.since + 20) v.moment early))
 
 stored-right : (v : PlanView) (p : Plan) → v.class.only ≡ true → IsBare v p → IsRightPlan v (from_store p)
-stored-right v (Direct n) only h = only
-stored-right v (Turn d) only h = only
-stored-right v (Fetch n) only h = only
 stored-right v (Bind why span) only h = h
-stored-right v (FirstHole span hole) only h = only
-stored-right v (Busy d kept) only h = only
-stored-right v Miss only h = only
+stored-right v _ only h = only
 
 pub plans-right : PlansAreRight
 unfolding plan_of

@@ -4,18 +4,18 @@
 -- with that byte between (`split_at-some`). Numbers have no hyphen and positions no slash. So what is spelled is cut
 -- where it was joined, and read (`spec_in-spelled`, `content_range_in-spelled`). What is read passed the tests, so it
 -- is spelled (`spec_in-some`). What a reader by the grammar gives is thus what is defined (`asked_in-read`).
-use Rattle.std.{proofs.{Common.{◌≡◌, ℕ, ◌<◌, ◌≤◌, ◌⊎◌, Bool, true, false, eqb, leb, ltb, not, List, [], ◌∷◌, ◌++◌, take, drop, map, Option, Some, None, refl, sym, ap, ◌∙◌, subst, inl, inr, arith, lit≤, lt-ltb}, lemmas.{Bool.{cases_Bool, and_parts, and_from, eqb-true, not_from_false, not_from_true, both_ways}, List.{append_assoc, take-append-drop}, Slice.Eq.{bytes_eq-Decides}}}, specs.{Prelude.{bytes_eq, option_map, IfSome}, Char.{digit_value, to_ascii_lowercase}, List.{list_all}, Str.Parse.{AllDigits}}}
-use Rattle.hc_text.proofs.Basics.{eqb-same, le-leb, leb-le, ltb-lt}
+use Rattle.std.{proofs.{Common.{◌≡◌, ℕ, ◌≤◌, Bool, true, false, eqb, leb, ltb, not, List, [], ◌∷◌, ◌++◌, take, drop, map, Option, Some, None, refl, sym, ap, ◌∙◌, subst, inl, inr, arith, lit≤, lt-ltb}, lemmas.{Bool.{cases_Bool, and_parts, eqb-true, not_from_true, both_ways}, List.{append_assoc, take-append-drop}, Slice.Eq.{bytes_eq-Decides}}}, specs.{Prelude.{bytes_eq, option_map, IfSome, if◌then◌else◌}, Char.{to_ascii_lowercase}, List.{list_all}}}
+use Rattle.hc_text.proofs.{Basics.{eqb-same, le-leb, leb-le, ltb-lt, mapped_from}, Cutting.{none_or_some as seen}}
 use Rattle.hc_text.specs.Numbers.{IsNumber}
-use Rattle.hc_range.specs.{Bytes.{LacksByte}, declared.range.{Asked.{Asked, TheVariants.{From, FromTo, Last}}, ContentRange.{ContentRange, TheVariants.{Part, Unsatisfied}}}, Ranges.{SpellsPositions, SpellsSpec, SpellsRange, SpellsTotal, SpellsResponse, SpellsContentRange}}
-use Rattle.hc_range.proofs.ReadLemmas.{range_at, content_range_at, number_some}
+use Rattle.hc_range.specs.{Bytes.{LacksByte}, declared.range.{Asked.{Asked, TheVariants.{From, FromTo, Last}}, ContentRange.{ContentRange, TheVariants.{Part, Unsatisfied}}}, Ranges.{SpellsSpec, SpellsRange, SpellsTotal, SpellsResponse, SpellsContentRange}}
+use Rattle.hc_range.proofs.ReadLemmas.{range_at, content_range_at, number_some, LacksByte-number, lacks_slash}
 use Rattle.hc_rules.specs.RangeTexts.{number_of, with_byte, split_at, from_to, positions_by, positions_from, spec_in, asked_in, with_total, without_part, content_range_from, response_from, response_in, content_range_in}
 use Rattle.hc_rules.proofs.Numbers.{number_of-number, IsNumber-told}
 
--- an option is None or Some
-pub seen : {A : Type 0} → (o : Option A) → (o ≡ None) ⊎ ((x : A) × (o ≡ Some x))
-seen None = inl refl
-seen (Some x) = inr (x, refl)
+-- what a test lets through passed it
+pub if_passes : {A : Type 0} (test : Bool) (o : Option A) (y : A) → (if test then o else None) ≡ Some y → (test ≡ true) × (o ≡ Some y)
+if_passes true o y h = (refl, h)
+if_passes false o y h = absurd (cc)
 
 pub same_bytes : (a b : List ℕ) → bytes_eq a b ≡ true → a ≡ b
 same_bytes a b h = (bytes_eq-Decides a b).0 h
@@ -46,41 +46,19 @@ with_byte-some d (Some (x, y)) a b h =
     (x, (ap (λ (r : List ℕ). Some (x, r)) rest, sym front))
 
 found_here : (c d : ℕ) (text a b : List ℕ) → d ≡ c → [] ≡ a → text ≡ b → d ∷ text ≡ a ++ c ∷ b
-found_here c d text [] b byte front rest = cc
-found_here c d text (x ∷ a) b byte front rest = absurd (cc)
+found_here c d text a b byte front rest = cc
 
 -- and is the two parts with that byte between
 split_at-some : (c : ℕ) (text a b : List ℕ) → split_at c text ≡ Some (a, b) → text ≡ a ++ c ∷ b
 split_at-some c [] a b h = absurd (cc)
 split_at-some c (d ∷ text) a b h = elim (cases_Bool (eqb d c)) [
   | inl same ↦
-      let e : Some ([], text) ≡ Some (a, b) = rw same at h in
-      let (front, rest) = same_pair ([], text) (a, b) e in
+      let (front, rest) = same_pair ([], text) (a, b) (rw same at h) in
       found_here c d text a b (eqb-true d c same) front rest
   | inr isnt ↦
       let (x, (is, front)) = with_byte-some d (split_at c text) a b (rw isnt at h) in
-      let rest = split_at-some c text x b is in
-      ap (λ (t : List ℕ). d ∷ t) rest ∙ sym (ap (λ (t : List ℕ). t ++ c ∷ b) front)
+      ap (λ (t : List ℕ). d ∷ t) (split_at-some c text x b is) ∙ sym (ap (λ (t : List ℕ). t ++ c ∷ b) front)
 ]
-
-LacksByte-append : (c : ℕ) (a b : List ℕ) → LacksByte c a → LacksByte c b → LacksByte c (a ++ b)
-LacksByte-append c [] b ha hb = hb
-LacksByte-append c (d ∷ a) b ha hb =
-    let p = and_parts (other c d) (list_all (other c) a) ha in
-    and_from (other c d) (list_all (other c) (a ++ b)) p.0 (LacksByte-append c a b p.1 hb)
-
-LacksByte-digits : (c : ℕ) (text : List ℕ) → 10 ≤ digit_value c → AllDigits 10 text → LacksByte c text
-LacksByte-digits c [] past h = refl
-LacksByte-digits c (b ∷ text) past h =
-    let is_other : other c b ≡ true =
-    elim (cases_Bool (eqb b c)) [
-      | inl same ↦ let e : digit_value b ≡ digit_value c = ap digit_value (eqb-true b c same) in let low : digit_value b < 10 = h.0 in absurd (omega (arith, past, e, low))
-      | inr isnt ↦ not_from_false (eqb b c) isnt
-    ] in
-    and_from (other c b) (list_all (other c) text) is_other (LacksByte-digits c text past h.1)
-
-LacksByte-number : (c : ℕ) (text : List ℕ) (n : ℕ) → 10 ≤ digit_value c → IsNumber text n → LacksByte c text
-LacksByte-number c text n past h = LacksByte-digits c text past h.1.1
 
 -- positions of which a number stands before the hyphen, and one or none behind it
 from-number : (a : List ℕ) (n : ℕ) → IsNumber a n → positions_by a [] ≡ Some (From n)
@@ -107,24 +85,18 @@ spec_in-spelled text (Last n) h =
     let (b, number, is) = h in
     ap spec_in is ∙ spec_in-cut [] b (Last n) refl (rw (number_of-number b n number) refl)
 
-option_map-some : {A B : Type 0} (f : A → B) (o : Option A) (y : B) → option_map f o ≡ Some y → (x : A) × ((o ≡ Some x) × (f x ≡ y))
-option_map-some f None y h = absurd (cc)
-option_map-some f (Some x) y h = (x, (refl, cc))
-
 from_to-some : (m n : Option ℕ) (asked : Asked) → from_to m n ≡ Some asked → (a : ℕ) × ((b : ℕ) × ((m ≡ Some a) × ((n ≡ Some b) × ((a ≤ b) × (FromTo a b ≡ asked)))))
 from_to-some None n asked h = absurd (cc)
 from_to-some (Some a) None asked h = absurd (cc)
-from_to-some (Some a) (Some b) asked h = elim (cases_Bool (leb a b)) [
-  | inl up ↦ let e : Some (FromTo a b) ≡ Some asked = rw up at h in (a, (b, (refl, (refl, (leb-le a b up, cc)))))
-  | inr isnt ↦ let e : None ≡ Some asked = rw isnt at h in absurd (cc)
-]
+from_to-some (Some a) (Some b) asked h =
+    let up = if_passes (leb a b) (Some (FromTo a b)) asked h in (a, (b, (refl, (refl, (leb-le a b up.0, cc up.1)))))
 
 spells-positions : (text a b : List ℕ) (asked : Asked) → text ≡ a ++ 45 ∷ b → positions_by a b ≡ Some asked → SpellsSpec text asked
 spells-positions text [] b asked is h =
-    let (n, (told, same)) = option_map-some Last (number_of b) asked h in
+    let (n, told, same) = mapped_from Last (number_of b) asked h in
     subst (SpellsSpec text) same (b, IsNumber-told b n told, is)
 spells-positions text (d ∷ a) [] asked is h =
-    let (n, (told, same)) = option_map-some From (number_of (d ∷ a)) asked h in
+    let (n, told, same) = mapped_from From (number_of (d ∷ a)) asked h in
     subst (SpellsSpec text) same (d ∷ a, IsNumber-told (d ∷ a) n told, is)
 spells-positions text (d ∷ a) (e ∷ b) asked is h =
     let (m, (n, (first, (last, (up, same))))) = from_to-some (number_of (d ∷ a)) (number_of (e ∷ b)) asked h in
@@ -147,13 +119,8 @@ asked_in-spelled text asked h =
 pub asked_in-some : (text : List ℕ) (asked : Asked) → asked_in text ≡ Some asked → SpellsRange text asked
 unfolding asked_in
 asked_in-some text asked h =
-    let unit = bytes_eq (map to_ascii_lowercase (take 6 text)) (98 ∷ 121 ∷ 116 ∷ 101 ∷ 115 ∷ 61 ∷ []) in
-    elim (cases_Bool unit) [
-      | inl is ↦
-          let e : spec_in (drop 6 text) ≡ Some asked = rw is at h in
-          (take 6 text, drop 6 text, same_bytes _ _ is, spec_in-some (drop 6 text) asked e, sym (take-append-drop 6 text))
-      | inr isnt ↦ let e : None ≡ Some asked = rw isnt at h in absurd (cc)
-    ]
+    let unit = if_passes _ (spec_in (drop 6 text)) asked h in
+    (take 6 text, drop 6 text, same_bytes _ _ unit.0, spec_in-some (drop 6 text) asked unit.1, sym (take-append-drop 6 text))
 
 -- what is read by the grammar is what is defined
 pub asked_in-read : (text : List ℕ) (r : Option Asked) → IfSome r (SpellsRange text) → ((asked : Asked) → SpellsRange text asked → r ≡ Some asked) → r ≡ asked_in text
@@ -163,17 +130,8 @@ asked_in-read text None found spelled = elim (seen (asked_in text)) [
   | inr (asked, is) ↦ let e = spelled asked (asked_in-some text asked is) in absurd (cc)
 ]
 
--- positions have no slash
-lacks_slash : (text : List ℕ) (first last : ℕ) → SpellsPositions text first last → LacksByte 47 text
-lacks_slash text first last h =
-    let (a, b, na, nb, up, is) = h in
-    subst (LacksByte 47) (sym is)
-    (LacksByte-append 47 (a ++ 45 ∷ []) b (LacksByte-append 47 a (45 ∷ []) (LacksByte-number 47 a first (lit≤ tt) na) refl) (LacksByte-number 47 b last (lit≤ tt) nb))
-
 with_total-spelled : (text : List ℕ) (first last : ℕ) (total : Option ℕ) → SpellsTotal text last total → with_total first last (number_of text) text ≡ Some (Part first last total)
-with_total-spelled text first last None h = rw h refl
-with_total-spelled text first last (Some total) h =
-    rw (number_of-number text total h.0, lt-ltb last total h.1) refl
+with_total-spelled text first last total h = search (arith, number_of-number, lt-ltb)
 
 response_in-cut : (positions text : List ℕ) (range : ContentRange) → LacksByte 47 positions → content_range_from positions text (spec_in positions) ≡ Some range → response_in (positions ++ 47 ∷ text) ≡ Some range
 response_in-cut positions text range lacks h = ap response_from (split_at-cut 47 positions text lacks) ∙ h
@@ -191,33 +149,28 @@ response_in-spelled text (Unsatisfied total) h =
 
 with_total-some : (first last : ℕ) (n : Option ℕ) (text : List ℕ) (range : ContentRange) → n ≡ number_of text → with_total first last n text ≡ Some range
     → (total : Option ℕ) × ((Part first last total ≡ range) × SpellsTotal text last total)
-with_total-some first last None text range is h = elim (cases_Bool (bytes_eq text (42 ∷ []))) [
-  | inl star ↦ let e : Some (Part first last None) ≡ Some range = rw star at h in (None, (cc, same_bytes text (42 ∷ []) star))
-  | inr isnt ↦ let e : None ≡ Some range = rw isnt at h in absurd (cc)
-]
-with_total-some first last (Some total) text range is h = elim (cases_Bool (ltb last total)) [
-  | inl below ↦ let e : Some (Part first last (Some total)) ≡ Some range = rw below at h in (Some total, (cc, (IsNumber-told text total (sym is), ltb-lt last total below)))
-  | inr isnt ↦ let e : None ≡ Some range = rw isnt at h in absurd (cc)
-]
+with_total-some first last None text range is h =
+    let star = if_passes (bytes_eq text (42 ∷ [])) (Some (Part first last None)) range h in
+    (None, (cc star.1, same_bytes text (42 ∷ []) star.0))
+with_total-some first last (Some total) text range is h =
+    let below = if_passes (ltb last total) (Some (Part first last (Some total))) range h in
+    (Some total, (cc below.1, (IsNumber-told text total (sym is), ltb-lt last total below.0)))
 
 without_part-some : (positions text : List ℕ) (range : ContentRange) → without_part positions text ≡ Some range
     → (total : ℕ) × ((positions ≡ 42 ∷ []) × ((number_of text ≡ Some total) × (Unsatisfied total ≡ range)))
-without_part-some positions text range h = elim (cases_Bool (bytes_eq positions (42 ∷ []))) [
-  | inl star ↦
-      let (total, (told, same)) = option_map-some Unsatisfied (number_of text) range (rw star at h) in
-      (total, (same_bytes positions (42 ∷ []) star, (told, same)))
-  | inr isnt ↦ let e : None ≡ Some range = rw isnt at h in absurd (cc)
-]
+without_part-some positions text range h =
+    let star = if_passes (bytes_eq positions (42 ∷ [])) (option_map Unsatisfied (number_of text)) range h in
+    let (total, told, same) = mapped_from Unsatisfied (number_of text) range star.1 in
+    (total, (same_bytes positions (42 ∷ []) star.0, (told, same)))
 
 spells-response : (text positions whole : List ℕ) (o : Option Asked) (range : ContentRange) → text ≡ positions ++ 47 ∷ whole → o ≡ spec_in positions → content_range_from positions whole o ≡ Some range → SpellsResponse text range
 spells-response text positions whole None range is spec h =
     let (total, (star, (told, same))) = without_part-some positions whole range h in
     subst (SpellsResponse text) same (whole, IsNumber-told whole total told, is ∙ ap (λ (p : List ℕ). p ++ 47 ∷ whole) star)
-spells-response text positions whole (Some (From first)) range is spec h = absurd (cc)
 spells-response text positions whole (Some (FromTo first last)) range is spec h =
     let (total, (same, told)) = with_total-some first last (number_of whole) whole range refl h in
     subst (SpellsResponse text) same (positions, whole, spec_in-some positions (FromTo first last) (sym spec), told, is ∙ sym (append_assoc positions (47 ∷ []) whole))
-spells-response text positions whole (Some (Last n)) range is spec h = absurd (cc)
+spells-response text positions whole _ range is spec h = absurd (cc)
 
 response_in-some : (text : List ℕ) (range : ContentRange) → response_in text ≡ Some range → SpellsResponse text range
 response_in-some text range h = elim (seen (split_at 47 text)) [
@@ -234,13 +187,8 @@ content_range_in-spelled text range h =
 pub content_range_in-some : (text : List ℕ) (range : ContentRange) → content_range_in text ≡ Some range → SpellsContentRange text range
 unfolding content_range_in
 content_range_in-some text range h =
-    let unit = bytes_eq (map to_ascii_lowercase (take 6 text)) (98 ∷ 121 ∷ 116 ∷ 101 ∷ 115 ∷ 32 ∷ []) in
-    elim (cases_Bool unit) [
-      | inl is ↦
-          let e : response_in (drop 6 text) ≡ Some range = rw is at h in
-          (take 6 text, drop 6 text, same_bytes _ _ is, response_in-some (drop 6 text) range e, sym (take-append-drop 6 text))
-      | inr isnt ↦ let e : None ≡ Some range = rw isnt at h in absurd (cc)
-    ]
+    let unit = if_passes _ (response_in (drop 6 text)) range h in
+    (take 6 text, drop 6 text, same_bytes _ _ unit.0, response_in-some (drop 6 text) range unit.1, sym (take-append-drop 6 text))
 
 pub content_range_in-read : (text : List ℕ) (r : Option ContentRange) → IfSome r (SpellsContentRange text) → ((range : ContentRange) → SpellsContentRange text range → r ≡ Some range) → r ≡ content_range_in text
 content_range_in-read text (Some range) found spelled = sym (content_range_in-spelled text range found)

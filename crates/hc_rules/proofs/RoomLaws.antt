@@ -1,5 +1,5 @@
 -- What gives way is the shortest prefix that makes room.
-use Rattle.std.{proofs.{Common.{◌≡◌, ℕ, suc, zero, ◌+◌, ◌-◌, ◌<◌, ◌≤◌, leb, List, [], ◌∷◌, length, take, Option, Some, None, arith}, lemmas.List.Sums.{sum_by-cons}}, specs.Prelude.{sum, option_map}}
+use Rattle.std.{proofs.{Common.{◌≡◌, ℕ, suc, ◌+◌, ◌-◌, ◌<◌, ◌≤◌, leb, List, [], ◌∷◌, length, take, Option, Some, None, arith}, lemmas.List.Sums.{sum_by-cons}}, specs.Prelude.{sum, option_map}}
 use Rattle.hc_text.proofs.Basics.{either, leb-le, leb-lt}
 use Rattle.hc_rules.specs.{Rooms.{gives_way}, Laws.{IsShortest, ShortestGivesWay, sum_without}}
 
@@ -11,11 +11,7 @@ sum-cons n ns = sum_by-cons (λ (m : ℕ). m) n ns
 
 fewer-over : (most all weight count : ℕ) (idle : List ℕ) → most < all → ((fewer : ℕ) → fewer < count → most < sum_without fewer (all - weight) idle)
     → (fewer : ℕ) → fewer < suc count → most < sum_without fewer all (weight ∷ idle)
-fewer-over most all weight count idle over fewest zero below = let e : most < all - 0 = omega arith in e
-fewer-over most all weight count idle over fewest (suc fewer) below =
-    let f : most < all - weight - sum (take fewer idle) = fewest fewer (omega arith) in
-    let g : most < all - (weight + sum (take fewer idle)) = omega arith in
-    rw (sum-cons weight (take fewer idle)) g
+fewer-over most all weight count idle over fewest fewer below = search (arith, sum-cons)
 
 -- one more in front, which had to give way
 one-first : (most all weight : ℕ) (idle : List ℕ) (o : Option ℕ) → most < all → IsShortest most (all - weight) idle o → IsShortest most all (weight ∷ idle) (option_map suc o)

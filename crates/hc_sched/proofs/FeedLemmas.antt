@@ -70,20 +70,14 @@ stops_here : (p : Place) (line seg rest : List ℕ) (b : ℕ) → not (b == 10) 
 stops_here p line seg rest b other le =
     let step = byte_passes p line b other le in
     let r : Refused = record { line = p.lines + 1; why = why.LineTooLong } in
-    record {
-      leads = ap (λ (s : Step). after s.next seg) step ∙ (after-stopped r seg ∙ sym (after-stopped r rest));
-      brings = ap (λ (s : Step). s.events ++ events_in s.next seg) step ∙ (events_in-stopped r seg ∙ sym (events_in-stopped r rest));
-    }
+    search (arith, after-stopped, events_in-stopped)
 
 pub line_passes : (p : Place) (line seg rest : List ℕ) → lacks 10 seg ≡ true → length line ≤ 140000
     → Passes p line (seg ++ 10 ∷ rest) rest (join_line p (line ++ seg))
 line_passes p line [] rest none le =
     let whole : join_line p (line ++ []) ≡ take_line p line = ap (join_line p) (append-nil line) ∙ join_short p line le in
     let step = byte_feed p line ∙ sym whole in
-    record {
-      leads = ap (λ (s : Step). after s.next rest) step;
-      brings = ap (λ (s : Step). s.events ++ events_in s.next rest) step;
-    }
+    search arith
 line_passes p line (b ∷ seg) rest none le =
     let parts = and_parts (not (b == 10)) (lacks 10 seg) none in
     elim (cases_lt (length line) 140000) [
@@ -116,17 +110,13 @@ line_grows p line (b ∷ seg) none le =
     let parts = and_parts (not (b == 10)) (lacks 10 seg) none in
     let step = byte_grows p line b parts.0 (omega (arith, length-append line (b ∷ seg))) in
     let more = line_grows p (line ++ b ∷ []) seg parts.1 (rw (joined line seg b) le) in
-    record {
-      leads = ap (λ (s : Step). after s.next seg) step ∙ (more.leads ∙ ap (Reads p) (joined line seg b));
-      none = ap (λ (s : Step). s.events ++ events_in s.next seg) step ∙ more.none;
-    }
+    search (arith, joined)
 
 pub line_too_long : (p : Place) (line seg : List ℕ) → lacks 10 seg ≡ true → length line ≤ 140000 → 140000 < length (line ++ seg)
     → Leads (Reads p line) seg (Stopped (record { line = p.lines + 1; why = why.LineTooLong }))
 line_too_long p line [] none le long = absurd (omega (arith, ap length (append-nil line)))
 line_too_long p line (b ∷ seg) none le long =
     let parts = and_parts (not (b == 10)) (lacks 10 seg) none in
-    let r : Refused = record { line = p.lines + 1; why = why.LineTooLong } in
     elim (cases_lt (length line) 140000) [
       | inl lt ↦
           let step = byte_grows p line b parts.0 lt in

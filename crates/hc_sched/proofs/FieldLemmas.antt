@@ -1,5 +1,5 @@
 -- What the test of a field tells.
-use Rattle.std.{proofs.{Common.{◌≡◌, ℕ, ◌+◌, ◌<◌, ◌≤◌, true, List, length, arith, leb-true, refl, inl, inr}, lemmas.Bool.{and_parts}}, specs.List.{list_all}}
+use Rattle.std.{proofs.{lemmas.Bool.{and_parts, Decides.{nat_tests}}, Common.{◌≡◌, ℕ, ◌+◌, ◌<◌, ◌≤◌, true, List, length, arith, leb-true}}, specs.List.{list_all}}
 use Rattle.hc_fields.specs.{FieldList.{IsField, Refuses, has_own_ends, size_of}, declared.error.FieldError.{FieldError}}
 use Rattle.http_header.specs.Token.{is_value_byte}
 use Rattle.hc_fields.specs.declared.error.FieldError.TheVariants as error
@@ -33,9 +33,4 @@ Follows-from_test fields field h =
 
 -- such a field is refused for want of memory alone
 pub never_refused : (e : FieldError) (fields : List Pair) (field : Pair) → Follows fields field → length fields < 64 → (e ≡ error.NoMemory → ⊥) → Refuses e fields field.0 field.1 → ⊥
-never_refused error.BadName fields field h few other refused = refused h.is.is_name
-never_refused error.BadValue fields field h few other refused = cc (h.is.is_value, refused.1)
-never_refused error.TooMany fields field h few other refused = omega (arith, refused.2)
-never_refused error.TooLong fields field h few other refused =
-    elim refused.3 [ inl long ↦ omega (arith, long, h.is.is_short) | inr much ↦ omega (arith, much, h.fits) ]
-never_refused error.NoMemory fields field h few other refused = other refl
+never_refused e fields field h few other refused = grind (arith, nat_tests)

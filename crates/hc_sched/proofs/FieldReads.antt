@@ -39,9 +39,8 @@ may_follow-last fs f h =
     let cut = IsCut-field f field in
     let bytes = size-push fs f in
     let some = le-leb 1 (length f.0) (omega (arith, field.is_name.0)) in
-    let short = le-leb (length f.1) 8192 field.is_short in
     let small = le-leb (size_of fs + length f.0 + length f.1) 32768 (omega (arith, h.within_limits.small, bytes)) in
-    rw (some, cut.0, field.is_value, short, small) (sorted-last fs f h.list.sorted)
+    rw (some, cut.0, field.is_value, le-leb (length f.1) 8192 field.is_short, small) (sorted-last fs f h.list.sorted)
 
 -- the line of a further field is read
 pub field_of-line : (fs : List Pair) (f : Pair) → IsHead (fs ++ f ∷ []) → field_of fs (line_of f) ≡ Some f
@@ -53,12 +52,11 @@ put-head fs f h = put-last f.0 f.1 fs (sorted-last fs f h.list.sorted)
 
 pub IsHead-prefix : (fs gs : List Pair) → IsHead (fs ++ gs) → IsHead fs
 IsHead-prefix fs gs h =
-    let sizes = sum_by-append (λ (f : Pair). length f.0 + length f.1) fs gs in
     record {
       list = IsFieldList-prefix fs gs h.list;
       within_limits = record {
         few = omega (arith, h.within_limits.few, length-append fs gs);
-        small = omega (arith, h.within_limits.small, sizes);
+        small = omega (arith, h.within_limits.small, sum_by-append (λ (f : Pair). length f.0 + length f.1) fs gs);
       };
     }
 

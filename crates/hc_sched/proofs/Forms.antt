@@ -1,10 +1,10 @@
 -- The first line of an item that is spelled is read.
 --
 -- Each word is read back by its own test: the word of a load (`load_of-word`), numbers, and the text of a piece. No
--- keyword begins as another does, so it tells the form (`first_of-poll` to `first_of-doom`). `first_of-line` joins this
--- by the kinds of items. That a line has no line feed and is short goes word by word (`line-short`), with most words
--- for a start. A method, a target and a load are brief, a number has few digits, and a piece has the longest text.
-use Rattle.std.{proofs.{Common.{◌≡◌, ℕ, ◌≤◌, true, false, List, ◌∷◌, ◌++◌, length, Some, refl, ap, ◌∙◌, arith, length-append, le-leb, leb-true}, lemmas.Bool.{and_parts}}, specs.{Prelude.{codes, option_map}, Fmt.{decimal}}}
+-- keyword begins as another does, so it tells the form. `first_of-line` joins this by the kinds of items. That a line
+-- has no line feed and is short goes word by word (`line-short`), with most words for a start. A method, a target and a
+-- load are brief, a number has few digits, and a piece has the longest text.
+use Rattle.std.{proofs.{lemmas.Bool.Decides.{nat_tests}, Common.{◌≡◌, ℕ, ◌≤◌, true, false, List, ◌∷◌, ◌++◌, length, Some, refl, ap, arith, length-append, le-leb, leb-true}}, specs.{Prelude.{option_map}, Fmt.{decimal}}}
 use Rattle.http_header.specs.Token.{is_token_byte}
 use Rattle.hc_text.specs.{Texts.{lacks, IsSmall}, Cuts.{behind}}
 use Rattle.hc_event.specs.declared.event.Event.TheVariants as event
@@ -29,11 +29,7 @@ plain_within-is low high n above below h =
 load_of-word : (kind : Load) → load_of (load_word kind) ≡ Some kind
 unfolding load_of
 load_of-word load.Normal = refl
-load_of-word load.Validate = refl
-load_of-word load.Bypass = refl
-load_of-word load.Skip = refl
-load_of-word load.Only = refl
-load_of-word load.Disable = refl
+load_of-word _ = refl
 
 -- a word of a load has no space and no line feed, and is short
 record IsBrief (word : List ℕ) : Type 0 where
@@ -43,11 +39,7 @@ record IsBrief (word : List ℕ) : Type 0 where
 
 load-brief : (kind : Load) → IsBrief (load_word kind)
 load-brief load.Normal = record { spaces = refl; feeds = refl; short = omega arith }
-load-brief load.Validate = record { spaces = refl; feeds = refl; short = omega arith }
-load-brief load.Bypass = record { spaces = refl; feeds = refl; short = omega arith }
-load-brief load.Skip = record { spaces = refl; feeds = refl; short = omega arith }
-load-brief load.Only = record { spaces = refl; feeds = refl; short = omega arith }
-load-brief load.Disable = record { spaces = refl; feeds = refl; short = omega arith }
+load-brief _ = record { spaces = refl; feeds = refl; short = omega arith }
 
 -- the same of a method
 record IsShortMethod (method : List ℕ) : Type 0 where
@@ -65,15 +57,7 @@ feed_ends = refl
 
 method-short : (method : List ℕ) → is_method method ≡ true → IsShortMethod method
 unfolding is_method
-method-short method h =
-    let outer = and_parts _ _ h in
-    let inner = and_parts _ _ outer.0 in
-    let first = and_parts _ _ inner.0 in
-    record {
-      spaces = lacks-kind is_token_byte 32 method space_ends first.0;
-      feeds = lacks-kind is_token_byte 10 method feed_ends first.0;
-      short = leb-true (length method) 15 inner.1;
-    }
+method-short method h = search (arith, lacks-kind, space_ends, feed_ends, leb-true)
 
 -- the same of a target
 pub record IsShortTarget (target : List ℕ) : Type 0 where
@@ -84,18 +68,7 @@ pub record IsShortTarget (target : List ℕ) : Type 0 where
 
 pub target-short : (target : List ℕ) → is_target target ≡ true → IsShortTarget target
 unfolding is_target is_short_word
-target-short target h =
-    let outer = and_parts _ _ h in
-    let inner = and_parts _ _ outer.0 in
-    let word = and_parts _ _ inner.0 in
-    let next = and_parts _ _ word.0 in
-    let bounds = and_parts _ _ next.0 in
-    record {
-      some = leb-true 1 (length target) bounds.0;
-      spaces = next.1;
-      feeds = word.1;
-      short = leb-true (length target) 8192 bounds.1;
-    }
+target-short target h = search arith
 
 is_word-target : (target : List ℕ) → IsShortTarget target → is_word target ≡ true
 unfolding is_word
@@ -110,9 +83,7 @@ how_of-is kind target count h few =
 start_of-is : (c : ℕ) (method : List ℕ) (kind : Load) (target : List ℕ) (count : ℕ) → IsSmall c → is_method method ≡ true → IsShortTarget target → count ≤ 64
     → start_of (decimal c ++ 32 ∷ (method ++ 32 ∷ (load_word kind ++ 32 ∷ (target ++ 32 ∷ decimal count)))) ≡ Some (Starts c method kind target count)
 unfolding start_of
-start_of-is c method kind target count small is h few =
-    let how = load_word kind ++ 32 ∷ (target ++ 32 ∷ decimal count) in
-    rw (numbered-is c (method ++ 32 ∷ how) small, cut-first 32 method how (method-short method is).spaces, how_of-is kind target count h few, is) refl
+start_of-is c method kind target count small is h few = search (arith, numbered-is, cut-first, method-short, how_of-is)
 
 poll_of-is : (c want : ℕ) → IsSmall c → want ≤ 65536 → poll_of (decimal c ++ 32 ∷ decimal want) ≡ Some (Tells (event.Poll c want))
 unfolding poll_of
@@ -132,44 +103,6 @@ doom_of-is : (target : List ℕ) → IsShortTarget target → doom_of target ≡
 unfolding doom_of
 doom_of-is target h = rw (is_word-target target h) refl
 
--- the keyword tells the form
-module _ (words : List ℕ) where
-  first_of-poll : first_of (codes "poll " ++ words) ≡ poll_of words
-  unfolding first_of behind
-  first_of-poll = refl
-
-  first_of-piece : first_of (codes "piece " ++ words) ≡ piece_of words
-  unfolding first_of behind
-  first_of-piece = refl
-
-  first_of-at : first_of (codes "at " ++ words) ≡ option_map Sets (plain_of words)
-  unfolding first_of behind
-  first_of-at = refl
-
-  first_of-start : first_of (codes "start " ++ words) ≡ start_of words
-  unfolding first_of behind
-  first_of-start = refl
-
-  first_of-head : first_of (codes "head " ++ words) ≡ head_of words
-  unfolding first_of behind
-  first_of-head = refl
-
-  first_of-end : first_of (codes "end " ++ words) ≡ option_map (λ x. Tells (event.End x)) (plain_of words)
-  unfolding first_of behind
-  first_of-end = refl
-
-  first_of-fault : first_of (codes "fault " ++ words) ≡ option_map (λ x. Tells (event.Fault x)) (plain_of words)
-  unfolding first_of behind
-  first_of-fault = refl
-
-  first_of-cancel : first_of (codes "cancel " ++ words) ≡ option_map (λ c. Tells (event.Cancel c)) (plain_of words)
-  unfolding first_of behind
-  first_of-cancel = refl
-
-  first_of-doom : first_of (codes "doom " ++ words) ≡ doom_of words
-  unfolding first_of behind
-  first_of-doom = refl
-
 -- what the first line of an item says
 abbrev pub first_for : Item → First
 first_for (Moment now) = Sets now
@@ -185,19 +118,20 @@ first_for (Happens (event.Cancel c)) = Tells (event.Cancel c)
 number-first : (f : ℕ → First) (n : ℕ) → IsSmall n → option_map f (plain_of (decimal n)) ≡ Some (f n)
 number-first f n h = ap (option_map f) (plain_of-decimal (decimal n) n (h, refl))
 
--- it is read back
+-- it is read back: the keyword tells the form
 pub first_of-line : (item : Item) → IsItem item → first_of (item_line item) ≡ Some (first_for item)
-first_of-line (Moment now) h = first_of-at (decimal now) ∙ number-first Sets now h
+unfolding first_of behind
+first_of-line (Moment now) h = number-first Sets now h
 first_of-line (Happens (event.Start c request)) h =
-    first_of-start _ ∙ start_of-is c request.method request.load request.key (length request.fields) h.0 h.1 (target-short request.key h.2) h.3.within_limits.few
-first_of-line (Happens (event.Poll c want)) h = first_of-poll _ ∙ poll_of-is c want h.0 h.1
+    start_of-is c request.method request.load request.key (length request.fields) h.0 h.1 (target-short request.key h.2) h.3.within_limits.few
+first_of-line (Happens (event.Poll c want)) h = poll_of-is c want h.0 h.1
 first_of-line (Happens (event.Head x response)) h =
-    first_of-head _ ∙ head_of-is x response.status (length response.fields) h.0 h.1 h.2 h.3.within_limits.few
-first_of-line (Happens (event.Piece x bytes)) h = first_of-piece _ ∙ piece_of-is x bytes h.0 (record { short = h.1; small = h.2 })
-first_of-line (Happens (event.End x)) h = first_of-end (decimal x) ∙ number-first (λ n. Tells (event.End n)) x h
-first_of-line (Happens (event.Fault x)) h = first_of-fault (decimal x) ∙ number-first (λ n. Tells (event.Fault n)) x h
-first_of-line (Happens (event.Cancel c)) h = first_of-cancel (decimal c) ∙ number-first (λ n. Tells (event.Cancel n)) c h
-first_of-line (Happens (event.Doom key)) h = first_of-doom key ∙ doom_of-is key (target-short key h)
+    head_of-is x response.status (length response.fields) h.0 h.1 h.2 h.3.within_limits.few
+first_of-line (Happens (event.Piece x bytes)) h = piece_of-is x bytes h.0 (record { short = h.1; small = h.2 })
+first_of-line (Happens (event.End x)) h = number-first (λ n. Tells (event.End n)) x h
+first_of-line (Happens (event.Fault x)) h = number-first (λ n. Tells (event.Fault n)) x h
+first_of-line (Happens (event.Cancel c)) h = number-first (λ n. Tells (event.Cancel n)) c h
+first_of-line (Happens (event.Doom key)) h = doom_of-is key (target-short key h)
 
 -- it is one short line
 pub record IsShortLine (line : List ℕ) : Type 0 where
@@ -220,13 +154,7 @@ line-short (Happens (event.Start c request)) h =
     let target = target-short request.key h.2 in
     let few : length request.fields ≤ 64 = h.3.within_limits.few in
     let count = decimal-line (length request.fields) (omega arith) in
-    let rest2 = request.key ++ 32 ∷ decimal (length request.fields) in
-    let rest1 = load_word request.load ++ 32 ∷ rest2 in
-    let rest0 = request.method ++ 32 ∷ rest1 in
-    record {
-      feeds = then_words (decimal c) rest0 n.0 (then_words request.method rest1 method.feeds (then_words (load_word request.load) rest2 kind.feeds (then_words request.key (decimal (length request.fields)) target.feeds count.0)));
-      short = omega (arith, n.1, method.short, kind.short, target.short, count.1, length-append (decimal c) (32 ∷ rest0), length-append request.method (32 ∷ rest1), length-append (load_word request.load) (32 ∷ rest2), length-append request.key (32 ∷ decimal (length request.fields)));
-    }
+    grind (arith, nat_tests, then_words, length-append)
 line-short (Happens (event.Poll c want)) h =
     let n = decimal-line c h.0 in
     let within : want ≤ 65536 = h.1 in

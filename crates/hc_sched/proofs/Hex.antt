@@ -4,7 +4,7 @@
 -- decoded is encoded as it was (`encode-decode_lower`): of two digits the value has the one as its quotient by 16, the
 -- other as its remainder. The other way a text of bytes has lower-case digits, two for each byte. The test of such a
 -- text is taken apart (`IsHexText-from_test`). `IsPiece-text` and `bytes_of-piece_text` join both ways.
-use Rattle.std.{proofs.{Common.{◌≡◌, ℕ, zero, suc, ◌+◌, ◌*◌, ◌/◌, ◌%◌, ◌<◌, ◌≤◌, ◌==◌, Bool, true, false, not, ◌&&◌, ◌||◌, List, [], ◌∷◌, length, slice_index, Option, Some, None, unwrap_or, Result, Ok, Err, refl, sym, ap, ◌∙◌, arith, inl, inr}, lemmas.{Bool.{and_parts, cases_Bool, cases_lt, eqb-true, eq-eqb, leb-true, le-leb, false_from_ne_true, agree_below_at, Decides.{nat_tests}}, Slice.Eq.{bytes_eq-Decides}, List.{get_or_past, Elements.{All-weaker, All-head, All-tail, All-nil, All-from_get_or}, Sums.{AllPass-from_list_all}}}}, specs.{Prelude.{All, bytes_eq, codes}, List.{AllPass, list_all}, Result.{result_unwrap_or}}}
+use Rattle.std.{proofs.{Common.{◌≡◌, ℕ, zero, suc, ◌+◌, ◌*◌, ◌/◌, ◌%◌, ◌<◌, ◌≤◌, ◌==◌, Bool, true, false, not, ◌&&◌, ◌||◌, List, [], ◌∷◌, length, slice_index, Option, Some, unwrap_or, Result, Ok, Err, refl, sym, ap, ◌∙◌, arith, inl, inr}, lemmas.{Bool.{and_parts, cases_Bool, cases_lt, eqb-true, false_from_ne_true, agree_below_at, Decides.{nat_tests}}, Slice.Eq.{bytes_eq-Decides}, List.{get_or_past, Elements.{All-weaker, All-head, All-tail, All-nil, All-from_get_or}, Sums.{AllPass-from_list_all}}}}, specs.{Prelude.{All, bytes_eq, codes}, List.{AllPass, list_all}, Result.{result_unwrap_or}}}
 use Rattle.hc_text.specs.Texts.{lacks}
 use Rattle.hex.proofs.HexLemmas.{decode_of-digits, decode_of-even, decode_of-ok, decode_of-encode_lower, length-encode_with}
 use Rattle.hex.specs.{Hex.{IsBytes, decode_of, decode_pairs, encode_lower, digit_or_error, is_hex_digit, encode_with, hex_digit_value, lower_digits, pair_value, value_at, ◌>>=◌}, declared.error.FromHexError.{FromHexError}}
@@ -19,19 +19,11 @@ all_back zero = true
 all_back (suc n) = back n && all_back n
 
 all_back-at : (n k : ℕ) → all_back n ≡ true → k < n → back k ≡ true
-all_back-at zero k h lt = absurd (omega arith)
-all_back-at (suc n) k h lt =
-    let parts = and_parts (back n) (all_back n) h in
-    elim (cases_lt k n) [
-      | inl below ↦ all_back-at n k parts.1 below
-      | inr top ↦ let e : k ≡ n = omega arith in rw e parts.0
-    ]
+all_back-at n k h lt = search arith
 
 digit_back : (a v : ℕ) → is_lower_digit a ≡ true → hex_digit_value a ≡ Some v → slice_index lower_digits v ≡ a
 digit_back a v lower read =
-    let small : a < 103 = grind (arith, nat_tests) in
-    let t = all_back-at 103 a refl small in
-    eqb-true (slice_index lower_digits v) a (rw (lower, read) at t)
+    eqb-true (slice_index lower_digits v) a (rw (lower, read) at (all_back-at 103 a refl (grind (arith, nat_tests))))
 
 value_small : (c v : ℕ) → hex_digit_value c ≡ Some v → v < 16
 value_small c v h = grind (arith)
@@ -42,14 +34,12 @@ bind_ok (Ok x) f y h = (x, refl, h)
 bind_ok (Err e) f y h = cc h
 
 digit_read : (c i : ℕ) (o : Option ℕ) (v : ℕ) → digit_or_error c i o ≡ Ok v → o ≡ Some v
-digit_read c i (Some w) v h = ap Some (ap (λ (r : Result ℕ FromHexError). result_unwrap_or r 0) h)
-digit_read c i None v h = cc h
+digit_read c i o v h = grind (arith, nat_tests)
 
 pub encode-decode_lower : (i : ℕ) (s bytes : List ℕ) → list_all is_lower_digit s ≡ true
     → decode_pairs i s ≡ Ok bytes → encode_with lower_digits bytes ≡ s
 unfolding encode_with decode_pairs
-encode-decode_lower i [] bytes all h =
-    let e : [] ≡ bytes = ap (λ (r : Result (List ℕ) FromHexError). result_unwrap_or r []) h in rw (← e) refl
+encode-decode_lower i [] bytes all h = grind (arith, nat_tests)
 encode-decode_lower i (a ∷ []) bytes all h = cc h
 encode-decode_lower i (a ∷ b ∷ rest) bytes all h =
     let p0 = bind_ok (pair_value a b i) _ bytes h in
@@ -85,21 +75,11 @@ pub record IsHexText (text : List ℕ) : Type 0 where
 
 pub IsHexText-from_test : (text : List ℕ) → is_hex_text text ≡ true → IsHexText text
 unfolding is_hex_text
-IsHexText-from_test text h =
-    let all = and_parts _ _ h in
-    let front = and_parts _ _ all.0 in
-    let bounds = and_parts _ _ front.0 in
-    record {
-      some = leb-true 2 (length text) bounds.0;
-      short = leb-true (length text) 131072 bounds.1;
-      even = eqb-true (length text % 2) 0 front.1;
-      lower = all.1;
-    }
+IsHexText-from_test text h = grind (arith, nat_tests)
 
 pub is_hex_text-from : (text : List ℕ) → IsHexText text → is_hex_text text ≡ true
 unfolding is_hex_text
-is_hex_text-from text h =
-    rw (le-leb 2 (length text) h.some, le-leb (length text) 131072 h.short, eq-eqb (length text % 2) 0 h.even) h.lower
+is_hex_text-from text h = grind (arith, nat_tests)
 
 -- such a text is decoded
 pub decode_of-lower : (text : List ℕ) → is_hex_text text ≡ true → (bytes : List ℕ) × (decode_of text ≡ Ok bytes)
@@ -120,9 +100,8 @@ unfolding encode_with
 list_all-encode_with [] h = refl
 list_all-encode_with (x ∷ xs) h =
     let byte : x < 256 = All-head (λ b. b < 256) x xs h in
-    let high = lower_glyph (x / 16) (omega arith) in
     let low = lower_glyph (x % 16) (omega arith) in
-    rw (high, low) (list_all-encode_with xs (All-tail (λ b. b < 256) x xs h))
+    rw (lower_glyph (x / 16) (omega arith), low) (list_all-encode_with xs (All-tail (λ b. b < 256) x xs h))
 
 byte_at : (xs : List ℕ) → All (λ b. b < 256) xs → IsBytes xs
 byte_at xs h i =
@@ -162,8 +141,7 @@ pub bytes_of-piece_text : (bytes : List ℕ) → IsPiece bytes → bytes_of (pie
 unfolding bytes_of
 bytes_of-piece_text [] h = refl
 bytes_of-piece_text (b ∷ bytes) h =
-    let is = IsSpelled-piece b bytes h in
-    rw (is.other, decode_of-encode_lower (b ∷ bytes) (byte_at (b ∷ bytes) h.small)) refl
+    rw ((IsSpelled-piece b bytes h).other, decode_of-encode_lower (b ∷ bytes) (byte_at (b ∷ bytes) h.small)) refl
 
 pub length-piece_text : (bytes : List ℕ) → IsPiece bytes → length (piece_text bytes) ≤ 131072
 length-piece_text [] h = omega arith
@@ -180,9 +158,7 @@ lacks-lower b (x ∷ text) low h =
 
 -- the text of a piece has no line feed
 pub lacks-piece_text : (bytes : List ℕ) → IsPiece bytes → lacks 10 (piece_text bytes) ≡ true
-lacks-piece_text [] h = refl
-lacks-piece_text (x ∷ bytes) h =
-    lacks-lower 10 (encode_lower (x ∷ bytes)) (omega arith) (list_all-encode_with (x ∷ bytes) h.small)
+lacks-piece_text bytes h = search (arith, lacks-lower, list_all-encode_with)
 
 -- a text that is decoded is that of its bytes
 IsPiece-decoded : (text bytes : List ℕ) → IsHexText text → decode_of text ≡ Ok bytes → IsPiece bytes × (piece_text bytes ≡ text)
@@ -206,6 +182,5 @@ IsPiece-text text h =
       | inr other ↦
           let hex : is_hex_text text ≡ true = rw other at h in
           let read = decode_of-lower text hex in
-          let piece = IsPiece-decoded text read.0 (IsHexText-from_test text hex) read.1 in
-          rw (other, read.1) piece
+          rw (other, read.1) (IsPiece-decoded text read.0 (IsHexText-from_test text hex) read.1)
     ]

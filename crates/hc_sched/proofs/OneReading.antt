@@ -90,15 +90,8 @@ item_from (Tells event) fields = Happens event
 
 item_is : (item : Item) → IsItem item → item_from (first_for item) (item_fields item) ≡ item
 unfolding item_from
-item_is (Moment now) h = refl
-item_is (Happens (event.Start c request)) h = refl
-item_is (Happens (event.Poll c want)) h = refl
-item_is (Happens (event.Head x response)) h = refl
 item_is (Happens (event.Piece x bytes)) h = ap (λ (bs : List ℕ). Happens (event.Piece x bs)) (bytes_of-piece_text bytes (record { short = h.1; small = h.2 }))
-item_is (Happens (event.End x)) h = refl
-item_is (Happens (event.Fault x)) h = refl
-item_is (Happens (event.Cancel c)) h = refl
-item_is (Happens (event.Doom key)) h = refl
+item_is _ h = refl
 
 -- how many fields a first line announces
 count_in : First → ℕ
@@ -109,28 +102,16 @@ count_in _ = 0
 count_is : (item : Item) → count_in (first_for item) ≡ length (item_fields item)
 unfolding count_in
 count_is (Moment now) = refl
-count_is (Happens (event.Start c request)) = refl
-count_is (Happens (event.Poll c want)) = refl
-count_is (Happens (event.Head x response)) = refl
-count_is (Happens (event.Piece x bytes)) = refl
-count_is (Happens (event.End x)) = refl
-count_is (Happens (event.Fault x)) = refl
-count_is (Happens (event.Cancel c)) = refl
 count_is (Happens (event.Doom key)) = refl
+count_is (Happens _) = refl
 
 no_fields : IsHead []
 no_fields = record { list = record { fields = λ k d lt. absurd (omega arith); sorted = refl; few = omega arith; small = omega arith }; within_limits = record { few = omega arith; small = omega arith } }
 
 fields_are : (item : Item) → IsItem item → IsHead (item_fields item)
-fields_are (Moment now) h = no_fields
 fields_are (Happens (event.Start c request)) h = h.3
-fields_are (Happens (event.Poll c want)) h = no_fields
 fields_are (Happens (event.Head x response)) h = h.3
-fields_are (Happens (event.Piece x bytes)) h = no_fields
-fields_are (Happens (event.End x)) h = no_fields
-fields_are (Happens (event.Fault x)) h = no_fields
-fields_are (Happens (event.Cancel c)) h = no_fields
-fields_are (Happens (event.Doom key)) h = no_fields
+fields_are _ h = no_fields
 
 apart : (item : Item) (rest : List ℕ) → item_text item ++ rest ≡ item_line item ++ 10 ∷ (fields_text (item_fields item) ++ rest)
 apart item rest = append_assoc (item_line item) (10 ∷ fields_text (item_fields item)) rest

@@ -12,9 +12,7 @@ pub plain_of-decimal : (text : List ℕ) (n : ℕ) → IsPlain text n → plain_
 unfolding plain_of
 plain_of-decimal text n h =
     let value : digits_value 10 text ≡ n = ap (digits_value 10) h.1 ∙ (decimal_is_IsNumeral n (omega (arith, h.0))).1 in
-    let below : nat_lt n (2 ^ 62) ≡ true = lt-ltb n (2 ^ 62) h.0 in
-    let same : bytes_eq text (decimal n) ≡ true = (bytes_eq-Decides text (decimal n)).1 h.1 in
-    simp (value, below, same) refl
+    simp (value, lt-ltb n (2 ^ 62) h.0, (bytes_eq-Decides text (decimal n)).1 h.1) refl
 
 -- what is read is the number of a plain decimal
 pub IsPlain-plain_of : (text : List ℕ) (n : ℕ) → plain_of text ≡ Some n → IsPlain text n
@@ -24,9 +22,8 @@ IsPlain-plain_of text n h =
       | inl plain ↦
           let parts = and_parts (nat_lt (digits_value 10 text) (2 ^ 62)) (bytes_eq text (decimal (digits_value 10 text))) plain in
           let is : digits_value 10 text ≡ n = cc (rw plain at h) in
-          let small = ltb-true (digits_value 10 text) (2 ^ 62) parts.0 in
           let same = (bytes_eq-Decides text (decimal (digits_value 10 text))).0 parts.1 in
-          (rw is at small, rw is at same)
+          (rw is at (ltb-true (digits_value 10 text) (2 ^ 62) parts.0), rw is at same)
       | inr other ↦ cc (rw other at h)
     ]
 

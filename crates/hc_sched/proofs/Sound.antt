@@ -4,7 +4,7 @@
 -- that they make the line again. `start_of-parts` is the longest, since a start has most words. Which form it was is
 -- found by the keyword: behind its own keyword a form was read, else the forms after it are tried (`says_form`,
 -- `says_number`). `first_of-says` joins them all; the proof of what the reading represents uses it.
-use Rattle.std.{proofs.{Common.{◌≡◌, ◌⊎◌, ℕ, ◌≤◌, ◌&&◌, Bool, true, false, List, [], ◌∷◌, ◌++◌, Option, Some, None, refl, sym, ap, subst, ◌∙◌, inl, inr, leb-true}, lemmas.{Bool.{cases_Bool, and_parts}, Slice.Eq.{bytes_eq-Decides}}}, specs.{Prelude.{codes, nat_le, bytes_eq, option_map, if◌then◌else◌}, Fmt.{decimal}}}
+use Rattle.std.{proofs.{lemmas.{Bool.{cases_Bool, and_parts, Decides.{nat_tests}}, Slice.Eq.{bytes_eq-Decides}}, Common.{arith, ◌≡◌, ◌⊎◌, ℕ, ◌≤◌, ◌&&◌, Bool, true, List, [], ◌∷◌, ◌++◌, Option, Some, None, refl, sym, ap, subst, ◌∙◌, inl, inr}}, specs.{Prelude.{codes, nat_le, bytes_eq, option_map, if◌then◌else◌}, Fmt.{decimal}}}
 use Rattle.hc_text.proofs.{Basics.{mapped_from as option_map-parts}, Cutting.{append-cut, append-behind}}
 use Rattle.hc_text.specs.{Texts.{IsSmall}, Cuts.{cut, behind}}
 use Rattle.hc_event.specs.declared.event.Event.TheVariants as event
@@ -39,16 +39,11 @@ numbered-parts words parts h =
     let second = bind-Some (plain_of first.0.0) (λ n. Some (n, first.0.1)) parts first.2 in
     let is : (second.0, first.0.1) ≡ parts = cc second.2 in
     let plain = IsPlain-plain_of first.0.0 second.0 second.1 in
-    let whole = append-cut 32 words first.0 first.1 in
-    subst (λ p. BeginsWith words p) is (record {
-      small = plain.0;
-      text = ap (λ (word : List ℕ). word ++ 32 ∷ first.0.1) (sym plain.1) ∙ whole;
-    })
+    rw (← is) (record { small = plain.0; text = rw (← plain.1) (append-cut 32 words first.0 first.1) })
 
 -- a test that gives a value passes
 pub test_passes : {A : Type 0} (test : Bool) (x y : A) → (if test then Some x else None) ≡ Some y → (test ≡ true) × (x ≡ y)
-test_passes true x y h = (refl, cc h)
-test_passes false x y h = cc h
+test_passes test x y h = grind (arith, nat_tests)
 
 record IsWithin (low high : ℕ) (text : List ℕ) (n : ℕ) : Type 0 where
   small : IsSmall n
@@ -63,61 +58,29 @@ plain_within-parts low high text n h =
     let passes = test_passes (nat_le low first.0 && nat_le first.0 high) first.0 n first.2 in
     let bounds = and_parts (nat_le low first.0) (nat_le first.0 high) passes.0 in
     let plain = IsPlain-plain_of text first.0 first.1 in
-    subst (λ m. IsWithin low high text m) passes.1 (record {
-      small = plain.0;
-      above = leb-true low first.0 bounds.0;
-      below = leb-true first.0 high bounds.1;
-      text_is = sym plain.1;
-    })
+    grind (arith, nat_tests)
 
 word_is : (word text : List ℕ) → bytes_eq word text ≡ true → text ≡ word
 word_is word text h = sym ((bytes_eq-Decides word text).0 h)
 
-is_load : (word text : List ℕ) (read kind : Load) → bytes_eq word text ≡ true → load_word read ≡ text → read ≡ kind → load_word kind ≡ word
-is_load word text read kind same spelled is = ap load_word (sym is) ∙ (spelled ∙ word_is word text same)
-
-not_only : (word : List ℕ) (kind : Load) → (if bytes_eq word (codes "disable") then Some load.Disable else None) ≡ Some kind → load_word kind ≡ word
-not_only word kind h =
-    elim (cases_Bool (bytes_eq word (codes "disable"))) [
-      | inl is ↦ is_load word (codes "disable") load.Disable kind is refl (cc (rw is at h))
-      | inr n ↦ cc (rw n at h)
-    ]
-
-not_skip : (word : List ℕ) (kind : Load) → (if bytes_eq word (codes "only") then Some load.Only else (if bytes_eq word (codes "disable") then Some load.Disable else None)) ≡ Some kind → load_word kind ≡ word
-not_skip word kind h =
-    elim (cases_Bool (bytes_eq word (codes "only"))) [
-      | inl is ↦ is_load word (codes "only") load.Only kind is refl (cc (rw is at h))
-      | inr n ↦ not_only word kind (rw n at h)
-    ]
-
-not_bypass : (word : List ℕ) (kind : Load) → (if bytes_eq word (codes "skip") then Some load.Skip else (if bytes_eq word (codes "only") then Some load.Only else (if bytes_eq word (codes "disable") then Some load.Disable else None))) ≡ Some kind → load_word kind ≡ word
-not_bypass word kind h =
-    elim (cases_Bool (bytes_eq word (codes "skip"))) [
-      | inl is ↦ is_load word (codes "skip") load.Skip kind is refl (cc (rw is at h))
-      | inr n ↦ not_skip word kind (rw n at h)
-    ]
-
-not_validate : (word : List ℕ) (kind : Load) → (if bytes_eq word (codes "bypass") then Some load.Bypass else (if bytes_eq word (codes "skip") then Some load.Skip else (if bytes_eq word (codes "only") then Some load.Only else (if bytes_eq word (codes "disable") then Some load.Disable else None)))) ≡ Some kind → load_word kind ≡ word
-not_validate word kind h =
-    elim (cases_Bool (bytes_eq word (codes "bypass"))) [
-      | inl is ↦ is_load word (codes "bypass") load.Bypass kind is refl (cc (rw is at h))
-      | inr n ↦ not_bypass word kind (rw n at h)
-    ]
-
-not_normal : (word : List ℕ) (kind : Load) → (if bytes_eq word (codes "validate") then Some load.Validate else (if bytes_eq word (codes "bypass") then Some load.Bypass else (if bytes_eq word (codes "skip") then Some load.Skip else (if bytes_eq word (codes "only") then Some load.Only else (if bytes_eq word (codes "disable") then Some load.Disable else None))))) ≡ Some kind → load_word kind ≡ word
-not_normal word kind h =
-    elim (cases_Bool (bytes_eq word (codes "validate"))) [
-      | inl is ↦ is_load word (codes "validate") load.Validate kind is refl (cc (rw is at h))
-      | inr n ↦ not_validate word kind (rw n at h)
+-- a word is the first that fits, or is told by those behind it
+load_or : (word text : List ℕ) (read kind : Load) (other : Option Load) → load_word read ≡ text → (if bytes_eq word text then Some read else other) ≡ Some kind
+    → (other ≡ Some kind → load_word kind ≡ word) → load_word kind ≡ word
+load_or word text read kind other told h rest =
+    elim (cases_Bool (bytes_eq word text)) [
+      | inl same ↦ let is : read ≡ kind = cc (rw same at h) in ap load_word (sym is) ∙ (told ∙ word_is word text same)
+      | inr off ↦ rest (rw off at h)
     ]
 
 load_of-parts : (word : List ℕ) (kind : Load) → load_of word ≡ Some kind → load_word kind ≡ word
 unfolding load_of
 load_of-parts word kind h =
-    elim (cases_Bool (bytes_eq word (codes "normal"))) [
-      | inl is ↦ is_load word (codes "normal") load.Normal kind is refl (cc (rw is at h))
-      | inr n1 ↦ not_normal word kind (rw n1 at h)
-    ]
+    load_or word (codes "normal") load.Normal kind _ refl h (λ h1.
+    load_or word (codes "validate") load.Validate kind _ refl h1 (λ h2.
+    load_or word (codes "bypass") load.Bypass kind _ refl h2 (λ h3.
+    load_or word (codes "skip") load.Skip kind _ refl h3 (λ h4.
+    load_or word (codes "only") load.Only kind _ refl h4 (λ h5.
+    load_or word (codes "disable") load.Disable kind _ refl h5 (λ none. cc none))))))
 
 start_of-parts : (line words : List ℕ) (f : First) → codes "start " ++ words ≡ line → start_of words ≡ Some f → Says line f
 unfolding start_of how_of
@@ -137,15 +100,8 @@ start_of-parts line words f is h =
     let count = plain_within-parts 0 64 h3.0.1 h4.0 h4.1 in
     let last = test_passes (is_word h3.0.0) (h2.0, h3.0.0, h4.0) how.0 h4.2 in
     let kind_is = load_of-parts h1.0.0 h2.0 h2.1 in
-    let text = ap (λ (l : List ℕ). codes "start " ++ (decimal first.0.0 ++ 32 ∷ (second.0.0 ++ 32 ∷ (load_word h2.0 ++ 32 ∷ (h3.0.0 ++ 32 ∷ l))))) count.text_is
-    ∙ ap (λ (l : List ℕ). codes "start " ++ (decimal first.0.0 ++ 32 ∷ (second.0.0 ++ 32 ∷ (load_word h2.0 ++ 32 ∷ l)))) target_named
-    ∙ ap (λ (l : List ℕ). codes "start " ++ (decimal first.0.0 ++ 32 ∷ (second.0.0 ++ 32 ∷ (l ++ 32 ∷ h1.0.1)))) kind_is
-    ∙ ap (λ (l : List ℕ). codes "start " ++ (decimal first.0.0 ++ 32 ∷ (second.0.0 ++ 32 ∷ l))) kind_named
-    ∙ ap (λ (l : List ℕ). codes "start " ++ (decimal first.0.0 ++ 32 ∷ l)) named
-    ∙ ap (λ (l : List ℕ). codes "start " ++ l) begins.text
-    ∙ is in
-    let says : Says line (Starts first.0.0 second.0.0 h2.0 h3.0.0 h4.0) = (text, begins.small, passes.0, count.below) in
-    subst (λ g. Says line g) passes.1 (subst (λ (w : Load × List ℕ × ℕ). Says line (Starts first.0.0 second.0.0 w.0 w.1 w.2)) last.1 says)
+    rw (← passes.1, ← last.1)
+    (rw (count.text_is, target_named, kind_is, kind_named, named, begins.text) is, begins.small, passes.0, count.below)
 
 poll_of-parts : (line words : List ℕ) (f : First) → codes "poll " ++ words ≡ line → poll_of words ≡ Some f → Says line f
 unfolding poll_of
@@ -155,10 +111,7 @@ poll_of-parts line words f is h =
     let second = bind-Some (plain_within 0 65536 first.0.1) _ f first.2 in
     let want = plain_within-parts 0 65536 first.0.1 second.0 second.1 in
     let same : Tells (event.Poll first.0.0 second.0) ≡ f = cc second.2 in
-    let text = ap (λ (l : List ℕ). codes "poll " ++ (decimal first.0.0 ++ 32 ∷ l)) want.text_is
-    ∙ ap (λ (l : List ℕ). codes "poll " ++ l) begins.text ∙ is in
-    let says : Says line (Tells (event.Poll first.0.0 second.0)) = (text, (begins.small, want.below), refl) in
-    subst (λ g. Says line g) same says
+    rw (← same) (rw (want.text_is, begins.text) is, (begins.small, want.below), refl)
 
 head_of-parts : (line words : List ℕ) (f : First) → codes "head " ++ words ≡ line → head_of words ≡ Some f → Says line f
 unfolding head_of
@@ -172,12 +125,8 @@ head_of-parts line words f is h =
     let fourth = bind-Some (plain_within 0 64 second.0.1) _ f third.2 in
     let count = plain_within-parts 0 64 second.0.1 fourth.0 fourth.1 in
     let same : Heads first.0.0 third.0 fourth.0 ≡ f = cc fourth.2 in
-    let text = ap (λ (l : List ℕ). codes "head " ++ (decimal first.0.0 ++ 32 ∷ (decimal third.0 ++ 32 ∷ l))) count.text_is
-    ∙ ap (λ (l : List ℕ). codes "head " ++ (decimal first.0.0 ++ 32 ∷ (l ++ 32 ∷ second.0.1))) status.text_is
-    ∙ ap (λ (l : List ℕ). codes "head " ++ (decimal first.0.0 ++ 32 ∷ l)) named
-    ∙ ap (λ (l : List ℕ). codes "head " ++ l) begins.text ∙ is in
-    let says : Says line (Heads first.0.0 third.0 fourth.0) = (text, begins.small, status.above, status.below, count.below) in
-    subst (λ g. Says line g) same says
+    rw (← same)
+    (rw (count.text_is, status.text_is, named, begins.text) is, begins.small, status.above, status.below, count.below)
 
 piece_of-parts : (line words : List ℕ) (f : First) → codes "piece " ++ words ≡ line → piece_of words ≡ Some f → Says line f
 unfolding piece_of
@@ -186,15 +135,11 @@ piece_of-parts line words f is h =
     let begins = numbered-parts words first.0 first.1 in
     let passes = test_passes (is_piece_text first.0.1) (Brings first.0.0 first.0.1) f first.2 in
     let piece = IsPiece-text first.0.1 passes.0 in
-    let text = ap (λ (l : List ℕ). codes "piece " ++ (decimal first.0.0 ++ 32 ∷ l)) piece.1
-    ∙ ap (λ (l : List ℕ). codes "piece " ++ l) begins.text ∙ is in
-    let says : Says line (Brings first.0.0 first.0.1) = (text, begins.small, piece.0) in
-    subst (λ g. Says line g) passes.1 says
+    rw (← passes.1) (rw (piece.1, begins.text) is, begins.small, piece.0)
 
 doom_of-parts : (line words : List ℕ) (f : First) → codes "doom " ++ words ≡ line → doom_of words ≡ Some f → Says line f
 unfolding doom_of
-doom_of-parts line words f is h =
-    let passes = test_passes (is_word words) (Dooms words) f h in subst (λ g. Says line g) passes.1 is
+doom_of-parts line words f is h = let passes = test_passes (is_word words) (Dooms words) f h in rw (← passes.1) is
 
 or_else-parts : {A B : Type 0} (o : Option A) (f : A → Option B) (other : Option B) (y : B) → or_else o f other ≡ Some y
     → ((x : A) × (o ≡ Some x) × (f x ≡ Some y)) ⊎ (other ≡ Some y)

@@ -9,17 +9,14 @@ use Rattle.hc_text.specs.Texts.{lacks}
 use Rattle.hc_event.specs.declared.event.Event.{Event}
 use Rattle.hc_event.specs.declared.event.Event.TheVariants as event
 use Rattle.hc_fields.specs.Lines.{field_text, fields_text}
-use Rattle.hc_sched.specs.{declared.{begun.Opening.{Opening}, place.Place.{Place}, schedule.Timed.{Timed}}, FirstLines.{First, first_of}, Reading.{Progress, Reads, Step, pass, happen, begin, event_of, take_first, take_field, take_line, after, events_in}, Schedule.{Item, Moment, Happens, item_text, item_line, item_fields, text_of, IsHead, IsItem, IsEvent, IsSmall, IsSchedule, moment_after, moment_end, event_at, events_of}, Laws.{Gives, at_rest, IsReadBack}}
+use Rattle.hc_sched.specs.{declared.{begun.Opening.{Opening}, place.Place.{Place}, schedule.Timed.{Timed}}, FirstLines.{First, first_of}, Reading.{Progress, Reads, Step, pass, happen, begin, event_of, take_first, take_field, take_line}, Schedule.{Item, Moment, Happens, item_text, item_line, item_fields, text_of, IsHead, IsItem, IsEvent, IsSmall, IsSchedule, moment_after, moment_end, event_at, events_of}, Laws.{Gives, at_rest, IsReadBack}}
 use Rattle.hc_sched.specs.declared.begun.Opening.TheVariants as opening
 use Rattle.hc_target.specs.Targets.{is_target}
 use Rattle.hc_sched.proofs.{Hex.{IsPiece, bytes_of-piece_text}, FeedLemmas.{line_passes, join_short, after-append, events_in-append}, FieldReads.{Pair, line_of, field_text-line, lacks-field, field_of-line, put-head, IsHead-prefix, field-short}, Forms.{first_for, first_of-line, IsShortLine, line-short}}
 use Rattle.hc_fields.proofs.Ends.{IsField-last}
 
 pub Gives-append : (s t u : Progress) (xs ys : List ℕ) (es fs : List Timed) → Gives s xs t es → Gives t ys u fs → Gives s (xs ++ ys) u (es ++ fs)
-Gives-append s t u xs ys es fs h k = record {
-  leads = after-append s xs ys ∙ (ap (λ (v : Progress). after v ys) h.leads ∙ k.leads);
-  brings = events_in-append s xs ys ∙ (ap (λ (v : Progress). events_in s xs ++ events_in v ys) h.leads ∙ (ap (λ (l : List Timed). l ++ events_in t ys) h.brings ∙ ap (λ (l : List Timed). es ++ l) k.brings));
-}
+Gives-append s t u xs ys es fs h k = search (arith, after-append, events_in-append)
 
 Gives-nothing : (s : Progress) → Gives s [] s []
 Gives-nothing s = record { leads = refl; brings = refl }
@@ -53,9 +50,7 @@ take_line-field m n o fs missing bytes f h =
 -- the last field line
 last_field : (m n : ℕ) (o : Opening) (fs : List Pair) (bytes : ℕ) (f : Pair) → IsHead (fs ++ f ∷ [])
     → take_line (within m n o fs 1 bytes) (line_of f) ≡ pass (at_rest m n) m None (timed m (event_of o (fs ++ f ∷ [])))
-last_field m n o fs bytes f h =
-    take_line-field m n o fs 1 bytes f h
-    ∙ ap (λ (l : List Pair). pass (at_rest m n) m None (timed m (event_of o l))) (put-head fs f h)
+last_field m n o fs bytes f h = search (arith, take_line-field, put-head)
 
 -- a field line before others
 next_field : (m n : ℕ) (o : Opening) (fs : List Pair) (k bytes : ℕ) (f : Pair) → IsHead (fs ++ f ∷ []) → 0 < k
@@ -91,12 +86,10 @@ fields_read m n o fs bytes f (g ∷ rest) h =
     let first = step_gives (within m n o fs (k + 1) bytes) (line_of f) _ (lacks-field f (IsField-last fs f head.list)) (field-short fs f head) next.1 in
     let more = fields_read m (n + 1) o (fs ++ f ∷ []) next.0 g rest whole in
     let both = Gives-append _ _ _ _ _ _ _ first more in
-    let count : k + 1 ≡ length (f ∷ g ∷ rest) = omega arith in
-    let lines : n + 1 + k ≡ n + length (f ∷ g ∷ rest) = omega arith in
     Gives-same _ _ _ _ _ _ _ _
-    (ap (λ (c : ℕ). Reads (within m n o fs c bytes) []) count)
+    (ap (λ (c : ℕ). Reads (within m n o fs c bytes) []) (omega arith))
     (ap (λ (l : List ℕ). l ++ fields_text (g ∷ rest)) (sym (field_text-line f)))
-    (ap (λ (l : ℕ). Reads (at_rest m l) []) lines)
+    (ap (λ (l : ℕ). Reads (at_rest m l) []) (omega arith))
     (ap (λ (l : List Pair). timed m (event_of o l)) joined)
     both
 
@@ -124,8 +117,7 @@ closed : (m n later : ℕ) (item : Item) (es : List Timed) → IsItem item
     → Gives (Reads (at_rest m n) []) (item_line item ++ 10 ∷ []) (Reads (at_rest later (n + 1 + 0)) []) es
 closed m n later item es h is =
     let short = line-short item h in
-    let lines : n + 1 ≡ n + 1 + 0 = omega arith in
-    Gives-same _ _ _ _ _ _ _ _ refl refl (ap (λ (l : ℕ). Reads (at_rest later l) []) lines) refl
+    Gives-same _ _ _ _ _ _ _ _ refl refl (ap (λ (l : ℕ). Reads (at_rest later l) []) (omega arith)) refl
     (step_gives (at_rest m n) (item_line item) _ short.feeds short.short (take_line-first m n (item_line item) (first_for item) (first_of-line item h) ∙ is))
 
 -- an item is read
@@ -135,9 +127,8 @@ item_read m n (Moment now) h later = closed m n now (Moment now) [] h (rw (le-lt
 item_read m n (Happens (event.Start c request)) h later =
     let item = Happens (event.Start c request) in
     let o = opening.Start c request.method request.key request.load in
-    let target : is_target request.key ≡ true = h.2 in
     opened m n o (item_line item) (length (item_line item)) request.fields h.3 (line-short item h)
-    (take_line-first m n (item_line item) (first_for item) (first_of-line item h) ∙ rw target refl)
+    (take_line-first m n (item_line item) (first_for item) (first_of-line item h) ∙ rw h.2 refl)
 item_read m n (Happens (event.Head x response)) h later =
     let item = Happens (event.Head x response) in
     opened m n (opening.Head x response.status) (item_line item) (length (item_line item)) response.fields h.3 (line-short item h)
@@ -162,9 +153,8 @@ pub record IsReadOff (m n : ℕ) (items : List Item) : Type 0 where
 pub items_read : (m n : ℕ) (items : List Item) → IsSchedule m items → IsReadOff m n items
 items_read m n [] h = record { lines = n; gives = Gives-nothing (Reads (at_rest m n) []) }
 items_read m n (item ∷ items) h =
-    let first = item_read m n item h.0 h.1 in
     let more = items_read (moment_after m item) (n + 1 + length (item_fields item)) items h.2 in
-    record { lines = more.lines; gives = Gives-append _ _ _ _ _ _ _ first more.gives }
+    record { lines = more.lines; gives = Gives-append _ _ _ _ _ _ _ (item_read m n item h.0 h.1) more.gives }
 
 -- an event is read back
 same_event : (last now : ℕ) (event : Event) (lines : ℕ) → IsEvent event → now ≡ last

@@ -4,7 +4,7 @@
 -- (`says_step`): it is an item (`one_item`), or begins one with fields (`begins_item`). `next_step` has most of the
 -- work: a field line ends the item where it is the last one missing, else it is counted down. `line_step` joins both
 -- kinds of lines. A byte grows the line, ends it or is refused (`byte_step`); `text_step` goes on by induction.
-use Rattle.std.{proofs.{Common.{◌≡◌, ℕ, ◌+◌, ◌-◌, ◌<◌, ◌≤◌, ◌==◌, true, List, [], ◌∷◌, ◌++◌, length, Option, Some, None, refl, sym, ap, subst, ◌∙◌, inl, inr, arith, append_assoc, lt-ltb}, lemmas.{Bool.{cases_Bool, cases_lt, cases_eq, eq-eqb, ne_eqb, eqb-true, le-ltb}, List.{append-nil}}}, specs.{Prelude.{codes}, Fmt.{decimal}}}
+use Rattle.std.{proofs.{lemmas.{Bool.{cases_Bool, cases_lt, cases_eq, eq-eqb, ne_eqb, eqb-true, le-ltb, Decides.{nat_tests}}, List.{append-nil}}, Common.{◌≡◌, ℕ, ◌+◌, ◌-◌, ◌<◌, ◌≤◌, ◌==◌, true, List, [], ◌∷◌, ◌++◌, length, Option, Some, None, refl, sym, ap, subst, ◌∙◌, inl, inr, arith, append_assoc, zero-add, lt-ltb}}, specs.{Prelude.{codes}, Fmt.{decimal}}}
 use Rattle.hc_text.specs.{Texts.{IsSmall}, Cuts.{cut, behind}}
 use Rattle.hc_event.specs.declared.event.Event.TheVariants as event
 use Rattle.hc_fields.specs.{FieldList.{field_list_with}, Lines.{fields_text}}
@@ -25,16 +25,13 @@ IsOpening (opening.Start c method key kind) = IsSmall c × (is_method method ≡
 IsOpening (opening.Head x status) = IsSmall x × (200 ≤ status) × (status ≤ 599)
 
 event_line-opening : (o : Opening) (fields : List Pair) → event_line (event_of o fields) ≡ opening_line o (length fields)
-event_line-opening (opening.Start c method key kind) fields = refl
-event_line-opening (opening.Head x status) fields = refl
+event_line-opening o fields = grind (arith, nat_tests)
 
 fields_in-opening : (o : Opening) (fields : List Pair) → fields_in (event_of o fields) ≡ fields
-fields_in-opening (opening.Start c method key kind) fields = refl
-fields_in-opening (opening.Head x status) fields = refl
+fields_in-opening o fields = grind (arith, nat_tests)
 
 IsEvent-opening : (o : Opening) (fields : List Pair) → IsOpening o → IsHead fields → IsEvent (event_of o fields)
-IsEvent-opening (opening.Start c method key kind) fields h head = (h.0, h.1, h.2, head)
-IsEvent-opening (opening.Head x status) fields h head = (h.0, h.1, h.2, head)
+IsEvent-opening o fields h head = grind (arith, nat_tests)
 
 -- the lines of an item that was begun
 abbrev pub begun_text : Option Begun → List ℕ
@@ -94,9 +91,7 @@ stops start text more es m begun line h = record {
   items = h.items;
   rest = begun_text begun ++ line ++ more;
   schedule = h.schedule;
-  whole =
-      sym (append_assoc (text_of h.items) (begun_text begun ++ line) more)
-      ∙ ap (λ (l : List ℕ). l ++ more) h.whole;
+  whole = rw (← h.whole) (simp append_assoc);
   events_are = append-nil es ∙ h.events;
 }
 
@@ -109,16 +104,8 @@ module _ (start : ℕ) where
       record {
         items = h.items ++ item ∷ [];
         schedule = IsSchedule-push start h.items item h.schedule is last;
-        whole =
-            append-nil (text_of (h.items ++ item ∷ []))
-            ∙ text_of-push h.items item
-            ∙ ap (λ (l : List ℕ). text_of h.items ++ l) (spelled ∙ sym (append_assoc (begun_text begun) line (10 ∷ [])))
-            ∙ sym (append_assoc (text_of h.items) (begun_text begun ++ line) (10 ∷ []))
-            ∙ ap (λ (l : List ℕ). l ++ 10 ∷ []) h.whole;
-        events =
-            ap (λ (l : List Timed). l ++ event_at m item) h.events
-            ∙ ap (λ (k : ℕ). events_of start h.items ++ event_at k item) h.moment_is
-            ∙ sym (events_of-push start h.items item);
+        whole = rw (append-nil, text_of-push h.items item, spelled, ← h.whole) (simp append_assoc);
+        events = rw (h.events, h.moment_is) (sym (events_of-push start h.items item));
         moment_is = ap (λ (k : ℕ). moment_after k item) h.moment_is ∙ sym (moment_end-push start h.items item);
         under = tt;
       }
@@ -141,13 +128,11 @@ module _ (start : ℕ) where
             rw (eq-eqb count 0 zero) (one_item text line es p.moment (Happens event) h (IsEvent-opening o [] is none) (omega arith) line_is (fields_in-opening o []))
         | inr some ↦
             let none : IsHead [] = record { list = record { fields = λ k d lt. absurd (omega arith); sorted = refl; few = omega arith; small = omega arith }; within_limits = record { few = omega arith; small = omega arith } } in
+            let front = ap (λ k. text_of h.items ++ (opening_line o k ++ 10 ∷ [])) (zero-add count) in
             let stands : Stands start (text ++ 10 ∷ []) (es ++ []) p.moment (Some (record { opening = o; fields = []; missing = count; bytes = bytes + 1 })) [] = record {
               items = h.items;
               schedule = h.schedule;
-              whole =
-                  ap (λ (l : List ℕ). text_of h.items ++ l) (append-nil (opening_line o (0 + count) ++ 10 ∷ []) ∙ ap (λ (k : ℕ). opening_line o k ++ 10 ∷ []) (omega arith) ∙ ap (λ (l : List ℕ). l ++ 10 ∷ []) same)
-                  ∙ sym (append_assoc (text_of h.items) line (10 ∷ []))
-                  ∙ ap (λ (l : List ℕ). l ++ 10 ∷ []) h.whole;
+              whole = rw (append-nil, ← h.whole, ← same, append_assoc) front;
               events = append-nil es ∙ h.events;
               moment_is = h.moment_is;
               under = record { is_opening = is; head = none; some = omega arith; few = omega arith };
@@ -198,8 +183,7 @@ named-parts line f h =
     let first = bind-Some (cut 58 line) _ f h in
     let second = bind-Some (behind (codes " ") first.0.1) _ f first.2 in
     let same : (first.0.0, second.0) ≡ f = cc second.2 in
-    let text = ap (λ (l : List ℕ). first.0.0 ++ 58 ∷ l) (append-behind (codes " ") first.0.1 second.0 second.1) ∙ append-cut 58 line first.0 first.1 in
-    subst (λ (g : Pair). line_of g ≡ line) same text
+    rw (← same, append-behind (codes " ") first.0.1 second.0 second.1) (append-cut 58 line first.0 first.1)
 
 field_of-parts : (fields : List Pair) (line : List ℕ) (f : Pair) → IsHead fields → length fields < 64 → field_of fields line ≡ Some f → IsNext fields line f
 unfolding field_of
@@ -224,9 +208,7 @@ field_of-parts fields line f head few h =
 -- the lines of an item with one field more
 grown : (o : Opening) (count : ℕ) (fields : List Pair) (f : Pair) (line : List ℕ) → line_of f ≡ line
     → (opening_line o count ++ 10 ∷ fields_text fields) ++ (line ++ 10 ∷ []) ≡ opening_line o count ++ 10 ∷ fields_text (fields ++ f ∷ [])
-grown o count fields f line is =
-    append_assoc (opening_line o count) (10 ∷ fields_text fields) (line ++ 10 ∷ [])
-    ∙ ap (λ (l : List ℕ). opening_line o count ++ 10 ∷ l) (ap (λ (l : List ℕ). fields_text fields ++ (l ++ 10 ∷ [])) (sym is) ∙ ap (λ (l : List ℕ). fields_text fields ++ l) (sym (field_text-line f)) ∙ sym (fields_text-push fields f))
+grown o count fields f line is = search (arith, append_assoc, field_text-line, fields_text-push)
 
 module _ (start : ℕ) where
   next_step : (text line : List ℕ) (es : List Timed) (p : Place) (b : Begun) (bytes : ℕ) (f : Pair) → Stands start text es p.moment (Some b) line → IsNext b.fields line f
@@ -234,30 +216,19 @@ module _ (start : ℕ) where
   next_step text line es p b bytes f h next =
       let fields = field_list_with f.0 f.1 b.fields in
       let more = length-put f.0 f.1 b.fields in
+      let lines = grown b.opening (length b.fields + b.missing) b.fields f line next.line_is in
       elim (cases_eq b.missing 1) [
         | inl one ↦
             let count : length b.fields + b.missing ≡ length fields = omega (arith, more, one) in
             let spelled : item_text (Happens (event_of b.opening fields)) ≡ begun_text (Some b) ++ (line ++ 10 ∷ []) =
-            ap (λ (l : List Pair). event_line (event_of b.opening fields) ++ 10 ∷ fields_text l) (fields_in-opening b.opening fields)
-            ∙ ap (λ (l : List ℕ). l ++ 10 ∷ fields_text fields) (event_line-opening b.opening fields)
-            ∙ ap (λ (k : ℕ). opening_line b.opening k ++ 10 ∷ fields_text fields) (sym count)
-            ∙ ap (λ (l : List Pair). opening_line b.opening (length b.fields + b.missing) ++ 10 ∷ fields_text l) next.put_is
-            ∙ sym (grown b.opening (length b.fields + b.missing) b.fields f line next.line_is) in
+            rw (fields_in-opening, event_line-opening, ← count, next.put_is) (sym lines) in
             rw (eq-eqb b.missing 1 one) (ends_item start text line es p.moment (Some b) (Happens (event_of b.opening fields)) h (IsEvent-opening b.opening fields h.under.is_opening next.head) (omega arith) spelled)
         | inr others ↦
             let count : length fields + (b.missing - 1) ≡ length b.fields + b.missing = omega (arith, more, h.under.some) in
             let stands : Stands start (text ++ 10 ∷ []) (es ++ []) p.moment (Some (record { opening = b.opening; fields = fields; missing = b.missing - 1; bytes = b.bytes + bytes + 1 })) [] = record {
               items = h.items;
               schedule = h.schedule;
-              whole =
-                  ap (λ (l : List ℕ). text_of h.items ++ l)
-                  (append-nil (opening_line b.opening (length fields + (b.missing - 1)) ++ 10 ∷ fields_text fields)
-                  ∙ ap (λ (k : ℕ). opening_line b.opening k ++ 10 ∷ fields_text fields) count
-                  ∙ ap (λ (l : List Pair). opening_line b.opening (length b.fields + b.missing) ++ 10 ∷ fields_text l) next.put_is
-                  ∙ sym (grown b.opening (length b.fields + b.missing) b.fields f line next.line_is)
-                  ∙ sym (append_assoc (begun_text (Some b)) line (10 ∷ [])))
-                  ∙ sym (append_assoc (text_of h.items) (begun_text (Some b) ++ line) (10 ∷ []))
-                  ∙ ap (λ (l : List ℕ). l ++ 10 ∷ []) h.whole;
+              whole = rw (append-nil, count, next.put_is, ← lines, ← h.whole) (simp append_assoc);
               events = append-nil es ∙ h.events;
               moment_is = h.moment_is;
               under = record {
@@ -294,10 +265,7 @@ module _ (start : ℕ) where
                   let stands : Stands start (text ++ b ∷ []) (es ++ []) p.moment p.begun (line ++ b ∷ []) = record {
                     items = h.items;
                     schedule = h.schedule;
-                    whole =
-                        ap (λ (l : List ℕ). text_of h.items ++ l) (sym (append_assoc (begun_text p.begun) line (b ∷ [])))
-                        ∙ sym (append_assoc (text_of h.items) (begun_text p.begun ++ line) (b ∷ []))
-                        ∙ ap (λ (l : List ℕ). l ++ b ∷ []) h.whole;
+                    whole = rw (← h.whole) (simp append_assoc);
                     events = append-nil es ∙ h.events;
                     moment_is = h.moment_is;
                     under = h.under;

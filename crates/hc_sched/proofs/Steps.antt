@@ -1,5 +1,5 @@
 -- Steps that may fail.
-use Rattle.std.proofs.Common.{◌≡◌, Option, Some, None, refl}
+use Rattle.std.proofs.{lemmas.Bool.Decides.{nat_tests}, Common.{arith, ◌≡◌, Option, Some, None, refl}}
 use Rattle.hc_sched.specs.Words.{◌>>=◌}
 
 -- where the steps give a value, the first one did

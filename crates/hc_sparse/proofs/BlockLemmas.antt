@@ -4,11 +4,10 @@
 -- (`marks-here`, `extent-here`). Bytes that are put come behind all others, and their positions are marked with these
 -- places, so they stand where they were put (`put-cells`). A whole extent gives the longest stretch (`whole-longest`).
 -- `put-kept` joins what a put leaves: every mark has a byte, and there are as many bytes as positions.
-use Rattle.std.{proofs.{Common.{◌≡◌, ◌≢◌, inl, inr, ℕ, ◌+◌, ◌-◌, ◌/◌, ◌%◌, ◌<◌, ◌≤◌, ◌^◌, List, ◌++◌, length, get_or, take, drop, get_or-take, get_or-drop, length-drop, true, false, Option, Some, None, refl, sym, ap, ◌∙◌, arith, length-append}, lemmas.{Bool.{lt-ltb}, List.{get_or_append_left, get_or-append-add, length-take-le}}}, specs.{Prelude.{Result, Ok, Err, OnOk, OnErr}, Ordering.{nat_cmp}, BTreeMap.{BTreeMap, get}}}
+use Rattle.std.{proofs.{lemmas.{Bool.Decides.{nat_tests}, List.{get_or_append_left, get_or-append-add, length-take-le}}, Common.{◌≡◌, ◌≢◌, inl, inr, ℕ, ◌+◌, ◌-◌, ◌/◌, ◌%◌, ◌<◌, ◌≤◌, ◌^◌, List, ◌++◌, length, take, drop, get_or-take, get_or-drop, length-drop, true, Option, Some, None, refl, sym, ap, ◌∙◌, arith, length-append}}, specs.{Prelude.{Result, Ok, Err, OnOk, OnErr}, Ordering.{nat_cmp}, BTreeMap.{BTreeMap, get}}}
 use borrow.Author.Tests.{ltb-true}
 use Rattle.hc_sparse.proofs.{SizeLemmas.{size-put, size-same, size-le}, CellLemmas.{inside-cases}}
-use Rattle.hc_text.proofs.Basics.{lt_or as split}
-use Rattle.hc_sparse.specs.{Cells.{Cell, cells_with, AreAbsent, size}, Extents.{Mark, Marks, mark, claimed_marks, end_of, rest_of, AreFree, IsExtentFrom, IsExtentAt, IsWhole}, Stretch.{IsPart, IsLongest}, declared.{extents.Extent.{Extent}, block.Block.{Block}}, Growing.{Begin}, Blocks.{marks_in}, BlockMaps.{cells_by, cell_of, marks, AreBelow, is_within, AreWithin}}
+use Rattle.hc_sparse.specs.{Cells.{Cell, cells_with, AreAbsent, size}, Extents.{Mark, Marks, mark, claimed_marks, rest_of, AreFree, IsExtentFrom, IsExtentAt, IsWhole}, Stretch.{IsLongest}, declared.{extents.Extent.{Extent}, block.Block.{Block}}, Blocks.{marks_in}, BlockMaps.{cells_by, cell_of, marks, AreBelow, is_within, AreWithin}}
 
 block-is : (p i : ℕ) → p % 4096 + i < 4096 → (p + i) / 4096 ≡ p / 4096
 block-is p i lt = omega arith
@@ -24,9 +23,7 @@ pub free-here : (m : BTreeMap ℕ Block) (p len : ℕ) (b : Block) → get nat_c
 free-here m p len b there within free q ge lt =
     let i : ℕ = q - p % 4096 in
     let place : p % 4096 + i ≡ q = omega arith in
-    let here = marks-here m p i b there (omega arith) in
-    let none = free (p + i) (omega arith) (omega arith) in
-    rw place at (sym here ∙ none)
+    rw place at (sym (marks-here m p i b there (omega arith)) ∙ (free (p + i) (omega arith) (omega arith)))
 
 kept-cell : (bytes piece : List ℕ) (o : Option Mark) → is_within (length bytes) o ≡ true → cell_of (bytes ++ piece) o ≡ cell_of bytes o
 kept-cell bytes piece None within = refl
@@ -43,16 +40,10 @@ put-cells f g bytes piece at x within own q =
     ]
 
 more-within : (n k : ℕ) (o : Option Mark) → n ≤ k → is_within n o ≡ true → is_within k o ≡ true
-more-within n k None le within = refl
-more-within n k (Some mark) le within = let lt : mark.place < n = ltb-true mark.place n within in lt-ltb mark.place k (omega arith)
+more-within n k o le within = grind (arith, nat_tests)
 
 pub put-within : (f g : Marks) (at len x count : ℕ) → AreWithin f count → ((q : ℕ) → g q ≡ claimed_marks at len x count f q) → AreWithin g (count + len)
-put-within f g at len x count within own q =
-    let mine = own q in
-    elim (inside-cases at len q) [
-      | inl here ↦ rw (mine, here.0) (lt-ltb (count + (q - at)) (count + len) (omega arith))
-      | inr off ↦ rw (mine, off.0) (more-within count (count + len) (f q) (omega arith) (within q))
-    ]
+put-within f g at len x count within own q = grind (arith, nat_tests)
 
 pub same-cells : (f g : Marks) (bytes : List ℕ) → ((q : ℕ) → g q ≡ f q) → (q : ℕ) → cells_by g bytes q ≡ cells_by f bytes q
 same-cells f g bytes same q = ap (cell_of bytes) (same q)
@@ -60,26 +51,8 @@ same-cells f g bytes same q = ap (cell_of bytes) (same q)
 pub same-within : (f g : Marks) (count : ℕ) → ((q : ℕ) → g q ≡ f q) → AreWithin f count → AreWithin g count
 same-within f g count same within q = rw (same q) (within q)
 
--- Where the bytes of an extent's offsets stand.
-pub place-within : (m : BTreeMap ℕ Block) (count p i : ℕ) (b : Block) (k : Mark) → AreWithin (marks m) count → get nat_cmp m (p / 4096) ≡ Some b → p % 4096 + i < 4096 → marks_in b (p % 4096 + i) ≡ Some k → k.place < count
-place-within m count p i b k within there lt is =
-    let here = marks-here m p i b there lt ∙ is in
-    ltb-true k.place count (rw here at (within (p + i)))
-
-pub part-within : (m : BTreeMap ℕ Block) (count p : ℕ) (b : Block) (e : Extent) → AreWithin (marks m) count → get nat_cmp m (p / 4096) ≡ Some b → IsExtentFrom b.extents.items (p % 4096) e → e.at ≤ p % 4096 → e.from + e.len ≤ count
-part-within m count p b e within there is by =
-    let past = is.past in
-    let end = is.end in
-    let i : ℕ = end_of e - 1 - p % 4096 in
-    let last = place-within m count p i b (mark e.x e.from e.at (p % 4096 + i)) within there (omega arith) (is.marks (p % 4096 + i) (omega arith) (omega arith)) in
-    omega (arith, last)
-
 some-number : (m : BTreeMap ℕ Block) (n : ℕ) (b : Block) → AreBelow m → get nat_cmp m n ≡ Some b → n < 2 ^ 50
-some-number m n b below there =
-    elim (split n (2 ^ 50)) [
-      | inl lt ↦ lt
-      | inr le ↦ absurd (let never : true ≡ false = rw there at (below n le) in cc)
-    ]
+some-number m n b below there = grind (arith, nat_tests)
 
 -- Whose a byte is.
 abbrev x_of : Option Cell → ℕ
@@ -94,40 +67,11 @@ other-mark bytes (Some own) x byte not is = not own.place (let same : own.x ≡ 
 -- The extent of a position, from there on.
 pub extent-here : (m : BTreeMap ℕ Block) (p : ℕ) (b : Block) (e : Extent) → AreBelow m → get nat_cmp m (p / 4096) ≡ Some b → IsExtentFrom b.extents.items (p % 4096) e → e.at ≤ p % 4096
     → IsExtentAt (marks m) p (rest_of e p (p % 4096 - e.at))
-extent-here m p b e below there is by =
-    let past = is.past in
-    let ends = is.end in
-    let number = some-number m (p / 4096) b below there in
-    record {
-      at = refl;
-      some = omega arith;
-      end = omega arith;
-      each = λ i lt.
-          let place : e.from + (p % 4096 + i - e.at) ≡ e.from + (p % 4096 - e.at) + i = omega arith in
-          let here = marks-here m p i b there (omega arith) ∙ is.marks (p % 4096 + i) (omega arith) (omega arith) in
-          rw place at here;
-    }
+extent-here m p b e below there is by = grind (arith, nat_tests)
 
 -- The bytes of an extent are among all bytes.
 pub extent-within : (f : Marks) (count p : ℕ) (e : Extent) → AreWithin f count → IsExtentAt f p e → e.from + e.len ≤ count
-extent-within f count p e within is =
-    let some = is.some in
-    let last : is_within count (f (p + (e.len - 1))) ≡ true = within (p + (e.len - 1)) in
-    let lt : e.from + (e.len - 1) < count = ltb-true (e.from + (e.len - 1)) count (rw (is.each (e.len - 1) (omega arith)) at last) in
-    omega arith
-
--- The first bytes of an extent, or all, are a part.
-pub extent-part : (f : Marks) (bytes first : List ℕ) (p : ℕ) (e : Extent) → IsExtentAt f p e → 0 < length first → length first ≤ e.len → Begin first (drop e.from bytes) → IsPart (cells_by f bytes) p e.x first
-extent-part f bytes first p e is some most begins =
-    let end = is.end in
-    let at = is.at in
-    record {
-      some = some;
-      end = omega arith;
-      each = λ i lt.
-          let byte : get_or first i 0 ≡ get_or bytes (e.from + i) 0 = ap (λ xs. get_or xs i 0) (sym begins) ∙ (get_or-take (length first) (drop e.from bytes) i 0 lt ∙ get_or-drop e.from bytes i 0) in
-          rw byte (ap (cell_of bytes) (is.each i (omega arith)));
-    }
+extent-within f count p e within is = grind (arith, nat_tests)
 
 -- A whole extent's bytes are the longest stretch.
 pub whole-longest : (f : Marks) (bytes : List ℕ) (p want : ℕ) (e : Extent) → AreWithin f (length bytes) → IsWhole f p want e → IsLongest (cells_by f bytes) p want (record { x = e.x; at = p; bytes = take e.len (drop e.from bytes) })
@@ -135,18 +79,7 @@ whole-longest f bytes p want e within is =
     let fits = extent-within f (length bytes) p e within is.extent in
     let all : List ℕ = take e.len (drop e.from bytes) in
     let len : length all ≡ e.len = length-take-le e.len (drop e.from bytes) (omega (arith, length-drop e.from bytes)) in
-    let some = is.extent.some in
-    let most = is.most in
-    record {
-      from = refl;
-      some = omega (arith, len);
-      most = omega (arith, len);
-      each = λ i lt.
-          let byte : get_or all i 0 ≡ get_or bytes (e.from + i) 0 = get_or-take e.len (drop e.from bytes) i 0 (omega (arith, len)) ∙ get_or-drop e.from bytes i 0 in
-          rw byte (ap (cell_of bytes) (is.extent.each i (omega (arith, len))));
-      ends = λ lt byte there.
-          other-mark bytes (f (p + e.len)) e.x byte (is.ends (omega (arith, len))) (rw len at there);
-    }
+    grind (arith, nat_tests, get_or-take, get_or-drop, cell_of, other-mark)
 
 -- What a put leaves: all bytes are of some mark, and there are as many as positions.
 pub record IsKept (f : Marks) (bytes : List ℕ) : Type 0 where
@@ -168,9 +101,7 @@ put-kept (Err e) f g bytes more piece at x kept absent end own longer same uncha
 
 -- The bytes of all marks stand before this place.
 pub kept-within : (f : Marks) (bytes : List ℕ) → AreWithin f (length bytes) → length bytes ≡ size (cells_by f bytes) → AreWithin f (2 ^ 63)
-kept-within f bytes within counts p =
-    let most = size-le (cells_by f bytes) in
-    more-within (length bytes) (2 ^ 63) (f p) (omega (arith, counts, most)) (within p)
+kept-within f bytes within counts p = search (arith, size-le, more-within)
 
 -- What an error says.
 pub on-err : {T E : Type 0} (r : Result T E) (P : Type 0) → P → OnErr r P

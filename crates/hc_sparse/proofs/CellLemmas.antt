@@ -1,5 +1,5 @@
 -- Bytes that are written over what was there.
-use Rattle.std.proofs.{Common.{◌≡◌, ◌⊎◌, ℕ, ◌+◌, ◌<◌, ◌≤◌, true, false, arith, List, ◌++◌, length, inl, inr, refl, ◌-◌, length-append}, lemmas.{List.{get_or_append_left, get_or-append-add}, Bool.Decides.{nat_tests}}}
+use Rattle.std.proofs.{Common.{◌≡◌, ◌⊎◌, ℕ, ◌+◌, ◌<◌, ◌≤◌, Bool, true, false, cond, arith, List, ◌++◌, length, inl, inr, refl, ◌-◌, length-append}, lemmas.{List.{get_or_append_left, get_or-append-add}, Bool.Decides.{nat_tests}}}
 use Rattle.hc_sparse.specs.Cells.{Cells, cells_with, inside}
 
 pub inside-yes : (at n p : ℕ) → at ≤ p → p < at + n → inside at n p ≡ true
@@ -13,6 +13,12 @@ inside-past at n p a = grind (arith, nat_tests)
 
 pub inside-cases : (at n p : ℕ) → ((inside at n p ≡ true) × (at ≤ p) × (p < at + n)) ⊎ ((inside at n p ≡ false) × ((p < at) ⊎ (at + n ≤ p)))
 inside-cases at n p = grind (arith, nat_tests)
+
+-- Two writes of the same, or at different positions, may change places.
+pub two-writes : {A : Type 0} (a b : Bool) (v w o : A) → (a ≡ true → b ≡ true → v ≡ w) → cond a v (cond b w o) ≡ cond b w (cond a v o)
+two-writes true true v w o same = same refl refl
+two-writes false true v w o same = refl
+two-writes _ false v w o same = refl
 
 -- Bytes written one after another are written at once.
 pub written-append : (at x : ℕ) (bytes more : List ℕ) (f : Cells) (p : ℕ) → cells_with at x (bytes ++ more) f p ≡ cells_with (at + length bytes) x more (cells_with at x bytes f) p

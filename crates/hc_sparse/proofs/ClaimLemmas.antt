@@ -4,10 +4,10 @@
 -- before it stay, and those behind it begin past its end (`ascend-inserted`). Claims of other offsets may change
 -- places, so the marks are those with the new ones (`claim-inserted`). Where an extent of the same exchange ends there,
 -- and its bytes too, it is made longer: two such claims are one (`claimed-append`, `claim-lengthened`).
-use Rattle.std.{proofs.{Common.{◌≡◌, inl, inr, ℕ, zero, suc, ◌+◌, ◌-◌, ◌<◌, ◌≤◌, List, [], ◌∷◌, length, Bool, true, false, cond, Option, Some, None, refl, sym, ap, ◌∙◌, arith, add-one, get_or, set}, lemmas.Bool.Decides.{nat_tests}}, specs.{Prelude.{Result, Ok, Err, IsOk, is_ok}, List.{insert}}}
+use Rattle.std.{proofs.{Common.{◌≡◌, inl, inr, ℕ, zero, suc, ◌+◌, ◌-◌, ◌<◌, ◌≤◌, List, [], ◌∷◌, length, true, Some, None, refl, sym, ◌∙◌, arith, add-one, get_or, set}, lemmas.Bool.Decides.{nat_tests}}, specs.{Prelude.{Result, IsOk, is_ok}, List.{insert}}}
 use Rattle.hc_text.proofs.Basics.{le_or as le_cases}
-use Rattle.hc_sparse.specs.{Cells.{inside}, Extents.{Mark, Marks, mark, marks_of, ascend, place_of, end_of, longer_extent, claimed_marks, AreFree}, declared.extents.Extent.{Extent}}
-use Rattle.hc_sparse.proofs.{CellLemmas.{inside-yes, inside-before, inside-past, inside-cases}, ExtentLemmas.{ascend-cons, ascend-with, at-from}}
+use Rattle.hc_sparse.specs.{Cells.{inside}, Extents.{Marks, mark, marks_of, ascend, place_of, end_of, longer_extent, claimed_marks, AreFree}, declared.extents.Extent.{Extent}}
+use Rattle.hc_sparse.proofs.{CellLemmas.{inside-yes, inside-past, inside-cases, two-writes}, ExtentLemmas.{ascend-cons, ascend-with, at-from}}
 
 -- Extents none of which has an offset up to one ascend from there.
 ascend-past : (n m : ℕ) (es : List Extent) → ascend n es ≡ true → AreFree (marks_of es) n m → m ≤ 4096 → ascend m es ≡ true
@@ -19,38 +19,15 @@ ascend-past n m (e ∷ es) asc absent end =
       | inr near ↦ absurd (let gone = absent e.at parts.0 near.1 in let never : Some (mark e.x e.from e.at e.at) ≡ None = rw (inside-yes e.at (e.len) e.at (omega arith) (omega arith)) at gone in cc)
     ]
 
-two-claims : (a b : Bool) (v w o : Option Mark) → (a ≡ true → b ≡ true → v ≡ w) → cond a v (cond b w o) ≡ cond b w (cond a v o)
-two-claims true true v w o same = same refl refl
-two-claims true false v w o same = refl
-two-claims false true v w o same = refl
-two-claims false false v w o same = refl
-
 -- Claims of offsets of which none are the same may change places.
 claimed-claimed : (e : Extent) (at len x from : ℕ) (f : Marks) → end_of e ≤ at → (p : ℕ) → claimed_marks e.at e.len e.x e.from (claimed_marks at len x from f) p ≡ claimed_marks at len x from (claimed_marks e.at e.len e.x e.from f) p
 claimed-claimed e at len x from f past p =
-    two-claims (inside e.at e.len p) (inside at len p) (Some (mark e.x e.from e.at p)) (Some (mark x from at p)) (f p)
-    (λ a b. elim (inside-cases e.at e.len p) [
-      | inr off ↦ absurd (let never : false ≡ true = sym off.0 ∙ a in cc)
-      | inl here ↦ elim (inside-cases at len p) [ inr off ↦ absurd (let never : false ≡ true = sym off.0 ∙ b in cc) | inl there ↦ absurd (omega arith) ]
-    ])
+    two-writes (inside e.at e.len p) (inside at len p) (Some (mark e.x e.from e.at p)) (Some (mark x from at p)) (f p)
+    (λ a b. grind (arith, nat_tests))
 
 -- Claims of offsets one after another, whose bytes stand one after another, are one claim.
 pub claimed-append : (at len more x from : ℕ) (f : Marks) (p : ℕ) → claimed_marks at (len + more) x from f p ≡ claimed_marks (at + len) more x (from + len) (claimed_marks at len x from f) p
-claimed-append at len more x from f p =
-    elim (inside-cases at len p) [
-      | inl here ↦ rw (here.0, inside-yes at (len + more) p (omega arith) (omega arith), inside-before (at + len) more p (omega arith)) refl
-      | inr off ↦ elim (inside-cases (at + len) more p) [
-        | inl there ↦
-            let place : from + (p - at) ≡ from + len + (p - (at + len)) = omega arith in
-            rw (there.0, inside-yes at (len + more) p (omega arith) (omega arith), place) refl
-        | inr out ↦
-            let miss : inside at (len + more) p ≡ false = elim off.1 [
-              | inl before ↦ inside-before at (len + more) p before
-              | inr past ↦ elim out.1 [ inl near ↦ absurd (omega arith) | inr far ↦ inside-past at (len + more) p (omega arith) ]
-            ] in
-            rw (out.0, off.0, miss) refl
-      ]
-    ]
+claimed-append at len more x from f p = grind (arith, nat_tests)
 
 insert-more : (new e : Extent) (es : List Extent) (k : ℕ) → insert (e ∷ es) (k + 1) new ≡ e ∷ insert es k new
 insert-more new e es k = rw (add-one k) refl
@@ -100,8 +77,7 @@ ascend-lengthened : (n i : ℕ) (es : List Extent) (d : Extent) (more : ℕ) →
 ascend-lengthened n i [] d more asc lt absent end = absurd (omega arith)
 ascend-lengthened n zero (e ∷ es) d more asc lt absent end =
     let parts = ascend-cons n e es asc in
-    let ends : end_of (longer_extent e more) ≡ end_of e + more = omega arith in
-    ascend-with n (longer_extent e more) es parts.0 (omega arith) (rw ends (ascend-past (end_of e) (end_of e + more) es parts.2 (absent-behind e es (end_of e) (end_of e + more) (omega arith) absent) end))
+    grind (arith, nat_tests, end_of, ascend-with, ascend-past, absent-behind)
 ascend-lengthened n (suc i) (e ∷ es) d more asc lt absent end =
     let parts = ascend-cons n e es asc in
     let from = at-from (end_of e) es i d parts.2 (omega arith) in
@@ -118,26 +94,12 @@ pub record IsClaimed (es ss : List Extent) (at len x from : ℕ) : Type 0 where
   pub marks : (p : ℕ) → marks_of ss p ≡ claimed_marks at len x from (marks_of es) p
 
 pub claim-inserted : (es ss : List Extent) (new : Extent) (place : ℕ) → ascend 0 es ≡ true → AreFree (marks_of es) new.at (end_of new) → 0 < new.len → end_of new ≤ 4096 → place ≡ place_of new.at es → ss ≡ insert es place new → IsClaimed es ss new.at new.len new.x new.from
-claim-inserted es ss new place asc absent some end there is =
-    let at-place : ss ≡ insert es (place_of new.at es) new = is ∙ ap (λ k. insert es k new) there in
-    record {
-      ascends = ap (ascend 0) at-place ∙ ascend-inserted 0 new es asc absent some (omega arith) end;
-      marks = λ p. ap (λ ts. marks_of ts p) at-place ∙ marks-inserted 0 new es asc absent p;
-    }
+claim-inserted es ss new place asc absent some end there is = search (arith, ascend-inserted, marks-inserted)
 
 pub claim-lengthened : (es ss : List Extent) (i : ℕ) (e s : Extent) (at x from : ℕ) (more : ℕ) → ascend 0 es ≡ true → i < length es → e ≡ get_or es i e → s ≡ get_or es i s → s.x ≡ x → end_of s ≡ at → s.from + s.len ≡ from → AreFree (marks_of es) at (at + more) → at + more ≤ 4096 → ss ≡ set es i (longer_extent e more) → IsClaimed es ss at more x from
 claim-lengthened es ss i e s at x from more asc lt e-is s-is of_x ends behind absent end is =
     let same : get_or es i e ≡ s = sym e-is ∙ same-at es i e s lt e-is s-is in
-    let longer : ss ≡ set es i (longer_extent (get_or es i e) more) = is ∙ ap (λ t. set es i (longer_extent t more)) e-is in
-    let at-end : end_of (get_or es i e) ≡ at = ap end_of same ∙ ends in
-    let with-x : (get_or es i e).x ≡ x = ap (λ (t : Extent). t.x) same ∙ of_x in
-    let stands : (get_or es i e).from + (get_or es i e).len ≡ from = ap (λ (t : Extent). t.from + t.len) same ∙ behind in
-    let fresh : AreFree (marks_of es) (end_of (get_or es i e)) (end_of (get_or es i e) + more) = rw at-end absent in
-    record {
-      ascends = ap (ascend 0) longer ∙ ascend-lengthened 0 i es e more asc lt fresh (rw at-end end);
-      marks = λ p. ap (λ ts. marks_of ts p) longer ∙ (marks-lengthened 0 i es e more asc lt fresh p ∙ rw (at-end, with-x, stands) refl);
-    }
+    grind (arith, nat_tests, end_of, ascend-lengthened, marks-lengthened)
 
 pub ok-is : {T E : Type 0} (r : Result T E) → IsOk r → is_ok r ≡ true
-ok-is (Ok v) is = refl
-ok-is (Err e) is = absurd cc
+ok-is r is = cc

@@ -92,8 +92,7 @@ partitioned n p [] asc i j d le lt by = absurd (omega arith)
 partitioned n p (e ∷ es) asc zero zero d le lt by = by
 partitioned n p (e ∷ es) asc zero (suc j) d le lt by =
     let parts = ascend-cons n e es asc in
-    let past = at-from (end_of e) es j d parts.2 (omega arith) in
-    le-leb (end_of e) p (let far = leb-true (end_of (get_or es j d)) p by in omega arith)
+    grind (arith, nat_tests, at-from, end_of, le-leb, leb-true)
 partitioned n p (e ∷ es) asc (suc i) zero d le lt by = absurd (omega arith)
 partitioned n p (e ∷ es) asc (suc i) (suc j) d le lt by =
     partitioned (end_of e) p es (ascend-cons n e es asc).2 i j d (omega arith) (omega arith) by
@@ -102,6 +101,5 @@ pub place-is : (p : ℕ) (es : List Extent) (i : ℕ) → i ≤ length es → Is
 place-is p [] i le point = omega arith
 place-is p (e ∷ es) zero le point = rw (point.1 0 e (omega arith) (omega arith)) refl
 place-is p (e ∷ es) (suc i) le point =
-    let here : nat_le (end_of e) p ≡ true = point.0 0 e (omega arith) (omega arith) in
     let rest = place-is p es i (omega arith) ((λ k d lo hi. point.0 (suc k) d (omega arith) (omega arith)), (λ k d lo hi. point.1 (suc k) d (omega arith) (omega arith))) in
-    rw here (omega arith)
+    rw (point.0 0 e (omega arith) (omega arith)) (omega arith)

@@ -4,25 +4,20 @@
 -- remainder, or one in the last bytes (`last-place`). What stands from there on begins with the rest of that segment
 -- (`begin-whole`) or of the last bytes (`begin-last`). So a part of a segment is a part of all bytes (`part-whole`).
 -- `filled` is for bytes that are put: the last segment is completed, whole ones follow, and the rest is the last one.
-use Rattle.std.{proofs.{Common.{◌≡◌, inl, inr, ℕ, zero, suc, ◌+◌, ◌-◌, ◌*◌, ◌/◌, ◌%◌, ◌<◌, ◌≤◌, List, [], ◌∷◌, ◌++◌, length, true, refl, sym, ap, ◌∙◌, arith, get_or, take, drop, append_assoc, append-nil, length-append, length-take, length-drop}, lemmas.{Bool.{cases_Bool, eqb-true}, List.{drop-append-le, take-append-drop, drop-drop, take_all, take_min, take-take, Folds.{concat-append}}}, Math.Seq.{drop-append-add, take-append_seam, take-add}}, specs.{Prelude.{nat_eq, slice_range, Result, Ok, Err, IfOk}, List.{concat}}}
+use Rattle.std.{proofs.{lemmas.{Bool.{cases_Bool, Decides.{nat_tests}}, List.{drop-append-le, take-append-drop, drop-drop, take_all, take-take, Folds.{concat-append}}}, Common.{◌≡◌, inl, inr, ℕ, zero, suc, ◌+◌, ◌-◌, ◌*◌, ◌/◌, ◌%◌, ◌<◌, ◌≤◌, List, [], ◌∷◌, ◌++◌, length, true, refl, sym, ap, ◌∙◌, arith, get_or, take, drop, append_assoc, append-nil, length-append, length-drop}, Math.Seq.{drop-append-add, take-append_seam, take-add}}, specs.{Prelude.{nat_eq, slice_range, Result, IfOk}, List.{concat}}}
 use Rattle.hc_sparse.specs.Growing.{are_whole, Begin}
 
 -- The first of whole segments is whole, and so are the others.
 pub whole-cons : (s : List ℕ) (ss : List (List ℕ)) → are_whole (s ∷ ss) ≡ true → (length s ≡ 16384) × (are_whole ss ≡ true)
-whole-cons s ss all = elim (cases_Bool (nat_eq (length s) 16384)) [
-  | inl on ↦ (eqb-true (length s) 16384 on, (rw on at all))
-  | inr off ↦ absurd (let never = rw off at all in cc)
-]
+whole-cons s ss all = grind (arith, nat_tests)
 
 -- How many bytes whole segments have.
 pub whole-length : (ss : List (List ℕ)) → are_whole ss ≡ true → length (concat ss) ≡ length ss * 16384
 whole-length [] all = refl
 whole-length (s ∷ ss) all =
     let parts = whole-cons s ss all in
-    let len = parts.0 in
-    let rest = whole-length ss parts.1 in
     let is = length-append s (concat ss) in
-    omega (arith, len, rest, is)
+    omega (arith, parts.0, whole-length ss parts.1, is)
 
 -- Whole segments and others behind them are whole.
 pub whole-append : (ss ts : List (List ℕ)) → are_whole ss ≡ true → are_whole ts ≡ true → are_whole (ss ++ ts) ≡ true
@@ -48,8 +43,7 @@ rest-whole (s ∷ ss) last zero o all lt le =
 rest-whole (s ∷ ss) last (suc i) o all lt le =
     let parts = whole-cons s ss all in
     let rest = rest-whole ss last i o parts.1 (omega arith) le in
-    let len = parts.0 in
-    let place : suc i * 16384 + o ≡ length s + (i * 16384 + o) = omega (arith, len) in
+    let place : suc i * 16384 + o ≡ length s + (i * 16384 + o) = omega arith in
     (rest.0, rw (append_assoc s (concat ss) last, place) (drop-append-add s (concat ss ++ last) (i * 16384 + o) ∙ rest.1))
 
 -- What stands from a place behind all segments on.
@@ -69,10 +63,7 @@ begin-whole ss last from all lt =
 
 -- A place that is in no segment is among the last bytes.
 pub last-place : (ss : List (List ℕ)) (last : List ℕ) (from : ℕ) → are_whole ss ≡ true → length ss ≤ from / 16384 → length last < 16384 → from < length (concat ss ++ last) → (from / 16384 ≡ length ss) × (from % 16384 < length last)
-last-place ss last from all ge few within =
-    let len = whole-length ss all in
-    let is = length-append (concat ss) last in
-    (omega (arith, len, is), omega (arith, len, is))
+last-place ss last from all ge few within = search (arith, whole-length, length-append)
 
 pub begin-last : (ss : List (List ℕ)) (last : List ℕ) (from : ℕ) → are_whole ss ≡ true → length ss ≤ from / 16384 → length last < 16384 → from < length (concat ss ++ last) → Begin (drop (from % 16384) last) (drop from (concat ss ++ last))
 begin-last ss last from all ge few within =
@@ -80,14 +71,6 @@ begin-last ss last from all ge few within =
     let place : length ss * 16384 + from % 16384 ≡ from = let n = there.0 in omega (arith, n) in
     let rest = rest-last ss last (from % 16384) all in
     rw (rw place at rest) (take_all (length (drop (from % 16384) last)) (drop (from % 16384) last) (omega arith))
-
--- The first of bytes that begin others begin them.
-pub begin-first : (bytes all : List ℕ) (n : ℕ) → Begin bytes all → Begin (take n bytes) all
-begin-first bytes all n begins =
-    let len = length-take n bytes in
-    let part : take (length (take n bytes)) bytes ≡ take n bytes = rw len (take_min n bytes) in
-    let short : length (take n bytes) ≤ length bytes = omega (arith, len) in
-    sym (take-take (length (take n bytes)) (length bytes) all short) ∙ (ap (take (length (take n bytes))) begins ∙ part)
 
 -- Bytes that go on are the first of the others.
 pub begin-more : (bytes more all : List ℕ) (n from : ℕ) → bytes ≡ take n (drop from all) → Begin more (drop (from + n) all) → bytes ++ more ≡ take (n + length more) (drop from all)
@@ -116,14 +99,11 @@ part-whole ss last from len all lt fits =
 
 -- What an answer says, in other words.
 pub ok-says : {T E : Type 0} (r : Result T E) (P Q : T → Type 0) → ((x : T) → P x → Q x) → IfOk r P → IfOk r Q
-ok-says (Ok x) P Q f is = f x is
-ok-says (Err e) P Q f is = is
+ok-says r P Q f is = grind (arith, nat_tests)
 
 -- Whole segments and one more behind them, and others.
 pub filled-whole : (ss ts : List (List ℕ)) (full : List ℕ) → are_whole ss ≡ true → are_whole ts ≡ true → length full ≡ 16384 → are_whole ((ss ++ full ∷ []) ++ ts) ≡ true
-filled-whole ss ts full all more len =
-    let one : are_whole (full ∷ []) ≡ true = rw len refl in
-    whole-append (ss ++ full ∷ []) ts (whole-append ss (full ∷ []) all one) more
+filled-whole ss ts full all more len = search (arith, whole-append)
 
 -- All bytes, where a segment was completed and others stand behind it.
 pub filled : (ss ts : List (List ℕ)) (last first more full rest : List ℕ) (n : ℕ) → full ≡ last ++ first → concat ts ≡ take n more → rest ≡ drop n more → concat ((ss ++ full ∷ []) ++ ts) ++ rest ≡ (concat ss ++ last) ++ (first ++ more)

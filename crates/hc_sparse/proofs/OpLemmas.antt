@@ -1,11 +1,10 @@
 -- Operations one after another.
-use Rattle.std.{proofs.{Common.{◌≡◌, inl, inr, ℕ, zero, suc, ◌+◌, ◌<◌, ◌≤◌, List, [], ◌∷◌, ◌++◌, length, take, Bool, true, false, Option, Some, None, refl, sym, ap, ◌∙◌, arith, add-one, get_or}, Math.Seq.{take-suc}}, specs.Prelude.{is_some, not, ◌&&◌, nat_le, Result, Ok, Err, OnErr}}
+use Rattle.std.{proofs.{lemmas.Bool.Decides.{nat_tests}, Common.{◌≡◌, inl, inr, ℕ, zero, suc, ◌+◌, ◌<◌, ◌≤◌, List, [], ◌∷◌, ◌++◌, length, take, Bool, true, false, Option, Some, None, refl, sym, ap, ◌∙◌, arith, add-one, get_or}, Math.Seq.{take-suc}}, specs.Prelude.{is_some, not, ◌&&◌, nat_le, Result, Ok, Err, OnErr}}
 use Rattle.hc_text.proofs.Basics.{le_or as le_cases, never_true as one-of, lt_or as split}
 use Rattle.hc_sparse.specs.{Cells.{Cells, Cell, AreAbsent, IsNext}, Ops.{are_absent, after, cells_after, IsAnswer, AreAnswers, HasAnswered}, declared.ops.{SparseOp.{SparseOp}, SparseAnswer.{SparseAnswer}}}
 
 absent-is : (o : Option Cell) → is_some o ≡ false → o ≡ None
-absent-is None is = refl
-absent-is (Some cell) is = absurd cc
+absent-is o is = grind (arith, nat_tests)
 
 -- The test says what it is named for.
 pub absent-all : (f : Cells) (p n : ℕ) → AreAbsent f p (p + n) → are_absent f p n ≡ true
@@ -13,8 +12,7 @@ absent-all f p zero absent = refl
 absent-all f p (suc n) absent = rw (absent p (omega arith) (omega arith)) (absent-all f (p + 1) n (λ q ge lt. absent q (omega arith) (omega arith)))
 
 both : (b rest : Bool) → (not b && rest) ≡ true → (b ≡ false) × (rest ≡ true)
-both true rest is = absurd cc
-both false rest is = (refl, is)
+both b rest is = grind (arith, nat_tests)
 
 pub all-absent : (f : Cells) (p n : ℕ) → are_absent f p n ≡ true → AreAbsent f p (p + n)
 all-absent f p zero is q ge lt = absurd (omega arith)
@@ -30,10 +28,7 @@ present-not f p n q here ge lt = one-of (are_absent f p n) (λ is. let none = al
 
 -- The next position tells it.
 pub next-tells : (f : Cells) (p n m : ℕ) → IsNext f p (Some m) → nat_le (p + n) m ≡ are_absent f p n
-next-tells f p n m next = elim (le_cases (p + n) m) [
-  | inl far ↦ rw far.0 (sym (absent-all f p n (λ q ge lt. next.2 q ge (let end = far.1 in omega arith))))
-  | inr near ↦ rw near.0 (sym (present-not f p n m next.1 next.0 near.1))
-]
+next-tells f p n m next = search (arith, le_cases, absent-all, present-not)
 
 pub on_err : {T E : Type 0} {P : Type 0} (r : Result T E) → P → OnErr r P
 on_err (Ok v) p = tt
@@ -57,7 +52,4 @@ made-more f g h os o has makes = makes ∙ (ap (after o) has ∙ sym (made-appen
 
 -- One operation more.
 pub answered-more : (f g h : Cells) (os : List SparseOp) (rest : List SparseAnswer) (o : SparseOp) (a : SparseAnswer) → HasAnswered f g os rest → IsAnswer g o a → h ≡ after o g → HasAnswered f h (os ++ o ∷ []) (rest ++ a ∷ [])
-answered-more f g h os rest o a has is makes = record {
-  answers_are = answers-append f os rest o a has.answers_are (rw has.makes at is);
-  makes = made-more f g h os o has.makes makes;
-}
+answered-more f g h os rest o a has is makes = search (arith, answers-append, made-more)

@@ -1,7 +1,7 @@
 -- Bytes that are kept in one place.
 use Rattle.std.proofs.Common.{◌≡◌, inl, inr, ℕ, ◌+◌, ◌-◌, ◌≤◌, List, ◌++◌, length, Some, refl, ap, ◌∙◌, arith, get_or, take, drop, get_or-take, get_or-drop, length-take, length-drop}
 use Rattle.hc_text.proofs.Basics.{lt_or as split}
-use Rattle.hc_sparse.specs.{Cells.{Cells, Covers, GoesTo}, Runs.{cells_of, cell_in, IsRunFrom}, Stretch.{bytes_from, IsPart}, declared.run.Run.{Run}}
+use Rattle.hc_sparse.specs.{Cells.{Cells, Covers, GoesTo}, Runs.{cells_of, IsRunFrom}, Stretch.{bytes_from, IsPart}, declared.run.Run.{Run}}
 use Rattle.hc_sparse.proofs.StretchLemmas.{bytes-append}
 
 -- What a part has of a stretch.
@@ -10,9 +10,8 @@ part-of f p x bytes most is =
     let part : List ℕ = take most bytes in
     let len : length part ≤ most = omega (arith, length-take most bytes) in
     let short : length part ≤ length bytes = omega (arith, length-take most bytes) in
-    let e : most ≡ length part + (most - length part) = omega arith in
     let run = bytes-append f x part p (most - length part) (λ i lt. is.each i (omega arith) ∙ rw (get_or-take most bytes i 0 (omega arith)) refl) in
-    ap (λ k. bytes_from f x p k) e ∙ run
+    ap (λ k. bytes_from f x p k) (omega arith) ∙ run
 
 -- The first byte of a part is at its position.
 pub part-here : (f : Cells) (p x : ℕ) (bytes : List ℕ) → IsPart f p x bytes → f p ≡ Some (record { byte = get_or bytes 0 0; x = x })
@@ -27,15 +26,4 @@ covers-on f lo p end on before q ge lt = elim (split q p) [
 
 -- The rest of a run is a part.
 pub run-is_part : (rs : List Run) (p : ℕ) (r : Run) → IsRunFrom rs p r → r.at ≤ p → IsPart (cells_of rs) p r.x (drop (p - r.at) r.bytes)
-run-is_part rs p r has lo =
-    let past = has.past in
-    let end = has.end in
-    let len = length-drop (p - r.at) r.bytes in
-    record {
-      some = omega arith;
-      end = omega arith;
-      each = λ i lt.
-          let at_i : cells_of rs (p + i) ≡ cell_in r (p + i) = has.cells (p + i) (omega arith) (omega arith) in
-          let place : p + i - r.at ≡ p - r.at + i = omega arith in
-          at_i ∙ rw (place, get_or-drop (p - r.at) r.bytes i 0) refl;
-    }
+run-is_part rs p r has lo = search (arith, length-drop, get_or-drop)

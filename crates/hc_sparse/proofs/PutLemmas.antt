@@ -4,10 +4,10 @@
 -- and those behind it begin past its end (`ascend-inserted`). The bytes are those with the new ones, since writes at
 -- other positions may change places (`written-written`). A run that ends where the bytes begin is made longer instead
 -- (`ascend-lengthened`, `cells-lengthened`). `put-inserted` and `put-lengthened` say each of the function that puts.
-use Rattle.std.{proofs.{Common.{◌≡◌, inl, inr, ℕ, zero, suc, ◌+◌, ◌-◌, ◌<◌, ◌≤◌, ◌^◌, List, [], ◌∷◌, length, Bool, true, false, cond, Option, Some, None, refl, sym, ap, ◌∙◌, arith, add-one, get_or, length-append, set}, lemmas.Bool.Decides.{nat_tests}}, specs.List.{insert}}
+use Rattle.std.{proofs.{Common.{◌≡◌, inl, inr, ℕ, zero, suc, ◌+◌, ◌-◌, ◌<◌, ◌≤◌, ◌^◌, List, [], ◌∷◌, length, true, Some, None, refl, sym, ◌∙◌, arith, add-one, get_or, length-append, set}, lemmas.Bool.Decides.{nat_tests}}, specs.List.{insert}}
 use Rattle.hc_text.proofs.Basics.{le_or as le_cases}
-use Rattle.hc_sparse.specs.{Cells.{Cells, Cell, cells_with, inside, AreAbsent}, Runs.{cells_of, cell_in, ascend, place_of, end_of, longer_run}, declared.run.Run.{Run}}
-use Rattle.hc_sparse.proofs.{CellLemmas.{inside-yes, inside-past, inside-cases, written-append}, RunLemmas.{ascend-cons, ascend-with, at-from}}
+use Rattle.hc_sparse.specs.{Cells.{Cells, cells_with, inside, AreAbsent}, Runs.{cells_of, cell_in, ascend, place_of, end_of, longer_run}, declared.run.Run.{Run}}
+use Rattle.hc_sparse.proofs.{CellLemmas.{inside-yes, inside-past, inside-cases, two-writes, written-append}, RunLemmas.{ascend-cons, ascend-with, at-from}}
 
 -- Runs among which nothing is up to a position ascend from there.
 ascend-past : (n m : ℕ) (rs : List Run) → ascend n rs ≡ true → AreAbsent (cells_of rs) n m → m ≤ 2 ^ 62 → ascend m rs ≡ true
@@ -19,20 +19,11 @@ ascend-past n m (r ∷ rs) asc absent end =
       | inr near ↦ absurd (let gone = absent r.at parts.0 near.1 in let never : cell_in r r.at ≡ None = rw (inside-yes r.at (length r.bytes) r.at (omega arith) (omega arith)) at gone in cc)
     ]
 
-two-writes : (a b : Bool) (v w o : Option Cell) → (a ≡ true → b ≡ true → v ≡ w) → cond a v (cond b w o) ≡ cond b w (cond a v o)
-two-writes true true v w o same = same refl refl
-two-writes true false v w o same = refl
-two-writes false true v w o same = refl
-two-writes false false v w o same = refl
-
 -- Writes at positions of which none are the same may change places.
 written-written : (r : Run) (at x : ℕ) (bytes : List ℕ) (f : Cells) → end_of r ≤ at → (p : ℕ) → cells_with r.at r.x r.bytes (cells_with at x bytes f) p ≡ cells_with at x bytes (cells_with r.at r.x r.bytes f) p
 written-written r at x bytes f past p =
     two-writes (inside r.at (length r.bytes) p) (inside at (length bytes) p) (cell_in r p) (Some (record { byte = get_or bytes (p - at) 0; x = x })) (f p)
-    (λ a b. elim (inside-cases r.at (length r.bytes) p) [
-      | inr off ↦ absurd (let never : false ≡ true = sym off.0 ∙ a in cc)
-      | inl here ↦ elim (inside-cases at (length bytes) p) [ inr off ↦ absurd (let never : false ≡ true = sym off.0 ∙ b in cc) | inl there ↦ absurd (omega arith) ]
-    ])
+    (λ a b. grind (arith, nat_tests))
 
 insert-more : (new r : Run) (rs : List Run) (k : ℕ) → insert (r ∷ rs) (k + 1) new ≡ r ∷ insert rs k new
 insert-more new r rs k = rw (add-one k) refl
@@ -82,9 +73,7 @@ ascend-lengthened : (n i : ℕ) (rs : List Run) (d : Run) (more : List ℕ) → 
 ascend-lengthened n i [] d more asc lt absent end = absurd (omega arith)
 ascend-lengthened n zero (r ∷ rs) d more asc lt absent end =
     let parts = ascend-cons n r rs asc in
-    let len = length-append r.bytes more in
-    let ends : end_of (longer_run r more) ≡ end_of r + length more = omega arith in
-    ascend-with n (longer_run r more) rs parts.0 (omega arith) (rw ends (ascend-past (end_of r) (end_of r + length more) rs parts.2 (absent-behind r rs (end_of r) (end_of r + length more) (omega arith) absent) end))
+    grind (arith, nat_tests, length-append, end_of, ascend-with, ascend-past, absent-behind)
 ascend-lengthened n (suc i) (r ∷ rs) d more asc lt absent end =
     let parts = ascend-cons n r rs asc in
     let from = at-from (end_of r) rs i d parts.2 (omega arith) in
@@ -101,21 +90,9 @@ pub record IsPut (rs ss : List Run) (at x : ℕ) (bytes : List ℕ) : Type 0 whe
   pub cells : (p : ℕ) → cells_of ss p ≡ cells_with at x bytes (cells_of rs) p
 
 pub put-inserted : (rs ss : List Run) (new : Run) (place : ℕ) → ascend 0 rs ≡ true → AreAbsent (cells_of rs) new.at (end_of new) → 0 < length new.bytes → end_of new ≤ 2 ^ 62 → place ≡ place_of new.at rs → ss ≡ insert rs place new → IsPut rs ss new.at new.x new.bytes
-put-inserted rs ss new place asc absent some end there is =
-    let at-place : ss ≡ insert rs (place_of new.at rs) new = is ∙ ap (λ k. insert rs k new) there in
-    record {
-      ascends = ap (ascend 0) at-place ∙ ascend-inserted 0 new rs asc absent some (omega arith) end;
-      cells = λ p. ap (λ ts. cells_of ts p) at-place ∙ cells-inserted 0 new rs asc absent p;
-    }
+put-inserted rs ss new place asc absent some end there is = search (arith, ascend-inserted, cells-inserted)
 
 pub put-lengthened : (rs ss : List Run) (i : ℕ) (r s : Run) (at x : ℕ) (more : List ℕ) → ascend 0 rs ≡ true → i < length rs → r ≡ get_or rs i r → s ≡ get_or rs i s → s.x ≡ x → end_of s ≡ at → AreAbsent (cells_of rs) at (at + length more) → at + length more ≤ 2 ^ 62 → ss ≡ set rs i (longer_run r more) → IsPut rs ss at x more
 put-lengthened rs ss i r s at x more asc lt r-is s-is of_x ends absent end is =
     let same : get_or rs i r ≡ s = sym r-is ∙ same-at rs i r s lt r-is s-is in
-    let longer : ss ≡ set rs i (longer_run (get_or rs i r) more) = is ∙ ap (λ t. set rs i (longer_run t more)) r-is in
-    let at-end : end_of (get_or rs i r) ≡ at = ap end_of same ∙ ends in
-    let with-x : (get_or rs i r).x ≡ x = ap (λ (t : Run). t.x) same ∙ of_x in
-    let fresh : AreAbsent (cells_of rs) (end_of (get_or rs i r)) (end_of (get_or rs i r) + length more) = rw at-end absent in
-    record {
-      ascends = ap (ascend 0) longer ∙ ascend-lengthened 0 i rs r more asc lt fresh (rw at-end end);
-      cells = λ p. ap (λ ts. cells_of ts p) longer ∙ (cells-lengthened 0 i rs r more asc lt fresh p ∙ rw (at-end, with-x) refl);
-    }
+    grind (arith, nat_tests, end_of, ascend-lengthened, cells-lengthened)

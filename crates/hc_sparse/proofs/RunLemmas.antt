@@ -92,8 +92,7 @@ partitioned n p [] asc i j d le lt by = absurd (omega arith)
 partitioned n p (r ∷ rs) asc zero zero d le lt by = by
 partitioned n p (r ∷ rs) asc zero (suc j) d le lt by =
     let parts = ascend-cons n r rs asc in
-    let past = at-from (end_of r) rs j d parts.2 (omega arith) in
-    le-leb (end_of r) p (let far = leb-true (end_of (get_or rs j d)) p by in omega arith)
+    grind (arith, nat_tests, at-from, end_of, le-leb, leb-true)
 partitioned n p (r ∷ rs) asc (suc i) zero d le lt by = absurd (omega arith)
 partitioned n p (r ∷ rs) asc (suc i) (suc j) d le lt by =
     partitioned (end_of r) p rs (ascend-cons n r rs asc).2 i j d (omega arith) (omega arith) by
@@ -102,14 +101,9 @@ pub place-is : (p : ℕ) (rs : List Run) (i : ℕ) → i ≤ length rs → IsPar
 place-is p [] i le point = omega arith
 place-is p (r ∷ rs) zero le point = rw (point.1 0 r (omega arith) (omega arith)) refl
 place-is p (r ∷ rs) (suc i) le point =
-    let here : nat_le (end_of r) p ≡ true = point.0 0 r (omega arith) (omega arith) in
     let rest = place-is p rs i (omega arith) ((λ k d lo hi. point.0 (suc k) d (omega arith) (omega arith)), (λ k d lo hi. point.1 (suc k) d (omega arith) (omega arith))) in
-    rw here (omega arith)
+    rw (point.0 0 r (omega arith) (omega arith)) (omega arith)
 
 -- The first position of that run from there on is the next that is present.
 pub next-is : (rs : List Run) (p n : ℕ) (r : Run) → IsRunFrom rs p r → n ≡ max r.at p → IsNext (cells_of rs) p (Some n)
-next-is rs p n r has is =
-    let some = has.some in
-    let past = has.past in
-    let from : p ≤ n = omega arith in
-    (from, rw (has.cells n (omega arith) (omega arith)) refl, λ q ge lt. has.before q ge (omega arith))
+next-is rs p n r has is = grind (arith, nat_tests)

@@ -1,8 +1,7 @@
 -- At how many positions something is.
-use Rattle.std.{proofs.Common.{◌≡◌, inl, inr, ℕ, suc, zero, ◌+◌, ◌-◌, ◌≤◌, ◌^◌, List, length, true, false, cond, None, refl, ap, ◌∙◌, arith, min}, specs.Prelude.{is_some}}
+use Rattle.std.{proofs.{lemmas.Bool.Decides.{nat_tests}, Common.{◌≡◌, ℕ, suc, zero, ◌+◌, ◌-◌, ◌≤◌, ◌^◌, List, length, true, false, cond, None, refl, ap, ◌∙◌, arith, min}}, specs.Prelude.{is_some}}
 use mathlib.Core.Path.{fun_ext}
 use Rattle.hc_sparse.specs.Cells.{Cells, cells_with, AreAbsent, size, size_below}
-use Rattle.hc_sparse.proofs.CellLemmas.{inside-cases}
 
 below-none : (f : Cells) (n : ℕ) → ((p : ℕ) → f p ≡ None) → size_below f n ≡ 0
 unfolding size_below
@@ -30,10 +29,7 @@ unfolding size_below
 below-written f from x bytes zero absent = omega arith
 below-written f from x bytes (suc n) absent =
     let rest = below-written f from x bytes n absent in
-    elim (inside-cases from (length bytes) n) [
-      | inl here ↦ rw (here.0, absent n here.1 here.2) (omega arith)
-      | inr off ↦ rw off.0 (omega arith)
-    ]
+    grind (arith, nat_tests)
 
 pub size-written : (f : Cells) (from x : ℕ) (bytes : List ℕ) → AreAbsent f from (from + length bytes) → from + length bytes ≤ 2 ^ 62 → size (cells_with from x bytes f) ≡ size f + length bytes
 unfolding size

@@ -1,5 +1,5 @@
 -- Spans that somebody has.
-use Rattle.std.{proofs.{Common.{◌≡◌, ◌≢◌, inl, inr, ℕ, Some, None, refl, sym, ◌∙◌, ◌+◌, arith}, lemmas.{Bool.{cases_eq}, Grind.{common_steps}}}, specs.{Ordering.{nat_cmp}, BTreeMap.{BTreeMap, get, Updates}}}
+use Rattle.std.{proofs.{Common.{◌≡◌, ◌≢◌, inl, inr, ℕ, Some, None, refl, sym, ◌∙◌, ◌+◌, arith}, lemmas.Bool.{cases_eq}}, specs.{Ordering.{nat_cmp}, BTreeMap.{BTreeMap, get, Updates}}}
 use Rattle.hc_text.proofs.Basics.{lt_or as split}
 use Rattle.hc_sparse.specs.{Extents.{Marks, HaveAll, claimed_marks}, SpanMaps.{IsSpan, AllHad}}
 use Rattle.hc_sparse.proofs.CellLemmas.{inside-yes, inside-cases}
@@ -11,11 +11,7 @@ pub record IsJoined (m n : BTreeMap ℕ ℕ) (at begin last : ℕ) : Type 0 wher
   pub others : (q : ℕ) → at ≢ q → last ≢ q → get nat_cmp n q ≡ get nat_cmp m q
 
 pub joined : (m n k : BTreeMap ℕ ℕ) (at begin last : ℕ) → Updates nat_cmp m n last (Some begin) → Updates nat_cmp n k at None → IsJoined m k at begin last
-joined m n k at begin last put taken = record {
-  gone = taken.1;
-  put = λ apart. grind (arith, common_steps);
-  others = λ q apart other. grind (arith, common_steps);
-}
+joined m n k at begin last put taken = search arith
 
 pub all-between : (f : Marks) (begin at end last : ℕ) → HaveAll f begin at → HaveAll f at end → HaveAll f end last → HaveAll f begin last
 all-between f begin at end last before own behind q ge lt = elim (split q at) [
@@ -25,7 +21,6 @@ all-between f begin at end last before own behind q ge lt = elim (split q at) [
 
 begins-there : (n : BTreeMap ℕ ℕ) (f : Marks) (begin last lo hi : ℕ) → IsSpan n begin last → HaveAll f begin last → IsSpan n lo hi → last ≡ hi → HaveAll f lo hi
 begins-there n f begin last lo hi put all there same =
-    let here : IsSpan n begin hi = rw same at put in
     let one : begin ≡ lo = cc in
     rw (← one, ← same) all
 

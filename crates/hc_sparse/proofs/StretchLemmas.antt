@@ -14,11 +14,10 @@ pub bytes-append : (f : Cells) (x : ℕ) (bytes : List ℕ) (p m : ℕ) → ((i 
 bytes-append f x [] p m h = rw (zero-add m) (let e : p + 0 ≡ p = omega arith in rw e refl)
 bytes-append f x (b ∷ bs) p m h =
     let more : length (b ∷ bs) + m ≡ suc (length bs + m) = omega arith in
-    let here : f p ≡ Some (record { byte = b; x = x }) = (let e : p + 0 ≡ p = omega arith in rw e at (h 0 (omega arith))) in
     let ends : p + length (b ∷ bs) ≡ p + 1 + length bs = omega arith in
     let same : eqb x x ≡ true = grind (arith, nat_tests) in
     let rest = bytes-append f x bs (p + 1) m (λ i lt. let e : p + 1 + i ≡ p + suc i = omega arith in rw e (h (suc i) (omega arith))) in
-    rw (more, here, same, ends, rest) refl
+    rw (more, (let e : p + 0 ≡ p = omega arith in rw e at (h 0 (omega arith))), same, ends, rest) refl
 
 -- Bytes of x from p on, at most n, behind which none of x stands where there are fewer.
 pub record IsFront (f : Cells) (x p n : ℕ) (bytes : List ℕ) : Type 0 where
@@ -30,27 +29,10 @@ cell-of : (cell : Cell) (x : ℕ) → cell.x ≡ x → cell ≡ record { byte = 
 cell-of cell x same = rw (← same) refl
 
 each-of : (f : Cells) (x p : ℕ) (rest : List ℕ) (cell : Cell) → f p ≡ Some (record { byte = cell.byte; x = x }) → ((i : ℕ) → i < length rest → f (p + 1 + i) ≡ Some (record { byte = get_or rest i 0; x = x })) → (i : ℕ) → i < suc (length rest) → f (p + i) ≡ Some (record { byte = get_or (cell.byte ∷ rest) i 0; x = x })
-each-of f x p rest cell here each zero lt = let at-p : p + 0 ≡ p = omega arith in rw at-p here
-each-of f x p rest cell here each (suc i) lt = let at-next : p + suc i ≡ p + 1 + i = omega arith in rw at-next (each i (omega arith))
+each-of f x p rest cell here each i lt = grind (arith, nat_tests)
 
 front-of : (f : Cells) (x p n : ℕ) (rest : List ℕ) → IsFront f x (p + 1) n rest → (o : Option Cell) → f p ≡ o → IsFront f x p (suc n) (goes_on x o rest)
-front-of f x p n rest front None e = record {
-  most = omega arith;
-  each = λ i lt. absurd (omega arith);
-  ends = λ _ byte is. let at-p : p + 0 ≡ p = omega arith in let here = rw at-p at is in cc;
-}
-front-of f x p n rest front (Some cell) e = elim (eqb_tells cell.x x) [
-  | inr off ↦ rw off.0 (record {
-    most = omega arith;
-    each = λ i lt. absurd (omega arith);
-    ends = λ _ byte is. let at-p : p + 0 ≡ p = omega arith in let here = rw at-p at is in off.1 cc;
-  })
-  | inl same ↦ rw same.0 (record {
-    most = let most = front.most in omega arith;
-    each = λ i lt. each-of f x p rest cell (e ∙ ap Some (cell-of cell x same.1)) front.each i lt;
-    ends = λ lt byte is. front.ends (omega arith) byte (let at-next : p + 1 + length rest ≡ p + suc (length rest) = omega arith in rw at-next is);
-  })
-]
+front-of f x p n rest front o e = grind (arith, nat_tests)
 
 pub front : (f : Cells) (x p n : ℕ) → IsFront f x p n (bytes_from f x p n)
 front f x p zero = record { most = omega arith; each = λ i lt. absurd (omega arith); ends = λ lt. absurd (omega arith) }
@@ -69,19 +51,17 @@ front-unique f x p zero [] is = refl
 front-unique f x p zero (b ∷ bs) is = absurd (let most = is.most in omega arith)
 front-unique f x p (suc n) [] is = first-of f x p n (f p) (bytes_from f x (p + 1) n) refl is
 front-unique f x p (suc n) (b ∷ bs) is =
-    let here : f p ≡ Some (record { byte = b; x = x }) = (let at-p : p + 0 ≡ p = omega arith in rw at-p at (is.each 0 (omega arith))) in
     let same : eqb x x ≡ true = grind (arith, nat_tests) in
     let rest : bytes_from f x (p + 1) n ≡ bs = front-unique f x (p + 1) n bs (record {
       most = let most = is.most in omega arith;
       each = λ i lt. let at-next : p + 1 + i ≡ p + suc i = omega arith in rw at-next (is.each (suc i) (omega arith));
       ends = λ lt byte there. is.ends (omega arith) byte (let at-next : p + suc (length bs) ≡ p + 1 + length bs = omega arith in rw at-next there);
     }) in
-    rw (here, same, rest) refl
+    rw ((let at-p : p + 0 ≡ p = omega arith in rw at-p at (is.each 0 (omega arith))), same, rest) refl
 
 -- Fewer bytes are the first of more.
 front-take : (x n : ℕ) (o : Option Cell) (rest : List ℕ) → take (suc n) (goes_on x o rest) ≡ goes_on x o (take n rest)
-front-take x n None rest = refl
-front-take x n (Some cell) rest = elim (eqb_tells cell.x x) [ inl same ↦ rw same.0 refl | inr off ↦ rw off.0 refl ]
+front-take x n o rest = grind (arith, nat_tests)
 
 pub bytes-take : (f : Cells) (x p n m : ℕ) → n ≤ m → take n (bytes_from f x p m) ≡ bytes_from f x p n
 bytes-take f x p zero m le = refl
@@ -94,24 +74,17 @@ bytes-same f g x p zero same = refl
 bytes-same f g x p (suc n) same = rw (same p (omega arith), bytes-same f g x (p + 1) n (λ q le. same q (omega arith))) refl
 
 absent-of : (f : Cells) (p want : ℕ) (o : Option Cell) → (stretch_of f p want o ≡ None) ↔ (o ≡ None)
-absent-of f p want None = (λ _. refl, λ _. refl)
-absent-of f p want (Some cell) = (λ e. absurd cc, λ e. absurd cc)
+absent-of f p want o = grind (arith, nat_tests)
 
 pub stretch-absent : (f : Cells) (p want : ℕ) → (stretch f p want ≡ None) ↔ (f p ≡ None)
 unfolding stretch
 stretch-absent f p want = absent-of f p want (f p)
 
 some-there : (f : Cells) (p want : ℕ) (cell : Cell) → f p ≡ Some cell → 0 < want → 0 < length (bytes_from f cell.x p want)
-some-there f p want cell here some = elim (split 0 (length (bytes_from f cell.x p want))) [
-  | inl more ↦ more
-  | inr none ↦ absurd ((front f cell.x p want).ends (omega arith) cell.byte (let at-p : p + length (bytes_from f cell.x p want) ≡ p = omega arith in rw at-p here))
-]
+some-there f p want cell here some = grind (arith, nat_tests)
 
 longest-of : (f : Cells) (p want : ℕ) (o : Option Cell) → f p ≡ o → 0 < want → IfSome (stretch_of f p want o) (λ run. IsLongest f p want run)
-longest-of f p want None here some = tt
-longest-of f p want (Some cell) here some =
-    let is = front f cell.x p want in
-    record { from = refl; some = some-there f p want cell here some; most = is.most; each = is.each; ends = is.ends }
+longest-of f p want o here some = search (arith, front, some-there)
 
 pub stretch-longest : (f : Cells) (p want : ℕ) → 0 < want → IfSome (stretch f p want) (λ run. IsLongest f p want run)
 unfolding stretch
@@ -119,21 +92,15 @@ stretch-longest f p want some = longest-of f p want (f p) refl some
 
 pub stretch-only : (f : Cells) (p want : ℕ) (run : Run) → IsLongest f p want run → stretch f p want ≡ Some run
 unfolding stretch
-stretch-only f p want run is =
-    let here : f p ≡ Some (record { byte = get_or run.bytes 0 0; x = run.x }) = (let at-p : p + 0 ≡ p = omega arith in rw at-p at (is.each 0 is.some)) in
-    let bytes : bytes_from f run.x p want ≡ run.bytes = front-unique f run.x p want run.bytes (record { most = is.most; each = is.each; ends = is.ends }) in
-    rw (here, bytes, ← is.from) refl
+stretch-only f p want run is = search (arith, bytes_from, front-unique)
 
 -- What a put changes.
 same-of : (f g : Cells) (p want : ℕ) (o : Option Cell) → ((cell : Cell) → o ≡ Some cell → bytes_from g cell.x p want ≡ bytes_from f cell.x p want) → stretch_of g p want o ≡ stretch_of f p want o
-same-of f g p want None same = refl
-same-of f g p want (Some cell) same = rw (same cell refl) refl
+same-of f g p want o same = grind (arith, nat_tests)
 
 pub stretch-behind : (f : Cells) (at x : ℕ) (bytes : List ℕ) (p want : ℕ) → at + length bytes ≤ p → stretch (cells_with at x bytes f) p want ≡ stretch f p want
 unfolding stretch
-stretch-behind f at x bytes p want past =
-    let kept = λ (q : ℕ) (le : p ≤ q). inside-past at (length bytes) q (omega arith) in
-    rw (inside-past at (length bytes) p past) (same-of f (cells_with at x bytes f) p want (f p) (λ cell _. bytes-same (cells_with at x bytes f) f cell.x p want (λ q le. rw (kept q le) refl)))
+stretch-behind f at x bytes p want past = search (arith, inside-past, same-of, bytes-same)
 
 bytes-of_other : (f : Cells) (at x y : ℕ) (bytes : List ℕ) (p n : ℕ) → AreAbsent f at (at + length bytes) → y ≢ x → bytes_from (cells_with at x bytes f) y p n ≡ bytes_from f y p n
 bytes-of_other f at x y bytes p zero absent other = refl
@@ -144,15 +111,11 @@ bytes-of_other f at x y bytes p (suc n) absent other = elim (inside-cases at (le
 
 pub stretch-of_other : (f : Cells) (at x : ℕ) (bytes : List ℕ) (p want : ℕ) (cell : Cell) → AreAbsent f at (at + length bytes) → f p ≡ Some cell → cell.x ≢ x → stretch (cells_with at x bytes f) p want ≡ stretch f p want
 unfolding stretch
-stretch-of_other f at x bytes p want cell absent here other = elim (inside-cases at (length bytes) p) [
-  | inl in-put ↦ absurd (let gone = absent p in-put.1 in-put.2 in cc)
-  | inr out ↦ rw (out.0, here, bytes-of_other f at x cell.x bytes p want absent other) refl
-]
+stretch-of_other f at x bytes p want cell absent here other = search (arith, inside-cases, bytes-of_other)
 
 reached-length : (f : Cells) (x p at : ℕ) → p ≤ at → AreOf x f p at → length (bytes_from f x p (at - p)) ≡ at - p
 reached-length f x p at le of_x =
     let is = front f x p (at - p) in
-    let most = is.most in
     elim (split (length (bytes_from f x p (at - p))) (at - p)) [
       | inr all ↦ omega arith
       | inl less ↦ absurd (let there = of_x (p + length (bytes_from f x p (at - p))) (omega arith) (omega arith) in is.ends less there.0 there.1)

@@ -4,7 +4,8 @@
 -- another one; the others stand in it as before (`others`). So the order stays, gets the row first, or loses it
 -- (`ordered-same`, `ordered-first`, `ordered-out`). Then what a row admits, and what is left where somebody leaves: a
 -- row that isn't over has somebody or isn't gone (`kept-left`), and one that is over was gone (`gone-left`).
-use Rattle.std.{proofs.{Common.{◌≡◌, ℕ, List, ◌∷◌, Bool, true, false, not, eqb, Option, Some, None, refl, sym, ap, ◌∙◌, inl, inr, arith}, lemmas.Bool.{cases_Bool, and_parts, eqb-true, Decides.{nat_tests}}}, specs.Prelude.{is_some, is_none, option_map, ◌&&◌}}
+use Rattle.std.{proofs.{Common.{◌≡◌, ℕ, List, ◌∷◌, true, false, not, eqb, Option, Some, None, refl, sym, ap, ◌∙◌, inl, inr, arith}, lemmas.Bool.{cases_Bool, and_parts, eqb-true, Decides.{nat_tests}}}, specs.Prelude.{is_some, is_none, option_map, ◌&&◌}}
+use Rattle.hc_text.proofs.Basics.{not_true}
 use Rattle.hc_sorted.specs.Sorted.{is_sorted, has, without}
 use Rattle.hc_sorted.proofs.SortedLemmas.{has-without}
 use Rattle.hc_store.specs.Slots.{Held, Slots}
@@ -35,56 +36,44 @@ module _ {rows : Rows} {order : List ℕ} {slots : Slots} (good : AreShelved row
   here q same = ap rows (eqb-true r q same)
 
   module _ {new_rows : Rows} (f : Row → Row) (changes : Changes f r rows new_rows) where
-    off-row : (q : ℕ) → eqb r q ≡ false → new_rows q ≡ rows q
-    off-row q off = changes q ∙ rw off refl
-
-    on-row : (q : ℕ) → eqb r q ≡ true → new_rows q ≡ option_map f (rows r)
-    on-row q same = changes q ∙ rw same refl
-
     pub ordered-same : ((a : Row) → (f a).is_gone ≡ a.is_gone) → (q : ℕ) → has itself q order ≡ is_current (new_rows q)
     ordered-same same q = good.ordered q ∙ elim (cases_Bool (eqb r q)) [
-      | inl on ↦ ap is_current (sym (here q on)) ∙ (sym (current-same f same (rows r)) ∙ sym (ap is_current (on-row q on)))
-      | inr off ↦ sym (ap is_current (off-row q off))
+      | inl on ↦ rw (changes q, on) (ap is_current (sym (here q on)) ∙ sym (current-same f same (rows r)))
+      | inr off ↦ rw (changes q, off) refl
     ]
 
     pub ordered-first : is_current (rows r) ≡ true → ((a : Row) → (f a).is_gone ≡ a.is_gone) → (q : ℕ) → has itself q (r ∷ without itself r order) ≡ is_current (new_rows q)
     ordered-first current same q = elim (cases_Bool (eqb r q)) [
-      | inl on ↦ rw on (sym current ∙ (sym (current-same f same (rows r)) ∙ sym (ap is_current (on-row q on))))
-      | inr off ↦ rw off (others q off ∙ sym (ap is_current (off-row q off)))
+      | inl on ↦ rw (changes q, on) (sym current ∙ sym (current-same f same (rows r)))
+      | inr off ↦ rw (changes q, off) (others q off)
     ]
 
   pub ordered-going : {new_rows : Rows} → Changes going r rows new_rows → (q : ℕ) → has itself q (without itself r order) ≡ is_current (new_rows q)
   ordered-going changes q = elim (cases_Bool (eqb r q)) [
-    | inl on ↦ not-itself q on ∙ (sym (current-going (rows r)) ∙ sym (ap is_current (on-row going changes q on)))
-    | inr off ↦ others q off ∙ sym (ap is_current (off-row going changes q off))
+    | inl on ↦ rw (changes q, on) (not-itself q on ∙ sym (current-going (rows r)))
+    | inr off ↦ rw (changes q, off) (others q off)
   ]
 
   module _ {new_rows : Rows} (new : Option Row) (changes : (q : ℕ) → new_rows q ≡ with_row r new rows q) where
-    off-it : (q : ℕ) → eqb r q ≡ false → new_rows q ≡ rows q
-    off-it q off = changes q ∙ rw off refl
-
-    on-it : (q : ℕ) → eqb r q ≡ true → new_rows q ≡ new
-    on-it q same = changes q ∙ rw same refl
-
     -- it wasn't in the order
     pub ordered-left : is_current (rows r) ≡ false → is_current new ≡ false → (q : ℕ) → has itself q order ≡ is_current (new_rows q)
     ordered-left was is q = good.ordered q ∙ elim (cases_Bool (eqb r q)) [
-      | inl on ↦ ap is_current (sym (here q on)) ∙ (was ∙ (sym is ∙ sym (ap is_current (on-it q on))))
-      | inr off ↦ sym (ap is_current (off-it q off))
+      | inl on ↦ rw (changes q, on) (ap is_current (sym (here q on)) ∙ (was ∙ sym is))
+      | inr off ↦ rw (changes q, off) refl
     ]
 
     -- it is taken out of the order
     pub ordered-out : is_current new ≡ false → (q : ℕ) → has itself q (without itself r order) ≡ is_current (new_rows q)
     ordered-out is q = elim (cases_Bool (eqb r q)) [
-      | inl on ↦ not-itself q on ∙ (sym is ∙ sym (ap is_current (on-it q on)))
-      | inr off ↦ others q off ∙ sym (ap is_current (off-it q off))
+      | inl on ↦ rw (changes q, on) (not-itself q on ∙ sym is)
+      | inr off ↦ rw (changes q, off) (others q off)
     ]
 
     -- it is put first
     pub ordered-more : is_current new ≡ true → (q : ℕ) → has itself q (r ∷ order) ≡ is_current (new_rows q)
     ordered-more is q = elim (cases_Bool (eqb r q)) [
-      | inl on ↦ rw on (sym is ∙ sym (ap is_current (on-it q on)))
-      | inr off ↦ rw off (good.ordered q ∙ sym (ap is_current (off-it q off)))
+      | inl on ↦ rw (changes q, on) (sym is)
+      | inr off ↦ rw (changes q, off) (good.ordered q)
     ]
 
 -- WHAT A ROW ADMITS
@@ -93,10 +82,7 @@ current-kept : (c : ℕ) (row : Row) (o : Option Held) → admits c (option_map 
 current-kept c row None admits = absurd (let never : false ≡ true = admits in cc)
 current-kept c row (Some held) admits =
     let parts = and_parts (not row.is_gone) (not (has itself c row.bound)) admits in
-    (parts.0, not-true (has itself c row.bound) parts.1) where
-      not-true : (b : Bool) → not b ≡ true → b ≡ false
-      not-true true is = absurd (let never : false ≡ true = is in cc)
-      not-true false is = refl
+    (parts.0, not_true (has itself c row.bound) parts.1)
 
 -- it is current, and the consumer isn't bound to it
 pub admits-row : (slots : Slots) (c : ℕ) (o : Option Row) → admits c (kept_by slots o) ≡ true → (n : ℕ) × (slot_at o ≡ Some n) × (is_current o ≡ true) × (has itself c (users_at o) ≡ false)

@@ -94,8 +94,7 @@ module _ {V : Type 0} where
   pub keys-promoted : (n : ℕ) (es : List (ℕ × V)) → has itself n (keys_of es) ≡ true → IsDistinct nat_eq (keys_of es)
       → keys_of (promoted (nat_eq n) es) ≡ n ∷ without itself n (keys_of es)
   keys-promoted n es there distinct =
-      let found = found-key n es there in
-      rw found.1 (ap (λ (ns : List ℕ). n ∷ ns) (keys-removed n es distinct))
+      rw (found-key n es there).1 (ap (λ (ns : List ℕ). n ∷ ns) (keys-removed n es distinct))
 
   pub keys-put : (n : ℕ) (v : V) (c : LruCache ℕ V) → has itself n (keys_of c.entries) ≡ false → length c.entries ≤ c.cap - 1
       → keys_of (put_entries nat_eq c n v) ≡ n ∷ keys_of c.entries
@@ -104,6 +103,4 @@ module _ {V : Type 0} where
 
 -- in a list in which it stands first
 pub distinct-promoted : (n : ℕ) (ns : List ℕ) → IsDistinct nat_eq ns → IsDistinct nat_eq (n ∷ without itself n ns)
-distinct-promoted n ns distinct =
-    let off : has itself n (without itself n ns) ≡ false = let e = has-without n n ns in grind (arith, nat_tests) in
-    distinct-first n (without itself n ns) off (distinct-without n ns distinct)
+distinct-promoted n ns distinct = search (arith, itself, has-without, distinct-first, distinct-without)

@@ -6,6 +6,7 @@
 -- `dropped-shelved` and `added-shelved` join that. Beside them stands what is kept then (`updated-kept`, `added-kept`).
 use Rattle.std.{proofs.{Common.{◌≡◌, ℕ, ◌<◌, ◌^◌, List, true, false, eqb, cond, Option, Some, None, refl, sym, ap, ◌∙◌, subst, inl, inr, arith}, Math.Logic.{∥∥₁_map}, lemmas.{Bool.{cases_Bool, eqb-true, Decides.{nat_tests}}, Grind.{merely}, Iterator.Adapters.{option_map_id}}}, specs.Prelude.{is_some, option_map}}
 use mathlib.Core.Path.{fun_ext}
+use Rattle.hc_text.proofs.Basics.{none_of}
 use Rattle.hc_sorted.specs.Sorted.{has}
 use Rattle.hc_store.specs.Slots.{Held, Slots, with_slot, slots_after, is_live, cells_held}
 use Rattle.hc_stored.specs.{Heads.{summary_of}, Kept.{Kept, itself}, Rows.{Row, Rows, with_row, Changes, kept_by, kept_of, slot_at, is_current}, Shelf.{cells_in}, Shelved.{IsShelved, Owner, AreShelved}}
@@ -29,6 +30,11 @@ module _ {rows : Rows} {order : List ℕ} {slots : Slots} (good : AreShelved row
 
   pub kept-there : (r : ℕ) (row : Row) (there : rows r ≡ Some row) → kept_by slots (rows r) ≡ Some (kept_of row (standing r row there).held)
   kept-there r row there = ap (kept_by slots) there ∙ ap (option_map (kept_of row)) (standing r row there).there
+
+-- what is kept of a row stays where its slot does
+kept-still : (slots new_slots : Slots) (o : Option Row) → ((b : Row) → o ≡ Some b → new_slots b.slot ≡ slots b.slot) → kept_by new_slots o ≡ kept_by slots o
+kept-still slots new_slots None same = refl
+kept-still slots new_slots (Some b) same = ap (option_map (kept_of b)) (same b refl)
 
 -- A CHANGE
 
@@ -97,11 +103,8 @@ module _ {rows : Rows} {order : List ℕ} {slots : Slots} (good : AreShelved row
         → (q : ℕ) → kept_by new_slots (new_rows q) ≡ cond (eqb r q) (f (kept_by slots (rows r))) (kept_by slots (rows q))
     changed-kept f is q = elim (cases_Bool (eqb r q)) [
       | inl same ↦ rw same (ap (kept_by new_slots) (now-new q same) ∙ (ap (option_map (kept_of new)) own-held ∙ (sym is ∙ ap f (sym (kept-there good r row there)))))
-      | inr off ↦ rw off (other-kept q off (rows q) refl)
-    ] where
-      other-kept : (q : ℕ) → eqb r q ≡ false → (o : Option Row) → rows q ≡ o → kept_by new_slots (new_rows q) ≡ kept_by slots (rows q)
-      other-kept q off None is = ap (kept_by new_slots) (is-old q off ∙ is) ∙ sym (ap (kept_by slots) is)
-      other-kept q off (Some b) is = ap (kept_by new_slots) (is-old q off ∙ is) ∙ (ap (option_map (kept_of b)) (other-held q b off is) ∙ sym (ap (kept_by slots) is))
+      | inr off ↦ rw (off, is-old q off) (kept-still slots new_slots (rows q) (λ b is. other-held q b off is))
+    ]
 
 -- A ROW AND ITS SLOT CHANGE
 
@@ -291,32 +294,20 @@ module _ {rows : Rows} {order : List ℕ} {slots : Slots} (good : AreShelved row
     | inr other ↦ other
   ]
 
-  kept-old : (q : ℕ) → eqb r q ≡ false → (o : Option Row) → rows q ≡ o → kept_by new_slots (new_rows q) ≡ kept_by slots (rows q)
-  kept-old q off None is =
-      let here : new_rows q ≡ None = adds q ∙ rw off is in
-      ap (kept_by new_slots) here ∙ sym (ap (kept_by slots) is)
-  kept-old q off (Some b) is =
-      let here : new_rows q ≡ Some b = adds q ∙ rw off is in
-      let slot : new_slots b.slot ≡ slots b.slot = makes b.slot ∙ rw (free-of q b is) refl in
-      ap (kept_by new_slots) here ∙ (ap (option_map (kept_of b)) slot ∙ sym (ap (kept_by slots) is))
-
   pub added-kept : (q : ℕ) → kept_by new_slots (new_rows q) ≡ cond (eqb r q) (Some (kept_of new held)) (kept_by slots (rows q))
   added-kept q = elim (cases_Bool (eqb r q)) [
     | inl same ↦ rw same (kept-new q same)
-    | inr off ↦ rw off (kept-old q off (rows q) refl)
+    | inr off ↦
+        rw (off, adds q, off) (kept-still slots new_slots (rows q) (λ b is. makes b.slot ∙ rw (free-of q b is) refl))
   ]
 
 -- A SLOT THAT IS MADE AND DROPPED AGAIN
-
-dead : (o : Option Held) → is_some o ≡ false → None ≡ o
-dead None is = refl
-dead (Some h) is = absurd (let never : true ≡ false = is in cc)
 
 pub slots-back : (n : ℕ) (o : Option Held) (slots made : Slots) → is_live slots n ≡ false → made ≡ with_slot n o slots → with_slot n None made ≡ slots
 slots-back n o slots made free is = fun_ext at-each where
   at-each : (m : ℕ) → with_slot n None made m ≡ slots m
   at-each m = elim (cases_Bool (eqb n m)) [
-    | inl same ↦ rw same (dead (slots n) free ∙ ap slots (eqb-true n m same))
+    | inl same ↦ rw same (sym (none_of (slots n) free) ∙ ap slots (eqb-true n m same))
     | inr off ↦ rw off (ap (λ (s : Slots). s m) is ∙ rw off refl)
   ]
 

@@ -4,7 +4,7 @@
 -- numbers are turned into orders and back by what std proves of them (`leb-le`, `ltb-lt`). The cases of a comparison
 -- come with both (`lt_cases`, `le_or`). Lemmas about lists go by induction or by one lemma of std. No proof here has
 -- more than a few lines. All crates use them, mostly by another name.
-use Rattle.std.{proofs.{Common.{Bool, List, None, Option, Some, [], arith, cond, drop, eqb, false, inl, inr, leb, length, ltb, map, refl, suc, sym, take, true, ℕ, ◌++◌, ◌+◌, ◌-◌, ◌<◌, ◌^◌, ◌∷◌, ◌≡◌, ◌≢◌, ◌≤◌, ◌⊎◌}, Math.Seq.{drop-append_seam}, lemmas.{Bool.Decides.{eqb_tells, nat_tests}, Fmt.{decimal_is_IsNumeral}, List.{length-drop, reverse-append, take_all}, Slice.Eq.{bytes_eq-Decides}, Str.Parse.{digit_from_value}}}, specs.{BTreeMap.{is_at}, Fmt.{decimal}, Int.{IsInRange}, List.{list_all, list_any}, Map.{lookup}, Option.{option_or}, Ordering.{nat_cmp}, Prelude.{bytes_eq, filter, find, if◌then◌else◌, is_none, is_some, min, nat_eq, nat_le, nat_lt, not, option_map, reverse, ◌&&◌, ◌==◌, ◌||◌}, Str.Parse.{AllDigits}}}
+use Rattle.std.{proofs.{Common.{Bool, List, None, Option, Some, [], arith, cond, drop, eqb, false, inl, inr, leb, length, ltb, map, refl, suc, take, true, ℕ, ◌++◌, ◌+◌, ◌-◌, ◌<◌, ◌^◌, ◌∷◌, ◌≡◌, ◌≢◌, ◌≤◌, ◌⊎◌}, Math.Seq.{drop-append_seam}, lemmas.{Bool.Decides.{eqb_tells, nat_tests}, Fmt.{decimal_is_IsNumeral}, List.{length-drop, reverse-append, take_all}, Slice.Eq.{bytes_eq-Decides}, Str.Parse.{digit_from_value}}}, specs.{BTreeMap.{is_at}, Fmt.{decimal}, Int.{IsInRange}, List.{list_all, list_any}, Map.{lookup}, Option.{option_or}, Ordering.{nat_cmp}, Prelude.{bytes_eq, filter, find, if◌then◌else◌, is_none, is_some, min, nat_eq, nat_le, nat_lt, not, option_map, reverse, ◌&&◌, ◌==◌, ◌||◌}, Str.Parse.{AllDigits}}}
 
 pub eq_itself : (d : ℕ) → nat_eq d d ≡ true
 eq_itself d = grind (arith, nat_tests)
@@ -16,16 +16,13 @@ pub true_false : {A : Type 0} → true ≡ false → A
 true_false h = absurd (let never : true ≡ false = h in cc)
 
 pub not_true : (b : Bool) → not b ≡ true → b ≡ false
-not_true true h = absurd (cc)
-not_true false h = refl
+not_true b h = grind (arith, nat_tests)
 
 pub or_right : (a b : Bool) → b ≡ true → (a || b) ≡ true
-or_right true b h = refl
-or_right false b h = h
+or_right a b h = grind (arith, nat_tests)
 
 pub or_false : (b : Bool) → (b || false) ≡ b
-or_false true = refl
-or_false false = refl
+or_false b = grind (arith, nat_tests)
 
 pub none_some : {A B : Type 0} (it : B) → None ≡ Some it → A
 none_some it h = absurd (let never : None ≡ Some it = h in cc)
@@ -34,43 +31,35 @@ pub leb-le : (m n : ℕ) → leb m n ≡ true → m ≤ n
 leb-le m n h = grind (arith, nat_tests)
 
 pub and_both : (a b : Bool) → (a && b) ≡ true → (a ≡ true) × (b ≡ true)
-and_both true true h = (refl, refl)
-and_both true false h = absurd (let never : false ≡ true = h in cc)
-and_both false b h = absurd (let never : false ≡ true = h in cc)
+and_both a b h = grind (arith, nat_tests)
 
 pub and_off : (a b : Bool) → b ≡ false → (a && b) ≡ false
-and_off true b h = h
-and_off false b h = refl
+and_off a b h = grind (arith, nat_tests)
 
 pub eq_tells : (a b : ℕ) → nat_eq a b ≡ true → a ≡ b
 eq_tells a b h = grind (arith, nat_tests)
 
 pub and_right : (a b : Bool) → (a && b) ≡ true → b ≡ true
-and_right true b h = h
-and_right false b h = absurd (let never : false ≡ true = h in cc)
+and_right a b h = grind (arith, nat_tests)
 
 pub both_true : (a b : Bool) → a ≡ true → b ≡ true → (a && b) ≡ true
-both_true true b x y = y
-both_true false b x y = x
+both_true a b x y = cc
 
 pub false_true : {P : Type 0} → false ≡ true → P
 false_true h = absurd (let never : false ≡ true = h in cc)
 
 pub none_of : {A : Type 0} (o : Option A) → is_some o ≡ false → o ≡ None
-none_of None is = refl
-none_of (Some x) is = absurd (cc)
+none_of o is = grind (arith, nat_tests)
 
 pub not_false : (b : Bool) → not b ≡ false → b ≡ true
-not_false true is = refl
-not_false false is = sym is
+not_false b is = grind (arith, nat_tests)
 
 pub bool_cases : (b : Bool) → (b ≡ true) ⊎ (b ≡ false)
 bool_cases true = inl refl
 bool_cases false = inr refl
 
 pub or_off_right : (a b : Bool) → (a || b) ≡ false → b ≡ false
-or_off_right true b h = absurd (let no_one : true ≡ false = h in cc)
-or_off_right false b h = h
+or_off_right a b h = grind (arith, nat_tests)
 
 pub or_cases : (a b : Bool) → (a || b) ≡ true → (a ≡ true) ⊎ (b ≡ true)
 or_cases true b h = inl refl
@@ -80,16 +69,13 @@ pub both_false : (a b : Bool) → a ≡ false → b ≡ false → (a || b) ≡ f
 both_false a b p q = rw (p, q) refl
 
 pub never_true : (b : Bool) → (b ≡ true → ⊥) → b ≡ false
-never_true true h = absurd (h refl)
-never_true false h = refl
+never_true b h = grind (arith, nat_tests)
 
 pub and_left : (a b : Bool) → (a && b) ≡ true → a ≡ true
-and_left true b h = refl
-and_left false b h = absurd (let never : false ≡ true = h in cc)
+and_left a b h = grind (arith, nat_tests)
 
 pub or_none : {A : Type 0} (o : Option A) → option_or o None ≡ o
-or_none None = refl
-or_none (Some a) = refl
+or_none o = grind (arith, nat_tests)
 
 pub le-leb : (m n : ℕ) → m ≤ n → leb m n ≡ true
 le-leb m n h = grind (arith, nat_tests)
@@ -101,24 +87,19 @@ pub same_some : {A : Type 0} (o : Option A) (a b : A) → o ≡ Some a → o ≡
 same_some o a b x y = cc
 
 pub or_left : (a b : Bool) → a ≡ true → (a || b) ≡ true
-or_left true b is = refl
-or_left false b is = absurd (let never : false ≡ true = is in cc)
+or_left a b is = cc
 
 pub and_none : (a : Bool) → (a && false) ≡ false
-and_none true = refl
-and_none false = refl
+and_none a = grind (arith, nat_tests)
 
 pub same_test : (a b : Bool) → (a ≡ true → b ≡ true) → (b ≡ true → a ≡ true) → a ≡ b
-same_test true b to back = sym (to refl)
-same_test false true to back = back refl
-same_test false false to back = refl
+same_test a b to back = grind (arith, nat_tests)
 
 pub plus_none : (n : ℕ) → n + 0 ≡ n
 plus_none n = omega arith
 
 pub filters_same : (f h : ℕ → Bool) → ((d : ℕ) → h d ≡ f d) → (cs : List ℕ) → filter h cs ≡ filter f cs
-filters_same f h same [] = refl
-filters_same f h same (d ∷ cs) = rw (same d, filters_same f h same cs) refl
+filters_same f h same cs = grind (arith, nat_tests)
 
 pub ltb-lt : (m n : ℕ) → ltb m n ≡ true → m < n
 ltb-lt m n h = grind (arith, nat_tests)
@@ -142,16 +123,13 @@ pub eqb-other : (c d : ℕ) → c ≢ d → eqb c d ≡ false
 eqb-other c d ne = grind (arith, nat_tests)
 
 pub none_by : {A : Type 0} (o : Option A) → is_none o ≡ true → o ≡ None
-none_by None h = refl
-none_by (Some a) h = absurd (let never : false ≡ true = h in cc)
+none_by o h = grind (arith, nat_tests)
 
 pub cond_false : {A : Type 0} (b : Bool) (x y : A) → b ≡ false → cond b x y ≡ y
-cond_false true x y h = absurd (let never : true ≡ false = h in cc)
-cond_false false x y h = refl
+cond_false b x y h = cc
 
 pub mapped : {A : Type 0} (f : A → A) (o : Option A) → is_some (option_map f o) ≡ is_some o
-mapped f None = refl
-mapped f (Some a) = refl
+mapped f o = grind (arith, nat_tests)
 
 pub nothing_first : (xs ys : List ℕ) → xs ++ ys ≡ [] → xs ≡ []
 nothing_first [] ys is = refl
@@ -162,15 +140,13 @@ any_none f [] off = refl
 any_none f (n ∷ ns) off = rw (off n, any_none f ns off) refl
 
 pub or_off_left : (a b : Bool) → (a || b) ≡ false → a ≡ false
-or_off_left true b h = h
-or_off_left false b h = refl
+or_off_left a b h = grind (arith, nat_tests)
 
 pub some_same : (v n : ℕ) → Some v ≡ Some n → v ≡ n
 some_same v n is = cc
 
 pub none_or : {A : Type 0} (q : Option A) → ((a : A) → q ≡ Some a → ⊥) → q ≡ None
-none_or None off = refl
-none_or (Some a) off = absurd (off a refl)
+none_or q off = grind (arith, nat_tests)
 
 pub leb-lt : (m n : ℕ) → leb m n ≡ false → n < m
 leb-lt m n h = grind (arith, nat_tests)
@@ -186,8 +162,7 @@ pub same_consumer : (o : Option ℕ) (a b : ℕ) → o ≡ Some a → o ≡ Some
 same_consumer o a b x y = cc
 
 pub cond_either : (b : Bool) → (b || true) ≡ true
-cond_either true = refl
-cond_either false = refl
+cond_either b = grind (arith, nat_tests)
 
 pub map_long : (f : ℕ → ℕ) (cs : List ℕ) → length (map f cs) ≡ length cs
 map_long f [] = refl
@@ -197,8 +172,7 @@ pub all_false : (p q r : Bool) → p ≡ false → q ≡ false → r ≡ false �
 all_false p q r a b d = rw (a, b, d) refl
 
 pub or_rest : (a b : Bool) → b ≡ false → (a || b) ≡ a
-or_rest true b off = refl
-or_rest false b off = off
+or_rest a b off = grind (arith, nat_tests)
 
 pub nil_cons : {A : Type 0} (x : A) (xs : List A) → [] ≡ x ∷ xs → ⊥
 nil_cons x xs is = cc
@@ -219,36 +193,28 @@ pub reverse_is : (x : ℕ) (xs : List ℕ) → reverse (x ∷ xs) ≡ reverse xs
 reverse_is x xs = reverse-append (x ∷ []) xs
 
 pub and_true : (b : Bool) → (b && true) ≡ b
-and_true true = refl
-and_true false = refl
+and_true b = grind (arith, nat_tests)
 
 pub cond_true : {A : Type 0} (b : Bool) (x y : A) → b ≡ true → cond b x y ≡ x
-cond_true true x y h = refl
-cond_true false x y h = absurd (let never : false ≡ true = h in cc)
+cond_true b x y h = cc
 
 pub number_not : (n m : ℕ) → (n ≡ m → ⊥) → nat_eq n m ≡ false
 number_not n m off = grind (arith, nat_tests)
 
 pub and_false : (a : Bool) → a && false ≡ false
-and_false true = refl
-and_false false = refl
+and_false a = grind (arith, nat_tests)
 
 pub eq_by : (a b : ℕ) → eqb a b ≡ true → a ≡ b
 eq_by a b on = grind (arith, nat_tests, on)
 
 pub finds_same : (f h : ℕ → Bool) → ((q : ℕ) → h q ≡ f q) → (qs : List ℕ) → find h qs ≡ find f qs
-finds_same f h alike [] = refl
-finds_same f h alike (q ∷ qs) = rw (alike q, finds_same f h alike qs) refl
+finds_same f h alike qs = grind (arith, nat_tests)
 
 pub both_of : (a b d : Bool) → (a && b && d) ≡ true → (a ≡ true) × (b ≡ true) × (d ≡ true)
-both_of true true true is = (refl, refl, refl)
-both_of true true false is = absurd (let never : false ≡ true = is in cc)
-both_of true false d is = absurd (let never : false ≡ true = is in cc)
-both_of false b d is = absurd (let never : false ≡ true = is in cc)
+both_of a b d is = grind (arith, nat_tests)
 
 pub filter_same : (f h : ℕ → Bool) → ((q : ℕ) → f q ≡ h q) → (qs : List ℕ) → filter f qs ≡ filter h qs
-filter_same f h same [] = refl
-filter_same f h same (q ∷ qs) = rw (same q, filter_same f h same qs) refl
+filter_same f h same qs = grind (arith, nat_tests)
 
 pub filter_short : (p : ℕ → Bool) (xs : List ℕ) → length (filter p xs) ≤ length xs
 filter_short p [] = omega arith
@@ -276,16 +242,14 @@ no_entries [] k none = refl
 no_entries (e ∷ es) k none = absurd (none (omega arith))
 
 pub asked_none : {A : Type 0} (o : Option A) → is_some o ≡ true → o ≡ None → ⊥
-asked_none None is none = cc
-asked_none (Some x) is none = cc
+asked_none o is none = cc
 
 pub none_long : (xs : List ℕ) → length xs ≡ 0 → xs ≡ []
 none_long [] none = refl
 none_long (x ∷ xs) none = absurd (omega (arith, none))
 
 pub falls : (a b : Bool) → (a ≡ true → b ≡ true) → b ≡ false → a ≡ false
-falls true b up off = absurd (let on = up refl in cc)
-falls false b up off = refl
+falls a b up off = grind (arith, nat_tests)
 
 pub either : {A : Type 0} (P : A → Type 0) (b : Bool) (x y : A) → (b ≡ true → P x) → (b ≡ false → P y) → P (cond b x y)
 either P true x y on off = on refl
@@ -295,8 +259,7 @@ pub ltb-le : (m n : ℕ) → ltb m n ≡ false → n ≤ m
 ltb-le m n h = grind (arith, nat_tests)
 
 pub turned-false : (a b : Bool) → (a ≡ true → b ≡ false) → b ≡ true → a ≡ false
-turned-false true b off on = let h = off refl in absurd (cc)
-turned-false false b off on = refl
+turned-false a b off on = grind (arith, nat_tests)
 
 pub order : (a b : ℕ) → (a < b) ⊎ ((a ≡ b) ⊎ (b < a))
 order a b = grind (arith, nat_tests)

@@ -1,5 +1,5 @@
 -- A text that is cut at the first of some byte.
-use Rattle.std.{proofs.{Common.{◌≡◌, ℕ, zero, suc, ◌+◌, ◌<◌, ◌≤◌, ◌^◌, Bool, true, false, List, [], ◌∷◌, ◌++◌, length, take, drop, get_or, Some, None, refl, sym, inl, inr, arith}, lemmas.{Bool.{cases_lt, and_parts, and_from, eqb-true, ne_eqb, both_ways, eq-eqb, lt-ltb, not_from_false, not_from_true}, Option.{none-some}, Fmt.{decimal_is_IsNumeral}, List.{take-append-drop, take_all, drop_more, Quantifiers.{position-Some}, Sums.{fails_before_first}}, Str.Parse.{digit_from_value}}}, specs.{Prelude.{◌==◌, position}, List.{position_or_len}, Fmt.{decimal}, Str.Parse.{AllDigits}}}
+use Rattle.std.{proofs.{Common.{◌≡◌, ℕ, zero, suc, ◌+◌, ◌<◌, ◌≤◌, ◌^◌, Bool, true, false, List, [], ◌∷◌, ◌++◌, length, take, drop, get_or, Some, None, refl, sym, inl, inr, arith}, lemmas.{Bool.{cases_lt, and_parts, and_from, eqb-true, ne_eqb, both_ways, eq-eqb, lt-ltb, not_from_false, not_from_true, Decides.{nat_tests}}, Option.{none-some}, Fmt.{decimal_is_IsNumeral}, List.{take-append-drop, take_all, drop_more, Quantifiers.{position-Some}, Sums.{fails_before_first}}, Str.Parse.{digit_from_value}}}, specs.{Prelude.{◌==◌, position}, List.{position_or_len}, Fmt.{decimal}, Str.Parse.{AllDigits}}}
 use Rattle.hc_text.specs.Texts.{lacks}
 
 abbrev is : ℕ → ℕ → Bool
@@ -28,11 +28,10 @@ pub record Cut (e : ℕ) (xs : List ℕ) (i : ℕ) : Type 0 where
 pub cut-position : (e : ℕ) (xs : List ℕ) (i : ℕ) → position (is e) xs ≡ Some i → Cut e xs i
 cut-position e xs i some =
     let at = position-Some (is e) xs i 0 some in
-    let byte : get_or xs i 0 ≡ e = eqb-true _ _ at.1 in
     record {
       within = at.0;
       before = lacks-take e xs i (omega (arith, at.0)) at.2;
-      whole = rw (← byte) (rw (← drop_more xs i 0 at.0) (take-append-drop i xs));
+      whole = rw (← eqb-true _ _ at.1) (rw (← drop_more xs i 0 at.0) (take-append-drop i xs));
     }
 
 -- a byte that stands in a text is not lacking
@@ -43,8 +42,7 @@ lacks-not e (u ∷ us) vs h = lacks-not e us vs (and_parts _ _ h).1
 -- there is one way to cut a text at the first of a byte
 pub cut_once : (e : ℕ) (xs ys us vs : List ℕ) → lacks e xs ≡ true → lacks e us ≡ true → xs ++ e ∷ ys ≡ us ++ e ∷ vs → (xs ≡ us) × (ys ≡ vs)
 cut_once e [] ys [] vs hx hu same = (refl, cc)
-cut_once e [] ys (u ∷ us) vs hx hu same =
-    let first : e ≡ u = cc in absurd (both_ways _ (not_from_true _ (eq-eqb u e (sym first))) (and_parts _ _ hu).0)
+cut_once e [] ys (u ∷ us) vs hx hu same = grind (arith, nat_tests)
 cut_once e (x ∷ xs) ys [] vs hx hu same =
     let first : x ≡ e = cc in absurd (both_ways _ (not_from_true _ (eq-eqb x e first)) (and_parts _ _ hx).0)
 cut_once e (x ∷ xs) ys (u ∷ us) vs hx hu same =

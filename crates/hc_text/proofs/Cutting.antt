@@ -1,5 +1,5 @@
 -- A text that is cut, and what stands behind a prefix.
-use Rattle.std.{proofs.{Common.{◌≡◌, ℕ, suc, ◌+◌, ◌<◌, ◌≤◌, ◌⊎◌, ◌==◌, true, not, List, [], ◌∷◌, ◌++◌, length, take, drop, get_or, Option, Some, None, refl, sym, ap, ◌∙◌, inl, inr, arith, lt-ltb}, lemmas.{Bool.{cases_Bool, cases_lt, and_parts, eqb-true, eq-eqb, le-ltb}, List.{take-append-drop, take_at, drop_at, Sums.{passes_at_first, split_at_first}}, Slice.Eq.{bytes_eq-Decides}}}, specs.{Prelude.{bytes_eq, option_map}, List.{position_or_len}}}
+use Rattle.std.{proofs.{Common.{◌≡◌, ℕ, ◌+◌, ◌<◌, ◌≤◌, ◌⊎◌, ◌==◌, true, not, List, [], ◌∷◌, ◌++◌, length, take, drop, get_or, Option, Some, None, refl, sym, ap, ◌∙◌, inl, inr, arith, lt-ltb}, lemmas.{Bool.{cases_Bool, cases_lt, and_parts, eqb-true, le-ltb}, List.{take-append-drop, take_at, drop_at, Sums.{passes_at_first, split_at_first}}, Slice.Eq.{bytes_eq-Decides}}}, specs.{Prelude.{bytes_eq, option_map}, List.{position_or_len}}}
 pub use Rattle.hc_text.specs.Texts.{lacks}
 use Rattle.hc_text.specs.Cuts.{cut, behind}
 
@@ -26,25 +26,11 @@ unfolding cut
 cut-none b text h = rw (le-ltb (place b text) (length text) h) refl
 
 cut-cons_same : (b : ℕ) (text : List ℕ) → cut b (b ∷ text) ≡ Some ([], text)
-cut-cons_same b text =
-    let here : place b (b ∷ text) ≡ 0 = rw (eq-eqb b b refl) refl in
-    let within : place b (b ∷ text) < length (b ∷ text) = omega arith in
-    cut-at b (b ∷ text) within ∙ rw here refl
+cut-cons_same b text = search (arith, cut-at)
 
 cut-cons_other : (b x : ℕ) (text : List ℕ) → not (x == b) ≡ true
     → cut b (x ∷ text) ≡ option_map (λ parts. (x ∷ parts.0, parts.1)) (cut b text)
-cut-cons_other b x text h =
-    let next : place b (x ∷ text) ≡ suc (place b text) = rw h (omega arith) in
-    elim (cases_lt (place b text) (length text)) [
-      | inl inside ↦
-          let within : place b (x ∷ text) < length (x ∷ text) = omega arith in
-          let more : place b text + 1 ≡ suc (place b text) = omega arith in
-          let rest : suc (place b text) + 1 ≡ suc (place b text + 1) = omega arith in
-          rw (cut-at b text inside) (cut-at b (x ∷ text) within ∙ rw (next, rest) refl)
-      | inr past ↦
-          let beyond : length (x ∷ text) ≤ place b (x ∷ text) = omega arith in
-          rw (cut-none b text past) (cut-none b (x ∷ text) beyond)
-    ]
+cut-cons_other b x text h = search (arith, cut-at, cut-none)
 
 -- a text is cut at its first b
 pub cut-first : (b : ℕ) (word rest : List ℕ) → lacks b word ≡ true → cut b (word ++ b ∷ rest) ≡ Some (word, rest)
@@ -68,10 +54,9 @@ append-cut b text parts h =
 pub behind-append : (prefix rest : List ℕ) → behind prefix (prefix ++ rest) ≡ Some rest
 unfolding behind
 behind-append prefix rest =
-    let front : take (length prefix) (prefix ++ rest) ≡ prefix = take_at prefix rest (length prefix) refl in
     let back : drop (length prefix) (prefix ++ rest) ≡ rest = drop_at prefix rest (length prefix) refl in
     let same : bytes_eq prefix prefix ≡ true = (bytes_eq-Decides prefix prefix).1 refl in
-    rw (front, same, back) refl
+    rw (take_at prefix rest (length prefix) refl, same, back) refl
 
 pub append-behind : (prefix text rest : List ℕ) → behind prefix text ≡ Some rest → prefix ++ rest ≡ text
 unfolding behind

@@ -4,7 +4,7 @@
 -- goes on by a byte or a stretch (`cut_more`, `cut_on`), outside of quoted strings and within (`cut_plain`,
 -- `cut_within`). Blanks and commas in front are skipped (`elements_skip_blank`). Blanks at the end go one by one
 -- (`trim_end_less`). At last `first_element` joins these: the first element, and those of the text behind its comma.
-use Rattle.std.{proofs.{Common.{◌≡◌, ◌≢◌, ℕ, ◌+◌, ◌-◌, ◌<◌, ◌≤◌, Bool, true, false, cond, eqb, not, List, [], ◌∷◌, ◌++◌, length, get_or, take, drop, refl, sym, ap, ◌∙◌, subst, inl, inr, arith}, Math.Seq.{take-add}, lemmas.{Bool.{cases_lt, or_cases, eqb-true, cond-false, cond-true, not_from_false, ne_eqb, both_ways, true≢false, false≢true}, List.{append_assoc, append-nil, at_drop_more, at_drop_all, drop-drop, reverse-append, reverse-reverse, Edits.{between_none, between_more, length-between, get_or-between}}}}, specs.Prelude.{slice_range, reverse, min}}
+use Rattle.std.{proofs.{Common.{◌≡◌, ◌≢◌, ℕ, ◌+◌, ◌-◌, ◌<◌, ◌≤◌, Bool, true, false, cond, eqb, not, List, [], ◌∷◌, ◌++◌, length, get_or, take, drop, refl, sym, ap, ◌∙◌, subst, inl, inr, arith}, Math.Seq.{take-add}, lemmas.{Bool.{cases_lt, cond-false, cond-true, ne_eqb, true≢false, false≢true, Decides.{nat_tests}}, List.{append_assoc, append-nil, at_drop_more, at_drop_all, drop-drop, reverse-append, reverse-reverse, Edits.{between_none, between_more, length-between, get_or-between}}}}, specs.Prelude.{slice_range, reverse, min}}
 use Rattle.hc_text.specs.Elements.{comma, is_blank, Place, Outside, Within, Taken, after, separates, begin_with, cut_pieces, skip_blanks, trim_end, trimmed_text, elements_of, elements}
 
 pub begin_with-begin_with : (xs ys : List ℕ) (pieces : List (List ℕ)) → begin_with xs (begin_with ys pieces) ≡ begin_with (xs ++ ys) pieces
@@ -13,8 +13,7 @@ begin_with-begin_with xs ys (piece ∷ pieces) = ap (λ (p : List ℕ). p ∷ pi
 
 -- a cut gives one piece at least
 begin_with-cut_cond : (b : Bool) (bytes : List ℕ) (xs : List (List ℕ)) (ys : List (List ℕ)) → begin_with [] (cond b ([] ∷ xs) (begin_with bytes ys)) ≡ cond b ([] ∷ xs) (begin_with bytes ys)
-begin_with-cut_cond true bytes xs ys = refl
-begin_with-cut_cond false bytes xs ys = begin_with-begin_with [] bytes ys
+begin_with-cut_cond b bytes xs ys = grind (arith, nat_tests)
 
 pub begin_with-cut : (place : Place) (text : List ℕ) → begin_with [] (cut_pieces place text) ≡ cut_pieces place text
 begin_with-cut place [] = refl
@@ -41,20 +40,16 @@ cut_more text start at first place from inside joins so_far =
 
 slices_join : (text : List ℕ) (i j k : ℕ) → i ≤ j → j ≤ k → slice_range text i j ++ slice_range text j k ≡ slice_range text i k
 slices_join text i j k ij jk =
-    let whole : (j - i) + (k - j) ≡ k - i = omega arith in
     let place : i + (j - i) ≡ j = omega arith in
     ap (λ (xs : List ℕ). take (j - i) (drop i text) ++ take (k - j) xs) (ap (λ (n : ℕ). drop n text) (sym place) ∙ sym (drop-drop (j - i) i text))
-    ∙ sym (take-add (j - i) (k - j) (drop i text)) ∙ ap (λ (n : ℕ). take n (drop i text)) whole
+    ∙ sym (take-add (j - i) (k - j) (drop i text)) ∙ ap (λ (n : ℕ). take n (drop i text)) (omega arith)
 
 -- a whole stretch more is read
 pub cut_on : (text : List ℕ) (start at to : ℕ) (first place next : Place) → start ≤ at → at ≤ to
     → cut_pieces first (drop start text) ≡ begin_with (slice_range text start at) (cut_pieces place (drop at text))
     → cut_pieces place (drop at text) ≡ begin_with (slice_range text at to) (cut_pieces next (drop to text))
     → cut_pieces first (drop start text) ≡ begin_with (slice_range text start to) (cut_pieces next (drop to text))
-cut_on text start at to first place next from on so_far more =
-    so_far ∙ ap (begin_with (slice_range text start at)) more
-    ∙ begin_with-begin_with (slice_range text start at) (slice_range text at to) (cut_pieces next (drop to text))
-    ∙ ap (λ (p : List ℕ). begin_with p (cut_pieces next (drop to text))) (slices_join text start at to from on)
+cut_on text start at to first place next from on so_far more = search (arith, begin_with-begin_with, slices_join)
 
 -- a blank or a comma in front is no part of an element
 trimmed-blank : (b : ℕ) (bytes : List ℕ) → is_blank b ≡ true → trimmed_text (b ∷ bytes) ≡ trimmed_text bytes
@@ -64,16 +59,10 @@ abbrev keeps : List ℕ → Bool
 keeps piece = not (eqb (length piece) 0)
 
 elements_of-begin_blank : (b : ℕ) → is_blank b ≡ true → (pieces : List (List ℕ)) → elements_of (begin_with (b ∷ []) pieces) ≡ elements_of pieces
-elements_of-begin_blank b blank [] = rw (trimmed-blank b [] blank) refl
-elements_of-begin_blank b blank (piece ∷ pieces) = rw (trimmed-blank b piece blank) refl
+elements_of-begin_blank b blank pieces = grind (arith, nat_tests)
 
 cut-blank : (b : ℕ) (text : List ℕ) → is_blank b ≡ true → cut_pieces Outside (b ∷ text) ≡ begin_with (b ∷ []) (cut_pieces Outside text)
-cut-blank b text blank =
-    let P : ℕ → Type 0 = λ c. cut_pieces Outside (c ∷ text) ≡ begin_with (c ∷ []) (cut_pieces Outside text) in
-    elim (or_cases (eqb b 32) (eqb b 9) blank) [
-      | inl space ↦ subst P (sym (eqb-true b 32 space)) refl
-      | inr tab ↦ subst P (sym (eqb-true b 9 tab)) refl
-    ]
+cut-blank b text blank = grind (arith, nat_tests)
 
 elements-blank : (b : ℕ) (text : List ℕ) → is_blank b ≡ true → elements (b ∷ text) ≡ elements text
 unfolding elements
@@ -121,10 +110,7 @@ pub trimmed-kept : (bytes : List ℕ) → is_blank (get_or bytes 0 0) ≡ false 
 trimmed-kept bytes kept = ap trim_end (skip_blanks-kept bytes kept)
 
 pub elements_of-element : (piece element : List ℕ) (pieces : List (List ℕ)) → trimmed_text piece ≡ element → 0 < length element → elements_of (piece ∷ pieces) ≡ element ∷ elements_of pieces
-elements_of-element piece element pieces is_element some =
-    let kept : keeps element ≡ true = not_from_false (eqb (length element) 0) (ne_eqb (length element) 0 (λ e. absurd (omega arith))) in
-    ap (λ (e : List ℕ). cond (keeps e) (e ∷ elements_of pieces) (elements_of pieces)) is_element
-    ∙ cond-true (keeps element) (element ∷ elements_of pieces) (elements_of pieces) kept
+elements_of-element piece element pieces is_element some = grind (arith, nat_tests)
 
 -- the first piece, from start up to stop, is the element that ends at end and blanks after it
 piece_element : (text : List ℕ) (start end stop : ℕ) (rest : List (List ℕ)) → start < end → end ≤ stop → stop ≤ length text
@@ -153,9 +139,8 @@ first_element text start end stop next from on inside next_is kept piece ends tr
       | inl more ↦
           let rest = cut_pieces Outside (drop (stop + 1) text) in
           let parted : cut_pieces Outside (drop stop text) ≡ [] ∷ rest = at_drop_more (cut_pieces Outside) text stop 0 more ∙ ap (λ (c : ℕ). cut_pieces Outside (c ∷ drop (stop + 1) text)) (ends more) in
-          let goes_on : stop + 1 ≡ next = omega arith in
           ap elements_of (piece ∙ ap front parted) ∙ piece_element text start end stop rest from on inside kept trims
-          ∙ ap (λ (n : ℕ). element ∷ elements (drop n text)) goes_on
+          ∙ ap (λ (n : ℕ). element ∷ elements (drop n text)) (omega arith)
       | inr past ↦
           let parted : cut_pieces Outside (drop stop text) ≡ [] ∷ [] = at_drop_all (cut_pieces Outside) text stop past in
           ap elements_of (piece ∙ ap front parted) ∙ piece_element text start end stop [] from on inside kept trims
@@ -209,18 +194,10 @@ cut_within text start at false next from inside free no_quote next_is so_far =
 
 -- the blanks before an end stop after the first byte that is none
 pub before_blank : (text : List ℕ) (start end : ℕ) → start < end → is_blank (get_or text start 0) ≡ false → is_blank (get_or text (end - 1) 0) ≡ true → start < end - 1
-before_blank text start end from kept blank =
-    elim (cases_lt start (end - 1)) [
-      | inl before ↦ before
-      | inr here ↦ let same : end - 1 ≡ start = omega arith in absurd (both_ways (is_blank (get_or text start 0)) kept (ap (λ (n : ℕ). is_blank (get_or text n 0)) (sym same) ∙ blank))
-    ]
+before_blank text start end from kept blank = grind (arith, nat_tests)
 
 -- one byte more before the end is a blank
 pub blanks_more : (text : List ℕ) (last stop : ℕ) → is_blank (get_or text last 0) ≡ true
     → ((k : ℕ) → last < k → k < stop → is_blank (get_or text k 0) ≡ true)
     → (k : ℕ) → last ≤ k → k < stop → is_blank (get_or text k 0) ≡ true
-blanks_more text last stop blank behind k from below =
-    elim (cases_lt last k) [
-      | inl more ↦ behind k more below
-      | inr less ↦ let same : last ≡ k = omega arith in subst (λ (n : ℕ). is_blank (get_or text n 0) ≡ true) same blank
-    ]
+blanks_more text last stop blank behind k from below = grind (arith, nat_tests)

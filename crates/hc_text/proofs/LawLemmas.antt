@@ -1,6 +1,6 @@
 -- A text has one cut, and calls of `next_item` give its elements.
-use Rattle.std.{proofs.{Common.{◌≡◌, ℕ, true, false, List, [], ◌∷◌, ◌++◌, map, drop, refl, sym, ap, ◌∙◌, subst, inl, inr}, lemmas.Bool.{cases_Bool, eqb-true, cond-false, cond-true, false≢true}}, specs.List.{join_with_byte}}
-use Rattle.hc_text.specs.{declared.list.Item.{Item}, Elements.{comma, Place, Outside, Within, Taken, after, separates, begin_with, cut_pieces, place_after, NoneSeparates, ArePieces, elements}, Items.{AreItemsFrom, item_bytes}}
+use Rattle.std.{proofs.{Common.{arith, ◌≡◌, ℕ, true, false, List, [], ◌∷◌, ◌++◌, map, drop, refl, sym, ap, ◌∙◌, subst, inl, inr}, lemmas.Bool.{cases_Bool, eqb-true, cond-false, cond-true, false≢true, Decides.{nat_tests}}}, specs.List.{join_with_byte}}
+use Rattle.hc_text.specs.{declared.list.Item.{Item}, Elements.{comma, Place, Outside, after, separates, begin_with, cut_pieces, place_after, NoneSeparates, ArePieces, elements}, Items.{AreItemsFrom, item_bytes}}
 
 pub items_are_elements : (text : List ℕ) (from : ℕ) (items : List Item) → AreItemsFrom text from items → map (item_bytes text) items ≡ elements (drop from text)
 items_are_elements text from [] h = sym h
@@ -38,18 +38,15 @@ some-cut place (b ∷ text) =
 -- the byte that separates is a comma, outside quoted strings
 separator : (place : Place) (b : ℕ) → separates place b ≡ true → b ≡ comma
 separator Outside b h = eqb-true b comma h
-separator Within b h = absurd (false≢true h)
-separator Taken b h = absurd (false≢true h)
+separator _ b h = absurd (false≢true h)
 
 separator_place : (place : Place) (b : ℕ) → separates place b ≡ true → place ≡ Outside
 separator_place Outside b h = refl
-separator_place Within b h = absurd (false≢true h)
-separator_place Taken b h = absurd (false≢true h)
+separator_place _ b h = absurd (false≢true h)
 
 join-empty : (pieces : List (List ℕ)) → IsSomeList pieces → join_with_byte comma ([] ∷ pieces) ≡ comma ∷ join_with_byte comma pieces
 unfolding IsSomeList
-join-empty [] some = cc
-join-empty (piece ∷ pieces) some = refl
+join-empty pieces some = cc
 
 pub join-cut : (place : Place) (text : List ℕ) → join_with_byte comma (cut_pieces place text) ≡ text
 join-cut place [] = refl
@@ -64,13 +61,10 @@ join-cut place (b ∷ text) =
     ]
 
 pieces-empty : (place : Place) (pieces : List (List ℕ)) → place ≡ Outside → ArePieces Outside pieces → ArePieces place ([] ∷ pieces)
-pieces-empty place [] outside h = tt
-pieces-empty place (piece ∷ pieces) outside h = (tt, outside, h)
+pieces-empty place pieces outside h = grind (arith, nat_tests)
 
 pieces-begin : (place : Place) (b : ℕ) (pieces : List (List ℕ)) → separates place b ≡ false → ArePieces (after place b) pieces → ArePieces place (begin_with (b ∷ []) pieces)
-pieces-begin place b [] joins h = absurd h
-pieces-begin place b (piece ∷ []) joins h = (joins, h)
-pieces-begin place b (piece ∷ next ∷ pieces) joins h = ((joins, h.0), h.1, h.2)
+pieces-begin place b pieces joins h = grind (arith, nat_tests)
 
 pub pieces-cut : (place : Place) (text : List ℕ) → ArePieces place (cut_pieces place text)
 pieces-cut place [] = tt

@@ -26,8 +26,7 @@ plain_first text n h = let P : List ℕ → Type 0 = λ t. get_or t 0 0 ≡ 48 �
 
 pub IsPlain-number : (text : List ℕ) (n : ℕ) → IsNumber text n → (get_or text 0 0 ≡ 48 → length text ≡ 1) → IsPlain text n
 IsPlain-number text n h first =
-    let small : digits_value 10 text < 2 ^ 64 = omega (arith, h.0, h.3) in
-    (h.0, sym (ap decimal (sym h.3) ∙ decimal-digits_value own text h.1.1 h.1.0 first small))
+    (h.0, sym (ap decimal (sym h.3) ∙ decimal-digits_value own text h.1.1 h.1.0 first (omega (arith, h.0, h.3))))
 
 tested : IsNumeralModel (λ ds. list_all is_ascii_digit ds ≡ true) (digits_value 10)
 tested = numerals_by_value _ (search rules)

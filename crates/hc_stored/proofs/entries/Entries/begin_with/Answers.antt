@@ -6,31 +6,24 @@ use Rattle.hc_stored.specs.{Begun.{begun_row}, Heads.{summary_of}, Rows.{Row, ro
 use Rattle.hc_stored.proofs.{ShelfLemmas.{added-shelved, added-kept, same-shelved, same-slots, slots-back}, RowLemmas.{shelved-begun}, CurrentLemmas.{ordered-more, no-row}}
 use Rattle.hc_stored.proofs.entries.Entries.begin_with.Goals as goal
 
-pub invariant_of-self-in-Err : goal.invariant_of-self-in-Err
-invariant_of-self-in-Err g c =
+pub invariant_of-self-in-Err-clause-shelved : goal.invariant_of-self-in-Err-clause-shelved
+invariant_of-self-in-Err-clause-shelved g c =
     let e = c.args.self.now in
     let back = c.drop_slot-in-Err.ensures.dropped ∙ slots-back c.in_ok-slot.slot.n (Some (bare (plain c.args.head.now))) (g.B.Backend.slots e.store) _ c.in_ok-slot.ensures.new c.in_ok-slot.ensures.ok in
-    record {
-      limited = c.drop_slot-in-Err.ensures.limits ∙ (c.in_ok-slot.ensures.limits ∙ e.limited);
-      shelved = same-slots (same-shelved e.shelved c.in-Err.ensures.err) c.in-Err.ensures.unmoved back;
-    }
+    same-slots (same-shelved e.shelved c.in-Err.ensures.err) c.in-Err.ensures.unmoved back
 
-pub invariant_of-self-in_default-keep_in : goal.invariant_of-self-in_default-keep_in
-invariant_of-self-in_default-keep_in g c =
+pub invariant_of-self-in_default-keep_in-clause-shelved : goal.invariant_of-self-in_default-keep_in-clause-shelved
+invariant_of-self-in_default-keep_in-clause-shelved g c =
     let a = c.args in
     let e = a.self.now in
     let n = c.in_ok-slot.slot.n in
     let number : n < 2 ^ 64 = search rules in
     let new = begun_row a.key n (summary_of (plain a.head.now)) in
     let adds : (q : ℕ) → rows_of c.keep_in.new.rows q ≡ with_row a.r (Some new) (rows_of e.rows) q = λ q. c.in_default-keep_in.ensures.ok q ∙ ap (λ (row : Row). with_row a.r (Some row) (rows_of e.rows) q) c.in-Ok.ensures in
-    record {
-      limited = c.in_ok-slot.ensures.limits ∙ e.limited;
-      shelved =
-          rw c.in_default-keep_in.ensures.first (added-shelved e.shelved a.r new (bare (plain a.head.now)) (no-row e.shelved a.r c.requires.new) c.in_ok-slot.ensures.new adds
-          (λ m. ap (λ (s : Slots). s m) c.in_ok-slot.ensures.ok)
-          (shelved-begun a.key n (plain a.head.now) number)
-          (ordered-more e.shelved a.r (Some new) adds refl));
-    }
+    rw c.in_default-keep_in.ensures.first (added-shelved e.shelved a.r new (bare (plain a.head.now)) (no-row e.shelved a.r c.requires.new) c.in_ok-slot.ensures.new adds
+    (λ m. ap (λ (s : Slots). s m) c.in_ok-slot.ensures.ok)
+    (shelved-begun a.key n (plain a.head.now) number)
+    (ordered-more e.shelved a.r (Some new) adds refl))
 
 pub returns-clause-ok : goal.returns-clause-ok
 returns-clause-ok g c =

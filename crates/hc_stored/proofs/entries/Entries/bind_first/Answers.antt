@@ -9,17 +9,13 @@ bind_first_in-requires-clause-ascending g c = ascending-users c.args.self.now.sh
 pub invariant_of-self : goal.invariant_of-self
 invariant_of-self g c = let e = c.args.self.now in record { limited = e.limited; shelved = same-shelved e.shelved c.in_err-bind_first_in.ensures.err }
 
-pub invariant_of-self-2 : goal.invariant_of-self-2
-invariant_of-self-2 g c =
+pub invariant_of-self-2-clause-shelved : goal.invariant_of-self-2-clause-shelved
+invariant_of-self-2-clause-shelved g c =
     let e = c.args.self.now in
     let r = c.args.r in
     let slots = g.B.Backend.slots e.store in
     let is = admits-row slots c.args.c (rows_of e.rows r) (admits-from_first slots c.args.c (rows_of e.rows r) c.requires) in
     let f = used_first_by c.args.c in
-    record {
-      limited = e.limited;
-      shelved =
-          rw c.move_first.ensures (updated-shelved e.shelved r is.0 is.1 f (λ h. h) (λ a. refl) c.in_ok-bind_first_in.ensures.ok (kept-slots slots is.0)
-          (λ a b there h. shelved-first c.args.c a b (absent-user c.args.c (rows_of e.rows r) a there is.3) h)
-          (ordered-first e.shelved r f c.in_ok-bind_first_in.ensures.ok is.2 (λ a. refl)));
-    }
+    rw c.move_first.ensures (updated-shelved e.shelved r is.0 is.1 f (λ h. h) (λ a. refl) c.in_ok-bind_first_in.ensures.ok (kept-slots slots is.0)
+    (λ a b there h. shelved-first c.args.c a b (absent-user c.args.c (rows_of e.rows r) a there is.3) h)
+    (ordered-first e.shelved r f c.in_ok-bind_first_in.ensures.ok is.2 (λ a. refl)))

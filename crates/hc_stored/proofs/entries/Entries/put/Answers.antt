@@ -10,19 +10,15 @@ put-requires-clause-absent g c = λ p le lt.
     let e = c.args.self.now in
     cells-kept (g.B.Backend.slots e.store) (rows_of e.rows c.args.r) c.slot_in.result.n c.slot_in.ensures p ∙ c.requires.absent p le lt
 
-pub invariant_of-self-2 : goal.invariant_of-self-2
-invariant_of-self-2 g c =
+pub invariant_of-self-2-clause-shelved : goal.invariant_of-self-2-clause-shelved
+invariant_of-self-2-clause-shelved g c =
     let e = c.args.self.now in
     let a = c.args in
     let f = reaching (a.at + length a.bytes.now) a.last in
-    record {
-      limited = c.in_ok-put.ensures.limits ∙ e.limited;
-      shelved =
-          updated-shelved e.shelved a.r c.slot_in.result.n c.slot_in.ensures f (puts a.at a.x a.bytes.now a.last) (λ row. refl) c.fill_in.ensures
-          (λ m. ap (λ (s : Slots). s m) c.in_ok-put.ensures.ok)
-          (λ row held is h. shelved-filled a.at a.x a.bytes.now a.last row held c.requires.some h)
-          (ordered-same e.shelved a.r f c.fill_in.ensures (λ row. refl));
-    }
+    updated-shelved e.shelved a.r c.slot_in.result.n c.slot_in.ensures f (puts a.at a.x a.bytes.now a.last) (λ row. refl) c.fill_in.ensures
+    (λ m. ap (λ (s : Slots). s m) c.in_ok-put.ensures.ok)
+    (λ row held is h. shelved-filled a.at a.x a.bytes.now a.last row held c.requires.some h)
+    (ordered-same e.shelved a.r f c.fill_in.ensures (λ row. refl))
 
 pub returns-clause-used : goal.returns-clause-used
 returns-clause-used g c =

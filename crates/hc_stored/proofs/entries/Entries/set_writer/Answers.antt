@@ -3,16 +3,12 @@ use Rattle.hc_stored.specs.Rows.{rows_of, written_in}
 use Rattle.hc_stored.proofs.{ShelfLemmas.{updated-shelved, kept-slots}, RowLemmas.{shelved-written}, CurrentLemmas.{slot-kept, ordered-same}}
 use Rattle.hc_stored.proofs.entries.Entries.set_writer.Goals as goal
 
-pub invariant_of-self : goal.invariant_of-self
-invariant_of-self g c =
+pub invariant_of-self-clause-shelved : goal.invariant_of-self-clause-shelved
+invariant_of-self-clause-shelved g c =
     let e = c.args.self.now in
     let r = c.args.r in
     let slots = g.B.Backend.slots e.store in
     let slot = slot-kept slots (rows_of e.rows r) c.requires in
     let f = written_in c.args.x in
-    record {
-      limited = e.limited;
-      shelved =
-          updated-shelved e.shelved r slot.0 slot.1 f (λ h. h) (λ a. refl) c.write_in.ensures (kept-slots slots slot.0)
-          (λ a b is h. shelved-written c.args.x a b h) (ordered-same e.shelved r f c.write_in.ensures (λ a. refl));
-    }
+    updated-shelved e.shelved r slot.0 slot.1 f (λ h. h) (λ a. refl) c.write_in.ensures (kept-slots slots slot.0)
+    (λ a b is h. shelved-written c.args.x a b h) (ordered-same e.shelved r f c.write_in.ensures (λ a. refl))

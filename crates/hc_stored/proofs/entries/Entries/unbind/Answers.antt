@@ -7,33 +7,25 @@ use Rattle.hc_stored.proofs.entries.Entries.unbind.Goals as goal
 pub unbind_in-requires : goal.unbind_in-requires
 unbind_in-requires g c = ascending-users c.args.self.now.shelved c.args.r
 
-pub invariant_of-self : goal.invariant_of-self
-invariant_of-self g c =
+pub invariant_of-self-clause-shelved : goal.invariant_of-self-clause-shelved
+invariant_of-self-clause-shelved g c =
     let e = c.args.self.now in
     let r = c.args.r in
     let f = unused_by c.args.c in
     let over = sym c.is_over.ensures ∙ c.if-is_over.true in
     let slot = slot-before f (λ a. refl) (rows_of e.rows r) (rows_of c.unbind_in.new.rows r) c.drop_in-slot.result.n (row-after (rows_of e.rows) r f c.unbind_in.ensures) c.drop_in-slot.ensures.slot in
     let drops = gone-after (rows_of e.rows) r f c.unbind_in.ensures c.drop_in-slot.ensures.changes in
-    record {
-      limited = c.drop_slot.ensures.limits ∙ e.limited;
-      shelved =
-          dropped-shelved e.shelved r c.drop_in-slot.result.n slot drops (λ m. ap (λ (s : Slots). s m) c.drop_slot.ensures.dropped)
-          (ordered-left e.shelved r None drops (gone-left (rows_of e.rows) r c.args.c c.unbind_in.ensures over) refl);
-    }
+    dropped-shelved e.shelved r c.drop_in-slot.result.n slot drops (λ m. ap (λ (s : Slots). s m) c.drop_slot.ensures.dropped)
+    (ordered-left e.shelved r None drops (gone-left (rows_of e.rows) r c.args.c c.unbind_in.ensures over) refl)
 
-pub invariant_of-self-else-is_over : goal.invariant_of-self-else-is_over
-invariant_of-self-else-is_over g c =
+pub invariant_of-self-else-is_over-clause-shelved : goal.invariant_of-self-else-is_over-clause-shelved
+invariant_of-self-else-is_over-clause-shelved g c =
     let e = c.args.self.now in
     let r = c.args.r in
     let f = unused_by c.args.c in
     let slots = g.B.Backend.slots e.store in
     let slot = user-slot slots c.args.c (rows_of e.rows r) c.requires in
     let over = sym c.is_over.ensures ∙ c.if-is_over.false in
-    record {
-      limited = e.limited;
-      shelved =
-          updated-shelved e.shelved r slot.0 slot.1 f (λ h. h) (λ a. refl) c.unbind_in.ensures (kept-slots slots slot.0)
-          (λ a b there h. shelved-left c.args.c a b (kept-left (rows_of e.rows) r c.args.c c.unbind_in.ensures over a there) h)
-          (ordered-same e.shelved r f c.unbind_in.ensures (λ a. refl));
-    }
+    updated-shelved e.shelved r slot.0 slot.1 f (λ h. h) (λ a. refl) c.unbind_in.ensures (kept-slots slots slot.0)
+    (λ a b there h. shelved-left c.args.c a b (kept-left (rows_of e.rows) r c.args.c c.unbind_in.ensures over a there) h)
+    (ordered-same e.shelved r f c.unbind_in.ensures (λ a. refl))

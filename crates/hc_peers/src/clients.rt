@@ -252,15 +252,15 @@ impl Clients {
 }
 
 /// The client at `k` is listed exactly if its next request is to be read. Where memory is refused,
-/// what came of it is dropped.
+/// what came of it is dropped. One whose next request isn't to be read isn't listed.
 fn list_ready(ready: &mut BTreeSet<u64>, k: u64, client: &mut Client) -> Result<(), NoMemory>
+    requires { is_ready client.old ≡ false → set.contains nat_cmp ready.old k ≡ false }
     ensures ok { OnOk result (client.new ≡ client.old) }
     ensures others { client.new ≡ read_to client.old.reader client.new.input client.old }
     ensures listed { (j : ℕ) → set.contains nat_cmp ready.new j
         ≡ (if j == k then is_ready client.new else set.contains nat_cmp ready.old j) }
 {
     if !client.is_ready() {
-        ready.remove(&k);
         return Ok(());
     }
     if let Err(refused) = ready.insert(k) {

@@ -18,6 +18,13 @@ unreachable-requires c =
     let n : None ≡ Some c.in-Some.c = ap consumer_at c.in_default-get_mut.ensures.value ∙ who in
     cc
 
+pub list_ready-requires : goal.list_ready-requires
+list_ready-requires c = λ off.
+    let s = c.args.self.now in
+    let k = c.in-Some-get.field-0.now in
+    let who = s.alive.0 c.in-Some.c k (sym c.in-Some-get.ensures.value) in
+    s.due k ∙ live-not-ready (hash.get nat_eq s.rows k) c.in-Some.c who
+
 pub invariant_of-self-in-Break-branch-2 : goal.invariant_of-self-in-Break-branch-2
 invariant_of-self-in-Break-branch-2 c =
     let s = c.args.self.now in

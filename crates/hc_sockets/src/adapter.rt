@@ -33,6 +33,9 @@ const CALLS: u64 = 4;
 /// without end hides no other, and not that it takes bytes again.
 const ASKED: u64 = 64;
 
+/// After how many calls of `next` the system is asked where nothing is due, also by a call that doesn't wait.
+const QUIET: u64 = 4;
+
 /// What `bind` has opened.
 #[derive(Drop)]
 struct Bound {
@@ -201,6 +204,10 @@ impl<R: Net + Clock + AllocGlobal + Drop> Wire for MioWire<R> {
         if let Some(event) = self.due(into)? {
             self.handed += 1;
             return Ok((moment, event));
+        }
+        if !wait && self.unasked < QUIET {
+            self.handed += 1;
+            return Ok((moment, WireEvent::Quiet));
         }
         if wait {
             self.table.flush();

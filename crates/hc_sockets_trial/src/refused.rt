@@ -2,7 +2,7 @@
 use crate::fault::Fault;
 use crate::wires::listen;
 use hc_sockets::MioWire;
-use hc_wire::{Wire, WireEvent};
+use hc_wire::{Address, Wire, WireEvent};
 use std::net::Net;
 use std::rt::Clock;
 
@@ -18,12 +18,20 @@ pub(crate) fn dial_in_vain<R: Net + Clock + AllocGlobal + Clone + Drop>(
     let address = listen(&mut near, 21_000)?;
     drop(near);
     let mut far = MioWire::new(rt.clone()?);
+    dial_at(&mut far, address)
+}
+
+/// The same of this wire, at an address at which nobody listens.
+fn dial_at<R: Net + Clock + AllocGlobal + Drop>(
+    far: &mut MioWire<R>,
+    address: Address,
+) -> Result<(), Fault> {
     far.bind(None, Some(address))?;
     let k = far.dial()?;
     if far.send(k, b"a")? != 1 {
         return Err(Fault::TookLess);
     }
-    if !is_told_broken(&mut far, k)? {
+    if !is_told_broken(far, k)? {
         return Err(Fault::NeverBroke);
     }
     if far.send(k, b"bc")? != 2 {

@@ -19,12 +19,21 @@ const QUIET: u32 = 100;
 pub(crate) fn move_bytes<R: Net + Clock + AllocGlobal + Clone + Drop>(rt: &R) -> Result<(), Fault> {
     let (mut near, mut far) = connected(rt)?;
     let pattern = Pattern::new(rt.alloc(), OFFER)?;
+    move_between(&mut near, &mut far, &pattern)
+}
+
+/// The same between these sides.
+fn move_between<R: Net + Clock + AllocGlobal + Drop>(
+    near: &mut Side<R>,
+    far: &mut Side<R>,
+    pattern: &Pattern,
+) -> Result<(), Fault> {
     let mut into = [0; PIECE];
     let mut quiet = 0u32;
     for _ in 0..TURNS {
-        let near_moved = near.turn(quiet > 0, &pattern, &mut into)?;
+        let near_moved = near.turn(quiet > 0, pattern, &mut into)?;
         near.close_where_stuck();
-        let far_moved = far.turn(quiet > 0, &pattern, &mut into)?;
+        let far_moved = far.turn(quiet > 0, pattern, &mut into)?;
         quiet = if near_moved || far_moved {
             0
         } else {
@@ -34,7 +43,7 @@ pub(crate) fn move_bytes<R: Net + Clock + AllocGlobal + Clone + Drop>(rt: &R) ->
             break;
         }
     }
-    judge(&near, &far)
+    judge(near, far)
 }
 
 /// The two sides of a connection.

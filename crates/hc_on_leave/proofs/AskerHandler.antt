@@ -4,16 +4,16 @@
 -- before or after, and no answer is shown. The consumer goes on past the store or is to fail: it leaves its key and
 -- what it was bound to (`stands_apart`). Or it stands in line again, as its key has it then (`stands_queued`).
 -- `fall_back` and `send_back` of `hc_on_head` use the last two lemmas.
+use Rattle.std.{proofs.{lemmas.Bool.Decides.{nat_tests}}}
+use Rattle.std.{proofs.{Common.{arith}}}
 use Rattle.std.{proofs.Common.{◌≡◌, inl, inr, ℕ, zero, suc, List, [], Bool, true, false, Some, None, refl, ap, sym, ◌∙◌, subst}, specs.{Prelude.{nat_eq, drop, bytes_eq, ◌&&◌}, HashMap.{get}}}
 use Rattle.hc_text.proofs.Basics.{eqb-other, eqb-same, false_true, same_or, same_some as same_row, and_off as then_false}
-use Rattle.hc_effects.proofs.Vocabulary.{Limits, Request, Place, back_in_line, is_live_place, with_consumer, family, Lawful, is_in_line, stands_in_line, IsAwaiting, Queues, has_passed, is_bound_place, lo_of, hi_of, Tables, Exchange, Representation, awaited_exchange}
+use Rattle.hc_effects.proofs.Vocabulary.{Limits, Request, Place, back_in_line, is_live_place, with_consumer, family, Lawful, is_in_line, stands_in_line, IsAwaiting, Queues, has_passed, is_bound_place, lo_of, hi_of, Tables, Exchange, Representation, awaited_exchange, place, by}
 use Rattle.hc_effects.proofs.Tests.{none_some}
 use Rattle.hc_store.specs.declared.backend.Backend.{Ghosts}
 use Rattle.hc_stored.specs.Entries.{shelf_of}
 use Rattle.hc_entry.specs.Keys as keys
 use Rattle.hc_entry.specs.{Keys.{kept_of}, Kept.{on_line}, Lines.{come_back}}
-use Rattle.hc_event.specs.declared.place.Place.TheVariants as place
-use Rattle.hc_event.specs.declared.place.BoundBy.TheVariants as by
 use Rattle.hc_model.specs.Owners as owners
 use Rattle.hc_model.specs.Rows as rows
 use Rattle.hc_state.specs.{declared.{consumer.Consumer.{Consumer}, rows.Rows.{Rows}}, Changes.{ChangesAt, standing_at, once_over}, Heads.{AwaitsHead, StandsApart}, Kept.{IsKept, answer_for, unread, unstored_bytes}, Leaving.{LeavesKey, UnbindsAt}, Lines.{is_away_at}, Stands.{RowsStand}}
@@ -36,11 +36,7 @@ pub record IsApartPlace (p : Place) : Type 0 where
 apart_by : (x : ℕ) (p : Place) → StandsApart x p → IsApartPlace p
 apart_by x (place.Direct y) is = record { live = refl; unbound = λ q. refl; unlined = refl; unpassed = refl; here = λ t. refl }
 apart_by x (place.Down why) is = record { live = refl; unbound = λ q. refl; unlined = refl; unpassed = refl; here = λ t. refl }
-apart_by x place.Line is = absurd is
-apart_by x (place.Passed r kept) is = absurd is
-apart_by x (place.Turn y) is = absurd is
-apart_by x (place.Bound r lo hi by) is = absurd is
-apart_by x place.Over is = absurd is
+apart_by x _ is = absurd is
 
 module _ (t : Tables) (law : Lawful t) (x : ℕ) (w : Exchange) (row : t.exchange x ≡ Some w) (opened : w.is_open ≡ true) (bare : w.head ≡ None) (v : rows.Consumer) (asker : t.consumer w.c ≡ Some v) (own : v.own ≡ Some x) (at : IsAwaiting x w v.place) where
   empty : w.body ≡ []
@@ -54,53 +50,24 @@ module _ (t : Tables) (law : Lawful t) (x : ℕ) (w : Exchange) (row : t.exchang
 
   -- who reads x past the store has nothing of it
   past_none : (u : rows.Consumer) (y : ℕ) (z : Exchange) → u.place ≡ place.Direct x → t.exchange y ≡ Some z → unread y z (Some u) ≡ []
-  past_none u y z at there = rw at (elim (same_or x y) [
-    | inl e ↦
-        let one : w ≡ z = same_row (t.exchange y) w z (subst (λ (n : ℕ). t.exchange n ≡ Some w) e row) there in
-        rw (e, eqb-same y) (drop_none u.given z.body (ap (λ (q : Exchange). q.body) (sym one) ∙ empty))
-    | inr ne ↦ rw (eqb-other x y ne) refl
-  ])
+  past_none u y z at there = grind (arith, nat_tests)
 
   -- nothing of it is held for who waits for its head
   asker_past : (y : ℕ) (z : Exchange) → t.exchange y ≡ Some z → unread y z (Some v) ≡ []
-  asker_past y z there = by_at at
-    where
-      by_at : IsAwaiting x w v.place → unread y z (Some v) ≡ []
-      by_at (owners.direct way stood) = past_none v y z stood there
-      by_at (owners.turn way stood) = rw stood refl
-      by_at (owners.hole q lo hi how way aim stood) = rw stood refl
+  asker_past y z there = grind (arith, nat_tests)
 
   not_its : (y : ℕ) (z : Exchange) (b : Representation) → t.exchange y ≡ Some z → t.representation (family y z) ≡ Some b → (is_bound_place (family y z) v.place && (nat_eq x y)) ≡ false
-  not_its y z b there founded = elim (same_or x y) [
-    | inl e ↦
-        let one : w ≡ z = same_row (t.exchange y) w z (subst (λ (n : ℕ). t.exchange n ≡ Some w) e row) there in
-        let own : family y z ≡ x = (let none : z.joined ≡ None = ap (λ (q : Exchange). q.joined) (sym one) ∙ unjoined in rw none (sym e)) in
-        none_some b (sym unfounded ∙ (ap t.representation (sym own) ∙ founded))
-    | inr ne ↦ then_false (is_bound_place (family y z) v.place) (nat_eq x y) (eqb-other x y ne)
-  ]
+  not_its y z b there founded = grind (arith, nat_tests)
 
   asker_lost : (y : ℕ) (z : Exchange) (b : Representation) → t.exchange y ≡ Some z → t.representation (family y z) ≡ Some b → unstored_bytes t y z b (Some v) ≡ []
   asker_lost y z b there founded = rw (own, not_its y z b there founded) refl
 
   -- it isn't shown anything past the store yet
   asker_answer : answer_for t v ≡ None
-  asker_answer = by_shown v.shown refl
-    where
-      by_at : v.shown ≡ false → IsAwaiting x w v.place → answer_for t v ≡ None
-      by_at off (owners.direct way stood) = rw (off, stood, row) bare
-      by_at off (owners.turn way stood) = rw (off, stood) refl
-      by_at off (owners.hole q lo hi how way aim stood) = rw (off, stood) refl
-
-      by_shown : (b : Bool) → v.shown ≡ b → answer_for t v ≡ None
-      by_shown true on = rw on refl
-      by_shown false off = by_at off at
+  asker_answer = grind (arith, nat_tests)
 
   pub unended : w.is_ended ≡ false
-  unended = by_test w.is_ended refl
-    where
-      by_test : (b : Bool) → w.is_ended ≡ b → b ≡ false
-      by_test false off = refl
-      by_test true on = false_true (sym (law.places.ended x w row on) ∙ opened)
+  unended = grind (arith, nat_tests)
 
   -- IT STANDS ASIDE
 
@@ -112,66 +79,25 @@ module _ (t : Tables) (law : Lawful t) (x : ℕ) (w : Exchange) (row : t.exchang
     place_is = apart_by x p apart
 
     answer_then : answer_for t z ≡ None
-    answer_then = by_shown v.shown refl
-      where
-        by_place : (q : Place) → p ≡ q → StandsApart x q → v.shown ≡ false → answer_for t z ≡ None
-        by_place (place.Direct y) at same off = rw (off, at, same, row) bare
-        by_place (place.Down why) at same off = rw (off, at) refl
-        by_place place.Line at same off = absurd same
-        by_place (place.Passed q kept) at same off = absurd same
-        by_place (place.Turn y) at same off = absurd same
-        by_place (place.Bound q lo hi by) at same off = absurd same
-        by_place place.Over at same off = absurd same
-
-        by_shown : (b : Bool) → v.shown ≡ b → answer_for t z ≡ None
-        by_shown true on = rw on refl
-        by_shown false off = by_place p refl apart off
+    answer_then = grind (arith, nat_tests)
 
     begins_then : (q : Place) → StandsApart x q → lo_of t q ≡ 0
-    begins_then (place.Direct y) same = rw (same, row, bare) refl
-    begins_then (place.Down why) same = refl
-    begins_then place.Line same = absurd same
-    begins_then (place.Passed q kept) same = absurd same
-    begins_then (place.Turn y) same = absurd same
-    begins_then (place.Bound q lo hi by) same = absurd same
-    begins_then place.Over same = absurd same
+    begins_then q same = grind (arith, nat_tests)
 
     ends_then : (q : Place) → StandsApart x q → hi_of t q ≡ None
-    ends_then (place.Direct y) same = rw (same, row, bare, unended) refl
-    ends_then (place.Down why) same = refl
-    ends_then place.Line same = absurd same
-    ends_then (place.Passed q kept) same = absurd same
-    ends_then (place.Turn y) same = absurd same
-    ends_then (place.Bound q lo hi by) same = absurd same
-    ends_then place.Over same = absurd same
+    ends_then q same = grind (arith, nat_tests)
 
     kept_then : (k : Consumer) → IsKept t k v → IsKept t (standing_at p k) z
-    kept_then k is = record {
-      is_there = place_is.live;
-      request = is.request;
-      class_is = is.class_is;
-      since = is.since;
-      place = refl;
-      own = is.own;
-      shown = is.shown;
-      answer = is.answer ∙ (asker_answer ∙ sym answer_then);
-      begins = sym (begins_then p apart);
-      ends = sym (ends_then p apart);
-      given = is.given;
-      due = is.due;
-    }
+    kept_then k is = assumption (
+      place_is,
+      is,
+      is.answer ∙ (asker_answer ∙ sym answer_then),
+      sym (begins_then p apart),
+      sym (ends_then p apart),
+    )
 
     past_then : (y : ℕ) (e : Exchange) → t.exchange y ≡ Some e → unread y e (Some z) ≡ []
-    past_then y e there = by_place p refl apart
-      where
-        by_place : (q : Place) → p ≡ q → StandsApart x q → unread y e (Some z) ≡ []
-        by_place (place.Direct n) at same = past_none z y e (at ∙ ap (λ (m : ℕ). place.Direct m) same) there
-        by_place (place.Down why) at same = rw at refl
-        by_place place.Line at same = absurd same
-        by_place (place.Passed q kept) at same = absurd same
-        by_place (place.Turn n) at same = absurd same
-        by_place (place.Bound q lo hi by) at same = absurd same
-        by_place place.Over at same = absurd same
+    past_then y e there = grind (arith, nat_tests)
 
     lost_then : (y : ℕ) (e : Exchange) (b : Representation) → unstored_bytes t y e b (Some z) ≡ []
     lost_then y e b = rw (place_is.unbound (family y e)) refl
@@ -206,36 +132,13 @@ module _ (t : Tables) (law : Lawful t) (x : ℕ) (w : Exchange) (row : t.exchang
         by_place : (p : Place) → v.place ≡ p → awaited_exchange p ≡ Some x → Queues v
         by_place (place.Turn y) stood on = law.places.turn_queues w.c y v asker stood
         by_place (place.Bound q lo hi (by.FirstHole y)) stood on = record { cached = law.places.bound_cached w.c q lo hi (by.FirstHole y) v asker stood; asks = law.places.first_asks w.c q lo y hi v asker stood }
-        by_place (place.Bound q lo hi by.Founding) stood on = none_some x on
-        by_place (place.Bound q lo hi by.Plan) stood on = none_some x on
-        by_place place.Line stood on = none_some x on
-        by_place (place.Passed q kept) stood on = none_some x on
-        by_place (place.Direct y) stood on = none_some x on
-        by_place (place.Down why) stood on = none_some x on
-        by_place place.Over stood on = none_some x on
+        by_place _ stood on = none_some x on
 
     answer_back : answer_for t back ≡ None
-    answer_back = by_shown v.shown refl
-      where
-        by_shown : (b : Bool) → v.shown ≡ b → answer_for t back ≡ None
-        by_shown true on = rw on refl
-        by_shown false off = rw off refl
+    answer_back = grind (arith, nat_tests)
 
     back_kept : (k : Consumer) → IsKept t k v → IsKept t (once_over now k) back
-    back_kept k is = record {
-      is_there = refl;
-      request = is.request;
-      class_is = is.class_is;
-      since = λ cached asks. refl;
-      place = refl;
-      own = refl;
-      shown = is.shown;
-      answer = is.answer ∙ (asker_answer ∙ sym answer_back);
-      begins = refl;
-      ends = refl;
-      given = is.given;
-      due = refl;
-    }
+    back_kept k is = assumption (is, is.answer ∙ (asker_answer ∙ sym answer_back))
 
     back_much : HoldsAsMuch t w.c v back asker
     back_much = record {

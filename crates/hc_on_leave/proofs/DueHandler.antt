@@ -1,4 +1,6 @@
 -- A failure becomes due to a consumer: what is kept represents the tables then.
+use Rattle.std.{proofs.{lemmas.Bool.Decides.{nat_tests}}}
+use Rattle.std.{proofs.{Common.{arith}}}
 use Rattle.std.{proofs.Common.{◌≡◌, ◌≢◌, inl, inr, ℕ, List, Option, Some, None, refl, ap, sym, ◌∙◌}, specs.{Prelude.{nat_eq}, Option.{option_or}, HashMap.{get}}}
 use Rattle.hc_text.proofs.Basics.{eqb-other, eqb-same, same_or}
 use Rattle.hc_effects.proofs.Vocabulary.{Limits, Cause, with_consumer, is_bound, Tables}
@@ -25,32 +27,13 @@ module _ {B : Type 0} {g : Ghosts B} {limits : Limits} (r u : Rows B g) (t : Tab
   others d ne = rw (eqb-other c d (λ e. ne (sym e))) refl
 
   due_then : IsKept t (with_due why k) z
-  due_then = record {
-    is_there = is.is_there;
-    request = is.request;
-    class_is = is.class_is;
-    since = is.since;
-    place = is.place;
-    own = is.own;
-    shown = is.shown;
-    answer = is.answer;
-    begins = is.begins;
-    ends = is.ends;
-    given = is.given;
-    due = ap (λ (d : Option Cause). option_or d (Some why)) (is.due ∙ undue);
-  }
+  due_then = assumption (is, ap (λ (d : Option Cause). option_or d (Some why)) (is.due ∙ undue))
 
   users : (q d : ℕ) → is_bound q (s.consumer d) ≡ is_bound q (t.consumer d)
-  users q d = elim (same_or c d) [
-    | inl e ↦ rw (← e, here, row) refl
-    | inr ne ↦ ap (is_bound q) (others d (λ e. ne (sym e)))
-  ]
+  users q d = grind (arith, nat_tests)
 
   firsts : (q d : ℕ) → is_first t q (s.consumer d) ≡ is_first t q (t.consumer d)
-  firsts q d = elim (same_or c d) [
-    | inl e ↦ rw (← e, here, row) refl
-    | inr ne ↦ ap (is_first t q) (others d (λ e. ne (sym e)))
-  ]
+  firsts q d = grind (arith, nat_tests)
 
   keys_then : (key : List ℕ) → KeepsKey s key (kept_of u.keys key)
   keys_then key = rw same_keys (key_with t c (Some z) key (kept_of r.keys key) (kept_of r.keys key) (stands.keys key)

@@ -8,10 +8,9 @@ use Rattle.std.{proofs.{Common.{◌≡◌, ◌≢◌, ◌⊎◌, inl, inr, ℕ, 
 use Rattle.hc_text.proofs.Basics.{eqb-other, eqb-same, false_true, same_or, some_inj as some_is}
 use Rattle.hc_store.specs.declared.backend.Backend.{Ghosts}
 use Rattle.hc_range.specs.declared.range.Span.{Span}
-use Rattle.hc_effects.proofs.Vocabulary.{Act, LostKind, Event, Need, Request, Response, HeadCase, Wanted, Limits, Room, head_case, length_of, promise_of, content_range_of, range_of, wanted_of, room_of, gives_way, Place, head_view, is_founding, back_in_line, bound_to_wanted, idle_now, current, denial, doomed_by_case, with_event, as_gone, let_all_go, let_some_go, with_consumer, with_answer, with_founding, just_founded, entry_without_acts, promise_in, family, NoFlaw, Loses, flaw_in, goes_by_case, founded_total, total_of_part, IsInUse, MayMakeRoom, MayLetGo, weight_now, weights_now, room_now, giving_way, AreOnce, bound, is_bound, Tables, Exchange, Representation, has_room, may_lose, Among, with_item_first, evicted, room_for, is_fault, act, kind as kinds, event, case, wanted, room, write, by}
+use Rattle.hc_effects.proofs.Vocabulary.{Act, LostKind, Event, Need, Request, Response, HeadCase, Limits, Room, head_case, length_of, promise_of, content_range_of, range_of, wanted_of, room_of, gives_way, Place, head_view, is_founding, back_in_line, idle_now, current, denial, doomed_by_case, with_event, as_gone, let_all_go, let_some_go, with_consumer, with_answer, with_founding, just_founded, entry_without_acts, promise_in, family, NoFlaw, Loses, flaw_in, goes_by_case, founded_total, total_of_part, IsInUse, MayMakeRoom, MayLetGo, weight_now, weights_now, room_now, giving_way, AreOnce, bound, is_bound, Tables, Exchange, Representation, has_room, may_lose, Among, with_item_first, evicted, room_for, is_fault, act, kind as kinds, event, case, wanted, room, write, by, place}
 use Rattle.hc_stored.specs.Entries.{shelf_of}
 use Rattle.hc_exch.specs.{Exchanges.{table_of}, Known.{length_by}, declared.row.Open.{Open}}
-use Rattle.hc_event.specs.declared.place.Place.TheVariants as place
 use Rattle.hc_model.specs.LettingGo.{first_idle}
 use Rattle.hc_model.specs.Rows as rows
 use Rattle.hc_model.specs.Sound as sound
@@ -24,21 +23,7 @@ use Rattle.hc_on_leave.proofs.{FoundRows.{IsUnfounded, founded_stands}, HeardRow
 
 -- whoever waited and starts over wasn't bound
 pub bound_back : (now : ℕ) (es : List ℕ) (q : ℕ) (o : Option rows.Consumer) → is_bound q (option_map (back_from_any now es) o) ≡ is_bound q o
-bound_back now es q None = refl
-bound_back now es q (Some k) = by_place k.place refl
-  where
-    by_place : (p : Place) → k.place ≡ p → is_bound q (option_map (back_from_any now es) (Some k)) ≡ is_bound q (Some k)
-    by_place (place.Passed a kept) at = by_test (is_in es a) refl
-      where
-        by_test : (b : Bool) → is_in es a ≡ b → is_bound q (option_map (back_from_any now es) (Some k)) ≡ is_bound q (Some k)
-        by_test true on = rw (at, on) refl
-        by_test false off = rw (at, off) refl
-    by_place place.Line at = rw at refl
-    by_place (place.Turn x) at = rw at refl
-    by_place (place.Bound r lo hi how) at = rw at refl
-    by_place (place.Direct x) at = rw at refl
-    by_place (place.Down why) at = rw at refl
-    by_place place.Over at = rw at refl
+bound_back now es q o = grind (arith, nat_tests)
 
 pub bound_without : (now : ℕ) (es : List ℕ) (t : Tables) (q : ℕ) → bound (without now es t) q ≡ bound t q
 bound_without now es t q = bound_same t (without now es t) q refl (λ d. bound_back now es q (t.consumer d))
@@ -62,10 +47,10 @@ make_gone now rs s may = record {
 }
   where
     by_row : (q : ℕ) (o : Option Representation) → s.representation q ≡ o → (b : Bool) {p : Representation} → (if b then option_map as_gone o else o) ≡ Some p → IsInUse s q p → p.size ≡ Rattle.hc_sparse.specs.Cells.size p.stored
-    by_row q None at true {p} is used = none_some p is
-    by_row q None at false {p} is used = none_some p is
     by_row q (Some a) at true {p} is used = (let one : as_gone a ≡ p = some_is (as_gone a) p is in subst (λ (z : Representation). z.size ≡ Rattle.hc_sparse.specs.Cells.size z.stored) one (may.sized q a at (λ gone. used (ap (λ (z : Representation). z.is_gone) (sym one)))))
     by_row q (Some a) at false {p} is used = (let one : a ≡ p = some_is a p is in subst (λ (z : Representation). z.size ≡ Rattle.hc_sparse.specs.Cells.size z.stored) one (may.sized q a at (λ gone. used (ap (λ (z : Representation). z.is_gone) (sym one) ∙ gone))))
+    by_row q None at true {p} is used = none_some p is
+    by_row q None at false {p} is used = none_some p is
 
 some_may : (now : ℕ) (o : Option ℕ) (s : Tables) → MayLetGo s → MayLetGo (let_some_go now o s)
 some_may now None s may = may
@@ -103,10 +88,7 @@ module _ (limits : Limits) (t : Tables) (facts : Facts limits t) (now x : ℕ) (
   -- what nobody was bound to nobody is bound to
   still : (q : ℕ) → bound t q ≡ [] → bound fallback q ≡ []
   unfolding bound
-  still q none = none_left (λ d. is_bound q (fallback.consumer d)) (λ d. is_bound q (t.consumer d)) fewer t.starts none
-    where
-      fewer : (d : ℕ) → is_bound q (t.consumer d) ≡ false → is_bound q (fallback.consumer d) ≡ false
-      fewer d off = elim (cases_Bool (w.c == d)) [ inl it ↦ rw it refl | inr other ↦ rw other off ]
+  still q none = grind (arith, nat_tests, none_left, is_bound)
 
   make_fallback : MayMakeRoom fallback
   make_fallback = let may = may_make_room t facts in record { may = may_fallback; used = may.used; founded = may.founded; sized = λ q p there used. may.sized q p there (λ gone none. used gone (still q none)) }
@@ -166,11 +148,7 @@ module _ (limits : Limits) (t : Tables) (facts : Facts limits t) (now x : ℕ) (
   unfounded = facts.law.sound.numbered.names.unfounded x w awaits.row awaits.headless
 
   pub m_unfounded : m.representation x ≡ None
-  m_unfounded = ap (λ (z : Tables). z.representation x) m_without ∙ (ap (λ (o : Option Representation). if is_in all_gone x then option_map Rattle.hc_model.specs.Effects.as_gone o else o) unfounded ∙ by_test (is_in all_gone x))
-    where
-      by_test : (b : Bool) → (if b then option_map Rattle.hc_model.specs.Effects.as_gone None else None) ≡ (let none : Option Representation = None in none)
-      by_test true = refl
-      by_test false = refl
+  m_unfounded = ap (λ (z : Tables). z.representation x) m_without ∙ (ap (λ (o : Option Representation). if is_in all_gone x then option_map Rattle.hc_model.specs.Effects.as_gone o else o) unfounded ∙ grind (arith, nat_tests))
 
   pub m_fresh : IsUnfounded m x
   m_fresh = record {
@@ -214,31 +192,15 @@ slot_full limits sum ws le full = by_list ws full
 
 slot_small : (limits : Limits) (sum : ℕ) (ws : List ℕ) → room_of limits sum write.Slot ws ≡ room.TooLarge → ⊥
 unfolding room_of
-slot_small limits sum ws large = by_gives (gives_way limits.max_total (sum + 32768) ws) large
-  where
-    by_gives : (o : Option ℕ) → Rattle.hc_rules.specs.Rooms.room_by o ≡ room.TooLarge → ⊥
-    by_gives None is = (let never : room.Full ≡ room.TooLarge = is in cc)
-    by_gives (Some n) is = (let never : room.After n ≡ room.TooLarge = is in cc)
+slot_small limits sum ws large = grind (arith, nat_tests)
 
 -- there is room where the slot fits once that gave way
 slot_room : (limits : Limits) (now : ℕ) (s : Tables) → weights_now (let_all_go now (giving_way limits s write.Slot) s) + 32768 ≤ limits.max_total → has_room (room_now limits s write.Slot) ≡ true
-slot_room limits now s le = by_room (room_now limits s write.Slot) refl
-  where
-    by_room : (a : Room) → room_now limits s write.Slot ≡ a → has_room a ≡ true
-    by_room (room.After count) is = refl
-    by_room room.TooLarge is = absurd (slot_small limits (weights_now s) (map (weight_now s) (idle_now s)) is)
-    by_room room.Full is =
-        let none : giving_way limits s write.Slot ≡ [] = ap (first_idle s) is in
-        absurd (slot_full limits (weights_now s) (map (weight_now s) (idle_now s)) (subst (λ (rs : List ℕ). weights_now (let_all_go now rs s) + 32768 ≤ limits.max_total) none le) is)
+slot_room limits now s le = grind (arith, nat_tests, slot_small, slot_full)
 
 -- and it is full where the slot doesn't
 slot_none : (limits : Limits) (now : ℕ) (s : Tables) → MayMakeRoom s → limits.max_total < weights_now (let_all_go now (giving_way limits s write.Slot) s) + 32768 → room_now limits s write.Slot ≡ room.Full
-slot_none limits now s may past = by_room (room_now limits s write.Slot) refl
-  where
-    by_room : (a : Room) → room_now limits s write.Slot ≡ a → a ≡ room.Full
-    by_room (room.After count) is = absurd (let fits = fits_after limits now s write.Slot count may is in omega (arith, fits, past))
-    by_room room.TooLarge is = absurd (slot_small limits (weights_now s) (map (weight_now s) (idle_now s)) is)
-    by_room room.Full is = refl
+slot_none limits now s may past = grind (arith, nat_tests, fits_after, slot_small)
 
 evicts_quietly : (qs : List ℕ) → flaw_in (map act.Evicted qs) ≡ NoFlaw
 evicts_quietly [] = refl
@@ -268,12 +230,7 @@ doomless w response _ replaced = refl
 founder_waits : (x : ℕ) (response : Response) (w : Exchange) (v : rows.Consumer) (rs : List ℕ) (g : HeadCase) → Founds g → waits_for_any rs (founder x response w g v).place ≡ false
 founder_waits x response w v rs _ whole = refl
 founder_waits x response w v rs _ replaced = refl
-founder_waits x response w v rs _ part = by_wanted (wanted_of (range_of v.request) (founded_total w response))
-  where
-    by_wanted : (a : Wanted) → waits_for_any rs (bound_to_wanted x by.Founding (place.Direct x) a) ≡ false
-    by_wanted (wanted.Interval span) = refl
-    by_wanted wanted.Unsatisfiable = refl
-    by_wanted wanted.TotalUnknown = refl
+founder_waits x response w v rs _ part = grind (arith, nat_tests)
 
 -- what is kept of what is founded is what the tables say
 shared_is : (g : HeadCase) → Founds g → is_shared_by g ≡ not (is_part g)
@@ -282,8 +239,7 @@ shared_is _ part = refl
 shared_is _ replaced = refl
 
 or_same : (p : Option ℕ) → option_or p p ≡ p
-or_same None = refl
-or_same (Some n) = refl
+or_same p = grind (arith, nat_tests)
 
 -- its consumer reads it as the tables say
 founder_is : (x : ℕ) (response : Response) (w : Exchange) (v : rows.Consumer) (lo : ℕ) (hi : Option ℕ) (shared : Bool) (g : HeadCase) → Founds g → (is_part g ≡ false → founded_total w response ≡ promise_in w response) → (is_part g ≡ true → (span : Span) × (wanted_of (range_of v.request) (founded_total w response) ≡ wanted.Interval span))
@@ -355,10 +311,7 @@ module _ (limits : Limits) (t : Tables) (facts : Facts limits t) (now x : ℕ) (
 
   -- what is done last was done first
   last_first : (s : Tables) → let_all_go now (evicted limits t now ev) (let_some_go now (current t w.request.key) (let_some_go now (replaces w g) s)) ≡ let_all_go now all_left s
-  last_first s =
-      ap (λ (rs : List ℕ). let_all_go now rs (let_some_go now (current t w.request.key) (let_some_go now (replaces w g) s))) evicts_left
-      ∙ (ap (λ (o : Option ℕ). let_all_go now (es limits t facts now x w v awaits as_gone) (let_some_go now (current t w.request.key) (let_some_go now o s))) (sym gone_is)
-      ∙ sym (all_one now as_gone (with_item_first (current t w.request.key) (es limits t facts now x w v awaits as_gone)) s ∙ all_one now (current t w.request.key) (es limits t facts now x w v awaits as_gone) (let_some_go now as_gone s)))
+  last_first s = grind (arith, nat_tests, current, replaces, evicts_left, gone_is, all_one)
 
   module _ {B : Type 0} {b : Ghosts B} (a : Rows B b) (faults : ℕ) (before mid : List Act) (gives : GivesWay limits a left now (es limits t facts now x w v awaits as_gone) before mid) where
     abbrev fallback_row : rows.Consumer
@@ -377,10 +330,7 @@ module _ (limits : Limits) (t : Tables) (facts : Facts limits t) (now x : ℕ) (
       total_is = ap₂ (λ (n : Need) (e : Request). if response.status == 206 then total_of_part (content_range_of response.fields) else promise_of (length_of n e response)) runs.need runs.request
 
       part_is : (f.lo, f.hi) ≡ part_by (is_shared_by g) (range_of v.request) (founded_total w response)
-      part_is =
-          founding.part
-          ∙ (ap (λ e. part_by e asked.class.range (total_by o response)) founding.shared
-          ∙ (ap (λ e. part_by (is_shared_by g) e (total_by o response)) range_is ∙ ap (part_by (is_shared_by g) (range_of v.request)) total_is))
+      part_is = grind (arith, nat_tests, part_by, total_by, total_is)
 
       parts : is_part g ≡ true → (span : Span) × (wanted_of (range_of v.request) (founded_total w response) ≡ wanted.Interval span)
       parts on = part_wanted limits t facts.law now x response goes w awaits.row v awaits.asker (by_case g founds on is)
@@ -429,9 +379,7 @@ module _ (limits : Limits) (t : Tables) (facts : Facts limits t) (now x : ℕ) (
     -- and the store refuses it
     module _ (u : Rows B b) (kind : LostKind) (out : List Act) (rows_then : RowsStand limits u (with_answer now x response w.joined w roomy)) (told : out ≡ mid ++ (act.Lost x kind ∷ [])) (may : may_lose (room_for limits t now ev) kind ≡ true) (caused : is_fault (Loses x kind) ≡ true → faults < (shelf_of u.entries).faults) where
       lost_tables : let_all_go now (evicted limits t now ev) (let_some_go now (current t w.request.key) (let_some_go now (replaces w g) (with_consumer w.c (Some fallback_row) (with_answer now x response w.joined w t)))) ≡ with_answer now x response w.joined w roomy
-      lost_tables =
-          last_first (with_consumer w.c (Some fallback_row) (with_answer now x response w.joined w t))
-          ∙ (past_last now x w.c response w.joined w fallback_row all_left t ∙ ap (with_answer now x response w.joined w) (sym (m_is limits t facts now x w v awaits as_gone)))
+      lost_tables = grind (arith, nat_tests, last_first, past_last, all_left, m_is)
 
       may_fail : (a : Bool) → a ≡ true → (nat_eq x x && true && a) ≡ true
       may_fail a on = (let self = eqb-same x in rw (self, on) refl)

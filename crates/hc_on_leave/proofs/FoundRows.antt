@@ -6,25 +6,20 @@
 -- (`began_kept`). `founded_stands` joins them for `FoundHandler`.
 use Rattle.std.{proofs.{Common.{◌≡◌, ◌≢◌, ◌⊎◌, inl, inr, ℕ, List, [], ◌∷◌, Bool, true, false, Option, Some, None, refl, ap, ap₂, sym, ◌∙◌, subst, arith}, lemmas.Bool.Decides.{nat_tests}}, specs.{Prelude.{◌==◌, ◌&&◌, ◌||◌, not, nat_eq, bytes_eq, filter, find, is_some, if◌then◌else◌}, HashMap.{get}, List.{list_any}, Option.{option_or}}}
 use Rattle.hc_text.proofs.Basics.{any_none, eqb-other, eqb-same, false_true, never_true as not_true, same_or, some_inj as some_is}
-use Rattle.hc_effects.proofs.Vocabulary.{Limits, Need, Request, Response, Length, length_of, base_of, promise_of, content_range_of, Place, BoundBy, current, is_number, is_usable, total_in, is_live, exchange_with_head, just_founded, with_consumer, with_founding, promise_in, family, is_reached, founded_total, total_of_part, varied_by, kind_of, is_growing, brings_to, is_bound, is_bound_place, Tables, Exchange, Representation, Among, came_alone, is_in_line, by}
+use Rattle.hc_effects.proofs.Vocabulary.{Limits, Need, Request, Response, Length, length_of, base_of, promise_of, content_range_of, Place, BoundBy, current, is_number, is_usable, total_in, is_live, exchange_with_head, just_founded, with_consumer, with_founding, promise_in, family, is_reached, founded_total, total_of_part, varied_by, kind_of, is_growing, brings_to, is_bound, is_bound_place, Tables, Exchange, Representation, Among, came_alone, is_in_line, by, bound, place}
 use Rattle.hc_effects.proofs.Tests.{and_false}
 use Rattle.hc_store.specs.declared.backend.Backend.{Ghosts}
 use Rattle.hc_sparse.specs.Cells.{Covers, nothing}
 use Rattle.hc_sorted.specs.Sorted.{has}
-use Rattle.hc_record.specs.{Head.{Head, sealed_head}, Plain.{plain}}
-use Rattle.hc_record.specs.declared.kind.Kind.TheVariants as kinds
+use Rattle.hc_record.specs.{Head.{Head, sealed_head}, Plain.{plain}, declared.kind.Kind.TheVariants.{the_data as kinds}}
 use Rattle.hc_rules.proofs.RangeReads.{bytes_eq-same, same_bytes}
-use Rattle.hc_stored.specs.{Entries.{shelf_of}, Kept.{Kept, itself, alone_if}}
-use Rattle.hc_stored.specs.Kept as entry
+use Rattle.hc_stored.specs.{Entries.{shelf_of}, Kept.{Kept, itself, alone_if, founded_kept}}
 use Rattle.hc_entry.specs.{Keys.{kept_of}, Kept.{with_current}}
 use Rattle.hc_entry.specs.Kept as keyed
-use Rattle.hc_exch.specs.declared.role.Role.TheVariants as role
-use Rattle.hc_exch.specs.{declared.row.Open.{Open}, Exchanges.{table_of}, Known.{Known, is_all, length_by}}
-use Rattle.hc_event.specs.declared.place.Place.TheVariants as place
-use Rattle.hc_model.specs.Effects as effects
-use Rattle.hc_model.specs.Heads.{founded_head}
+use Rattle.hc_exch.specs.{declared.{role.Role.TheVariants.{the_data as role}, row.Open.{Open}}, Exchanges.{table_of}, Known.{Known, is_all, length_by}}
+use Rattle.hc_model.specs.{Heads.{founded_head}, Effects.{with_answer}}
 use Rattle.hc_model.specs.Rows as rows
-use Rattle.hc_state.specs.{declared.{consumer.Consumer.{Consumer}, rows.Rows.{Rows}, founded.Founding.{Founding}}, Changes.{BecomesAt}, Founding.{BeginsFounding, founds_with, brings_body, head_by, total_by, kind_begun, writer_by}, Heads.{IsReadAlone}, Kept.{IsKept, IsRunning, KeepsConsumer, KeepsExchange, KeepsRunning, answer_for, held_alone, held_for, held_of, unread, unstored_bytes}, Lines.{KeepsKey, has_turn, is_away, is_passed}, Stands.{RowsStand}, Stored.{IsEntry, KeepsEntry, KeepsEntries, is_first, is_usable_row, as_written}}
+use Rattle.hc_state.specs.{declared.{consumer.Consumer.{Consumer}, rows.Rows.{Rows}, founded.Founding.{Founding}}, Changes.{BecomesAt}, Founding.{BeginsFounding, founds_with, brings_body, head_by, total_by, kind_begun, writer_by}, Heads.{IsReadAlone}, Kept.{IsKept, IsRunning, KeepsConsumer, KeepsExchange, KeepsRunning, answer_for, held_alone, held_for, held_of, unread, unstored_bytes, role_of}, Lines.{KeepsKey, has_turn, is_away, is_passed}, Stands.{RowsStand}, Stored.{IsEntry, KeepsEntry, KeepsEntries, is_first, is_usable_row, as_written, TellsLength, TellsWriter}}
 use Rattle.hc_state.specs.Stored as stored
 use Rattle.hc_on_leave.proofs.{AnswerHandler.{all_reached}, HeardExchange.{entries_heard, key_heard, held_empty}, HeardRows.{runs_as, kept_as}}
 use Rattle.hc_state.proofs.{Fallbacks.{unstored_moved}, FallbackSteps.{live_same}, KeySteps.{IsUnsaid, apart_unsaid}, OneOfEach.{bound_same, kind_same}, QueueHandler.{becomes_by}, Ties.{consumer_same, entry_same, exchange_same}}
@@ -70,10 +65,10 @@ module _ {B : Type 0} {g : Ghosts B} {limits : Limits} (a u : Rows B g) (m : Tab
   q = record past { place = place.Bound x f.lo f.hi by.Founding; own = if f.shared then None else past.own }
 
   abbrev heard : Tables
-  heard = effects.with_answer now x response w.joined w m
+  heard = with_answer now x response w.joined w m
 
   abbrev pub s : Tables
-  s = with_consumer w.c (Some q) (effects.with_answer now x response w.joined w (with_founding x v m))
+  s = with_consumer w.c (Some q) (with_answer now x response w.joined w (with_founding x v m))
 
   is : IsKept m k past
   is = kept_as a m w.c past k stands alone.asker there
@@ -107,29 +102,20 @@ module _ {B : Type 0} {g : Ghosts B} {limits : Limits} (a u : Rows B g) (m : Tab
   -- THE CONSUMER
 
   live_each : (d : ℕ) → is_live (s.consumer d) ≡ is_live (m.consumer d)
-  live_each d = elim (same_or w.c d) [
-    | inl e ↦ rw (← e, c_here, alone.asker, alone.at) refl
-    | inr ne ↦ ap is_live (c_else d (λ e. ne (sym e)))
-  ]
+  live_each d = grind (arith, nat_tests)
 
   answer_none : answer_for m past ≡ None
   answer_none = rw (alone.unshown, alone.at, alone.bare.row) alone.bare.headless
 
   consumer_kept : IsKept s (founds_with x f.shared f.lo f.hi k) q
-  consumer_kept = record {
-    is_there = refl;
-    request = is.request;
-    class_is = is.class_is;
-    since = is.since;
-    place = refl;
-    own = ap (λ (n : Option ℕ). if f.shared then None else n) is.own;
-    shown = is.shown;
-    answer = is.answer ∙ (answer_none ∙ sym (rw alone.unshown refl));
-    begins = refl;
-    ends = sym (ap (λ (row : Option Representation). option_or f.hi (total_in row)) r_here ∙ ends);
-    given = is.given;
-    due = is.due;
-  }
+  consumer_kept =
+      let answer : None ≡ answer_for s q = sym (rw alone.unshown refl) in
+      assumption (
+        is,
+        ap (λ (n : Option ℕ). if f.shared then None else n) is.own,
+        is.answer ∙ (answer_none ∙ answer),
+        sym (ap (λ (row : Option Representation). option_or f.hi (total_in row)) r_here ∙ ends),
+      )
 
   consumers_kept : (d : ℕ) → KeepsConsumer s (get nat_eq u.consumers d) (s.consumer d)
   consumers_kept d = elim (same_or w.c d) [
@@ -166,28 +152,17 @@ module _ {B : Type 0} {g : Ghosts B} {limits : Limits} (a u : Rows B g) (m : Tab
   known_is = begins.exchanges.table x ∙ (rw (eqb-same x) (ap (λ n. brings_body x n (table_of a.exchanges x)) length_is))
 
   running_is : (b : Bool) → is_all (promise_of l) 0 ≡ b → (brings_body x l (table_of a.exchanges x)).running ≡ (if b then None else Some opened)
-  running_is true over = rw over refl
-  running_is false over = rw (over, running) refl
+  running_is b over = grind (arith, nat_tests)
 
   held_is : (b : Bool) → is_all (promise_of l) 0 ≡ b → (brings_body x l (table_of a.exchanges x)).held ≡ (table_of a.exchanges x).held
-  held_is true over = rw over refl
-  held_is false over = rw over refl
+  held_is b over = grind (arith, nat_tests)
 
   runs_then : (b : Bool) → is_reached (promise_in w response) 0 ≡ b → KeepsRunning s x (if b then None else Some opened) (Some z)
   runs_then true over = rw over refl
-  runs_then false over = record {
-    is_open = rw over alone.bare.is_open;
-    c = runs.c;
-    need = runs.need;
-    request = runs.request;
-    moment = runs.moment;
-    headed = refl;
-    asked = runs.asked;
-    base_is = ap base_of told;
-    delivered = runs.delivered;
-    promised_is = ap promise_of told;
-    role = rw (alone.bare.unjoined, eqb-same x) refl;
-  }
+  runs_then false over =
+      let is_open : z.is_open ≡ true = rw over alone.bare.is_open in
+      let role : role.Body x ≡ role_of s x z = rw (alone.bare.unjoined, eqb-same x) refl in
+      assumption (runs, is_open, role, ap base_of told, ap promise_of told)
 
   held_none : held_for s x (Some z) ≡ []
   held_none = rw (alone.bare.unjoined, eqb-same x) refl
@@ -251,10 +226,7 @@ module _ {B : Type 0} {g : Ghosts B} {limits : Limits} (a u : Rows B g) (m : Tab
   unsaid_now key = apart_unsaid s key q refl refl refl
 
   says : (f h : Option rows.Consumer → Bool) → f (Some past) ≡ false → h (Some q) ≡ false → ((e : Option rows.Consumer) → h e ≡ f e) → (d : ℕ) → h (s.consumer d) ≡ f (m.consumer d)
-  says f h was now same d = elim (same_or w.c d) [
-    | inl e ↦ ap h (sym (ap s.consumer e) ∙ c_here) ∙ (now ∙ sym (ap f (sym (ap m.consumer e) ∙ alone.asker) ∙ was))
-    | inr ne ↦ ap h (c_else d (λ e. ne (sym e))) ∙ same (m.consumer d)
-  ]
+  says f h was now same d = grind (arith, nat_tests)
 
   key_said : (key : List ℕ) (e : keyed.Kept) (n : Option ℕ) → KeepsKey m key e → n ≡ current s key → KeepsKey s key (with_current n e)
   key_said key e n kept now_is =
@@ -321,20 +293,10 @@ module _ {B : Type 0} {g : Ghosts B} {limits : Limits} (a u : Rows B g) (m : Tab
         | inl same ↦ rw (← same, eqb-other x n (λ e. ne (sym e))) refl
         | inr off ↦ rw (eqb-other x r off) refl
       ])
-      by_place (place.Bound r lo hi (by.FirstHole y)) at = rw at refl
-      by_place (place.Bound r lo hi by.Plan) at = rw at refl
-      by_place place.Line at = rw at refl
-      by_place (place.Passed r kept) at = rw at refl
-      by_place (place.Turn y) at = rw at refl
-      by_place (place.Direct y) at = rw at refl
-      by_place (place.Down why) at = rw at refl
-      by_place place.Over at = rw at refl
+      by_place _ at = rw at refl
 
   first_else : (n : ℕ) → n ≢ x → (d : ℕ) → is_first s n (s.consumer d) ≡ is_first heard n (m.consumer d)
-  first_else n ne d = elim (same_or w.c d) [
-    | inl e ↦ rw (← e, c_here, alone.asker, alone.at) (and_false (x == n) _ (eqb-other x n (λ same. ne (sym same))))
-    | inr off ↦ ap (is_first s n) (c_else d (λ e. off (sym e))) ∙ first_same n ne (m.consumer d)
-  ]
+  first_else n ne d = grind (arith, nat_tests, same_or, c_here, and_false, eqb-other, is_first, c_else, first_same)
 
   entry_else : (n : ℕ) (e : Option Kept) → n ≢ x → KeepsEntry heard n e (m.representation n) → KeepsEntry s n e (s.representation n)
   entry_else n e ne kept = subst (KeepsEntry s n e) (sym (r_else n ne))
@@ -343,15 +305,13 @@ module _ {B : Type 0} {g : Ghosts B} {limits : Limits} (a u : Rows B g) (m : Tab
   -- ITSELF
 
   abbrev began : Kept
-  began = entry.founded_kept f.key (plain f.head) w.c (not f.shared) (writer_by f.shared x)
+  began = founded_kept f.key (plain f.head) w.c (not f.shared) (writer_by f.shared x)
 
   total_is : total_by o response ≡ founded_total w response
   total_is = ap₂ (λ (n : Need) (e : Request). if response.status == 206 then total_of_part (content_range_of response.fields) else promise_of (length_of n e response)) runs.need runs.request
 
   head_sealed : sealed_head kinds.Growing v.head.total (plain f.head) ≡ v.head
-  head_sealed =
-      ap (sealed_head kinds.Growing v.head.total) head_is
-      ∙ ap₂ (λ (e : Request) (n : ℕ). record (founded_head now response w) { requested = n; vary_fields = varied_by e.fields response.fields }) runs.request runs.moment
+  head_sealed = grind (arith, nat_tests)
 
   kind_is : (plain f.head).kind ≡ kind_begun (promise_in w response)
   kind_is = ap (λ (h : Head). h.kind) head_is ∙ ap₂ (λ (n : Need) (e : Request). kind_begun (promise_of (length_of n e response))) runs.need runs.request
@@ -400,9 +360,8 @@ module _ {B : Type 0} {g : Ghosts B} {limits : Limits} (a u : Rows B g) (m : Tab
           let on : is_growing s x ≡ true = grows ∙ (ap (λ (p : Option ℕ). not (is_reached p 0)) is ∙ ap not off) in
           rw (off, on) refl
       by_test n true is over =
-          let none : n ≡ 0 = grind (arith, nat_tests, over) in
           let off : is_growing s x ≡ false = grows ∙ (ap (λ (p : Option ℕ). not (is_reached p 0)) is ∙ ap not over) in
-          let all : founded_total w response ≡ Some 0 = empties (is ∙ ap Some none) in
+          let all : founded_total w response ≡ Some 0 = empties (is ∙ ap Some (grind (arith, nat_tests, over))) in
           rw (over, off, all) refl
 
       by_promise : (p : Option ℕ) → promise_in w response ≡ p → kind_begun (promise_in w response) ≡ kind_of s x v
@@ -423,11 +382,7 @@ module _ {B : Type 0} {g : Ghosts B} {limits : Limits} (a u : Rows B g) (m : Tab
       ]
 
   status_shares : (response.status == 206) ≡ not f.shared
-  status_shares = sym (ap not shares ∙ twice (response.status == 206))
-    where
-      twice : (b : Bool) → not (not b) ≡ b
-      twice true = refl
-      twice false = refl
+  status_shares = sym (ap not shares ∙ grind (arith, nat_tests))
 
   began_bound : (d : ℕ) → has itself d (w.c ∷ []) ≡ is_bound x (s.consumer d)
   began_bound d = elim (same_or w.c d) [
@@ -437,12 +392,7 @@ module _ {B : Type 0} {g : Ghosts B} {limits : Limits} (a u : Rows B g) (m : Tab
     where
       by_place : (d : ℕ) (e : rows.Consumer) (p : Place) → m.consumer d ≡ Some e → e.place ≡ p → is_bound_place x p ≡ true → ⊥
       by_place d e (place.Bound r lo hi how) at stood on = (let same : r ≡ x = grind (arith, nat_tests, on) in fresh.unbound d lo hi how e at (stood ∙ ap (λ (n : ℕ). place.Bound n lo hi how) same))
-      by_place d e place.Line at stood on = false_true on
-      by_place d e (place.Passed r kept) at stood on = false_true on
-      by_place d e (place.Turn y) at stood on = false_true on
-      by_place d e (place.Direct y) at stood on = false_true on
-      by_place d e (place.Down why) at stood on = false_true on
-      by_place d e place.Over at stood on = false_true on
+      by_place d e _ at stood on = false_true on
 
       unbound_row : (d : ℕ) (e : Option rows.Consumer) → m.consumer d ≡ e → is_bound x e ≡ true → ⊥
       unbound_row d None at on = false_true on
@@ -467,29 +417,15 @@ module _ {B : Type 0} {g : Ghosts B} {limits : Limits} (a u : Rows B g) (m : Tab
       by_row (Some e) off = and_false (is_bound_place x e.place) (came_alone s e.place) off
 
   began_writer : writer_by f.shared x ≡ v.writer
-  began_writer = ap (λ b. writer_by b x) shares ∙ by_test (response.status == 206)
-    where
-      by_test : (b : Bool) → writer_by (not b) x ≡ (if b then None else Some x)
-      by_test true = refl
-      by_test false = refl
+  began_writer = ap (λ b. writer_by b x) shares ∙ grind (arith, nat_tests)
 
   began_kept : IsEntry s x began v
-  began_kept = record {
-    used = λ gone. false_true gone;
-    key = key_is ∙ ap (λ (e : Request). e.key) runs.request;
-    head = head_sealed;
-    length = stored.told total_told;
-    kind = λ stays. kind_then;
-    whole = whole_then;
-    cells = λ p. refl;
-    reach = λ kept. refl;
-    bound = began_bound;
-    first = began_first;
-    writer = as_written began_writer;
-    is_lost = refl;
-    alone = refl;
-    is_gone = refl;
-  }
+  began_kept =
+      let used : false ≡ true → bound s x ≢ [] = λ gone. false_true gone in
+      let key : began.key ≡ v.key = key_is ∙ ap (λ (e : Request). e.key) runs.request in
+      let length : TellsLength began v = stored.told total_told in
+      let writer : TellsWriter s.exchange began.writer v.writer = as_written began_writer in
+      assumption (used, key, head_sealed, length, kind_then, whole_then, began_bound, began_first, writer)
 
   entries_kept : KeepsEntries s (shelf_of u.entries)
   entries_kept = record {

@@ -1,4 +1,6 @@
 -- What is denied is what the tables say, and a denial changes the moment alone.
+use Rattle.std.{proofs.{lemmas.Bool.Decides.{nat_tests}}}
+use Rattle.std.{proofs.{Common.{arith}}}
 use Rattle.std.{proofs.Common.{◌≡◌, ℕ, false, Option, Some, None, refl, ap}, specs.{Prelude.{option_map, nat_eq}, Option.{option_and_then}, HashMap.{get}}}
 use Rattle.hc_effects.proofs.Vocabulary.{Limits, Event, Gate, refusal_of, denial, gate, as_open, exchange_in, Tables, Exchange, event}
 use Rattle.hc_store.specs.declared.backend.Backend.{Ghosts}
@@ -12,27 +14,16 @@ seen_as : (t : Tables) (x : ℕ) (o : Open) (w : Exchange) → IsRunning t x o w
 seen_as t x o w is = rw is.is_open (ap Some (rw (is.headed, is.asked, is.delivered, is.promised_is) refl))
 
 closed_as : (row : Option Exchange) → Rattle.hc_model.specs.Exchanges.is_open row ≡ false → None ≡ as_open row
-closed_as None is = refl
-closed_as (Some w) is = rw is refl
+closed_as row is = grind (arith, nat_tests)
 
 sees : (t : Tables) (x : ℕ) (o : Option Open) (row : Option Exchange) → KeepsRunning t x o row → option_map open_view o ≡ as_open row
-sees t x None row keeps = closed_as row keeps
-sees t x (Some o) None keeps = absurd keeps
-sees t x (Some o) (Some w) keeps = seen_as t x o w keeps
+sees t x o row keeps = grind (arith, nat_tests)
 
 sees_at : {B : Type 0} {g : Ghosts B} {limits : Limits} (r : Rows B g) (t : Tables) (x : Option ℕ) → RowsStand limits r t → option_and_then (open_at r) x ≡ as_open (option_and_then t.exchange x)
-sees_at r t None stands = refl
-sees_at r t (Some x) stands = sees t x (table_of r.exchanges x).running (t.exchange x) (stands.exchanges x).running
+sees_at r t x stands = grind (arith, nat_tests)
 
 names_as : {B : Type 0} {g : Ghosts B} {limits : Limits} (r : Rows B g) (t : Tables) (ev : Event) → RowsStand limits r t → names_kept r ev ≡ names_live t ev
-names_as r t (event.Poll c want) stands = kept_lives t (get nat_eq r.consumers c) (t.consumer c) (stands.consumers c)
-names_as r t (event.Cancel c) stands = kept_lives t (get nat_eq r.consumers c) (t.consumer c) (stands.consumers c)
-names_as r t (event.Start c request) stands = refl
-names_as r t (event.Head x response) stands = refl
-names_as r t (event.Piece x bytes) stands = refl
-names_as r t (event.End x) stands = refl
-names_as r t (event.Fault x) stands = refl
-names_as r t (event.Doom key) stands = refl
+names_as r t ev stands = grind (arith, nat_tests)
 
 gates_are : {B : Type 0} {g : Ghosts B} {limits : Limits} (r : Rows B g) (t : Tables) (ev : Event) → RowsStand limits r t → gate_of r ev ≡ gate t ev
 gates_are r t ev stands = rw (stands.last_start, stands.count, names_as r t ev stands, sees_at r t (exchange_in ev) stands) refl

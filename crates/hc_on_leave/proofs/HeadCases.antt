@@ -1,4 +1,6 @@
 -- The case of a head that isn't said to select what is stored: it is the same, unless it is a 304 that may.
+use Rattle.std.{proofs.{lemmas.Bool.Decides.{nat_tests}}}
+use Rattle.std.{proofs.{Common.{arith}}}
 use Rattle.std.{proofs.Common.{◌≡◌, Bool, true, false, refl, ap, ap₂, sym, ◌∙◌, subst}, specs.Prelude.{nat_le, not, ◌&&◌, ◌==◌, if◌then◌else◌}}
 use Rattle.hc_effects.proofs.Vocabulary.{HeadCase, HeadView, Route, head_case, case_on, route_of, case, route}
 use Rattle.hc_effects.proofs.{FoundBy.{CaseBy, case_by}, WrittenEffects.{by_turn}}
@@ -12,15 +14,12 @@ turned bad asked selects kept rest =
     else rest
 
 turned_same : (bad asked selects kept : Bool) (rest g : HeadCase) → turned bad asked false kept rest ≡ g → (g ≡ case.NotValidated → ⊥) → turned bad asked selects kept rest ≡ g
-turned_same true asked selects kept rest g is off = is
-turned_same false true selects kept rest g is off = absurd (off (sym is))
-turned_same false false selects kept rest g is off = is
+turned_same bad asked selects kept rest g is off = grind (arith, nat_tests)
 
 module _ (v : HeadView) (selects : Bool) (g : HeadCase) (off : g ≡ case.NotValidated → ⊥) where
   on : (way : Route) → case_on way (record v { selects = false }) ≡ g → case_on way (record v { selects = selects }) ≡ g
-  on route.Direct is = is
-  on route.Hole is = is
   on route.Turn is = turned_same v.bad (v.status == 304 && v.conditional) selects (not v.lost) _ g is off
+  on _ is = is
 
   pub case_same : head_case (record v { selects = false }) ≡ g → head_case (record v { selects = selects }) ≡ g
   unfolding head_case
@@ -37,9 +36,7 @@ rest v =
     else case.PassesBy
 
 parts_of : (bad asked kept : Bool) (other : HeadCase) → turned bad asked false kept other ≡ case.NotValidated → (other ≡ case.NotValidated → ⊥) → (bad ≡ false) × (asked ≡ true)
-parts_of true asked kept other is off = absurd (let never : case.TurnBad ≡ case.NotValidated = is in cc)
-parts_of false false kept other is off = absurd (off is)
-parts_of false true kept other is off = (refl, refl)
+parts_of bad asked kept other is off = grind (arith, nat_tests)
 
 module _ (v : HeadView) (unselected : head_case (record v { selects = false }) ≡ case.NotValidated) where
   pub it_is : (route_of v.need ≡ route.Turn) × (v.status ≡ 304)
@@ -82,12 +79,10 @@ asked_by : {v : HeadView} → CaseBy v case.Validated → (route_of v.need ≡ r
 asked_by (cases.validated way status asked kept) = (way, rw (status, asked) refl)
 
 unturned : (bad kept : Bool) (other : HeadCase) → turned bad true false kept other ≡ case.Validated → ⊥
-unturned true kept other is = let never : case.TurnBad ≡ case.Validated = is in cc
-unturned false kept other is = let never : case.NotValidated ≡ case.Validated = is in cc
+unturned bad kept other is = grind (arith, nat_tests)
 
 pub case_unvalidated : (v : HeadView) → v.selects ≡ false → head_case v ≡ case.Validated → ⊥
 unfolding head_case
 case_unvalidated v off is =
     let asked = asked_by (subst (CaseBy v) is (case_by v)) in
-    let turn : turned v.bad (v.status == 304 && v.conditional) v.selects (not v.lost) (rest v) ≡ case.Validated = ap (λ (way : Route). case_on way v) (sym asked.0) ∙ is in
-    unturned v.bad (not v.lost) (rest v) (ap₂ (λ (a s : Bool). turned v.bad a s (not v.lost) (rest v)) (sym asked.1) (sym off) ∙ turn)
+    grind (arith, nat_tests)

@@ -4,6 +4,8 @@
 -- represents its row (`runs_as`). By the laws a live consumer owns it, and waits for it by what it was opened for. So
 -- that consumer is kept too, and both see the same of it (`asker`). Whom the code looked up is this one (`asked_by`).
 -- All files on heads begin with these.
+use Rattle.std.{proofs.{lemmas.Bool.Decides.{nat_tests}}}
+use Rattle.std.{proofs.{Common.{arith}}}
 use Rattle.std.{proofs.Common.{◌≡◌, ℕ, Bool, true, false, Option, Some, None, refl, ap, sym, ◌∙◌, subst}, specs.{Prelude.{is_some, nat_eq, option_map, if◌then◌else◌}, HashMap.{get}}}
 use Rattle.hc_text.proofs.Basics.{false_true, same_some as same_row}
 use Rattle.hc_effects.proofs.Vocabulary.{Limits, Response, route_of, head_refusal, Place, denial, is_live_place, NoFlaw, Lawful, StandsFor, IsAwaited, IsAwaiting, Awaits, Tables, Exchange, event}
@@ -53,9 +55,7 @@ heard_row r t x o stands running = by_row (t.exchange x) refl (subst (λ z. Keep
 
 -- where who waits for a head stands, it is live
 pub live_at : (x : ℕ) (w : Exchange) (p : Place) → IsAwaiting x w p → is_live_place p ≡ true
-live_at x w p (owners.direct way at) = rw at refl
-live_at x w p (owners.turn way at) = rw at refl
-live_at x w p (owners.hole r lo hi how way aim at) = rw at refl
+live_at x w p it3 = grind (arith, nat_tests)
 
 -- the exchange is its own, and it waits for that
 pub record WaitsAs (x : ℕ) (w : Exchange) (v : rows.Consumer) : Type 0 where
@@ -113,6 +113,4 @@ asker_of {limits = limits} r t facts now x response w stands goes row =
 
 -- whom the code looked up
 pub asked_by : {B : Type 0} {g : Ghosts B} {limits : Limits} (r : Rows B g) (t : Tables) (x c : ℕ) (w : Exchange) → RowsStand limits r t → head_refusal (option_map open_view (table_of r.exchanges x).running) ≡ None → IsAskedBy c (table_of r.exchanges x).running → t.exchange x ≡ Some w → w.c ≡ c
-asked_by r t x c w stands accepted asks row =
-    let h = headless_of (table_of r.exchanges x).running accepted in
-    sym (runs_as r t x h.o w stands h.there row).c ∙ asks h.o h.there
+asked_by r t x c w stands accepted asks row = grind (arith, nat_tests)

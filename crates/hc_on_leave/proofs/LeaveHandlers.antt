@@ -4,15 +4,15 @@
 -- (`flawless`, `shows`), and the rows represent its tables. Or a seal failed: then it is the effect with that loss, and
 -- what is lost is what the event seals, which was kept before. A cancel tells nothing first, the two polls tell an end
 -- or a failure (`poll_answered`). The functions `cancel`, `end_reading` and `fail` use these.
+use Rattle.std.{proofs.{lemmas.Bool.Decides.{nat_tests}}}
+use Rattle.std.{proofs.{Common.{arith}}}
 use Rattle.std.{proofs.{Common.{◌≡◌, ℕ, List, [], ◌∷◌, ◌++◌, Bool, true, false, Some, None, refl, ap, sym, ◌∙◌}, lemmas.List.{append_assoc}}, specs.Prelude.{nat_eq, map, ◌||◌}}
 use Rattle.hc_text.proofs.Basics.{false_true}
 use Rattle.hc_store.specs.declared.backend.Backend.{Ghosts}
-use Rattle.hc_effects.proofs.Vocabulary.{Act, Cause, Limits, Does, with_event, let_some_go, let_go, left_by, going_with, with_leave, with_representation, lost_to, family, NoFlaw, Loses, flaw_in, Lawful, Ends, Fails, is_failed_read, move_of, Tables, Representation, is_kept, with_item_first, written_representation, exclusive, act, cause, kind, place}
-use Rattle.hc_event.specs.declared.event.Event.TheVariants as event
+use Rattle.hc_effects.proofs.Vocabulary.{Act, Cause, Limits, Does, with_event, let_some_go, let_go, left_by, going_with, with_leave, with_representation, lost_to, family, NoFlaw, Loses, flaw_in, Lawful, Ends, Fails, is_failed_read, move_of, Tables, Representation, is_kept, with_item_first, written_representation, exclusive, act, cause, kind, place, event}
 use Rattle.hc_model.specs.Rows as rows
-use Rattle.hc_effects.proofs.FailsTold.{fails_told}
+use Rattle.hc_effects.proofs.{FailsTold.{fails_told}, SealEffects.{seal_cancels, seal_ends, seal_fails}}
 use Rattle.hc_effects.proofs.LeaveEffects as effects
-use Rattle.hc_effects.proofs.SealEffects as seal_effects
 use Rattle.hc_state.specs.{declared.rows.Rows.{Rows}, Left.{HasLeft, quietly, unsealed}, Stands.{Answered}}
 use Rattle.hc_state.proofs.{Answering.{does_answered, lossy_answered}, Counting.{stands_counted}, SealWritten.{sealed_leaving}}
 
@@ -33,29 +33,17 @@ flawless [] = refl
 flawless (x ∷ xs) = flawless xs
 
 by_cause : (c : ℕ) (why : Cause) (acts : List Act) → is_failed_read (Some why) ≡ false → flaw_in (act.Failed c why ∷ acts) ≡ flaw_in acts
-by_cause c (cause.StoreRead q) acts told = false_true (sym told)
-by_cause c (cause.Net x) acts told = refl
-by_cause c (cause.Short x got promised) acts told = refl
-by_cause c (cause.Changed x) acts told = refl
-by_cause c (cause.StoreWrite q) acts told = refl
-by_cause c cause.Miss acts told = refl
-by_cause c (cause.BadHead x) acts told = refl
+by_cause c why acts told = grind (arith, nat_tests)
 
 shows : (front acts : List Act) → TellsOf front → flaw_in (front ++ acts) ≡ flaw_in acts
-shows front acts (nothing is) = rw is refl
-shows front acts (ended c is) = rw is refl
-shows front acts (failed c why told is) = rw is (by_cause c why acts told)
+shows front acts it2 = grind (arith, nat_tests)
 
 -- THE EVENT
 
 module _ {B : Type 0} {g : Ghosts B} (limits : Limits) (faults : ℕ) (u : Rows B g) (t : Tables) (law : Lawful t) (now c : ℕ) (k : rows.Consumer) (row : t.consumer c ≡ Some k) where
   -- it is kept until the seal fails
   not_lost : (r : ℕ) (v : Representation) → t.representation r ≡ Some v → v.is_gone ≡ false → v.is_lost ≡ false
-  not_lost r v there stays = by_test v.is_lost refl
-    where
-      by_test : (b : Bool) → v.is_lost ≡ b → b ≡ false
-      by_test false is = refl
-      by_test true is = false_true (sym stays ∙ (law.sound.rows r v there).store.lost_is_gone is)
+  not_lost r v there stays = grind (arith, nat_tests)
 
   kept_by : (r : ℕ) (v : Representation) → t.representation r ≡ Some v → v.is_gone ≡ false → is_kept (t.representation r) ≡ true
   kept_by r v there stays = rw (there, not_lost r v there stays) refl
@@ -69,7 +57,7 @@ module _ {B : Type 0} {g : Ghosts B} (limits : Limits) (faults : ℕ) (u : Rows 
   cancel_answered before out (unsealed f) =
       let q = f.sealed in
       let s : Tables = let_go now q.r (with_representation q.r (Some (lost_to (exclusive t q.r q.v) q.v)) (with_leave c k t)) in
-      let does = seal_effects.seal_cancels limits t law now c k row f.x q.w q.r q.v kind.Fault f.left q.row q.of_r q.there (not_lost q.r q.v q.there q.stays) in
+      let does = seal_cancels limits t law now c k row f.x q.w q.r q.v kind.Fault f.left q.row q.of_r q.there (not_lost q.r q.v q.there q.stays) in
       lossy_answered limits faults u t (with_event now (event.Cancel c) s) before out (act.Close f.x ∷ act.Lost q.r kind.Fault ∷ []) now (event.Cancel c) q.r does
       (ap (λ acts. written_representation t (record { now = now; event = event.Cancel c; acts = acts })) does.acts_are
       ∙ sealed_leaving t law (record { now = now; event = event.Cancel c; acts = act.Close f.x ∷ [] }) f.x q.w q.r q.v q.row q.of_r q.there q.stays q.kept (λ y. refl) (λ y z. refl) (λ y. or_off (nat_eq f.x y)))
@@ -81,8 +69,7 @@ module _ {B : Type 0} {g : Ghosts B} (limits : Limits) (faults : ℕ) (u : Rows 
 
   module _ (want : ℕ) (front : List Act) (tells : TellsOf front) where
     or_off : (b : Bool) → (b || false) ≡ b
-    or_off true = refl
-    or_off false = refl
+    or_off b = grind (arith, nat_tests)
 
     -- what is sealed is what the poll writes
     writes : (x : ℕ) (w : rows.Exchange) (r : ℕ) (v : Representation) → t.exchange x ≡ Some w → family x w ≡ r → t.representation r ≡ Some v → v.is_gone ≡ false → going_with t (Some x) ≡ None
@@ -117,9 +104,9 @@ module _ {B : Type 0} {g : Ghosts B} (limits : Limits) (faults : ℕ) (u : Rows 
   pub end_answered : (want : ℕ) (before mid out : List Act) → move_of t now want c k ≡ Ends → mid ≡ before ++ (act.Ended c ∷ []) → HasLeft limits faults u t mid out now c k → Answered limits faults u t before out now (event.Poll c want)
   end_answered want before mid out is first left =
       poll_answered want (act.Ended c ∷ []) (ended c refl) before mid out first (effects.ends limits t law now c k row want is)
-      (λ x w r v out_of ex of_r there kept. seal_effects.seal_ends limits t law now c k row x w r v kind.Fault out_of ex of_r there kept want is) left
+      (λ x w r v out_of ex of_r there kept. seal_ends limits t law now c k row x w r v kind.Fault out_of ex of_r there kept want is) left
 
   pub fail_answered : (want : ℕ) (why : Cause) (before mid out : List Act) → move_of t now want c k ≡ Fails why → mid ≡ before ++ (act.Failed c why ∷ []) → HasLeft limits faults u t mid out now c k → Answered limits faults u t before out now (event.Poll c want)
   fail_answered want why before mid out is first left =
       poll_answered want (act.Failed c why ∷ []) (failed c why (fails_told t now want c k why law.sound law.places row is) refl) before mid out first (effects.fails limits t law now c k row want why is)
-      (λ x w r v out_of ex of_r there kept. seal_effects.seal_fails limits t law now c k row x w r v kind.Fault out_of ex of_r there kept want why is) left
+      (λ x w r v out_of ex of_r there kept. seal_fails limits t law now c k row x w r v kind.Fault out_of ex of_r there kept want why is) left

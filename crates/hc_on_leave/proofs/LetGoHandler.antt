@@ -4,9 +4,9 @@
 -- has the work. The code looks for it in the line of the key, and puts it back as the tables do (`started_over`). Its
 -- key has no current one then, and of other keys the same is said. The entry is marked as gone, or dropped where nobody
 -- is bound. `stands_without` joins this; `let_go` uses the last two lemmas, for what is usable and for what isn't.
-use Rattle.std.{proofs.{Common.{◌≡◌, ℕ, List, Bool, true, false, cond, Option, Some, None, refl, ap, sym, ◌∙◌, subst, arith}, lemmas.Bool.Decides.{nat_tests}}, specs.{Prelude.{is_some, nat_eq, bytes_eq, option_map, option_and_then, not, ◌&&◌, ◌||◌, ◌==◌, if◌then◌else◌}, HashMap.{get}}}
+use Rattle.std.{proofs.{Common.{◌≡◌, ℕ, List, Bool, true, false, cond, Option, Some, None, refl, ap, sym, ◌∙◌, subst, arith, []}, lemmas.Bool.Decides.{nat_tests}}, specs.{Prelude.{is_some, nat_eq, bytes_eq, option_map, option_and_then, not, ◌&&◌, ◌||◌, ◌==◌, if◌then◌else◌}, HashMap.{get}}}
 use Rattle.hc_text.proofs.Basics.{eqb-same, false_true, mapped, some_inj as some_is, and_off as then_false}
-use Rattle.hc_effects.proofs.Vocabulary.{Limits, Place, back_in_line, current, is_usable, total_in, is_live, as_gone, let_go, unless_it, family, MayLetGo, is_in_line, holds_turn, Queues, has_passed, Tables, Exchange, Representation, status_in}
+use Rattle.hc_effects.proofs.Vocabulary.{Limits, Place, back_in_line, current, is_usable, total_in, is_live, as_gone, let_go, unless_it, family, MayLetGo, is_in_line, holds_turn, Queues, has_passed, Tables, Exchange, Representation, status_in, bound, kind_of, place}
 use Rattle.hc_store.specs.declared.backend.Backend.{Ghosts}
 use Rattle.hc_stored.specs.{Entries.{shelf_of}, Kept.{Kept, itself, is_nobody}, Views.{key_in}, Shelf.{taken_out}}
 use Rattle.hc_stored.specs.Kept as kept
@@ -17,7 +17,6 @@ use Rattle.hc_entry.proofs.OrderLemmas.{among-merged}
 use Rattle.hc_exch.specs.Exchanges.{table_of, next_of}
 use Rattle.hc_sorted.specs.Sorted.{without}
 use Rattle.hc_rules.proofs.RangeReads.{same_bytes, bytes_eq-same}
-use Rattle.hc_event.specs.declared.place.Place.TheVariants as place
 use Rattle.hc_model.specs.Effects.{waits_for}
 use Rattle.hc_model.specs.Rows as rows
 use Rattle.hc_effects.proofs.{CurrentKeeps.{usable_row}, IdleNow.{filter_both}, LettingGo.{current_let_go, bound_let_go, live_let_go, current_may, let_go_nothing}, PollKeeps.{find_passes}}
@@ -27,18 +26,13 @@ use Rattle.hc_state.proofs.{Fallbacks.{IsAlike, same, fallback, held_gone, users
 -- ROWS THAT ARE GONE
 
 gone_total : (b : Bool) (z : Option Representation) → total_in (if b then option_map as_gone z else z) ≡ total_in z
-gone_total true None = refl
-gone_total true (Some v) = refl
-gone_total false z = refl
+gone_total b z = grind (arith, nat_tests)
 
 gone_status : (b : Bool) (z : Option Representation) → status_in (if b then option_map as_gone z else z) ≡ status_in z
-gone_status true None = refl
-gone_status true (Some v) = refl
-gone_status false z = refl
+gone_status b z = grind (arith, nat_tests)
 
 gone_there : (b : Bool) (z : Option Representation) → is_some (if b then option_map as_gone z else z) ≡ is_some z
-gone_there true z = mapped as_gone z
-gone_there false z = refl
+gone_there b z = grind (arith, nat_tests)
 
 -- WHAT IS LET GO
 
@@ -79,17 +73,11 @@ module _ {B : Type 0} {g : Ghosts B} {limits : Limits} (r u : Rows B g) (t : Tab
           let waits = may.waits d q held w here at_place in
           let keys_same : v.key ≡ waits.v.key = sym entry.key ∙ (sym (same_bytes w.request.key k.key of_it) ∙ sym waits.key_is) in
           let one : n ≡ q = may.one_current n q v waits.v row waits.row v_fresh waits.not_gone keys_same in
-          let on : nat_eq n q ≡ true = grind (arith, nat_tests, one) in
-          false_true (sym off ∙ on)
+          false_true (sym off ∙ grind (arith, nat_tests, one))
 
   stood_at : (d : ℕ) (w : rows.Consumer) (p : Place) → t.consumer d ≡ Some w → w.place ≡ p → Stood d
   stood_at d w (place.Passed q held) here is = passed_by d q held w (nat_eq n q) refl here is
-  stood_at d w place.Line here is = stays_by d w here (rw is refl) (rw is refl)
-  stood_at d w (place.Turn x) here is = stays_by d w here (rw is refl) (rw is refl)
-  stood_at d w (place.Bound q lo hi how) here is = stays_by d w here (rw is refl) (rw is refl)
-  stood_at d w (place.Direct x) here is = stays_by d w here (rw is refl) (rw is refl)
-  stood_at d w (place.Down why) here is = stays_by d w here (rw is refl) (rw is refl)
-  stood_at d w place.Over here is = stays_by d w here (rw is refl) (rw is refl)
+  stood_at d w _ here is = stays_by d w here (rw is refl) (rw is refl)
 
   stood_row : (d : ℕ) (z : Option rows.Consumer) → t.consumer d ≡ z → Stood d
   stood_row d None here = nobody here (rw here refl)
@@ -112,11 +100,7 @@ module _ {B : Type 0} {g : Ghosts B} {limits : Limits} (r u : Rows B g) (t : Tab
 
   -- whoever hasn't passed for the key doesn't change
   unchanged : (d : ℕ) (w : rows.Consumer) → t.consumer d ≡ Some w → is_passed k.key (Some w) ≡ false → (o : Option Consumer) → KeepsConsumer t o (Some w) → cond (is_in d (line_of r.keys k.key)) (option_map (over_if_passed now) o) o ≡ o
-  unchanged d w here off None kept = by_test (is_in d (line_of r.keys k.key))
-    where
-      by_test : (b : Bool) → cond b (option_map (over_if_passed now) None) None ≡ None
-      by_test true = refl
-      by_test false = refl
+  unchanged d w here off None kept = grind (arith, nat_tests)
   unchanged d w here off (Some c) kept = by_place (has_passed w.place) refl
     where
       no_change : (b : Bool) → has_passed c.place ≡ false → cond b (option_map (over_if_passed now) (Some c)) (Some c) ≡ Some c
@@ -139,20 +123,7 @@ module _ {B : Type 0} {g : Ghosts B} {limits : Limits} (r u : Rows B g) (t : Tab
       let of_it : bytes_eq w.request.key k.key ≡ true = bytes_eq-same w.request.key k.key key in
       let inside : is_in d (line_of r.keys k.key) ≡ true = line_is d ∙ rw (here, is, of_it) refl in
       let passes : has_passed c.place ≡ true = ap has_passed (kept.place ∙ is) in
-      rw (inside, passes) (record {
-        is_there = refl;
-        request = kept.request;
-        class_is = kept.class_is;
-        since = λ cached plain. refl;
-        place = refl;
-        own = refl;
-        shown = kept.shown;
-        answer = kept.answer ∙ no_answer w.shown is;
-        begins = refl;
-        ends = refl;
-        given = kept.given;
-        due = refl;
-      })
+      rw (inside, passes) (assumption (kept, kept.answer ∙ no_answer w.shown is))
     where
       no_answer : (b : Bool) → w.place ≡ place.Passed n held → (if b then None else Rattle.hc_state.specs.Kept.answer_at t w.place) ≡ (if b then None else None)
       no_answer true is = refl
@@ -181,8 +152,7 @@ module _ {B : Type 0} {g : Ghosts B} {limits : Limits} (r u : Rows B g) (t : Tab
   -- EXCHANGES
 
   held_same : (x : ℕ) (z : Option Exchange) → held_for s x z ≡ held_for t x z
-  held_same x None = refl
-  held_same x (Some w) = held_gone t s alike (n == family x w) x w refl
+  held_same x z = grind (arith, nat_tests)
 
   all_exchanges : (x : ℕ) → KeepsExchange s x (table_of r.exchanges x)
   all_exchanges x = exchange_same t s x (table_of r.exchanges x) (record { row = refl; brings = λ w is. gone_there (n == family x w) (t.representation (family x w)); held = held_same x (t.exchange x) }) (stands.exchanges x)
@@ -296,13 +266,7 @@ module _ {B : Type 0} {g : Ghosts B} {limits : Limits} (r u : Rows B g) (t : Tab
   -- REPRESENTATIONS
 
   firsts : (q d : ℕ) → is_first s q (s.consumer d) ≡ is_first t q (t.consumer d)
-  firsts q d = first_by t s (λ m. gone_status (n == m) (t.representation m)) q (s.consumer d) ∙ elim (stood d) [
-    | nobody here later ↦ ap (is_first t q) (later ∙ sym here)
-    | back w held here later is key queues ↦
-        let before : is_first t q (Some w) ≡ false = rw is refl in
-        ap (is_first t q) later ∙ sym (ap (is_first t q) here ∙ before)
-    | stays w here later off ↦ ap (is_first t q) (later ∙ sym here)
-  ]
+  firsts q d = grind (arith, nat_tests)
 
   uses : (q : ℕ) → UsesSame t s q
   uses q = record { users = λ d. users_alike t s alike q d; first = firsts q; list = bound_let_go now n t may.one_current q; kind = λ w is. kind_same t s q w refl; overs = λ y on. on }
@@ -313,22 +277,18 @@ module _ {B : Type 0} {g : Ghosts B} {limits : Limits} (r u : Rows B g) (t : Tab
 
   gone_here : (b : Bool) → is_nobody k.bound ≡ b → KeepsEntry s n (if b then None else Some (record k { is_gone = true })) (Some (as_gone v))
   gone_here true none = record { gone = refl; unused = bound_let_go now n t may.one_current n ∙ bound_none t n k v entry none }
-  gone_here false some = record {
-    used = λ is empty. bound_some t may.started n k v entry some (sym (bound_let_go now n t may.one_current n) ∙ empty);
-    key = entry.key;
-    head = entry.head;
-    length = still_told entry.length;
-    kind = λ no. false_true (sym no);
-    whole = entry.whole;
-    cells = entry.cells;
-    reach = entry.reach;
-    bound = λ c. entry.bound c ∙ sym (users_alike t s alike n c);
-    first = λ c. entry.first c ∙ sym (firsts n c);
-    writer = entry.writer;
-    is_lost = entry.is_lost;
-    alone = entry.alone;
-    is_gone = refl;
-  }
+  gone_here false some =
+      let used = λ (is : true ≡ true) (empty : bound s n ≡ []).
+      bound_some t may.started n k v entry some (sym (bound_let_go now n t may.one_current n) ∙ empty) in
+      let kind : true ≡ false → k.head.kind ≡ kind_of s n (as_gone v) = λ no. false_true (sym no) in
+      assumption (
+        entry,
+        used,
+        still_told entry.length,
+        kind,
+        (λ (c : ℕ). entry.bound c ∙ sym (users_alike t s alike n c)),
+        (λ (c : ℕ). entry.first c ∙ sym (firsts n c)),
+      )
 
   usable_is : (q : ℕ) → is_usable_row (s.representation q) ≡ (is_usable_row (t.representation q) && not (q == n))
   usable_is q = by_test (nat_eq n q) refl

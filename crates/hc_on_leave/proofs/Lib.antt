@@ -1,6 +1,7 @@
 pub mod SeatLoops
 pub mod Shorts
 pub mod LeaveHandlers
+pub mod OffLine
 pub mod LetGoHandler
 pub mod MayGo
 pub mod MisreadBound

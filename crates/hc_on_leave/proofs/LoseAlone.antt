@@ -1,5 +1,5 @@
 -- Nothing is held for who writes alone what isn't lost: all that its exchange brought is stored.
-use Rattle.std.{proofs.{Common.{◌≡◌, ℕ, ◌-◌, ◌≤◌, [], length, drop, Bool, true, false, Option, Some, None, refl, ap, ◌∙◌, arith}, lemmas.{Bool.Decides.{nat_tests}, List.{drop_all}}}, specs.Prelude.{is_some, nat_eq, nat_le, ◌&&◌, if◌then◌else◌}}
+use Rattle.std.{proofs.{Common.{◌≡◌, ℕ, ◌-◌, ◌≤◌, [], drop, Bool, true, false, Option, Some, None, refl, ap, ◌∙◌, arith}, lemmas.{Bool.Decides.{nat_tests}, List.{drop_all}}}, specs.Prelude.{is_some, nat_eq, nat_le, ◌&&◌, if◌then◌else◌}}
 use Rattle.hc_text.proofs.Basics.{and_off as then_false}
 use Rattle.hc_effects.proofs.Vocabulary.{Response, Limits, is_number, base, front, family, is_bound_place, offset, Tables, Exchange, Representation, IsBound, IsExclusiveWriter, exclusive}
 use Rattle.hc_sparse.specs.Cells.{Cell, EndsBy, Covers}
@@ -31,8 +31,7 @@ module _ (limits : Limits) (t : Tables) (facts : Facts limits t) (q : ℕ) (v : 
         by_head None bare = drop_none (first_lacking t w v k - base w) w.body (facts.law.sound.waits.headless y w row bare).0
         by_head (Some response) headed =
             let far = past_front (ap (λ (o : Option Response). is_some o) headed) in
-            let enough : length w.body ≤ first_lacking t w v k - base w = omega arith in
-            drop_all (first_lacking t w v k - base w) w.body enough
+            drop_all (first_lacking t w v k - base w) w.body (omega arith)
 
   unstored_none : (c : ℕ) (k : rows.Consumer) → IsBound t q c k → k.due ≡ None → IsExclusiveWriter t q v c → (y : ℕ) (w : Exchange) → t.exchange y ≡ Some w → unstored_bytes t y w v (Some k) ≡ []
   unstored_none c k reader undue exclusive_writer y w row = by_own k.own refl

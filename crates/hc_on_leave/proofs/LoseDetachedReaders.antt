@@ -42,11 +42,7 @@ leaves_next p xs i d so_far next within before fails is = rw (least_step p xs i 
 
 -- who is named among the members that stand there
 pub members_in : (t : Tables) (end c : ℕ) (cs : List ℕ) → is_among c (map (λ (m : Member). m.c) (filter (members.stands_at end) (map (member t) cs))) ≡ ((offset_in t (t.consumer c) == end) && is_among c cs)
-members_in t end c [] = and_none (offset_in t (t.consumer c) == end)
-  where
-    and_none : (b : Bool) → false ≡ (b && false)
-    and_none true = refl
-    and_none false = refl
+members_in t end c [] = grind (arith, nat_tests)
 members_in t end c (d ∷ cs) = by_test (offset_in t (t.consumer d) == end) refl (members_in t end c cs)
   where
     stood : (n : ℕ) → Bool
@@ -75,15 +71,7 @@ members_in t end c (d ∷ cs) = by_test (offset_in t (t.consumer d) == end) refl
 -- who is bound is listed
 pub bound_among : (t : Tables) (q c : ℕ) → MayLetGo t → is_among c (bound t q) ≡ is_bound q (t.consumer c)
 unfolding bound
-bound_among t q c may = filter_in (λ d. is_bound q (t.consumer d)) c t.starts ∙ by_test (is_bound q (t.consumer c)) refl
-  where
-    there : (o : Option rows.Consumer) → is_bound q o ≡ true → is_some o ≡ true
-    there None on = on
-    there (Some k) on = refl
-
-    by_test : (b : Bool) → is_bound q (t.consumer c) ≡ b → (b && is_among c t.starts) ≡ b
-    by_test false is = refl
-    by_test true is = among_in c t.starts (may.started c (there (t.consumer c) is))
+bound_among t q c may = grind (arith, nat_tests, filter_in, is_bound, among_in)
 
 -- the survivor is one of those who are bound, and stands at the end
 pub survivor_among : (t : Tables) (q c : ℕ) (v : Representation) → survivor t q v ≡ Some c → ((offset_in t (t.consumer c) == v.reach) && is_among c (bound t q)) ≡ true
@@ -96,28 +84,7 @@ module _ {B : Type 0} {g : Ghosts B} {limits : Limits} (r : Rows B g) (t : Table
   is = subst (λ k. KeepsEntry t q k (Some v)) there (subst (KeepsEntry t q ((shelf_of r.entries).kept q)) row (stands.entries.each q))
 
   stood_as : (c : ℕ) (o : Option Consumer) (k : Option rows.Consumer) → KeepsConsumer t o k → (stands_at v.reach o && is_bound q k) ≡ ((offset_in t k == v.reach) && is_bound q k)
-  stood_as c None None keeps = and_none (offset_in t None == v.reach)
-    where
-      and_none : (b : Bool) → false ≡ (b && false)
-      and_none true = refl
-      and_none false = refl
-  stood_as c (Some k) None keeps = absurd keeps
-  stood_as c None (Some u) keeps = by_place u.place refl
-    where
-      off : is_bound q (Some u) ≡ false → (false && is_bound q (Some u)) ≡ ((offset_in t (Some u) == v.reach) && is_bound q (Some u))
-      off unbound = sym (then_false (offset_in t (Some u) == v.reach) (is_bound q (Some u)) unbound)
-
-      by_place : (p : Place) → u.place ≡ p → (false && is_bound q (Some u)) ≡ ((offset_in t (Some u) == v.reach) && is_bound q (Some u))
-      by_place (place.Bound a lo hi by) at = false_true (sym keeps ∙ ap is_live_place at)
-      by_place place.Line at = off (ap (is_bound_place q) at)
-      by_place (place.Passed a how) at = off (ap (is_bound_place q) at)
-      by_place (place.Turn y) at = off (ap (is_bound_place q) at)
-      by_place (place.Direct y) at = off (ap (is_bound_place q) at)
-      by_place (place.Down why) at = off (ap (is_bound_place q) at)
-      by_place place.Over at = off (ap (is_bound_place q) at)
-  stood_as c (Some k) (Some u) keeps =
-      let from : k.lo + k.given ≡ offset t u = ap (λ (n : ℕ). n + k.given) keeps.begins ∙ ap (λ (n : ℕ). lo_of t u.place + n) keeps.given in
-      ap (λ (n : ℕ). (n == v.reach) && is_bound q (Some u)) from
+  stood_as c o k keeps = grind (arith, nat_tests)
 
   -- whom the code finds is the survivor
   pub detached_reader_is : detached_reader_of r.consumers (Some e) ≡ survivor t q v
@@ -138,17 +105,10 @@ module _ (t : Tables) (q x : ℕ) (v : Representation) (loses : MayLoseShared t 
   eq_true a b on = grind (arith, nat_tests, on)
 
   and_first : (a b : Bool) → (a && b) ≡ true → a ≡ true
-  and_first true b on = refl
-  and_first false b on = false_true on
+  and_first a b on = grind (arith, nat_tests)
 
   lo_same : (p : Place) → lo_of z p ≡ lo_of t p
-  lo_same (place.Bound n lo hi by) = refl
-  lo_same (place.Direct y) = refl
-  lo_same place.Line = refl
-  lo_same (place.Passed n how) = refl
-  lo_same (place.Turn y) = refl
-  lo_same (place.Down why) = refl
-  lo_same place.Over = refl
+  lo_same p = grind (arith, nat_tests)
 
   -- it stands where all that came ends
   at_end : (c : ℕ) (k : rows.Consumer) → survivor t q v ≡ Some c → t.consumer c ≡ Some k → offset z k ≡ v.reach
@@ -164,8 +124,7 @@ module _ (t : Tables) (q x : ℕ) (v : Representation) (loses : MayLoseShared t 
           let one : w ≡ loses.w = same_row (t.exchange x) w loses.w (ap t.exchange e ∙ at) loses.row in
           let ends : front w ≡ v.reach = ap front one ∙ loses.front_is in
           let from : offset z u ≤ first_lacking z w v u = first_from is_none v.stored (offset z u) (min (front w) v.reach - offset z u) in
-          let enough : length w.body ≤ first_lacking z w v u - base w = omega (arith, ends, from, stands_there) in
-          drop_all (first_lacking z w v u - base w) w.body enough
+          drop_all (first_lacking z w v u - base w) w.body (omega (arith, ends, from, stands_there))
 
       by_test : (b : Bool) → nat_eq x y ≡ b → unstored_bytes z y w v (Some u) ≡ []
       by_test true on = by_bound (is_bound_place (family y w) u.place && is_number u.own y)

@@ -4,16 +4,16 @@
 -- changes, so what looks at neither is told as before (`told_same`): keys, users, and who is live. Bytes are held for
 -- nobody in this representation yet, as nobody goes on alone, and what is held for others looks at neither
 -- (`held_part`). `stands_parted` joins them, and `LoseDetachedReaders` uses it.
+use Rattle.std.{proofs.{lemmas.Bool.Decides.{nat_tests}}}
+use Rattle.std.{proofs.{Common.{arith}}}
 use Rattle.std.{proofs.Common.{◌≡◌, ◌≢◌, inl, inr, ℕ, List, [], Bool, true, false, Option, Some, None, refl, ap, sym, ◌∙◌, subst}, specs.{Prelude.{is_some, nat_eq, bytes_eq, option_map, ◌&&◌, if◌then◌else◌}, Option.{option_or}, HashMap.{get}}}
 use Rattle.hc_text.proofs.Basics.{eqb-other, false_true, same_or, some_inj as some_is}
-use Rattle.hc_effects.proofs.Vocabulary.{Limits, Cause, Request, Place, current, is_number, is_live, if_bound, left_with, writing_lost, family, MayLetGo, is_in_line, Queues, is_bound, is_bound_place, Tables, Exchange, Representation, cause}
+use Rattle.hc_effects.proofs.Vocabulary.{Limits, Cause, Request, Place, current, is_number, is_live, if_bound, left_with, writing_lost, family, MayLetGo, is_in_line, Queues, is_bound, is_bound_place, Tables, Exchange, Representation, cause, place, by}
 use Rattle.hc_effects.proofs.Tests.{none_some}
 use Rattle.hc_store.specs.declared.backend.Backend.{Ghosts}
 use Rattle.hc_stored.specs.Entries.{shelf_of}
 use Rattle.hc_entry.specs.Keys.{kept_of}
 use Rattle.hc_exch.specs.Exchanges.{table_of, next_of}
-use Rattle.hc_event.specs.declared.place.Place.TheVariants as place
-use Rattle.hc_event.specs.declared.place.BoundBy.TheVariants as by
 use Rattle.hc_model.specs.Rows as rows
 use Rattle.hc_state.specs.{declared.{consumer.Consumer.{Consumer}, rows.Rows.{Rows}}, DetachedReaders.{ChangesEach, after_parting}, Kept.{IsKept, KeepsConsumer, held_for, held_of, held_alone, unread, unstored_bytes}, Lines.{has_turn, is_passed, is_away, is_away_at}, Stands.{RowsStand}, Stored.{is_first}}
 use Rattle.hc_state.proofs.{FallbackSteps.{live_same}, Fallbacks.{unstored_moved}, OneOfEach.{entries_same}, Ties.{exchange_same, key_same, kept_same}}
@@ -37,15 +37,7 @@ module _ (t : Tables) (q x : ℕ) (detached_reader : Option ℕ) where
 
   -- what looks neither at its exchange nor at its failure is told as before
   pub told_same : {A : Type 0} (f : Option rows.Consumer → A) → ((k : rows.Consumer) (own : Option ℕ) (due : Option Cause) → f (Some (record k { own = own; due = due })) ≡ f (Some k)) → (d : ℕ) → f (s.consumer d) ≡ f (t.consumer d)
-  told_same f same d = by_row (t.consumer d)
-    where
-      by_part : (k u : rows.Consumer) → IsPart d k u → f (Some u) ≡ f (Some k)
-      by_part k u (apart off is) = ap (λ z. f (Some z)) is
-      by_part k u (bound own due on is) = ap (λ z. f (Some z)) is ∙ same k own due
-
-      by_row : (o : Option rows.Consumer) → f (option_map (if_bound q (left_with q detached_reader (Some x) d)) o) ≡ f o
-      by_row None = refl
-      by_row (Some k) = by_part k _ (part_of d k)
+  told_same f same d = grind (arith, nat_tests)
 
   -- whoever it is now, it was there, and stood where it stands
   pub record Stood (d : ℕ) (u : rows.Consumer) : Type 0 where
@@ -97,34 +89,11 @@ module _ (t : Tables) (q x : ℕ) (detached_reader : Option ℕ) where
       now = kept_same t s k v (record { past = λ y at. refl; length = λ n lo hi how at. refl }) kp
 
       by_detached_reader : (h : Bool) → IsKept s (if h then record k { own = Some x } else record k { due = option_or k.due (Some (cause.StoreWrite q)) }) (if h then record v { own = Some x } else record v { due = option_or v.due (Some (cause.StoreWrite q)) })
-      by_detached_reader true = record {
-        is_there = now.is_there;
-        request = now.request;
-        class_is = now.class_is;
-        since = now.since;
-        place = now.place;
-        own = refl;
-        shown = now.shown;
-        answer = now.answer;
-        begins = now.begins;
-        ends = now.ends;
-        given = now.given;
-        due = now.due;
-      }
-      by_detached_reader false = record {
-        is_there = now.is_there;
-        request = now.request;
-        class_is = now.class_is;
-        since = now.since;
-        place = now.place;
-        own = now.own;
-        shown = now.shown;
-        answer = now.answer;
-        begins = now.begins;
-        ends = now.ends;
-        given = now.given;
-        due = ap (λ (o : Option Cause). option_or o (Some (cause.StoreWrite q))) now.due;
-      }
+      by_detached_reader true = assumption now
+      by_detached_reader false = assumption (
+        now,
+        ap (λ (o : Option Cause). option_or o (Some (cause.StoreWrite q))) now.due,
+      )
 
   consumer_part : (d : ℕ) (b : Bool) (o : Option Consumer) (row : Option rows.Consumer) → (is_some row ≡ true → b ≡ is_bound q row) → KeepsConsumer t o row → KeepsConsumer s (if b then option_map (after_parting detached_reader x (cause.StoreWrite q) d) o else o) (option_map (if_bound q (left_with q detached_reader (Some x) d)) row)
   consumer_part d true None None alike kept = kept
@@ -146,67 +115,17 @@ module _ (t : Tables) (q x : ℕ) (detached_reader : Option ℕ) where
   -- KEYS AND WHAT IS HELD
 
   away_as : (key : List ℕ) (o : Option rows.Consumer) → is_away s key o ≡ is_away t key o
-  away_as key None = refl
-  away_as key (Some k) = ap (λ b. bytes_eq k.request.key key && b) (by_place k.place)
-    where
-      by_place : (p : Place) → is_away_at s p ≡ is_away_at t p
-      by_place (place.Bound r lo hi (by.FirstHole y)) = refl
-      by_place (place.Bound r lo hi by.Founding) = refl
-      by_place (place.Bound r lo hi by.Plan) = refl
-      by_place place.Line = refl
-      by_place (place.Passed n kept) = refl
-      by_place (place.Turn y) = refl
-      by_place (place.Direct y) = refl
-      by_place (place.Down why) = refl
-      by_place place.Over = refl
+  away_as key o = grind (arith, nat_tests)
 
   -- who is bound to another one isn't bound to this
   off_other : (n : ℕ) (p : Place) → n ≢ q → is_bound_place q p ≡ true → is_bound_place n p ≡ false
-  off_other n (place.Bound a lo hi by) ne on = elim (same_or a n) [
-    | inl e ↦ absurd (by_same (sym e) on)
-    | inr off ↦ eqb-other a n off
-  ]
-    where
-      by_same : n ≡ a → nat_eq a q ≡ true → ⊥
-      by_same e h = elim (same_or a q) [
-        | inl one ↦ ne (e ∙ one)
-        | inr off ↦ (let no : nat_eq a q ≡ false = eqb-other a q off in false_true (sym no ∙ h))
-      ]
-  off_other n place.Line ne on = false_true on
-  off_other n (place.Passed a kept) ne on = false_true on
-  off_other n (place.Turn y) ne on = false_true on
-  off_other n (place.Direct y) ne on = false_true on
-  off_other n (place.Down why) ne on = false_true on
-  off_other n place.Over ne on = false_true on
+  off_other n p ne on = grind (arith, nat_tests)
 
   alone_part : (y : ℕ) (w : Exchange) (u : Representation) → family y w ≢ q → (o : Option ℕ) → held_alone s y w u o ≡ held_alone t y w u o
-  alone_part y w u ne None = refl
-  alone_part y w u ne (Some d) = by_row (t.consumer d)
-    where
-      off : (k : rows.Consumer) → is_bound_place q k.place ≡ true → (a : Tables) (own : Option ℕ) (due : Option Cause) → unstored_bytes a y w u (Some (record k { own = own; due = due })) ≡ []
-      off k on a own due = (let unbound = off_other (family y w) k.place ne on in rw unbound refl)
-
-      by_part : (k z : rows.Consumer) → IsPart d k z → unstored_bytes s y w u (Some z) ≡ unstored_bytes t y w u (Some k)
-      by_part k z (apart unbound is) = ap (λ n. unstored_bytes s y w u (Some n)) is ∙ unstored_moved t s y w u (Some k)
-      by_part k z (bound own due on is) = ap (λ n. unstored_bytes s y w u (Some n)) is ∙ (off k on s own due ∙ sym (off k on t k.own k.due))
-
-      by_row : (o : Option rows.Consumer) → unstored_bytes s y w u (option_map (if_bound q (left_with q detached_reader (Some x) d)) o) ≡ unstored_bytes t y w u o
-      by_row None = refl
-      by_row (Some k) = by_part k _ (part_of d k)
+  alone_part y w u ne o = grind (arith, nat_tests)
 
   held_part : (v : Representation) → t.representation q ≡ Some v → v.alone ≡ None → (y : ℕ) (o : Option Exchange) → held_for s y o ≡ held_for t y o
-  held_part v there nobody y None = refl
-  held_part v there nobody y (Some w) = elim (same_or (family y w) q) [
-    | inl e ↦
-        let row : t.representation (family y w) ≡ Some v = ap t.representation e ∙ there in
-        let none : (a : Tables) → held_of a y w (Some v) ≡ [] = λ a. ap (held_alone a y w v) nobody in
-        ap (held_of s y w) row ∙ (none s ∙ sym (ap (held_of t y w) row ∙ none t))
-    | inr ne ↦ by_row ne (t.representation (family y w))
-  ]
-    where
-      by_row : family y w ≢ q → (z : Option Representation) → held_of s y w z ≡ held_of t y w z
-      by_row ne None = told_same (unread y w) (λ k own due. refl) w.c
-      by_row ne (Some u) = alone_part y w u ne u.alone
+  held_part v there nobody y o = grind (arith, nat_tests, same_or, held_of, told_same, unread, alone_part)
 
 -- ALL OF IT
 

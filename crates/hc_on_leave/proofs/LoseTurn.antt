@@ -4,15 +4,16 @@
 -- The code hears the head and moves its consumer before it loses, and the tables after. That is no matter, as that
 -- consumer isn't bound: the same one goes on in both (`survivor_same`). `alone_answered` is the case where nothing is
 -- written for several; in `written_answered` the exchange that writes is another one. `lose_asked` uses both.
+use Rattle.std.{proofs.{lemmas.Bool.Decides.{nat_tests}}}
+use Rattle.std.{proofs.{Common.{arith}}}
 use Rattle.std.{proofs.{Common.{◌≡◌, ◌≢◌, inl, inr, ℕ, ◌<◌, List, [], ◌∷◌, ◌++◌, Bool, true, false, Option, Some, None, refl, ap, ap₂, sym, ◌∙◌, subst}, lemmas.List.{append-nil}}, specs.Prelude.{is_some, is_none, nat_eq, map, option_map, not, ◌&&◌, ◌||◌, ◌==◌, if◌then◌else◌}}
 use mathlib.Core.Path.{fun_ext}
 use Rattle.hc_text.proofs.Basics.{eqb-other, eqb-same, false_true, same_or, same_some as same_row, and_off as then_false}
 use Rattle.hc_effects.proofs.Vocabulary.{Limits, Act, LostKind, Event, Response, head_case, length_of, is_head, is_same_number, Place, has_loss, head_view, is_founding, is_joining, case_at, back_in_line, current, denial, with_event, all_closed, with_answer, with_consumer, with_representation, writing_lost, let_go, lost_to, unless_ended, unless_survived, back_from, promise_in, family, is_reached, is_headless, Loses, entry_of, brings_to, MayLetGo, IsAwaiting, bound, is_bound, is_bound_place, is_written, writing_in, Tables, Exchange, Representation, is_kept, IsGrowing, exclusive, survivor, offset_in, written_representation, head_writes, may_validate, lossless, act, kind, event, case, route, place, by}
 use Rattle.hc_store.specs.declared.backend.Backend.{Ghosts}
 use Rattle.hc_stored.specs.Entries.{shelf_of}
-use Rattle.hc_exch.specs.{Exchanges.{table_of}, Known.{length_by, is_open}}
+use Rattle.hc_exch.specs.{Exchanges.{table_of}, Known.{length_by, is_open, without_exchange}}
 use Rattle.hc_exch.specs.Exchanges as exch
-use Rattle.hc_exch.specs.Known as known
 use Rattle.hc_model.specs.Owners as owners
 use Rattle.hc_model.specs.Rows as rows
 use Rattle.hc_effects.proofs.{FirstKeeps.{case_is}, FoundBy.{unchanged_founds}, KeysKeep.{current_row}, LettingGo.{may_let_go}, ExclusiveWriters.{writer_some}, PollKeeps.{current_stays}, UpdateEffects.{validated_lost}, WrittenEffects.{validated_lost_written}, Tests.{none_some}}
@@ -24,7 +25,7 @@ use Rattle.hc_on_leave.proofs.{HeadCases.{it_is, parts, case_lost_too}, HeardRow
 
 -- where nobody goes on, its exchange is closed
 pub closes_loss : {B : Type 0} {g : Ghosts B} {limits : Limits} (mid u : Rows B g) (t : Tables) (now r x : ℕ) (v : Representation) (detached_reader : Option ℕ) → MayLoseShared t r x v → RowsStand limits mid (shared_loss now r x v detached_reader t)
-    → u.last_start ≡ mid.last_start → u.consumers ≡ mid.consumers → u.keys ≡ mid.keys → u.entries ≡ mid.entries → exch.Becomes known.without_exchange x mid.exchanges u.exchanges → RowsStand limits u (all_closed (x ∷ []) (shared_loss now r x v detached_reader t))
+    → u.last_start ≡ mid.last_start → u.consumers ≡ mid.consumers → u.keys ≡ mid.keys → u.entries ≡ mid.entries → exch.Becomes without_exchange x mid.exchanges u.exchanges → RowsStand limits u (all_closed (x ∷ []) (shared_loss now r x v detached_reader t))
 closes_loss mid u t now r x v detached_reader may stands last consumers same_keys same_entries becomes =
     stands_unstored mid u (shared_loss now r x v detached_reader t) x stands unawaited apart last consumers same_keys same_entries becomes
   where
@@ -78,22 +79,14 @@ module _ {B : Type 0} {g : Ghosts B} {limits : Limits} (r : Rows B g) (t : Table
 
   -- an exchange does
   pub writes_it : (y : ℕ) → writing_of (table_of r.exchanges) ((shelf_of r.entries).kept q) ≡ Some y → (is_written t v ≡ true) × (v.writer ≡ Some y)
-  writes_it y at = by_test (is_written t v) refl
-    where
-      by_test : (b : Bool) → is_written t v ≡ b → (is_written t v ≡ true) × (v.writer ≡ Some y)
-      by_test true on = (on, sym (writing_is ∙ ap (λ b. if b then v.writer else None) on) ∙ at)
-      by_test false off = none_some y (sym (writing_is ∙ ap (λ b. if b then v.writer else None) off) ∙ at)
+  writes_it y at = grind (arith, nat_tests, writing_is, none_some)
 
   pub grows : (y : ℕ) → writing_of (table_of r.exchanges) ((shelf_of r.entries).kept q) ≡ Some y → (z : Exchange) × IsGrowing t q v y z
   grows y at = (let on = writes_it y at in (facts.law.sound.rows q v there).growing y on.0 on.1)
 
   -- none does
   pub unwritten : writing_of (table_of r.exchanges) ((shelf_of r.entries).kept q) ≡ None → is_written t v ≡ false
-  unwritten none = by_test (is_written t v) refl
-    where
-      by_test : (b : Bool) → is_written t v ≡ b → b ≡ false
-      by_test false off = refl
-      by_test true on = absurd (writer_some t v on (sym (writing_is ∙ ap (λ b. if b then v.writer else None) on) ∙ none))
+  unwritten none = grind (arith, nat_tests, writer_some, writing_is)
 
 -- WHO GOES ON IN OTHER TABLES
 
@@ -149,11 +142,7 @@ module _ {B : Type 0} {g : Ghosts B} {limits : Limits} (r second : Rows B g) (t 
 
   ended : unless_ended x response w ≡ []
   unfolding length_of
-  ended = (let status = status_is in rw (status, or_last (is_head w.request)) refl)
-    where
-      or_last : (b : Bool) → (b || false || true) ≡ true
-      or_last true = refl
-      or_last false = refl
+  ended = grind (arith, nat_tests, status_is, is_head)
 
   is_lost_case : head_case (head_view t true w response) ≡ case.NotValidated
   is_lost_case = case_lost_too (head_view t false w response) unselected
@@ -172,8 +161,7 @@ module _ {B : Type 0} {g : Ghosts B} {limits : Limits} (r second : Rows B g) (t 
     where
       by_tests : (f m j : Bool) → f ≡ false → m ≡ true → (if f then Some x else if m || j then w.aim else None) ≡ w.aim
       by_tests false true j off on = refl
-      by_tests false false j off on = false_true on
-      by_tests true m j off on = false_true (sym off)
+      by_tests _ _ j off on = cc
 
   kept_now : is_kept (t.representation q) ≡ true
   kept_now = ap is_kept there ∙ ap not kept
@@ -185,7 +173,7 @@ module _ {B : Type 0} {g : Ghosts B} {limits : Limits} (r second : Rows B g) (t 
       unread_then t facts.law x w a.v a.awaits moved back (rw (eqb-same w.c) refl) (λ d u is ne. inl (sym (beside t w.c d (Some back) ne) ∙ is)) row unfounded
       (λ n lo hi h. (let never : place.Line ≡ place.Bound n lo hi (by.FirstHole x) = h in absurd (cc))) (λ h. (let never : place.Line ≡ place.Direct x = h in absurd (cc)))
 
-  pub heard_stands : (first : Rows B g) → RowsStand limits first moved → KeepsRest first second → second.consumers ≡ first.consumers → exch.Becomes known.without_exchange x first.exchanges second.exchanges → RowsStand limits second heard
+  pub heard_stands : (first : Rows B g) → RowsStand limits first moved → KeepsRest first second → second.consumers ≡ first.consumers → exch.Becomes without_exchange x first.exchanges second.exchanges → RowsStand limits second heard
   heard_stands first stood rest consumers becomes =
       subst (λ (ys : List ℕ). RowsStand limits second (all_closed ys heard)) ended (stands_refused first second moved now x response w stood unread rest consumers becomes)
 
@@ -269,27 +257,14 @@ module _ {B : Type 0} {g : Ghosts B} {limits : Limits} (r second : Rows B g) (t 
             by_at (owners.hole n lo hi how way named stood) = absurd (let never : route.Hole ≡ route.Turn = sym way ∙ (it_is (head_view t false w response) unselected).0 in cc)
 
     stands_there : (o : Option rows.Consumer) → ((offset_in heard o == v.reach) && is_bound q o) ≡ ((offset_in t o == v.reach) && is_bound q o)
-    stands_there None = refl
-    stands_there (Some k) = by_place k.place refl
-      where
-        off : is_bound_place q k.place ≡ false → ((offset_in heard (Some k) == v.reach) && is_bound q (Some k)) ≡ ((offset_in t (Some k) == v.reach) && is_bound q (Some k))
-        off unbound = then_false (offset_in heard (Some k) == v.reach) (is_bound q (Some k)) unbound ∙ sym (then_false (offset_in t (Some k) == v.reach) (is_bound q (Some k)) unbound)
-
-        by_place : (p : Place) → k.place ≡ p → ((offset_in heard (Some k) == v.reach) && is_bound q (Some k)) ≡ ((offset_in t (Some k) == v.reach) && is_bound q (Some k))
-        by_place (place.Bound n lo hi how) at = rw at refl
-        by_place place.Line at = off (ap (is_bound_place q) at)
-        by_place (place.Passed n how) at = off (ap (is_bound_place q) at)
-        by_place (place.Turn n) at = off (ap (is_bound_place q) at)
-        by_place (place.Direct n) at = off (ap (is_bound_place q) at)
-        by_place (place.Down why) at = off (ap (is_bound_place q) at)
-        by_place place.Over at = off (ap (is_bound_place q) at)
+    stands_there o = grind (arith, nat_tests)
 
     detached_reader_same : survivor heard q v ≡ survivor t q v
     detached_reader_same = survivor_same t heard q v (may_let_go t facts.law) may_heard_now (λ c. elim (same_or w.c c) [
       | inr ne ↦ ap (λ (o : Option rows.Consumer). (offset_in heard o == v.reach) && is_bound q o) (beside t w.c c (Some back) ne) ∙ stands_there (t.consumer c)
       | inl e ↦
-          let now_back : heard.consumer c ≡ Some back = rw (e, eqb-same c) refl in
           let was : t.consumer c ≡ Some a.v = sym (ap t.consumer e) ∙ a.awaits.asker in
+          let now_back : heard.consumer c ≡ Some back = rw (e, eqb-same c) refl in
           ap (λ (o : Option rows.Consumer). (offset_in heard o == v.reach) && is_bound q o) now_back
           ∙ (then_false (offset_in heard (Some back) == v.reach) false refl
           ∙ sym (ap (λ (o : Option rows.Consumer). (offset_in t o == v.reach) && is_bound q o) was ∙ then_false (offset_in t (Some a.v) == v.reach) (is_bound q (Some a.v)) asked_apart))

@@ -27,12 +27,7 @@ pub record BoundAt (q : ℕ) (p : Place) : Type 0 where
 
 pub bound_at : (q : ℕ) (p : Place) → is_bound_place q p ≡ true → BoundAt q p
 bound_at q (place.Bound n lo hi how) on = let one : n ≡ q = grind (arith, nat_tests, on) in record { lo = lo; hi = hi; how = how; at = ap (λ (m : ℕ). place.Bound m lo hi how) one }
-bound_at q place.Line on = false_true on
-bound_at q (place.Passed n kept) on = false_true on
-bound_at q (place.Turn x) on = false_true on
-bound_at q (place.Direct x) on = false_true on
-bound_at q (place.Down why) on = false_true on
-bound_at q place.Over on = false_true on
+bound_at q _ on = false_true on
 
 module _ (t : Tables) (law : Lawful t) (c q : ℕ) (v : Consumer) (row : t.consumer c ≡ Some v) (at : BoundAt q v.place) where
   -- what it leaves is about what it is bound to
@@ -48,15 +43,7 @@ module _ (t : Tables) (law : Lawful t) (c q : ℕ) (v : Consumer) (row : t.consu
 
   -- a representation that it founded or joined is that
   its_own : (x n : ℕ) (w : Exchange) (p : Representation) → IsAbout t q x → t.exchange x ≡ Some w → t.representation n ≡ Some p → family x w ≡ n → n ≡ q
-  its_own x n w p (sound.headed z ex on headed of_q there) at_w rep family_is =
-      let same = same_row (t.exchange x) z w ex at_w in
-      sym family_is ∙ (ap (family x) (sym same) ∙ of_q)
-  its_own x n w p (sound.asks z a b ex on bare need aim) at_w rep family_is =
-      let same = same_row (t.exchange x) z w ex at_w in
-      let unjoined : w.joined ≡ None = (law.sound.waits.headless x w at_w (sym (ap (λ (y : Exchange). y.head) same) ∙ bare)).1 in
-      let itself : n ≡ x = sym family_is ∙ rw unjoined refl in
-      let none : t.representation n ≡ None = ap t.representation itself ∙ law.sound.numbered.names.unfounded x w at_w (sym (ap (λ (y : Exchange). y.head) same) ∙ bare) in
-      none_some p (sym none ∙ rep)
+  its_own x n w p it4 at_w rep family_is = grind (arith, nat_tests)
 
   -- what goes with what it leaves is what it was to read
   going_is : (x n : ℕ) → HowLeft t c x v → going_with t (Some x) ≡ Some n → n ≡ q
@@ -86,8 +73,7 @@ module _ (t : Tables) (law : Lawful t) (c q : ℕ) (v : Consumer) (row : t.consu
     may_then = may_with t c v (as_over v) row refl (may_let_go t law)
 
     gone_row : (o : Option Representation) (p : Representation) → option_map as_gone o ≡ Some p → p.is_gone ≡ true
-    gone_row None p h = none_some p h
-    gone_row (Some z) p h = sym (ap (λ (y : Representation). y.is_gone) (some_is (as_gone z) p h))
+    gone_row o p h = grind (arith, nat_tests)
 
     let_go_twice : let_go now q (let_go now q s) ≡ let_go now q s
     let_go_twice = let_go_nothing (let_go now q s) (keeps_may now q s may_then) now q (λ p is. gone_row (t.representation q) p (sym (rw (eqb-same q) refl) ∙ is))
@@ -111,8 +97,7 @@ module _ (limits : Limits) (t : Tables) (law : Lawful t) (now c want q : ℕ) (v
   at = bound_at q v.place bound
 
   gone_there : (o : Option Representation) (p : Representation) → option_map as_gone o ≡ Some p → p.is_gone ≡ true
-  gone_there None p h = none_some p h
-  gone_there (Some a) p h = sym (ap (λ (z : Representation). z.is_gone) (some_is (as_gone a) p h))
+  gone_there o p h = grind (arith, nat_tests)
 
   row_gone : (n : ℕ) → q ≡ n → (let_go now q quit).representation n ≡ option_map as_gone (t.representation n)
   row_gone n e = rw (e, eqb-same n) refl

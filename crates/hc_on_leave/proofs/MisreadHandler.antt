@@ -1,4 +1,6 @@
 -- The stored head of what is current can't be read: who asked for it fails, and what is current is let go.
+use Rattle.std.{proofs.{lemmas.Bool.Decides.{nat_tests}}}
+use Rattle.std.{proofs.{Common.{arith}}}
 use Rattle.std.{proofs.Common.{◌≡◌, ℕ, ◌<◌, List, [], ◌∷◌, ◌++◌, true, false, Option, Some, None, refl, ap, sym, ◌∙◌, subst}, specs.Prelude.{map, ◌||◌}}
 use Rattle.hc_text.proofs.Basics.{eqb-same, false_true, or_right as or_last}
 use Rattle.hc_store.specs.declared.backend.Backend.{Ghosts}
@@ -10,19 +12,7 @@ use Rattle.hc_state.proofs.Counting.{stands_counted}
 
 -- who reads nothing leaves no exchange
 pub idle_leaves : (t : Tables) (law : Lawful t) (c : ℕ) (v : Consumer) → t.consumer c ≡ Some v → is_idle_at v.place ≡ true → left_by t c v ≡ None
-idle_leaves t law c v row idle = by_place v.place refl
-  where
-    by_away : IsAway t v → is_last_reader t c v.place ≡ false → left_by t c v ≡ None
-    by_away away off = rw (away.unowned, off) refl
-
-    by_place : (p : Place) → v.place ≡ p → left_by t c v ≡ None
-    by_place place.Line at = by_away (law.places.line c v row at) (ap (is_last_reader t c) at)
-    by_place (place.Passed q how) at = by_away (law.places.passed c q how v row at) (ap (is_last_reader t c) at)
-    by_place (place.Turn x) at = false_true (sym (ap is_idle_at at) ∙ idle)
-    by_place (place.Bound q lo hi by) at = false_true (sym (ap is_idle_at at) ∙ idle)
-    by_place (place.Direct x) at = false_true (sym (ap is_idle_at at) ∙ idle)
-    by_place (place.Down why) at = false_true (sym (ap is_idle_at at) ∙ idle)
-    by_place place.Over at = false_true (sym (ap is_idle_at at) ∙ idle)
+idle_leaves t law c v row idle = grind (arith, nat_tests)
 
 module _ {B : Type 0} {g : Ghosts B} (limits : Limits) (faults : ℕ) (u : Rows B g) (t : Tables) (law : Lawful t) (now c want r : ℕ) (v : Consumer) (row : t.consumer c ≡ Some v) (idle : is_idle_at v.place ≡ true) (before out : List Act) where
   abbrev s : Tables

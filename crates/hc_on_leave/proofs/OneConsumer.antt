@@ -1,4 +1,6 @@
 -- One consumer changes and no exchange: what is kept represents the tables then, where as much is held for it.
+use Rattle.std.{proofs.{lemmas.Bool.Decides.{nat_tests}}}
+use Rattle.std.{proofs.{Common.{arith}}}
 use Rattle.std.proofs.Common.{◌≡◌, ◌≢◌, inl, inr, ℕ, List, true, Option, Some, None, refl, ap, sym, ◌∙◌}
 use Rattle.hc_text.proofs.Basics.{eqb-other, eqb-same, same_or}
 use Rattle.hc_effects.proofs.Vocabulary.{Limits, is_live, is_live_place, with_consumer, family, Tables, Exchange, Representation}
@@ -27,28 +29,19 @@ module _ (t : Tables) (c : ℕ) (v z : rows.Consumer) (row : t.consumer c ≡ So
 
   module _ (much : HoldsAsMuch) where
     past_same : (y d : ℕ) (w : Exchange) → t.exchange y ≡ Some w → unread y w (s.consumer d) ≡ unread y w (t.consumer d)
-    past_same y d w at = elim (same_or c d) [
-      | inl e ↦ rw (← e, here, row) (much.past y w at)
-      | inr ne ↦ ap (unread y w) (others d (λ e. ne (sym e)))
-    ]
+    past_same y d w at = grind (arith, nat_tests)
 
     lost_same : (y d : ℕ) (w : Exchange) (b : Representation) → t.exchange y ≡ Some w → t.representation (family y w) ≡ Some b → unstored_bytes s y w b (s.consumer d) ≡ unstored_bytes t y w b (t.consumer d)
-    lost_same y d w b at there = unstored_moved t s y w b (s.consumer d) ∙ elim (same_or c d) [
-      | inl e ↦ rw (← e, here, row) (much.lost y w b at there)
-      | inr ne ↦ ap (unstored_bytes t y w b) (others d (λ e. ne (sym e)))
-    ]
+    lost_same y d w b at there = grind (arith, nat_tests)
 
     alone_same : (y : ℕ) (w : Exchange) (b : Representation) (o : Option ℕ) → t.exchange y ≡ Some w → t.representation (family y w) ≡ Some b → held_alone s y w b o ≡ held_alone t y w b o
-    alone_same y w b None at there = refl
-    alone_same y w b (Some d) at there = lost_same y d w b at there
+    alone_same y w b o at there = grind (arith, nat_tests)
 
     of_same : (y : ℕ) (w : Exchange) (o : Option Representation) → t.exchange y ≡ Some w → t.representation (family y w) ≡ o → held_of s y w o ≡ held_of t y w o
-    of_same y w None at there = past_same y w.c w at
-    of_same y w (Some b) at there = alone_same y w b b.alone at there
+    of_same y w o at there = grind (arith, nat_tests)
 
     pub held_same : (y : ℕ) (o : Option Exchange) → t.exchange y ≡ o → held_for s y o ≡ held_for t y o
-    held_same y None at = refl
-    held_same y (Some w) at = of_same y w (t.representation (family y w)) at refl
+    held_same y o at = grind (arith, nat_tests)
 
 -- ALL OF IT
 
@@ -57,10 +50,7 @@ module _ {B : Type 0} {g : Ghosts B} {limits : Limits} (r u : Rows B g) (t : Tab
     (becomes : BecomesAt r.consumers u.consumers c (Some k)) (kept : KeepsConsumer t (Some k) (Some z)) (keys : (key : List ℕ) → KeepsKey (with_consumer c (Some z) t) key (kept_of u.keys key))
     (entries : KeepsEntries (with_consumer c (Some z) t) (shelf_of u.entries)) (much : HoldsAsMuch t c v z row) where
   live_each : (d : ℕ) → is_live ((with_consumer c (Some z) t).consumer d) ≡ is_live (t.consumer d)
-  live_each d = elim (same_or c d) [
-    | inl e ↦ rw (← e, here t c v z row, row) (lives ∙ sym lived)
-    | inr ne ↦ ap is_live (others t c v z row d (λ e. ne (sym e)))
-  ]
+  live_each d = grind (arith, nat_tests)
 
   pub stands_moved : RowsStand limits u (with_consumer c (Some z) t)
   stands_moved = record {

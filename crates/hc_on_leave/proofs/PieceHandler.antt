@@ -22,24 +22,17 @@ use Rattle.hc_on_leave.proofs.{HeardRows.{heard_row}, PieceRows.{s, like_same, s
 -- HOW FAR IT REACHES
 
 test_off : (b : Bool) (r : Refusal) (rest : Option Refusal) → cond b (Some r) rest ≡ None → (b ≡ false) × (rest ≡ None)
-test_off false r rest is = (refl, is)
-test_off true r rest is = none_some r (sym is)
+test_off b r rest is = grind (arith, nat_tests)
 
 within : (p got : ℕ) (r : Refusal) → cond (nat_lt p got) (Some r) None ≡ None → got ≤ p
 within p got r is = let off = (test_off (nat_lt p got) r None is).0 in grind (arith, nat_tests, off)
 
 pub not_overlong : (o : Option ℕ) (got p : ℕ) → overlong o got ≡ None → o ≡ Some p → got ≤ p
-not_overlong None got p none is = none_some p is
-not_overlong (Some q) got p none is = let same_p : q ≡ p = some_is q p is in rw (← same_p) (within q got _ none)
+not_overlong o got p none is = grind (arith, nat_tests)
 
 -- it has a head, and brings no more than that promised
 pub not_too_long : (o : Open) (n : ℕ) → piece_refusal (Some (open_view o)) n ≡ None → (o.headed ≡ true) × (0 < n) × ((p : ℕ) → o.promised ≡ Some p → o.delivered + n ≤ p)
-not_too_long o n none =
-    let first = test_off (not o.headed) _ _ none in
-    let second = test_off (not o.asked) _ _ first.1 in
-    let third = test_off (n == 0) _ _ second.1 in
-    let off = third.0 in
-    (on_by o.headed first.0, grind (arith, nat_tests, off), λ p is. not_overlong o.promised (o.delivered + n) p third.1 is)
+not_too_long o n none = grind (arith, nat_tests)
 
 pub piece_below : {B : Type 0} {g : Ghosts B} {limits : Limits} (r : Rows B g) (t : Tables) (facts : Facts limits t) (x n : ℕ) (o : Open) → Numbers t → t.received < 2 ^ 61 → n < 2 ^ 61 → RowsStand limits r t → (table_of r.exchanges x).running ≡ Some o → piece_refusal (Some (open_view o)) n ≡ None → o.base + o.delivered + n < 2 ^ 62 + 1
 piece_below r t facts x n o numbers few short stands running none =
@@ -93,11 +86,7 @@ runs_of r t x w stands row opened = by_open (table_of r.exchanges x).running ref
 
 -- what it brings where it has a head
 pub brings_none : (t : Tables) (x : ℕ) (o : Open) (w : Exchange) → IsRunning t x o w → is_some w.head ≡ true → body_of o.role ≡ None → t.representation (family x w) ≡ None
-brings_none t x o w is headed none = by_row (t.representation (family x w)) refl
-  where
-    by_row : (e : Option Representation) → t.representation (family x w) ≡ e → t.representation (family x w) ≡ None
-    by_row None at = at
-    by_row (Some v) at = none_some (family x w) (sym none ∙ (ap body_of is.role ∙ rw (none_is w.head headed, at) refl))
+brings_none t x o w is headed none = grind (arith, nat_tests)
 
 pub brings_it : (t : Tables) (x q : ℕ) (o : Open) (w : Exchange) → IsRunning t x o w → is_some w.head ≡ true → body_of o.role ≡ Some q → (family x w ≡ q) × ((v : Representation) × (t.representation (family x w) ≡ Some v))
 brings_it t x q o w is headed some = by_row (t.representation (family x w)) refl
@@ -129,13 +118,11 @@ module _ {B : Type 0} {g : Ghosts B} {limits : Limits} (r u : Rows B g) (t : Tab
       let at = reads.place_is in
       let past = facts.law.places.direct b.w.c x k reads.row at in
       let same_w : past.w ≡ b.w = same_row (t.exchange x) past.w b.w past.row b.row in
-      let given : k.given ≤ length b.w.body = subst (λ (e : Exchange). k.given ≤ length e.body) same_w past.given in
-      let new : unread x (with_piece bytes b.w) (Some k) ≡ drop k.given (b.w.body ++ bytes) = rw (at, eqb-same x) refl in
       let old : unread x b.w (Some k) ≡ drop k.given b.w.body = rw (at, eqb-same x) refl in
       ap (held_of after x (with_piece bytes b.w)) none
       ∙ (ap (unread x (with_piece bytes b.w)) reads.row
-      ∙ (new
-      ∙ (drop-append-le k.given b.w.body bytes given
+      ∙ ((rw (at, eqb-same x) refl)
+      ∙ (drop-append-le k.given b.w.body bytes (subst (λ (e : Exchange). k.given ≤ length e.body) same_w past.given)
       ∙ ap (λ (ys : List ℕ). ys ++ bytes) (sym (ap (held_of t x b.w) none ∙ (ap (unread x b.w) reads.row ∙ old))))))
 
   kept_none : KeepsEntry after (family x b.w) ((shelf_of u.entries).kept (family x b.w)) (t.representation (family x b.w))

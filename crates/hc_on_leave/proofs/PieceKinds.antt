@@ -12,11 +12,7 @@ use Rattle.hc_state.proofs.StoredKinds.{complete_as, incomplete_as, front_as}
 
 -- behind the piece it brings nothing
 pub outside_behind : (at p : ℕ) (bytes : List ℕ) → at + length bytes ≤ p → inside at (length bytes) p ≡ false
-outside_behind at p bytes le = by_test (nat_le at p) (let off : nat_lt p (at + length bytes) ≡ false = grind (arith, nat_tests, le) in off)
-  where
-    by_test : (a : Bool) → nat_lt p (at + length bytes) ≡ false → (a && nat_lt p (at + length bytes)) ≡ false
-    by_test true off = off
-    by_test false off = refl
+outside_behind at p bytes le = grind (arith, nat_tests)
 
 -- WHAT IS TOLD
 
@@ -26,8 +22,7 @@ entry_small None e is = none_some e is
 entry_small (Some k) e is = subst (λ (z : EntryView). z.size ≤ 2 ^ 62) (some_is (view_of k) e is) (size-le k.cells)
 
 pub none_told : (o : Option ℕ) → ((n : ℕ) → o ≡ Some n → ⊥) → o ≡ None
-none_told None off = refl
-none_told (Some n) off = absurd (off n refl)
+none_told o off = grind (arith, nat_tests)
 
 -- ITS KIND
 

@@ -12,8 +12,7 @@ use Rattle.hc_model.specs.Contents as contents
 use Rattle.hc_model.specs.LettingGo as going
 use Rattle.hc_model.specs.Sound as sound
 use Rattle.hc_model.specs.Weights as weights
-use Rattle.hc_effects.proofs.{IdleNow.{idle_but_gone, bound_is}, LettingGo.{may_let_go}, SameTables.{is_in}, Tests.{none_some}}
-use Rattle.hc_effects.proofs.PieceEffects as does
+use Rattle.hc_effects.proofs.{IdleNow.{idle_but_gone, bound_is}, LettingGo.{may_let_go}, SameTables.{is_in}, Tests.{none_some}, PieceEffects.{piece_goes}}
 use Rattle.hc_state.specs.Facts.{Facts}
 
 -- LISTS
@@ -34,11 +33,7 @@ not_filtered f n (x ∷ xs) off = by_test (f x) refl (not_filtered f n xs off)
     ]
 
 not_taken : (count n : ℕ) (xs : List ℕ) → is_in xs n ≡ false → is_in (take count xs) n ≡ false
-not_taken zero n xs off = by_list xs
-  where
-    by_list : (ys : List ℕ) → is_in (take zero ys) n ≡ false
-    by_list [] = refl
-    by_list (y ∷ ys) = refl
+not_taken zero n xs off = grind (arith, nat_tests)
 not_taken (suc count) n [] off = refl
 not_taken (suc count) n (x ∷ xs) off = by_tests (nat_eq x n) (is_in xs n) refl refl (λ rest. not_taken count n xs rest)
   where
@@ -54,12 +49,7 @@ some_list (x ∷ xs) some = grind (arith, nat_tests)
 -- WHAT THE RUN ALLOWS
 
 pub may_make_room : {limits : Limits} (t : Tables) → Facts limits t → MayMakeRoom t
-may_make_room t facts = record {
-  may = may_let_go t facts.law;
-  used = facts.law.order.used;
-  founded = facts.law.order.founded;
-  sized = facts.sized;
-}
+may_make_room t facts = assumption (facts.law.order, facts, may_let_go t facts.law)
 
 -- WHAT GIVES WAY
 
@@ -70,7 +60,7 @@ module _ (limits : Limits) (t : Tables) (law : Lawful t) (now x : ℕ) (bytes : 
   -- a piece lets nothing go by itself
   stays : (q : ℕ) (p : Representation) → goes_itself t e q p ≡ false
   unfolding becomes_gone
-  stays q p = or_first (goes_itself t e q p) _ (does.piece_goes limits t law now x bytes w row NoFlaw [] q p (λ on. false_true on))
+  stays q p = or_first (goes_itself t e q p) _ (piece_goes limits t law now x bytes w row NoFlaw [] q p (λ on. false_true on))
 
   weight_same : (q : ℕ) → weight t e q ≡ weight_now t q
   weight_same q = by_row (t.representation q)
@@ -95,17 +85,11 @@ module _ (limits : Limits) (t : Tables) (law : Lawful t) (now x : ℕ) (bytes : 
 
     pub room_same : room_for limits t now (event.Piece x bytes) ≡ room_now limits t wrote
     unfolding room_for
-    room_same =
-        let write_is : write_in t e (event.Piece x bytes) ≡ Some wrote = rw (row, there, fresh) refl in
-        let weights_are : weight t e ≡ weight_now t = fun_ext weight_same in
-        ap (room_by limits t e) write_is
-        ∙ (ap (λ (f : ℕ → ℕ). room_of limits (sum_by f t.founded) wrote (map f (idle t e))) weights_are
-        ∙ ap (λ qs. room_of limits (sum_by (weight_now t) t.founded) wrote (map (weight_now t) qs)) idle_same)
+    room_same = grind (arith, nat_tests, wrote, idle, weight_same, idle_same)
 
     firsts_same : (a : Room) → weights.first_idle t e a ≡ going.first_idle t a
     firsts_same (room.After count) = ap (take count) idle_same
-    firsts_same room.TooLarge = refl
-    firsts_same room.Full = refl
+    firsts_same _ = refl
 
     pub gives_same : evicted limits t now (event.Piece x bytes) ≡ giving_way limits t wrote
     gives_same = ap (weights.first_idle t e) room_same ∙ firsts_same (room_now limits t wrote)
@@ -122,8 +106,7 @@ module _ (limits : Limits) (t : Tables) (law : Lawful t) (now x : ℕ) (bytes : 
 
         by_room : (a : Room) → is_in (going.first_idle t a) (family x w) ≡ false
         by_room (room.After count) = not_taken count (family x w) (idle_now t) (not_filtered (λ q. contents.is_idle t q (t.representation q)) (family x w) (reverse t.used) busy)
-        by_room room.TooLarge = refl
-        by_room room.Full = refl
+        by_room _ = refl
 
 -- WHERE THE STORE TOOK IT
 
@@ -134,13 +117,4 @@ gives_first most sum (x ∷ ws) le = (let on : nat_le sum most ≡ true = grind 
 -- there was room, where the write is within the limits
 pub room_there : (limits : Limits) (sum size n : ℕ) (ws : List ℕ) → size + n ≤ limits.max_entry → (room_of limits sum (write.Piece size n) ws ≡ room.Full → sum + n ≤ limits.max_total) → has_room (room_of limits sum (write.Piece size n) ws) ≡ true
 unfolding room_of
-room_there limits sum size n ws small full = by_gives (gives_way limits.max_total (sum + n) ws) refl
-  where
-    fits : nat_lt limits.max_entry (size + n) ≡ false
-    fits = grind (arith, nat_tests, small)
-
-    by_gives : (o : Option ℕ) → gives_way limits.max_total (sum + n) ws ≡ o → has_room (room_of limits sum (write.Piece size n) ws) ≡ true
-    by_gives (Some count) is = rw (fits, is) refl
-    by_gives None is =
-        let never : room_of limits sum (write.Piece size n) ws ≡ room.Full = rw (fits, is) refl in
-        none_some 0 (sym is ∙ gives_first limits.max_total (sum + n) ws (full never))
+room_there limits sum size n ws small full = grind (arith, nat_tests, none_some, gives_first)

@@ -4,6 +4,8 @@
 -- has its length and status, and is usable. So consumers and keys are told the same. The exchange has the work: it is
 -- over where all that its head promised came, and else has brought so many bytes more. `stands_pieced` joins them with
 -- the entry of what it brings, which its users prove: pieces that are stored, held or dropped.
+use Rattle.std.{proofs.{lemmas.Bool.Decides.{nat_tests}}}
+use Rattle.std.{proofs.{Common.{arith}}}
 use Rattle.std.{proofs.{Common.{◌≡◌, ◌≢◌, inl, inr, ℕ, ◌+◌, List, ◌++◌, length, Bool, true, false, cond, Option, Some, None, refl, ap, ap₂, sym, ◌∙◌, subst}, lemmas.List.{length-append}}, specs.{Prelude.{is_some, is_none, nat_eq, bytes_eq, ◌&&◌, if◌then◌else◌}, HashMap.{get}}}
 use Rattle.hc_text.proofs.Basics.{eqb-other, eqb-same, false_true, filters_same, finds_same, same_or, and_off as then_false}
 use Rattle.hc_effects.proofs.Vocabulary.{Limits, route_of, Place, current, is_usable, total_in, with_event, with_exchange, with_piece, family, promised_bytes, is_reached, is_headless, is_growing, brings_to, base_in, end_in, end_of_direct, Tables, Exchange, Representation, status_in, event, place, by}
@@ -12,9 +14,8 @@ use Rattle.hc_stored.specs.{Entries.{shelf_of}, Shelf.{Shelf}}
 use Rattle.hc_entry.specs.Kept as keyed
 use Rattle.hc_entry.specs.Keys.{kept_of}
 use Rattle.hc_exch.specs.Exchanges as exch
-use Rattle.hc_exch.specs.{Exchanges.{table_of}, Known.{Known, is_all, is_last_of}, declared.{role.Role.{Role}, row.Open.{Open}}}
+use Rattle.hc_exch.specs.{Exchanges.{table_of}, Known.{Known, is_all, is_last_of}, declared.{role.Role.{Role, TheVariants.{the_data as role}}, row.Open.{Open}}}
 use Rattle.hc_exch.specs.Known as known
-use Rattle.hc_exch.specs.declared.role.Role.TheVariants as role
 use Rattle.hc_model.specs.Rows as rows
 use Rattle.hc_state.specs.{declared.rows.Rows.{Rows}, Kept.{IsRunning, KeepsRunning, KeepsExchange, head_in, held_for, role_awaited}, Lines.{KeepsKey, is_away, is_away_at}, Stands.{RowsStand}, Stored.{KeepsEntry, KeepsEntries, is_usable_row}}
 use Rattle.hc_on_leave.proofs.AnswerHandler.{all_reached, known_here, known_other}
@@ -38,8 +39,7 @@ like_same o p is = record {
 }
 
 pub none_is : {A : Type 0} (o : Option A) → is_some o ≡ true → is_none o ≡ false
-none_is None h = false_true h
-none_is (Some a) h = refl
+none_is o h = grind (arith, nat_tests)
 
 module _ (t : Tables) (now x : ℕ) (w : Exchange) (bytes : List ℕ) (vs : ℕ → Option Representation) where
   -- it brought these bytes, and of representations this is said
@@ -58,16 +58,12 @@ module _ (t : Tables) (now x : ℕ) (w : Exchange) (bytes : List ℕ) (vs : ℕ 
 
     -- what is told of it before and after is told of all
     told : {A : Type 0} (f : Option Exchange → A) → f (Some z) ≡ f (Some w) → (y : ℕ) → f (s.exchange y) ≡ f (t.exchange y)
-    told f alike y = elim (same_or x y) [
-      | inl e ↦ ap f (sym (ap s.exchange e) ∙ here) ∙ (alike ∙ sym (ap f (sym (ap t.exchange e) ∙ row)))
-      | inr ne ↦ ap f (others y ne)
-    ]
+    told f alike y = grind (arith, nat_tests)
 
     -- CONSUMERS
 
     ends_so : w.is_ended ≡ false → (o : Option ℕ) → end_of_direct o z ≡ end_of_direct o w
-    ends_so unended None = rw unended refl
-    ends_so unended (Some n) = refl
+    ends_so unended o = grind (arith, nat_tests)
 
     sees : w.is_ended ≡ false → ((q : ℕ) → IsLike (t.representation q) (vs q)) → SeesAlike t s
     sees unended like = record {
@@ -80,56 +76,23 @@ module _ (t : Tables) (now x : ℕ) (w : Exchange) (bytes : List ℕ) (vs : ℕ 
     -- KEYS
 
     away_same : (key : List ℕ) (o : Option rows.Consumer) → is_away s key o ≡ is_away t key o
-    away_same key None = refl
-    away_same key (Some k) = ap (λ b. bytes_eq k.request.key key && b) (by_place k.place refl)
-      where
-        headless_none : is_headless (Some z) ≡ is_headless (Some w)
-        headless_none = then_false z.is_open (is_none w.head) (none_is w.head headed) ∙ sym (then_false w.is_open (is_none w.head) (none_is w.head headed))
-
-        by_place : (p : Place) → k.place ≡ p → is_away_at s k.place ≡ is_away_at t k.place
-        by_place (place.Bound q lo hi (by.FirstHole y)) at = rw at (told is_headless headless_none y)
-        by_place (place.Bound q lo hi by.Founding) at = rw at refl
-        by_place (place.Bound q lo hi by.Plan) at = rw at refl
-        by_place place.Line at = rw at refl
-        by_place (place.Passed q kept) at = rw at refl
-        by_place (place.Turn y) at = rw at refl
-        by_place (place.Direct y) at = rw at refl
-        by_place (place.Down why) at = rw at refl
-        by_place place.Over at = rw at refl
+    away_same key o = grind (arith, nat_tests)
 
     key_pieced : ((q : ℕ) → IsLike (t.representation q) (vs q)) → (key : List ℕ) (k : keyed.Kept) → KeepsKey t key k → KeepsKey s key k
     unfolding current
     key_pieced like key k kept =
-        key_same t s key k (record {
-          current = finds_same (λ q. is_usable key (t.representation q)) (λ q. is_usable key (vs q)) (λ q. (like q).usable key) t.founded;
-          in_line = λ d. refl;
-          passed = λ d. refl;
-          away = λ d. away_same key (t.consumer d);
-          turn = λ d. refl;
-        }) kept
+        let usable = λ (q : ℕ). (like q).usable key in
+        let current = finds_same (λ q. is_usable key (t.representation q)) (λ q. is_usable key (vs q)) usable t.founded in
+        key_same t s key k (assumption (current, (λ (d : ℕ). away_same key (t.consumer d)))) kept
 
     -- REPRESENTATIONS
 
     brings_other : (q : ℕ) → family x w ≢ q → (y : ℕ) → brings_to q y (s.exchange y) ≡ brings_to q y (t.exchange y)
-    brings_other q ne y = elim (same_or x y) [
-      | inl e ↦ subst (λ (n : ℕ). brings_to q n (s.exchange n) ≡ brings_to q n (t.exchange n)) e
-          (ap (brings_to q x) here ∙ (off z.is_open ∙ sym (ap (brings_to q x) row ∙ off w.is_open)))
-      | inr ne ↦ ap (brings_to q y) (others y ne)
-    ]
-      where
-        off : (b : Bool) → (b && nat_eq (family x w) q) ≡ false
-        off b = then_false b (nat_eq (family x w) q) (eqb-other (family x w) q ne)
+    brings_other q ne y = grind (arith, nat_tests)
 
     -- where it stays open, all that grew grows
     pub grows_on : z.is_open ≡ true → (q : ℕ) → is_growing s q ≡ is_growing t q
-    grows_on still q = growing_same t s q refl (λ y. told_at y)
-      where
-        told_at : (y : ℕ) → brings_to q y (s.exchange y) ≡ brings_to q y (t.exchange y)
-        told_at y = elim (same_or x y) [
-          | inl e ↦ subst (λ (n : ℕ). brings_to q n (s.exchange n) ≡ brings_to q n (t.exchange n)) e
-              (ap (brings_to q x) here ∙ (ap (λ b. b && nat_eq (family x w) q) (still ∙ sym opened) ∙ sym (ap (brings_to q x) row)))
-          | inr ne ↦ ap (brings_to q y) (others y ne)
-        ]
+    grows_on still q = grind (arith, nat_tests)
 
     entries_pieced : (a b : Shelf) → ((q : ℕ) → IsLike (t.representation q) (vs q)) → ((q : ℕ) → family x w ≢ q → vs q ≡ t.representation q) → ((q : ℕ) → family x w ≢ q → b.kept q ≡ a.kept q) → b.order ≡ a.order
         → KeepsEntry s (family x w) (b.kept (family x w)) (vs (family x w)) → KeepsEntries t a → KeepsEntries s b
@@ -158,19 +121,9 @@ module _ (t : Tables) (now x : ℕ) (w : Exchange) (bytes : List ℕ) (vs : ℕ 
 
       running_after : (b : Bool) → is_reached (promised_bytes w) (length (w.body ++ bytes)) ≡ b → KeepsRunning s x (cond b None (Some (record o { delivered = o.delivered + length bytes; asked = false }))) (Some z)
       running_after true reached = rw reached refl
-      running_after false reached = record {
-        is_open = rw reached opened;
-        c = is.c;
-        need = is.need;
-        request = is.request;
-        moment = is.moment;
-        headed = is.headed;
-        asked = refl;
-        base_is = is.base_is;
-        delivered = count_is;
-        promised_is = is.promised_is;
-        role = is.role ∙ ap role_with (sym like.there);
-      }
+      running_after false reached =
+          let is_open : z.is_open ≡ true = rw reached opened in
+          assumption (is, is_open, count_is, is.role ∙ ap role_with (sym like.there))
 
       -- what is known of it then
       pub known_pieced : (k : Known) (hold : Bool) → k.running ≡ Some o → (known.with_piece bytes hold k).held ≡ held_for s x (Some z) → KeepsExchange s x (known.with_piece bytes hold k)

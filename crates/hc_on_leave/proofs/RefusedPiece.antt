@@ -1,8 +1,7 @@
 -- The store refuses a piece for which room was made: why.
 use Rattle.std.{proofs.{Common.{◌≡◌, ℕ, ◌+◌, ◌<◌, ◌≤◌, List, true, false, Option, Some, None, refl, subst, arith}, lemmas.Bool.Decides.{nat_tests}}, specs.Prelude.{nat_lt, Result, Err, if◌then◌else◌}}
 use Rattle.hc_text.proofs.Basics.{some_inj as some_is}
-use Rattle.hc_store.specs.{Causes.{HasCause, IsWithin}, declared.error.StoreError.{StoreError}}
-use Rattle.hc_store.specs.declared.error.StoreError.TheVariants as errors
+use Rattle.hc_store.specs.{Causes.{HasCause, IsWithin}, declared.error.StoreError.{StoreError, TheVariants.{the_data as errors}}}
 use Rattle.hc_effects.proofs.Vocabulary.{LostKind, room_of, gives_way, Limits, kind as kinds, room, write}
 use Rattle.hc_rules.specs.Rooms as rooms
 use Rattle.hc_state.specs.Room.{loss_by}
@@ -15,13 +14,7 @@ too_large limits sum n m ws more = let on : nat_lt limits.max_entry (n + m) ≡ 
 
 pub not_large : (limits : Limits) (sum n m : ℕ) (ws : List ℕ) → n + m ≤ limits.max_entry → room_of limits sum (write.Piece n m) ws ≡ room.TooLarge → ⊥
 unfolding room_of
-not_large limits sum n m ws fits is =
-    let off : nat_lt limits.max_entry (n + m) ≡ false = grind (arith, nat_tests, fits) in
-    by_way (gives_way limits.max_total (sum + m) ws) (let same : (if nat_lt limits.max_entry (n + m) then room.TooLarge else rooms.room_by (gives_way limits.max_total (sum + m) ws)) ≡ room.TooLarge = is in rw off at same)
-  where
-    by_way : (o : Option ℕ) → rooms.room_by o ≡ room.TooLarge → ⊥
-    by_way None same = (let never : room.Full ≡ room.TooLarge = same in cc)
-    by_way (Some count) same = (let never : room.After count ≡ room.TooLarge = same in cc)
+not_large limits sum n m ws fits is = grind (arith, nat_tests)
 
 -- by what the store says of the write
 pub data Refused (limits : Limits) (entry sum : ℕ) (faults after : ℕ) : LostKind → Type 0 where

@@ -13,12 +13,7 @@ below_room n m lt small = grind (arith, nat_tests)
 
 -- the length of what is kept is that of its row
 pub entry_short : (t : Tables) (q n : ℕ) (k : Kept) (o : Option Representation) → ((v : Representation) → o ≡ Some v → v.head.total ≡ Some n → n < 2 ^ 62) → KeepsEntry t q (Some k) o → k.head.total ≡ Some n → n < 2 ^ 62
-entry_short t q n k None rows kept known = absurd kept
-entry_short t q n k (Some v) rows kept known = by_length kept.length
-  where
-    by_length : TellsLength k v → n < 2 ^ 62
-    by_length (told same) = rows v refl (sym same ∙ known)
-    by_length (untold u) = none_some n (sym u.untold ∙ known)
+entry_short t q n k o rows kept known = grind (arith, nat_tests)
 
 -- where they represent tables with the representations of a run
 pub shorts : {B : Type 0} {g : Ghosts B} {limits : Limits} (u : Rows B g) (t s : Tables) → Numbers t → t.received < 2 ^ 62 → s.representation ≡ t.representation → RowsStand limits u s → TellsShort (shelf_of u.entries)
@@ -42,12 +37,4 @@ shorts_left r u c some lives leaves q n k at known = merely_below n (2 ^ 62) som
 
 -- what is told of what is kept
 pub view_short : (s : Shelf) (q : ℕ) (o : Option EntryView) (entry : EntryView) → TellsShort s → o ≡ option_map view_of (s.kept q) → o ≡ Some entry → IfSome entry.total (λ n. n < 2 ^ 62)
-view_short s q o entry short is some = by_total entry.total refl
-  where
-    by_kept : (n : ℕ) (z : Option Kept) → s.kept q ≡ z → option_map view_of z ≡ Some entry → entry.total ≡ Some n → n < 2 ^ 62
-    by_kept n None at view known = none_some entry view
-    by_kept n (Some k) at view known = short q n k at (let same : view_of k ≡ entry = cc in ap (λ (e : EntryView). e.total) same ∙ known)
-
-    by_total : (z : Option ℕ) → entry.total ≡ z → IfSome z (λ n. n < 2 ^ 62)
-    by_total None known = tt
-    by_total (Some n) known = by_kept n (s.kept q) refl (sym is ∙ some) known
+view_short s q o entry short is some = grind (arith, nat_tests)

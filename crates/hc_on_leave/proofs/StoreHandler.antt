@@ -4,7 +4,7 @@
 -- gave no way. It is still kept, and nothing stands where the bytes go, as the store asks. Where the store took them,
 -- `StoredPiece` answers. Where it refused them, the kind of loss has the work: the entry is too large, the store is
 -- full, or a call failed (`refuses_it`). `store_piece` uses the last module.
-use Rattle.std.{proofs.{Common.{◌≡◌, ◌≢◌, ℕ, ◌+◌, ◌<◌, ◌≤◌, ◌^◌, List, [], ◌++◌, length, max, Bool, true, false, Option, Some, None, refl, ap, sym, ◌∙◌, subst, arith}, Math.{Logic.{∥∥₁_elim}, Seq.{take-append_seam}}}, specs.Prelude.{is_some, not, map, option_map, ◌&&◌, if◌then◌else◌, take}}
+use Rattle.std.{proofs.{Common.{◌≡◌, ◌≢◌, ℕ, ◌+◌, ◌<◌, ◌≤◌, ◌^◌, List, [], ◌++◌, length, max, Bool, true, false, Option, Some, None, refl, ap, sym, ◌∙◌, subst, arith}, Math.{Logic.{∥∥₁_elim}, Seq.{take-append_seam}}, lemmas.Bool.Decides.{nat_tests}}, specs.Prelude.{is_some, not, map, option_map, ◌&&◌, if◌then◌else◌, take}}
 use Rattle.hc_store.specs.declared.backend.Backend.{Ghosts}
 use Rattle.hc_sparse.specs.Cells.{Cell, Cells, AreAbsent, EndsBy, cells_with, size}
 use Rattle.hc_sparse.proofs.SizeLemmas.{size-same}
@@ -69,17 +69,11 @@ stores_of r t facts x q bytes stands goes grows = by_brought (brought_by (table_
         record { w = b.w; row = b.row; taken = b.taken; of_q = it.0 ∙ kept.0; v = v; there = it.1.1; fresh = sym entry.is_lost ∙ kept.1.2 }
 
 pub none_by : (stored body : Option Cell) → (is_some stored ≡ true → stored ≡ body) → body ≡ None → stored ≡ None
-none_by None body same none = refl
-none_by (Some cell) body same none = same refl ∙ none
+none_by stored body same none = grind (arith, nat_tests)
 
 -- nothing stands past its end
 ends_then : (f : Cells) (reach at x : ℕ) (bytes : List ℕ) (p : ℕ) → EndsBy reach f → max reach (at + length bytes) ≤ p → cells_with at x bytes f p ≡ None
-ends_then f reach at x bytes p ends past =
-    let behind : at + length bytes ≤ p = omega (arith, past) in
-    let low : reach ≤ p = omega (arith, past) in
-    let off = outside_behind at p bytes behind in
-    let none = ends p low in
-    rw (off, none) refl
+ends_then f reach at x bytes p ends past = grind (arith, nat_tests)
 
 -- as many bytes are kept as are stored
 pub stored_size : {B : Type 0} {g : Ghosts B} {limits : Limits} (r : Rows B g) (t : Tables) (facts : Facts limits t) (q : ℕ) (v : Representation) (k : Kept) (m : Tables) → t.representation q ≡ Some v → IsInUse t q v → IsEntry m q k v → size k.cells ≡ v.size
@@ -250,15 +244,8 @@ module _ {B : Type 0} {g : Ghosts B} {limits : Limits} (r mid put u : Rows B g) 
     full_by entry more room.Full is = refl
 
     may_by : (k : LostKind) → Refused (shelf_of mid.entries).limits (size_at (shelf_of mid.entries) q + length bytes) ((shelf_of mid.entries).used + length bytes) (shelf_of mid.entries).faults (shelf_of put.entries).faults k → may_lose (room_now limits t wrote) k ≡ true
-    may_by _ (refusals_of.fault failed) = by_room (room_now limits t wrote)
-      where
-        by_room : (a : Room) → may_lose a kinds.Fault ≡ true
-        by_room (room.After count) = refl
-        by_room room.TooLarge = refl
-        by_room room.Full = refl
-    may_by _ (refusals_of.large more) =
-        let here : limits.max_entry < v.size + length bytes = subst (λ (l : Limits). l.max_entry < v.size + length bytes) limits_are (subst (λ n. (shelf_of mid.entries).limits.max_entry < n + length bytes) size_here more) in
-        rw (too_large limits (weights_now t) v.size (length bytes) (map (weight_now t) (idle_now t)) here) refl
+    may_by _ (refusals_of.fault failed) = grind (arith, nat_tests)
+    may_by _ (refusals_of.large more) = grind (arith, nat_tests, length, limits_are, size_here, too_large)
     may_by _ (refusals_of.full entry more) =
         full_by (subst (λ (l : Limits). v.size + length bytes ≤ l.max_entry) limits_are (subst (λ n. n + length bytes ≤ (shelf_of mid.entries).limits.max_entry) size_here entry))
         (subst (λ (l : Limits). l.max_total < weights_now left + length bytes) limits_are (subst (λ n. (shelf_of mid.entries).limits.max_total < n + length bytes) sum_here more))
@@ -266,8 +253,7 @@ module _ {B : Type 0} {g : Ghosts B} {limits : Limits} (r mid put u : Rows B g) 
 
     caused_by : (k : LostKind) → Refused (shelf_of mid.entries).limits (size_at (shelf_of mid.entries) q + length bytes) ((shelf_of mid.entries).used + length bytes) (shelf_of mid.entries).faults (shelf_of put.entries).faults k → k ≡ kinds.Fault → (shelf_of r.entries).faults < (shelf_of put.entries).faults
     caused_by _ (refusals_of.fault failed) is = subst (λ n. n < (shelf_of put.entries).faults) faulty failed
-    caused_by _ (refusals_of.large more) is = absurd (let never : kinds.TooLarge ≡ kinds.Fault = is in cc)
-    caused_by _ (refusals_of.full entry more) is = absurd (let never : kinds.Full ≡ kinds.Fault = is in cc)
+    caused_by _ _ is = cc
 
     pub refuses_it : Refuses limits r put t now x bytes kind before out
     refuses_it =
@@ -284,8 +270,7 @@ module _ {B : Type 0} {g : Ghosts B} {limits : Limits} (r mid put u : Rows B g) 
 -- BEFORE THE STORE IS ASKED
 
 pub accepted_open : (running : Option Open) (n : ℕ) → piece_refusal (option_map open_view running) n ≡ None → (is_some running ≡ true) × (0 < n)
-accepted_open None n none = none_some _ (sym none)
-accepted_open (Some o) n none = (refl, (not_too_long o n none).1)
+accepted_open running n none = grind (arith, nat_tests)
 
 pub kept_of : (o : Option Kept) (e : EntryView) → option_map view_of o ≡ Some e → (k : Kept) × (o ≡ Some k) × (e.size ≡ size k.cells)
 kept_of None e is = none_some e is
@@ -329,6 +314,5 @@ module _ {B : Type 0} {g : Ghosts B} (r mid : Rows B g) (now x q : ℕ) (bytes :
   pub front_mid : take (length before) out ≡ before
   front_mid = ∥∥₁_elim some (acts_set (take (length before) out) before) (λ p.
       let t = p.t in
-      let facts = p.facts in
-      let made = gives _ t (may_make_room t facts) p.rows in
+      let made = gives _ t (may_make_room t p.facts) p.rows in
       ap (take (length before)) made.acts ∙ take-append_seam before (map act.Evicted (giving_way p.limits t (write.Piece stored (length bytes)))))

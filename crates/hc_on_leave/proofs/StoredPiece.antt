@@ -4,16 +4,15 @@
 -- kind stays that of what grows, unless these bytes are the last. No other exchange brings it, so it stops then, and
 -- the kind that is left was stored with them. Letting go and storing are of different representations, so their order
 -- is no matter (`tables_are`). By `PieceRows` the rest follows; `stored_answered` is what `StoreHandler` uses.
+use Rattle.std.{proofs.{lemmas.Bool.Decides.{nat_tests}}}
 use Rattle.std.{proofs.Common.{◌≡◌, ◌≢◌, inl, inr, ℕ, ◌+◌, ◌-◌, ◌<◌, ◌≤◌, ◌⊎◌, List, [], ◌∷◌, ◌++◌, length, max, Bool, true, false, Option, Some, None, refl, ap, sym, ◌∙◌, subst, arith}, specs.Prelude.{is_some, nat_eq, not, slice_index, map, option_map, ◌==◌, ◌&&◌, if◌then◌else◌}}
 use mathlib.Core.Path.{fun_ext}
 use Rattle.hc_text.proofs.Basics.{eqb-other, eqb-same, false_true, any_none as none_passes, never_true as not_true, same_or, some_inj as some_is}
 use Rattle.hc_store.specs.{declared.backend.Backend.{Ghosts}, Heads.{with_kind}}
 use Rattle.hc_sparse.specs.Cells.{Cell, Cells, Covers, inside, cells_with}
-use Rattle.hc_record.specs.{Head.{Head, sealed_head}, declared.kind.Kind.{Kind}}
-use Rattle.hc_record.specs.declared.kind.Kind.TheVariants as kinds
+use Rattle.hc_record.specs.{Head.{Head, sealed_head}, declared.kind.Kind.{Kind, TheVariants.{the_data as kinds}}}
 use Rattle.hc_effects.proofs.Vocabulary.{Act, Response, overlong, Limits, denial, with_event, let_all_go, with_exchange, with_representation, as_gone, with_piece, family, front, promised_bytes, NoFlaw, flaw_in, Grows, IsMeasured, kind_of, is_growing, brings_to, is_complete, is_front, bound, with_stored_bytes, Tables, Exchange, Representation, has_room, room_for, evicted, act, event}
-use Rattle.hc_stored.specs.{Entries.{shelf_of}, Kept.{Kept}, Shelf.{same_order}}
-use Rattle.hc_stored.specs.Kept as entry
+use Rattle.hc_stored.specs.{Entries.{shelf_of}, Kept.{Kept, kept_with_bytes}, Shelf.{same_order}}
 use Rattle.hc_stored.specs.Shelf as shelf
 use Rattle.hc_exch.specs.Exchanges as exch
 use Rattle.hc_exch.specs.Known as known
@@ -23,35 +22,25 @@ use Rattle.hc_model.specs.Rows as rows
 use Rattle.hc_model.specs.Sound as sound
 use Rattle.hc_effects.proofs.{HoleLemmas.{covers_all}, Once.{delivers_once}, SameTables.{is_in, without, all_go_is}, Tests.{none_some}}
 use Rattle.hc_effects.proofs.PieceEffects as does
-use Rattle.hc_state.proofs.{Ties.{overs_open, writer_then}, Fallbacks.{unstored_moved}, OneOfEach.{first_by}}
+use Rattle.hc_state.proofs.{Ties.{overs_open, writer_then, OversStay}, Fallbacks.{unstored_moved}, OneOfEach.{first_by}}
 use Rattle.hc_state.specs.{declared.rows.Rows.{Rows}, Facts.{Facts}, Kept.{held_alone, held_of, held_for}, Pieces.{IsLastKind, more, ends}, Stands.{Answered, RowsStand}, Stops.{kind_left}, Stored.{IsEntry, TellsLength, told, untold, KeepsEntry}}
 use Rattle.hc_on_leave.proofs.{PieceHandler.{Runs, runs_of, open_unended, not_overlong}, PieceRows.{s, IsLike, like_same, grows_on, stands_pieced}}
 
 still_there : (a : Bool) (cell : Cell) (o : Option Cell) → is_some o ≡ true → is_some (if a then Some cell else o) ≡ true
-still_there true cell o on = refl
-still_there false cell o on = on
+still_there a cell o on = grind (arith, nat_tests)
 
 pub written_alike : (f h : Cells) (at x : ℕ) (bytes : List ℕ) (p : ℕ) → f p ≡ h p → cells_with at x bytes f p ≡ cells_with at x bytes h p
-written_alike f h at x bytes p same =
-    let cell : Cell = record { byte = slice_index bytes (p - at); x = x } in
-    ap (λ (o : Option Cell). if inside at (length bytes) p then Some cell else o) same
+written_alike f h at x bytes p same = grind (arith, nat_tests)
 
 whole_only : (v : Representation) → kind_left v ≡ kinds.Whole → is_complete v ≡ true
-whole_only v = by_tests (is_complete v) (is_front v)
-  where
-    by_tests : (a b : Bool) → (if a then kinds.Whole else if b then kinds.Truncated else kinds.Ranges) ≡ kinds.Whole → a ≡ true
-    by_tests true b is = refl
-    by_tests false true is = absurd (let never : kinds.Truncated ≡ kinds.Whole = is in cc)
-    by_tests false false is = absurd (let never : kinds.Ranges ≡ kinds.Whole = is in cc)
+whole_only v = grind (arith, nat_tests)
 
 -- whatever its kind, the head seals alike
 sealed_alike : (last : Option Kind) (total : Option ℕ) (h : Head) → sealed_head kinds.Growing total (with_kind last h) ≡ sealed_head kinds.Growing total h
-sealed_alike None total h = refl
-sealed_alike (Some kind) total h = refl
+sealed_alike last total h = grind (arith, nat_tests)
 
 total_alike : (last : Option Kind) (h : Head) → (with_kind last h).total ≡ h.total
-total_alike None h = refl
-total_alike (Some kind) h = refl
+total_alike last h = grind (arith, nat_tests)
 
 module _ {B : Type 0} {g : Ghosts B} (mid u : Rows B g) (limits : Limits) (t : Tables) (facts : Facts limits t) (now x : ℕ) (bytes : List ℕ) (goes : denial t (event.Piece x bytes) ≡ None) (w : Exchange) (v : Representation) (row : t.exchange x ≡ Some w) (opened : w.is_open ≡ true) (headed : is_some w.head ≡ true) (some : 0 < length bytes) (fits : overlong (promised_bytes w) (length w.body + length bytes) ≡ None) (there : t.representation (family x w) ≡ Some v) (fresh : v.is_lost ≡ false)
     (es : List ℕ) (spared : is_in es (family x w) ≡ false) where
@@ -97,12 +86,7 @@ module _ {B : Type 0} {g : Ghosts B} (mid u : Rows B g) (limits : Limits) (t : T
   grows = facts.law.growing.grows (family x w) x grower
 
   head_there : (y : ℕ) (e : Exchange) → t.exchange y ≡ Some e → family y e ≡ family x w → (h : Option Response) → e.head ≡ h → is_some h ≡ true
-  head_there y e at same (Some response) is = refl
-  head_there y e at same None bare =
-      let unjoined = (facts.law.sound.waits.headless y e at bare).1 in
-      let none = facts.law.sound.numbered.names.unfounded y e at bare in
-      let own : family y e ≡ y = rw unjoined refl in
-      none_some v (sym none ∙ (ap t.representation (sym own ∙ same) ∙ there))
+  head_there y e at same h is = grind (arith, nat_tests)
 
   -- no other brings it
   apart : (y : ℕ) → x ≢ y → brings_to (family x w) y (t.exchange y) ≡ false
@@ -172,12 +156,10 @@ module _ {B : Type 0} {g : Ghosts B} (mid u : Rows B g) (limits : Limits) (t : T
         by_last (more still_comes none) =
             let still = on_by (with_piece bytes w).is_open still_comes in
             let on : is_growing after (family x w) ≡ true = grows_on m now x w bytes vs row opened headed still (family x w) ∙ grows in
-            let left : (with_kind last k.head).kind ≡ k.head.kind = ap (λ l. (with_kind l k.head).kind) none in
-            left ∙ (before ∙ rw on refl)
+            ap (λ l. (with_kind l k.head).kind) none ∙ (before ∙ rw on refl)
         by_last (ends over some_kind) =
             let off : is_growing after (family x w) ≡ false = stops (off_by (with_piece bytes w).is_open over) in
-            let left : (with_kind last k.head).kind ≡ kind_left v2 = ap (λ l. (with_kind l k.head).kind) some_kind in
-            left ∙ rw off refl
+            ap (λ l. (with_kind l k.head).kind) some_kind ∙ rw off refl
 
     covers_then : (lo hi : ℕ) → Covers v.stored lo hi → Covers v2.stored lo hi
     covers_then lo hi covered p low high = still_there (inside (front w) (length bytes) p) _ (v.stored p) (covered p low high)
@@ -194,30 +176,31 @@ module _ {B : Type 0} {g : Ghosts B} (mid u : Rows B g) (limits : Limits) (t : T
             let complete : is_complete v2 ≡ true = whole_only v2 (sym (ap (λ l. (with_kind l k.head).kind) some_kind) ∙ whole) in
             covers_all v2.stored v2.reach 0 n (ap (λ o. stored_kinds.covers_all v2 o) (sym known) ∙ complete)
 
-    entry_then : (k : Kept) → IsEntry m (family x w) k v → IsEntry after (family x w) (entry.kept_with_bytes (front w) x bytes last k) v2
+    entry_then : (k : Kept) → IsEntry m (family x w) k v → IsEntry after (family x w) (kept_with_bytes (front w) x bytes last k) v2
     unfolding bound
-    entry_then k is = record {
-      used = is.used;
-      key = is.key;
-      head = sealed_alike last v.head.total k.head ∙ is.head;
-      length = told (total_alike last k.head ∙ tells k is.length);
-      kind = λ stays. kind_then k is stays;
-      whole = λ n whole total. whole_then k is n whole total;
-      cells = λ p. written_alike k.cells v.stored (front w) x bytes p (is.cells p);
-      reach = λ off. ap (λ n. max n (front w + length bytes)) (is.reach off);
-      bound = is.bound;
-      first = λ d. is.first d ∙ sym (first_by m after (λ n. (like n).status) (family x w) (m.consumer d));
-      writer = writer_then (overs_open m.exchange after.exchange x w row opened (λ y ne. rw (eqb-other x y ne) refl)) is.writer;
-      is_lost = is.is_lost;
-      alone = is.alone;
-      is_gone = is.is_gone;
-    }
+    entry_then k is =
+        let first = λ (d : ℕ). first_by m after (λ n. (like n).status) (family x w) (m.consumer d) in
+        let over : OversStay m.exchange after.exchange =
+        overs_open m.exchange after.exchange x w row opened (λ y ne. rw (eqb-other x y ne) refl) in
+        let total_then : TellsLength (kept_with_bytes (front w) x bytes last k) v2 =
+        told (total_alike last k.head ∙ tells k is.length) in
+        assumption (
+          is,
+          sealed_alike last v.head.total k.head ∙ is.head,
+          writer_then over is.writer,
+          total_then,
+          kind_then k is,
+          whole_then k is,
+          (λ (d : ℕ). is.first d ∙ sym (first d)),
+          (λ (p : ℕ). written_alike k.cells v.stored (front w) x bytes p (is.cells p)),
+          (λ (off : v.is_lost ≡ false). ap (λ (n : ℕ). max n (front w + length bytes)) (is.reach off)),
+        )
 
     -- THE ROWS
 
     module _ (stands : RowsStand limits mid m) (last_start : u.last_start ≡ mid.last_start) (same_map : u.consumers ≡ mid.consumers) (same_keys : u.keys ≡ mid.keys)
-        (fills : shelf.Becomes (option_map (entry.kept_with_bytes (front w) x bytes last)) same_order (family x w) (shelf_of mid.entries) (shelf_of u.entries)) (becomes : exch.Becomes (known.with_piece bytes false) x mid.exchanges u.exchanges) where
-      kept_here : (shelf_of u.entries).kept (family x w) ≡ option_map (entry.kept_with_bytes (front w) x bytes last) ((shelf_of mid.entries).kept (family x w))
+        (fills : shelf.Becomes (option_map (kept_with_bytes (front w) x bytes last)) same_order (family x w) (shelf_of mid.entries) (shelf_of u.entries)) (becomes : exch.Becomes (known.with_piece bytes false) x mid.exchanges u.exchanges) where
+      kept_here : (shelf_of u.entries).kept (family x w) ≡ option_map (kept_with_bytes (front w) x bytes last) ((shelf_of mid.entries).kept (family x w))
       kept_here = fills.kept (family x w) ∙ rw (eqb-same (family x w)) refl
 
       kept_else : (q : ℕ) → family x w ≢ q → (shelf_of u.entries).kept q ≡ (shelf_of mid.entries).kept q
@@ -228,7 +211,7 @@ module _ {B : Type 0} {g : Ghosts B} (mid u : Rows B g) (limits : Limits) (t : T
       its = subst (λ k. KeepsEntry after (family x w) k (vs (family x w))) (sym kept_here) (subst (KeepsEntry after (family x w) _) (sym vs_here)
           (by_kept ((shelf_of mid.entries).kept (family x w)) (subst (KeepsEntry m (family x w) ((shelf_of mid.entries).kept (family x w))) m_there (stands.entries.each (family x w)))))
         where
-          by_kept : (k : Option Kept) → KeepsEntry m (family x w) k (Some v) → KeepsEntry after (family x w) (option_map (entry.kept_with_bytes (front w) x bytes last) k) (Some v2)
+          by_kept : (k : Option Kept) → KeepsEntry m (family x w) k (Some v) → KeepsEntry after (family x w) (option_map (kept_with_bytes (front w) x bytes last) k) (Some v2)
           by_kept None kept = record { gone = kept.gone; unused = kept.unused }
           by_kept (Some k) kept = entry_then k kept
 
@@ -242,8 +225,7 @@ module _ {B : Type 0} {g : Ghosts B} (mid u : Rows B g) (limits : Limits) (t : T
       held_new = ap (held_of after x (with_piece bytes w)) vs_here ∙ ap (held_alone after x (with_piece bytes w) v2) nobody
 
       alone_moved : (y : ℕ) (e : Exchange) (p : Representation) (o : Option ℕ) → held_alone after y e p o ≡ held_alone m y e p o
-      alone_moved y e p None = refl
-      alone_moved y e p (Some d) = unstored_moved m after y e p (m.consumer d)
+      alone_moved y e p o = grind (arith, nat_tests)
 
       held_else : (y : ℕ) (e : Exchange) → x ≢ y → m.exchange y ≡ Some e → held_for after y (Some e) ≡ held_for m y (Some e)
       held_else y e ne at = elim (same_or (family x w) (family y e)) [
@@ -272,15 +254,10 @@ module _ {B : Type 0} {g : Ghosts B} (mid u : Rows B g) (limits : Limits) (t : T
 
   -- what is let go before or after
   same_rows : (q : ℕ) → (if is_in es q then option_map as_gone (if family x w == q then Some v2 else t.representation q) else (if family x w == q then Some v2 else t.representation q)) ≡ vs q
-  same_rows q = elim (same_or (family x w) q) [
-    | inl e ↦ subst (λ (n : ℕ). (if is_in es n then option_map as_gone (if family x w == n then Some v2 else t.representation n) else (if family x w == n then Some v2 else t.representation n)) ≡ vs n) e (rw (spared, eqb-same (family x w)) refl)
-    | inr ne ↦ rw (eqb-other (family x w) q ne) refl
-  ]
+  same_rows q = grind (arith, nat_tests)
 
   pub tables_are : with_event now (event.Piece x bytes) (let_all_go now es (with_representation (family x w) (Some v2) (with_exchange x (Some (with_piece bytes w)) t))) ≡ after
-  tables_are =
-      ap (with_event now (event.Piece x bytes)) (all_go_is now es (with_representation (family x w) (Some v2) (with_exchange x (Some (with_piece bytes w)) t)))
-      ∙ ap (λ (f : ℕ → Option Representation). with_event now (event.Piece x bytes) (record (with_exchange x (Some (with_piece bytes w)) m) { representation = f })) (fun_ext same_rows)
+  tables_are = grind (arith, nat_tests, all_go_is, same_rows)
 
   evicts_quietly : (qs : List ℕ) → flaw_in (map act.Evicted qs) ≡ NoFlaw
   evicts_quietly [] = refl

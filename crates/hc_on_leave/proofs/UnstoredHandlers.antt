@@ -4,15 +4,15 @@
 -- who waits for it fails. Where what is stored isn't what was asked about, who waits starts over; where a head was
 -- shown already, a failure is due. Other answers go on past the store. That nobody reads the exchange (`IsUnread`), or
 -- this consumer alone (`IsReadAlone`), has the work. `take_case` and its parts use this.
+use Rattle.std.{proofs.{lemmas.Bool.Decides.{nat_tests}}}
+use Rattle.std.{proofs.{Common.{arith}}}
 use Rattle.std.{proofs.{Common.{◌≡◌, ◌≢◌, ◌⊎◌, inl, inr, ℕ, List, [], ◌∷◌, ◌++◌, Bool, true, false, Option, Some, None, refl, ap, sym, ◌∙◌, subst}, lemmas.List.{append-nil}}, specs.Prelude.{is_some, map, ◌||◌, if◌then◌else◌}}
 use Rattle.hc_text.proofs.Basics.{eqb-other, eqb-same, false_true, same_or, same_some as same_row, some_inj as some_is}
 use Rattle.hc_store.specs.declared.backend.Backend.{Ghosts}
-use Rattle.hc_effects.proofs.Vocabulary.{Act, Cause, Event, Response, HeadCase, HeadView, Route, Limits, route_of, head_case, length_of, is_bad, is_head, BoundBy, head_view, was_shown, is_founding, back_in_line, denial, doomed_by_case, changes, Does, with_event, let_some_go, tables_after_close, all_closed, with_consumer, with_exchange, with_answer, unless_ended, entry_without_acts, is_reached, is_headless, promise_in, NoFlaw, flaw_in, Lawful, StandsFor, MayLetGo, Tables, Exchange, awaited_exchange, write_in, act, cause, event, case, route, write, by}
+use Rattle.hc_effects.proofs.Vocabulary.{Act, Cause, Event, Response, HeadCase, HeadView, Route, Limits, route_of, head_case, length_of, is_bad, is_head, BoundBy, head_view, was_shown, is_founding, back_in_line, denial, doomed_by_case, changes, Does, with_event, let_some_go, tables_after_close, all_closed, with_consumer, with_exchange, with_answer, unless_ended, entry_without_acts, is_reached, is_headless, promise_in, NoFlaw, flaw_in, Lawful, StandsFor, MayLetGo, Tables, Exchange, awaited_exchange, write_in, act, cause, event, case, route, write, by, place}
 use Rattle.hc_stored.specs.Entries.{shelf_of}
-use Rattle.hc_exch.specs.{Exchanges.{table_of}, Known.{length_by}}
+use Rattle.hc_exch.specs.{Exchanges.{table_of}, Known.{length_by, without_exchange}}
 use Rattle.hc_exch.specs.Exchanges as exch
-use Rattle.hc_exch.specs.Known as known
-use Rattle.hc_event.specs.declared.place.Place.TheVariants as place
 use Rattle.hc_model.specs.Laws as laws
 use Rattle.hc_model.specs.Rows as rows
 use Rattle.hc_effects.proofs.{FirstKeeps.{case_is}, FoundBy.{CaseBy, case_by}, HeadFacts.{stays_open, undue}, LettingGo.{may_let_go}, Tests.{none_some}, UpdateEffects.{unchanged}}
@@ -124,8 +124,7 @@ pub unwritten : (t : Tables) (now x : ℕ) (response : Response) (w : Exchange) 
 unwritten t now x response w g row is off = ap (λ (h : Option HeadCase). if is_founding h then Some write.Slot else None) (case_is t (entry_without_acts now (event.Head x response)) x response w refl row ∙ ap Some is) ∙ rw off refl
 
 no_doom : (b : Bool) (w : Exchange) → (if b then Some w.request.key else None) ≡ None → b ≡ false
-no_doom false w none = refl
-no_doom true w none = none_some w.request.key (sym none)
+no_doom b w none = grind (arith, nat_tests)
 
 -- A BAD HEAD
 
@@ -139,21 +138,7 @@ bad_of : (g : HeadCase) → puts_down g ≡ true → Bad g
 bad_of case.DirectBad on = direct
 bad_of case.TurnBad on = turn
 bad_of case.FirstBad on = first
-bad_of case.DirectTaken on = false_true on
-bad_of case.Validated on = false_true on
-bad_of case.NotValidated on = false_true on
-bad_of case.TurnServerError on = false_true on
-bad_of case.FoundsWhole on = false_true on
-bad_of case.FoundsRange on = false_true on
-bad_of case.PassesBy on = false_true on
-bad_of case.FirstJoins on = false_true on
-bad_of case.FirstServerError on = false_true on
-bad_of case.FirstChanged on = false_true on
-bad_of case.FirstReplaced on = false_true on
-bad_of case.FirstPassesBy on = false_true on
-bad_of case.LaterBad on = false_true on
-bad_of case.LaterJoins on = false_true on
-bad_of case.LaterChanged on = false_true on
+bad_of _ on = false_true on
 
 bad_founds : (k : HeadCase) → Bad k → is_founding (Some k) ≡ false
 bad_founds _ direct = refl
@@ -169,22 +154,7 @@ data Anew : HeadCase → Type 0 where
 anew_of : (g : HeadCase) → starts_anew g ≡ true → Anew g
 anew_of case.NotValidated on = unselected
 anew_of case.FirstChanged on = changed
-anew_of case.DirectBad on = false_true on
-anew_of case.DirectTaken on = false_true on
-anew_of case.TurnBad on = false_true on
-anew_of case.Validated on = false_true on
-anew_of case.TurnServerError on = false_true on
-anew_of case.FoundsWhole on = false_true on
-anew_of case.FoundsRange on = false_true on
-anew_of case.PassesBy on = false_true on
-anew_of case.FirstBad on = false_true on
-anew_of case.FirstJoins on = false_true on
-anew_of case.FirstServerError on = false_true on
-anew_of case.FirstReplaced on = false_true on
-anew_of case.FirstPassesBy on = false_true on
-anew_of case.LaterBad on = false_true on
-anew_of case.LaterJoins on = false_true on
-anew_of case.LaterChanged on = false_true on
+anew_of _ on = false_true on
 
 anew_founds : (k : HeadCase) → Anew k → is_founding (Some k) ≡ false
 anew_founds _ unselected = refl
@@ -192,16 +162,10 @@ anew_founds _ changed = refl
 
 -- where it stands that waits to found or to join
 first_awaits : (x : ℕ) (v : rows.Consumer) (way : Route) → StandsFor x v way → way ≡ route.Hole → v.shown ≡ false → awaited_exchange v.place ≡ Some x
-first_awaits x v _ (laws.direct at) is off = absurd (let never : route.Direct ≡ route.Hole = is in cc)
-first_awaits x v _ (laws.has_turn at unshown) is off = absurd (let never : route.Turn ≡ route.Hole = is in cc)
-first_awaits x v _ (laws.first q lo hi at unshown) is off = ap awaited_exchange at
-first_awaits x v _ (laws.later q lo hi how at on) is off = false_true (sym off ∙ on)
+first_awaits x v way it3 is off = grind (arith, nat_tests)
 
 turn_awaits : (x : ℕ) (v : rows.Consumer) (way : Route) → StandsFor x v way → way ≡ route.Turn → awaited_exchange v.place ≡ Some x
-turn_awaits x v _ (laws.direct at) is = absurd (let never : route.Direct ≡ route.Turn = is in cc)
-turn_awaits x v _ (laws.has_turn at unshown) is = ap awaited_exchange at
-turn_awaits x v _ (laws.first q lo hi at unshown) is = absurd (let never : route.Hole ≡ route.Turn = is in cc)
-turn_awaits x v _ (laws.later q lo hi how at on) is = absurd (let never : route.Hole ≡ route.Turn = is in cc)
+turn_awaits x v way it3 is = grind (arith, nat_tests)
 
 anew_awaits : (x : ℕ) (w : Exchange) (v : rows.Consumer) (h : HeadView) (k : HeadCase) → h.need ≡ w.need → h.shown ≡ v.shown → StandsFor x v (route_of w.need) → Anew k → CaseBy h k → awaited_exchange v.place ≡ Some x
 anew_awaits x w v h _ needs shows stands unselected (cases.not_validated way status) = turn_awaits x v (route_of w.need) stands (ap route_of (sym needs) ∙ way)
@@ -223,22 +187,7 @@ data Later : HeadCase → Type 0 where
 later_of : (g : HeadCase) → breaks_off g ≡ true → Later g
 later_of case.LaterBad on = later_bad
 later_of case.LaterChanged on = later_changed
-later_of case.DirectBad on = false_true on
-later_of case.DirectTaken on = false_true on
-later_of case.TurnBad on = false_true on
-later_of case.Validated on = false_true on
-later_of case.NotValidated on = false_true on
-later_of case.TurnServerError on = false_true on
-later_of case.FoundsWhole on = false_true on
-later_of case.FoundsRange on = false_true on
-later_of case.PassesBy on = false_true on
-later_of case.FirstBad on = false_true on
-later_of case.FirstJoins on = false_true on
-later_of case.FirstServerError on = false_true on
-later_of case.FirstChanged on = false_true on
-later_of case.FirstReplaced on = false_true on
-later_of case.FirstPassesBy on = false_true on
-later_of case.LaterJoins on = false_true on
+later_of _ on = false_true on
 
 later_founds : (k : HeadCase) → Later k → is_founding (Some k) ≡ false
 later_founds _ later_bad = refl
@@ -257,10 +206,9 @@ record Reader (v : rows.Consumer) : Type 0 where
   shown : v.shown ≡ true
 
 shown_reads : (x : ℕ) (v : rows.Consumer) (way : Route) → StandsFor x v way → way ≡ route.Hole → v.shown ≡ true → Reader v
-shown_reads x v _ (laws.direct at) is on = absurd (let never : route.Direct ≡ route.Hole = is in cc)
-shown_reads x v _ (laws.has_turn at unshown) is on = absurd (let never : route.Turn ≡ route.Hole = is in cc)
 shown_reads x v _ (laws.first q lo hi at unshown) is on = false_true (sym unshown ∙ on)
 shown_reads x v _ (laws.later q lo hi how at shown) is on = record { r = q; lo = lo; hi = hi; how = how; at = at; shown = shown }
+shown_reads x v _ _ is on = cc
 
 late_reader : (x : ℕ) (w : Exchange) (v : rows.Consumer) (h : HeadView) (k : HeadCase) → h.need ≡ w.need → h.shown ≡ v.shown → StandsFor x v (route_of w.need) → Later k → CaseBy h k → Reader v
 late_reader x w v h _ needs shows stands later_bad (cases.later_bad way shown bad) = shown_reads x v (route_of w.need) stands (ap route_of (sym needs) ∙ way) (sym shows ∙ shown)
@@ -270,14 +218,10 @@ late_reader x w v h _ needs shows stands later_changed (cases.later_changed way 
 first_over : {limits : Limits} (t : Tables) (facts : Facts limits t) (x c q lo : ℕ) (hi : Option ℕ) (v : rows.Consumer) (w : Exchange) → AwaitsHead t x w v → v.shown ≡ true → v.place ≡ place.Bound q lo hi (by.FirstHole x) → ⊥
 first_over t facts x c q lo hi v w awaits shown at =
     let f = facts.turns.first_hole w.c q lo x hi v awaits.asker at shown in
-    let one : w ≡ f.0 = same_row (t.exchange x) w f.0 awaits.row f.1 in
-    let opened = awaits.is_open in
-    let bare = awaits.headless in
-    let headless : is_headless (Some w) ≡ true = rw (opened, bare) refl in
-    false_true (sym (ap (λ (z : Exchange). is_headless (Some z)) one ∙ f.2) ∙ headless)
+    grind (arith, nat_tests)
 
 module _ {B : Type 0} {g : Ghosts B} {limits : Limits} (r mid u : Rows B g) (t : Tables) (facts : Facts limits t) (now x : ℕ) (response : Response) (goes : denial t (event.Head x response) ≡ None) (w : Exchange) (v : rows.Consumer) (awaits : AwaitsHead t x w v) (before out : List Act)
-    (told : out ≡ before ++ map act.Close (unless_over x (length_by (table_of mid.exchanges x).running response))) (rest : KeepsRest mid u) (consumers : u.consumers ≡ mid.consumers) (becomes : exch.Becomes known.without_exchange x mid.exchanges u.exchanges) where
+    (told : out ≡ before ++ map act.Close (unless_over x (length_by (table_of mid.exchanges x).running response))) (rest : KeepsRest mid u) (consumers : u.consumers ≡ mid.consumers) (becomes : exch.Becomes without_exchange x mid.exchanges u.exchanges) where
   abbrev ev : Event
   ev = event.Head x response
 
@@ -335,12 +279,10 @@ module _ {B : Type 0} {g : Ghosts B} {limits : Limits} (r mid u : Rows B g) (t :
   -- WHAT IS STORED ISN'T WHAT WAS ASKED ABOUT
 
   shut_is : (b : Bool) (z : rows.Consumer) → all_closed (if b then [] else x ∷ []) (heard (moved z)) ≡ with_consumer w.c (Some z) (all_closed (if b then [] else x ∷ []) (heard t))
-  shut_is true z = refl
-  shut_is false z = refl
+  shut_is b z = grind (arith, nat_tests)
 
   quiet : (b : Bool) → flaw_in (map act.Close (if b then [] else x ∷ [])) ≡ NoFlaw
-  quiet true = refl
-  quiet false = refl
+  quiet b = grind (arith, nat_tests)
 
   -- and it isn't used any more
   module _ (f : Rows B g) (gone : Option ℕ) (lets : (m : Tables) → MayLetGo m → RowsStand limits u m → RowsStand limits f (let_some_go now gone m)) (z : rows.Consumer) (stands : RowsStand limits mid (moved z))
@@ -376,11 +318,7 @@ module _ {B : Type 0} {g : Ghosts B} {limits : Limits} (r mid u : Rows B g) (t :
   -- a 304 has no body
   bodiless : response.status ≡ 304 → unless_ended x response w ≡ []
   unfolding length_of
-  bodiless status = rw (status, or_last (is_head w.request)) refl
-    where
-      or_last : (b : Bool) → (b || false || true) ≡ true
-      or_last true = refl
-      or_last false = refl
+  bodiless status = grind (arith, nat_tests)
 
   anew_does : (k : HeadCase) → Anew k → Is k → ShutDoes k back
   anew_does _ unselected is = ended_does [] w.aim back (bodiless (unchanged (by_case case.NotValidated is))) (does.not_validated limits t facts.law now x response goes w awaits.row v awaits.asker is)
@@ -424,20 +362,7 @@ past_of case.TurnServerError on = turn_error
 past_of case.PassesBy on = passes
 past_of case.FirstServerError on = first_error
 past_of case.FirstPassesBy on = first_passes
-past_of case.DirectBad on = false_true on
-past_of case.DirectTaken on = false_true on
-past_of case.TurnBad on = false_true on
-past_of case.Validated on = false_true on
-past_of case.NotValidated on = false_true on
-past_of case.FoundsWhole on = false_true on
-past_of case.FoundsRange on = false_true on
-past_of case.FirstBad on = false_true on
-past_of case.FirstJoins on = false_true on
-past_of case.FirstChanged on = false_true on
-past_of case.FirstReplaced on = false_true on
-past_of case.LaterBad on = false_true on
-past_of case.LaterJoins on = false_true on
-past_of case.LaterChanged on = false_true on
+past_of _ on = false_true on
 
 past_founds : (k : HeadCase) → Past k → is_founding (Some k) ≡ false
 past_founds _ turn_error = refl
@@ -447,10 +372,7 @@ past_founds _ first_passes = refl
 
 -- whoever has the turn was shown nothing
 turn_unshown : (x : ℕ) (v : rows.Consumer) (way : Route) → StandsFor x v way → way ≡ route.Turn → v.shown ≡ false
-turn_unshown x v _ (laws.direct at) is = absurd (let never : route.Direct ≡ route.Turn = is in cc)
-turn_unshown x v _ (laws.has_turn at off) is = off
-turn_unshown x v _ (laws.first q lo hi at off) is = off
-turn_unshown x v _ (laws.later q lo hi how at on) is = absurd (let never : route.Hole ≡ route.Turn = is in cc)
+turn_unshown x v way it3 is = grind (arith, nat_tests)
 
 past_unshown : (x : ℕ) (w : Exchange) (v : rows.Consumer) (h : HeadView) (k : HeadCase) → h.need ≡ w.need → h.shown ≡ v.shown → StandsFor x v (route_of w.need) → Past k → CaseBy h k → v.shown ≡ false
 past_unshown x w v h _ needs shows stands turn_error (cases.turn_server_error way) = turn_unshown x v (route_of w.need) stands (ap route_of (sym needs) ∙ way)
@@ -506,10 +428,7 @@ due_then {limits = limits} r mid t facts now x c response w a why k goes stands 
 -- AN ANSWER PAST THE STORE
 
 taken_unshown : (x : ℕ) (v : rows.Consumer) (way : Route) → StandsFor x v way → way ≡ route.Direct → v.place ≡ place.Direct x
-taken_unshown x v _ (laws.direct at) is = at
-taken_unshown x v _ (laws.has_turn at unshown) is = absurd (let never : route.Turn ≡ route.Direct = is in cc)
-taken_unshown x v _ (laws.first q lo hi at unshown) is = absurd (let never : route.Hole ≡ route.Direct = is in cc)
-taken_unshown x v _ (laws.later q lo hi how at shown) is = absurd (let never : route.Hole ≡ route.Direct = is in cc)
+taken_unshown x v way it3 is = grind (arith, nat_tests)
 
 taken_way : {h : HeadView} → CaseBy h case.DirectTaken → route_of h.need ≡ route.Direct
 taken_way (cases.direct_taken way) = way

@@ -3,19 +3,28 @@
 -- That is who came alone, has no failure due, and has more to come. More is to come if an exchange of its own is open,
 -- or a byte before its known end isn't stored (`more_own`, `more_none`, `more_ahead`). The entry keeps who came alone,
 -- and the tables have that consumer (`alone_row`). What is written for several nobody writes alone
--- (`exclusive_written`). `exclusive` and `has_more` use these, case by case.
-use Rattle.std.{proofs.{Common.{◌≡◌, ◌⊎◌, inl, inr, ℕ, ◌+◌, ◌<◌, ◌≤◌, ◌^◌, Bool, true, false, max, Option, Some, None, refl, ap, sym, ◌∙◌, subst, arith}, lemmas.Bool.Decides.{nat_tests}}, specs.{Prelude.{is_some, nat_eq, not, ◌&&◌, ◌↔◌, IsTrue}, Option.{option_and_then}, HashMap.{get}}}
+-- (`exclusive_written`). `exclusive_in` and `has_more` use these, case by case.
+use Rattle.std.{proofs.{Common.{◌≡◌, ◌⊎◌, inl, inr, ℕ, ◌+◌, ◌<◌, ◌≤◌, ◌^◌, Bool, true, false, max, Option, Some, None, refl, ap, sym, ◌∙◌, subst, arith}, lemmas.Bool.Decides.{nat_tests}}, specs.{Prelude.{is_some, nat_eq, not, ◌&&◌, ◌↔◌, IsTrue}, Option.{option_and_then, option_map}, HashMap.{get}}}
 use Rattle.hc_text.proofs.Basics.{eqb-same, false_true, some_inj as some_is}
 use Rattle.hc_effects.proofs.Vocabulary.{Limits, Place, BoundBy, is_number, own_open, if_open, is_written, is_bound_place, offset, lo_of, Numbers, Tables, Representation, IsFirst, IsBound, exclusive, has_more, lacks_some, came_alone, place}
 use Rattle.hc_store.specs.declared.backend.Backend.{Ghosts}
 use Rattle.hc_sparse.specs.Cells.{Covers}
-use Rattle.hc_stored.specs.{Entries.{shelf_of}, Kept.{Kept}, Shelf.{cells_at, cells_in, is_kept}}
-use Rattle.hc_exch.specs.Exchanges.{table_of}
+use Rattle.hc_stored.specs.{declared.view.EntryView.{EntryView}, Entries.{shelf_of}, Kept.{Kept}, Shelf.{cells_at, cells_in, is_kept}, Views.{view_of}}
+use Rattle.hc_exch.specs.{Exchanges.{table_of}, Known.{Table}}
 use Rattle.hc_model.specs.Rows as rows
 use Rattle.hc_model.specs.Sound as sound
 use Rattle.hc_effects.proofs.Exclusives.{exclusive_parts}
 use Rattle.hc_state.specs.{declared.{consumer.Consumer.{Consumer}, rows.Rows.{Rows}}, Facts.{Facts}, Kept.{IsKept, KeepsConsumer}, Leaving.{if_running, writing_of}, Stands.{RowsStand}, Stored.{IsEntry, is_first}}
-use Rattle.hc_state.proofs.{CurrentTies.{stored_ends, covers_as, kept_entry}, LeftRows.{running_as, writing_as}}
+use Rattle.hc_state.proofs.{CurrentTies.{stored_ends, covers_as, kept_entry, viewed_entry}, LeftRows.{running_as, writing_as}}
+use Rattle.hc_on_leave.specs.Written.{writing_by}
+
+-- WHAT IS TOLD
+
+-- by what is told of q, the exchange of its shared writing is that of what is kept
+pub written_by : (table : Table) (o : Option Kept) (told : EntryView) → option_map view_of o ≡ Some told → writing_by table told ≡ writing_of table o
+written_by table o told is =
+    let (e, kept, seen) = viewed_entry o told is in
+    ap (writing_by table) (sym seen) ∙ ap (writing_of table) (sym kept)
 
 -- HAS MORE
 
@@ -45,8 +54,7 @@ module _ {B : Type 0} {g : Ghosts B} {limits : Limits} (r : Rows B g) (t : Table
 
 module _ {B : Type 0} {g : Ghosts B} {limits : Limits} (r : Rows B g) (t : Tables) (facts : Facts limits t) (stands : RowsStand limits r t) (q : ℕ) (p : Representation) (here : t.representation q ≡ Some p) where
   none_by : (o : Option ℕ) → exclusive t q p ≡ o → ((c : ℕ) → exclusive t q p ≡ Some c → ⊥) → None ≡ exclusive t q p
-  none_by None at off = sym at
-  none_by (Some c) at off = absurd (off c at)
+  none_by o at off = grind (arith, nat_tests)
 
   -- nobody writes alone what is written for several
   pub exclusive_written : is_some (writing_of (table_of r.exchanges) ((shelf_of r.entries).kept q)) ≡ true → None ≡ exclusive t q p
@@ -75,11 +83,7 @@ module _ {B : Type 0} {g : Ghosts B} {limits : Limits} (r : Rows B g) (t : Table
 
   module _ (e : Kept) (is : IsEntry t q e p) where
     first_on : (c : ℕ) → IsFirst t q c → is_number e.first c ≡ true
-    first_on c (sound.first k lo hi by row at came) = is.first c ∙ rw (row, at) (both (nat_eq q q) (eqb-same q) came)
-      where
-        both : {x : Bool} (b : Bool) → b ≡ true → x ≡ true → (b && x) ≡ true
-        both true on also = also
-        both false on also = false_true on
+    first_on c it1 = grind (arith, nat_tests)
 
     first_is : (c : ℕ) → e.first ≡ Some c → is_first t q (t.consumer c) ≡ true
     first_is c at = sym (is.first c) ∙ (ap (λ (o : Option ℕ). is_number o c) at ∙ eqb-same c)
@@ -102,20 +106,12 @@ module _ {B : Type 0} {g : Ghosts B} {limits : Limits} (r : Rows B g) (t : Table
         and_parts true b on = (refl, on)
         and_parts false b on = false_true on
 
-        same_number : (a : ℕ) → nat_eq a q ≡ true → a ≡ q
-        same_number a on = grind (arith, nat_tests, on)
-
         by_place : (z : Place) → v.place ≡ z → (is_bound_place q v.place ≡ true) × (came_alone t v.place ≡ true) → IsAlone c
         by_place (place.Bound a lo hi by) at both =
-            let one : a ≡ q = same_number a (sym (ap (is_bound_place q) at) ∙ both.0) in
+            let one : a ≡ q = grind (arith, nat_tests, (sym (ap (is_bound_place q) at) ∙ both.0)) in
             let here_at : v.place ≡ place.Bound q lo hi by = at ∙ ap (λ (n : ℕ). place.Bound n lo hi by) one in
             record { v = v; row = row; lo = lo; hi = hi; by = by; at = here_at; came = sym (ap (came_alone t) here_at) ∙ both.1 }
-        by_place place.Line at both = false_true (sym (ap (is_bound_place q) at) ∙ both.0)
-        by_place (place.Passed a how) at both = false_true (sym (ap (is_bound_place q) at) ∙ both.0)
-        by_place (place.Turn x) at both = false_true (sym (ap (is_bound_place q) at) ∙ both.0)
-        by_place (place.Direct x) at both = false_true (sym (ap (is_bound_place q) at) ∙ both.0)
-        by_place (place.Down why) at both = false_true (sym (ap (is_bound_place q) at) ∙ both.0)
-        by_place place.Over at both = false_true (sym (ap (is_bound_place q) at) ∙ both.0)
+        by_place _ at both = false_true (sym (ap (is_bound_place q) at) ∙ both.0)
 
     pub alone_row : (c : ℕ) → e.first ≡ Some c → IsAlone c
     alone_row c at = alone_there c (t.consumer c) refl (first_is c at)

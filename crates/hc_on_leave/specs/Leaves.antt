@@ -1,6 +1,9 @@
 -- What it takes that a consumer leaves, or that an exchange is closed, and what stays as it is.
-use Rattle.std.specs.Prelude.{◌≡◌, ℕ, true, is_some, nat_eq}
+use Rattle.std.specs.Prelude.{◌≡◌, ℕ, Bool, true, false, is_some, nat_eq}
 use Rattle.std.specs.HashMap.{get}
+use Rattle.hc_event.specs.declared.place.Place.{Place}
+use Rattle.hc_event.specs.declared.place.Place.TheVariants as place
+use Rattle.hc_event.specs.declared.place.BoundBy.TheVariants as by
 use Rattle.hc_store.specs.declared.backend.Backend.{Ghosts}
 use Rattle.hc_stored.specs.Entries.{shelf_of}
 use Rattle.hc_exch.specs.Exchanges.{table_of}
@@ -26,3 +29,11 @@ pub record KeepsAround {B : Type 0} {g : Ghosts B} (r u : Rows B g) : Type 0 whe
   pub last_start : u.last_start ≡ r.last_start
   pub exchanges : u.exchanges ≡ r.exchanges
   pub faults : (shelf_of u.entries).faults ≡ (shelf_of r.entries).faults
+
+-- whoever stands there may wait for its key: in line, passed, or for the head of its first hole
+abbrev pub may_wait : Place → Bool
+may_wait place.Line = true
+may_wait (place.Passed r kept) = true
+may_wait (place.Turn x) = true
+may_wait (place.Bound r lo hi (by.FirstHole x)) = true
+may_wait _ = false

@@ -1,6 +1,8 @@
 //! A consumer is gone.
-ghost use Rattle.std.specs.Prelude.{◌≡◌, true, Some, is_some, nat_eq, IsSomeAnd};
+ghost use Rattle.std.specs.Prelude.{◌≡◌, true, false, Some, is_some, nat_eq, IsSomeAnd};
 ghost use Rattle.std.specs.HashMap.{get};
+ghost use Rattle.hc_entry.specs.Keys.{line_of};
+ghost use Rattle.hc_entry.specs.Lines.{is_in};
 ghost use Rattle.hc_stored.specs.Entries.{shelf_of};
 ghost use Rattle.hc_exch.specs.Exchanges.{next_of};
 ghost use Rattle.hc_model.specs.Effects.{with_consumer, as_over};
@@ -9,10 +11,10 @@ ghost use Rattle.hc_model.specs.Rows.{Tables, Consumer};
 ghost use Rattle.hc_rules.specs.declared.room.Limits.{Limits};
 ghost use Rattle.hc_state.specs.Leaving.{LeavesKey, Forgets, IsUserAt, UnbindsAt, LeavesPlace};
 ghost use Rattle.hc_state.specs.Stands.{RowsStand};
-ghost use Rattle.hc_on_leave.specs.Leaves.{MayLeave};
+ghost use Rattle.hc_on_leave.specs.Leaves.{MayLeave, may_wait};
 
 use hc_entry::KeyTable;
-use hc_event::Place;
+use hc_event::{BoundBy, Place};
 use hc_exch::Exchanges;
 use hc_state::Rows;
 use hc_store::Backend;
@@ -39,9 +41,32 @@ pub fn leave_place<B: Backend>(rows: &mut Rows<B>, c: u64)
     ensures faults { (shelf_of rows.new.entries).faults ≡ (shelf_of rows.old.entries).faults }
 {
     let consumer = rows.consumers.get(&c).unwrap();
-    leave_key(&mut rows.keys, &consumer.request.key, c);
+    leave_key_at(&mut rows.keys, &consumer.request.key, consumer.place, c);
     forget_own(&mut rows.exchanges, consumer.own);
     unbind_from(&mut rows.entries, consumer.place, c);
+}
+
+/// A consumer that stands there waits for the key no more, if it did.
+// The key is looked up only where it may wait, since mostly one leaves that has read to the end.
+fn leave_key_at(keys: &mut KeyTable, key: &Key, place: Place, c: u64)
+    requires { may_wait place ≡ false → is_in c (line_of keys.old key.now) ≡ false }
+    ensures { LeavesKey c key.now keys.old keys.new }
+{
+    if may_wait(place) {
+        leave_key(keys, key, c);
+    }
+}
+
+/// Whether a consumer that stands there may wait for its key: in line, passed, or for the head of its
+/// first hole.
+fn may_wait(place: Place) -> bool
+    ensures { result ≡ may_wait place }
+{
+    match place {
+        Place::Line | Place::Passed { .. } | Place::Turn(_) => true,
+        Place::Bound { by, .. } => matches!(by, BoundBy::FirstHole(_)),
+        Place::Direct(_) | Place::Down(_) | Place::Over => false,
+    }
 }
 
 /// A consumer waits for the key no more, if it did.

@@ -9,7 +9,7 @@ ghost use Rattle.hc_exch.specs.Known.{is_open};
 ghost use Rattle.hc_model.specs.Moves.{Ends, Fails};
 ghost use Rattle.hc_rules.specs.declared.room.Limits.{Limits};
 ghost use Rattle.hc_state.specs.Stands.{Answers, AnswersMove, Stands, RowsStand};
-ghost use Rattle.hc_state.specs.Handlers.{IsQueued, LeavesLine};
+ghost use Rattle.hc_state.specs.Handlers.{IsQueued, IsLeft, LeavesLine};
 ghost use Rattle.std.specs.List.{list_all};
 ghost use Rattle.hc_stored.specs.Views.{bound_in};
 ghost use Rattle.hc_model.specs.Currents.{is_number};
@@ -24,6 +24,7 @@ use crate::acts::put;
 use crate::gone::remove_consumer;
 use crate::seal::stop_bringing;
 use crate::writing::{if_running, writing};
+use hc_entry::KeyTable;
 use hc_event::{Act, Acts, Cause, Place};
 use hc_state::Rows;
 use hc_store::Backend;
@@ -72,8 +73,16 @@ pub fn leave_line<B: Backend>(rows: &mut Rows<B>, c: u64)
     ensures { LeavesLine rows.old rows.new c }
 {
     let consumer = rows.consumers.get(&c).unwrap();
+    leave_line_in(&mut rows.keys, consumer, c);
+}
+
+/// The same, of what is kept by key.
+pub fn leave_line_in(keys: &mut KeyTable, consumer: &hc_state::Consumer, c: u64)
+    requires { IsQueued keys.old c consumer.now }
+    ensures { IsLeft keys.old keys.new c consumer.now }
+{
     if consumer.queues() {
-        rows.keys.leave(&consumer.request.key, c);
+        keys.leave(&consumer.request.key, c);
     }
 }
 

@@ -1,23 +1,34 @@
 //! Who writes what is stored alone.
-ghost use Rattle.std.specs.Prelude.{◌≡◌, ◌+◌, ◌<◌, ◌^◌, true};
+ghost use Rattle.std.specs.Prelude.{◌≡◌, ◌+◌, ◌<◌, ◌^◌, Some, true, option_map};
 ghost use Rattle.hc_stored.specs.Entries.{shelf_of};
 ghost use Rattle.hc_stored.specs.Shelf.{is_kept};
+ghost use Rattle.hc_stored.specs.Views.{view_of};
 ghost use Rattle.hc_state.specs.Candidates.{ExclusiveIs, HasMoreIs};
 ghost use Rattle.hc_state.specs.Stands.{Stands};
 
-use crate::writing::{if_running, writing};
+use crate::writing::{if_running, writing_in};
 use hc_state::{Consumer, Rows};
 use hc_store::Backend;
+use hc_stored::EntryView;
 
 /// Who writes the representation alone: it came alone, has no failure due, and more to come.
 pub fn exclusive<B: Backend>(rows: &Rows<B>, r: u64) -> Option<u64>
     requires stands { ∥ Stands rows.now ∥₁ }
     ensures { ExclusiveIs rows.now r result }
 {
-    if writing(rows, r).is_some() {
+    exclusive_in(rows, r, &rows.entries.entry(r)?)
+}
+
+/// The same, where this is told of the representation.
+pub fn exclusive_in<B: Backend>(rows: &Rows<B>, r: u64, entry: &EntryView) -> Option<u64>
+    requires stands { ∥ Stands rows.now ∥₁ }
+    requires entry { option_map view_of ((shelf_of rows.now.entries).kept r) ≡ Some entry.now }
+    ensures { ExclusiveIs rows.now r result }
+{
+    if writing_in(rows, entry).is_some() {
         return None;
     }
-    let c = rows.entries.entry(r)?.first?;
+    let c = entry.first?;
     let consumer = rows.consumers.get(&c)?;
     if consumer.due.is_some() {
         return None;

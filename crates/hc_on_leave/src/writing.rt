@@ -3,16 +3,24 @@ ghost use Rattle.std.specs.Prelude.{◌≡◌, ◌<◌, Some, None};
 ghost use Rattle.hc_stored.specs.Entries.{shelf_of};
 ghost use Rattle.hc_exch.specs.Exchanges.{table_of};
 ghost use Rattle.hc_state.specs.Leaving.{if_running, writing_of};
+ghost use Rattle.hc_on_leave.specs.Written.{writing_by};
 
 use hc_state::Rows;
 use hc_store::Backend;
+use hc_stored::EntryView;
 
 /// The exchange of the shared writing of a representation, as long as that is on.
 pub fn writing<B: Backend>(rows: &Rows<B>, r: u64) -> Option<u64>
     ensures { result ≡ writing_of (table_of rows.now.exchanges)
         ((shelf_of rows.now.entries).kept r) }
 {
-    let entry = rows.entries.entry(r)?;
+    writing_in(rows, &rows.entries.entry(r)?)
+}
+
+/// The same, by what is told of the representation.
+pub fn writing_in<B: Backend>(rows: &Rows<B>, entry: &EntryView) -> Option<u64>
+    ensures { result ≡ writing_by (table_of rows.now.exchanges) entry.now }
+{
     if entry.is_lost {
         return None;
     }

@@ -152,9 +152,6 @@ module _ (f : Cells) (reach o want : ℕ) (hi : Option ℕ) (ends : EndsBy reach
     end_run : end_of run ≡ o + l
     end_run = ap (λ (z : ℕ). z + l) is_run.from
 
-    end_m : end_of m ≡ o + n
-    end_m = ap (λ (z : ℕ). z + n) is_m.from
-
     -- just those bytes are read
     exactly : IsLongest f o (min (end_of run - o) (reach - o)) run
     exactly =
@@ -170,11 +167,10 @@ module _ (f : Cells) (reach o want : ℕ) (hi : Option ℕ) (ends : EndsBy reach
 
     pub ahead : (z : Run) → stretch f o count ≡ Some z → IsAhead f reach o want hi z
     ahead z is =
-        let same : run ≡ z = some_is run z (sym read.1 ∙ is) in
-        subst (λ (y : Run). IsAhead f reach o want hi y) same (record {
+        subst (λ (y : Run). IsAhead f reach o want hi y) (some_is run z (sym read.1 ∙ is)) (record {
           m = m;
           told = seen.1;
-          upto = ap (cut_at hi) end_m ∙ (before_end hi refl ∙ sym end_run);
+          upto = ap (cut_at hi) (ap (λ (z : ℕ). z + n) is_m.from) ∙ (before_end hi refl ∙ sym end_run);
           cut = ap (cut_at hi) end_run ∙ (cut_here hi refl ∙ sym end_run);
           given = stretch-only f o (min (end_of run - o) (reach - o)) run exactly;
           at = is_run.from;

@@ -4,17 +4,15 @@
 -- difference (`looks`): what is held, consumers, keys and entries. Of the exchange itself it is kept that it was asked
 -- (`exchange_bringing`). `stands_asked` joins this. Where it was asked already, neither the tables nor the rows change
 -- (`stands_asked_already`). `BoundGives` and `ReadPast` use both, for who asks or waits.
-use Rattle.std.{proofs.Common.{◌≡◌, ◌≢◌, inl, inr, ℕ, ◌+◌, ◌-◌, [], length, Bool, true, false, Option, Some, None, refl, ap, sym, ◌∙◌, subst}, specs.{Prelude.{nat_eq, bytes_eq, drop, option_map, ◌&&◌, if◌then◌else◌}, HashMap.{get, hash_map_len}}}
+use Rattle.std.{proofs.{Common.{◌≡◌, ◌≢◌, inl, inr, ℕ, ◌+◌, ◌-◌, [], length, Bool, true, false, Option, Some, None, refl, ap, sym, ◌∙◌, subst, arith}, lemmas.Bool.Decides.{nat_tests}}, specs.{Prelude.{nat_eq, bytes_eq, drop, option_map, ◌&&◌, if◌then◌else◌}, HashMap.{get, hash_map_len}}}
 use Rattle.hc_text.proofs.Basics.{eqb-other, eqb-same, same_or}
-use Rattle.hc_effects.proofs.Vocabulary.{Limits, Response, base_of, promise_of, Place, current, is_number, with_ask, to_bring, base, promised_bytes, family, is_headless, length_by, brings_to, absent_from, end_in, end_of_direct, base_in, lo_of, hi_of, offset, is_bound_place, Tables, Exchange, Representation, by}
+use Rattle.hc_effects.proofs.Vocabulary.{Limits, Place, current, is_number, with_ask, to_bring, base, promised_bytes, family, is_headless, brings_to, absent_from, end_in, end_of_direct, base_in, lo_of, hi_of, offset, is_bound_place, Tables, Exchange, Representation, by, place}
 use Rattle.hc_store.specs.declared.backend.Backend.{Ghosts}
 use Rattle.hc_stored.specs.Entries.{shelf_of}
 use Rattle.hc_stored.specs.Shelf as shelf
 use Rattle.hc_entry.specs.Keys.{kept_of}
-use Rattle.hc_exch.specs.{Exchanges.{table_of}, Known.{Known}, declared.row.Open.{Open}}
+use Rattle.hc_exch.specs.{Exchanges.{table_of}, Known.{Known, with_asking}, declared.row.Open.{Open}}
 use Rattle.hc_exch.specs.Exchanges as exch
-use Rattle.hc_exch.specs.Known as known
-use Rattle.hc_event.specs.declared.place.Place.TheVariants as place
 use Rattle.hc_model.specs.Rows as rows
 use Rattle.hc_state.specs.{Stored.{is_over}, declared.{consumer.Consumer.{Consumer}, rows.Rows.{Rows}}, Handlers.{asked_in}, Kept.{IsKept, KeepsConsumer, KeepsExchange, KeepsRunning, head_in, answer_at, held_for, held_of, held_alone, unstored_bytes}, Lines.{KeepsKey, is_away, is_away_at}, Stands.{RowsStand}}
 use Rattle.hc_state.proofs.{Fallbacks.{same, held_alike}, OneOfEach.{entries_same, growing_same}, ReaderSteps.{entries_read}, Ties.{exchange_same, key_same}}
@@ -23,18 +21,10 @@ use Rattle.hc_state.proofs.{Fallbacks.{same, held_alike}, OneOfEach.{entries_sam
 
 -- its body begins and ends where it did
 base_bringing : (w : Exchange) → base (to_bring w) ≡ base w
-base_bringing w = by_head w.head
-  where
-    by_head : (h : Option Response) → base_of (length_by (to_bring w) h) ≡ base_of (length_by w h)
-    by_head None = refl
-    by_head (Some response) = refl
+base_bringing w = grind (arith, nat_tests)
 
 promised_bringing : (w : Exchange) → promised_bytes (to_bring w) ≡ promised_bytes w
-promised_bringing w = by_head w.head
-  where
-    by_head : (h : Option Response) → promise_of (length_by (to_bring w) h) ≡ promise_of (length_by w h)
-    by_head None = refl
-    by_head (Some response) = refl
+promised_bringing w = grind (arith, nat_tests)
 
 module _ (t : Tables) (x : ℕ) where
   abbrev pub s : Tables
@@ -83,26 +73,18 @@ module _ (t : Tables) (x : ℕ) where
   runs_bringing None None keeps = refl
   runs_bringing None (Some w) keeps = keeps
   runs_bringing (Some o) None keeps = absurd keeps
-  runs_bringing (Some o) (Some w) keeps = record {
-    is_open = keeps.is_open;
-    c = keeps.c;
-    need = keeps.need;
-    request = keeps.request;
-    moment = keeps.moment;
-    headed = keeps.headed;
-    asked = refl;
-    base_is = keeps.base_is ∙ sym (base_bringing w);
-    delivered = keeps.delivered;
-    promised_is = keeps.promised_is ∙ sym (promised_bringing w);
-    role = keeps.role;
-  }
+  runs_bringing (Some o) (Some w) keeps = assumption (
+    keeps,
+    keeps.base_is ∙ sym (base_bringing w),
+    keeps.promised_is ∙ sym (promised_bringing w),
+  )
 
-  pub exchange_bringing : (y : ℕ) (before after : Known) → after ≡ (if nat_eq x y then known.with_asking before else before) → KeepsExchange t y before → KeepsExchange s y after
+  pub exchange_bringing : (y : ℕ) (before after : Known) → after ≡ (if nat_eq x y then with_asking before else before) → KeepsExchange t y before → KeepsExchange s y after
   exchange_bringing y before after is kept = elim (same_or x y) [
     | inl e ↦
-        let at : after ≡ known.with_asking before = is ∙ rw (e, eqb-same y) refl in
+        let at : after ≡ with_asking before = is ∙ rw (e, eqb-same y) refl in
         record {
-          running = rw at (subst (λ (n : ℕ). KeepsRunning s n (known.with_asking before).running (s.exchange n)) e (subst (KeepsRunning s x (known.with_asking before).running) (sym here) (runs_bringing before.running (t.exchange x) (subst (λ (n : ℕ). KeepsRunning t n before.running (t.exchange n)) (sym e) kept.running))));
+          running = rw at (subst (λ (n : ℕ). KeepsRunning s n (with_asking before).running (s.exchange n)) e (subst (KeepsRunning s x (with_asking before).running) (sym here) (runs_bringing before.running (t.exchange x) (subst (λ (n : ℕ). KeepsRunning t n before.running (t.exchange n)) (sym e) kept.running))));
           held = rw at (kept.held ∙ sym (held_bringing y));
         }
     | inr ne ↦
@@ -126,20 +108,12 @@ module _ (t : Tables) (x : ℕ) where
     ends : hi_of s p ≡ hi_of t p
 
   kept_bringing : (k : Consumer) (v : rows.Consumer) → IsKept t k v → IsKept s k v
-  kept_bringing k v kp = record {
-    is_there = kp.is_there;
-    request = kp.request;
-    class_is = kp.class_is;
-    since = kp.since;
-    place = kp.place;
-    own = kp.own;
-    shown = kp.shown;
-    answer = kp.answer ∙ by_shown v.shown (at_place v.place refl).answer;
-    begins = kp.begins ∙ sym (at_place v.place refl).begins;
-    ends = kp.ends ∙ sym (at_place v.place refl).ends;
-    given = kp.given;
-    due = kp.due;
-  }
+  kept_bringing k v kp = assumption (
+    kp,
+    kp.answer ∙ by_shown v.shown (at_place v.place refl).answer,
+    kp.begins ∙ sym (at_place v.place refl).begins,
+    kp.ends ∙ sym (at_place v.place refl).ends,
+  )
     where
       by_shown : (b : Bool) → answer_at t v.place ≡ answer_at s v.place → (if b then None else answer_at t v.place) ≡ (if b then None else answer_at s v.place)
       by_shown true alike = refl
@@ -152,11 +126,7 @@ module _ (t : Tables) (x : ℕ) where
         ends = looks (λ n o. end_in o) end_bringing y;
       })
       at_place place.Line at = rw at (record { answer = refl; begins = refl; ends = refl })
-      at_place (place.Passed q how) at = rw at (record { answer = refl; begins = refl; ends = refl })
-      at_place (place.Turn y) at = rw at (record { answer = refl; begins = refl; ends = refl })
-      at_place (place.Bound q lo hi how) at = rw at (record { answer = refl; begins = refl; ends = refl })
-      at_place (place.Down why) at = rw at (record { answer = refl; begins = refl; ends = refl })
-      at_place place.Over at = rw at (record { answer = refl; begins = refl; ends = refl })
+      at_place _ at = rw at (record { answer = refl; begins = refl; ends = refl })
 
   consumer_bringing : (o : Option Consumer) (row : Option rows.Consumer) → KeepsConsumer t o row → KeepsConsumer s o row
   consumer_bringing None row kept = kept
@@ -171,14 +141,7 @@ module _ (t : Tables) (x : ℕ) where
     where
       by_place : (p : Place) → k.place ≡ p → is_away_at s k.place ≡ is_away_at t k.place
       by_place (place.Bound q lo hi (by.FirstHole y)) at = rw at (looks (λ n o. is_headless o) (λ w. refl) y)
-      by_place (place.Bound q lo hi by.Founding) at = rw at refl
-      by_place (place.Bound q lo hi by.Plan) at = rw at refl
-      by_place place.Line at = rw at refl
-      by_place (place.Passed q how) at = rw at refl
-      by_place (place.Turn y) at = rw at refl
-      by_place (place.Direct y) at = rw at refl
-      by_place (place.Down why) at = rw at refl
-      by_place place.Over at = rw at refl
+      by_place _ at = rw at refl
 
   key_bringing : (key : _) (k : _) → KeepsKey t key k → KeepsKey s key k
   unfolding current
@@ -187,7 +150,7 @@ module _ (t : Tables) (x : ℕ) where
 -- ALL OF IT
 
 pub stands_asked : {B : Type 0} {g : Ghosts B} {limits : Limits} (r u : Rows B g) (t : Tables) (x : ℕ) → RowsStand limits r t → u.last_start ≡ r.last_start → u.consumers ≡ r.consumers → u.keys ≡ r.keys
-    → exch.Becomes known.with_asking x r.exchanges u.exchanges → shelf.Stays (shelf_of r.entries) (shelf_of u.entries) → RowsStand limits u (with_ask x t)
+    → exch.Becomes with_asking x r.exchanges u.exchanges → shelf.Stays (shelf_of r.entries) (shelf_of u.entries) → RowsStand limits u (with_ask x t)
 stands_asked r u t x stands last consumers keys becomes read = record {
   limits = read.limits ∙ stands.limits;
   last_start = last ∙ stands.last_start;
@@ -199,7 +162,7 @@ stands_asked r u t x stands last consumers keys becomes read = record {
   entries = entries_same t (with_ask x t) (shelf_of u.entries) (λ n. refl) refl refl (λ n d. refl) (λ n d. refl) (λ n. growing_same t (with_ask x t) n refl (looks t x (λ y o. brings_to n y o) (λ w. refl))) (λ y on. looks t x (λ z o. is_over o) (λ w. refl) y ∙ on) (entries_read t (shelf_of r.entries) (shelf_of u.entries) read stands.entries);
 }
   where
-    by_here : (y : ℕ) → table_of u.exchanges y ≡ (if nat_eq x y then known.with_asking (table_of r.exchanges y) else table_of r.exchanges y)
+    by_here : (y : ℕ) → table_of u.exchanges y ≡ (if nat_eq x y then with_asking (table_of r.exchanges y) else table_of r.exchanges y)
     by_here y = becomes.table y ∙ elim (same_or x y) [
       | inl e ↦ rw (e, eqb-same y) refl
       | inr ne ↦ rw (eqb-other x y ne) refl
@@ -207,16 +170,16 @@ stands_asked r u t x stands last consumers keys becomes read = record {
 
 -- WHERE THEY WERE ASKED FOR
 
-asked_is : (z : Known) → asked_in z.running ≡ true → known.with_asking z ≡ z
+asked_is : (z : Known) → asked_in z.running ≡ true → with_asking z ≡ z
 asked_is z on = by_running z.running refl
   where
-    by_running : (o : Option Open) → z.running ≡ o → known.with_asking z ≡ z
+    by_running : (o : Option Open) → z.running ≡ o → with_asking z ≡ z
     by_running None is = rw is refl
     by_running (Some o) is = let asked : o.asked ≡ true = rw is at on in rw (is, asked) refl
 
 -- they are asked for once
 pub stands_asked_already : {B : Type 0} {g : Ghosts B} {limits : Limits} (r u : Rows B g) (t : Tables) (x : ℕ) → RowsStand limits r t → asked_in (table_of r.exchanges x).running ≡ true → u.last_start ≡ r.last_start → u.consumers ≡ r.consumers → u.keys ≡ r.keys
-    → exch.Becomes known.with_asking x r.exchanges u.exchanges → shelf.Stays (shelf_of r.entries) (shelf_of u.entries) → RowsStand limits u t
+    → exch.Becomes with_asking x r.exchanges u.exchanges → shelf.Stays (shelf_of r.entries) (shelf_of u.entries) → RowsStand limits u t
 stands_asked_already r u t x stands on last consumers keys becomes read = record {
   limits = read.limits ∙ stands.limits;
   last_start = last ∙ stands.last_start;
@@ -228,8 +191,8 @@ stands_asked_already r u t x stands on last consumers keys becomes read = record
   entries = entries_read t (shelf_of r.entries) (shelf_of u.entries) read stands.entries;
 }
   where
-    stays : (y : ℕ) → (if nat_eq x y then known.with_asking (table_of r.exchanges x) else table_of r.exchanges y) ≡ table_of r.exchanges y
+    stays : (y : ℕ) → (if nat_eq x y then with_asking (table_of r.exchanges x) else table_of r.exchanges y) ≡ table_of r.exchanges y
     stays y = elim (same_or x y) [
-      | inl e ↦ subst (λ (n : ℕ). (if nat_eq x n then known.with_asking (table_of r.exchanges x) else table_of r.exchanges n) ≡ table_of r.exchanges n) e (rw (eqb-same x) (asked_is (table_of r.exchanges x) on))
+      | inl e ↦ subst (λ (n : ℕ). (if nat_eq x n then with_asking (table_of r.exchanges x) else table_of r.exchanges n) ≡ table_of r.exchanges n) e (rw (eqb-same x) (asked_is (table_of r.exchanges x) on))
       | inr ne ↦ rw (eqb-other x y ne) refl
     ]

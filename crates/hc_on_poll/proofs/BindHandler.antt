@@ -9,12 +9,11 @@ use Rattle.hc_store.specs.declared.backend.Backend.{Ghosts}
 use Rattle.hc_entry.specs.Keys.{kept_of}
 use Rattle.hc_stored.specs.{declared.entries.Entries.{Entries}, Entries.{shelf_of}, Kept.{Kept, with_user}, Shelf.{moved_first}}
 use Rattle.hc_stored.specs.Shelf as shelf
-use Rattle.hc_effects.proofs.Vocabulary.{Act, Why, Response, Limits, current, total_in, is_live, with_event, with_consumer, used_last, kind_of, Lawful, Shows, acts_of, span_to, move_of, Tables, Exchange, Representation, act, event, by}
+use Rattle.hc_effects.proofs.Vocabulary.{Act, Why, Response, Limits, current, total_in, is_live, with_event, with_consumer, used_last, kind_of, Lawful, Shows, acts_of, span_to, move_of, Tables, Exchange, Representation, act, event, by, place}
 use Rattle.hc_range.specs.declared.range.Span.{Span}
 use Rattle.hc_record.specs.Head.{Head}
 use Rattle.hc_validate.specs.Showing.{shown_response}
 use Rattle.hc_exch.specs.Exchanges.{table_of, next_of}
-use Rattle.hc_event.specs.declared.place.Place.TheVariants as place
 use Rattle.hc_model.specs.Rows as rows
 use Rattle.hc_effects.proofs.ShowEffects.{shows_new}
 use Rattle.hc_state.specs.{declared.{consumer.Consumer.{Consumer}, rows.Rows.{Rows}}, Handlers.{IsLeft, LeavesLine}, Changes.{Numbered, ChangesAt, bound_shown}, Kept.{IsKept, KeepsConsumer, KeepsExchange, held_for}, Lines.{KeepsKey}, Plans.{is_idle_at, begin_of, end_of, shows_part, HasCurrent}, Stands.{Answered, RowsStand}, Stored.{KeepsEntries}}
@@ -58,20 +57,7 @@ module _ {B : Type 0} {g : Ghosts B} {limits : Limits} (r mid : Rows B g) (a : E
   ]
 
   bound_kept : IsKept s (bound_shown q lo hi k) w
-  bound_kept = record {
-    is_there = refl;
-    request = kept.request;
-    class_is = kept.class_is;
-    since = kept.since;
-    place = refl;
-    own = kept.own;
-    shown = refl;
-    answer = kept.answer ∙ answer_fallback t v (idle_reads v.place v_idle);
-    begins = refl;
-    ends = ends;
-    given = kept.given;
-    due = kept.due;
-  }
+  bound_kept = assumption (kept, kept.answer ∙ answer_fallback t v (idle_reads v.place v_idle), ends)
 
   changed : ChangesAt r.consumers m c (bound_shown q lo hi)
   changed = subst (λ (b : Numbered Consumer). ChangesAt b m c (bound_shown q lo hi)) leaves.consumers changes

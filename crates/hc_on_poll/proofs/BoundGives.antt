@@ -6,15 +6,13 @@
 -- asked for by `Asking`. `ReadOn` uses the three lemmas `.._answered`.
 use Rattle.std.{proofs.{Common.{◌≡◌, ◌≢◌, inl, inr, ℕ, zero, suc, ◌+◌, ◌-◌, ◌<◌, ◌≤◌, List, [], ◌++◌, length, drop, take, min, Bool, true, false, Option, Some, None, refl, ap, ap₂, sym, ◌∙◌, subst, arith}, Math.ListN.{drop_of_length-le}, lemmas.{Bool.Decides.{nat_tests}, Grind.{common_steps}}}, specs.{Prelude.{is_some, is_none, nat_eq, ◌&&◌, if◌then◌else◌}, HashMap.{get}}}
 use Rattle.hc_text.proofs.Basics.{and_both as both_true, eqb-other, eqb-same, false_true, lt_cases as lt_or, same_or, same_some as same_row}
-use Rattle.hc_effects.proofs.Vocabulary.{Limits, Act, Event, BoundBy, is_number, Does, with_consumer, with_ask, with_event, base, front, family, NoFlaw, first_place, absent_from, Gives, Asks, acts_of, move_of, is_bound_place, lo_of, offset, Tables, Exchange, Representation, wait, event}
+use Rattle.hc_effects.proofs.Vocabulary.{Limits, Act, Event, BoundBy, is_number, Does, with_consumer, with_ask, with_event, base, front, family, NoFlaw, first_place, absent_from, Gives, Asks, acts_of, move_of, is_bound_place, lo_of, offset, Tables, Exchange, Representation, wait, event, place}
 use Rattle.hc_store.specs.declared.backend.Backend.{Ghosts}
 use Rattle.hc_sparse.specs.{Cells.{Cells}, Runs.{end_of}, declared.run.Run.{Run}}
 use Rattle.hc_stored.specs.Entries.{shelf_of}
 use Rattle.hc_stored.specs.Shelf as shelf
 use Rattle.hc_exch.specs.Exchanges as exch
-use Rattle.hc_exch.specs.{Exchanges.{table_of, next_of}, Known.{Known}}
-use Rattle.hc_exch.specs.Known as known
-use Rattle.hc_event.specs.declared.place.Place.TheVariants as place
+use Rattle.hc_exch.specs.{Exchanges.{table_of, next_of}, Known.{Known, with_asking, without_first}}
 use Rattle.hc_model.specs.Moves as moves
 use Rattle.hc_model.specs.Rows as rows
 use Rattle.hc_effects.proofs.{AskEffects.{asks}, GiveEffects.{gives_bytes}, WaitEffects.{waits_on}}
@@ -33,9 +31,8 @@ first_skip f zero n p each le = same_places f p (p + 0) n (n - 0) (omega arith) 
 first_skip f (suc l) zero p each le = absurd (let none : ⊥ = omega (arith, le) in none)
 first_skip f (suc l) (suc n) p each le =
     let here : is_some (f p) ≡ true = subst (λ (m : ℕ). is_some (f m) ≡ true) (let at : p + 0 ≡ p = omega arith in at) (each 0 (omega arith)) in
-    let there : is_none (f p) ≡ false = present-none (f p) here in
     let rest = first_skip f l n (p + 1) (λ i lt. subst (λ (m : ℕ). is_some (f m) ≡ true) (let at : p + (i + 1) ≡ p + 1 + i = omega arith in at) (each (i + 1) (omega (arith, lt)))) (omega (arith, le)) in
-    ap (λ (b : Bool). if b then p else first_place is_none f (p + 1) n) there
+    ap (λ (b : Bool). if b then p else first_place is_none f (p + 1) n) (present-none (f p) here)
     ∙ (rest ∙ same_places f (p + 1 + l) (p + suc l) (n - l) (suc n - suc l) (omega arith) (omega arith))
 
 first_end : (f : Cells) (n p : ℕ) → ((i : ℕ) → i < n → is_some (f (p + i)) ≡ true) → first_place is_none f p n ≡ p + n
@@ -54,8 +51,7 @@ lacks_same f reach o l base n body each within front_is = elim (lt_or (min n rea
       let then_at : absent_from f reach (o + l) n ≡ o + l = ap (first_place is_none f (o + l)) none in
       let at : absent_from f reach o n ≡ o + (min n reach - o) = first_end f (min n reach - o) o (λ i few. each i (let less_i = few in omega (arith, less_i, lt))) in
       let empty : drop (absent_from f reach (o + l) n - base) body ≡ [] = drop_of_length-le body (omega (arith, then_at, lt, within, front_is)) in
-      let also : drop (absent_from f reach o n - base) body ≡ [] = drop_of_length-le body (omega (arith, at, lt, within, front_is)) in
-      empty ∙ sym also
+      empty ∙ sym (drop_of_length-le body (omega (arith, at, lt, within, front_is)))
 ]
 
 if_same : (b : Bool) (xs ys : List ℕ) → (b ≡ true → xs ≡ ys) → (if b then xs else []) ≡ (if b then ys else [])
@@ -93,10 +89,9 @@ module _ {B : Type 0} {g : Ghosts B} {limits : Limits} (r u : Rows B g) (t : Tab
     -- it stands behind them
     offset_then : (z : Tables) → offset z w ≡ o + l
     offset_then z =
-        let from : lo_of z w.place ≡ rd.lo = ap (lo_of z) rd.at in
         let was : offset t rd.v ≡ rd.lo + rd.v.given = ap (λ (n : ℕ). n + rd.v.given) (ap (lo_of t) rd.at) in
         let same = offset_is r t facts stands c q how k rd in
-        let here : offset z w ≡ rd.lo + (rd.v.given + l) = ap (λ (n : ℕ). n + (rd.v.given + l)) from in
+        let here : offset z w ≡ rd.lo + (rd.v.given + l) = ap (λ (n : ℕ). n + (rd.v.given + l)) (ap (lo_of z) rd.at) in
         omega (arith, here, was, same)
 
     -- none of it is past the store
@@ -109,20 +104,7 @@ module _ {B : Type 0} {g : Ghosts B} {limits : Limits} (r u : Rows B g) (t : Tab
           let kp = rd.kept in
           stands_reading t c rd.v rd.v.shown (rd.v.given + l) rd.row r u stands kp.is_there last same_keys next unread_store
           (once_given l k) (becomes_by r.consumers u.consumers c k (once_given l) there changes)
-          (record {
-            is_there = kp.is_there;
-            request = kp.request;
-            class_is = kp.class_is;
-            since = kp.since;
-            place = kp.place;
-            own = kp.own;
-            shown = kp.shown;
-            answer = kp.answer;
-            begins = kp.begins;
-            ends = kp.ends;
-            given = ap (λ (n : ℕ). n + l) kp.given;
-            due = kp.due;
-          })
+          (assumption (kp, ap (λ (n : ℕ). n + l) kp.given))
           exchanges
 
       gives_answered : (run : Run) → length run.bytes ≡ l → move_of t now want c rd.v ≡ Gives run → out ≡ before ++ acts_of c (Gives run) → Answered limits (shelf_of r.entries).faults u t before out now ev
@@ -161,7 +143,7 @@ module _ {B : Type 0} {g : Ghosts B} {limits : Limits} (r u : Rows B g) (t : Tab
 
   -- OF WHAT IS HELD
 
-  module _ (h : Holds r t c q k rd.v rd.p) (n : ℕ) (becomes : exch.Becomes (known.without_first n) h.x r.exchanges u.exchanges) where
+  module _ (h : Holds r t c q k rd.v rd.p) (n : ℕ) (becomes : exch.Becomes (without_first n) h.x r.exchanges u.exchanges) where
     abbrev bytes : List ℕ
     bytes = take n (table_of r.exchanges h.x).held
 
@@ -171,7 +153,7 @@ module _ {B : Type 0} {g : Ghosts B} {limits : Limits} (r u : Rows B g) (t : Tab
     abbrev then_on : Tables
     then_on = with_consumer c (Some (record rd.v { given = rd.v.given + more })) t
 
-    here : table_of u.exchanges h.x ≡ known.without_first n (table_of r.exchanges h.x)
+    here : table_of u.exchanges h.x ≡ without_first n (table_of r.exchanges h.x)
     here = becomes.table h.x ∙ rw (eqb-same h.x) refl
 
     left : (table_of u.exchanges h.x).held ≡ drop (o - base h.w + more) h.w.body
@@ -188,11 +170,10 @@ module _ {B : Type 0} {g : Ghosts B} {limits : Limits} (r u : Rows B g) (t : Tab
 
     held_then : held_for then_on h.x (t.exchange h.x) ≡ drop (o - base h.w + more) h.w.body
     held_then =
-        let founded : t.representation (family h.x h.w) ≡ Some rd.p = ap t.representation h.of_q ∙ rd.there in
         let own : rd.v.own ≡ Some h.x = sym rd.kept.own ∙ h.own in
         let low = h.after_base in
         ap (held_for then_on h.x) h.row
-        ∙ (ap (held_of then_on h.x h.w) founded
+        ∙ (ap (held_of then_on h.x h.w) (ap t.representation h.of_q ∙ rd.there)
         ∙ (ap (held_alone then_on h.x h.w rd.p) h.alone
         ∙ (ap (unstored_bytes then_on h.x h.w rd.p) (itself t c (Some (record rd.v { given = rd.v.given + more })))
         ∙ (unstored_own then_on h.x h.w rd.p (record rd.v { given = rd.v.given + more }) q rd.lo rd.hi how rd.at own h.of_q
@@ -221,7 +202,7 @@ module _ {B : Type 0} {g : Ghosts B} {limits : Limits} (r u : Rows B g) (t : Tab
 
   -- IT ASKS FOR MORE, OR WAITS FOR THAT
 
-  module _ (x : ℕ) (consumers : u.consumers ≡ r.consumers) (becomes : exch.Becomes known.with_asking x r.exchanges u.exchanges) where
+  module _ (x : ℕ) (consumers : u.consumers ≡ r.consumers) (becomes : exch.Becomes with_asking x r.exchanges u.exchanges) where
     waits_by : (b : Bool) → asked_in (table_of r.exchanges x).running ≡ b → move_of t now want c rd.v ≡ asks_or_waits b x → out ≡ before ++ acts_of c (asks_or_waits b x) → Answered limits (shelf_of r.entries).faults u t before out now ev
     waits_by false is move acts =
         does_answered limits (shelf_of r.entries).faults u t (with_event now ev (with_ask x t)) before out (acts_of c (Asks x)) now ev

@@ -9,10 +9,10 @@ use Rattle.hc_text.proofs.Basics.{eqb-other, eqb-same, false_true, same_or, same
 use Rattle.hc_sorted.specs.Sorted.{has, with_item, without}
 use Rattle.hc_sorted.proofs.SortedLemmas.{has-with}
 use Rattle.hc_stored.specs.{Kept.{Kept, itself, with_user, with_first}, Shelf.{Shelf, Becomes, moved_first}}
-use Rattle.hc_effects.proofs.Vocabulary.{Place, BoundBy, is_number, family, kind_of, Lawful, reads, is_bound, is_bound_place, Tables, Exchange, Representation, came_alone, place, by}
+use Rattle.hc_effects.proofs.Vocabulary.{Place, BoundBy, is_number, family, kind_of, Lawful, reads, is_bound, is_bound_place, Tables, Exchange, Representation, came_alone, place, by, bound}
 use Rattle.hc_effects.proofs.Tests.{and_false, none_some}
 use Rattle.hc_model.specs.Rows as rows
-use Rattle.hc_state.specs.{Kept.{held_for, held_of, held_alone, unread, unstored_bytes}, Stored.{IsEntry, KeepsEntry, KeepsEntries, is_first, is_usable_row}}
+use Rattle.hc_state.specs.{Kept.{held_for, held_of, held_alone, unread, unstored_bytes}, Stored.{IsEntry, KeepsEntry, KeepsEntries, is_first, is_usable_row, TellsLength}}
 use Rattle.hc_state.specs.Stored as stored
 use Rattle.hc_state.proofs.{Fallbacks.{unread_fallback, unstored_fallback, unstored_moved}, FallbackSteps.{first_fallback}, CurrentTies.{stays_stored, total_told}, OneOfEach.{first_row, bound_same}, Ties.{entry_same, OversStay, writer_then}}
 
@@ -24,8 +24,8 @@ filters_swap f g (x ∷ xs) = by_tests (f x) (g x) refl refl (filters_swap f g x
   where
     by_tests : (a b : Bool) → f x ≡ a → g x ≡ b → filter f (filter g xs) ≡ filter g (filter f xs) → filter f (filter g (x ∷ xs)) ≡ filter g (filter f (x ∷ xs))
     by_tests true true a b rest = rw (a, b, a) (ap (λ (ys : List ℕ). x ∷ ys) rest)
-    by_tests true false a b rest = rw (a, b) rest
     by_tests false true a b rest = rw (a, b, a) rest
+    by_tests true false a b rest = rw (a, b) rest
     by_tests false false a b rest = rw (a, b) rest
 
 module _ (t s : Tables) (law : Lawful t) (c q lo : ℕ) (hi : Option ℕ) (how : BoundBy) (v w : rows.Consumer) (p : Representation) (row : t.consumer c ≡ Some v) (here : s.consumer c ≡ Some w) (others : (d : ℕ) → d ≢ c → s.consumer d ≡ t.consumer d)
@@ -72,12 +72,7 @@ module _ (t s : Tables) (law : Lawful t) (c q lo : ℕ) (hi : Option ℕ) (how :
     where
       by_place : (z : Place) → v.place ≡ z → is_bound n (Some v) ≡ false
       by_place (place.Bound a l h b) is = false_true (sym idle ∙ ap reads is)
-      by_place place.Line is = rw is refl
-      by_place (place.Passed a kept) is = rw is refl
-      by_place (place.Turn x) is = rw is refl
-      by_place (place.Direct x) is = rw is refl
-      by_place (place.Down why) is = rw is refl
-      by_place place.Over is = rw is refl
+      by_place _ is = rw is refl
 
   users_other : (n : ℕ) → n ≢ q → (d : ℕ) → is_bound n (s.consumer d) ≡ is_bound n (t.consumer d)
   users_other n ne d = elim (same_or c d) [
@@ -108,49 +103,40 @@ module _ (t s : Tables) (law : Lawful t) (c q lo : ℕ) (hi : Option ℕ) (how :
     not_first : is_number e.first c ≡ false
     not_first = is.first c ∙ (ap (is_first t q) row ∙ first_fallback t q (Some v) (ap not idle))
 
+    entry_by : OversStay t.exchange s.exchange → (first : Option ℕ) → ((d : ℕ) → is_number first d ≡ is_first s q (s.consumer d)) →
+        IsEntry s q (record (with_user c e) { first = first }) p
+    entry_by overs first firsts =
+        let used : p.is_gone ≡ true → bound s q ≢ [] = λ gone. false_true (sym stays ∙ gone) in
+        let length : TellsLength (record (with_user c e) { first = first }) p = stored.told (total_told t q e p is stays) in
+        assumption (
+          is,
+          used,
+          length,
+          with_it,
+          firsts,
+          writer_then overs is.writer,
+          (λ (off : p.is_gone ≡ false). is.kind off ∙ sym (kinds q p there)),
+        )
+
     -- one more is bound, by its plan
     pub entry_with : OversStay t.exchange s.exchange → how ≡ by.Plan → IsEntry s q (with_user c e) p
-    entry_with overs plan = record {
-      used = λ gone. false_true (sym stays ∙ gone);
-      key = is.key;
-      head = is.head;
-      length = stored.told (total_told t q e p is stays);
-      kind = λ off. is.kind off ∙ sym (kinds q p there);
-      whole = is.whole;
-      cells = is.cells;
-      reach = is.reach;
-      bound = with_it;
-      first = λ d. elim (same_or c d) [
-        | inl one ↦ rw (← one, here) (not_first ∙ sym (then_false (is_bound_place q w.place) (came_alone s w.place) (ap (came_alone s) at ∙ rw plan refl)))
-        | inr ne ↦ first_else d (λ z. ne (sym z))
-      ];
-      writer = writer_then overs is.writer;
-      is_lost = is.is_lost;
-      alone = is.alone;
-      is_gone = is.is_gone;
-    }
+    entry_with overs plan = entry_by overs e.first (λ d. elim (same_or c d) [
+      | inl one ↦
+          let late : came_alone s w.place ≡ false = ap (came_alone s) at ∙ rw plan refl in
+          rw (← one, here) (not_first ∙ sym (then_false (is_bound_place q w.place) (came_alone s w.place) late))
+      | inr ne ↦ first_else d (λ z. ne (sym z))
+    ])
 
     -- or as the only one, where nobody came alone
     pub entry_first : OversStay t.exchange s.exchange → (x : ℕ) → how ≡ by.FirstHole x → e.first ≡ None → IsEntry s q (with_first c e) p
-    entry_first overs x first none = record {
-      used = λ gone. false_true (sym stays ∙ gone);
-      key = is.key;
-      head = is.head;
-      length = stored.told (total_told t q e p is stays);
-      kind = λ off. is.kind off ∙ sym (kinds q p there);
-      whole = is.whole;
-      cells = is.cells;
-      reach = is.reach;
-      bound = with_it;
-      first = λ d. elim (same_or c d) [
-        | inl one ↦ rw (← one, here, eqb-same c) (sym (both (is_bound_place q w.place) (bound_at q ∙ eqb-same q) (ap (came_alone s) at ∙ rw first refl)))
-        | inr ne ↦ rw (eqb-other c d ne) (ap (λ (o : Option ℕ). is_number o d) (sym none) ∙ first_else d (λ z. ne (sym z)))
-      ];
-      writer = writer_then overs is.writer;
-      is_lost = is.is_lost;
-      alone = is.alone;
-      is_gone = is.is_gone;
-    }
+    entry_first overs x first none = entry_by overs (Some c) (λ d. elim (same_or c d) [
+      | inl one ↦
+          let early : came_alone s w.place ≡ true = ap (came_alone s) at ∙ rw first refl in
+          rw (← one, here, eqb-same c) (sym (both (is_bound_place q w.place) (bound_at q ∙ eqb-same q) early))
+      | inr ne ↦
+          let none_else : is_number e.first d ≡ false = ap (λ (o : Option ℕ). is_number o d) none in
+          rw (eqb-other c d ne) (sym none_else ∙ first_else d (λ z. ne (sym z)))
+    ])
       where
         both : {x : Bool} (b : Bool) → b ≡ true → x ≡ true → (b && x) ≡ true
         both true on also = also

@@ -60,19 +60,18 @@ sees_stored hi s z m n h g a b same = rw (a, b) (stored false (end_of m) (end_of
 
 -- WHICH STEP IT IS
 
-record IsStored (a : Bool) (hi s : Option ℕ) (n : ℕ) : Type 0 where
-  not_end : a ≡ false
-  end : ℕ
-  told_is : s ≡ Some end
-  upto : n ≡ cut_at hi end
+-- neither of the first two, before the end where nothing is stored
+not_ended : (hi : Option ℕ) (h : Bool) (d : Option Cause) (f : Option ℕ) (hole : Span) → by_parts false hi None h d f hole ≡ step.Ended → ⊥
+not_ended hi true d f hole is = let never : step.Held ≡ step.Ended = is in cc
+not_ended hi false (Some why) f hole is = let never : step.Failed why ≡ step.Ended = is in cc
+not_ended hi false None (Some x) hole is = let never : step.Waits x ≡ step.Ended = is in cc
+not_ended hi false None None hole is = let never : step.Hole hole ≡ step.Ended = is in cc
 
-stored_from : (a : Bool) (hi s : Option ℕ) (h : Bool) (d : Option Cause) (f : Option ℕ) (hole : Span) (n : ℕ) → by_parts a hi s h d f hole ≡ step.Stored n → IsStored a hi s n
-stored_from true hi s h d f hole n is = absurd (let never : step.Ended ≡ step.Stored n = is in cc)
-stored_from false hi (Some m) h d f hole n is = record { not_end = refl; end = m; told_is = refl; upto = (let same : step.Stored (cut_at hi m) ≡ step.Stored n = is in cc) }
-stored_from false hi None true d f hole n is = absurd (let never : step.Held ≡ step.Stored n = is in cc)
-stored_from false hi None false (Some why) f hole n is = absurd (let never : step.Failed why ≡ step.Stored n = is in cc)
-stored_from false hi None false None (Some x) hole n is = absurd (let never : step.Waits x ≡ step.Stored n = is in cc)
-stored_from false hi None false None None hole n is = absurd (let never : step.Hole hole ≡ step.Stored n = is in cc)
+not_stored : (hi : Option ℕ) (h : Bool) (d : Option Cause) (f : Option ℕ) (hole : Span) (n : ℕ) → by_parts false hi None h d f hole ≡ step.Stored n → ⊥
+not_stored hi true d f hole n is = let never : step.Held ≡ step.Stored n = is in cc
+not_stored hi false (Some why) f hole n is = let never : step.Failed why ≡ step.Stored n = is in cc
+not_stored hi false None (Some x) hole n is = let never : step.Waits x ≡ step.Stored n = is in cc
+not_stored hi false None None hole n is = let never : step.Hole hole ≡ step.Stored n = is in cc
 
 held_from : (a : Bool) (hi s : Option ℕ) (h : Bool) (d : Option Cause) (f : Option ℕ) (hole : Span) → by_parts a hi s h d f hole ≡ step.Held → (a ≡ false) × (s ≡ None) × (h ≡ true)
 held_from true hi s h d f hole is = absurd (let never : step.Ended ≡ step.Held = is in cc)
@@ -110,10 +109,6 @@ hole_from false hi None false None None hole other is = record { not_end = refl;
 end_none : (run : Option Run) → option_map end_of run ≡ None → run ≡ None
 end_none None is = refl
 end_none (Some z) is = none_some (end_of z) (sym is)
-
-end_some : (run : Option Run) (n : ℕ) → option_map end_of run ≡ Some n → (z : Run) × (run ≡ Some z) × (end_of z ≡ n)
-end_some None n is = none_some n is
-end_some (Some z) n is = (z, refl, some_is (end_of z) n is)
 
 -- WHO WAITS FOR A HEAD
 
@@ -199,7 +194,7 @@ module _ {B : Type 0} {g : Ghosts B} {limits : Limits} (r : Rows B g) (t : Table
 
     -- WHAT IT LOOKS AT
 
-    module _ (wants : 0 < want) (run : Option Run) (run_is : IsRunAhead (shelf_of r.entries) q want run k) (view : ReadView) (view_is : ReadViewIs r q c (option_map end_of run) view k) where
+    module _ (wants : 0 < want) (run : Option Run) (run_is : IsRunAhead (shelf_of r.entries) q want run k) where
       abbrev count : ℕ
       count = most k.hi o want
 
@@ -212,20 +207,11 @@ module _ {B : Type 0} {g : Ghosts B} {limits : Limits} (r : Rows B g) (t : Table
       abbrev is_held : Bool
       is_held = goes_alone c ((shelf_of r.entries).kept q) && nat_lt 0 (held_own table k.own)
 
-      abbrev next : Option ℕ
-      next = view_is.next
+      abbrev hole_told : Span
+      hole_told = record { lo = o; hi = hole_end k.hi o (next_stored t rd.v) }
 
-      abbrev hole : Span
-      hole = record { lo = o; hi = hole_end k.hi o next }
-
-      next_same : next ≡ next_stored t rd.v
-      next_same = next_as f (cells_at (shelf_of r.entries) q) rd.p.reach o next (ends_by r t facts stands c q how k rd) (λ n. ap (λ (z : Cells). z n) (cells_are r t facts stands c q how k rd)) view_is.next_is ∙ sym (next_ahead r t facts stands c q how k rd)
-
-      code_step : read_step view ≡ by_parts (is_at_end k.hi o) k.hi (option_map end_of run) is_held k.due from hole
-      code_step = ap read_step view_is.is ∙ step_parts (bound_view table ((shelf_of r.entries).kept q) c (option_map end_of run) next k)
-
-      model_step : read_step (steps.read_view t want c rd.v) ≡ by_parts (is_at_end k.hi o) k.hi (option_map end_of (stored_ahead t rd.v want)) (is_some (run_held_for t c rd.v want)) k.due from hole
-      model_step = step_parts (steps.read_view t want c rd.v) ∙ view_same _ _ _ _ (option_map end_of (stored_ahead t rd.v want)) (is_some (run_held_for t c rd.v want)) _ _ _ _ _ _ (sym (offset_is r t facts stands c q how k rd)) (sym rd.kept.ends) (sym rd.kept.due) (source_is r t facts stands c q how k rd) (sym next_same)
+      model_step : read_step (steps.read_view t want c rd.v) ≡ by_parts (is_at_end k.hi o) k.hi (option_map end_of (stored_ahead t rd.v want)) (is_some (run_held_for t c rd.v want)) k.due from hole_told
+      model_step = step_parts (steps.read_view t want c rd.v) ∙ view_same _ _ _ _ (option_map end_of (stored_ahead t rd.v want)) (is_some (run_held_for t c rd.v want)) _ _ _ _ _ _ (sym (offset_is r t facts stands c q how k rd)) (sym rd.kept.ends) (sym rd.kept.due) (source_is r t facts stands c q how k rd) refl
 
       -- what was read of the store, where it isn't at the end
       read_run : is_at_end k.hi o ≡ false → run ≡ stretch f o count
@@ -259,18 +245,15 @@ module _ {B : Type 0} {g : Ghosts B} {limits : Limits} (r : Rows B g) (t : Table
           by_end true is = ended (option_map end_of (stored_ahead t rd.v want)) (option_map end_of run) (is_some (run_held_for t c rd.v want)) is_held
           by_end false is = by_cell is (f o) refl
 
-      -- what it does is the step of what it looks at
-      pub reads_as : move_of t now want c rd.v ≡ step_move t want c rd.v (read_step view)
-      reads_as =
-          reads_on ∙ ap (step_move t want c rd.v) (model_step ∙ (same_step k.hi (is_at_end k.hi o) (option_map end_of (stored_ahead t rd.v want)) (option_map end_of run) (is_some (run_held_for t c rd.v want)) is_held k.due from hole sees ∙ sym code_step))
+      -- what it does is the step of its parts
+      reads_parts : move_of t now want c rd.v ≡ step_move t want c rd.v (by_parts (is_at_end k.hi o) k.hi (option_map end_of run) is_held k.due from hole_told)
+      reads_parts =
+          reads_on ∙ ap (step_move t want c rd.v) (model_step ∙ same_step k.hi (is_at_end k.hi o) (option_map end_of (stored_ahead t rd.v want)) (option_map end_of run) (is_some (run_held_for t c rd.v want)) is_held k.due from hole_told sees)
 
       -- EACH STEP
 
-      pub ends_move : read_step view ≡ step.Ended → move_of t now want c rd.v ≡ Ends
-      ends_move is = reads_as ∙ ap (step_move t want c rd.v) is
-
-      pub fails_move : (why : Cause) → read_step view ≡ step.Failed why → move_of t now want c rd.v ≡ Fails why
-      fails_move why is = reads_as ∙ ap (step_move t want c rd.v) is
+      pub ends_move : is_at_end k.hi o ≡ true → move_of t now want c rd.v ≡ Ends
+      ends_move on = reads_parts ∙ ap (λ (b : Bool). step_move t want c rd.v (by_parts b k.hi (option_map end_of run) is_held k.due from hole_told)) on
 
       -- what is stored ahead of it is read
       pub record Reads (z : Run) : Type 0 where
@@ -285,291 +268,324 @@ module _ {B : Type 0} {g : Ghosts B} {limits : Limits} (r : Rows B g) (t : Table
           by_cell None none = none_some z (sym ((stretch-absent f o count).1 none) ∙ is)
           by_cell (Some cell) some = ap (λ (y : Option Cell). is_some y) some
 
-      pub stored_move : (n : ℕ) → read_step view ≡ step.Stored n → (z : Run) × Reads z
-      stored_move n is =
-          let s = stored_from (is_at_end k.hi o) k.hi (option_map end_of run) is_held k.due from hole n (sym code_step ∙ is) in
-          let found = end_some run s.end s.told_is in
-          let z : Run = found.0 in
-          let stretched : stretch f o count ≡ Some z = sym (read_run s.not_end) ∙ found.1 in
-          let a = ahead f rd.p.reach o want k.hi (ends_by r t facts stands c q how k rd) wants s.not_end (there_of z stretched) z stretched in
-          let upto : n ≡ end_of z = s.upto ∙ (ap (cut_at k.hi) (sym found.2) ∙ a.cut) in
-          let less : n - offset t rd.v ≡ end_of z - o = ap₂ (λ (m i : ℕ). m - i) upto (sym (offset_is r t facts stands c q how k rd)) in
-          let given : stored_ahead t rd.v (n - offset t rd.v) ≡ Some z = ap (stored_ahead t rd.v) less ∙ (ahead_is r t facts stands c q how k rd (end_of z - o) ∙ a.given) in
-          (z, record { read_is = found.1; ahead_of = a; move_is = (reads_as ∙ ap (step_move t want c rd.v) is) ∙ ap gives given })
+      pub stored_move : is_at_end k.hi o ≡ false → (z : Run) → run ≡ Some z → Reads z
+      stored_move off z is =
+          let stretched : stretch f o count ≡ Some z = sym (read_run off) ∙ is in
+          let a = ahead f rd.p.reach o want k.hi (ends_by r t facts stands c q how k rd) wants off (there_of z stretched) z stretched in
+          let upto : by_parts (is_at_end k.hi o) k.hi (option_map end_of run) is_held k.due from hole_told ≡ step.Stored (cut_at k.hi (end_of z)) =
+          ap (λ (b : Bool). by_parts b k.hi (option_map end_of run) is_held k.due from hole_told) off ∙ ap (λ (y : Option Run). by_parts false k.hi (option_map end_of y) is_held k.due from hole_told) is in
+          let less : cut_at k.hi (end_of z) - offset t rd.v ≡ end_of z - o = ap₂ (λ (m i : ℕ). m - i) a.cut (sym (offset_is r t facts stands c q how k rd)) in
+          let given : stored_ahead t rd.v (cut_at k.hi (end_of z) - offset t rd.v) ≡ Some z = ap (stored_ahead t rd.v) less ∙ (ahead_is r t facts stands c q how k rd (end_of z - o) ∙ a.given) in
+          record { read_is = is; ahead_of = a; move_is = (reads_parts ∙ ap (step_move t want c rd.v) upto) ∙ ap gives given }
 
-      -- what is held for it is given
-      most_is : steps.most t want rd.v ≡ count
-      most_is = ap₂ (λ (hi : Option ℕ) (m : ℕ). cut_at hi (m + want) - m) (sym rd.kept.ends) (sym (offset_is r t facts stands c q how k rd))
+      module _ (view : ReadView) (view_is : ReadViewIs r q c (option_map end_of run) view k) where
+        abbrev next : Option ℕ
+        next = view_is.next
 
-      missing_at : is_at_end k.hi o ≡ false → run ≡ None → f o ≡ None
-      missing_at off none = (stretch-absent f o count).0 (sym (read_run off) ∙ none)
+        abbrev hole : Span
+        hole = record { lo = o; hi = hole_end k.hi o next }
 
-      pub record GivesHeld (h : Holds r t c q k rd.v rd.p) : Type 0 where
-        pub some : 0 < count
-        pub there : 0 < length (take count (table h.x).held)
-        pub move_is : move_of t now want c rd.v ≡ Gives (record { x = h.x; at = o; bytes = take count (table h.x).held })
+        next_same : next ≡ next_stored t rd.v
+        next_same = next_as f (cells_at (shelf_of r.entries) q) rd.p.reach o next (ends_by r t facts stands c q how k rd) (λ n. ap (λ (z : Cells). z n) (cells_are r t facts stands c q how k rd)) view_is.next_is ∙ sym (next_ahead r t facts stands c q how k rd)
 
-      pub held_move : read_step view ≡ step.Held → (h : Holds r t c q k rd.v rd.p) × GivesHeld h
-      held_move is =
-          let all = held_from (is_at_end k.hi o) k.hi (option_map end_of run) is_held k.due from hole (sym code_step ∙ is) in
-          let h = holds_something r t facts stands c q how k rd (missing_at all.0 (end_none run all.1)) want wants all.2 in
-          let more : 0 < count = some_more want wants k.hi o all.0 in
-          let long = some_held h in
-          let there = some_taken count (table h.x).held more long in
-          let given : run_held_for t c rd.v (steps.most t want rd.v) ≡ Some (record { x = h.x; at = o; bytes = take count (table h.x).held }) =
-          ap (run_held_for t c rd.v) most_is ∙ (h.runs count more ∙ (ap (λ (xs : List ℕ). run_of h.x o (take count xs)) (sym h.known) ∙ run_is_one h.x (take count (table h.x).held) there)) in
-          (h, record { some = more; there = there; move_is = (reads_as ∙ ap (step_move t want c rd.v) is) ∙ ap gives given })
-        where
-          run_is_one : (x : ℕ) (bytes : List ℕ) → 0 < length bytes → run_of x o bytes ≡ Some (record { x = x; at = o; bytes = bytes })
-          run_is_one x bytes some = lemmas.run_is x o bytes some
+        code_step : read_step view ≡ by_parts (is_at_end k.hi o) k.hi (option_map end_of run) is_held k.due from hole
+        code_step = ap read_step view_is.is ∙ step_parts (bound_view table ((shelf_of r.entries).kept q) c (option_map end_of run) next k)
 
-          some_taken : (n : ℕ) (xs : List ℕ) → 0 < n → 0 < length xs → 0 < length (take n xs)
-          some_taken n xs a b = let len = length-take n xs in omega (arith, a, b, len)
+        -- what it does is the step of what it looks at
+        pub reads_as : move_of t now want c rd.v ≡ step_move t want c rd.v (read_step view)
+        reads_as =
+            reads_parts ∙ ap (step_move t want c rd.v)
+            (ap (λ (z : Option ℕ). by_parts (is_at_end k.hi o) k.hi (option_map end_of run) is_held k.due from (record { lo = o; hi = hole_end k.hi o z })) (sym next_same) ∙ sym code_step)
 
-          some_held : (h : Holds r t c q k rd.v rd.p) → 0 < length (table h.x).held
-          some_held h =
-              let len : length (table h.x).held ≡ length h.w.body - (o - base h.w) = ap length h.known ∙ length-drop (o - base h.w) h.w.body in
-              let low = h.after_base in
-              let high = h.before_front in
-              omega (arith, len, low, high)
+        -- where nothing is stored it neither ends nor is given that
+        module _ (off : is_at_end k.hi o ≡ false) (none : run ≡ None) where
+          unstored : read_step view ≡ by_parts false k.hi None is_held k.due from hole
+          unstored =
+              code_step ∙ (ap (λ (b : Bool). by_parts b k.hi (option_map end_of run) is_held k.due from hole) off
+              ∙ ap (λ (z : Option Run). by_parts false k.hi (option_map end_of z) is_held k.due from hole) none)
 
-      -- it asks for more, or waits
-      pub record WaitsFor (x : ℕ) : Type 0 where
-        pub is_open : known.is_open x table ≡ true
-        pub move_is : move_of t now want c rd.v ≡ asks_or_waits (asked_in (table x).running) x
+          pub never_ends : read_step view ≡ step.Ended → ⊥
+          never_ends is = not_ended k.hi is_held k.due from hole (sym unstored ∙ is)
 
-      open_of : (own : Option ℕ) (x : ℕ) → if_running table own ≡ Some x → known.is_open x table ≡ true
-      open_of None x is = none_some x is
-      open_of (Some y) x is = by_test (known.is_open y table) refl is
-        where
-          by_test : (b : Bool) → known.is_open y table ≡ b → (if b then Some y else None) ≡ Some x → known.is_open x table ≡ true
-          by_test true on same = ap (λ (n : ℕ). known.is_open n table) (sym (some_is y x same)) ∙ on
-          by_test false off same = none_some x same
+          pub never_stored : (n : ℕ) → read_step view ≡ step.Stored n → ⊥
+          never_stored n is = not_stored k.hi is_held k.due from hole n (sym unstored ∙ is)
 
-      writing_open : (e : Option entry.Kept) (x : ℕ) → writing_of table e ≡ Some x → known.is_open x table ≡ true
-      writing_open None x is = none_some x is
-      writing_open (Some e) x is = by_lost e.is_lost is
-        where
-          by_lost : (b : Bool) → (if b then None else if_running table e.writer) ≡ Some x → known.is_open x table ≡ true
-          by_lost true is = none_some x is
-          by_lost false is = open_of e.writer x is
+        pub fails_move : (why : Cause) → read_step view ≡ step.Failed why → move_of t now want c rd.v ≡ Fails why
+        fails_move why is = reads_as ∙ ap (step_move t want c rd.v) is
 
-      source_open : (x : ℕ) → from ≡ Some x → known.is_open x table ≡ true
-      source_open x is = by_own (if_running table k.own) refl is
-        where
-          by_own : (own : Option ℕ) → if_running table k.own ≡ own → option_or own (writing_of table ((shelf_of r.entries).kept q)) ≡ Some x → known.is_open x table ≡ true
-          by_own None none is = writing_open ((shelf_of r.entries).kept q) x is
-          by_own (Some y) some is = open_of k.own x (some ∙ is)
+        -- what is held for it is given
+        most_is : steps.most t want rd.v ≡ count
+        most_is = ap₂ (λ (hi : Option ℕ) (m : ℕ). cut_at hi (m + want) - m) (sym rd.kept.ends) (sym (offset_is r t facts stands c q how k rd))
 
-      asked_same : (x : ℕ) (on : Option Open) (row : Option Exchange) → is_some on ≡ true → KeepsRunning t x on row → waits_for x row ≡ asks_or_waits (asked_in on) x
-      asked_same x None row some keeps = false_true some
-      asked_same x (Some a) None some keeps = absurd keeps
-      asked_same x (Some a) (Some w) some keeps = ap (λ (b : Bool). asks_or_waits b x) (sym keeps.asked)
+        missing_at : is_at_end k.hi o ≡ false → run ≡ None → f o ≡ None
+        missing_at off none = (stretch-absent f o count).0 (sym (read_run off) ∙ none)
 
-      pub waits_move : (x : ℕ) → read_step view ≡ step.Waits x → WaitsFor x
-      waits_move x is =
-          let on = source_open x (waits_from (is_at_end k.hi o) k.hi (option_map end_of run) is_held k.due from hole x (sym code_step ∙ is)) in
-          record { is_open = on; move_is = (reads_as ∙ ap (step_move t want c rd.v) is) ∙ asked_same x (table x).running (t.exchange x) on (stands.exchanges x).running }
+        pub record GivesHeld (h : Holds r t c q k rd.v rd.p) : Type 0 where
+          pub some : 0 < count
+          pub there : 0 < length (take count (table h.x).held)
+          pub move_is : move_of t now want c rd.v ≡ Gives (record { x = h.x; at = o; bytes = take count (table h.x).held })
 
-      -- IT STANDS BEFORE A HOLE
-
-      reader : IsBound t q c rd.v
-      reader = sound.is_bound rd.lo rd.hi how rd.row rd.at
-
-      pub record FillsHole (other : Span) : Type 0 where
-        pub head : Head
-        pub head_is : head_at (shelf_of r.entries) q ≡ Some head
-        pub total : ℕ
-        pub known : head.total ≡ Some total
-        pub within : Numbers t → t.received < 2 ^ 62 → IsWithin other total
-        pub move_is : move_of t now want c rd.v ≡ Opens (next_of r.exchanges) (need.Hole other.lo other.hi) (hole_request head k.request other (unwrap_or head.total 0))
-
-      module _ (other : Span) (is : read_step view ≡ step.Hole other) where
-        all : IsHole (is_at_end k.hi o) (option_map end_of run) is_held k.due from hole other
-        all = hole_from (is_at_end k.hi o) k.hi (option_map end_of run) is_held k.due from hole other (sym code_step ∙ is)
-
-        bare : f o ≡ None
-        bare = missing_at all.not_end (end_none run all.none_stored)
-
-        undue : rd.v.due ≡ None
-        undue = sym rd.kept.due ∙ all.undue
-
-        no_source : source t rd.v ≡ None
-        no_source = source_is r t facts stands c q how k rd ∙ all.closed
-
-        parts_none : (a b : Option ℕ) → option_or a b ≡ None → (a ≡ None) × (b ≡ None)
-        parts_none None b none = (refl, none)
-        parts_none (Some a) b none = none_some a (sym none)
-
-        none_own : own_open t rd.v ≡ None
-        none_own = (parts_none (own_open t rd.v) (shared_exchange t rd.v.place) no_source).0
-
-        not_written : is_written t rd.p ≡ true → ⊥
-        not_written on =
-            let none : shared_exchange t rd.v.place ≡ None = (parts_none (own_open t rd.v) (shared_exchange t rd.v.place) no_source).1 in
-            let writer : rd.p.writer ≡ None = sym (ap (λ (b : Bool). if b then rd.p.writer else None) on) ∙ (sym (ap (writing_in t) rd.there) ∙ (sym (ap (shared_exchange t) rd.at) ∙ none)) in
-            writer_some t rd.p on writer
-
-        not_covered : (n : ℕ) → hi_of t rd.v.place ≡ Some n → Covers f (offset t rd.v) n → ⊥
-        not_covered n end covered =
-            let lt = before_end n end in
-            let same = offset_is r t facts stands c q how k rd in
-            false_true (sym (ap (λ (z : Option Cell). is_some z) bare) ∙ covered o (omega (arith, same)) lt)
+        pub held_move : read_step view ≡ step.Held → (h : Holds r t c q k rd.v rd.p) × GivesHeld h
+        held_move is =
+            let all = held_from (is_at_end k.hi o) k.hi (option_map end_of run) is_held k.due from hole (sym code_step ∙ is) in
+            let h = holds_something r t facts stands c q how k rd (missing_at all.0 (end_none run all.1)) want wants all.2 in
+            let more : 0 < count = some_more want wants k.hi o all.0 in
+            let long = some_held h in
+            let there = some_taken count (table h.x).held more long in
+            let given : run_held_for t c rd.v (steps.most t want rd.v) ≡ Some (record { x = h.x; at = o; bytes = take count (table h.x).held }) =
+            ap (run_held_for t c rd.v) most_is ∙ (h.runs count more ∙ (ap (λ (xs : List ℕ). run_of h.x o (take count xs)) (sym h.known) ∙ run_is_one h.x (take count (table h.x).held) there)) in
+            (h, record { some = more; there = there; move_is = (reads_as ∙ ap (step_move t want c rd.v) is) ∙ ap gives given })
           where
-            before_end : (n : ℕ) → hi_of t rd.v.place ≡ Some n → o < n
-            before_end n end = not_at k.hi n all.not_end (rd.kept.ends ∙ end)
-              where
-                not_at : (hi : Option ℕ) (n : ℕ) → is_at_end hi o ≡ false → hi ≡ Some n → o < n
-                not_at None n off at = none_some n at
-                not_at (Some m) n off at = let same : m ≡ n = some_is m n at in let lt : o < m = grind (arith, nat_tests) in omega (arith, same, lt)
+            run_is_one : (x : ℕ) (bytes : List ℕ) → 0 < length bytes → run_of x o bytes ≡ Some (record { x = x; at = o; bytes = bytes })
+            run_is_one x bytes some = lemmas.run_is x o bytes some
 
-        -- who writes alone, of what isn't lost, or goes on alone
-        data IsAlong : Type 0 where
-          first : rd.p.is_lost ≡ false → IsFirst t q c → IsAlong
-          alone : rd.p.is_lost ≡ true → rd.p.alone ≡ Some c → IsAlong
+            some_taken : (n : ℕ) (xs : List ℕ) → 0 < n → 0 < length xs → 0 < length (take n xs)
+            some_taken n xs a b = let len = length-take n xs in omega (arith, a, b, len)
 
-        along : IsAlong
-        along = by_served (facts.law.sound.writes.served q c rd.p rd.v rd.there reader undue)
+            some_held : (h : Holds r t c q k rd.v rd.p) → 0 < length (table h.x).held
+            some_held h =
+                let len : length (table h.x).held ≡ length h.w.body - (o - base h.w) = ap length h.known ∙ length-drop (o - base h.w) h.w.body in
+                let low = h.after_base in
+                let high = h.before_front in
+                omega (arith, len, low, high)
+
+        -- it asks for more, or waits
+        pub record WaitsFor (x : ℕ) : Type 0 where
+          pub is_open : known.is_open x table ≡ true
+          pub move_is : move_of t now want c rd.v ≡ asks_or_waits (asked_in (table x).running) x
+
+        open_of : (own : Option ℕ) (x : ℕ) → if_running table own ≡ Some x → known.is_open x table ≡ true
+        open_of None x is = none_some x is
+        open_of (Some y) x is = by_test (known.is_open y table) refl is
           where
-            by_exclusive_writer : IsExclusiveWriter t q rd.p c → IsAlong
-            by_exclusive_writer (sound.first fresh is_first) = first fresh is_first
-            by_exclusive_writer (sound.alone lost is_alone) = alone lost is_alone
+            by_test : (b : Bool) → known.is_open y table ≡ b → (if b then Some y else None) ≡ Some x → known.is_open x table ≡ true
+            by_test true on same = ap (λ (n : ℕ). known.is_open n table) (sym (some_is y x same)) ∙ on
+            by_test false off same = none_some x same
 
-            by_served : IsServed t q rd.p c rd.v → IsAlong
-            by_served (sound.shares on) = absurd (not_written on)
-            by_served (sound.writes exclusive_writer) = by_exclusive_writer exclusive_writer
-            by_served (sound.reads n end covered) = absurd (not_covered n end covered)
-
-        end_at : hi_of t rd.v.place ≡ option_or rd.hi rd.p.head.total
-        end_at = ap (hi_of t) rd.at ∙ ap (λ (z : Option Representation). option_or rd.hi (total_in z)) rd.there
-
-        -- where it ends is known
-        ends_somewhere : (n : ℕ) × (hi_of t rd.v.place ≡ Some n)
-        ends_somewhere = by_end (hi_of t rd.v.place) refl
+        writing_open : (e : Option entry.Kept) (x : ℕ) → writing_of table e ≡ Some x → known.is_open x table ≡ true
+        writing_open None x is = none_some x is
+        writing_open (Some e) x is = by_lost e.is_lost is
           where
-            known_end : IsFirst t q c → rd.hi ≡ None → ⊥
-            known_end (sound.first z a b d z_row z_at came) none =
-                let one : z ≡ rd.v = same_row (t.consumer c) z rd.v z_row rd.row in
-                let came_v : came_alone t (place.Bound q rd.lo rd.hi how) ≡ true = subst (λ (y : Place). came_alone t y ≡ true) (sym z_at ∙ (ap (λ (y : rows.Consumer). y.place) one ∙ rd.at)) came in
-                false_true (sym (ap (λ (y : Option ℕ). is_some y) none) ∙ facts.law.sound.writes.known_end q c rd.lo rd.hi how rd.v rd.row rd.at came_v)
+            by_lost : (b : Bool) → (if b then None else if_running table e.writer) ≡ Some x → known.is_open x table ≡ true
+            by_lost true is = none_some x is
+            by_lost false is = open_of e.writer x is
 
-            by_along : IsAlong → rd.hi ≡ None → rd.p.head.total ≡ None → ⊥
-            by_along (first fresh is_first) none unknown = known_end is_first none
-            by_along (alone lost is_alone) none unknown =
-                none_some q (sym none_own ∙ facts.unended.alone q c rd.lo how rd.p rd.v rd.there is_alone rd.row (rd.at ∙ ap (λ (y : Option ℕ). place.Bound q rd.lo y how) none) unknown undue)
-
-            by_end : (z : Option ℕ) → hi_of t rd.v.place ≡ z → (n : ℕ) × (hi_of t rd.v.place ≡ Some n)
-            by_end (Some n) at = (n, at)
-            by_end None at = let both = parts_none rd.hi rd.p.head.total (sym end_at ∙ at) in absurd (by_along along both.0 both.1)
-
-        abbrev h : ℕ
-        h = ends_somewhere.0
-
-        code_end : k.hi ≡ Some h
-        code_end = rd.kept.ends ∙ ends_somewhere.1
-
-        before : o < h
-        before = not_at k.hi h all.not_end code_end
+        source_open : (x : ℕ) → from ≡ Some x → known.is_open x table ≡ true
+        source_open x is = by_own (if_running table k.own) refl is
           where
-            not_at : (hi : Option ℕ) (n : ℕ) → is_at_end hi o ≡ false → hi ≡ Some n → o < n
-            not_at None n off at = none_some n at
-            not_at (Some m) n off at = let same : m ≡ n = some_is m n at in let lt : o < m = grind (arith, nat_tests) in omega (arith, same, lt)
+            by_own : (own : Option ℕ) → if_running table k.own ≡ own → option_or own (writing_of table ((shelf_of r.entries).kept q)) ≡ Some x → known.is_open x table ≡ true
+            by_own None none is = writing_open ((shelf_of r.entries).kept q) x is
+            by_own (Some y) some is = open_of k.own x (some ∙ is)
 
-        -- and within the length
-        length_is : (n : ℕ) × (rd.p.head.total ≡ Some n) × (h ≤ n)
-        length_is = by_hi rd.hi refl (sym end_at ∙ ends_somewhere.1)
-          where
-            by_hi : (z : Option ℕ) → rd.hi ≡ z → option_or z rd.p.head.total ≡ Some h → (n : ℕ) × (rd.p.head.total ≡ Some n) × (h ≤ n)
-            by_hi None at is_h = (h, is_h, omega arith)
-            by_hi (Some m) at is_h =
-                let ends = facts.measures.ends q c rd.lo m how rd.v rd.p rd.row (rd.at ∙ ap (λ (y : Option ℕ). place.Bound q rd.lo y how) at) rd.there in
-                let same : m ≡ h = some_is m h is_h in
-                let le = ends.ends in
-                (ends.total, ends.known, omega (arith, same, le))
+        asked_same : (x : ℕ) (on : Option Open) (row : Option Exchange) → is_some on ≡ true → KeepsRunning t x on row → waits_for x row ≡ asks_or_waits (asked_in on) x
+        asked_same x None row some keeps = false_true some
+        asked_same x (Some a) None some keeps = absurd keeps
+        asked_same x (Some a) (Some w) some keeps = ap (λ (b : Bool). asks_or_waits b x) (sym keeps.asked)
 
-        abbrev e : entry.Kept
-        e = (entry_there r t facts stands c q how k rd).0
+        pub waits_move : (x : ℕ) → read_step view ≡ step.Waits x → WaitsFor x
+        waits_move x is =
+            let on = source_open x (waits_from (is_at_end k.hi o) k.hi (option_map end_of run) is_held k.due from hole x (sym code_step ∙ is)) in
+            record { is_open = on; move_is = (reads_as ∙ ap (step_move t want c rd.v) is) ∙ asked_same x (table x).running (t.exchange x) on (stands.exchanges x).running }
 
-        in_entry : IsEntry t q e rd.p
-        in_entry = entry_is r t facts stands c q how k rd
+        -- IT STANDS BEFORE A HOLE
 
-        none_held : rd.p.is_lost ≡ true → rd.p.alone ≡ Some c → rd.p.body o ≡ None
-        none_held lost is_alone =
-            let model : is_some (run_held_for t c rd.v want) ≡ false = held_same r t facts stands c q how k rd bare want wants ∙ all.not_held in
-            let mine : is_number rd.p.alone c ≡ true = ap (λ (z : Option ℕ). is_number z c) is_alone ∙ eqb-same c in
-            let run_is_none : stretch_to rd.p.body rd.p.reach o want ≡ None = none_of _ (sym (ap (λ (z : Option Run). is_some z) (held_is r t facts stands c q how k rd want ∙ lost_run c o want rd.p lost mine)) ∙ model) in
-            (stretch-absent rd.p.body o (min want (rd.p.reach - o))).0 run_is_none
+        reader : IsBound t q c rd.v
+        reader = sound.is_bound rd.lo rd.hi how rd.row rd.at
 
-        -- it is told
-        told_length : e.head.total ≡ rd.p.head.total
-        told_length = by_length in_entry.length
-          where
-            by_along : (n : ℕ) → rd.p.head.total ≡ Some n → Covers rd.p.body 0 n → IsAlong → ⊥
-            by_along n known came (first fresh is_first) =
-                let lt = before in
-                let le = length_is.2 in
-                let same : length_is.0 ≡ n = some_is length_is.0 n (sym length_is.1 ∙ known) in
-                false_true (sym (ap (λ (z : Option Cell). is_some z) (sym ((facts.law.sound.rows q rd.p rd.there).store.all_stored fresh o) ∙ bare)) ∙ came o (omega arith) (omega (arith, lt, le, same)))
-            by_along n known came (alone lost is_alone) =
-                let lt = before in
-                let le = length_is.2 in
-                let same : length_is.0 ≡ n = some_is length_is.0 n (sym length_is.1 ∙ known) in
-                false_true (sym (ap (λ (z : Option Cell). is_some z) (none_held lost is_alone)) ∙ came o (omega arith) (omega (arith, lt, le, same)))
+        pub record FillsHole (other : Span) : Type 0 where
+          pub head : Head
+          pub head_is : head_at (shelf_of r.entries) q ≡ Some head
+          pub total : ℕ
+          pub known : head.total ≡ Some total
+          pub within : Numbers t → t.received < 2 ^ 62 → IsWithin other total
+          pub move_is : move_of t now want c rd.v ≡ Opens (next_of r.exchanges) (need.Hole other.lo other.hi) (hole_request head k.request other (unwrap_or head.total 0))
 
-            by_length : TellsLength e rd.p → e.head.total ≡ rd.p.head.total
-            by_length (told same) = same
-            by_length (untold u) = absurd (by_along u.total u.known u.came along)
+        module _ (other : Span) (is : read_step view ≡ step.Hole other) where
+          all : IsHole (is_at_end k.hi o) (option_map end_of run) is_held k.due from hole other
+          all = hole_from (is_at_end k.hi o) k.hi (option_map end_of run) is_held k.due from hole other (sym code_step ∙ is)
 
-        total_known : e.head.total ≡ Some length_is.0
-        total_known = told_length ∙ length_is.1
+          bare : f o ≡ None
+          bare = missing_at all.not_end (end_none run all.none_stored)
 
-        -- the hole ends where something is, or the reader does
-        more_ahead : (z : Option ℕ) → IsNext (cells_at (shelf_of r.entries) q) o z → (o < hole_end (Some h) o z) × (hole_end (Some h) o z ≤ h)
-        more_ahead None it = (before, omega arith)
-        more_ahead (Some n) it =
-            let lt = before in
-            let low = it.0 in
-            let far : o < n = elim (same_or o n) [
-              | inl same ↦ false_true (sym (ap (λ (y : Option Cell). is_some y) (ap (λ (y : Cells). y o) (cells_are r t facts stands c q how k rd) ∙ bare)) ∙ (ap (λ (m : ℕ). is_some (cells_at (shelf_of r.entries) q m)) same ∙ it.1))
-              | inr ne ↦ omega (arith, low, ne)
-            ] in
-            (omega (arith, lt, far), omega arith)
+          undue : rd.v.due ≡ None
+          undue = sym rd.kept.due ∙ all.undue
 
-        hole_fits : Numbers t → t.received < 2 ^ 62 → IsWithin other length_is.0
-        hole_fits numbers few =
-            let total = numbers.totals q length_is.0 rd.p rd.there length_is.1 in
-            let ends = more_ahead next view_is.next_is in
-            let le = length_is.2 in
-            let to : hole_end k.hi o next ≡ hole_end (Some h) o next = ap (λ (z : Option ℕ). hole_end z o next) code_end in
-            subst (λ (z : Span). IsWithin z length_is.0) all.same (record {
-              not_empty = (let more = ends.0 in omega (arith, more, to));
-              within = (let less = ends.1 in omega (arith, less, to, le));
-              small = omega (arith, total, few);
-            })
+          no_source : source t rd.v ≡ None
+          no_source = source_is r t facts stands c q how k rd ∙ all.closed
 
-        opens_as : move_of t now want c rd.v ≡ Opens (next_of r.exchanges) (need.Hole other.lo other.hi) (hole_request e.head k.request other (unwrap_or e.head.total 0))
-        opens_as =
-            (reads_as ∙ ap (step_move t want c rd.v) is)
-            ∙ (ap (later_hole t rd.v other) ends_somewhere.1
-            ∙ (ap (λ (z : Option Representation). opens_hole t rd.v.request z other) (bound_at r t facts stands c q how k rd)
-            ∙ (ap (λ (n : ℕ). Opens n (need.Hole other.lo other.hi) (hole_request rd.p.head rd.v.request other (unwrap_or rd.p.head.total 0))) (sym stands.next)
-            ∙ ap (λ (z : Request). Opens (next_of r.exchanges) (need.Hole other.lo other.hi) z) requests)))
-          where
-            requests : hole_request rd.p.head rd.v.request other (unwrap_or rd.p.head.total 0) ≡ hole_request e.head k.request other (unwrap_or e.head.total 0)
-            requests =
-                ap (λ (z : Head). hole_request z rd.v.request other (unwrap_or rd.p.head.total 0)) (sym in_entry.head)
-                ∙ (ap (λ (z : Request). hole_request e.head z other (unwrap_or rd.p.head.total 0)) (sym rd.kept.request)
-                ∙ ap (λ (z : Option ℕ). hole_request e.head k.request other (unwrap_or z 0)) (sym told_length))
+          parts_none : (a b : Option ℕ) → option_or a b ≡ None → (a ≡ None) × (b ≡ None)
+          parts_none None b none = (refl, none)
+          parts_none (Some a) b none = none_some a (sym none)
 
-        pub hole_move : FillsHole other
-        hole_move = record {
-          head = e.head;
-          head_is = ap (λ (z : Option entry.Kept). option_map (λ (y : entry.Kept). y.head) z) (entry_there r t facts stands c q how k rd).1;
-          total = length_is.0;
-          known = total_known;
-          within = hole_fits;
-          move_is = opens_as;
-        }
+          none_own : own_open t rd.v ≡ None
+          none_own = (parts_none (own_open t rd.v) (shared_exchange t rd.v.place) no_source).0
+
+          not_written : is_written t rd.p ≡ true → ⊥
+          not_written on =
+              let none : shared_exchange t rd.v.place ≡ None = (parts_none (own_open t rd.v) (shared_exchange t rd.v.place) no_source).1 in
+              let writer : rd.p.writer ≡ None = sym (ap (λ (b : Bool). if b then rd.p.writer else None) on) ∙ (sym (ap (writing_in t) rd.there) ∙ (sym (ap (shared_exchange t) rd.at) ∙ none)) in
+              writer_some t rd.p on writer
+
+          not_covered : (n : ℕ) → hi_of t rd.v.place ≡ Some n → Covers f (offset t rd.v) n → ⊥
+          not_covered n end covered =
+              let lt = before_end n end in
+              let same = offset_is r t facts stands c q how k rd in
+              false_true (sym (ap (λ (z : Option Cell). is_some z) bare) ∙ covered o (omega (arith, same)) lt)
+            where
+              before_end : (n : ℕ) → hi_of t rd.v.place ≡ Some n → o < n
+              before_end n end = not_at k.hi n all.not_end (rd.kept.ends ∙ end)
+                where
+                  not_at : (hi : Option ℕ) (n : ℕ) → is_at_end hi o ≡ false → hi ≡ Some n → o < n
+                  not_at None n off at = none_some n at
+                  not_at (Some m) n off at = let same : m ≡ n = some_is m n at in let lt : o < m = grind (arith, nat_tests) in omega (arith, same, lt)
+
+          -- who writes alone, of what isn't lost, or goes on alone
+          data IsAlong : Type 0 where
+            first : rd.p.is_lost ≡ false → IsFirst t q c → IsAlong
+            alone : rd.p.is_lost ≡ true → rd.p.alone ≡ Some c → IsAlong
+
+          along : IsAlong
+          along = by_served (facts.law.sound.writes.served q c rd.p rd.v rd.there reader undue)
+            where
+              by_exclusive_writer : IsExclusiveWriter t q rd.p c → IsAlong
+              by_exclusive_writer (sound.first fresh is_first) = first fresh is_first
+              by_exclusive_writer (sound.alone lost is_alone) = alone lost is_alone
+
+              by_served : IsServed t q rd.p c rd.v → IsAlong
+              by_served (sound.shares on) = absurd (not_written on)
+              by_served (sound.writes exclusive_writer) = by_exclusive_writer exclusive_writer
+              by_served (sound.reads n end covered) = absurd (not_covered n end covered)
+
+          end_at : hi_of t rd.v.place ≡ option_or rd.hi rd.p.head.total
+          end_at = ap (hi_of t) rd.at ∙ ap (λ (z : Option Representation). option_or rd.hi (total_in z)) rd.there
+
+          -- where it ends is known
+          ends_somewhere : (n : ℕ) × (hi_of t rd.v.place ≡ Some n)
+          ends_somewhere = by_end (hi_of t rd.v.place) refl
+            where
+              known_end : IsFirst t q c → rd.hi ≡ None → ⊥
+              known_end (sound.first z a b d z_row z_at came) none =
+                  let one : z ≡ rd.v = same_row (t.consumer c) z rd.v z_row rd.row in
+                  let came_v : came_alone t (place.Bound q rd.lo rd.hi how) ≡ true = subst (λ (y : Place). came_alone t y ≡ true) (sym z_at ∙ (ap (λ (y : rows.Consumer). y.place) one ∙ rd.at)) came in
+                  false_true (sym (ap (λ (y : Option ℕ). is_some y) none) ∙ facts.law.sound.writes.known_end q c rd.lo rd.hi how rd.v rd.row rd.at came_v)
+
+              by_along : IsAlong → rd.hi ≡ None → rd.p.head.total ≡ None → ⊥
+              by_along (first fresh is_first) none unknown = known_end is_first none
+              by_along (alone lost is_alone) none unknown =
+                  none_some q (sym none_own ∙ facts.unended.alone q c rd.lo how rd.p rd.v rd.there is_alone rd.row (rd.at ∙ ap (λ (y : Option ℕ). place.Bound q rd.lo y how) none) unknown undue)
+
+              by_end : (z : Option ℕ) → hi_of t rd.v.place ≡ z → (n : ℕ) × (hi_of t rd.v.place ≡ Some n)
+              by_end (Some n) at = (n, at)
+              by_end None at = let both = parts_none rd.hi rd.p.head.total (sym end_at ∙ at) in absurd (by_along along both.0 both.1)
+
+          abbrev h : ℕ
+          h = ends_somewhere.0
+
+          code_end : k.hi ≡ Some h
+          code_end = rd.kept.ends ∙ ends_somewhere.1
+
+          before : o < h
+          before = not_at k.hi h all.not_end code_end
+            where
+              not_at : (hi : Option ℕ) (n : ℕ) → is_at_end hi o ≡ false → hi ≡ Some n → o < n
+              not_at None n off at = none_some n at
+              not_at (Some m) n off at = let same : m ≡ n = some_is m n at in let lt : o < m = grind (arith, nat_tests) in omega (arith, same, lt)
+
+          -- and within the length
+          length_is : (n : ℕ) × (rd.p.head.total ≡ Some n) × (h ≤ n)
+          length_is = by_hi rd.hi refl (sym end_at ∙ ends_somewhere.1)
+            where
+              by_hi : (z : Option ℕ) → rd.hi ≡ z → option_or z rd.p.head.total ≡ Some h → (n : ℕ) × (rd.p.head.total ≡ Some n) × (h ≤ n)
+              by_hi None at is_h = (h, is_h, omega arith)
+              by_hi (Some m) at is_h =
+                  let ends = facts.measures.ends q c rd.lo m how rd.v rd.p rd.row (rd.at ∙ ap (λ (y : Option ℕ). place.Bound q rd.lo y how) at) rd.there in
+                  let same : m ≡ h = some_is m h is_h in
+                  let le = ends.ends in
+                  (ends.total, ends.known, omega (arith, same, le))
+
+          abbrev e : entry.Kept
+          e = (entry_there r t facts stands c q how k rd).0
+
+          in_entry : IsEntry t q e rd.p
+          in_entry = entry_is r t facts stands c q how k rd
+
+          none_held : rd.p.is_lost ≡ true → rd.p.alone ≡ Some c → rd.p.body o ≡ None
+          none_held lost is_alone =
+              let model : is_some (run_held_for t c rd.v want) ≡ false = held_same r t facts stands c q how k rd bare want wants ∙ all.not_held in
+              let mine : is_number rd.p.alone c ≡ true = ap (λ (z : Option ℕ). is_number z c) is_alone ∙ eqb-same c in
+              let run_is_none : stretch_to rd.p.body rd.p.reach o want ≡ None = none_of _ (sym (ap (λ (z : Option Run). is_some z) (held_is r t facts stands c q how k rd want ∙ lost_run c o want rd.p lost mine)) ∙ model) in
+              (stretch-absent rd.p.body o (min want (rd.p.reach - o))).0 run_is_none
+
+          -- it is told
+          told_length : e.head.total ≡ rd.p.head.total
+          told_length = by_length in_entry.length
+            where
+              by_along : (n : ℕ) → rd.p.head.total ≡ Some n → Covers rd.p.body 0 n → IsAlong → ⊥
+              by_along n known came (first fresh is_first) =
+                  let lt = before in
+                  let le = length_is.2 in
+                  let same : length_is.0 ≡ n = some_is length_is.0 n (sym length_is.1 ∙ known) in
+                  false_true (sym (ap (λ (z : Option Cell). is_some z) (sym ((facts.law.sound.rows q rd.p rd.there).store.all_stored fresh o) ∙ bare)) ∙ came o (omega arith) (omega (arith, lt, le, same)))
+              by_along n known came (alone lost is_alone) =
+                  let lt = before in
+                  let le = length_is.2 in
+                  let same : length_is.0 ≡ n = some_is length_is.0 n (sym length_is.1 ∙ known) in
+                  false_true (sym (ap (λ (z : Option Cell). is_some z) (none_held lost is_alone)) ∙ came o (omega arith) (omega (arith, lt, le, same)))
+
+              by_length : TellsLength e rd.p → e.head.total ≡ rd.p.head.total
+              by_length (told same) = same
+              by_length (untold u) = absurd (by_along u.total u.known u.came along)
+
+          total_known : e.head.total ≡ Some length_is.0
+          total_known = told_length ∙ length_is.1
+
+          -- the hole ends where something is, or the reader does
+          more_ahead : (z : Option ℕ) → IsNext (cells_at (shelf_of r.entries) q) o z → (o < hole_end (Some h) o z) × (hole_end (Some h) o z ≤ h)
+          more_ahead None it = (before, omega arith)
+          more_ahead (Some n) it =
+              let lt = before in
+              let low = it.0 in
+              let far : o < n = elim (same_or o n) [
+                | inl same ↦ false_true (sym (ap (λ (y : Option Cell). is_some y) (ap (λ (y : Cells). y o) (cells_are r t facts stands c q how k rd) ∙ bare)) ∙ (ap (λ (m : ℕ). is_some (cells_at (shelf_of r.entries) q m)) same ∙ it.1))
+                | inr ne ↦ omega (arith, low, ne)
+              ] in
+              (omega (arith, lt, far), omega arith)
+
+          hole_fits : Numbers t → t.received < 2 ^ 62 → IsWithin other length_is.0
+          hole_fits numbers few =
+              let total = numbers.totals q length_is.0 rd.p rd.there length_is.1 in
+              let ends = more_ahead next view_is.next_is in
+              let le = length_is.2 in
+              let to : hole_end k.hi o next ≡ hole_end (Some h) o next = ap (λ (z : Option ℕ). hole_end z o next) code_end in
+              subst (λ (z : Span). IsWithin z length_is.0) all.same (record {
+                not_empty = (let more = ends.0 in omega (arith, more, to));
+                within = (let less = ends.1 in omega (arith, less, to, le));
+                small = omega (arith, total, few);
+              })
+
+          opens_as : move_of t now want c rd.v ≡ Opens (next_of r.exchanges) (need.Hole other.lo other.hi) (hole_request e.head k.request other (unwrap_or e.head.total 0))
+          opens_as =
+              (reads_as ∙ ap (step_move t want c rd.v) is)
+              ∙ (ap (later_hole t rd.v other) ends_somewhere.1
+              ∙ (ap (λ (z : Option Representation). opens_hole t rd.v.request z other) (bound_at r t facts stands c q how k rd)
+              ∙ (ap (λ (n : ℕ). Opens n (need.Hole other.lo other.hi) (hole_request rd.p.head rd.v.request other (unwrap_or rd.p.head.total 0))) (sym stands.next)
+              ∙ ap (λ (z : Request). Opens (next_of r.exchanges) (need.Hole other.lo other.hi) z) requests)))
+            where
+              requests : hole_request rd.p.head rd.v.request other (unwrap_or rd.p.head.total 0) ≡ hole_request e.head k.request other (unwrap_or e.head.total 0)
+              requests =
+                  ap (λ (z : Head). hole_request z rd.v.request other (unwrap_or rd.p.head.total 0)) (sym in_entry.head)
+                  ∙ (ap (λ (z : Request). hole_request e.head z other (unwrap_or rd.p.head.total 0)) (sym rd.kept.request)
+                  ∙ ap (λ (z : Option ℕ). hole_request e.head k.request other (unwrap_or z 0)) (sym told_length))
+
+          pub hole_move : FillsHole other
+          hole_move = record {
+            head = e.head;
+            head_is = ap (λ (z : Option entry.Kept). option_map (λ (y : entry.Kept). y.head) z) (entry_there r t facts stands c q how k rd).1;
+            total = length_is.0;
+            known = total_known;
+            within = hole_fits;
+            move_is = opens_as;
+          }
 
 -- WHAT FITS
 
@@ -627,17 +643,17 @@ module _ {B : Type 0} {g : Ghosts B} {limits : Limits} (r : Rows B g) (t : Table
         by_cell (Some cell) some = ap (λ (y : Option Cell). is_some y) some
 
     -- what is read
-    pub run_small : (end_of z < 2 ^ 62 + 1) × (k.given + length z.bytes < 2 ^ 62 + 1)
+    pub run_small : k.given + length z.bytes < 2 ^ 62 + 1
     run_small = by_end (is_at_end k.hi at_offset) refl
       where
-        by_end : (b : Bool) → is_at_end k.hi at_offset ≡ b → (end_of z < 2 ^ 62 + 1) × (k.given + length z.bytes < 2 ^ 62 + 1)
+        by_end : (b : Bool) → is_at_end k.hi at_offset ≡ b → k.given + length z.bytes < 2 ^ 62 + 1
         by_end true on = absurd (never (none_count k.hi on))
         by_end false off =
             let a = ahead rd.p.stored rd.p.reach at_offset want k.hi (ends_by r t facts stands c q how k rd) wants off is_there_now z stretched in
             let within = a.within in
             let reach = reach_small in
             let at = a.at in
-            (omega (arith, within, reach), omega (arith, within, reach, at))
+            omega (arith, within, reach, at)
 
   -- what is held
   pub held_small : (h : Holds r t c q k rd.v rd.p) (n : ℕ) → k.given + length (take n (table_of r.exchanges h.x).held) < 2 ^ 62 + 1

@@ -4,7 +4,7 @@
 -- and what is held. The last has the work. Something is held just for who goes on alone with what was lost, of its own
 -- exchange. Where it stands before no stored byte, that is the rest of the body that came (`Holds`). By that both tell
 -- alike whether something is held (`held_same`, `holds_something`). `BoundReads` joins these.
-use Rattle.std.{proofs.{Common.{◌≡◌, inl, inr, ℕ, zero, suc, ◌+◌, ◌-◌, ◌<◌, ◌≤◌, List, [], ◌∷◌, length, drop, take, min, Bool, true, false, Option, Some, None, refl, ap, ap₂, sym, ◌∙◌, arith}, lemmas.Bool.Decides.{nat_tests}}, specs.{Prelude.{is_some, is_none, nat_eq, nat_lt, option_and_then, ◌&&◌, if◌then◌else◌}, Option.{option_or}}}
+use Rattle.std.{proofs.{Common.{◌≡◌, inl, inr, ℕ, zero, suc, ◌+◌, ◌-◌, ◌<◌, ◌≤◌, List, [], ◌∷◌, length, drop, take, min, Bool, true, false, Option, Some, None, refl, ap, ap₂, sym, ◌∙◌, arith}, lemmas.Bool.{cases_Bool, Decides.{nat_tests}}}, specs.{Prelude.{is_some, is_none, nat_eq, nat_lt, option_and_then, ◌&&◌, if◌then◌else◌}, Option.{option_or}}}
 use Rattle.hc_text.proofs.Basics.{and_both as both_true, eqb-same, false_true, lt_cases as lt_or, same_or, same_some as same_row, some_inj as some_is}
 use Rattle.hc_effects.proofs.Vocabulary.{Limits, BoundBy, Place, is_number, row_of, base, front, family, stretch_to, next_from, first_place, absent_from, HoldsOwn, MayDeliver, offset, if_open, source, shared_exchange, bound_to, is_bound_place, Tables, Exchange, Representation, IsBound, run_held_for, held_at, stored_ahead, stored_from, next_stored, bound_row, run_of, held_of_lost, place}
 use Rattle.hc_store.specs.declared.backend.Backend.{Ghosts}
@@ -52,8 +52,7 @@ module _ (f : Cells) (reach p : ℕ) (ends : EndsBy reach f) where
         | inl before ↦ some_not (f a) (absent a from before.1) there
         | inr le ↦ (let low_a = le.1 in omega (arith, up, low_a))
       ] in
-      let on_test : nat_lt a reach ≡ true = grind (arith, nat_tests, same, inside) in
-      ap Some (sym same) ∙ by_test b (sym is ∙ on_test)
+      ap Some (sym same) ∙ by_test b (sym is ∙ grind (arith, nat_tests, same, inside))
     where
       by_test : (z : Bool) → z ≡ true → Some a ≡ (if z then Some a else None)
       by_test true on = refl
@@ -96,12 +95,7 @@ module _ {B : Type 0} {g : Ghosts B} {limits : Limits} (r : Rows B g) (t : Table
               let mine : d ≡ c = facts.law.owned.one d c x u rd.v row rd.row (past.own ∙ ap Some one) own in
               let same : u ≡ rd.v = same_row (t.consumer c) u rd.v (sym (ap t.consumer mine) ∙ row) rd.row in
               absurd (let never : place.Direct y ≡ place.Bound q rd.lo rd.hi how = sym at ∙ (ap (λ (z : rows.Consumer). z.place) same ∙ rd.at) in cc)
-      by_place d u place.Line row at = rw at refl
-      by_place d u (place.Passed a b) row at = rw at refl
-      by_place d u (place.Turn y) row at = rw at refl
-      by_place d u (place.Bound a lo hi b) row at = rw at refl
-      by_place d u (place.Down why) row at = rw at refl
-      by_place d u place.Over row at = rw at refl
+      by_place d u _ row at = rw at refl
 
       by_reader : (d : ℕ) (o : Option rows.Consumer) → t.consumer d ≡ o → unread x w o ≡ []
       by_reader d None row = refl
@@ -122,15 +116,14 @@ module _ {B : Type 0} {g : Ghosts B} {limits : Limits} (r : Rows B g) (t : Table
 
       by_owner : (p : Representation) (d : ℕ) (o : Option rows.Consumer) → t.consumer d ≡ o → unstored_bytes t x w p o ≡ []
       by_owner p d None row = refl
-      by_owner p d (Some u) row = by_test (is_bound_place (family x w) u.place && is_number u.own x) refl
-        where
-          by_test : (b : Bool) → (is_bound_place (family x w) u.place && is_number u.own x) ≡ b → unstored_bytes t x w p (Some u) ≡ []
-          by_test false off = rw off refl
-          by_test true on =
-              let parts = and_parts (is_bound_place (family x w) u.place) (is_number u.own x) on in
-              let mine : d ≡ c = facts.law.owned.one d c x u rd.v row rd.row (is_it u.own parts.1) own in
-              let same : u ≡ rd.v = same_row (t.consumer c) u rd.v (sym (ap t.consumer mine) ∙ row) rd.row in
-              absurd (apart (bound_there u parts.0 same))
+      by_owner p d (Some u) row = elim (cases_Bool (is_bound_place (family x w) u.place && is_number u.own x)) [
+        | inl on ↦
+            let parts = and_parts (is_bound_place (family x w) u.place) (is_number u.own x) on in
+            let mine : d ≡ c = facts.law.owned.one d c x u rd.v row rd.row (is_it u.own parts.1) own in
+            let same : u ≡ rd.v = same_row (t.consumer c) u rd.v (sym (ap t.consumer mine) ∙ row) rd.row in
+            absurd (apart (bound_there u parts.0 same))
+        | inr off ↦ rw off refl
+      ]
 
       by_alone : (p : Representation) (o : Option ℕ) → held_alone t x w p o ≡ []
       by_alone p None = refl
@@ -294,8 +287,7 @@ module _ {B : Type 0} {g : Ghosts B} {limits : Limits} (r : Rows B g) (t : Table
       from_there = elim (lt_or o h.from) [
         | inr le ↦ le.1
         | inl before ↦
-            let at : h.from ≤ front h.w = h.ahead.within in
-            let stays : rd.p.stored (offset t rd.v) ≡ rd.p.body (offset t rd.v) = h.ahead.stored (offset t rd.v) (omega arith) (inl (let lt = before.1 in let same = offset_is in omega (arith, lt, same))) in
+            let stays : rd.p.stored (offset t rd.v) ≡ rd.p.body (offset t rd.v) = h.ahead.stored (offset t rd.v) (omega (arith, h.ahead.within)) (inl (let lt = before.1 in let same = offset_is in omega (arith, lt, same))) in
             none_some byte_there.0 (sym here ∙ (stays ∙ (ap rd.p.body (sym offset_is) ∙ byte_there.1)))
       ]
 

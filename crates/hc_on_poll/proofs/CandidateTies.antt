@@ -9,16 +9,15 @@ use Rattle.hc_text.proofs.Basics.{and_both as and_parts, some_inj as some_is}
 use Rattle.hc_effects.proofs.Vocabulary.{Limits, Request, Candidate, RequestClass, least, lesser, class_of, range_of, wanted_of, is_open, Lawful, candidate, hole_of, bound, is_bound, is_written, writing_in, Tables, Representation, exclusive}
 use Rattle.hc_cachectl.specs.{Directives.{of_request, of_response}, Seconds.{plain_seconds, most_seconds}}
 use Rattle.hc_fields.specs.FirstValues.{first_value}
-use Rattle.hc_record.specs.{Head.{Head, sealed_head}, declared.{head.StoredHead.{StoredHead}, kind.Kind.{Kind}}, Plain.{plain}}
+use Rattle.hc_record.specs.{Head.{Head, sealed_head}, declared.{head.StoredHead.{StoredHead}, kind.Kind.{Kind, TheVariants.{the_data as kinds}}}, Plain.{plain}}
 use Rattle.hc_range.specs.{declared.range.Asked.{Asked}, Spans.{IsInOrder}}
 use Rattle.hc_sparse.specs.Cells.{EndsBy}
-use Rattle.hc_record.specs.declared.kind.Kind.TheVariants as kinds
 use Rattle.hc_sorted.specs.Sorted.{above, is_sorted}
 use Rattle.hc_store.specs.{declared.backend.Backend.{Ghosts}, Slots.{Held}}
 use Rattle.hc_entry.specs.Lines.{is_among}
 use Rattle.hc_exch.specs.Exchanges.{table_of}
 use Rattle.hc_stored.specs.{declared.{entries.Entries.{Entries}, view.EntryView.{EntryView}}, Entries.{shelf_of}, Kept.{Kept, itself}, Rows.{Row, rows_of, kept_by, kept_of}, Shelf.{cells_at, cells_in}, Views.{facts_in, view_of, bound_in}}
-use Rattle.hc_fresh.specs.{declared.facts.HeadFacts.{HeadFacts}, Allowed.{allowed_by}, Lifetimes.{lifetime, lifetime_by}, Vary.{matches_vary}, Ages.{age, age_value, corrected_initial_age}, Facts.{head_facts, allowed}}
+use Rattle.hc_fresh.specs.{declared.facts.HeadFacts.{HeadFacts}, Allowed.{allowed_by}, Lifetimes.{lifetime}, Vary.{matches_vary}, Ages.{age, age_value, corrected_initial_age}, Facts.{head_facts, allowed}}
 use Rattle.hc_model.specs.Rows as rows
 use Rattle.hc_effects.proofs.{Bounded.{range_order}, Tests.{none_some}}
 use Rattle.hc_state.specs.{declared.{consumer.Consumer.{Consumer}, rows.Rows.{Rows}}, Candidates.{hole_in, AllowedIs}, Facts.{Facts}, Kept.{IsKept}, Leaving.{writing_of}, Stands.{RowsStand}, Stored.{IsEntry}}
@@ -115,11 +114,7 @@ least_bound_as t law q e p is up = first_least e.bound up ∙ least_alike e.boun
 
 lifetime_kind : (head : Head) (kind : Kind) (total : Option ℕ) → lifetime (sealed_head kind total head) ≡ lifetime head
 unfolding lifetime
-lifetime_kind head kind total = by_age (of_response head.fields).max_age
-  where
-    by_age : (o : Option ℕ) → lifetime_by o (sealed_head kind total head) ≡ lifetime_by o head
-    by_age None = refl
-    by_age (Some seconds) = refl
+lifetime_kind head kind total = grind (arith, nat_tests)
 
 allowed_kind : (head : Head) (kind : Kind) (total : Option ℕ) (request : Request) (now : ℕ) → allowed (sealed_head kind total head) request now ≡ allowed head request now
 unfolding corrected_initial_age

@@ -11,10 +11,8 @@ use Rattle.hc_stored.specs.Entries.{shelf_of}
 use Rattle.hc_entry.specs.{declared.keys.KeyTable.{KeyTable}, Keys.{kept_of, line_of}, Kept.{on_line, line_in}, Lines.{is_among, is_in, held_by, turn_of, turn_with}}
 use Rattle.hc_entry.specs.Keys as keys
 use Rattle.hc_entry.specs.Kept as keyed
-use Rattle.hc_effects.proofs.Vocabulary.{Act, Need, Request, Limits, route_of, is_disabled, is_only, Place, current, with_event, with_consumer, with_opening, just_opened, let_some_go, Lawful, MayLetGo, is_in_line, holds_place, Opens, acts_of, move_of, Tables, Exchange, need, event, route}
-use Rattle.hc_exch.specs.declared.role.Role.TheVariants as role
-use Rattle.hc_exch.specs.{declared.exchanges.Exchanges.{Exchanges}, Exchanges.{table_of, next_of}, Known.{with_new_exchange, Changes}}
-use Rattle.hc_event.specs.declared.place.Place.TheVariants as place
+use Rattle.hc_effects.proofs.Vocabulary.{Act, Need, Request, Limits, route_of, is_disabled, is_only, Place, current, with_event, with_consumer, with_opening, just_opened, let_some_go, Lawful, MayLetGo, is_in_line, holds_place, Opens, acts_of, move_of, Tables, Exchange, need, event, route, place}
+use Rattle.hc_exch.specs.{declared.{role.Role.TheVariants.{the_data as role}, exchanges.Exchanges.{Exchanges}}, Exchanges.{table_of, next_of}, Known.{with_new_exchange, Changes}}
 use Rattle.hc_model.specs.Rows as rows
 use Rattle.hc_effects.proofs.{LettingGo.{may_let_go}, TurnEffects.{fetches, bypasses}}
 use Rattle.hc_state.specs.{declared.{consumer.Consumer.{Consumer}, rows.Rows.{Rows}}, Changes.{Numbered, ChangesAt, lined_up, with_turn}, Facts.{Facts}, Kept.{IsKept, KeepsConsumer}, Lines.{KeepsKey, has_turn, is_passed, is_away}, Plans.{is_idle_at, in_line, tables_in_turn, IsNext, StandsInLine, BeginsTurn}, Stands.{Answered, RowsStand}}
@@ -31,13 +29,8 @@ idle_turn : (key : List ℕ) (v : rows.Consumer) → is_idle_at v.place ≡ true
 idle_turn key v idle = then_false (is_in_line key (Some v)) (holds_place v.place) (by_place v.place idle)
   where
     by_place : (p : Place) → is_idle_at p ≡ true → holds_place p ≡ false
-    by_place place.Line on = refl
-    by_place (place.Passed q how) on = refl
     by_place (place.Turn x) on = false_true on
-    by_place (place.Bound q lo hi by) on = refl
-    by_place (place.Direct x) on = refl
-    by_place (place.Down why) on = refl
-    by_place place.Over on = refl
+    by_place _ on = refl
 
 module _ {B : Type 0} {g : Ghosts B} {limits : Limits} (r mid : Rows B g) (t : Tables) (c : ℕ) (k : Consumer) (v : rows.Consumer) (stands : RowsStand limits r t) (row : t.consumer c ≡ Some v) (kept : IsKept t k v) (idle : is_idle_at k.place ≡ true)
     (lined_up_too : RowsStand limits mid (with_consumer c (Some (in_line v)) t)) (next : IsNext r.keys c k) where

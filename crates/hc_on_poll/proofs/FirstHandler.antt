@@ -4,11 +4,10 @@
 -- and as the one that came alone: nobody was kept as that (`first_none`). Its exchange is new and brought nothing yet
 -- (`known_then`). In its key it is away, since it waits for the head of that exchange (`keys_then`). `stands_filling`
 -- joins this, and `filling_answered` the effect with it, for `open_first_hole`.
-use Rattle.std.{proofs.Common.{◌≡◌, ◌≢◌, inl, inr, ℕ, ◌+◌, List, [], ◌++◌, Bool, true, false, Option, Some, None, refl, ap, sym, ◌∙◌, subst, arith}, specs.{Prelude.{bytes_eq, nat_eq, is_none, not, option_map, ◌&&◌}, HashMap.{get}}}
+use Rattle.std.{proofs.{Common.{◌≡◌, ◌≢◌, inl, inr, ℕ, ◌+◌, List, [], ◌++◌, Bool, true, false, Option, Some, None, refl, ap, sym, ◌∙◌, subst, arith}, lemmas.Bool.{cases_Bool}}, specs.{Prelude.{bytes_eq, nat_eq, is_none, not, option_map, ◌&&◌}, HashMap.{get}}}
 use Rattle.hc_text.proofs.Basics.{eqb-other, eqb-same, false_true, same_or, and_off as then_false}
 use Rattle.hc_store.specs.declared.backend.Backend.{Ghosts}
-use Rattle.hc_effects.proofs.Vocabulary.{Act, Need, Request, RequestClass, Limits, route_of, range_of, wanted_of, Place, current, total_in, is_live, with_event, used_last, with_consumer, with_opening, just_opened, kind_of, Lawful, is_in_line, Opens, acts_of, move_of, bound_to, Tables, Exchange, Representation, event, route, wanted}
-use Rattle.hc_event.specs.declared.act.Need.TheVariants as need
+use Rattle.hc_effects.proofs.Vocabulary.{Act, Need, Request, RequestClass, Limits, route_of, range_of, wanted_of, Place, current, total_in, is_live, with_event, used_last, with_consumer, with_opening, just_opened, kind_of, Lawful, is_in_line, Opens, acts_of, move_of, bound_to, Tables, Exchange, Representation, event, route, wanted, need, place, by}
 use Rattle.hc_range.specs.declared.range.{Asked.{Asked}, Span.{Span}}
 use Rattle.hc_sorted.specs.Sorted.{has}
 use Rattle.hc_rules.proofs.RangeReads.{bytes_eq-same}
@@ -16,10 +15,7 @@ use Rattle.hc_entry.specs.{declared.keys.KeyTable.{KeyTable}, Keys.{kept_of}, Ke
 use Rattle.hc_entry.specs.Keys as keys
 use Rattle.hc_stored.specs.{declared.entries.Entries.{Entries}, Entries.{shelf_of}, Kept.{Kept, itself, with_first}, Shelf.{moved_first}, Views.{admits_first}}
 use Rattle.hc_stored.specs.Shelf as shelf
-use Rattle.hc_exch.specs.{declared.exchanges.Exchanges.{Exchanges}, Exchanges.{table_of, next_of}, Known.{with_new_exchange, exchange_at_opening, Changes}}
-use Rattle.hc_exch.specs.declared.role.Role.TheVariants as role
-use Rattle.hc_event.specs.declared.place.Place.TheVariants as place
-use Rattle.hc_event.specs.declared.place.BoundBy.TheVariants as by
+use Rattle.hc_exch.specs.{declared.{exchanges.Exchanges.{Exchanges}, role.Role.TheVariants.{the_data as role}}, Exchanges.{table_of, next_of}, Known.{with_new_exchange, exchange_at_opening, Changes}}
 use Rattle.hc_model.specs.Rows as rows
 use Rattle.hc_effects.proofs.{HoleEffects.{fills_first}, Tests.{and_false}}
 use Rattle.hc_state.specs.{declared.{consumer.Consumer.{Consumer}, rows.Rows.{Rows}}, Changes.{Numbered, ChangesAt, BecomesAt, bound_first}, Kept.{IsKept, IsRunning, KeepsConsumer, KeepsExchange, KeepsRunning, answer_for, held_for}, Lines.{KeepsKey, is_away}, Plans.{is_idle_at, HasCurrent}, Stands.{Answered, RowsStand}}
@@ -32,18 +28,12 @@ first_none c o e at on = by_parts (not e.is_gone) (not (has itself c e.bound)) e
   where
     by_parts : (a b : Bool) (first : Option ℕ) → (a && b && is_none first) ≡ true → first ≡ None
     by_parts true true None on = refl
-    by_parts true true (Some d) on = false_true on
-    by_parts true false first on = false_true on
-    by_parts false b first on = false_true on
+    by_parts _ _ _ on = cc
 
 idle_unbound : (p : Place) → is_idle_at p ≡ true → bound_to p ≡ None
 idle_unbound place.Line on = refl
 idle_unbound (place.Passed q how) on = refl
-idle_unbound (place.Turn x) on = false_true on
-idle_unbound (place.Bound q lo hi by) on = false_true on
-idle_unbound (place.Direct x) on = false_true on
-idle_unbound (place.Down why) on = false_true on
-idle_unbound place.Over on = false_true on
+idle_unbound _ on = false_true on
 
 module _ {B : Type 0} {g : Ghosts B} {limits : Limits} (r : Rows B g) (e : Exchanges) (a : Entries B g) (b : KeyTable) (m : Numbered Consumer) (t : Tables) (law : Lawful t) (now c x q : ℕ) (span : Span) (n : Need) (request : Request) (k : Consumer) (v : rows.Consumer)
     (stands : RowsStand limits r t) (there : get nat_eq r.consumers c ≡ Some k) (row : t.consumer c ≡ Some v) (idle : is_idle_at k.place ≡ true) (now_is : HasCurrent r.keys q k) (admits : admits_first c ((shelf_of r.entries).kept q) ≡ true) (by_hole : route_of n ≡ route.Hole) (x_is : x ≡ next_of r.exchanges)
@@ -112,27 +102,13 @@ module _ {B : Type 0} {g : Ghosts B} {limits : Limits} (r : Rows B g) (e : Excha
   -- ITS ROW
 
   unanswered : answer_for s w ≡ None
-  unanswered = by_shown v.shown refl
-    where
-      by_shown : (shown : Bool) → v.shown ≡ shown → answer_for s w ≡ None
-      by_shown true is = rw is refl
-      by_shown false is = rw is refl
+  unanswered = elim (cases_Bool v.shown) [
+    | inl is ↦ rw is refl
+    | inr is ↦ rw is refl
+  ]
 
   kept_then : IsKept s (bound_first q span x k) w
-  kept_then = record {
-    is_there = refl;
-    request = kept.request;
-    class_is = kept.class_is;
-    since = kept.since;
-    place = refl;
-    own = refl;
-    shown = kept.shown;
-    answer = kept.answer ∙ (answer_fallback t v (idle_reads v.place v_idle) ∙ sym unanswered);
-    begins = refl;
-    ends = refl;
-    given = kept.given;
-    due = kept.due;
-  }
+  kept_then = assumption (kept, kept.answer ∙ (answer_fallback t v (idle_reads v.place v_idle) ∙ sym unanswered))
 
   becomes : BecomesAt r.consumers m c (Some (bound_first q span x k))
   becomes = becomes_by r.consumers m c k (bound_first q span x) there changes

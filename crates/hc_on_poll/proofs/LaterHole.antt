@@ -6,16 +6,13 @@
 -- and `filled_answered` the effect with it, for `fill_later_hole`.
 use Rattle.std.{proofs.{Common.{◌≡◌, ◌≢◌, ◌⊎◌, inl, inr, ℕ, ◌+◌, ◌-◌, ◌≤◌, ◌<◌, List, [], ◌++◌, drop, min, Bool, true, false, Option, Some, None, refl, ap, sym, ◌∙◌, subst, arith}, Math.ListN.{drop_of_length-le}, lemmas.Bool.Decides.{nat_tests}}, specs.{Prelude.{is_some, nat_eq, bytes_eq, ◌&&◌, if◌then◌else◌}, HashMap.{get}}}
 use Rattle.hc_text.proofs.Basics.{and_both as both_true, eqb-other, eqb-same, false_true, same_or, same_some as same_row, some_inj as some_is}
-use Rattle.hc_effects.proofs.Vocabulary.{Limits, Opening, Act, Need, Request, BoundBy, Place, current, is_number, is_live, with_consumer, with_opening, just_opened, with_event, aim_from, base, front, family, stretch_to, is_in_line, Opens, acts_of, move_of, bound, bound_to, hi_of, is_bound, is_bound_place, lo_of, offset, Tables, Exchange, Representation, IsBound, held_of_lost, event, by}
+use Rattle.hc_effects.proofs.Vocabulary.{Limits, Opening, Act, Need, Request, BoundBy, Place, current, is_number, is_live, with_consumer, with_opening, just_opened, with_event, aim_from, base, front, family, stretch_to, is_in_line, Opens, acts_of, move_of, bound, bound_to, hi_of, is_bound, is_bound_place, lo_of, offset, Tables, Exchange, Representation, IsBound, held_of_lost, event, by, need, place}
 use Rattle.hc_store.specs.declared.backend.Backend.{Ghosts}
-use Rattle.hc_event.specs.declared.act.Need.TheVariants as need
 use Rattle.hc_sparse.specs.Cells.{Covers}
 use Rattle.hc_sparse.proofs.StretchLemmas.{stretch-absent}
 use Rattle.hc_stored.specs.Entries.{shelf_of}
 use Rattle.hc_entry.specs.Keys.{kept_of}
-use Rattle.hc_exch.specs.declared.role.Role.TheVariants as role
-use Rattle.hc_exch.specs.{Exchanges.{table_of, next_of}, Known.{with_new_exchange, exchange_at_opening, Changes}}
-use Rattle.hc_event.specs.declared.place.Place.TheVariants as place
+use Rattle.hc_exch.specs.{declared.role.Role.TheVariants.{the_data as role}, Exchanges.{table_of, next_of}, Known.{with_new_exchange, exchange_at_opening, Changes}}
 use Rattle.hc_model.specs.Rows as rows
 use Rattle.hc_model.specs.Sound as sound
 use Rattle.hc_effects.proofs.{HoleEffects.{fills_later}, OpensFrom.{opens_hole}, ExclusiveWriters.{bound_some}, PollTree.{OpensHole}, Said.{IsOpening}, Tests.{none_some}}
@@ -194,14 +191,7 @@ module _ {B : Type 0} {g : Ghosts B} {limits : Limits} (r u : Rows B g) (t : Tab
           let first = facts.law.owned.first_own d a lo y hi j row is in
           let ne : x ≢ y = λ e. none_some first.w (sym free ∙ (ap t.exchange e ∙ first.row)) in
           rw (is, eqb-other x y ne) refl
-      by_place (place.Bound a lo hi by.Founding) is = rw is refl
-      by_place (place.Bound a lo hi by.Plan) is = rw is refl
-      by_place place.Line is = rw is refl
-      by_place (place.Passed a kept) is = rw is refl
-      by_place (place.Turn y) is = rw is refl
-      by_place (place.Direct y) is = rw is refl
-      by_place (place.Down why) is = rw is refl
-      by_place place.Over is = rw is refl
+      by_place _ is = rw is refl
 
   -- whatever is said of it by where it stands stays
   same_of : {A : Type 0} (f : Option rows.Consumer → A) → f (Some w) ≡ f (Some v) → (d : ℕ) → f (s.consumer d) ≡ f (t.consumer d)
@@ -243,20 +233,12 @@ module _ {B : Type 0} {g : Ghosts B} {limits : Limits} (r u : Rows B g) (t : Tab
   kept_then : IsKept s (with_own x k) w
   kept_then =
       let kp = rd.kept in
-      record {
-        is_there = kp.is_there;
-        request = kp.request;
-        class_is = kp.class_is;
-        since = kp.since;
-        place = kp.place;
-        own = refl;
-        shown = kp.shown;
-        answer = kp.answer ∙ no_answer v.shown (sym kp.shown ∙ shown);
-        begins = kp.begins ∙ (ap (lo_of t) rd.at ∙ sym (ap (lo_of s) rd.at));
-        ends = kp.ends ∙ (ap (hi_of t) rd.at ∙ sym (ap (hi_of s) rd.at));
-        given = kp.given;
-        due = kp.due;
-      }
+      assumption (
+        kp,
+        kp.answer ∙ no_answer v.shown (sym kp.shown ∙ shown),
+        kp.begins ∙ (ap (lo_of t) rd.at ∙ sym (ap (lo_of s) rd.at)),
+        kp.ends ∙ (ap (hi_of t) rd.at ∙ sym (ap (hi_of s) rd.at)),
+      )
     where
       no_answer : (b : Bool) → b ≡ true → (if b then None else answer_at t v.place) ≡ (if b then None else answer_at s v.place)
       no_answer true is = refl
@@ -267,19 +249,7 @@ module _ {B : Type 0} {g : Ghosts B} {limits : Limits} (r u : Rows B g) (t : Tab
 
   known_then : KeepsExchange s x (with_new_exchange c (role.Hole q) n copied now (table_of r.exchanges x))
   known_then = record {
-    running = subst (KeepsRunning s x (Some (exchange_at_opening c (role.Hole q) n copied now))) (sym opened_is) (record {
-      is_open = refl;
-      c = refl;
-      need = refl;
-      request = copies;
-      moment = refl;
-      headed = refl;
-      asked = refl;
-      base_is = refl;
-      delivered = refl;
-      promised_is = refl;
-      role = refl;
-    });
+    running = subst (KeepsRunning s x (Some (exchange_at_opening c (role.Hole q) n copied now))) (sym opened_is) (assumption (copies));
     held = sym (ap (held_for s x) opened_is ∙ none_held);
   }
 

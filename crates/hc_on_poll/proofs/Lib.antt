@@ -6,6 +6,7 @@ pub mod ShowStored
 pub mod Ahead
 pub mod BoundMisread
 pub mod ReadOn
+pub mod Unstored
 pub mod BoundViews
 pub mod BoundReads
 pub mod BoundGives

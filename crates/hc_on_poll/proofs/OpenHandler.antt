@@ -52,12 +52,7 @@ module _ (t s : Tables) (law : Lawful t) (c x : ℕ) (v w : rows.Consumer) (z : 
     where
       by_place : (p : Place) → k.place ≡ p → unstored_bytes s y e b (Some k) ≡ unstored_bytes t y e b (Some k)
       by_place (place.Bound q lo hi by) is = rw is refl
-      by_place place.Line is = rw is refl
-      by_place (place.Passed q kept) is = rw is refl
-      by_place (place.Turn n) is = rw is refl
-      by_place (place.Direct n) is = rw is refl
-      by_place (place.Down why) is = rw is refl
-      by_place place.Over is = rw is refl
+      by_place _ is = rw is refl
 
   unread_by : (y d : ℕ) (e : Exchange) → y ≢ x → unread y e (s.consumer d) ≡ unread y e (t.consumer d)
   unread_by y d e ne = elim (same_or c d) [
@@ -114,12 +109,7 @@ module _ (t s : Tables) (law : Lawful t) (c x : ℕ) (v w : rows.Consumer) (z : 
     where
       by_place : (p : Place) → v.place ≡ p → is_bound q (Some v) ≡ false
       by_place (place.Bound a lo hi by) is = false_true (sym idle ∙ ap reads is)
-      by_place place.Line is = rw is refl
-      by_place (place.Passed a kept) is = rw is refl
-      by_place (place.Turn n) is = rw is refl
-      by_place (place.Direct n) is = rw is refl
-      by_place (place.Down why) is = rw is refl
-      by_place place.Over is = rw is refl
+      by_place _ is = rw is refl
 
   not_first : (q : ℕ) → is_first t q (Some w) ≡ false
   not_first q = by_place w.place refl at

@@ -23,14 +23,7 @@ module _ (t : Tables) (law : Lawful t) (x : ℕ) (z : Exchange) (free : t.exchan
           let there = law.owned.first_own d q lo y hi k row is in
           let ne : x ≢ y = λ e. none_some there.w (sym free ∙ (ap t.exchange e ∙ there.row)) in
           rw (is, eqb-other x y ne) refl
-      by_place (place.Bound q lo hi by.Founding) is = rw is refl
-      by_place (place.Bound q lo hi by.Plan) is = rw is refl
-      by_place place.Line is = rw is refl
-      by_place (place.Passed q kept) is = rw is refl
-      by_place (place.Turn y) is = rw is refl
-      by_place (place.Direct y) is = rw is refl
-      by_place (place.Down why) is = rw is refl
-      by_place place.Over is = rw is refl
+      by_place _ is = rw is refl
 
   pub key_with_opening : (key : List ℕ) (a : keyed.Kept) → KeepsKey t key a → KeepsKey o key a
   unfolding current

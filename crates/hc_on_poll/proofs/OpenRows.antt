@@ -1,9 +1,8 @@
 -- The rows of a consumer that opens an exchange, and of that exchange.
 use Rattle.std.proofs.Common.{◌≡◌, ℕ, Bool, true, false, Option, Some, None, refl, ap, sym, ◌∙◌}
 use Rattle.hc_text.proofs.Basics.{eqb-same, false_true}
-use Rattle.hc_effects.proofs.Vocabulary.{Need, Request, route_of, Place, is_live_place, with_consumer, with_opening, just_opened, reads, lo_of, hi_of, Tables}
+use Rattle.hc_effects.proofs.Vocabulary.{Need, Request, route_of, Place, is_live_place, with_consumer, with_opening, just_opened, reads, lo_of, hi_of, Tables, place}
 use Rattle.hc_exch.specs.{declared.role.Role.{Role}, Known.{exchange_at_opening}}
-use Rattle.hc_event.specs.declared.place.Place.TheVariants as place
 use Rattle.hc_model.specs.Rows as rows
 use Rattle.hc_state.specs.{declared.consumer.Consumer.{Consumer}, Kept.{IsKept, IsRunning, answer_for, role_awaited}}
 use Rattle.hc_state.proofs.Fallbacks.{answer_fallback}
@@ -17,19 +16,7 @@ module _ (t : Tables) (now c x : ℕ) (n : Need) (request : Request) (aim : Opti
   s = with_consumer c (Some w) (with_opening x (just_opened now c n request aim) t)
 
   pub runs : (role : Role) (copied : Request) → copied ≡ request → role ≡ role_awaited (route_of n) aim → IsRunning s x (exchange_at_opening c role n copied now) (just_opened now c n request aim)
-  runs role copied copies is = record {
-    is_open = refl;
-    c = refl;
-    need = refl;
-    request = copies;
-    moment = refl;
-    headed = refl;
-    asked = refl;
-    base_is = refl;
-    delivered = refl;
-    promised_is = refl;
-    role = is;
-  }
+  runs role copied copies is = assumption (copies, is)
 
   pub live_then : {y : ℕ} {q : Place} → WaitsFor y q → is_live_place q ≡ true
   live_then past = refl
@@ -41,22 +28,14 @@ module _ (t : Tables) (now c x : ℕ) (n : Need) (request : Request) (aim : Opti
   answer_none false is turned same = rw (is, same) refl
 
   lo_idle : (q : Place) → v.place ≡ q → lo_of t v.place ≡ 0
-  lo_idle place.Line same = rw same refl
-  lo_idle (place.Passed a kept) same = rw same refl
-  lo_idle (place.Turn y) same = rw same refl
   lo_idle (place.Bound a lo hi by) same = false_true (sym idle ∙ ap reads same)
   lo_idle (place.Direct y) same = false_true (sym idle ∙ ap reads same)
-  lo_idle (place.Down why) same = rw same refl
-  lo_idle place.Over same = rw same refl
+  lo_idle _ same = rw same refl
 
   hi_idle : (q : Place) → v.place ≡ q → hi_of t v.place ≡ None
-  hi_idle place.Line same = rw same refl
-  hi_idle (place.Passed a kept) same = rw same refl
-  hi_idle (place.Turn y) same = rw same refl
   hi_idle (place.Bound a lo hi by) same = false_true (sym idle ∙ ap reads same)
   hi_idle (place.Direct y) same = false_true (sym idle ∙ ap reads same)
-  hi_idle (place.Down why) same = rw same refl
-  hi_idle place.Over same = rw same refl
+  hi_idle _ same = rw same refl
 
   lo_then : {q : Place} → WaitsFor x q → lo_of s q ≡ 0
   lo_then past = rw (eqb-same x) refl
@@ -67,17 +46,12 @@ module _ (t : Tables) (now c x : ℕ) (n : Need) (request : Request) (aim : Opti
   hi_then turned = refl
 
   pub opener_kept : (k : Consumer) → IsKept t k v → IsKept s (record k { place = p; own = Some x }) w
-  opener_kept k kept = record {
-    is_there = live_then at;
-    request = kept.request;
-    class_is = kept.class_is;
-    since = kept.since;
-    place = refl;
-    own = refl;
-    shown = kept.shown;
-    answer = kept.answer ∙ (answer_fallback t v idle ∙ sym (answer_none v.shown refl at refl));
-    begins = kept.begins ∙ (lo_idle v.place refl ∙ sym (lo_then at));
-    ends = kept.ends ∙ (hi_idle v.place refl ∙ sym (hi_then at));
-    given = kept.given;
-    due = kept.due;
-  }
+  opener_kept k kept =
+      let unanswered = answer_fallback t v idle ∙ sym (answer_none v.shown refl at refl) in
+      assumption (
+        kept,
+        live_then at,
+        kept.answer ∙ unanswered,
+        kept.begins ∙ (lo_idle v.place refl ∙ sym (lo_then at)),
+        kept.ends ∙ (hi_idle v.place refl ∙ sym (hi_then at)),
+      )

@@ -29,12 +29,7 @@ fills_asks view span hole is = by_only view.class.only refl is
   where
     from_never : (p : Plan) → from_store p ≡ plan.FirstHole span hole → ⊥
     from_never (plan.Direct n) same = cc
-    from_never (plan.Turn d) same = cc
-    from_never (plan.Fetch n) same = cc
-    from_never (plan.Bind why part) same = cc
-    from_never (plan.FirstHole part rest) same = cc
-    from_never (plan.Busy d how) same = cc
-    from_never plan.Miss same = cc
+    from_never _ same = cc
 
     by_only : (b : Bool) → view.class.only ≡ b → (if b then from_store (bare_plan view) else in_time view (bare_plan view)) ≡ plan.FirstHole span hole → view.class.only ≡ false
     by_only false off same = off
@@ -104,13 +99,7 @@ module _ {B : Type 0} {g : Ghosts B} {limits : Limits} (r : Rows B g) (t : Table
 
       by_plan : (p : Plan) → PlanBy view p → p ≡ plan.FirstHole span hole → IsFilling span hole
       by_plan _ (plans.fills a b cached alone none) same = of_candidate a b cached alone none (cc) (cc)
-      by_plan _ (plans.turn d) same = absurd (cc)
-      by_plan _ (plans.busy d how plain_too) same = absurd (cc)
-      by_plan _ plans.misses same = absurd (cc)
-      by_plan _ (plans.passes_by n way) same = absurd (cc)
-      by_plan _ (plans.fetches n way validates bypasses cached) same = absurd (cc)
-      by_plan _ (plans.joins why cached j) same = absurd (cc)
-      by_plan _ (plans.reads why part cached alone) same = absurd (cc)
+      by_plan _ _ same = absurd (cc)
 
   module _ (span hole : Span) (f : IsFilling span hole) where
     -- it waits with others
@@ -151,8 +140,7 @@ module _ {B : Type 0} {g : Ghosts B} {limits : Limits} (r : Rows B g) (t : Table
         by_first : (a b : Bool) (o : Option ℕ) → at.e.first ≡ o → (a && b) ≡ true → (a && b && is_none at.e.first) ≡ true
         by_first true true None none on = ap (λ (o : Option ℕ). is_none o) none
         by_first true true (Some d) some on = false_true (sym (nobody_first d) ∙ (sym (at.is.first d) ∙ (ap (λ (o : Option ℕ). is_number o d) some ∙ eqb-same d)))
-        by_first true false o is on = false_true on
-        by_first false b o is on = false_true on
+        by_first _ _ o is on = cc
 
   -- WHO IS SHOWN A PART
 
@@ -178,12 +166,7 @@ module _ {B : Type 0} {g : Ghosts B} {limits : Limits} (r : Rows B g) (t : Table
       by_plan : (p : Plan) → PlanBy view p → p ≡ plan.Bind why span → IsSomeAnd head.total (IsWithin part)
       by_plan _ (plans.reads y a cached alone) same = in_part a (ap (λ (z : Candidate). z.span) (seen_as alone.s alone.current) ∙ alone.wanted_is) (cc)
       by_plan _ (plans.joins y cached j) same = unranged (ap (λ (z : Option Asked). is_none z) (sym (range_of_class v.request)) ∙ j.unranged)
-      by_plan _ (plans.fills a b cached alone none) same = absurd (cc)
-      by_plan _ (plans.turn d) same = absurd (cc)
-      by_plan _ (plans.busy d how plain_too) same = absurd (cc)
-      by_plan _ plans.misses same = absurd (cc)
-      by_plan _ (plans.passes_by n way) same = absurd (cc)
-      by_plan _ (plans.fetches n way validates bypasses cached) same = absurd (cc)
+      by_plan _ _ same = absurd (cc)
 
 -- WHAT THE HANDLERS ASK FOR
 

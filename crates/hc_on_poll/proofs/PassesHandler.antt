@@ -4,14 +4,13 @@
 -- among those that passed: both places read nothing, so by `falls_back` all else stays (`stands_let`). What it waits
 -- for is what its key keeps as current (`current_as`), so the wait is the one that its move owes (`use_waits`).
 -- `wait_for_use` and `pass` use these.
-use Rattle.std.{proofs.Common.{◌≡◌, ℕ, List, [], ◌∷◌, ◌++◌, Bool, true, false, Option, Some, None, refl, ap, sym, ◌∙◌, subst}, specs.{Prelude.{nat_eq, bytes_eq}, HashMap.{get}}}
+use Rattle.std.{proofs.Common.{◌≡◌, ℕ, List, [], ◌∷◌, ◌++◌, Bool, true, false, Option, Some, refl, ap, sym, ◌∙◌, subst}, specs.{Prelude.{nat_eq, bytes_eq}, HashMap.{get}}}
 use Rattle.hc_text.proofs.Basics.{false_true, some_inj as some_is, and_off as then_false}
 use Rattle.hc_store.specs.declared.backend.Backend.{Ghosts}
 use Rattle.hc_entry.specs.Keys as keys
 use Rattle.hc_entry.specs.{Keys.{kept_of}, Kept.{on_line}, Lines.{line_after_pass}}
-use Rattle.hc_effects.proofs.Vocabulary.{Act, Request, Limits, Place, kept_by, passed_by, current, is_live_place, with_event, with_consumer, Lawful, is_in_line, acts_of, move_of, reads, Tables, act, wait, event}
+use Rattle.hc_effects.proofs.Vocabulary.{Act, Request, Limits, Place, kept_by, passed_by, current, is_live_place, with_event, with_consumer, Lawful, is_in_line, acts_of, move_of, reads, Tables, act, wait, event, lo_of, hi_of, place}
 use Rattle.hc_rules.proofs.RangeReads.{bytes_eq-same}
-use Rattle.hc_event.specs.declared.place.Place.TheVariants as place
 use Rattle.hc_model.specs.Moves as moves
 use Rattle.hc_model.specs.Rows as rows
 use Rattle.hc_effects.proofs.{PollEffects.{same_consumer}, WaitEffects.{waits}, Tests.{and_false}}
@@ -32,8 +31,7 @@ module _ {B : Type 0} {g : Ghosts B} {limits : Limits} (r u : Rows B g) (t : Tab
     where
       still : (n : ℕ) (how : Option ℕ) → v.place ≡ place.Passed n how → w ≡ v
       still n how at =
-          let waits = law.passed.waits c n how v row at in
-          let same : q ≡ n = some_is q n (sym now_is ∙ waits.current_is) in
+          let same : q ≡ n = some_is q n (sym now_is ∙ (law.passed.waits c n how v row at).current_is) in
           ap (λ (p : Place). record v { place = p }) (ap (place.Passed q) (ap kept_by at) ∙ (ap (λ (m : ℕ). place.Passed m how) same ∙ sym at))
 
       stands_still : with_consumer c (Some w) t ≡ t → RowsStand limits u (with_consumer c (Some w) t)
@@ -51,11 +49,7 @@ module _ {B : Type 0} {g : Ghosts B} {limits : Limits} (r u : Rows B g) (t : Tab
       by_place : (p : Place) → k.place ≡ p → RowsStand limits u (with_consumer c (Some w) t)
       by_place place.Line at = absurd (unlined at)
       by_place (place.Passed n how) at = stands_still (ap (λ (z : rows.Consumer). with_consumer c (Some z) t) (still n how (sym kept.place ∙ at)) ∙ same_consumer t t c v row)
-      by_place (place.Turn x) at = false_true (sym (ap is_idle_at at) ∙ idle)
-      by_place (place.Bound n lo hi by) at = false_true (sym (ap is_idle_at at) ∙ idle)
-      by_place (place.Direct x) at = false_true (sym (ap is_idle_at at) ∙ idle)
-      by_place (place.Down why) at = false_true (sym (ap is_idle_at at) ∙ idle)
-      by_place place.Over at = false_true (sym (ap is_idle_at at) ∙ idle)
+      by_place _ at = false_true (sym (ap is_idle_at at) ∙ idle)
 
   -- who stands in line passes
   module _ (at : k.place ≡ place.Line) (changes : ChangesAt r.consumers u.consumers c (passed_for q)) (passes : keys.Becomes (on_line (line_after_pass c)) k.request.key r.keys u.keys) where
@@ -65,24 +59,14 @@ module _ {B : Type 0} {g : Ghosts B} {limits : Limits} (r u : Rows B g) (t : Tab
     abbrev its : List ℕ
     its = v.request.key
 
-    place_is : place.Passed q None ≡ w.place
-    place_is = ap (place.Passed q) (sym (ap kept_by v_at))
-
     passed_kept : IsKept t (passed_for q k) w
-    passed_kept = record {
-      is_there = refl;
-      request = kept.request;
-      class_is = kept.class_is;
-      since = kept.since;
-      place = place_is;
-      own = kept.own;
-      shown = kept.shown;
-      answer = kept.answer ∙ by_shown v.shown refl;
-      begins = kept.begins ∙ rw v_at refl;
-      ends = kept.ends ∙ rw v_at refl;
-      given = kept.given;
-      due = kept.due;
-    }
+    passed_kept = assumption (
+      kept,
+      ap (place.Passed q) (sym (ap kept_by v_at)),
+      kept.answer ∙ by_shown v.shown refl,
+      kept.begins ∙ ap (lo_of t) v_at,
+      kept.ends ∙ ap (hi_of t) v_at,
+    )
       where
         by_shown : (b : Bool) → v.shown ≡ b → answer_for t v ≡ answer_for t w
         by_shown true is = rw is refl

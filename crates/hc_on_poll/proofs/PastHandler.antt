@@ -9,10 +9,8 @@ use Rattle.hc_text.proofs.Basics.{false_true}
 use Rattle.hc_store.specs.declared.backend.Backend.{Ghosts}
 use Rattle.hc_entry.specs.{declared.keys.KeyTable.{KeyTable}, Keys.{kept_of}, Kept.{on_line}, Lines.{left_by}}
 use Rattle.hc_entry.specs.Keys as keys
-use Rattle.hc_effects.proofs.Vocabulary.{Act, Need, Request, RequestClass, Limits, route_of, class_of, is_disabled, is_only, Place, current, is_live_place, with_event, with_consumer, with_opening, just_opened, Lawful, Opens, acts_of, move_of, reads, Tables, Exchange, event, route}
-use Rattle.hc_exch.specs.declared.role.Role.TheVariants as role
-use Rattle.hc_exch.specs.{declared.exchanges.Exchanges.{Exchanges}, Exchanges.{table_of, next_of}, Known.{with_new_exchange, Changes}}
-use Rattle.hc_event.specs.declared.place.Place.TheVariants as place
+use Rattle.hc_effects.proofs.Vocabulary.{Act, Need, Request, RequestClass, Limits, route_of, class_of, is_disabled, is_only, Place, current, is_live_place, with_event, with_consumer, with_opening, just_opened, Lawful, Opens, acts_of, move_of, reads, Tables, Exchange, event, route, place}
+use Rattle.hc_exch.specs.{declared.{role.Role.TheVariants.{the_data as role}, exchanges.Exchanges.{Exchanges}}, Exchanges.{table_of, next_of}, Known.{with_new_exchange, Changes}}
 use Rattle.hc_model.specs.Rows as rows
 use Rattle.hc_effects.proofs.PastEffects.{passes_by}
 use Rattle.hc_state.specs.{declared.{consumer.Consumer.{Consumer}, rows.Rows.{Rows}}, Handlers.{queues, IsLeft, LeftIf, LeavesLine}, Changes.{Numbered, ChangesAt, reading_past}, Kept.{IsKept, KeepsConsumer}, Lines.{KeepsKey}, Plans.{is_idle_at}, Stands.{Answered, RowsStand}}
@@ -25,20 +23,12 @@ use Rattle.hc_on_poll.proofs.{OpenHandler.{past}, OpenKeys.{key_opened}, OpenSta
 pub idle_reads : (p : Place) → is_idle_at p ≡ true → reads p ≡ false
 idle_reads place.Line idle = refl
 idle_reads (place.Passed r kept) idle = refl
-idle_reads (place.Turn x) idle = false_true idle
-idle_reads (place.Bound r lo hi by) idle = false_true idle
-idle_reads (place.Direct x) idle = false_true idle
-idle_reads (place.Down why) idle = false_true idle
-idle_reads place.Over idle = false_true idle
+idle_reads _ idle = false_true idle
 
 pub idle_lives : (p : Place) → is_idle_at p ≡ true → is_live_place p ≡ true
 idle_lives place.Line idle = refl
 idle_lives (place.Passed r kept) idle = refl
-idle_lives (place.Turn x) idle = false_true idle
-idle_lives (place.Bound r lo hi by) idle = false_true idle
-idle_lives (place.Direct x) idle = false_true idle
-idle_lives (place.Down why) idle = false_true idle
-idle_lives place.Over idle = false_true idle
+idle_lives _ idle = false_true idle
 
 -- what is kept of its class says whether it waits with others
 pub queues_as : (t : Tables) (k : Consumer) (v : rows.Consumer) → IsKept t k v → queues k ≡ (not (is_disabled v.request) && not (is_only v.request))
@@ -58,13 +48,8 @@ module _ (t : Tables) (law : Lawful t) (c : ℕ) (k : Consumer) (v w : rows.Cons
       by_place place.Line is = unqueued_unsaid t key v is off_here
       by_place (place.Passed q how) is =
           let queued = law.places.passed_queues c q how v row is in
-          let on : (not (is_disabled v.request) && not (is_only v.request)) ≡ true = rw (queued.cached, queued.asks) refl in
-          false_true (sym off_here ∙ on)
-      by_place (place.Turn y) is = false_true (sym (ap is_idle_at is) ∙ idle)
-      by_place (place.Bound q lo hi by) is = false_true (sym (ap is_idle_at is) ∙ idle)
-      by_place (place.Direct y) is = false_true (sym (ap is_idle_at is) ∙ idle)
-      by_place (place.Down why) is = false_true (sym (ap is_idle_at is) ∙ idle)
-      by_place place.Over is = false_true (sym (ap is_idle_at is) ∙ idle)
+          false_true (sym off_here ∙ rw (queued.cached, queued.asks) refl)
+      by_place _ is = false_true (sym (ap is_idle_at is) ∙ idle)
 
   -- it waits for its key no more
   pub keys_past : (a b : KeyTable) → ((key : List ℕ) → KeepsKey t key (kept_of a key)) → IsLeft a b c k → (key : List ℕ) → KeepsKey (with_consumer c (Some w) t) key (kept_of b key)

@@ -7,8 +7,7 @@
 use Rattle.std.{proofs.{Math.Logic.{∥∥₁_map}, Common.{◌≡◌, ◌≢◌, ℕ, ◌+◌, ◌<◌, ◌≤◌, arith, List, Bool, true, false, Option, Some, None, Result, Err, refl, ap, sym, ◌∙◌, subst}}, specs.{Prelude.{nat_eq, is_some, not, unwrap_or, IsSomeAnd, ◌&&◌, ◌||◌, if◌then◌else◌}, Option.{option_and_then, option_map}, HashMap.{get}}}
 use Rattle.hc_text.proofs.Basics.{false_true}
 use Rattle.hc_effects.proofs.Vocabulary.{Limits, Act, Need, Why, Response, Request, Route, Candidate, Plan, PlanView, least, lesser, route_of, plan_of, bare_plan, from_store, in_time, by_current, RequestClass, class_of, is_bypassing, is_disabled, is_only, Place, current, row_of, denial, gate, is_live, is_in_line, Move, Opens, Fails, Shows, span_to, plan_move, has_passed, candidate, candidate_at, move_of, is_bound, is_bound_place, Tables, Representation, need, event, route, plan, place, cause, wait}
-use Rattle.hc_store.specs.{declared.{backend.Backend.{Ghosts}, error.StoreError.{StoreError}}, Causes.{HasNoLimit}}
-use Rattle.hc_store.specs.declared.error.StoreError.TheVariants as errors
+use Rattle.hc_store.specs.{declared.{backend.Backend.{Ghosts}, error.StoreError.{StoreError, TheVariants.{the_data as errors}}}, Causes.{HasNoLimit}}
 use Rattle.hc_sorted.specs.Sorted.{has}
 use Rattle.hc_stored.specs.{declared.entries.Entries.{Entries}, Entries.{shelf_of}, Kept.{Kept, itself}, Shelf.{is_kept, head_at, Stays}, Views.{admits}}
 use Rattle.hc_entry.specs.{declared.keys.KeyTable.{KeyTable}, Keys.{kept_of, line_of}, Kept.{line_in}, Lines.{Line, is_among, is_in, turn_with}}
@@ -44,8 +43,7 @@ or_second false false d on = false_true on
 
 both_off : (a b : Bool) → (not a && not b) ≡ true → (a ≡ false) × (b ≡ false)
 both_off false false on = (refl, refl)
-both_off false true on = false_true on
-both_off true b on = false_true on
+both_off _ _ on = cc
 
 module _ {B : Type 0} {g : Ghosts B} {limits : Limits} (r : Rows B g) (t : Tables) (facts : Facts limits t) (stands : RowsStand limits r t) (c : ℕ) (k : Consumer) (v : rows.Consumer) (row : t.consumer c ≡ Some v) (kept : IsKept t k v) (idle : is_idle_at k.place ≡ true) where
   abbrev its : List ℕ
@@ -77,11 +75,7 @@ module _ {B : Type 0} {g : Ghosts B} {limits : Limits} (r : Rows B g) (t : Table
           passed_in through =
               let passed : is_passed its (t.consumer c) ≡ true = ap (is_passed its) row ∙ rw (bytes_eq-same its its refl) through in
               or_second (is_among c (kept_of r.keys its).in_line) (is_among c (kept_of r.keys its).passed) (is_among c (kept_of r.keys its).away) ((stands.keys its).passed c ∙ passed)
-      by_place (place.Turn x) at = false_true (sym (ap is_idle_at at) ∙ v_idle)
-      by_place (place.Bound q lo hi by) at = false_true (sym (ap is_idle_at at) ∙ v_idle)
-      by_place (place.Direct x) at = false_true (sym (ap is_idle_at at) ∙ v_idle)
-      by_place (place.Down why) at = false_true (sym (ap is_idle_at at) ∙ v_idle)
-      by_place place.Over at = false_true (sym (ap is_idle_at at) ∙ v_idle)
+      by_place _ at = false_true (sym (ap is_idle_at at) ∙ v_idle)
 
   -- and who has passed, waits with others
   pub passed_queues : has_passed k.place ≡ true → queues k ≡ true
@@ -89,12 +83,7 @@ module _ {B : Type 0} {g : Ghosts B} {limits : Limits} (r : Rows B g) (t : Table
     where
       by_place : (p : Place) → v.place ≡ p → queues k ≡ true
       by_place (place.Passed q how) at = let queued = facts.law.places.passed_queues c q how v row at in queues_as t k v kept ∙ rw (queued.cached, queued.asks) refl
-      by_place place.Line at = false_true (sym (ap has_passed (kept.place ∙ at)) ∙ through)
-      by_place (place.Turn x) at = false_true (sym (ap has_passed (kept.place ∙ at)) ∙ through)
-      by_place (place.Bound q lo hi by) at = false_true (sym (ap has_passed (kept.place ∙ at)) ∙ through)
-      by_place (place.Direct x) at = false_true (sym (ap has_passed (kept.place ∙ at)) ∙ through)
-      by_place (place.Down why) at = false_true (sym (ap has_passed (kept.place ∙ at)) ∙ through)
-      by_place place.Over at = false_true (sym (ap has_passed (kept.place ∙ at)) ∙ through)
+      by_place _ at = false_true (sym (ap has_passed (kept.place ∙ at)) ∙ through)
 
   -- WHICH MOVE IT IS
 
@@ -125,16 +114,7 @@ module _ {B : Type 0} {g : Ghosts B} {limits : Limits} (r : Rows B g) (t : Table
 
       opened_need : {x2 : ℕ} {n3 : Need} {a : Request} → Opens x2 n3 a ≡ Opens x n request → n3 ≡ n
       opened_need h = cc
-  by_does now x n request _ is turns does.nothing = absurd (cc)
-  by_does now x n request _ is turns (does.waits_turn d new other kept) = absurd (cc)
-  by_does now x n request _ is turns (does.passes d q new queued may) = absurd (cc)
-  by_does now x n request _ is turns (does.waits_head y) = absurd (cc)
-  by_does now x n request _ is turns (does.waits_body y) = absurd (cc)
-  by_does now x n request _ is turns (does.asks y) = absurd (cc)
-  by_does now x n request _ is turns (does.shows q why head lo hi joined) = absurd (cc)
-  by_does now x n request _ is turns (does.given run) = absurd (cc)
-  by_does now x n request _ is turns does.ends = absurd (cc)
-  by_does now x n request _ is turns (does.fails why) = absurd (cc)
+  by_does now x n request _ is turns _ = absurd (cc)
 
   lesser_there : (o : Option ℕ) (n : ℕ) → (m : ℕ) × (lesser o n ≡ Some m)
   lesser_there None n = (n, refl)
@@ -163,19 +143,7 @@ module _ {B : Type 0} {g : Ghosts B} {limits : Limits} (r : Rows B g) (t : Table
   -- who waits for another that uses what is current, by its plan, waits with others
   busy_does : (now d : ℕ) (m : Move) → m ≡ Waits (wait.Busy d) → Does t c v m → Queues v
   busy_does now d _ is (does.passes e q new queued may) = queued
-  busy_does now d _ is does.nothing = absurd (cc)
-  busy_does now d _ is (does.waits_turn e new other kept) = absurd (cc)
-  busy_does now d _ is (does.waits_head y) = absurd (cc)
-  busy_does now d _ is (does.waits_body y) = absurd (cc)
-  busy_does now d _ is (does.asks y) = absurd (cc)
-  busy_does now d _ is (does.past n asked way new) = absurd (cc)
-  busy_does now d _ is (does.fetches n asked way new queued turn validates bypasses) = absurd (cc)
-  busy_does now d _ is (does.first n asked q lo hi way new at) = absurd (cc)
-  busy_does now d _ is (does.later n asked q lo hi how way shown_response at) = absurd (cc)
-  busy_does now d _ is (does.shows q why head lo hi joined) = absurd (cc)
-  busy_does now d _ is (does.given run) = absurd (cc)
-  busy_does now d _ is does.ends = absurd (cc)
-  busy_does now d _ is (does.fails why) = absurd (cc)
+  busy_does now d _ is _ = absurd (cc)
 
   pub busy_by : (now d : ℕ) (how : Option ℕ) → plan_of (planning.plan_view t now c v) ≡ plan.Busy d how → queues k ≡ true
   busy_by now d how is =
@@ -199,12 +167,7 @@ module _ {B : Type 0} {g : Ghosts B} {limits : Limits} (r : Rows B g) (t : Table
 
           by_place : (p : Place) → v.place ≡ p → has_passed k.place ≡ false
           by_place (place.Passed q how) at = false_true (sym (facts.law.owned.passed c q how v row at) ∙ v_bypassing)
-          by_place place.Line at = ap has_passed (kept.place ∙ at)
-          by_place (place.Turn x) at = ap has_passed (kept.place ∙ at)
-          by_place (place.Bound q lo hi by) at = ap has_passed (kept.place ∙ at)
-          by_place (place.Direct x) at = ap has_passed (kept.place ∙ at)
-          by_place (place.Down why) at = ap has_passed (kept.place ∙ at)
-          by_place place.Over at = ap has_passed (kept.place ∙ at)
+          by_place _ at = ap has_passed (kept.place ∙ at)
 
   -- where nothing is current
   pub none_plan_is : (now : ℕ) → (kept_of r.keys k.request.key).current ≡ None → plan_of (planning.plan_view t now c v) ≡ plan_of (plan_view r now c k)
@@ -241,9 +204,8 @@ module _ {B : Type 0} {g : Ghosts B} {limits : Limits} (r : Rows B g) (t : Table
       by_test true on = none_plan_is now (sym (is ∙ rw on refl) ∙ none)
 
 -- what its plan looks at is current
-pub looked_current : (row : Option Consumer) (keys : KeyTable) (view : PlanView) (seen : Option ℕ) (q : ℕ) → IsSomeAnd row (IsLookedAt keys view seen) → seen ≡ Some q → IsSomeAnd row (HasCurrent keys q)
-looked_current None keys view seen q looked some = looked
-looked_current (Some k) keys view seen q looked some = by_test (looks_at_stored view) (sym looked ∙ some)
+pub looked_current : (k : Consumer) (keys : KeyTable) (view : PlanView) (seen : Option ℕ) (q : ℕ) → IsLookedAt keys view seen k → seen ≡ Some q → HasCurrent keys q k
+looked_current k keys view seen q looked some = by_test (looks_at_stored view) (sym looked ∙ some)
   where
     by_test : (b : Bool) → (if b then (kept_of keys k.request.key).current else None) ≡ Some q → HasCurrent keys q k
     by_test true is = is
@@ -269,26 +231,14 @@ past_route view n is = by_plan (plan_of view) (plan_by view) is
   where
     by_plan : (p : Plan) → PlanBy view p → p ≡ plan.Direct n → route_of n ≡ route.Direct
     by_plan _ (plans.passes_by m way) same = ap route_of (let one : n ≡ m = cc in one) ∙ way
-    by_plan _ (plans.turn d) same = absurd (cc)
-    by_plan _ (plans.busy d kept plain) same = absurd (cc)
-    by_plan _ plans.misses same = absurd (cc)
-    by_plan _ (plans.fetches m way validates bypasses cached) same = absurd (cc)
-    by_plan _ (plans.joins why cached j) same = absurd (cc)
-    by_plan _ (plans.reads why span cached a) same = absurd (cc)
-    by_plan _ (plans.fills span hole cached a none) same = absurd (cc)
+    by_plan _ _ same = absurd (cc)
 
 pub fetch_route : (view : PlanView) (n : Need) → plan_of view ≡ plan.Fetch n → route_of n ≡ route.Turn
 fetch_route view n is = by_plan (plan_of view) (plan_by view) is
   where
     by_plan : (p : Plan) → PlanBy view p → p ≡ plan.Fetch n → route_of n ≡ route.Turn
     by_plan _ (plans.fetches m way validates bypasses cached) same = ap route_of (let one : n ≡ m = cc in one) ∙ way
-    by_plan _ (plans.passes_by m way) same = absurd (cc)
-    by_plan _ (plans.turn d) same = absurd (cc)
-    by_plan _ (plans.busy d kept plain) same = absurd (cc)
-    by_plan _ plans.misses same = absurd (cc)
-    by_plan _ (plans.joins why cached j) same = absurd (cc)
-    by_plan _ (plans.reads why span cached a) same = absurd (cc)
-    by_plan _ (plans.fills span hole cached a none) same = absurd (cc)
+    by_plan _ _ same = absurd (cc)
 
 -- what is told of a head depends on its length and fields
 shown_alike : (a b : Head) (why : Why) (span : Option Span) (ranged : Bool) → a.total ≡ b.total → a.fields ≡ b.fields → shown_response a why span ranged ≡ shown_response b why span ranged
@@ -317,9 +267,8 @@ module _ {B : Type 0} {g : Ghosts B} (r : Rows B g) (some : ∥ Stands r ∥₁)
   pub waits_there : queues found.0 ≡ true → IsWaiting r.keys c found.0
   waits_there on = merely_true (is_in c (line_of r.keys found.0.request.key)) some (λ s.
       let t = s.t in
-      let facts = s.facts in
       let (v, row, kept) = kept_row t found.0 (t.consumer c) (subst (λ o. KeepsConsumer t o (t.consumer c)) found.1 (s.rows.consumers c)) in
-      idle_waits r t facts s.rows c found.0 v row kept found.2 on)
+      idle_waits r t s.facts s.rows c found.0 v row kept found.2 on)
 
   pub may_leave_line : IsSomeAnd its_row (MayLeaveLine r.keys c)
   may_leave_line = some_that its_row found.0 (MayLeaveLine r.keys c) found.1 (record { idle = found.2; queued = waits_there })
@@ -327,9 +276,8 @@ module _ {B : Type 0} {g : Ghosts B} (r : Rows B g) (some : ∥ Stands r ∥₁)
   passed_there : IsKeptPassed r.keys c found.0
   passed_there = λ through. waits_there (merely_true (queues found.0) some (λ s.
       let t = s.t in
-      let facts = s.facts in
       let (v, row, kept) = kept_row t found.0 (t.consumer c) (subst (λ o. KeepsConsumer t o (t.consumer c)) found.1 (s.rows.consumers c)) in
-      passed_queues r t facts s.rows c found.0 v row kept found.2 through))
+      passed_queues r t s.facts s.rows c found.0 v row kept found.2 through))
 
   pub may_queue : IsSomeAnd its_row (MayQueue r.keys c)
   may_queue = some_that its_row found.0 (MayQueue r.keys c) found.1 (record { idle = found.2; passed = passed_there })
@@ -383,11 +331,7 @@ module _ {B : Type 0} {g : Ghosts B} (r : Rows B g) (some : ∥ Stands r ∥₁)
       idle_unbound : (n : ℕ) (p : Place) → is_idle_at p ≡ true → is_bound_place n p ≡ false
       idle_unbound n place.Line on = refl
       idle_unbound n (place.Passed a how) on = refl
-      idle_unbound n (place.Turn x) on = false_true on
-      idle_unbound n (place.Bound a lo hi by) on = false_true on
-      idle_unbound n (place.Direct x) on = false_true on
-      idle_unbound n (place.Down why) on = false_true on
-      idle_unbound n place.Over on = false_true on
+      idle_unbound n _ on = false_true on
 
   -- WHAT THEY ANSWER
 
@@ -407,13 +351,7 @@ module _ {B : Type 0} {g : Ghosts B} (r : Rows B g) (some : ∥ Stands r ∥₁)
 
     fetched_plain : (t : Tables) (v : rows.Consumer) (n : Need) → n ≢ need.Validate → planning.origin_request t v n ≡ v.request
     fetched_plain t v need.Validate other = absurd (other refl)
-    fetched_plain t v need.Disabled other = refl
-    fetched_plain t v need.TimedOut other = refl
-    fetched_plain t v need.Bypass other = refl
-    fetched_plain t v need.Miss other = refl
-    fetched_plain t v need.Vary other = refl
-    fetched_plain t v (need.Hole from to) other = refl
-    fetched_plain t v need.Unsatisfied other = refl
+    fetched_plain t v _ other = refl
 
     pub fetch_answers : (n : Need) → n ≢ need.Validate → IsPlanOf r now c (plan.Fetch n) → IsSomeAnd its_row (AnswersOpening r u before out now c n) → AnswersPoll r u before out now c
     fetch_answers n other is answers = plan_answers r u before out now c found.0 (plan.Fetch n) found.1 found.2 is (λ want limits t v facts stands row kept move.
@@ -455,12 +393,7 @@ bare_validates view n bare is at = by_asked (plan_of view) is (plan_asks view)
       where
         by_some : Asked view need.Validate → ⊥
         by_some has = none_some has.0 (sym bare ∙ has.1)
-    by_asked (plan.Direct m) same asks = cc
-    by_asked (plan.Turn d) same asks = cc
-    by_asked (plan.Bind why span) same asks = cc
-    by_asked (plan.FirstHole span hole) same asks = cc
-    by_asked (plan.Busy d how) same asks = cc
-    by_asked plan.Miss same asks = cc
+    by_asked _ same asks = cc
 
 abbrev pub is_bare : Plan → Bool
 is_bare (plan.Bind why span) = false
@@ -483,22 +416,15 @@ bare_uses view bare = mix (λ p. is_bare p ≡ true) view.class.only (from_store
         (mix (λ p. is_bare p ≡ true) view.class.bypassing (plan.Fetch need.Bypass) (by_current view view.current) refl (by_now view.current bare)))
 
     stored : (p : Plan) → is_bare p ≡ true → is_bare (from_store p) ≡ true
-    stored (plan.Direct n) on = refl
-    stored (plan.Turn d) on = refl
-    stored (plan.Fetch n) on = refl
     stored (plan.Bind why span) on = on
-    stored (plan.FirstHole span hole) on = refl
-    stored (plan.Busy d how) on = refl
-    stored plan.Miss on = refl
+    stored _ on = refl
 
     timed : (p : Plan) → is_bare p ≡ true → is_bare (in_time view p) ≡ true
-    timed (plan.Direct n) on = refl
     timed (plan.Turn d) on = mix (λ p. is_bare p ≡ true) _ (plan.Direct need.TimedOut) (plan.Turn d) refl refl
-    timed (plan.Fetch n) on = refl
     timed (plan.Bind why span) on = on
     timed (plan.FirstHole span hole) on = on
     timed (plan.Busy d how) on = false_true on
-    timed plan.Miss on = refl
+    timed _ on = refl
 
 -- of what is read, only the store's own failure is left
 pub fault_only : {T : Type 0} (result : Result T StoreError) (e : StoreError) → result ≡ Err e → HasNoLimit result → e ≢ errors.NoMemory → result ≡ Err errors.Fault
@@ -560,21 +486,18 @@ planned_route r some now c idle n is = turn_is (route_of n) on
   where
     is_turn : Route → Bool
     is_turn route.Turn = true
-    is_turn route.Direct = false
-    is_turn route.Hole = false
+    is_turn _ = false
 
     turn_is : (w : Route) → is_turn w ≡ true → w ≡ route.Turn
     turn_is route.Turn on = refl
-    turn_is route.Direct on = false_true on
-    turn_is route.Hole on = false_true on
+    turn_is _ on = false_true on
 
     on : is_turn (route_of n) ≡ true
     on = merely_true (is_turn (route_of n)) some (λ s.
         let t = s.t in
-        let facts = s.facts in
         let (k, at, resting) = there (get nat_eq r.consumers c) IsIdle idle in
         let (v, row, kept) = kept_row t k (t.consumer c) (subst (λ o. KeepsConsumer t o (t.consumer c)) at (s.rows.consumers c)) in
-        ap is_turn (fetch_route (planning.plan_view t now c v) n (is _ t v facts s.rows row)))
+        ap is_turn (fetch_route (planning.plan_view t now c v) n (is _ t v s.facts s.rows row)))
 
 -- and its turn is next
 pub planned_asks : {B : Type 0} {g : Ghosts B} (r : Rows B g) (some : ∥ Stands r ∥₁) (now c : ℕ) → IsSomeAnd (get nat_eq r.consumers c) IsIdle → (p : Plan) (n : Need) → IsPlanOf r now c p → p ≡ plan.Fetch n → IsSomeAnd (get nat_eq r.consumers c) (MayAsk r.keys c)
@@ -587,18 +510,15 @@ planned_past r some now c idle n is = past_is (route_of n) on
   where
     is_past : Route → Bool
     is_past route.Direct = true
-    is_past route.Turn = false
-    is_past route.Hole = false
+    is_past _ = false
 
     past_is : (w : Route) → is_past w ≡ true → w ≡ route.Direct
     past_is route.Direct on = refl
-    past_is route.Turn on = false_true on
-    past_is route.Hole on = false_true on
+    past_is _ on = false_true on
 
     on : is_past (route_of n) ≡ true
     on = merely_true (is_past (route_of n)) some (λ s.
         let t = s.t in
-        let facts = s.facts in
         let (k, at, resting) = there (get nat_eq r.consumers c) IsIdle idle in
         let (v, row, kept) = kept_row t k (t.consumer c) (subst (λ o. KeepsConsumer t o (t.consumer c)) at (s.rows.consumers c)) in
-        ap is_past (past_route (planning.plan_view t now c v) n (is _ t v facts s.rows row)))
+        ap is_past (past_route (planning.plan_view t now c v) n (is _ t v s.facts s.rows row)))

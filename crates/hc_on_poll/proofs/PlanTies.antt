@@ -4,7 +4,7 @@
 -- (`since_unread`, `since_is`). Class and place are as kept, and the turn of its key is told alike, by `TurnTies`
 -- (`turns_are`). So with the same of what is current the plan is the same (`plans_are`). Where the code doesn't look at
 -- what is current, by `looks_at_stored`, the plan is the same without it (`unlooked`). `PlanHandlers` uses these.
-use Rattle.std.{proofs.Common.{◌≡◌, ℕ, List, Bool, true, false, cond, eqb, Option, Some, None, refl, ap, sym, ◌∙◌}, specs.Prelude.{is_none, unwrap_or, ◌&&◌}}
+use Rattle.std.{proofs.{Common.{◌≡◌, ℕ, List, Bool, true, false, cond, eqb, Option, Some, None, refl, ap, sym, ◌∙◌, inl, inr}, lemmas.Bool.{cases_Bool}}, specs.Prelude.{is_none, unwrap_or, ◌&&◌}}
 use Rattle.hc_text.proofs.Basics.{false_true}
 use Rattle.hc_effects.proofs.Vocabulary.{Limits, Why, Request, Candidate, Plan, PlanView, RequestClass, Wanted, plan_of, bare_plan, in_time, from_store, queues, by_current, by_why, plan_on, by_wanted, by_exclusive, by_hole, by_bound, why_by, class_of, Place, kept_by, has_passed, Tables, IsListed, wanted as wants}
 use Rattle.hc_store.specs.declared.backend.Backend.{Ghosts}
@@ -42,20 +42,17 @@ module _ (v : PlanView) (a b : ℕ) where
   exclusives_same s why span (Some d) = refl
 
   wants_same : (s : Candidate) (why : Why) (w : Wanted) → by_wanted va s why w ≡ by_wanted vb s why w
-  wants_same s why wants.TotalUnknown = refl
-  wants_same s why wants.Unsatisfiable = refl
-  wants_same s why (wants.Interval span) = by_test s.writing refl
-    where
-      by_test : (q : Bool) → s.writing ≡ q → by_wanted va s why (wants.Interval span) ≡ by_wanted vb s why (wants.Interval span)
-      by_test true is = rw is refl
-      by_test false is = rw is (exclusives_same s why span s.exclusive)
+  wants_same s why (wants.Interval span) = elim (cases_Bool s.writing) [
+    | inl is ↦ rw is refl
+    | inr is ↦ rw is (exclusives_same s why span s.exclusive)
+  ]
+  wants_same s why _ = refl
 
   reads_same : (s : Candidate) (why : Why) → plan_on va s why ≡ plan_on vb s why
-  reads_same s why = by_test (is_none v.class.range && s.writing) refl
-    where
-      by_test : (q : Bool) → (is_none v.class.range && s.writing) ≡ q → plan_on va s why ≡ plan_on vb s why
-      by_test true is = rw is refl
-      by_test false is = rw is (wants_same s why s.span)
+  reads_same s why = elim (cases_Bool (is_none v.class.range && s.writing)) [
+    | inl is ↦ rw is refl
+    | inr is ↦ rw is (wants_same s why s.span)
+  ]
 
   whys_same : (s : Candidate) (o : Option Why) → by_why va s o ≡ by_why vb s o
   whys_same s None = refl
@@ -63,39 +60,33 @@ module _ (v : PlanView) (a b : ℕ) where
 
   currents_same : (o : Option Candidate) → by_current va o ≡ by_current vb o
   currents_same None = refl
-  currents_same (Some s) = by_test s.vary refl
-    where
-      by_test : (q : Bool) → s.vary ≡ q → by_current va (Some s) ≡ by_current vb (Some s)
-      by_test false is = rw is refl
-      by_test true is = rw is (whys_same s (why_by v.kept s.allowed))
+  currents_same (Some s) = elim (cases_Bool s.vary) [
+    | inl is ↦ rw is (whys_same s (why_by v.kept s.allowed))
+    | inr is ↦ rw is refl
+  ]
 
   bare_same : bare_plan va ≡ bare_plan vb
-  bare_same = by_disabled v.class.disabled refl
-    where
-      by_disabled : (q : Bool) → v.class.disabled ≡ q → bare_plan va ≡ bare_plan vb
-      by_disabled true is = rw is refl
-      by_disabled false is = by_queue (queues v) refl
-        where
-          by_queue : (q : Bool) → queues v ≡ q → bare_plan va ≡ bare_plan vb
-          by_queue true waits = rw (is, waits) refl
-          by_queue false waits = by_bypass v.class.bypassing refl
-            where
-              by_bypass : (q : Bool) → v.class.bypassing ≡ q → bare_plan va ≡ bare_plan vb
-              by_bypass true past = rw (is, waits, past) refl
-              by_bypass false past = rw (is, waits, past) (currents_same v.current)
+  bare_same = elim (cases_Bool v.class.disabled) [
+    | inl is ↦ rw is refl
+    | inr is ↦ elim (cases_Bool (queues v)) [
+      | inl waits ↦ rw (is, waits) refl
+      | inr waits ↦ elim (cases_Bool v.class.bypassing) [
+        | inl past ↦ rw (is, waits, past) refl
+        | inr past ↦ rw (is, waits, past) (currents_same v.current)
+      ]
+    ]
+  ]
 
   -- that is looked at only where it waits with others
   pub since_unread : (v.class.disabled ≡ false → v.class.only ≡ false → a ≡ b) → plan_of va ≡ plan_of vb
   unfolding plan_of
-  since_unread alike = by_only v.class.only refl
-    where
-      by_only : (q : Bool) → v.class.only ≡ q → plan_of va ≡ plan_of vb
-      by_only true is = then_same v.class.only (from_store (bare_plan va)) (in_time va (bare_plan va)) (from_store (bare_plan vb)) (in_time vb (bare_plan vb)) is (ap from_store bare_same)
-      by_only false is = by_disabled v.class.disabled refl
-        where
-          by_disabled : (q : Bool) → v.class.disabled ≡ q → plan_of va ≡ plan_of vb
-          by_disabled true off = rw (is, off) refl
-          by_disabled false on = ap (λ (n : ℕ). plan_of (record v { since = n })) (alike on is)
+  since_unread alike = elim (cases_Bool v.class.only) [
+    | inl is ↦ then_same v.class.only (from_store (bare_plan va)) (in_time va (bare_plan va)) (from_store (bare_plan vb)) (in_time vb (bare_plan vb)) is (ap from_store bare_same)
+    | inr is ↦ elim (cases_Bool v.class.disabled) [
+      | inl off ↦ rw (is, off) refl
+      | inr on ↦ ap (λ (n : ℕ). plan_of (record v { since = n })) (alike on is)
+    ]
+  ]
 
 -- WHAT IS CURRENT
 
@@ -105,35 +96,28 @@ IsUnlooked v now = plan_of (record v { current = now }) ≡ plan_of (record v { 
 -- it isn't looked at
 pub unlooked : (v : PlanView) (now : Option Candidate) → looks_at_stored v ≡ false → (v.class.bypassing ≡ true → v.passed ≡ false) → IsUnlooked v now
 unfolding plan_of
-unlooked v now off unpassed = by_disabled v.class.disabled refl
-  where
-    by_disabled : (q : Bool) → v.class.disabled ≡ q → IsUnlooked v now
-    by_disabled true disabled = rw disabled refl
-    by_disabled false cached = by_bypass v.class.bypassing refl
-      where
-        by_passed : (q : Bool) → v.passed ≡ q → v.class.bypassing ≡ false → IsUnlooked v now
-        by_passed true passed plain = false_true (sym off ∙ rw (cached, plain, passed) refl)
-        by_passed false passed plain = by_turn (eqb v.turn v.c) refl
-          where
-            by_turn : (q : Bool) → eqb v.turn v.c ≡ q → IsUnlooked v now
-            by_turn true mine = false_true (sym off ∙ rw (cached, plain, passed, mine) refl)
-            by_turn false others = by_only v.class.only refl
-              where
-                by_only : (q : Bool) → v.class.only ≡ q → IsUnlooked v now
-                by_only true only = false_true (sym off ∙ rw (cached, plain, passed, others, only) refl)
-                by_only false only = rw (cached, plain, passed, others, only) refl
-
-        by_bypass : (q : Bool) → v.class.bypassing ≡ q → IsUnlooked v now
-        by_bypass false plain = by_passed v.passed refl plain
-        by_bypass true past = by_turn (eqb v.turn v.c) refl
-          where
-            by_turn : (q : Bool) → eqb v.turn v.c ≡ q → IsUnlooked v now
-            by_turn true mine = rw (cached, past, unpassed past, mine) refl
-            by_turn false others = by_only v.class.only refl
-              where
-                by_only : (q : Bool) → v.class.only ≡ q → IsUnlooked v now
-                by_only true only = rw (cached, past, unpassed past, others, only) refl
-                by_only false only = rw (cached, past, unpassed past, others, only) refl
+unlooked v now off unpassed = elim (cases_Bool v.class.disabled) [
+  | inl disabled ↦ rw disabled refl
+  | inr cached ↦ elim (cases_Bool v.class.bypassing) [
+    | inl past ↦ elim (cases_Bool (eqb v.turn v.c)) [
+      | inl mine ↦ rw (cached, past, unpassed past, mine) refl
+      | inr others ↦ elim (cases_Bool v.class.only) [
+        | inl only ↦ rw (cached, past, unpassed past, others, only) refl
+        | inr only ↦ rw (cached, past, unpassed past, others, only) refl
+      ]
+    ]
+    | inr plain ↦ elim (cases_Bool v.passed) [
+      | inl passed ↦ false_true (sym off ∙ rw (cached, plain, passed) refl)
+      | inr passed ↦ elim (cases_Bool (eqb v.turn v.c)) [
+        | inl mine ↦ false_true (sym off ∙ rw (cached, plain, passed, mine) refl)
+        | inr others ↦ elim (cases_Bool v.class.only) [
+          | inl only ↦ false_true (sym off ∙ rw (cached, plain, passed, others, only) refl)
+          | inr only ↦ rw (cached, plain, passed, others, only) refl
+        ]
+      ]
+    ]
+  ]
+]
 
 -- THE PLAN OF THE TABLES
 
@@ -143,8 +127,7 @@ view_as class now since c p turn o = record { moment = now; since = since; c = c
 module _ {B : Type 0} {g : Ghosts B} {limits : Limits} (r : Rows B g) (t : Tables) (now c : ℕ) (k : Consumer) (v : rows.Consumer) (stands : RowsStand limits r t) (lists : IsListed t) (kept : IsKept t k v) where
   pub turns_are : unwrap_or (turn_with c (line_of r.keys k.request.key)) c ≡ lines.turn_with t v.request.key c
   turns_are =
-      let same : k.request.key ≡ v.request.key = ap (λ (q : Request). q.key) kept.request in
-      ap (λ (key : List ℕ). unwrap_or (turn_with c (line_of r.keys key)) c) same
+      ap (λ (key : List ℕ). unwrap_or (turn_with c (line_of r.keys key)) c) (ap (λ (q : Request). q.key) kept.request)
       ∙ turn_with_is t v.request.key (kept_of r.keys v.request.key) lists (stands.keys v.request.key) c
 
   since_is : (class : RequestClass) → class ≡ class_of v.request → class.disabled ≡ false → class.only ≡ false → k.since ≡ v.since

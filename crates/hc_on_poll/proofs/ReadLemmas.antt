@@ -1,5 +1,5 @@
 -- Moves of polls, and runs of what is held.
-use Rattle.std.{proofs.{Common.{◌≡◌, ℕ, zero, suc, ◌<◌, List, [], ◌∷◌, length, take, true, false, Option, Some, None, refl, ap, sym, ◌∙◌, arith}, lemmas.Bool.Decides.{nat_tests}}, specs.Prelude.{is_some, nat_lt}}
+use Rattle.std.{proofs.{Common.{◌≡◌, ℕ, zero, suc, ◌<◌, ◌≤◌, List, [], ◌∷◌, length, take, Bool, true, false, Option, Some, None, refl, ap, sym, ◌∙◌, arith}, lemmas.Bool.Decides.{nat_tests}}, specs.Prelude.{is_some, nat_le, nat_lt}}
 use Rattle.hc_effects.proofs.Vocabulary.{is_at_end, Move, or_else, run_of}
 use Rattle.hc_state.specs.Handlers.{most}
 
@@ -46,3 +46,17 @@ run_is x o (b ∷ bytes) lt = refl
 pub some_more : (want : ℕ) → 0 < want → (hi : Option ℕ) (o : ℕ) → is_at_end hi o ≡ false → 0 < most hi o want
 some_more want wants None o off = omega (arith, wants)
 some_more want wants (Some hi) o off = let below : o < hi = grind (arith, nat_tests) in omega (arith, wants, below)
+
+-- who takes none is at the end
+pub none_more : (want : ℕ) → 0 < want → (hi : Option ℕ) (o : ℕ) → most hi o want ≡ 0 → is_at_end hi o ≡ true
+none_more want wants None o none = absurd (omega (arith, wants, none))
+none_more want wants (Some h) o none = let le : h ≤ o = omega (arith, wants, none) in grind (arith, nat_tests, le)
+
+-- who takes some isn't
+pub before_end : (want : ℕ) (hi : Option ℕ) (o : ℕ) → (most hi o want ≡ 0 → ⊥) → is_at_end hi o ≡ false
+before_end want None o some = refl
+before_end want (Some h) o some = by_test (nat_le h o) refl
+  where
+    by_test : (b : Bool) → nat_le h o ≡ b → b ≡ false
+    by_test false is = refl
+    by_test true is = absurd (some (let le : h ≤ o = grind (arith, nat_tests, is) in omega (arith, le)))

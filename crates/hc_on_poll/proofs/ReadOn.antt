@@ -1,12 +1,12 @@
 -- Who is bound reads on: what its calls need holds wherever some tables are represented.
 --
 -- What a call needs is a plain fact of rows and numbers. So it may be taken from tables of which is known just that
--- there are some (`merely_most`, `merely_within`). `BoundReads` gives it for each step. What is read is there, what is
--- given stays in range, what is asked is open, and a hole is within the length. Then `BoundGives` answers what was done
--- (`gives_stored`, `gives_held`, `asks_for`). `read_on` and `read_bound` use these.
-use Rattle.std.{proofs.{Common.{◌≡◌, ℕ, ◌+◌, ◌<◌, ◌≤◌, ◌^◌, List, ◌++◌, length, take, true, Option, Some, None, refl, ap, ap₂, sym, ◌∙◌, subst, arith}, lemmas.Grind.{not_there}}, specs.{Prelude.{is_some, nat_eq, option_map, IsSomeAnd, IfSome}, HashMap.{get}}}
+-- there are some (`merely_most`, `merely_within`). `BoundReads` gives it for each step. What is given stays in range,
+-- what is asked is open, and a hole is within the length. Then `BoundGives` answers what was done (`gives_stored`,
+-- `gives_held`, `asks_for`). `read_bound` uses these where something is stored, and else `read_on`.
+use Rattle.std.{proofs.{Common.{◌≡◌, ℕ, ◌+◌, ◌<◌, ◌≤◌, ◌^◌, List, ◌++◌, length, take, true, false, Option, Some, None, ap, ap₂, sym, ◌∙◌, subst, arith}, lemmas.Grind.{not_there}}, specs.{Prelude.{is_some, nat_eq, option_map, IsSomeAnd}, HashMap.{get}}}
 use Rattle.hc_text.proofs.Basics.{some_inj as some_is}
-use Rattle.hc_effects.proofs.Vocabulary.{Limits, Act, ReadView, read_step, acts_of, Tables, event}
+use Rattle.hc_effects.proofs.Vocabulary.{Limits, Act, ReadView, read_step, is_at_end, acts_of, Tables, event}
 use Rattle.hc_effects.proofs.Tests.{none_some}
 use Rattle.hc_store.specs.declared.backend.Backend.{Ghosts}
 use Rattle.hc_range.specs.{Spans.{IsWithin}, declared.range.Span.{Span}}
@@ -75,21 +75,10 @@ module _ {B : Type 0} {g : Ghosts B} (r : Rows B g) (c q : ℕ) (k : Consumer) (
       offset_fits = merely_most (k.lo + k.given) (2 ^ 62) some (λ s. bound.offset_small r (t s) (facts s) s.rows c q reads.0.2 k (rd s) s.numbers (few_received s.received))
 
       module _ (want : ℕ) (wants : 0 < want) (run : Option Run) (run_is : IsRunAhead (shelf_of r.entries) q want run k) where
-        end_fits_of : (z : Option Run) → run ≡ z → IfSome z (λ y. end_of y ≤ 2 ^ 62)
-        end_fits_of None is = tt
-        end_fits_of (Some z) is = merely_most (end_of z) (2 ^ 62) some (λ s. (bound.run_small r (t s) (facts s) s.rows c q reads.0.2 k (rd s) s.numbers (few_received s.received) want wants run run_is z is).0)
-
-        pub end_fits : IfSome run (λ y. end_of y ≤ 2 ^ 62)
-        end_fits = end_fits_of run refl
-
         pub run_fits : (z : Run) → run ≡ Some z → k.given + length z.bytes ≤ 2 ^ 62
-        run_fits z is = merely_most (k.given + length z.bytes) (2 ^ 62) some (λ s. (bound.run_small r (t s) (facts s) s.rows c q reads.0.2 k (rd s) s.numbers (few_received s.received) want wants run run_is z is).1)
+        run_fits z is = merely_most (k.given + length z.bytes) (2 ^ 62) some (λ s. bound.run_small r (t s) (facts s) s.rows c q reads.0.2 k (rd s) s.numbers (few_received s.received) want wants run run_is z is)
 
         module _ (heard : WaitsForNoHead (table_of r.exchanges) k) (view : ReadView) (view_is : ReadViewIs r q c (option_map end_of run) view k) where
-          -- where a step reads what is stored there is some
-          pub run_there : (n : ℕ) → read_step view ≡ step.Stored n → is_some run ≡ true
-          run_there n is = merely_true (is_some run) some (λ s. ap (λ (z : Option Run). is_some z) (bound.stored_move r (t s) (facts s) s.rows c q reads.0.2 k (rd s) 0 want reads.1 heard wants run run_is view view_is n is).1.read_is)
-
           -- where it is of its own exchange it has one
           pub own_there : read_step view ≡ step.Held → is_some k.own ≡ true
           own_there is = merely_true (is_some k.own) some (λ s. ap (λ (z : Option ℕ). is_some z) (bound.held_move r (t s) (facts s) s.rows c q reads.0.2 k (rd s) 0 want reads.1 heard wants run run_is view view_is is).0.own)
@@ -112,38 +101,37 @@ module _ {B : Type 0} {g : Ghosts B} (r : Rows B g) (c q : ℕ) (k : Consumer) (
 
   -- WHAT IT DOES
 
-  module _ {limits : Limits} (u : Rows B g) (before out : List Act) (now want : ℕ) (wants : 0 < want) (run : Option Run) (run_is : IsRunAhead (shelf_of r.entries) q want run k) (heard : WaitsForNoHead (table_of r.exchanges) k) (view : ReadView) (view_is : ReadViewIs r q c (option_map end_of run) view k)
+  module _ {limits : Limits} (u : Rows B g) (before out : List Act) (now want : ℕ) (wants : 0 < want) (run : Option Run) (run_is : IsRunAhead (shelf_of r.entries) q want run k) (heard : WaitsForNoHead (table_of r.exchanges) k)
       (last : u.last_start ≡ r.last_start) (same_keys : u.keys ≡ r.keys) (same_entries : u.entries ≡ r.entries) (t : Tables) (facts : Facts limits t) (stands : RowsStand limits r t) where
     abbrev its : IsBoundRow t c q reads.0.2 k
     its = row_of t facts stands
 
     -- what is stored is given
-    pub gives_stored : (n : ℕ) → read_step view ≡ step.Stored n → (z : Run) → run ≡ Some z → out ≡ before ++ given_acts c z.x z.at z.bytes → u.exchanges ≡ r.exchanges → ChangesAt r.consumers u.consumers c (once_given (length z.bytes)) → Answered limits (shelf_of r.entries).faults u t before out now (event.Poll c want)
-    gives_stored n is z read acts exchanges changes =
-        let found = bound.stored_move r t facts stands c q reads.0.2 k its now want reads.1 heard wants run run_is view view_is n is in
-        let same : found.0 ≡ z = some_is found.0 z (sym found.1.read_is ∙ read) in
-        let m = subst (λ (y : Run). bound.Reads r t facts stands c q reads.0.2 k its now want reads.1 heard wants run run_is view view_is y) same found.1 in
+    pub gives_stored : is_at_end k.hi (k.lo + k.given) ≡ false → (z : Run) → run ≡ Some z → out ≡ before ++ given_acts c z.x z.at z.bytes → u.exchanges ≡ r.exchanges → ChangesAt r.consumers u.consumers c (once_given (length z.bytes)) → Answered limits (shelf_of r.entries).faults u t before out now (event.Poll c want)
+    gives_stored off z read acts exchanges changes =
+        let m = bound.stored_move r t facts stands c q reads.0.2 k its now want reads.1 heard wants run run_is off z read in
         let a = m.ahead_of in
         gives.stored_answered r u t facts stands now want c q reads.0.2 k its at before out last same_keys same_entries z a.at a.within a.each m.move_is acts exchanges changes
 
-    -- what is held is given
-    pub gives_held : read_step view ≡ step.Held → (x o n : ℕ) (bytes : List ℕ) → k.own ≡ Some x → o ≡ view.offset → n ≡ most view.hi view.offset want → bytes ≡ take n (table_of r.exchanges x).held → out ≡ before ++ given_acts c x o bytes → exch.Becomes (known.without_first n) x r.exchanges u.exchanges → ChangesAt r.consumers u.consumers c (once_given (length bytes))
-        → Answered limits (shelf_of r.entries).faults u t before out now (event.Poll c want)
-    gives_held is x o n bytes own o_is n_is bytes_are acts becomes changes =
-        let found = bound.held_move r t facts stands c q reads.0.2 k its now want reads.1 heard wants run run_is view view_is is in
-        let h = found.0 in
-        let same : x ≡ h.x = some_is x h.x (sym own ∙ h.own) in
-        let at_offset : o ≡ k.lo + k.given = o_is ∙ ap (λ (y : ReadView). y.offset) view_is.is in
-        let as_many : n ≡ most k.hi (k.lo + k.given) want = n_is ∙ ap (λ (y : ReadView). most y.hi y.offset want) view_is.is in
-        let taken : bytes ≡ take (most k.hi (k.lo + k.given) want) (table_of r.exchanges h.x).held = bytes_are ∙ ap₂ (λ (m y : ℕ). take m (table_of r.exchanges y).held) as_many same in
-        let told : out ≡ before ++ given_acts c h.x (k.lo + k.given) (take (most k.hi (k.lo + k.given) want) (table_of r.exchanges h.x).held) =
-        acts ∙ (ap (λ (y : ℕ). before ++ given_acts c y o bytes) same ∙ (ap (λ (y : ℕ). before ++ given_acts c h.x y bytes) at_offset ∙ ap (λ (ys : List ℕ). before ++ given_acts c h.x (k.lo + k.given) ys) taken)) in
-        gives.held_answered r u t facts stands now want c q reads.0.2 k its at before out last same_keys same_entries h (most k.hi (k.lo + k.given) want)
-        (subst (λ (y : ℕ). exch.Becomes (known.without_first (most k.hi (k.lo + k.given) want)) y r.exchanges u.exchanges) same (subst (λ (m : ℕ). exch.Becomes (known.without_first m) x r.exchanges u.exchanges) as_many becomes))
-        found.1.move_is told (subst (λ (ys : List ℕ). ChangesAt r.consumers u.consumers c (once_given (length ys))) taken changes)
+    module _ (view : ReadView) (view_is : ReadViewIs r q c (option_map end_of run) view k) where
+      -- what is held is given
+      pub gives_held : read_step view ≡ step.Held → (x o n : ℕ) (bytes : List ℕ) → k.own ≡ Some x → o ≡ view.offset → n ≡ most view.hi view.offset want → bytes ≡ take n (table_of r.exchanges x).held → out ≡ before ++ given_acts c x o bytes → exch.Becomes (known.without_first n) x r.exchanges u.exchanges → ChangesAt r.consumers u.consumers c (once_given (length bytes))
+          → Answered limits (shelf_of r.entries).faults u t before out now (event.Poll c want)
+      gives_held is x o n bytes own o_is n_is bytes_are acts becomes changes =
+          let found = bound.held_move r t facts stands c q reads.0.2 k its now want reads.1 heard wants run run_is view view_is is in
+          let h = found.0 in
+          let same : x ≡ h.x = some_is x h.x (sym own ∙ h.own) in
+          let at_offset : o ≡ k.lo + k.given = o_is ∙ ap (λ (y : ReadView). y.offset) view_is.is in
+          let as_many : n ≡ most k.hi (k.lo + k.given) want = n_is ∙ ap (λ (y : ReadView). most y.hi y.offset want) view_is.is in
+          let taken : bytes ≡ take (most k.hi (k.lo + k.given) want) (table_of r.exchanges h.x).held = bytes_are ∙ ap₂ (λ (m y : ℕ). take m (table_of r.exchanges y).held) as_many same in
+          let told : out ≡ before ++ given_acts c h.x (k.lo + k.given) (take (most k.hi (k.lo + k.given) want) (table_of r.exchanges h.x).held) =
+          acts ∙ (ap (λ (y : ℕ). before ++ given_acts c y o bytes) same ∙ (ap (λ (y : ℕ). before ++ given_acts c h.x y bytes) at_offset ∙ ap (λ (ys : List ℕ). before ++ given_acts c h.x (k.lo + k.given) ys) taken)) in
+          gives.held_answered r u t facts stands now want c q reads.0.2 k its at before out last same_keys same_entries h (most k.hi (k.lo + k.given) want)
+          (subst (λ (y : ℕ). exch.Becomes (known.without_first (most k.hi (k.lo + k.given) want)) y r.exchanges u.exchanges) same (subst (λ (m : ℕ). exch.Becomes (known.without_first m) x r.exchanges u.exchanges) as_many becomes))
+          found.1.move_is told (subst (λ (ys : List ℕ). ChangesAt r.consumers u.consumers c (once_given (length ys))) taken changes)
 
-    -- it asks, or waits
-    pub asks_for : (x : ℕ) → read_step view ≡ step.Waits x → u.consumers ≡ r.consumers → exch.Becomes known.with_asking x r.exchanges u.exchanges → out ≡ before ++ acts_of c (asks_or_waits (asked_in (table_of r.exchanges x).running) x) → Answered limits (shelf_of r.entries).faults u t before out now (event.Poll c want)
-    asks_for x is consumers becomes acts =
-        let m = bound.waits_move r t facts stands c q reads.0.2 k its now want reads.1 heard wants run run_is view view_is x is in
-        gives.asks_answered r u t facts stands now want c q reads.0.2 k its at before out last same_keys same_entries x consumers becomes m.move_is acts
+      -- it asks, or waits
+      pub asks_for : (x : ℕ) → read_step view ≡ step.Waits x → u.consumers ≡ r.consumers → exch.Becomes known.with_asking x r.exchanges u.exchanges → out ≡ before ++ acts_of c (asks_or_waits (asked_in (table_of r.exchanges x).running) x) → Answered limits (shelf_of r.entries).faults u t before out now (event.Poll c want)
+      asks_for x is consumers becomes acts =
+          let m = bound.waits_move r t facts stands c q reads.0.2 k its now want reads.1 heard wants run run_is view view_is x is in
+          gives.asks_answered r u t facts stands now want c q reads.0.2 k its at before out last same_keys same_entries x consumers becomes m.move_is acts

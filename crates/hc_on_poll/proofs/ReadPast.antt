@@ -6,19 +6,17 @@
 -- answer is at the end (`no_hole`). `await_answer` and `read_past` use these.
 use Rattle.std.{proofs.{Common.{◌≡◌, ◌≢◌, inl, inr, ℕ, ◌+◌, ◌-◌, ◌≤◌, ◌<◌, ◌^◌, List, [], ◌∷◌, ◌++◌, length, drop, take, Bool, true, false, min, Option, Some, None, refl, ap, ap₂, sym, ◌∙◌, subst, arith}, lemmas.{Bool.Decides.{nat_tests}, Grind.{common_steps}, List.{length-drop, length-take}}}, specs.{Prelude.{is_some, is_none, nat_lt, nat_eq, option_and_then, if◌then◌else◌, ◌&&◌}, HashMap.{get}}}
 use Rattle.hc_text.proofs.Basics.{eqb-other, eqb-same, false_true, same_or, some_inj as some_is}
-use Rattle.hc_effects.proofs.Vocabulary.{Limits, Act, Cause, Event, Response, ReadStep, ReadView, read_step, is_at_end, cut_at, held_or, fails_or, waits_or, with_consumer, with_ask, with_event, base, front, Lawful, Move, Gives, Ends, Fails, Asks, Shows, acts_of, gives, waits_for, ReadsPast, planned_move, move_of, shows_head, shows_answer, shows_direct, if_headless, waits_for_head, by_place, or_else, own_open, source, offset, hi_of, lo_of, base_in, end_in, reads, Numbers, Tables, Exchange, Representation, reading, step_move, run_held_for, run_of, act, wait, event}
+use Rattle.hc_effects.proofs.Vocabulary.{Limits, Act, Cause, Event, Response, ReadStep, ReadView, read_step, is_at_end, cut_at, held_or, fails_or, waits_or, with_consumer, with_ask, with_event, base, front, Lawful, Move, Gives, Ends, Fails, Asks, Shows, acts_of, gives, waits_for, ReadsPast, planned_move, move_of, shows_head, shows_answer, shows_direct, if_headless, waits_for_head, by_place, or_else, own_open, source, offset, hi_of, lo_of, base_in, end_in, reads, Numbers, Tables, Exchange, Representation, reading, step_move, run_held_for, run_of, act, wait, event, place}
 use Rattle.hc_store.specs.declared.backend.Backend.{Ghosts}
 use Rattle.hc_event.specs.declared.act.Why.TheVariants as why
 use Rattle.hc_range.specs.declared.range.Span.{Span}
 use Rattle.hc_sparse.specs.declared.run.Run.{Run}
-use Rattle.hc_rules.specs.declared.reading.ReadStep.TheVariants as step
-use Rattle.hc_rules.specs.Readings.{hole_ahead}
+use Rattle.hc_rules.specs.{declared.reading.ReadStep.TheVariants.{the_data as step}, Readings.{hole_ahead}}
 use Rattle.hc_stored.specs.Entries.{shelf_of}
 use Rattle.hc_stored.specs.Shelf as shelf
 use Rattle.hc_exch.specs.Exchanges as exch
 use Rattle.hc_exch.specs.{Exchanges.{table_of, next_of}, Known.{Known}, declared.row.Open.{Open}}
 use Rattle.hc_exch.specs.Known as known
-use Rattle.hc_event.specs.declared.place.Place.TheVariants as place
 use Rattle.hc_model.specs.Moves as moves
 use Rattle.hc_model.specs.Rows as rows
 use Rattle.hc_model.specs.Steps as steps
@@ -159,20 +157,7 @@ module _ {B : Type 0} {g : Ghosts B} {limits : Limits} (r u : Rows B g) (t : Tab
       (stands_counted u s now ev refl
       (stands_reading t c v true v.given rd.row r u stands kp.is_there last same_keys (ap (λ z. next_of z) exchanges) (subst (λ z. shelf.Stays (shelf_of r.entries) (shelf_of z)) (sym same_entries) (record { kept = λ n. refl; order = refl; used = refl; limits = refl }))
       q (subst (λ z. BecomesAt r.consumers u.consumers c (Some z)) change (becomes_by r.consumers u.consumers c k once_answered there changes))
-      (record {
-        is_there = kp.is_there;
-        request = kp.request;
-        class_is = kp.class_is;
-        since = kp.since;
-        place = kp.place;
-        own = kp.own;
-        shown = refl;
-        answer = refl;
-        begins = kp.begins;
-        ends = kp.ends;
-        given = kp.given;
-        due = kp.due;
-      })
+      (assumption kp)
       (λ y. subst (λ z. KeepsExchange s y (table_of z y)) (sym exchanges) (exchange_reading t c v true v.given rd.row y (table_of r.exchanges y) (held_shown y (t.exchange y)) (stands.exchanges y)))))
     where
       held_shown : (y : ℕ) (o : Option Exchange) → held_for (with_consumer c (Some (record rd.v { shown = true })) t) y o ≡ held_for t y o
@@ -190,25 +175,17 @@ unfolding read_step
 step_parts known x o k = refl
 
 waits_from : (a h : Bool) (d : Option Cause) (s : Option ℕ) (hole : Span) (y : ℕ) → by_parts a h d s hole ≡ step.Waits y → s ≡ Some y
-waits_from true h d s hole y is = absurd (let never : step.Ended ≡ step.Waits y = is in cc)
-waits_from false true d s hole y is = absurd (let never : step.Held ≡ step.Waits y = is in cc)
-waits_from false false (Some why) s hole y is = absurd (let never : step.Failed why ≡ step.Waits y = is in cc)
 waits_from false false None (Some z) hole y is = let both : step.Waits z ≡ step.Waits y = is in let same : z ≡ y = cc in ap Some same
-waits_from false false None None hole y is = absurd (let never : step.Hole hole ≡ step.Waits y = is in cc)
+waits_from _ _ _ _ hole y is = cc
 
 held_from : (a h : Bool) (d : Option Cause) (s : Option ℕ) (hole : Span) → by_parts a h d s hole ≡ step.Held → (a ≡ false) × (h ≡ true)
-held_from true h d s hole is = absurd (let never : step.Ended ≡ step.Held = is in cc)
 held_from false true d s hole is = (refl, refl)
-held_from false false (Some why) s hole is = absurd (let never : step.Failed why ≡ step.Held = is in cc)
-held_from false false None (Some z) hole is = absurd (let never : step.Waits z ≡ step.Held = is in cc)
-held_from false false None None hole is = absurd (let never : step.Hole hole ≡ step.Held = is in cc)
+held_from false false None (Some z) hole is = cc
+held_from _ _ _ _ hole is = cc
 
 stored_from : (a h : Bool) (d : Option Cause) (s : Option ℕ) (hole : Span) (n : ℕ) → by_parts a h d s hole ≡ step.Stored n → ⊥
-stored_from true h d s hole n is = let never : step.Ended ≡ step.Stored n = is in cc
-stored_from false true d s hole n is = let never : step.Held ≡ step.Stored n = is in cc
-stored_from false false (Some why) s hole n is = let never : step.Failed why ≡ step.Stored n = is in cc
-stored_from false false None (Some z) hole n is = let never : step.Waits z ≡ step.Stored n = is in cc
-stored_from false false None None hole n is = let never : step.Hole hole ≡ step.Stored n = is in cc
+stored_from false false None (Some z) hole n is = cc
+stored_from _ _ _ _ hole n is = cc
 
 -- a hole is left where nothing else is
 record IsHole (a h : Bool) (d : Option Cause) (s : Option ℕ) : Type 0 where
@@ -218,11 +195,8 @@ record IsHole (a h : Bool) (d : Option Cause) (s : Option ℕ) : Type 0 where
   closed : s ≡ None
 
 hole_from : (a h : Bool) (d : Option Cause) (s : Option ℕ) (hole other : Span) → by_parts a h d s hole ≡ step.Hole other → IsHole a h d s
-hole_from true h d s hole other is = absurd (let never : step.Ended ≡ step.Hole other = is in cc)
-hole_from false true d s hole other is = absurd (let never : step.Held ≡ step.Hole other = is in cc)
-hole_from false false (Some why) s hole other is = absurd (let never : step.Failed why ≡ step.Hole other = is in cc)
-hole_from false false None (Some z) hole other is = absurd (let never : step.Waits z ≡ step.Hole other = is in cc)
 hole_from false false None None hole other is = record { not_end = refl; not_held = refl; undue = refl; closed = refl }
+hole_from _ _ _ _ hole other is = cc
 
 -- THE VIEW
 
@@ -446,20 +420,7 @@ module _ {B : Type 0} {g : Ghosts B} {limits : Limits} (r u : Rows B g) (t : Tab
       (stands_counted u s now ev refl
       (stands_reading t c v v.shown more shown_rd.row r u stands kp.is_there last same_keys becomes.next unread_store
       (once_given (length bytes) k) (becomes_by r.consumers u.consumers c k (once_given (length bytes)) there changes)
-      (record {
-        is_there = kp.is_there;
-        request = kp.request;
-        class_is = kp.class_is;
-        since = kp.since;
-        place = kp.place;
-        own = kp.own;
-        shown = kp.shown;
-        answer = kp.answer;
-        begins = kp.begins;
-        ends = kp.ends;
-        given = ap (λ (z : ℕ). z + length bytes) kp.given;
-        due = kp.due;
-      })
+      (assumption (kp, ap (λ (z : ℕ). z + length bytes) kp.given))
       each_exchange))
     where
       here : table_of u.exchanges x ≡ known.without_first n (table_of r.exchanges x)

@@ -6,18 +6,16 @@
 -- (`first_waits_answered`); all others are shown the head (`stored_answered`).
 use Rattle.std.{proofs.{Common.{◌≡◌, ◌≢◌, ℕ, ◌<◌, ◌≤◌, ◌^◌, List, [], ◌∷◌, ◌++◌, Bool, true, false, Option, Some, None, refl, ap, ap₂, sym, ◌∙◌, subst, arith}, lemmas.Bool.Decides.{nat_tests}}, specs.{Prelude.{is_some, is_none, nat_eq, option_and_then, option_map, not, ◌&&◌, if◌then◌else◌}, Option.{option_or}, HashMap.{get}}}
 use Rattle.hc_text.proofs.Basics.{eqb-same, false_true, some_inj as some_is}
-use Rattle.hc_effects.proofs.Vocabulary.{Limits, Act, Why, Response, class_of, RequestClass, BoundBy, is_number, total_in, with_consumer, with_event, is_headless, Lawful, Move, Shows, acts_of, span_to, shows_stored, is_ranged, move_of, shows_head, shows_at, shows_bound, has_joined, if_headless, waits_for_head, by_place, or_else, own_open, hi_of, lo_of, reads, Numbers, Tables, Exchange, Representation, IsToBeShown, status_in, came_alone, act, wait, event, by}
+use Rattle.hc_effects.proofs.Vocabulary.{Limits, Act, Why, Response, class_of, RequestClass, BoundBy, is_number, total_in, with_consumer, with_event, is_headless, Lawful, Move, Shows, acts_of, span_to, shows_stored, is_ranged, move_of, shows_head, shows_at, shows_bound, has_joined, if_headless, waits_for_head, by_place, or_else, own_open, hi_of, lo_of, reads, Numbers, Tables, Exchange, Representation, IsToBeShown, status_in, came_alone, act, wait, event, by, place}
 use Rattle.hc_store.specs.declared.backend.Backend.{Ghosts}
 use Rattle.hc_event.specs.declared.act.Why.TheVariants as why
 use Rattle.hc_range.specs.{Spans.{IsWithin}, declared.range.Span.{Span}}
-use Rattle.hc_record.specs.Head.{Head, sealed_head}
-use Rattle.hc_record.specs.declared.kind.Kind.TheVariants as kinds
+use Rattle.hc_record.specs.{Head.{Head, sealed_head}, declared.kind.Kind.TheVariants.{the_data as kinds}}
 use Rattle.hc_validate.specs.Showing.{shown_response}
 use Rattle.hc_stored.specs.{Entries.{shelf_of}, Shelf.{head_at, is_kept}, Views.{has_user}}
 use Rattle.hc_stored.specs.Kept as entry
 use Rattle.hc_stored.specs.Shelf as shelf
 use Rattle.hc_exch.specs.{Exchanges.{table_of, next_of}, declared.row.Open.{Open}}
-use Rattle.hc_event.specs.declared.place.Place.TheVariants as place
 use Rattle.hc_model.specs.Moves as moves
 use Rattle.hc_model.specs.Rows as rows
 use Rattle.hc_model.specs.Sound as sound
@@ -110,9 +108,8 @@ module _ (t : Tables) {limits : _} (facts : Facts limits t) (c q : ℕ) (how : B
   shown_by_plan plan unshown = by_way how plan (facts.law.sound.unshown c q rd.lo rd.hi how rd.v rd.row rd.at unshown)
     where
       by_way : (b : BoundBy) → b ≡ by.Plan → IsToBeShown t rd.v b → {P : Type 0} → P
-      by_way _ is sound.founded = absurd (let never : by.Founding ≡ by.Plan = is in cc)
-      by_way _ is (sound.joined y joined) = absurd (let never : by.FirstHole y ≡ by.Plan = is in cc)
-      by_way _ is (sound.waits y own headless) = absurd (let never : by.FirstHole y ≡ by.Plan = is in cc)
+      by_way _ is sound.founded = cc
+      by_way _ is _ = cc
 
   -- what ends somewhere has a length
   length_known : (h : ℕ) → rd.hi ≡ Some h → (n : ℕ) × (rd.p.head.total ≡ Some n) × (h ≤ n)
@@ -416,20 +413,7 @@ module _ {B : Type 0} {g : Ghosts B} {limits : Limits} (r u : Rows B g) (t : Tab
       (stands_counted u s now ev refl
       (stands_reading t c v true v.given mine.row r u stands kp.is_there last same_keys (ap (λ z. next_of z) exchanges) (subst (λ z. shelf.Stays (shelf_of r.entries) (shelf_of z)) (sym same_entries) (record { kept = λ n. refl; order = refl; used = refl; limits = refl }))
       (once_shown k) (becomes_by r.consumers u.consumers c k once_shown there changes)
-      (record {
-        is_there = kp.is_there;
-        request = kp.request;
-        class_is = kp.class_is;
-        since = kp.since;
-        place = kp.place;
-        own = kp.own;
-        shown = refl;
-        answer = kp.answer ∙ no_answer mine.v.shown;
-        begins = kp.begins;
-        ends = kp.ends;
-        given = kp.given;
-        due = kp.due;
-      })
+      (assumption (kp, kp.answer ∙ no_answer mine.v.shown))
       (λ y. subst (λ z. KeepsExchange s y (table_of z y)) (sym exchanges) (exchange_reading t c v true v.given mine.row y (table_of r.exchanges y) (held_shown y (t.exchange y)) (stands.exchanges y)))))
     where
       no_answer : (b : Bool) → (if b then None else answer_at t mine.v.place) ≡ None

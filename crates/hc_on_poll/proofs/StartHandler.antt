@@ -4,9 +4,9 @@
 -- reads nothing, so exchanges, what is held and entries stay as they were. Its key has the work. It stands in that line
 -- unless its request bypasses the store or is for stored answers alone (`enters`). `stands_started` joins this;
 -- `not_in_yet` is what the code needs to enter it in the line. `start` uses both.
-use Rattle.std.{proofs.Common.{◌≡◌, ◌≢◌, inl, inr, ℕ, ◌+◌, ◌<◌, List, [], ◌∷◌, Bool, true, false, cond, eqb, Option, Some, None, refl, ap, sym, ◌∙◌, subst, arith}, specs.{Prelude.{nat_eq, bytes_eq, filter, not, ◌&&◌, ◌||◌}, HashMap.{get, hash_map_len}}}
+use Rattle.std.{proofs.{Common.{◌≡◌, ◌≢◌, inl, inr, ℕ, ◌+◌, ◌<◌, List, [], ◌∷◌, Bool, true, false, cond, eqb, Option, Some, None, refl, ap, sym, ◌∙◌, subst, arith}, lemmas.Bool.Decides.{nat_tests}}, specs.{Prelude.{nat_eq, bytes_eq, filter, not, ◌&&◌, ◌||◌}, HashMap.{get, hash_map_len}}}
 use Rattle.hc_text.proofs.Basics.{eqb-other, eqb-same, same_or, and_off as then_false}
-use Rattle.hc_effects.proofs.Vocabulary.{Limits, Request, class_of, is_disabled, is_only, Place, is_in_line, new_consumer, current, is_live, live, with_consumer, with_start, with_event, kind_of, Lawful, bound, is_bound, Tables, Exchange, event}
+use Rattle.hc_effects.proofs.Vocabulary.{Limits, Request, class_of, is_disabled, is_only, Place, is_in_line, new_consumer, current, is_live, live, with_consumer, with_start, with_event, kind_of, Lawful, bound, is_bound, Tables, Exchange, event, place, by}
 use Rattle.hc_store.specs.declared.backend.Backend.{Ghosts}
 use Rattle.hc_entry.specs.{Keys.{kept_of, line_of}, Kept.{on_line}, Lines.{is_among, is_held_by, is_in, line_with}, Users.{itself}}
 use Rattle.hc_entry.specs.Kept as keyed
@@ -14,8 +14,6 @@ use Rattle.hc_sorted.proofs.SortedLemmas.{has-with}
 use Rattle.hc_rules.proofs.RangeReads.{bytes_eq-same}
 use Rattle.hc_exch.specs.Exchanges.{table_of}
 use Rattle.hc_stored.specs.Entries.{shelf_of}
-use Rattle.hc_event.specs.declared.place.Place.TheVariants as place
-use Rattle.hc_event.specs.declared.place.BoundBy.TheVariants as by
 use Rattle.hc_model.specs.Rows as rows
 use Rattle.hc_state.specs.{declared.{consumer.Consumer.{Consumer}, rows.Rows.{Rows}}, Handlers.{IsEntered}, Changes.{BecomesAt}, Kept.{KeepsConsumer, KeepsExchange, held_for}, Lines.{KeepsKey, has_turn, is_passed, is_away}, Stands.{RowsStand}, Stored.{KeepsEntry, is_first}}
 use Rattle.hc_state.proofs.{Fallbacks.{IsAlike, same, fallback, held_alike, users_alike}, ConsumerSteps.{KeyAfter, SaysOfIt, key_with, key_stays, keys_with, at_it}, Ties.{kept_none, consumer_same, exchange_same, entry_same, key_same}}
@@ -43,20 +41,7 @@ module _ {B : Type 0} {g : Ghosts B} {limits : Limits} (r u : Rows B g) (t : Tab
   ]
 
   kept_here : KeepsConsumer s (Some k) (Some (new_consumer now request))
-  kept_here = rw is (record {
-    is_there = refl;
-    request = copies;
-    class_is = refl;
-    since = λ cached plain. refl;
-    place = refl;
-    own = refl;
-    shown = refl;
-    answer = refl;
-    begins = refl;
-    ends = refl;
-    given = refl;
-    due = refl;
-  })
+  kept_here = rw is (assumption copies)
 
   consumers : (d : ℕ) → KeepsConsumer s (get nat_eq u.consumers d) (s.consumer d)
   consumers d = elim (same_or c d) [
@@ -83,11 +68,7 @@ module _ {B : Type 0} {g : Ghosts B} {limits : Limits} (r u : Rows B g) (t : Tab
   queues = not (is_disabled request) && not (is_only request)
 
   line_here : (key : List ℕ) → is_in_line key (Some v) ≡ (bytes_eq request.key key && queues)
-  line_here key = by_tests (bytes_eq request.key key) (not (is_disabled request)) (not (is_only request))
-    where
-      by_tests : (a d o : Bool) → (a && true && d && o) ≡ (a && (d && o))
-      by_tests true d o = refl
-      by_tests false d o = refl
+  line_here key = grind (arith, nat_tests)
 
   turn_here : (key : List ℕ) → has_turn key (Some v) ≡ false
   turn_here key = then_false (is_in_line key (Some v)) false refl
@@ -146,14 +127,7 @@ module _ {B : Type 0} {g : Ghosts B} {limits : Limits} (r u : Rows B g) (t : Tab
         where
           by_place : (p : Place) → k.place ≡ p → is_first s q (Some k) ≡ is_first t q (Some k)
           by_place (place.Bound a lo hi by.Founding) at = rw at refl
-          by_place (place.Bound a lo hi (by.FirstHole y)) at = rw at refl
-          by_place (place.Bound a lo hi by.Plan) at = rw at refl
-          by_place place.Line at = rw at refl
-          by_place (place.Passed a kept) at = rw at refl
-          by_place (place.Turn y) at = rw at refl
-          by_place (place.Direct y) at = rw at refl
-          by_place (place.Down why) at = rw at refl
-          by_place place.Over at = rw at refl
+          by_place _ at = rw at refl
 
   bound_list : (q : ℕ) → bound s q ≡ bound t q
   unfolding bound
@@ -181,8 +155,7 @@ module _ {B : Type 0} {g : Ghosts B} {limits : Limits} (r u : Rows B g) (t : Tab
       let absent : get nat_eq r.consumers c ≡ None = kept_none t (get nat_eq r.consumers c) (subst (λ o. KeepsConsumer t (get nat_eq r.consumers c) o) fresh (stands.consumers c)) in
       let len : hash_map_len u.consumers + 0 ≡ hash_map_len r.consumers + 1 = rw absent at becomes.len in
       let before : hash_map_len r.consumers ≡ counts.counted f t.starts = stands.count in
-      let all : hash_map_len u.consumers ≡ counts.counted h (c ∷ t.starts) = omega (arith, alike, more, lives, len, before) in
-      all
+      omega (arith, alike, more, lives, len, before)
 
   pub stands_started : IsEntered queues c request.key r.keys u.keys → RowsStand limits u s
   stands_started entered = record {

@@ -15,20 +15,12 @@ plans_move t law now want c v row idle = by_where v.place refl
     by_away : IsAway t v → (p : Place) → v.place ≡ p → is_idle_at p ≡ true → move_of t now want c v ≡ planned_move t now c v
     by_away away place.Line at on = rw (away.idle.unshown, away.unowned, at) refl
     by_away away (place.Passed r kept) at on = rw (away.idle.unshown, away.unowned, at) refl
-    by_away away (place.Turn x) at on = false_true on
-    by_away away (place.Bound r lo hi by) at on = false_true on
-    by_away away (place.Direct x) at on = false_true on
-    by_away away (place.Down why) at on = false_true on
-    by_away away place.Over at on = false_true on
+    by_away away _ at on = false_true on
 
     by_where : (p : Place) → v.place ≡ p → move_of t now want c v ≡ planned_move t now c v
     by_where place.Line at = by_away (law.places.line c v row at) place.Line at refl
     by_where (place.Passed r kept) at = by_away (law.places.passed c r kept v row at) (place.Passed r kept) at refl
-    by_where (place.Turn x) at = false_true (sym (ap is_idle_at at) ∙ idle)
-    by_where (place.Bound r lo hi by) at = false_true (sym (ap is_idle_at at) ∙ idle)
-    by_where (place.Direct x) at = false_true (sym (ap is_idle_at at) ∙ idle)
-    by_where (place.Down why) at = false_true (sym (ap is_idle_at at) ∙ idle)
-    by_where place.Over at = false_true (sym (ap is_idle_at at) ∙ idle)
+    by_where _ at = false_true (sym (ap is_idle_at at) ∙ idle)
 
 -- who has the turn waits for the head of its exchange
 pub turn_move : (t : Tables) (law : Lawful t) (now want c x : ℕ) (v : Consumer) → t.consumer c ≡ Some v → v.place ≡ place.Turn x → move_of t now want c v ≡ moves.Waits (wait.Head x)

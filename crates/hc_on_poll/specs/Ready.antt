@@ -1,18 +1,16 @@
 -- What a handler of a poll finds: who may wait, leave its line or ask the origin, and what is current.
-use Rattle.std.specs.Prelude.{◌≡◌, ◌<◌, ◌^◌, ℕ, nat_eq, Option, Some, IsSomeAnd}
+use Rattle.std.specs.Prelude.{◌≡◌, ◌<◌, ◌^◌, ℕ, nat_eq, Some, IsSomeAnd}
 use Rattle.std.specs.HashMap.{get}
 use Rattle.hc_store.specs.declared.backend.Backend.{Ghosts}
 use Rattle.hc_record.specs.Head.{Head}
-use Rattle.hc_sparse.specs.declared.run.Run.{Run}
 use Rattle.hc_stored.specs.Entries.{shelf_of}
 use Rattle.hc_stored.specs.Shelf.{head_at}
 use Rattle.hc_entry.specs.declared.keys.KeyTable.{KeyTable}
-use Rattle.hc_exch.specs.Exchanges.{next_of, table_of}
+use Rattle.hc_exch.specs.Exchanges.{next_of}
 use Rattle.hc_state.specs.declared.consumer.Consumer.{Consumer}
 use Rattle.hc_state.specs.declared.rows.Rows.{Rows}
 use Rattle.hc_state.specs.Handlers.{IsQueued}
 use Rattle.hc_state.specs.Plans.{IsIdle, IsKeptPassed, IsNext, IsWaiting, HasCurrent}
-use Rattle.hc_state.specs.Reads.{WaitsForNoHead, IsRunAhead, IsShownAt}
 use Rattle.hc_state.specs.Stands.{Stands}
 
 -- WHO READS NOTHING YET
@@ -49,12 +47,3 @@ pub record IsCurrentWith {B : Type 0} {g : Ghosts B} (r : Rows B g) (c q : ℕ) 
     Type 0 where
   pub current : IsSomeAnd (get nat_eq r.consumers c) (HasCurrent r.keys q)
   pub head : head_at (shelf_of r.entries) q ≡ Some stored
-
--- WHO READS ON
-
--- it was shown the head of q, waits for no other, and this is stored ahead of it, as much as it wants
-pub record ReadsAhead {B : Type 0} {g : Ghosts B} (r : Rows B g) (q want : ℕ) (run : Option Run)
-    (k : Consumer) : Type 0 where
-  pub shown : IsShownAt q k
-  pub heard : WaitsForNoHead (table_of r.exchanges) k
-  pub ahead : IsRunAhead (shelf_of r.entries) q want run k

@@ -9,8 +9,8 @@ ghost use Rattle.hc_on_poll.specs.Ready.{IsCurrentWith};
 
 use hc_event::{Request, Why};
 use hc_fresh::{RequestFacts, allowed_to, vary_matches};
-use hc_on_leave::writers::exclusive;
-use hc_on_leave::writing::writing;
+use hc_on_leave::writers::exclusive_in;
+use hc_on_leave::writing::writing_in;
 use hc_partial::first_hole;
 use hc_range::Span;
 use hc_record::StoredHead;
@@ -39,8 +39,8 @@ pub(crate) fn candidate<B: Backend>(
         vary: vary_matches(head, &consumer.request),
         span,
         hole: hole_of(rows, r, span),
-        writing: writing(rows, r).is_some(),
-        exclusive: exclusive(rows, r),
+        writing: writing_in(rows, &entry).is_some(),
+        exclusive: exclusive_in(rows, r, &entry),
         least_bound: rows.entries.bound(r).first().copied(),
     }
 }

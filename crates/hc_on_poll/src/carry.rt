@@ -1,5 +1,5 @@
 //! What is done for a consumer that reads nothing yet: its plan.
-ghost use Rattle.std.specs.Prelude.{◌≡◌, ◌≤◌, ◌<◌, ◌^◌, Some, None, nat_eq, true, is_some, IsSomeAnd, OnOk};
+ghost use Rattle.std.specs.Prelude.{◌≡◌, ◌≤◌, ◌<◌, ◌^◌, Some, None, nat_eq, IsSomeAnd, OnOk};
 ghost use Rattle.std.specs.HashMap.{get};
 ghost use Rattle.hc_event.specs.Acts.{act_list, spare};
 ghost use Rattle.hc_record.specs.Plain.{plain};
@@ -19,7 +19,7 @@ use hc_on_leave::leave::fail;
 use hc_on_leave::misread::misread_by;
 use hc_record::StoredHead;
 use hc_rules::{Plan, PlanView, plan_of};
-use hc_state::Rows;
+use hc_state::{Consumer, Rows};
 use hc_store::Backend;
 use hc_text::NoMemory;
 
@@ -40,26 +40,25 @@ pub(crate) fn carry_out<B: Backend>(
         (AnswersPoll rows.old rows.new (act_list out.old) (act_list out.new) now c) }
     ensures kept { KeepsFaults result rows.old rows.new (act_list out.old) (act_list out.new) }
 {
-    let view = plan_view(rows, now, c);
-    let Some(r) = looked_at(rows, c, &view) else {
+    let consumer = rows.consumers.get(&c).unwrap();
+    let view = plan_view(rows, now, c, consumer);
+    let Some(r) = looked_at(rows, consumer, &view) else {
         return carry_out_bare(rows, now, c, &view, out);
     };
     match rows.entries.head(r) {
         Ok(head) => {
             let current = Some(candidate(rows, now, c, r, &head));
             let plan = plan_of(&PlanView { current, ..view });
-            carry_out_plan(rows, now, c, r, &head, plan, out)
+            carry_out_plan(rows, now, c, r, head, plan, out)
         }
         Err(error) => misread_by(rows, now, c, r, error, out),
     }
 }
 
 /// What the plan of a consumer looks at, but for what is current.
-fn plan_view<B: Backend>(rows: &Rows<B>, now: u64, c: u64) -> PlanView
-    requires { is_some (get nat_eq rows.now.consumers c) ≡ true }
-    ensures { IsSomeAnd (get nat_eq rows.now.consumers c) (PlanViewIs rows.now now c result) }
+fn plan_view<B: Backend>(rows: &Rows<B>, now: u64, c: u64, consumer: &Consumer) -> PlanView
+    ensures { PlanViewIs rows.now now c result consumer.now }
 {
-    let consumer = rows.consumers.get(&c).unwrap();
     let (passed, kept) = match consumer.place {
         Place::Passed { kept, .. } => (true, kept),
         _ => (false, None),
@@ -77,15 +76,12 @@ fn plan_view<B: Backend>(rows: &Rows<B>, now: u64, c: u64) -> PlanView
 }
 
 /// What is current for the consumer, where its plan depends on that.
-fn looked_at<B: Backend>(rows: &Rows<B>, c: u64, view: &PlanView) -> Option<u64>
-    requires { is_some (get nat_eq rows.now.consumers c) ≡ true }
-    ensures { IsSomeAnd (get nat_eq rows.now.consumers c)
-        (IsLookedAt rows.now.keys view.now result) }
+fn looked_at<B: Backend>(rows: &Rows<B>, consumer: &Consumer, view: &PlanView) -> Option<u64>
+    ensures { IsLookedAt rows.now.keys view.now result consumer.now }
 {
     if !looks_at_stored(view) {
         return None;
     }
-    let consumer = rows.consumers.get(&c).unwrap();
     rows.keys.current(&consumer.request.key)
 }
 
@@ -95,13 +91,13 @@ fn carry_out_plan<B: Backend>(
     now: u64,
     c: u64,
     r: u64,
-    head: &StoredHead,
+    head: StoredHead,
     plan: Plan,
     out: &mut Acts,
 ) -> Result<(), NoMemory>
     requires opens { MayOpen rows.old }
     requires idle { IsSomeAnd (get nat_eq rows.old.consumers c) IsIdle }
-    requires current { IsCurrentWith rows.old c r (plain head.now) }
+    requires current { IsCurrentWith rows.old c r (plain head) }
     requires plan { IsPlanOf rows.old now c plan }
     requires room { 3 ≤ spare out.old }
     ensures answers { OnOk result
@@ -115,13 +111,13 @@ fn carry_out_plan<B: Backend>(
             Ok(())
         }
         Plan::Fetch(need) => match need {
-            Need::Validate => revalidate(rows, now, c, head, out),
+            Need::Validate => revalidate(rows, now, c, &head, out),
             Need::Bypass => bypass(rows, now, c, out),
             _ => fetch(rows, now, c, need, out),
         },
         Plan::Bind { why, span } => bind(rows, c, r, head, why, span, out),
         Plan::FirstHole { span, hole } => {
-            open_first_hole(rows, now, c, r, head, span, hole, out)
+            open_first_hole(rows, now, c, r, &head, span, hole, out)
         }
         Plan::Busy { d, .. } => {
             wait_for_use(rows, c, r, d, out);

@@ -11,7 +11,7 @@ ghost use Rattle.hc_state.specs.Handlers.{HasTurn};
 
 use crate::carry::carry_out;
 use crate::past::{await_answer, read_past};
-use crate::read::read_bound;
+use crate::read::{Reader, read_bound};
 use crate::shown::await_stored;
 use crate::wait::wait;
 use hc_event::{Acts, Place, Wait};
@@ -56,7 +56,10 @@ pub fn poll<B: Backend>(
             Ok(())
         }
         Place::Bound { r, by, .. } if !consumer.shown => await_stored(rows, now, c, r, by, out),
-        Place::Bound { r, .. } => read_bound(rows, now, c, r, want, out),
+        Place::Bound { r, .. } => {
+            let reader = Reader::of(c, r, consumer);
+            read_bound(rows, now, reader, want, out)
+        }
         Place::Over => unreachable!(),
     }
 }

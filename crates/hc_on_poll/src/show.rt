@@ -13,7 +13,7 @@ ghost use Rattle.hc_on_poll.specs.Ready.{IsCurrentWith, MayLeaveLine};
 
 use hc_event::{Act, Acts, Response, Why};
 use hc_on_leave::acts::put;
-use hc_on_leave::leave::leave_line;
+use hc_on_leave::leave::leave_line_in;
 use hc_range::Span;
 use hc_record::StoredHead;
 use hc_state::{Rows, bind_shown};
@@ -26,20 +26,20 @@ pub(crate) fn bind<B: Backend>(
     rows: &mut Rows<B>,
     c: u64,
     r: u64,
-    head: &StoredHead,
+    head: StoredHead,
     why: Why,
     span: Option<Span>,
     out: &mut Acts,
 ) -> Result<(), NoMemory>
     requires leaves { IsSomeAnd (get nat_eq rows.old.consumers c) (MayLeaveLine rows.old.keys c) }
     requires part { IsSomeAnd (get nat_eq rows.old.consumers c)
-        (IsShownPart (plain head.now) span) }
-    requires current { IsCurrentWith rows.old c r (plain head.now) }
+        (IsShownPart (plain head) span) }
+    requires current { IsCurrentWith rows.old c r (plain head) }
     requires admits { admits c ((shelf_of rows.old.entries).kept r) ≡ true }
     requires room { 1 ≤ spare out.old }
     ensures answers { OnOk result (IsSomeAnd (get nat_eq rows.old.consumers c)
         (AnswersShowing rows.old rows.new (act_list out.old) (act_list out.new)
-        c r (plain head.now) why span)) }
+        c r (plain head) why span)) }
     ensures exchanges { OnOk result (rows.new.exchanges ≡ rows.old.exchanges) }
     ensures kept { AddsNoFault result rows.old rows.new (act_list out.old) (act_list out.new) }
 {
@@ -48,7 +48,7 @@ pub(crate) fn bind<B: Backend>(
     let ranged = consumer.class.range.is_some();
     let shown = shown(head, why, span_to(lo, hi), ranged)?;
     rows.entries.bind(r, c)?;
-    leave_line(rows, c);
+    leave_line_in(&mut rows.keys, consumer, c);
     bind_shown(&mut rows.consumers, c, r, lo, hi);
     put_shown(c, r, why, shown, lo, hi, out);
     Ok(())

@@ -75,7 +75,7 @@ fn show_stored<B: Backend>(
     let ranged = is_part(consumer.class, by, head.status);
     let why = why_shown(r, by);
     head.total = head.total.or(hi);
-    let shown = shown(&head, why, span_to(lo, hi), ranged)?;
+    let shown = shown(head, why, span_to(lo, hi), ranged)?;
     show(&mut rows.consumers, c);
     put_shown(c, r, why, shown, lo, hi, out);
     Ok(())

@@ -1,8 +1,14 @@
+-- What `carry_out` needs of its calls, and what it answers by the plan of its consumer.
+--
+-- Its plan is that of whatever tables the rows represent: without what is current by `unlooked_plan`, and else by
+-- `some_plan_at`. What is looked at is current for its key (`looked_current`). Its head is read between, which keeps the
+-- rows but for the count of faults. So what they represent stays (`read_some`, `read_current`), and what is answered then is
+-- answered (`read_answers`). Where it can't be read, `misread_by` answers.
 use Rattle.std.{proofs.{Common.{Some, nat_eq, subst}, Math.Logic.{∥∥₁_map}}, specs.HashMap.{get}}
 use Rattle.hc_effects.proofs.Vocabulary.{act_list}
 use Rattle.hc_record.specs.Plain.{plain}
-use Rattle.hc_state.specs.{Kept.{KeepsConsumer}, Plans.{PlanViewIs, IsLookedAt, IsIdle, HasCurrent}}
-use Rattle.hc_state.proofs.{Maps.{known_of}, Words.{there, ok_then, on_ok_two}}
+use Rattle.hc_state.specs.{Kept.{KeepsConsumer}, Plans.{IsIdle, HasCurrent}}
+use Rattle.hc_state.proofs.{Maps.{known_of, lent, some_that}, Words.{ok_then, on_ok_two}}
 use Rattle.hc_on_poll.proofs.PlanHandlers.{unlooked_plan, some_plan_at, looked_current, current_kept, fault_only, read_current, read_until, read_some, read_answers, read_fault}
 use Rattle.hc_on_poll.proofs.carry.carry_out.Goals as goal
 
@@ -13,23 +19,31 @@ pub carry_out_bare-requires-clause-plan : goal.carry_out_bare-requires-clause-pl
 carry_out_bare-requires-clause-plan g c = λ limits t v facts stands row.
     let r = c.args.rows.now in
     let at_row = get nat_eq r.consumers c.args.c in
-    let (k, at, idle) = there at_row IsIdle c.requires.idle in
+    let k = c.unwrap-consumer.result.now in
+    let at = lent c.get.result at_row c.unwrap-consumer.result c.get.ensures.value c.unwrap-consumer.ensures in
     let kept = subst (KeepsConsumer t (Some k)) row (subst (λ o. KeepsConsumer t o (t.consumer c.args.c)) at (stands.consumers c.args.c)) in
-    unlooked_plan r t facts stands c.args.c k v row kept idle c.args.now c.plan_view-view.result (known_of at_row k (PlanViewIs r c.args.now c.args.c c.plan_view-view.result) at c.plan_view-view.ensures)
-    c.looked_at.result (known_of at_row k (IsLookedAt r.keys c.plan_view-view.result c.looked_at.result) at c.looked_at.ensures) c.in_default.is
+    unlooked_plan r t facts stands c.args.c k v row kept (known_of at_row k IsIdle at c.requires.idle) c.args.now c.plan_view-view.result c.plan_view-view.ensures c.looked_at.result c.looked_at.ensures c.in_default.is
 
 pub head-requires : goal.head-requires
 head-requires g c =
-    current_kept c.args.rows.now (∥∥₁_map c.requires.stands (λ u. u.0)) c.args.now c.args.c c.requires.idle c.in-Some.r
-    (looked_current (get nat_eq c.args.rows.now.consumers c.args.c) c.args.rows.now.keys c.plan_view-view.result c.looked_at.result c.in-Some.r c.looked_at.ensures c.in-Some.is)
+    let r = c.args.rows.now in
+    let at_row = get nat_eq r.consumers c.args.c in
+    let k = c.unwrap-consumer.result.now in
+    let at = lent c.get.result at_row c.unwrap-consumer.result c.get.ensures.value c.unwrap-consumer.ensures in
+    current_kept r (∥∥₁_map c.requires.stands (λ u. u.0)) c.args.now c.args.c c.requires.idle c.in-Some.r
+    (some_that at_row k (HasCurrent r.keys c.in-Some.r) at (looked_current k r.keys c.plan_view-view.result c.looked_at.result c.in-Some.r c.looked_at.ensures c.in-Some.is))
 
 pub candidate-requires-clause-stands : goal.candidate-requires-clause-stands
 candidate-requires-clause-stands g c = read_until c.args.rows.now c.head.new.self c.head.ensures.same c.args.now c.requires.stands
 
 pub candidate-requires-clause-current : goal.candidate-requires-clause-current
 candidate-requires-clause-current g c =
-    read_current c.args.rows.now c.head.new.self c.head.ensures.same c.args.c c.in-Some.r (plain c.in-Ok.head)
-    (looked_current (get nat_eq c.args.rows.now.consumers c.args.c) c.args.rows.now.keys c.plan_view-view.result c.looked_at.result c.in-Some.r c.looked_at.ensures c.in-Some.is) c.in-Ok.ensures.head
+    let r = c.args.rows.now in
+    let at_row = get nat_eq r.consumers c.args.c in
+    let k = c.unwrap-consumer.result.now in
+    let at = lent c.get.result at_row c.unwrap-consumer.result c.get.ensures.value c.unwrap-consumer.ensures in
+    read_current r c.head.new.self c.head.ensures.same c.args.c c.in-Some.r (plain c.in-Ok.head)
+    (some_that at_row k (HasCurrent r.keys c.in-Some.r) at (looked_current k r.keys c.plan_view-view.result c.looked_at.result c.in-Some.r c.looked_at.ensures c.in-Some.is)) c.in-Ok.ensures.head
 
 pub carry_out_plan-requires-clause-opens : goal.carry_out_plan-requires-clause-opens
 carry_out_plan-requires-clause-opens g c = record { stands = read_some c.args.rows.now c.head.new.self c.head.ensures.same c.args.now c.requires.stands; few = c.requires.few }
@@ -38,11 +52,12 @@ pub carry_out_plan-requires-clause-plan : goal.carry_out_plan-requires-clause-pl
 carry_out_plan-requires-clause-plan g c = λ limits t v facts stands row.
     let r = c.args.rows.now in
     let at_row = get nat_eq r.consumers c.args.c in
-    let (k, at, idle) = there at_row IsIdle c.requires.idle in
+    let k = c.unwrap-consumer.result.now in
+    let at = lent c.get.result at_row c.unwrap-consumer.result c.get.ensures.value c.unwrap-consumer.ensures in
     let kept = subst (KeepsConsumer t (Some k)) row (subst (λ o. KeepsConsumer t o (t.consumer c.args.c)) at (stands.consumers c.args.c)) in
-    let held = looked_current at_row r.keys c.plan_view-view.result c.looked_at.result c.in-Some.r c.looked_at.ensures c.in-Some.is in
-    some_plan_at (record r { entries = c.head.new.self }) t facts stands c.args.c k v row kept idle c.args.now c.plan_view-view.result (known_of at_row k (PlanViewIs r c.args.now c.args.c c.plan_view-view.result) at c.plan_view-view.ensures)
-    c.in-Some.r c.candidate.result (known_of at_row k (HasCurrent r.keys c.in-Some.r) at held) (c.candidate.ensures _ t v) c.plan_of-plan.result c.plan_of-plan.ensures
+    let held = looked_current k r.keys c.plan_view-view.result c.looked_at.result c.in-Some.r c.looked_at.ensures c.in-Some.is in
+    some_plan_at (record r { entries = c.head.new.self }) t facts stands c.args.c k v row kept (known_of at_row k IsIdle at c.requires.idle) c.args.now c.plan_view-view.result c.plan_view-view.ensures
+    c.in-Some.r c.candidate.result held (c.candidate.ensures _ t v) c.plan_of-plan.result c.plan_of-plan.ensures
 
 pub misread_by-requires-clause-stands : goal.misread_by-requires-clause-stands
 misread_by-requires-clause-stands g c = read_some c.args.rows.now c.head.new.self c.head.ensures.same c.args.now c.requires.stands
@@ -54,7 +69,11 @@ returns-in-Ok-clause-answers g c =
 
 pub returns-in-Err-clause-answers : goal.returns-in-Err-clause-answers
 returns-in-Err-clause-answers g c =
+    let r = c.args.rows.now in
+    let at_row = get nat_eq r.consumers c.args.c in
+    let k = c.unwrap-consumer.result.now in
+    let at = lent c.get.result at_row c.unwrap-consumer.result c.get.ensures.value c.unwrap-consumer.ensures in
     on_ok_two c.misread_by.result c.misread_by.ensures.failed c.misread_by.ensures.answers (λ other.
-    read_fault c.args.rows.now c.head.new.self c.head.ensures.same (c.head.ensures.cause.fault (fault_only c.head.result c.in-Err.error c.in-Err.is c.head.ensures.no_limit other))
+    read_fault r c.head.new.self c.head.ensures.same (c.head.ensures.cause.fault (fault_only c.head.result c.in-Err.error c.in-Err.is c.head.ensures.no_limit other))
     c.misread_by.new.rows (act_list c.args.out.now) (act_list c.misread_by.new.out) c.args.now c.args.c c.in-Some.r c.requires.idle
-    (looked_current (get nat_eq c.args.rows.now.consumers c.args.c) c.args.rows.now.keys c.plan_view-view.result c.looked_at.result c.in-Some.r c.looked_at.ensures c.in-Some.is))
+    (some_that at_row k (HasCurrent r.keys c.in-Some.r) at (looked_current k r.keys c.plan_view-view.result c.looked_at.result c.in-Some.r c.looked_at.ensures c.in-Some.is)))

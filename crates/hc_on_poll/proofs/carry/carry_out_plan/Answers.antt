@@ -43,7 +43,7 @@ bind-requires-clause-admits g c = current_admits c.args.rows.now c.requires.open
 pub bind-requires-clause-part : goal.bind-requires-clause-part
 bind-requires-clause-part g c =
     let r = c.args.rows.now in
-    part_there r c.requires.opens.stands c.args.now c.args.c c.requires.idle c.args.r c.args.head.now c.requires.current.current c.requires.current.head c.in-Bind.why c.in-Bind.span
+    part_there r c.requires.opens.stands c.args.now c.args.c c.requires.idle c.args.r c.args.head c.requires.current.current c.requires.current.head c.in-Bind.why c.in-Bind.span
     (plan_same r c.args.now c.args.c _ (plan.Bind c.in-Bind.why c.in-Bind.span) c.requires.plan c.in-Bind.is)
 
 pub open_first_hole-requires-clause-within_limits : goal.open_first_hole-requires-clause-within_limits
@@ -52,19 +52,19 @@ open_first_hole-requires-clause-within_limits g c = limits_there c.args.rows.now
 pub open_first_hole-requires-clause-passes : goal.open_first_hole-requires-clause-passes
 open_first_hole-requires-clause-passes g c =
     let r = c.args.rows.now in
-    filling_passes r c.requires.opens.stands c.args.now c.args.c c.requires.idle c.args.r c.args.head.now c.requires.current.current c.requires.current.head c.in-FirstHole.span c.in-FirstHole.hole
+    filling_passes r c.requires.opens.stands c.args.now c.args.c c.requires.idle c.args.r c.args.head c.requires.current.current c.requires.current.head c.in-FirstHole.span c.in-FirstHole.hole
     (plan_same r c.args.now c.args.c _ (plan.FirstHole c.in-FirstHole.span c.in-FirstHole.hole) c.requires.plan c.in-FirstHole.is)
 
 pub open_first_hole-requires-clause-admits : goal.open_first_hole-requires-clause-admits
 open_first_hole-requires-clause-admits g c =
     let r = c.args.rows.now in
-    filling_alone r c.requires.opens.stands c.args.now c.args.c c.requires.idle c.args.r c.args.head.now c.requires.current.current c.requires.current.head c.in-FirstHole.span c.in-FirstHole.hole
+    filling_alone r c.requires.opens.stands c.args.now c.args.c c.requires.idle c.args.r c.args.head c.requires.current.current c.requires.current.head c.in-FirstHole.span c.in-FirstHole.hole
     (plan_same r c.args.now c.args.c _ (plan.FirstHole c.in-FirstHole.span c.in-FirstHole.hole) c.requires.plan c.in-FirstHole.is)
 
 pub open_first_hole-requires-clause-hole : goal.open_first_hole-requires-clause-hole
 open_first_hole-requires-clause-hole g c =
     let r = c.args.rows.now in
-    filling_hole r c.requires.opens.stands c.args.now c.args.c c.requires.idle c.args.r c.args.head.now c.requires.current.current c.requires.current.head c.in-FirstHole.span c.in-FirstHole.hole
+    filling_hole r c.requires.opens.stands c.args.now c.args.c c.requires.idle c.args.r c.args.head c.requires.current.current c.requires.current.head c.in-FirstHole.span c.in-FirstHole.hole
     (plan_same r c.args.now c.args.c _ (plan.FirstHole c.in-FirstHole.span c.in-FirstHole.hole) c.requires.plan c.in-FirstHole.is)
 
 pub wait_for_use-requires-clause-passes : goal.wait_for_use-requires-clause-passes
@@ -88,7 +88,7 @@ returns-in-Validate-clause-answers g c =
     let r = c.args.rows.now in
     let is = plan_same r c.args.now c.args.c _ (plan.Fetch needs.Validate) c.requires.plan (c.in-Fetch.is ∙ ap plan.Fetch c.in-Validate.is) in
     ok_then c.revalidate.result c.revalidate.ensures.answers
-    (validate_answers r c.requires.opens.stands c.args.now c.args.c c.requires.idle c.revalidate.new.rows (act_list c.args.out.now) (act_list c.revalidate.new.out) c.args.r c.args.head.now c.requires.current.current c.requires.current.head is)
+    (validate_answers r c.requires.opens.stands c.args.now c.args.c c.requires.idle c.revalidate.new.rows (act_list c.args.out.now) (act_list c.revalidate.new.out) c.args.r c.args.head c.requires.current.current c.requires.current.head is)
 
 pub returns-in-Bypass-clause-answers : goal.returns-in-Bypass-clause-answers
 returns-in-Bypass-clause-answers g c =
@@ -97,8 +97,8 @@ returns-in-Bypass-clause-answers g c =
     ok_then c.bypass.result c.bypass.ensures.answers
     (fetch_answers r c.requires.opens.stands c.args.now c.args.c c.requires.idle c.bypass.new.rows (act_list c.args.out.now) (act_list c.bypass.new.out) needs.Bypass (λ same. let never : needs.Bypass ≡ needs.Validate = same in cc) is)
 
-pub returns-in_default-clause-answers : goal.returns-in_default-clause-answers
-returns-in_default-clause-answers g c =
+pub returns-in-Fetch-clause-answers : goal.returns-in-Fetch-clause-answers
+returns-in-Fetch-clause-answers g c =
     let r = c.args.rows.now in
     let is = plan_same r c.args.now c.args.c _ (plan.Fetch c.in-Fetch.need) c.requires.plan c.in-Fetch.is in
     ok_then c.fetch.result c.fetch.ensures.answers
@@ -110,8 +110,9 @@ returns-in-Busy-clause-answers g c =
     let is = plan_same r c.args.now c.args.c _ (plan.Busy c.in-Busy.d c.in-Busy.kept) c.requires.plan c.in-Busy.is in
     busy_answers r c.requires.opens.stands c.args.now c.args.c c.requires.idle c.wait_for_use.new.rows (act_list c.args.out.now) (act_list c.wait_for_use.new.out) c.in-Busy.d c.in-Busy.kept is c.wait_for_use.ensures.answers
 
-pub returns-in-Miss-clause-answers : goal.returns-in-Miss-clause-answers
-returns-in-Miss-clause-answers g c =
+-- where its plan is to fail
+pub returns-clause-answers : goal.returns-clause-answers
+returns-clause-answers g c =
     let r = c.args.rows.now in
     let is = plan_same r c.args.now c.args.c _ plan.Miss c.requires.plan c.in-Miss.is in
     miss_answers r c.requires.opens.stands c.args.now c.args.c c.requires.idle c.fail.new.rows (act_list c.args.out.now) (act_list c.fail.new.out) is c.fail.ensures.answers
@@ -121,11 +122,11 @@ returns-in-Bind-clause-answers g c =
     let r = c.args.rows.now in
     let is = plan_same r c.args.now c.args.c _ (plan.Bind c.in-Bind.why c.in-Bind.span) c.requires.plan c.in-Bind.is in
     ok_then c.bind.result c.bind.ensures.answers
-    (bind_answers r c.requires.opens.stands c.args.now c.args.c c.requires.idle c.bind.new.rows (act_list c.args.out.now) (act_list c.bind.new.out) c.in-Bind.why c.in-Bind.span c.args.r c.args.head.now c.requires.current.current c.requires.current.head is)
+    (bind_answers r c.requires.opens.stands c.args.now c.args.c c.requires.idle c.bind.new.rows (act_list c.args.out.now) (act_list c.bind.new.out) c.in-Bind.why c.in-Bind.span c.args.r c.args.head c.requires.current.current c.requires.current.head is)
 
 pub returns-in-FirstHole-clause-answers : goal.returns-in-FirstHole-clause-answers
 returns-in-FirstHole-clause-answers g c =
     let r = c.args.rows.now in
     let is = plan_same r c.args.now c.args.c _ (plan.FirstHole c.in-FirstHole.span c.in-FirstHole.hole) c.requires.plan c.in-FirstHole.is in
     ok_then c.open_first_hole.result c.open_first_hole.ensures.answers
-    (filling_answers r c.requires.opens.stands c.args.now c.args.c c.requires.idle c.args.r c.args.head.now c.requires.current.current c.requires.current.head c.in-FirstHole.span c.in-FirstHole.hole is c.open_first_hole.new.rows (act_list c.args.out.now) (act_list c.open_first_hole.new.out))
+    (filling_answers r c.requires.opens.stands c.args.now c.args.c c.requires.idle c.args.r c.args.head c.requires.current.current c.requires.current.head c.in-FirstHole.span c.in-FirstHole.hole is c.open_first_hole.new.rows (act_list c.args.out.now) (act_list c.open_first_hole.new.out))

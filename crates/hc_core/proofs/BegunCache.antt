@@ -1,5 +1,5 @@
 -- A cache that begins with contents represents the history that has no entry yet.
-use Rattle.std.{proofs.{Common.{◌≡◌, inl, inr, ◌+◌, ◌≤◌, ◌<◌, ◌^◌, List, [], ◌∷◌, map, true, None, Some, refl, ap, sym, ◌∙◌, subst, arith}, lemmas.Bool.{cases_Bool, Decides.{nat_tests}}}, specs.Prelude.{find, nat_lt, ◌==◌}}
+use Rattle.std.{proofs.{Common.{◌≡◌, inl, inr, ◌+◌, ◌≤◌, ◌<◌, ◌^◌, List, [], ◌∷◌, map, true, None, Some, refl, ap, sym, ◌∙◌, subst, arith}, lemmas.Bool.{cases_Bool, Decides.{nat_tests}}}, specs.Prelude.{find, ◌==◌}}
 use Rattle.hc_text.proofs.Basics.{and_left, and_right, some_inj as some_is}
 use Rattle.hc_stored.specs.Entries.{shelf_of}
 use Rattle.hc_store.specs.declared.backend.Backend.{Ghosts}
@@ -50,11 +50,7 @@ next_begun_with r contents may rows = let fits = next_fits (shelf_of r.entries).
 -- the moment and the number of who started last are below 2 ^ 62
 pub numbers_fit : (limits : Limits) (contents : Contents) → may_begin limits contents ≡ true → (contents.now < 2 ^ 62) × (contents.last_consumer < 2 ^ 62)
 unfolding may_begin
-numbers_fit limits contents may =
-    let upto_consumer = and_left _ _ (and_left _ _ (and_left _ _ may)) in
-    let consumer : nat_lt contents.last_consumer (2 ^ 62) ≡ true = and_right _ _ upto_consumer in
-    let now : nat_lt contents.now (2 ^ 62) ≡ true = and_right _ _ (and_left _ _ upto_consumer) in
-    (grind (arith, nat_tests, now), grind (arith, nat_tests, consumer))
+numbers_fit limits contents may = grind (arith, nat_tests, and_left, and_right)
 
 pub small_begun_with : {B : Type 0} {g : Ghosts B} (r : Rows B g) (contents : coded_all.Contents) → may_begin (shelf_of r.entries).limits (plain_contents contents) ≡ true → RowsStand (shelf_of r.entries).limits r (first_tables (plain_contents contents)) → r.last_start < 2 ^ 62
 small_begun_with r contents may rows = subst (λ n. n < 2 ^ 62) (sym rows.last_start) (numbers_fit (shelf_of r.entries).limits (plain_contents contents) may).1

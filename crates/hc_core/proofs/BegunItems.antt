@@ -4,16 +4,15 @@
 -- ascend. So each next one is put where no byte is yet, and within the limits (`more_put`). `AreKept` is of items: each
 -- is good, so its number is new, its weight fits, and by `BegunRows` the rows represent one item more
 -- (`one_more_kept`). The loops of `put_runs` and `begin_with` use these, and so does `with_contents`.
-use Rattle.std.{proofs.{Common.{◌≡◌, ◌⊎◌, ℕ, zero, suc, ◌+◌, ◌<◌, ◌≤◌, ◌^◌, max, map, reverse, List, [], ◌∷◌, ◌++◌, length, take, drop, get_or, Bool, true, false, cond, eqb, Option, Some, None, refl, ap, sym, ◌∙◌, subst, inl, inr, arith, take_all}, lemmas.{Bool.{cases_Bool, eqb-true, Decides.{nat_tests}}, List.{reverse-append, append_assoc, Folds.{list_any-append}, Sums.{sum_by-cons, sum_by-append, sum_by-take-le}}}}, specs.{Prelude.{Ok, Err, is_some, option_map, find, nat_le, nat_lt, ◌==◌, ◌&&◌, ◌||◌, not, if◌then◌else◌}, List.{list_any}, Option.{ForSome}}}
-use Rattle.hc_store.specs.{declared.backend.Backend.{Ghosts}, Causes.{HasCause}}
-use Rattle.hc_store.specs.declared.error.StoreError.TheVariants as error
-use Rattle.hc_text.proofs.Basics.{and_left, and_right, eqb-same, false_true, not_true as not_is}
+use Rattle.std.{proofs.{Common.{◌≡◌, ◌⊎◌, ℕ, zero, suc, ◌+◌, ◌<◌, ◌≤◌, ◌^◌, max, map, reverse, List, [], ◌∷◌, ◌++◌, length, take, drop, get_or, Bool, true, false, cond, eqb, Option, Some, None, refl, ap, sym, ◌∙◌, subst, inl, inr, arith, take_all}, lemmas.{Bool.{cases_Bool, eqb-true, Decides.{nat_tests}}, List.{reverse-append, append_assoc, Folds.{list_any-append}, Sums.{sum_by-append, sum_by-take-le}}}}, specs.{Prelude.{Ok, Err, is_some, option_map, find, nat_le, nat_lt, ◌==◌, ◌&&◌, ◌||◌, not, if◌then◌else◌}, List.{list_any}, Option.{ForSome}}}
+use Rattle.hc_store.specs.{declared.{backend.Backend.{Ghosts}, error.StoreError.TheVariants.{the_data as error}}, Causes.{HasCause}}
+use Rattle.hc_text.proofs.Basics.{and_left, and_right, eqb-same, not_true as not_is}
 use Rattle.hc_sparse.specs.{Cells.{AreAbsent, EndsBy, size, cells_with}, Runs.{end_of}, declared.run.Run.{Run}}
 use Rattle.hc_sparse.proofs.{CellLemmas.{inside-past}, SizeLemmas.{size-put}}
-use Rattle.hc_effects.proofs.Vocabulary.{Limits, weight_of, ascend_from, is_kind_right, is_good, are_good, says, has_own_numbers, weights_of, may_begin, has_right_head, Content, Contents, Representation, first_tables, representation_of_content, last_end, bytes_in}
-use Rattle.hc_stored.specs.{Begun.{with_runs}, Kept.{Kept, kept_with_bytes}, Shelf.{Shelf, Becomes, is_kept, cells_in, cells_at, size_at, same_order}, Entries.{shelf_of}}
-use Rattle.hc_effects.proofs.{Basics.{or_false, append_none}, Tests.{none_some}}
-use Rattle.hc_state.specs.{declared.rows.Rows.{Rows}, Stands.{RowsStand}, Stored.{KeepsEntry}}
+use Rattle.hc_effects.proofs.Vocabulary.{Limits, weight_of, ascend_from, is_kind_right, is_good, are_good, says, has_own_numbers, weights_of, may_begin, has_right_head, Content, Contents, first_tables, last_end, bytes_in}
+use Rattle.hc_stored.specs.{Begun.{with_runs}, Kept.{Kept, kept_with_bytes}, Shelf.{Shelf, Becomes, is_kept, cells_at, size_at, same_order}, Entries.{shelf_of}}
+use Rattle.hc_effects.proofs.{Basics.{or_false, append_none}}
+use Rattle.hc_state.specs.{declared.rows.Rows.{Rows}, Stands.{RowsStand}}
 use Rattle.hc_core.specs.Begins.{with_items, KeepsItem}
 use Rattle.hc_contents.specs.declared.contents.Content as coded
 use Rattle.hc_contents.specs.declared.contents.Contents as coded_all
@@ -44,9 +43,6 @@ is_placed n x runs i run good lt is = let p = placed n x runs i run good lt is i
         let low_test : nat_le n first.at ≡ true = and_left _ _ (and_left _ _ (and_left _ _ good)) in
         let low : n ≤ first.at = grind (arith, nat_tests) in
         let rest = placed (end_of first) first.x runs i run (and_right _ _ good) (omega arith) is in
-        let past : end_of first ≤ run.at = rest.0 in
-        let behind : last_end (take i runs) ≤ run.at = rest.1 in
-        let within : end_of run ≤ last_end runs = rest.3 in
         (omega arith, omega arith, rest.2, omega arith)
 
 end_more : (runs : List Run) (run : Run) → last_end (runs ++ run ∷ []) ≡ max (last_end runs) (end_of run)
@@ -56,8 +52,7 @@ end_more (first ∷ runs) run = let rest = end_more runs run in omega (arith, re
 bytes_more : (runs : List Run) (run : Run) → bytes_in (runs ++ run ∷ []) ≡ bytes_in runs + length run.bytes
 bytes_more runs run =
     let both = sum_by-append (λ (r : Run). length r.bytes) runs (run ∷ []) in
-    let one = sum_by-cons (λ (r : Run). length r.bytes) run [] in
-    omega (arith, both, one)
+    grind (arith, nat_tests)
 
 pub take_next : {A : Type 0} (xs : List A) (i : ℕ) (x : A) → i < length xs → x ≡ get_or xs i x → take (i + 1) xs ≡ take i xs ++ x ∷ []
 take_next {A = A} xs i x lt is = (let next : i + 1 ≡ suc i = omega arith in ap (λ n. take n xs) next) ∙ at xs i lt is
@@ -68,8 +63,7 @@ take_next {A = A} xs i x lt is = (let next : i + 1 ≡ suc i = omega arith in ap
     at (y ∷ ys) (suc i) lt is = ap (λ zs. y ∷ zs) (at ys i (omega arith) is)
 
 twice : (f h k : Kept → Kept) (o : Option Kept) → ((z : Kept) → k z ≡ f (h z)) → option_map f (option_map h o) ≡ option_map k o
-twice f h k None is = refl
-twice f h k (Some z) is = ap Some (sym (is z))
+twice f h k o is = grind (arith, nat_tests)
 
 -- so many runs were put into what had no byte
 pub record ArePut (a u : Shelf) (r : ℕ) (runs : List Run) : Type 0 where
@@ -98,11 +92,7 @@ none_put a r size none = record {
 
 -- it is still kept
 pub still_kept : (a m : Shelf) (r : ℕ) (done : List Run) → is_kept a r ≡ true → ArePut a m r done → is_kept m r ≡ true
-still_kept a m r done there before = ap is_some (before.becomes.kept r ∙ rw (eqb-same r) refl) ∙ still (a.kept r) there
-  where
-    still : (o : Option Kept) → is_some o ≡ true → is_some (option_map (with_runs done) o) ≡ true
-    still None there = there
-    still (Some k) there = refl
+still_kept a m r done there before = grind (arith, nat_tests)
 
 module _ (a m u : Shelf) (r i : ℕ) (runs : List Run) (run : Run) (there : is_kept a r ≡ true) (lt : i < length runs) (is : run ≡ get_or runs i run) (placed : IsPlaced runs i run)
     (before : ArePut a m r (take i runs)) (puts : Becomes (option_map (kept_with_bytes run.at run.x run.bytes None)) same_order r m u) (used : u.used ≡ m.used + length run.bytes) (faults : u.faults ≡ m.faults) (fits : last_end runs ≤ 2 ^ 62) where
@@ -122,11 +112,7 @@ module _ (a m u : Shelf) (r i : ℕ) (runs : List Run) (run : Run) (there : is_k
   kept_now = puts.kept r ∙ rw (eqb-same r) refl
 
   cells_now : (p : ℕ) → cells_at u r p ≡ cells_with run.at run.x run.bytes (cells_at m r) p
-  cells_now p = ap (λ (o : Option Kept). cells_in o p) kept_now ∙ by_kept (m.kept r) kept_still
-    where
-      by_kept : (o : Option Kept) → is_some o ≡ true → cells_in (option_map (kept_with_bytes run.at run.x run.bytes None) o) p ≡ cells_with run.at run.x run.bytes (cells_in o) p
-      by_kept None there = false_true there
-      by_kept (Some k) there = refl
+  cells_now p = grind (arith, nat_tests)
 
   becomes_now : Becomes (option_map (with_runs (done ++ run ∷ []))) same_order r a u
   becomes_now = record {
@@ -187,13 +173,7 @@ unsaid r (item ∷ items) off =
 any_reverse : {A : Type 0} (test : A → Bool) (xs : List A) → list_any test (reverse xs) ≡ list_any test xs
 any_reverse test [] = refl
 any_reverse test (x ∷ xs) =
-    ap (list_any test) (reverse-append (x ∷ []) xs) ∙ (list_any-append test (reverse xs) (x ∷ []) ∙ (rw (any_reverse test xs) (turned (test x) (list_any test xs))))
-  where
-    turned : (a b : Bool) → (b || (a || false)) ≡ (a || b)
-    turned true true = refl
-    turned true false = refl
-    turned false true = refl
-    turned false false = refl
+    ap (list_any test) (reverse-append (x ∷ []) xs) ∙ (list_any-append test (reverse xs) (x ∷ []) ∙ (rw (any_reverse test xs) (grind (arith, nat_tests))))
 
 good_from : (limits : Limits) (contents : Contents) (earlier items : List Content) (i : ℕ) (item : Content) → are_good limits contents earlier items ≡ true → i < length items → item ≡ get_or items i item
     → is_good limits contents (reverse (take i items) ++ earlier) item (drop (suc i) items) ≡ true
@@ -243,8 +223,7 @@ module _ (limits : Limits) (contents : Contents) (good : are_good limits content
   weights_more =
       let same = ap weights_of items_more in
       let both = sum_by-append (λ (o : Content). weight_of (bytes_in o.runs)) (take i contents.items) (item ∷ []) in
-      let one = sum_by-cons (λ (o : Content). weight_of (bytes_in o.runs)) item [] in
-      omega (arith, same, both, one)
+      grind (arith, nat_tests)
 
   pub light : nat_le (weights_of contents.items) limits.max_total ≡ true → weights_of (take i contents.items) + weight_of (bytes_in item.runs) ≤ limits.max_total
   light test =
@@ -255,11 +234,7 @@ module _ (limits : Limits) (contents : Contents) (good : are_good limits content
 
 -- the runs of such an item end by 2^62
 pub fit_ends : (item : Content) → is_kind_right item item.head.total ≡ true → ForSome item.head.total (λ n. n < 2 ^ 62) → last_end item.runs ≤ 2 ^ 62
-fit_ends item right short = by_total item.head.total right short
-  where
-    by_total : (o : Option ℕ) → is_kind_right item o ≡ true → ForSome o (λ n. n < 2 ^ 62) → last_end item.runs ≤ 2 ^ 62
-    by_total None right short = false_true right
-    by_total (Some n) right short = let test : nat_le (last_end item.runs) n ≡ true = and_left _ _ right in let within : last_end item.runs ≤ n = grind (arith, nat_tests) in let small : n < 2 ^ 62 = short n refl in omega arith
+fit_ends item right short = grind (arith, nat_tests)
 
 -- ALL OF THEM
 
@@ -273,12 +248,7 @@ pub record AreKept {B : Type 0} {g : Ghosts B} (a u : Rows B g) (contents : Cont
 module _ {B : Type 0} {g : Ghosts B} (r : Rows B g) (contents : Contents) where
   -- what has no number there isn't kept
   pub unkept : (items : List Content) (n : ℕ) → RowsStand (shelf_of r.entries).limits r (first_tables (with_items items contents)) → find (λ (o : Content). o.r == n) items ≡ None → (shelf_of r.entries).kept n ≡ None
-  unkept items n stands none = by_row ((shelf_of r.entries).kept n) (option_map representation_of_content (find (λ (o : Content). o.r == n) items)) (ap (option_map representation_of_content) none) (stands.entries.each n)
-    where
-      by_row : (k : Option Kept) (z : Option Representation) → z ≡ None → KeepsEntry (first_tables (with_items items contents)) n k z → k ≡ None
-      by_row None z off e = refl
-      by_row (Some k) None off e = absurd e
-      by_row (Some k) (Some v) off e = none_some v (sym off)
+  unkept items n stands none = grind (arith, nat_tests)
 
   pub none_kept : RowsStand (shelf_of r.entries).limits r (first_tables (with_items [] contents)) → (shelf_of r.entries).used ≡ 0 → AreKept r r contents 0
   none_kept stands used = record { stands = stands; used = used; bounds = refl; faults = refl }
@@ -301,10 +271,7 @@ weight_fits limits contents may = and_right _ _ may
 
 pub next_fits : (limits : Limits) (contents : Contents) → may_begin limits contents ≡ true → (0 < contents.next_exchange) × (contents.next_exchange ≤ 2 ^ 60)
 unfolding may_begin
-next_fits limits contents may =
-    let first : nat_lt 0 contents.next_exchange ≡ true = and_right _ _ (and_left _ _ (and_left _ _ may)) in
-    let last : nat_le contents.next_exchange (2 ^ 60) ≡ true = and_right _ _ (and_left _ _ may) in
-    (grind (arith, nat_tests), grind (arith, nat_tests))
+next_fits limits contents may = grind (arith, nat_tests, and_right, and_left)
 
 -- what the item at a place needs, and what it leaves
 module _ {B : Type 0} {g : Ghosts B} (a r : Rows B g) (contents : coded_all.Contents) (i : ℕ) (item : coded.Content) (lt : i < length contents.items) (is : item ≡ get_or contents.items i item)

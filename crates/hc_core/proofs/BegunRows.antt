@@ -129,29 +129,14 @@ module _ {B : Type 0} {g : Ghosts B} (r u : Rows B g) (contents : Contents) (ite
 
   entry_old : (q : ℕ) (k : Kept) (v : Representation) → IsEntry t q k v → IsEntry s q k v
   unfolding bound kind_of
-  entry_old q k v e = record {
-    used = e.used;
-    key = e.key;
-    head = e.head;
-    length = e.length;
-    kind = e.kind;
-    whole = e.whole;
-    cells = e.cells;
-    reach = e.reach;
-    bound = e.bound;
-    first = e.first;
-    writer = e.writer;
-    is_lost = e.is_lost;
-    alone = e.alone;
-    is_gone = e.is_gone;
-  }
+  entry_old q k v e = assumption e
 
   keeps_old : (q : ℕ) (k : Option Kept) (v : Option Representation) → KeepsEntry t q k v → KeepsEntry s q k v
   unfolding bound
-  keeps_old q None None e = e
   keeps_old q None (Some v) e = record { gone = e.gone; unused = e.unused }
-  keeps_old q (Some k) None e = e
   keeps_old q (Some k) (Some v) e = entry_old q k v e
+  keeps_old q None None e = e
+  keeps_old q (Some k) None e = e
 
   abbrev kept_now : ℕ → Option Kept
   kept_now = (shelf_of u.entries).kept
@@ -174,10 +159,7 @@ module _ {B : Type 0} {g : Ghosts B} (r u : Rows B g) (contents : Contents) (ite
   off = off_reverse item.r (numbers items) (off_found item.r items new)
 
   order : (shelf_of u.entries).order ≡ filter (λ q. is_usable_row (s.representation q)) s.used
-  order =
-      let first : is_usable_row (s.representation item.r) ≡ true = ap is_usable_row row_new in
-      let same : filter (λ q. is_usable_row (s.representation q)) (reverse (numbers items)) ≡ filter (λ q. is_usable_row (t.representation q)) (reverse (numbers items)) = filter_same item.r _ _ (reverse (numbers items)) off (λ q other. ap is_usable_row (row_old q other)) in
-      keeps.entries.order ∙ (ap (λ (qs : List ℕ). item.r ∷ qs) (stands.entries.order ∙ sym same) ∙ sym (ap (filter (λ q. is_usable_row (s.representation q))) listed ∙ rw first refl))
+  order = grind (arith, nat_tests, row_new, filter_same, off, row_old, listed)
 
   -- BY KEY
 
@@ -186,11 +168,7 @@ module _ {B : Type 0} {g : Ghosts B} (r u : Rows B g) (contents : Contents) (ite
   current_now key =
       let first : is_usable key (s.representation item.r) ≡ (bytes_eq item.key key && true) = ap (is_usable key) row_new in
       let same : find (λ q. is_usable key (s.representation q)) (reverse (numbers items)) ≡ find (λ q. is_usable key (t.representation q)) (reverse (numbers items)) = find_same item.r _ _ (reverse (numbers items)) off (λ q other. ap (is_usable key) (row_old q other)) in
-      ap (find (λ q. is_usable key (s.representation q))) listed ∙ (rw (first, same) (by_key (bytes_eq item.key key) _))
-    where
-      by_key : (b : Bool) (o : Option ℕ) → cond (b && true) (Some item.r) o ≡ cond b (Some item.r) o
-      by_key true o = refl
-      by_key false o = refl
+      ap (find (λ q. is_usable key (s.representation q))) listed ∙ (rw (first, same) (grind (arith, nat_tests)))
 
   key_now : (key : List ℕ) → KeepsKey s key (kept_of u.keys key)
   key_now key = rw (keeps.keys key) (by_key (bytes_eq item.key key) (current_now key))

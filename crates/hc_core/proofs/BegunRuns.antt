@@ -4,12 +4,11 @@
 -- to the last end (`runs_reach`), and nothing else of an entry changes (`runs_rest`). The kind has the work. It depends
 -- on where they end and how many bytes they have, so contents say it right (`kind_begun`). What is called whole covers
 -- its length (`whole_begun`). `BegunItems`, `BegunRows` and `Likewise` use these.
-use Rattle.std.{proofs.{Common.{◌≡◌, ◌⊎◌, inl, inr, ℕ, ◌+◌, ◌-◌, ◌<◌, ◌≤◌, max, List, [], ◌∷◌, ◌++◌, length, Bool, true, false, Option, Some, None, refl, ap, sym, ◌∙◌, arith}, lemmas.Bool.Decides.{nat_tests}}, specs.{Prelude.{is_some, nat_le, nat_lt, ◌==◌, ◌&&◌, if◌then◌else◌}, Option.{option_or}}}
+use Rattle.std.{proofs.{Common.{◌≡◌, ◌⊎◌, inl, inr, ℕ, ◌+◌, ◌-◌, ◌<◌, ◌≤◌, max, List, [], ◌∷◌, ◌++◌, length, Bool, true, Option, Some, None, refl, ap, sym, ◌∙◌, arith}, lemmas.Bool.Decides.{nat_tests}}, specs.{Prelude.{is_some, nat_le, nat_lt, ◌==◌, ◌&&◌, if◌then◌else◌}, Option.{option_or}}}
 use Rattle.hc_text.proofs.Basics.{and_left, and_right, false_true}
 use Rattle.hc_sparse.specs.{Cells.{Cells, Covers, size_below}, Runs.{cells_of, end_of}, declared.run.Run.{Run}}
 use Rattle.hc_sparse.proofs.CellLemmas.{inside-cases, inside-before}
-use Rattle.hc_record.specs.declared.kind.Kind.{Kind}
-use Rattle.hc_record.specs.declared.kind.Kind.TheVariants as kind
+use Rattle.hc_record.specs.declared.kind.Kind.{Kind, TheVariants.{the_data as kind}}
 use Rattle.hc_stored.specs.{Begun.{with_runs}, Kept.{Kept, kept_with_bytes}}
 use Rattle.hc_effects.proofs.Vocabulary.{ascend_from, kind_of_runs, same_kind, is_kind_right, runs_from, Content, Contents, covers, kind_of, is_front, last_end, bytes_in, representation_of_content}
 use Rattle.hc_model.specs.Kinds as kinds
@@ -31,8 +30,7 @@ runs_cells n x p (run ∷ runs) k good =
 pub runs_reach : (runs : List Run) (k : Kept) → (with_runs runs k).reach ≡ max k.reach (last_end runs)
 runs_reach [] k = omega arith
 runs_reach (run ∷ runs) k =
-    let rest : (with_runs runs (kept_with_bytes run.at run.x run.bytes None k)).reach ≡ max (max k.reach (end_of run)) (last_end runs) = runs_reach runs (kept_with_bytes run.at run.x run.bytes None k) in
-    rest ∙ turned k.reach (end_of run) (last_end runs)
+    runs_reach runs (kept_with_bytes run.at run.x run.bytes None k) ∙ turned k.reach (end_of run) (last_end runs)
   where
     turned : (a b c : ℕ) → max (max a b) c ≡ max a (max b c)
     turned a b c = omega arith
@@ -62,35 +60,17 @@ tight n x m (run ∷ runs) good end =
     ]
   where
     last_is_end : 0 < length run.bytes → (m < run.at) ⊎ (run.at + length run.bytes ≤ m) → last_end runs ≡ m + 1
-    last_is_end some (inl before) = omega arith
-    last_is_end some (inr past) = omega arith
+    last_is_end some before_or_past = grind (arith, nat_tests)
 
 same_kind_is : (a b : Kind) → same_kind a b ≡ true → a ≡ b
-same_kind_is kind.Growing kind.Growing h = refl
-same_kind_is kind.Growing kind.Whole h = false_true h
-same_kind_is kind.Growing kind.Truncated h = false_true h
-same_kind_is kind.Growing kind.Ranges h = false_true h
-same_kind_is kind.Whole kind.Growing h = false_true h
-same_kind_is kind.Whole kind.Whole h = refl
-same_kind_is kind.Whole kind.Truncated h = false_true h
-same_kind_is kind.Whole kind.Ranges h = false_true h
-same_kind_is kind.Truncated kind.Growing h = false_true h
-same_kind_is kind.Truncated kind.Whole h = false_true h
-same_kind_is kind.Truncated kind.Truncated h = refl
-same_kind_is kind.Truncated kind.Ranges h = false_true h
-same_kind_is kind.Ranges kind.Growing h = false_true h
-same_kind_is kind.Ranges kind.Whole h = false_true h
-same_kind_is kind.Ranges kind.Truncated h = false_true h
-same_kind_is kind.Ranges kind.Ranges h = refl
+same_kind_is a b h = grind (arith, nat_tests)
 
 -- the kind tells no more of runs than where they end, and how many bytes they have
 by_extent : (runs others : List Run) (total : ℕ) → last_end runs ≡ last_end others → bytes_in runs ≡ bytes_in others → kind_of_runs runs total ≡ kind_of_runs others total
 by_extent runs others total end count = rw (end, count) refl
 
 whole_by : (complete front : Bool) → kind_by complete front ≡ kind.Whole → complete ≡ true
-whole_by true front is = refl
-whole_by false true is = absurd (let never : kind.Truncated ≡ kind.Whole = is in cc)
-whole_by false false is = absurd (let never : kind.Ranges ≡ kind.Whole = is in cc)
+whole_by complete front is = grind (arith, nat_tests)
 
 module _ (item : Content) (ascends : ascend_from 0 0 item.runs ≡ true) where
   abbrev cells : Cells
@@ -104,13 +84,12 @@ module _ (item : Content) (ascends : ascend_from 0 0 item.runs ≡ true) where
   told_by (Some total) right =
       let test : nat_le reach total ≡ true = and_left _ _ right in
       let within : reach ≤ total = grind (arith, nat_tests) in
-      let same : item.head.kind ≡ kind_of_runs item.runs total = same_kind_is _ _ (and_right _ _ right) in
       let ends = ends_all item.runs in
       let last = λ (m : ℕ) (end : reach ≡ m + 1). tight 0 0 m item.runs ascends end in
       let count : bytes_in item.runs ≡ size_below cells reach = bytes_below 0 0 item.runs ascends in
       same_kind_is _ _ (kind_right cells reach total ends last within (bytes_in item.runs) count)
       ∙ (by_extent (runs_from cells 0 reach) item.runs total (last_is cells reach total ends last within) (count_is cells reach total ends last within ∙ sym count)
-      ∙ sym same)
+      ∙ sym (same_kind_is _ _ (and_right _ _ right)))
 
   module _ (right : is_kind_right item item.head.total ≡ true) where
     -- a good item is of the kind that it tells

@@ -4,7 +4,7 @@
 -- head and the runs of its bytes. The entry of what isn't gone tells length and kind, so that item is the one of the
 -- tables (`content_is`, `items_are`). `contents_told` joins this. What such a run leaves is fit to begin with
 -- (`may_again`). Reading leaves the cache as good as it was (`good_still`), as the loops need.
-use Rattle.std.{proofs.{Common.{◌≡◌, inl, inr, ℕ, zero, suc, get_or, ◌<◌, ◌≤◌, ◌^◌, List, [], ◌∷◌, ◌++◌, map, Bool, true, false, Option, Some, None, refl, ap, sym, ◌∙◌, subst, arith}, lemmas.Bool.{cases_Bool}}, specs.Prelude.{is_some, option_map, filter, filter_map, reverse, ◌==◌, length}}
+use Rattle.std.{proofs.{lemmas.Bool.{cases_Bool, Decides.{nat_tests}}, Common.{◌≡◌, inl, inr, ℕ, zero, suc, get_or, ◌<◌, ◌≤◌, ◌^◌, List, [], ◌∷◌, ◌++◌, map, Bool, true, false, Option, Some, None, refl, ap, sym, ◌∙◌, subst, arith}}, specs.Prelude.{option_map, filter, filter_map, reverse, ◌==◌, length}}
 use Rattle.hc_text.proofs.Basics.{and_left, false_true, some_inj as some_is}
 use Rattle.hc_store.specs.declared.backend.Backend.{Ghosts}
 use Rattle.hc_sparse.specs.Cells.{Cells, EndsBy}
@@ -46,8 +46,7 @@ cells_same a u r stays = same_functions (cells_at u r) (cells_at a r) (λ p. ap 
 -- ONE
 
 told_length : (k : Kept) (v : Representation) → v.is_gone ≡ false → TellsLength k v → k.head.total ≡ v.head.total
-told_length k v fresh (stored.told is) = is
-told_length k v fresh (stored.untold u) = false_true (sym fresh ∙ u.gone)
+told_length k v fresh tells = grind (arith, nat_tests)
 
 -- not lost as long as it isn't gone
 stored_ends : (v : Representation) → v.is_gone ≡ false → IsStored v → EndsBy v.reach v.stored
@@ -122,13 +121,12 @@ pub contents_told : {B : Type 0} {g : Ghosts B} (s : Cache B g) (found : coded_a
     → TellsAll (shelf_of s.rows.entries) (idle (shelf_of s.rows.entries)) (map plain_item found.items) → (contents : Contents) (h : History) → StandsFor s contents h → plain_contents found ≡ contents_of (tables contents h)
 unfolding contents_of
 contents_told s found moment last next tells contents h stands =
-    let t = tables contents h in
     let law = law_of_runs (shelf_of s.rows.entries).limits contents h stands.begins stands.run in
     λ i. record {
       now = (moment ∙ stands.moment) i;
       last_consumer = (last ∙ stands.rows.last_start) i;
       next_exchange = (next ∙ stands.rows.next) i;
-      items = (sym (items_are s.rows t law stands.rows (map plain_item found.items) tells)) i;
+      items = (sym (items_are s.rows (tables contents h) law stands.rows (map plain_item found.items) tells)) i;
     }
 
 -- a cache may begin with what a good one tells
@@ -137,10 +135,9 @@ pub may_again : {B : Type 0} {g : Ghosts B} (s : Cache B g) (found : coded_all.C
 may_again s found moment last next tells good few =
     merely_true (may_begin (shelf_of s.rows.entries).limits (plain_contents found)) good.0 (λ at.
     let some = at.0 in
-    let t = tables some.contents some.h in
     let stands : StandsFor s some.contents some.h = record { begins = some.begins; short = some.short; run = some.run; moment = sym at.1; rows = some.rows } in
     let opened = some.rows.next in
-    let in_limits : IsInLimits t = record {
+    let in_limits : IsInLimits (tables some.contents some.h) = record {
       moment = subst (λ n. n < 2 ^ 62) (sym at.1) good.2;
       consumers = subst (λ n. n < 2 ^ 62) some.rows.last_start good.3;
       exchanges = omega (arith, few, next, opened);
@@ -177,11 +174,7 @@ any_default (x ∷ xs) zero d e lt = refl
 any_default (x ∷ xs) (suc i) d e lt = any_default xs i d e (omega arith)
 
 pub idle_kept : (s : Shelf) (i r : ℕ) → i < length (idle s) → r ≡ get_or (idle s) i r → shelves.is_kept s r ≡ true
-idle_kept s i r lt is = by_kept (s.kept r) (at_filter (λ q. shelves.is_unused (s.kept q)) (reverse s.order) i r lt is)
-  where
-    by_kept : (o : Option Kept) → shelves.is_unused o ≡ true → is_some o ≡ true
-    by_kept None there = false_true there
-    by_kept (Some k) there = refl
+idle_kept s i r lt is = grind (arith, nat_tests, at_filter)
 
 pub idle_at : (s : Shelf) (rs : List ℕ) (i : ℕ) → rs ≡ idle s → i < length rs → shelves.is_kept s (get_or rs i 0) ≡ true
 idle_at s rs i same lt =

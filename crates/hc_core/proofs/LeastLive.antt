@@ -4,7 +4,7 @@
 -- and none is lower (`least_is`); it is none only of an empty list (`least_none`). The numbers of the rows are those of
 -- the live, in each run that the cache represents. So with none nobody is live (`none_lives`), and else it is the least
 -- of them (`least_lives`). `if_none` and `if_some` say it where the loop of `least_live` ends.
-use Rattle.std.{proofs.{Common.{◌≡◌, ◌⊎◌, ◌≤◌, inl, inr, ℕ, List, [], ◌∷◌, length, Bool, true, false, Option, Some, None, refl, ap, sym, ◌∙◌, subst, arith}, lemmas.{Bool.Decides.{nat_tests}, Map.{Entries.{length-keys_of}, Made.{is_some-lookup}}}}, specs.{Prelude.{is_some, nat_eq, nat_lt, if◌then◌else◌, IfSome, IfNone}, Set.{is_member}}}
+use Rattle.std.{proofs.{Common.{◌≡◌, ◌⊎◌, ◌≤◌, inl, inr, ℕ, List, [], ◌∷◌, length, Bool, true, false, Option, Some, None, refl, ap, sym, ◌∙◌, subst, arith}, lemmas.{Bool.{cases_Bool, Decides.{nat_tests}}, Map.{Entries.{length-keys_of}, Made.{is_some-lookup}}}}, specs.{Prelude.{is_some, nat_eq, nat_lt, if◌then◌else◌, IfSome, IfNone}, Set.{is_member}}}
 use Rattle.std.specs.HashMap as hash
 use Rattle.hc_effects.proofs.Vocabulary.{is_live, Contents, History, tables}
 use Rattle.hc_state.proofs.Ties.{kept_lives}
@@ -37,36 +37,22 @@ lesser_either m k = by_test (nat_lt m k)
     by_test false = inr refl
 
 lesser_first : (m k : ℕ) → lesser (Some m) k ≤ m
-lesser_first m k = by_test (nat_lt m k) refl
-  where
-    by_test : (b : Bool) → nat_lt m k ≡ b → (if b then m else k) ≤ m
-    by_test true is = omega arith
-    by_test false is = grind (arith, nat_tests)
+lesser_first m k = grind (arith, nat_tests)
 
 lesser_next : (o : Option ℕ) (k : ℕ) → lesser o k ≤ k
-lesser_next None k = omega arith
-lesser_next (Some m) k = by_test (nat_lt m k) refl
-  where
-    by_test : (b : Bool) → nat_lt m k ≡ b → (if b then m else k) ≤ k
-    by_test true is = grind (arith, nat_tests)
-    by_test false is = omega arith
+lesser_next o k = grind (arith, nat_tests)
 
 here_or : (k d : ℕ) (ks : List ℕ) → is_member nat_eq (k ∷ ks) d ≡ true → (d ≡ k) ⊎ (is_member nat_eq ks d ≡ true)
-here_or k d ks is = by_test (nat_eq d k) refl
-  where
-    by_test : (b : Bool) → nat_eq d k ≡ b → (d ≡ k) ⊎ (is_member nat_eq ks d ≡ true)
-    by_test true on = inl (grind (arith, nat_tests))
-    by_test false off = inr (sym (rw off refl) ∙ is)
+here_or k d ks is = elim (cases_Bool (nat_eq d k)) [
+  | inl on ↦ inl (grind (arith, nat_tests))
+  | inr off ↦ inr (sym (rw off refl) ∙ is)
+]
 
 here : (k : ℕ) (ks : List ℕ) → is_member nat_eq (k ∷ ks) k ≡ true
 here k ks = let same : nat_eq k k ≡ true = grind (arith, nat_tests) in rw same refl
 
 there : (k d : ℕ) (ks : List ℕ) → is_member nat_eq ks d ≡ true → is_member nat_eq (k ∷ ks) d ≡ true
-there k d ks on = by_test (nat_eq d k) refl
-  where
-    by_test : (b : Bool) → nat_eq d k ≡ b → is_member nat_eq (k ∷ ks) d ≡ true
-    by_test true is = rw is refl
-    by_test false is = rw is on
+there k d ks on = grind (arith, nat_tests)
 
 least_is : (o : Option ℕ) (ks : List ℕ) (c : ℕ) → least_of o ks ≡ Some c → IsLeast o ks c
 least_is o [] c is = record {

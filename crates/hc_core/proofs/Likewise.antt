@@ -4,13 +4,12 @@
 -- row isn't gone, and such a row is idle (`remains`). What isn't gone has the work: the item has its bytes, as all of
 -- them are stored, and its writer is over and forgotten (`entry_is`). What is gone, or never was there, is kept
 -- nowhere. `rows_likewise` joins this, and `serves_all` says it of the cache for `with_contents`.
-use Rattle.std.{proofs.{Common.{◌≡◌, ◌≢◌, inl, inr, ℕ, ◌+◌, ◌-◌, List, [], ◌∷◌, ◌++◌, Bool, true, false, Option, Some, None, refl, ap, sym, ◌∙◌, subst, arith}, lemmas.{Bool.{cases_Bool}, List.{reverse-append, reverse-reverse}}}, specs.{Prelude.{bytes_eq, is_some, nat_eq, filter, filter_map, find, reverse, length, option_map, not, ◌==◌, ◌&&◌}, HashMap.{get}}}
+use Rattle.std.{proofs.{lemmas.{Bool.{cases_Bool, Decides.{nat_tests}}, List.{reverse-append, reverse-reverse}}, Common.{◌≡◌, ◌≢◌, inl, inr, ℕ, ◌+◌, ◌-◌, List, [], ◌∷◌, ◌++◌, Bool, true, false, Option, Some, None, refl, ap, sym, ◌∙◌, subst, arith}}, specs.{Prelude.{bytes_eq, is_some, nat_eq, filter, filter_map, find, reverse, length, option_map, not, ◌==◌, ◌&&◌}, HashMap.{get}}}
 use Rattle.hc_text.proofs.Basics.{and_left, and_right, eqb-other, eqb-same, false_true, filter_same as filters_as, never_true as not_true, same_or, same_some as same_row, some_inj as some_is, and_off as then_false}
 use Rattle.hc_store.specs.declared.backend.Backend.{Ghosts}
 use Rattle.hc_sparse.specs.{Cells.{EndsBy}, Runs.{cells_of}}
-use Rattle.hc_record.specs.Head.{sealed_head}
-use Rattle.hc_record.specs.declared.kind.Kind.TheVariants as kinds
-use Rattle.hc_effects.proofs.Vocabulary.{Limits, is_disabled, is_only, may_begin, are_good, is_good, ascend_from, is_kind_right, content_of, content_at, contents_of, idle_now, current, is_current, is_number, live, Content, Contents, is_open, is_in_line, holds_turn, bound, Lawful, Measures, Tables, Exchange, Representation, Among, Sound, first_tables, representation_of_content, numbers, last_end, tables, place}
+use Rattle.hc_record.specs.{Head.{sealed_head}, declared.kind.Kind.TheVariants.{the_data as kinds}}
+use Rattle.hc_effects.proofs.Vocabulary.{Limits, may_begin, are_good, ascend_from, is_kind_right, content_of, content_at, contents_of, idle_now, current, is_current, is_number, live, Content, Contents, is_open, is_in_line, holds_turn, bound, Lawful, Measures, Tables, Exchange, Representation, Among, Sound, first_tables, representation_of_content, numbers, last_end, tables, place}
 use Rattle.hc_stored.specs.{Entries.{shelf_of}, Kept.{Kept}}
 use Rattle.hc_entry.specs.Kept as keyed
 use Rattle.hc_entry.specs.Keys.{kept_of}
@@ -34,8 +33,7 @@ good_found limits contents q item earlier [] good found = none_some item found
 good_found limits contents q item earlier (first ∷ items) good found = elim (cases_Bool (first.r == q)) [
   | inr off ↦ good_found limits contents q item (first ∷ earlier) items (and_right _ _ good) (rw off at found)
   | inl on ↦
-      let its : is_good limits contents earlier first items ≡ true = and_left _ _ good in
-      let upto_kind = and_left _ _ (and_left _ _ its) in
+      let upto_kind = and_left _ _ (and_left _ _ (and_left _ _ good)) in
       subst (λ (z : Content). (ascend_from 0 0 z.runs ≡ true) × (is_kind_right z z.head.total ≡ true)) (some_is first item (rw on at found))
       (and_right _ _ (and_left _ _ upto_kind), and_right _ _ upto_kind)
 ]
@@ -113,13 +111,10 @@ module _ {B : Type 0} {g : Ghosts B} (r : Rows B g) (limits : Limits) (t : Table
   idle_is : (q : ℕ) → is_idle t q (t.representation q) ≡ is_usable_row (t.representation q)
   idle_is q = by_row (t.representation q) refl
     where
-      nobody_reads : length (bound t q) ≡ 0
-      nobody_reads = ap length (none_bound t law none q)
-
       by_gone : (v : Representation) → t.representation q ≡ Some v → (b : Bool) → v.is_gone ≡ b → is_idle t q (Some v) ≡ not v.is_gone
       by_gone v row false fresh =
           let here : is_current t v.key q ≡ true = ap (λ o. is_number o q) (current_is t v.key q v law.sound row refl fresh) ∙ eqb-same q in
-          let none_reads = nobody_reads in
+          let none_reads = ap length (none_bound t law none q) in
           rw (here, none_reads, fresh) refl
       by_gone v row true gone = rw (not_true (is_current t v.key q) (λ on. false_true (sym (current_stays t v.key q v (number_is (current t v.key) q on) row) ∙ gone)), gone) refl
 
@@ -186,8 +181,7 @@ module _ {B : Type 0} {g : Ghosts B} (r : Rows B g) (limits : Limits) (t : Table
         over_by (Some w) on off = ap not off
 
     forgets : (k : Option ℕ) → TellsWriter s.exchange k None → k ≡ None
-    forgets k (stored.as_written is) = is
-    forgets k (stored.forgotten x off is on) = off
+    forgets k told = grind (arith, nat_tests)
 
     entry_is : (k : Kept) → IsEntry s q k (representation_of_content item) → IsEntry t q k v
     entry_is k e =
@@ -217,11 +211,7 @@ module _ {B : Type 0} {g : Ghosts B} (r : Rows B g) (limits : Limits) (t : Table
   kept_at = (shelf_of r.entries).kept
 
   unkept : (q : ℕ) → s.representation q ≡ None → kept_at q ≡ None
-  unkept q off = by_kept (kept_at q) (subst (KeepsEntry s q (kept_at q)) off (stands.entries.each q))
-    where
-      by_kept : (o : Option Kept) → KeepsEntry s q o None → o ≡ None
-      by_kept None e = refl
-      by_kept (Some k) e = absurd e
+  unkept q off = grind (arith, nat_tests)
 
   each : (q : ℕ) → KeepsEntry t q (kept_at q) (t.representation q)
   each q = by_case (remains q)
@@ -254,11 +244,7 @@ module _ {B : Type 0} {g : Ghosts B} (r : Rows B g) (limits : Limits) (t : Table
       ∙ filters_as (λ q. is_idle t q (t.representation q)) (λ q. is_usable_row (t.representation q)) idle_is t.used))
 
   order : (shelf_of r.entries).order ≡ filter (λ q. is_usable_row (t.representation q)) t.used
-  order =
-      stands.entries.order
-      ∙ (filters_as (λ q. is_usable_row (s.representation q)) (λ q. is_usable_row (t.representation q)) usable_as s.used
-      ∙ (ap (filter (λ q. is_usable_row (t.representation q))) used_is
-      ∙ filter_twice (λ q. is_usable_row (t.representation q)) t.used))
+  order = grind (arith, nat_tests, filters_as, usable_as, used_is, filter_twice)
 
   -- BY KEY
 
@@ -290,11 +276,7 @@ module _ {B : Type 0} {g : Ghosts B} (r : Rows B g) (limits : Limits) (t : Table
       by_current None at = none_by (current s key) at refl ∙ sym at
 
   no_line : (key : List ℕ) (z : rows.Consumer) → z.place ≡ place.Over → is_in_line key (Some z) ≡ false
-  no_line key z at = rw at (out (bytes_eq z.request.key key) (not (is_disabled z.request)) (not (is_only z.request)))
-    where
-      out : (a b c : Bool) → (a && false && b && c) ≡ false
-      out true b c = refl
-      out false b c = refl
+  no_line key z at = grind (arith, nat_tests)
 
   key_as : (key : List ℕ) (k : keyed.Kept) → KeepsKey s key k → KeepsKey t key k
   key_as key k kept = record {

@@ -1,29 +1,18 @@
 -- Where nobody is live nobody is bound, waits or has a turn, no exchange is open, and nothing is held.
-use Rattle.std.{proofs.Common.{◌≡◌, ℕ, [], ◌∷◌, Bool, true, false, Option, Some, None, refl, ap, sym, ◌∙◌}, specs.Prelude.{is_some, filter}}
+use Rattle.std.{proofs.{lemmas.Bool.Decides.{nat_tests}, Common.{arith, ◌≡◌, ℕ, [], ◌∷◌, Bool, true, false, Option, Some, None, refl, ap, sym, ◌∙◌}}}
 use Rattle.hc_text.proofs.Basics.{false_true, none_long, never_true as not_true}
-use Rattle.hc_effects.proofs.Vocabulary.{Place, live, is_live, is_live_place, is_open, family, Lawful, bound, is_bound, Tables, Exchange, Representation, Consumer, IsSomebodys, may_own, place}
-use Rattle.hc_model.specs.Sound as sound
+use Rattle.hc_effects.proofs.Vocabulary.{Place, live, is_live, is_live_place, is_open, Lawful, bound, is_bound, Tables, Exchange, Representation, Consumer, IsSomebodys, may_own, place}
 use Rattle.hc_model.specs.Whose as whose
 use Rattle.hc_effects.proofs.ExclusiveWriters.{filter_some}
-use Rattle.hc_state.specs.Kept.{held_for, held_of, held_alone, unread, unstored_bytes}
+use Rattle.hc_state.specs.Kept.{held_for, held_of, unread, unstored_bytes}
 use Rattle.hc_state.proofs.LiveCounts.{filter_nothing}
 
 pub over_by : (p : Place) → is_live_place p ≡ false → p ≡ place.Over
-over_by place.Over off = refl
-over_by place.Line off = false_true (sym off)
-over_by (place.Passed q kept) off = false_true (sym off)
-over_by (place.Turn x) off = false_true (sym off)
-over_by (place.Bound q lo hi by) off = false_true (sym off)
-over_by (place.Direct x) off = false_true (sym off)
-over_by (place.Down why) off = false_true (sym off)
+over_by p off = grind (arith, nat_tests)
 
 module _ (t : Tables) (law : Lawful t) (none : live t ≡ 0) where
   pub nobody : (c : ℕ) → is_live (t.consumer c) ≡ false
-  nobody c = not_true (is_live (t.consumer c)) (λ on. filter_some (λ d. is_live (t.consumer d)) c t.starts (law.sound.numbered.lists.started c (there (t.consumer c) on)) on (none_long (filter (λ d. is_live (t.consumer d)) t.starts) none))
-    where
-      there : (o : Option Consumer) → is_live o ≡ true → is_some o ≡ true
-      there None on = false_true on
-      there (Some k) on = refl
+  nobody c = grind (arith, nat_tests, not_true, filter_some, none_long)
 
   -- whoever started left
   has_left : (c : ℕ) (k : Consumer) → t.consumer c ≡ Some k → k.place ≡ place.Over
@@ -31,11 +20,7 @@ module _ (t : Tables) (law : Lawful t) (none : live t ≡ 0) where
 
   -- so nothing is said of anybody that isn't said of who left
   pub nobody_says : (f : Option Consumer → Bool) → f None ≡ false → ((k : Consumer) → k.place ≡ place.Over → f (Some k) ≡ false) → (c : ℕ) → f (t.consumer c) ≡ false
-  nobody_says f off over c = by_row (t.consumer c) refl
-    where
-      by_row : (o : Option Consumer) → t.consumer c ≡ o → f o ≡ false
-      by_row None row = off
-      by_row (Some k) row = over k (has_left c k row)
+  nobody_says f off over c = grind (arith, nat_tests, has_left)
 
   pub unbound : (r c : ℕ) → is_bound r (t.consumer c) ≡ false
   unbound r = nobody_says (is_bound r) refl (λ k at. rw at refl)
@@ -49,9 +34,7 @@ module _ (t : Tables) (law : Lawful t) (none : live t ≡ 0) where
 
   -- an open exchange would be somebody's
   somebodys : (x : ℕ) (w : Exchange) → IsSomebodys t x w → ⊥
-  somebodys x w (whose.own k unfounded row own on) = elsewhere k.place (has_left w.c k row) on
-  somebodys x w (whose.shared v there written is) = law.sound.writes.has_bound (family x w) v there written (none_bound (family x w))
-  somebodys x w (whose.read c k v there (sound.is_bound lo hi by row at) own undue owner) = elsewhere k.place (has_left c k row) (ap may_own at)
+  somebodys x w owner = grind (arith, nat_tests, elsewhere, has_left, none_bound)
 
   pub shut : (x : ℕ) → is_open (t.exchange x) ≡ false
   shut x = by_row (t.exchange x) refl
@@ -69,16 +52,4 @@ module _ (t : Tables) (law : Lawful t) (none : live t ≡ 0) where
   unstored_none x w v c (Some k) row = (let at = has_left c k row in rw at refl)
 
   pub none_held : (x : ℕ) → held_for t x (t.exchange x) ≡ []
-  none_held x = by_row (t.exchange x)
-    where
-      by_alone : (w : Exchange) (v : Representation) (o : Option ℕ) → held_alone t x w v o ≡ []
-      by_alone w v None = refl
-      by_alone w v (Some c) = unstored_none x w v c (t.consumer c) refl
-
-      by_family : (w : Exchange) (o : Option Representation) → held_of t x w o ≡ []
-      by_family w None = unread_none x w w.c (t.consumer w.c) refl
-      by_family w (Some v) = by_alone w v v.alone
-
-      by_row : (o : Option Exchange) → held_for t x o ≡ []
-      by_row None = refl
-      by_row (Some w) = by_family w (t.representation (family x w))
+  none_held x = grind (arith, nat_tests, unstored_none, held_of, unread_none)

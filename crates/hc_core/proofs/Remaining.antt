@@ -4,8 +4,8 @@
 -- those so far are the first of that list, and that the rest is the list from a position on. What is absent in front is
 -- passed over (`runs_skip`). The longest run of one exchange is then the first of the rest, since behind it is no byte
 -- of that (`runs_next`). So one more is found (`more_found`). `runs_of` uses these.
-use Rattle.std.{proofs.{Common.{◌≡◌, ◌≢◌, ◌⊎◌, inl, inr, ℕ, zero, suc, ◌+◌, ◌-◌, ◌<◌, ◌≤◌, ◌^◌, List, [], ◌∷◌, ◌++◌, length, get_or, true, Option, Some, None, refl, ap, sym, ◌∙◌, subst, arith, append_assoc}, lemmas.Bool.{cases_Bool, Decides.{nat_tests}}}, specs.Prelude.{is_some, nat_eq, ◌==◌, ◌&&◌, if◌then◌else◌}}
-use Rattle.hc_text.proofs.Basics.{and_left, and_right, eqb-same, false_true, lt_or as split}
+use Rattle.std.{proofs.{Common.{◌≡◌, ◌≢◌, ◌⊎◌, inl, inr, ℕ, zero, suc, ◌+◌, ◌-◌, ◌<◌, ◌≤◌, ◌^◌, List, [], ◌∷◌, ◌++◌, length, get_or, true, Option, Some, None, refl, ap, sym, ◌∙◌, subst, arith, append_assoc}, lemmas.Bool.{cases_Bool, Decides.{nat_tests}}}, specs.Prelude.{is_some, ◌==◌, ◌&&◌, if◌then◌else◌}}
+use Rattle.hc_text.proofs.Basics.{and_left, and_right, eqb-same, lt_or as split}
 use Rattle.hc_sparse.specs.{Cells.{Cells, Cell, EndsBy, AreAbsent, IsNext}, Stretch.{IsLongest}, declared.run.Run.{Run}}
 use Rattle.hc_effects.proofs.Vocabulary.{run_from, with_cell, with_place, runs_from}
 use Rattle.hc_effects.proofs.{Basics.{append_none}, Tests.{none_some}}
@@ -42,8 +42,7 @@ first_at f q (suc n) run rest is = by_cell (f q) is (λ again. first_at f (q + 1
     by_cell None is again = let more : q + 1 ≤ run.at = again is in omega arith
     by_cell (Some cell) is again =
         let w = with_first q cell (runs_from f (q + 1) n) in
-        let same : run ≡ w.0 = head_is run w.0 rest w.1 (sym is ∙ w.2) in
-        let at : run.at ≡ q = ap (λ (z : Run). z.at) same ∙ w.3 in
+        let at : run.at ≡ q = ap (λ (z : Run). z.at) (head_is run w.0 rest w.1 (sym is ∙ w.2)) ∙ w.3 in
         omega arith
 
 -- the first run is from a position only where a byte of its exchange is there
@@ -55,23 +54,12 @@ goes_there f p (suc n) run rest is at = by_cell (f p) refl is
     by_cell None there is = absurd (let more : p + 1 ≤ run.at = first_at f (p + 1) n run rest is in omega arith)
     by_cell (Some cell) there is =
         let w = with_first p cell (runs_from f (p + 1) n) in
-        let same : run ≡ w.0 = head_is run w.0 rest w.1 (sym is ∙ w.2) in
-        (cell, there, sym (ap (λ (z : Run). z.x) same ∙ w.4))
+        (cell, there, sym (ap (λ (z : Run). z.x) (head_is run w.0 rest w.1 (sym is ∙ w.2)) ∙ w.4))
 
 module _ (f : Cells) (x m : ℕ) where
   -- a byte behind which none of its exchange is
   lone : (p : ℕ) (cell : Cell) → cell.x ≡ x → ((next : Cell) → f (p + 1) ≡ Some next → next.x ≢ x) → (xs : List Run) → runs_from f (p + 1) m ≡ xs → with_cell p cell xs ≡ run_from p cell [] ∷ xs
-  lone p cell from ends [] is = refl
-  lone p cell from ends (r ∷ rs) is = elim (cases_Bool (r.at == p + 1 && r.x == cell.x)) [
-    | inr off ↦ rw off refl
-    | inl on ↦
-        let at_test : nat_eq r.at (p + 1) ≡ true = and_left (r.at == p + 1) (r.x == cell.x) on in
-        let x_test : nat_eq r.x cell.x ≡ true = and_right (r.at == p + 1) (r.x == cell.x) on in
-        let at : r.at ≡ p + 1 = grind (arith, nat_tests) in
-        let same : r.x ≡ cell.x = grind (arith, nat_tests) in
-        let there = goes_there f (p + 1) m r rs is at in
-        absurd (ends there.0 there.1 (there.2 ∙ (same ∙ from)))
-  ]
+  lone p cell from ends xs is = grind (arith, nat_tests, and_left, and_right, goes_there)
 
   pub runs_next : (p : ℕ) (bytes : List ℕ) → 0 < length bytes → ((i : ℕ) → i < length bytes → f (p + i) ≡ Some (record { byte = get_or bytes i 0; x = x })) → ((next : Cell) → f (p + length bytes) ≡ Some next → next.x ≢ x)
       → runs_from f p (length bytes + m) ≡ record { x = x; at = p; bytes = bytes } ∷ runs_from f (p + length bytes) m
@@ -101,10 +89,7 @@ pub none_found : (f : Cells) → AreFound f 0 []
 none_found f = record { found = λ n ends all. (let same : n - 0 ≡ n = omega arith in rw same refl) }
 
 below_end : (f : Cells) (n q : ℕ) → EndsBy n f → is_some (f q) ≡ true → q < n
-below_end f n q ends there = elim (split q n) [
-  | inl lt ↦ lt
-  | inr le ↦ false_true (sym (ap is_some (ends q le)) ∙ there)
-]
+below_end f n q ends there = grind (arith, nat_tests)
 
 module _ (f : Cells) (p at : ℕ) (runs : List Run) (run : Run) (so_far : AreFound f p runs) (next : IsNext f p (Some at)) (longest : IsLongest f at (2 ^ 62 - at) run) where
   pub more_found : AreFound f (at + length run.bytes) (runs ++ run ∷ [])

@@ -2,7 +2,7 @@
 -- positions below 2^62 alone. In a run that began with this cache no more came than it counted, so nothing is stored from
 -- there on. Any other run for which its rows stand has the same bytes stored of what is kept, and all that is in use is kept. So nothing
 -- is stored from there on in that run either, however many bytes came in it.
-use Rattle.std.{proofs.{Common.{◌≡◌, inl, inr, ℕ, ◌<◌, ◌≤◌, ◌^◌, max, true, Option, Some, None, refl, sym, ◌∙◌, subst, arith}, lemmas.Bool.{cases_Bool, Decides.{nat_tests}}}, specs.Prelude.{is_some, nat_eq, nat_le}}
+use Rattle.std.{proofs.{Common.{◌≡◌, ℕ, ◌<◌, ◌≤◌, ◌^◌, true, Option, Some, None, refl, sym, ◌∙◌, subst, arith}, lemmas.Bool.Decides.{nat_tests}}, specs.Prelude.{is_some, nat_eq}}
 use Rattle.hc_store.specs.declared.backend.Backend.{Ghosts}
 use Rattle.hc_sparse.specs.Cells.{Cell, Cells, EndsBy, size, size_below}
 use Rattle.hc_effects.proofs.Vocabulary.{Limits, Lawful, AreSized, Numbers, Tables, Representation, Sizes}
@@ -19,13 +19,7 @@ merely_same n m some same =
 
 -- two positions past which nothing is
 pub below_either : (f : Cells) (n m : ℕ) → EndsBy n f → EndsBy m f → size_below f n ≡ size_below f m
-below_either f n m ends also = elim (cases_Bool (nat_le n m)) [
-  | inl le ↦ let under : n ≤ m = grind (arith, nat_tests, le) in sym (below_past f n m ends under)
-  | inr off ↦ let over : m ≤ n = grind (arith, nat_tests, off) in below_past f m n also over
-]
-
-most_small : (m n : ℕ) → m ≤ max (2 ^ 62) n → n < 2 ^ 62 → m ≤ 2 ^ 62
-most_small m n le small = grind (arith, nat_tests, le, small)
+below_either f n m ends also = grind (arith, nat_tests, below_past)
 
 -- IN A RUN THAT BEGAN WITH THIS CACHE
 
@@ -36,7 +30,7 @@ module _ (t : Tables) (law : Lawful t) where
 
   few_ends : (q : ℕ) (v : Representation) → t.representation q ≡ Some v → Numbers t → t.received < 2 ^ 62 → EndsBy (2 ^ 62) v.stored
   few_ends q v row numbers few p past =
-      let reach : v.reach ≤ 2 ^ 62 = most_small v.reach t.received (numbers.reaches q v row) few in
+      let reach : v.reach ≤ 2 ^ 62 = grind (arith, nat_tests, numbers.reaches q v row, few) in
       stored_ends q v row p (omega (arith, reach, past))
 
   sized_by : (limits : Limits) → Sizes limits t → (q : ℕ) (v : Representation) → t.representation q ≡ Some v → EndsBy (2 ^ 62) v.stored → v.size ≡ size v.stored

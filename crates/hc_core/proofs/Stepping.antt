@@ -4,12 +4,11 @@
 -- is denied, the rows stay, and the tables but for moment and count. If not, the tables of the run have the facts. So
 -- what the occasion answers is owed, and its rows represent the tables after it (`by_refusal`). `steps_on` joins this
 -- for `step`; the promises of `keeps_promises` are the laws of that run.
-use Rattle.std.{proofs.{Common.{◌≡◌, ℕ, ◌+◌, ◌≤◌, ◌<◌, ◌^◌, List, [], ◌∷◌, ◌++◌, length, Bool, true, false, Option, Some, None, refl, ap, sym, ◌∙◌, subst, arith}, Props.{props}, Math.{Bridge.{le_prop}, Logic.{∥∥₁_elim, ∥∥₁_map}, Seq.{drop-append_seam}}}, specs.{Prelude.{nat_eq, ◌||◌, drop, if◌then◌else◌}, HashMap.{get, hash_map_len}}}
+use Rattle.std.{proofs.{Common.{◌≡◌, ℕ, ◌+◌, ◌≤◌, ◌<◌, ◌^◌, List, [], ◌∷◌, ◌++◌, length, Bool, true, Option, Some, None, refl, ap, sym, ◌∙◌, subst, arith}, Props.{props}, Math.{Bridge.{le_prop}, Logic.{∥∥₁_elim, ∥∥₁_map}, Seq.{drop-append_seam}}, lemmas.Bool.Decides.{nat_tests}}, specs.{Prelude.{nat_eq, ◌||◌, drop, if◌then◌else◌}, HashMap.{get, hash_map_len}}}
 use Rattle.hc_text.proofs.Basics.{or_right as or_second}
 use Rattle.hc_store.specs.declared.backend.Backend.{Ghosts}
-use Rattle.hc_effects.proofs.Vocabulary.{is_denied, Event, Act, Refusal, Limits, refusal_of, answer, accepted_acts, denied_or, may_begin, denial, Entry, History, Contents, no_contents, Flaw, NoFlaw, flaw_in, AreSized, HasFieldsWithinLimits, HasTarget, AreShort, Tables, IsRun, IsOwed, may_stand, may_be, tables, last_start_after, received_in, after, after_accepted, after_denied, IsEventWithinLimits, is_fault, failures_in, act}
+use Rattle.hc_effects.proofs.Vocabulary.{is_denied, Event, Act, Refusal, Limits, refusal_of, answer, accepted_acts, denied_or, may_begin, denial, Entry, History, Contents, no_contents, Flaw, NoFlaw, flaw_in, AreSized, HasFieldsWithinLimits, HasTarget, AreShort, Tables, IsRun, IsOwed, may_stand, may_be, tables, last_start_after, received_in, after, after_accepted, after_denied, IsEventWithinLimits, is_fault, failures_in, act, event}
 use Rattle.hc_effects.proofs.Tests.{none_some}
-use Rattle.hc_event.specs.declared.event.Event.TheVariants as event
 use Rattle.hc_exch.specs.{Exchanges.{table_of, next_of}, Known.{unknown}}
 use Rattle.hc_stored.specs.Entries.{shelf_of}
 use Rattle.hc_entry.specs.{Keys.{kept_of}, Kept.{nothing}}
@@ -48,42 +47,23 @@ limits_set = Prim.hlevel props
 
 within_limits_fields : (ev : Event) → IsEventWithinLimits ev → HasFieldsWithinLimits ev
 within_limits_fields (event.Start c request) within_limits = within_limits.2
-within_limits_fields (event.Poll c want) within_limits = tt
 within_limits_fields (event.Head x response) within_limits = within_limits
-within_limits_fields (event.Piece x bytes) within_limits = tt
-within_limits_fields (event.End x) within_limits = tt
-within_limits_fields (event.Fault x) within_limits = tt
-within_limits_fields (event.Cancel c) within_limits = tt
-within_limits_fields (event.Doom key) within_limits = tt
+within_limits_fields _ within_limits = tt
 
 has_target : (ev : Event) → IsEventWithinLimits ev → HasTarget ev
 has_target (event.Start c request) within_limits = within_limits.1
-has_target (event.Poll c want) within_limits = tt
-has_target (event.Head x response) within_limits = tt
-has_target (event.Piece x bytes) within_limits = tt
-has_target (event.End x) within_limits = tt
-has_target (event.Fault x) within_limits = tt
-has_target (event.Cancel c) within_limits = tt
-has_target (event.Doom key) within_limits = tt
+has_target _ within_limits = tt
 
 -- the number of who started last stays below 2 ^ 62
 small_by : (ev : Event) (n : ℕ) → IsEventWithinLimits ev → n < 2 ^ 62 → last_start_after ev n < 2 ^ 62
-small_by (event.Start c request) n within_limits small = within_limits.0
-small_by (event.Poll c want) n within_limits small = small
-small_by (event.Head x response) n within_limits small = small
-small_by (event.Piece x bytes) n within_limits small = small
-small_by (event.End x) n within_limits small = small
-small_by (event.Fault x) n within_limits small = small
-small_by (event.Cancel c) n within_limits small = small
-small_by (event.Doom key) n within_limits small = small
+small_by ev n within_limits small = grind (arith, nat_tests)
 
 small_after : (t : Tables) (e : Entry) → IsEventWithinLimits e.event → t.last_start < 2 ^ 62 → (after t e).last_start < 2 ^ 62
 unfolding after
 small_after t e within_limits small = by_test (is_denied e.acts)
   where
     by_test : (b : Bool) → (if b then after_denied t e else after_accepted t e).last_start < 2 ^ 62
-    by_test true = small
-    by_test false = small_by e.event t.last_start within_limits small
+    by_test b = grind (arith, nat_tests)
 
 small_next : (contents : Contents) (h : History) (e : Entry) → IsEventWithinLimits e.event → (tables contents h).last_start < 2 ^ 62 → (tables contents (e ∷ h)).last_start < 2 ^ 62
 unfolding tables
@@ -92,11 +72,7 @@ small_next contents h e within_limits small = small_after (tables contents h) e 
 -- what a piece has is received
 pub received_after : (t : Tables) (e : Entry) → (after t e).received ≡ t.received + received_in e.event
 unfolding after
-received_after t e = by_test (is_denied e.acts)
-  where
-    by_test : (b : Bool) → (if b then after_denied t e else after_accepted t e).received ≡ t.received + received_in e.event
-    by_test true = refl
-    by_test false = refl
+received_after t e = grind (arith, nat_tests)
 
 received_next : (contents : Contents) (h : History) (e : Entry) → (tables contents (e ∷ h)).received ≡ (tables contents h).received + received_in e.event
 unfolding tables
@@ -169,8 +145,7 @@ told_by r u contents h before out acts now ev told more =
 
 -- a failure that the acts tell was counted
 one_counted : (faults after : ℕ) (flaw : Flaw) (b : Bool) → is_fault flaw ≡ b → (is_fault flaw ≡ true → faults < after) → faults ≤ after → faults + (if b then 1 else 0) ≤ after
-one_counted faults after flaw true is caused never = let one = caused is in omega (arith, one)
-one_counted faults after flaw false is caused never = omega (arith, never)
+one_counted faults after flaw b is caused never = grind (arith, nat_tests)
 
 module _ {B : Type 0} {g : Ghosts B} (r u : Rows B g) (now : ℕ) (ev : Event) (before out : List Act)
     (denied : (why : Refusal) → refusal_of (gate_of r ev) ev ≡ Some why → (u ≡ r) × (out ≡ before ++ act.Denied why ∷ []))

@@ -60,8 +60,7 @@ module _ (t : Tables) (law : Lawful t) (x c : ℕ) (w : Exchange) (k : rows.Cons
         let mine : u ≡ moved_to (place.Down why) k = some_is u (moved_to (place.Down why) k) (sym is ∙ (sym (ap s.consumer e) ∙ here)) in
         absurd (down_not_bound (sym (ap (λ (z : rows.Consumer). z.place) mine) ∙ at))
     | inr ne ↦
-        let same : s.consumer d ≡ t.consumer d = rw (eqb-other c d ne) refl in
-        let first = law.owned.first_own d r lo x hi u (sym same ∙ is) at in
+        let first = law.owned.first_own d r lo x hi u (sym (rw (eqb-other c d ne) refl) ∙ is) at in
         let same_w : first.w ≡ w = same_row (t.exchange x) first.w w first.row waits.row in
         absurd (ne (sym waits.for_it ∙ (ap (λ (z : Exchange). z.c) (sym same_w) ∙ first.for_it)))
   ]

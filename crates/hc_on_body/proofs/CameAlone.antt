@@ -2,9 +2,8 @@
 use Rattle.std.{proofs.Common.{◌≡◌, ℕ, Bool, true, false, Option, Some, None, refl, ap, sym, ◌∙◌}, specs.Prelude.{option_map, ◌&&◌, ◌==◌, if◌then◌else◌}}
 use Rattle.hc_text.proofs.Basics.{false_true, and_both as parts_on}
 use Rattle.hc_effects.proofs.Vocabulary.{place, BoundBy, back_in_line, let_go, back_from, as_gone, Measures, is_bound_place, Tables, Representation, Sound, IsBound, came_alone, status_in}
-use Rattle.hc_model.specs.Effects.{waits_for}
+use Rattle.hc_model.specs.{Effects.{waits_for}, Sound.{is_bound}}
 use Rattle.hc_model.specs.Rows as rows
-use Rattle.hc_model.specs.Sound as sound
 use Rattle.hc_effects.proofs.{HasBound.{bound_at}, Tests.{none_some}}
 use Rattle.hc_state.specs.Stored.{is_first}
 use Rattle.hc_state.proofs.OneOfEach.{first_by}
@@ -22,7 +21,7 @@ nobody_first t x v s measures there unknown d = by_row (t.consumer d) refl
         none_some ends.total (sym unknown ∙ ends.known)
 
     by_bound : {P : Type 0} (k : rows.Consumer) → came_alone t k.place ≡ true → IsBound t x d k → P
-    by_bound k alone (sound.is_bound lo hi how row at) = absurd (never k row lo hi how at (sym (ap (came_alone t) at) ∙ alone))
+    by_bound k alone (is_bound lo hi how row at) = absurd (never k row lo hi how at (sym (ap (came_alone t) at) ∙ alone))
 
     by_test : (k : rows.Consumer) → t.consumer d ≡ Some k → (b : Bool) → is_first t x (Some k) ≡ b → b ≡ false
     by_test k row false is = refl

@@ -6,13 +6,12 @@
 -- `awaits_due`). `StopHandler` uses these for the readers of an exchange that stops.
 use Rattle.std.{proofs.Common.{◌≡◌, ℕ, List, Bool, true, false, Option, Some, None, refl, ap, sym, ◌∙◌, subst}, specs.{Prelude.{is_some, nat_eq, bytes_eq, option_map, ◌&&◌, if◌then◌else◌}, Option.{option_or}, HashMap.{get}}}
 use Rattle.hc_text.proofs.Basics.{some_inj as some_is}
-use Rattle.hc_effects.proofs.Vocabulary.{Limits, Cause, Place, current, is_live, failing, family, MayLetGo, is_in_line, is_bound, Tables, Exchange, Representation, by}
+use Rattle.hc_effects.proofs.Vocabulary.{Limits, Cause, Place, current, is_live, failing, family, MayLetGo, is_in_line, is_bound, Tables, Exchange, Representation, by, place}
 use Rattle.hc_effects.proofs.Tests.{none_some}
 use Rattle.hc_store.specs.declared.backend.Backend.{Ghosts}
 use Rattle.hc_stored.specs.Entries.{shelf_of}
 use Rattle.hc_entry.specs.Keys.{kept_of}
 use Rattle.hc_exch.specs.Exchanges.{table_of, next_of}
-use Rattle.hc_event.specs.declared.place.Place.TheVariants as place
 use Rattle.hc_model.specs.Rows as rows
 use Rattle.hc_state.specs.{declared.{consumer.Consumer.{Consumer}, rows.Rows.{Rows}}, Changes.{ChangesAmong, with_due}, Kept.{IsKept, KeepsConsumer, held_for, held_of, held_alone, unread, unstored_bytes}, Lines.{has_turn, is_passed, is_away, is_away_at}, Stands.{RowsStand}, Stopped.{with_consumers, NobodyAwaits, due_for}, Stored.{is_first}}
 use Rattle.hc_state.proofs.{FallbackSteps.{live_same}, Fallbacks.{unstored_moved}, OneOfEach.{entries_same}, Ties.{consumer_same, exchange_same, key_same, kept_same}}
@@ -47,10 +46,10 @@ module _ (t : Tables) (among : ℕ → Bool) (why : Cause) where
           record { k = k; row = row; place_is = ap (λ (q : rows.Consumer). q.place) (sym one) ∙ place; request_is = ap (λ (q : rows.Consumer). q.request) (sym one) ∙ request; own_is = ap (λ (q : rows.Consumer). q.own) (sym one) ∙ own }
 
       by_test : (b : Bool) (o : Option rows.Consumer) → t.consumer d ≡ o → (if b then option_map (failing (Some why)) o else o) ≡ Some u → Stood d u
-      by_test true None row h = none_some u h
       by_test true (Some k) row h = same k (failing (Some why) k) row refl refl refl h
-      by_test false None row h = none_some u h
       by_test false (Some k) row h = same k k row refl refl refl h
+      by_test true None row h = none_some u h
+      by_test false None row h = none_some u h
 
   -- WHAT MAY BE LET GO
 
@@ -79,20 +78,7 @@ module _ (t : Tables) (among : ℕ → Bool) (why : Cause) where
   kept_due : (k : Consumer) (v : rows.Consumer) → IsKept t k v → IsKept s (with_due why k) (failing (Some why) v)
   kept_due k v kp =
       let now : IsKept s k v = kept_same t s k v (record { past = λ x at. refl; length = λ q lo hi how at. refl }) kp in
-      record {
-        is_there = now.is_there;
-        request = now.request;
-        class_is = now.class_is;
-        since = now.since;
-        place = now.place;
-        own = now.own;
-        shown = now.shown;
-        answer = now.answer;
-        begins = now.begins;
-        ends = now.ends;
-        given = now.given;
-        due = ap (λ (o : Option Cause). option_or o (Some why)) now.due;
-      }
+      assumption (now, ap (λ (o : Option Cause). option_or o (Some why)) now.due)
 
   consumer_due : (b : Bool) (o : Option Consumer) (row : Option rows.Consumer) → KeepsConsumer t o row → KeepsConsumer s (if b then option_map (with_due why) o else o) (if b then option_map (failing (Some why)) row else row)
   consumer_due true None None kept = kept
@@ -109,14 +95,7 @@ module _ (t : Tables) (among : ℕ → Bool) (why : Cause) where
     where
       by_place : (p : Place) → is_away_at s p ≡ is_away_at t p
       by_place (place.Bound r lo hi (by.FirstHole y)) = refl
-      by_place (place.Bound r lo hi by.Founding) = refl
-      by_place (place.Bound r lo hi by.Plan) = refl
-      by_place place.Line = refl
-      by_place (place.Passed q kept) = refl
-      by_place (place.Turn y) = refl
-      by_place (place.Direct y) = refl
-      by_place (place.Down cause) = refl
-      by_place place.Over = refl
+      by_place _ = refl
 
   held_due : (y : ℕ) (o : Option Exchange) → held_for s y o ≡ held_for t y o
   held_due y None = refl

@@ -4,9 +4,9 @@
 -- (`told_alike`): head, base, what is held, and keys. Where its body ends has the work: an exchange that is closed has
 -- the promised end, and one that ended what came. Since it promised a length, both are told by that (`end_alike`).
 -- `stands_ended` joins these for `ShortAnswers`; `WholeEnds` uses its parts.
-use Rattle.std.{proofs.Common.{◌≡◌, ℕ, ◌+◌, ◌-◌, List, [], length, Bool, true, false, Option, Some, None, refl, ap, sym, ◌∙◌}, specs.{Prelude.{nat_eq, bytes_eq, drop, ◌==◌, ◌&&◌, if◌then◌else◌}, HashMap.{get}}}
+use Rattle.std.{proofs.{Common.{◌≡◌, ℕ, ◌+◌, ◌-◌, List, [], length, Bool, true, false, Option, Some, None, refl, ap, sym, ◌∙◌, arith}, lemmas.Bool.Decides.{nat_tests}}, specs.{Prelude.{nat_eq, bytes_eq, drop, ◌==◌, ◌&&◌, if◌then◌else◌}, HashMap.{get}}}
 use Rattle.hc_text.proofs.Basics.{false_true}
-use Rattle.hc_effects.proofs.Vocabulary.{Limits, Response, base_of, promise_of, Place, current, is_number, over, at_end, base, family, promised_bytes, is_headless, length_by, absent_from, brings_to, offset, is_bound_place, base_in, end_in, end_of_direct, Tables, Exchange, Representation, place, by}
+use Rattle.hc_effects.proofs.Vocabulary.{Limits, Place, current, is_number, over, at_end, base, family, promised_bytes, is_headless, absent_from, brings_to, offset, is_bound_place, base_in, end_in, end_of_direct, Tables, Exchange, Representation, place, by}
 use Rattle.hc_store.specs.declared.backend.Backend.{Ghosts}
 use Rattle.hc_stored.specs.Entries.{shelf_of}
 use Rattle.hc_entry.specs.Keys.{kept_of}
@@ -16,18 +16,10 @@ use Rattle.hc_state.specs.{Stored.{is_over}, declared.rows.Rows.{Rows}, Kept.{Ke
 use Rattle.hc_state.proofs.{Fallbacks.{same, held_alike}, Closing.{base_over, promise_over}, OneOfEach.{entries_same, growing_same}, PastRows.{consumer_alike}, Ties.{key_same, runs_same}}
 
 pub base_end : (w : Exchange) → base (at_end w) ≡ base w
-base_end w = by_head w.head
-  where
-    by_head : (h : Option Response) → base_of (length_by (at_end w) h) ≡ base_of (length_by w h)
-    by_head None = refl
-    by_head (Some response) = refl
+base_end w = grind (arith, nat_tests)
 
 pub promise_end : (w : Exchange) → promised_bytes (at_end w) ≡ promised_bytes w
-promise_end w = by_head w.head
-  where
-    by_head : (h : Option Response) → promise_of (length_by (at_end w) h) ≡ promise_of (length_by w h)
-    by_head None = refl
-    by_head (Some response) = refl
+promise_end w = grind (arith, nat_tests)
 
 -- the same, but that x ended cleanly, or was cut off
 abbrev pub with_over : ℕ → Exchange → (ℕ → Option Exchange) → Tables → Tables
@@ -95,14 +87,7 @@ module _ (t : Tables) (f : ℕ → Option Exchange) (x : ℕ) (w : Exchange) whe
     where
       by_place : (p : Place) → is_away_at z p ≡ is_away_at a p
       by_place (place.Bound r lo hi (by.FirstHole y)) = told_alike is_headless refl y
-      by_place (place.Bound r lo hi by.Founding) = refl
-      by_place (place.Bound r lo hi by.Plan) = refl
-      by_place place.Line = refl
-      by_place (place.Passed q kept) = refl
-      by_place (place.Turn y) = refl
-      by_place (place.Direct y) = refl
-      by_place (place.Down cause) = refl
-      by_place place.Over = refl
+      by_place _ = refl
 
 -- ALL OF IT
 

@@ -12,8 +12,7 @@ module _ {B : Type 0} {g : Ghosts B} (r : Rows B g) (w : Write) (small : grown_b
   few_for count is s =
       let t = s.t in
       let facts = s.facts in
-      let may = may_make_room t facts in
-      two_give_way s.limits t w count facts.fits small (sym (room_is r t may s.rows w) ∙ is)
+      two_give_way s.limits t w count facts.fits small (sym (room_is r t (may_make_room t facts) s.rows w) ∙ is)
 
   pub few_acts : ∥ Stands r ∥₁ → (count : ℕ) → room_for_write r w ≡ room.After count → count ≤ 2
   few_acts some count is = ∥∥₁_elim some le_prop (λ s. few_for count is s)
@@ -23,8 +22,7 @@ module _ {B : Type 0} {g : Ghosts B} (r : Rows B g) (w : Write) (small : grown_b
     where
       by_room : (a : Room) → room_for_write r w ≡ a → HasActs spare a
       by_room (room.After count) is = let few : count ≤ 2 = few_acts some count is in omega (arith, few, most)
-      by_room room.TooLarge is = tt
-      by_room room.Full is = tt
+      by_room _ is = tt
 
   -- and two more than those
   pub leaves_two : ∥ Stands r ∥₁ → (before after : ℕ) → 4 ≤ before → LeavesActs before after (room_for_write r w) → 2 ≤ after
@@ -32,5 +30,4 @@ module _ {B : Type 0} {g : Ghosts B} (r : Rows B g) (w : Write) (small : grown_b
     where
       by_room : (a : Room) → room_for_write r w ≡ a → LeavesActs before after a → 2 ≤ after
       by_room (room.After count) is fits = let few : count ≤ 2 = few_acts some count is in omega (arith, few, most, fits)
-      by_room room.TooLarge is same = omega (arith, most, same)
-      by_room room.Full is same = omega (arith, most, same)
+      by_room _ is same = omega (arith, most, same)

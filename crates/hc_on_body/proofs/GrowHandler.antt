@@ -11,8 +11,7 @@ use Rattle.hc_store.specs.declared.backend.Backend.{Ghosts}
 use Rattle.hc_stored.specs.Entries.{shelf_of}
 use Rattle.hc_model.specs.Rows as rows
 use Rattle.hc_model.specs.Sound as sound
-use Rattle.hc_effects.proofs.{Exclusives.{exclusive_parts}, HadKeeps.{survivor_bound}, HasBound.{reader_of}, LettingGo.{may_let_go}, SameTables.{all_go_is, back_from_any, is_in, without}, Survives.{survivor_offset}}
-use Rattle.hc_effects.proofs.PieceEffects as alone_does
+use Rattle.hc_effects.proofs.{Exclusives.{exclusive_parts}, HadKeeps.{survivor_bound}, HasBound.{reader_of}, LettingGo.{may_let_go}, SameTables.{all_go_is, back_from_any, is_in, without}, Survives.{survivor_offset}, PieceEffects.{loses_alone}}
 use Rattle.hc_effects.proofs.SharedLossEffects as shared_does
 use Rattle.hc_state.specs.{declared.rows.Rows.{Rows}, Facts.{Facts}, DetachedReaders.{MayLoseShared, shared_loss}, Kept.{held_alone, unstored_bytes}, Refused.{Brings, MayHold, MayLoseOwn, MayLosePiece, LosesPiece, Refuses, brought_lost, closes_with, own_loss}, Stands.{Answered, RowsStand}, Stopped.{HoldsNothing}}
 use Rattle.hc_state.proofs.Fallbacks.{unstored_moved}
@@ -102,8 +101,7 @@ module _ {B : Type 0} {g : Ghosts B} {limits : Limits} (r put : Rows B g) (t : T
 
   fault_of : (k : LostKind) → is_fault (Loses q k) ≡ true → k ≡ kinds.Fault
   fault_of kinds.Fault is = refl
-  fault_of kinds.TooLarge is = absurd (false_true is)
-  fault_of kinds.Full is = absurd (false_true is)
+  fault_of _ is = absurd (false_true is)
 
   answered_lost : (u : Rows B g) (s : Tables) (out : List Act) (xs : List ℕ) → Does limits t now ev (Loses q kind) (map act.Evicted es ++ (act.Lost q kind ∷ map act.Close xs)) s → out ≡ mid ++ (act.Lost q kind ∷ map act.Close xs)
       → (shelf_of put.entries).faults ≤ (shelf_of u.entries).faults → RowsStand limits u s → Answered limits (shelf_of r.entries).faults u t before out now ev
@@ -189,7 +187,7 @@ module _ {B : Type 0} {g : Ghosts B} {limits : Limits} (r put : Rows B g) (t : T
       pub own_answered : (u : Rows B g) (out : List Act) → (MayLoseOwn left now q x w v alone → RowsStand limits put left → RowsStand limits u (brought_lost now q x w bytes (as_gone (lost_to alone v)) (own_loss now q v alone left)))
           → out ≡ mid ++ (act.Lost q kind ∷ []) → (shelf_of put.entries).faults ≤ (shelf_of u.entries).faults → Answered limits (shelf_of r.entries).faults u t before out now ev
       own_answered u out loses told failed =
-          answered_lost u _ out [] (alone_does.loses_alone limits t facts.law now x bytes w it.row goes q v it.of_q there kind it.fresh off) told failed
+          answered_lost u _ out [] (loses_alone limits t facts.law now x bytes w it.row goes q v it.of_q there kind it.fresh off) told failed
           (subst (RowsStand limits u) (sym (own_tables now q x bytes w v es t apart (exclusive t q v)))
           (subst (λ (a : Option ℕ). RowsStand limits u (brought_lost now q x w bytes (as_gone (lost_to a v)) (own_loss now q v a left))) alone_is (loses may_own refuses.gives.rows)))
 
@@ -229,12 +227,7 @@ module _ {B : Type 0} {g : Ghosts B} {limits : Limits} (r put : Rows B g) (t : T
 
         by_place : (p : Place) → k.place ≡ p → ((offset_in left (option_map (back_from_any now es) (Some k)) == v.reach) && is_bound q (option_map (back_from_any now es) (Some k))) ≡ ((offset_in t (Some k) == v.reach) && is_bound q (Some k))
         by_place (place.Bound n lo hi how) at = rw at refl
-        by_place place.Line at = off (ap (is_bound_place q) at)
-        by_place (place.Passed n how) at = off (ap (is_bound_place q) at)
-        by_place (place.Turn n) at = off (ap (is_bound_place q) at)
-        by_place (place.Direct n) at = off (ap (is_bound_place q) at)
-        by_place (place.Down why) at = off (ap (is_bound_place q) at)
-        by_place place.Over at = off (ap (is_bound_place q) at)
+        by_place _ at = off (ap (is_bound_place q) at)
 
     detached_reader_same : survivor left q v ≡ survivor t q v
     detached_reader_same = survivor_same t left q v (may_let_go t facts.law) may_left (λ c. ap (λ (o : Option rows.Consumer). (offset_in left o == v.reach) && is_bound q o) (ap (λ (z : Tables). z.consumer c) left_is) ∙ stands_there (t.consumer c))

@@ -4,9 +4,9 @@
 -- byte is stored where the piece begins, so that place stays the same, or nothing came before. So what is held grows by
 -- just the piece (`more`). Where nobody goes on, nothing is held, and the piece is dropped. `by_held` joins both with
 -- `PieceRows`; `LosePiece` and `LostPiece` use `held_stands` and `dropped_stands`.
-use Rattle.std.{proofs.{Common.{◌≡◌, ◌≢◌, inl, inr, ℕ, ◌+◌, ◌-◌, ◌<◌, ◌≤◌, ◌⊎◌, List, [], ◌∷◌, ◌++◌, length, drop, max, min, Bool, true, false, Option, Some, None, refl, ap, sym, ◌∙◌, subst, arith}, lemmas.List.{drop-append-le, length-append}}, specs.Prelude.{is_some, is_none, ◌==◌, ◌&&◌, if◌then◌else◌}}
+use Rattle.std.{proofs.{Common.{◌≡◌, ◌≢◌, inl, inr, ℕ, ◌+◌, ◌-◌, ◌<◌, ◌≤◌, ◌⊎◌, List, [], ◌++◌, length, drop, max, min, Bool, true, false, Option, Some, None, refl, ap, sym, ◌∙◌, subst, arith}, lemmas.List.{drop-append-le, length-append}}, specs.Prelude.{is_some, is_none, ◌==◌, ◌&&◌, if◌then◌else◌}}
 use Rattle.hc_text.proofs.Basics.{eqb-other, eqb-same, false_true, order, same_or}
-use Rattle.hc_effects.proofs.Vocabulary.{Limits, is_number, with_piece, family, base, front, first_place, absent_from, bound, is_bound_place, with_stored_bytes, Tables, Exchange, Representation, place}
+use Rattle.hc_effects.proofs.Vocabulary.{Limits, is_number, with_piece, family, base, front, first_place, absent_from, bound, is_bound_place, with_stored_bytes, Tables, Exchange, Representation, place, kind_of}
 use Rattle.hc_store.specs.declared.backend.Backend.{Ghosts}
 use Rattle.hc_sparse.specs.Cells.{Cell, Cells, inside}
 use Rattle.hc_stored.specs.{Entries.{shelf_of}, Kept.{Kept}, declared.entries.Entries.{Entries}}
@@ -14,7 +14,7 @@ use Rattle.hc_exch.specs.Exchanges as exch
 use Rattle.hc_exch.specs.Exchanges.{table_of}
 use Rattle.hc_exch.specs.Known as known
 use Rattle.hc_effects.proofs.HoleLemmas.{first_from, first_to, first_before, first_passes}
-use Rattle.hc_state.proofs.{Ties.{overs_open, writer_then}, Fallbacks.{unstored_moved}, OneOfEach.{first_by}}
+use Rattle.hc_state.proofs.{Ties.{overs_open, writer_then, OversStay}, Fallbacks.{unstored_moved}, OneOfEach.{first_by}}
 use Rattle.hc_state.specs.{declared.rows.Rows.{Rows}, Kept.{first_lacking, unstored_bytes, held_alone, held_of, held_for}, Refused.{GoesOn, MayHold}, Stands.{RowsStand}, Stored.{IsEntry, TellsLength, told, untold, KeepsEntry}}
 use Rattle.hc_on_leave.proofs.{PieceHandler.{Runs, runs_of}, PieceRows.{s, IsLike, like_same, stands_pieced}}
 
@@ -36,8 +36,7 @@ module _ (f : Cells) (offset base reach : ℕ) (body bytes : List ℕ) (within :
   new_is : new ≡ first_place is_none f offset long
   new_is =
       let len : length (body ++ bytes) ≡ length body + length bytes = length-append body bytes in
-      let same_count : min (base + length (body ++ bytes)) (max reach (base + length body + length bytes)) - offset ≡ base + length body + length bytes - offset = omega (arith, len) in
-      ap (first_place is_none f offset) same_count
+      ap (first_place is_none f offset) (omega (arith, len))
 
   at_front : is_none (f (base + length body)) ≡ true
   at_front = ap (λ (o : Option Cell). is_none o) absent
@@ -69,21 +68,15 @@ module _ (f : Cells) (offset base reach : ℕ) (body bytes : List ℕ) (within :
           let from : offset ≤ old = first_from is_none f offset short in
           let same = new_is in
           let stored : is_none (f old) ≡ false = first_before is_none f offset long old from (subst (λ n. old < n) same before) in
-          let low = new_within in
           let end : old ≡ offset + short = elim (order old (offset + short)) [
             | inl lt ↦ false_true (sym stored ∙ first_passes is_none f offset short lt)
             | inr (inl is) ↦ is
             | inr (inr gt) ↦ (let le : old ≤ offset + short = first_to is_none f offset short in absurd (omega arith))
           ] in
-          let past : reach ≤ old = omega arith in
-          let none : is_none (f old) ≡ true = ap (λ (o : Option Cell). is_none o) (reached old past) in
-          false_true (sym stored ∙ none)
+          false_true (sym stored ∙ ap (λ (o : Option Cell). is_none o) (reached old (omega (arith, new_within))))
 
   pub more : drop (new - base) (body ++ bytes) ≡ drop (old - base) body ++ bytes
-  more =
-      let low = new_within in
-      let le : new - base ≤ length body = omega arith in
-      drop-append-le (new - base) body bytes le ∙ ap (λ (ys : List ℕ). ys ++ bytes) same_drop
+  more = drop-append-le (new - base) body bytes (omega (arith, new_within)) ∙ ap (λ (ys : List ℕ). ys ++ bytes) same_drop
 
 unless : (xs : List ℕ) (a b : Bool) → b ≡ false → (if a && b then xs else []) ≡ []
 unless xs true b off = rw off refl
@@ -118,22 +111,21 @@ module _ {B : Type 0} {g : Ghosts B} {limits : Limits} (r u : Rows B g) (t : Tab
 
   entry_then : (e : Kept) → IsEntry t (family x w) e v → IsEntry after (family x w) e v2
   unfolding bound
-  entry_then e is = record {
-    used = is.used;
-    key = is.key;
-    head = is.head;
-    length = by_length is.length;
-    kind = λ stays. false_true (sym stays ∙ is_gone);
-    whole = is.whole;
-    cells = is.cells;
-    reach = λ fresh. false_true (sym fresh ∙ lost);
-    bound = is.bound;
-    first = λ d. is.first d ∙ sym (first_by t after (λ n. (like n).status) (family x w) (t.consumer d));
-    writer = writer_then (overs_open t.exchange after.exchange x w row opened (λ y ne. rw (eqb-other x y ne) refl)) is.writer;
-    is_lost = is.is_lost;
-    alone = is.alone;
-    is_gone = is.is_gone;
-  }
+  entry_then e is =
+      let kind : v.is_gone ≡ false → e.head.kind ≡ kind_of after (family x w) v2 =
+      λ stays. false_true (sym stays ∙ is_gone) in
+      let reach : v.is_lost ≡ false → e.reach ≡ v2.reach = λ fresh. false_true (sym fresh ∙ lost) in
+      let first = λ (d : ℕ). first_by t after (λ n. (like n).status) (family x w) (t.consumer d) in
+      let over : OversStay t.exchange after.exchange =
+      overs_open t.exchange after.exchange x w row opened (λ y ne. rw (eqb-other x y ne) refl) in
+      assumption (
+        is,
+        by_length is.length,
+        kind,
+        reach,
+        writer_then over is.writer,
+        (λ (d : ℕ). is.first d ∙ sym (first d)),
+      )
     where
       there_still : (a : Bool) (cell : Cell) (o : Option Cell) → is_some o ≡ true → is_some (if a then Some cell else o) ≡ true
       there_still true cell o some_there = refl

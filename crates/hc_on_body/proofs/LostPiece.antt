@@ -98,9 +98,7 @@ module _ {limits : Rattle.hc_rules.specs.declared.room.Limits.Limits} (t : Table
     | inr (inr less) ↦ absurd (omega (arith, less))
     | inl some_came ↦
         let low : base w ≤ p = omega (arith, is, some_came) in
-        let lt : p < front w = omega (arith, is) in
-        let came = facts.brings.stands x p w v row headed there low lt in
-        none_some _ (sym (store.ends p past) ∙ came)
+        none_some _ (sym (store.ends p past) ∙ facts.brings.stands x p w v row headed there low (omega (arith, is)))
   ]
 
 -- A PIECE OF WHAT IS LOST

@@ -26,22 +26,18 @@ module _ (now r : ℕ) (es : List ℕ) (detached_reader own : Option ℕ) (d : �
       by_place (place.Passed q kept) at = by_tests (r == q) (is_in es q) refl refl
         where
           by_tests : (a b : Bool) → (r == q) ≡ a → is_in es q ≡ b → back_from_any now es (back_from now r (left k)) ≡ back_from now r (left (back_from_any now es k))
-          by_tests true true a b = rw (at, a, b) refl
           by_tests true false a b = rw (at, a, b) (rw a refl)
-          by_tests false true a b = rw (at, a, b) refl
           by_tests false false a b = rw (at, a, b) (rw a refl)
+          by_tests true true a b = rw (at, a, b) refl
+          by_tests false true a b = rw (at, a, b) refl
       by_place (place.Bound q lo hi how) at = by_tests (q == r) (is_number detached_reader d) refl refl
         where
           by_tests : (a b : Bool) → (q == r) ≡ a → is_number detached_reader d ≡ b → back_from_any now es (back_from now r (left k)) ≡ back_from now r (left (back_from_any now es k))
-          by_tests true true a b = rw (at, a, b) refl
-          by_tests true false a b = rw (at, a, b) refl
           by_tests false true a b = rw (at, a) refl
           by_tests false false a b = rw (at, a) refl
-      by_place place.Line at = rw at refl
-      by_place (place.Turn y) at = rw at refl
-      by_place (place.Direct y) at = rw at refl
-      by_place (place.Down why) at = rw at refl
-      by_place place.Over at = rw at refl
+          by_tests true true a b = rw (at, a, b) refl
+          by_tests true false a b = rw (at, a, b) refl
+      by_place _ at = rw at refl
 
   pub left_then : (o : Option rows.Consumer) → option_map (back_from_any now es) (option_map (back_from now r) (option_map left o)) ≡ option_map (back_from now r) (option_map left (option_map (back_from_any now es) o))
   left_then None = refl
@@ -55,16 +51,11 @@ module _ (now r : ℕ) (es : List ℕ) where
       by_place (place.Passed q kept) at = by_tests (r == q) (is_in es q) refl refl
         where
           by_tests : (a b : Bool) → (r == q) ≡ a → is_in es q ≡ b → back_from_any now es (back_from now r k) ≡ back_from now r (back_from_any now es k)
-          by_tests true true a b = rw (at, a, b) refl
           by_tests true false a b = rw (at, a, b) (rw a refl)
-          by_tests false true a b = rw (at, a, b) refl
           by_tests false false a b = rw (at, a, b) (rw a refl)
-      by_place (place.Bound q lo hi how) at = rw at refl
-      by_place place.Line at = rw at refl
-      by_place (place.Turn y) at = rw at refl
-      by_place (place.Direct y) at = rw at refl
-      by_place (place.Down why) at = rw at refl
-      by_place place.Over at = rw at refl
+          by_tests true true a b = rw (at, a, b) refl
+          by_tests false true a b = rw (at, a, b) refl
+      by_place _ at = rw at refl
 
   pub back_then : (o : Option rows.Consumer) → option_map (back_from_any now es) (option_map (back_from now r) o) ≡ option_map (back_from now r) (option_map (back_from_any now es) o)
   back_then None = refl

@@ -7,7 +7,7 @@
 use Rattle.std.{proofs.{Common.{◌≡◌, ◌≢◌, ℕ, ◌+◌, ◌-◌, ◌<◌, ◌≤◌, ◌^◌, List, [], length, Bool, true, false, Option, Some, None, refl, ap, sym, ◌∙◌, subst, arith}, lemmas.{Bool.Decides.{nat_tests}, List.{drop_all}}}, specs.{Prelude.{is_some, nat_eq, nat_le, drop, unwrap_or, option_map, ◌&&◌, ◌==◌, if◌then◌else◌}, HashMap.{get}}}
 use Rattle.hc_text.proofs.Basics.{eqb-same, false_true, same_some as same_row, and_off as then_false}
 use Rattle.hc_store.specs.declared.backend.Backend.{Ghosts}
-use Rattle.hc_effects.proofs.Vocabulary.{Act, Cause, Response, Limits, BoundBy, is_number, base, front, family, is_headless, Lawful, own_open, is_bound, is_bound_place, is_written, writing_in, offset, Tables, Exchange, Representation, IsBound, IsAbout, IsHad, IsExclusiveWriter, IsOwner, exclusive, has_more, place}
+use Rattle.hc_effects.proofs.Vocabulary.{Act, Cause, Response, Limits, BoundBy, is_number, base, front, family, is_headless, Lawful, own_open, is_bound, is_bound_place, is_written, writing_in, offset, Tables, Exchange, Representation, IsBound, IsAbout, IsHad, IsExclusiveWriter, IsOwner, exclusive, place}
 use Rattle.hc_sparse.specs.Cells.{Cell, Covers, EndsBy}
 use Rattle.hc_sorted.specs.Sorted.{has}
 use Rattle.hc_stored.specs.{Entries.{shelf_of}, Kept.{Kept, itself}, Views.{bound_in}}
@@ -16,8 +16,7 @@ use Rattle.hc_model.specs.Rows as rows
 use Rattle.hc_model.specs.Sound as sound
 use Rattle.hc_model.specs.Whose as whose
 use Rattle.hc_effects.proofs.{AboutKeeps.{own_open_of}, Exclusives.{exclusive_parts}, HoleLemmas.{covers_yes}, LettingGo.{may_let_go}, Stops.{writer_about}, Tests.{none_some}}
-use Rattle.hc_state.specs.{declared.{rows.Rows.{Rows}, stop.Readers.{Readers}}, Changes.{Numbered, ChangesAmong, with_due}, Facts.{Facts}, Kept.{held_alone, unstored_bytes, first_lacking}, Leaving.{writing_of}, Stands.{RowsStand, KeepsRest}, Stopped.{with_consumers, due_for, NobodyAwaits, MayStop, IsBroken, HasStopped, BrokeOff}, Stops.{readers_of, readers_by, reads_from, goes_on, opener_of, alone_in}, Stored.{KeepsEntry}}
-use Rattle.hc_state.specs.declared.stop.Readers.TheVariants as readers
+use Rattle.hc_state.specs.{declared.{rows.Rows.{Rows}, stop.Readers.{Readers, TheVariants.{the_data as readers}}}, Changes.{Numbered, ChangesAmong, with_due}, Facts.{Facts}, Kept.{held_alone, unstored_bytes, first_lacking}, Leaving.{writing_of}, Stands.{RowsStand, KeepsRest}, Stopped.{with_consumers, due_for, NobodyAwaits, MayStop, IsBroken, HasStopped, BrokeOff}, Stops.{readers_of, readers_by, reads_from, goes_on, opener_of, alone_in}, Stored.{KeepsEntry}}
 use Rattle.hc_state.specs.Stopped as stopped
 use Rattle.hc_state.proofs.{Fallbacks.{unstored_moved}, LeftAlone.{unwritten_none}, LeftRows.{writing_as}, Stopping.{runs, head_there, brought_some, brought_none}}
 use Rattle.hc_on_body.proofs.DueRows.{told_same, may_due, awaits_due, stands_due}
@@ -127,8 +126,7 @@ module _ (limits : Limits) (t : Tables) (facts : Facts limits t) (x : ℕ) (w : 
           let same_w : first.w ≡ w = same_row (t.exchange x) first.w w first.row broken.row in
           let one : w.c ≡ d = ap (λ (z : Exchange). z.c) (sym same_w) ∙ first.for_it in
           let was = facts.turns.first_hole d r lo x hi u is at (broken.shown bare u (ap t.consumer one ∙ is)) in
-          let same_z : was.0 ≡ w = same_row (t.exchange x) was.0 w was.1 broken.row in
-          ap (λ (z : Exchange). is_headless (Some z)) (sym same_z) ∙ was.2
+          ap (λ (z : Exchange). is_headless (Some z)) (sym (same_row (t.exchange x) was.0 w was.1 broken.row)) ∙ was.2
 
   -- where the shared writing is on nobody writes alone
   pub none_alone : (r : ℕ) (v : Representation) → is_written t v ≡ true → None ≡ exclusive t r v
@@ -188,8 +186,7 @@ module _ (limits : Limits) (t : Tables) (facts : Facts limits t) (x : ℕ) (w : 
       where
         by_exclusive_writer : IsExclusiveWriter t qr v c → Some c ≡ exclusive t qr v
         by_exclusive_writer (sound.first off came) =
-            let more : has_more t v k ≡ true = rw owns refl in
-            sym ((the_law.alone.writes qr c v k there kept unwritten came at undue).1 more)
+            sym ((the_law.alone.writes qr c v k there kept unwritten came at undue).1 (rw owns refl))
         by_exclusive_writer (sound.alone lost_is is) = false_true (sym kept ∙ lost_is)
 
     -- all that its own exchange brought is stored

@@ -6,23 +6,19 @@
 -- joins this with the entries; `stands_past` is for an exchange past the store. `WholeAnswers` uses both.
 use Rattle.std.{proofs.Common.{◌≡◌, ◌≢◌, inl, inr, ℕ, List, length, Bool, true, false, Option, Some, None, refl, ap, sym, ◌∙◌, subst}, specs.{Prelude.{is_some, nat_eq, filter, option_map, if◌then◌else◌}, Option.{option_or}, HashMap.{get}}}
 use Rattle.hc_text.proofs.Basics.{eq_tells, eqb-other, eqb-same, false_true, filters_same, finds_same, same_or, same_some as same_row, and_off as then_false}
-use Rattle.hc_effects.proofs.Vocabulary.{Limits, Response, Place, BoundBy, current, is_number, is_usable, total_in, at_end, with_exchange, with_length, family, promised_bytes, kind_of, is_growing, is_complete, covers_all, brings_to, Lawful, bound, is_bound, is_bound_place, base_in, end_in, end_of_direct, lo_of, hi_of, with_total_if_none, Tables, Exchange, Representation, status_in}
+use Rattle.hc_effects.proofs.Vocabulary.{Limits, Response, Place, BoundBy, current, is_number, is_usable, total_in, at_end, with_exchange, with_length, family, promised_bytes, kind_of, is_growing, is_complete, covers_all, brings_to, Lawful, bound, is_bound, is_bound_place, base_in, end_in, end_of_direct, lo_of, hi_of, with_total_if_none, Tables, Exchange, Representation, status_in, place}
 use Rattle.hc_store.specs.declared.backend.Backend.{Ghosts}
-use Rattle.hc_record.specs.declared.kind.Kind.TheVariants as kinds
-use Rattle.hc_record.specs.Head.{Head, sealed_head}
+use Rattle.hc_record.specs.{declared.kind.Kind.TheVariants.{the_data as kinds}, Head.{Head, sealed_head}}
 use Rattle.hc_sparse.specs.Cells.{Covers, EndsBy}
-use Rattle.hc_stored.specs.{Entries.{shelf_of}, Kept.{Kept}, Shelf.{Shelf}}
-use Rattle.hc_stored.specs.Kept as entry
+use Rattle.hc_stored.specs.{Entries.{shelf_of}, Kept.{Kept, sealed_kept}, Shelf.{Shelf}}
 use Rattle.hc_entry.specs.Keys.{kept_of}
 use Rattle.hc_entry.specs.Kept as keyed
 use Rattle.hc_exch.specs.Exchanges as exch
 use Rattle.hc_exch.specs.{Exchanges.{table_of}, Known.{Known}}
 use Rattle.hc_exch.specs.Known as known
-use Rattle.hc_event.specs.declared.place.Place.TheVariants as place
 use Rattle.hc_model.specs.Rows as rows
 use Rattle.hc_effects.proofs.{HoleLemmas.{covers_yes}, Tests.{none_some}}
-use Rattle.hc_state.specs.{declared.{consumer.Consumer.{Consumer}, rows.Rows.{Rows}}, Changes.{ChangesAt, ChangesAmong}, Kept.{IsKept, KeepsConsumer, KeepsExchange, head_in, answer_at, held_for, held_of, held_alone, unstored_bytes}, Lines.{KeepsKey}, Stands.{RowsStand}, Stopped.{NobodyAwaits}, Stored.{IsEntry, TellsLength, told, untold, KeepsEntry, KeepsEntries, is_first, is_usable_row, is_over}}
-use Rattle.hc_state.specs.Changes as changes
+use Rattle.hc_state.specs.{declared.{consumer.Consumer.{Consumer}, rows.Rows.{Rows}}, Changes.{ChangesAt, ChangesAmong, with_end}, Kept.{IsKept, KeepsConsumer, KeepsExchange, head_in, answer_at, held_for, held_of, held_alone, unstored_bytes, answer_for}, Lines.{KeepsKey}, Stands.{RowsStand}, Stopped.{NobodyAwaits}, Stored.{IsEntry, TellsLength, told, untold, KeepsEntry, KeepsEntries, is_first, is_usable_row, is_over, TellsWriter}}
 use Rattle.hc_state.proofs.{Fallbacks.{unstored_moved}, Closing.{exchange_closed, key_closed, entries_closed}, OneOfEach.{first_by, growing_same, kind_same, entries_same}, Ties.{entry_same, exchange_same, key_same, kept_same, put_over, writer_then}}
 use Rattle.hc_on_body.proofs.{BreakHandler.{closed_is}, CameAlone.{NobodyFirst}, Ended.{with_over, told_alike, runs_end, held_end, away_end, base_end, promise_end}}
 
@@ -97,10 +93,10 @@ module _ (t : Tables) (x n : ℕ) (v : Representation) (there : t.representation
       alone_moved p (Some c) = unstored_moved t f y u p (t.consumer c)
 
       by_test : (b : Bool) (o : Option Representation) → held_of f y u (if b then option_map (with_total_if_none n) o else o) ≡ held_of t y u o
-      by_test true None = refl
       by_test true (Some p) = alone_longer p p.alone
-      by_test false None = refl
       by_test false (Some p) = alone_moved p p.alone
+      by_test true None = refl
+      by_test false None = refl
 
   pub exchange_longer : (y : ℕ) (k : Known) → KeepsExchange t y k → KeepsExchange f y k
   exchange_longer y k kept = exchange_same t f y k (record { row = refl; brings = λ u at. told_longer (λ o. is_some o) (λ p. refl) (family y u); held = held_longer y (t.exchange y) }) kept
@@ -137,6 +133,13 @@ module _ (a : Tables) (x n : ℕ) (z : Option Exchange) (v : Representation) (th
   abbrev pub longer : Tables
   longer = with_length x n t
 
+  -- who came first is told as before, and what is over stays so
+  first_then : (d : ℕ) → is_first longer x (a.consumer d) ≡ is_first a x (a.consumer d)
+  first_then d = first_longer t x n v there untold_yet x (a.consumer d) ∙ first_by a t (λ p. refl) x (a.consumer d)
+
+  writer_longer : {k m : Option ℕ} → is_over z ≡ true → TellsWriter a.exchange k m → TellsWriter longer.exchange k m
+  writer_longer done = writer_then (λ y on. put_over (nat_eq x y) z (a.exchange y) done on)
+
   -- nobody is kept as the one who came alone, where nobody did
   none_first : NobodyFirst a x → (e : Kept) → IsEntry a x e v → e.first ≡ None
   none_first nobody e is = by_first e.first refl
@@ -149,42 +152,43 @@ module _ (a : Tables) (x n : ℕ) (z : Option Exchange) (v : Representation) (th
   pub gone_longer : is_over z ≡ true → v.is_gone ≡ true → Covers v.body 0 n → NobodyFirst a x → (k : Option Kept) → KeepsEntry a x k (Some v) → KeepsEntry longer x k (Some (with_total_if_none n v))
   unfolding bound kind_of
   gone_longer done is_gone came nobody None kept = record { gone = kept.gone; unused = kept.unused }
-  gone_longer done is_gone came nobody (Some e) is = record {
-    used = is.used;
-    key = is.key;
-    head = head_longer t x n v there untold_yet e is.head;
-    length = untold (record { gone = is_gone; untold = untold_kept t x n v there untold_yet e is.length; total = n; known = length_is t x n v there untold_yet; came = came; first = none_first nobody e is });
-    kind = λ stays. false_true (sym stays ∙ is_gone);
-    whole = is.whole;
-    cells = is.cells;
-    reach = is.reach;
-    bound = is.bound;
-    first = λ d. is.first d ∙ sym (first_longer t x n v there untold_yet x (a.consumer d) ∙ first_by a t (λ p. refl) x (a.consumer d));
-    writer = writer_then (λ y on. put_over (nat_eq x y) z (a.exchange y) done on) is.writer;
-    is_lost = is.is_lost;
-    alone = is.alone;
-    is_gone = is.is_gone;
-  }
+  gone_longer done is_gone came nobody (Some e) is =
+      let length : TellsLength e (with_total_if_none n v) = untold (record {
+        gone = is_gone;
+        untold = untold_kept t x n v there untold_yet e is.length;
+        total = n;
+        known = length_is t x n v there untold_yet;
+        came = came;
+        first = none_first nobody e is;
+      }) in
+      let kind : v.is_gone ≡ false → e.head.kind ≡ kind_of longer x (with_total_if_none n v) =
+      λ stays. false_true (sym stays ∙ is_gone) in
+      assumption (
+        is,
+        head_longer t x n v there untold_yet e is.head,
+        length,
+        kind,
+        writer_longer done is.writer,
+        (λ (d : ℕ). is.first d ∙ sym (first_then d)),
+      )
 
   -- what is sealed as whole and so long is
-  pub sealed_longer : is_over z ≡ true → is_growing t x ≡ false → Covers v.stored 0 n → EndsBy v.reach v.stored → (e : Kept) → IsEntry a x e v → IsEntry longer x (entry.sealed_kept kinds.Whole (Some n) e) (with_total_if_none n v)
+  pub sealed_longer : is_over z ≡ true → is_growing t x ≡ false → Covers v.stored 0 n → EndsBy v.reach v.stored → (e : Kept) → IsEntry a x e v → IsEntry longer x (sealed_kept kinds.Whole (Some n) e) (with_total_if_none n v)
   unfolding bound kind_of
-  sealed_longer done still all ends e is = record {
-    used = is.used;
-    key = is.key;
-    head = head_longer t x n v there untold_yet e is.head;
-    length = told (sym (length_is t x n v there untold_yet));
-    kind = λ stays. sym kind_is;
-    whole = λ m whole known. subst (λ (b : ℕ). Covers v.stored 0 b) (let same : n ≡ m = cc in same) all;
-    cells = is.cells;
-    reach = is.reach;
-    bound = is.bound;
-    first = λ d. is.first d ∙ sym (first_longer t x n v there untold_yet x (a.consumer d) ∙ first_by a t (λ p. refl) x (a.consumer d));
-    writer = writer_then (λ y on. put_over (nat_eq x y) z (a.exchange y) done on) is.writer;
-    is_lost = is.is_lost;
-    alone = is.alone;
-    is_gone = is.is_gone;
-  }
+  sealed_longer done still all ends e is =
+      let whole : (m : ℕ) → kinds.Whole ≡ kinds.Whole → Some n ≡ Some m → Covers v.stored 0 m =
+      λ m whole known. subst (λ (b : ℕ). Covers v.stored 0 b) (let same : n ≡ m = cc in same) all in
+      let length : TellsLength (sealed_kept kinds.Whole (Some n) e) (with_total_if_none n v) =
+      told (sym (length_is t x n v there untold_yet)) in
+      assumption (
+        is,
+        head_longer t x n v there untold_yet e is.head,
+        length,
+        sym kind_is,
+        whole,
+        writer_longer done is.writer,
+        (λ (d : ℕ). is.first d ∙ sym (first_then d)),
+      )
     where
       complete : is_complete (with_total_if_none n v) ≡ true
       complete = ap (covers_all (with_total_if_none n v)) (length_is t x n v there untold_yet) ∙ covers_yes v.stored v.reach 0 n ends all
@@ -197,7 +201,7 @@ module _ (a : Tables) (x n : ℕ) (z : Option Exchange) (v : Representation) (th
 module _ {B : Type 0} {g : Ghosts B} {limits : Limits} (r u : Rows B g) (t : Tables) (x : ℕ) (w : Exchange) (n : ℕ) (v : Representation) (row : t.exchange x ≡ Some w) (there : t.representation x ≡ Some v) (own : family x w ≡ x) (untold_yet : v.head.total ≡ None) (stands : RowsStand limits r t)
     (unread : (d : ℕ) (k : rows.Consumer) → t.consumer d ≡ Some k → k.place ≡ place.Direct x → ⊥) (unawaited : NobodyAwaits t x)
     (last : u.last_start ≡ r.last_start) (keys : u.keys ≡ r.keys) (becomes : exch.Becomes known.without_exchange x r.exchanges u.exchanges)
-    (users : ℕ → Bool) (users_are : (d : ℕ) → users d ≡ is_bound x (t.consumer d)) (knows : ChangesAmong r.consumers u.consumers users (changes.with_end n)) (bounded : (shelf_of u.entries).limits ≡ (shelf_of r.entries).limits) where
+    (users : ℕ → Bool) (users_are : (d : ℕ) → users d ≡ is_bound x (t.consumer d)) (knows : ChangesAmong r.consumers u.consumers users (with_end n)) (bounded : (shelf_of u.entries).limits ≡ (shelf_of r.entries).limits) where
   abbrev mid : Tables
   mid = with_exchange x (Some (at_end w)) t
 
@@ -209,21 +213,18 @@ module _ {B : Type 0} {g : Ghosts B} {limits : Limits} (r u : Rows B g) (t : Tab
   no_length : (q : ℕ) → x ≢ q → total_in (whole.representation q) ≡ total_in (t.representation q)
   no_length q ne = rw (eqb-other x q ne) refl
 
-  knows_end : (k : Consumer) (c : rows.Consumer) (lo : ℕ) (hi : Option ℕ) (how : BoundBy) → c.place ≡ place.Bound x lo hi how → IsKept t k c → IsKept whole (changes.with_end n k) c
-  knows_end k c lo hi how at kept = record {
-    is_there = kept.is_there;
-    request = kept.request;
-    class_is = kept.class_is;
-    since = kept.since;
-    place = kept.place;
-    own = kept.own;
-    shown = kept.shown;
-    answer = kept.answer ∙ rw at refl;
-    begins = kept.begins ∙ rw at refl;
-    ends = ap (λ o. option_or o (Some n)) (kept.ends ∙ (ap (hi_of t) at ∙ ap (λ o. option_or hi (total_in o)) there)) ∙ (by_hi hi ∙ sym (ap (hi_of whole) at ∙ ap (λ o. option_or hi (total_in o)) here_now));
-    given = kept.given;
-    due = kept.due;
-  }
+  knows_end : (k : Consumer) (c : rows.Consumer) (lo : ℕ) (hi : Option ℕ) (how : BoundBy) → c.place ≡ place.Bound x lo hi how → IsKept t k c → IsKept whole (with_end n k) c
+  knows_end k c lo hi how at kept =
+      let ends = kept.ends ∙ (ap (hi_of t) at ∙ ap (λ (o : Option Representation). option_or hi (total_in o)) there) in
+      let told = ap (hi_of whole) at ∙ ap (λ (o : Option Representation). option_or hi (total_in o)) here_now in
+      let answer : answer_for t c ≡ answer_for whole c = rw at refl in
+      let begins : lo_of t c.place ≡ lo_of whole c.place = rw at refl in
+      assumption (
+        kept,
+        kept.answer ∙ answer,
+        kept.begins ∙ begins,
+        ap (λ (o : Option ℕ). option_or o (Some n)) ends ∙ (by_hi hi ∙ sym told),
+      )
     where
       here_now : whole.representation x ≡ Some (with_total_if_none n v)
       here_now = rw (eqb-same x, there) refl
@@ -232,22 +233,17 @@ module _ {B : Type 0} {g : Ghosts B} {limits : Limits} (r u : Rows B g) (t : Tab
       by_hi None = refl
       by_hi (Some h) = refl
 
-  one_knows : (d : ℕ) (b : Bool) (o : Option Consumer) (c : Option rows.Consumer) → t.consumer d ≡ c → is_bound x c ≡ b → KeepsConsumer t o c → KeepsConsumer whole (if b then option_map (changes.with_end n) o else o) c
+  one_knows : (d : ℕ) (b : Bool) (o : Option Consumer) (c : Option rows.Consumer) → t.consumer d ≡ c → is_bound x c ≡ b → KeepsConsumer t o c → KeepsConsumer whole (if b then option_map (with_end n) o else o) c
   one_knows d true None c at on kept = kept
   one_knows d false None c at on kept = kept
   one_knows d b (Some k) None at on kept = absurd kept
   one_knows d true (Some k) (Some c) at on kept = by_place c.place refl
     where
-      by_place : (p : Place) → c.place ≡ p → IsKept whole (changes.with_end n k) c
+      by_place : (p : Place) → c.place ≡ p → IsKept whole (with_end n k) c
       by_place (place.Bound q lo hi how) is =
           let one : q ≡ x = eq_tells q x (sym (ap (is_bound_place x) is) ∙ on) in
           knows_end k c lo hi how (is ∙ ap (λ m. place.Bound m lo hi how) one) kept
-      by_place place.Line is = false_true (sym (ap (is_bound_place x) is) ∙ on)
-      by_place (place.Passed q old) is = false_true (sym (ap (is_bound_place x) is) ∙ on)
-      by_place (place.Turn y) is = false_true (sym (ap (is_bound_place x) is) ∙ on)
-      by_place (place.Direct y) is = false_true (sym (ap (is_bound_place x) is) ∙ on)
-      by_place (place.Down why) is = false_true (sym (ap (is_bound_place x) is) ∙ on)
-      by_place place.Over is = false_true (sym (ap (is_bound_place x) is) ∙ on)
+      by_place _ is = false_true (sym (ap (is_bound_place x) is) ∙ on)
   one_knows d false (Some k) (Some c) at off kept = kept_same t whole k c (record { past = λ y is. other y is; length = λ q lo hi how is. no_length q (apart q lo hi how is) }) kept
     where
       other : (y : ℕ) → c.place ≡ place.Direct y → whole.exchange y ≡ t.exchange y
@@ -265,7 +261,7 @@ module _ {B : Type 0} {g : Ghosts B} {limits : Limits} (r u : Rows B g) (t : Tab
     last_start = last ∙ stands.last_start;
     next = becomes.next ∙ stands.next;
     count = knows.len ∙ stands.count;
-    consumers = λ d. subst (λ o. KeepsConsumer whole o (t.consumer d)) (sym (knows.places d ∙ ap (λ b. if b then option_map (changes.with_end n) (get nat_eq r.consumers d) else get nat_eq r.consumers d) (users_are d))) (one_knows d (is_bound x (t.consumer d)) (get nat_eq r.consumers d) (t.consumer d) refl refl (stands.consumers d));
+    consumers = λ d. subst (λ o. KeepsConsumer whole o (t.consumer d)) (sym (knows.places d ∙ ap (λ b. if b then option_map (with_end n) (get nat_eq r.consumers d) else get nat_eq r.consumers d) (users_are d))) (one_knows d (is_bound x (t.consumer d)) (get nat_eq r.consumers d) (t.consumer d) refl refl (stands.consumers d));
     exchanges = λ y. exchange_longer mid x n v there untold_yet y (table_of u.exchanges y) (exchange_ends t x w row y (table_of r.exchanges y) (table_of u.exchanges y) (by_here y) (stands.exchanges y));
     keys = λ key. rw keys (key_longer mid x n v there untold_yet key (kept_of r.keys key) (key_ends t x w row unawaited key (kept_of r.keys key) (stands.keys key)));
     entries = entries;
@@ -296,7 +292,7 @@ module _ {B : Type 0} {g : Ghosts B} {limits : Limits} (r u : Rows B g) (t : Tab
 -- PAST THE STORE
 
 module _ {B : Type 0} {g : Ghosts B} {limits : Limits} (r u : Rows B g) (t : Tables) (law : Lawful t) (x : ℕ) (w : Exchange) (row : t.exchange x ≡ Some w) (opened : w.is_open ≡ true) (headed : is_some w.head ≡ true) (none : t.representation (family x w) ≡ None) (tells_none : promised_bytes w ≡ None) (n : ℕ) (all : n ≡ length w.body) (stands : RowsStand limits r t) (unawaited : NobodyAwaits t x)
-    (last : u.last_start ≡ r.last_start) (keys : u.keys ≡ r.keys) (entries : u.entries ≡ r.entries) (becomes : exch.Becomes known.without_exchange x r.exchanges u.exchanges) (c : ℕ) (its : c ≡ w.c) (knows : ChangesAt r.consumers u.consumers c (changes.with_end n)) where
+    (last : u.last_start ≡ r.last_start) (keys : u.keys ≡ r.keys) (entries : u.entries ≡ r.entries) (becomes : exch.Becomes known.without_exchange x r.exchanges u.exchanges) (c : ℕ) (its : c ≡ w.c) (knows : ChangesAt r.consumers u.consumers c (with_end n)) where
   abbrev pub past : Tables
   past = with_exchange x (Some (at_end w)) t
 
@@ -316,26 +312,24 @@ module _ {B : Type 0} {g : Ghosts B} {limits : Limits} (r u : Rows B g) (t : Tab
   an_end : end_in (Some (at_end w)) ≡ Some n
   an_end = ap (λ o. end_of_direct o (at_end w)) (promise_end w ∙ tells_none) ∙ ap Some (sym all)
 
-  reader_knows : (k : Consumer) (v : rows.Consumer) → v.place ≡ place.Direct x → IsKept t k v → IsKept past (changes.with_end n k) v
-  reader_knows k v at kept = record {
-    is_there = kept.is_there;
-    request = kept.request;
-    class_is = kept.class_is;
-    since = kept.since;
-    place = kept.place;
-    own = kept.own;
-    shown = kept.shown;
-    answer = kept.answer ∙ (ap (λ (o : Option Response). if v.shown then None else o) (ap (answer_at t) at ∙ (ap head_in row ∙ sym (ap head_in here_past))) ∙ sym (ap (λ (o : Option Response). if v.shown then None else o) (ap (answer_at past) at)));
-    begins = kept.begins ∙ (ap (lo_of t) at ∙ (ap base_in row ∙ (sym (base_end w) ∙ (sym (ap base_in here_past) ∙ sym (ap (lo_of past) at)))));
-    ends = ap (λ o. option_or o (Some n)) (kept.ends ∙ (ap (hi_of t) at ∙ (ap end_in row ∙ no_end))) ∙ (sym an_end ∙ (sym (ap end_in here_past) ∙ sym (ap (hi_of past) at)));
-    given = kept.given;
-    due = kept.due;
-  }
+  reader_knows : (k : Consumer) (v : rows.Consumer) → v.place ≡ place.Direct x → IsKept t k v → IsKept past (with_end n k) v
+  reader_knows k v at kept =
+      let shows = λ (o : Option Response). if v.shown then None else o in
+      let answer = ap (answer_at t) at ∙ (ap head_in row ∙ sym (ap head_in here_past)) in
+      let begins = ap base_in row ∙ (sym (base_end w) ∙ (sym (ap base_in here_past) ∙ sym (ap (lo_of past) at))) in
+      let ends = kept.ends ∙ (ap (hi_of t) at ∙ (ap end_in row ∙ no_end)) in
+      assumption (
+        kept,
+        kept.answer ∙ (ap shows answer ∙ sym (ap shows (ap (answer_at past) at))),
+        kept.begins ∙ (ap (lo_of t) at ∙ begins),
+        ap (λ (o : Option ℕ). option_or o (Some n)) ends
+            ∙ (sym an_end ∙ (sym (ap end_in here_past) ∙ sym (ap (hi_of past) at))),
+      )
 
   reader : Rattle.hc_model.specs.Places.IsReadPast t x w
   reader = law.places.read x w row opened headed none
 
-  consumer_past : (d : ℕ) (b : Bool) → nat_eq c d ≡ b → (o : Option Consumer) (z : Option rows.Consumer) → t.consumer d ≡ z → KeepsConsumer t o z → KeepsConsumer past (if b then option_map (changes.with_end n) o else o) z
+  consumer_past : (d : ℕ) (b : Bool) → nat_eq c d ≡ b → (o : Option Consumer) (z : Option rows.Consumer) → t.consumer d ≡ z → KeepsConsumer t o z → KeepsConsumer past (if b then option_map (with_end n) o else o) z
   consumer_past d true on None z at kept = kept
   consumer_past d false off None z at kept = kept
   consumer_past d b on (Some k) None at kept = absurd kept
@@ -379,7 +373,7 @@ module _ {B : Type 0} {g : Ghosts B} {limits : Limits} (r u : Rows B g) (t : Tab
         | inr ne ↦ rw (eqb-other x y ne) refl
       ]
 
-      by_number : (d : ℕ) → (if nat_eq c d then option_map (changes.with_end n) (get nat_eq r.consumers c) else get nat_eq r.consumers d) ≡ (if nat_eq c d then option_map (changes.with_end n) (get nat_eq r.consumers d) else get nat_eq r.consumers d)
+      by_number : (d : ℕ) → (if nat_eq c d then option_map (with_end n) (get nat_eq r.consumers c) else get nat_eq r.consumers d) ≡ (if nat_eq c d then option_map (with_end n) (get nat_eq r.consumers d) else get nat_eq r.consumers d)
       by_number d = elim (same_or c d) [
         | inl e ↦ rw (e, eqb-same d) refl
         | inr ne ↦ rw (eqb-other c d ne) refl

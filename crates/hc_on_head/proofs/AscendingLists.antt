@@ -10,11 +10,7 @@ use Rattle.hc_sorted.proofs.SortedLemmas.{has-above}
 -- MEMBERS
 
 pub among_later : (x n : ℕ) (xs : List ℕ) → is_among n xs ≡ true → is_among n (x ∷ xs) ≡ true
-among_later x n xs there = by_test (eqb x n)
-  where
-    by_test : (b : Bool) → (b || is_among n xs) ≡ true
-    by_test true = refl
-    by_test false = there
+among_later x n xs there = grind (arith, nat_tests)
 
 pub data IsHead (n x : ℕ) (xs : List ℕ) : Type 0 where
   is_first : x ≡ n → IsHead n x xs
@@ -28,18 +24,11 @@ among_cases n x xs there = elim (in_either (eqb x n) (is_among n xs) there) [
 
 pub among-append : (n : ℕ) (xs ys : List ℕ) → is_among n (xs ++ ys) ≡ (is_among n xs || is_among n ys)
 among-append n [] ys = refl
-among-append n (x ∷ xs) ys = ap (λ b. eqb x n || b) (among-append n xs ys) ∙ by_test (eqb x n)
-  where
-    by_test : (b : Bool) → (b || (is_among n xs || is_among n ys)) ≡ ((b || is_among n xs) || is_among n ys)
-    by_test true = refl
-    by_test false = refl
+among-append n (x ∷ xs) ys = ap (λ b. eqb x n || b) (among-append n xs ys) ∙ grind (arith, nat_tests)
 
 -- whoever is among the rest is above the first
 pub above_first : (n x : ℕ) (xs : List ℕ) → above itself x xs ≡ true → is_among n xs ≡ true → x < n
-above_first n x xs up there = elim (bool_cases (nat_lt x n)) [
-  | inl lt ↦ grind (arith, nat_tests, lt)
-  | inr off ↦ false_true (let le : n ≤ x = grind (arith, nat_tests, off) in sym (has-above itself x n xs le up) ∙ there)
-]
+above_first n x xs up there = grind (arith, nat_tests, bool_cases, has-above, itself)
 
 -- ONE MORE AT THE END
 
@@ -59,13 +48,7 @@ ascends_last x (y ∷ ys) up low = above_last y ys up (low y (first_in y ys)) (�
 pub among-reverse : (n : ℕ) (xs : List ℕ) → is_among n (reverse xs) ≡ is_among n xs
 among-reverse n [] = refl
 among-reverse n (x ∷ xs) =
-    ap (is_among n) (reverse-append (x ∷ []) xs) ∙ (among-append n (reverse xs) (x ∷ []) ∙ (ap (λ b. b || is_among n (x ∷ [])) (among-reverse n xs) ∙ by_tests (is_among n xs) (eqb x n)))
-  where
-    by_tests : (b first : Bool) → (b || (first || false)) ≡ (first || b)
-    by_tests true true = refl
-    by_tests true false = refl
-    by_tests false true = refl
-    by_tests false false = refl
+    ap (is_among n) (reverse-append (x ∷ []) xs) ∙ (among-append n (reverse xs) (x ∷ []) ∙ (ap (λ b. b || is_among n (x ∷ [])) (among-reverse n xs) ∙ grind (arith, nat_tests)))
 
 pub among_below : (n m : ℕ) (xs : List ℕ) → Descends m xs → is_among n xs ≡ true → n < m
 among_below n m [] down there = false_true there

@@ -4,6 +4,7 @@
 -- the same: who waits for a head opened that exchange, for its key (`awaited_then`, `awaited_before`). Two ascending
 -- lists with the same members are equal (`closes_are`). No more close than consumers are kept: each waits for one at
 -- most, and that of the refused one for none (`few_close`). `doom` takes its room by that.
+use Rattle.std.{proofs.{lemmas.Bool.Decides.{nat_tests}}}
 use Rattle.std.{proofs.Common.{◌≡◌, ◌≢◌, inl, inr, ℕ, ◌+◌, ◌<◌, ◌≤◌, List, [], ◌∷◌, length, Bool, true, false, Option, Some, None, refl, ap, sym, ◌∙◌, subst, arith}, specs.{Prelude.{filter, reverse, is_some, is_none, bytes_eq, option_and_then, nat_eq, ◌==◌, ◌&&◌, ◌||◌, if◌then◌else◌}, HashMap.{get, hash_map_len}}}
 use Rattle.hc_text.proofs.Basics.{and_both as both_parts, or_cases as either_part, eqb-other, eqb-same, false_true, none_by, none_of, same_or, same_some as same_row, some_inj as some_is}
 use Rattle.hc_effects.proofs.Vocabulary.{Limits, Request, route_of, Place, awaits, is_number, is_live, is_awaited, awaited_and, is_headless, Lawful, IsAwaiting, Awaits, Tables, Exchange, awaited_exchange, waits_at, with_item_first, route, place, by}
@@ -36,8 +37,7 @@ drop_length y (z ∷ zs) there = elim (same_or z y) [
   | inl same ↦ rw (same, eqb-same y) (omega arith)
   | inr ne ↦
       let off : nat_eq z y ≡ false = eqb-other z y ne in
-      let later : is_among y zs ≡ true = rw off at there in
-      let rest : length (drop_one y zs) + 1 ≡ length zs = drop_length y zs later in
+      let rest : length (drop_one y zs) + 1 ≡ length zs = drop_length y zs (rw off at there) in
       rw off (omega arith)
 ]
 
@@ -59,8 +59,7 @@ drop_keeps x y (z ∷ zs) ne there = elim (same_or z y) [
 fits_in : (ys zs : List ℕ) → is_sorted itself ys ≡ true → ((x : ℕ) → is_among x ys ≡ true → is_among x zs ≡ true) → length ys ≤ length zs
 fits_in [] zs up all = omega arith
 fits_in (y ∷ ys) zs up all =
-    let there : is_among y zs ≡ true = all y (first_in y ys) in
-    let shorter : length (drop_one y zs) + 1 ≡ length zs = drop_length y zs there in
+    let shorter : length (drop_one y zs) + 1 ≡ length zs = drop_length y zs (all y (first_in y ys)) in
     let rest : length ys ≤ length (drop_one y zs) = fits_in ys (drop_one y zs) (is_sorted-above itself y ys up) (λ x later. drop_keeps x y zs (λ same. (let lt : y < x = above_first x y ys up later in omega arith)) (all x (among_later y x ys later))) in
     omega arith
 
@@ -70,8 +69,7 @@ all_of f [] = []
 all_of f (c ∷ cs) = with_item_first (f c) (all_of f cs)
 
 added_one : (o : Option ℕ) (xs : List ℕ) → length (with_item_first o xs) ≤ length xs + 1
-added_one None xs = omega arith
-added_one (Some x) xs = omega arith
+added_one o xs = grind (arith, nat_tests)
 
 all_few : (f : ℕ → Option ℕ) (cs : List ℕ) → length (all_of f cs) ≤ length cs
 unfolding all_of
@@ -88,8 +86,7 @@ all_fewer f c (d ∷ cs) there none = elim (among_cases c d cs there) [
 ]
 
 added_keeps : (o : Option ℕ) (x : ℕ) (xs : List ℕ) → is_among x xs ≡ true → is_among x (with_item_first o xs) ≡ true
-added_keeps None x xs there = there
-added_keeps (Some y) x xs there = among_later y x xs there
+added_keeps o x xs there = grind (arith, nat_tests)
 
 added_has : (o : Option ℕ) (x : ℕ) (xs : List ℕ) → o ≡ Some x → is_among x (with_item_first o xs) ≡ true
 added_has o x xs is = subst (λ z. is_among x (with_item_first z xs) ≡ true) (sym is) (first_in x xs)
@@ -165,13 +162,7 @@ module _ {B : Type 0} {g : Ghosts B} {limits : Limits} (r : Rows B g) (t : Table
       let (w, there, on, bare) = headless_row (t.exchange y) waits in
       let its = law.owned.first_own c q lo y hi k row at in
       record { w = w; row = ap t.exchange (sym one) ∙ there; is_open = on; bare = bare; for_it = ap (λ (z : Exchange). z.c) (same_row (t.exchange y) w its.w there its.row) ∙ its.for_it }
-  waits_for c x k (place.Bound q lo hi by.Founding) row at waits is = none_some x is
-  waits_for c x k (place.Bound q lo hi by.Plan) row at waits is = none_some x is
-  waits_for c x k place.Line row at waits is = none_some x is
-  waits_for c x k (place.Passed q held) row at waits is = none_some x is
-  waits_for c x k (place.Direct y) row at waits is = none_some x is
-  waits_for c x k (place.Down why) row at waits is = none_some x is
-  waits_for c x k place.Over row at waits is = none_some x is
+  waits_for c x k _ row at waits is = none_some x is
 
   -- who waits for the key, as the tables have it
   record AwaitsAs (x : ℕ) : Type 0 where
@@ -198,26 +189,11 @@ module _ {B : Type 0} {g : Ghosts B} {limits : Limits} (r : Rows B g) (t : Table
       let a = awaits_as x is in
       let e = waits_for a.c x a.w.k a.w.k.place a.w.row refl a.w.waits a.for_it in
       let opener = law.owned.opener x e.w e.row in
-      let mine : t.consumer e.w.c ≡ Some a.w.k = ap t.consumer e.for_it ∙ a.w.row in
-      let one : opener.k ≡ a.w.k = same_row (t.consumer e.w.c) opener.k a.w.k opener.row mine in
-      let of_key : key ≡ e.w.request.key = same_bytes key a.w.k.request.key a.w.of_key ∙ (ap (λ (z : rows.Consumer). z.request.key) (sym one) ∙ sym opener.key_is) in
-      let waits : awaits (t.consumer e.w.c) x ≡ true = ap (λ z. awaits z x) mine ∙ number_yes (awaited_exchange a.w.k.place) x a.for_it in
-      let same = bytes_eq-same key e.w.request.key of_key in
-      let on = e.is_open in
-      let none = e.bare in
-      ap (is_awaited t key x) e.row ∙ rw (same, on, none, waits) refl
+      grind (arith, nat_tests)
 
   -- who awaits a head without one waits
   awaiting : (p : Place) (x : ℕ) → awaited_exchange p ≡ Some x → is_headless (t.exchange x) ≡ true → waits_at t p ≡ true
-  awaiting (place.Turn y) x is headless = refl
-  awaiting (place.Bound q lo hi (by.FirstHole y)) x is headless = ap (λ n. is_headless (t.exchange n)) (some_is y x is) ∙ headless
-  awaiting (place.Bound q lo hi by.Founding) x is headless = none_some x is
-  awaiting (place.Bound q lo hi by.Plan) x is headless = none_some x is
-  awaiting place.Line x is headless = none_some x is
-  awaiting (place.Passed q held) x is headless = none_some x is
-  awaiting (place.Direct y) x is headless = none_some x is
-  awaiting (place.Down why) x is headless = none_some x is
-  awaiting place.Over x is headless = none_some x is
+  awaiting p x is headless = grind (arith, nat_tests)
 
   -- in the line of its key
   stands_in : (c x : ℕ) (k : rows.Consumer) → t.consumer c ≡ Some k → bytes_eq key k.request.key ≡ true → waits_at t k.place ≡ true → awaited_exchange k.place ≡ Some x → stands_for t key (t.consumer c) ≡ true
@@ -296,16 +272,7 @@ module _ {B : Type 0} {g : Ghosts B} {limits : Limits} (r : Rows B g) (t : Table
     ]
 
     closes_so : (x : ℕ) → IsToClose r key refused x → closes x ≡ true
-    closes_so x (inl is) = first (is_number refused x) (number_yes refused x is)
-      where
-        first : (b : Bool) → b ≡ true → (b || is_awaited t key x (t.exchange x)) ≡ true
-        first true on = refl
-        first false on = false_true on
-    closes_so x (inr is) = second (is_number refused x) (awaited_then x is)
-      where
-        second : (b : Bool) → is_awaited t key x (t.exchange x) ≡ true → (b || is_awaited t key x (t.exchange x)) ≡ true
-        second true on = refl
-        second false on = on
+    closes_so x it1 = grind (arith, nat_tests, number_yes, awaited_then)
 
     pub closes_are : (zs : List ℕ) → is_sorted itself zs ≡ true → ((x : ℕ) → is_among x zs ≡ true → IsToClose r key refused x) → ((x : ℕ) → IsToClose r key refused x → is_among x zs ≡ true) → zs ≡ xs
     closes_are zs up each all =

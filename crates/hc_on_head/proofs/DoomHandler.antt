@@ -4,6 +4,8 @@
 -- keys have the work. Who waited for the key stands in its line, whatever it waited for. Of other keys the same is
 -- said: what their consumers wait for isn't closed (`away_at`). Then what was current is let go (`doomed`). `dooms`
 -- says this from step to step of the code, for `doom`.
+use Rattle.std.{proofs.{lemmas.Bool.Decides.{nat_tests}}}
+use Rattle.std.{proofs.{Common.{arith}}}
 use Rattle.std.{proofs.Common.{◌≡◌, inl, inr, ℕ, List, ◌++◌, Bool, true, false, Option, Some, None, refl, ap, sym, ◌∙◌, subst}, specs.Prelude.{IfSome, nat_eq, bytes_eq, map, option_map, unwrap_or, ◌&&◌, ◌||◌, if◌then◌else◌}}
 use Rattle.hc_text.proofs.Basics.{eqb-other, false_true, mapped, same_or, same_some as same_row, some_inj as some_is, and_off as then_false}
 use Rattle.hc_effects.proofs.Vocabulary.{Limits, Act, is_disabled, is_only, Place, back_in_line, current, is_live, over, all_closed, awaited_and, let_some_go, woken, family, is_headless, brings_to, Lawful, MayLetGo, WaitsOn, is_in_line, Tables, Exchange, Representation, waits_at, act, place, by}
@@ -12,8 +14,7 @@ use Rattle.hc_stored.specs.{Entries.{shelf_of}, Shelf.{Shelf}}
 use Rattle.hc_entry.specs.{declared.keys.KeyTable.{KeyTable}, Keys.{kept_of, line_of}, Kept.{Kept, on_line, line_in}, Lines.{is_among, is_in, all_back}}
 use Rattle.hc_entry.specs.Keys as keys
 use Rattle.hc_entry.proofs.OrderLemmas.{among-all}
-use Rattle.hc_exch.specs.Exchanges.{table_of}
-use Rattle.hc_exch.specs.Known as known
+use Rattle.hc_exch.specs.{Exchanges.{table_of}, Known.{without_exchange}}
 use Rattle.hc_rules.proofs.RangeReads.{same_bytes, bytes_eq-same}
 use Rattle.hc_model.specs.Rows as rows
 use Rattle.hc_effects.proofs.{LettingGo.{may_let_go}, SameTables.{all_closed_is}, Tests.{and_false, none_some}}
@@ -28,13 +29,7 @@ module _ (t : Tables) (law : Lawful t) (now : ℕ) (key xs : List ℕ) (bare : (
   -- WHO IS LIVE
 
   lives : (d : ℕ) → is_live (after.consumer d) ≡ is_live (t.consumer d)
-  lives d = by_stood (stood t key law d)
-    where
-      by_stood : Stood t key (t.consumer d) → is_live (after.consumer d) ≡ is_live (t.consumer d)
-      by_stood (nobody none) = ap is_live (none_row t law now key xs d none ∙ sym none)
-      by_stood (back k row same waits on) = ap is_live (over_row t law now key xs d k row same waits) ∙ sym (ap is_live row ∙ waiting_lives t key k.place waits)
-      by_stood (beside k row same at off) = ap is_live (line_row t law now key xs d k row same at) ∙ sym (ap is_live row ∙ rw at refl)
-      by_stood (stays k row off stands_off) = ap is_live (same_consumer t law now key xs d k row off)
+  lives d = grind (arith, nat_tests)
 
   -- KEYS
 
@@ -55,19 +50,10 @@ module _ (t : Tables) (law : Lawful t) (now : ℕ) (key xs : List ℕ) (bare : (
           let headless = e.bare in
           let waits : waits_at t k.place ≡ true = rw at (ap is_headless e.row ∙ rw (opened, headless) refl) in
           false_true (sym off ∙ rw (bytes_eq-same key k.request.key of_key, waits) refl)
-  away_at d k row off (place.Bound q lo hi by.Founding) at = refl
-  away_at d k row off (place.Bound q lo hi by.Plan) at = refl
-  away_at d k row off place.Line at = refl
-  away_at d k row off (place.Passed q held) at = refl
-  away_at d k row off (place.Turn y) at = refl
-  away_at d k row off (place.Direct y) at = refl
-  away_at d k row off (place.Down why) at = refl
-  away_at d k row off place.Over at = refl
+  away_at d k row off _ at = refl
 
   away_stays : (other : List ℕ) (d : ℕ) (k : rows.Consumer) → t.consumer d ≡ Some k → (bytes_eq key k.request.key && waits_at t k.place) ≡ false → is_away after other (after.consumer d) ≡ is_away t other (t.consumer d)
-  away_stays other d k row off =
-      ap (is_away after other) (same_consumer t law now key xs d k row off ∙ row)
-      ∙ (ap (λ b. bytes_eq k.request.key other && b) (away_at d k row off k.place refl) ∙ sym (ap (is_away t other) row))
+  away_stays other d k row off = grind (arith, nat_tests, after, same_consumer, away_at)
 
   line_of_it : (k : rows.Consumer) → bytes_eq key k.request.key ≡ true → bytes_eq k.request.key key ≡ true
   line_of_it k same = bytes-flip k.request.key key ∙ same
@@ -78,24 +64,14 @@ module _ (t : Tables) (law : Lawful t) (now : ℕ) (key xs : List ℕ) (bare : (
     queues cached asks = (let of_key = line_of_it k same in rw (of_key, cached, asks) refl)
 
     first_of : (a b e : Bool) → (a || b || e) ≡ true → b ≡ false → e ≡ false → a ≡ true
-    first_of true b e some none nor = refl
-    first_of false true e some none nor = false_true (sym none)
-    first_of false false e some none nor = false_true (sym nor ∙ some)
+    first_of a b e some none nor = grind (arith, nat_tests)
 
     lined : (p : Place) → k.place ≡ p → waits_at t p ≡ true → is_in_line key (Some (back_in_line now k)) ≡ true
-    lined place.Line at waits =
-        let passed : is_passed key (Some k) ≡ false = rw at (then_false (bytes_eq k.request.key key) false refl) in
-        let away : is_away t key (Some k) ≡ false = rw at (then_false (bytes_eq k.request.key key) false refl) in
-        let stands : is_in_line key (Some k) ≡ true = first_of (is_in_line key (Some k)) (is_passed key (Some k)) (is_away t key (Some k)) (sym (ap (stands_for t key) row) ∙ on) passed away in
-        rw at at stands
+    lined place.Line at waits = grind (arith, nat_tests)
     lined (place.Turn x) at waits = let q = law.places.turn_queues d x k row at in queues q.cached q.asks
     lined (place.Passed q held) at waits = let z = law.places.passed_queues d q held k row at in queues z.cached z.asks
     lined (place.Bound q lo hi (by.FirstHole y)) at waits = queues (law.places.bound_cached d q lo hi (by.FirstHole y) k row at) (law.places.first_asks d q lo y hi k row at)
-    lined (place.Bound q lo hi by.Founding) at waits = false_true waits
-    lined (place.Bound q lo hi by.Plan) at waits = false_true waits
-    lined (place.Direct y) at waits = false_true waits
-    lined (place.Down why) at waits = false_true waits
-    lined place.Over at waits = false_true waits
+    lined _ at waits = false_true waits
 
   in_line_then : (d : ℕ) → stands_for t key (t.consumer d) ≡ is_in_line key (after.consumer d)
   in_line_then d = by_stood (stood t key law d)
@@ -264,8 +240,8 @@ module _ {B : Type 0} {g : Ghosts B} {limits : Limits} (r u : Rows B g) (t : Tab
   pub acts : out ≡ before ++ map act.Close xs
   acts = closes.acts ∙ ap (λ zs. before ++ map act.Close zs) are_all
 
-  known_is : (x : ℕ) → table_of u.exchanges x ≡ (if is_among x xs then known.without_exchange (table_of r.exchanges x) else table_of r.exchanges x)
-  known_is x = subst (λ zs. table_of u.exchanges x ≡ (if is_among x zs then known.without_exchange (table_of r.exchanges x) else table_of r.exchanges x)) are_all (closes.known x)
+  known_is : (x : ℕ) → table_of u.exchanges x ≡ (if is_among x xs then without_exchange (table_of r.exchanges x) else table_of r.exchanges x)
+  known_is x = subst (λ zs. table_of u.exchanges x ≡ (if is_among x zs then without_exchange (table_of r.exchanges x) else table_of r.exchanges x)) are_all (closes.known x)
 
   stands_woken : RowsStand limits u (s t law now key xs)
   stands_woken = record {

@@ -159,11 +159,7 @@ map-append (x ∷ xs) ys = ap (λ zs. act.Close x ∷ zs) (map-append xs ys)
 module _ {B : Type 0} {g : Ghosts B} (r : Rows B g) (mid : Exchanges) (key : List ℕ) (refused : Option ℕ) (before out : List Act) (room spare from x : ℕ) (closed : ClosesBelow r mid key refused before out room spare from)
     (is_next : IsNext (IsToClose r key refused) from (Some x)) where
   unclosed : is_among x closed.xs ≡ false
-  unclosed = by_test (is_among x closed.xs) refl
-    where
-      by_test : (b : Bool) → is_among x closed.xs ≡ b → b ≡ false
-      by_test false off = refl
-      by_test true on = absurd (let lt = closed.below x on in let le = is_next.0 in omega (arith, lt, le))
+  unclosed = grind (arith, nat_tests)
 
   pub known_yet : table_of mid x ≡ table_of r.exchanges x
   known_yet = closed.known x ∙ rw unclosed refl
@@ -182,11 +178,7 @@ module _ {B : Type 0} {g : Ghosts B} (r : Rows B g) (mid : Exchanges) (key : Lis
   each_next y there = elim (with_next y there) [ inl before_it ↦ closed.each y before_it | inr same ↦ subst (IsToClose r key refused) same is_next.1 ]
 
   pub fits_yet : (most : ℕ) → AreAtMost most (IsToClose r key refused) → most ≤ room → 1 ≤ spare
-  fits_yet most few enough =
-      let le : length (closed.xs ++ (x ∷ [])) ≤ most = few (closed.xs ++ (x ∷ [])) ascends_on each_next in
-      let more : length (closed.xs ++ (x ∷ [])) ≡ length closed.xs + 1 = length-append closed.xs (x ∷ []) in
-      let fits = closed.fits in
-      omega (arith, le, more, fits, enough)
+  fits_yet most few enough = grind (arith, nat_tests, length, ascends_on, each_next, length-append)
 
   pub one_closed : (after : Exchanges) (out_after : List Act) (spare_after : ℕ) → out_after ≡ out ++ (act.Close x ∷ []) → spare_after + 1 ≡ spare → exch.Becomes known.without_exchange x mid after → ClosesBelow r after key refused before out_after room spare_after (x + 1)
   one_closed after out_after spare_after acts less becomes = record {
@@ -218,12 +210,8 @@ module _ {B : Type 0} {g : Ghosts B} (r : Rows B g) (mid : Exchanges) (key : Lis
       known_next : (y : ℕ) → cond (eqb x y) (known.without_exchange (table_of mid x)) (table_of mid y) ≡ cond (is_among y closed.xs || is_among y (x ∷ [])) (known.without_exchange (table_of r.exchanges y)) (table_of r.exchanges y)
       known_next y = elim (same_or x y) [
         | inl same ↦ subst (λ n. cond (eqb x n) (known.without_exchange (table_of mid x)) (table_of mid n) ≡ cond (is_among n closed.xs || is_among n (x ∷ [])) (known.without_exchange (table_of r.exchanges n)) (table_of r.exchanges n)) same (rw (eqb-same x, unclosed, known_yet) refl)
-        | inr ne ↦ (let off : eqb x y ≡ false = eqb-other x y ne in rw (off, closed.known y) (or_none (is_among y closed.xs)))
+        | inr ne ↦ (let off : eqb x y ≡ false = eqb-other x y ne in rw (off, closed.known y) (grind (arith, nat_tests)))
       ]
-        where
-          or_none : (b : Bool) → cond b (known.without_exchange (table_of r.exchanges y)) (table_of r.exchanges y) ≡ cond (b || (false || false)) (known.without_exchange (table_of r.exchanges y)) (table_of r.exchanges y)
-          or_none true = refl
-          or_none false = refl
 
 pub all_closed : {B : Type 0} {g : Ghosts B} (r : Rows B g) (after : Exchanges) (key : List ℕ) (refused : Option ℕ) (before out : List Act) (room spare from : ℕ) → ClosesBelow r after key refused before out room spare from → IsNext (IsToClose r key refused) from None → Closes r after key refused before out
 all_closed r after key refused before out room spare from closed none = record {

@@ -4,14 +4,14 @@
 -- so it is kept as one that just started (`kept_over`). Who stays reads an exchange that may be over now, but its head,
 -- base and end are the same (`kept_on`). Nothing is held of what is closed, nor otherwise of the others: who waits for
 -- a head was brought nothing. `DoomHandler` joins `all_consumers` and `exchange_shut`.
+use Rattle.std.{proofs.{lemmas.Bool.Decides.{nat_tests}}}
+use Rattle.std.{proofs.{Common.{arith}}}
 use Rattle.std.{proofs.Common.{◌≡◌, ℕ, zero, suc, ◌+◌, List, [], ◌∷◌, drop, Bool, true, false, eqb, Option, Some, None, refl, ap, sym, ◌∙◌, subst}, specs.{Prelude.{nat_eq, bytes_eq, option_map, ◌&&◌, ◌||◌, if◌then◌else◌}, HashMap.{get}}}
 use Rattle.hc_text.proofs.Basics.{false_true, same_some as same_row, some_inj as some_is}
-use Rattle.hc_effects.proofs.Vocabulary.{Limits, Response, is_disabled, is_only, Place, back_in_line, is_number, over, woken, family, promised_bytes, is_open, Lawful, lo_of, hi_of, base_in, end_in, end_of_direct, is_bound_place, Tables, Exchange, Representation, waits_at, by}
+use Rattle.hc_effects.proofs.Vocabulary.{Limits, Response, is_disabled, is_only, Place, back_in_line, is_number, over, woken, family, promised_bytes, is_open, Lawful, lo_of, hi_of, base_in, end_in, end_of_direct, is_bound_place, Tables, Exchange, Representation, waits_at, by, reads, place}
 use Rattle.hc_store.specs.declared.backend.Backend.{Ghosts}
 use Rattle.hc_entry.specs.{Keys.{line_of}, Lines.{is_among, is_in}}
-use Rattle.hc_exch.specs.Known as known
-use Rattle.hc_exch.specs.Known.{Known}
-use Rattle.hc_event.specs.declared.place.Place.TheVariants as place
+use Rattle.hc_exch.specs.Known.{Known, without_exchange}
 use Rattle.hc_model.specs.Rows as rows
 use Rattle.hc_effects.proofs.SameTables as tables
 use Rattle.hc_effects.proofs.{SameTables.{shut}, Basics.{number_is}}
@@ -27,8 +27,7 @@ in_is [] y = refl
 in_is (x ∷ xs) y = ap (λ b. eqb x y || b) (in_is xs y)
 
 end_over : (o : Option ℕ) (w : Exchange) → end_of_direct o (over w) ≡ end_of_direct o w
-end_over None w = refl
-end_over (Some n) w = ap (λ (b : ℕ). Some (b + n)) (base_over w)
+end_over o w = grind (arith, nat_tests)
 
 module _ (b : Bool) where
   abbrev if_over : Option Exchange → Option Exchange
@@ -36,44 +35,25 @@ module _ (b : Bool) where
 
 -- its head, where it begins and where it ends are the same
 head_if : (b : Bool) (z : Option Exchange) → head_in (if_over b z) ≡ head_in z
-head_if false z = refl
-head_if true None = refl
-head_if true (Some w) = refl
+head_if b z = grind (arith, nat_tests)
 
 base_if : (b : Bool) (z : Option Exchange) → base_in (if_over b z) ≡ base_in z
-base_if false z = refl
-base_if true None = refl
-base_if true (Some w) = base_over w
+base_if b z = grind (arith, nat_tests)
 
 end_if : (b : Bool) (z : Option Exchange) → end_in (if_over b z) ≡ end_in z
-end_if false z = refl
-end_if true None = refl
-end_if true (Some w) = ap (λ o. end_of_direct o (over w)) (promise_over w) ∙ end_over (promised_bytes w) w
+end_if b z = grind (arith, nat_tests)
 
 drop_none : (n : ℕ) → drop {A = ℕ} n [] ≡ []
-drop_none zero = refl
-drop_none (suc n) = refl
+drop_none n = grind (arith, nat_tests)
 
 -- WHERE ONE WAITS
 
 module _ (t : Tables) where
   no_answer : (p : Place) → waits_at t p ≡ true → answer_at t p ≡ None
-  no_answer place.Line waits = refl
-  no_answer (place.Passed r held) waits = refl
-  no_answer (place.Turn x) waits = refl
-  no_answer (place.Bound r lo hi how) waits = refl
-  no_answer (place.Direct x) waits = false_true waits
-  no_answer (place.Down why) waits = refl
-  no_answer place.Over waits = refl
+  no_answer p waits = grind (arith, nat_tests)
 
   no_read : (x : ℕ) (w : Exchange) (k : rows.Consumer) (p : Place) → k.place ≡ p → waits_at t p ≡ true → unread x w (Some k) ≡ []
-  no_read x w k place.Line at waits = rw at refl
-  no_read x w k (place.Passed r held) at waits = rw at refl
-  no_read x w k (place.Turn y) at waits = rw at refl
-  no_read x w k (place.Bound r lo hi how) at waits = rw at refl
-  no_read x w k (place.Direct y) at waits = false_true waits
-  no_read x w k (place.Down why) at waits = rw at refl
-  no_read x w k place.Over at waits = rw at refl
+  no_read x w k p at waits = grind (arith, nat_tests)
 
 module _ (t : Tables) (law : Lawful t) (now : ℕ) (key xs : List ℕ) where
   -- the tables then
@@ -99,48 +79,22 @@ module _ (t : Tables) (law : Lawful t) (now : ℕ) (key xs : List ℕ) where
   -- CONSUMERS
 
   answer_same : (p : Place) → answer_at s p ≡ answer_at t p
-  answer_same (place.Direct x) = head_if (tables.is_in xs x) (t.exchange x)
-  answer_same place.Line = refl
-  answer_same (place.Passed r held) = refl
-  answer_same (place.Turn x) = refl
-  answer_same (place.Bound r lo hi how) = refl
-  answer_same (place.Down why) = refl
-  answer_same place.Over = refl
+  answer_same p = grind (arith, nat_tests)
 
   begin_same : (p : Place) → lo_of s p ≡ lo_of t p
-  begin_same (place.Direct x) = base_if (tables.is_in xs x) (t.exchange x)
-  begin_same place.Line = refl
-  begin_same (place.Passed r held) = refl
-  begin_same (place.Turn x) = refl
-  begin_same (place.Bound r lo hi how) = refl
-  begin_same (place.Down why) = refl
-  begin_same place.Over = refl
+  begin_same p = grind (arith, nat_tests)
 
   end_same : (p : Place) → hi_of s p ≡ hi_of t p
-  end_same (place.Direct x) = end_if (tables.is_in xs x) (t.exchange x)
-  end_same place.Line = refl
-  end_same (place.Passed r held) = refl
-  end_same (place.Turn x) = refl
-  end_same (place.Bound r lo hi how) = refl
-  end_same (place.Down why) = refl
-  end_same place.Over = refl
+  end_same p = grind (arith, nat_tests)
 
   -- whoever stays where it is
   kept_on : (k : Consumer) (v : rows.Consumer) → IsKept t k v → IsKept s k v
-  kept_on k v kp = record {
-    is_there = kp.is_there;
-    request = kp.request;
-    class_is = kp.class_is;
-    since = kp.since;
-    place = kp.place;
-    own = kp.own;
-    shown = kp.shown;
-    answer = kp.answer ∙ sym (ap (λ (o : Option Response). if v.shown then None else o) (answer_same v.place));
-    begins = kp.begins ∙ sym (begin_same v.place);
-    ends = kp.ends ∙ sym (end_same v.place);
-    given = kp.given;
-    due = kp.due;
-  }
+  kept_on k v kp = assumption (
+    kp,
+    kp.answer ∙ sym (ap (λ (o : Option Response). if v.shown then None else o) (answer_same v.place)),
+    kp.begins ∙ sym (begin_same v.place),
+    kp.ends ∙ sym (end_same v.place),
+  )
 
   keeps_on : (o : Option Consumer) (z : Option rows.Consumer) → KeepsConsumer t o z → KeepsConsumer s o z
   keeps_on None z kept = kept
@@ -149,37 +103,27 @@ module _ (t : Tables) (law : Lawful t) (now : ℕ) (key xs : List ℕ) where
 
   -- whoever starts over
   kept_over : (k : Consumer) (v : rows.Consumer) → waits_at t v.place ≡ true → IsKept t k v → IsKept s (once_over now k) (back_in_line now v)
-  kept_over k v waits kp = record {
-    is_there = refl;
-    request = kp.request;
-    class_is = kp.class_is;
-    since = λ cached plain. refl;
-    place = refl;
-    own = refl;
-    shown = kp.shown;
-    answer = kp.answer ∙ ap (λ (o : Option Response). if v.shown then None else o) (no_answer t v.place waits);
-    begins = refl;
-    ends = refl;
-    given = kp.given;
-    due = refl;
-  }
+  kept_over k v waits kp = assumption (
+    kp,
+    kp.answer ∙ ap (λ (o : Option Response). if v.shown then None else o) (no_answer t v.place waits),
+  )
 
   -- and whoever stands in line, and isn't kept there
   kept_beside : (d : ℕ) (k : Consumer) (v : rows.Consumer) → t.consumer d ≡ Some v → bytes_eq key v.request.key ≡ true → v.place ≡ place.Line → stands_for t key (Some v) ≡ false → IsKept t k v → IsKept s k (back_in_line now v)
-  kept_beside d k v row same at stands kp = record {
-    is_there = refl;
-    request = kp.request;
-    class_is = kp.class_is;
-    since = λ cached plain. false_true (sym stands ∙ in_line cached plain);
-    place = kp.place ∙ at;
-    own = kp.own ∙ law.places.line_unowned d v row at;
-    shown = kp.shown;
-    answer = kp.answer ∙ ap (λ (o : Option Response). if v.shown then None else o) (ap (answer_at t) at);
-    begins = kp.begins ∙ ap (lo_of t) at;
-    ends = kp.ends ∙ ap (hi_of t) at;
-    given = kp.given;
-    due = kp.due ∙ law.owned.idle_due d v row (rw at refl);
-  }
+  kept_beside d k v row same at stands kp =
+      let idle : reads v.place ≡ false = rw at refl in
+      let since : is_disabled v.request ≡ false → is_only v.request ≡ false → k.since ≡ (back_in_line now v).since =
+      λ cached plain. false_true (sym stands ∙ in_line cached plain) in
+      assumption (
+        kp,
+        since,
+        kp.place ∙ at,
+        kp.own ∙ law.places.line_unowned d v row at,
+        kp.answer ∙ ap (λ (o : Option Response). if v.shown then None else o) (ap (answer_at t) at),
+        kp.begins ∙ ap (lo_of t) at,
+        kp.ends ∙ ap (hi_of t) at,
+        kp.due ∙ law.owned.idle_due d v row idle,
+      )
     where
       in_line : is_disabled v.request ≡ false → is_only v.request ≡ false → stands_for t key (Some v) ≡ true
       in_line cached plain =
@@ -228,13 +172,7 @@ module _ (t : Tables) (law : Lawful t) (now : ℕ) (key xs : List ℕ) where
   -- WHAT IS HELD
 
   unread_same : (x : ℕ) (w : Exchange) (d : ℕ) → unread x w (s.consumer d) ≡ unread x w (t.consumer d)
-  unread_same x w d = by_stood (stood t key law d)
-    where
-      by_stood : Stood t key (t.consumer d) → unread x w (s.consumer d) ≡ unread x w (t.consumer d)
-      by_stood (nobody none) = ap (unread x w) (none_row d none ∙ sym none)
-      by_stood (back k row same waits on) = ap (unread x w) (over_row d k row same waits) ∙ sym (ap (unread x w) row ∙ no_read t x w k k.place refl waits)
-      by_stood (beside k row same at off) = ap (unread x w) (line_row d k row same at) ∙ sym (ap (unread x w) row ∙ rw at refl)
-      by_stood (stays k row off stands_off) = ap (unread x w) (same_consumer d k row off)
+  unread_same x w d = grind (arith, nat_tests)
 
   -- whoever waits for the head of a first hole was brought nothing by its own exchange
   no_unstored : (x c : ℕ) (w : Exchange) (v : Representation) (k : rows.Consumer) (p : Place) → t.exchange x ≡ Some w → t.consumer c ≡ Some k → k.place ≡ p → waits_at t p ≡ true → unstored_bytes t x w v (Some k) ≡ []
@@ -258,14 +196,10 @@ module _ (t : Tables) (law : Lawful t) (now : ℕ) (key xs : List ℕ) where
       by_test : (b : Bool) → (is_bound_place (family x w) k.place && is_number k.own x) ≡ b → unstored_bytes t x w v (Some k) ≡ []
       by_test false off = rw off refl
       by_test true on = rw (on, empty (both (is_bound_place (family x w) k.place) (is_number k.own x) on)) (drop_none _)
-  no_unstored x c w v k (place.Bound q lo hi by.Founding) there row at waits = false_true waits
-  no_unstored x c w v k (place.Bound q lo hi by.Plan) there row at waits = false_true waits
   no_unstored x c w v k place.Line there row at waits = rw at refl
   no_unstored x c w v k (place.Passed q held) there row at waits = rw at refl
   no_unstored x c w v k (place.Turn y) there row at waits = rw at refl
-  no_unstored x c w v k (place.Direct y) there row at waits = false_true waits
-  no_unstored x c w v k (place.Down why) there row at waits = false_true waits
-  no_unstored x c w v k place.Over there row at waits = false_true waits
+  no_unstored x c w v k _ there row at waits = false_true waits
 
   unstored_same : (x c : ℕ) (w : Exchange) (v : Representation) → t.exchange x ≡ Some w → unstored_bytes s x w v (s.consumer c) ≡ unstored_bytes t x w v (t.consumer c)
   unstored_same x c w v there = by_stood (stood t key law c)
@@ -295,15 +229,14 @@ module _ (t : Tables) (law : Lawful t) (now : ℕ) (key xs : List ℕ) where
   -- EXCHANGES
 
   not_open : (z : Option Exchange) → is_open (option_map over z) ≡ false
-  not_open None = refl
-  not_open (Some w) = refl
+  not_open z = grind (arith, nat_tests)
 
-  pub exchange_shut : (x : ℕ) (before after : Known) → after ≡ (if is_among x xs then known.without_exchange before else before) → KeepsExchange t x before → KeepsExchange s x after
+  pub exchange_shut : (x : ℕ) (before after : Known) → after ≡ (if is_among x xs then without_exchange before else before) → KeepsExchange t x before → KeepsExchange s x after
   exchange_shut x before after is kept = by_test (is_among x xs) refl
     where
       by_test : (b : Bool) → is_among x xs ≡ b → KeepsExchange s x after
       by_test true on =
-          let at : after ≡ known.without_exchange before = is ∙ rw on refl in
+          let at : after ≡ without_exchange before = is ∙ rw on refl in
           let row : s.exchange x ≡ option_map over (t.exchange x) = exchange_is x ∙ rw on refl in
           record {
             running = rw at (subst (λ (o : Option Exchange). KeepsRunning s x None o) (sym row) (not_open (t.exchange x)));

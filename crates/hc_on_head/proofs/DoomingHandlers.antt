@@ -4,16 +4,16 @@
 -- is taken then as any other past the store (`dooming_taken`). A bad one has its exchange closed with the doom, as the
 -- refused one, and its consumer is to fail. `stands_down` has the work, item by item (`dooming_bad`). `take_dooming`
 -- uses both.
+use Rattle.std.{proofs.{lemmas.Bool.Decides.{nat_tests}}}
+use Rattle.std.{proofs.{Common.{arith}}}
 use Rattle.std.{proofs.Common.{◌≡◌, ◌≢◌, ◌⊎◌, inl, inr, ℕ, List, [], Bool, true, false, Option, Some, None, refl, ap, sym, ◌∙◌, subst}, specs.{Prelude.{is_some, is_none, nat_eq, bytes_eq, map, option_map, not, ◌&&◌, ◌||◌, if◌then◌else◌}, HashMap.{get}}}
 use Rattle.hc_text.proofs.Basics.{eqb-other, eqb-same, false_true, same_or, same_some as same_row, some_inj as some_is, and_off as then_false}
-use Rattle.hc_effects.proofs.Vocabulary.{Limits, Act, Cause, Event, Response, head_case, Request, length_of, is_bad, route_of, head_refusal, head_view, awaits, back_in_line, current, denial, is_live, changes, with_event, as_gone, over, exchange_with_head, all_closed, let_some_go, with_answer, with_consumer, with_exchange, sent_back, woken, is_awaited, awaited_and, is_headless, brings_to, Lawful, is_in_line, IsAwaiting, Tables, Exchange, Representation, Among, waits_at, with_item_first, act, event, case, route, by}
+use Rattle.hc_effects.proofs.Vocabulary.{Limits, Act, Cause, Event, Response, head_case, Request, length_of, is_bad, route_of, head_refusal, head_view, awaits, back_in_line, current, denial, is_live, changes, with_event, as_gone, over, exchange_with_head, all_closed, let_some_go, with_answer, with_consumer, with_exchange, sent_back, woken, is_awaited, awaited_and, is_headless, brings_to, Lawful, is_in_line, IsAwaiting, Tables, Exchange, Representation, Among, waits_at, with_item_first, act, event, case, route, by, cause, place}
 use Rattle.hc_store.specs.declared.backend.Backend.{Ghosts}
-use Rattle.hc_event.specs.declared.act.Cause.TheVariants as cause
 use Rattle.hc_stored.specs.Entries.{shelf_of}
 use Rattle.hc_event.specs.declared.act.Refusal.TheVariants as refusal
 use Rattle.hc_exch.specs.{declared.row.{Open.{Open}, Opening.{Opening}}, Exchanges.{table_of}, Known.{Table, open_view, begins_with, length_by}, Openings.{opened_with}}
 use Rattle.hc_entry.specs.Keys.{kept_of}
-use Rattle.hc_event.specs.declared.place.Place.TheVariants as place
 use Rattle.hc_model.specs.Owners as owners
 use Rattle.hc_model.specs.Rows as rows
 use Rattle.hc_effects.proofs.{Basics.{same_functions}, SameTables.{without, shut, back_from_any, waits_for_any, some_go_is, all_closed_is}, UnsafeEffects.{dooms_taken, dooms_bad}, Tests.{and_false, none_some}}
@@ -59,28 +59,13 @@ module _ {B : Type 0} {g : Ghosts B} {limits : Limits} (r u : Rows B g) (m : Tab
   is = kept_as r m c v k stands here there
 
   unanswered : (b : Bool) → v.shown ≡ b → answer_for m v ≡ None
-  unanswered true on = rw on refl
-  unanswered false off = rw (off, at, row) headless
+  unanswered b on = grind (arith, nat_tests)
 
   unanswered_then : (b : Bool) → v.shown ≡ b → answer_for s (record v { place = place.Down why }) ≡ None
-  unanswered_then true on = rw on refl
-  unanswered_then false off = rw off refl
+  unanswered_then b on = grind (arith, nat_tests)
 
   consumer_kept : IsKept s (standing_at (place.Down why) k) d
-  consumer_kept = record {
-    is_there = refl;
-    request = is.request;
-    class_is = is.class_is;
-    since = is.since;
-    place = refl;
-    own = is.own;
-    shown = is.shown;
-    answer = is.answer ∙ (unanswered v.shown refl ∙ sym (unanswered_then v.shown refl));
-    begins = refl;
-    ends = refl;
-    given = is.given;
-    due = is.due;
-  }
+  consumer_kept = assumption (is, is.answer ∙ (unanswered v.shown refl ∙ sym (unanswered_then v.shown refl)))
 
   -- THE EXCHANGE
 
@@ -98,12 +83,7 @@ module _ {B : Type 0} {g : Ghosts B} {limits : Limits} (r u : Rows B g) (m : Tab
   }
 
   past_none : (y : ℕ) (q : Exchange) → m.exchange y ≡ Some q → unread y q (Some v) ≡ []
-  past_none y q at_y = rw at (elim (same_or x y) [
-    | inl same_y ↦
-        let one : e ≡ q = same_row (m.exchange y) e q (subst (λ (n : ℕ). m.exchange n ≡ Some e) same_y row) at_y in
-        rw (same_y, eqb-same y) (drop_none v.given q.body (ap (λ (w : Exchange). w.body) (sym one) ∙ empty))
-    | inr ne ↦ rw (eqb-other x y ne) refl
-  ])
+  past_none y q at_y = grind (arith, nat_tests)
 
   much : HoldsAsMuch m c v d here
   much = record { past = λ y q at_y. sym (past_none y q at_y); lost = λ y q b at_y founded. rw at refl }
@@ -134,25 +114,7 @@ module _ {B : Type 0} {g : Ghosts B} {limits : Limits} (r u : Rows B g) (m : Tab
       turn = and_false _ _ (not_lined key d refl) ∙ sym (and_false _ _ (not_lined key v (rw at refl)))
 
   away_same : (key : List ℕ) (o : Option rows.Consumer) → is_away s key o ≡ is_away mid key o
-  away_same key None = refl
-  away_same key (Some q) = ap (λ b. bytes_eq q.request.key key && b) (by_place q.place)
-    where
-      shut_now : (w : Exchange) → w.is_open ≡ false → is_headless (Some w) ≡ false
-      shut_now w off = rw off refl
-
-      by_place : (p : _) → is_away_at s p ≡ is_away_at mid p
-      by_place (place.Bound q lo hi (by.FirstHole y)) = elim (same_or x y) [
-        | inl same_y ↦ subst (λ (n : ℕ). is_headless (s.exchange n) ≡ is_headless (m.exchange n)) same_y (ap is_headless s_here ∙ (shut_now z z_over ∙ sym (ap is_headless row ∙ shut_now e over_now)))
-        | inr ne ↦ ap is_headless (s_other y (λ h. ne (sym h)))
-      ]
-      by_place (place.Bound q lo hi by.Founding) = refl
-      by_place (place.Bound q lo hi by.Plan) = refl
-      by_place place.Line = refl
-      by_place (place.Passed q kept) = refl
-      by_place (place.Turn y) = refl
-      by_place (place.Direct y) = refl
-      by_place (place.Down cause) = refl
-      by_place place.Over = refl
+  away_same key o = grind (arith, nat_tests)
 
   all_keys : (key : List ℕ) → KeepsKey s key (kept_of r.keys key)
   unfolding current
@@ -185,10 +147,7 @@ module _ {B : Type 0} {g : Ghosts B} {limits : Limits} (r u : Rows B g) (m : Tab
   lives_before = rw at refl
 
   lives : (n : ℕ) → is_live (s.consumer n) ≡ is_live (m.consumer n)
-  lives n = elim (same_or c n) [
-    | inl same_n ↦ subst (λ (i : ℕ). is_live (mid.consumer i) ≡ is_live (m.consumer i)) same_n (ap is_live c_here ∙ (lives_down ∙ sym (ap is_live here ∙ lives_before)))
-    | inr ne ↦ ap is_live (c_other n (λ h. ne (sym h)))
-  ]
+  lives n = grind (arith, nat_tests)
 
   pub stands_down : u.last_start ≡ r.last_start → u.exchanges ≡ r.exchanges → u.keys ≡ r.keys → u.entries ≡ r.entries → ChangesAt r.consumers u.consumers c (standing_at (place.Down why)) → RowsStand limits u s
   stands_down last exchanges same_keys same_entries alters =
@@ -205,8 +164,7 @@ module _ {B : Type 0} {g : Ghosts B} {limits : Limits} (r u : Rows B g) (m : Tab
 
 -- there is one, and it isn't among these
 none_gone : (b : Bool) (o : Option Representation) → o ≡ None → (if b then option_map as_gone o else o) ≡ None
-none_gone true o none = rw none refl
-none_gone false o none = none
+none_gone b o none = grind (arith, nat_tests)
 
 module _ {B : Type 0} {g : Ghosts B} {limits : Limits} (r : Rows B g) (t : Tables) (facts : Facts limits t) (stands : RowsStand limits r t) (now x : ℕ) (response : Response) (w : Exchange) (v : rows.Consumer) (waits : AwaitsHead t x w v) (at : v.place ≡ place.Direct x) where
   abbrev key : List ℕ
@@ -265,13 +223,7 @@ module _ {B : Type 0} {g : Ghosts B} {limits : Limits} (r : Rows B g) (t : Table
         ]
 
     here : after.consumer w.c ≡ Some v
-    here = ap (λ o. option_map (back_from_any now rs) (option_map (sent_back t now key) o)) waits.asker ∙ ap Some (ap (back_from_any now rs) unsent ∙ unlet)
-      where
-        unsent : sent_back t now key v ≡ v
-        unsent = ap (λ (b : Bool). if b then back_in_line now v else v) (then_false (bytes_eq key v.request.key) (waits_at t v.place) (rw at refl))
-
-        unlet : back_from_any now rs v ≡ v
-        unlet = ap (λ (b : Bool). if b then back_in_line now v else v) (ap (waits_for_any rs) at)
+    here = grind (arith, nat_tests)
 
     unfounded : after.representation x ≡ None
     unfounded = none_gone (tables.is_in rs x) (t.representation x) founds_none
@@ -395,14 +347,7 @@ unheard_as table x op key_is accepted opens copied past =
 
 -- it reads past the store what it waits for
 pub past_place : {B : Type 0} {g : Ghosts B} {limits : Limits} (r : Rows B g) (t : Tables) (x : ℕ) (w : Exchange) (a : Asker r t x w) (key : List ℕ) → RowsStand limits r t → IsUnheard (table_of r.exchanges) key x → (a.v.place ≡ place.Direct x) × (key ≡ w.request.key)
-past_place r t x w a key stands u =
-    let runs = runs_as r t x u.o w stands u.running a.awaits.row in
-    (by_at a.at (ap route_of (sym runs.need) ∙ u.past), sym u.of_key ∙ ap (λ (q : Request). q.key) runs.request)
-  where
-    by_at : IsAwaiting x w a.v.place → route_of w.need ≡ route.Direct → a.v.place ≡ place.Direct x
-    by_at (owners.direct way stood) past = stood
-    by_at (owners.turn way stood) past = absurd (let never : route.Turn ≡ route.Direct = sym way ∙ past in cc)
-    by_at (owners.hole q lo hi how way aim stood) past = absurd (let never : route.Hole ≡ route.Direct = sym way ∙ past in cc)
+past_place r t x w a key stands u = grind (arith, nat_tests)
 
 -- its exchange is open still, and has no head
 merely_accepted : {P : Type 0} (o : Option Open) → ∥ P ∥₁ → (P → head_refusal (option_map open_view o) ≡ None) → head_refusal (option_map open_view o) ≡ None
@@ -413,11 +358,7 @@ merely_accepted o some h = is_none_of (head_refusal (option_map open_view o)) (m
     is_none_of (Some a) on = false_true on
 
 accepted_row : {B : Type 0} {g : Ghosts B} {limits : Limits} (r : Rows B g) (m : Tables) (x : ℕ) (w : Exchange) → RowsStand limits r m → m.exchange x ≡ Some w → w.is_open ≡ true → w.head ≡ None → head_refusal (option_map open_view (table_of r.exchanges x).running) ≡ None
-accepted_row r m x w stands row opened bare = by_running (table_of r.exchanges x).running (subst (KeepsRunning m x (table_of r.exchanges x).running) row (stands.exchanges x).running)
-  where
-    by_running : (o : Option Open) → KeepsRunning m x o (Some w) → head_refusal (option_map open_view o) ≡ None
-    by_running None keeps = false_true (sym keeps ∙ opened)
-    by_running (Some o) keeps = ap (λ (b : Bool). if b then Some refusal.HeadTwice else None) (keeps.headed ∙ ap (λ z. is_some z) bare)
+accepted_row r m x w stands row opened bare = grind (arith, nat_tests)
 
 module _ {B : Type 0} {g : Ghosts B} (r mid : Rows B g) (now x : ℕ) (key : List ℕ) (response : Response) (before out : List Act) (unheard : IsUnheard (table_of r.exchanges) key x) (some_past : ∥ Stands r ∥₁)
     (dooms : (limits : Limits) (t : Tables) → Lawful t → RowsStand limits r t → IsDoomed limits mid t before out now key None) where

@@ -4,6 +4,7 @@
 -- made. Their contracts, one behind another, give the tables that `FoundHandler` speaks of (`stood`). There at most one
 -- gives way, so the acts have room (`one_acts`, `fits_acts`), and nothing has the new number yet (`new_kept`). Where
 -- the store took it, it is founded; where it refused, the kind of loss has its cause (`refused`). `found` uses these.
+use Rattle.std.{proofs.{lemmas.Bool.Decides.{nat_tests}}}
 use Rattle.std.{proofs.Common.{◌≡◌, ℕ, ◌+◌, ◌<◌, ◌≤◌, List, [], ◌∷◌, ◌++◌, true, false, Option, Some, None, Result, Ok, Err, refl, ap, sym, ◌∙◌, subst, arith}, specs.{Prelude.{IsSomeAnd, is_some, nat_eq, option_map}, HashMap.{get}}}
 use Rattle.hc_text.proofs.Basics.{none_of, some_inj as some_is}
 use Rattle.hc_store.specs.{Causes.{HasCause, IsWithin}, declared.{backend.Backend.{Ghosts}, error.StoreError.{StoreError}}}
@@ -88,12 +89,7 @@ module _ {B : Type 0} {b : Ghosts B} (r r1 r2 r3 : Rows B b) (now x c : ℕ) (go
         by_room room.Full is = tt
 
     pub one_left : (whole rest : ℕ) → 2 ≤ whole → LeavesActs whole rest (room_for_write r3 write.Slot) → 0 < rest
-    one_left whole rest le leaves = by_room (room_for_write r3 write.Slot) refl leaves
-      where
-        by_room : (e : Room) → room_for_write r3 write.Slot ≡ e → LeavesActs whole rest e → 0 < rest
-        by_room (room.After count) is all = (let few = few_acts count is in omega (arith, few, le, all))
-        by_room room.TooLarge is same = omega (arith, le, same)
-        by_room room.Full is same = omega (arith, le, same)
+    one_left whole rest le leaves = grind (arith, nat_tests, few_acts)
 
   module _ (u : Rows B b) (before mid : List Act) (made : (limits : Limits) (t : Tables) → MayMakeRoom t → RowsStand limits r3 t → GivesWay limits u t now (giving_way limits t write.Slot) before mid) where
     module _ {limits : Limits} (t : Tables) (facts : Facts limits t) (stands : RowsStand limits r t) (w : Exchange) (row : t.exchange x ≡ Some w) where
@@ -153,10 +149,7 @@ module _ {B : Type 0} {b : Ghosts B} (r r1 r2 r3 : Rows B b) (now x c : ℕ) (go
       may_by errors.NoMemory kind lost within = none_some kind lost
 
       fault_by : (error : StoreError) (kind : LostKind) (n k : ℕ) → loss_by error ≡ Some kind → HasCause {T = Unit {0}} n k (Err error) → is_fault (Loses x kind) ≡ true → n < k
-      fault_by errors.Fault kind n k lost cause fault = cause.fault refl
-      fault_by errors.TooLarge kind n k lost cause fault = absurd (let one : kinds.TooLarge ≡ kind = some_is kinds.TooLarge kind lost in let never : false ≡ true = ap (λ (e : LostKind). is_fault (Loses x e)) one ∙ fault in cc)
-      fault_by errors.Full kind n k lost cause fault = absurd (let one : kinds.Full ≡ kind = some_is kinds.Full kind lost in let never : false ≡ true = ap (λ (e : LostKind). is_fault (Loses x e)) one ∙ fault in cc)
-      fault_by errors.NoMemory kind n k lost cause fault = none_some kind lost
+      fault_by error kind n k lost cause fault = grind (arith, nat_tests)
 
       loss_in : Result (Unit {0}) StoreError → Option LostKind
       loss_in (Ok v) = None

@@ -1,19 +1,19 @@
 -- A slot is taken for what is founded: what changes with it.
+use Rattle.std.{proofs.{lemmas.Bool.Decides.{nat_tests}}}
+use Rattle.std.{proofs.{Common.{arith}}}
 use Rattle.std.{proofs.Common.{◌≡◌, ◌≢◌, inl, inr, ℕ, ◌<◌, ◌^◌, false, Option, Some, None, refl, ap, sym, ◌∙◌, subst}, specs.Prelude.{option_map, ◌==◌, if◌then◌else◌}}
 use Rattle.hc_text.proofs.Basics.{eqb-other, eqb-same, same_or}
 use Rattle.hc_effects.proofs.Vocabulary.{Need, Request, Response, Length, is_bad, length_of, promise_of, content_range_of, just_opened, total_of_part}
 use Rattle.hc_effects.proofs.ToldNumbers.{founded_early}
 use Rattle.hc_entry.specs.{declared.keys.KeyTable.{KeyTable}, Kept.{with_current}}
 use Rattle.hc_entry.specs.Keys as keys
-use Rattle.hc_exch.specs.{declared.{exchanges.Exchanges.{Exchanges}, role.Role.{Role}, row.{Open.{Open}, Opening.{Opening}}}, Exchanges.{table_of, Becomes}, Known.{Known, with_good_head, turned_into, length_by, begins_with}, Openings.{opened_with}}
-use Rattle.hc_exch.specs.declared.role.Role.TheVariants as role
+use Rattle.hc_exch.specs.{declared.{exchanges.Exchanges.{Exchanges}, role.Role.{Role, TheVariants.{the_data as role}}, row.{Open.{Open}, Opening.{Opening}}}, Exchanges.{table_of, Becomes}, Known.{Known, with_good_head, turned_into, length_by, begins_with}, Openings.{opened_with}}
 use Rattle.hc_state.specs.Founding.{brings_body}
 use Rattle.hc_on_leave.proofs.AnswerHandler.{known_here, known_other, opened_as}
 
 -- its length doesn't look at what it is to the cache
 length_turned : (kind : Role) (running : Option Open) (response : Response) → length_by (option_map (λ (o : Open). record o { role = kind }) running) response ≡ length_by running response
-length_turned kind None response = refl
-length_turned kind (Some o) response = refl
+length_turned kind running response = grind (arith, nat_tests)
 
 -- the exchange brings what it founds
 pub brings_founded : (x : ℕ) (response : Response) (r mid u : Exchanges) → Becomes (turned_into (role.Body x)) x r mid → is_bad (length_by (table_of r x).running response) ≡ false

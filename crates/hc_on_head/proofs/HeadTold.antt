@@ -4,6 +4,8 @@
 -- case of the head is that of the tables. Each property is then read off by cases: a bad head has a bad case, and only
 -- a head past the store dooms. What is let go is what the exchange was opened about, where its role tells that
 -- (`goes_by`). `told_as`, `told_unselected` and `told_dooming` join these for `take_head`.
+use Rattle.std.{proofs.{lemmas.Bool.Decides.{nat_tests}}}
+use Rattle.std.{proofs.{Common.{arith}}}
 use Rattle.std.{proofs.Common.{◌≡◌, ◌⊎◌, inl, inr, ℕ, List, Bool, true, false, Option, Some, None, refl, ap, ap₂, sym, ◌∙◌, subst}, specs.{Prelude.{IsTrue, ◌==◌, is_some, nat_eq, nat_lt, option_map, IsSomeAnd, ◌&&◌, ◌||◌, if◌then◌else◌}, HashMap.{get}}}
 use Rattle.hc_text.proofs.Basics.{and_both as both_of, false_true, same_some as same_row, some_inj as some_is}
 use Rattle.hc_effects.proofs.Vocabulary.{Limits, Request, Response, HeadCase, HeadView, Route, head_case, case_on, is_bad, route_of, head_refusal, Place, head_view, is_founding, current, doomed_by_case, changes, is_headless, is_in_line, Tables, Exchange, awaited_exchange, case, route, place, by}
@@ -24,13 +26,7 @@ use Rattle.hc_state.proofs.{KeySteps.{lined}, Maps.{merely_true, some_that}}
 -- A BAD HEAD IS OF A BAD CASE
 
 bad_on : (way : Route) (v : HeadView) → v.bad ≡ true → is_bad_case (case_on way v) ≡ true
-bad_on route.Direct v bad = rw bad refl
-bad_on route.Turn v bad = rw bad refl
-bad_on route.Hole v bad = by_shown v.shown refl
-  where
-    by_shown : (b : Bool) → v.shown ≡ b → is_bad_case (case_on route.Hole v) ≡ true
-    by_shown true shown = rw (shown, bad) refl
-    by_shown false shown = rw (shown, bad) refl
+bad_on way v bad = grind (arith, nat_tests)
 
 bad_shows : (v : HeadView) → v.bad ≡ true → is_bad_case (head_case v) ≡ true
 unfolding head_case
@@ -38,11 +34,7 @@ bad_shows v bad = bad_on (route_of v.need) v bad
 
 -- a head of another case is good
 good_case : (v : HeadView) (k : HeadCase) → k ≡ head_case v → is_bad_case k ≡ false → v.bad ≡ false
-good_case v k is off = by_test v.bad refl
-  where
-    by_test : (b : Bool) → v.bad ≡ b → b ≡ false
-    by_test false good = refl
-    by_test true bad = false_true (sym (ap is_bad_case (sym is) ∙ off) ∙ bad_shows v bad)
+good_case v k is off = grind (arith, nat_tests, bad_shows)
 
 pub good_told : (running : Option Open) (o : Open) (c : Option Consumer) (response : Response) (k : HeadCase) (kept : Option _) → running ≡ Some o → is_some c ≡ true → ((q : Open) (u : Consumer) → running ≡ Some q → c ≡ Some u → k ≡ head_case (heard_view q u kept response)) → is_bad_case k ≡ false
     → is_bad (length_by running response) ≡ false
@@ -116,36 +108,13 @@ waits_in_key r t facts stands x w a waits = by_place a.v.place refl waits
         let headless = a.awaits.headless in
         let waits : is_headless (t.exchange y) ≡ true = ap (λ (n : ℕ). is_headless (t.exchange n)) same_y ∙ (ap is_headless a.awaits.row ∙ rw (opened, headless) refl) in
         away (ap₂ ◌&&◌ (bytes_eq-same a.v.request.key key (sym same_key)) (ap (is_away_at t) at ∙ waits))
-    by_place (place.Bound q lo hi by.Founding) at on = none_some x on
-    by_place (place.Bound q lo hi by.Plan) at on = none_some x on
-    by_place place.Line at on = none_some x on
-    by_place (place.Passed q kept) at on = none_some x on
-    by_place (place.Direct y) at on = none_some x on
-    by_place (place.Down why) at on = none_some x on
-    by_place place.Over at on = none_some x on
+    by_place _ at on = none_some x on
 
 -- WHAT IS TOLD OF IT
 
 -- it dooms nothing
 doomless_as : (w : Exchange) (response : Response) (k : HeadCase) → (is_past_case k && changes w response) ≡ false → doomed_by_case (Some k) w response ≡ None
-doomless_as w response case.DirectBad off = rw off refl
-doomless_as w response case.DirectTaken off = rw off refl
-doomless_as w response case.TurnBad off = refl
-doomless_as w response case.Validated off = refl
-doomless_as w response case.NotValidated off = refl
-doomless_as w response case.TurnServerError off = refl
-doomless_as w response case.FoundsWhole off = refl
-doomless_as w response case.FoundsRange off = refl
-doomless_as w response case.PassesBy off = refl
-doomless_as w response case.FirstBad off = refl
-doomless_as w response case.FirstJoins off = refl
-doomless_as w response case.FirstServerError off = refl
-doomless_as w response case.FirstChanged off = refl
-doomless_as w response case.FirstReplaced off = refl
-doomless_as w response case.FirstPassesBy off = refl
-doomless_as w response case.LaterBad off = refl
-doomless_as w response case.LaterJoins off = refl
-doomless_as w response case.LaterChanged off = refl
+doomless_as w response k off = grind (arith, nat_tests)
 
 turn_apart : (way : Route) → way ≡ route.Turn → way ≡ route.Direct → ⊥
 turn_apart way turn is = let never : route.Turn ≡ route.Direct = sym turn ∙ is in cc
@@ -159,20 +128,8 @@ goes_by now aim about status v _ (cases.not_validated way s) same = same (turn_a
 goes_by now aim about status v _ (cases.first_changed way shown) same = same (hole_apart (route_of v.need) way)
 goes_by now aim about status v _ (cases.first_passes_by way shown) same = same (hole_apart (route_of v.need) way)
 goes_by now aim about status v _ (cases.later_changed way shown) same = ap (λ (o : Option ℕ). if nat_lt status 500 then o else None) (same (hole_apart (route_of v.need) way))
-goes_by now aim about status v _ (cases.direct_bad way bad) same = refl
-goes_by now aim about status v _ (cases.direct_taken way) same = refl
-goes_by now aim about status v _ (cases.turn_bad way bad) same = refl
-goes_by now aim about status v _ (cases.validated way s asked kept) same = refl
-goes_by now aim about status v _ (cases.turn_server_error way) same = refl
-goes_by now aim about status v _ (cases.founds_whole way s kept good) same = refl
-goes_by now aim about status v _ (cases.founds_range way s fits kept good) same = refl
-goes_by now aim about status v _ (cases.passes_by way) same = refl
-goes_by now aim about status v _ (cases.first_bad way shown bad) same = refl
-goes_by now aim about status v _ (cases.first_joins way shown joins good) same = refl
-goes_by now aim about status v _ (cases.first_server_error way shown) same = refl
 goes_by now aim about status v _ (cases.first_replaced way shown s kept good) same = same (hole_apart (route_of v.need) way)
-goes_by now aim about status v _ (cases.later_bad way shown bad) same = refl
-goes_by now aim about status v _ (cases.later_joins way shown joins good) same = refl
+goes_by now aim about status v _ _ same = refl
 
 -- the row of its exchange, its case, and what goes with it
 pub record Told (t : Tables) (x : ℕ) (response : Response) (k : HeadCase) (goes : Option ℕ) : Type 0 where
@@ -225,45 +182,11 @@ module _ {B : Type 0} {g : Ghosts B} {limits : Limits} (r : Rows B g) (t : Table
 
 -- one past the store
 past_way : (v : HeadView) (k : HeadCase) → CaseBy v k → is_past_case k ≡ true → route_of v.need ≡ route.Direct
-past_way v _ (cases.direct_bad way bad) on = way
-past_way v _ (cases.direct_taken way) on = way
-past_way v _ (cases.turn_bad way bad) on = false_true on
-past_way v _ (cases.validated way s asked kept) on = false_true on
-past_way v _ (cases.not_validated way s) on = false_true on
-past_way v _ (cases.turn_server_error way) on = false_true on
-past_way v _ (cases.founds_whole way s kept good) on = false_true on
-past_way v _ (cases.founds_range way s fits kept good) on = false_true on
-past_way v _ (cases.passes_by way) on = false_true on
-past_way v _ (cases.first_bad way shown bad) on = false_true on
-past_way v _ (cases.first_joins way shown joins good) on = false_true on
-past_way v _ (cases.first_server_error way shown) on = false_true on
-past_way v _ (cases.first_changed way shown) on = false_true on
-past_way v _ (cases.first_replaced way shown s kept good) on = false_true on
-past_way v _ (cases.first_passes_by way shown) on = false_true on
-past_way v _ (cases.later_bad way shown bad) on = false_true on
-past_way v _ (cases.later_joins way shown joins good) on = false_true on
-past_way v _ (cases.later_changed way shown) on = false_true on
+past_way v k it2 on = grind (arith, nat_tests)
 
 -- it is bad, or is taken
 pub taken_case : (k : HeadCase) → is_past_case k ≡ true → (k ≡ case.DirectBad → ⊥) → k ≡ case.DirectTaken
-taken_case case.DirectTaken on off = refl
-taken_case case.DirectBad on off = absurd (off refl)
-taken_case case.TurnBad on off = false_true on
-taken_case case.Validated on off = false_true on
-taken_case case.NotValidated on off = false_true on
-taken_case case.TurnServerError on off = false_true on
-taken_case case.FoundsWhole on off = false_true on
-taken_case case.FoundsRange on off = false_true on
-taken_case case.PassesBy on off = false_true on
-taken_case case.FirstBad on off = false_true on
-taken_case case.FirstJoins on off = false_true on
-taken_case case.FirstServerError on off = false_true on
-taken_case case.FirstChanged on off = false_true on
-taken_case case.FirstReplaced on off = false_true on
-taken_case case.FirstPassesBy on off = false_true on
-taken_case case.LaterBad on off = false_true on
-taken_case case.LaterJoins on off = false_true on
-taken_case case.LaterChanged on off = false_true on
+taken_case k on off = grind (arith, nat_tests)
 
 past_apart : (k : HeadCase) → is_past_case k ≡ true → k ≡ case.NotValidated → ⊥
 past_apart k on is = false_true (sym (ap is_past_case is) ∙ on)
@@ -291,21 +214,7 @@ founds_status : (v : HeadView) (k : HeadCase) → CaseBy v k → is_founding (So
 founds_status v _ (cases.founds_whole way s kept good) on = rw s refl
 founds_status v _ (cases.founds_range way s fits kept good) on = rw s refl
 founds_status v _ (cases.first_replaced way shown s kept good) on = rw s refl
-founds_status v _ (cases.direct_bad way bad) on = false_true on
-founds_status v _ (cases.direct_taken way) on = false_true on
-founds_status v _ (cases.turn_bad way bad) on = false_true on
-founds_status v _ (cases.validated way s asked kept) on = false_true on
-founds_status v _ (cases.not_validated way s) on = false_true on
-founds_status v _ (cases.turn_server_error way) on = false_true on
-founds_status v _ (cases.passes_by way) on = false_true on
-founds_status v _ (cases.first_bad way shown bad) on = false_true on
-founds_status v _ (cases.first_joins way shown joins good) on = false_true on
-founds_status v _ (cases.first_server_error way shown) on = false_true on
-founds_status v _ (cases.first_changed way shown) on = false_true on
-founds_status v _ (cases.first_passes_by way shown) on = false_true on
-founds_status v _ (cases.later_bad way shown bad) on = false_true on
-founds_status v _ (cases.later_joins way shown joins good) on = false_true on
-founds_status v _ (cases.later_changed way shown) on = false_true on
+founds_status v _ _ on = false_true on
 
 -- BY WHAT THE CODE LOOKED UP
 
@@ -370,9 +279,6 @@ module _ {B : Type 0} {g : Ghosts B} (r : Rows B g) (x : ℕ) (response : Respon
     parts : ((is_past_case k ≡ true) × (changes_by bare.o.request response ≡ true))
     parts = both_of (is_past_case k) (changes_by bare.o.request response) (sym (dooms bare.o bare.there) ∙ on)
 
-    dooms_past : is_past_case k ≡ true
-    dooms_past = parts.0
-
     past_store : is_some (get nat_eq r.consumers v.c) ≡ true → IsPastStore (table_of r.exchanges x).running
     past_store lives = λ q there.
         let u = some_row (get nat_eq r.consumers v.c) lives in
@@ -380,7 +286,7 @@ module _ {B : Type 0} {g : Ghosts B} (r : Rows B g) (x : ℕ) (response : Respon
         past_way view k (subst (CaseBy view) (sym (tells q u.0 there u.1)) (case_by view)) parts.0
 
     pub past_as : (now : ℕ) → is_some (get nat_eq r.consumers v.c) ≡ true → IsPast r (record { now = now; x = x; c = v.c }) k response
-    past_as now lives = record { opened = past_store lives; case_is = dooms_past; good = good_as lives }
+    past_as now lives = record { opened = past_store lives; case_is = parts.0; good = good_as lives }
 
     pub told_dooming : {limits : Limits} (t : Tables) (facts : Facts limits t) (stands : RowsStand limits r t) → ToldDooming t x response k
     told_dooming t facts stands =
@@ -394,47 +300,21 @@ module _ {B : Type 0} {g : Ghosts B} (r : Rows B g) (x : ℕ) (response : Respon
 
 -- a head that puts down lets nothing go
 pub downs_none : (t : Tables) (w : Exchange) (response : Response) (k : HeadCase) → puts_down k ≡ true → None ≡ goes_with t w response k
-downs_none t w response case.DirectBad on = refl
-downs_none t w response case.TurnBad on = refl
-downs_none t w response case.FirstBad on = refl
-downs_none t w response case.DirectTaken on = false_true on
-downs_none t w response case.Validated on = false_true on
-downs_none t w response case.NotValidated on = false_true on
-downs_none t w response case.TurnServerError on = false_true on
-downs_none t w response case.FoundsWhole on = false_true on
-downs_none t w response case.FoundsRange on = false_true on
-downs_none t w response case.PassesBy on = false_true on
-downs_none t w response case.FirstJoins on = false_true on
-downs_none t w response case.FirstServerError on = false_true on
-downs_none t w response case.FirstChanged on = false_true on
-downs_none t w response case.FirstReplaced on = false_true on
-downs_none t w response case.FirstPassesBy on = false_true on
-downs_none t w response case.LaterBad on = false_true on
-downs_none t w response case.LaterJoins on = false_true on
-downs_none t w response case.LaterChanged on = false_true on
+downs_none t w response k on = grind (arith, nat_tests)
 
 -- WHICH CASE IT IS
 
 pub down_case : (k : HeadCase) → (k ≡ case.DirectBad) ⊎ ((k ≡ case.TurnBad) ⊎ (k ≡ case.FirstBad)) → puts_down k ≡ true
-down_case k (inl is) = ap puts_down is
-down_case k (inr (inl is)) = ap puts_down is
-down_case k (inr (inr is)) = ap puts_down is
+down_case k it1 = grind (arith, nat_tests)
 
 pub past_case : (k : HeadCase) → (k ≡ case.TurnServerError) ⊎ ((k ≡ case.PassesBy) ⊎ ((k ≡ case.FirstServerError) ⊎ (k ≡ case.FirstPassesBy))) → goes_past k ≡ true
-past_case k (inl is) = ap goes_past is
-past_case k (inr (inl is)) = ap goes_past is
-past_case k (inr (inr (inl is))) = ap goes_past is
-past_case k (inr (inr (inr is))) = ap goes_past is
+past_case k it1 = grind (arith, nat_tests)
 
 pub good_past : (k : HeadCase) → (k ≡ case.TurnServerError) ⊎ ((k ≡ case.PassesBy) ⊎ ((k ≡ case.FirstServerError) ⊎ (k ≡ case.FirstPassesBy))) → is_bad_case k ≡ false
-good_past k (inl is) = ap is_bad_case is
-good_past k (inr (inl is)) = ap is_bad_case is
-good_past k (inr (inr (inl is))) = ap is_bad_case is
-good_past k (inr (inr (inr is))) = ap is_bad_case is
+good_past k it1 = grind (arith, nat_tests)
 
 pub anew_case : (k : HeadCase) → (k ≡ case.NotValidated) ⊎ (k ≡ case.FirstChanged) → starts_anew k ≡ true
-anew_case k (inl is) = ap starts_anew is
-anew_case k (inr is) = ap starts_anew is
+anew_case k it1 = grind (arith, nat_tests)
 
 -- SOME PAST
 

@@ -6,16 +6,14 @@
 -- cases but a 304 that selects.
 use Rattle.std.{proofs.{Common.{◌≡◌, ◌≤◌, ◌<◌, ℕ, List, [], Bool, true, false, Option, Some, None, refl, ap, ap₂, sym, ◌∙◌, subst, arith}, lemmas.Bool.Decides.{nat_tests}}, specs.{Prelude.{codes, is_some, nat_eq, nat_le, option_and_then, option_map, ◌==◌, if◌then◌else◌}, Option.{IfSome}, HashMap.{get}}}
 use Rattle.hc_text.proofs.Basics.{eqb-same, false_true, some_inj as some_is}
-use Rattle.hc_effects.proofs.Vocabulary.{Limits, Need, Request, Response, RequestClass, HeadCase, HeadView, head_case, is_conditional, is_storable, fits_to_found, length_of, is_bad, content_range_in, content_range_of, class_of, range_of, Route, route_of, BoundBy, joins_by, joins_row, fits_asker, was_shown, head_view, row_of, IsAwaiting, bound, is_bound, InHole, Tables, Exchange, Representation, range, case, route, place}
+use Rattle.hc_effects.proofs.Vocabulary.{Limits, Need, Request, Response, RequestClass, HeadCase, HeadView, head_case, is_conditional, is_storable, fits_to_found, length_of, is_bad, content_range_in, content_range_of, class_of, range_of, Route, route_of, BoundBy, joins_by, joins_row, fits_asker, was_shown, head_view, row_of, IsAwaiting, bound, is_bound, InHole, Tables, Exchange, Representation, range, case, route, place, need}
 use Rattle.hc_store.specs.declared.backend.Backend.{Ghosts}
-use Rattle.hc_range.specs.{declared.range.{Asked.{Asked, TheVariants.{From, FromTo, Last}}, Span.{Span}}, Spans.{IsInOrder}}
+use Rattle.hc_range.specs.{declared.range.{Asked.{Asked, TheVariants.{FromTo}}, Span.{Span}}, Spans.{IsInOrder}}
 use Rattle.hc_sparse.specs.Cells.{Covers}
 use Rattle.hc_fields.specs.{FieldList.{values_of}, FirstValues.{only_of}}
 use Rattle.hc_etag.specs.{declared.tag.Tag.{Tag}, Tags.{value_of}}
 use Rattle.hc_record.specs.Head.{Head}
-use Rattle.hc_event.specs.declared.act.Need.TheVariants as need
-use Rattle.hc_rules.specs.declared.joins.HoleAnswer.TheVariants as answer
-use Rattle.hc_rules.specs.Joins.{joins, hole_answer}
+use Rattle.hc_rules.specs.{declared.joins.HoleAnswer.TheVariants.{the_data as answer}, Joins.{joins, hole_answer}}
 use Rattle.hc_rules.proofs.RangeReads.{content_range_in-some}
 use Rattle.hc_exch.specs.{declared.row.Open.{Open}, Exchanges.{table_of}}
 use Rattle.hc_stored.specs.{declared.view.EntryView.{EntryView}, Entries.{shelf_of}, Kept.{Kept}, Shelf.{Shelf}, Views.{view_of, tag_in}}
@@ -34,10 +32,8 @@ merely_at_most n m some h =
     grind (arith, nat_tests, test)
 
 pub merely_ordered : {P : Type 0} (o : Option Asked) → ∥ P ∥₁ → (P → IfSome o IsInOrder) → IfSome o IsInOrder
-merely_ordered None some h = tt
-merely_ordered (Some (From first)) some h = tt
 merely_ordered (Some (FromTo first last)) some h = merely_at_most first last some h
-merely_ordered (Some (Last n)) some h = tt
+merely_ordered _ some h = tt
 
 request_ordered : (request : Request) (o : Option Asked) → range_of request ≡ o → IfSome o IsInOrder
 request_ordered request None is = tt
@@ -54,34 +50,16 @@ range_ordered r t c k at stands =
 
 pub joins_told : (tag : Bool × List ℕ) (total : ℕ) (hole : Span) (response : Response) → hole_answer tag total hole response ≡ answer.Joins → joins tag total hole response ≡ true
 unfolding hole_answer
-joins_told tag total hole response is = by_test (joins tag total hole response) refl
-  where
-    no_joins : (b : Bool) → (if b then answer.Replaced else answer.Other) ≡ answer.Joins → ⊥
-    no_joins true h = cc
-    no_joins false h = cc
-
-    by_test : (b : Bool) → joins tag total hole response ≡ b → b ≡ true
-    by_test true at = refl
-    by_test false at = absurd (no_joins (response.status == 200) (rw at at is))
+joins_told tag total hole response is = grind (arith, nat_tests)
 
 pub joins_not : (tag : Bool × List ℕ) (total : ℕ) (hole : Span) (response : Response) → (hole_answer tag total hole response ≡ answer.Joins → ⊥) → joins tag total hole response ≡ false
 unfolding hole_answer
-joins_not tag total hole response off = by_test (joins tag total hole response) refl
-  where
-    by_test : (b : Bool) → joins tag total hole response ≡ b → b ≡ false
-    by_test true at = absurd (off (rw at refl))
-    by_test false at = refl
+joins_not tag total hole response off = grind (arith, nat_tests)
 
 -- what is kept has this tag and this length
 pub joins_of_kept : (kept : Option Kept) (from to total : ℕ) (entry : EntryView) (tag : Tag) (response : Response) (b : Bool) → Some entry ≡ option_map view_of kept → Some tag.opaque ≡ tag_in kept → tag.weak ≡ false → entry.total ≡ Some total
     → joins (value_of tag) total (record { lo = from; hi = to }) response ≡ b → b ≡ joins_kept (need.Hole from to) kept response
-joins_of_kept None from to total entry tag response b there tagged strong length is = none_some entry (sym there)
-joins_of_kept (Some k) from to total entry tag response b there tagged strong length is =
-    let known : k.head.total ≡ Some total = sym (ap (λ (z : EntryView). z.total) (some_is entry (view_of k) there)) ∙ length in
-    let hole : Span = record { lo = from; hi = to } in
-    sym is
-    ∙ (ap (λ (weak : Bool). joins (weak, tag.opaque) total hole response) strong
-    ∙ ap₂ (λ (t : Option (List ℕ)) (n : Option ℕ). joins_by t n hole response) tagged (sym known))
+joins_of_kept kept from to total entry tag response b there tagged strong length is = grind (arith, nat_tests)
 
 -- at the hole of what is named
 pub joins_at : (s : Shelf) (n : Need) (aim : Option ℕ) (from to r : ℕ) (response : Response) (b : Bool) → n ≡ need.Hole from to → aim ≡ Some r → b ≡ joins_kept (need.Hole from to) (s.kept r) response → b ≡ joins_kept n (kept_at s aim) response
@@ -89,9 +67,7 @@ joins_at s n aim from to r response b hole named is = is ∙ ap₂ (λ (z : Need
 
 -- a part that is told ends within the whole
 within_text : (text : List ℕ) (first last total : ℕ) → content_range_in text ≡ Some (range.Part first last (Some total)) → (first ≤ last) × (last < total)
-within_text text first last total is =
-    let (unit, response, unit_is, (positions, length, (a, b, first_is, last_is, order, text_is), all, joined), whole) = content_range_in-some text (range.Part first last (Some total)) is in
-    (order, all.1)
+within_text text first last total is = grind (arith, nat_tests, content_range_in-some)
 
 within_value : (o : Option (List ℕ)) (first last total : ℕ) → option_and_then content_range_in o ≡ Some (range.Part first last (Some total)) → (first ≤ last) × (last < total)
 within_value None first last total is = none_some _ is
@@ -153,13 +129,7 @@ module _ {B : Type 0} {g : Ghosts B} {limits : Limits} (r : Rows B g) (t : Table
 
   -- what it was opened about, where it may read or write what is stored
   pub aim_is : (way : Route) → route_of w.need ≡ way → (way ≡ route.Direct → ⊥) → aim_in o.role ≡ w.aim
-  aim_is way at apart = ap aim_in (role_is ∙ ap (λ (z : Route). role_awaited z w.aim) at) ∙ by_way way apart w.aim
-    where
-      by_way : (z : Route) → (z ≡ route.Direct → ⊥) → (aim : Option ℕ) → aim_in (role_awaited z aim) ≡ aim
-      by_way route.Turn off aim = refl
-      by_way route.Direct off aim = absurd (off refl)
-      by_way route.Hole off (Some q) = refl
-      by_way route.Hole off None = refl
+  aim_is way at apart = grind (arith, nat_tests)
 
   abbrev kept : Option Kept
   kept = kept_at (shelf_of r.entries) (aim_in o.role)
@@ -191,38 +161,17 @@ module _ {B : Type 0} {g : Ghosts B} {limits : Limits} (r : Rows B g) (t : Table
           (λ p above below. facts.law.sound.waits.holes x w q v p a.awaits.row a.awaits.is_open a.awaits.headless aim there (subst (λ (z : Need). InHole z p) (sym is) (above, below)))
 
       joined : joins_kept (need.Hole from to) kept response ≡ joins_row (need.Hole from to) (row_of t w.aim) response
-      joined =
-          ap (λ (z : Option ℕ). joins_kept (need.Hole from to) (kept_at (shelf_of r.entries) z) response) aim_kept
-          ∙ (by_kept ((shelf_of r.entries).kept q) (t.representation q) refl (stands.entries.each q)
-          ∙ sym (ap (λ (z : Option ℕ). joins_row (need.Hole from to) (row_of t z) response) aim))
+      joined = grind (arith, nat_tests, kept_at, aim_kept, by_kept, row_of)
 
     holes_joined : joins_kept (need.Hole from to) kept response ≡ joins_row (need.Hole from to) (row_of t w.aim) response
-    holes_joined = by_at a.at
-      where
-        by_at : IsAwaiting x w a.v.place → joins_kept (need.Hole from to) kept response ≡ joins_row (need.Hole from to) (row_of t w.aim) response
-        by_at (owners.direct direct at) = absurd (let never : route.Direct ≡ route.Hole = sym direct ∙ way in cc)
-        by_at (owners.turn turn at) = absurd (let never : route.Turn ≡ route.Hole = sym turn ∙ way in cc)
-        by_at (owners.hole q lo hi how hole aim at) = joined q lo hi how aim at
+    holes_joined = grind (arith, nat_tests, kept, row_of, way, joined)
 
   joins_is : joins_kept o.need kept response ≡ joins_row w.need (row_of t w.aim) response
-  joins_is = ap (λ (z : Need). joins_kept z kept response) runs.need ∙ by_need w.need refl
-    where
-      by_need : (n : Need) → w.need ≡ n → joins_kept w.need kept response ≡ joins_row w.need (row_of t w.aim) response
-      by_need (need.Hole from to) is = rw is (holes_joined from to is)
-      by_need need.Disabled is = rw is refl
-      by_need need.TimedOut is = rw is refl
-      by_need need.Bypass is = rw is refl
-      by_need need.Miss is = rw is refl
-      by_need need.Vary is = rw is refl
-      by_need need.Validate is = rw is refl
-      by_need need.Unsatisfied is = rw is refl
+  joins_is = grind (arith, nat_tests, kept, row_of, holes_joined)
 
   fits_is : fits_to_found a.k.class.range response ≡ fits_asker (t.consumer w.c) response
   unfolding class_of
   fits_is = ap (λ (z : RequestClass). fits_to_found z.range response) a.is.class_is ∙ sym (ap (λ (z : Option rows.Consumer). fits_asker z response) a.awaits.asker)
-
-  shown_is : a.k.shown ≡ was_shown (t.consumer w.c)
-  shown_is = a.is.shown ∙ sym (ap was_shown a.awaits.asker)
 
   -- but for whether a 304 selects what is stored
   abbrev pub unselected : HeadView
@@ -232,19 +181,17 @@ module _ {B : Type 0} {g : Ghosts B} {limits : Limits} (r : Rows B g) (t : Table
   view_is =
       let needs = runs.need in
       let asks = runs.request in
-      let shows = shown_is in
       let fits = fits_is in
-      let joining = joins_is in
       λ i. record {
         need = needs i;
-        shown = shows i;
+        shown = (a.is.shown ∙ sym (ap was_shown a.awaits.asker)) i;
         status = response.status;
         bad = is_bad (length_of (needs i) (asks i) response);
         conditional = is_conditional (needs i) (asks i);
         selects = false;
         storable = is_storable (asks i) response;
         fits = fits i;
-        joins = joining i;
+        joins = joins_is i;
         lost = false;
       }
 

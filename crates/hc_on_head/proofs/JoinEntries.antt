@@ -4,18 +4,20 @@
 -- that is joined has the work. Where it isn't gone, its head is renewed, and more comes of it, since the exchange goes
 -- on. So its kind is that of what grows (`entry_growing`). Where it is gone, its entry tells as before (`entry_gone`).
 -- `entries_joined` is for all of them; `JoinHandler` uses these for `JoinRows`.
-use Rattle.std.{proofs.Common.{◌≡◌, ◌≢◌, inl, inr, ℕ, true, false, Option, Some, refl, ap, sym, ◌∙◌, subst}, specs.Prelude.{nat_eq}}
+use Rattle.std.{proofs.{lemmas.Bool.Decides.{nat_tests}}}
+use Rattle.std.{proofs.{Common.{arith}}}
+use Rattle.std.{proofs.Common.{◌≡◌, ◌≢◌, inl, inr, ℕ, true, false, Option, Some, refl, ap, sym, ◌∙◌, subst, []}, specs.Prelude.{nat_eq}}
 use Rattle.hc_text.proofs.Basics.{eqb-other, eqb-same, false_true, filters_same, same_or, and_off as then_false}
 use Rattle.hc_effects.proofs.Vocabulary.{Response, is_number, promise_in, family, is_reached, brings_to, is_growing, kind_of, bound, is_bound, Tables, Exchange, Representation, status_in}
 use Rattle.hc_effects.proofs.Tests.{none_some}
-use Rattle.hc_record.specs.Head.{Head, sealed_head}
-use Rattle.hc_record.specs.declared.kind.Kind.TheVariants as kinds
+use Rattle.hc_record.specs.{Head.{Head, sealed_head}, declared.kind.Kind.TheVariants.{the_data as kinds}}
 use Rattle.hc_stored.specs.{Kept.{Kept}, Shelf.{Shelf}}
 use Rattle.hc_model.specs.Rows as rows
 use Rattle.hc_state.specs.Stored.{IsEntry, TellsLength, told, untold, KeepsEntry, KeepsEntries, is_first, is_usable_row, TellsWriter}
 use Rattle.hc_on_head.proofs.JoinRows.{IsJoinable, s, z, told_consumer, told_representation, exchange_here, exchange_other, representation_here, representation_other}
 use Rattle.hc_state.proofs.{OneOfEach.{bound_same, first_by, growing_same, kind_same}, Ties.{entry_same, OversStay, overs_open, writer_then}}
 use Rattle.hc_on_leave.proofs.FoundRows.{any_some}
+use Rattle.hc_sparse.specs.Cells.{Covers}
 
 module _ (t : Tables) (now x q : ℕ) (response : Response) (w : Exchange) (v : rows.Consumer) (p : Representation) (j : IsJoinable t x q w v p) (h : Head) (total : h.total ≡ p.head.total) (status : h.status ≡ p.head.status) (wr : Option ℕ) (own : Option ℕ) (apart : (y : ℕ) → x ≢ y → is_number own y ≡ false) where
   abbrev m : Tables
@@ -31,25 +33,14 @@ module _ (t : Tables) (now x q : ℕ) (response : Response) (w : Exchange) (v : 
   users n = told_consumer t now x q response w v p j h total wr own apart (is_bound n) refl
 
   firsts : (n d : ℕ) → is_first m n (m.consumer d) ≡ is_first t n (t.consumer d)
-  firsts n d =
-      first_by t m (told_representation t now x q response w v p j h total wr own apart status_in status) n (m.consumer d)
-      ∙ told_consumer t now x q response w v p j h total wr own apart (is_first t n) refl d
+  firsts n d = grind (arith, nat_tests)
 
   lists : (n : ℕ) → bound m n ≡ bound t n
   lists n = bound_same t m n refl (users n)
 
   -- what another one brings stays
   brings_else : (n y : ℕ) (o : Representation) → q ≢ n → t.representation n ≡ Some o → brings_to n y (m.exchange y) ≡ brings_to n y (t.exchange y)
-  brings_else n y o ne there = elim (same_or x y) [
-    | inr off ↦ ap (brings_to n y) (exchange_other t now x q response w v p j h total wr own apart y off)
-    | inl e ↦ subst (λ (k : ℕ). brings_to n k (m.exchange k) ≡ brings_to n k (t.exchange k)) e (
-        let itself_apart : nat_eq x n ≡ false = eqb-other x n (λ same. none_some o (sym j.unfounded ∙ (ap t.representation same ∙ there))) in
-        let none = j.unjoined in
-        let was : nat_eq (family x w) n ≡ false = rw none itself_apart in
-        ap (brings_to n x) (exchange_here t now x q response w v p j h total wr own apart)
-        ∙ (then_false _ (nat_eq q n) (eqb-other q n ne)
-        ∙ sym (ap (brings_to n x) j.row ∙ then_false w.is_open (nat_eq (family x w) n) was)))
-  ]
+  brings_else n y o ne there = grind (arith, nat_tests)
 
   others_then : (shelf : Shelf) (n : ℕ) → q ≢ n → KeepsEntry t n (shelf.kept n) (t.representation n) → KeepsEntry m n (shelf.kept n) (m.representation n)
   others_then shelf n ne kept =
@@ -67,22 +58,19 @@ module _ (t : Tables) (now x q : ℕ) (response : Response) (w : Exchange) (v : 
   -- where its head tells that
   pub entry_growing : (e : Kept) (k : Head) (writer : Option ℕ) → IsEntry t q e p → is_reached (promise_in w response) 0 ≡ false → sealed_head kinds.Growing h.total k ≡ h → k.total ≡ e.head.total → k.kind ≡ kinds.Growing → TellsWriter t.exchange writer wr → IsEntry m q (record e { head = k; writer = writer }) now_row
   unfolding bound
-  entry_growing e k writer is on sealed told_as kind_is by = record {
-    used = λ gone none. is.used gone (sym (lists q) ∙ none);
-    key = is.key;
-    head = sealed;
-    length = by_length is.length;
-    kind = λ stays. kind_is ∙ sym (growing_now on);
-    whole = λ n whole known. absurd (let never : kinds.Growing ≡ kinds.Whole = sym kind_is ∙ whole in cc);
-    cells = is.cells;
-    reach = is.reach;
-    bound = λ d. is.bound d ∙ sym (users q d);
-    first = λ d. is.first d ∙ sym (firsts q d);
-    writer = writer_then overs by;
-    is_lost = is.is_lost;
-    alone = is.alone;
-    is_gone = is.is_gone;
-  }
+  entry_growing e k writer is on sealed told_as kind_is by =
+      let whole : (n : ℕ) → k.kind ≡ kinds.Whole → k.total ≡ Some n → Covers p.stored 0 n = λ n whole known. cc in
+      assumption (
+        is,
+        sealed,
+        by_length is.length,
+        whole,
+        writer_then overs by,
+        (λ (gone : p.is_gone ≡ true) (none : bound m q ≡ []). is.used gone (sym (lists q) ∙ none)),
+        (λ (stays : p.is_gone ≡ false). kind_is ∙ sym (growing_now on)),
+        (λ (d : ℕ). is.bound d ∙ sym (users q d)),
+        (λ (d : ℕ). is.first d ∙ sym (firsts q d)),
+      )
     where
       by_length : TellsLength e p → TellsLength (record e { head = k; writer = writer }) now_row
       by_length (told same) = told (told_as ∙ (same ∙ sym total))
@@ -91,22 +79,18 @@ module _ (t : Tables) (now x q : ℕ) (response : Response) (w : Exchange) (v : 
   -- what is gone tells as before
   pub entry_gone : (e : Kept) → IsEntry t q e p → p.is_gone ≡ true → h ≡ p.head → wr ≡ p.writer → IsEntry m q e now_row
   unfolding bound
-  entry_gone e is gone same by = record {
-    used = λ gone none. is.used gone (sym (lists q) ∙ none);
-    key = is.key;
-    head = ap (λ (n : Head). sealed_head kinds.Growing n.total e.head) same ∙ (is.head ∙ sym same);
-    length = by_length is.length;
-    kind = λ stays. false_true (sym stays ∙ gone);
-    whole = λ n whole known. is.whole n whole known;
-    cells = is.cells;
-    reach = is.reach;
-    bound = λ d. is.bound d ∙ sym (users q d);
-    first = λ d. is.first d ∙ sym (firsts q d);
-    writer = writer_then overs (subst (TellsWriter t.exchange e.writer) (sym by) is.writer);
-    is_lost = is.is_lost;
-    alone = is.alone;
-    is_gone = is.is_gone;
-  }
+  entry_gone e is gone same by =
+      let kind : p.is_gone ≡ false → e.head.kind ≡ kind_of m q now_row = λ stays. false_true (sym stays ∙ gone) in
+      assumption (
+        is,
+        ap (λ (n : Head). sealed_head kinds.Growing n.total e.head) same ∙ (is.head ∙ sym same),
+        by_length is.length,
+        kind,
+        writer_then overs (subst (TellsWriter t.exchange e.writer) (sym by) is.writer),
+        (λ (gone : p.is_gone ≡ true) (none : bound m q ≡ []). is.used gone (sym (lists q) ∙ none)),
+        (λ (d : ℕ). is.bound d ∙ sym (users q d)),
+        (λ (d : ℕ). is.first d ∙ sym (firsts q d)),
+      )
     where
       by_length : TellsLength e p → TellsLength e now_row
       by_length (told known) = told (known ∙ sym total)

@@ -4,13 +4,14 @@
 -- only the exchange changes (`past_answered`). Else the stored head is renewed, and `JoinRows` has the rest. Its
 -- consumer reads it alone, or shares it if it resumes a download (`stands_alone`, `stands_shared`). Where the renewal
 -- fails, it is lost to this consumer, its exclusive writer (`lost_answered`). `join` uses all.
+use Rattle.std.{proofs.{lemmas.Bool.Decides.{nat_tests}}}
+use Rattle.std.{proofs.{Common.{arith}}}
 use Rattle.std.{proofs.{Common.{◌≡◌, ◌≢◌, inl, inr, ℕ, ◌+◌, ◌<◌, List, [], ◌∷◌, ◌++◌, Bool, true, false, Option, Some, None, refl, ap, ap₂, sym, ◌∙◌, subst}, lemmas.List.{append-nil}}, specs.{Prelude.{is_some, IsSomeAnd, nat_eq, not, option_map, ◌||◌, ◌==◌, if◌then◌else◌}, HashMap.{get, hash_map_len}}}
 use mathlib.Core.Path.{fun_ext}
 use Rattle.hc_text.proofs.Basics.{eqb-other, eqb-same, false_true, same_or}
 use Rattle.hc_effects.proofs.Vocabulary.{Limits, Act, Event, Response, HeadCase, head_case, head_refusal, has_loss, head_view, case_at, is_founding, is_joining, is_number, denial, is_live_place, with_event, let_go, lost_to, as_gone, with_answer, with_consumer, with_representation, promise_in, is_reached, Loses, updated_head, entry_of, Lawful, bound, is_bound, is_bound_place, resumes, Tables, Exchange, Representation, is_kept, exclusive, written_representation, head_writes, may_validate, lossless, act, kind, need, event}
 use Rattle.hc_store.specs.declared.backend.Backend.{Ghosts}
-use Rattle.hc_record.specs.Head.{Head, sealed_head}
-use Rattle.hc_record.specs.declared.kind.Kind.TheVariants as kinds
+use Rattle.hc_record.specs.{Head.{Head, sealed_head}, declared.kind.Kind.TheVariants.{the_data as kinds}}
 use Rattle.hc_validate.specs.Updates.{updated_fields}
 use Rattle.hc_stored.specs.{Entries.{shelf_of}, Kept.{Kept, with_head, written_by}, Shelf.{same_order}}
 use Rattle.hc_stored.specs.Shelf as shelf
@@ -37,10 +38,7 @@ stays_at m n c k same there = record {
 
 -- a consumer and a representation that stay may be named
 pub named_rows : (t : Tables) (now x c q : ℕ) (response : Response) (o : Option ℕ) (w : Exchange) (v : rows.Consumer) (p : Representation) → t.consumer c ≡ Some v → t.representation q ≡ Some p → with_consumer c (Some v) (with_answer now x response o w (with_representation q (Some p) t)) ≡ with_answer now x response o w t
-named_rows t now x c q response o w v p consumer representation =
-    ap₂ (λ (f : ℕ → Option rows.Consumer) (h : ℕ → Option Representation). record (with_answer now x response o w t) { consumer = f; representation = h })
-    (fun_ext (λ d. elim (same_or c d) [ inl e ↦ rw (e, eqb-same d) (sym (sym (ap t.consumer e) ∙ consumer)) | inr ne ↦ rw (eqb-other c d ne) refl ]))
-    (fun_ext (λ n. elim (same_or q n) [ inl e ↦ rw (e, eqb-same n) (sym (sym (ap t.representation e) ∙ representation)) | inr ne ↦ rw (eqb-other q n ne) refl ]))
+named_rows t now x c q response o w v p consumer representation = grind (arith, nat_tests)
 
 -- ITS ROWS THEN
 
@@ -86,11 +84,9 @@ module _ {B : Type 0} {g : Ghosts B} {limits : Limits} (r u : Rows B g) (m : Tab
   module _ (mid brought : Rows B g) (grows : IsGrowing r mid x now q response) (brings : Brings mid brought c x q response) where
     its_line : LeavesKey w.c k.request.key r.keys brought.keys
     its_line =
-        let consumers = grows.rest.consumers in
-        let same_keys = grows.rest.keys in
         let line : IsSomeAnd (get nat_eq mid.consumers w.c) (λ n. LeavesKey w.c n.request.key mid.keys brought.keys) = subst (λ (d : ℕ). IsSomeAnd (get nat_eq mid.consumers d) (λ n. LeavesKey d n.request.key mid.keys brought.keys)) (sym for_it) brings.line in
-        subst (λ z. LeavesKey w.c k.request.key z brought.keys) same_keys
-        (known_of (get nat_eq mid.consumers w.c) k _ (ap (λ z. get nat_eq z w.c) consumers ∙ there) line)
+        subst (λ z. LeavesKey w.c k.request.key z brought.keys) grows.rest.keys
+        (known_of (get nat_eq mid.consumers w.c) k _ (ap (λ z. get nat_eq z w.c) grows.rest.consumers ∙ there) line)
 
     its_exchange : exch.Becomes (bringing q response) x r.exchanges brought.exchanges
     its_exchange = subst (λ z. exch.Becomes (bringing q response) x z brought.exchanges) grows.rest.exchanges brings.exchanges
@@ -239,19 +235,13 @@ join_of r t facts stands now x c q response w row k joins goes is accepted asks 
 
 -- what is kept, and changed in place, is kept still
 some_still : (q : ℕ) (old new : Option Kept) (f : Kept → Kept) (e : Kept) → new ≡ (if q == q then option_map f old else old) → old ≡ Some e → is_some new ≡ true
-some_still q None new f e becomes at = false_true (ap (λ (o : Option Kept). is_some o) at)
-some_still q (Some k) new f e becomes at =
-    let changed : (if q == q then Some (f k) else Some k) ≡ Some (f k) = simp (eqb-same q) refl in
-    ap (λ (o : Option Kept). is_some o) (becomes ∙ changed)
+some_still q old new f e becomes at = grind (arith, nat_tests)
 
 -- what is renewed is kept still
 pub kept_growing : {B : Type 0} {g : Ghosts B} (r mid brought : Rows B g) (now x q : ℕ) (response : Response) → head_refusal (open_at r x) ≡ None → shelf.is_kept (shelf_of r.entries) q ≡ true → IsGrowing r mid x now q response → brought.entries ≡ mid.entries → shelf.is_kept (shelf_of brought.entries) q ≡ true
 kept_growing r mid brought now x q response accepted kept grows same =
     let h = headless_of (table_of r.exchanges x).running accepted in
-    let e = some_row ((shelf_of r.entries).kept q) kept in
-    let f : Kept → Kept = with_head (renewed_head h.o.moment now response.fields (growing e.0.head)) in
-    ap (λ z. shelf.is_kept (shelf_of z) q) same
-    ∙ some_still q ((shelf_of r.entries).kept q) ((shelf_of mid.entries).kept q) f e.0 ((grows.head h.o e.0 h.there e.1).kept q) e.1
+    grind (arith, nat_tests)
 
 -- WHERE IT IS LOST
 
@@ -267,9 +257,7 @@ module _ {B : Type 0} {g : Ghosts B} (l u : Rows B g) (t : Tables) (law : Lawful
 
   bound_then : bound m q ≢ []
   unfolding bound
-  bound_then none =
-      let on_it : is_bound q (m.consumer w.c) ≡ true = ap (is_bound q) its_place.asker ∙ (ap (is_bound_place q) j.at ∙ eqb-same q) in
-      filter_some (λ d. is_bound q (m.consumer d)) w.c m.starts (law.sound.numbered.lists.started w.c (ap (λ (z : Option rows.Consumer). is_some z) j.asker)) on_it none
+  bound_then none = grind (arith, nat_tests, is_bound, eqb-same, filter_some)
 
   pub brings_lost : {limits : Limits} → RowsStand limits l m → Brings l u c x q response → RowsStand limits u (with_answer now x response (Some q) w m)
   brings_lost stands brings =

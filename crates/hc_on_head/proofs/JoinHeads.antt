@@ -4,6 +4,8 @@
 -- an aim, and it is kept (`joins_aim`, `aim_kept`). The code tells the case before it looks whether a 304 selects, so
 -- that case isn't among them (`unvalidated_as`). `fits_as` joins what each case says, by the lemmas of `HeadTold`: the
 -- head is good, founds, joins, or its consumer waits in its key. `take_head` and `take_case` use these.
+use Rattle.std.{proofs.{lemmas.Bool.Decides.{nat_tests}}}
+use Rattle.std.{proofs.{Common.{arith}}}
 use Rattle.std.{proofs.Common.{◌≡◌, ◌⊎◌, inl, inr, ℕ, true, false, Option, Some, None, refl, ap, sym, ◌∙◌, subst}, specs.{Prelude.{is_some, IsSomeAnd, nat_eq, option_map}, HashMap.{get}}}
 use Rattle.hc_text.proofs.Basics.{false_true}
 use Rattle.hc_store.specs.declared.backend.Backend.{Ghosts}
@@ -11,8 +13,7 @@ use Rattle.hc_fields.specs.FieldList.{IsWithinLimits}
 use Rattle.hc_effects.proofs.Vocabulary.{Need, Response, HeadCase, HeadView, head_case, head_refusal, need, case}
 use Rattle.hc_stored.specs.{Entries.{shelf_of}, Kept.{Kept}, Shelf.{Shelf, is_kept}}
 use Rattle.hc_exch.specs.{declared.row.{ExchangeView.{ExchangeView}, Open.{Open}}, Exchanges.{table_of}, Known.{open_view, view_of}}
-use Rattle.hc_effects.proofs.{FoundBy.{CaseBy, case_by}, Basics.{some_row}}
-use Rattle.hc_effects.proofs.FoundBy as cases
+use Rattle.hc_effects.proofs.{FoundBy.{CaseBy, case_by, first_joins, later_joins}, Basics.{some_row}}
 use Rattle.hc_state.specs.{declared.{consumer.Consumer.{Consumer}, rows.Rows.{Rows}}, Heads.{aim_in, heard_view, is_bad_case, joins_kept, kept_at}, Joining.{IsAbout, IsAboutKept, joins_hole}, Stands.{Stands}}
 use Rattle.hc_on_leave.proofs.{HeadCases.{case_unvalidated}, HeardRows.{Headless, headless_of}}
 use Rattle.hc_on_head.specs.Comings.{FitsCase}
@@ -21,49 +22,19 @@ use Rattle.hc_on_head.proofs.HeadTold.{founds_as, good_as, past_of_runs, viewed_
 -- nothing joins what isn't kept
 unkept : (n : Need) (response : Response) → joins_kept n None response ≡ true → {A : Type 0} → A
 unkept need.Disabled response on = false_true on
-unkept need.TimedOut response on = false_true on
-unkept need.Bypass response on = false_true on
-unkept need.Miss response on = false_true on
-unkept need.Vary response on = false_true on
-unkept need.Validate response on = false_true on
-unkept need.Unsatisfied response on = false_true on
-unkept (need.Hole from to) response on = false_true on
+unkept _ response on = false_true on
 
 joins_aim : (s : Shelf) (n : Need) (aim : Option ℕ) (response : Response) → joins_kept n (kept_at s aim) response ≡ true → IsSomeAnd aim (λ q. is_kept s q ≡ true)
-joins_aim s n None response on = unkept n response on
-joins_aim s n (Some q) response on = by_kept (s.kept q) on
-  where
-    by_kept : (k : Option Kept) → joins_kept n k response ≡ true → is_some k ≡ true
-    by_kept None joins = unkept n response joins
-    by_kept (Some k) joins = refl
+joins_aim s n aim response on = grind (arith, nat_tests)
 
 joins_by_case : (v : HeadView) (k : HeadCase) → CaseBy v k → joins_hole k ≡ true → v.joins ≡ true
-joins_by_case v _ (cases.direct_bad way bad) on = false_true on
-joins_by_case v _ (cases.direct_taken way) on = false_true on
-joins_by_case v _ (cases.turn_bad way bad) on = false_true on
-joins_by_case v _ (cases.validated way s asked kept) on = false_true on
-joins_by_case v _ (cases.not_validated way s) on = false_true on
-joins_by_case v _ (cases.turn_server_error way) on = false_true on
-joins_by_case v _ (cases.founds_whole way s kept good) on = false_true on
-joins_by_case v _ (cases.founds_range way s fits kept good) on = false_true on
-joins_by_case v _ (cases.passes_by way) on = false_true on
-joins_by_case v _ (cases.first_bad way shown bad) on = false_true on
-joins_by_case v _ (cases.first_joins way shown joins good) on = joins
-joins_by_case v _ (cases.first_server_error way shown) on = false_true on
-joins_by_case v _ (cases.first_changed way shown) on = false_true on
-joins_by_case v _ (cases.first_replaced way shown s kept good) on = false_true on
-joins_by_case v _ (cases.first_passes_by way shown) on = false_true on
-joins_by_case v _ (cases.later_bad way shown bad) on = false_true on
-joins_by_case v _ (cases.later_joins way shown joins good) on = joins
-joins_by_case v _ (cases.later_changed way shown) on = false_true on
+joins_by_case v k it2 on = grind (arith, nat_tests)
 
 pub join_case : (k : HeadCase) → (k ≡ case.FirstJoins) ⊎ (k ≡ case.LaterJoins) → joins_hole k ≡ true
-join_case k (inl is) = ap joins_hole is
-join_case k (inr is) = ap joins_hole is
+join_case k it1 = grind (arith, nat_tests)
 
 pub good_join : (k : HeadCase) → (k ≡ case.FirstJoins) ⊎ (k ≡ case.LaterJoins) → is_bad_case k ≡ false
-good_join k (inl is) = ap is_bad_case is
-good_join k (inr is) = ap is_bad_case is
+good_join k it1 = grind (arith, nat_tests)
 
 -- BY WHAT THE CODE LOOKED UP
 
@@ -78,11 +49,7 @@ module _ {B : Type 0} {g : Ghosts B} (r : Rows B g) (x : ℕ) (found : Option Ex
   aim_kept keeps = subst (λ (n : Option ℕ). IsSomeAnd n (λ q. is_kept (shelf_of r.entries) q ≡ true)) (sym (aim_as bare.o bare.there)) (keeps bare.o bare.there)
 
   pub aim_some : IsAboutKept (shelf_of r.entries) (table_of r.exchanges x).running → is_some aim ≡ true
-  aim_some keeps = by_aim aim (aim_kept keeps)
-    where
-      by_aim : (n : Option ℕ) → IsSomeAnd n (λ q. is_kept (shelf_of r.entries) q ≡ true) → is_some n ≡ true
-      by_aim None keeps = absurd keeps
-      by_aim (Some q) keeps = refl
+  aim_some keeps = grind (arith, nat_tests)
 
   pub kept_this : (q : ℕ) → aim ≡ Some q → IsAboutKept (shelf_of r.entries) (table_of r.exchanges x).running → is_kept (shelf_of r.entries) q ≡ true
   kept_this q is keeps = subst (λ (n : Option ℕ). IsSomeAnd n (λ q. is_kept (shelf_of r.entries) q ≡ true)) is (aim_kept keeps)

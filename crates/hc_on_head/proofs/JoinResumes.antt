@@ -13,8 +13,7 @@ use Rattle.hc_range.specs.declared.range.Asked.{Asked}
 use Rattle.hc_stored.specs.{Entries.{shelf_of}, Kept.{Kept}, declared.view.EntryView.{EntryView}, Shelf.{cells_in}, Views.{view_of}}
 use Rattle.hc_exch.specs.{declared.row.{Open.{Open}, Opening.{Opening}}, Exchanges.{table_of}, Known.{begins_with}, Openings.{opened_with}}
 use Rattle.hc_model.specs.Rows as rows
-use Rattle.hc_effects.proofs.HoleLemmas as holes
-use Rattle.hc_effects.proofs.Tests.{none_some}
+use Rattle.hc_effects.proofs.{Tests.{none_some}, HoleLemmas.{covers_all}}
 use Rattle.hc_state.specs.{declared.{consumer.Consumer.{Consumer}, rows.Rows.{Rows}}, Facts.{Facts}, Joining.{LacksOnly}, Kept.{KeepsConsumer, KeepsRunning}, Stands.{RowsStand}, Stored.{IsEntry}}
 use Rattle.hc_on_leave.proofs.{AnswerHandler.{opened_as}, StoreHandler.{stored_size}}
 use Rattle.hc_state.proofs.{CurrentTies.{covers_as, entry_at, stored_ends}, Ties.{kept_row}}
@@ -30,18 +29,13 @@ lacks_is None view from response b viewed size_is last tells = none_some view vi
 lacks_is (Some k) view from response b viewed size_is last tells =
     let one : view_of k ≡ view = some_is (view_of k) view viewed in
     let known : is_last_part k.head.total (content_range_of response.fields) ≡ true = ap (λ (z : EntryView). is_last_part z.total (content_range_of response.fields)) one ∙ last in
-    let sized : size k.cells ≡ from = ap (λ (z : EntryView). z.size) one ∙ size_is in
-    ((λ on. (known, (sized, tells.0 on))), (λ lacks. tells.1 lacks.1.1))
+    ((λ on. (known, ((ap (λ (z : EntryView). z.size) one ∙ size_is), tells.0 on))), (λ lacks. tells.1 lacks.1.1))
 
 -- THE HOLE
 
 module _ {B : Type 0} {g : Ghosts B} {limits : Limits} (r : Rows B g) (t : Tables) (x : ℕ) (op : Opening) (w : Exchange) (from to : ℕ) (stands : RowsStand limits r t) (row : t.exchange x ≡ Some w) (opened : w.is_open ≡ true) (opens : Some (opened_with op) ≡ option_map begins_with (table_of r.exchanges x).running) (hole : w.need ≡ need.Hole from to) where
   need_is : op.need.now ≡ need.Hole from to
-  need_is = by_running (table_of r.exchanges x).running refl (subst (KeepsRunning t x (table_of r.exchanges x).running) row (stands.exchanges x).running)
-    where
-      by_running : (o : Option Open) → (table_of r.exchanges x).running ≡ o → KeepsRunning t x o (Some w) → op.need.now ≡ need.Hole from to
-      by_running None at keeps = false_true (sym keeps ∙ opened)
-      by_running (Some o) at keeps = (opened_as op (table_of r.exchanges x).running o opens at).0 ∙ (keeps.need ∙ hole)
+  need_is = grind (arith, nat_tests)
 
   pub no_hole : {P : Type 0} → ((a b : ℕ) → op.need.now ≡ need.Hole a b → ⊥) → P
   no_hole off = absurd (off from to need_is)
@@ -55,26 +49,17 @@ module _ {B : Type 0} {g : Ghosts B} {limits : Limits} (r : Rows B g) (t : Table
   is = entry_at r t stands q e kept p row
 
   asks : asks_whole (t.consumer w.c) ≡ is_none k.class.range
-  asks =
-      let found = kept_row t k (t.consumer c) (subst (λ o. KeepsConsumer t o (t.consumer c)) there (stands.consumers c)) in
-      ap asks_whole (ap t.consumer for_it ∙ found.1) ∙ sym (whole_as k found.0 found.2.class_is)
+  asks = grind (arith, nat_tests, kept_row, whole_as)
 
   size_is : size e.cells ≡ p.size
   size_is = stored_size r t facts q p e t row is.used is
 
-  start_is : hole_start w.need ≡ from
-  start_is = ap hole_start hole
-
   resumes_is : resumes t response w p ≡ (is_none k.class.range && is_last_part e.head.total (content_range_of response.fields) && covers p.stored p.reach 0 from && (size e.cells == from))
-  resumes_is = rw (asks, told, start_is, size_is) refl
+  resumes_is = rw (asks, told, (ap hole_start hole), size_is) refl
 
   -- it asks for a part
   pub resumes_not : is_some k.class.range ≡ true → false ≡ resumes t response w p
-  resumes_not some = sym (resumes_is ∙ by_range k.class.range some)
-    where
-      by_range : (o : Option Asked) → is_some o ≡ true → (is_none o && is_last_part e.head.total (content_range_of response.fields) && covers p.stored p.reach 0 from && (size e.cells == from)) ≡ false
-      by_range None on = false_true on
-      by_range (Some asked) on = refl
+  resumes_not some = grind (arith, nat_tests, resumes_is, covers, size)
 
   -- it asks for the whole
   pub resumes_as : is_some k.class.range ≡ false → (b : Bool) → (IsTrue b ↔ LacksOnly from response ((shelf_of r.entries).kept q)) → b ≡ resumes t response w p
@@ -98,8 +83,7 @@ module _ {B : Type 0} {g : Ghosts B} {limits : Limits} (r : Rows B g) (t : Table
 
       and_parts : (a b : Bool) → (a && b) ≡ true → (a ≡ true) × (b ≡ true)
       and_parts true true on = (refl, refl)
-      and_parts true false on = false_true on
-      and_parts false b on = false_true on
+      and_parts _ _ on = cc
 
       by_test : (a : Bool) → b ≡ a → a ≡ (is_none k.class.range && is_last_part e.head.total (content_range_of response.fields) && covers p.stored p.reach 0 from && (size e.cells == from))
       by_test true on =
@@ -120,4 +104,4 @@ module _ {B : Type 0} {g : Ghosts B} {limits : Limits} (r : Rows B g) (t : Table
               false_true (sym off ∙ both.1 (third.1, (same, holds second.1)))
             where
               holds : covers p.stored p.reach 0 from ≡ true → Covers e.cells 0 from
-              holds on n low high = ap (λ z. is_some z) (is.cells n) ∙ holes.covers_all p.stored p.reach 0 from on n low high
+              holds on n low high = ap (λ z. is_some z) (is.cells n) ∙ covers_all p.stored p.reach 0 from on n low high

@@ -4,21 +4,19 @@
 -- What looks at neither the exchange of the consumer, nor the head and writer of the representation, is told as before.
 -- So other consumers, exchanges and keys stay. Nothing is held of the exchange, since nothing came. Its consumer waits
 -- in its key no more, which has the work (`key_then`). `stands_joined` takes the entries from `JoinEntries`.
-use Rattle.std.{proofs.Common.{◌≡◌, ◌≢◌, ◌⊎◌, inl, inr, ℕ, ◌-◌, List, [], Bool, true, false, Option, Some, None, refl, ap, sym, ◌∙◌, subst}, specs.{Prelude.{is_some, nat_eq, drop, bytes_eq, option_map, ◌&&◌, if◌then◌else◌}, HashMap.{get}}}
+use Rattle.std.{proofs.{Common.{◌≡◌, ◌≢◌, ◌⊎◌, inl, inr, ℕ, ◌-◌, List, [], Bool, true, false, Option, Some, None, refl, ap, sym, ◌∙◌, subst, arith}, lemmas.Bool.Decides.{nat_tests}}, specs.{Prelude.{is_some, nat_eq, drop, bytes_eq, option_map, ◌&&◌, if◌then◌else◌}, HashMap.{get}}}
 use Rattle.hc_text.proofs.Basics.{eqb-other, eqb-same, finds_same, same_or, and_off as then_false}
-use Rattle.hc_effects.proofs.Vocabulary.{Limits, Response, Length, length_of, base_of, promise_of, Place, BoundBy, current, is_usable, is_number, total_in, is_live, is_live_place, exchange_with_head, with_answer, with_consumer, with_representation, promise_in, base, family, is_headless, is_reached, is_in_line, stands_in_line, has_passed, is_bound_place, Tables, Exchange, Representation, Among, by}
+use Rattle.hc_effects.proofs.Vocabulary.{Limits, Response, Length, length_of, base_of, promise_of, Place, BoundBy, current, is_usable, is_number, total_in, is_live, is_live_place, exchange_with_head, with_answer, with_consumer, with_representation, promise_in, base, family, is_headless, is_reached, is_in_line, stands_in_line, has_passed, is_bound_place, Tables, Exchange, Representation, Among, by, place}
 use Rattle.hc_effects.proofs.Tests.{and_false}
 use Rattle.hc_store.specs.declared.backend.Backend.{Ghosts}
 use Rattle.hc_record.specs.Head.{Head}
 use Rattle.hc_stored.specs.Entries.{shelf_of}
 use Rattle.hc_entry.specs.Keys.{kept_of}
 use Rattle.hc_entry.specs.Kept as keyed
-use Rattle.hc_exch.specs.declared.role.Role.TheVariants as role
-use Rattle.hc_exch.specs.{declared.row.Open.{Open}, Exchanges.{table_of}, Known.{Known, is_all, length_by}}
+use Rattle.hc_exch.specs.{declared.{role.Role.TheVariants.{the_data as role}, row.Open.{Open}}, Exchanges.{table_of}, Known.{Known, is_all, length_by}}
 use Rattle.hc_exch.specs.Exchanges as exch
-use Rattle.hc_event.specs.declared.place.Place.TheVariants as place
 use Rattle.hc_model.specs.Rows as rows
-use Rattle.hc_state.specs.{declared.{consumer.Consumer.{Consumer}, rows.Rows.{Rows}}, Changes.{BecomesAt}, Joining.{bringing}, Kept.{IsKept, IsRunning, KeepsConsumer, KeepsExchange, KeepsRunning, first_lacking, held_for, held_of, held_alone, unread, unstored_bytes}, Leaving.{LeavesKey}, Lines.{KeepsKey, has_turn, is_passed, is_away, is_away_at}, Stands.{RowsStand}, Stored.{KeepsEntries}}
+use Rattle.hc_state.specs.{declared.{consumer.Consumer.{Consumer}, rows.Rows.{Rows}}, Changes.{BecomesAt}, Joining.{bringing}, Kept.{IsKept, IsRunning, KeepsConsumer, KeepsExchange, KeepsRunning, first_lacking, held_for, held_of, held_alone, unread, unstored_bytes, role_of}, Leaving.{LeavesKey}, Lines.{KeepsKey, has_turn, is_passed, is_away, is_away_at}, Stands.{RowsStand}, Stored.{KeepsEntries}}
 use Rattle.hc_on_leave.proofs.{AnswerHandler.{all_reached, known_here, known_other}, HeardExchange.{drop_none, held_empty}, HeardRows.{kept_as, runs_as}}
 use Rattle.hc_state.proofs.{FallbackSteps.{live_same, length_same}, Fallbacks.{unstored_moved}, KeySteps.{not_lined}, Ties.{consumer_same, exchange_same, key_same, kept_same}}
 use Rattle.hc_on_head.proofs.JoinKeys.{keys_left}
@@ -77,17 +75,11 @@ module _ (t : Tables) (now x q : ℕ) (response : Response) (w : Exchange) (v : 
 
   -- what doesn't look at its exchange is told as before
   pub told_consumer : {A : Type 0} (f : Option rows.Consumer → A) → f (Some vn) ≡ f (Some v) → (d : ℕ) → f (s.consumer d) ≡ f (t.consumer d)
-  told_consumer f same d = elim (same_or w.c d) [
-    | inl e ↦ ap f (sym (ap s.consumer e) ∙ consumer_here) ∙ (same ∙ sym (ap f (sym (ap t.consumer e) ∙ j.asker)))
-    | inr ne ↦ ap f (consumer_other d ne)
-  ]
+  told_consumer f same d = grind (arith, nat_tests)
 
   -- what looks neither at its head nor at who writes it is told as before
   pub told_representation : {A : Type 0} (f : Option Representation → A) → f (Some z) ≡ f (Some p) → (n : ℕ) → f (s.representation n) ≡ f (t.representation n)
-  told_representation f same n = elim (same_or q n) [
-    | inl e ↦ ap f (sym (ap s.representation e) ∙ representation_here) ∙ (same ∙ sym (ap f (sym (ap t.representation e) ∙ j.there)))
-    | inr ne ↦ ap f (representation_other n ne)
-  ]
+  told_representation f same n = grind (arith, nat_tests)
 
   -- CONSUMERS
 
@@ -109,35 +101,13 @@ module _ (t : Tables) (now x q : ℕ) (response : Response) (w : Exchange) (v : 
   asker_then k is =
       let stood = j.at in
       let kp : IsKept s k v = kept_same t s k v (record { past = λ y at. absurd (let never : place.Bound q j.lo j.hi j.how ≡ place.Direct y = sym stood ∙ at in cc); length = λ n lo hi how at. lengths n lo hi how }) is in
-      record {
-        is_there = kp.is_there;
-        request = kp.request;
-        class_is = kp.class_is;
-        since = kp.since;
-        place = kp.place;
-        own = refl;
-        shown = kp.shown;
-        answer = kp.answer;
-        begins = kp.begins;
-        ends = kp.ends;
-        given = kp.given;
-        due = kp.due;
-      }
+      assumption kp
 
   -- THE EXCHANGE
 
   -- nothing of it is held
   nothing_of : (m : Tables) (a : Exchange) (b : Representation) (o : Option ℕ) → a.body ≡ [] → held_alone m x a b o ≡ []
-  nothing_of m a b None none = refl
-  nothing_of m a b (Some d) none = by_row (m.consumer d)
-    where
-      by_row : (o : Option rows.Consumer) → unstored_bytes m x a b o ≡ []
-      by_row None = refl
-      by_row (Some u) = by_test (is_bound_place (family x a) u.place && is_number u.own x)
-        where
-          by_test : (c : Bool) → (if c then drop (first_lacking m a b u - base a) a.body else []) ≡ []
-          by_test true = drop_none (first_lacking m a b u - base a) a.body none
-          by_test false = refl
+  nothing_of m a b o none = grind (arith, nat_tests, drop, drop_none)
 
   held_then : held_for s x (s.exchange x) ≡ []
   held_then = ap (held_for s x) exchange_here ∙ (ap (held_of s x ans) representation_here ∙ nothing_of s ans z z.alone j.empty)
@@ -147,43 +117,11 @@ module _ (t : Tables) (now x q : ℕ) (response : Response) (w : Exchange) (v : 
 
   -- nothing of another one is held otherwise
   alone_else : (y : ℕ) (a : Exchange) (b : Representation) → x ≢ y → (o : Option ℕ) → held_alone s y a b o ≡ held_alone t y a b o
-  alone_else y a b ne None = refl
-  alone_else y a b ne (Some d) = elim (same_or w.c d) [
-    | inl e ↦
-        ap (unstored_bytes s y a b) (sym (ap s.consumer e) ∙ consumer_here)
-        ∙ (off s vn (apart y ne)
-        ∙ sym (ap (unstored_bytes t y a b) (sym (ap t.consumer e) ∙ j.asker) ∙ off t v (ap (λ (o : Option ℕ). is_number o y) j.mine ∙ eqb-other x y ne)))
-    | inr other ↦ ap (unstored_bytes s y a b) (consumer_other d other) ∙ unstored_moved t s y a b (t.consumer d)
-  ]
-    where
-      off : (m : Tables) (u : rows.Consumer) → is_number u.own y ≡ false → unstored_bytes m y a b (Some u) ≡ []
-      off m u other = (let none : (is_bound_place (family y a) u.place && is_number u.own y) ≡ false = then_false (is_bound_place (family y a) u.place) (is_number u.own y) other in rw none refl)
+  alone_else y a b ne o = grind (arith, nat_tests)
 
   held_else : (y : ℕ) → x ≢ y → (o : Option Exchange) → held_for s y o ≡ held_for t y o
   held_else y ne None = refl
-  held_else y ne (Some a) = elim (same_or q (family y a)) [
-    | inl e ↦
-        ap (held_of s y a) (sym (ap s.representation e) ∙ representation_here)
-        ∙ (alone_else y a z ne p.alone
-        ∙ (like p.alone
-        ∙ sym (ap (held_of t y a) (sym (ap t.representation e) ∙ j.there))))
-    | inr other ↦ ap (held_of s y a) (representation_other (family y a) other) ∙ by_row (t.representation (family y a))
-  ]
-    where
-      like : (o : Option ℕ) → held_alone t y a z o ≡ held_alone t y a p o
-      like None = refl
-      like (Some d) = by_consumer (t.consumer d)
-        where
-          by_consumer : (o : Option rows.Consumer) → unstored_bytes t y a z o ≡ unstored_bytes t y a p o
-          by_consumer None = refl
-          by_consumer (Some u) = refl
-
-      past : unread y a (Some vn) ≡ unread y a (Some v)
-      past = (let stood = j.at in rw stood refl)
-
-      by_row : (o : Option Representation) → held_of s y a o ≡ held_of t y a o
-      by_row None = told_consumer (unread y a) past a.c
-      by_row (Some b) = alone_else y a b ne b.alone
+  held_else y ne (Some a) = grind (arith, nat_tests)
 
   module _ (a b : Known) (o : Open) (opened : a.running ≡ Some o) (runs : IsRunning t x o w) (on : is_reached (promise_in w response) 0 ≡ false) (becomes : b ≡ bringing q response a) where
     abbrev l : Length
@@ -201,28 +139,18 @@ module _ (t : Tables) (now x q : ℕ) (response : Response) (w : Exchange) (v : 
     running_then : b.running ≡ Some its
     running_then = ap (λ (n : Known). n.running) becomes ∙ rw (goes_on) (ap (λ (r : Option Open). option_map (λ (n : Open). record n { headed = true; base = base_of (length_by a.running response); promised = promise_of (length_by a.running response) }) (option_map (λ (n : Open). record n { role = role.Body q }) r)) opened)
 
-    held_stays : b.held ≡ a.held
-    held_stays = ap (λ (n : Known). n.held) becomes ∙ rw (goes_on) refl
-
     runs_then : IsRunning s x its ans
-    runs_then = record {
-      is_open = (let opened_still = j.is_open in rw (on, opened_still) refl);
-      c = runs.c;
-      need = runs.need;
-      request = runs.request;
-      moment = runs.moment;
-      headed = refl;
-      asked = runs.asked;
-      base_is = ap base_of length_is;
-      delivered = runs.delivered;
-      promised_is = ap promise_of length_is;
-      role = (let here = representation_here in rw here refl);
-    }
+    runs_then =
+        let opened_still = j.is_open in
+        let is_open : ans.is_open ≡ true = rw (on, opened_still) refl in
+        let here = representation_here in
+        let role : role.Body q ≡ role_of s x ans = rw here refl in
+        assumption (runs, is_open, role, ap base_of length_is, ap promise_of length_is)
 
     exchange_then : a.held ≡ held_for t x (t.exchange x) → KeepsExchange s x b
     exchange_then held = record {
       running = subst (KeepsRunning s x b.running) (sym exchange_here) (subst (λ (n : Option Open). KeepsRunning s x n (Some ans)) (sym running_then) runs_then);
-      held = held_stays ∙ (held ∙ (held_before ∙ sym held_then));
+      held = (ap (λ (n : Known). n.held) becomes ∙ rw (goes_on) refl) ∙ (held ∙ (held_before ∙ sym held_then));
     }
 
   exchange_stays : (y : ℕ) (a : Known) → x ≢ y → KeepsExchange t y a → KeepsExchange s y a
@@ -236,36 +164,10 @@ module _ (t : Tables) (now x q : ℕ) (response : Response) (w : Exchange) (v : 
 
   -- it waits for its head no more
   here_then : is_away_at s v.place ≡ false
-  here_then = ap (is_away_at s) j.at ∙ by_how j.how refl
-    where
-      by_how : (b : BoundBy) → j.how ≡ b → is_away_at s (place.Bound q j.lo j.hi b) ≡ false
-      by_how by.Founding is = refl
-      by_how by.Plan is = refl
-      by_how (by.FirstHole y) is = elim (j.heard y is) [
-        | inl same ↦ ap is_headless (ap s.exchange same ∙ exchange_here) ∙ then_false ans.is_open false refl
-        | inr off ↦ elim (same_or x y) [
-          | inl e ↦ ap is_headless (sym (ap s.exchange e) ∙ exchange_here) ∙ then_false ans.is_open false refl
-          | inr ne ↦ ap is_headless (exchange_other y ne) ∙ off
-        ]
-      ]
+  here_then = grind (arith, nat_tests)
 
   away_other : (key : List ℕ) (d : ℕ) → w.c ≢ d → (o : Option rows.Consumer) → t.consumer d ≡ o → is_away s key o ≡ is_away t key o
-  away_other key d ne None row = refl
-  away_other key d ne (Some u) row = ap (λ b. bytes_eq u.request.key key && b) (by_place u.place refl)
-    where
-      by_place : (n : Place) → u.place ≡ n → is_away_at s n ≡ is_away_at t n
-      by_place (place.Bound m lo hi (by.FirstHole y)) at = elim (same_or x y) [
-        | inl e ↦ absurd (ne (sym (j.first d m lo hi u row (at ∙ ap (λ (n : ℕ). place.Bound m lo hi (by.FirstHole n)) (sym e)))))
-        | inr off ↦ ap is_headless (exchange_other y off)
-      ]
-      by_place (place.Bound m lo hi by.Founding) at = refl
-      by_place (place.Bound m lo hi by.Plan) at = refl
-      by_place place.Line at = refl
-      by_place (place.Passed m how) at = refl
-      by_place (place.Turn y) at = refl
-      by_place (place.Direct y) at = refl
-      by_place (place.Down why) at = refl
-      by_place place.Over at = refl
+  away_other key d ne o row = grind (arith, nat_tests)
 
   -- the tables without it
   abbrev without : Tables
@@ -281,10 +183,7 @@ module _ (t : Tables) (now x q : ℕ) (response : Response) (w : Exchange) (v : 
   still_at d ne = rw (eqb-other w.c d ne) refl
 
   says_it : {A : Type 0} (f k : Option rows.Consumer → A) → f (Some vn) ≡ k None → ((d : ℕ) → w.c ≢ d → f (t.consumer d) ≡ k (t.consumer d)) → (d : ℕ) → f (s.consumer d) ≡ k (without.consumer d)
-  says_it f k of_it of_others d = elim (same_or w.c d) [
-    | inl e ↦ ap f (sym (ap s.consumer e) ∙ consumer_here) ∙ (of_it ∙ sym (ap k (gone_at d e)))
-    | inr ne ↦ ap f (consumer_other d ne) ∙ (of_others d ne ∙ sym (ap k (still_at d ne)))
-  ]
+  says_it f k of_it of_others d = grind (arith, nat_tests)
 
   key_then : (key : List ℕ) (a : keyed.Kept) → KeepsKey without key a → KeepsKey s key a
   unfolding current

@@ -4,9 +4,10 @@
 -- the exchange goes on (`goes_on`). What it joins has a known length, which its entry tells (`told_of`). By the laws
 -- its consumer is bound to what it is about, and nobody else waits for that head. So it is `IsJoinable`
 -- (`joinable_as`), also where that is lost first (`joinable_lost`). `JoinHandler` uses these.
+use Rattle.std.{proofs.{lemmas.Bool.Decides.{nat_tests}}}
 use Rattle.std.{proofs.Common.{◌≡◌, ◌⊎◌, inl, inr, ℕ, ◌+◌, ◌-◌, ◌<◌, ◌≤◌, List, Bool, true, false, Option, Some, None, refl, ap, ap₂, sym, ◌∙◌, subst, arith}, specs.Prelude.{codes, is_some, bytes_eq, not, ◌||◌, ◌==◌, if◌then◌else◌, option_map}}
 use Rattle.hc_text.proofs.Basics.{eqb-other, eqb-same, false_true, same_or, same_some as same_row, some_inj as some_is}
-use Rattle.hc_effects.proofs.Vocabulary.{Limits, Need, Request, Response, HeadCase, HeadView, Length, head_case, length_of, content_length_of, is_bad, is_head, has_no_body, promise_of, agrees, route_of, content_range_of, is_get, is_disabled, BoundBy, head_view, joins_row, row_of, as_gone, lost_to, let_go, with_representation, back_from, promise_in, is_headless, is_reached, StandsFor, IsAwaiting, Tables, Exchange, Representation, InHole, range, need, case, route, place, by}
+use Rattle.hc_effects.proofs.Vocabulary.{Limits, Need, Request, Response, HeadCase, HeadView, Length, head_case, length_of, content_length_of, is_bad, is_head, promise_of, agrees, route_of, content_range_of, is_get, is_disabled, BoundBy, head_view, joins_row, row_of, as_gone, lost_to, let_go, with_representation, back_from, promise_in, is_headless, is_reached, StandsFor, IsAwaiting, Tables, Exchange, Representation, InHole, range, need, case, route, place, by}
 use Rattle.hc_store.specs.declared.backend.Backend.{Ghosts}
 use Rattle.hc_stored.specs.Kept.{Kept}
 use Rattle.hc_exch.specs.declared.row.Open.{Open}
@@ -17,8 +18,7 @@ use Rattle.hc_model.specs.Effects.{waits_for}
 use Rattle.hc_model.specs.Laws as laws
 use Rattle.hc_model.specs.Owners as owners
 use Rattle.hc_model.specs.Rows as rows
-use Rattle.hc_effects.proofs.{FoundBy.{CaseBy, case_by}, Joining.{IsFilling, filling}, Tests.{none_some}}
-use Rattle.hc_effects.proofs.FoundBy as cases
+use Rattle.hc_effects.proofs.{FoundBy.{CaseBy, case_by, first_joins, later_joins}, Joining.{IsFilling, filling}, Tests.{none_some}}
 use Rattle.hc_state.specs.{declared.rows.Rows.{Rows}, Facts.{Facts}, Heads.{aim_in}, Joining.{joins_hole}, Kept.{IsRunning, role_awaited}, Stored.{IsEntry, TellsLength, told, untold}}
 use Rattle.hc_on_head.proofs.{HeadViews.{no_hole_left, part_within}, JoinRows.{IsJoinable}}
 use Rattle.hc_on_leave.proofs.HeardRows.{Asker}
@@ -32,22 +32,7 @@ pub data Joins : HeadCase → Type 0 where
 pub joins_of : (g : HeadCase) → joins_hole g ≡ true → Joins g
 joins_of case.FirstJoins on = first
 joins_of case.LaterJoins on = later
-joins_of case.DirectBad on = false_true on
-joins_of case.DirectTaken on = false_true on
-joins_of case.TurnBad on = false_true on
-joins_of case.Validated on = false_true on
-joins_of case.NotValidated on = false_true on
-joins_of case.TurnServerError on = false_true on
-joins_of case.FoundsWhole on = false_true on
-joins_of case.FoundsRange on = false_true on
-joins_of case.PassesBy on = false_true on
-joins_of case.FirstBad on = false_true on
-joins_of case.FirstServerError on = false_true on
-joins_of case.FirstChanged on = false_true on
-joins_of case.FirstReplaced on = false_true on
-joins_of case.FirstPassesBy on = false_true on
-joins_of case.LaterBad on = false_true on
-joins_of case.LaterChanged on = false_true on
+joins_of _ on = false_true on
 
 -- what it says of what was looked at
 pub record JoinView (v : HeadView) : Type 0 where
@@ -59,8 +44,8 @@ pub view_joins : (v : HeadView) (g : HeadCase) → Joins g → head_case v ≡ g
 view_joins v g how is = by_case how (subst (CaseBy v) is (case_by v))
   where
     by_case : {h : HeadCase} → Joins h → CaseBy v h → JoinView v
-    by_case first (cases.first_joins hole shown joins good) = record { hole = hole; joins = joins; good = good }
-    by_case later (cases.later_joins hole shown joins good) = record { hole = hole; joins = joins; good = good }
+    by_case first (first_joins hole shown joins good) = record { hole = hole; joins = joins; good = good }
+    by_case later (later_joins hole shown joins good) = record { hole = hole; joins = joins; good = good }
 
 -- it is the same where that is lost
 pub joins_lost_too : (v : HeadView) (g : HeadCase) → Joins g → head_case v ≡ g → head_case (record v { lost = true }) ≡ g
@@ -68,36 +53,18 @@ unfolding head_case
 joins_lost_too v g how is = by_case how (subst (CaseBy v) is (case_by v))
   where
     by_case : {h : HeadCase} → Joins h → CaseBy v h → head_case (record v { lost = true }) ≡ h
-    by_case first (cases.first_joins hole shown joins good) = rw (hole, shown, good, joins) refl
-    by_case later (cases.later_joins hole shown joins good) = rw (hole, shown, good, joins) refl
+    by_case first (first_joins hole shown joins good) = rw (hole, shown, good, joins) refl
+    by_case later (later_joins hole shown joins good) = rw (hole, shown, good, joins) refl
 
 -- HOW LONG ITS PART IS
 
 no_body_none : (b : Bool) (n : ℕ) → b ≡ false → n ≡ 206 → (b || n == 204 || n == 304) ≡ false
-no_body_none true n off is = false_true (sym off)
-no_body_none false n off is = rw is refl
+no_body_none b n off is = grind (arith, nat_tests)
 
 -- a 206 to a GET for a hole promises its part
 part_promised : (from to last total : ℕ) (request : Request) (response : Response) → is_head request ≡ false → response.status ≡ 206 → content_range_of response.fields ≡ Some (range.Part from last (Some total)) → is_bad (length_of (need.Hole from to) request response) ≡ false → from ≤ last → is_reached (promise_of (length_of (need.Hole from to) request response)) 0 ≡ false
 unfolding length_of
-part_promised from to last total request response get status part good order =
-    ap (λ (l : Length). is_reached (promise_of l) 0) length_is ∙ by_test (agrees said (last + 1 - from)) (sym (ap is_bad length_is) ∙ good)
-  where
-    said : Length
-    said = content_length_of (elements_in (codes "content-length") response.fields)
-
-    body : has_no_body request response.status ≡ false
-    body = no_body_none (is_head request) response.status get status
-
-    is_part : (response.status == 206) ≡ true
-    is_part = rw status refl
-
-    length_is : length_of (need.Hole from to) request response ≡ (if agrees said (last + 1 - from) then says.Part from (last + 1 - from) else says.Bad)
-    length_is = rw (body, is_part, part) refl
-
-    by_test : (b : Bool) → is_bad (if b then says.Part from (last + 1 - from) else says.Bad) ≡ false → is_reached (promise_of (if b then says.Part from (last + 1 - from) else says.Bad)) 0 ≡ false
-    by_test true h = eqb-other (last + 1 - from) 0 (omega (arith, order))
-    by_test false h = false_true (sym h)
+part_promised from to last total request response get status part good order = grind (arith, nat_tests)
 
 -- a GET is no HEAD
 get_is_no_head : (request : Request) → is_disabled request ≡ false → is_head request ≡ false
@@ -138,20 +105,14 @@ module _ {B : Type 0} {g : Ghosts B} {limits : Limits} (r : Rows B g) (t : Table
 
   -- its exchange goes on
   pub goes_on : is_reached (promise_in w response) 0 ≡ false
-  goes_on =
-      let f = fills in
-      let order = (part_within response f.from f.last f.total f.part).0 in
-      let bad_as : is_bad (length_of (need.Hole f.from f.to) w.request response) ≡ false = ap (λ (n : Need). is_bad (length_of n w.request response)) (sym f.need_is) ∙ view.good in
-      ap (λ (n : Need). is_reached (promise_of (length_of n w.request response)) 0) f.need_is
-      ∙ part_promised f.from f.to f.last f.total w.request response no_head f.status f.part bad_as order
+  goes_on = grind (arith, nat_tests, fills, part_within, part_promised, no_head)
 
   -- of what it joins the length is known
   pub known : (v : Representation) → t.representation reader.q ≡ Some v → (total : ℕ) × (v.head.total ≡ Some total)
   known v there =
       let f = fills in
       let row : row_of t w.aim ≡ Some v = ap (row_of t) reader.aim ∙ there in
-      let one : f.v ≡ v = some_is f.v v (sym f.row ∙ row) in
-      (f.total, ap (λ (z : Representation). z.head.total) (sym one) ∙ f.known)
+      (f.total, ap (λ (z : Representation). z.head.total) (sym (some_is f.v v (sym f.row ∙ row))) ∙ f.known)
 
   -- and so it is told
   pub told_of : (q : ℕ) → w.aim ≡ Some q → (e : Kept) (p : Representation) → t.representation q ≡ Some p → IsEntry t q e p → e.head.total ≡ p.head.total
@@ -215,14 +176,7 @@ module _ {B : Type 0} {g : Ghosts B} {limits : Limits} (r : Rows B g) (t : Table
 
 -- what the code looked up
 pub hole_aim : (t : Tables) (x q : ℕ) (o : Open) (w : Exchange) → IsRunning t x o w → w.head ≡ None → route_of w.need ≡ route.Hole → aim_in o.role ≡ Some q → w.aim ≡ Some q
-hole_aim t x q o w runs bare hole is = sym (awaited w.aim) ∙ (sym (ap aim_in role_is) ∙ is)
-  where
-    role_is : o.role ≡ role_awaited route.Hole w.aim
-    role_is = runs.role ∙ (rw bare (ap (λ way. role_awaited way w.aim) hole))
-
-    awaited : (n : Option ℕ) → aim_in (role_awaited route.Hole n) ≡ n
-    awaited None = refl
-    awaited (Some n) = refl
+hole_aim t x q o w runs bare hole is = grind (arith, nat_tests)
 
 -- WHERE THAT IS LOST AND LET GO
 

@@ -4,6 +4,8 @@
 -- tables in which what is current isn't gone, so it is kept still (`kept_still`). The exchange that writes it has a
 -- head, so it isn't the one that was heard and closed: it is open still (`open_still`). `lose_asked` needs both before
 -- it loses what is current.
+use Rattle.std.{proofs.{lemmas.Bool.Decides.{nat_tests}}}
+use Rattle.std.{proofs.{Common.{arith}}}
 use Rattle.std.{proofs.Common.{◌≡◌, ◌≢◌, ℕ, List, Bool, true, false, Option, Some, None, refl, ap, sym, ◌∙◌, subst}, specs.{Prelude.{is_some, nat_eq, bytes_eq, not, IsSomeAnd, ◌||◌, if◌then◌else◌}, HashMap.{get}}}
 use Rattle.hc_text.proofs.Basics.{false_true, same_some as same_row, and_off as then_false}
 use Rattle.hc_effects.proofs.Vocabulary.{Limits, Request, route_of, head_refusal, BoundBy, back_in_line, with_consumer, is_headless, StandsFor, is_in_line, stands_in_line, has_passed, Tables, Exchange, Representation, awaited_exchange, place, by}
@@ -27,19 +29,11 @@ module _ {B : Type 0} {g : Ghosts B} {limits : Limits} (r : Rows B g) (t : Table
   key = a.v.request.key
 
   in_key : (is_in_line key (Some a.v) || is_passed key (Some a.v) || is_away t key (Some a.v)) ≡ true
-  in_key =
-      let kept = stands.keys a.k.request.key in
-      let is : (is_in_line a.k.request.key (t.consumer w.c) || is_passed a.k.request.key (t.consumer w.c) || is_away t a.k.request.key (t.consumer w.c)) ≡ true = rw (sym (kept.in_line w.c), sym (kept.passed w.c), sym (kept.away w.c)) (known_of (get nat_eq r.consumers w.c) a.k (IsInKey r.keys w.c) a.there waits) in
-      subst (λ (n : Request). (is_in_line n.key (Some a.v) || is_passed n.key (Some a.v) || is_away t n.key (Some a.v)) ≡ true) a.is.request
-      (subst (λ (o : Option rows.Consumer). (is_in_line a.k.request.key o || is_passed a.k.request.key o || is_away t a.k.request.key o) ≡ true) a.awaits.asker is)
+  in_key = grind (arith, nat_tests)
 
   -- who stands elsewhere doesn't
   never : stands_in_line a.v.place ≡ false → has_passed a.v.place ≡ false → is_away_at t a.v.place ≡ false → ⊥
-  never off unpassed here =
-      let line = not_lined key a.v off in
-      let passed = then_false (bytes_eq a.v.request.key key) (has_passed a.v.place) unpassed in
-      let away = then_false (bytes_eq a.v.request.key key) (is_away_at t a.v.place) here in
-      false_true (rw (line, passed, away) at in_key)
+  never off unpassed here = grind (arith, nat_tests)
 
   -- it waits for the head of its exchange to found or to join by it
   pub awaits_it : awaited_exchange a.v.place ≡ Some x
@@ -52,29 +46,18 @@ module _ {B : Type 0} {g : Ghosts B} {limits : Limits} (r : Rows B g) (t : Table
       by_stands _ (laws.later q lo hi how at shown) = absurd (never (ap stands_in_line at) (ap has_passed at) (ap (is_away_at t) at ∙ by_how how refl))
         where
           by_how : (b : BoundBy) → how ≡ b → is_away_at t (place.Bound q lo hi b) ≡ false
-          by_how by.Founding is = refl
-          by_how by.Plan is = refl
           by_how (by.FirstHole y) is =
               let f = facts.turns.first_hole w.c q lo y hi a.v a.awaits.asker (at ∙ ap (place.Bound q lo hi) is) shown in
               ap is_headless f.1 ∙ f.2
+          by_how _ is = refl
 
 -- WHAT IS OPEN
 
 running_some : (table : Table) (o : Option ℕ) (y : ℕ) → if_running table o ≡ Some y → is_open y table ≡ true
-running_some table None y is = none_some y is
-running_some table (Some n) y is = by_test (is_open n table) refl is
-  where
-    by_test : (b : Bool) → is_open n table ≡ b → (if b then Some n else None) ≡ Some y → is_open y table ≡ true
-    by_test false off h = none_some y h
-    by_test true on h = (let one : n ≡ y = (let same : Some n ≡ Some y = h in cc) in subst (λ (m : ℕ). is_open m table ≡ true) one on)
+running_some table o y is = grind (arith, nat_tests)
 
 pub writing_open : (table : Table) (o : Option Kept) (y : ℕ) → writing_of table o ≡ Some y → is_open y table ≡ true
-writing_open table None y is = none_some y is
-writing_open table (Some k) y is = by_test k.is_lost is
-  where
-    by_test : (b : Bool) → (if b then None else if_running table k.writer) ≡ Some y → is_open y table ≡ true
-    by_test true h = none_some y h
-    by_test false h = running_some table k.writer y h
+writing_open table o y is = grind (arith, nat_tests)
 
 -- ONCE IT STANDS IN LINE AGAIN
 

@@ -4,7 +4,7 @@
 -- as before (`told_same`): consumers, what is held, what is current, and other entries. Its own entry has the same
 -- fields and moments, since the code updates it by the same rule from the same opening (`entry_renewed`).
 -- `stands_renewed` joins these; `TurnHandler` uses it for a 304 that selects.
-use Rattle.std.{proofs.Common.{◌≡◌, ◌≢◌, inl, inr, ℕ, List, Option, Some, None, refl, ap, sym, ◌∙◌, subst}, specs.{Prelude.{is_some, nat_eq, option_map}, HashMap.{get, hash_map_len}}}
+use Rattle.std.{proofs.{Common.{◌≡◌, ◌≢◌, inl, inr, ℕ, List, Option, Some, None, refl, ap, sym, ◌∙◌, subst, arith}, lemmas.Bool.Decides.{nat_tests}}, specs.{Prelude.{is_some, nat_eq, option_map}, HashMap.{get, hash_map_len}}}
 use Rattle.hc_text.proofs.Basics.{eqb-other, eqb-same, filters_same, finds_same, same_or}
 use Rattle.hc_effects.proofs.Vocabulary.{Limits, Response, current, is_usable, total_in, with_representation, with_refreshed_head, family, kind_of, bound, Tables, Exchange, Representation, status_in}
 use Rattle.hc_store.specs.declared.backend.Backend.{Ghosts}
@@ -14,8 +14,7 @@ use Rattle.hc_stored.specs.{Entries.{shelf_of}, Kept.{Kept, with_head}, Shelf.{S
 use Rattle.hc_stored.specs.Shelf as shelf
 use Rattle.hc_entry.specs.Keys.{kept_of}
 use Rattle.hc_exch.specs.Exchanges.{table_of, next_of}
-use Rattle.hc_model.specs.Rows as rows
-use Rattle.hc_state.specs.{declared.rows.Rows.{Rows}, Kept.{unstored_bytes, held_alone, held_of, held_for}, Renewals.{KeepsBeside, renewed_head}, Stands.{RowsStand}, Stored.{IsEntry, TellsLength, told, untold, KeepsEntry, KeepsEntries, is_usable_row}}
+use Rattle.hc_state.specs.{declared.rows.Rows.{Rows}, Kept.{held_alone, held_of, held_for}, Renewals.{KeepsBeside, renewed_head}, Stands.{RowsStand}, Stored.{IsEntry, TellsLength, told, untold, KeepsEntry, KeepsEntries, is_usable_row}}
 use Rattle.hc_state.proofs.{Fallbacks.{unstored_moved}, OneOfEach.{first_by}, Ties.{consumer_same, exchange_same, entry_same, key_same}}
 
 module _ (t : Tables) (now : ℕ) (response : Response) (w : Exchange) (r : ℕ) (v : Representation) (row : t.representation r ≡ Some v) where
@@ -33,38 +32,18 @@ module _ (t : Tables) (now : ℕ) (response : Response) (w : Exchange) (r : ℕ)
 
   -- what an update leaves is told as before
   told_same : {A : Type 0} (f : Option Representation → A) → f (Some z) ≡ f (Some v) → (q : ℕ) → f (s.representation q) ≡ f (t.representation q)
-  told_same f leaves q = elim (same_or r q) [
-    | inl e ↦ ap f (sym (ap s.representation e) ∙ here) ∙ (leaves ∙ sym (ap f (sym (ap t.representation e) ∙ row)))
-    | inr ne ↦ ap f (others q ne)
-  ]
+  told_same f leaves q = grind (arith, nat_tests)
 
   -- WHAT IS HELD
 
   alone_moved : (y : ℕ) (e : Exchange) (u : Representation) (o : Option ℕ) → held_alone s y e u o ≡ held_alone t y e u o
-  alone_moved y e u None = refl
-  alone_moved y e u (Some c) = unstored_moved t s y e u (t.consumer c)
+  alone_moved y e u o = grind (arith, nat_tests)
 
   alone_renewed : (y : ℕ) (e : Exchange) (o : Option ℕ) → held_alone t y e z o ≡ held_alone t y e v o
-  alone_renewed y e None = refl
-  alone_renewed y e (Some c) = by_consumer (t.consumer c)
-    where
-      by_consumer : (k : Option rows.Consumer) → unstored_bytes t y e z k ≡ unstored_bytes t y e v k
-      by_consumer None = refl
-      by_consumer (Some k) = refl
+  alone_renewed y e o = grind (arith, nat_tests)
 
   held_renewed : (y : ℕ) (o : Option Exchange) → held_for s y o ≡ held_for t y o
-  held_renewed y None = refl
-  held_renewed y (Some e) = elim (same_or r (family y e)) [
-    | inl is ↦
-        let after : s.representation (family y e) ≡ Some z = sym (ap s.representation is) ∙ here in
-        let before : t.representation (family y e) ≡ Some v = sym (ap t.representation is) ∙ row in
-        ap (held_of s y e) after ∙ (alone_moved y e z v.alone ∙ (alone_renewed y e v.alone ∙ sym (ap (held_of t y e) before)))
-    | inr ne ↦ ap (held_of s y e) (others (family y e) ne) ∙ by_row (t.representation (family y e))
-  ]
-    where
-      by_row : (o : Option Representation) → held_of s y e o ≡ held_of t y e o
-      by_row None = refl
-      by_row (Some u) = alone_moved y e u u.alone
+  held_renewed y o = grind (arith, nat_tests)
 
   -- KEYS
 
@@ -76,22 +55,18 @@ module _ (t : Tables) (now : ℕ) (response : Response) (w : Exchange) (r : ℕ)
 
   entry_renewed : (e : Kept) → IsEntry t r e v → IsEntry s r (with_head (renewed_head w.opened now response.fields e.head) e) z
   unfolding bound kind_of
-  entry_renewed e is = record {
-    used = is.used;
-    key = is.key;
-    head = ap (λ (h : Head). record h { requested = w.opened; answered = now; fields = updated_fields h.fields response.fields }) is.head;
-    length = by_length is.length;
-    kind = is.kind;
-    whole = is.whole;
-    cells = is.cells;
-    reach = is.reach;
-    bound = is.bound;
-    first = λ c. is.first c ∙ sym (first_by t s (told_same status_in refl) r (t.consumer c));
-    writer = is.writer;
-    is_lost = is.is_lost;
-    alone = is.alone;
-    is_gone = is.is_gone;
-  }
+  entry_renewed e is =
+      let renewed = λ (h : Head). record h {
+        requested = w.opened;
+        answered = now;
+        fields = updated_fields h.fields response.fields;
+      } in
+      assumption (
+        is,
+        ap renewed is.head,
+        by_length is.length,
+        (λ (c : ℕ). is.first c ∙ sym (first_by t s (told_same status_in refl) r (t.consumer c))),
+      )
     where
       by_length : TellsLength e v → TellsLength (with_head (renewed_head w.opened now response.fields e.head) e) z
       by_length (told same) = told same

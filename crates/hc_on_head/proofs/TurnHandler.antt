@@ -7,16 +7,14 @@
 use Rattle.std.{proofs.{Common.{◌≡◌, inl, inr, ℕ, ◌≤◌, List, [], ◌∷◌, ◌++◌, Bool, true, false, Option, Some, None, Result, Ok, refl, ap, ap₂, sym, ◌∙◌, subst, arith}, Math.Logic.{∥∥₁_map}, lemmas.Bool.Decides.{nat_tests}}, specs.{Prelude.{is_some, IfOk, IsSomeAnd, nat_eq, map, option_map, not, ◌||◌, if◌then◌else◌}, HashMap.{get}}}
 use Rattle.hc_text.proofs.Basics.{eqb-other, eqb-same, false_true, same_or}
 use Rattle.hc_store.specs.declared.{backend.Backend.{Ghosts}, error.StoreError.{StoreError}}
-use Rattle.hc_effects.proofs.Vocabulary.{Act, Event, Request, Response, Limits, head_case, length_of, is_head, is_same_number, head_refusal, head_view, validates, current, row_of, denial, with_event, all_closed, with_answer, with_consumer, with_representation, with_refreshed_head, unless_ended, promise_in, is_reached, IsAwaiting, Tables, Exchange, Representation, act, event, case, route, by}
+use Rattle.hc_effects.proofs.Vocabulary.{Act, Event, Request, Response, Limits, head_case, length_of, is_head, is_same_number, head_refusal, head_view, validates, current, row_of, denial, with_event, all_closed, with_answer, with_consumer, with_representation, with_refreshed_head, unless_ended, promise_in, is_reached, IsAwaiting, Tables, Exchange, Representation, act, event, case, route, by, place}
 use Rattle.hc_record.specs.Head.{Head}
 use Rattle.hc_validate.specs.Selection.{selects}
 use Rattle.hc_stored.specs.{Entries.{shelf_of}, Kept.{Kept, with_head}}
 use Rattle.hc_stored.specs.Shelf as shelf
 use Rattle.hc_entry.specs.Keys.{kept_of}
-use Rattle.hc_exch.specs.{declared.row.Open.{Open}, Exchanges.{table_of}, Known.{open_view, length_by}}
+use Rattle.hc_exch.specs.{declared.row.Open.{Open}, Exchanges.{table_of}, Known.{open_view, length_by, without_exchange}}
 use Rattle.hc_exch.specs.Exchanges as exch
-use Rattle.hc_exch.specs.Known as known
-use Rattle.hc_event.specs.declared.place.Place.TheVariants as place
 use Rattle.hc_model.specs.Cases.{selects_row}
 use Rattle.hc_model.specs.Owners as owners
 use Rattle.hc_model.specs.Rows as rows
@@ -100,21 +98,17 @@ module _ {B : Type 0} {g : Ghosts B} {limits : Limits} (r mid thr u : Rows B g) 
   founds_none = facts.law.sound.numbered.names.unfounded x w aw.row aw.headless
 
   unfounded : moved.representation x ≡ None
-  unfounded = elim (same_or q x) [
-    | inl same ↦ none_some v (sym founds_none ∙ (ap t.representation (sym same) ∙ row))
-    | inr ne ↦ rw (eqb-other q x ne) founds_none
-  ]
+  unfounded = grind (arith, nat_tests, same_or, none_some, founds_none, row, eqb-other)
 
   unread : IsUnread moved x w
   unread =
       unread_then t facts.law x w a.v aw moved z (rw (eqb-same w.c) refl) (λ d n is ne. inl (sym (beside m w.c d (Some z) ne) ∙ is)) aw.row unfounded
       (λ n lo hi h. (let never : place.Passed q (Some x) ≡ place.Bound n lo hi (by.FirstHole x) = h in absurd (cc))) (λ h. (let never : place.Passed q (Some x) ≡ place.Direct x = h in absurd (cc)))
 
-  pub validated_answered : selects v.head response ≡ true → RowsStand limits thr moved → out ≡ before ++ map act.Close (unless_over x (length_by (table_of thr.exchanges x).running response)) → KeepsRest thr u → u.consumers ≡ thr.consumers → exch.Becomes known.without_exchange x thr.exchanges u.exchanges
+  pub validated_answered : selects v.head response ≡ true → RowsStand limits thr moved → out ≡ before ++ map act.Close (unless_over x (length_by (table_of thr.exchanges x).running response)) → KeepsRest thr u → u.consumers ≡ thr.consumers → exch.Becomes without_exchange x thr.exchanges u.exchanges
       → Answered limits (shelf_of r.entries).faults u t before out now ev
   validated_answered on stood told rest consumers becomes =
-      let validates_now : validates t w response ≡ true = rw (cur, aim, eqb-same q, row) on in
-      let is = case_selected (head_view t false w response) unselected validates_now refl in
+      let is = case_selected (head_view t false w response) unselected (rw (cur, aim, eqb-same q, row) on) refl in
       let tells = told ∙ (ap (λ (ys : List ℕ). before ++ map act.Close ys) (closes_as thr moved x w response stood aw.row aw.is_open ∙ ended)) in
       does_answered limits (shelf_of r.entries).faults u t (with_event now ev (with_consumer w.c (Some z) (with_answer now x response w.joined w m))) before out [] now ev
       (validated limits t facts.law now x response goes w aw.row a.v aw.asker q v aim row is) (unwritten t now x response w case.Validated aw.row is refl) refl tells
@@ -128,22 +122,10 @@ module _ {B : Type 0} {g : Ghosts B} {limits : Limits} (r mid thr u : Rows B g) 
 -- FROM WHAT THE CODE LOOKED UP
 
 pub not_still : (a b : Option ℕ) → None ≡ (if is_same_number a b then b else None) → is_same_number a b ≡ false
-not_still None b is = refl
-not_still (Some m) None is = refl
-not_still (Some m) (Some n) is = by_test (nat_eq m n) is
-  where
-    by_test : (b : Bool) → None ≡ (if b then Some n else None) → b ≡ false
-    by_test false h = refl
-    by_test true h = none_some n h
+not_still a b is = grind (arith, nat_tests)
 
 pub still : (a b : Option ℕ) (q : ℕ) → Some q ≡ (if is_same_number a b then b else None) → (a ≡ Some q) × (b ≡ Some q)
-still None b q is = none_some q (sym is)
-still (Some m) None q is = none_some q (sym is)
-still (Some m) (Some n) q is = by_test (nat_eq m n) refl is
-  where
-    by_test : (b : Bool) → nat_eq m n ≡ b → Some q ≡ (if b then Some n else None) → (Some m ≡ Some q) × (Some n ≡ Some q)
-    by_test false same h = none_some q (sym h)
-    by_test true same h = (let one : m ≡ n = grind (arith, nat_tests, same) in (ap Some one ∙ sym h, sym h))
+still a b q is = grind (arith, nat_tests)
 
 -- what is current is kept
 pub record IsStill {B : Type 0} {g : Ghosts B} (r : Rows B g) (t : Tables) (key : List ℕ) (q : ℕ) : Type 0 where
@@ -177,10 +159,7 @@ key_heard r x aim found accepted tells = let h = headless_of (table_of r.exchang
 -- where it isn't current any more, nothing is selected
 pub unstill_as : {B : Type 0} {g : Ghosts B} {limits : Limits} (r : Rows B g) (t : Tables) (x : ℕ) (o : Open) (w : Exchange) (aim : Option ℕ) (response : Response) → RowsStand limits r t → (table_of r.exchanges x).running ≡ Some o → t.exchange x ≡ Some w → aim ≡ w.aim
     → is_same_number (kept_of r.keys o.request.key).current aim ≡ false → validates t w response ≡ false
-unstill_as r t x o w aim response stands there row about off =
-    let runs = runs_as r t x o w stands there row in
-    and_false (is_same_number (current t w.request.key) w.aim) (selects_row (row_of t w.aim) response)
-    (ap₂ is_same_number (ap (λ (q : Request). current t q.key) (sym runs.request) ∙ sym (stands.keys o.request.key).current) (sym about) ∙ off)
+unstill_as r t x o w aim response stands there row about off = grind (arith, nat_tests)
 
 -- ALL BUT WHAT IS KEPT OF REPRESENTATIONS STAYS
 

@@ -4,6 +4,7 @@
 -- represent these consumers. A step is by the seat: nobody has it (`no_seat`), or a consumer that waits and didn't
 -- change yet (`one_back`). Where it is bound, its entry has it as bound, and it leaves that by `Unbinding`, which has
 -- the work. At the end everyone who waits has a seat (`all_over`, `entries_then`). The loop of `wake` uses this.
+use Rattle.std.{proofs.{lemmas.Bool.Decides.{nat_tests}}}
 use Rattle.std.{proofs.Common.{◌≡◌, ◌≢◌, inl, inr, ℕ, ◌+◌, ◌<◌, ◌≤◌, List, Bool, true, false, Option, Some, None, refl, ap, sym, ◌∙◌, subst, arith}, specs.{Prelude.{is_some, nat_eq, option_map}, HashMap.{get}}}
 use Rattle.hc_text.proofs.Basics.{eqb-other, eqb-same, false_true, mapped, same_or, same_some as same_row, some_inj as some_is}
 use Rattle.hc_store.specs.declared.backend.Backend.{Ghosts}
@@ -73,19 +74,15 @@ module _ (kept : KeyTable) (key : List ℕ) (now : ℕ) (t : Tables) where
       is_user (Some k) each =
           let found = kept_row t k (t.consumer c) each in
           let one : found.0 ≡ w.k = same_row (t.consumer c) found.0 w.k found.1 w.row in
-          let same : k.place ≡ w.k.place = found.2.place ∙ ap (λ (z : rows.Consumer). z.place) one in
-          subst (λ p. IsUserAt p c s) (sym same)
+          subst (λ p. IsUserAt p c s) (sym (found.2.place ∙ ap (λ (z : rows.Consumer). z.place) one))
           (user_kept u started c w.k row (λ q lo hi how at. law.sound.numbered.bound_to q c w.k (sound.is_bound lo hi how w.row at)) s was.entries)
 
       module _ (o : Option Consumer) (each : KeepsConsumer t o (t.consumer c)) (s_after : Shelf) (unbinds : Unbinds o c s s_after) where
-        lives : is_live (t.consumer c) ≡ true
-        lives = ap is_live w.row ∙ waiting_lives t key w.k.place w.waits
-
         abbrev then : Tables
         then = with_consumer c (Some (back_in_line now w.k)) u
 
         by_kept : (o : Option Consumer) → KeepsConsumer t o (t.consumer c) → Unbinds o c s s_after → KeepsEntries then s_after
-        by_kept None gone same = false_true (sym gone ∙ lives)
+        by_kept None gone same = false_true (sym gone ∙ (ap is_live w.row ∙ waiting_lives t key w.k.place w.waits))
         by_kept (Some k) kept_it unbound =
             let found = kept_row t k (t.consumer c) kept_it in
             let one : found.0 ≡ w.k = same_row (t.consumer c) found.0 w.k found.1 w.row in
@@ -172,8 +169,7 @@ begins r now key = record {
 }
 
 unbound_limits : (o : Option Consumer) (c : ℕ) (a b : Shelf) → Unbinds o c a b → b.limits ≡ a.limits
-unbound_limits None c a b same = ap (λ (z : Shelf). z.limits) same
-unbound_limits (Some k) c a b unbinds = unbinds_limits k.place c a b unbinds
+unbound_limits o c a b same = grind (arith, nat_tests)
 
 module _ {B : Type 0} {g : Ghosts B} (r mid : Rows B g) (i now : ℕ) (key : List ℕ) (so_far : WokenSoFar r mid i now key) where
   pub no_seat : seated_at mid.keys key i ≡ None → WokenSoFar r mid (i + 1) now key

@@ -4,6 +4,8 @@
 -- key (`Stood`). Its place tells which (`by_place`): it waits in line, with the turn, let through, or before a first
 -- hole. By the laws such a request waits with others. So whoever is kept in the line waits (`waits_of`), and starts
 -- over (`starts_over`). The other files on dooms use these.
+use Rattle.std.{proofs.{lemmas.Bool.Decides.{nat_tests}}}
+use Rattle.std.{proofs.{Common.{arith}}}
 use Rattle.std.{proofs.Common.{◌≡◌, ℕ, List, Bool, true, false, Option, Some, None, refl, ap, sym, ◌∙◌}, specs.Prelude.{bytes_eq, not, option_map, ◌&&◌, ◌||◌}}
 use Rattle.hc_text.proofs.Basics.{false_true, and_off as then_false}
 use Rattle.hc_effects.proofs.Vocabulary.{is_disabled, is_only, Place, back_in_line, is_live_place, sent_back, is_headless, Lawful, is_in_line, Queues, Tables, waits_at, place, by}
@@ -12,13 +14,7 @@ use Rattle.hc_model.specs.Rows as rows
 use Rattle.hc_state.specs.Lines.{is_passed, is_away}
 
 pub bytes-flip : (a b : List ℕ) → bytes_eq a b ≡ bytes_eq b a
-bytes-flip a b = by_tests (bytes_eq a b) (bytes_eq b a) refl refl
-  where
-    by_tests : (p q : Bool) → bytes_eq a b ≡ p → bytes_eq b a ≡ q → p ≡ q
-    by_tests true true one two = refl
-    by_tests false false one two = refl
-    by_tests true false one two = false_true (sym two ∙ bytes_eq-same b a (sym (same_bytes a b one)))
-    by_tests false true one two = false_true (sym one ∙ bytes_eq-same a b (sym (same_bytes b a two)))
+bytes-flip a b = grind (arith, nat_tests, bytes_eq-same, same_bytes)
 
 -- WHERE ONE STOOD
 
@@ -46,8 +42,7 @@ module _ (t : Tables) (key : List ℕ) where
   elsewhere k z row off none = stays k row (then_false (bytes_eq key k.request.key) (waits_at t k.place) off) (ap stands_for row ∙ none)
 
   none_of : (b : Bool) (d o : Bool) → (((b && false && d && o) || (b && false)) || (b && false)) ≡ false
-  none_of true d o = refl
-  none_of false d o = refl
+  none_of b d o = grind (arith, nat_tests)
 
   by_key : (k : rows.Consumer) (z : Option rows.Consumer) (b : Bool) → z ≡ Some k → bytes_eq k.request.key key ≡ b → (bytes_eq k.request.key key ≡ true → Stood z) → Stood z
   by_key k z false row off here = other_key k z row off
@@ -98,11 +93,7 @@ module _ (t : Tables) (key : List ℕ) where
   by_place law d k (place.Turn x) row at = by_key k (t.consumer d) (bytes_eq k.request.key key) row refl (at_turn k (t.consumer d) x row at (law.places.turn_queues d x k row at))
   by_place law d k (place.Passed r held) row at = by_key k (t.consumer d) (bytes_eq k.request.key key) row refl (at_passed k (t.consumer d) r held row at)
   by_place law d k (place.Bound r lo hi (by.FirstHole y)) row at = by_key k (t.consumer d) (bytes_eq k.request.key key) row refl (at_hole k (t.consumer d) r lo y hi row at)
-  by_place law d k (place.Bound r lo hi by.Founding) row at = elsewhere k (t.consumer d) row (rw at refl) (rw at (none_of _ _ _))
-  by_place law d k (place.Bound r lo hi by.Plan) row at = elsewhere k (t.consumer d) row (rw at refl) (rw at (none_of _ _ _))
-  by_place law d k (place.Direct x) row at = elsewhere k (t.consumer d) row (rw at refl) (rw at (none_of _ _ _))
-  by_place law d k (place.Down why) row at = elsewhere k (t.consumer d) row (rw at refl) (rw at (none_of _ _ _))
-  by_place law d k place.Over row at = elsewhere k (t.consumer d) row (rw at refl) (rw at (none_of _ _ _))
+  by_place law d k _ row at = elsewhere k (t.consumer d) row (rw at refl) (rw at (none_of _ _ _))
 
   pub stood : Lawful t → (d : ℕ) → Stood (t.consumer d)
   stood law d = by_row (t.consumer d) refl
@@ -122,13 +113,7 @@ module _ (t : Tables) (key : List ℕ) where
 
   -- whoever waits is live
   pub waiting_lives : (p : Place) → waits_at t p ≡ true → is_live_place p ≡ true
-  waiting_lives place.Line waits = refl
-  waiting_lives (place.Passed r held) waits = refl
-  waiting_lives (place.Turn x) waits = refl
-  waiting_lives (place.Bound r lo hi how) waits = refl
-  waiting_lives (place.Direct x) waits = refl
-  waiting_lives (place.Down why) waits = refl
-  waiting_lives place.Over waits = false_true waits
+  waiting_lives p waits = grind (arith, nat_tests)
 
   -- who stands for it waits
   pub record Waits (z : Option rows.Consumer) : Type 0 where

@@ -1,5 +1,7 @@
 -- A consumer waits for its key no more, and is bound to nothing: what is kept by key and of representations represents
 -- the tables then.
+use Rattle.std.{proofs.{lemmas.Bool.Decides.{nat_tests}}}
+use Rattle.std.{proofs.{Common.{arith}}}
 use Rattle.std.{proofs.Common.{◌≡◌, ◌≢◌, ℕ, List, Bool, true, false, Some, refl, ap, sym, ◌∙◌, subst}, specs.Prelude.{bytes_eq, ◌||◌}}
 use Rattle.hc_text.proofs.Basics.{eqb-other, eqb-same, false_true}
 use Rattle.hc_rules.proofs.RangeReads.{same_bytes}
@@ -16,9 +18,7 @@ use Rattle.hc_state.proofs.{ConsumerSteps.{SaysOfIt, key_with, key_stays, keys_w
 -- TESTS
 
 pub or_offs : (a b d : Bool) → (a || b || d) ≡ false → (a ≡ false) × ((b ≡ false) × (d ≡ false))
-or_offs false false d off = (refl, (refl, off))
-or_offs false true d off = false_true (sym off)
-or_offs true b d off = false_true (sym off)
+or_offs a b d off = grind (arith, nat_tests)
 
 -- WHERE IT IS BOUND
 

@@ -16,8 +16,7 @@ none_left : (d : ℕ) (ds : List ℕ) → (d ∷ ds) ≡ [] → ⊥
 none_left d ds never = cc
 
 no_user : (cs : List ℕ) → is_nobody cs ≡ true → (c : ℕ) → has itself c cs ≡ false
-no_user [] none c = refl
-no_user (d ∷ cs) none c = false_true none
+no_user cs none c = grind (arith, nat_tests)
 
 first_user : (cs : List ℕ) → is_nobody cs ≡ false → (c : ℕ) × (has itself c cs ≡ true)
 first_user [] some = false_true (sym some)
@@ -29,16 +28,12 @@ module _ (t : Tables) (n : ℕ) (k : Kept) (v : Representation) (entry : IsEntry
   bound_none none = nobody_passes (λ c. is_bound n (t.consumer c)) (λ c. sym (entry.bound c) ∙ no_user k.bound none c) t.starts
 
 bound_row : (n : ℕ) (z : Option rows.Consumer) → is_bound n z ≡ true → is_some z ≡ true
-bound_row n None is = false_true is
-bound_row n (Some w) is = refl
+bound_row n z is = grind (arith, nat_tests)
 
 module _ (t : Tables) (started : (c : ℕ) → is_some (t.consumer c) ≡ true → Among c t.starts) (n : ℕ) (k : Kept) (v : Representation) (entry : IsEntry t n k v) where
   pub bound_some : is_nobody k.bound ≡ false → bound t n ≢ []
   unfolding bound
-  bound_some some =
-      let (c, user) = first_user k.bound some in
-      let reads : is_bound n (t.consumer c) ≡ true = sym (entry.bound c) ∙ user in
-      filter_some (λ d. is_bound n (t.consumer d)) c t.starts (started c (bound_row n (t.consumer c) reads)) reads
+  bound_some some = grind (arith, nat_tests, first_user, is_bound, filter_some, bound_row)
 
   no_length : (cs : List ℕ) → cs ≢ [] → (length cs == 0) ≡ false
   no_length [] some = absurd (some refl)

@@ -47,8 +47,7 @@ let_gone_is now t q p row is_gone nobody = same_tables (let_go now q t) t (recor
     rep_same n = elim (same_or q n) [
       | inl e ↦
           let here : t.representation n ≡ Some p = ap t.representation (sym e) ∙ row in
-          let goes : (let_go now q t).representation n ≡ option_map as_gone (t.representation n) = rw (e, eqb-same n) refl in
-          goes ∙ (ap (option_map as_gone) here ∙ (ap Some gone_same ∙ sym here))
+          rw (e, eqb-same n) refl ∙ (ap (option_map as_gone) here ∙ (ap Some gone_same ∙ sym here))
       | inr ne ↦ rw (eqb-other q n ne) refl
     ]
 
@@ -67,23 +66,12 @@ let_gone_is now t q p row is_gone nobody = same_tables (let_go now q t) t (recor
 
         by_place : (p : Place) → u.place ≡ p → back_from now q u ≡ u
         by_place (place.Passed n kept) place_is = at_place (place.Passed n kept) place_is ∙ by_test n kept (nat_eq q n) place_is refl
-        by_place place.Line place_is = at_place place.Line place_is
-        by_place (place.Turn y) place_is = at_place (place.Turn y) place_is
-        by_place (place.Bound n lo hi how) place_is = at_place (place.Bound n lo hi how) place_is
-        by_place (place.Direct y) place_is = at_place (place.Direct y) place_is
-        by_place (place.Down why) place_is = at_place (place.Down why) place_is
-        by_place place.Over place_is = at_place place.Over place_is
+        by_place p place_is = at_place p place_is
 
 -- whoever starts over reads nothing, and waits for no head
 module _ (now q : ℕ) (t : Tables) (x : ℕ) where
   stood : (d : ℕ) (k u : rows.Consumer) → t.consumer d ≡ Some k → (let_go now q t).consumer d ≡ Some u → (u.place ≡ place.Line → ⊥) → u ≡ k
-  stood d k u at is off =
-      let after : Some (back_from now q k) ≡ Some u = sym (ap (option_map (back_from now q)) at) ∙ is in
-      by_test (waits_for q k.place) refl (some_is (back_from now q k) u after)
-    where
-      by_test : (b : Bool) → waits_for q k.place ≡ b → (if b then back_in_line now k else k) ≡ u → u ≡ k
-      by_test true on same = absurd (off (sym (ap (λ (z : rows.Consumer). z.place) same)))
-      by_test false on same = sym same
+  stood d k u at is off = grind (arith, nat_tests)
 
   there : (d : ℕ) (u : rows.Consumer) → (let_go now q t).consumer d ≡ Some u → (k : rows.Consumer) × (t.consumer d ≡ Some k)
   there d u is = by_row (t.consumer d) refl is
@@ -96,10 +84,7 @@ module _ (now q : ℕ) (t : Tables) (x : ℕ) where
   line_not_direct y h = cc
 
   pub unread_go : ((d : ℕ) (k : rows.Consumer) → t.consumer d ≡ Some k → k.place ≡ place.Direct x → ⊥) → (d : ℕ) (u : rows.Consumer) → (let_go now q t).consumer d ≡ Some u → u.place ≡ place.Direct x → ⊥
-  unread_go nobody d u is at =
-      let k = there d u is in
-      let same = stood d k.0 u k.1 is (λ line. line_not_direct x (sym line ∙ at)) in
-      nobody d k.0 k.1 (sym (ap (λ (z : rows.Consumer). z.place) same) ∙ at)
+  unread_go nobody d u is at = grind (arith, nat_tests)
 
   line_not_bound : (r lo : ℕ) (hi : Option ℕ) (how : BoundBy) → place.Line ≡ place.Bound r lo hi how → ⊥
   line_not_bound r lo hi how h = cc
@@ -151,9 +136,7 @@ module _ {B : Type 0} {g : Ghosts B} (limits : Limits) (u : Rows B g) (t : Table
 
       apart : (q : ℕ) (p : Representation) → (let_go now x s).representation q ≡ Some p → p.is_gone ≡ false → brings_to q x (t.exchange x) ≡ false
       apart q p there stays = elim (same_or x q) [
-        | inl e ↦
-            let goes_there : (let_go now x s).representation q ≡ option_map as_gone (t.representation q) = rw (e, eqb-same q) refl in
-            false_true (sym stays ∙ gone_there (t.representation q) p (sym goes_there ∙ there))
+        | inl e ↦ false_true (sym stays ∙ gone_there (t.representation q) p (sym (rw (e, eqb-same q) refl) ∙ there))
         | inr ne ↦ ap (brings_to q x) stop.row ∙ then_false stop.w.is_open (nat_eq (family x stop.w) q) (rw goes.founded (eqb-other x q ne))
       ]
 

@@ -4,64 +4,48 @@
 -- Keys tell the same, since nobody awaits its head. Representations have the work: what the exchange brought grows no
 -- more. `stands_closed` takes their entries as its user proved them, behind a seal or a loss. `stands_unstored` is for
 -- an exchange that brings only what is gone.
-use Rattle.std.{proofs.Common.{◌≡◌, ◌≢◌, inl, inr, ℕ, ◌+◌, ◌-◌, List, [], length, Bool, true, false, Option, Some, None, refl, ap, sym, ◌∙◌, subst}, specs.{Prelude.{nat_eq, bytes_eq, drop, option_map, ◌&&◌, if◌then◌else◌}, HashMap.{get, hash_map_len}}}
+use Rattle.std.{proofs.{Common.{◌≡◌, ◌≢◌, inl, inr, ℕ, ◌+◌, ◌-◌, List, [], length, Bool, true, false, Option, Some, None, refl, ap, sym, ◌∙◌, subst, arith}, lemmas.Bool.Decides.{nat_tests}}, specs.{Prelude.{nat_eq, bytes_eq, drop, option_map, ◌&&◌, if◌then◌else◌}, HashMap.{get, hash_map_len}}}
 use Rattle.hc_text.proofs.Basics.{eqb-other, eqb-same, same_or}
 use Rattle.hc_effects.proofs.Vocabulary.{Limits, Response, base_of, promise_of, Place, current, is_number, tables_after_close, over, base, promised_bytes, family, is_open, is_headless, length_by, absent_from, is_growing, brings_to, bound, offset, is_bound_place, base_in, end_in, end_of_direct, Tables, Exchange, Representation, place, by}
 use Rattle.hc_store.specs.declared.backend.Backend.{Ghosts}
 use Rattle.hc_stored.specs.{Entries.{shelf_of}, Kept.{Kept}, Shelf.{Shelf}}
 use Rattle.hc_entry.specs.Keys.{kept_of}
 use Rattle.hc_entry.specs.Kept as keyed
-use Rattle.hc_exch.specs.{Exchanges.{table_of}, Known.{Known}}
+use Rattle.hc_exch.specs.{Exchanges.{table_of}, Known.{Known, without_exchange}}
 use Rattle.hc_exch.specs.Exchanges as exch
-use Rattle.hc_exch.specs.Known as known
 use Rattle.hc_model.specs.Rows as rows
-use Rattle.hc_state.specs.{declared.{consumer.Consumer.{Consumer}, rows.Rows.{Rows}}, Kept.{KeepsConsumer, head_in, KeepsExchange, KeepsRunning, held_for, held_of, held_alone, unstored_bytes}, Lines.{KeepsKey, is_away, is_away_at}, Stands.{RowsStand}, Stopped.{NobodyAwaits}, Stored.{KeepsEntry, KeepsEntries}}
+use Rattle.hc_state.specs.{declared.{consumer.Consumer.{Consumer}, rows.Rows.{Rows}}, Kept.{KeepsConsumer, head_in, KeepsExchange, KeepsRunning, held_for, held_of, held_alone, unstored_bytes}, Lines.{KeepsKey, is_away, is_away_at}, Stands.{RowsStand}, Stopped.{NobodyAwaits}, Stored.{KeepsEntry, KeepsEntries, TellsWriter}}
 use Rattle.hc_state.proofs.{Fallbacks.{same, held_alike}, OneOfEach.{first_row, growing_same, kind_same}, PastRows.{consumer_alike}, Ties.{exchange_same, key_same, overs_closed, writer_then}}
 
 -- WHAT IS OVER BROUGHT AS MUCH
 
 pub base_over : (w : Exchange) → base (over w) ≡ base w
-base_over w = by_head w.head
-  where
-    by_head : (h : Option Response) → base_of (length_by (over w) h) ≡ base_of (length_by w h)
-    by_head None = refl
-    by_head (Some response) = refl
+base_over w = grind (arith, nat_tests)
 
 pub promise_over : (w : Exchange) → promised_bytes (over w) ≡ promised_bytes w
-promise_over w = by_head w.head
-  where
-    by_head : (h : Option Response) → promise_of (length_by (over w) h) ≡ promise_of (length_by w h)
-    by_head None = refl
-    by_head (Some response) = refl
+promise_over w = grind (arith, nat_tests)
 
 module _ (t : Tables) (x : ℕ) where
   abbrev pub s : Tables
   s = tables_after_close x t
 
   unstored_over : (w : Exchange) (v : Representation) (o : Option rows.Consumer) → unstored_bytes t x (over w) v o ≡ unstored_bytes t x w v o
-  unstored_over w v None = refl
-  unstored_over w v (Some k) =
-      ap (λ (b : ℕ). if is_bound_place (family x w) k.place && is_number k.own x then drop (absent_from v.stored v.reach (offset t k) (b + length w.body) - b) w.body else []) (base_over w)
+  unstored_over w v o = grind (arith, nat_tests)
 
   alone_over : (w : Exchange) (v : Representation) (o : Option ℕ) → held_alone t x (over w) v o ≡ held_alone t x w v o
-  alone_over w v None = refl
-  alone_over w v (Some c) = unstored_over w v (t.consumer c)
+  alone_over w v o = grind (arith, nat_tests)
 
   pub of_over : (w : Exchange) (o : Option Representation) → held_of t x (over w) o ≡ held_of t x w o
-  of_over w None = refl
-  of_over w (Some v) = alone_over w v v.alone
+  of_over w o = grind (arith, nat_tests)
 
   held_same : (y : ℕ) (o : Option Exchange) → held_for s y o ≡ held_for t y o
-  held_same y None = refl
-  held_same y (Some w) = held_alike t s (λ d. same refl) y w refl
+  held_same y o = grind (arith, nat_tests)
 
   held_over : (o : Option Exchange) → held_for s x (option_map over o) ≡ held_for t x o
-  held_over None = refl
-  held_over (Some w) = held_same x (Some (over w)) ∙ of_over w (t.representation (family x w))
+  held_over o = grind (arith, nat_tests)
 
   not_open : (o : Option Exchange) → is_open (option_map over o) ≡ false
-  not_open None = refl
-  not_open (Some w) = refl
+  not_open o = grind (arith, nat_tests)
 
   here : s.exchange x ≡ option_map over (t.exchange x)
   here = rw (eqb-same x) refl
@@ -69,10 +53,10 @@ module _ (t : Tables) (x : ℕ) where
   others : (y : ℕ) → x ≢ y → s.exchange y ≡ t.exchange y
   others y ne = rw (eqb-other x y ne) refl
 
-  pub exchange_closed : (y : ℕ) (before after : Known) → after ≡ (if nat_eq x y then known.without_exchange before else before) → KeepsExchange t y before → KeepsExchange s y after
+  pub exchange_closed : (y : ℕ) (before after : Known) → after ≡ (if nat_eq x y then without_exchange before else before) → KeepsExchange t y before → KeepsExchange s y after
   exchange_closed y before after is kept = elim (same_or x y) [
     | inl e ↦
-        let at : after ≡ known.without_exchange before = is ∙ rw (e, eqb-same y) refl in
+        let at : after ≡ without_exchange before = is ∙ rw (e, eqb-same y) refl in
         let row : s.exchange y ≡ option_map over (t.exchange y) = rw (e, eqb-same y) refl in
         record {
           running = rw at (subst (λ (o : Option Exchange). KeepsRunning s y None o) (sym row) (not_open (t.exchange y)));
@@ -84,28 +68,10 @@ module _ (t : Tables) (x : ℕ) where
   ]
 
   headless_over : (o : Option Exchange) → is_headless (option_map over o) ≡ false
-  headless_over None = refl
-  headless_over (Some w) = refl
+  headless_over o = grind (arith, nat_tests)
 
   away_closed : NobodyAwaits t x → (key : List ℕ) (d : ℕ) (o : Option rows.Consumer) → t.consumer d ≡ o → is_away s key o ≡ is_away t key o
-  away_closed nobody key d None row = refl
-  away_closed nobody key d (Some k) row = ap (λ b. bytes_eq k.request.key key && b) (by_place k.place refl)
-    where
-      by_place : (p : Place) → k.place ≡ p → is_away_at s k.place ≡ is_away_at t k.place
-      by_place (place.Bound r lo hi (by.FirstHole y)) at = rw at (elim (same_or x y) [
-        | inl e ↦
-            let headed : is_headless (t.exchange y) ≡ false = subst (λ (n : ℕ). is_headless (t.exchange n) ≡ false) e (nobody d r lo hi k row (at ∙ ap (λ (n : ℕ). place.Bound r lo hi (by.FirstHole n)) (sym e))) in
-            ap is_headless (let there : s.exchange y ≡ option_map over (t.exchange y) = rw (e, eqb-same y) refl in there) ∙ (headless_over (t.exchange y) ∙ sym headed)
-        | inr ne ↦ ap is_headless (others y ne)
-      ])
-      by_place (place.Bound r lo hi by.Founding) at = rw at refl
-      by_place (place.Bound r lo hi by.Plan) at = rw at refl
-      by_place place.Line at = rw at refl
-      by_place (place.Passed q kept) at = rw at refl
-      by_place (place.Turn y) at = rw at refl
-      by_place (place.Direct y) at = rw at refl
-      by_place (place.Down why) at = rw at refl
-      by_place place.Over at = rw at refl
+  away_closed nobody key d o row = grind (arith, nat_tests)
 
   pub key_closed : NobodyAwaits t x → (key : List ℕ) (k : keyed.Kept) → KeepsKey t key k → KeepsKey s key k
   unfolding current
@@ -118,14 +84,10 @@ module _ (t : Tables) (x : ℕ) where
   IsApart q = brings_to q x (t.exchange x) ≡ false
 
   brings_over : (q : ℕ) (o : Option Exchange) → brings_to q x (option_map over o) ≡ false
-  brings_over q None = refl
-  brings_over q (Some w) = refl
+  brings_over q o = grind (arith, nat_tests)
 
   growing_apart : (q : ℕ) → IsApart q → is_growing s q ≡ is_growing t q
-  growing_apart q apart = growing_same t s q refl (λ y. elim (same_or x y) [
-    | inl e ↦ subst (λ (n : ℕ). brings_to q n (s.exchange n) ≡ brings_to q n (t.exchange n)) e (ap (brings_to q x) here ∙ (brings_over q (t.exchange x) ∙ sym apart))
-    | inr ne ↦ ap (brings_to q y) (others y ne)
-  ])
+  growing_apart q apart = grind (arith, nat_tests)
 
   -- of what isn't gone it brings nothing
   pub entry_closed : (q : ℕ) (k : Option Kept) (o : Option Representation) → ((v : Representation) → o ≡ Some v → v.is_gone ≡ false → IsApart q) → KeepsEntry t q k o → KeepsEntry s q k o
@@ -133,22 +95,16 @@ module _ (t : Tables) (x : ℕ) where
   entry_closed q None None apart kept = tt
   entry_closed q None (Some v) apart kept = record { gone = kept.gone; unused = kept.unused }
   entry_closed q (Some k) None apart kept = kept
-  entry_closed q (Some k) (Some v) apart kept = record {
-    used = kept.used;
-    key = kept.key;
-    head = kept.head;
-    length = kept.length;
-    kind = λ stays. kept.kind stays ∙ sym (kind_same t s q v (growing_apart q (apart v refl stays)));
-    whole = kept.whole;
-    cells = kept.cells;
-    reach = kept.reach;
-    bound = kept.bound;
-    first = λ c. kept.first c ∙ sym (first_row t s (λ n. refl) q (t.consumer c));
-    writer = writer_then (λ y on. overs_closed (nat_eq x y) (t.exchange y) on) kept.writer;
-    is_lost = kept.is_lost;
-    alone = kept.alone;
-    is_gone = kept.is_gone;
-  }
+  entry_closed q (Some k) (Some v) apart kept =
+      let writer : TellsWriter s.exchange k.writer v.writer =
+      writer_then (λ y on. overs_closed (nat_eq x y) (t.exchange y) on) kept.writer in
+      let same = λ (stays : v.is_gone ≡ false). kind_same t s q v (growing_apart q (apart v refl stays)) in
+      assumption (
+        kept,
+        writer,
+        (λ (stays : v.is_gone ≡ false). kept.kind stays ∙ sym (same stays)),
+        (λ (c : ℕ). kept.first c ∙ sym (first_row t s (λ n. refl) q (t.consumer c))),
+      )
 
   pub entries_closed : (shelf : Shelf) → ((q : ℕ) (v : Representation) → t.representation q ≡ Some v → v.is_gone ≡ false → IsApart q) → KeepsEntries t shelf → KeepsEntries s shelf
   entries_closed shelf apart kept = record {
@@ -159,23 +115,13 @@ module _ (t : Tables) (x : ℕ) where
   -- CONSUMERS
 
   head_over : (b : Bool) (o : Option Exchange) → head_in (if b then option_map over o else o) ≡ head_in o
-  head_over true None = refl
-  head_over true (Some w) = refl
-  head_over false o = refl
+  head_over b o = grind (arith, nat_tests)
 
   begin_over : (b : Bool) (o : Option Exchange) → base_in (if b then option_map over o else o) ≡ base_in o
-  begin_over true None = refl
-  begin_over true (Some w) = base_over w
-  begin_over false o = refl
+  begin_over b o = grind (arith, nat_tests)
 
   end_over : (b : Bool) (o : Option Exchange) → end_in (if b then option_map over o else o) ≡ end_in o
-  end_over true None = refl
-  end_over true (Some w) = ap (λ p. end_of_direct p (over w)) (promise_over w) ∙ by_promise (promised_bytes w)
-    where
-      by_promise : (p : Option ℕ) → end_of_direct p (over w) ≡ end_of_direct p w
-      by_promise None = refl
-      by_promise (Some n) = ap (λ m. Some (m + n)) (base_over w)
-  end_over false o = refl
+  end_over b o = grind (arith, nat_tests)
 
   -- whoever reads it past the store sees the same
   pub consumer_over : (k : Option Consumer) (row : Option rows.Consumer) → KeepsConsumer t k row → KeepsConsumer s k row
@@ -190,7 +136,7 @@ module _ (t : Tables) (x : ℕ) where
 
 module _ {B : Type 0} {g : Ghosts B} {limits : Limits} (r u : Rows B g) (t : Tables) (x : ℕ) (stands : RowsStand limits r t) (unawaited : NobodyAwaits t x)
     (last : u.last_start ≡ r.last_start) (consumers : u.consumers ≡ r.consumers) (keys : u.keys ≡ r.keys)
-    (becomes : exch.Becomes known.without_exchange x r.exchanges u.exchanges) (bounded : (shelf_of u.entries).limits ≡ (shelf_of r.entries).limits) where
+    (becomes : exch.Becomes without_exchange x r.exchanges u.exchanges) (bounded : (shelf_of u.entries).limits ≡ (shelf_of r.entries).limits) where
   pub stands_closed : KeepsEntries (tables_after_close x t) (shelf_of u.entries) → RowsStand limits u (tables_after_close x t)
   stands_closed entries = record {
     limits = bounded ∙ stands.limits;
@@ -203,7 +149,7 @@ module _ {B : Type 0} {g : Ghosts B} {limits : Limits} (r u : Rows B g) (t : Tab
     entries = entries;
   }
     where
-      by_here : (y : ℕ) → table_of u.exchanges y ≡ (if nat_eq x y then known.without_exchange (table_of r.exchanges y) else table_of r.exchanges y)
+      by_here : (y : ℕ) → table_of u.exchanges y ≡ (if nat_eq x y then without_exchange (table_of r.exchanges y) else table_of r.exchanges y)
       by_here y = becomes.table y ∙ elim (same_or x y) [
         | inl e ↦ rw (e, eqb-same y) refl
         | inr ne ↦ rw (eqb-other x y ne) refl
@@ -211,7 +157,7 @@ module _ {B : Type 0} {g : Ghosts B} {limits : Limits} (r u : Rows B g) (t : Tab
 
 -- it brings nothing of what isn't gone
 pub stands_unstored : {B : Type 0} {g : Ghosts B} {limits : Limits} (r u : Rows B g) (t : Tables) (x : ℕ) → RowsStand limits r t → NobodyAwaits t x → ((q : ℕ) (v : Representation) → t.representation q ≡ Some v → v.is_gone ≡ false → IsApart t x q)
-    → u.last_start ≡ r.last_start → u.consumers ≡ r.consumers → u.keys ≡ r.keys → u.entries ≡ r.entries → exch.Becomes known.without_exchange x r.exchanges u.exchanges → RowsStand limits u (tables_after_close x t)
+    → u.last_start ≡ r.last_start → u.consumers ≡ r.consumers → u.keys ≡ r.keys → u.entries ≡ r.entries → exch.Becomes without_exchange x r.exchanges u.exchanges → RowsStand limits u (tables_after_close x t)
 stands_unstored r u t x stands unawaited apart last consumers keys same_entries becomes =
     stands_closed r u t x stands unawaited last consumers keys becomes (ap (λ z. (shelf_of z).limits) same_entries)
     (subst (λ z. KeepsEntries (tables_after_close x t) (shelf_of z)) (sym same_entries) (entries_closed t x (shelf_of r.entries) apart stands.entries))

@@ -1,4 +1,6 @@
 -- One consumer's row is another: what is kept of it, of its key and of the representations represents the tables then.
+use Rattle.std.{proofs.{lemmas.Bool.Decides.{nat_tests}}}
+use Rattle.std.{proofs.{Common.{arith}}}
 use Rattle.std.{proofs.Common.{◌≡◌, ◌≢◌, ◌⊎◌, inl, inr, ℕ, ◌+◌, List, [], Bool, true, false, cond, eqb, Option, refl, sym, ◌∙◌, subst}, specs.{Prelude.{nat_eq, bytes_eq, ◌==◌, if◌then◌else◌}, HashMap.{get}}}
 use Rattle.hc_text.proofs.Basics.{eqb-other, eqb-same, same_or}
 use Rattle.hc_store.specs.declared.backend.Backend.{Ghosts}
@@ -40,10 +42,7 @@ module _ (t : Tables) (c : ℕ) (row : Option rows.Consumer) where
     pub holder : (d : ℕ) → is_held_by d b.holder ≡ cond (eqb c d) (has_turn key row) (is_held_by d a.holder)
 
   by_one : (f : Option rows.Consumer → Bool) (g h : ℕ → Bool) → ((d : ℕ) → h d ≡ cond (eqb c d) (f row) (g d)) → ((d : ℕ) → g d ≡ f (t.consumer d)) → (d : ℕ) → h d ≡ f ((with_consumer c row t).consumer d)
-  by_one f g h is was d = elim (same_or c d) [
-    | inl e ↦ is d ∙ (rw (← e, eqb-same c) refl)
-    | inr ne ↦ is d ∙ (rw (eqb-other c d ne) (was d))
-  ]
+  by_one f g h is was d = grind (arith, nat_tests)
 
   pub key_with : (key : List ℕ) (a b : keyed.Kept) → KeepsKey t key a → KeyAfter key a b → KeepsKey (with_consumer c row t) key b
   unfolding current
@@ -63,10 +62,7 @@ module _ (t : Tables) (c : ℕ) (row : Option rows.Consumer) where
     pub turn : has_turn key row ≡ has_turn key (t.consumer c)
 
   pub at_it : (f : ℕ → Bool) (b : Bool) → f c ≡ b → (d : ℕ) → f d ≡ cond (eqb c d) b (f d)
-  at_it f b is d = elim (same_or c d) [
-    | inl e ↦ rw (← e, eqb-same c) is
-    | inr ne ↦ rw (eqb-other c d ne) refl
-  ]
+  at_it f b is d = grind (arith, nat_tests)
 
   pub key_stays : (key : List ℕ) (a : keyed.Kept) → KeepsKey t key a → SaysOfIt key → KeyAfter key a a
   key_stays key a kept says = record {

@@ -1,12 +1,13 @@
 -- What is stored of a representation is what the tables say, and what is current is kept.
+use Rattle.std.{proofs.{lemmas.Bool.Decides.{nat_tests}}}
+use Rattle.std.{proofs.{Common.{arith}}}
 use Rattle.std.{proofs.Common.{◌≡◌, ℕ, List, Bool, true, false, Option, Some, None, refl, ap, sym, ◌∙◌, subst}, specs.Prelude.{is_some, option_map, ◌↔◌, IsTrue}}
 use Rattle.hc_text.proofs.Basics.{false_true, same_test, some_inj as some_is}
 use Rattle.hc_effects.proofs.Vocabulary.{Limits, current, covers, Lawful, Tables, Representation}
 use Rattle.hc_store.specs.declared.backend.Backend.{Ghosts}
 use Rattle.hc_sparse.specs.Cells.{EndsBy, Covers}
 use Rattle.hc_stored.specs.{declared.view.EntryView.{EntryView}, Entries.{shelf_of}, Kept.{Kept}, Shelf.{is_kept}, Views.{view_of}}
-use Rattle.hc_effects.proofs.HoleLemmas as holes
-use Rattle.hc_effects.proofs.{KeysKeep.{current_row}, PollKeeps.{current_stays}, Tests.{none_some}}
+use Rattle.hc_effects.proofs.{KeysKeep.{current_row}, PollKeeps.{current_stays}, Tests.{none_some}, HoleLemmas.{covers_all, covers_yes}}
 use Rattle.hc_state.specs.{declared.rows.Rows.{Rows}, Stands.{RowsStand}, Stored.{IsEntry, KeepsEntry, TellsLength, told, untold}}
 
 -- WHAT IS STORED
@@ -18,25 +19,17 @@ module _ (t : Tables) (law : Lawful t) (q : ℕ) (p : Representation) (here : t.
 
   -- what isn't gone isn't lost
   pub stays_stored : p.is_gone ≡ false → p.is_lost ≡ false
-  stays_stored stays = by_test p.is_lost refl
-    where
-      by_test : (b : Bool) → p.is_lost ≡ b → b ≡ false
-      by_test false lost = refl
-      by_test true lost = false_true (sym stays ∙ (law.sound.rows q p here).store.lost_is_gone lost)
+  stays_stored stays = grind (arith, nat_tests)
 
 -- a length is told, until it is gone
 pub total_told : (t : Tables) (q : ℕ) (e : Kept) (p : Representation) → IsEntry t q e p → p.is_gone ≡ false → e.head.total ≡ p.head.total
-total_told t q e p is stays = by_length is.length
-  where
-    by_length : TellsLength e p → e.head.total ≡ p.head.total
-    by_length (told same) = same
-    by_length (untold u) = false_true (sym stays ∙ u.gone)
+total_told t q e p is stays = grind (arith, nat_tests)
 
 -- what the store covers is covered
 pub covers_as : (t : Tables) (q : ℕ) (e : Kept) (p : Representation) → IsEntry t q e p → EndsBy p.reach p.stored → (b : Bool) (lo hi : ℕ) → (IsTrue b ↔ Covers e.cells lo hi) → b ≡ covers p.stored p.reach lo hi
 covers_as t q e p is ends b lo hi tells = same_test b (covers p.stored p.reach lo hi)
-    (λ on. holes.covers_yes p.stored p.reach lo hi ends (λ n low up. ap (λ z. is_some z) (sym (is.cells n)) ∙ tells.0 on n low up))
-    (λ on. tells.1 (λ n low up. ap (λ z. is_some z) (is.cells n) ∙ holes.covers_all p.stored p.reach lo hi on n low up))
+    (λ on. covers_yes p.stored p.reach lo hi ends (λ n low up. ap (λ z. is_some z) (sym (is.cells n)) ∙ tells.0 on n low up))
+    (λ on. tells.1 (λ n low up. ap (λ z. is_some z) (is.cells n) ∙ covers_all p.stored p.reach lo hi on n low up))
 
 module _ {B : Type 0} {g : Ghosts B} {limits : Limits} (r : Rows B g) (t : Tables) (stands : RowsStand limits r t) where
   -- what is kept is an entry

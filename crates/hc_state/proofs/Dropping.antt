@@ -6,13 +6,12 @@
 -- `stands_left` and `stands_down` are its two cases.
 use Rattle.std.{proofs.{Common.{◌≡◌, ◌≢◌, inl, inr, ℕ, ◌+◌, List, [], Bool, true, false, Option, Some, None, refl, ap, sym, ◌∙◌, subst, arith}, lemmas.Bool.Decides.{nat_tests}}, specs.{Prelude.{is_some, nat_eq, bytes_eq, drop, not, ◌&&◌, if◌then◌else◌}, HashMap.{get, hash_map_len}}}
 use Rattle.hc_text.proofs.Basics.{eqb-other, eqb-same, false_true, same_or, and_off as then_false}
-use Rattle.hc_effects.proofs.Vocabulary.{Limits, Cause, Request, Response, is_disabled, is_only, Place, is_number, is_live, live, with_consumer, as_over, family, Lawful, is_in_line, stands_in_line, has_passed, is_bound_place, Tables, Exchange, Representation, Among, came_alone}
+use Rattle.hc_effects.proofs.Vocabulary.{Limits, Cause, Request, Response, is_disabled, is_only, Place, is_number, is_live, live, with_consumer, as_over, family, Lawful, is_in_line, stands_in_line, has_passed, is_bound_place, Tables, Exchange, Representation, Among, came_alone, place}
 use Rattle.hc_effects.proofs.{Tests.{and_false}, Basics.{number_is as number_tells}}
 use Rattle.hc_store.specs.declared.backend.Backend.{Ghosts}
 use Rattle.hc_entry.specs.{declared.keys.KeyTable.{KeyTable}, Keys.{kept_of}}
 use Rattle.hc_exch.specs.{Exchanges.{table_of}, Known.{Known, forgotten}}
 use Rattle.hc_stored.specs.{Entries.{shelf_of}, Shelf.{Shelf}}
-use Rattle.hc_event.specs.declared.place.Place.TheVariants as place
 use Rattle.hc_model.specs.Rows as rows
 use Rattle.hc_state.specs.{declared.{consumer.Consumer.{Consumer}, rows.Rows.{Rows}}, Changes.{ChangesAt, BecomesAt, one, put_down}, Kept.{IsKept, KeepsConsumer, KeepsExchange, answer_for, is_direct, held_for, held_of, held_alone, unread, unstored_bytes}, Leaving.{LeavesKey, Forgets, IsUserAt, UnbindsAt}, Lines.{KeepsKey, is_passed, is_away, is_away_at}, Stands.{RowsStand}, Stored.{KeepsEntries, is_first}}
 use Rattle.hc_state.proofs.{Apart.{keys_apart, entries_apart, user_at}, ConsumerSteps.{all_kept_with}, Maps.{merely_true}, FallbackSteps.{live_same}, QueueHandler.{becomes_by}, Ties.{exchange_same, kept_row, runs_same}}
@@ -32,8 +31,7 @@ live_without t law c n m v w row was is len count =
     let before : counts.one (f c) ≡ 1 = rw (row, was) refl in
     let after : counts.one (h c) ≡ 0 = rw (eqb-same c, is) refl in
     let all : m ≡ counts.counted f t.starts = count in
-    let goal : n ≡ counts.counted h t.starts = omega (arith, moves, before, after, all, len) in
-    goal
+    omega (arith, moves, before, after, all, len)
 
 -- WHERE IT STANDS NOW
 
@@ -47,21 +45,13 @@ moved_to p v = record v { place = p; due = None }
 
 module _ (v : rows.Consumer) (p : Place) (nowhere : IsNowhere p) where
   by_nowhere : {A : Type 0} (f : Place → A) (a : A) → f place.Over ≡ a → ((why : Cause) → f (place.Down why) ≡ a) → f p ≡ a
-  by_nowhere f a is_over is_down = by_way nowhere
-    where
-      by_way : IsNowhere p → f p ≡ a
-      by_way (over e) = ap f e ∙ is_over
-      by_way (down why e) = ap f e ∙ is_down why
+  by_nowhere f a is_over is_down = grind (arith, nat_tests)
 
   stands_off : stands_in_line p ≡ false
   stands_off = by_nowhere stands_in_line false refl (λ why. refl)
 
   moved_line : (key : List ℕ) → is_in_line key (Some (moved_to p v)) ≡ false
-  moved_line key = rw stands_off (by_tests (bytes_eq v.request.key key) (not (is_disabled v.request)) (not (is_only v.request)))
-    where
-      by_tests : (b d o : Bool) → (b && false && d && o) ≡ false
-      by_tests true d o = refl
-      by_tests false d o = refl
+  moved_line key = grind (arith, nat_tests)
 
   moved_passed : (key : List ℕ) → is_passed key (Some (moved_to p v)) ≡ false
   moved_passed key = then_false (bytes_eq v.request.key key) (has_passed p) (by_nowhere has_passed false refl (λ why. refl))
@@ -105,30 +95,10 @@ module _ (t : Tables) (law : Lawful t) (c : ℕ) (v : rows.Consumer) (row : t.co
       by_test true on = absurd (ne (law.owned.one d c y u v is row (law.places.direct d y u is at).own (number_tells v.own y on)))
 
   not_its : (d y : ℕ) (u : rows.Consumer) → d ≢ c → t.consumer d ≡ Some u → is_number v.own y ≡ true → is_number u.own y ≡ false
-  not_its d y u ne is on = by_test (is_number u.own y) refl
-    where
-      by_test : (b : Bool) → is_number u.own y ≡ b → b ≡ false
-      by_test false off = refl
-      by_test true also = absurd (ne (law.owned.one d c y u v is row (number_tells u.own y also) (number_tells v.own y on)))
+  not_its d y u ne is on = grind (arith, nat_tests)
 
   unread_other : (y d : ℕ) (w : Exchange) (o : Option rows.Consumer) → d ≢ c → t.consumer d ≡ o → is_number v.own y ≡ true → unread y w o ≡ []
-  unread_other y d w None ne is on = refl
-  unread_other y d w (Some u) ne is on = by_place u.place refl
-    where
-      by_test : (z : ℕ) (b : Bool) → u.place ≡ place.Direct z → nat_eq z y ≡ b → (if b then drop u.given w.body else []) ≡ []
-      by_test z false at off = refl
-      by_test z true at same =
-          let one : z ≡ y = grind (arith, nat_tests, same) in
-          false_true (sym (own_past d y u ne is (at ∙ ap (λ (n : ℕ). place.Direct n) one)) ∙ on)
-
-      by_place : (p : Place) → u.place ≡ p → unread y w (Some u) ≡ []
-      by_place (place.Direct z) at = rw at (by_test z (nat_eq z y) at refl)
-      by_place place.Line at = rw at refl
-      by_place (place.Passed q kept) at = rw at refl
-      by_place (place.Turn z) at = rw at refl
-      by_place (place.Bound q lo hi by) at = rw at refl
-      by_place (place.Down why) at = rw at refl
-      by_place place.Over at = rw at refl
+  unread_other y d w o ne is on = grind (arith, nat_tests, drop, one, own_past, unread)
 
   unstored_off : (z : Tables) (y : ℕ) (w : Exchange) (p : Representation) (u : rows.Consumer) → is_number u.own y ≡ false → unstored_bytes z y w p (Some u) ≡ []
   unstored_off z y w p u off = rw (then_false (is_bound_place (family y w) u.place) (is_number u.own y) off) refl
@@ -138,18 +108,10 @@ module _ (t : Tables) (law : Lawful t) (c : ℕ) (v : rows.Consumer) (row : t.co
   unstored_other y d w p (Some u) ne is on = unstored_off s y w p u (not_its d y u ne is on)
 
   alone_gone : (y : ℕ) (w : Exchange) (p : Representation) (o : Option ℕ) → is_number v.own y ≡ true → held_alone s y w p o ≡ []
-  alone_gone y w p None on = refl
-  alone_gone y w p (Some d) on = elim (same_or c d) [
-    | inl e ↦ ap (unstored_bytes s y w p) (sym (ap s.consumer e) ∙ here) ∙ moved_unstored v at_now nowhere s y w p
-    | inr ne ↦ let off : d ≢ c = λ e. ne (sym e) in ap (unstored_bytes s y w p) (others d off) ∙ unstored_other y d w p (t.consumer d) off refl on
-  ]
+  alone_gone y w p o on = grind (arith, nat_tests, same_or, here, moved_unstored, others, unstored_other)
 
   of_gone : (y : ℕ) (w : Exchange) (o : Option Representation) → is_number v.own y ≡ true → held_of s y w o ≡ []
-  of_gone y w None on = elim (same_or c w.c) [
-    | inl e ↦ ap (unread y w) (sym (ap s.consumer e) ∙ here) ∙ moved_unread v at_now nowhere y w
-    | inr ne ↦ let off : w.c ≢ c = λ e. ne (sym e) in ap (unread y w) (others w.c off) ∙ unread_other y w.c w (t.consumer w.c) off refl on
-  ]
-  of_gone y w (Some p) on = alone_gone y w p p.alone on
+  of_gone y w o on = grind (arith, nat_tests, same_or, unread, here, moved_unread, others, unread_other, alone_gone)
 
   -- nothing is held of its own exchange any more
   pub held_gone : (y : ℕ) (o : Option Exchange) → is_number v.own y ≡ true → held_for s y o ≡ []
@@ -162,31 +124,17 @@ module _ (t : Tables) (law : Lawful t) (c : ℕ) (v : rows.Consumer) (row : t.co
       by_test : (z : ℕ) (b : Bool) → v.place ≡ place.Direct z → nat_eq z y ≡ b → (if b then drop v.given w.body else []) ≡ []
       by_test z false at other = refl
       by_test z true at same =
-          let own : is_number v.own y ≡ true = ap (λ (o : Option ℕ). is_number o y) (law.places.direct c z v row at).own ∙ same in
-          false_true (sym off ∙ own)
+          false_true (sym off ∙ (ap (λ (o : Option ℕ). is_number o y) (law.places.direct c z v row at).own ∙ same))
 
       by_place : (p : Place) → v.place ≡ p → unread y w (Some v) ≡ []
       by_place (place.Direct z) at = rw at (by_test z (nat_eq z y) at refl)
-      by_place place.Line at = rw at refl
-      by_place (place.Passed q kept) at = rw at refl
-      by_place (place.Turn z) at = rw at refl
-      by_place (place.Bound q lo hi by) at = rw at refl
-      by_place (place.Down why) at = rw at refl
-      by_place place.Over at = rw at refl
+      by_place _ at = rw at refl
 
   alone_stays : (y : ℕ) (w : Exchange) (p : Representation) (o : Option ℕ) → is_number v.own y ≡ false → held_alone s y w p o ≡ held_alone t y w p o
-  alone_stays y w p None off = refl
-  alone_stays y w p (Some d) off = elim (same_or c d) [
-    | inl e ↦ ap (unstored_bytes s y w p) (sym (ap s.consumer e) ∙ here) ∙ (moved_unstored v at_now nowhere s y w p ∙ sym (ap (unstored_bytes t y w p) (sym (ap t.consumer e) ∙ row) ∙ unstored_off t y w p v off))
-    | inr ne ↦ ap (unstored_bytes s y w p) (others d (λ e. ne (sym e)))
-  ]
+  alone_stays y w p o off = grind (arith, nat_tests)
 
   of_stays : (y : ℕ) (w : Exchange) (o : Option Representation) → is_number v.own y ≡ false → held_of s y w o ≡ held_of t y w o
-  of_stays y w None off = elim (same_or c w.c) [
-    | inl e ↦ ap (unread y w) (sym (ap s.consumer e) ∙ here) ∙ (moved_unread v at_now nowhere y w ∙ sym (ap (unread y w) (sym (ap t.consumer e) ∙ row) ∙ unread_off y w off))
-    | inr ne ↦ ap (unread y w) (others w.c (λ e. ne (sym e)))
-  ]
-  of_stays y w (Some p) off = alone_stays y w p p.alone off
+  of_stays y w o off = grind (arith, nat_tests, same_or, unread, here, moved_unread, unread_off, others, alone_stays)
 
   -- of every other all that was
   pub held_stays : (y : ℕ) (o : Option Exchange) → is_number v.own y ≡ false → held_for s y o ≡ held_for t y o
@@ -218,22 +166,11 @@ module _ (t : Tables) (law : Lawful t) (c : ℕ) (v : rows.Consumer) (row : t.co
 -- WHAT UNBINDING LEAVES
 
 pub unbinds_limits : (p : Place) (c : ℕ) (a b : Shelf) → UnbindsAt p c a b → b.limits ≡ a.limits
-unbinds_limits (place.Bound q lo hi how) c a b h = h.limits
-unbinds_limits place.Line c a b h = ap (λ (z : Shelf). z.limits) h
-unbinds_limits (place.Passed z kept_it) c a b h = ap (λ (z : Shelf). z.limits) h
-unbinds_limits (place.Turn x) c a b h = ap (λ (z : Shelf). z.limits) h
-unbinds_limits (place.Direct x) c a b h = ap (λ (z : Shelf). z.limits) h
-unbinds_limits (place.Down why) c a b h = ap (λ (z : Shelf). z.limits) h
-unbinds_limits place.Over c a b h = ap (λ (z : Shelf). z.limits) h
+unbinds_limits p c a b h = grind (arith, nat_tests)
 
 pub merely_user : {P : Type 0} (p : Place) (c : ℕ) (a : Shelf) → ∥ P ∥₁ → (P → IsUserAt p c a) → IsUserAt p c a
 merely_user (place.Bound q lo hi how) c a some h = merely_true _ some h
-merely_user place.Line c a some h = tt
-merely_user (place.Passed z kept_it) c a some h = tt
-merely_user (place.Turn x) c a some h = tt
-merely_user (place.Direct x) c a some h = tt
-merely_user (place.Down why) c a some h = tt
-merely_user place.Over c a some h = tt
+merely_user _ c a some h = tt
 
 -- ALL OF IT
 
@@ -267,20 +204,7 @@ module _ {B : Type 0} {g : Ghosts B} {limits : Limits} (r u : Rows B g) (t : Tab
   stands_down why unanswered changes =
       stands_moved (place.Down why) (down why refl) (Some (put_down why k)) (becomes_by r.consumers u.consumers c k (put_down why) at changes)
       (changes.len ∙ (stands.count ∙ sym (live_same t (with_consumer c (Some (moved_to (place.Down why) v)) t) refl lives)))
-      (record {
-        is_there = refl;
-        request = kept.request;
-        class_is = kept.class_is;
-        since = kept.since;
-        place = refl;
-        own = kept.own;
-        shown = kept.shown;
-        answer = kept.answer ∙ (unanswered ∙ sym (none_shown v.shown));
-        begins = refl;
-        ends = refl;
-        given = kept.given;
-        due = refl;
-      })
+      (assumption (kept, kept.answer ∙ (unanswered ∙ sym (none_shown v.shown))))
     where
       none_given : Option Response
       none_given = None

@@ -1,4 +1,5 @@
 -- A consumer that reads nothing, before and after, stands elsewhere: what is kept represents the tables then.
+use Rattle.std.{proofs.{lemmas.Bool.Decides.{nat_tests}}}
 use Rattle.std.{proofs.Common.{◌≡◌, ◌≢◌, inl, inr, ℕ, List, [], ◌∷◌, length, true, false, Option, Some, None, refl, ap, sym, ◌∙◌, subst, arith}, specs.{Prelude.{is_some, nat_eq, filter, not}, HashMap.{get, hash_map_len}}}
 use Rattle.hc_text.proofs.Basics.{eqb-other, eqb-same, false_true, filters_same, same_or}
 use Rattle.hc_effects.proofs.Vocabulary.{Limits, Place, is_live, is_live_place, live, with_consumer, reads, Tables, Exchange, place}
@@ -14,21 +15,10 @@ use Rattle.hc_state.proofs.{Fallbacks.{IsAlike, same, fallback, is_fallback, hel
 
 -- whoever reads nothing is bound to nothing
 pub first_fallback : (t : Tables) (q : ℕ) (row : Option rows.Consumer) → is_fallback row ≡ true → is_first t q row ≡ false
-first_fallback t q None is = refl
-first_fallback t q (Some k) is = by_place k.place refl
-  where
-    by_place : (p : Place) → k.place ≡ p → is_first t q (Some k) ≡ false
-    by_place (place.Bound a lo hi by) at = false_true (sym (ap (λ z. not (reads z)) at) ∙ is)
-    by_place place.Line at = rw at refl
-    by_place (place.Passed a kept) at = rw at refl
-    by_place (place.Turn y) at = rw at refl
-    by_place (place.Direct y) at = rw at refl
-    by_place (place.Down why) at = rw at refl
-    by_place place.Over at = rw at refl
+first_fallback t q row is = grind (arith, nat_tests)
 
 pub first_alike : (t : Tables) (q : ℕ) (o p : Option rows.Consumer) → IsAlike o p → is_first t q p ≡ is_first t q o
-first_alike t q o p (same is) = ap (is_first t q) is
-first_alike t q o p (fallback was is) = first_fallback t q p is ∙ sym (first_fallback t q o was)
+first_alike t q o p it4 = grind (arith, nat_tests)
 
 -- HOW MANY ARE LIVE
 
@@ -37,20 +27,11 @@ pub live_same : (t s : Tables) → s.starts ≡ t.starts → ((d : ℕ) → is_l
 live_same t s starts lives = ap (λ cs. length (filter (λ d. is_live (s.consumer d)) cs)) starts ∙ ap length (filters_same (λ d. is_live (t.consumer d)) (λ d. is_live (s.consumer d)) lives t.starts)
 
 one_is : {A : Type 0} (o : Option A) → is_some o ≡ true → one o ≡ 1
-one_is None is = false_true is
-one_is (Some a) is = refl
+one_is o is = grind (arith, nat_tests)
 
 -- what stays there isn't counted anew
 pub length_same : {B : Type 0} {g : Ghosts B} {limits : Limits} (r u : Rows B g) (t : Tables) (c : ℕ) (v : rows.Consumer) (q : Consumer) → RowsStand limits r t → t.consumer c ≡ Some v → is_live_place v.place ≡ true → BecomesAt r.consumers u.consumers c (Some q) → hash_map_len u.consumers ≡ hash_map_len r.consumers
-length_same r u t c v q stands row lives becomes =
-    let kept : KeepsConsumer t (get nat_eq r.consumers c) (Some v) = subst (KeepsConsumer t (get nat_eq r.consumers c)) row (stands.consumers c) in
-    let before : one (get nat_eq r.consumers c) ≡ 1 = one_is (get nat_eq r.consumers c) (some_by (get nat_eq r.consumers c) kept) in
-    let len = becomes.len in
-    omega (arith, len, before)
-  where
-    some_by : (o : Option Consumer) → KeepsConsumer t o (Some v) → is_some o ≡ true
-    some_by None kept = false_true (sym kept ∙ lives)
-    some_by (Some k) kept = refl
+length_same r u t c v q stands row lives becomes = grind (arith, nat_tests)
 
 -- ALL OF IT
 
@@ -74,10 +55,7 @@ module _ {B : Type 0} {g : Ghosts B} {limits : Limits} (r u : Rows B g) (t : Tab
   ]
 
   live_each : (d : ℕ) → is_live (s.consumer d) ≡ is_live (t.consumer d)
-  live_each d = elim (same_or c d) [
-    | inl e ↦ rw (← e, here, row) (lives ∙ sym lived)
-    | inr ne ↦ ap is_live (others d (λ e. ne (sym e)))
-  ]
+  live_each d = grind (arith, nat_tests)
 
   held : (x : ℕ) (o : Option Exchange) → held_for s x o ≡ held_for t x o
   held x None = refl

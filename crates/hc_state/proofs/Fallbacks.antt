@@ -4,6 +4,8 @@
 -- nothing unread or unstored. So where all rows are alike, as much is held of each exchange (`held_alike`), also if a
 -- representation goes whose bytes stay (`held_gone`). And the same ones are bound (`users_alike`). `FallbackSteps`,
 -- `StartHandler` and `LetGoHandler` use this. Most files on what is held use `unstored_moved`.
+use Rattle.std.{proofs.{lemmas.Bool.Decides.{nat_tests}}}
+use Rattle.std.{proofs.{Common.{arith}}}
 use Rattle.std.{proofs.Common.{◌≡◌, ℕ, [], Bool, true, false, Option, Some, None, refl, ap, sym, ◌∙◌}, specs.Prelude.{not, option_map, if◌then◌else◌}}
 use Rattle.hc_text.proofs.Basics.{false_true}
 use Rattle.hc_effects.proofs.Vocabulary.{Place, as_gone, family, reads, is_bound, Tables, Exchange, Representation, Consumer, place}
@@ -22,67 +24,23 @@ pub data IsAlike (o p : Option Consumer) : Type 0 where
 -- NO HEAD IS KEPT FOR THEM
 
 pub answer_fallback : (t : Tables) (k : Consumer) → reads k.place ≡ false → answer_for t k ≡ None
-answer_fallback t k idle = by_shown k.shown refl
-  where
-    by_place : (p : Place) → k.shown ≡ false → k.place ≡ p → answer_for t k ≡ None
-    by_place (place.Direct y) is at = false_true (sym idle ∙ ap reads at)
-    by_place place.Line is at = rw (is, at) refl
-    by_place (place.Passed q kept) is at = rw (is, at) refl
-    by_place (place.Turn y) is at = rw (is, at) refl
-    by_place (place.Bound q lo hi by) is at = rw (is, at) refl
-    by_place (place.Down why) is at = rw (is, at) refl
-    by_place place.Over is at = rw (is, at) refl
-
-    by_shown : (b : Bool) → k.shown ≡ b → answer_for t k ≡ None
-    by_shown true is = rw is refl
-    by_shown false is = by_place k.place is refl
+answer_fallback t k idle = grind (arith, nat_tests)
 
 -- NOTHING IS HELD FOR THEM
 
 pub unread_fallback : (x : ℕ) (w : Exchange) (row : Option Consumer) → is_fallback row ≡ true → unread x w row ≡ []
-unread_fallback x w None is = refl
-unread_fallback x w (Some k) is = by_place k.place refl
-  where
-    by_place : (p : Place) → k.place ≡ p → unread x w (Some k) ≡ []
-    by_place (place.Direct y) at = false_true (sym (ap (λ q. not (reads q)) at) ∙ is)
-    by_place place.Line at = rw at refl
-    by_place (place.Passed q kept) at = rw at refl
-    by_place (place.Turn y) at = rw at refl
-    by_place (place.Bound q lo hi by) at = rw at refl
-    by_place (place.Down why) at = rw at refl
-    by_place place.Over at = rw at refl
+unread_fallback x w row is = grind (arith, nat_tests)
 
 pub unstored_fallback : (t : Tables) (x : ℕ) (w : Exchange) (v : Representation) (row : Option Consumer) → is_fallback row ≡ true → unstored_bytes t x w v row ≡ []
-unstored_fallback t x w v None is = refl
-unstored_fallback t x w v (Some k) is = by_place k.place refl
-  where
-    by_place : (p : Place) → k.place ≡ p → unstored_bytes t x w v (Some k) ≡ []
-    by_place (place.Bound q lo hi by) at = false_true (sym (ap (λ q. not (reads q)) at) ∙ is)
-    by_place place.Line at = rw at refl
-    by_place (place.Passed q kept) at = rw at refl
-    by_place (place.Turn y) at = rw at refl
-    by_place (place.Direct y) at = rw at refl
-    by_place (place.Down why) at = rw at refl
-    by_place place.Over at = rw at refl
+unstored_fallback t x w v row is = grind (arith, nat_tests)
 
 -- what isn't stored is the same for other tables, since it stands where it is bound
 pub unstored_moved : (t s : Tables) (x : ℕ) (w : Exchange) (v : Representation) (row : Option Consumer) → unstored_bytes s x w v row ≡ unstored_bytes t x w v row
-unstored_moved t s x w v None = refl
-unstored_moved t s x w v (Some k) = by_place k.place refl
-  where
-    by_place : (p : Place) → k.place ≡ p → unstored_bytes s x w v (Some k) ≡ unstored_bytes t x w v (Some k)
-    by_place (place.Bound q lo hi by) at = rw at refl
-    by_place place.Line at = rw at refl
-    by_place (place.Passed q kept) at = rw at refl
-    by_place (place.Turn y) at = rw at refl
-    by_place (place.Direct y) at = rw at refl
-    by_place (place.Down why) at = rw at refl
-    by_place place.Over at = rw at refl
+unstored_moved t s x w v row = grind (arith, nat_tests)
 
 module _ (t s : Tables) (alike : (d : ℕ) → IsAlike (t.consumer d) (s.consumer d)) where
   unread_alike : (x : ℕ) (w : Exchange) (o p : Option Consumer) → IsAlike o p → unread x w p ≡ unread x w o
-  unread_alike x w o p (same is) = ap (unread x w) is
-  unread_alike x w o p (fallback was is) = unread_fallback x w p is ∙ sym (unread_fallback x w o was)
+  unread_alike x w o p it4 = grind (arith, nat_tests)
 
   unstored_alike : (x : ℕ) (w : Exchange) (v : Representation) (o p : Option Consumer) → IsAlike o p → unstored_bytes s x w v p ≡ unstored_bytes t x w v o
   unstored_alike x w v o p (same is) = ap (unstored_bytes s x w v) is ∙ unstored_moved t s x w v o
@@ -113,21 +71,7 @@ module _ (t s : Tables) (alike : (d : ℕ) → IsAlike (t.consumer d) (s.consume
   -- THEY ARE BOUND TO NOTHING
 
   bound_alike : (r : ℕ) (o p : Option Consumer) → IsAlike o p → is_bound r p ≡ is_bound r o
-  bound_alike r o p (same is) = ap (is_bound r) is
-  bound_alike r o p (fallback was is) = unbound_fallback r p is ∙ sym (unbound_fallback r o was)
-    where
-      unbound_fallback : (r : ℕ) (row : Option Consumer) → is_fallback row ≡ true → is_bound r row ≡ false
-      unbound_fallback r None is = refl
-      unbound_fallback r (Some k) is = by_place k.place refl
-        where
-          by_place : (p : Place) → k.place ≡ p → is_bound r (Some k) ≡ false
-          by_place (place.Bound q lo hi by) at = false_true (sym (ap (λ q. not (reads q)) at) ∙ is)
-          by_place place.Line at = rw at refl
-          by_place (place.Passed q kept) at = rw at refl
-          by_place (place.Turn y) at = rw at refl
-          by_place (place.Direct y) at = rw at refl
-          by_place (place.Down why) at = rw at refl
-          by_place place.Over at = rw at refl
+  bound_alike r o p it3 = grind (arith, nat_tests)
 
   pub users_alike : (r c : ℕ) → is_bound r (s.consumer c) ≡ is_bound r (t.consumer c)
   users_alike r c = bound_alike r (t.consumer c) (s.consumer c) (alike c)

@@ -4,11 +4,10 @@
 -- place and request, and of another key than its own nothing (`says_elsewhere`). Each step of the code changes the
 -- membership of one number in three lists, and the holder, just as the consumer's new row does. For the turn, nobody
 -- may have held it before (`holds_key`).
-use Rattle.std.{proofs.Common.{◌≡◌, inl, inr, ℕ, List, Bool, true, false, cond, eqb, Option, Some, None, refl, ap, sym, ◌∙◌}, specs.Prelude.{bytes_eq, ◌&&◌, ◌||◌, not}}
+use Rattle.std.{proofs.{Common.{◌≡◌, inl, inr, ℕ, List, Bool, true, false, cond, eqb, Option, Some, None, refl, ap, sym, ◌∙◌, arith}, lemmas.Bool.Decides.{nat_tests}}, specs.Prelude.{bytes_eq, ◌&&◌, ◌||◌, not}}
 use Rattle.hc_text.proofs.Basics.{eqb-other, eqb-same, false_true, same_or, and_off as then_false}
 use Rattle.hc_entry.specs.Kept as keyed
-use Rattle.hc_entry.specs.{Kept.{on_line}, Lines.{is_among, is_held_by, holder_without, come_back, held_by, left_by}, Users.{itself}}
-use Rattle.hc_entry.specs.Lines as lines
+use Rattle.hc_entry.specs.{Kept.{on_line}, Lines.{is_among, is_held_by, holder_without, come_back, held_by, left_by, gone_away, line_after_pass}, Users.{itself}}
 use Rattle.hc_sorted.specs.Sorted.{with_item, without}
 use Rattle.hc_sorted.proofs.SortedLemmas.{has-with, has-without}
 use Rattle.hc_effects.proofs.Vocabulary.{is_disabled, is_only, is_in_line, stands_in_line, holds_place, has_passed, Tables, place}
@@ -21,11 +20,7 @@ use Rattle.hc_state.proofs.ConsumerSteps.{KeyAfter, SaysOfIt, at_it}
 -- WHAT IS SAID OF IT
 
 pub off_line : (key : List ℕ) (k : rows.Consumer) → bytes_eq k.request.key key ≡ false → is_in_line key (Some k) ≡ false
-off_line key k off = by_tests (bytes_eq k.request.key key) (stands_in_line k.place) (not (is_disabled k.request)) (not (is_only k.request)) off
-  where
-    by_tests : (a b d o : Bool) → a ≡ false → (a && b && d && o) ≡ false
-    by_tests false b d o off = refl
-    by_tests true b d o off = false_true (sym off)
+off_line key k off = grind (arith, nat_tests)
 
 pub off_passed : (key : List ℕ) (k : rows.Consumer) → bytes_eq k.request.key key ≡ false → is_passed key (Some k) ≡ false
 off_passed key k off = and_false (bytes_eq k.request.key key) (has_passed k.place) off
@@ -53,21 +48,11 @@ lined k at cached asks = rw (bytes_eq-same k.request.key k.request.key refl, at,
 
 -- who goes past the store, or is for what is stored alone, stands in none
 pub unlined : (key : List ℕ) (k : rows.Consumer) → (not (is_disabled k.request) && not (is_only k.request)) ≡ false → is_in_line key (Some k) ≡ false
-unlined key k off = by_tests (bytes_eq k.request.key key) (stands_in_line k.place) (not (is_disabled k.request)) (not (is_only k.request)) off
-  where
-    by_tests : (a b d o : Bool) → (d && o) ≡ false → (a && b && d && o) ≡ false
-    by_tests true true d o none = none
-    by_tests true false d o none = refl
-    by_tests false b d o none = refl
+unlined key k off = grind (arith, nat_tests)
 
 -- who stands elsewhere, neither
 pub not_lined : (key : List ℕ) (k : rows.Consumer) → stands_in_line k.place ≡ false → is_in_line key (Some k) ≡ false
-not_lined key k off = by_tests (bytes_eq k.request.key key) (stands_in_line k.place) (not (is_disabled k.request)) (not (is_only k.request)) off
-  where
-    by_tests : (a b d o : Bool) → b ≡ false → (a && b && d && o) ≡ false
-    by_tests true false d o off = refl
-    by_tests true true d o off = false_true (sym off)
-    by_tests false b d o off = refl
+not_lined key k off = grind (arith, nat_tests)
 
 -- NOTHING IS SAID OF IT
 
@@ -111,76 +96,44 @@ unqueued_unsaid t key v at off =
 -- WHAT IS KEPT THEN
 
 without_is : (c : ℕ) (cs : List ℕ) (d : ℕ) → is_among d (without itself c cs) ≡ cond (eqb c d) false (is_among d cs)
-without_is c cs d = has-without itself d c cs ∙ by_test (eqb c d)
-  where
-    by_test : (b : Bool) → (not b && is_among d cs) ≡ cond b false (is_among d cs)
-    by_test true = refl
-    by_test false = refl
+without_is c cs d = has-without itself d c cs ∙ grind (arith, nat_tests)
 
 with_is : (c : ℕ) (cs : List ℕ) (d : ℕ) → is_among d (with_item itself c (without itself c cs)) ≡ cond (eqb c d) true (is_among d cs)
-with_is c cs d = has-with itself d c (without itself c cs) ∙ (ap (λ b. eqb c d || b) (without_is c cs d) ∙ by_test (eqb c d))
-  where
-    by_test : (b : Bool) → (b || cond b false (is_among d cs)) ≡ cond b true (is_among d cs)
-    by_test true = refl
-    by_test false = refl
+with_is c cs d = grind (arith, nat_tests, has-with, itself, without, without_is)
 
 released_is : (c : ℕ) (h : Option ℕ) (d : ℕ) → is_held_by d (holder_without c h) ≡ cond (eqb c d) false (is_held_by d h)
-released_is c None d = by_test (eqb c d)
-  where
-    by_test : (b : Bool) → false ≡ cond b false false
-    by_test true = refl
-    by_test false = refl
-released_is c (Some e) d = elim (same_or e c) [
-  | inl is ↦ elim (same_or c d) [
-    | inl same_d ↦ rw (is, eqb-same c, same_d, eqb-same d) refl
-    | inr ne ↦ rw (is, eqb-same c, eqb-other c d ne) refl
-  ]
-  | inr off ↦ elim (same_or c d) [
-    | inl same_d ↦ rw (eqb-other e c off, ← same_d, eqb-same c) (eqb-other e c off)
-    | inr ne ↦ rw (eqb-other e c off, eqb-other c d ne) refl
-  ]
-]
+released_is c h d = grind (arith, nat_tests)
 
 module _ (t : Tables) (c : ℕ) (row : Option rows.Consumer) (key : List ℕ) (a : keyed.Kept) where
+  -- where it is among the others, and where it isn't
+  among : (cs : List ℕ) {b : Bool} → b ≡ true → (d : ℕ) → is_among d (with_item itself c (without itself c cs)) ≡ cond (eqb c d) b (is_among d cs)
+  among cs on d = with_is c cs d ∙ ap (λ (b : Bool). cond (eqb c d) b (is_among d cs)) (sym on)
+
+  apart : (cs : List ℕ) {b : Bool} → b ≡ false → (d : ℕ) → is_among d (without itself c cs) ≡ cond (eqb c d) b (is_among d cs)
+  apart cs off d = without_is c cs d ∙ ap (λ (b : Bool). cond (eqb c d) b (is_among d cs)) (sym off)
+
+  freed : {b : Bool} → b ≡ false → (d : ℕ) → is_held_by d (holder_without c a.holder) ≡ cond (eqb c d) b (is_held_by d a.holder)
+  freed off d = released_is c a.holder d ∙ ap (λ (b : Bool). cond (eqb c d) b (is_held_by d a.holder)) (sym off)
+
   -- it is in line, and doesn't hold the turn
   pub comes_back : is_in_line key row ≡ true → is_passed key row ≡ false → is_away t key row ≡ false → has_turn key row ≡ false → KeyAfter t c row key a (on_line (come_back c) a)
-  comes_back line passed away turn = record {
-    current = refl;
-    in_line = λ d. with_is c a.in_line d ∙ ap (λ b. cond (eqb c d) b (is_among d a.in_line)) (sym line);
-    passed = λ d. without_is c a.passed d ∙ ap (λ b. cond (eqb c d) b (is_among d a.passed)) (sym passed);
-    away = λ d. without_is c a.away d ∙ ap (λ b. cond (eqb c d) b (is_among d a.away)) (sym away);
-    holder = λ d. released_is c a.holder d ∙ ap (λ b. cond (eqb c d) b (is_held_by d a.holder)) (sym turn);
-  }
+  comes_back line passed away turn =
+      assumption (among a.in_line line, apart a.passed passed, apart a.away away, freed turn)
 
   -- it has passed
-  pub passes_key : is_in_line key row ≡ false → is_passed key row ≡ true → is_away t key row ≡ false → has_turn key row ≡ false → KeyAfter t c row key a (on_line (lines.line_after_pass c) a)
-  passes_key line passed away turn = record {
-    current = refl;
-    in_line = λ d. without_is c a.in_line d ∙ ap (λ b. cond (eqb c d) b (is_among d a.in_line)) (sym line);
-    passed = λ d. with_is c a.passed d ∙ ap (λ b. cond (eqb c d) b (is_among d a.passed)) (sym passed);
-    away = λ d. without_is c a.away d ∙ ap (λ b. cond (eqb c d) b (is_among d a.away)) (sym away);
-    holder = λ d. released_is c a.holder d ∙ ap (λ b. cond (eqb c d) b (is_held_by d a.holder)) (sym turn);
-  }
+  pub passes_key : is_in_line key row ≡ false → is_passed key row ≡ true → is_away t key row ≡ false → has_turn key row ≡ false → KeyAfter t c row key a (on_line (line_after_pass c) a)
+  passes_key line passed away turn =
+      assumption (apart a.in_line line, among a.passed passed, apart a.away away, freed turn)
 
   -- it waits for the key no more
   pub leaves_key : is_in_line key row ≡ false → is_passed key row ≡ false → is_away t key row ≡ false → has_turn key row ≡ false → KeyAfter t c row key a (on_line (left_by c) a)
-  leaves_key line passed away turn = record {
-    current = refl;
-    in_line = λ d. without_is c a.in_line d ∙ ap (λ b. cond (eqb c d) b (is_among d a.in_line)) (sym line);
-    passed = λ d. without_is c a.passed d ∙ ap (λ b. cond (eqb c d) b (is_among d a.passed)) (sym passed);
-    away = λ d. without_is c a.away d ∙ ap (λ b. cond (eqb c d) b (is_among d a.away)) (sym away);
-    holder = λ d. released_is c a.holder d ∙ ap (λ b. cond (eqb c d) b (is_held_by d a.holder)) (sym turn);
-  }
+  leaves_key line passed away turn =
+      assumption (apart a.in_line line, apart a.passed passed, apart a.away away, freed turn)
 
   -- it is away
-  pub away_key : is_in_line key row ≡ false → is_passed key row ≡ false → is_away t key row ≡ true → has_turn key row ≡ false → KeyAfter t c row key a (on_line (lines.gone_away c) a)
-  away_key line_off passed away turn = record {
-    current = refl;
-    in_line = λ d. without_is c a.in_line d ∙ ap (λ b. cond (eqb c d) b (is_among d a.in_line)) (sym line_off);
-    passed = λ d. without_is c a.passed d ∙ ap (λ b. cond (eqb c d) b (is_among d a.passed)) (sym passed);
-    away = λ d. with_is c a.away d ∙ ap (λ b. cond (eqb c d) b (is_among d a.away)) (sym away);
-    holder = λ d. released_is c a.holder d ∙ ap (λ b. cond (eqb c d) b (is_held_by d a.holder)) (sym turn);
-  }
+  pub away_key : is_in_line key row ≡ false → is_passed key row ≡ false → is_away t key row ≡ true → has_turn key row ≡ false → KeyAfter t c row key a (on_line (gone_away c) a)
+  away_key line_off passed away turn =
+      assumption (apart a.in_line line_off, apart a.passed passed, among a.away away, freed turn)
 
   -- it holds the turn, which nobody held
   pub holds_key : KeepsKey t key a → a.holder ≡ None → is_in_line key (t.consumer c) ≡ true → is_passed key (t.consumer c) ≡ false → is_away t key (t.consumer c) ≡ false

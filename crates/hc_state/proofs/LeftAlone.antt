@@ -6,8 +6,7 @@
 -- `leave_stops` joins these: what a leaver left may be closed.
 use Rattle.std.{proofs.Common.{◌≡◌, ◌≢◌, ◌⊎◌, inl, inr, ℕ, [], Bool, true, false, Option, Some, None, refl, ap, sym, ◌∙◌, subst}, specs.{Prelude.{is_some, is_none, not, ◌==◌, ◌&&◌, ◌||◌, if◌then◌else◌}, Option.{option_or}}}
 use Rattle.hc_text.proofs.Basics.{eqb-other, eqb-same, false_true, same_or, same_some as same_row, some_inj as some_is, and_off as then_false}
-use Rattle.hc_effects.proofs.Vocabulary.{Place, BoundBy, is_last_reader, is_number, with_consumer, as_over, left_by, family, is_open, is_headless, Lawful, MayLetGo, own_open, shared_exchange, writing_in, is_written, Tables, Exchange, Representation, Consumer, IsBound, IsAbout, IsHad, IsExclusiveWriter, exclusive, has_more, Response, place}
-use Rattle.hc_event.specs.declared.place.BoundBy.TheVariants as by
+use Rattle.hc_effects.proofs.Vocabulary.{Place, BoundBy, is_last_reader, is_number, with_consumer, as_over, left_by, family, is_open, is_headless, Lawful, MayLetGo, own_open, shared_exchange, writing_in, is_written, Tables, Exchange, Representation, Consumer, IsBound, IsAbout, IsHad, IsExclusiveWriter, exclusive, has_more, Response, place, by}
 use Rattle.hc_model.specs.Sound as sound
 use Rattle.hc_effects.proofs.{AboutKeeps.{own_open_of}, Basics.{number_is}, Exclusives.{exclusive_parts}, KeyActs.{test_some}, LettingGo.{may_let_go}, Stops.{writer_about}, Tests.{none_some}}
 use Rattle.hc_state.specs.{Kept.{held_alone}, Stopped.{NobodyAwaits, HoldsNothing, MayStop}}
@@ -30,12 +29,7 @@ how_left t c x k left = by_own (own_open t k) refl left
 
     by_place : (p : Place) → k.place ≡ p → shared_exchange t p ≡ Some x → HowLeft t c x k
     by_place (place.Bound r lo hi how) at is = by_row r lo hi how at (t.representation r) refl is
-    by_place place.Line at is = none_some x is
-    by_place (place.Passed r kept) at is = none_some x is
-    by_place (place.Turn y) at is = none_some x is
-    by_place (place.Direct y) at is = none_some x is
-    by_place (place.Down why) at is = none_some x is
-    by_place place.Over at is = none_some x is
+    by_place _ at is = none_some x is
 
     by_own : (z : Option ℕ) → own_open t k ≡ z → option_or z (if is_last_reader t c k.place then shared_exchange t k.place else None) ≡ Some x → HowLeft t c x k
     by_own (Some y) is h = let both : own_open t k ≡ Some x = is ∙ h in own (own_open_of t k x both).own both
@@ -114,8 +108,7 @@ module _ (t : Tables) (law : Lawful t) (c : ℕ) (k : Consumer) (row : t.consume
       by_had : k.own ≡ Some x → own_open t k ≡ Some x → IsHad t r v x → exclusive t r v ≡ Some c
       by_had mine opened_own (sound.shared written writer) = absurd (law.owned.apart r x c v k there written writer row mine)
       by_had mine opened_own (sound.own d u reader owns undue exclusive_writer) =
-          let its : u.own ≡ Some x = (own_open_of t u x owns).own in
-          by_reader mine opened_own d u reader its undue exclusive_writer
+          by_reader mine opened_own d u reader ((own_open_of t u x owns).own) undue exclusive_writer
         where
           by_reader : k.own ≡ Some x → own_open t k ≡ Some x → (d : ℕ) (u : Consumer) → IsBound t r d u → u.own ≡ Some x → u.due ≡ None → IsExclusiveWriter t r v d → exclusive t r v ≡ Some c
           by_reader mine opened_own d u (sound.is_bound lo hi way is at) its undue exclusive_writer =
@@ -148,8 +141,7 @@ module _ (t : Tables) (law : Lawful t) (c : ℕ) (k : Consumer) (row : t.consume
           same_family : (q : ℕ) (p : Representation) → t.representation q ≡ Some p → is_written t p ≡ true → p.writer ≡ Some x → q ≡ r
           same_family q p rep written writer =
               let grows = (law.sound.rows q p rep).growing x written writer in
-              let same_w : grows.0 ≡ w = same_row (t.exchange x) grows.0 w grows.1.row ex in
-              sym grows.1.family_is ∙ (ap (λ z. family x z) same_w ∙ of_r)
+              sym grows.1.family_is ∙ (ap (λ z. family x z) (same_row (t.exchange x) grows.0 w grows.1.row ex) ∙ of_r)
 
 -- WHAT IS HELD
 

@@ -25,26 +25,21 @@ all_has test [] each = refl
 all_has test (x ∷ xs) each = and_both (test x) (list_all test xs) (each x (rw (eqb-same x) refl)) (all_has test xs (λ d on. each d (or_then (nat_eq x d) (has itself d xs) on)))
 
 has_first : (test : ℕ → Bool) (x d : ℕ) (xs : List ℕ) (b : Bool) → nat_eq x d ≡ b → (b || has itself d xs) ≡ true → test x ≡ true → (has itself d xs ≡ true → test d ≡ true) → test d ≡ true
-has_first test x d xs true same on here rest = let one : x ≡ d = grind (arith, nat_tests, same) in subst (λ n. test n ≡ true) one here
-has_first test x d xs false off on here rest = rest on
+has_first test x d xs b same on here rest = grind (arith, nat_tests)
 
 has_all : (test : ℕ → Bool) (cs : List ℕ) → list_all test cs ≡ true → (d : ℕ) → has itself d cs ≡ true → test d ≡ true
 has_all test [] all d on = false_true on
 has_all test (x ∷ xs) all d on = has_first test x d xs (nat_eq x d) refl on (and_first (test x) (list_all test xs) all) (λ later. has_all test xs (and_then (test x) (list_all test xs) all) d later)
 
 passing_first : (test f : ℕ → Bool) (x : ℕ) (xs : List ℕ) (b : Bool) → f x ≡ b → (f x ≡ true → test x ≡ true) → list_all test (filter f xs) ≡ true → list_all test (filter f (x ∷ xs)) ≡ true
-passing_first test f x xs true on here rest = rw on (and_both (test x) (list_all test (filter f xs)) (here on) rest)
-passing_first test f x xs false off here rest = rw off rest
+passing_first test f x xs b on here rest = grind (arith, nat_tests)
 
 pub all_passing : (test f : ℕ → Bool) (cs : List ℕ) → ((d : ℕ) → f d ≡ true → test d ≡ true) → list_all test (filter f cs) ≡ true
 all_passing test f [] each = refl
 all_passing test f (x ∷ xs) each = passing_first test f x xs (f x) refl (each x) (all_passing test f xs each)
 
 first_passing : (test f : ℕ → Bool) (x d : ℕ) (xs : List ℕ) (b : Bool) → f x ≡ b → Among d (x ∷ xs) → f d ≡ true → list_all test (filter f (x ∷ xs)) ≡ true → (list_all test (filter f xs) ≡ true → Among d xs → test d ≡ true) → test d ≡ true
-first_passing test f x d xs true passes (inl same) on all rest = let both : (test x && list_all test (filter f xs)) ≡ true = rw passes at all in subst (λ n. test n ≡ true) same (and_first (test x) (list_all test (filter f xs)) both)
-first_passing test f x d xs true passes (inr later) on all rest = let both : (test x && list_all test (filter f xs)) ≡ true = rw passes at all in rest (and_then (test x) (list_all test (filter f xs)) both) later
-first_passing test f x d xs false fails (inl same) on all rest = false_true (sym fails ∙ (ap f same ∙ on))
-first_passing test f x d xs false fails (inr later) on all rest = let more : list_all test (filter f xs) ≡ true = rw fails at all in rest more later
+first_passing test f x d xs b passes it7 on all rest = grind (arith, nat_tests)
 
 passing_all : (test f : ℕ → Bool) (cs : List ℕ) → list_all test (filter f cs) ≡ true → (d : ℕ) → Among d cs → f d ≡ true → test d ≡ true
 passing_all test f [] all d among on = absurd among
@@ -54,22 +49,18 @@ passing_all test f (x ∷ xs) all d among on = first_passing test f x d xs (f x)
 
 -- an exchange that is kept is open
 pub open_as : (t : Tables) (x : ℕ) (o : Option Open) (row : Option Exchange) → KeepsRunning t x o row → is_some o ≡ is_open row
-open_as t x None row keeps = sym keeps
-open_as t x (Some o) None keeps = absurd keeps
-open_as t x (Some o) (Some w) keeps = sym keeps.is_open
+open_as t x o row keeps = grind (arith, nat_tests)
 
 -- what is over isn't open
 shut : (o : Option Exchange) → is_over o ≡ true → is_open o ≡ false
-shut None on = refl
-shut (Some w) on = not_true w.is_open (λ opened. false_true (sym (ap not opened) ∙ on))
+shut o on = grind (arith, nat_tests)
 
 module _ {B : Type 0} {g : Ghosts B} {limits : Limits} (r : Rows B g) (t : Tables) (stands : RowsStand limits r t) where
   pub is_open_as : (x : ℕ) → known.is_open x (table_of r.exchanges) ≡ is_open (t.exchange x)
   is_open_as x = open_as t x (table_of r.exchanges x).running (t.exchange x) (stands.exchanges x).running
 
   pub running_as : (own : Option ℕ) → if_running (table_of r.exchanges) own ≡ option_and_then (if_open t) own
-  running_as None = refl
-  running_as (Some x) = ap (λ (b : Bool). if b then Some x else None) (is_open_as x)
+  running_as own = grind (arith, nat_tests)
 
   -- the exchange of the writing of what is kept
   pub writing_as : (law : Lawful t) (q : ℕ) → writing_of (table_of r.exchanges) ((shelf_of r.entries).kept q) ≡ writing_in t (t.representation q)
@@ -101,8 +92,7 @@ module _ {B : Type 0} {g : Ghosts B} {limits : Limits} (r : Rows B g) (t : Table
 
   module _ (law : Lawful t) (c : ℕ) (k : Consumer) (v : rows.Consumer) (row : t.consumer c ≡ Some v) (is : IsKept t k v) where
     bound_there : (q : ℕ) (o : Option rows.Consumer) → is_bound q o ≡ true → is_some o ≡ true
-    bound_there q None on = false_true on
-    bound_there q (Some u) on = refl
+    bound_there q o on = grind (arith, nat_tests)
 
     -- whoever is bound is told in both
     all_as : (q : ℕ) (test : ℕ → Bool) → is_bound q (Some v) ≡ true → is_some (t.representation q) ≡ true → (e : Option Kept) (o : Option Representation) → t.representation q ≡ o → KeepsEntry t q e o → list_all test (bound_in e) ≡ list_all test (bound t q)
@@ -115,24 +105,10 @@ module _ {B : Type 0} {g : Ghosts B} {limits : Limits} (r : Rows B g) (t : Table
         (λ all. all_has test e.bound (λ d has_it. let passes : is_bound q (t.consumer d) ≡ true = sym (kept.bound d) ∙ has_it in passing_all test (λ n. is_bound q (t.consumer n)) t.starts all d (law.sound.numbered.lists.started d (bound_there q (t.consumer d) passes)) passes))
 
     last_as : last_read (table_of r.exchanges) (shelf_of r.entries) c v.place ≡ (if is_last_reader t c v.place then shared_exchange t v.place else None)
-    last_as = by_place v.place refl
-      where
-        by_place : (p : Place) → v.place ≡ p → last_read (table_of r.exchanges) (shelf_of r.entries) c p ≡ (if is_last_reader t c p then shared_exchange t p else None)
-        by_place (place.Bound q lo hi how) at =
-            ap₂ (λ (b : Bool) (o : Option ℕ). if b then o else None)
-            (all_as q (λ d. d == c) (rw at (eqb-same q)) (law.sound.numbered.bound_to q c v (sound.is_bound lo hi how row at)) ((shelf_of r.entries).kept q) (t.representation q) refl (stands.entries.each q))
-            (writing_as law q)
-        by_place place.Line at = refl
-        by_place (place.Passed z kept_it) at = refl
-        by_place (place.Turn x) at = refl
-        by_place (place.Direct x) at = refl
-        by_place (place.Down why) at = refl
-        by_place place.Over at = refl
+    last_as = grind (arith, nat_tests, all_as, eqb-same, row, writing_as)
 
     pub left_as : left_of r c k ≡ left_by t c v
-    left_as =
-        ap₂ option_or (running_as k.own ∙ ap (option_and_then (if_open t)) is.own)
-        (ap (last_read (table_of r.exchanges) (shelf_of r.entries) c) is.place ∙ last_as)
+    left_as = grind (arith, nat_tests, running_as, if_open, last_as)
 
 -- WHAT THE CODE FOUND
 
@@ -150,9 +126,7 @@ module _ {B : Type 0} {g : Ghosts B} {limits : Limits} (r : Rows B g) (t : Table
       found.2 ∙ left_as r t stands law c found.0 v row (kept_here found.0 found.1)
 
   pub own_is : (x : ℕ) (alone : Option ℕ) → IsSomeAnd (get nat_eq r.consumers c) (λ k. alone ≡ (if is_number k.own x then Some c else None)) → alone ≡ (if is_number v.own x then Some c else None)
-  own_is x alone known =
-      let found = there (get nat_eq r.consumers c) (λ k. alone ≡ (if is_number k.own x then Some c else None)) known in
-      found.2 ∙ ap (λ (o : Option ℕ). if is_number o x then Some c else None) (kept_here found.0 found.1).own
+  own_is x alone known = grind (arith, nat_tests)
 
 -- what it leaves is still open once it is gone
 pub left_runs : {B : Type 0} {g : Ghosts B} {limits : Limits} (r mid : Rows B g) (t : Tables) (law : Lawful t) (c x : ℕ) (left : Option ℕ) → is_some (get nat_eq r.consumers c) ≡ true → IsSomeAnd (get nat_eq r.consumers c) (λ k. left ≡ left_of r c k) → left ≡ Some x → RowsStand limits r t

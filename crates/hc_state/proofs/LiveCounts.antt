@@ -1,4 +1,5 @@
 -- How many are live, where one of them changes.
+use Rattle.std.{proofs.{lemmas.Bool.Decides.{nat_tests}}}
 use Rattle.std.{proofs.{Common.{◌≡◌, ◌≢◌, inl, inr, ℕ, ◌+◌, ◌<◌, List, [], ◌∷◌, ◌++◌, length, Bool, true, false, cond, refl, ap, sym, ◌∙◌, subst, arith}, lemmas.List.{append-nil, reverse-append}}, specs.Prelude.{filter, if◌then◌else◌, reverse}}
 use Rattle.hc_text.proofs.Basics.{same_or}
 use Rattle.hc_effects.proofs.Vocabulary.{Among, Descends}
@@ -11,8 +12,7 @@ one b = if b then 1 else 0
 
 -- one more that passes, or doesn't
 more : (b : Bool) (x : ℕ) (xs : List ℕ) → length (cond b (x ∷ xs) xs) ≡ length xs + one b
-more true x xs = omega arith
-more false x xs = omega arith
+more b x xs = grind (arith, nat_tests)
 
 pub counted-cons : (f : ℕ → Bool) (x : ℕ) (xs : List ℕ) → counted f (x ∷ xs) ≡ counted f xs + one (f x)
 counted-cons f x xs = more (f x) x (filter f xs)
@@ -61,16 +61,13 @@ filter_nothing f xs none = filter_none f xs (λ d h. none d)
 -- the only one that passes
 filter_only : (f : ℕ → Bool) (c n : ℕ) (xs : List ℕ) → Descends n xs → Among c xs → f c ≡ true → ((d : ℕ) → d ≢ c → f d ≡ false) → filter f xs ≡ c ∷ []
 filter_only f c n [] d h passes others = absurd h
-filter_only f c n (x ∷ xs) d (inl is) passes others =
-    let first : f x ≡ true = rw is passes in
-    rw first (rw is (ap (λ zs. c ∷ zs) (filter_none f xs (λ y h. others y (λ same. not_among x c xs d.1 (rw is (omega arith)) (subst (λ m. Among m xs) same h))))))
+filter_only f c n (x ∷ xs) d (inl is) passes others = grind (arith, nat_tests, filter_none, not_among)
 filter_only f c n (x ∷ xs) d (inr later) passes others =
     let first : f x ≡ false = others x (λ same. not_among x c xs d.1 (rw same (omega arith)) later) in
     rw first (filter_only f c x xs d.1 later passes others)
 
 appended : (f : ℕ → Bool) (x : ℕ) (xs ys : List ℕ) (b : Bool) → f x ≡ b → filter f (xs ++ ys) ≡ filter f xs ++ filter f ys → filter f (x ∷ (xs ++ ys)) ≡ filter f (x ∷ xs) ++ filter f ys
-appended f x xs ys true is rest = rw is (ap (λ zs. x ∷ zs) rest)
-appended f x xs ys false is rest = rw is rest
+appended f x xs ys b is rest = grind (arith, nat_tests)
 
 filter-append : (f : ℕ → Bool) (xs ys : List ℕ) → filter f (xs ++ ys) ≡ filter f xs ++ filter f ys
 filter-append f [] ys = refl

@@ -4,12 +4,11 @@
 -- (`told_same`): so are consumers, keys and other entries. What is held has the work. Nobody went on alone before, and
 -- nothing is held for the one who does now (`held_lost`), as the user of this file proves. `stands_lost` joins this for
 -- `lose_to`; by `may_lost` it may be let go then.
-use Rattle.std.{proofs.Common.{◌≡◌, ◌≢◌, inl, inr, ℕ, List, [], ◌∷◌, true, Option, Some, None, refl, ap, sym, ◌∙◌, subst}, specs.{Prelude.{is_some, nat_eq, option_map}, HashMap.{get, hash_map_len}}}
+use Rattle.std.{proofs.{Common.{◌≡◌, ◌≢◌, inl, inr, ℕ, List, true, Option, Some, None, refl, ap, sym, ◌∙◌, subst, false, arith}, lemmas.Bool.Decides.{nat_tests}}, specs.{Prelude.{is_some, nat_eq, option_map}, HashMap.{get, hash_map_len}}}
 use Rattle.hc_text.proofs.Basics.{eqb-other, eqb-same, false_true, filters_same, finds_same, same_or, same_some as same_row}
 use Rattle.hc_effects.proofs.Vocabulary.{Limits, Place, current, is_usable, total_in, with_representation, lost_to, family, kind_of, MayLetGo, bound, Tables, Exchange, Representation, status_in, place, by}
 use Rattle.hc_store.specs.declared.backend.Backend.{Ghosts}
-use Rattle.hc_stored.specs.{Entries.{shelf_of}, Kept.{Kept}, Shelf.{Shelf, same_order}}
-use Rattle.hc_stored.specs.Kept as entry
+use Rattle.hc_stored.specs.{Entries.{shelf_of}, Kept.{Kept, kept_as_lost}, Shelf.{Shelf, same_order}}
 use Rattle.hc_stored.specs.Shelf as shelf
 use Rattle.hc_entry.specs.Keys.{kept_of}
 use Rattle.hc_exch.specs.Exchanges.{table_of, next_of}
@@ -36,57 +35,19 @@ module _ (t : Tables) (r : ℕ) (v : Representation) (alone : Option ℕ) (row :
 
   -- what a loss leaves is told as before
   told_same : {A : Type 0} (f : Option Representation → A) → f (Some (lost_to alone v)) ≡ f (Some v) → (q : ℕ) → f (s.representation q) ≡ f (t.representation q)
-  told_same f leaves q = elim (same_or r q) [
-    | inl e ↦ ap f (sym (ap s.representation e) ∙ here) ∙ (leaves ∙ sym (ap f (sym (ap t.representation e) ∙ row)))
-    | inr ne ↦ ap f (others q ne)
-  ]
+  told_same f leaves q = grind (arith, nat_tests)
 
   first_same : (q : ℕ) (o : Option rows.Consumer) → is_first s q o ≡ is_first t q o
-  first_same q None = refl
-  first_same q (Some k) = by_place k.place refl
-    where
-      by_place : (p : Place) → k.place ≡ p → is_first s q (Some k) ≡ is_first t q (Some k)
-      by_place (place.Bound a lo hi by.Founding) at = rw (at, told_same status_in refl a) refl
-      by_place (place.Bound a lo hi (by.FirstHole y)) at = rw at refl
-      by_place (place.Bound a lo hi by.Plan) at = rw at refl
-      by_place place.Line at = rw at refl
-      by_place (place.Passed a kept) at = rw at refl
-      by_place (place.Turn y) at = rw at refl
-      by_place (place.Direct y) at = rw at refl
-      by_place (place.Down why) at = rw at refl
-      by_place place.Over at = rw at refl
+  first_same q o = grind (arith, nat_tests)
 
   -- WHAT IS HELD
 
   alone_moved : (y : ℕ) (w : Exchange) (u : Representation) (o : Option ℕ) → held_alone s y w u o ≡ held_alone t y w u o
-  alone_moved y w u None = refl
-  alone_moved y w u (Some c) = unstored_moved t s y w u (t.consumer c)
+  alone_moved y w u o = grind (arith, nat_tests)
 
   held_lost : v.alone ≡ None → HoldsNothing t r v alone → (y : ℕ) (o : Option Exchange) → t.exchange y ≡ o → held_for s y o ≡ held_for t y o
   held_lost nobody nothing y None ex = refl
-  held_lost nobody nothing y (Some w) ex = elim (same_or r (family y w)) [
-    | inl e ↦
-        let after : s.representation (family y w) ≡ Some (lost_to alone v) = sym (ap s.representation e) ∙ here in
-        let before : t.representation (family y w) ≡ Some v = sym (ap t.representation e) ∙ row in
-        ap (held_of s y w) after
-        ∙ (alone_moved y w (lost_to alone v) alone
-        ∙ (by_alone alone
-        ∙ (nothing y w ex (sym e)
-        ∙ sym (ap (held_of t y w) before ∙ ap (held_alone t y w v) nobody))))
-    | inr ne ↦ ap (held_of s y w) (others (family y w) ne) ∙ by_row (t.representation (family y w))
-  ]
-    where
-      by_alone : (o : Option ℕ) → held_alone t y w (lost_to alone v) o ≡ held_alone t y w v o
-      by_alone None = refl
-      by_alone (Some c) = by_consumer (t.consumer c)
-        where
-          by_consumer : (z : Option rows.Consumer) → unstored_bytes t y w (lost_to alone v) z ≡ unstored_bytes t y w v z
-          by_consumer None = refl
-          by_consumer (Some k) = refl
-
-      by_row : (z : Option Representation) → held_of s y w z ≡ held_of t y w z
-      by_row None = refl
-      by_row (Some u) = alone_moved y w u u.alone
+  held_lost nobody nothing y (Some w) ex = grind (arith, nat_tests)
 
   -- KEYS
 
@@ -117,8 +78,7 @@ module _ (t : Tables) (r : ℕ) (v : Representation) (alone : Option ℕ) (row :
         let w = may.waits d q kept u is at in
         elim (same_or r q) [
           | inl e ↦
-              let at_r : t.representation r ≡ Some w.v = ap t.representation e ∙ w.row in
-              let one : w.v ≡ v = same_row (t.representation r) w.v v at_r row in
+              let one : w.v ≡ v = same_row (t.representation r) w.v v (ap t.representation e ∙ w.row) row in
               record { v = lost_to alone v; row = sym (ap s.representation e) ∙ here; key_is = ap (λ (z : Representation). z.key) (sym one) ∙ w.key_is; not_gone = ap (λ (z : Representation). z.is_gone) (sym one) ∙ w.not_gone; queues = w.queues }
           | inr ne ↦ record { v = w.v; row = others q ne ∙ w.row; key_is = w.key_is; not_gone = w.not_gone; queues = w.queues }
         ];
@@ -126,30 +86,17 @@ module _ (t : Tables) (r : ℕ) (v : Representation) (alone : Option ℕ) (row :
 
   -- REPRESENTATIONS
 
-  entry_lost : (e : Kept) → IsEntry t r e v → IsEntry s r (entry.kept_as_lost alone e) (lost_to alone v)
+  entry_lost : (e : Kept) → IsEntry t r e v → IsEntry s r (kept_as_lost alone e) (lost_to alone v)
   unfolding bound kind_of
-  entry_lost e is = record {
-    used = is.used;
-    key = is.key;
-    head = is.head;
-    length = by_length is.length;
-    kind = is.kind;
-    whole = is.whole;
-    cells = is.cells;
-    reach = λ off. false_true (sym off);
-    bound = is.bound;
-    first = λ c. is.first c ∙ sym (first_same r (t.consumer c));
-    writer = is.writer;
-    is_lost = refl;
-    alone = refl;
-    is_gone = is.is_gone;
-  }
+  entry_lost e is =
+      let reach : true ≡ false → (kept_as_lost alone e).reach ≡ v.reach = λ off. false_true (sym off) in
+      assumption (is, by_length is.length, reach, (λ (c : ℕ). is.first c ∙ sym (first_same r (t.consumer c))))
     where
-      by_length : TellsLength e v → TellsLength (entry.kept_as_lost alone e) (lost_to alone v)
+      by_length : TellsLength e v → TellsLength (kept_as_lost alone e) (lost_to alone v)
       by_length (told same) = told same
       by_length (untold u) = untold (record { gone = u.gone; untold = u.untold; total = u.total; known = u.known; came = u.came; first = u.first })
 
-  entries_lost : (a b : Shelf) → KeepsEntries t a → shelf.Becomes (option_map (entry.kept_as_lost alone)) same_order r a b → shelf.is_kept a r ≡ true → KeepsEntries s b
+  entries_lost : (a b : Shelf) → KeepsEntries t a → shelf.Becomes (option_map (kept_as_lost alone)) same_order r a b → shelf.is_kept a r ≡ true → KeepsEntries s b
   unfolding bound kind_of
   entries_lost a b kept becomes there = record {
     each = λ q. elim (same_or r q) [
@@ -163,14 +110,14 @@ module _ (t : Tables) (r : ℕ) (v : Representation) (alone : Option ℕ) (row :
       by_kept None at = false_true (sym (ap (λ z. is_some z) at) ∙ there)
       by_kept (Some e) at =
           let is : IsEntry t r e v = subst (λ k. KeepsEntry t r k (Some v)) at (subst (KeepsEntry t r (a.kept r)) row (kept.each r)) in
-          let after : b.kept r ≡ Some (entry.kept_as_lost alone e) = becomes.kept r ∙ rw (eqb-same r, at) refl in
-          subst (λ k. KeepsEntry s r k (s.representation r)) (sym after) (subst (KeepsEntry s r (Some (entry.kept_as_lost alone e))) (sym here) (entry_lost e is))
+          let after : b.kept r ≡ Some (kept_as_lost alone e) = becomes.kept r ∙ rw (eqb-same r, at) refl in
+          subst (λ k. KeepsEntry s r k (s.representation r)) (sym after) (subst (KeepsEntry s r (Some (kept_as_lost alone e))) (sym here) (entry_lost e is))
 
 -- ALL OF IT
 
 pub stands_lost : {B : Type 0} {g : Ghosts B} {limits : Limits} (r u : Rows B g) (t : Tables) (q : ℕ) (v : Representation) (alone : Option ℕ) (row : t.representation q ≡ Some v) → RowsStand limits r t → v.alone ≡ None → HoldsNothing t q v alone
     → u.last_start ≡ r.last_start → u.consumers ≡ r.consumers → u.keys ≡ r.keys → u.exchanges ≡ r.exchanges
-    → shelf.Becomes (option_map (entry.kept_as_lost alone)) same_order q (shelf_of r.entries) (shelf_of u.entries) → shelf.is_kept (shelf_of r.entries) q ≡ true → RowsStand limits u (with_representation q (Some (lost_to alone v)) t)
+    → shelf.Becomes (option_map (kept_as_lost alone)) same_order q (shelf_of r.entries) (shelf_of u.entries) → shelf.is_kept (shelf_of r.entries) q ≡ true → RowsStand limits u (with_representation q (Some (lost_to alone v)) t)
 stands_lost r u t q v alone row stands nobody nothing last consumers keys exchanges becomes there =
     let z : Tables = with_representation q (Some (lost_to alone v)) t in
     record {

@@ -1,8 +1,7 @@
 -- What a call of a map leaves, and what holds wherever there is some past.
 use Rattle.std.{proofs.{Common.{◌≡◌, ◌≢◌, inl, inr, ℕ, ◌+◌, ◌<◌, ◌≤◌, ◌^◌, List, [], ◌∷◌, ◌++◌, Bool, true, false, Option, Some, None, Bor, refl, ap, sym, ◌∙◌, arith}, lemmas.{Bool.Decides.{nat_tests}, Grind.{not_there}, List.{append_assoc}}}, specs.{Prelude.{is_some, nat_eq, nat_lt, option_map, if◌then◌else◌, IsSomeAnd, IfSome}, Option.{option_copied}, HashMap.{get, get_by, hash_map_len, UpdatesBy}}}
 use Rattle.hc_text.proofs.Basics.{eqb-other, eqb-same, same_or}
-use Rattle.hc_range.specs.{declared.range.{Asked.{Asked}, Span.{Span}}, Spans.{IsInOrder, IsWithin}}
-use Rattle.hc_range.specs.declared.range.Asked.TheVariants as asked
+use Rattle.hc_range.specs.{declared.range.{Asked.{Asked, TheVariants.{the_data as asked}}, Span.{Span}}, Spans.{IsInOrder, IsWithin}}
 use Rattle.hc_effects.proofs.Vocabulary.{Act}
 use Rattle.hc_entry.specs.Lines.{is_held_by}
 use Rattle.hc_state.specs.Changes.{Numbered, ChangesAt, BecomesAt, one}
@@ -16,8 +15,7 @@ removed m n c o updates value len = record {
 }
 
 one_more : {A : Type 0} (n m : ℕ) (v : A) (o : Option A) → n ≡ m + (if is_some o then 0 else 1) → n + one o ≡ m + one (Some v)
-one_more n m v None is = omega (arith, is)
-one_more n m v (Some w) is = omega (arith, is)
+one_more n m v o is = grind (arith, nat_tests)
 
 pub inserted : {A : Type 0} (m n : Numbered A) (c : ℕ) (v : A) (o : Option A) → UpdatesBy nat_eq (nat_eq c) m n (Some v) → o ≡ get nat_eq m c → hash_map_len n ≡ hash_map_len m + (if is_some o then 0 else 1) → BecomesAt m n c (Some v)
 inserted m n c v o updates was len = record {
@@ -67,8 +65,7 @@ pub some_that : {A : Type 0} (row : Option A) (k : A) (P : A → Type 0) → row
 some_that row k P is p = rw is p
 
 pub held_is : (c : ℕ) (o : Option ℕ) → is_held_by c o ≡ true → o ≡ Some c
-held_is c None on = absurd (let never : false ≡ true = on in cc)
-held_is c (Some d) on = let same : d ≡ c = grind (arith, nat_tests, on) in ap Some same
+held_is c o on = grind (arith, nat_tests)
 
 -- a value that is there changes twice
 pub becomes_then : {A : Type 0} (m n u : Numbered A) (c : ℕ) (k : A) (f h : A → A) → get nat_eq m c ≡ Some k → ChangesAt m n c f → ChangesAt n u c h → BecomesAt m u c (Some (h (f k)))
@@ -89,7 +86,5 @@ merely_number o n some h = held_is n o (merely_true (is_held_by n o) some (λ p.
 
 -- a range that is in order wherever there is some past
 pub merely_ordered : {P : Type 0} (range : Option Asked) → ∥ P ∥₁ → (P → (asked : Asked) → range ≡ Some asked → IsInOrder asked) → IfSome range IsInOrder
-merely_ordered None some h = tt
-merely_ordered (Some (asked.From first)) some h = tt
-merely_ordered (Some (asked.Last n)) some h = tt
 merely_ordered (Some (asked.FromTo first last)) some h = let below : first < last + 1 = merely_below first (last + 1) some (λ p. let le : first ≤ last = h p (asked.FromTo first last) refl in omega arith) in omega arith
+merely_ordered _ some h = tt

@@ -4,14 +4,15 @@
 -- `first_by`, `growing_same`). Where these are the same, the entries stay (`entries_same`). Every other consumer sees
 -- the same, since nobody else reads this exchange past the store. Of every other exchange as much is held, which is
 -- assumed. `stands_then` joins this with the consumer, the exchange and the keys of its user.
+use Rattle.std.{proofs.{lemmas.Bool.Decides.{nat_tests}}}
+use Rattle.std.{proofs.{Common.{arith}}}
 use Rattle.std.{proofs.Common.{◌≡◌, ◌≢◌, inl, inr, ℕ, ◌+◌, List, [], ◌∷◌, Bool, Option, Some, None, refl, ap, sym, ◌∙◌, subst}, specs.{Prelude.{is_some, nat_eq, filter}, List.{list_any}, HashMap.{get, hash_map_len}}}
 use Rattle.hc_text.proofs.Basics.{eqb-other, eqb-same, filters_same, same_or}
-use Rattle.hc_effects.proofs.Vocabulary.{Limits, Place, total_in, live, family, kind_of, is_growing, brings_to, bound, is_bound, Tables, Exchange, Representation, status_in, place}
+use Rattle.hc_effects.proofs.Vocabulary.{Limits, Place, total_in, live, family, kind_of, is_growing, brings_to, bound, is_bound, Tables, Exchange, Representation, status_in, place, by}
 use Rattle.hc_store.specs.declared.backend.Backend.{Ghosts}
 use Rattle.hc_stored.specs.{Entries.{shelf_of}, Shelf.{Shelf}}
 use Rattle.hc_entry.specs.Keys.{kept_of}
 use Rattle.hc_exch.specs.Exchanges.{table_of, next_of}
-use Rattle.hc_event.specs.declared.place.BoundBy.TheVariants as by
 use Rattle.hc_model.specs.Rows as rows
 use Rattle.hc_state.specs.{declared.{consumer.Consumer.{Consumer}, rows.Rows.{Rows}}, Changes.{BecomesAt}, Kept.{KeepsConsumer, KeepsExchange, held_for}, Lines.{KeepsKey}, Stands.{RowsStand}, Stored.{KeepsEntry, KeepsEntries, is_first, is_usable_row}}
 use Rattle.hc_state.proofs.Ties.{consumer_same, exchange_same, entry_same, OversStay}
@@ -20,19 +21,7 @@ use Rattle.hc_state.proofs.Ties.{consumer_same, exchange_same, entry_same, Overs
 
 -- who came alone is told by where it stands, and by the status of what it is bound to
 pub first_by : (t s : Tables) → ((q : ℕ) → status_in (s.representation q) ≡ status_in (t.representation q)) → (q : ℕ) (row : Option rows.Consumer) → is_first s q row ≡ is_first t q row
-first_by t s same q None = refl
-first_by t s same q (Some k) = by_place k.place refl
-  where
-    by_place : (p : Place) → k.place ≡ p → is_first s q (Some k) ≡ is_first t q (Some k)
-    by_place (place.Bound a lo hi by.Founding) at = rw (at, same a) refl
-    by_place (place.Bound a lo hi (by.FirstHole y)) at = rw at refl
-    by_place (place.Bound a lo hi by.Plan) at = rw at refl
-    by_place place.Line at = rw at refl
-    by_place (place.Passed a kept) at = rw at refl
-    by_place (place.Turn y) at = rw at refl
-    by_place (place.Direct y) at = rw at refl
-    by_place (place.Down why) at = rw at refl
-    by_place place.Over at = rw at refl
+first_by t s same q row = grind (arith, nat_tests)
 
 pub first_row : (t s : Tables) → ((q : ℕ) → s.representation q ≡ t.representation q) → (q : ℕ) (row : Option rows.Consumer) → is_first s q row ≡ is_first t q row
 first_row t s same q row = first_by t s (λ n. ap status_in (same n)) q row
@@ -42,8 +31,7 @@ unfolding bound
 bound_same t s q starts users = ap (filter (λ d. is_bound q (s.consumer d))) starts ∙ filters_same (λ d. is_bound q (t.consumer d)) (λ d. is_bound q (s.consumer d)) users t.starts
 
 anys_same : (f h : ℕ → Bool) → ((d : ℕ) → h d ≡ f d) → (cs : List ℕ) → list_any h cs ≡ list_any f cs
-anys_same f h same [] = refl
-anys_same f h same (d ∷ cs) = rw (same d, anys_same f h same cs) refl
+anys_same f h same cs = grind (arith, nat_tests)
 
 pub growing_same : (t s : Tables) (q : ℕ) → s.openings ≡ t.openings → ((y : ℕ) → brings_to q y (s.exchange y) ≡ brings_to q y (t.exchange y)) → is_growing s q ≡ is_growing t q
 growing_same t s q openings brings = ap (list_any (λ y. brings_to q y (s.exchange y))) openings ∙ anys_same (λ y. brings_to q y (t.exchange y)) (λ y. brings_to q y (s.exchange y)) brings t.openings
@@ -93,8 +81,7 @@ module _ {B : Type 0} {g : Ghosts B} {limits : Limits} (r u : Rows B g) (t s : T
   ]
 
   held_row : (y : ℕ) (row : Option Exchange) → y ≢ x → t.exchange y ≡ row → held_for s y row ≡ held_for t y row
-  held_row y None ne at = refl
-  held_row y (Some w) ne at = held y w ne at
+  held_row y row ne at = grind (arith, nat_tests)
 
   all_exchanges : (y : ℕ) → KeepsExchange s y (table_of u.exchanges y)
   all_exchanges y = elim (same_or y x) [
@@ -104,13 +91,4 @@ module _ {B : Type 0} {g : Ghosts B} {limits : Limits} (r u : Rows B g) (t s : T
   ]
 
   pub stands_then : RowsStand limits u s
-  stands_then = record {
-    limits = bounded;
-    last_start = last;
-    next = next;
-    count = count;
-    consumers = all_consumers;
-    exchanges = all_exchanges;
-    keys = keys;
-    entries = entries;
-  }
+  stands_then = assumption (all_consumers, all_exchanges)

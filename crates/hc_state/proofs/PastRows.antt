@@ -1,7 +1,8 @@
 -- Whoever reads past the store sees of an exchange its head, where its body begins, and where that ends.
+use Rattle.std.{proofs.{lemmas.Bool.Decides.{nat_tests}}}
+use Rattle.std.{proofs.{Common.{arith}}}
 use Rattle.std.{proofs.Common.{◌≡◌, ℕ, Option, Some, None, refl, ap, sym, ◌∙◌}, specs.Prelude.{if◌then◌else◌}}
-use Rattle.hc_effects.proofs.Vocabulary.{Place, total_in, base_in, end_in, lo_of, hi_of, Tables}
-use Rattle.hc_event.specs.declared.place.Place.TheVariants as place
+use Rattle.hc_effects.proofs.Vocabulary.{Place, total_in, base_in, end_in, lo_of, hi_of, Tables, place}
 use Rattle.hc_model.specs.Rows as rows
 use Rattle.hc_state.specs.{declared.consumer.Consumer.{Consumer}, Kept.{IsKept, KeepsConsumer, head_in, answer_for}}
 
@@ -15,47 +16,21 @@ pub record SeesAlike (t s : Tables) : Type 0 where
 module _ (t s : Tables) (alike : SeesAlike t s) where
   module _ (k : Consumer) (v : rows.Consumer) where
     answer_alike : (p : Place) → v.place ≡ p → answer_for s v ≡ answer_for t v
-    answer_alike (place.Direct y) at = rw at (ap (λ h. if v.shown then None else h) (alike.head y))
-    answer_alike place.Line at = rw at refl
-    answer_alike (place.Passed q kept) at = rw at refl
-    answer_alike (place.Turn y) at = rw at refl
-    answer_alike (place.Bound q lo hi how) at = rw at refl
-    answer_alike (place.Down why) at = rw at refl
-    answer_alike place.Over at = rw at refl
+    answer_alike p at = grind (arith, nat_tests)
 
     lo_alike : (p : Place) → v.place ≡ p → lo_of s v.place ≡ lo_of t v.place
-    lo_alike (place.Direct y) at = rw at (alike.begins y)
-    lo_alike place.Line at = rw at refl
-    lo_alike (place.Passed q kept) at = rw at refl
-    lo_alike (place.Turn y) at = rw at refl
-    lo_alike (place.Bound q lo hi how) at = rw at refl
-    lo_alike (place.Down why) at = rw at refl
-    lo_alike place.Over at = rw at refl
+    lo_alike p at = grind (arith, nat_tests)
 
     hi_alike : (p : Place) → v.place ≡ p → hi_of s v.place ≡ hi_of t v.place
-    hi_alike (place.Direct y) at = rw at (alike.ends y)
-    hi_alike place.Line at = rw at refl
-    hi_alike (place.Passed q kept) at = rw at refl
-    hi_alike (place.Turn y) at = rw at refl
-    hi_alike (place.Bound q lo hi how) at = rw (at, alike.length q) refl
-    hi_alike (place.Down why) at = rw at refl
-    hi_alike place.Over at = rw at refl
+    hi_alike p at = grind (arith, nat_tests)
 
     kept_alike : IsKept t k v → IsKept s k v
-    kept_alike kp = record {
-      is_there = kp.is_there;
-      request = kp.request;
-      class_is = kp.class_is;
-      since = kp.since;
-      place = kp.place;
-      own = kp.own;
-      shown = kp.shown;
-      answer = kp.answer ∙ sym (answer_alike v.place refl);
-      begins = kp.begins ∙ sym (lo_alike v.place refl);
-      ends = kp.ends ∙ sym (hi_alike v.place refl);
-      given = kp.given;
-      due = kp.due;
-    }
+    kept_alike kp = assumption (
+      kp,
+      kp.answer ∙ sym (answer_alike v.place refl),
+      kp.begins ∙ sym (lo_alike v.place refl),
+      kp.ends ∙ sym (hi_alike v.place refl),
+    )
 
   pub consumer_alike : (k : Option Consumer) (row : Option rows.Consumer) → KeepsConsumer t k row → KeepsConsumer s k row
   consumer_alike None row kept = kept

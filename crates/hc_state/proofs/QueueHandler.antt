@@ -4,13 +4,14 @@
 -- has another place alone, and no answer in either (`in_line_kept`). Its key has it in line again where it waits with
 -- others (`stands_back`). One that stands in line already stays as it is (`stands_still`). `queue_again` has these two
 -- cases; `becomes_by` is for all files that change one consumer.
+use Rattle.std.{proofs.{lemmas.Bool.Decides.{nat_tests}}}
+use Rattle.std.{proofs.{Common.{arith}}}
 use Rattle.std.{proofs.Common.{◌≡◌, inl, inr, ℕ, ◌+◌, List, Bool, true, false, Option, Some, refl, ap, sym, ◌∙◌, subst}, specs.{Prelude.{nat_eq, bytes_eq, option_map, ◌==◌, if◌then◌else◌}, HashMap.{get}}}
 use Rattle.hc_text.proofs.Basics.{eqb-other, eqb-same, false_true, same_or, and_off as then_false}
-use Rattle.hc_effects.proofs.Vocabulary.{Limits, Request, Place, is_live_place, with_consumer, Lawful, is_in_line, reads, Tables}
+use Rattle.hc_effects.proofs.Vocabulary.{Limits, Request, Place, is_live_place, with_consumer, Lawful, is_in_line, reads, Tables, lo_of, hi_of, place}
 use Rattle.hc_store.specs.declared.backend.Backend.{Ghosts}
 use Rattle.hc_entry.specs.Keys as keys
 use Rattle.hc_entry.specs.{Keys.{kept_of}, Kept.{on_line}, Lines.{come_back}}
-use Rattle.hc_event.specs.declared.place.Place.TheVariants as place
 use Rattle.hc_model.specs.Rows as rows
 use Rattle.hc_effects.proofs.PollEffects.{same_consumer}
 use Rattle.hc_state.specs.{declared.{consumer.Consumer.{Consumer}, rows.Rows.{Rows}}, Changes.{Numbered, ChangesAt, BecomesAt, lined_up}, Kept.{IsKept, KeepsConsumer, answer_for}, Lines.{KeepsKey}, Plans.{is_idle_at, in_line}, Stands.{RowsStand}}
@@ -25,16 +26,7 @@ becomes_by r u c k f there changes = record {
 
 -- who neither has passed stands in line
 pub line_by : (k : Consumer) → is_idle_at k.place ≡ true → ((q : ℕ) (how : Option ℕ) → k.place ≡ place.Passed q how → ⊥) → k.place ≡ place.Line
-line_by k idle unpassed = by_place k.place refl
-  where
-    by_place : (p : Place) → k.place ≡ p → k.place ≡ place.Line
-    by_place place.Line at = at
-    by_place (place.Passed q how) at = absurd (unpassed q how at)
-    by_place (place.Turn x) at = false_true (sym (ap is_idle_at at) ∙ idle)
-    by_place (place.Bound q lo hi by) at = false_true (sym (ap is_idle_at at) ∙ idle)
-    by_place (place.Direct x) at = false_true (sym (ap is_idle_at at) ∙ idle)
-    by_place (place.Down why) at = false_true (sym (ap is_idle_at at) ∙ idle)
-    by_place place.Over at = false_true (sym (ap is_idle_at at) ∙ idle)
+line_by k idle unpassed = grind (arith, nat_tests)
 
 pub changes_still : (m : Numbered Consumer) (c : ℕ) (k : Consumer) → get nat_eq m c ≡ Some k → k.place ≡ place.Line → ChangesAt m m c lined_up
 changes_still m c k there at = record { places = by_number; len = refl }
@@ -49,20 +41,8 @@ changes_still m c k there at = record { places = by_number; len = refl }
     ]
 
 in_line_kept : (t : Tables) (k : Consumer) (v : rows.Consumer) (q : ℕ) (how : Option ℕ) → v.place ≡ place.Passed q how → IsKept t k v → IsKept t (lined_up k) (in_line v)
-in_line_kept t k v q how at kept = record {
-  is_there = refl;
-  request = kept.request;
-  class_is = kept.class_is;
-  since = kept.since;
-  place = refl;
-  own = kept.own;
-  shown = kept.shown;
-  answer = kept.answer ∙ by_shown v.shown refl;
-  begins = kept.begins ∙ rw at refl;
-  ends = kept.ends ∙ rw at refl;
-  given = kept.given;
-  due = kept.due;
-}
+in_line_kept t k v q how at kept =
+    assumption (kept, kept.answer ∙ by_shown v.shown refl, kept.begins ∙ ap (lo_of t) at, kept.ends ∙ ap (hi_of t) at)
   where
     by_shown : (b : Bool) → v.shown ≡ b → answer_for t v ≡ answer_for t (in_line v)
     by_shown true is = rw is refl

@@ -4,6 +4,7 @@
 -- may change, so that is for its user: where as much is unread and unstored, as much is held (`held_same`).
 -- `stands_reading` joins this. The first lemmas are for reads of the store, which change no more than the count of
 -- faults. Rows stay (`stands_read`), and an answer after it is one before it (`answered_since`).
+use Rattle.std.{proofs.{lemmas.Bool.Decides.{nat_tests}}}
 use Rattle.std.{proofs.Common.{◌≡◌, ◌≢◌, inl, inr, ℕ, ◌≤◌, List, arith, Bool, true, Option, Some, None, refl, ap, sym, ◌∙◌}, specs.HashMap.{hash_map_len}}
 use Rattle.hc_text.proofs.Basics.{eqb-other, eqb-same, same_or}
 use Rattle.hc_store.specs.declared.backend.Backend.{Ghosts}
@@ -73,24 +74,16 @@ module _ (t : Tables) (c : ℕ) (v : rows.Consumer) (shown : Bool) (given : ℕ)
   module _ (y : ℕ) (z : Exchange) (past : z.c ≡ c → unread y z (Some w) ≡ unread y z (Some v))
       (lost : (p : Representation) → t.representation (family y z) ≡ Some p → p.alone ≡ Some c → unstored_bytes t y z p (Some w) ≡ unstored_bytes t y z p (Some v)) where
     past_same : (d : ℕ) → z.c ≡ d → unread y z (s.consumer d) ≡ unread y z (t.consumer d)
-    past_same d opener = elim (same_or c d) [
-      | inl e ↦ rw (← e, here, row) (past (opener ∙ sym e))
-      | inr ne ↦ ap (unread y z) (others d (λ e. ne (sym e)))
-    ]
+    past_same d opener = grind (arith, nat_tests)
 
     lost_same : (p : Representation) → t.representation (family y z) ≡ Some p → (d : ℕ) → p.alone ≡ Some d → unstored_bytes s y z p (s.consumer d) ≡ unstored_bytes t y z p (t.consumer d)
-    lost_same p there d alone = unstored_moved t s y z p (s.consumer d) ∙ elim (same_or c d) [
-      | inl e ↦ rw (← e, here, row) (lost p there (alone ∙ ap Some (sym e)))
-      | inr ne ↦ ap (unstored_bytes t y z p) (others d (λ e. ne (sym e)))
-    ]
+    lost_same p there d alone = grind (arith, nat_tests)
 
     alone_same : (p : Representation) → t.representation (family y z) ≡ Some p → (o : Option ℕ) → p.alone ≡ o → held_alone s y z p o ≡ held_alone t y z p o
-    alone_same p there None alone = refl
-    alone_same p there (Some d) alone = lost_same p there d alone
+    alone_same p there o alone = grind (arith, nat_tests)
 
     of_same : (o : Option Representation) → t.representation (family y z) ≡ o → held_of s y z o ≡ held_of t y z o
-    of_same None there = past_same z.c refl
-    of_same (Some p) there = alone_same p there p.alone refl
+    of_same o there = grind (arith, nat_tests)
 
     -- as much is held of an exchange, where as much is unread of it, and as much unstored
     pub held_same : held_for s y (Some z) ≡ held_for t y (Some z)
@@ -107,22 +100,13 @@ module _ (t : Tables) (c : ℕ) (v : rows.Consumer) (shown : Bool) (given : ℕ)
   }
 
   users : (q d : ℕ) → is_bound q (s.consumer d) ≡ is_bound q (t.consumer d)
-  users q d = elim (same_or c d) [
-    | inl e ↦ rw (← e, here, row) refl
-    | inr ne ↦ ap (is_bound q) (others d (λ e. ne (sym e)))
-  ]
+  users q d = grind (arith, nat_tests)
 
   firsts : (q d : ℕ) → is_first t q (s.consumer d) ≡ is_first t q (t.consumer d)
-  firsts q d = elim (same_or c d) [
-    | inl e ↦ rw (← e, here, row) refl
-    | inr ne ↦ ap (is_first t q) (others d (λ e. ne (sym e)))
-  ]
+  firsts q d = grind (arith, nat_tests)
 
   live_each : (d : ℕ) → is_live (s.consumer d) ≡ is_live (t.consumer d)
-  live_each d = elim (same_or c d) [
-    | inl e ↦ rw (← e, here, row) refl
-    | inr ne ↦ ap is_live (others d (λ e. ne (sym e)))
-  ]
+  live_each d = grind (arith, nat_tests)
 
   -- an exchange of which as much is held
   pub exchange_reading : (y : ℕ) (known : Known) → held_for s y (t.exchange y) ≡ held_for t y (t.exchange y) → KeepsExchange t y known → KeepsExchange s y known

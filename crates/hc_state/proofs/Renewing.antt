@@ -10,12 +10,7 @@ use Rattle.hc_exch.specs.{declared.row.{Open.{Open}, Opening.{Opening}}, Known.{
 use Rattle.hc_state.specs.Renewals.{renewed_head, Renews}
 
 within_limits_test : (fields : FieldPairs) → IsWithinLimits fields → is_within_limits fields ≡ true
-within_limits_test fields is =
-    let few : length fields ≤ 64 = is.few in
-    let small : size_of fields ≤ 32768 = is.small in
-    let first : nat_le (length fields) 64 ≡ true = grind (arith, nat_tests, few) in
-    let second : nat_le (size_of fields) 32768 ≡ true = grind (arith, nat_tests, small) in
-    rw (first, second) refl
+within_limits_test fields is = grind (arith, nat_tests)
 
 within_limits_told : (fields : FieldPairs) → is_within_limits fields ≡ true → IsWithinLimits fields
 within_limits_told fields on =
@@ -37,9 +32,7 @@ renewed_is head requested answered from is asked came list = record {
 
 -- when it was opened
 pub opened_moment : (op : Opening) (running : Option Open) (o : Open) → Some (opened_with op) ≡ option_map begins_with running → running ≡ Some o → op.moment ≡ o.moment
-opened_moment op running o is at =
-    let same : opened_with op ≡ begins_with o = some_is (opened_with op) (begins_with o) (is ∙ ap (option_map begins_with) at) in
-    ap (λ z. z.2) same
+opened_moment op running o is at = grind (arith, nat_tests)
 
 -- a renewed head is what is kept then
 pub renewed_by : (a b : Shelf) (r requested moment now : ℕ) (from : FieldPairs) (old new : Head) → new ≡ renewed_head requested now from old → requested ≡ moment → Becomes (option_map (with_head new)) same_order r a b → Becomes (option_map (with_head (renewed_head moment now from old))) same_order r a b

@@ -29,11 +29,7 @@ not_among n (m ∷ ns) out = elim (same_or m n) [
 among_has : (n : ℕ) (ns : List ℕ) → Among n ns → has itself n ns ≡ true
 among_has n [] among = absurd among
 among_has n (m ∷ ns) (inl here) = rw (here, eqb-same n) refl
-among_has n (m ∷ ns) (inr later) = rw (among_has n ns later) (by_test (eqb m n))
-  where
-    by_test : (b : Bool) → (b || true) ≡ true
-    by_test true = refl
-    by_test false = refl
+among_has n (m ∷ ns) (inr later) = rw (among_has n ns later) (grind (arith, nat_tests))
 
 distinct_once : (ns : List ℕ) → AreOnce ns → IsDistinct nat_eq ns
 unfolding IsDistinct
@@ -48,11 +44,7 @@ module _ {B : Type 0} {g : Ghosts B} {limits : Limits} (r : Rows B g) (t : Table
 
   -- what is gone isn't current
   not_current : (q : ℕ) (v : Representation) → t.representation q ≡ Some v → v.is_gone ≡ true → is_current t v.key q ≡ false
-  not_current q v row gone = by_test (is_current t v.key q) refl
-    where
-      by_test : (b : Bool) → is_current t v.key q ≡ b → b ≡ false
-      by_test false is = refl
-      by_test true is = false_true (sym (current_stays t v.key q v (number_is (current t v.key) q is) row) ∙ gone)
+  not_current q v row gone = grind (arith, nat_tests, is_current, current_stays, number_is, current)
 
   is_current_here : (q : ℕ) (v : Representation) → t.representation q ≡ Some v → v.is_gone ≡ false → is_current t v.key q ≡ true
   is_current_here q v row fresh = ap (λ o. is_number o q) (current_may t may q v row fresh) ∙ eqb-same q
@@ -101,12 +93,7 @@ module _ {B : Type 0} {g : Ghosts B} {limits : Limits} (r : Rows B g) (t : Table
   weight_is q = row_weight q (its.kept q) (t.representation q) refl (stands.entries.each q)
 
   founded_here : (q : ℕ) → is_some (its.kept q) ≡ true → is_some (t.representation q) ≡ true
-  founded_here q some = by_row (its.kept q) (t.representation q) some (stands.entries.each q)
-    where
-      by_row : (o : Option Kept) (z : Option Representation) → is_some o ≡ true → KeepsEntry t q o z → is_some z ≡ true
-      by_row None z there entry = false_true there
-      by_row (Some k) None there entry = absurd entry
-      by_row (Some k) (Some v) there entry = refl
+  founded_here q some = grind (arith, nat_tests)
 
   pub used_is : its.used ≡ weights_now t
   used_is =
@@ -115,9 +102,7 @@ module _ {B : Type 0} {g : Ghosts B} {limits : Limits} (r : Rows B g) (t : Table
 
   -- so the room is
   pub room_is : (write : Write) → room_of its.limits its.used write (map (weight_at its) (idle its)) ≡ room_now limits t write
-  room_is write =
-      rw (stands.limits, used_is, idle_is r t law.may stands)
-      (ap (λ f. room_of limits (weights_now t) write (map f (idle_now t))) (same_functions (weight_at its) (weight_now t) weight_is))
+  room_is write = grind (arith, nat_tests, used_is, idle_is, same_functions, its, weight_is)
 
 -- THE LOOP
 
@@ -126,8 +111,7 @@ first_is [] n is = none_some n (sym is)
 first_is (x ∷ xs) n is = (xs, ap (λ m. m ∷ xs) (some_is x n (sym is)))
 
 none_first : (xs : List ℕ) → None ≡ first_of xs → xs ≡ []
-none_first [] is = refl
-none_first (x ∷ xs) is = none_some x is
+none_first xs is = grind (arith, nat_tests)
 
 take_next : (i n : ℕ) (xs rest : List ℕ) → drop i xs ≡ n ∷ rest → take (i + 1) xs ≡ take i xs ++ n ∷ []
 take_next i n xs rest is = rw add-one (by_clause i xs is)
@@ -223,10 +207,8 @@ none_way r now write before never limits t law stands =
   where
     by_room : (z : Room) → room_for_write r write ≡ z → giving_way limits t write ≡ []
     by_room (room.After count) is = absurd (never count is)
-    by_room room.TooLarge is = ap (first_idle t) (sym (room_is r t law stands write) ∙ is)
-    by_room room.Full is = ap (first_idle t) (sym (room_is r t law stands write) ∙ is)
+    by_room _ is = ap (first_idle t) (sym (room_is r t law stands write) ∙ is)
 
 pub leaves_all : (before : ℕ) (z : Room) → ((count : ℕ) → z ≡ room.After count → ⊥) → LeavesActs before before z
 leaves_all before (room.After count) never = absurd (never count refl)
-leaves_all before room.TooLarge never = refl
-leaves_all before room.Full never = refl
+leaves_all before _ never = refl

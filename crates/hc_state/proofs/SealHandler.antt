@@ -4,12 +4,12 @@
 -- that its entry is rebuilt, and `Closing` does the rest (`stopped_sealed`). Where the seal failed, it is lost to its
 -- exclusive writer, if there is one, and let go before the exchange is closed. Then it brings only what is gone, so
 -- `stands_unstored` applies (`stopped_lost`). `seal_stopped` uses both.
+use Rattle.std.{proofs.{lemmas.Bool.Decides.{nat_tests}}}
+use Rattle.std.{proofs.{Common.{arith}}}
 use Rattle.std.{proofs.Common.{◌≡◌, ◌≢◌, inl, inr, ℕ, ◌<◌, List, [], ◌∷◌, ◌++◌, Bool, true, false, Option, Some, None, refl, ap, sym, ◌∙◌, subst}, specs.Prelude.{is_some, nat_eq, option_map, ◌&&◌, if◌then◌else◌}}
 use Rattle.hc_store.specs.declared.backend.Backend.{Ghosts}
-use Rattle.hc_effects.proofs.Vocabulary.{Act, Limits, with_representation, tables_after_close, over, let_go, as_gone, lost_to, family, Grows, Lawful, kind_of, is_growing, is_complete, is_front, covers_all, brings_to, Tables, Exchange, Representation, bound, exclusive, Response, act}
-use Rattle.hc_event.specs.declared.act.LostKind.TheVariants as kind
-use Rattle.hc_record.specs.declared.kind.Kind.{Kind}
-use Rattle.hc_record.specs.declared.kind.Kind.TheVariants as kinds
+use Rattle.hc_effects.proofs.Vocabulary.{Act, Limits, with_representation, tables_after_close, over, let_go, as_gone, lost_to, family, Grows, Lawful, kind_of, is_growing, is_complete, is_front, covers_all, brings_to, Tables, Exchange, Representation, bound, exclusive, Response, act, kind}
+use Rattle.hc_record.specs.declared.kind.Kind.{Kind, TheVariants.{the_data as kinds}}
 use Rattle.hc_sparse.specs.Cells.{Covers}
 use Rattle.hc_stored.specs.{Entries.{shelf_of}, Kept.{Kept}, Shelf.{Shelf, same_order}, Views.{view_of}, declared.view.EntryView.{EntryView}}
 use Rattle.hc_stored.specs.Kept as entry
@@ -20,8 +20,7 @@ use Rattle.hc_model.specs.Rows as rows
 use Rattle.hc_effects.proofs.HoleLemmas as holes
 use Rattle.hc_effects.proofs.Tests.{none_some}
 use Rattle.hc_state.proofs.{Ties.{overs_closed, writer_then}, CloseHandler.{quiet, unawaited_go}, Closing.{entry_closed, stands_closed, stands_unstored}, OneOfEach.{first_row}, Stopping.{Stays}}
-use Rattle.hc_state.specs.{declared.rows.Rows.{Rows}, Facts.{Facts}, Stopped.{with_consumers, HoldsNothing, MayStop, HasStopped, unsealed}, Stands.{RowsStand, KeepsRest}, Stops.{brought_by, goes_with, stop_by, stop_at, stop_of, IsViewOf, kind_left}, Stored.{IsEntry, TellsLength, told, untold, KeepsEntry, KeepsEntries}}
-use Rattle.hc_state.specs.declared.stop.Stop.TheVariants as stop
+use Rattle.hc_state.specs.{declared.{rows.Rows.{Rows}, stop.Stop.TheVariants.{the_data as stop}}, Facts.{Facts}, Stopped.{with_consumers, HoldsNothing, MayStop, HasStopped, unsealed}, Stands.{RowsStand, KeepsRest}, Stops.{brought_by, goes_with, stop_by, stop_at, stop_of, IsViewOf, kind_left}, Stored.{IsEntry, TellsLength, told, untold, KeepsEntry, KeepsEntries, TellsWriter}}
 use Rattle.hc_exch.specs.declared.row.Open.{Open}
 use Rattle.hc_text.proofs.Basics.{any_none, eq_tells, eqb-other, eqb-same, false_true, same_or, some_inj as some_is, and_off as then_false}
 
@@ -86,23 +85,20 @@ module _ (limits : Limits) (t : Tables) (facts : Facts limits t) (f : ℕ → Op
     unfolding bound
     sealed_entry sort total sort_is total_is =
         let is = stays.is in
-        let length : stays.e.head.total ≡ stays.p.head.total = by_length is.length in
-        record {
-          used = is.used;
-          key = is.key;
-          head = is.head;
-          length = told (total_is ∙ length);
-          kind = λ here. sort_is ∙ sym kind_is;
-          whole = λ n whole known. whole_covers stays.p n (sym sort_is ∙ whole) (sym (total_is ∙ length) ∙ known);
-          cells = is.cells;
-          reach = is.reach;
-          bound = is.bound;
-          first = λ d. is.first d ∙ sym (first_row s (tables_after_close x s) (λ n. refl) q (s.consumer d));
-          writer = writer_then (λ y on. overs_closed (nat_eq x y) (t.exchange y) on) is.writer;
-          is_lost = is.is_lost;
-          alone = is.alone;
-          is_gone = is.is_gone;
-        }
+        let same : total ≡ stays.p.head.total = total_is ∙ by_length is.length in
+        let length : TellsLength (entry.sealed_kept sort total stays.e) stays.p = told same in
+        let writer : TellsWriter (tables_after_close x s).exchange stays.e.writer stays.p.writer =
+        writer_then (λ y on. overs_closed (nat_eq x y) (t.exchange y) on) is.writer in
+        let whole : (n : ℕ) → sort ≡ kinds.Whole → total ≡ Some n → Covers stays.p.stored 0 n =
+        λ n whole known. whole_covers stays.p n (sym sort_is ∙ whole) (sym same ∙ known) in
+        assumption (
+          is,
+          length,
+          (λ (here : stays.p.is_gone ≡ false). sort_is ∙ sym kind_is),
+          whole,
+          writer,
+          (λ (d : ℕ). is.first d ∙ sym (first_row s (tables_after_close x s) (λ n. refl) q (s.consumer d))),
+        )
       where
         by_length : TellsLength stays.e stays.p → stays.e.head.total ≡ stays.p.head.total
         by_length (told same) = same
@@ -137,11 +133,7 @@ module _ {B : Type 0} {g : Ghosts B} (limits : Limits) (r u : Rows B g) (t : Tab
       (entries_sealed limits t facts f x stop.w stop.row stop.is_open (shelf_of r.entries) q stays (shelf_of u.entries) sort total sort_is total_is stands.entries seals))
 
   not_lost : stays.p.is_lost ≡ false
-  not_lost = by_test stays.p.is_lost refl
-    where
-      by_test : (b : Bool) → stays.p.is_lost ≡ b → b ≡ false
-      by_test false is = refl
-      by_test true is = false_true (sym stays.stays ∙ (facts.law.sound.rows q stays.p stays.row).store.lost_is_gone is)
+  not_lost = grind (arith, nat_tests)
 
   pub nobody_yet : stays.p.alone ≡ None
   nobody_yet = (facts.law.sound.rows q stays.p stays.row).store.nobody_alone not_lost
@@ -177,8 +169,7 @@ module _ {B : Type 0} {g : Ghosts B} (limits : Limits) (r u : Rows B g) (t : Tab
       apart : (n : ℕ) (p : Representation) → (let_go now q lost_now).representation n ≡ Some p → p.is_gone ≡ false → brings_to n x (t.exchange x) ≡ false
       apart n p there kept = elim (same_or q n) [
         | inl e ↦
-            let goes_there : (let_go now q lost_now).representation n ≡ option_map as_gone (lost_now.representation n) = rw (e, eqb-same n) refl in
-            false_true (sym kept ∙ gone_there (lost_now.representation n) p (sym goes_there ∙ there))
+            false_true (sym kept ∙ gone_there (lost_now.representation n) p (sym (rw (e, eqb-same n) refl) ∙ there))
         | inr ne ↦ ap (brings_to n x) stop.row ∙ then_false stop.w.is_open (nat_eq (family x stop.w) n) (rw stays.of_q (eqb-other q n ne))
       ]
 

@@ -1,4 +1,6 @@
 -- What an exchange that stops brought is what the event writes, where that is sealed.
+use Rattle.std.{proofs.{lemmas.Bool.Decides.{nat_tests}}}
+use Rattle.std.{proofs.{Common.{arith}}}
 use Rattle.std.{proofs.Common.{◌≡◌, ◌≢◌, inl, inr, ℕ, List, [], ◌∷◌, Bool, true, false, Option, Some, None, refl, ap, sym, ◌∙◌}, specs.Prelude.{is_some, nat_eq, not, ◌&&◌, ◌||◌, ◌==◌, if◌then◌else◌}}
 use Rattle.hc_text.proofs.Basics.{eq_tells, eqb-other, eqb-same, same_or}
 use Rattle.hc_effects.proofs.Vocabulary.{closes_in, is_unkeepable, going_with, Entry, family, ends_early, ends_founding, is_keepable, stops_early, Lawful, Tables, Exchange, Representation, Among, sealed_representation, seals_at, sealed_by, is_sealed, stops, first_found}
@@ -19,8 +21,7 @@ module _ (t : Tables) (law : Lawful t) (e : Entry) (x : ℕ) (w : Exchange) (r :
   early = by_row (t.exchange r) refl
     where
       by_tests : (s o k : Bool) → (s && o && k) ≡ (o && (s && k))
-      by_tests true true k = refl
-      by_tests true false k = refl
+      by_tests true o k = refl
       by_tests false true k = refl
       by_tests false false k = refl
 
@@ -38,10 +39,7 @@ module _ (t : Tables) (law : Lawful t) (e : Entry) (x : ℕ) (w : Exchange) (r :
 
   seals_here : seals_at t e x ≡ Some r
   unfolding is_keepable
-  seals_here =
-      let sealed_so : is_sealed t e r (Some v) ≡ true = rw (stays, early) refl in
-      let by_family : sealed_by t e x (Some w) ≡ Some r = rw (of_r, there, sealed_so) refl in
-      rw (stops_at x, eqb-same x, ex) by_family
+  seals_here = grind (arith, nat_tests, early, eqb-same)
 
   seals_no_other : (y : ℕ) → x ≢ y → seals_at t e y ≡ None
   seals_no_other y ne = rw (stops_at y, eqb-other x y ne) refl

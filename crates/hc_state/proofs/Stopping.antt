@@ -13,11 +13,9 @@ use Rattle.hc_record.specs.Head.{Head}
 use Rattle.hc_sparse.specs.Cells.{EndsBy}
 use Rattle.hc_sparse.proofs.SizeLemmas.{size-same}
 use Rattle.hc_stored.specs.{Entries.{shelf_of}, Kept.{Kept}, Shelf.{Shelf}, Views.{view_of}}
-use Rattle.hc_exch.specs.{Exchanges.{table_of}, declared.row.Open.{Open}}
-use Rattle.hc_exch.specs.declared.role.Role.TheVariants as role
+use Rattle.hc_exch.specs.{Exchanges.{table_of}, declared.{row.Open.{Open}, role.Role.TheVariants.{the_data as role}}}
 use Rattle.hc_model.specs.Rows as rows
-use Rattle.hc_state.specs.{declared.{rows.Rows.{Rows}, stop.Stop.{Stop}}, Facts.{Facts}, Kept.{IsRunning, KeepsRunning, role_of, role_awaited}, Stands.{RowsStand}, Stopped.{with_consumers}, Stops.{body_of, brought_by, may_complete, goes_with, stop_by, stop_at, stop_of, IsViewOf}, Stored.{IsEntry, KeepsEntry, TellsLength, told, untold}}
-use Rattle.hc_state.specs.declared.stop.Stop.TheVariants as stop
+use Rattle.hc_state.specs.{declared.{rows.Rows.{Rows}, stop.Stop.{Stop, TheVariants.{the_data as stop}}}, Facts.{Facts}, Kept.{IsRunning, KeepsRunning, role_of, role_awaited}, Stands.{RowsStand}, Stopped.{with_consumers}, Stops.{body_of, brought_by, may_complete, goes_with, stop_by, stop_at, stop_of, IsViewOf}, Stored.{IsEntry, KeepsEntry, TellsLength, told, untold}}
 
 -- nothing is stored by it that isn't gone
 pub record IsApartNow (t : Tables) (x : ℕ) : Type 0 where
@@ -79,33 +77,16 @@ module _ {B : Type 0} {g : Ghosts B} {limits : Limits} (r : Rows B g) (t : Table
 
   -- what founded nothing has a head, or is about nothing
   pub head_there : (p : Representation) → t.representation (family x w) ≡ Some p → (h : Option Response) → w.head ≡ h → is_some h ≡ true
-  head_there p there (Some response) is = refl
-  head_there p there None bare =
-      let joined = (facts.law.sound.waits.headless x w row bare).1 in
-      let none = facts.law.sound.numbered.names.unfounded x w row bare in
-      none_some p (sym none ∙ (let same : family x w ≡ x = rw joined refl in ap t.representation (sym same) ∙ there))
+  head_there p there h is = grind (arith, nat_tests)
 
   none_is : {A : Type 0} (o : Option A) → is_some o ≡ true → is_none o ≡ false
-  none_is None h = false_true h
-  none_is (Some a) h = refl
+  none_is o h = grind (arith, nat_tests)
 
   pub brought_some : (p : Representation) → t.representation (family x w) ≡ Some p → brought_by running ≡ Some (family x w)
-  brought_some p there =
-      let headed : is_none w.head ≡ false = none_is w.head (head_there p there w.head refl) in
-      brought_is ∙ rw (headed, there) refl
+  brought_some p there = grind (arith, nat_tests, none_is, head_there, brought_is)
 
   pub brought_none : t.representation (family x w) ≡ None → brought_by running ≡ None
-  brought_none none = brought_is ∙ rw none (by_head (is_none w.head))
-    where
-      awaited : (way : Route) (aim : Option ℕ) → body_of (role_awaited way aim) ≡ None
-      awaited route.Turn aim = refl
-      awaited route.Direct aim = refl
-      awaited route.Hole None = refl
-      awaited route.Hole (Some q) = refl
-
-      by_head : (b : Bool) → body_of (if b then role_awaited (route_of w.need) w.aim else role.Direct) ≡ None
-      by_head true = awaited (route_of w.need) w.aim
-      by_head false = refl
+  brought_none none = grind (arith, nat_tests, brought_is)
 
   founded_own : (p : Representation) → t.representation x ≡ Some p → family x w ≡ x
   founded_own p there = (let joined = facts.law.owned.founders x w p row there in rw joined refl)
@@ -127,11 +108,7 @@ module _ {B : Type 0} {g : Ghosts B} {limits : Limits} (r : Rows B g) (t : Table
 
   module _ (q : ℕ) (e : Kept) (p : Representation) (here : t.representation q ≡ Some p) (is : IsEntry s q e p) (stays : p.is_gone ≡ false) where
     total_as : e.head.total ≡ p.head.total
-    total_as = by_length is.length
-      where
-        by_length : TellsLength e p → e.head.total ≡ p.head.total
-        by_length (told same) = same
-        by_length (untold u) = false_true (sym stays ∙ u.gone)
+    total_as = grind (arith, nat_tests)
 
     not_lost : (b : Bool) → p.is_lost ≡ b → b ≡ false
     not_lost false lost = refl
@@ -169,11 +146,7 @@ module _ {B : Type 0} {g : Ghosts B} {limits : Limits} (r : Rows B g) (t : Table
 
       unkeepable_by : (e : Kept) (p : Representation) → t.representation (family x w) ≡ Some p → IsEntry s (family x w) e p → p.is_gone ≡ false → goes_with x (family x w) (view_of e) ≡ (nat_eq x (family x w) && is_unkeepable (Some p))
       unkeepable_by e p here is stays =
-          rw (status_as (family x w) e p here is stays, completes (family x w) e p here is stays) (by_tests (nat_eq x (family x w)) (nat_eq p.head.status 200) (not (is_keepable p)))
-        where
-          by_tests : (a b d : Bool) → (a && b && d) ≡ (a && (b && d))
-          by_tests true b d = refl
-          by_tests false b d = refl
+          rw (status_as (family x w) e p here is stays, completes (family x w) e p here is stays) (grind (arith, nat_tests))
 
       goes_keeps : (e : Kept) (p : Representation) → t.representation (family x w) ≡ Some p → goes_with x (family x w) (view_of e) ≡ false → goes_with x (family x w) (view_of e) ≡ (nat_eq x (family x w) && is_unkeepable (Some p)) → (o : Option Representation) → t.representation x ≡ o → is_unkeepable o ≡ false
       goes_keeps e p here off alike None at = refl

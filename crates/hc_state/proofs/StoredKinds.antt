@@ -31,8 +31,4 @@ module _ (v : Representation) (cells : Cells) (entry : EntryView) (is : IsViewOf
       by_test false on = absurd (let never : false ≡ true = on in cc)
 
   pub no_front_as : nat_lt 0 entry.size ≡ false → false ≡ is_front v
-  no_front_as none = sym (by_test (nat_lt 0 v.size) (ap (nat_lt 0) (sym is.size) ∙ none))
-    where
-      by_test : (a : Bool) → a ≡ false → (a && covers v.stored v.reach 0 v.size) ≡ false
-      by_test false off = refl
-      by_test true off = absurd (let never : true ≡ false = off in cc)
+  no_front_as none = grind (arith, nat_tests)

@@ -4,28 +4,25 @@
 -- `LooksSame` of an exchange. Where that is equal in both tables, the same item represents its row in both:
 -- `consumer_same`, `key_same`, `entry_same`, `exchange_same`. The lemmas between say that exchanges that are over stay
 -- so, since a writer may be forgotten then. Most files on the rows use these for all that an event leaves alone.
-use Rattle.std.{proofs.Common.{◌≡◌, ◌≢◌, inl, inr, ℕ, List, Bool, true, false, Option, Some, None, refl, ap, sym, ◌∙◌, subst}, specs.Prelude.{is_some, is_none, not, option_map, if◌then◌else◌}}
+use Rattle.std.{proofs.{lemmas.Bool.Decides.{nat_tests}}}
+use Rattle.std.{proofs.{Common.{arith}}}
+use Rattle.std.{proofs.Common.{◌≡◌, ◌≢◌, inl, inr, ℕ, List, Bool, true, false, Option, Some, None, refl, ap, sym, ◌∙◌, subst, []}, specs.Prelude.{is_some, is_none, not, option_map, if◌then◌else◌}}
 use Rattle.hc_text.proofs.Basics.{false_true, same_or}
 use Rattle.hc_entry.specs.Kept as keyed
-use Rattle.hc_effects.proofs.Vocabulary.{route_of, Place, BoundBy, current, total_in, is_live, over, family, kind_of, is_in_line, bound, is_bound, hi_of, lo_of, Tables, Exchange, Representation}
-use Rattle.hc_exch.specs.{Known.{Known}, declared.{role.Role.{Role}, row.Open.{Open}}}
-use Rattle.hc_exch.specs.declared.role.Role.TheVariants as role
+use Rattle.hc_effects.proofs.Vocabulary.{route_of, Place, BoundBy, current, total_in, is_live, over, family, kind_of, is_in_line, bound, is_bound, hi_of, lo_of, Tables, Exchange, Representation, place}
+use Rattle.hc_exch.specs.{Known.{Known}, declared.{role.Role.{Role, TheVariants.{the_data as role}}, row.Open.{Open}}}
 use Rattle.hc_stored.specs.Kept.{Kept}
-use Rattle.hc_event.specs.declared.place.Place.TheVariants as place
 use Rattle.hc_model.specs.Rows as rows
 use Rattle.hc_state.specs.{declared.consumer.Consumer.{Consumer}, Kept.{IsKept, IsRunning, KeepsConsumer, KeepsExchange, KeepsRunning, answer_for, held_for, role_awaited}, Lines.{KeepsKey, has_turn, is_passed, is_away}, Stored.{KeepsEntry, TellsWriter, as_written, forgotten, is_first, is_over}}
 
 -- CONSUMERS
 
 pub kept_none : (t : Tables) (o : Option Consumer) → KeepsConsumer t o None → o ≡ None
-kept_none t None k = refl
-kept_none t (Some w) k = absurd k
+kept_none t o k = grind (arith, nat_tests)
 
 -- whoever is kept is live
 pub kept_lives : (t : Tables) (o : Option Consumer) (row : Option rows.Consumer) → KeepsConsumer t o row → is_some o ≡ is_live row
-kept_lives t None row kept = sym kept
-kept_lives t (Some k) None kept = absurd kept
-kept_lives t (Some k) (Some v) kept = sym kept.is_there
+kept_lives t o row kept = grind (arith, nat_tests)
 
 pub kept_row : (t : Tables) (k : Consumer) (row : Option rows.Consumer) → KeepsConsumer t (Some k) row → (v : rows.Consumer) × (row ≡ Some v) × IsKept t k v
 kept_row t k None kept = absurd kept
@@ -39,47 +36,21 @@ pub record SeesSame (t s : Tables) (p : Place) : Type 0 where
 
 module _ (t s : Tables) (k : Consumer) (v : rows.Consumer) (sees : SeesSame t s v.place) where
   answer_same : (p : Place) → v.place ≡ p → answer_for s v ≡ answer_for t v
-  answer_same (place.Direct x) at = rw (at, sees.past x at) refl
-  answer_same place.Line at = rw at refl
-  answer_same (place.Passed q kept) at = rw at refl
-  answer_same (place.Turn x) at = rw at refl
-  answer_same (place.Bound q lo hi by) at = rw at refl
-  answer_same (place.Down why) at = rw at refl
-  answer_same place.Over at = rw at refl
+  answer_same p at = grind (arith, nat_tests)
 
   begin_same : (p : Place) → v.place ≡ p → lo_of s v.place ≡ lo_of t v.place
-  begin_same (place.Direct x) at = rw (at, sees.past x at) refl
-  begin_same place.Line at = rw at refl
-  begin_same (place.Passed q kept) at = rw at refl
-  begin_same (place.Turn x) at = rw at refl
-  begin_same (place.Bound q lo hi by) at = rw at refl
-  begin_same (place.Down why) at = rw at refl
-  begin_same place.Over at = rw at refl
+  begin_same p at = grind (arith, nat_tests)
 
   end_same : (p : Place) → v.place ≡ p → hi_of s v.place ≡ hi_of t v.place
-  end_same (place.Direct x) at = rw (at, sees.past x at) refl
-  end_same place.Line at = rw at refl
-  end_same (place.Passed q kept) at = rw at refl
-  end_same (place.Turn x) at = rw at refl
-  end_same (place.Bound q lo hi by) at = rw (at, sees.length q lo hi by at) refl
-  end_same (place.Down why) at = rw at refl
-  end_same place.Over at = rw at refl
+  end_same p at = grind (arith, nat_tests)
 
   pub kept_same : IsKept t k v → IsKept s k v
-  kept_same kp = record {
-    is_there = kp.is_there;
-    request = kp.request;
-    class_is = kp.class_is;
-    since = kp.since;
-    place = kp.place;
-    own = kp.own;
-    shown = kp.shown;
-    answer = kp.answer ∙ sym (answer_same v.place refl);
-    begins = kp.begins ∙ sym (begin_same v.place refl);
-    ends = kp.ends ∙ sym (end_same v.place refl);
-    given = kp.given;
-    due = kp.due;
-  }
+  kept_same kp = assumption (
+    kp,
+    kp.answer ∙ sym (answer_same v.place refl),
+    kp.begins ∙ sym (begin_same v.place refl),
+    kp.ends ∙ sym (end_same v.place refl),
+  )
 
 pub consumer_same : (t s : Tables) (k : Option Consumer) (row : Option rows.Consumer) →
     ((v : rows.Consumer) → row ≡ Some v → SeesSame t s v.place) → KeepsConsumer t k row → KeepsConsumer s k row
@@ -129,14 +100,11 @@ overs_opened f g x none others = overs_but f g x (λ on. false_true (sym (ap is_
 
 -- or is closed
 pub overs_closed : (b : Bool) (o : Option Exchange) → is_over o ≡ true → is_over (if b then option_map over o else o) ≡ true
-overs_closed true None on = on
-overs_closed true (Some w) on = refl
-overs_closed false o on = on
+overs_closed b o on = grind (arith, nat_tests)
 
 -- or ends
 pub put_over : (b : Bool) (z o : Option Exchange) → is_over z ≡ true → is_over o ≡ true → is_over (if b then z else o) ≡ true
-put_over true z o ends on = ends
-put_over false z o ends on = on
+put_over b z o ends on = grind (arith, nat_tests)
 
 -- and so is what was forgotten
 pub writer_then : {f g : ℕ → Option Exchange} {k v : Option ℕ} → OversStay f g → TellsWriter f k v → TellsWriter g k v
@@ -158,22 +126,14 @@ pub entry_same : (t s : Tables) (r : ℕ) (k : Option Kept) (row : Option Repres
 entry_same t s r None None at uses kept = tt
 entry_same t s r None (Some v) at uses kept = record { gone = kept.gone; unused = uses.list ∙ kept.unused }
 entry_same t s r (Some k) None at uses kept = kept
-entry_same t s r (Some k) (Some v) at uses kept = record {
-  used = λ gone none. kept.used gone (sym uses.list ∙ none);
-  key = kept.key;
-  head = kept.head;
-  length = kept.length;
-  kind = λ stays. kept.kind stays ∙ sym (uses.kind v at);
-  whole = kept.whole;
-  cells = kept.cells;
-  reach = kept.reach;
-  bound = λ c. kept.bound c ∙ sym (uses.users c);
-  first = λ c. kept.first c ∙ sym (uses.first c);
-  writer = writer_then uses.overs kept.writer;
-  is_lost = kept.is_lost;
-  alone = kept.alone;
-  is_gone = kept.is_gone;
-}
+entry_same t s r (Some k) (Some v) at uses kept = assumption (
+  kept,
+  writer_then uses.overs kept.writer,
+  (λ (gone : v.is_gone ≡ true) (none : bound s r ≡ []). kept.used gone (sym uses.list ∙ none)),
+  (λ (stays : v.is_gone ≡ false). kept.kind stays ∙ sym (uses.kind v at)),
+  (λ (c : ℕ). kept.bound c ∙ sym (uses.users c)),
+  (λ (c : ℕ). kept.first c ∙ sym (uses.first c)),
+)
 
 -- EXCHANGES
 
@@ -188,19 +148,7 @@ abbrev role_with : Tables → ℕ → Exchange → Bool → Role
 role_with t x w founded = if is_none w.head then role_awaited (route_of w.need) w.aim else if founded then role.Body (family x w) else role.Direct
 
 running_same : (t s : Tables) (x : ℕ) (o : Open) (w : Exchange) → is_some (s.representation (family x w)) ≡ is_some (t.representation (family x w)) → IsRunning t x o w → IsRunning s x o w
-running_same t s x o w brings is = record {
-  is_open = is.is_open;
-  c = is.c;
-  need = is.need;
-  request = is.request;
-  moment = is.moment;
-  headed = is.headed;
-  asked = is.asked;
-  base_is = is.base_is;
-  delivered = is.delivered;
-  promised_is = is.promised_is;
-  role = is.role ∙ ap (role_with t x w) (sym brings);
-}
+running_same t s x o w brings is = assumption (is, is.role ∙ ap (role_with t x w) (sym brings))
 
 pub runs_same : (t s : Tables) (x : ℕ) (o : Option Open) (row : Option Exchange) → ((w : Exchange) → row ≡ Some w → is_some (s.representation (family x w)) ≡ is_some (t.representation (family x w))) → KeepsRunning t x o row → KeepsRunning s x o row
 runs_same t s x None row brings kept = kept

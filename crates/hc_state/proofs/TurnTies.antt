@@ -20,11 +20,7 @@ pub record IsLeast (m : ℕ) (xs : List ℕ) : Type 0 where
 
 pub least_none : (xs : List ℕ) → least xs ≡ None → xs ≡ []
 least_none [] is = refl
-least_none (n ∷ ns) is = by_least (least ns) is
-  where
-    by_least : (o : Option ℕ) → lesser o n ≡ None → n ∷ ns ≡ []
-    by_least None never = none_some n (sym never)
-    by_least (Some m) never = none_some (min m n) (sym never)
+least_none (n ∷ ns) is = grind (arith, nat_tests)
 
 pub least_some : (xs : List ℕ) (m : ℕ) → least xs ≡ Some m → IsLeast m xs
 least_some [] m is = none_some m is
@@ -72,8 +68,7 @@ least_alike xs ys alike = by_least (least xs) refl
         let b = least_some ys k other in
         let up : m ≤ k = a.below k (alike k ∙ b.among) in
         let down : k ≤ m = b.below m (sym (alike m) ∙ a.among) in
-        let same : m ≡ k = omega (arith, up, down) in
-        some ∙ (ap Some same ∙ sym other)
+        some ∙ (ap Some (omega (arith, up, down)) ∙ sym other)
 
     by_none : least xs ≡ None → (o : Option ℕ) → least ys ≡ o → least xs ≡ least ys
     by_none none None other = none ∙ sym other
@@ -91,11 +86,7 @@ among_in c (x ∷ xs) (inl is) = rw (is, eqb-same c) refl
 among_in c (x ∷ xs) (inr later) = later_in (eqb x c) (is_among c xs) (among_in c xs later)
 
 pub filter_in : (f : ℕ → Bool) (c : ℕ) (xs : List ℕ) → is_among c (filter f xs) ≡ (f c && is_among c xs)
-filter_in f c [] = and_none (f c)
-  where
-    and_none : (b : Bool) → false ≡ (b && false)
-    and_none true = refl
-    and_none false = refl
+filter_in f c [] = grind (arith, nat_tests)
 filter_in f c (x ∷ xs) = by_test (filter_in f c xs) (f x) refl
   where
     swaps : (e b rest : Bool) → (e ≡ true → b ≡ true) → (e || (b && rest)) ≡ (b && (e || rest))
@@ -113,16 +104,11 @@ filter_in f c (x ∷ xs) = by_test (filter_in f c xs) (f x) refl
     by_test rest false is = rw (is, rest) (drops (eqb x c) (f c) (is_among c xs) (λ on. ap f (sym (eq_by x c on)) ∙ is))
 
 in_line_there : (key : List ℕ) (o : Option Consumer) → is_in_line key o ≡ true → is_some o ≡ true
-in_line_there key None on = on
-in_line_there key (Some k) on = refl
+in_line_there key o on = grind (arith, nat_tests)
 
 line_is : (t : Tables) (key : List ℕ) (c : ℕ) → IsListed t → is_among c (line t key) ≡ is_in_line key (t.consumer c)
 unfolding line
-line_is t key c lists = filter_in (λ d. is_in_line key (t.consumer d)) c t.starts ∙ by_test (is_in_line key (t.consumer c)) refl
-  where
-    by_test : (b : Bool) → is_in_line key (t.consumer c) ≡ b → (b && is_among c t.starts) ≡ b
-    by_test false is = refl
-    by_test true is = among_in c t.starts (lists.started c (in_line_there key (t.consumer c) is))
+line_is t key c lists = grind (arith, nat_tests, filter_in, among_in, in_line_there)
 
 -- THE HOLDER
 
@@ -151,8 +137,7 @@ find_on g (x ∷ xs) c there on = by_test (λ later. find_on g xs c later on) (g
     ]
 
 and_then : (a b : Bool) → (a && b) ≡ false → a ≡ true → b ≡ false
-and_then true b off on = off
-and_then false b off on = false_true on
+and_then a b off on = grind (arith, nat_tests)
 
 module _ (t : Tables) (key : List ℕ) (a : Kept) (lists : IsListed t) (kept : KeepsKey t key a) where
   holder_by : (o : Option ℕ) → a.holder ≡ o → holder t key ≡ o
@@ -162,29 +147,18 @@ module _ (t : Tables) (key : List ℕ) (a : Kept) (lists : IsListed t) (kept : K
       let parts = and_parts (is_in_line key (t.consumer d)) (holds_turn (t.consumer d)) held in
       let found = find_on (λ c. holds_turn (t.consumer c)) (line t key) d (line_is t key d lists ∙ parts.0) parts.1 in
       let in_line : is_in_line key (t.consumer found.d) ≡ true = sym (line_is t key found.d lists) ∙ found.among in
-      let passes : holds_turn (t.consumer found.d) ≡ true = found.passes in
-      let both : has_turn key (t.consumer found.d) ≡ true = rw (in_line, passes) refl in
-      let same : eqb d found.d ≡ true = sym (ap (is_held_by found.d) is) ∙ (kept.holder found.d ∙ both) in
-      found.found ∙ ap Some (sym (eq_by d found.d same))
+      grind (arith, nat_tests)
 
   least_is : least (line t key) ≡ least a.in_line
   least_is = least_alike (line t key) a.in_line (λ c. line_is t key c lists ∙ sym (kept.in_line c))
 
   -- what is kept tells the turn
   pub turn_with_is : (c : ℕ) → unwrap_or (turn_with c (line_in a)) c ≡ lines.turn_with t key c
-  turn_with_is c = by_holder a.holder refl
-    where
-      by_holder : (o : Option ℕ) → a.holder ≡ o → unwrap_or (turn_with c (line_in a)) c ≡ lines.turn_with t key c
-      by_holder None is = let none = holder_by None is in let same = least_is in rw (is, none, same) refl
-      by_holder (Some d) is = let some = holder_by (Some d) is in rw (is, some) refl
+  turn_with_is c = grind (arith, nat_tests, holder_by, least_is)
 
   pub turn_of_is : turn_of (line_in a) ≡ lines.turn t key
   unfolding lines.turn
-  turn_of_is = by_holder a.holder refl
-    where
-      by_holder : (o : Option ℕ) → a.holder ≡ o → turn_of (line_in a) ≡ option_or (holder t key) (least (line t key))
-      by_holder None is = let none = holder_by None is in let same = least_is in rw (is, none, same) refl
-      by_holder (Some d) is = let some = holder_by (Some d) is in rw (is, some) refl
+  turn_of_is = grind (arith, nat_tests, holder, least, line, holder_by, least_is)
 
   -- who is next, and doesn't hold the turn yet, has it, and nobody holds it
   pub turn_is : (c : ℕ) → unwrap_or (turn_with c (line_in a)) c ≡ c → is_in_line key (t.consumer c) ≡ true → has_turn key (t.consumer c) ≡ false → (a.holder ≡ None) × (turn_of (line_in a) ≡ Some c)
@@ -192,8 +166,7 @@ module _ (t : Tables) (key : List ℕ) (a : Kept) (lists : IsListed t) (kept : K
     where
       first : a.holder ≡ None → (m : ℕ) → least a.in_line ≡ Some m → turn_of (line_in a) ≡ Some c
       first free m some =
-          let least_m = least_some a.in_line m some in
-          let le : m ≤ c = least_m.below c (kept.in_line c ∙ in_line) in
+          let le : m ≤ c = (least_some a.in_line m some).below c (kept.in_line c ∙ in_line) in
           let chosen : min m c ≡ c = (let with_c : unwrap_or (turn_with c (line_in a)) c ≡ min m c = rw (free, some) refl in sym with_c ∙ next) in
           let same : m ≡ c = omega (arith, le, chosen) in
           rw (free, some) (ap Some same)
@@ -202,8 +175,7 @@ module _ (t : Tables) (key : List ℕ) (a : Kept) (lists : IsListed t) (kept : K
       by_holder None is = let (m, some) = least_there a.in_line c (kept.in_line c ∙ in_line) in (is, first is m some)
       by_holder (Some d) is =
           let same : d ≡ c = (let with_c : unwrap_or (turn_with c (line_in a)) c ≡ d = rw is refl in sym with_c ∙ next) in
-          let held : is_held_by c a.holder ≡ true = rw (is, same) (eqb-same c) in
-          false_true (sym (kept.holder c ∙ idle) ∙ held)
+          false_true (sym (kept.holder c ∙ idle) ∙ rw (is, same) (eqb-same c))
 
 -- Once it stands in line, it has the turn: of the others as many stand there, and nobody holds it.
 pub turn_next : (c : ℕ) (a b : Kept) → ((d : ℕ) → d ≢ c → is_among d b.in_line ≡ is_among d a.in_line) → ((d : ℕ) → is_held_by d b.holder ≡ is_held_by d a.holder) → is_held_by c a.holder ≡ false

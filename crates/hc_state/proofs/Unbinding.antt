@@ -4,7 +4,7 @@
 -- it leaves the list of that. Where this was gone and nobody is left, the entry is dropped, and the tables count nobody
 -- bound to it either. Else the entry stays with the shorter list. `entries_unbound` joins the two, and `user_kept` says
 -- that whoever is bound is on the list.
-use Rattle.std.{proofs.Common.{◌≡◌, ◌≢◌, inl, inr, ℕ, List, [], ◌∷◌, Bool, true, false, cond, eqb, Option, Some, None, refl, ap, sym, ◌∙◌, subst}, specs.{Prelude.{is_some, not, ◌&&◌, if◌then◌else◌}, Option.{option_and_then}}}
+use Rattle.std.{proofs.{Common.{◌≡◌, ◌≢◌, inl, inr, ℕ, List, [], ◌∷◌, Bool, true, false, cond, eqb, Option, Some, None, refl, ap, sym, ◌∙◌, subst, arith}, lemmas.Bool.Decides.{nat_tests}}, specs.{Prelude.{is_some, not, ◌&&◌, if◌then◌else◌}, Option.{option_and_then}}}
 use Rattle.hc_text.proofs.Basics.{eqb-other, eqb-same, false_true, same_or}
 use Rattle.hc_sorted.specs.Sorted.{has, without}
 use Rattle.hc_sorted.proofs.SortedLemmas.{has-without}
@@ -16,16 +16,11 @@ use Rattle.hc_effects.proofs.Vocabulary.{Place, BoundBy, is_number, with_consume
 use Rattle.hc_model.specs.Rows as rows
 use Rattle.hc_effects.proofs.{ExclusiveWriters.{filter_some}, Tests.{and_false}}
 use Rattle.hc_state.specs.{Leaving.{IsUserAt, UnbindsAt}, Stored.{IsEntry, TellsLength, told, untold, KeepsEntry, KeepsEntries, is_first}}
-use Rattle.hc_state.proofs.LiveCounts as counts
-use Rattle.hc_state.proofs.{OneOfEach.{bound_same}, Ties.{entry_same}}
+use Rattle.hc_state.proofs.{OneOfEach.{bound_same}, Ties.{entry_same}, LiveCounts.{filter_nothing}}
 
 -- it isn't among them any more
 pub without_is : (c : ℕ) (cs : List ℕ) (d : ℕ) → is_among d (without itself c cs) ≡ cond (eqb c d) false (is_among d cs)
-without_is c cs d = has-without itself d c cs ∙ by_test (eqb c d)
-  where
-    by_test : (b : Bool) → (not b && is_among d cs) ≡ cond b false (is_among d cs)
-    by_test true = refl
-    by_test false = refl
+without_is c cs d = has-without itself d c cs ∙ grind (arith, nat_tests)
 
 -- it is bound to nothing then
 module _ (t : Tables) (started : (d : ℕ) → is_some (t.consumer d) ≡ true → Among d t.starts) (c : ℕ) (v w : rows.Consumer) (row : t.consumer c ≡ Some v) (free : (q : ℕ) → is_bound_place q w.place ≡ false) where
@@ -39,16 +34,10 @@ module _ (t : Tables) (started : (d : ℕ) → is_some (t.consumer d) ≡ true �
   others d ne = rw (eqb-other c d (λ e. ne (sym e))) refl
 
   users : (q : ℕ) → is_bound q (Some v) ≡ false → (d : ℕ) → is_bound q (s.consumer d) ≡ is_bound q (t.consumer d)
-  users q off d = elim (same_or c d) [
-    | inl e ↦ rw (← e, here, row) (free q ∙ sym off)
-    | inr ne ↦ ap (is_bound q) (others d (λ e. ne (sym e)))
-  ]
+  users q off d = grind (arith, nat_tests)
 
   firsts : (q : ℕ) → is_bound q (Some v) ≡ false → (d : ℕ) → is_first s q (s.consumer d) ≡ is_first t q (t.consumer d)
-  firsts q off d = elim (same_or c d) [
-    | inl e ↦ rw (← e, here, row) (and_false (is_bound_place q w.place) (came_alone s w.place) (free q) ∙ sym (and_false (is_bound_place q v.place) (came_alone t v.place) off))
-    | inr ne ↦ ap (is_first s q) (others d (λ e. ne (sym e)))
-  ]
+  firsts q off d = grind (arith, nat_tests)
 
   -- that it wasn't bound to
   entry_stays : (q : ℕ) (k : Option Kept) (o : Option Representation) → t.representation q ≡ o → is_bound q (Some v) ≡ false → KeepsEntry t q k o → KeepsEntry s q k o
@@ -61,14 +50,10 @@ module _ (t : Tables) (started : (d : ℕ) → is_some (t.consumer d) ≡ true �
 
   -- whoever is bound started
   bound_there : (q d : ℕ) (o : Option rows.Consumer) → is_bound q o ≡ true → is_some o ≡ true
-  bound_there q d None on = false_true on
-  bound_there q d (Some u) on = refl
+  bound_there q d o on = grind (arith, nat_tests)
 
   there_too : (d : ℕ) → is_some (s.consumer d) ≡ true → is_some (t.consumer d) ≡ true
-  there_too d there = elim (same_or c d) [
-    | inl e ↦ rw (← e, row) refl
-    | inr ne ↦ ap (λ z. is_some z) (sym (others d (λ e. ne (sym e)))) ∙ there
-  ]
+  there_too d there = grind (arith, nat_tests)
 
   module _ (q : ℕ) (bound_here : is_bound q (Some v) ≡ true) where
     nobody_not : bound t q ≡ [] → ⊥
@@ -76,10 +61,7 @@ module _ (t : Tables) (started : (d : ℕ) → is_some (t.consumer d) ≡ true �
 
     module _ (e : Kept) (p : Representation) (is : IsEntry t q e p) where
       has_left : (d : ℕ) → has itself d (without itself c e.bound) ≡ is_bound q (s.consumer d)
-      has_left d = without_is c e.bound d ∙ elim (same_or c d) [
-        | inl same ↦ rw (← same, eqb-same c) (sym (free q))
-        | inr ne ↦ rw (eqb-other c d ne) (is.bound d)
-      ]
+      has_left d = grind (arith, nat_tests, without_is, same_or, eqb-same, eqb-other)
 
       first_left : (d : ℕ) → is_number (unless_it c e.first) d ≡ is_first s q (s.consumer d)
       first_left d = elim (same_or c d) [
@@ -102,8 +84,7 @@ module _ (t : Tables) (started : (d : ℕ) → is_some (t.consumer d) ≡ true �
           ]
 
       nobody_has : (cs : List ℕ) (d : ℕ) → is_nobody cs ≡ true → has itself d cs ≡ false
-      nobody_has [] d none = refl
-      nobody_has (x ∷ xs) d none = false_true none
+      nobody_has cs d none = grind (arith, nat_tests)
 
       somebody : (cs : List ℕ) → is_nobody cs ≡ false → (d : ℕ) × (has itself d cs ≡ true)
       somebody [] some = false_true (sym some)
@@ -111,7 +92,7 @@ module _ (t : Tables) (started : (d : ℕ) → is_some (t.consumer d) ≡ true �
 
       nobody_left : is_nobody (without itself c e.bound) ≡ true → bound s q ≡ []
       unfolding bound
-      nobody_left none = counts.filter_nothing (λ n. is_bound q (s.consumer n)) s.starts (λ d. sym (has_left d) ∙ nobody_has (without itself c e.bound) d none)
+      nobody_left none = filter_nothing (λ n. is_bound q (s.consumer n)) s.starts (λ d. sym (has_left d) ∙ nobody_has (without itself c e.bound) d none)
 
       still_used : is_nobody (without itself c e.bound) ≡ false → bound s q ≢ []
       still_used some =
@@ -120,14 +101,10 @@ module _ (t : Tables) (started : (d : ℕ) → is_some (t.consumer d) ≡ true �
           bound_started s q one.0 refl on (there_too one.0 (bound_there q one.0 (s.consumer one.0) on))
 
       used_by_test : (g n : Bool) → e.is_gone ≡ g → is_nobody (without itself c e.bound) ≡ n → (g && n) ≡ false → p.is_gone ≡ true → bound s q ≢ []
-      used_by_test true false gone some off is_gone = still_used some
-      used_by_test true true gone none off is_gone = false_true (sym off)
-      used_by_test false n stays n_is off is_gone = false_true (sym stays ∙ (is.is_gone ∙ is_gone))
+      used_by_test g n gone some off is_gone = grind (arith, nat_tests, still_used)
 
       gone_by_test : (g n : Bool) → (g && n) ≡ true → (g ≡ true) × (n ≡ true)
-      gone_by_test true true on = (refl, refl)
-      gone_by_test true false on = false_true on
-      gone_by_test false n on = false_true on
+      gone_by_test g n on = grind (arith, nat_tests)
 
       by_length : TellsLength e p → TellsLength (without_user c e) p
       by_length (told same) = told same
@@ -138,22 +115,13 @@ module _ (t : Tables) (started : (d : ℕ) → is_some (t.consumer d) ≡ true �
       left_by_test true on =
           let both = gone_by_test e.is_gone (is_nobody (without itself c e.bound)) on in
           record { gone = sym is.is_gone ∙ both.0; unused = nobody_left both.1 }
-      left_by_test false off = record {
-        used = used_by_test e.is_gone (is_nobody (without itself c e.bound)) refl refl off;
-        key = is.key;
-        head = is.head;
-        length = by_length is.length;
-        kind = is.kind;
-        whole = is.whole;
-        cells = is.cells;
-        reach = is.reach;
-        bound = has_left;
-        first = first_left;
-        writer = is.writer;
-        is_lost = is.is_lost;
-        alone = is.alone;
-        is_gone = is.is_gone;
-      }
+      left_by_test false off = assumption (
+        is,
+        by_length is.length,
+        has_left,
+        first_left,
+        used_by_test e.is_gone (is_nobody (without itself c e.bound)) refl refl off,
+      )
 
     -- that it was bound to
     entry_left : (k : Option Kept) (o : Option Representation) → KeepsEntry t q k o → KeepsEntry s q (option_and_then (entry.left_by c) k) o
@@ -182,12 +150,7 @@ module _ (t : Tables) (started : (d : ℕ) → is_some (t.consumer d) ≡ true �
             ];
             order = left.order ∙ kept.order;
           }
-      by_place place.Line at = as_were (subst (λ p. UnbindsAt p c a b) at unbinds) (λ q. rw at refl)
-      by_place (place.Passed z kept_it) at = as_were (subst (λ p. UnbindsAt p c a b) at unbinds) (λ q. rw at refl)
-      by_place (place.Turn x) at = as_were (subst (λ p. UnbindsAt p c a b) at unbinds) (λ q. rw at refl)
-      by_place (place.Direct x) at = as_were (subst (λ p. UnbindsAt p c a b) at unbinds) (λ q. rw at refl)
-      by_place (place.Down why) at = as_were (subst (λ p. UnbindsAt p c a b) at unbinds) (λ q. rw at refl)
-      by_place place.Over at = as_were (subst (λ p. UnbindsAt p c a b) at unbinds) (λ q. rw at refl)
+      by_place _ at = as_were (subst (λ p. UnbindsAt p c a b) at unbinds) (λ q. rw at refl)
 
 -- WHO IS BOUND IS KEPT AS BOUND
 
@@ -210,9 +173,4 @@ module _ (t : Tables) (started : (d : ℕ) → is_some (t.consumer d) ≡ true �
       by_place (place.Bound q lo hi how) at =
           subst (λ p. IsUserAt p c a) (sym at)
           (by_kept q (rw at (eqb-same q)) (stored q lo hi how at) (a.kept q) (t.representation q) refl (kept.each q))
-      by_place place.Line at = subst (λ p. IsUserAt p c a) (sym at) tt
-      by_place (place.Passed z kept_it) at = subst (λ p. IsUserAt p c a) (sym at) tt
-      by_place (place.Turn x) at = subst (λ p. IsUserAt p c a) (sym at) tt
-      by_place (place.Direct x) at = subst (λ p. IsUserAt p c a) (sym at) tt
-      by_place (place.Down why) at = subst (λ p. IsUserAt p c a) (sym at) tt
-      by_place place.Over at = subst (λ p. IsUserAt p c a) (sym at) tt
+      by_place _ at = subst (λ p. IsUserAt p c a) (sym at) tt

@@ -1,4 +1,5 @@
 -- Small facts on tests, options and numbers.
+use Rattle.std.{proofs.{lemmas.Bool.Decides.{nat_tests}}}
 use Rattle.std.{proofs.Common.{◌≡◌, ◌≢◌, ◌⊎◌, ℕ, ◌+◌, ◌<◌, ◌≤◌, ◌^◌, true, cond, Option, Some, None, Result, Ok, Err, refl, sym, ◌∙◌, arith}, specs.Prelude.{is_some, IsSomeAnd, OnOk, ◌||◌, ◌&&◌}}
 use Rattle.hc_text.proofs.Basics.{false_true}
 use Rattle.hc_effects.proofs.Tests.{none_some}
@@ -9,8 +10,7 @@ there None P h = absurd h
 there (Some k) P h = (k, refl, h)
 
 pub or_none : {A : Type 0} (o : Option A) → cond (is_some o) o None ≡ o
-or_none None = refl
-or_none (Some a) = refl
+or_none o = grind (arith, nat_tests)
 
 -- what follows where a call succeeded
 pub on_ok : {A E P Q R S : Type 0} (r : Result A E) → OnOk r P → OnOk r Q → OnOk r R → (P → Q → R → S) → OnOk r S

@@ -4,7 +4,7 @@
 -- passes its test by its bytes. The host is a name and no number (`no_number`). No segment of the path begins as dots
 -- do (`parts_plain`), and what is kept needs no escape. So the URL is valid (`url_is`), and its text is the one that
 -- was cut (`text_is`). What a valid URL prints is parsed as it, so the text is a target (`plain_target`).
-use Rattle.std.{proofs.{Common.{◌≡◌, ℕ, ◌≤◌, ◌==◌, ◌&&◌, ◌||◌, not, Bool, true, false, List, [], ◌∷◌, ◌++◌, length, Option, Some, None, refl, sym, ap, subst, ◌∙◌, inl, inr, arith, leb-true, le-leb}, lemmas.{Bool.{cases_Bool, and_parts, and_from, eqb-true, ne_eqb, Decides.{nat_tests}}, List.{append-nil, Elements.{All-nil, All-cons}}, Str.{IsUtf8-from_ascii}, Slice.Eq.{bytes_eq-Decides}}}, specs.{Prelude.{codes, All, IfSome, IsUtf8, IsAscii, Ok, nat_le, if◌then◌else◌}, List.{list_all}, Char.{is_ascii_digit, is_digit, to_ascii_lowercase}}}
+use Rattle.std.{proofs.{Common.{◌≡◌, ℕ, ◌≤◌, ◌==◌, ◌&&◌, ◌||◌, not, Bool, true, false, List, [], ◌∷◌, ◌++◌, length, Option, Some, None, refl, sym, ap, subst, ◌∙◌, inl, inr, arith, leb-true, le-leb}, lemmas.{Bool.{cases_Bool, and_parts, and_from, eqb-true, ne_eqb, Decides.{nat_tests}}, List.{append-nil, Elements.{All-nil, All-cons}, Folds.{list_all-append}}, Str.{IsUtf8-from_ascii}, Slice.Eq.{bytes_eq-Decides}}}, specs.{Prelude.{codes, All, IfSome, IsUtf8, IsAscii, Ok, nat_le, if◌then◌else◌}, List.{list_all}, Char.{is_ascii_digit, is_digit, to_ascii_lowercase}}}
 use Rattle.percent_encoding.specs.Percent.{IsKept}
 use Rattle.url.proofs.{SetLemmas.{kept_from_passes}, Theorems.{parse_url-serialize_special}, ValidLemmas.{IsAscii-serialize}}
 use Rattle.url.specs.{Parser.{parse_url}, declared.{sets.TheConstants.{FORBIDDEN_DOMAIN, PATH, SPECIAL_QUERY, USERINFO}, scheme.SchemeType.TheVariants.{SpecialNotFile}}, Input.{rsplit_once, rsplit_step, lowercase, is_empty}, Ipv4.{ends_in_a_number, last_label, last_label_of, parse_number, is_number}, Host.{IsDomain}, Path.{IsSegment, IsSegmentList, join_segments, dot_count}, Scheme.{default_port, scheme_type, is_slash, scheme_len}, Parts.{IsValid, IsValidHead, serialize, kind_of}}
@@ -332,10 +332,7 @@ all_pass p q more (b ∷ text) h =
     and_from (q b) (list_all q text) (more b both.0) (all_pass p q more text both.1)
 
 append_pass : (p : ℕ → Bool) (xs ys : List ℕ) → list_all p xs ≡ true → list_all p ys ≡ true → list_all p (xs ++ ys) ≡ true
-append_pass p [] ys hx hy = hy
-append_pass p (x ∷ xs) ys hx hy =
-    let both = and_parts (p x) (list_all p xs) hx in
-    and_from (p x) (list_all p (xs ++ ys)) both.0 (append_pass p xs ys both.1 hy)
+append_pass p xs ys hx hy = list_all-append p xs ys ∙ and_from (list_all p xs) (list_all p ys) hx hy
 
 path_bytes : (begins : Bool) (path : List ℕ) → is_plain_path begins path ≡ true → list_all is_plain_byte path ≡ true
 path_bytes begins [] h = refl

@@ -1,18 +1,16 @@
 //! What a cache leaves, and a cache that begins with that.
-ghost use Rattle.std.specs.Prelude.{◌≡◌, ◌≤◌, ◌^◌, vec_len};
+ghost use Rattle.std.specs.Prelude.{◌≡◌};
 ghost use Rattle.hc_store.specs.Slots.{no_slots};
 
-use crate::reports::{AMPLE, joined};
+use crate::reports::{AMPLE, new_cache, sink_of, source_of};
 use hc_contents::Contents;
 use hc_core::{Cache, ContentsError};
-use hc_driver::step_through;
 use hc_io::{MemorySink, MemorySource};
 use hc_record::Kind;
 use hc_replay::replay;
 use hc_rules::Limits;
 use hc_sched::Ended;
 use hc_store::{Backend, Failing, Memory, Op, StoreError};
-use hc_text::NoMemory;
 use std::alloc::Global;
 use std::process::Abort;
 use std::test::Fail;
@@ -70,36 +68,35 @@ data 2 2 3 646566
 ended 2
 ";
 
-/// What a cache leaves after this schedule, over a store of which these calls fail. None where
-/// somebody is live then.
+/// What a cache leaves after a schedule, over a store of which these calls fail. None where somebody
+/// is live then.
 fn left_after(
     alloc: Global,
-    schedule: Vec<u8>,
-    fails: &[(Op, u64)],
-) -> Result<Option<Contents>, StoreError>
-    requires short { vec_len schedule ≤ 2 ^ 60 }
-{
-    let fails = Vec::from_slice(alloc, fails).or(Err(StoreError::NoMemory))?;
+    source: &mut MemorySource,
+    fails: Vec<(Op, u64)>,
+) -> Result<Option<Contents>, StoreError> {
     let store = Failing::new(Memory::new(alloc, AMPLE), fails);
-    let mut cache = Cache::new(store, AMPLE, alloc)?;
-    let mut source = MemorySource::new(schedule, 10, Vec::new(alloc));
-    let mut sink = MemorySink::new(alloc, Vec::new(alloc));
-    let ended = replay(alloc, 0, &mut cache, &mut source, &mut sink);
+    let mut cache = new_cache(alloc, store, AMPLE)?;
+    let ended = replay(alloc, 0, &mut cache, source, &mut sink_of(alloc));
+    left_in(&mut cache, ended)
+}
+
+/// What the cache leaves, none where it didn't come to the end or somebody is live.
+fn left_in<B: Backend>(cache: &mut Cache<B>, ended: Ended) -> Result<Option<Contents>, StoreError> {
     if ended != Ended::Done || cache.live() > 0 {
         return Ok(None);
     }
     Ok(Some(cache.contents()?))
 }
 
-/// What a cache that begins with contents tells of this schedule, and leaves. None where it can't
-/// begin with them, or doesn't come to the end.
+/// What a cache that begins with contents tells of a schedule, and leaves. None where it can't begin
+/// with them, or doesn't come to the end.
 fn replay_after(
     alloc: Global,
     contents: &Contents,
-    schedule: Vec<u8>,
-) -> Result<Option<(Vec<u8>, Contents)>, StoreError>
-    requires short { vec_len schedule ≤ 2 ^ 60 }
-{
+    source: &mut MemorySource,
+    sink: &mut MemorySink,
+) -> Result<Option<Contents>, StoreError> {
     let store = Memory::new(alloc, AMPLE);
     let Ok(mut cache) = Cache::with_contents(store, AMPLE, contents, alloc) else {
         return Ok(None);
@@ -108,20 +105,15 @@ fn replay_after(
     if moment != 1000 {
         return Ok(None);
     }
-    let mut source = MemorySource::new(schedule, 10, Vec::new(alloc));
-    let mut sink = MemorySink::new(alloc, Vec::new(alloc));
-    let ended = step_through(alloc, moment, &mut cache, &mut source, &mut sink);
-    if ended != Ended::Done || cache.live() > 0 {
-        return Ok(None);
-    }
-    let report = Vec::from_slice(alloc, sink.taken()).or(Err(StoreError::NoMemory))?;
-    Ok(Some((report, cache.contents()?)))
+    let ended = replay(alloc, moment, &mut cache, source, sink);
+    left_in(&mut cache, ended)
 }
 
-/// What is left where half of it came.
-fn half<R: Abort + AllocGlobal>(rt: &R) -> Result<Contents, Fail> {
-    let schedule = joined(rt, &[LEFT])?;
-    let left = left_after(rt.alloc(), schedule, &[]).ok().ok_or("fault")?;
+/// What is left after these parts of a schedule.
+fn left_by<R: Abort + AllocGlobal>(rt: &R, parts: &[&[u8]]) -> Result<Contents, Fail> {
+    let alloc = rt.alloc();
+    let mut source = source_of(rt, parts, 10, Vec::new(alloc))?;
+    let left = left_after(alloc, &mut source, Vec::new(alloc))?;
     Ok(left.ok_or("somebody is live")?)
 }
 
@@ -143,7 +135,7 @@ fn is_one(contents: &Contents, kind: Kind, runs: &[(u64, u64, &[u8])]) -> bool {
 
 #[test]
 fn leaves_what_came(rt: HostRuntime) -> Result<(), Fail> {
-    let contents = half(&rt)?;
+    let contents = left_by(&rt, &[LEFT])?;
     assert_eq!(rt; contents.now, 1000);
     assert_eq!(rt; contents.last_consumer, 1);
     assert_eq!(rt; contents.next_exchange, 2);
@@ -153,24 +145,30 @@ fn leaves_what_came(rt: HostRuntime) -> Result<(), Fail> {
 
 #[test]
 fn begins_with_what_was_left(rt: HostRuntime) -> Result<(), Fail> {
-    let contents = half(&rt)?;
-    let schedule = joined(&rt, &[RESUMED])?;
-    let after = replay_after(rt.alloc(), &contents, schedule)
-        .ok()
-        .ok_or("fault")?;
-    let (report, left) = after.ok_or("not to its end")?;
-    assert!(rt; report.as_slice() == TOLD);
+    let half = left_by(&rt, &[LEFT])?;
+    expect_whole(&rt, &resumed(&rt, &half)?);
 
     // A cache that went on leaves the same.
-    let schedule = joined(&rt, &[LEFT, RESUMED])?;
-    let on = left_after(rt.alloc(), schedule, &[]).ok().ok_or("fault")?;
-    for contents in [left, on.ok_or("somebody is live")?] {
-        assert_eq!(rt; contents.now, 1000);
-        assert_eq!(rt; contents.last_consumer, 2);
-        assert_eq!(rt; contents.next_exchange, 3);
-        assert!(rt; is_one(&contents, Kind::Whole, &[(1, 0, b"abc"), (2, 3, b"def")]));
-    }
+    expect_whole(&rt, &left_by(&rt, &[LEFT, RESUMED])?);
     Ok(())
+}
+
+/// What a cache leaves that begins with half of it and has the rest fetched.
+fn resumed<R: Abort + AllocGlobal>(rt: &R, half: &Contents) -> Result<Contents, Fail> {
+    let alloc = rt.alloc();
+    let mut source = source_of(rt, &[RESUMED], 10, Vec::new(alloc))?;
+    let mut sink = sink_of(alloc);
+    let left = replay_after(alloc, half, &mut source, &mut sink)?;
+    assert!(rt; sink.taken() == TOLD);
+    Ok(left.ok_or("not to its end")?)
+}
+
+/// All of it is left.
+fn expect_whole<R: Abort>(rt: &R, contents: &Contents) {
+    assert_eq!(rt; contents.now, 1000);
+    assert_eq!(rt; contents.last_consumer, 2);
+    assert_eq!(rt; contents.next_exchange, 3);
+    assert!(rt; is_one(contents, Kind::Whole, &[(1, 0, b"abc"), (2, 3, b"def")]));
 }
 
 /// Why a cache can't begin with contents over this store, if it can't.
@@ -189,53 +187,76 @@ fn why_not<B: Backend + Drop>(
     }
 }
 
+/// Why not over a store in memory with these limits.
+fn why_not_in(alloc: Global, limits: Limits, contents: &Contents) -> Option<ContentsError> {
+    why_not(alloc, Memory::new(alloc, limits), limits, contents)
+}
+
 #[test]
 fn begins_with_nothing_else(rt: HostRuntime) -> Result<(), Fail> {
     let alloc = rt.alloc();
-    let mut contents = half(&rt)?;
+    let mut contents = left_by(&rt, &[LEFT])?;
     let fits = Limits {
         max_entry: 3,
         max_total: 32_771,
     };
-    let why = why_not(alloc, Memory::new(alloc, fits), fits, &contents);
-    assert_eq!(rt; why, None);
+    assert_eq!(rt; why_not_in(alloc, fits, &contents), None);
     let tight = Limits {
         max_entry: 3,
         max_total: 32_770,
     };
-    let why = why_not(alloc, Memory::new(alloc, tight), tight, &contents);
-    assert_eq!(rt; why, Some(ContentsError::Full));
+    let full = Some(ContentsError::Full);
+    assert_eq!(rt; why_not_in(alloc, tight, &contents), full);
 
     contents.now = 1 << 62;
-    let why = why_not(alloc, Memory::new(alloc, AMPLE), AMPLE, &contents);
-    assert_eq!(rt; why, Some(ContentsError::BadContent { i: 1 }));
+    let bad_item = Some(ContentsError::BadContent { i: 1 });
+    assert_eq!(rt; why_not_in(alloc, AMPLE, &contents), bad_item);
     contents.next_exchange = 1;
-    let why = why_not(alloc, Memory::new(alloc, AMPLE), AMPLE, &contents);
-    assert_eq!(rt; why, Some(ContentsError::BadContent { i: 0 }));
+    let bad_number = Some(ContentsError::BadContent { i: 0 });
+    assert_eq!(rt; why_not_in(alloc, AMPLE, &contents), bad_number);
     Ok(())
 }
 
 #[test]
 fn tells_that_its_store_fails(rt: HostRuntime) -> Result<(), Fail> {
-    let alloc = rt.alloc();
-    let contents = half(&rt)?;
-    for op in [Op::Create, Op::Put] {
-        let fails = vec![in alloc; (op, 1)]?;
-        let store = Failing::new(Memory::new(alloc, AMPLE), fails);
-        let why = why_not(alloc, store, AMPLE, &contents);
+    let contents = left_by(&rt, &[LEFT])?;
+    for op in &[Op::Create, Op::Put] {
+        let fails = vec![in rt.alloc(); (*op, 1)]?;
+        let why = why_not_over(rt.alloc(), fails, &contents);
         assert_eq!(rt; why, Some(ContentsError::Fault));
     }
     // One read of each kind is for the contents.
-    for op in [Op::ReadRecord, Op::RunAt] {
-        let mut failed = 0u64;
-        for call in 1..=5 {
-            let schedule = joined(&rt, &[LEFT])?;
-            let left = left_after(alloc, schedule, &[(op, call)]);
-            if left.err() == Some(StoreError::Fault) {
-                failed = failed.wrapping_add(1);
-            }
-        }
-        assert_eq!(rt; failed, 1);
-    }
+    assert_eq!(rt; faults_in(&rt, Op::ReadRecord)?, 1);
+    assert_eq!(rt; faults_in(&rt, Op::RunAt)?, 1);
     Ok(())
+}
+
+/// Why not over a store of which these calls fail.
+fn why_not_over(
+    alloc: Global,
+    fails: Vec<(Op, u64)>,
+    contents: &Contents,
+) -> Option<ContentsError> {
+    let store = Failing::new(Memory::new(alloc, AMPLE), fails);
+    why_not(alloc, store, AMPLE, contents)
+}
+
+/// How many of the first five calls of this kind are for the contents: where one fails, they do.
+fn faults_in<R: Abort + AllocGlobal>(rt: &R, op: Op) -> Result<u64, Fail> {
+    let mut faults = 0u64;
+    for call in 1..=5 {
+        if fails_at(rt, op, call)? {
+            faults = faults.wrapping_add(1);
+        }
+    }
+    Ok(faults)
+}
+
+/// Whether no contents are told where this call fails.
+fn fails_at<R: Abort + AllocGlobal>(rt: &R, op: Op, call: u64) -> Result<bool, Fail> {
+    let alloc = rt.alloc();
+    let fails = vec![in alloc; (op, call)]?;
+    let mut source = source_of(rt, &[LEFT], 10, Vec::new(alloc))?;
+    let left = left_after(alloc, &mut source, fails);
+    Ok(left.err() == Some(StoreError::Fault))
 }

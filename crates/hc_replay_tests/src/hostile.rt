@@ -1,15 +1,10 @@
 //! Streams that fail at any call, schedules that are cut at any byte, and a store that fails at any
 //! call.
-ghost use Rattle.std.specs.Prelude.{◌≤◌, ◌^◌, vec_len};
-
-use crate::reports::{AMPLE, joined, replay_over};
-use hc_core::Cache;
-use hc_io::{MemorySink, MemorySource};
+use crate::reports::{AMPLE, new_cache, sink_of, source_of};
+use hc_io::MemorySink;
 use hc_replay::replay;
 use hc_sched::{Ended, Refused, SchedRefusal};
-use hc_store::{Memory, Op};
-use hc_text::NoMemory;
-use std::alloc::Global;
+use hc_store::{Failing, Memory, Op};
 use std::process::Abort;
 use std::str;
 use std::test::Fail;
@@ -61,29 +56,33 @@ poll 2 100
 poll 2 100
 ";
 
-/// What comes of a schedule that is read byte by byte, where these reads and writes fail.
-fn replay_through(
-    alloc: Global,
-    schedule: Vec<u8>,
+/// How the replay of a schedule ends that is read byte by byte, where these reads fail.
+fn replay_through<R: Abort + AllocGlobal>(
+    rt: &R,
+    text: &[u8],
     reads: Vec<u64>,
-    writes: Vec<u64>,
-) -> Result<(Ended, Vec<u8>), NoMemory>
-    requires short { vec_len schedule ≤ 2 ^ 60 }
-{
-    let mut cache = Cache::new(Memory::new(alloc, AMPLE), AMPLE, alloc)?;
-    let mut source = MemorySource::new(schedule, 1, reads);
-    let mut sink = MemorySink::new(alloc, writes);
-    let ended = replay(alloc, 0, &mut cache, &mut source, &mut sink);
-    Ok((ended, Vec::from_slice(alloc, sink.taken())?))
+    sink: &mut MemorySink,
+) -> Result<Ended, Fail> {
+    let alloc = rt.alloc();
+    let mut source = source_of(rt, &[text], 1, reads)?;
+    let mut cache = new_cache(alloc, Memory::new(alloc, AMPLE), AMPLE)?;
+    Ok(replay(alloc, 0, &mut cache, &mut source, sink))
 }
 
-/// The report of the first so many bytes, without a failure.
+/// How it ends where no read and no write fails.
+fn end_of<R: Abort + AllocGlobal>(rt: &R, text: &[u8]) -> Result<Ended, Fail> {
+    let alloc = rt.alloc();
+    let mut sink = sink_of(alloc);
+    replay_through(rt, text, Vec::new(alloc), &mut sink)
+}
+
+/// The report of the text, where no read and no write fails.
 fn report_of<R: Abort + AllocGlobal>(rt: &R, text: &[u8]) -> Result<Vec<u8>, Fail> {
     let alloc = rt.alloc();
-    let schedule = joined(rt, &[text])?;
-    let (ended, report) = replay_through(alloc, schedule, Vec::new(alloc), Vec::new(alloc))?;
+    let mut sink = sink_of(alloc);
+    let ended = replay_through(rt, text, Vec::new(alloc), &mut sink)?;
     assert_eq!(rt; ended, Ended::Done);
-    Ok(report)
+    Ok(Vec::from_slice(alloc, sink.taken())?)
 }
 
 /// An item ends there: a line does, and the next one is no field.
@@ -100,36 +99,38 @@ fn ends_an_item(text: &[u8], at: usize) -> bool {
 
 #[test]
 fn a_read_fails(rt: HostRuntime) -> Result<(), Fail> {
-    let alloc = rt.alloc();
     // The report of the items of which all was read.
-    let mut due = Vec::new(alloc);
+    let mut due = Vec::new(rt.alloc());
     for read in 0..=SHARED.len() {
         if ends_an_item(SHARED, read) {
             due = report_of(&rt, &SHARED[..read])?;
         }
-        let fails = vec![in alloc; read as u64 + 1]?;
-        let schedule = joined(&rt, &[SHARED])?;
-        let (ended, report) = replay_through(alloc, schedule, fails, Vec::new(alloc))?;
-        assert_eq!(rt; ended, Ended::SourceFailed, "{read}");
-        assert!(rt; report.as_slice() == due.as_slice(), "{read}");
+        expect_read_failure(&rt, read, &due)?;
     }
+    Ok(())
+}
+
+/// The read behind so many bytes fails, and this is reported until then.
+fn expect_read_failure<R: Abort + AllocGlobal>(
+    rt: &R,
+    read: usize,
+    due: &[u8],
+) -> Result<(), Fail> {
+    let alloc = rt.alloc();
+    let fails = vec![in alloc; (read as u64).saturating_add(1)]?;
+    let mut sink = sink_of(alloc);
+    let ended = replay_through(rt, SHARED, fails, &mut sink)?;
+    assert_eq!(rt; ended, Ended::SourceFailed, "{read}");
+    assert!(rt; sink.taken() == due, "{read}");
     Ok(())
 }
 
 #[test]
 fn a_write_fails(rt: HostRuntime) -> Result<(), Fail> {
-    let alloc = rt.alloc();
     let due = report_of(&rt, SHARED)?;
     let mut failed = 0;
     for write in 1..1000u64 {
-        let schedule = joined(&rt, &[SHARED])?;
-        let (ended, report) = replay_through(
-            alloc,
-            schedule,
-            Vec::new(alloc),
-            vec![in alloc; write]?,
-        )?;
-        assert!(rt; due.starts_with(report.as_slice()), "{write}");
+        let ended = end_at_write(&rt, write, &due)?;
         if ended == Ended::Done {
             break;
         }
@@ -141,39 +142,56 @@ fn a_write_fails(rt: HostRuntime) -> Result<(), Fail> {
     Ok(())
 }
 
+/// How it ends where this write fails, and a first part of what is due is reported.
+fn end_at_write<R: Abort + AllocGlobal>(rt: &R, write: u64, due: &[u8]) -> Result<Ended, Fail> {
+    let alloc = rt.alloc();
+    let mut sink = MemorySink::new(alloc, vec![in alloc; write]?);
+    let ended = replay_through(rt, SHARED, Vec::new(alloc), &mut sink)?;
+    assert!(rt; due.starts_with(sink.taken()), "{write}");
+    Ok(ended)
+}
+
 #[test]
 fn a_schedule_is_cut(rt: HostRuntime) -> Result<(), Fail> {
-    let alloc = rt.alloc();
     for cut in 0..=SHARED.len() {
-        let schedule = joined(&rt, &[&SHARED[..cut]])?;
-        let (ended, _) = replay_through(alloc, schedule, Vec::new(alloc), Vec::new(alloc))?;
+        let ended = end_of(&rt, &SHARED[..cut])?;
         if ends_an_item(SHARED, cut) {
             assert_eq!(rt; ended, Ended::Done, "{cut}");
-            continue;
+        } else {
+            assert_eq!(rt; why_refused(ended), Some(SchedRefusal::CutShort), "{cut}");
         }
-        let why = match ended {
-            Ended::Refused(Refused { why, .. }) => Some(why),
-            _ => None,
-        };
-        assert_eq!(rt; why, Some(SchedRefusal::CutShort), "{cut}");
     }
     Ok(())
 }
 
+fn why_refused(ended: Ended) -> Option<SchedRefusal> {
+    match ended {
+        Ended::Refused(Refused { why, .. }) => Some(why),
+        _ => None,
+    }
+}
+
 #[test]
 fn a_call_of_the_store_fails(rt: HostRuntime) -> Result<(), Fail> {
-    for op in [Op::WriteRecord, Op::ReadRecord, Op::RunAt] {
+    for op in &[Op::WriteRecord, Op::ReadRecord, Op::RunAt] {
         for call in 1..=20 {
-            let schedule = joined(&rt, &[RESUMED])?;
-            let replayed = replay_over(rt.alloc(), AMPLE, &[(op, call)], schedule)?;
-            assert_eq!(rt; replayed.ended, Ended::Done, "{call}");
-            let report = str::from_utf8(replayed.report.as_slice())
-                .ok()
-                .ok_or("text")?;
-            expect_first_part(&rt, report)?;
+            resume_over(&rt, *op, call)?;
         }
     }
     Ok(())
+}
+
+/// Where this call fails, the replay comes to its end, and its report tells so.
+fn resume_over<R: Abort + AllocGlobal>(rt: &R, op: Op, call: u64) -> Result<(), Fail> {
+    let alloc = rt.alloc();
+    let fails = vec![in alloc; (op, call)]?;
+    let store = Failing::new(Memory::new(alloc, AMPLE), fails);
+    let mut cache = new_cache(alloc, store, AMPLE)?;
+    let mut source = source_of(rt, &[RESUMED], 10, Vec::new(alloc))?;
+    let mut sink = sink_of(alloc);
+    let ended = replay(alloc, 0, &mut cache, &mut source, &mut sink);
+    assert_eq!(rt; ended, Ended::Done, "{call}");
+    expect_first_part(rt, str::from_utf8(sink.taken())?)
 }
 
 /// What consumer 2 is given is a first part of the whole body, or of its end where that is all that

@@ -1,67 +1,57 @@
-//! What tests of replays share: schedules in parts, and a replay over a store of which calls fail.
-ghost use Rattle.std.specs.Prelude.{◌≤◌, ◌^◌, vec_len, IfOk};
+//! What tests of replays share: a schedule in parts as a source, an empty sink, and a cache that was
+//! just made.
+ghost use Rattle.std.specs.Prelude.{◌≡◌, ◌+◌, ◌<◌, ◌≤◌, IfOk};
+ghost use Rattle.hc_store.specs.Slots.{no_slots};
+ghost use Rattle.hc_core.specs.Steps.{last_moment, steps, bytes_received};
 
 use hc_core::Cache;
 use hc_io::{MemorySink, MemorySource};
-use hc_record::Kind;
-use hc_replay::replay;
 use hc_rules::Limits;
-use hc_sched::Ended;
-use hc_store::{Failing, Memory, Op};
-use hc_text::{Key, NoMemory};
+use hc_store::Backend;
+use hc_text::NoMemory;
 use std::alloc::Global;
 use std::process::Abort;
 use std::test::Fail;
-
-/// What a replay writes and leaves.
-#[derive(Drop)]
-pub(crate) struct Replayed {
-    pub(crate) ended: Ended,
-    pub(crate) report: Vec<u8>,
-    pub(crate) events: u64,
-    pub(crate) kind: Option<Kind>,
-}
 
 pub(crate) const AMPLE: Limits = Limits {
     max_entry: 1000,
     max_total: 1_000_000,
 };
 
-/// The parts, one after another.
-pub(crate) fn joined<R: Abort + AllocGlobal>(rt: &R, parts: &[&[u8]]) -> Result<Vec<u8>, Fail>
-    ensures { IfOk result (λ schedule. vec_len schedule ≤ 2 ^ 60) }
+/// A source of the parts, one after another. It gives so many bytes at a time, and fails at these
+/// reads.
+pub(crate) fn source_of<R: Abort + AllocGlobal>(
+    rt: &R,
+    parts: &[&[u8]],
+    step: usize,
+    fails: Vec<u64>,
+) -> Result<MemorySource, Fail>
+    requires { 0 < step }
 {
     let mut schedule = Vec::new(rt.alloc());
     for part in parts {
         schedule.extend_from_slice(part)?;
     }
     assert!(rt; schedule.len() < 10_000);
-    Ok(schedule)
+    Ok(MemorySource::new(schedule, step, fails))
 }
 
-/// Replays the schedule, of which ten bytes come at a time, over a store with these limits, of which
-/// these calls fail.
-pub(crate) fn replay_over(
+/// An empty sink that fails at no write.
+pub(crate) fn sink_of(alloc: Global) -> MemorySink {
+    MemorySink::new(alloc, Vec::new(alloc))
+}
+
+/// A cache that no event reached, over this store, which is empty.
+pub(crate) fn new_cache<B: Backend + Drop>(
     alloc: Global,
+    store: B,
     limits: Limits,
-    fails: &[(Op, u64)],
-    schedule: Vec<u8>,
-) -> Result<Replayed, NoMemory>
-    requires short { vec_len schedule ≤ 2 ^ 60 }
+) -> Result<Cache<B>, NoMemory>
+    requires empty { B.slots store ≡ no_slots }
+    requires limits { B.limits store ≡ limits }
+    ensures moment { IfOk result (λ cache. last_moment cache ≤ 0) }
+    ensures unused { IfOk result (λ cache. steps cache + bytes_received cache ≡ 0) }
 {
-    let fails = Vec::from_slice(alloc, fails)?;
-    let store = Failing::new(Memory::new(alloc, limits), fails);
-    let mut cache = Cache::new(store, limits, alloc)?;
-    let mut source = MemorySource::new(schedule, 10, Vec::new(alloc));
-    let mut sink = MemorySink::new(alloc, Vec::new(alloc));
-    let ended = replay(alloc, 0, &mut cache, &mut source, &mut sink);
-    let key = Key {
-        bytes: Vec::from_slice(alloc, b"http://a.test/x")?,
-    };
-    Ok(Replayed {
-        ended,
-        report: Vec::from_slice(alloc, sink.taken())?,
-        events: cache.steps(),
-        kind: cache.kind_of(&key),
-    })
+    let cache = Cache::new(store, limits, alloc)?;
+    Ok(cache)
 }

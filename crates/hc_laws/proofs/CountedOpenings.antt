@@ -1,9 +1,9 @@
 -- An event opens one exchange at most, the next. So no more were opened than events came.
 use Rattle.std.{proofs.Common.{◌≡◌, ◌≤◌, ◌+◌, ◌-◌, Bool, true, false, [], ◌∷◌, length, Option, Some, None, refl, ap, sym, ◌∙◌, arith}, specs.Prelude.{if◌then◌else◌}}
-use Rattle.hc_effects.proofs.Vocabulary.{Opening, opening_in, is_denied, Limits, Entry, flaw_in, Tables, IsOwed, Sound, tables, after, after_accepted, after_denied, opened_after}
+use Rattle.hc_effects.proofs.Vocabulary.{Opening, opening_in, is_denied, Limits, Entry, flaw_in, entry_of, Tables, IsOwed, Sound, tables, after, after_accepted, after_denied, opened_after}
 use Rattle.hc_model.specs.Live.{OpeningsAreCounted}
 use Rattle.hc_effects.proofs.{NumbersKeep.{opens_next}, Owed.{goes, acts_are}}
-use Rattle.hc_laws.proofs.SoundRuns.{runs_are_sound}
+use Rattle.hc_laws.proofs.RunFacts.{along}
 
 module _ (limits : Limits) (t : Tables) (s : Sound t) (e : Entry) (is : IsOwed limits t e) where
   next : is_denied e.acts ≡ false → (o : Opening) → opening_in e.acts ≡ Some o → o.x ≡ t.opened + 1
@@ -15,18 +15,16 @@ module _ (limits : Limits) (t : Tables) (s : Sound t) (e : Entry) (is : IsOwed l
   by_opening None each = omega arith
   by_opening (Some q) each = let is_next : q.x ≡ t.opened + 1 = each q refl in omega arith
 
-  one_at_most : (after t e).opened ≤ t.opened + 1
-  unfolding after
-  one_at_most = by_denial (is_denied e.acts) refl
-    where
-      by_denial : (b : Bool) → is_denied e.acts ≡ b → (if b then after_denied t e else after_accepted t e).opened ≤ t.opened + 1
-      by_denial true denied = omega arith
-      by_denial false accepted = by_opening (opening_in e.acts) (next accepted)
+  one_at_most : is_denied e.acts ≡ false → (after_accepted t e).opened ≤ t.opened + 1
+  one_at_most accepted = by_opening (opening_in e.acts) (next accepted)
 
 pub openings_counted : OpeningsAreCounted
-unfolding tables
-openings_counted limits contents [] may run = omega arith
-openings_counted limits contents (e ∷ h) may run =
-    let before : (tables contents h).opened ≤ contents.next_exchange - 1 + length h = openings_counted limits contents h may run.0 in
-    let one : (after (tables contents h) e).opened ≤ (tables contents h).opened + 1 = one_at_most limits (tables contents h) (runs_are_sound limits contents h may run.0) e run.1 in
-    omega arith
+openings_counted limits contents h may run =
+    along limits contents (λ t h. t.opened ≤ contents.next_exchange - 1 + length h) may
+    (omega arith)
+    (λ h e run later denied before. omega (arith, before))
+    (λ h now flaw ev run s before.
+    let t = tables contents h in
+    let one : (after_accepted t (entry_of limits t now ev flaw)).opened ≤ t.opened + 1 = one_at_most limits t s.before.is_sound (entry_of limits t now ev flaw) s.owed s.real.taken in
+    omega (arith, before, one))
+    h run

@@ -6,10 +6,10 @@
 -- consumer reads is within a length (`starts_by`). `numbers_by` joins these.
 use Rattle.std.{proofs.Common.{◌≡◌, ◌<◌, ◌≤◌, ◌⊎◌, inl, inr, ℕ, ◌+◌, ◌^◌, List, [], ◌∷◌, length, length-append, Bool, true, false, Option, Some, None, refl, ap, sym, ◌∙◌, subst, arith}, specs.{Prelude.{option_map}, Option.{option_or}}}
 use Rattle.hc_text.proofs.Basics.{not_some as none_some, some_inj}
-use Rattle.hc_effects.proofs.Vocabulary.{is_denied, Event, base_of, Limits, BoundBy, may_begin, is_kind_right, Entry, History, Content, Contents, base, promised_bytes, front, item_of, Measures, Numbers, AreShort, Places, length_in, Tables, Exchange, Representation, Consumer, IsRun, Sound, tables, after_accepted, first_tables, representation_of_content, event, place}
+use Rattle.hc_effects.proofs.Vocabulary.{is_denied, Event, base_of, Limits, BoundBy, may_begin, is_kind_right, Entry, entry_of, History, Content, Contents, base, promised_bytes, front, item_of, Measures, Numbers, AreShort, Places, length_in, Tables, Exchange, Representation, Consumer, IsRun, Sound, tables, after_accepted, first_tables, representation_of_content, event, place}
 use Rattle.hc_model.specs.Numbers.{NumbersInRuns, most, too_long}
 use Rattle.hc_model.specs.Sound as sound
-use Rattle.hc_laws.proofs.{Barred.{next_tables, denied_tables}, MeasuresBegin.{measures_begin, known_item}, PlaceRuns.{places_in_runs}, ReadEnds.{bounded, no_base}, SoundRuns.{carried}}
+use Rattle.hc_laws.proofs.{Barred.{next_tables}, MeasuresBegin.{measures_begin, known_item}, PlaceRuns.{places_in_runs}, RunFacts.{along}, ReadEnds.{bounded, no_base}, SoundRuns.{carried}}
 use Rattle.hc_effects.proofs.{Basics.{false_true, some_row}, Bounded.{IsBounded}, Fills.{Fills, fills, Brings, brings, length_same}, Forward.{is_on}, RepFrom.{RepFrom, rep_from}, ToldNumbers.{promise_early, founded_early}}
 use Rattle.hc_effects.proofs.ExchangeFrom as exchange
 use Rattle.hc_effects.proofs.Fills as fills_by
@@ -133,19 +133,19 @@ module _ (t : Tables) (e : Entry) (was : AreShortRows t) (p : Places t) (q : Pla
 
 -- IN RUNS
 
-by_denial : (contents : Contents) (h : History) (e : Entry) (b : Bool) → is_denied e.acts ≡ b → AreShortRows (tables contents h) → Places (tables contents h) → Places (tables contents (e ∷ h)) → AreShortRows (tables contents (e ∷ h))
-by_denial contents h e true denied was p q = subst AreShortRows (denied_tables contents h e denied) (record {
-  totals = λ r n v row known. let le = was.totals r n v row known in omega arith;
-  reaches = λ r v row. let le = was.reaches r v row in omega arith;
-})
-by_denial contents h e false accepted was p q =
-    let same = next_tables contents h e accepted in
-    subst AreShortRows same (short_kept (tables contents h) e was p (subst Places (sym same) q))
-
 short_in_runs : (limits : Limits) (contents : Contents) (h : History) → may_begin limits contents ≡ true → AreShort contents → IsRun limits contents h → AreShortRows (tables contents h)
-unfolding tables
-short_in_runs limits contents [] may short run = begun_short limits contents may short
-short_in_runs limits contents (e ∷ h) may short run = by_denial contents h e (is_denied e.acts) refl (short_in_runs limits contents h may short run.0) (places_in_runs limits contents h may run.0) (places_in_runs limits contents (e ∷ h) may run)
+short_in_runs limits contents h may short run =
+    along limits contents (λ t h. AreShortRows t) may
+    (begun_short limits contents may short)
+    (λ h e run later denied was. record {
+      totals = λ r n v row known. let le = was.totals r n v row known in omega arith;
+      reaches = λ r v row. let le = was.reaches r v row in omega arith;
+    })
+    (λ h now flaw ev run s was.
+    let e = entry_of limits (tables contents h) now ev flaw in
+    short_kept (tables contents h) e was (places_in_runs limits contents h may run)
+    (subst Places (sym (next_tables contents h e s.real.taken)) (places_in_runs limits contents (e ∷ h) may (run, s.owed))))
+    h run
 
 module _ (t : Tables) (s : Sound t) (m : Measures t) (b : IsBounded t) (p : Places t) (short : AreShortRows t) where
   -- an end is within a length

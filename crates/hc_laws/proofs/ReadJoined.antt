@@ -10,7 +10,7 @@ use Rattle.hc_sparse.specs.declared.run.Run.{Run}
 use Rattle.hc_effects.proofs.Vocabulary.{is_denied, given_in, Limits, Place, may_begin, Entry, History, Contents, flaw_in, Shown, shown_in, shown_of, given_of, entry_of, OfRuns, Gives, move_of, reads, hi_of, Delivers, Holds, body_of, Tables, Consumer, IsRun, IsOwed, tables, after_accepted, after_denied, event}
 use Rattle.hc_event.specs.declared.place.Place.TheVariants as place
 use Rattle.hc_model.specs.{Laws.{Grows}, Reads.{BodiesAreRead}}
-use Rattle.hc_laws.proofs.{FallbackKeeps.{landing_by, fallback_begun, fallback_denied, fallback_kept}, Barred.{next_tables, denied_tables}, GrowsInRuns.{grows}, OneHead.{one_head_is_shown}, ReadAs.{IsRead, read_kept, landed_read}, RunFacts.{in_runs}, SoundRuns.{carried}}
+use Rattle.hc_laws.proofs.{FallbackKeeps.{landing_by, fallback_begun, fallback_denied, fallback_kept}, Barred.{next_tables, denied_tables}, GrowsInRuns.{grows}, OneHead.{one_head_is_shown}, ReadAs.{IsRead, read_kept, landed_read}, RunFacts.{along, in_runs}, SoundRuns.{carried}}
 use Rattle.hc_effects.proofs.{Basics.{false_true, append_none}, GivenNext.{read_of, given_next}, Givers.{some_want, gives_of}, MoveBy.{move_by}, OfEntries.{of_real}, Owed.{denied_gives, denied_shows}, PollActs.{ToOne, to_one}, ReadFilters.{consumers_are_filtered}, ShownOnce.{no_first}, ShownStays.{IsFallback, StaysOrIdle, shown_stays}, Step.{Step, step_of}}
 use Rattle.hc_effects.proofs.PollActs as acts_to
 use Rattle.hc_effects.proofs.ShownStays as stands
@@ -219,17 +219,13 @@ denied_joined contents h e denied j = record {
     old_shown : (c : ℕ) (z : Shown) → shown_of c (e ∷ h) ≡ z ∷ [] → shown_of c h ≡ z ∷ []
     old_shown c z was = sym (ap (λ xs. shown_of c h ++ xs) (denied_shows c e.acts denied) ∙ append_none (shown_of c h)) ∙ was
 
-by_denial : (limits : Limits) (contents : Contents) (h : History) (e : Entry) (b : Bool) → is_denied e.acts ≡ b → may_begin limits contents ≡ true → IsRun limits contents h → IsOwed limits (tables contents h) e → Joined contents h → Joined contents (e ∷ h)
-by_denial limits contents h e true denied may run owed j = subst (λ u. IsJoined u (λ c. shown_of c (e ∷ h)) (λ c. given_of c (e ∷ h))) (denied_tables contents h e denied) (denied_joined contents h e denied j)
-by_denial limits contents h e false accepted may run owed j =
-    let t = tables contents h in
-    let k = carried limits contents h may run in
-    subst (λ u. IsJoined u (λ c. shown_of c (e ∷ h)) (λ c. given_of c (e ∷ h))) (next_tables contents h e accepted)
-    (of_real limits t e (λ z. IsJoined (after_accepted t z) (λ c. shown_of c h ++ shown_in c z.acts) (λ c. given_of c h ++ given_in c z.acts)) owed accepted (λ going real. joined_on (step_of limits t e.now (flaw_in e.acts) k.is_sound k.is_owned e.event going) (fallback limits contents h may run) (λ c. shown_of c h) (λ c. given_of c h) (is_told limits contents h run) j))
-
 pub joined_in_runs : (limits : Limits) (contents : Contents) (h : History) → may_begin limits contents ≡ true → IsRun limits contents h → Joined contents h
-joined_in_runs limits contents [] may run = record { read = λ c k z row was on. absurd (nil_cons z [] was); held = λ c z was. absurd (nil_cons z [] was) }
-joined_in_runs limits contents (e ∷ h) may run = by_denial limits contents h e (is_denied e.acts) refl may run.0 run.1 (joined_in_runs limits contents h may run.0)
+joined_in_runs limits contents h may run =
+    along limits contents (λ t h. IsJoined t (λ c. shown_of c h) (λ c. given_of c h)) may
+    (record { read = λ c k z row was on. absurd (nil_cons z [] was); held = λ c z was. absurd (nil_cons z [] was) })
+    (λ h e run later denied j. denied_joined contents h e denied j)
+    (λ h now flaw ev run s j. joined_on (step_of limits (tables contents h) now flaw s.before.is_sound s.before.is_owned ev s.going) (fallback limits contents h may run) (λ c. shown_of c h) (λ c. given_of c h) (is_told limits contents h run) j)
+    h run
 
 -- What a consumer was given, joined, is of the body that it was shown.
 pub bodies_are_read : BodiesAreRead

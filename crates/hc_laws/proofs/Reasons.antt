@@ -13,7 +13,7 @@ use Rattle.hc_event.specs.declared.event.Load.{Load}
 use Rattle.hc_fresh.specs.{Allowed.{allowed_by, is_validate, is_zero, is_older, lacks, is_skip, accepts}, Ages.{age}, Facts.{allowed}, Lifetimes.{lifetime}}
 use Rattle.hc_record.specs.Head.{Head}
 use Rattle.hc_model.specs.{Histories.{Opened}, Reads.{IsReason, has_selected, selects_at}}
-use Rattle.hc_laws.proofs.{Aimed.{IsAimed, aimed_begun, aimed_denied, aimed_kept}, Barred.{next_tables, denied_tables}, InRuns.{turned_in_runs}, JoinFilters.{exchanges_are_filtered}, PassedFrom.{validates, stood, busies, PassedFrom, passed_from}, RunFacts.{in_runs}, SoundRuns.{carried}, WhyShown.{ShownWhy}}
+use Rattle.hc_laws.proofs.{Aimed.{IsAimed, aimed_begun, aimed_denied, aimed_kept}, Barred.{next_tables, denied_tables}, InRuns.{turned_in_runs}, JoinFilters.{exchanges_are_filtered}, PassedFrom.{validates, stood, busies, PassedFrom, passed_from}, RunFacts.{along, in_runs}, SoundRuns.{carried}, WhyShown.{ShownWhy}}
 use Rattle.hc_effects.proofs.{Forward.{is_on}, Joining.{mix}, OfEntries.{of_real}, ReadFilters.{consumers_are_filtered}, Said.{waiting_by}, Step.{Step, step_of}}
 use Rattle.hc_laws.proofs.WhyShown as shown_for
 
@@ -108,19 +108,13 @@ denied_keeping contents h e g = record {
   asker = λ c r x k row at. let f = g.asker c r x k row at in record { w = f.w; row = f.row; for_it = f.for_it };
 }
 
-keeping_by : (limits : Limits) (contents : Contents) (h : History) (e : Entry) (b : Bool) → is_denied e.acts ≡ b → may_begin limits contents ≡ true → IsRun limits contents h → IsOwed limits (tables contents h) e → Keeps contents h → Keeps contents (e ∷ h)
-keeping_by limits contents h e true denied may run owed g = subst (λ u. IsKeeping u (λ x r. has_selected contents x r (e ∷ h))) (denied_tables contents h e denied) (denied_keeping contents h e g)
-keeping_by limits contents h e false taken may run owed g =
-    let t = tables contents h in
-    let k = carried limits contents h may run in
-    let turned = turned_in_runs limits contents h may run in
-    subst (λ u. IsKeeping u (λ x r. has_selected contents x r (e ∷ h))) (next_tables contents h e taken)
-    (of_real limits t e (λ z. IsKeeping (after_accepted t z) (λ x r. selects_at t z x r || has_selected contents x r h)) owed taken (λ going real. keeping_on (step_of limits t e.now (flaw_in e.acts) k.is_sound k.is_owned e.event going) turned.turns (λ x r. has_selected contents x r h) g real.taken))
-
 keeps : (limits : Limits) (contents : Contents) (h : History) → may_begin limits contents ≡ true → IsRun limits contents h → Keeps contents h
-unfolding tables
-keeps limits contents [] may run = record { chosen = λ c r x k row at. absurd (none_some k row); asker = λ c r x k row at. absurd (none_some k row) }
-keeps limits contents (e ∷ h) may run = keeping_by limits contents h e (is_denied e.acts) refl may run.0 run.1 (keeps limits contents h may run.0)
+keeps limits contents h may run =
+    along limits contents (λ t h. IsKeeping t (λ x r. has_selected contents x r h)) may
+    (record { chosen = λ c r x k row at. absurd (none_some k row); asker = λ c r x k row at. absurd (none_some k row) })
+    (λ h e run later denied g. denied_keeping contents h e g)
+    (λ h now flaw ev run s g. keeping_on (step_of limits (tables contents h) now flaw s.before.is_sound s.before.is_owned ev s.going) (turned_in_runs limits contents h may run).turns (λ x r. has_selected contents x r h) g s.real.taken)
+    h run
 
 -- THE REASONS
 

@@ -1,20 +1,18 @@
 -- Where each start asks for a target, each representation has one as its key.
 use Rattle.std.{proofs.{lemmas.Bool.Decides.{nat_tests}, Common.{arith, ◌≡◌, inl, inr, ℕ, List, [], ◌∷◌, Bool, true, false, None, Option, Some, refl, ap, sym, ◌∙◌}}, specs.Prelude.{◌==◌, find, option_map}}
 use Rattle.hc_text.proofs.Basics.{and_left, and_right, not_some as none_some, some_inj}
-use Rattle.hc_effects.proofs.Vocabulary.{is_denied, Limits, may_begin, is_good, are_good, Entry, Content, Contents, ExchangeKeys, Tables, Representation, tables, first_tables, representation_of_content, after, RequestsAreForTargets, KeysAreTargets}
+use Rattle.hc_effects.proofs.Vocabulary.{Limits, may_begin, is_good, are_good, Entry, entry_of, Content, Contents, ExchangeKeys, Tables, Representation, tables, first_tables, representation_of_content, after_accepted, RequestsAreForTargets, KeysAreTargets}
 use Rattle.hc_target.specs.Targets.{is_target}
-use Rattle.hc_model.specs.WithinLimits.{KeysStayTargets}
+use Rattle.hc_model.specs.WithinLimits.{KeysStayTargets, StartsHaveTargets}
 use Rattle.hc_effects.proofs.{PieceKeeps.{eq_cases}, RepFrom.{RepFrom, rep_from}}
-use Rattle.hc_laws.proofs.{RunsWithinLimits.{requests_are_for_targets}, InRuns.{one_key_in_runs}}
+use Rattle.hc_laws.proofs.{RunsWithinLimits.{requests_are_for_targets}, InRuns.{one_key_in_runs}, RunFacts.{along}}
 
 -- the key of what is founded is that of its exchange, and so of a consumer
 target_by : (t : Tables) (e : Entry) (r : ℕ) (u : Representation) → ExchangeKeys t → RequestsAreForTargets t → KeysAreTargets t → RepFrom t e r u → is_target u.key ≡ true
 target_by t e r u keys asked old it7 = grind (arith, nat_tests)
 
-targets_step : (t : Tables) (e : Entry) (b : Bool) → is_denied e.acts ≡ b → ExchangeKeys t → RequestsAreForTargets t → KeysAreTargets t → KeysAreTargets (after t e)
-unfolding after
-targets_step t e true denied keys asked old = rw denied old
-targets_step t e false accepted keys asked old = rw accepted (λ r u row. target_by t e r u keys asked old (rep_from t e r (t.representation r) u refl row))
+targets_kept : (t : Tables) (e : Entry) → ExchangeKeys t → RequestsAreForTargets t → KeysAreTargets t → KeysAreTargets (after_accepted t e)
+targets_kept t e keys asked old r u row = target_by t e r u keys asked old (rep_from t e r (t.representation r) u refl row)
 
 -- AT THE BEGINNING
 
@@ -47,8 +45,9 @@ module _ (limits : Limits) (contents : Contents) where
 -- IN RUNS
 
 pub keys_stay_targets : KeysStayTargets
-unfolding tables
-keys_stay_targets limits contents [] may run starts = targets_begin limits contents may
-keys_stay_targets limits contents (e ∷ h) may run starts =
-    targets_step (tables contents h) e (is_denied e.acts) refl (one_key_in_runs limits contents h may run.0).exchanges
-    (requests_are_for_targets contents h starts.0) (keys_stay_targets limits contents h may run.0 starts.0)
+keys_stay_targets limits contents h may run =
+    along limits contents (λ t h. StartsHaveTargets h → KeysAreTargets t) may
+    (λ starts. targets_begin limits contents may)
+    (λ h e run later denied old starts. old starts.0)
+    (λ h now flaw ev run s old starts. targets_kept (tables contents h) (entry_of limits (tables contents h) now ev flaw) (one_key_in_runs limits contents h may run).exchanges (requests_are_for_targets contents h starts.0) (old starts.0))
+    h run

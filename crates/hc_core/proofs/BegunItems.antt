@@ -11,7 +11,7 @@ use Rattle.hc_sparse.specs.{Cells.{AreAbsent, EndsBy, size, cells_with}, Runs.{e
 use Rattle.hc_sparse.proofs.{CellLemmas.{inside-past}, SizeLemmas.{size-put}}
 use Rattle.hc_effects.proofs.Vocabulary.{Limits, weight_of, ascend_from, is_kind_right, is_good, are_good, says, has_own_numbers, weights_of, may_begin, has_right_head, Content, Contents, first_tables, last_end, bytes_in}
 use Rattle.hc_stored.specs.{Begun.{with_runs}, Kept.{Kept, kept_with_bytes}, Shelf.{Shelf, Becomes, is_kept, cells_at, size_at, same_order}, Entries.{shelf_of}}
-use Rattle.hc_effects.proofs.{Basics.{or_false, append_none}}
+use Rattle.hc_effects.proofs.Basics.{or_false, append_none}
 use Rattle.hc_state.specs.{declared.rows.Rows.{Rows}, Stands.{RowsStand}}
 use Rattle.hc_core.specs.Begins.{with_items, KeepsItem}
 use Rattle.hc_contents.specs.declared.contents.Content as coded

@@ -1,5 +1,5 @@
 -- Where nobody is live nobody is bound, waits or has a turn, no exchange is open, and nothing is held.
-use Rattle.std.{proofs.{lemmas.Bool.Decides.{nat_tests}, Common.{arith, ◌≡◌, ℕ, [], ◌∷◌, Bool, true, false, Option, Some, None, refl, ap, sym, ◌∙◌}}}
+use Rattle.std.proofs.{lemmas.Bool.Decides.{nat_tests}, Common.{arith, ◌≡◌, ℕ, [], ◌∷◌, Bool, true, false, Option, Some, None, refl, ap, sym, ◌∙◌}}
 use Rattle.hc_text.proofs.Basics.{false_true, none_long, never_true as not_true}
 use Rattle.hc_effects.proofs.Vocabulary.{Place, live, is_live, is_live_place, is_open, Lawful, bound, is_bound, Tables, Exchange, Representation, Consumer, IsSomebodys, may_own, place}
 use Rattle.hc_model.specs.Whose as whose

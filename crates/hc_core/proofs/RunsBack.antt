@@ -1,5 +1,5 @@
 -- The longest runs of what is stored have just what is stored.
-use Rattle.std.{proofs.{Common.{◌≡◌, ◌≢◌, ◌⊎◌, inl, inr, ℕ, zero, suc, ◌+◌, ◌-◌, ◌<◌, ◌≤◌, List, [], ◌∷◌, Option, Some, None, refl, ap, sym, ◌∙◌, subst, arith}, lemmas.Bool.{Decides.{nat_tests}}}, specs.Prelude.{◌==◌, ◌&&◌, if◌then◌else◌}}
+use Rattle.std.{proofs.{Common.{◌≡◌, ◌≢◌, ◌⊎◌, inl, inr, ℕ, zero, suc, ◌+◌, ◌-◌, ◌<◌, ◌≤◌, List, [], ◌∷◌, Option, Some, None, refl, ap, sym, ◌∙◌, subst, arith}, lemmas.Bool.Decides.{nat_tests}}, specs.Prelude.{◌==◌, ◌&&◌, if◌then◌else◌}}
 use Rattle.hc_text.proofs.Basics.{and_left, and_right, same_or, lt_or as split}
 use Rattle.hc_sparse.specs.{Cells.{Cells, Cell, EndsBy}, Runs.{cells_of}, declared.run.Run.{Run}}
 use Rattle.hc_effects.proofs.Vocabulary.{run_from, with_cell, with_place, runs_from}

@@ -2,7 +2,7 @@
 -- whom they name.
 use Rattle.std.{proofs.{Common.{◌≡◌, ◌<◌, ℕ, Bool, true, false, Option, Some, None, refl, ap, ◌∙◌, arith}, lemmas.Bool.Decides.{nat_tests}}, specs.Prelude.{is_some, if◌then◌else◌}}
 use Rattle.hc_text.proofs.Basics.{eq_itself as itself, and_off as shut_by}
-use Rattle.hc_effects.proofs.Vocabulary.{is_denied, Request, Response, Limits, answer, consumer_after, denial, is_live, live, as_open, Entry, exchange_after, exchange_heard, exchange_acted, with_head, is_open, Tables, Exchange, IsOwed, after, after_accepted, after_denied, event}
+use Rattle.hc_effects.proofs.Vocabulary.{is_denied, Request, Response, Limits, answer, consumer_after, denial, is_live, live, as_open, Entry, exchange_after, exchange_heard, exchange_acted, is_open, Tables, Exchange, IsOwed, after, after_accepted, event}
 use Rattle.hc_rules.specs.Refusals as refusals
 use Rattle.hc_model.specs.Denials.{open_exchange}
 use Rattle.hc_laws.proofs.Undenied.{undenied}

@@ -6,7 +6,7 @@
 -- keys this gives `aims_in_runs`. Without an aim each case of a head is the same (`by_need`).
 use Rattle.std.{proofs.{lemmas.Bool.Decides.{nat_tests}, Common.{arith, ◌≡◌, ℕ, Bool, true, false, Option, Some, None, refl, ap, sym, ◌∙◌}}, specs.{Prelude.{is_some, ◌==◌, ◌&&◌, not}, Option.{option_map, option_and_then}}}
 use Rattle.hc_text.proofs.Basics.{not_some as none_some}
-use Rattle.hc_effects.proofs.Vocabulary.{Event, Need, Response, head_case, is_conditional, Limits, route_of, Place, Aims, head_view, validates, joins_row, current, denial, Entry, aim_of, aim_from, Flaw, IsOfOneKey, entry_of, OfRuns, OfRunsIn, plan_view, candidate, candidate_at, bound_to, Tables, Exchange, Representation, Consumer, Sound, tables, after_accepted, need, route}
+use Rattle.hc_effects.proofs.Vocabulary.{Event, Need, Response, head_case, Limits, Aims, head_view, current, denial, Entry, aim_of, aim_from, Flaw, IsOfOneKey, entry_of, OfRuns, OfRunsIn, plan_view, candidate, candidate_at, bound_to, Tables, Exchange, Consumer, Sound, tables, after_accepted, need}
 use Rattle.hc_model.specs.Aims.{HasAim, CaseWithoutAim, is_about_some, needs_aim}
 use Rattle.hc_effects.proofs.{Asked.{Asked, HasCandidate}, Basics.{some_none, some_row}, ExchangeFrom.{ExchangeFrom, exchange_from}, NamesKeep.{current_there}, OpenedAs.{Way, opened_as}, Said.{opening_by}, ShownFrom.{candidate_is}, WaitingNew.{aim_free}}
 use Rattle.hc_effects.proofs.ExchangeFrom as exchange

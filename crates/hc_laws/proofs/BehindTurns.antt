@@ -6,8 +6,7 @@
 -- (`another`, `turn_without`). ChainRuns follows waits by these.
 use Rattle.std.{proofs.{lemmas.Bool.Decides.{nat_tests}, Common.{◌≡◌, ℕ, List, Bool, true, false, Option, Some, None, refl, ap, sym, ◌∙◌, arith}}, specs.{Prelude.{is_none, nat_eq, not, unwrap_or, ◌&&◌}, Option.{option_or}}}
 use Rattle.hc_text.proofs.Basics.{and_left, and_right, either, not_true}
-use Rattle.hc_effects.proofs.Vocabulary.{need, plan, Why, Candidate, Plan, PlanView, Wanted, least, lesser, plan_of, bare_plan, in_time, from_store, queues, by_current, by_why, by_wanted, by_exclusive, by_hole, by_bound, why_by, Place, is_live_place, turn, turn_with, holder, holds_turn, line, is_in_line, stands_in_line, Tables, Consumer, Among}
-use Rattle.hc_range.specs.declared.range.Span.{Span}
+use Rattle.hc_effects.proofs.Vocabulary.{need, plan, Why, Candidate, Plan, PlanView, Wanted, least, lesser, plan_of, bare_plan, in_time, from_store, queues, by_current, by_why, by_wanted, why_by, Place, is_live_place, turn, turn_with, holder, holds_turn, line, is_in_line, stands_in_line, Tables, Consumer, Among}
 use Rattle.hc_rules.proofs.RangeReads.{same_bytes}
 use Rattle.hc_effects.proofs.{Basics.{false_true}, HadKeeps.{among_least}, Joining.{mix}, Sums.{filter_among}}
 use Rattle.hc_laws.proofs.FitsRuns.{find_among}

@@ -9,7 +9,6 @@ use Rattle.hc_text.proofs.Basics.{same_some as same_row}
 use Rattle.hc_effects.proofs.Vocabulary.{Opening, opening_in, Event, Response, head_case, route_of, is_disabled, Place, BoundBy, has_loss, case_at, head_view, is_founding, consumer_after, consumer_made, Entry, entry_of, IsAwaiting, reads, Tables, Exchange, Consumer, after_accepted, event, route, place}
 use Rattle.hc_effects.proofs.{Forward.{is_kept}, Basics.{false_true}, Beside.{IsBeside, is_cached_place}, BoundFrom.{BoundFrom, bound_from}, BoundKeeps.{planned_at, founding_is}, FirstKeeps.{case_is, is_new}, FoundBy.{founding_by, founds_way}, OwnersKeep.{is_opened}, TurnPlaces.{ComesFrom, IsPlain, is_after}, Waiters.{waiter_of}, Step.{Step}}
 use Rattle.hc_effects.proofs.BoundFrom as from
-use Rattle.hc_effects.proofs.OpenedAs as opened
 use Rattle.hc_effects.proofs.TurnPlaces as turn
 
 -- who starts stands in the line

@@ -1,6 +1,6 @@
 -- An event opens one exchange at most, the next. So no more were opened than events came.
 use Rattle.std.{proofs.Common.{◌≡◌, ◌≤◌, ◌+◌, ◌-◌, Bool, true, false, [], ◌∷◌, length, Option, Some, None, refl, ap, sym, ◌∙◌, arith}, specs.Prelude.{if◌then◌else◌}}
-use Rattle.hc_effects.proofs.Vocabulary.{Opening, opening_in, is_denied, Limits, Entry, flaw_in, entry_of, Tables, IsOwed, Sound, tables, after, after_accepted, after_denied, opened_after}
+use Rattle.hc_effects.proofs.Vocabulary.{Opening, opening_in, is_denied, Limits, Entry, flaw_in, entry_of, Tables, IsOwed, Sound, tables, after_accepted, opened_after}
 use Rattle.hc_model.specs.Live.{OpeningsAreCounted}
 use Rattle.hc_effects.proofs.{NumbersKeep.{opens_next}, Owed.{goes, acts_are}}
 use Rattle.hc_laws.proofs.RunFacts.{along}

@@ -6,7 +6,7 @@
 use Rattle.std.{proofs.{Common.{◌≡◌, ℕ, ◌+◌, ◌-◌, ◌<◌, [], ◌∷◌, ◌++◌, length, true, false, Option, Some, None, refl, ap, sym, ◌∙◌, arith, length-append}, lemmas.Bool.Decides.{nat_tests}}, specs.{Prelude.{is_some, IfSome}, Option.{option_and_then}}}
 use Rattle.hc_text.proofs.Basics.{bool_cases, not_some as none_some}
 use Rattle.hc_sparse.specs.{Cells.{Cells, Cell}, Runs.{end_of}, Stretch.{stretch}, declared.run.Run.{Run}}
-use Rattle.hc_effects.proofs.Vocabulary.{given_in, read_step, is_at_end, cut_at, held_or, fails_or, waits_or, ReadStep, Limits, Place, BoundBy, row_of, Entry, is_headless, failures_in, OfHistories, Turns, Gives, acts_of, Owners, move_of, if_headless, by_place, bound_to, offset, hi_of, own_open, source, Tables, Exchange, Representation, Consumer, Sound, IsAbout, InHole, bound_row, stored_from, stored_ahead, read_view, reading, tables, event, place}
+use Rattle.hc_effects.proofs.Vocabulary.{given_in, read_step, cut_at, held_or, fails_or, waits_or, ReadStep, Limits, Place, BoundBy, row_of, Entry, is_headless, failures_in, OfHistories, Turns, Gives, acts_of, Owners, move_of, if_headless, by_place, bound_to, offset, hi_of, own_open, source, Tables, Exchange, Representation, Consumer, Sound, IsAbout, InHole, bound_row, stored_from, stored_ahead, read_view, reading, tables, event, place}
 use Rattle.hc_rules.specs.Readings as readings
 use Rattle.hc_model.specs.Reads.{GivesStored}
 use Rattle.hc_model.specs.Sound as sound

@@ -6,7 +6,7 @@
 -- consumer reads is within a length (`starts_by`). `numbers_by` joins these.
 use Rattle.std.{proofs.Common.{◌≡◌, ◌<◌, ◌≤◌, ◌⊎◌, inl, inr, ℕ, ◌+◌, ◌^◌, List, [], ◌∷◌, length, length-append, Bool, true, false, Option, Some, None, refl, ap, sym, ◌∙◌, subst, arith}, specs.{Prelude.{option_map}, Option.{option_or}}}
 use Rattle.hc_text.proofs.Basics.{not_some as none_some, some_inj}
-use Rattle.hc_effects.proofs.Vocabulary.{is_denied, Event, base_of, Limits, BoundBy, may_begin, is_kind_right, Entry, entry_of, History, Content, Contents, base, promised_bytes, front, item_of, Measures, Numbers, AreShort, Places, length_in, Tables, Exchange, Representation, Consumer, IsRun, Sound, tables, after_accepted, first_tables, representation_of_content, event, place}
+use Rattle.hc_effects.proofs.Vocabulary.{Event, base_of, Limits, BoundBy, may_begin, is_kind_right, Entry, entry_of, History, Content, Contents, base, promised_bytes, front, item_of, Measures, Numbers, AreShort, Places, length_in, Tables, Exchange, Representation, Consumer, IsRun, Sound, tables, after_accepted, first_tables, representation_of_content, event, place}
 use Rattle.hc_model.specs.Numbers.{NumbersInRuns, most, too_long}
 use Rattle.hc_model.specs.Sound as sound
 use Rattle.hc_laws.proofs.{Barred.{next_tables}, MeasuresBegin.{measures_begin, known_item}, PlaceRuns.{places_in_runs}, RunFacts.{along}, ReadEnds.{bounded, no_base}, SoundRuns.{carried}}

@@ -5,8 +5,8 @@
 -- the flaw may be: where a head or a piece lacks room, what it writes is there to be lost. What a head founds wasn't
 -- there before, and what a piece is written to isn't lost.
 use Rattle.std.{proofs.{lemmas.Bool.Decides.{nat_tests}, Common.{arith, ◌≡◌, ◌≤◌, ℕ, List, [], ◌∷◌, ◌++◌, length, Bool, true, false, Option, Some, None, refl, ap, ◌∙◌}}, specs.{Prelude.{if◌then◌else◌, not, map}, Option.{option_and_then}}}
-use Rattle.hc_text.proofs.Basics.{both_true as and_both, or_right}
-use Rattle.hc_effects.proofs.Vocabulary.{Act, Cause, LostKind, Refusal, Event, Response, head_refusal, Limits, Room, answer, accepted_acts, loss_acts, close_acts, case_of, is_founding, closing, denial, as_open, Entry, entry_without_acts, family, Flaw, NoFlaw, Loses, Misreads, flaw_in, Move, Nothing, Fails, acts_of, Places, poll_move, Tables, Exchange, Representation, Consumer, IsOwed, may_stand, may_be, may_lose, is_kept, flaw_by_room, size_flaw, owed, Sound, room_for, room_by, write_of_piece, piece_write, evicted, written_representation, head_writes, piece_writes, unless_lost, lossless, act, cause, room, write}
+use Rattle.hc_text.proofs.Basics.{or_right}
+use Rattle.hc_effects.proofs.Vocabulary.{Act, Refusal, Event, Response, head_refusal, Limits, Room, answer, accepted_acts, loss_acts, close_acts, case_of, is_founding, closing, denial, as_open, Entry, entry_without_acts, family, Flaw, NoFlaw, Misreads, flaw_in, Move, Nothing, Fails, acts_of, Places, poll_move, Tables, Exchange, Representation, Consumer, IsOwed, may_stand, may_be, is_kept, flaw_by_room, size_flaw, owed, Sound, room_for, room_by, write_of_piece, piece_write, evicted, written_representation, head_writes, piece_writes, unless_lost, lossless, act, cause, room, write}
 use Rattle.hc_event.specs.declared.act.Refusal.TheVariants as refusal
 use Rattle.hc_event.specs.declared.event.Event.TheVariants as event
 use Rattle.hc_rules.specs.Refusals as refusals

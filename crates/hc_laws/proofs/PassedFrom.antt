@@ -6,7 +6,7 @@
 -- (`started`). `passed_from` is for any row.
 use Rattle.std.{proofs.{lemmas.Bool.Decides.{nat_tests}, Common.{arith, ◌≡◌, inl, inr, ℕ, Bool, cond, Option, Some, None, refl, ap, sym, ◌∙◌}}, specs.Prelude.{if◌then◌else◌}}
 use Rattle.hc_text.proofs.Basics.{some_inj}
-use Rattle.hc_effects.proofs.Vocabulary.{Opening, opening_in, leaves_in, Event, Request, Response, Cause, Wait, HeadCase, Route, Wanted, route_of, range_of, wanted_of, Place, BoundBy, Showing, showing_in, wait_in, case_at, bound_to_wanted, place_by_case, passed_on, passed_by, kept_by, consumer_heard, by_head, by_fault, waiting_place, waiting, place_for_hole, opened_place, unless_bound, by_opening, shown_place, consumer_acted, consumer_settled, consumer_made, consumer_after, due_after, back_in_line, current, Entry, founded_total, entry_of, Tables, Exchange, Representation, Consumer, starts_over, after_accepted, event, wait, case, place, by}
+use Rattle.hc_effects.proofs.Vocabulary.{Opening, opening_in, leaves_in, Event, Response, Wait, HeadCase, Wanted, route_of, range_of, wanted_of, Place, BoundBy, Showing, showing_in, wait_in, case_at, bound_to_wanted, place_by_case, passed_on, passed_by, kept_by, consumer_heard, by_head, by_fault, waiting_place, waiting, opened_place, unless_bound, by_opening, shown_place, consumer_acted, consumer_settled, consumer_made, consumer_after, due_after, back_in_line, current, Entry, founded_total, entry_of, Tables, Exchange, Consumer, starts_over, after_accepted, event, wait, case, place, by}
 use Rattle.hc_effects.proofs.{PieceKeeps.{eq_cases}, Step.{Step}}
 
 -- only what validates is conditional

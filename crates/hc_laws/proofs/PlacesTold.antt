@@ -6,7 +6,7 @@
 -- (`received_by`). `told_kept` joins both; a denied entry is `told_denied`.
 use Rattle.std.{proofs.{lemmas.Bool.Decides.{nat_tests}, Common.{◌≡◌, ℕ, ◌+◌, ◌≤◌, length, length-append, Bool, true, false, Option, Some, None, refl, ap, sym, ◌∙◌, subst, arith}}, specs.{Prelude.{if◌then◌else◌, ◌==◌}, Option.{option_or}}}
 use Rattle.hc_text.proofs.Basics.{some_inj}
-use Rattle.hc_effects.proofs.Vocabulary.{Opening, Cause, Wait, Event, Request, Response, HeadCase, Route, Wanted, route_of, Place, BoundBy, Showing, case_at, consumer_heard, consumer_acted, consumer_made, consumer_after, by_head, by_fault, by_opening, shown_place, waiting, waiting_place, due_after, back_in_line, place_by_case, passed_on, passed_by, bound_to_wanted, opened_place, place_for_hole, unless_bound, Entry, becomes_due, cause_of_loss, cause_by_loss, cause_of_head, cause_by_case, stop_cause, short_cause, short_of, is_failed_read, reads, bound_to, Tables, Exchange, Representation, Consumer, starts_over, after_accepted, after_denied, received_in, place}
+use Rattle.hc_effects.proofs.Vocabulary.{Opening, Cause, Wait, Event, Response, HeadCase, Route, route_of, Place, Showing, case_at, consumer_heard, consumer_acted, consumer_made, consumer_after, by_head, by_fault, by_opening, shown_place, waiting, waiting_place, due_after, back_in_line, place_by_case, opened_place, unless_bound, Entry, becomes_due, cause_of_loss, cause_of_head, stop_cause, is_failed_read, reads, bound_to, Tables, Exchange, Consumer, starts_over, after_accepted, after_denied, received_in, place}
 use Rattle.hc_effects.proofs.{ExchangeFrom.{ExchangeFrom, exchange_from}, Fills.{Brings, brings}}
 use Rattle.hc_effects.proofs.ExchangeFrom as exchange
 

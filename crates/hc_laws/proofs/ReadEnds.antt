@@ -5,13 +5,10 @@
 -- exchange promised (`direct_end`). So it was given just as much as there is (`is_end`). `by_ender` says that of a run.
 use Rattle.std.{proofs.{Common.{◌≡◌, inl, inr, ℕ, ◌+◌, ◌-◌, ◌<◌, ◌≤◌, List, [], ◌∷◌, length, Bool, true, false, Option, Some, None, refl, ap, sym, ◌∙◌, subst, arith}, lemmas.Bool.Decides.{nat_tests}}, specs.Prelude.{is_some, if◌then◌else◌}}
 use Rattle.hc_text.proofs.Basics.{bool_cases, not_some as none_some, some_inj}
-use Rattle.hc_range.specs.declared.range.Span.{Span}
 use Rattle.hc_sparse.specs.{Cells.{Cell}, declared.run.Run.{Run}}
-use Rattle.hc_effects.proofs.Vocabulary.{is_denied, Event, Request, Response, Act, Cause, Why, Length, Plan, ReadView, Limits, base_of, promise_of, plan_of, read_step, is_at_end, stored_or, held_or, fails_or, waits_or, opens, BoundBy, Place, accepted_acts, answer_acts, may_begin, total_in, Entry, History, Contents, base, promised_bytes, Flaw, flaw_in, Shown, shown_of, given_of, OfRuns, Measures, Move, Nothing, Asks, Opens, Ends, Fails, acts_of, gives, waits_for, opens_hole, shows_stored, plan_move, plan_view, binds_current, move_of, shows_at, shows_bound, shows_direct, shows_answer, reads, hi_of, offset, end_in, end_of_direct, ReadsAct, Says, Holds, IsEnd, body_of, answer_cell, end_by, Tables, Exchange, Representation, Consumer, IsRun, Sound, step_move, reading, read_view, later_hole, tables, act, cause, wait, place}
+use Rattle.hc_effects.proofs.Vocabulary.{is_denied, Event, Act, Cause, Length, Plan, ReadView, Limits, base_of, promise_of, plan_of, read_step, is_at_end, stored_or, held_or, fails_or, waits_or, opens, Place, accepted_acts, answer_acts, may_begin, total_in, Entry, History, Contents, base, promised_bytes, Flaw, flaw_in, Shown, shown_of, given_of, OfRuns, Measures, Move, Nothing, Asks, Opens, Ends, Fails, acts_of, gives, plan_move, plan_view, move_of, shows_at, reads, hi_of, offset, end_in, end_of_direct, ReadsAct, Says, Holds, IsEnd, body_of, answer_cell, Tables, Exchange, Representation, Consumer, IsRun, Sound, step_move, reading, read_view, tables, act, cause, wait, place}
 use Rattle.hc_model.specs.Exchanges as exchanges
-use Rattle.hc_model.specs.Moves as moves
 use Rattle.hc_model.specs.Reads.{EndsWell}
-use Rattle.hc_model.specs.Reads as spec
 use Rattle.hc_effects.proofs.{ActParts.{silent, misreads, does, IsSaid, said_is}, Basics.{append_none}, Bounded.{IsBounded, bounded_begun, bounded_denied, bounded_kept}, MoveBy.{MoveBy, move_by}, Owed.{IsDenied, is_denial, acts_are}, ShownStays.{IsFallback}, Step.{step_of}}
 use Rattle.hc_laws.proofs.{ReadAs.{IsRead}, ReadJoined.{joined_in_runs, is_told, fallback}, ReadNext.{by_said, shown_one}, RunFacts.{in_runs_with}, SoundRuns.{carried}}
 use Rattle.hc_effects.proofs.MoveBy as by_move

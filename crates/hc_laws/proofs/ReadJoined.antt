@@ -7,7 +7,7 @@
 use Rattle.std.{proofs.{Common.{◌≡◌, inl, inr, ℕ, zero, suc, ◌+◌, ◌-◌, ◌<◌, ◌≤◌, List, [], ◌∷◌, ◌++◌, length, Bool, true, false, Option, Some, None, refl, ap, sym, ◌∙◌, subst, arith, length-append}, Math.{ListN.{get_or-append}, Seq.{get_or-append_right}}, lemmas.Bool.Decides.{nat_tests}}, specs.{Prelude.{IfSome, slice_index, nat_lt, not}, Option.{option_map_or}}}
 use Rattle.hc_text.proofs.Basics.{nil_cons, not_some as none_some, bool_cases, some_inj}
 use Rattle.hc_sparse.specs.declared.run.Run.{Run}
-use Rattle.hc_effects.proofs.Vocabulary.{is_denied, given_in, Limits, Place, may_begin, Entry, History, Contents, flaw_in, Shown, shown_in, shown_of, given_of, entry_of, OfRuns, Gives, move_of, reads, hi_of, Delivers, Holds, body_of, Tables, Consumer, IsRun, IsOwed, tables, after_accepted, after_denied, event}
+use Rattle.hc_effects.proofs.Vocabulary.{is_denied, given_in, Limits, Place, may_begin, Entry, History, Contents, Shown, shown_in, shown_of, given_of, entry_of, OfRuns, Gives, move_of, reads, hi_of, Delivers, Holds, body_of, Tables, Consumer, IsRun, tables, after_accepted, after_denied, event}
 use Rattle.hc_event.specs.declared.place.Place.TheVariants as place
 use Rattle.hc_model.specs.{Laws.{Grows}, Reads.{BodiesAreRead}}
 use Rattle.hc_laws.proofs.{FallbackKeeps.{landing_by, fallback_begun, fallback_denied, fallback_kept}, Barred.{next_tables, denied_tables}, GrowsInRuns.{grows}, OneHead.{one_head_is_shown}, ReadAs.{IsRead, read_kept, landed_read}, RunFacts.{along, in_runs}, SoundRuns.{carried}}

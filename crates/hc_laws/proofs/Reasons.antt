@@ -6,7 +6,7 @@
 -- where such a wait comes from (`keeping_on`, `chosen_by`).
 use Rattle.std.{proofs.{lemmas.Bool.Decides.{nat_tests}, Common.{arith, ◌≡◌, ℕ, ◌-◌, [], ◌∷◌, Bool, true, false, Option, Some, None, refl, ap, sym, ◌∙◌, subst}}, specs.{Prelude.{is_some, nat_lt, ◌||◌}, Option.{option_map, option_and_then}}}
 use Rattle.hc_text.proofs.Basics.{not_some as none_some, or_left, or_right, eq_itself as same_number, some_inj}
-use Rattle.hc_effects.proofs.Vocabulary.{is_denied, Why, Request, Limits, Place, may_begin, consumer_heard, kept_by, current, is_number, Entry, History, Contents, flaw_in, opening_of, joined_of, request_of, opened_in, entry_of, OfRuns, Turns, IsFor, has_joined, Tables, Exchange, Representation, Consumer, IsRun, IsOwed, tables, after_accepted, after_denied, wait, place}
+use Rattle.hc_effects.proofs.Vocabulary.{is_denied, Why, Request, Limits, Place, may_begin, consumer_heard, kept_by, current, is_number, Entry, History, Contents, opening_of, joined_of, request_of, opened_in, entry_of, OfRuns, Turns, IsFor, has_joined, Tables, Exchange, Representation, Consumer, IsRun, tables, after_accepted, after_denied, wait, place}
 use Rattle.hc_event.specs.declared.act.Why.TheVariants as why_is
 use Rattle.hc_cachectl.specs.{declared.directives.Directives.{Directives}, Directives.{of_request, of_response}}
 use Rattle.hc_event.specs.declared.event.Load.{Load}

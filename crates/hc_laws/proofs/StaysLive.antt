@@ -5,7 +5,7 @@
 -- over at none but by a cancel of it, or by acts that tell it the end or a failure. Who starts over stands in the line,
 -- where it is live.
 use Rattle.std.{proofs.{Common.{◌≡◌, ℕ, Bool, true, false, Option, Some, None, refl, arith}, lemmas.Bool.Decides.{nat_tests}}, specs.Prelude.{nat_eq, if◌then◌else◌}}
-use Rattle.hc_effects.proofs.Vocabulary.{Opening, leaves_in, Wait, Event, Request, Response, BoundBy, Place, route_of, HeadCase, Route, Wanted, Showing, case_at, bound_to_wanted, passed_on, place_by_case, by_head, by_fault, consumer_heard, passed_by, waiting_place, place_for_hole, opened_place, unless_bound, by_opening, shown_place, waiting, consumer_acted, consumer_after, consumer_settled, due_after, back_in_line, is_live, is_live_place, Entry, bound_to, Tables, Exchange, Representation, Consumer, starts_over, after, event}
+use Rattle.hc_effects.proofs.Vocabulary.{Opening, leaves_in, Wait, Event, Response, Place, route_of, HeadCase, Route, Showing, case_at, place_by_case, by_head, by_fault, consumer_heard, waiting_place, opened_place, unless_bound, by_opening, shown_place, waiting, consumer_acted, consumer_after, consumer_settled, due_after, back_in_line, is_live, is_live_place, Entry, bound_to, Tables, Exchange, Consumer, starts_over, after, event}
 use Rattle.hc_event.specs.declared.place.Place.TheVariants as place
 use Rattle.hc_model.specs.ConsumerRows.{with_head, with_opening}
 use Rattle.hc_laws.proofs.LiveAfter.{consumer_behind}

@@ -1,6 +1,6 @@
 -- Acts that are owed to an accepted event aren't those of a denied one.
 use Rattle.std.{proofs.{lemmas.Bool.Decides.{nat_tests}, Common.{arith, ◌≡◌, ℕ, List, [], ◌∷◌, ◌++◌, false, refl}}, specs.Prelude.{map}}
-use Rattle.hc_effects.proofs.Vocabulary.{is_denied, Event, Act, Limits, accepted_acts, answer_acts, poll_acts, loss_acts, close_acts, Flaw, NoFlaw, Loses, Misreads, Move, acts_of, closing, Tables, evicted, act}
+use Rattle.hc_effects.proofs.Vocabulary.{is_denied, Event, Act, Limits, accepted_acts, answer_acts, poll_acts, loss_acts, close_acts, Flaw, NoFlaw, Loses, Misreads, closing, Tables, evicted, act}
 
 then_closes : (ys : List ℕ) (flaw : Flaw) → is_denied (map act.Close ys ++ loss_acts flaw) ≡ false
 then_closes [] NoFlaw = refl

@@ -6,7 +6,7 @@
 -- founded without a length is written by its own exchange. `unknown_kept` joins both.
 use Rattle.std.{proofs.Common.{◌≡◌, ◌⊎◌, inl, inr, ℕ, ◌+◌, Bool, true, false, Option, Some, None, refl, ap, sym, ◌∙◌}, specs.Prelude.{is_some, ◌&&◌, ◌==◌, not, nat_lt, unwrap_or, option_map}}
 use Rattle.hc_text.proofs.Basics.{not_some as none_some, some_inj}
-use Rattle.hc_effects.proofs.Vocabulary.{Response, Limits, may_begin, is_kind_right, case_at, is_founding, Entry, Content, Contents, is_open, is_keepable, entry_of, item_of, AfterDenials, Measures, IsMeasured, is_written, covers, new_representation, asks_whole, hole_start, resumes, Tables, Exchange, Representation, IsGrowing, end_from, representation_of_content, first_tables, after_accepted, event}
+use Rattle.hc_effects.proofs.Vocabulary.{Response, Limits, may_begin, is_kind_right, case_at, is_founding, Entry, Content, Contents, is_open, is_keepable, entry_of, item_of, AfterDenials, Measures, IsMeasured, is_written, covers, new_representation, asks_whole, hole_start, resumes, Tables, Exchange, Representation, IsGrowing, representation_of_content, first_tables, after_accepted, event}
 use Rattle.hc_model.specs.Gone.{refuses_ranges}
 use Rattle.hc_model.specs.Measures as measures
 use Rattle.hc_effects.proofs.{ApartKeeps.{written_by, is_on}, Basics.{false_true, some_none}, LossBy.{IsReal}, ExclusiveWriters.{writer_some}, RepFrom.{RepFrom, rep_from, IsKept, IsResumed, IsEnded}, WritingStops.{IsAll}, Step.{Step}}

@@ -7,7 +7,7 @@
 use Rattle.std.{proofs.{lemmas.Bool.Decides.{nat_tests}, Common.{arith, ◌≡◌, inl, inr, ℕ, Bool, true, false, Option, Some, None, refl, ap, sym, ◌∙◌}}, specs.{Prelude.{is_none, ◌&&◌}, Option.{option_map}}}
 use Rattle.hc_text.proofs.Basics.{bool_cases, not_some as none_some, some_inj}
 use Rattle.hc_range.specs.declared.range.Span.{Span}
-use Rattle.hc_effects.proofs.Vocabulary.{Request, Response, Why, Candidate, Plan, PlanView, Wanted, plan_of, bare_plan, in_time, from_store, by_current, by_why, by_wanted, by_exclusive, by_hole, by_bound, plan_on, why_by, queues, BoundBy, Place, kept_by, current, total_in, Move, Nothing, Shows, shows_stored, opens_hole, plan_view, plan_move, candidate, binds_current, move_of, shows_at, shows_bound, shows_direct, shows_answer, has_joined, hi_of, Tables, Exchange, Representation, Consumer, Sound, need, plan, by, place}
+use Rattle.hc_effects.proofs.Vocabulary.{Request, Response, Why, Candidate, Plan, PlanView, plan_of, bare_plan, in_time, from_store, by_current, why_by, queues, BoundBy, Place, kept_by, current, total_in, Move, Nothing, Shows, shows_stored, opens_hole, plan_view, plan_move, candidate, binds_current, move_of, shows_at, shows_bound, shows_direct, has_joined, hi_of, Tables, Exchange, Representation, Consumer, Sound, need, plan, by, place}
 use Rattle.hc_event.specs.declared.act.Why.TheVariants as why_is
 use Rattle.hc_fresh.specs.Facts.{allowed}
 use Rattle.hc_effects.proofs.{Joining.{mix}, MoveBy.{shows, reads, plans, MoveBy, move_by}, ShownOnce.{is_showing, shown_shows}}

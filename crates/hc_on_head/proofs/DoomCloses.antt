@@ -4,8 +4,7 @@
 -- the same: who waits for a head opened that exchange, for its key (`awaited_then`, `awaited_before`). Two ascending
 -- lists with the same members are equal (`closes_are`). No more close than consumers are kept: each waits for one at
 -- most, and that of the refused one for none (`few_close`). `doom` takes its room by that.
-use Rattle.std.{proofs.{lemmas.Bool.Decides.{nat_tests}}}
-use Rattle.std.{proofs.Common.{◌≡◌, ◌≢◌, inl, inr, ℕ, ◌+◌, ◌<◌, ◌≤◌, List, [], ◌∷◌, length, Bool, true, false, Option, Some, None, refl, ap, sym, ◌∙◌, subst, arith}, specs.{Prelude.{filter, reverse, is_some, is_none, bytes_eq, option_and_then, nat_eq, ◌==◌, ◌&&◌, ◌||◌, if◌then◌else◌}, HashMap.{get, hash_map_len}}}
+use Rattle.std.{proofs.{lemmas.Bool.Decides.{nat_tests}, Common.{◌≡◌, ◌≢◌, inl, inr, ℕ, ◌+◌, ◌<◌, ◌≤◌, List, [], ◌∷◌, length, Bool, true, false, Option, Some, None, refl, ap, sym, ◌∙◌, subst, arith}}, specs.{Prelude.{filter, reverse, is_some, is_none, bytes_eq, option_and_then, nat_eq, ◌==◌, ◌&&◌, ◌||◌, if◌then◌else◌}, HashMap.{get, hash_map_len}}}
 use Rattle.hc_text.proofs.Basics.{and_both as both_parts, or_cases as either_part, eqb-other, eqb-same, false_true, none_by, none_of, same_or, same_some as same_row, some_inj as some_is}
 use Rattle.hc_effects.proofs.Vocabulary.{Limits, Request, route_of, Place, awaits, is_number, is_live, is_awaited, awaited_and, is_headless, Lawful, IsAwaiting, Awaits, Tables, Exchange, awaited_exchange, waits_at, with_item_first, route, place, by}
 use Rattle.hc_effects.proofs.{Tests.{none_some}, Basics.{number_yes, number_is}}

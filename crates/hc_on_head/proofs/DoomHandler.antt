@@ -4,9 +4,7 @@
 -- keys have the work. Who waited for the key stands in its line, whatever it waited for. Of other keys the same is
 -- said: what their consumers wait for isn't closed (`away_at`). Then what was current is let go (`doomed`). `dooms`
 -- says this from step to step of the code, for `doom`.
-use Rattle.std.{proofs.{lemmas.Bool.Decides.{nat_tests}}}
-use Rattle.std.{proofs.{Common.{arith}}}
-use Rattle.std.{proofs.Common.{◌≡◌, inl, inr, ℕ, List, ◌++◌, Bool, true, false, Option, Some, None, refl, ap, sym, ◌∙◌, subst}, specs.Prelude.{IfSome, nat_eq, bytes_eq, map, option_map, unwrap_or, ◌&&◌, ◌||◌, if◌then◌else◌}}
+use Rattle.std.{proofs.{lemmas.Bool.Decides.{nat_tests}, Common.{arith, ◌≡◌, inl, inr, ℕ, List, ◌++◌, Bool, true, false, Option, Some, None, refl, ap, sym, ◌∙◌, subst}}, specs.Prelude.{IfSome, nat_eq, bytes_eq, map, option_map, unwrap_or, ◌&&◌, ◌||◌, if◌then◌else◌}}
 use Rattle.hc_text.proofs.Basics.{eqb-other, false_true, mapped, same_or, same_some as same_row, some_inj as some_is, and_off as then_false}
 use Rattle.hc_effects.proofs.Vocabulary.{Limits, Act, is_disabled, is_only, Place, back_in_line, current, is_live, over, all_closed, awaited_and, let_some_go, woken, family, is_headless, brings_to, Lawful, MayLetGo, WaitsOn, is_in_line, Tables, Exchange, Representation, waits_at, act, place, by}
 use Rattle.hc_store.specs.declared.backend.Backend.{Ghosts}

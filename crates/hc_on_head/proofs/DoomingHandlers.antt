@@ -4,9 +4,7 @@
 -- is taken then as any other past the store (`dooming_taken`). A bad one has its exchange closed with the doom, as the
 -- refused one, and its consumer is to fail. `stands_down` has the work, item by item (`dooming_bad`). `take_dooming`
 -- uses both.
-use Rattle.std.{proofs.{lemmas.Bool.Decides.{nat_tests}}}
-use Rattle.std.{proofs.{Common.{arith}}}
-use Rattle.std.{proofs.Common.{◌≡◌, ◌≢◌, ◌⊎◌, inl, inr, ℕ, List, [], Bool, true, false, Option, Some, None, refl, ap, sym, ◌∙◌, subst}, specs.{Prelude.{is_some, is_none, nat_eq, bytes_eq, map, option_map, not, ◌&&◌, ◌||◌, if◌then◌else◌}, HashMap.{get}}}
+use Rattle.std.{proofs.{lemmas.Bool.Decides.{nat_tests}, Common.{arith, ◌≡◌, ◌≢◌, ◌⊎◌, inl, inr, ℕ, List, [], Bool, true, false, Option, Some, None, refl, ap, sym, ◌∙◌, subst}}, specs.{Prelude.{is_some, is_none, nat_eq, bytes_eq, map, option_map, not, ◌&&◌, ◌||◌, if◌then◌else◌}, HashMap.{get}}}
 use Rattle.hc_text.proofs.Basics.{eqb-other, eqb-same, false_true, same_or, same_some as same_row, some_inj as some_is, and_off as then_false}
 use Rattle.hc_effects.proofs.Vocabulary.{Limits, Act, Cause, Event, Response, head_case, Request, length_of, is_bad, route_of, head_refusal, head_view, awaits, back_in_line, current, denial, is_live, changes, with_event, as_gone, over, exchange_with_head, all_closed, let_some_go, with_answer, with_consumer, with_exchange, sent_back, woken, is_awaited, awaited_and, is_headless, brings_to, Lawful, is_in_line, IsAwaiting, Tables, Exchange, Representation, Among, waits_at, with_item_first, act, event, case, route, by, cause, place}
 use Rattle.hc_store.specs.declared.backend.Backend.{Ghosts}

@@ -4,8 +4,7 @@
 -- made. Their contracts, one behind another, give the tables that `FoundHandler` speaks of (`stood`). There at most one
 -- gives way, so the acts have room (`one_acts`, `fits_acts`), and nothing has the new number yet (`new_kept`). Where
 -- the store took it, it is founded; where it refused, the kind of loss has its cause (`refused`). `found` uses these.
-use Rattle.std.{proofs.{lemmas.Bool.Decides.{nat_tests}}}
-use Rattle.std.{proofs.Common.{◌≡◌, ℕ, ◌+◌, ◌<◌, ◌≤◌, List, [], ◌∷◌, ◌++◌, true, false, Option, Some, None, Result, Ok, Err, refl, ap, sym, ◌∙◌, subst, arith}, specs.{Prelude.{IsSomeAnd, is_some, nat_eq, option_map}, HashMap.{get}}}
+use Rattle.std.{proofs.{lemmas.Bool.Decides.{nat_tests}, Common.{◌≡◌, ℕ, ◌+◌, ◌<◌, ◌≤◌, List, [], ◌∷◌, ◌++◌, true, false, Option, Some, None, Result, Ok, Err, refl, ap, sym, ◌∙◌, subst, arith}}, specs.{Prelude.{IsSomeAnd, is_some, nat_eq, option_map}, HashMap.{get}}}
 use Rattle.hc_text.proofs.Basics.{none_of, some_inj as some_is}
 use Rattle.hc_store.specs.{Causes.{HasCause, IsWithin}, declared.{backend.Backend.{Ghosts}, error.StoreError.{StoreError}}}
 use Rattle.hc_store.specs.declared.error.StoreError.TheVariants as errors

@@ -1,7 +1,5 @@
 -- A slot is taken for what is founded: what changes with it.
-use Rattle.std.{proofs.{lemmas.Bool.Decides.{nat_tests}}}
-use Rattle.std.{proofs.{Common.{arith}}}
-use Rattle.std.{proofs.Common.{◌≡◌, ◌≢◌, inl, inr, ℕ, ◌<◌, ◌^◌, false, Option, Some, None, refl, ap, sym, ◌∙◌, subst}, specs.Prelude.{option_map, ◌==◌, if◌then◌else◌}}
+use Rattle.std.{proofs.{lemmas.Bool.Decides.{nat_tests}, Common.{arith, ◌≡◌, ◌≢◌, inl, inr, ℕ, ◌<◌, ◌^◌, false, Option, Some, None, refl, ap, sym, ◌∙◌, subst}}, specs.Prelude.{option_map, ◌==◌, if◌then◌else◌}}
 use Rattle.hc_text.proofs.Basics.{eqb-other, eqb-same, same_or}
 use Rattle.hc_effects.proofs.Vocabulary.{Need, Request, Response, Length, is_bad, length_of, promise_of, content_range_of, just_opened, total_of_part}
 use Rattle.hc_effects.proofs.ToldNumbers.{founded_early}

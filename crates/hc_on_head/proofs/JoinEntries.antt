@@ -4,9 +4,7 @@
 -- that is joined has the work. Where it isn't gone, its head is renewed, and more comes of it, since the exchange goes
 -- on. So its kind is that of what grows (`entry_growing`). Where it is gone, its entry tells as before (`entry_gone`).
 -- `entries_joined` is for all of them; `JoinHandler` uses these for `JoinRows`.
-use Rattle.std.{proofs.{lemmas.Bool.Decides.{nat_tests}}}
-use Rattle.std.{proofs.{Common.{arith}}}
-use Rattle.std.{proofs.Common.{◌≡◌, ◌≢◌, inl, inr, ℕ, true, false, Option, Some, refl, ap, sym, ◌∙◌, subst, []}, specs.Prelude.{nat_eq}}
+use Rattle.std.{proofs.{lemmas.Bool.Decides.{nat_tests}, Common.{arith, ◌≡◌, ◌≢◌, inl, inr, ℕ, true, false, Option, Some, refl, ap, sym, ◌∙◌, subst, []}}, specs.Prelude.{nat_eq}}
 use Rattle.hc_text.proofs.Basics.{eqb-other, eqb-same, false_true, filters_same, same_or, and_off as then_false}
 use Rattle.hc_effects.proofs.Vocabulary.{Response, is_number, promise_in, family, is_reached, brings_to, is_growing, kind_of, bound, is_bound, Tables, Exchange, Representation, status_in}
 use Rattle.hc_effects.proofs.Tests.{none_some}

@@ -4,9 +4,7 @@
 -- only the exchange changes (`past_answered`). Else the stored head is renewed, and `JoinRows` has the rest. Its
 -- consumer reads it alone, or shares it if it resumes a download (`stands_alone`, `stands_shared`). Where the renewal
 -- fails, it is lost to this consumer, its exclusive writer (`lost_answered`). `join` uses all.
-use Rattle.std.{proofs.{lemmas.Bool.Decides.{nat_tests}}}
-use Rattle.std.{proofs.{Common.{arith}}}
-use Rattle.std.{proofs.{Common.{◌≡◌, ◌≢◌, inl, inr, ℕ, ◌+◌, ◌<◌, List, [], ◌∷◌, ◌++◌, Bool, true, false, Option, Some, None, refl, ap, ap₂, sym, ◌∙◌, subst}, lemmas.List.{append-nil}}, specs.{Prelude.{is_some, IsSomeAnd, nat_eq, not, option_map, ◌||◌, ◌==◌, if◌then◌else◌}, HashMap.{get, hash_map_len}}}
+use Rattle.std.{proofs.{lemmas.{Bool.Decides.{nat_tests}, List.{append-nil}}, Common.{arith, ◌≡◌, ◌≢◌, inl, inr, ℕ, ◌+◌, ◌<◌, List, [], ◌∷◌, ◌++◌, Bool, true, false, Option, Some, None, refl, ap, ap₂, sym, ◌∙◌, subst}}, specs.{Prelude.{is_some, IsSomeAnd, nat_eq, not, option_map, ◌||◌, ◌==◌, if◌then◌else◌}, HashMap.{get, hash_map_len}}}
 use mathlib.Core.Path.{fun_ext}
 use Rattle.hc_text.proofs.Basics.{eqb-other, eqb-same, false_true, same_or}
 use Rattle.hc_effects.proofs.Vocabulary.{Limits, Act, Event, Response, HeadCase, head_case, head_refusal, has_loss, head_view, case_at, is_founding, is_joining, is_number, denial, is_live_place, with_event, let_go, lost_to, as_gone, with_answer, with_consumer, with_representation, promise_in, is_reached, Loses, updated_head, entry_of, Lawful, bound, is_bound, is_bound_place, resumes, Tables, Exchange, Representation, is_kept, exclusive, written_representation, head_writes, may_validate, lossless, act, kind, need, event}

@@ -4,9 +4,7 @@
 -- an aim, and it is kept (`joins_aim`, `aim_kept`). The code tells the case before it looks whether a 304 selects, so
 -- that case isn't among them (`unvalidated_as`). `fits_as` joins what each case says, by the lemmas of `HeadTold`: the
 -- head is good, founds, joins, or its consumer waits in its key. `take_head` and `take_case` use these.
-use Rattle.std.{proofs.{lemmas.Bool.Decides.{nat_tests}}}
-use Rattle.std.{proofs.{Common.{arith}}}
-use Rattle.std.{proofs.Common.{◌≡◌, ◌⊎◌, inl, inr, ℕ, true, false, Option, Some, None, refl, ap, sym, ◌∙◌, subst}, specs.{Prelude.{is_some, IsSomeAnd, nat_eq, option_map}, HashMap.{get}}}
+use Rattle.std.{proofs.{lemmas.Bool.Decides.{nat_tests}, Common.{arith, ◌≡◌, ◌⊎◌, inl, inr, ℕ, true, false, Option, Some, None, refl, ap, sym, ◌∙◌, subst}}, specs.{Prelude.{is_some, IsSomeAnd, nat_eq, option_map}, HashMap.{get}}}
 use Rattle.hc_text.proofs.Basics.{false_true}
 use Rattle.hc_store.specs.declared.backend.Backend.{Ghosts}
 use Rattle.hc_fields.specs.FieldList.{IsWithinLimits}

@@ -4,9 +4,7 @@
 -- tables in which what is current isn't gone, so it is kept still (`kept_still`). The exchange that writes it has a
 -- head, so it isn't the one that was heard and closed: it is open still (`open_still`). `lose_asked` needs both before
 -- it loses what is current.
-use Rattle.std.{proofs.{lemmas.Bool.Decides.{nat_tests}}}
-use Rattle.std.{proofs.{Common.{arith}}}
-use Rattle.std.{proofs.Common.{◌≡◌, ◌≢◌, ℕ, List, Bool, true, false, Option, Some, None, refl, ap, sym, ◌∙◌, subst}, specs.{Prelude.{is_some, nat_eq, bytes_eq, not, IsSomeAnd, ◌||◌, if◌then◌else◌}, HashMap.{get}}}
+use Rattle.std.{proofs.{lemmas.Bool.Decides.{nat_tests}, Common.{arith, ◌≡◌, ◌≢◌, ℕ, List, Bool, true, false, Option, Some, None, refl, ap, sym, ◌∙◌, subst}}, specs.{Prelude.{is_some, nat_eq, bytes_eq, not, IsSomeAnd, ◌||◌, if◌then◌else◌}, HashMap.{get}}}
 use Rattle.hc_text.proofs.Basics.{false_true, same_some as same_row, and_off as then_false}
 use Rattle.hc_effects.proofs.Vocabulary.{Limits, Request, route_of, head_refusal, BoundBy, back_in_line, with_consumer, is_headless, StandsFor, is_in_line, stands_in_line, has_passed, Tables, Exchange, Representation, awaited_exchange, place, by}
 use Rattle.hc_effects.proofs.{Tests.{none_some}, EventsKeep.{no_head}}

@@ -1,7 +1,5 @@
 -- A consumer that has the turn may read what its 304 validated: what is kept represents the tables then.
-use Rattle.std.{proofs.{lemmas.Bool.Decides.{nat_tests}}}
-use Rattle.std.{proofs.{Common.{arith}}}
-use Rattle.std.{proofs.Common.{◌≡◌, ℕ, Bool, true, false, Some, None, refl, ap, sym, ◌∙◌, subst}, specs.{Prelude.{bytes_eq, nat_eq, ◌&&◌}, HashMap.{get}}}
+use Rattle.std.{proofs.{lemmas.Bool.Decides.{nat_tests}, Common.{arith, ◌≡◌, ℕ, Bool, true, false, Some, None, refl, ap, sym, ◌∙◌, subst}}, specs.{Prelude.{bytes_eq, nat_eq, ◌&&◌}, HashMap.{get}}}
 use Rattle.hc_text.proofs.Basics.{and_off as then_false}
 use Rattle.hc_effects.proofs.Vocabulary.{Limits, Request, with_consumer, with_representation, Lawful, is_in_line, Tables, Exchange, Representation, place}
 use Rattle.hc_store.specs.declared.backend.Backend.{Ghosts}

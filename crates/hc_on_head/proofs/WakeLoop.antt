@@ -4,8 +4,7 @@
 -- represent these consumers. A step is by the seat: nobody has it (`no_seat`), or a consumer that waits and didn't
 -- change yet (`one_back`). Where it is bound, its entry has it as bound, and it leaves that by `Unbinding`, which has
 -- the work. At the end everyone who waits has a seat (`all_over`, `entries_then`). The loop of `wake` uses this.
-use Rattle.std.{proofs.{lemmas.Bool.Decides.{nat_tests}}}
-use Rattle.std.{proofs.Common.{◌≡◌, ◌≢◌, inl, inr, ℕ, ◌+◌, ◌<◌, ◌≤◌, List, Bool, true, false, Option, Some, None, refl, ap, sym, ◌∙◌, subst, arith}, specs.{Prelude.{is_some, nat_eq, option_map}, HashMap.{get}}}
+use Rattle.std.{proofs.{lemmas.Bool.Decides.{nat_tests}, Common.{◌≡◌, ◌≢◌, inl, inr, ℕ, ◌+◌, ◌<◌, ◌≤◌, List, Bool, true, false, Option, Some, None, refl, ap, sym, ◌∙◌, subst, arith}}, specs.{Prelude.{is_some, nat_eq, option_map}, HashMap.{get}}}
 use Rattle.hc_text.proofs.Basics.{eqb-other, eqb-same, false_true, mapped, same_or, same_some as same_row, some_inj as some_is}
 use Rattle.hc_store.specs.declared.backend.Backend.{Ghosts}
 use Rattle.hc_stored.specs.{Entries.{shelf_of}, Shelf.{Shelf}}

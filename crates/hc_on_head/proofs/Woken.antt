@@ -4,9 +4,7 @@
 -- key (`Stood`). Its place tells which (`by_place`): it waits in line, with the turn, let through, or before a first
 -- hole. By the laws such a request waits with others. So whoever is kept in the line waits (`waits_of`), and starts
 -- over (`starts_over`). The other files on dooms use these.
-use Rattle.std.{proofs.{lemmas.Bool.Decides.{nat_tests}}}
-use Rattle.std.{proofs.{Common.{arith}}}
-use Rattle.std.{proofs.Common.{◌≡◌, ℕ, List, Bool, true, false, Option, Some, None, refl, ap, sym, ◌∙◌}, specs.Prelude.{bytes_eq, not, option_map, ◌&&◌, ◌||◌}}
+use Rattle.std.{proofs.{lemmas.Bool.Decides.{nat_tests}, Common.{arith, ◌≡◌, ℕ, List, Bool, true, false, Option, Some, None, refl, ap, sym, ◌∙◌}}, specs.Prelude.{bytes_eq, not, option_map, ◌&&◌, ◌||◌}}
 use Rattle.hc_text.proofs.Basics.{false_true, and_off as then_false}
 use Rattle.hc_effects.proofs.Vocabulary.{is_disabled, is_only, Place, back_in_line, is_live_place, sent_back, is_headless, Lawful, is_in_line, Queues, Tables, waits_at, place, by}
 use Rattle.hc_rules.proofs.RangeReads.{same_bytes, bytes_eq-same}

@@ -4,8 +4,7 @@
 -- The consumer is kept with the answer that it is to be shown, and where its body begins and ends. The exchange is over
 -- if all that it promised came with the head, and else goes on past the store (`running_is`). `stands_answered` joins
 -- this; `stands_answered_as` says it by what `have_answer` of `hc_on_head` looked up.
-use Rattle.std.{proofs.{lemmas.Bool.Decides.{nat_tests}}}
-use Rattle.std.{proofs.Common.{◌≡◌, ◌≢◌, ℕ, Bool, true, false, cond, Option, Some, None, refl, ap, sym, ◌∙◌, subst, arith}, specs.{Prelude.{nat_eq, option_map}, HashMap.{get}}}
+use Rattle.std.{proofs.{lemmas.Bool.Decides.{nat_tests}, Common.{◌≡◌, ◌≢◌, ℕ, Bool, true, false, cond, Option, Some, None, refl, ap, sym, ◌∙◌, subst, arith}}, specs.{Prelude.{nat_eq, option_map}, HashMap.{get}}}
 use Rattle.hc_text.proofs.Basics.{eqb-other, eqb-same, false_true, some_inj as some_is}
 use Rattle.hc_effects.proofs.Vocabulary.{Limits, Response, Length, length_of, is_bad, base_of, promise_of, head_refusal, exchange_with_head, is_reached, promised_bytes, lo_of, hi_of, Tables, Exchange, place}
 use Rattle.hc_store.specs.declared.backend.Backend.{Ghosts}

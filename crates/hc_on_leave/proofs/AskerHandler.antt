@@ -4,9 +4,7 @@
 -- before or after, and no answer is shown. The consumer goes on past the store or is to fail: it leaves its key and
 -- what it was bound to (`stands_apart`). Or it stands in line again, as its key has it then (`stands_queued`).
 -- `fall_back` and `send_back` of `hc_on_head` use the last two lemmas.
-use Rattle.std.{proofs.{lemmas.Bool.Decides.{nat_tests}}}
-use Rattle.std.{proofs.{Common.{arith}}}
-use Rattle.std.{proofs.Common.{◌≡◌, inl, inr, ℕ, zero, suc, List, [], Bool, true, false, Some, None, refl, ap, sym, ◌∙◌, subst}, specs.{Prelude.{nat_eq, drop, bytes_eq, ◌&&◌}, HashMap.{get}}}
+use Rattle.std.{proofs.{lemmas.Bool.Decides.{nat_tests}, Common.{arith, ◌≡◌, inl, inr, ℕ, zero, suc, List, [], Bool, true, false, Some, None, refl, ap, sym, ◌∙◌, subst}}, specs.{Prelude.{nat_eq, drop, bytes_eq, ◌&&◌}, HashMap.{get}}}
 use Rattle.hc_text.proofs.Basics.{eqb-other, eqb-same, false_true, same_or, same_some as same_row, and_off as then_false}
 use Rattle.hc_effects.proofs.Vocabulary.{Limits, Request, Place, back_in_line, is_live_place, with_consumer, family, Lawful, is_in_line, stands_in_line, IsAwaiting, Queues, has_passed, is_bound_place, lo_of, hi_of, Tables, Exchange, Representation, awaited_exchange, place, by}
 use Rattle.hc_effects.proofs.Tests.{none_some}

@@ -1,7 +1,5 @@
 -- What is denied is what the tables say, and a denial changes the moment alone.
-use Rattle.std.{proofs.{lemmas.Bool.Decides.{nat_tests}}}
-use Rattle.std.{proofs.{Common.{arith}}}
-use Rattle.std.{proofs.Common.{◌≡◌, ℕ, false, Option, Some, None, refl, ap}, specs.{Prelude.{option_map, nat_eq}, Option.{option_and_then}, HashMap.{get}}}
+use Rattle.std.{proofs.{lemmas.Bool.Decides.{nat_tests}, Common.{arith, ◌≡◌, ℕ, false, Option, Some, None, refl, ap}}, specs.{Prelude.{option_map, nat_eq}, Option.{option_and_then}, HashMap.{get}}}
 use Rattle.hc_effects.proofs.Vocabulary.{Limits, Event, Gate, refusal_of, denial, gate, as_open, exchange_in, Tables, Exchange, event}
 use Rattle.hc_store.specs.declared.backend.Backend.{Ghosts}
 use Rattle.hc_exch.specs.{Exchanges.{table_of}, Known.{open_view}, declared.row.Open.{Open}}

@@ -1,7 +1,5 @@
 -- The case of a head that isn't said to select what is stored: it is the same, unless it is a 304 that may.
-use Rattle.std.{proofs.{lemmas.Bool.Decides.{nat_tests}}}
-use Rattle.std.{proofs.{Common.{arith}}}
-use Rattle.std.{proofs.Common.{◌≡◌, Bool, true, false, refl, ap, ap₂, sym, ◌∙◌, subst}, specs.Prelude.{nat_le, not, ◌&&◌, ◌==◌, if◌then◌else◌}}
+use Rattle.std.{proofs.{lemmas.Bool.Decides.{nat_tests}, Common.{arith, ◌≡◌, Bool, true, false, refl, ap, ap₂, sym, ◌∙◌, subst}}, specs.Prelude.{nat_le, not, ◌&&◌, ◌==◌, if◌then◌else◌}}
 use Rattle.hc_effects.proofs.Vocabulary.{HeadCase, HeadView, Route, head_case, case_on, route_of, case, route}
 use Rattle.hc_effects.proofs.{FoundBy.{CaseBy, case_by}, WrittenEffects.{by_turn}}
 use Rattle.hc_effects.proofs.FoundBy as cases

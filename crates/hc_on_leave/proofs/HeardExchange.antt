@@ -4,9 +4,7 @@
 -- its head bound by a first hole (`IsBare`), so of each key the same is said. It founded and joined nothing, before and
 -- after, so it brings nothing of what is there: every entry keeps its kind (`entries_heard`). The files on heads past
 -- the store, and on those that found or are refused, use these.
-use Rattle.std.{proofs.{lemmas.Bool.Decides.{nat_tests}}}
-use Rattle.std.{proofs.{Common.{arith}}}
-use Rattle.std.{proofs.Common.{◌≡◌, ◌≢◌, inl, inr, ℕ, zero, suc, List, [], Bool, true, false, Option, Some, None, refl, ap, sym, ◌∙◌, subst}, specs.Prelude.{nat_eq, drop, bytes_eq, ◌&&◌}}
+use Rattle.std.{proofs.{lemmas.Bool.Decides.{nat_tests}, Common.{arith, ◌≡◌, ◌≢◌, inl, inr, ℕ, zero, suc, List, [], Bool, true, false, Option, Some, None, refl, ap, sym, ◌∙◌, subst}}, specs.Prelude.{nat_eq, drop, bytes_eq, ◌&&◌}}
 use Rattle.hc_text.proofs.Basics.{eqb-other, eqb-same, same_or, and_off as then_false}
 use Rattle.hc_stored.specs.Shelf.{Shelf}
 use Rattle.hc_entry.specs.Kept as keyed

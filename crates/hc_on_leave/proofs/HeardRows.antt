@@ -4,9 +4,7 @@
 -- represents its row (`runs_as`). By the laws a live consumer owns it, and waits for it by what it was opened for. So
 -- that consumer is kept too, and both see the same of it (`asker`). Whom the code looked up is this one (`asked_by`).
 -- All files on heads begin with these.
-use Rattle.std.{proofs.{lemmas.Bool.Decides.{nat_tests}}}
-use Rattle.std.{proofs.{Common.{arith}}}
-use Rattle.std.{proofs.Common.{◌≡◌, ℕ, Bool, true, false, Option, Some, None, refl, ap, sym, ◌∙◌, subst}, specs.{Prelude.{is_some, nat_eq, option_map, if◌then◌else◌}, HashMap.{get}}}
+use Rattle.std.{proofs.{lemmas.Bool.Decides.{nat_tests}, Common.{arith, ◌≡◌, ℕ, Bool, true, false, Option, Some, None, refl, ap, sym, ◌∙◌, subst}}, specs.{Prelude.{is_some, nat_eq, option_map, if◌then◌else◌}, HashMap.{get}}}
 use Rattle.hc_text.proofs.Basics.{false_true, same_some as same_row}
 use Rattle.hc_effects.proofs.Vocabulary.{Limits, Response, route_of, head_refusal, Place, denial, is_live_place, NoFlaw, Lawful, StandsFor, IsAwaited, IsAwaiting, Awaits, Tables, Exchange, event}
 use Rattle.hc_store.specs.declared.backend.Backend.{Ghosts}

@@ -4,9 +4,7 @@
 -- (`flawless`, `shows`), and the rows represent its tables. Or a seal failed: then it is the effect with that loss, and
 -- what is lost is what the event seals, which was kept before. A cancel tells nothing first, the two polls tell an end
 -- or a failure (`poll_answered`). The functions `cancel`, `end_reading` and `fail` use these.
-use Rattle.std.{proofs.{lemmas.Bool.Decides.{nat_tests}}}
-use Rattle.std.{proofs.{Common.{arith}}}
-use Rattle.std.{proofs.{Common.{◌≡◌, ℕ, List, [], ◌∷◌, ◌++◌, Bool, true, false, Some, None, refl, ap, sym, ◌∙◌}, lemmas.List.{append_assoc}}, specs.Prelude.{nat_eq, map, ◌||◌}}
+use Rattle.std.{proofs.{lemmas.{Bool.Decides.{nat_tests}, List.{append_assoc}}, Common.{arith, ◌≡◌, ℕ, List, [], ◌∷◌, ◌++◌, Bool, true, false, Some, None, refl, ap, sym, ◌∙◌}}, specs.Prelude.{nat_eq, map, ◌||◌}}
 use Rattle.hc_text.proofs.Basics.{false_true}
 use Rattle.hc_store.specs.declared.backend.Backend.{Ghosts}
 use Rattle.hc_effects.proofs.Vocabulary.{Act, Cause, Limits, Does, with_event, let_some_go, let_go, left_by, going_with, with_leave, with_representation, lost_to, family, NoFlaw, Loses, flaw_in, Lawful, Ends, Fails, is_failed_read, move_of, Tables, Representation, is_kept, with_item_first, written_representation, exclusive, act, cause, kind, place, event}

@@ -4,9 +4,7 @@
 -- changes, so what looks at neither is told as before (`told_same`): keys, users, and who is live. Bytes are held for
 -- nobody in this representation yet, as nobody goes on alone, and what is held for others looks at neither
 -- (`held_part`). `stands_parted` joins them, and `LoseDetachedReaders` uses it.
-use Rattle.std.{proofs.{lemmas.Bool.Decides.{nat_tests}}}
-use Rattle.std.{proofs.{Common.{arith}}}
-use Rattle.std.{proofs.Common.{◌≡◌, ◌≢◌, inl, inr, ℕ, List, [], Bool, true, false, Option, Some, None, refl, ap, sym, ◌∙◌, subst}, specs.{Prelude.{is_some, nat_eq, bytes_eq, option_map, ◌&&◌, if◌then◌else◌}, Option.{option_or}, HashMap.{get}}}
+use Rattle.std.{proofs.{lemmas.Bool.Decides.{nat_tests}, Common.{arith, ◌≡◌, ◌≢◌, inl, inr, ℕ, List, [], Bool, true, false, Option, Some, None, refl, ap, sym, ◌∙◌, subst}}, specs.{Prelude.{is_some, nat_eq, bytes_eq, option_map, ◌&&◌, if◌then◌else◌}, Option.{option_or}, HashMap.{get}}}
 use Rattle.hc_text.proofs.Basics.{eqb-other, false_true, same_or, some_inj as some_is}
 use Rattle.hc_effects.proofs.Vocabulary.{Limits, Cause, Request, Place, current, is_number, is_live, if_bound, left_with, writing_lost, family, MayLetGo, is_in_line, Queues, is_bound, is_bound_place, Tables, Exchange, Representation, cause, place, by}
 use Rattle.hc_effects.proofs.Tests.{none_some}

@@ -4,9 +4,7 @@
 -- has its length and status, and is usable. So consumers and keys are told the same. The exchange has the work: it is
 -- over where all that its head promised came, and else has brought so many bytes more. `stands_pieced` joins them with
 -- the entry of what it brings, which its users prove: pieces that are stored, held or dropped.
-use Rattle.std.{proofs.{lemmas.Bool.Decides.{nat_tests}}}
-use Rattle.std.{proofs.{Common.{arith}}}
-use Rattle.std.{proofs.{Common.{◌≡◌, ◌≢◌, inl, inr, ℕ, ◌+◌, List, ◌++◌, length, Bool, true, false, cond, Option, Some, None, refl, ap, ap₂, sym, ◌∙◌, subst}, lemmas.List.{length-append}}, specs.{Prelude.{is_some, is_none, nat_eq, bytes_eq, ◌&&◌, if◌then◌else◌}, HashMap.{get}}}
+use Rattle.std.{proofs.{lemmas.{Bool.Decides.{nat_tests}, List.{length-append}}, Common.{arith, ◌≡◌, ◌≢◌, inl, inr, ℕ, ◌+◌, List, ◌++◌, length, Bool, true, false, cond, Option, Some, None, refl, ap, ap₂, sym, ◌∙◌, subst}}, specs.{Prelude.{is_some, is_none, nat_eq, bytes_eq, ◌&&◌, if◌then◌else◌}, HashMap.{get}}}
 use Rattle.hc_text.proofs.Basics.{eqb-other, eqb-same, false_true, filters_same, finds_same, same_or, and_off as then_false}
 use Rattle.hc_effects.proofs.Vocabulary.{Limits, route_of, Place, current, is_usable, total_in, with_event, with_exchange, with_piece, family, promised_bytes, is_reached, is_headless, is_growing, brings_to, base_in, end_in, end_of_direct, Tables, Exchange, Representation, status_in, event, place, by}
 use Rattle.hc_store.specs.declared.backend.Backend.{Ghosts}

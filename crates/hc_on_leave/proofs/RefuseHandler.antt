@@ -4,9 +4,7 @@
 -- It isn't kept as open any more, and its row is over. That is by its head alone, where no byte is promised, or as it
 -- is closed (`stands_shut`, `stands_refused`). The code tells the second by what is kept of its request, which is that
 -- of the tables (`length_as`, `closes_as`). The files on heads of which nothing is stored use these.
-use Rattle.std.{proofs.{lemmas.Bool.Decides.{nat_tests}}}
-use Rattle.std.{proofs.{Common.{arith}}}
-use Rattle.std.{proofs.Common.{◌≡◌, ◌≢◌, inl, inr, ℕ, [], ◌∷◌, Bool, true, false, Option, Some, None, refl, ap, sym, ◌∙◌, subst}, specs.{Prelude.{nat_eq, if◌then◌else◌}, HashMap.{get}}}
+use Rattle.std.{proofs.{lemmas.Bool.Decides.{nat_tests}, Common.{arith, ◌≡◌, ◌≢◌, inl, inr, ℕ, [], ◌∷◌, Bool, true, false, Option, Some, None, refl, ap, sym, ◌∙◌, subst}}, specs.{Prelude.{nat_eq, if◌then◌else◌}, HashMap.{get}}}
 use Rattle.hc_text.proofs.Basics.{eqb-other, eqb-same, same_or}
 use Rattle.hc_effects.proofs.Vocabulary.{Limits, Response, Length, length_of, promise_of, with_answer, with_exchange, exchange_with_head, over, tables_after_close, all_closed, unless_ended, promise_in, is_reached, Tables, Exchange, place}
 use Rattle.hc_store.specs.declared.backend.Backend.{Ghosts}

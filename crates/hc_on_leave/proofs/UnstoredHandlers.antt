@@ -4,9 +4,7 @@
 -- who waits for it fails. Where what is stored isn't what was asked about, who waits starts over; where a head was
 -- shown already, a failure is due. Other answers go on past the store. That nobody reads the exchange (`IsUnread`), or
 -- this consumer alone (`IsReadAlone`), has the work. `take_case` and its parts use this.
-use Rattle.std.{proofs.{lemmas.Bool.Decides.{nat_tests}}}
-use Rattle.std.{proofs.{Common.{arith}}}
-use Rattle.std.{proofs.{Common.{◌≡◌, ◌≢◌, ◌⊎◌, inl, inr, ℕ, List, [], ◌∷◌, ◌++◌, Bool, true, false, Option, Some, None, refl, ap, sym, ◌∙◌, subst}, lemmas.List.{append-nil}}, specs.Prelude.{is_some, map, ◌||◌, if◌then◌else◌}}
+use Rattle.std.{proofs.{lemmas.{Bool.Decides.{nat_tests}, List.{append-nil}}, Common.{arith, ◌≡◌, ◌≢◌, ◌⊎◌, inl, inr, ℕ, List, [], ◌∷◌, ◌++◌, Bool, true, false, Option, Some, None, refl, ap, sym, ◌∙◌, subst}}, specs.Prelude.{is_some, map, ◌||◌, if◌then◌else◌}}
 use Rattle.hc_text.proofs.Basics.{eqb-other, eqb-same, false_true, same_or, same_some as same_row, some_inj as some_is}
 use Rattle.hc_store.specs.declared.backend.Backend.{Ghosts}
 use Rattle.hc_effects.proofs.Vocabulary.{Act, Cause, Event, Response, HeadCase, HeadView, Route, Limits, route_of, head_case, length_of, is_bad, is_head, BoundBy, head_view, was_shown, is_founding, back_in_line, denial, doomed_by_case, changes, Does, with_event, let_some_go, tables_after_close, all_closed, with_consumer, with_exchange, with_answer, unless_ended, entry_without_acts, is_reached, is_headless, promise_in, NoFlaw, flaw_in, Lawful, StandsFor, MayLetGo, Tables, Exchange, awaited_exchange, write_in, act, cause, event, case, route, write, by, place}

@@ -1,8 +1,6 @@
 -- A consumer waits for its key no more, and is bound to nothing: what is kept by key and of representations represents
 -- the tables then.
-use Rattle.std.{proofs.{lemmas.Bool.Decides.{nat_tests}}}
-use Rattle.std.{proofs.{Common.{arith}}}
-use Rattle.std.{proofs.Common.{◌≡◌, ◌≢◌, ℕ, List, Bool, true, false, Some, refl, ap, sym, ◌∙◌, subst}, specs.Prelude.{bytes_eq, ◌||◌}}
+use Rattle.std.{proofs.{lemmas.Bool.Decides.{nat_tests}, Common.{arith, ◌≡◌, ◌≢◌, ℕ, List, Bool, true, false, Some, refl, ap, sym, ◌∙◌, subst}}, specs.Prelude.{bytes_eq, ◌||◌}}
 use Rattle.hc_text.proofs.Basics.{eqb-other, eqb-same, false_true}
 use Rattle.hc_rules.proofs.RangeReads.{same_bytes}
 use Rattle.hc_entry.specs.{declared.keys.KeyTable.{KeyTable}, Keys.{kept_of, line_of}, Kept.{on_line}, Lines.{is_among, is_in, left_by}}

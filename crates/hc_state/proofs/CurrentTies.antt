@@ -1,7 +1,5 @@
 -- What is stored of a representation is what the tables say, and what is current is kept.
-use Rattle.std.{proofs.{lemmas.Bool.Decides.{nat_tests}}}
-use Rattle.std.{proofs.{Common.{arith}}}
-use Rattle.std.{proofs.Common.{◌≡◌, ℕ, List, Bool, true, false, Option, Some, None, refl, ap, sym, ◌∙◌, subst}, specs.Prelude.{is_some, option_map, ◌↔◌, IsTrue}}
+use Rattle.std.{proofs.{lemmas.Bool.Decides.{nat_tests}, Common.{arith, ◌≡◌, ℕ, List, Bool, true, false, Option, Some, None, refl, ap, sym, ◌∙◌, subst}}, specs.Prelude.{is_some, option_map, ◌↔◌, IsTrue}}
 use Rattle.hc_text.proofs.Basics.{false_true, same_test, some_inj as some_is}
 use Rattle.hc_effects.proofs.Vocabulary.{Limits, current, covers, Lawful, Tables, Representation}
 use Rattle.hc_store.specs.declared.backend.Backend.{Ghosts}

@@ -1,6 +1,5 @@
 -- A consumer that reads nothing, before and after, stands elsewhere: what is kept represents the tables then.
-use Rattle.std.{proofs.{lemmas.Bool.Decides.{nat_tests}}}
-use Rattle.std.{proofs.Common.{◌≡◌, ◌≢◌, inl, inr, ℕ, List, [], ◌∷◌, length, true, false, Option, Some, None, refl, ap, sym, ◌∙◌, subst, arith}, specs.{Prelude.{is_some, nat_eq, filter, not}, HashMap.{get, hash_map_len}}}
+use Rattle.std.{proofs.{lemmas.Bool.Decides.{nat_tests}, Common.{◌≡◌, ◌≢◌, inl, inr, ℕ, List, [], ◌∷◌, length, true, false, Option, Some, None, refl, ap, sym, ◌∙◌, subst, arith}}, specs.{Prelude.{is_some, nat_eq, filter, not}, HashMap.{get, hash_map_len}}}
 use Rattle.hc_text.proofs.Basics.{eqb-other, eqb-same, false_true, filters_same, same_or}
 use Rattle.hc_effects.proofs.Vocabulary.{Limits, Place, is_live, is_live_place, live, with_consumer, reads, Tables, Exchange, place}
 use Rattle.hc_store.specs.declared.backend.Backend.{Ghosts}

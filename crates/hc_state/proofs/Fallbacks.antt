@@ -4,9 +4,7 @@
 -- nothing unread or unstored. So where all rows are alike, as much is held of each exchange (`held_alike`), also if a
 -- representation goes whose bytes stay (`held_gone`). And the same ones are bound (`users_alike`). `FallbackSteps`,
 -- `StartHandler` and `LetGoHandler` use this. Most files on what is held use `unstored_moved`.
-use Rattle.std.{proofs.{lemmas.Bool.Decides.{nat_tests}}}
-use Rattle.std.{proofs.{Common.{arith}}}
-use Rattle.std.{proofs.Common.{◌≡◌, ℕ, [], Bool, true, false, Option, Some, None, refl, ap, sym, ◌∙◌}, specs.Prelude.{not, option_map, if◌then◌else◌}}
+use Rattle.std.{proofs.{lemmas.Bool.Decides.{nat_tests}, Common.{arith, ◌≡◌, ℕ, [], Bool, true, false, Option, Some, None, refl, ap, sym, ◌∙◌}}, specs.Prelude.{not, option_map, if◌then◌else◌}}
 use Rattle.hc_text.proofs.Basics.{false_true}
 use Rattle.hc_effects.proofs.Vocabulary.{Place, as_gone, family, reads, is_bound, Tables, Exchange, Representation, Consumer, place}
 use Rattle.hc_state.specs.Kept.{answer_for, unread, unstored_bytes, held_alone, held_of, held_for}

@@ -1,6 +1,5 @@
 -- How many are live, where one of them changes.
-use Rattle.std.{proofs.{lemmas.Bool.Decides.{nat_tests}}}
-use Rattle.std.{proofs.{Common.{◌≡◌, ◌≢◌, inl, inr, ℕ, ◌+◌, ◌<◌, List, [], ◌∷◌, ◌++◌, length, Bool, true, false, cond, refl, ap, sym, ◌∙◌, subst, arith}, lemmas.List.{append-nil, reverse-append}}, specs.Prelude.{filter, if◌then◌else◌, reverse}}
+use Rattle.std.{proofs.{lemmas.{Bool.Decides.{nat_tests}, List.{append-nil, reverse-append}}, Common.{◌≡◌, ◌≢◌, inl, inr, ℕ, ◌+◌, ◌<◌, List, [], ◌∷◌, ◌++◌, length, Bool, true, false, cond, refl, ap, sym, ◌∙◌, subst, arith}}, specs.Prelude.{filter, if◌then◌else◌, reverse}}
 use Rattle.hc_text.proofs.Basics.{same_or}
 use Rattle.hc_effects.proofs.Vocabulary.{Among, Descends}
 

@@ -4,9 +4,7 @@
 -- `first_by`, `growing_same`). Where these are the same, the entries stay (`entries_same`). Every other consumer sees
 -- the same, since nobody else reads this exchange past the store. Of every other exchange as much is held, which is
 -- assumed. `stands_then` joins this with the consumer, the exchange and the keys of its user.
-use Rattle.std.{proofs.{lemmas.Bool.Decides.{nat_tests}}}
-use Rattle.std.{proofs.{Common.{arith}}}
-use Rattle.std.{proofs.Common.{◌≡◌, ◌≢◌, inl, inr, ℕ, ◌+◌, List, [], ◌∷◌, Bool, Option, Some, None, refl, ap, sym, ◌∙◌, subst}, specs.{Prelude.{is_some, nat_eq, filter}, List.{list_any}, HashMap.{get, hash_map_len}}}
+use Rattle.std.{proofs.{lemmas.Bool.Decides.{nat_tests}, Common.{arith, ◌≡◌, ◌≢◌, inl, inr, ℕ, ◌+◌, List, [], ◌∷◌, Bool, Option, Some, None, refl, ap, sym, ◌∙◌, subst}}, specs.{Prelude.{is_some, nat_eq, filter}, List.{list_any}, HashMap.{get, hash_map_len}}}
 use Rattle.hc_text.proofs.Basics.{eqb-other, eqb-same, filters_same, same_or}
 use Rattle.hc_effects.proofs.Vocabulary.{Limits, Place, total_in, live, family, kind_of, is_growing, brings_to, bound, is_bound, Tables, Exchange, Representation, status_in, place, by}
 use Rattle.hc_store.specs.declared.backend.Backend.{Ghosts}

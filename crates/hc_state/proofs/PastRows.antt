@@ -1,7 +1,5 @@
 -- Whoever reads past the store sees of an exchange its head, where its body begins, and where that ends.
-use Rattle.std.{proofs.{lemmas.Bool.Decides.{nat_tests}}}
-use Rattle.std.{proofs.{Common.{arith}}}
-use Rattle.std.{proofs.Common.{◌≡◌, ℕ, Option, Some, None, refl, ap, sym, ◌∙◌}, specs.Prelude.{if◌then◌else◌}}
+use Rattle.std.{proofs.{lemmas.Bool.Decides.{nat_tests}, Common.{arith, ◌≡◌, ℕ, Option, Some, None, refl, ap, sym, ◌∙◌}}, specs.Prelude.{if◌then◌else◌}}
 use Rattle.hc_effects.proofs.Vocabulary.{Place, total_in, base_in, end_in, lo_of, hi_of, Tables, place}
 use Rattle.hc_model.specs.Rows as rows
 use Rattle.hc_state.specs.{declared.consumer.Consumer.{Consumer}, Kept.{IsKept, KeepsConsumer, head_in, answer_for}}

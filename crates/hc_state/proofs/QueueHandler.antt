@@ -4,9 +4,7 @@
 -- has another place alone, and no answer in either (`in_line_kept`). Its key has it in line again where it waits with
 -- others (`stands_back`). One that stands in line already stays as it is (`stands_still`). `queue_again` has these two
 -- cases; `becomes_by` is for all files that change one consumer.
-use Rattle.std.{proofs.{lemmas.Bool.Decides.{nat_tests}}}
-use Rattle.std.{proofs.{Common.{arith}}}
-use Rattle.std.{proofs.Common.{◌≡◌, inl, inr, ℕ, ◌+◌, List, Bool, true, false, Option, Some, refl, ap, sym, ◌∙◌, subst}, specs.{Prelude.{nat_eq, bytes_eq, option_map, ◌==◌, if◌then◌else◌}, HashMap.{get}}}
+use Rattle.std.{proofs.{lemmas.Bool.Decides.{nat_tests}, Common.{arith, ◌≡◌, inl, inr, ℕ, ◌+◌, List, Bool, true, false, Option, Some, refl, ap, sym, ◌∙◌, subst}}, specs.{Prelude.{nat_eq, bytes_eq, option_map, ◌==◌, if◌then◌else◌}, HashMap.{get}}}
 use Rattle.hc_text.proofs.Basics.{eqb-other, eqb-same, false_true, same_or, and_off as then_false}
 use Rattle.hc_effects.proofs.Vocabulary.{Limits, Request, Place, is_live_place, with_consumer, Lawful, is_in_line, reads, Tables, lo_of, hi_of, place}
 use Rattle.hc_store.specs.declared.backend.Backend.{Ghosts}

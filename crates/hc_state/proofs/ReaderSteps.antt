@@ -4,8 +4,7 @@
 -- may change, so that is for its user: where as much is unread and unstored, as much is held (`held_same`).
 -- `stands_reading` joins this. The first lemmas are for reads of the store, which change no more than the count of
 -- faults. Rows stay (`stands_read`), and an answer after it is one before it (`answered_since`).
-use Rattle.std.{proofs.{lemmas.Bool.Decides.{nat_tests}}}
-use Rattle.std.{proofs.Common.{◌≡◌, ◌≢◌, inl, inr, ℕ, ◌≤◌, List, arith, Bool, true, Option, Some, None, refl, ap, sym, ◌∙◌}, specs.HashMap.{hash_map_len}}
+use Rattle.std.{proofs.{lemmas.Bool.Decides.{nat_tests}, Common.{◌≡◌, ◌≢◌, inl, inr, ℕ, ◌≤◌, List, arith, Bool, true, Option, Some, None, refl, ap, sym, ◌∙◌}}, specs.HashMap.{hash_map_len}}
 use Rattle.hc_text.proofs.Basics.{eqb-other, eqb-same, same_or}
 use Rattle.hc_store.specs.declared.backend.Backend.{Ghosts}
 use Rattle.hc_effects.proofs.Vocabulary.{Event, Act, Limits, is_live, is_live_place, with_consumer, family, is_in_line, is_bound, Tables, Exchange, Representation}

@@ -4,9 +4,7 @@
 -- that its entry is rebuilt, and `Closing` does the rest (`stopped_sealed`). Where the seal failed, it is lost to its
 -- exclusive writer, if there is one, and let go before the exchange is closed. Then it brings only what is gone, so
 -- `stands_unstored` applies (`stopped_lost`). `seal_stopped` uses both.
-use Rattle.std.{proofs.{lemmas.Bool.Decides.{nat_tests}}}
-use Rattle.std.{proofs.{Common.{arith}}}
-use Rattle.std.{proofs.Common.{◌≡◌, ◌≢◌, inl, inr, ℕ, ◌<◌, List, [], ◌∷◌, ◌++◌, Bool, true, false, Option, Some, None, refl, ap, sym, ◌∙◌, subst}, specs.Prelude.{is_some, nat_eq, option_map, ◌&&◌, if◌then◌else◌}}
+use Rattle.std.{proofs.{lemmas.Bool.Decides.{nat_tests}, Common.{arith, ◌≡◌, ◌≢◌, inl, inr, ℕ, ◌<◌, List, [], ◌∷◌, ◌++◌, Bool, true, false, Option, Some, None, refl, ap, sym, ◌∙◌, subst}}, specs.Prelude.{is_some, nat_eq, option_map, ◌&&◌, if◌then◌else◌}}
 use Rattle.hc_store.specs.declared.backend.Backend.{Ghosts}
 use Rattle.hc_effects.proofs.Vocabulary.{Act, Limits, with_representation, tables_after_close, over, let_go, as_gone, lost_to, family, Grows, Lawful, kind_of, is_growing, is_complete, is_front, covers_all, brings_to, Tables, Exchange, Representation, bound, exclusive, Response, act, kind}
 use Rattle.hc_record.specs.declared.kind.Kind.{Kind, TheVariants.{the_data as kinds}}

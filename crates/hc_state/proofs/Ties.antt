@@ -4,9 +4,7 @@
 -- `LooksSame` of an exchange. Where that is equal in both tables, the same item represents its row in both:
 -- `consumer_same`, `key_same`, `entry_same`, `exchange_same`. The lemmas between say that exchanges that are over stay
 -- so, since a writer may be forgotten then. Most files on the rows use these for all that an event leaves alone.
-use Rattle.std.{proofs.{lemmas.Bool.Decides.{nat_tests}}}
-use Rattle.std.{proofs.{Common.{arith}}}
-use Rattle.std.{proofs.Common.{◌≡◌, ◌≢◌, inl, inr, ℕ, List, Bool, true, false, Option, Some, None, refl, ap, sym, ◌∙◌, subst, []}, specs.Prelude.{is_some, is_none, not, option_map, if◌then◌else◌}}
+use Rattle.std.{proofs.{lemmas.Bool.Decides.{nat_tests}, Common.{arith, ◌≡◌, ◌≢◌, inl, inr, ℕ, List, Bool, true, false, Option, Some, None, refl, ap, sym, ◌∙◌, subst, []}}, specs.Prelude.{is_some, is_none, not, option_map, if◌then◌else◌}}
 use Rattle.hc_text.proofs.Basics.{false_true, same_or}
 use Rattle.hc_entry.specs.Kept as keyed
 use Rattle.hc_effects.proofs.Vocabulary.{route_of, Place, BoundBy, current, total_in, is_live, over, family, kind_of, is_in_line, bound, is_bound, hi_of, lo_of, Tables, Exchange, Representation, place}

@@ -1,6 +1,5 @@
 -- Small facts on tests, options and numbers.
-use Rattle.std.{proofs.{lemmas.Bool.Decides.{nat_tests}}}
-use Rattle.std.{proofs.Common.{◌≡◌, ◌≢◌, ◌⊎◌, ℕ, ◌+◌, ◌<◌, ◌≤◌, ◌^◌, true, cond, Option, Some, None, Result, Ok, Err, refl, sym, ◌∙◌, arith}, specs.Prelude.{is_some, IsSomeAnd, OnOk, ◌||◌, ◌&&◌}}
+use Rattle.std.{proofs.{lemmas.Bool.Decides.{nat_tests}, Common.{◌≡◌, ◌≢◌, ◌⊎◌, ℕ, ◌+◌, ◌<◌, ◌≤◌, ◌^◌, true, cond, Option, Some, None, Result, Ok, Err, refl, sym, ◌∙◌, arith}}, specs.Prelude.{is_some, IsSomeAnd, OnOk, ◌||◌, ◌&&◌}}
 use Rattle.hc_text.proofs.Basics.{false_true}
 use Rattle.hc_effects.proofs.Tests.{none_some}
 

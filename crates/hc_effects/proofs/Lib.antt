@@ -18,6 +18,7 @@ pub mod PieceServes
 pub mod Losses
 pub mod LossServes
 pub mod Owed
+pub mod Runs
 pub mod ConsumerFilters
 pub mod Named
 pub mod ReadFilters

@@ -8,7 +8,7 @@ use Rattle.std.{proofs.{lemmas.Bool.Decides.{nat_tests}, Common.{◌≡◌, inl,
 use Rattle.hc_text.proofs.Basics.{bool_cases}
 use Rattle.hc_effects.proofs.Vocabulary.{is_denied, given_in, shows_in, Event, Act, Limits, Entry, History, Contents, flaw_in, Tables, Consumer, starts_over, consumer_after, consumer_made, consumer_heard, consumer_acted, tables, after, IsRun, IsOwed, Shown, first, given_of, shown_of, shown_in, act}
 use Rattle.hc_model.specs.Histories.{ConsumersAreFiltered}
-use Rattle.hc_effects.proofs.{Owed.{goes, acts_are, denied_gives, denied_shows}, Named.{IsFar, far}, ConsumerFilters.{acted, given_by, shown_by, requests_are, starts_are}}
+use Rattle.hc_effects.proofs.{Owed.{goes, acts_are, denied_gives, denied_shows}, Named.{IsFar, far}, ConsumerFilters.{acted, given_by, shown_by, requests_are, starts_are}, Runs.{by_entries}}
 
 -- NOTHING IS SAID OF WHO HASN'T STARTED
 
@@ -44,12 +44,10 @@ given_step limits t e c false owed denied = rw denied (given_after t e c (t.cons
 
 offsets_are : (limits : Limits) (contents : Contents) (h : History) (c : ℕ) → IsRun limits contents h → given ((tables contents h).consumer c) ≡ length (given_of c h)
 unfolding tables
-offsets_are limits contents [] c run = refl
-offsets_are limits contents (e ∷ h) c run =
+offsets_are limits contents h c run = by_entries limits contents (λ h. given ((tables contents h).consumer c) ≡ length (given_of c h)) refl (λ h e run before.
     let step = given_step limits (tables contents h) e c (is_denied e.acts) run.1 refl in
-    let before = offsets_are limits contents h c run.0 in
     let all = length-append (given_of c h) (given_in c e.acts) in
-    step ∙ (ap (λ n. n + length (given_in c e.acts)) before ∙ sym all)
+    step ∙ (ap (λ n. n + length (given_in c e.acts)) before ∙ sym all)) h run
 
 -- SHOWN HEADS
 
@@ -103,11 +101,9 @@ shown_step limits t e c false owed denied =
 
 shown_are : (limits : Limits) (contents : Contents) (h : History) (c : ℕ) → IsRun limits contents h → unshown ((tables contents h).consumer c) ≡ is_none (first (shown_of c h))
 unfolding tables
-shown_are limits contents [] c run = refl
-shown_are limits contents (e ∷ h) c run =
+shown_are limits contents h c run = by_entries limits contents (λ h. unshown ((tables contents h).consumer c) ≡ is_none (first (shown_of c h))) refl (λ h e run before.
     shown_step limits (tables contents h) e c (is_denied e.acts) run.1 refl
-    ∙ (ap (λ b. b && is_none (first (shown_in c e.acts))) (shown_are limits contents h c run.0)
-    ∙ sym (none_of_both (shown_of c h) (shown_in c e.acts)))
+    ∙ (ap (λ b. b && is_none (first (shown_in c e.acts))) before ∙ sym (none_of_both (shown_of c h) (shown_in c e.acts)))) h run
 
 pub consumers_are_filtered : ConsumersAreFiltered
 consumers_are_filtered limits contents h run = record {

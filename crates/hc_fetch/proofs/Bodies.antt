@@ -8,7 +8,7 @@ use Rattle.hc_text.proofs.Basics.{not_some as none_some, some_inj}
 use Rattle.hc_sparse.specs.Cells.{Cells, Cell}
 use Rattle.hc_effects.proofs.Vocabulary.{act, Limits, may_begin, Entry, History, no_contents, shown_of, Delivers, Says, body_of, Tables, IsRun, tables}
 use Rattle.hc_model.specs.Laws.{Grows}
-use Rattle.hc_effects.proofs.Basics.{append_none}
+use Rattle.hc_effects.proofs.{Basics.{append_none}, Runs.{by_later_entries}}
 use Rattle.hc_laws.proofs.{GrowsInRuns.{bodies_grow_in_runs}, ReadNext.{gives_next}}
 use Rattle.hc_fetch.specs.{declared.plan.FetchPlan.{FetchPlan}, Fetches.{started, starts_behind, cache_history}, Gathering.{gathered, given_end, written_of}, Heads.{Head, heads_in, first_in, first_head}, Laws.{IsFetchRun, WritesTheBody, WritesOn}}
 use Rattle.hc_fetch.proofs.{Shows.{IsFirst, reads_first, was_undecided}, Gathers.{Stands, GivesOf, IsPartOf, gathers_there, gathers_on, writes_on, written_held}}
@@ -42,8 +42,8 @@ one_goes limits may e h run r f stand p cell is =
     cell_grows (tables no_contents h) (tables no_contents (e ∷ h)) (bodies_grow_in_runs limits no_contents may h e run) r p cell (stand p cell is)
 
 all_go : (limits : Limits) → may_begin limits no_contents ≡ true → (xs h : History) → IsRun limits no_contents (xs ++ h) → Goes h (xs ++ h)
-all_go limits may [] h run r f stand = stand
-all_go limits may (x ∷ xs) h run r f stand = one_goes limits may x (xs ++ h) run r f (all_go limits may xs h run.0 r f stand)
+all_go limits may xs h run r f stand =
+    by_later_entries limits no_contents (λ h. Stands (tables no_contents h) r f) (λ h e run before. one_goes limits may e h run r f before) xs h run stand
 
 started_goes : (limits : Limits) → may_begin limits no_contents ≡ true → (plan : FetchPlan) (now : ℕ) (h : History) → IsRun limits no_contents (started plan now h) → Goes h (started plan now h)
 started_goes limits may plan now [] run r f stand = one_goes limits may _ [] run r f stand

@@ -9,7 +9,7 @@ use Rattle.std.{proofs.Common.{◌≡◌, ◌⊎◌, inl, inr, ℕ, zero, suc, �
 use Rattle.hc_text.proofs.Basics.{bool_cases, nil_cons, not_some as none_some, some_inj}
 use Rattle.hc_sparse.specs.Cells.{Cells, Cell, cells_with}
 use Rattle.hc_effects.proofs.Vocabulary.{Act, Limits, may_begin, Entry, History, no_contents, Shown, shown_in, shown_of, given_of, Says, IsEnd, end_of, IsRun, tables, act}
-use Rattle.hc_effects.proofs.Basics.{append_none, false_true, or_false}
+use Rattle.hc_effects.proofs.{Basics.{append_none, false_true, or_false}, Runs.{by_later_entries}}
 use Rattle.hc_laws.proofs.{OneHead.{one_head_is_shown}, ReadEnds.{ends_well}, ReadJoined.{one_inj}}
 use Rattle.hc_fetch.specs.declared.ended.FetchEnded.TheVariants as ended
 use Rattle.hc_fetch.specs.{declared.plan.FetchPlan.{FetchPlan}, Bounds.{IsPlan}, Deciding.{has_foreign, is_foreign}, Fetches.{started, starts_behind, cache_history, ends_in, has_ended, is_all, is_done_by, ended_with}, Gathering.{gathered, given_end, bytes_on, byte_before, written_of}, Heads.{Head, heads_in, first_in, first_head, total_of}, Laws.{IsFetchRun, WritesAllOfIt}}
@@ -89,12 +89,12 @@ long g p (suc n) (suc m) le covered = by_cell (g p) (covered p (omega arith) (om
 -- RUNS
 
 all_ends_kept : (limits : Limits) → may_begin limits no_contents ≡ true → (xs h : History) → IsRun limits no_contents (xs ++ h) → (r n : ℕ) → KnownEnd (tables no_contents h) r n → KnownEnd (tables no_contents (xs ++ h)) r n
-all_ends_kept limits may [] h run r n known = known
-all_ends_kept limits may (x ∷ xs) h run r n known = end_kept limits no_contents (xs ++ h) x may run r n (all_ends_kept limits may xs h run.0 r n known)
+all_ends_kept limits may xs h run r n known =
+    by_later_entries limits no_contents (λ h. KnownEnd (tables no_contents h) r n) (λ h e run before. end_kept limits no_contents h e may run r n before) xs h run known
 
 all_heads_kept : (limits : Limits) → may_begin limits no_contents ≡ true → (xs h : History) → IsRun limits no_contents (xs ++ h) → (r : ℕ) → KnownHead (tables no_contents h) r → KnownHead (tables no_contents (xs ++ h)) r
-all_heads_kept limits may [] h run r known = known
-all_heads_kept limits may (x ∷ xs) h run r known = head_kept limits no_contents (xs ++ h) x may run r (all_heads_kept limits may xs h run.0 r known)
+all_heads_kept limits may xs h run r known =
+    by_later_entries limits no_contents (λ h. KnownHead (tables no_contents h) r) (λ h e run before. head_kept limits no_contents h e may run r before) xs h run known
 
 start_end_kept : (limits : Limits) → may_begin limits no_contents ≡ true → (plan : FetchPlan) (now : ℕ) (h : History) → IsRun limits no_contents (started plan now h) → (r n : ℕ) → KnownEnd (tables no_contents h) r n → KnownEnd (tables no_contents (started plan now h)) r n
 start_end_kept limits may plan now [] run r n known = end_kept limits no_contents [] _ may run r n known

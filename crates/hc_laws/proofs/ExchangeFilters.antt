@@ -9,7 +9,7 @@ use Rattle.hc_text.proofs.Basics.{bool_cases, or_false, or_none}
 use Rattle.hc_effects.proofs.Vocabulary.{Opening, opening_in, is_denied, Event, Response, Limits, head_refusal, denial, as_open, Entry, History, Contents, promised_bytes, exchange_after, exchange_heard, exchange_made, Tables, Exchange, IsRun, IsOwed, tables, after, each, first, if_accepted, opening_of, opened_in, event}
 use Rattle.hc_rules.specs.Refusals as refusals
 use Rattle.hc_model.specs.Histories.{Answered, opening_at, head_in, head_of, bytes_in, delivered_of, ends_in, has_ended, answered_in}
-use Rattle.hc_effects.proofs.{Owed.{goes, denied_opens}, ConsumerFilters.{first_more}}
+use Rattle.hc_effects.proofs.{Owed.{goes, denied_opens}, ConsumerFilters.{first_more}, Runs.{by_entries}}
 
 -- WHAT AN EVENT LEAVES OF A ROW
 
@@ -76,9 +76,8 @@ head_step limits t e x false owed denied = rw denied (head_after t e x (t.exchan
 
 pub heads_are : (limits : Limits) (contents : Contents) (h : History) (x : ℕ) → IsRun limits contents h → answered ((tables contents h).exchange x) ≡ head_of x h
 unfolding tables
-heads_are limits contents [] x run = refl
-heads_are limits contents (e ∷ h) x run =
-    first_more (each (λ e. if_accepted e (head_in x e.now e.event)) h) (if_accepted e (head_in x e.now e.event)) _ _ (heads_are limits contents h x run.0) (head_step limits (tables contents h) e x (is_denied e.acts) run.1 refl)
+heads_are limits contents h x run = by_entries limits contents (λ h. answered ((tables contents h).exchange x) ≡ head_of x h) refl (λ h e run before.
+    first_more (each (λ e. if_accepted e (head_in x e.now e.event)) h) (if_accepted e (head_in x e.now e.event)) _ _ before (head_step limits (tables contents h) e x (is_denied e.acts) run.1 refl)) h run
 
 -- BODIES
 
@@ -123,10 +122,9 @@ body_step limits t e x false owed denied = rw denied (body_after t e x (t.exchan
 
 pub bodies_are : (limits : Limits) (contents : Contents) (h : History) (x : ℕ) → IsRun limits contents h → body ((tables contents h).exchange x) ≡ delivered_of x h
 unfolding tables
-bodies_are limits contents [] x run = refl
-bodies_are limits contents (e ∷ h) x run =
+bodies_are limits contents h x run = by_entries limits contents (λ h. body ((tables contents h).exchange x) ≡ delivered_of x h) refl (λ h e run before.
     body_step limits (tables contents h) e x (is_denied e.acts) run.1 refl
-    ∙ ap (λ (bytes : List ℕ). bytes ++ if_accepted e (bytes_in x e.event)) (bodies_are limits contents h x run.0)
+    ∙ ap (λ (bytes : List ℕ). bytes ++ if_accepted e (bytes_in x e.event)) before) h run
 
 -- ENDS
 
@@ -159,7 +157,6 @@ end_step limits t e x false owed denied = rw denied (end_after t e x (t.exchange
 
 pub ends_are : (limits : Limits) (contents : Contents) (h : History) (x : ℕ) → IsRun limits contents h → ended ((tables contents h).exchange x) ≡ has_ended x h
 unfolding tables
-ends_are limits contents [] x run = refl
-ends_are limits contents (e ∷ h) x run =
+ends_are limits contents h x run = by_entries limits contents (λ h. ended ((tables contents h).exchange x) ≡ has_ended x h) refl (λ h e run before.
     end_step limits (tables contents h) e x (is_denied e.acts) run.1 refl
-    ∙ ap (λ b. (not (is_denied e.acts) && ends_in x e.event) || b) (ends_are limits contents h x run.0)
+    ∙ ap (λ b. (not (is_denied e.acts) && ends_in x e.event) || b) before) h run

@@ -3,7 +3,7 @@ use Rattle.std.proofs.Common.{◌≡◌, ℕ, [], ◌∷◌, true, false, subst}
 use Rattle.hc_effects.proofs.Vocabulary.{is_denied, Limits, current, Entry, History, Contents, entry_of, IsOfOneKey, may_begin, OfRuns, DeliversOnce, HasOneTurn, Turns, HasPassed, IsBarred, OfHistories, IsBoundBehindDooms, Tables, Consumer, IsRun, Sound, IsBound, tables, after_denied}
 use Rattle.hc_model.specs.{Sound.{is_bound}, Keys.{KeepsOthers}, Laws.{DoomsInRuns, KeysInRuns}}
 use Rattle.hc_laws.proofs.{Barred.{next_tables, barrier_is_kept, barrier_begins, binds_behind}, KeysPlaces.{keys_are_kept, keys_begin}, OneKey.{law_of_one_key}, RunFacts.{in_runs_with}, SoundRuns.{runs_are_sound}, Starts.{numbers_begin}, TurnsKeep.{turns_are_kept, turns_begin, turns_are_one}}
-use Rattle.hc_effects.proofs.Once.{delivers_once}
+use Rattle.hc_effects.proofs.{Once.{delivers_once}, Runs.{by_entries}}
 
 -- A DENIED ENTRY
 
@@ -57,10 +57,9 @@ module _ (limits : Limits) (contents : Contents) (may : may_begin limits content
   sound_run h run = runs_are_sound limits contents h may run
 
   barred : (h : History) → IsRun limits contents h → IsBarred contents h
-  barred [] run = barrier_begins contents (numbers_begin limits contents may)
-  barred (e ∷ h) run =
+  barred = by_entries limits contents (IsBarred contents) (barrier_begins contents (numbers_begin limits contents may)) (λ h e run before.
       let held = turned_in_runs limits contents h may run.0 in
-      barrier_is_kept limits contents h e (sound_run h run.0) held.one held.turns (barred h run.0) run.1
+      barrier_is_kept limits contents h e (sound_run h run.0) held.one held.turns before run.1)
 
   others_stay : (h : History) (e : Entry) → IsRun limits contents (e ∷ h) → is_denied e.acts ≡ false → KeepsOthers (tables contents h) (tables contents (e ∷ h)) e
   others_stay h e run accepted =

@@ -9,7 +9,7 @@ use Rattle.hc_text.proofs.Basics.{or_none}
 use Rattle.hc_effects.proofs.Vocabulary.{Opening, opening_in, is_denied, Event, Limits, case_at, is_joining, denial, Entry, History, Contents, exchange_after, exchange_heard, exchange_made, Tables, Exchange, IsRun, IsOwed, tables, after, each_after, first, if_accepted, joined_of, event}
 use Rattle.hc_rules.specs.Refusals as refusals
 use Rattle.hc_model.specs.Histories.{joining_in, joining_at, ExchangesAreFiltered}
-use Rattle.hc_effects.proofs.{Owed.{goes}, ConsumerFilters.{first_more}}
+use Rattle.hc_effects.proofs.{Owed.{goes}, ConsumerFilters.{first_more}, Runs.{by_entries}}
 use Rattle.hc_laws.proofs.ExchangeFilters.{openings_are, heads_are, bodies_are, ends_are}
 
 -- WHO HAS NO HEAD JOINED NOTHING
@@ -70,9 +70,8 @@ joined_step limits t e x false owed denied late = rw denied (joined_after t e x 
 
 joins_are : (limits : Limits) (contents : Contents) (h : History) (x : ℕ) → IsRun limits contents h → joined ((tables contents h).exchange x) ≡ joined_of contents x h
 unfolding tables
-joins_are limits contents [] x run = refl
-joins_are limits contents (e ∷ h) x run =
-    first_more (each_after (λ t e. if_accepted e (joining_at x t e)) contents h) (if_accepted e (joining_at x (tables contents h) e)) _ _ (joins_are limits contents h x run.0) (joined_step limits (tables contents h) e x (is_denied e.acts) run.1 refl (joins_late contents h x))
+joins_are limits contents h x run = by_entries limits contents (λ h. joined ((tables contents h).exchange x) ≡ joined_of contents x h) refl (λ h e run before.
+    first_more (each_after (λ t e. if_accepted e (joining_at x t e)) contents h) (if_accepted e (joining_at x (tables contents h) e)) _ _ before (joined_step limits (tables contents h) e x (is_denied e.acts) run.1 refl (joins_late contents h x))) h run
 
 pub exchanges_are_filtered : ExchangesAreFiltered
 exchanges_are_filtered limits contents h run = record {

@@ -2,7 +2,7 @@
 use Rattle.std.{proofs.{lemmas.Bool.Decides.{nat_tests}, Common.{◌≡◌, ℕ, ◌≤◌, List, [], ◌∷◌, ◌++◌, length, Bool, true, false, Option, Some, None, refl, ap, sym, ◌∙◌, subst, arith, length-append}}, specs.{Prelude.{not, is_none}, Option.{option_map_or}}}
 use Rattle.hc_effects.proofs.Vocabulary.{is_denied, given_in, Limits, Entry, History, Contents, flaw_in, Shown, first, shown_in, shown_of, given_of, Tables, Consumer, IsRun, IsOwed, tables}
 use Rattle.hc_model.specs.Reads.{OneHeadIsShown}
-use Rattle.hc_effects.proofs.{Owed.{acts_are, denied_gives, denied_shows}, ReadFilters.{consumers_are_filtered, far_owed}, ShownOnce.{IsShownWell, by_event, no_first, unshown_of}}
+use Rattle.hc_effects.proofs.{Owed.{acts_are, denied_gives, denied_shows}, ReadFilters.{consumers_are_filtered, far_owed}, Runs.{by_entries}, ShownOnce.{IsShownWell, by_event, no_first, unshown_of}}
 
 -- what holds of the list so far
 record IsWell (shown : List Shown) (given : List ℕ) : Type 0 where
@@ -53,8 +53,9 @@ module _ (limits : Limits) (contents : Contents) (h : History) (e : Entry) (c : 
   by_denial false denied w = by_row (t.consumer c) refl denied w
 
 well : (limits : Limits) (contents : Contents) (h : History) (c : ℕ) → IsRun limits contents h → IsWell (shown_of c h) (given_of c h)
-well limits contents [] c run = record { one = omega arith; before = λ h. refl }
-well limits contents (e ∷ h) c run = by_denial limits contents h e c run.0 run.1 (is_denied e.acts) refl (well limits contents h c run.0)
+well limits contents h c run =
+    by_entries limits contents (λ h. IsWell (shown_of c h) (given_of c h)) (record { one = omega arith; before = λ h. refl })
+    (λ h e run before. by_denial limits contents h e c run.0 run.1 (is_denied e.acts) refl before) h run
 
 pub one_head_is_shown : OneHeadIsShown
 one_head_is_shown limits contents h run c = let w = well limits contents h c run in (w.one, w.before)

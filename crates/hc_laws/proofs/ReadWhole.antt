@@ -8,7 +8,7 @@ use Rattle.std.{proofs.{lemmas.Bool.Decides.{nat_tests}, Common.{arith, ◌≡�
 use Rattle.hc_effects.proofs.Vocabulary.{is_denied, Act, Limits, accepted_acts, answer_acts, loss_acts, close_acts, may_begin, Entry, History, Contents, Flaw, flaw_in, shown_of, given_of, Move, Nothing, Asks, Opens, Shows, Gives, Ends, Fails, acts_of, move_of, ReadsAct, ReadsActs, Says, Tables, Consumer, IsRun, tables, evicted, act, cause, wait}
 use Rattle.hc_model.specs.Moves as moves
 use Rattle.hc_model.specs.Reads.{ReadsEach, RunsReadWhole}
-use Rattle.hc_effects.proofs.{ActParts.{IsAnswer, IsSaid, answer_is, said_is}, Basics.{false_true, append_none}, Owed.{IsDenied, is_denial, acts_are}, ShownOnce.{is_showing, shown_shows}}
+use Rattle.hc_effects.proofs.{ActParts.{IsAnswer, IsSaid, answer_is, said_is}, Basics.{false_true, append_none}, Owed.{IsDenied, is_denial, acts_are}, Runs.{by_entries}, ShownOnce.{is_showing, shown_shows}}
 use Rattle.hc_effects.proofs.ActParts as parts
 use Rattle.hc_effects.proofs.Owed as owed_acts
 use Rattle.hc_laws.proofs.{ReadEnds.{ends_well}, ReadJoined.{bodies_are_read, is_told}, ReadNext.{gives_next}, Reasons.{reason_holds}, SoundRuns.{runs_are_sound}, WhyShown.{shown_why}}
@@ -98,8 +98,8 @@ module _ (limits : Limits) (contents : Contents) (h : History) (e : Entry) (may 
   entry_reads = by_denial (is_denied e.acts) refl
 
 each_reads : (limits : Limits) (contents : Contents) (h : History) → may_begin limits contents ≡ true → IsRun limits contents h → ReadsEach contents h
-each_reads limits contents [] may run = tt
-each_reads limits contents (e ∷ h) may run = (each_reads limits contents h may run.0, entry_reads limits contents h e may run)
+each_reads limits contents h may run =
+    by_entries limits contents (ReadsEach contents) tt (λ h e run before. (before, entry_reads limits contents h e may run)) h run
 
 -- Every run reads whole.
 pub runs_read_whole : RunsReadWhole

@@ -1,7 +1,7 @@
 -- What a store begins with, and each entry keeps, holds of every run.
 use Rattle.std.proofs.Common.{◌≡◌, ◌≤◌, ℕ, [], ◌∷◌, Bool, true, false, None, refl}
 use Rattle.hc_effects.proofs.Vocabulary.{is_denied, Event, History, IsRun, Limits, may_begin, denial, Entry, Contents, Flaw, flaw_in, entry_of, OfRunsIn, Tables, IsOwed, Sound, tables, first_tables, after, after_accepted, after_denied}
-use Rattle.hc_effects.proofs.{LossBy.{IsReal}, OfEntries.{of_real}}
+use Rattle.hc_effects.proofs.{LossBy.{IsReal}, OfEntries.{of_real}, Runs.{by_entries}}
 use Rattle.hc_laws.proofs.SoundRuns.{IsCarried, carried}
 
 -- an accepted entry of a run
@@ -35,8 +35,8 @@ module _ (limits : Limits) (contents : Contents) (P : Tables → History → Typ
 
     pub along : (h : History) → IsRun limits contents h → P (tables contents h) h
     unfolding tables
-    along [] run = begins
-    along (e ∷ h) run = step h e (is_denied e.acts) refl run.0 (carried limits contents (e ∷ h) may run).is_sound run.1 (along h run.0)
+    along = by_entries limits contents (λ h. P (tables contents h) h) begins
+        (λ h e run before. step h e (is_denied e.acts) refl run.0 (carried limits contents (e ∷ h) may run).is_sound run.1 before)
 
 -- And so of what is said of the tables alone.
 module _ (P : Limits → Tables → Type 0) where

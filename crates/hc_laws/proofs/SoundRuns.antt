@@ -1,9 +1,9 @@
 -- Runs are sound, their owners are known and their bodies measured: the induction over a run.
-use Rattle.std.proofs.Common.{◌≡◌, List, [], ◌∷◌, Bool, true, false, refl, ap, sym, ◌∙◌, subst}
+use Rattle.std.proofs.Common.{◌≡◌, List, Bool, true, false, refl, ap, sym, ◌∙◌, subst}
 use Rattle.hc_effects.proofs.Vocabulary.{is_denied, Act, Limits, Entry, flaw_in, entry_of, OfRuns, Measures, Owners, Tables, IsOwed, may_stand, Sound, tables, after, after_accepted}
 use Rattle.hc_model.specs.Sound.{RunsAreSound}
 use Rattle.hc_laws.proofs.{Begins.{begun_sound}, BesideKeeps.{beside_begun, beside_denied, beside_kept}, DeniedKeeps.{denied_sound, denied_owners, denied_measures}, GoAlone.{go_alone}, MeasuresBegin.{measures_begin}, OwnersKept.{owners_begun, owners_kept}, SoundKept.{sound_kept}, Starts.{starts}}
-use Rattle.hc_effects.proofs.{Beside.{IsBeside}, EndsKeep.{measures_kept}, LossBy.{IsReal}, Owed.{acts_are, goes}, Step.{step_of}}
+use Rattle.hc_effects.proofs.{Beside.{IsBeside}, EndsKeep.{measures_kept}, LossBy.{IsReal}, Owed.{acts_are, goes}, Runs.{by_entries}, Step.{step_of}}
 
 -- what is carried along a run
 pub record IsCarried (t : Tables) : Type 0 where
@@ -33,8 +33,10 @@ step limits t e false denied c owed = rw denied (accepted_carried limits t e c o
 
 pub carried : OfRuns IsCarried
 unfolding tables
-carried limits contents [] may run = record { is_sound = begun_sound contents (starts limits contents may); is_owned = owners_begun contents; is_measured = measures_begin limits contents may; beside = beside_begun contents }
-carried limits contents (e ∷ h) may run = step limits (tables contents h) e (is_denied e.acts) refl (carried limits contents h may run.0) run.1
+carried limits contents h may run =
+    by_entries limits contents (λ h. IsCarried (tables contents h))
+    (record { is_sound = begun_sound contents (starts limits contents may); is_owned = owners_begun contents; is_measured = measures_begin limits contents may; beside = beside_begun contents })
+    (λ h e run before. step limits (tables contents h) e (is_denied e.acts) refl before run.1) h run
 
 -- Every run is sound.
 pub runs_are_sound : RunsAreSound

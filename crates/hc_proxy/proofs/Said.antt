@@ -5,6 +5,7 @@
 -- an entry opens the next exchange or none, so the number of the last exchange counts the Opened acts of the run.
 use Rattle.std.{proofs.{Common.{◌≡◌, ◌≤◌, ◌<◌, ℕ, zero, suc, ◌+◌, List, [], ◌∷◌, ◌++◌, Bool, true, false, Option, Some, None, refl, ap, sym, ◌∙◌, subst, arith}, lemmas.{Bool.Decides.{nat_tests}, List.{take_all, map-append, reverse-append}}}, specs.{Prelude.{◌&&◌, ◌||◌, nat_lt, not, length, take, map, reverse, find, Contains}, List.{list_all}}}
 use Rattle.hc_text.proofs.Basics.{and_left, and_right, both_false as both_off, not_true as not_false}
+use Rattle.hc_effects.proofs.Runs.{by_entries}
 use Rattle.hc_effects.proofs.Vocabulary.{Act, Limits, History, no_contents, Tables, IsRun, tables, after, act}
 use Rattle.hc_wire.specs.{declared.connection.Standing.{Standing}, Logs.{Called, Log, Taker, is_at_end, is_numbered}}
 use Rattle.hc_peers.specs.Peers.{is_same}
@@ -122,15 +123,13 @@ counted (act.Evicted r ∷ acts) n m up = counted acts n m up
 
 opened_are : (limits : Limits) (h : History) → IsRun limits no_contents h → (tables no_contents h).opened ≡ opened_by h
 unfolding tables
-opened_are limits [] run = refl
-opened_are limits (e ∷ h) run =
+opened_are limits = by_entries limits no_contents (λ h. (tables no_contents h).opened ≡ opened_by h) refl (λ h e run before.
     let t = tables no_contents h in
     let p : Proxy = record unused { tables = t; history = h; moment = t.moment } in
     let s : Stands limits p = record { run = run.0; same = refl; later = omega arith } in
     let up : OpensUp t.opened e.acts (after t e).opened = entry_opens limits p s e run.1 t.opened [] refl in
     let more : (after t e).opened ≡ t.opened + opened_in e.acts = counted e.acts t.opened (after t e).opened up in
-    let rest : t.opened ≡ opened_by h = opened_are limits h run.0 in
-    more ∙ ap (λ n. n + opened_in e.acts) rest
+    more ∙ ap (λ n. n + opened_in e.acts) before)
 
 opened_said : (limits : Limits) (log : Log) → (behind_all limits log).tables.opened ≡ opened_by (behind_all limits log).history
 opened_said limits log =

@@ -2,8 +2,7 @@
 ghost use Rattle.std.specs.Prelude.{◌≡◌, ◌<◌, Some, None};
 ghost use Rattle.hc_stored.specs.Entries.{shelf_of};
 ghost use Rattle.hc_exch.specs.Exchanges.{table_of};
-ghost use Rattle.hc_state.specs.Leaving.{if_running, writing_of};
-ghost use Rattle.hc_on_leave.specs.Written.{writing_by};
+ghost use Rattle.hc_state.specs.Leaving.{if_running, writing_by, writing_of};
 
 use hc_state::Rows;
 use hc_store::Backend;

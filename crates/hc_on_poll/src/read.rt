@@ -11,12 +11,11 @@ ghost use Rattle.hc_exch.specs.Known.{is_open, with_asking};
 ghost use Rattle.hc_model.specs.Currents.{is_number};
 ghost use Rattle.hc_model.specs.Moves.{acts_of};
 ghost use Rattle.hc_state.specs.Changes.{ChangesAt, once_given};
-ghost use Rattle.hc_state.specs.Leaving.{if_running};
+ghost use Rattle.hc_state.specs.Leaving.{if_running, writing_by};
 ghost use Rattle.hc_state.specs.Stands.{Answers, KeepsRest};
 ghost use Rattle.hc_state.specs.Handlers.{most, given_acts, asks_or_waits, asked_in};
 ghost use Rattle.hc_state.specs.Reads.{headless_own, held_own};
 ghost use Rattle.hc_state.specs.Frames.{KeepsFaults};
-ghost use Rattle.hc_on_leave.specs.Written.{writing_by};
 ghost use Rattle.hc_on_poll.specs.Ready.{MayOpen};
 ghost use Rattle.hc_on_poll.specs.Readers.{reader_of, Reads, ReadsUnstored, UnstoredViewIs};
 

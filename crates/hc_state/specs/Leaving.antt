@@ -8,7 +8,8 @@ use Rattle.hc_stored.specs.Kept as entry
 use Rattle.hc_stored.specs.Kept.{Kept}
 use Rattle.hc_stored.specs.Shelf as shelf
 use Rattle.hc_stored.specs.Shelf.{Shelf, same_order}
-use Rattle.hc_stored.specs.Views.{has_user, bound_in}
+use Rattle.hc_stored.specs.Views.{has_user, bound_in, view_of}
+use Rattle.hc_stored.specs.declared.view.EntryView.{EntryView}
 use Rattle.hc_entry.specs.declared.keys.KeyTable.{KeyTable}
 use Rattle.hc_entry.specs.Keys.{line_of}
 use Rattle.hc_entry.specs.Lines.{is_in}
@@ -28,10 +29,14 @@ abbrev pub if_running : Table → Option ℕ → Option ℕ
 if_running table None = None
 if_running table (Some x) = if is_open x table then Some x else None
 
--- the exchange of a shared writing, as long as that is on
+-- the exchange of a shared writing, as long as that is on, by what is told of the representation
+abbrev pub writing_by : Table → EntryView → Option ℕ
+writing_by table told = if told.is_lost then None else if_running table told.writer
+
+-- and that of what is kept
 abbrev pub writing_of : Table → Option Kept → Option ℕ
 writing_of table None = None
-writing_of table (Some k) = if k.is_lost then None else if_running table k.writer
+writing_of table (Some k) = writing_by table (view_of k)
 
 -- that of which whoever stands there is the last reader
 abbrev pub last_read : Table → Shelf → ℕ → Place → Option ℕ

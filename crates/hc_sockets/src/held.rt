@@ -1,5 +1,5 @@
 //! The bytes that a connection has taken and the system hasn't.
-ghost use Rattle.std.specs.Prelude.{◌≡◌, [], OnOk, OnErr};
+ghost use Rattle.std.specs.Prelude.{◌≡◌, ◌≤◌, [], length, OnOk, OnErr};
 
 use hc_text::{Bytes, NoMemory};
 use mio::net::TcpStream;
@@ -11,6 +11,10 @@ use std::{io, mem};
 /// A list of fewer bytes than these is copied.
 const FEW: usize = 4_096;
 
+/// One write has so many bytes at most: what one segment has over loopback. A few more would be a segment
+/// of their own, which costs about as much as a whole one.
+const MOST: usize = 65_483;
+
 /// Bytes in order: those that were copied while no list was kept, and behind them lists.
 #[derive(Drop)]
 pub(crate) struct Held {
@@ -18,8 +22,8 @@ pub(crate) struct Held {
     lists: VecDeque<Bytes>,
     /// How many bytes of `first` were sent or, where that has none, of the first list.
     sent: usize,
-    /// How many bytes were taken since none was held.
-    taken: usize,
+    /// How many bytes are held.
+    len: usize,
 }
 
 impl Held {
@@ -29,7 +33,7 @@ impl Held {
             first: Vec::new(alloc),
             lists: VecDeque::new(alloc),
             sent: 0,
-            taken: 0,
+            len: 0,
         }
     }
 
@@ -37,9 +41,9 @@ impl Held {
         self.first.is_empty() && self.lists.is_empty()
     }
 
-    /// How many bytes were taken since none was held.
-    pub(crate) fn taken(&self) -> usize {
-        self.taken
+    /// How many bytes are held.
+    pub(crate) fn len(&self) -> usize {
+        self.len
     }
 
     /// None is held any more.
@@ -47,7 +51,7 @@ impl Held {
         self.first.clear();
         self.lists.truncate(0);
         self.sent = 0;
-        self.taken = 0;
+        self.len = 0;
     }
 
     /// These come last.
@@ -58,7 +62,7 @@ impl Held {
             Some(last) if last.len() < FEW => last.append(alloc, bytes)?,
             Some(_) => self.lists.push_back(Bytes::of(bytes.to_vec(alloc)?))?,
         }
-        self.taken = self.taken.saturating_add(bytes.len());
+        self.len = self.len.saturating_add(bytes.len());
         Ok(())
     }
 
@@ -73,7 +77,7 @@ impl Held {
             return Ok(());
         }
         self.lists.reserve(1)?;
-        self.taken = self.taken.saturating_add(list.len());
+        self.len = self.len.saturating_add(list.len());
         self.lists
             .push_back_reserved(mem::replace(list, Bytes::new()));
         Ok(())
@@ -81,21 +85,32 @@ impl Held {
 
     /// One write of the first of them. What the system takes isn't held any more.
     pub(crate) fn write(&mut self, stream: &TcpStream) -> io::Result<usize> {
-        if self.lists.is_empty() {
-            let mut stream = stream;
-            let n = stream.write(rest_of(self.first.as_slice(), self.sent))?;
-            self.skip(n);
-            return Ok(n);
-        }
-        let n = stream.write_vectored(&[
-            IoSlice::new(rest_of(self.first.as_slice(), self.sent)),
-            IoSlice::new(rest_of(self.list(0), self.sent_of_list())),
-            IoSlice::new(self.list(1)),
-            IoSlice::new(self.list(2)),
-            IoSlice::new(self.list(3)),
-        ])?;
+        let n = self.send(stream)?;
         self.skip(n);
         Ok(n)
+    }
+
+    /// The write. How many bytes the system takes.
+    fn send(&self, stream: &TcpStream) -> io::Result<usize> {
+        let first = front(rest_of(self.first.as_slice(), self.sent), MOST);
+        if self.lists.is_empty() {
+            let mut stream = stream;
+            return stream.write(first);
+        }
+        let most = MOST - first.len();
+        let a = front(rest_of(self.list(0), self.sent_of_list()), most);
+        let most = most - a.len();
+        let b = front(self.list(1), most);
+        let most = most - b.len();
+        let c = front(self.list(2), most);
+        let d = front(self.list(3), most - c.len());
+        stream.write_vectored(&[
+            IoSlice::new(first),
+            IoSlice::new(a),
+            IoSlice::new(b),
+            IoSlice::new(c),
+            IoSlice::new(d),
+        ])
     }
 
     /// How many bytes of the first list were sent.
@@ -113,6 +128,7 @@ impl Held {
 
     /// So many more were sent.
     fn skip(&mut self, n: usize) {
+        self.len = self.len.saturating_sub(n);
         self.sent = self.sent.saturating_add(n);
         if self.sent < self.first.len() {
             return;
@@ -145,4 +161,11 @@ impl Held {
 /// The bytes from a place on.
 fn rest_of(bytes: &[u8], from: usize) -> &[u8] {
     bytes.get(from..).unwrap_or(&[])
+}
+
+/// The first of the bytes, so many at most.
+fn front(bytes: &[u8], most: usize) -> &[u8]
+    ensures { length result.now ≤ most }
+{
+    &bytes[..bytes.len().min(most)]
 }

@@ -11,7 +11,7 @@ use mio::net::TcpStream;
 use std::alloc::Global;
 use std::io::{ErrorKind, Read};
 
-/// From how many bytes on what is held is sent at once. Then no more are taken until all are sent.
+/// From how many bytes on what is held is sent at once. No more are taken while so many are held.
 const HOLD: usize = 65_536;
 
 /// A connection: its socket, and what is known of it.
@@ -38,8 +38,10 @@ pub(crate) struct Socket {
     told: bool,
     /// It stands among those that are due.
     queued: bool,
-    /// It stands among those that hold bytes.
-    unsent: bool,
+    /// How often it stands among those that hold bytes.
+    noted: u32,
+    /// What it holds came after it was noted last.
+    newer: bool,
     pub(crate) closed: bool,
 }
 
@@ -79,7 +81,8 @@ impl Socket {
             ended: false,
             told: false,
             queued: false,
-            unsent: false,
+            noted: 0,
+            newer: false,
             closed: false,
         }
     }
@@ -121,19 +124,25 @@ impl Socket {
     pub(crate) fn note_news(&mut self) -> News
         ensures { KeepsStage self.old self.new }
     {
-        let holds = !self.is_sent() && !self.unsent;
-        self.unsent = self.unsent || holds;
+        let holds = !self.is_sent() && (self.noted == 0 || self.newer);
+        self.newer = false;
+        if holds {
+            self.noted = self.noted.saturating_add(1);
+        }
         News {
             holds,
             due: self.note_due(),
         }
     }
 
-    /// It isn't noted any more that it holds bytes.
-    pub(crate) fn forget_held(&mut self)
+    /// It stands once less among those that hold bytes. What it holds is sent, unless it was noted again.
+    pub(crate) fn flush_noted(&mut self)
         ensures { KeepsStage self.old self.new }
     {
-        self.unsent = false;
+        self.noted = self.noted.saturating_sub(1);
+        if self.noted == 0 {
+            self.flush();
+        }
     }
 
     /// Whether an event of it is due.
@@ -274,19 +283,21 @@ impl Socket {
     fn makes_room(&mut self) -> bool
         ensures { KeepsStage self.old self.new }
     {
-        if self.held.taken() >= HOLD {
+        if self.held.len() >= HOLD {
             self.flush();
         }
-        self.held.taken() < HOLD
+        self.held.len() < HOLD
     }
 
-    /// It has taken so many more.
+    /// It has taken so many more. Where enough are held, the system is given whole segments: what is left is of
+    /// these, and waits for more.
     fn has_taken(&mut self, n: usize)
         ensures { KeepsStage self.old self.new }
     {
         self.short = self.short && n == 0;
-        if self.held.taken() >= HOLD {
-            self.flush();
+        if self.held.len() >= HOLD {
+            self.send_down_to(n.min(HOLD - 1));
+            self.newer = self.held.len() <= n;
         }
     }
 
@@ -303,14 +314,21 @@ impl Socket {
     pub(crate) fn flush(&mut self)
         ensures { KeepsStage self.old self.new }
     {
+        self.send_down_to(0);
+        if self.is_sent() {
+            self.held.clear();
+        }
+    }
+
+    /// Sends what is held until that is so little, as far as the system takes it.
+    fn send_down_to(&mut self, few: usize)
+        ensures { KeepsStage self.old self.new }
+    {
         for _ in 0..u64::MAX {
-            if self.blocked || self.is_sent() {
+            if self.blocked || self.broken || self.held.len() <= few {
                 break;
             }
             self.write();
-        }
-        if self.is_sent() {
-            self.held.clear();
         }
     }
 

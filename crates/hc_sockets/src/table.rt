@@ -26,7 +26,7 @@ pub(crate) struct Table {
     due: VecDeque<u64>,
     /// There was no memory to note one of them.
     missed: bool,
-    /// Which hold bytes, each once, the oldest first.
+    /// Which hold bytes, the oldest first. One of which all that was noted is sent may stand there again.
     unsent: VecDeque<Unsent>,
     /// How many calls of `next` there were.
     calls: u64,
@@ -213,7 +213,7 @@ impl Table {
             ≡ with_stage k (closed_of (life self.old.sockets k)) (life self.old.sockets) j }
     {
         close_in(&mut self.sockets, k);
-        flush_in(&mut self.sockets, k);
+        send_in(&mut self.sockets, k);
     }
 }
 
@@ -298,7 +298,7 @@ fn keep_in(
     }
 }
 
-/// Sends what the connection holds. That isn't noted any more. Whether an event of it is due that isn't
+/// Sends what the connection holds, where that wasn't noted again. Whether an event of it is due that isn't
 /// noted yet. Then it is noted. One that is closed, and has nothing to send, is no more.
 fn flush_in(sockets: &mut HashMap<u64, Socket>, k: u64) -> bool
     ensures { (j : ℕ) → life sockets.new j ≡ life sockets.old j }
@@ -306,8 +306,7 @@ fn flush_in(sockets: &mut HashMap<u64, Socket>, k: u64) -> bool
     let Some(socket) = sockets.get_mut(&k) else {
         return false;
     };
-    socket.forget_held();
-    socket.flush();
+    socket.flush_noted();
     if socket.is_over() {
         sockets.remove(&k);
         return false;
@@ -335,5 +334,18 @@ fn close_in(sockets: &mut HashMap<u64, Socket>, k: u64)
 {
     if let Some(socket) = sockets.get_mut(&k) {
         socket.closed = true;
+    }
+}
+
+/// Sends what the connection holds. One that is closed, and has nothing to send, is no more.
+fn send_in(sockets: &mut HashMap<u64, Socket>, k: u64)
+    ensures { (j : ℕ) → life sockets.new j ≡ life sockets.old j }
+{
+    let Some(socket) = sockets.get_mut(&k) else {
+        return;
+    };
+    socket.flush();
+    if socket.is_over() {
+        sockets.remove(&k);
     }
 }

@@ -24,6 +24,8 @@ pub(crate) enum Fault {
     OtherTalk,
     /// A client that connects while bytes of another come isn't told.
     Hidden,
+    /// What came isn't told by calls that don't wait.
+    Unasked,
     /// A connection that is broken isn't told so.
     NeverBroke,
     /// A connection that is broken didn't take all bytes.

@@ -7,8 +7,10 @@ mod fault;
 mod held;
 mod hidden;
 mod pattern;
+mod quiet;
 mod refused;
 mod reset;
+mod rest;
 mod short;
 mod side;
 mod transfer;
@@ -20,6 +22,8 @@ fn main(rt: HostRuntime) -> Result<(), Fault> {
     transfer::move_bytes(&rt)?;
     short::talk_shortly(&rt)?;
     held::hold(&rt)?;
+    rest::hold_rest(&rt)?;
+    quiet::look(&rt)?;
     hidden::flood(&rt)?;
     reset::cut_unread(&rt)?;
     refused::dial_in_vain(&rt)

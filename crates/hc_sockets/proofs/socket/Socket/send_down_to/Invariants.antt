@@ -1,5 +1,5 @@
 use Rattle.hc_sockets.specs.Sockets.{KeepsStage}
-use Rattle.hc_sockets.proofs.socket.Socket.flush.Given as goal
+use Rattle.hc_sockets.proofs.socket.Socket.send_down_to.Given as goal
 
 abbrev pub invariant-loop : goal.invariant-loop
 invariant-loop l = KeepsStage l.fn.self l.self

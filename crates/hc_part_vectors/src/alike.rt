@@ -1,6 +1,6 @@
 //! Many small pieces in a row, each of an exchange of its own: they cross the border of a block.
-use crate::sparse::answer;
-use hc_sparse::{PlainSparse, Presence, Span2, Sparse, SparseAnswer, SparseBytes, SparseOp};
+use crate::sparse::is_done;
+use hc_sparse::{PlainSparse, Presence, Span2, Sparse, SparseBytes, SparseOp};
 use hc_text::{Bytes, NoMemory};
 use std::alloc::Global;
 
@@ -15,12 +15,25 @@ const SIZE: u64 = 100;
 
 /// Whether blocks and runs tell the same behind each put, where every so many pieces on comes the next.
 pub(crate) fn steps_are_alike(alloc: Global, apart: u64) -> Result<bool, NoMemory> {
-    let mut blocks = Sparse::new(alloc);
-    let mut runs = PlainSparse::new(alloc);
+    put_steps(
+        alloc,
+        &mut Sparse::new(alloc),
+        &mut PlainSparse::new(alloc),
+        apart,
+    )
+}
+
+/// Whether both tell the same behind each put, and have all bytes in the end.
+fn put_steps(
+    alloc: Global,
+    blocks: &mut Sparse,
+    runs: &mut PlainSparse,
+    apart: u64,
+) -> Result<bool, NoMemory> {
     for k in 0..COUNT {
         let place = k.wrapping_mul(apart) % COUNT;
-        let are_put = is_put(alloc, &mut blocks, place)? && is_put(alloc, &mut runs, place)?;
-        if !are_put || !are_alike(&blocks, &runs) {
+        let are_put = is_put(alloc, blocks, place)? && is_put(alloc, runs, place)?;
+        if !are_put || !are_alike(blocks, runs) {
             return Ok(false);
         }
     }
@@ -38,16 +51,19 @@ fn is_put<M: SparseBytes>(alloc: Global, map: &mut M, place: u64) -> Result<bool
         x: place,
         bytes: Bytes::of(bytes),
     };
-    Ok(matches!(answer(alloc, map, op)?, Some(SparseAnswer::Done)))
+    is_done(alloc, map, op)
 }
 
 /// Whether both tell the same between any two borders of pieces, and up to the position past the second.
 fn are_alike(blocks: &Sparse, runs: &PlainSparse) -> bool {
-    (0..(COUNT + 1) * (COUNT + 1)).all(|pair| {
+    for pair in 0..(COUNT + 1) * (COUNT + 1) {
         let lo = FIRST + pair / (COUNT + 1) * SIZE;
         let hi = FIRST + pair % (COUNT + 1) * SIZE;
-        tell_the_same(blocks, runs, lo, hi) && tell_the_same(blocks, runs, lo, hi + 1)
-    })
+        if !tell_the_same(blocks, runs, lo, hi) || !tell_the_same(blocks, runs, lo, hi + 1) {
+            return false;
+        }
+    }
+    true
 }
 
 /// Whether both tell the same of the positions from one to below another.

@@ -1,7 +1,11 @@
 //! Calls of what is kept of representations, over a store.
-use crate::samples::{fails_of, head, key, limits_of};
+ghost use Rattle.std.specs.Prelude.{◌≡◌, true};
+ghost use Rattle.hc_stored.specs.Entries.{shelf_of};
+ghost use Rattle.hc_stored.specs.Shelf.{is_kept};
+
+use crate::samples::{Sample, fails_of, limits_of};
 use crate::values::{tell_read, tell_some};
-use hc_record::Kind;
+use hc_record::{Kind, StoredHead};
 use hc_rules::Write;
 use hc_sparse::{Presence, Span2};
 use hc_store::{Backend, Failing, Memory, StoreError};
@@ -25,16 +29,26 @@ impl Shelf {
     }
 
     /// Makes the call, and writes what it answers.
-    pub(crate) fn tell(&mut self, v: &Vector, to: &mut String) -> Result<(), Fault> {
+    pub(crate) fn tell(
+        &mut self,
+        sample: &Sample,
+        v: &Vector,
+        to: &mut String,
+    ) -> Result<(), Fault> {
         match v.call() {
             call if call.starts_with("entries_new nn") => self.begin(v, to),
-            _ => self.tell_of_entries(v, to),
+            _ => self.tell_of_entries(sample, v, to),
         }
     }
 
-    fn tell_of_entries(&mut self, v: &Vector, to: &mut String) -> Result<(), Fault> {
+    fn tell_of_entries(
+        &mut self,
+        sample: &Sample,
+        v: &Vector,
+        to: &mut String,
+    ) -> Result<(), Fault> {
         match &mut self.entries {
-            Some(entries) => call_of_all(entries, v, to),
+            Some(entries) => call_of_all(entries, sample, v, to),
             None => Err(Fault::NoSuchCall),
         }
     }
@@ -51,6 +65,7 @@ impl Shelf {
 /// Makes a call of all, which tells of them or founds one more, or else a call of one.
 fn call_of_all<B: Backend>(
     entries: &mut Entries<B>,
+    sample: &Sample,
     v: &Vector,
     to: &mut String,
 ) -> Result<(), Fault> {
@@ -63,30 +78,42 @@ fn call_of_all<B: Backend>(
             let count = v.number(1);
             tell(&entries.room(Write::Piece { stored, count }), to)
         }
-        "entries_found nn" => tell_some(&found(entries, v)?, to),
-        _ => call_of_one(entries, v, to),
+        "entries_found nn" => tell_some(&found(entries, sample, v)?, to),
+        _ => call_of_one(entries, sample, v, to),
     }
 }
 
 /// Makes a call that tells of one, or else one that needs what is kept of it.
 fn call_of_one<B: Backend>(
     entries: &mut Entries<B>,
+    sample: &Sample,
     v: &Vector,
     to: &mut String,
 ) -> Result<(), Fault> {
     let r = v.number(0);
     match v.call() {
         "entries_entry n" => tell(&entries.entry(r), to),
-        "entries_total_and_kind n" => {
-            tell(&entries.entry(r).map(|view| (view.total, view.kind)), to)
-        }
+        "entries_total_and_kind n" => tell(&total_and_kind(entries, r), to),
         "entries_bound n" => tell(&entries.bound(r), to),
         "entries_key n" => tell_key(entries.key(r), to),
-        "entries_tag_is_weak n" => tell(&entries.tag(r).map(|tag| tag.weak), to),
-        "entries_answered n" => tell(&entries.facts(r).map(|facts| facts.answered), to),
-        "entries_covers nnn" => { tell_some(&covers(entries, r, v.number(1), v.number(2)), to) }
-        _ => change(entries, v, to),
+        "entries_tag_is_weak n" => tell(&tag_is_weak(entries, r), to),
+        "entries_answered n" => tell(&answered(entries, r), to),
+        "entries_covers nnn" => tell_some(&covers(entries, r, v.number(1), v.number(2)), to),
+        _ => change(entries, sample, v, to),
     }
+}
+
+fn total_and_kind<B: Backend>(entries: &Entries<B>, r: u64) -> Option<(Option<u64>, Kind)> {
+    let view = entries.entry(r)?;
+    Some((view.total, view.kind))
+}
+
+fn tag_is_weak<B: Backend>(entries: &Entries<B>, r: u64) -> Option<bool> {
+    Some(entries.tag(r)?.weak)
+}
+
+fn answered<B: Backend>(entries: &Entries<B>, r: u64) -> Option<u64> {
+    Some(entries.facts(r)?.answered)
 }
 
 fn tell_key(key: Option<&Key>, to: &mut String) -> Result<(), Fault> {
@@ -98,28 +125,63 @@ fn tell_key(key: Option<&Key>, to: &mut String) -> Result<(), Fault> {
 }
 
 /// Makes a call that reads or changes the head or the bytes of one, or else one of its users.
-fn change<B: Backend>(entries: &mut Entries<B>, v: &Vector, to: &mut String) -> Result<(), Fault> {
+fn change<B: Backend>(
+    entries: &mut Entries<B>,
+    sample: &Sample,
+    v: &Vector,
+    to: &mut String,
+) -> Result<(), Fault> {
     let r = v.number(0);
     if entries.entry(r).is_none() {
         return Err(Fault::NoSuchCall);
     }
     match v.call() {
         "entries_put nnt" => tell_some(&put(entries, r, v.number(1), v.text(2)), to),
-        "entries_update n" => tell(&entries.update(r, &head(v.alloc())?), to),
+        "entries_update n" => tell(&entries.update(r, &sample.head), to),
         "entries_seal n" => tell(&entries.seal(r, Kind::Truncated, Some(7)), to),
-        "entries_head n" => tell(&entries.head(r).map(|head| head.status), to),
-        "entries_run nn" => tell_read(&entries.run_at(r, v.number(1), 9), to),
-        _ => change_users(entries, v, to),
+        "entries_head n" => tell_head(entries, r, to),
+        "entries_run nn" => tell_run(entries, r, v.number(1), to),
+        _ => change_users(entries, r, v, to),
     }
+}
+
+/// Reads the head of one, and writes its status.
+fn tell_head<B: Backend>(entries: &mut Entries<B>, r: u64, to: &mut String) -> Result<(), Fault>
+    requires { is_kept (shelf_of entries.old) r ≡ true }
+{
+    let read = entries.head(r);
+    tell(&status_of(&read), to)
+}
+
+fn status_of(read: &Result<StoredHead, StoreError>) -> Result<u16, StoreError> {
+    match read {
+        Ok(head) => Ok(head.status),
+        Err(error) => Err(*error),
+    }
+}
+
+/// Reads some bytes of one, and writes them.
+fn tell_run<B: Backend>(
+    entries: &mut Entries<B>,
+    r: u64,
+    p: u64,
+    to: &mut String,
+) -> Result<(), Fault>
+    requires { is_kept (shelf_of entries.old) r ≡ true }
+{
+    let read = entries.run_at(r, p, 9);
+    tell_read(&read, to)
 }
 
 /// Makes a call that changes who uses one, and writes what it answers.
 fn change_users<B: Backend>(
     entries: &mut Entries<B>,
+    r: u64,
     v: &Vector,
     to: &mut String,
-) -> Result<(), Fault> {
-    let r = v.number(0);
+) -> Result<(), Fault>
+    requires { is_kept (shelf_of entries.old) r ≡ true }
+{
     let n = v.number(1);
     match v.call() {
         "entries_bind nn" => tell_some(&bind(entries, r, n), to),
@@ -134,10 +196,9 @@ fn change_users<B: Backend>(
 }
 
 /// Makes a call that changes who uses one, and that answers nothing.
-fn lose<B: Backend>(entries: &mut Entries<B>, r: u64, v: &Vector) -> Result<(), Fault> {
-    if entries.entry(r).is_none() {
-        return Err(Fault::NoSuchCall);
-    }
+fn lose<B: Backend>(entries: &mut Entries<B>, r: u64, v: &Vector) -> Result<(), Fault>
+    requires { is_kept (shelf_of entries.old) r ≡ true }
+{
     match v.call() {
         "entries_forget n" => entries.forget(r),
         "entries_lose nn" => entries.lose(r, v.option(1)),
@@ -150,15 +211,15 @@ fn lose<B: Backend>(entries: &mut Entries<B>, r: u64, v: &Vector) -> Result<(), 
 /// Founds one to which a consumer is bound, alone, or says that it is kept already.
 fn found<B: Backend>(
     entries: &mut Entries<B>,
+    sample: &Sample,
     v: &Vector,
 ) -> Result<Option<Result<(), StoreError>>, Fault> {
     let r = v.number(0);
-    let head = head(v.alloc())?;
-    let key = key(v.alloc())?;
     if entries.entry(r).is_some() {
         return Ok(None);
     }
-    Ok(Some(entries.found(r, key, &head, v.number(1), true, Some(9))))
+    let key = sample.key.copy()?;
+    Ok(Some(entries.found(r, key, &sample.head, v.number(1), true, Some(9))))
 }
 
 /// Puts bytes at positions that are absent, or says that they aren't.
@@ -167,9 +228,11 @@ fn put<B: Backend>(
     r: u64,
     at: u64,
     bytes: &[u8],
-) -> Option<Result<(), StoreError>> {
+) -> Option<Result<(), StoreError>>
+    requires { is_kept (shelf_of entries.old) r ≡ true }
+{
     let len = bytes.len() as u64;
-    if entries.entry(r).is_none() || len == 0 || len > END || at > END - len {
+    if len == 0 || len > END || at > END - len {
         return None;
     }
     match entries.next_present(r, at) {

@@ -52,20 +52,20 @@ impl Table {
 
     fn change(&mut self, v: &Vector, to: &mut String) -> Result<(), Fault> {
         match v.call() {
-            "exchange_launch w" | "exchange_launch wnn" => self.launch(v, to),
-            "exchange_head nnt" => self.head(v, to),
-            "exchange_piece ntw" => self.piece(v, to),
-            "exchange_take nn" => self.take(v, to),
-            "exchanges_new" => {
-                *self = Table::new(v.alloc());
-                Ok(())
-            }
-            "exchange_forget n" => {
-                self.exchanges.forget(v.number(0));
-                Ok(())
-            }
-            _ => self.change_open(v),
+            "exchange_launch w" | "exchange_launch wnn" => return self.launch(v, to),
+            "exchange_head nnt" => return self.head(v, to),
+            "exchange_piece ntw" => return self.piece(v, to),
+            "exchange_take nn" => return self.take(v, to),
+            "exchanges_new" => self.begin(v.alloc()),
+            "exchange_forget n" => self.exchanges.forget(v.number(0)),
+            _ => return self.change_open(v),
         }
+        Ok(())
+    }
+
+    /// None is open any more.
+    fn begin(&mut self, alloc: Global) {
+        *self = Table::new(alloc);
     }
 
     /// Makes a call that only an open exchange takes.
@@ -86,27 +86,26 @@ impl Table {
     fn launch(&mut self, v: &Vector, to: &mut String) -> Result<(), Fault> {
         let need = need_of(v).ok_or(Fault::NoSuchCall)?;
         let request = request(v.alloc())?;
+        self.launch_for(need, &request, to)
+    }
+
+    fn launch_for(&mut self, need: Need, request: &Request, to: &mut String) -> Result<(), Fault> {
         if self.exchanges.next_number() >= 1 << 62 {
             return Err(Fault::NoSuchCall);
         }
-        let x = self
-            .exchanges
-            .launch(5, Role::Direct, need, &request, 1000)?;
+        let x = self.exchanges.launch(5, Role::Direct, need, request, 1000)?;
         write!(to, "{x}: ")?;
         Ok(())
     }
 
     fn head(&mut self, v: &Vector, to: &mut String) -> Result<(), Fault> {
-        let x = v.number(0);
-        let response = response_of(v.number(1), v, 2)?;
-        self.give(&Event::Head { x, response }, false, to)
+        let event = head_of(v)?;
+        self.give(&event, false, to)
     }
 
     fn piece(&mut self, v: &Vector, to: &mut String) -> Result<(), Fault> {
-        let x = v.number(0);
-        let bytes = v.text(1).to_vec(v.alloc())?;
-        let bytes = Bytes::of(bytes);
-        self.give(&Event::Piece { x, bytes }, v.word(2) == "held", to)
+        let event = piece_of(v)?;
+        self.give(&event, v.word(2) == "held", to)
     }
 
     /// A head or a piece comes. One that is denied changes nothing.
@@ -159,12 +158,31 @@ fn is_small(exchanges: &Exchanges, x: u64) -> bool
     }
 }
 
+/// The head that comes.
+fn head_of(v: &Vector) -> Result<Event, Fault> {
+    let response = response_of(v.number(1), v, 2)?;
+    Ok(Event::Head {
+        x: v.number(0),
+        response,
+    })
+}
+
+/// The piece that comes.
+fn piece_of(v: &Vector) -> Result<Event, Fault> {
+    let bytes = v.text(1).to_vec(v.alloc())?;
+    Ok(Event::Piece {
+        x: v.number(0),
+        bytes: Bytes::of(bytes),
+    })
+}
+
 /// Why an exchange is launched.
 fn need_of(v: &Vector) -> Option<Need> {
-    match (v.word(0), v.argument_count()) {
-        ("Disabled", 1) => Some(Need::Disabled),
-        ("Miss", 1) => Some(Need::Miss),
-        ("Hole", 3) => Some(Need::Hole {
+    let count = v.argument_count();
+    match v.word(0) {
+        "Disabled" if count == 1 => Some(Need::Disabled),
+        "Miss" if count == 1 => Some(Need::Miss),
+        "Hole" if count == 3 => Some(Need::Hole {
             from: v.number(1),
             to: v.number(2),
         }),

@@ -53,7 +53,7 @@ impl TwoKeys {
     fn change(&mut self, key: &Key, v: &Vector) -> Result<(), Fault> {
         let c = v.number(1);
         match v.call() {
-            "keys_new" => *self = TwoKeys::new(v.alloc()),
+            "keys_new" => self.begin(v.alloc()),
             "key_enter wn" if !self.table.is_in(key, c) => self.table.enter(key, c)?,
             "key_make wn" => self.table.make_current(key, c)?,
             "key_clear w" => self.table.clear_current(key),
@@ -62,6 +62,11 @@ impl TwoKeys {
             _ => return self.step(key, c, v),
         }
         Ok(())
+    }
+
+    /// Nothing is kept any more.
+    fn begin(&mut self, alloc: Global) {
+        *self = TwoKeys::new(alloc);
     }
 
     /// One that waits for the key takes a step.

@@ -34,7 +34,7 @@ impl Line {
     fn change(&mut self, v: &Vector) -> Result<(), Fault> {
         let c = v.number(0);
         match v.call() {
-            "line_new" => *self = Line::new(v.alloc()),
+            "line_new" => self.begin(v.alloc()),
             "line_enter n" if !self.line.is_in(c) => self.last = self.line.enter(c)?,
             "line_leave_at_last" if self.line.seated(self.last.key).is_some() => {
                 self.line.leave_at(self.last);
@@ -42,6 +42,11 @@ impl Line {
             _ => return self.step(c, v),
         }
         Ok(())
+    }
+
+    /// Nobody stands in it any more.
+    fn begin(&mut self, alloc: Global) {
+        *self = Line::new(alloc);
     }
 
     /// One that stands in the line takes a step.

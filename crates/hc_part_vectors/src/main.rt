@@ -15,52 +15,47 @@ mod samples;
 mod sorted;
 mod sparse;
 mod stitching;
+mod stored;
 mod stores;
+mod turns;
 mod values;
 
-use active::Binding;
-use entries::Shelf;
 use exchanges::Table;
 use hc_vector::{Calls, Fault, Vector, tell_all};
-use keys::TwoKeys;
-use lines::Line;
-use sorted::{Members, Numbers};
+use sorted::Sorted;
 use sparse::ManyBytes;
 use std::alloc::Global;
 use std::process::ExitCode;
-use stores::Cupboard;
+use stored::Stored;
+use turns::Turns;
 
 fn main(rt: HostRuntime) -> ExitCode {
-    tell_all(&rt, &mut Parts::new(rt.alloc()))
+    match Parts::new(rt.alloc()) {
+        Ok(mut parts) => tell_all(&rt, &mut parts),
+        Err(_) => ExitCode::FAILURE,
+    }
 }
 
 /// What is kept from line to line.
 #[derive(Drop)]
 struct Parts {
     bytes: ManyBytes,
-    numbers: Numbers,
-    members: Members,
-    line: Line,
-    keys: TwoKeys,
-    binding: Binding,
+    sorted: Sorted,
+    turns: Turns,
     table: Table,
-    cupboard: Cupboard,
-    shelf: Shelf,
+    stored: Stored,
 }
 
 impl Parts {
-    fn new(alloc: Global) -> Parts {
-        Parts {
+    fn new(alloc: Global) -> Result<Parts, Fault> {
+        let stored = Stored::new(alloc)?;
+        Ok(Parts {
             bytes: ManyBytes::new(alloc),
-            numbers: Numbers::new(alloc),
-            members: Members::new(alloc),
-            line: Line::new(alloc),
-            keys: TwoKeys::new(alloc),
-            binding: Binding::new(alloc),
+            sorted: Sorted::new(alloc),
+            turns: Turns::new(alloc),
             table: Table::new(alloc),
-            cupboard: Cupboard::new(),
-            shelf: Shelf::new(),
-        }
+            stored,
+        })
     }
 }
 
@@ -71,14 +66,10 @@ impl Calls for Parts {
         let name = vector.name();
         let (object, _) = name.split_once('_').unwrap_or((name, ""));
         match object {
-            "numbers" => self.numbers.tell(vector, value),
-            "members" => self.members.tell(vector, value),
-            "line" => self.line.tell(vector, value),
-            "key" | "keys" => self.keys.tell(vector, value),
-            "active" => self.binding.tell(vector, value),
+            "numbers" | "members" => self.sorted.tell(vector, value),
+            "line" | "key" | "keys" | "active" => self.turns.tell(vector, value),
             "exchange" | "exchanges" => self.table.tell(vector, value),
-            "store" => self.cupboard.tell(vector, value),
-            "entries" => self.shelf.tell(vector, value),
+            "store" | "entries" => self.stored.tell(vector, value),
             _ => self.bytes.tell(vector, value),
         }
     }

@@ -9,8 +9,23 @@ use hc_text::{Key, NoMemory};
 use hc_vector::{Fault, Vector, fields_of};
 use std::alloc::Global;
 
-/// The head of a body of six bytes.
-pub(crate) fn head(alloc: Global) -> Result<StoredHead, Fault>
+/// A key, and the head of a body of six bytes.
+#[derive(Drop)]
+pub(crate) struct Sample {
+    pub(crate) key: Key,
+    pub(crate) head: StoredHead,
+    ghost moments: { head.requested ≤ head.answered },
+}
+
+impl Sample {
+    pub(crate) fn new(alloc: Global) -> Result<Sample, Fault> {
+        let key = key(alloc)?;
+        let head = head(alloc)?;
+        Ok(Sample { key, head })
+    }
+}
+
+fn head(alloc: Global) -> Result<StoredHead, Fault>
     ensures { IfOk result (λ head. head.requested ≤ head.answered) }
 {
     let fields = fields_of(alloc, b"etag: \"a\"\naccept-ranges: none")?;
@@ -31,14 +46,16 @@ pub(crate) fn head(alloc: Global) -> Result<StoredHead, Fault>
     })
 }
 
-pub(crate) fn key(alloc: Global) -> Result<Key, NoMemory> {
+fn key(alloc: Global) -> Result<Key, NoMemory> {
     let bytes = b"http://a.test/x".to_vec(alloc)?;
     Ok(Key { bytes })
 }
 
 /// The head of an answer with this status, and with the fields that the text at this place lists.
 pub(crate) fn response_of(status: u64, v: &Vector, at: usize) -> Result<Response, Fault> {
-    let status = u16::try_from(status).map_err(|_| Fault::NoSuchCall)?;
+    let Ok(status) = u16::try_from(status) else {
+        return Err(Fault::NoSuchCall);
+    };
     let fields = fields_of(v.alloc(), v.text(at))?;
     Ok(Response { status, fields })
 }

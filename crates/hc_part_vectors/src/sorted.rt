@@ -9,23 +9,49 @@ use hc_sorted::{
 use hc_vector::{Fault, Vector, tell};
 use std::alloc::Global;
 
+/// Both kinds of lists.
+#[derive(Drop)]
+pub(crate) struct Sorted {
+    numbers: Numbers,
+    members: Members,
+}
+
+impl Sorted {
+    /// Both are empty.
+    pub(crate) fn new(alloc: Global) -> Sorted {
+        Sorted {
+            numbers: Numbers::new(alloc),
+            members: Members::new(alloc),
+        }
+    }
+
+    /// Makes the call.
+    pub(crate) fn tell(&mut self, v: &Vector, to: &mut String) -> Result<(), Fault> {
+        if v.name().starts_with("numbers") {
+            self.numbers.tell(v, to)
+        } else {
+            self.members.tell(v, to)
+        }
+    }
+}
+
 /// Numbers in order.
 #[derive(Drop)]
-pub(crate) struct Numbers {
+struct Numbers {
     items: Vec<u64>,
     ghost sorted: { is_sorted itself items.items ≡ true },
 }
 
 impl Numbers {
     /// There are none.
-    pub(crate) fn new(alloc: Global) -> Numbers {
+    fn new(alloc: Global) -> Numbers {
         Numbers {
             items: Vec::new(alloc),
         }
     }
 
     /// Makes the call. One that may change something writes then all numbers.
-    pub(crate) fn tell(&mut self, v: &Vector, to: &mut String) -> Result<(), Fault> {
+    fn tell(&mut self, v: &Vector, to: &mut String) -> Result<(), Fault> {
         let n = v.number(0);
         match v.call() {
             "numbers_has n" => tell(&has_item(self.items.as_slice(), n), to),
@@ -39,19 +65,14 @@ impl Numbers {
 
     fn change(&mut self, n: u64, v: &Vector, to: &mut String) -> Result<(), Fault> {
         match v.call() {
-            "numbers_new" => {
-                *self = Numbers::new(v.alloc());
-                Ok(())
-            }
-            "numbers_put n" => self.put(n),
-            "numbers_put_reserved n" => self.put_with_room(n),
-            "numbers_take n" => self.take(n, to),
-            "numbers_leave n" => {
-                leave_out(&mut self.items, n);
-                Ok(())
-            }
-            _ => Err(Fault::NoSuchCall),
+            "numbers_new" => self.items.clear(),
+            "numbers_put n" => return self.put(n),
+            "numbers_put_reserved n" => return self.put_with_room(n),
+            "numbers_take n" => return self.take(n, to),
+            "numbers_leave n" => leave_out(&mut self.items, n),
+            _ => return Err(Fault::NoSuchCall),
         }
+        Ok(())
     }
 
     fn put(&mut self, n: u64) -> Result<(), Fault> {
@@ -83,8 +104,8 @@ impl Numbers {
 }
 
 /// A consumer, and where it reads next.
-#[derive(Clone, Copy, Debug, PartialEq, Eq)]
-pub(crate) struct Member {
+#[derive(Clone, Copy)]
+struct Member {
     c: u64,
     offset: u64,
 }
@@ -99,32 +120,36 @@ impl Numbered for Member {
 
 /// Members in the order of their numbers.
 #[derive(Drop)]
-pub(crate) struct Members {
+struct Members {
     items: Vec<Member>,
     ghost sorted: { is_sorted (λ m. m.c) items.items ≡ true },
 }
 
 impl Members {
     /// There are none.
-    pub(crate) fn new(alloc: Global) -> Members {
+    fn new(alloc: Global) -> Members {
         Members {
             items: Vec::new(alloc),
         }
     }
 
     /// Makes the call, and writes where a member reads next, if it is one.
-    pub(crate) fn tell(&mut self, v: &Vector, to: &mut String) -> Result<(), Fault> {
+    fn tell(&mut self, v: &Vector, to: &mut String) -> Result<(), Fault> {
         let c = v.number(0);
         let offset = v.number(1);
         match v.call() {
-            "members_new" => *self = Members::new(v.alloc()),
+            "members_new" => self.items.clear(),
             "members_put nn" => self.put(Member { c, offset })?,
             "members_replace nn" => self.replace(Member { c, offset })?,
             "members_item n" => {}
             _ => return Err(Fault::NoSuchCall),
         }
-        let offset = item_at(self.items.as_slice(), c).map(|member| member.offset);
-        tell(&offset, to)
+        tell(&self.offset_of(c), to)
+    }
+
+    /// Where the member of this number reads next.
+    fn offset_of(&self, c: u64) -> Option<u64> {
+        Some(item_at(self.items.as_slice(), c)?.offset)
     }
 
     fn put(&mut self, member: Member) -> Result<(), Fault> {

@@ -134,18 +134,40 @@ fn tell_of<M: SparseBytes>(map: &mut M, v: &Vector, to: &mut String) -> Result<(
     let a = v.number(0);
     let b = v.number(1);
     match v.call() {
-        "bytes_put nnt" => tell_op(map, v.alloc(), put_of(v, 0)?, to),
-        "bytes_run nn" => {
-            let want = b as usize;
-            tell_op(map, v.alloc(), SparseOp::RunAt { p: a, want }, to)
-        }
-        "bytes_next n" => tell_op(map, v.alloc(), SparseOp::Next { p: a }, to),
+        "bytes_put nnt" => tell_put(map, v, to),
+        "bytes_run nn" => tell_run_at(map, v, to),
+        "bytes_next n" => tell_next(map, v, to),
         "bytes_next_present n" => tell(&map.next_present(a), to),
         "bytes_covers nn" => tell(&map.covers(Span2 { lo: a, hi: b }), to),
         "bytes_size" => tell(&map.size(), to),
-        "bytes_copy nn" if b > 0 => tell_run(&copy_at(map, a, b as usize)?, to),
+        "bytes_copy nn" if b > 0 => tell_copy(map, a, b as usize, to),
         _ => stitching::call(map, v, to),
     }
+}
+
+fn tell_put<M: SparseBytes>(map: &mut M, v: &Vector, to: &mut String) -> Result<(), Fault> {
+    let op = put_of(v, 0)?;
+    tell_op(map, v.alloc(), op, to)
+}
+
+fn tell_run_at<M: SparseBytes>(map: &mut M, v: &Vector, to: &mut String) -> Result<(), Fault> {
+    let op = SparseOp::RunAt {
+        p: v.number(0),
+        want: v.number(1) as usize,
+    };
+    tell_op(map, v.alloc(), op, to)
+}
+
+fn tell_next<M: SparseBytes>(map: &mut M, v: &Vector, to: &mut String) -> Result<(), Fault> {
+    let op = SparseOp::Next { p: v.number(0) };
+    tell_op(map, v.alloc(), op, to)
+}
+
+fn tell_copy<M: SparseBytes>(map: &M, p: u64, want: usize, to: &mut String) -> Result<(), Fault>
+    requires { 0 < want }
+{
+    let copy = copy_at(map, p, want)?;
+    tell_run(&copy, to)
 }
 
 /// A copy of the run at this place.
@@ -171,7 +193,17 @@ fn put_of(v: &Vector, at: usize) -> Result<SparseOp, NoMemory> {
 /// Makes one of five puts. Whether it is done.
 fn put_at<M: SparseBytes>(map: &mut M, v: &Vector, place: usize) -> Result<bool, NoMemory> {
     let op = put_of(v, place.saturating_mul(3))?;
-    Ok(matches!(answer(v.alloc(), map, op)?, Some(SparseAnswer::Done)))
+    is_done(v.alloc(), map, op)
+}
+
+/// Does the operation. Whether it is allowed and its answer is that it is done.
+pub(crate) fn is_done<M: SparseBytes>(
+    alloc: Global,
+    map: &mut M,
+    op: SparseOp,
+) -> Result<bool, NoMemory> {
+    let answer = answer(alloc, map, op)?;
+    Ok(matches!(&answer, Some(SparseAnswer::Done)))
 }
 
 /// Does the operation, and writes its answer, where it is allowed.
@@ -181,8 +213,9 @@ fn tell_op<M: SparseBytes>(
     op: SparseOp,
     to: &mut String,
 ) -> Result<(), Fault> {
-    match answer(alloc, map, op)? {
-        Some(answer) => tell_answer(&answer, to),
+    let answer = answer(alloc, map, op)?;
+    match &answer {
+        Some(answer) => tell_answer(answer, to),
         None => Err(Fault::NoSuchCall),
     }
 }
@@ -198,16 +231,15 @@ fn tell_answer(answer: &SparseAnswer, to: &mut String) -> Result<(), Fault> {
 }
 
 /// The only answer to an operation, or none where it isn't allowed.
-pub(crate) fn answer<M: SparseBytes>(
+fn answer<M: SparseBytes>(
     alloc: Global,
     map: &mut M,
     op: SparseOp,
 ) -> Result<Option<SparseAnswer>, NoMemory> {
-    let ops = [op];
-    if !ops.iter().all(|op| is_allowed(op)) {
+    if !is_allowed(&op) {
         return Ok(None);
     }
-    let mut answers = run_ops(alloc, map, &ops)?;
+    let mut answers = run_ops(alloc, map, &[op])?;
     Ok(answers.items.pop())
 }
 

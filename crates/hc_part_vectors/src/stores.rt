@@ -2,12 +2,12 @@
 ghost use Rattle.std.specs.Prelude.{◌≡◌, true};
 ghost use Rattle.hc_store.specs.Slots.{is_live};
 
-use crate::samples::{fails_of, head, key, limits_of};
+use crate::samples::{Sample, fails_of, limits_of};
 use crate::values::{tell_read, tell_some};
 use hc_record::{Kind, StoredHead};
-use hc_sparse::{Presence, Run, Span2};
+use hc_sparse::{Presence, Span2};
 use hc_store::{Backend, Failing, Memory, Slot, SlotView, StoreError};
-use hc_text::{Key, NoMemory};
+use hc_text::NoMemory;
 use hc_vector::{Fault, Vector, tell};
 
 /// Past the last position that there may be.
@@ -23,21 +23,19 @@ struct Kept<B: Backend> {
 
 impl<B: Backend> Kept<B> {
     /// A slot is made.
-    fn begun(mut store: B, key: &Key, head: &StoredHead) -> Result<Kept<B>, StoreError>
+    fn begun(mut store: B, sample: &Sample) -> Result<Kept<B>, StoreError>
     where
         B: Drop,
     {
-        match store.create(key, head) {
+        match store.create(&sample.key, &sample.head) {
             Ok(slot) => Ok(Kept { store, slot }),
             Err(error) => Err(error),
         }
     }
 
-    /// One more slot is made.
-    fn create(&mut self, v: &Vector) -> Result<Option<StoreError>, Fault> {
-        let key = key(v.alloc())?;
-        let head = head(v.alloc())?;
-        Ok(self.store.create(&key, &head).err())
+    /// One more slot is made, or why it isn't.
+    fn create(&mut self, sample: &Sample) -> Option<StoreError> {
+        self.store.create(&sample.key, &sample.head).err()
     }
 
     /// Puts bytes at positions that are absent, or says that they aren't.
@@ -52,8 +50,9 @@ impl<B: Backend> Kept<B> {
         }
     }
 
-    fn run_at(&mut self, p: u64) -> Result<Option<Run>, StoreError> {
-        self.store.run_at(self.slot, p, 9)
+    fn tell_run(&mut self, p: u64, to: &mut String) -> Result<(), Fault> {
+        let read = self.store.run_at(self.slot, p, 9);
+        tell_read(&read, to)
     }
 
     fn seal(&mut self) -> Result<(), StoreError> {
@@ -64,8 +63,10 @@ impl<B: Backend> Kept<B> {
         self.store.write_record(self.slot, head)
     }
 
-    fn read_record(&mut self) -> Result<StoredHead, StoreError> {
-        self.store.read_record(self.slot)
+    /// Reads the record, and writes the length of the body, the status and when it was asked for.
+    fn tell_record(&mut self, to: &mut String) -> Result<(), Fault> {
+        let read = self.store.read_record(self.slot);
+        tell(&facts_of(&read), to)
     }
 
     fn view(&self) -> SlotView<'_, B> {
@@ -76,7 +77,7 @@ impl<B: Backend> Kept<B> {
     }
 
     /// Makes a call that changes nothing, or else one that may.
-    fn tell(&mut self, v: &Vector, to: &mut String) -> Result<(), Fault> {
+    fn tell(&mut self, sample: &Sample, v: &Vector, to: &mut String) -> Result<(), Fault> {
         let lo = v.number(0);
         let hi = v.number(1);
         match v.call() {
@@ -85,18 +86,18 @@ impl<B: Backend> Kept<B> {
             "store_kind" => tell(&self.store.kind(self.slot), to),
             "store_used" => tell(&self.store.used(), to),
             "store_used_by" => tell(&self.store.used_by(self.slot), to),
-            _ => self.change(v, to),
+            _ => self.change(sample, v, to),
         }
     }
 
-    fn change(&mut self, v: &Vector, to: &mut String) -> Result<(), Fault> {
+    fn change(&mut self, sample: &Sample, v: &Vector, to: &mut String) -> Result<(), Fault> {
         match v.call() {
-            "store_create" => tell(&self.create(v)?, to),
+            "store_create" => tell(&self.create(sample), to),
             "store_put nt" => tell_some(&self.put(v.number(0), v.text(1)), to),
-            "store_run n" => tell_read(&self.run_at(v.number(0)), to),
+            "store_run n" => self.tell_run(v.number(0), to),
             "store_seal" => tell(&self.seal(), to),
-            "store_write_record" => tell(&self.write_record(&head(v.alloc())?), to),
-            "store_read_record" => tell_record(&self.read_record(), to),
+            "store_write_record" => tell(&self.write_record(&sample.head), to),
+            "store_read_record" => self.tell_record(to),
             _ => Err(Fault::NoSuchCall),
         }
     }
@@ -112,12 +113,12 @@ impl<B: Backend> Kept<B> {
     }
 }
 
-/// Writes of a record that was read the length of the body, the status and when it was asked for.
-fn tell_record(read: &Result<StoredHead, StoreError>, to: &mut String) -> Result<(), Fault> {
-    let told = read
-        .as_ref()
-        .map(|head| (head.total, head.status, head.requested));
-    tell(&told, to)
+/// What is told of a record that was read.
+fn facts_of(read: &Result<StoredHead, StoreError>) -> Result<(Option<u64>, u16, u64), StoreError> {
+    match read {
+        Ok(head) => Ok((head.total, head.status, head.requested)),
+        Err(error) => Err(*error),
+    }
 }
 
 /// A store in memory that fails where it is told to, with a slot, if that was made.
@@ -133,34 +134,52 @@ impl Cupboard {
     }
 
     /// Makes the call, and writes what it answers.
-    pub(crate) fn tell(&mut self, v: &Vector, to: &mut String) -> Result<(), Fault> {
+    pub(crate) fn tell(
+        &mut self,
+        sample: &Sample,
+        v: &Vector,
+        to: &mut String,
+    ) -> Result<(), Fault> {
         match v.call() {
-            call if call.starts_with("store_new nn") => self.begin(v, to),
+            call if call.starts_with("store_new nn") => self.begin(sample, v, to),
             "store_drop" => tell_some(&self.drop_slot(), to),
-            _ => self.tell_of_slot(v, to),
+            _ => self.tell_of_slot(sample, v, to),
         }
     }
 
     /// What the store holds once the slot is dropped, if there is one.
     fn drop_slot(&mut self) -> Option<u64> {
-        self.kept.take().map(|kept| kept.dropped())
+        match self.kept.take() {
+            Some(kept) => Some(kept.dropped()),
+            None => None,
+        }
     }
 
-    fn tell_of_slot(&mut self, v: &Vector, to: &mut String) -> Result<(), Fault> {
+    fn tell_of_slot(&mut self, sample: &Sample, v: &Vector, to: &mut String) -> Result<(), Fault> {
         match &mut self.kept {
-            Some(kept) => kept.tell(v, to),
+            Some(kept) => kept.tell(sample, v, to),
             None => Err(Fault::NoSuchCall),
         }
     }
 
-    fn begin(&mut self, v: &Vector, to: &mut String) -> Result<(), Fault> {
+    fn begin(&mut self, sample: &Sample, v: &Vector, to: &mut String) -> Result<(), Fault> {
         let store = failing_store(v)?;
-        let key = key(v.alloc())?;
-        let head = head(v.alloc())?;
-        let begun = Kept::begun(store, &key, &head);
-        tell(&begun.as_ref().err(), to)?;
-        self.kept = begun.ok();
-        Ok(())
+        let error = self.keep(Kept::begun(store, sample));
+        tell(&error, to)
+    }
+
+    /// Keeps the slot, or tells why none was made.
+    fn keep(&mut self, begun: Result<Kept<Failing<Memory>>, StoreError>) -> Option<StoreError> {
+        match begun {
+            Ok(kept) => {
+                self.kept = Some(kept);
+                None
+            }
+            Err(error) => {
+                self.kept = None;
+                Some(error)
+            }
+        }
     }
 }
 

@@ -1,6 +1,7 @@
 //! How values are written.
 use hc_sparse::Run;
 use hc_store::StoreError;
+use hc_text::NoMemory;
 use hc_vector::{Fault, quote, tell};
 use std::fmt::Debug;
 
@@ -13,22 +14,28 @@ fn tell_bytes(bytes: &[u8], to: &mut String) -> Result<(), Fault> {
         return Ok(quote(bytes, to)?);
     }
     for row in bytes.chunk_by(|a, b| a == b) {
-        quote(row.get(..1).unwrap_or(row), to)?;
-        let count = row.len();
-        write!(to, "*{count}")?;
+        tell_row(row, to)?;
     }
+    Ok(())
+}
+
+/// Writes a byte that stands in a row.
+fn tell_row(row: &[u8], to: &mut String) -> Result<(), NoMemory> {
+    quote(row.get(..1).unwrap_or(row), to)?;
+    write!(to, "*{}", row.len())?;
     Ok(())
 }
 
 /// Writes a stretch: of which exchange, from where on, and its bytes.
 pub(crate) fn tell_run(run: &Option<Run>, to: &mut String) -> Result<(), Fault> {
-    let Some(run) = run else {
-        to.push_str("None")?;
-        return Ok(());
-    };
-    let x = run.x;
-    let at = run.at;
-    write!(to, "of {x} at {at} ")?;
+    match run {
+        Some(run) => tell_stretch(run, to),
+        None => Ok(to.push_str("None")?),
+    }
+}
+
+fn tell_stretch(run: &Run, to: &mut String) -> Result<(), Fault> {
+    write!(to, "of {} at {} ", run.x, run.at)?;
     tell_bytes(run.bytes.as_slice(), to)
 }
 

@@ -73,5 +73,6 @@ pub(crate) fn tell_head(head: &StoredHead, to: &mut String) -> Result<(), NoMemo
 
 fn tell_lines(fields: &Fields, to: &mut String) -> Result<(), NoMemory> {
     to.push(' ')?;
-    quote(&lines_of(fields)?, to)
+    let lines = lines_of(fields)?;
+    quote(&lines, to)
 }

@@ -7,10 +7,14 @@ use hc_vector::{Vector, quote};
 /// these follow.
 pub(crate) fn tell_list(fields: &Fields, to: &mut String) -> Result<(), NoMemory> {
     let lines = lines_by_place(fields)?;
-    quote(&lines, to)?;
-    tell_other(" listed ", &lines_listed(fields)?, &lines, to)?;
-    tell_other(" copied ", &lines_copied(fields)?, &lines, to)?;
-    tell_other(" written ", &lines_of(fields)?, &lines, to)
+    tell_lines(fields, &lines, to)
+}
+
+fn tell_lines(fields: &Fields, lines: &[u8], to: &mut String) -> Result<(), NoMemory> {
+    quote(lines, to)?;
+    tell_other(" listed ", lines_listed(fields)?, lines, to)?;
+    tell_other(" copied ", lines_copied(fields)?, lines, to)?;
+    tell_other(" written ", lines_of(fields)?, lines, to)
 }
 
 /// The lines that the list writes.
@@ -20,12 +24,13 @@ pub(crate) fn lines_of(fields: &Fields) -> Result<Vec<u8>, NoMemory> {
     Ok(lines)
 }
 
-fn tell_other(name: &str, found: &[u8], lines: &[u8], to: &mut String) -> Result<(), NoMemory> {
-    if found != lines {
-        to.push_str(name)?;
-        quote(found, to)?;
+/// Writes what was found, where that isn't these lines.
+fn tell_other(name: &str, found: Vec<u8>, lines: &[u8], to: &mut String) -> Result<(), NoMemory> {
+    if found.as_slice() == lines {
+        return Ok(());
     }
-    Ok(())
+    to.push_str(name)?;
+    quote(&found, to)
 }
 
 fn lines_by_place(fields: &Fields) -> Result<Vec<u8>, NoMemory> {
@@ -66,12 +71,16 @@ pub(crate) fn tell_read(
     count: u64,
     to: &mut String,
 ) -> Result<(), NoMemory> {
-    let Some((fields, len)) = Fields::read_lines(v.alloc(), text, count)? else {
-        to.push_str("None")?;
-        return Ok(());
-    };
-    let is_same = text.get(..len) == Some(lines_of(&fields)?.as_slice());
-    let how = if is_same {
+    let read = Fields::read_lines(v.alloc(), text, count)?;
+    match &read {
+        Some((fields, len)) => tell_fields(fields, *len, text, to),
+        None => Ok(to.push_str("None")?),
+    }
+}
+
+fn tell_fields(fields: &Fields, len: usize, text: &[u8], to: &mut String) -> Result<(), NoMemory> {
+    let lines = lines_of(fields)?;
+    let how = if text.get(..len) == Some(lines.as_slice()) {
         "written again"
     } else {
         "written otherwise"

@@ -29,10 +29,10 @@ fn tell_span(v: &Vector, to: &mut String) -> Result<bool, NoMemory> {
     }
     let mut text = Vec::new(v.alloc());
     if v.name() == "write_range" {
-        write_range(Span { lo, hi }, total, &mut text)?;
+        write_range(Span { lo, hi }, total, &mut text)
     } else {
-        write_content_range(Span { lo, hi }, total, &mut text)?;
-    }
+        write_content_range(Span { lo, hi }, total, &mut text)
+    }?;
     quote(&text, to)?;
     Ok(true)
 }

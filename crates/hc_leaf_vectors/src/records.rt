@@ -1,6 +1,8 @@
 //! Calls of `hc_record`.
 use crate::heads::{head_of, kind_of, record_of, tell_head};
 use crate::tally::tell_changes;
+use hc_etag::Tag;
+use hc_fields::Fields;
 use hc_record::{StoredHead, joining_tag, read_record, seal_record};
 use hc_text::NoMemory;
 use hc_vector::{Fault, Vector, fields_of, quote};
@@ -20,31 +22,40 @@ pub(crate) fn call(v: &Vector, to: &mut String) -> Result<bool, Fault> {
 }
 
 fn tell_read(v: &Vector, to: &mut String) -> Result<(), NoMemory> {
-    match read_record(v.alloc(), v.text(0))? {
-        Some(head) => tell_head(&head, to),
+    let head = read_record(v.alloc(), v.text(0))?;
+    match &head {
+        Some(head) => tell_head(head, to),
         None => Ok(to.push_str("None")?),
     }
 }
 
 /// The record of the head that is read.
 fn tell_rewritten(v: &Vector, to: &mut String) -> Result<(), NoMemory> {
-    match read_record(v.alloc(), v.text(0))? {
-        Some(head) => tell_record(&record_of(&head)?, to),
+    let head = read_record(v.alloc(), v.text(0))?;
+    match &head {
+        Some(head) => tell_record_of(head, to),
         None => Ok(to.push_str("None")?),
     }
 }
 
-/// The record of a copy of the head that the arguments tell.
-fn tell_written(v: &Vector, to: &mut String) -> Result<bool, Fault> {
-    let Some(head) = head_of(v)? else {
-        return Ok(false);
-    };
-    tell_record(&record_of_copy(&head)?, to)?;
-    Ok(true)
+fn tell_record_of(head: &StoredHead, to: &mut String) -> Result<(), NoMemory> {
+    let record = record_of(head)?;
+    tell_record(&record, to)
 }
 
-fn record_of_copy(head: &StoredHead) -> Result<Vec<u8>, NoMemory> {
-    record_of(&head.copy()?)
+/// The record of a copy of the head that the arguments tell.
+fn tell_written(v: &Vector, to: &mut String) -> Result<bool, Fault> {
+    let head = head_of(v)?;
+    match &head {
+        Some(head) => tell_record_of_copy(head, to),
+        None => Ok(false),
+    }
+}
+
+fn tell_record_of_copy(head: &StoredHead, to: &mut String) -> Result<bool, Fault> {
+    let copy = head.copy()?;
+    tell_record_of(&copy, to)?;
+    Ok(true)
 }
 
 /// How many bytes a record has, and these.
@@ -56,12 +67,28 @@ fn tell_record(record: &[u8], to: &mut String) -> Result<(), NoMemory> {
 /// What stands between the quotes of the tag, which isn't weak.
 fn tell_joining(v: &Vector, to: &mut String) -> Result<bool, Fault> {
     let fields = fields_of(v.alloc(), v.text(0))?;
-    let Some(tag) = joining_tag(v.alloc(), &fields)? else {
-        to.push_str("None")?;
-        return Ok(true);
-    };
-    quote(tag.opaque.as_slice(), to)?;
-    Ok(!tag.weak)
+    tell_joining_in(&fields, to)
+}
+
+fn tell_joining_in(fields: &Fields, to: &mut String) -> Result<bool, Fault> {
+    let tag = joining_tag(fields.allocator(), fields)?;
+    tell_opaque(&tag, to)?;
+    Ok(is_strong(&tag))
+}
+
+fn tell_opaque(tag: &Option<Tag>, to: &mut String) -> Result<(), NoMemory> {
+    match tag {
+        Some(tag) => quote(tag.opaque.as_slice(), to),
+        None => Ok(to.push_str("None")?),
+    }
+}
+
+/// Whether it isn't weak, if there is one.
+fn is_strong(tag: &Option<Tag>) -> bool {
+    match tag {
+        Some(tag) => !tag.weak,
+        None => true,
+    }
 }
 
 /// The text with this kind and this total.

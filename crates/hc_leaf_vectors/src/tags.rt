@@ -21,7 +21,8 @@ pub(crate) fn call(v: &Vector, to: &mut String) -> Result<bool, NoMemory> {
 }
 
 fn tell_tag(v: &Vector, to: &mut String) -> Result<(), NoMemory> {
-    match read_tag(v.alloc(), v.text(0))? {
+    let tag = read_tag(v.alloc(), v.text(0))?;
+    match &tag {
         Some(tag) => tell_opaque(tag.weak, tag.opaque.as_slice(), to),
         None => tell_none(to),
     }
@@ -54,10 +55,16 @@ fn tell_opaque(weak: bool, opaque: &[u8], to: &mut String) -> Result<(), NoMemor
 
 /// What is written of the copy of a tag, where the text is one.
 fn tell_written(v: &Vector, to: &mut String) -> Result<bool, NoMemory> {
-    let Some(tag) = read_tag(v.alloc(), v.text(0))? else {
-        return Ok(false);
-    };
-    tell_text(v, &tag.copy()?, to)?;
+    let tag = read_tag(v.alloc(), v.text(0))?;
+    match &tag {
+        Some(tag) => tell_copy(v, tag, to),
+        None => Ok(false),
+    }
+}
+
+fn tell_copy(v: &Vector, tag: &Tag, to: &mut String) -> Result<bool, NoMemory> {
+    let copy = tag.copy()?;
+    tell_text(v, &copy, to)?;
     Ok(true)
 }
 
@@ -69,28 +76,40 @@ fn tell_text(v: &Vector, tag: &Tag, to: &mut String) -> Result<(), NoMemory> {
 
 /// How two tags are equal, where both texts are tags.
 fn compare(v: &Vector, to: &mut String) -> Result<bool, NoMemory> {
-    let Some(a) = read_tag(v.alloc(), v.text(0))? else {
-        return Ok(false);
-    };
-    let Some(b) = read_tag(v.alloc(), v.text(1))? else {
-        return Ok(false);
-    };
-    tell_equal(&a, &b, to)?;
+    let a = read_tag(v.alloc(), v.text(0))?;
+    match &a {
+        Some(a) => compare_with(a, v, to),
+        None => Ok(false),
+    }
+}
+
+/// How a tag is equal to that of the second text.
+fn compare_with(a: &Tag, v: &Vector, to: &mut String) -> Result<bool, NoMemory> {
+    let b = read_tag(v.alloc(), v.text(1))?;
+    match &b {
+        Some(b) => tell_equal(a, b, to),
+        None => Ok(false),
+    }
+}
+
+fn tell_equal(a: &Tag, b: &Tag, to: &mut String) -> Result<bool, NoMemory> {
+    let strong = strong_equal(a, b);
+    let weak = weak_equal(a, b);
+    write!(to, "strong {strong}, weak {weak}")?;
     Ok(true)
 }
 
-fn tell_equal(a: &Tag, b: &Tag, to: &mut String) -> Result<(), NoMemory> {
-    to.push_str("strong ")?;
-    show(&strong_equal(a, b), to)?;
-    to.push_str(", weak ")?;
-    show(&weak_equal(a, b), to)
-}
-
 fn tell_list(v: &Vector, to: &mut String) -> Result<(), NoMemory> {
-    match read_tag_list(v.alloc(), v.text(0))? {
-        Some(list) => tell_tags(v, &list.copy()?, to),
+    let list = read_tag_list(v.alloc(), v.text(0))?;
+    match &list {
+        Some(list) => tell_list_copy(v, list, to),
         None => tell_none(to),
     }
+}
+
+fn tell_list_copy(v: &Vector, list: &TagList, to: &mut String) -> Result<(), NoMemory> {
+    let copy = list.copy()?;
+    tell_tags(v, &copy, to)
 }
 
 /// The texts that are written of the tags of a list.
@@ -109,13 +128,23 @@ fn tell_tags(v: &Vector, list: &TagList, to: &mut String) -> Result<(), NoMemory
 
 /// Whether the second text is that of the tags of a list, each with a blank behind it.
 fn tell_same(v: &Vector, to: &mut String) -> Result<(), NoMemory> {
-    let Some(TagList::Tags(tags)) = read_tag_list(v.alloc(), v.text(0))? else {
-        return show(&false, to);
-    };
-    let mut found = Vec::new(v.alloc());
-    for tag in tags.items.as_slice() {
-        write_tag(tag, &mut found)?;
-        found.push(b' ')?;
+    let list = read_tag_list(v.alloc(), v.text(0))?;
+    match &list {
+        Some(TagList::Tags(tags)) => tell_same_tags(tags.items.as_slice(), v, to),
+        _ => show(&false, to),
     }
+}
+
+fn tell_same_tags(tags: &[Tag], v: &Vector, to: &mut String) -> Result<(), NoMemory> {
+    let mut found = Vec::new(v.alloc());
+    write_each(tags, &mut found)?;
     show(&(found.as_slice() == v.text(1)), to)
+}
+
+fn write_each(tags: &[Tag], to: &mut Vec<u8>) -> Result<(), NoMemory> {
+    for tag in tags {
+        write_tag(tag, to)?;
+        to.push(b' ')?;
+    }
+    Ok(())
 }

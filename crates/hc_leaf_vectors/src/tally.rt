@@ -15,11 +15,17 @@ struct Tally {
 impl Tally {
     /// Counts what the text is.
     fn count(&mut self, alloc: Global, text: &[u8]) -> Result<(), NoMemory> {
-        let Some(head) = read_record(alloc, text)? else {
-            return Ok(());
-        };
+        let head = read_record(alloc, text)?;
+        match &head {
+            Some(head) => self.count_head(text, head),
+            None => Ok(()),
+        }
+    }
+
+    /// Counts the head that was read of the text.
+    fn count_head(&mut self, text: &[u8], head: &StoredHead) -> Result<(), NoMemory> {
         self.records = self.records.wrapping_add(1);
-        if !is_written_as_read(text, &head)? {
+        if !is_written_as_read(text, head)? {
             self.others = self.others.wrapping_add(1);
         }
         Ok(())
@@ -28,12 +34,23 @@ impl Tally {
     /// Counts each text with another byte at this place.
     fn count_changes(&mut self, alloc: Global, text: &[u8], at: usize) -> Result<(), NoMemory> {
         let mut changed = text.to_vec(alloc)?;
+        self.count_bytes(alloc, text, at, &mut changed)
+    }
+
+    /// The same, in a copy of the text.
+    fn count_bytes(
+        &mut self,
+        alloc: Global,
+        text: &[u8],
+        at: usize,
+        changed: &mut Vec<u8>,
+    ) -> Result<(), NoMemory> {
         for byte in 0..=255_u8 {
             if let Some(place) = changed.get_mut(at) {
                 *place = byte;
             }
             if changed.as_slice() != text {
-                self.count(alloc, &changed)?;
+                self.count(alloc, changed.as_slice())?;
             }
         }
         Ok(())
@@ -43,11 +60,16 @@ impl Tally {
 /// Whether the record of the head is the text. One of the first version isn't, but is like it.
 fn is_written_as_read(text: &[u8], head: &StoredHead) -> Result<bool, NoMemory> {
     let record = record_of(head)?;
+    is_spelled(&record, text, head)
+}
+
+/// The same, of a record of the head.
+fn is_spelled(record: &[u8], text: &[u8], head: &StoredHead) -> Result<bool, NoMemory> {
     if text.starts_with(b"record 2") {
-        return Ok(record.as_slice() == text);
+        return Ok(record == text);
     }
     let lines = lines_of(&head.fields)?;
-    Ok(are_alike(&record, text, &lines))
+    Ok(are_alike(record, text, &lines))
 }
 
 /// Whether both texts have the same second line, and these lines at their end.

@@ -1,5 +1,5 @@
-//! Vectors of the parts of the cache: sparse bytes and stitching, lists by number, lines of keys and
-//! who is bound, exchanges, stores, and what is kept over them.
+//! Vectors of the words of HTTP and of the parts of the cache: sparse bytes and stitching, lists by
+//! number, lines of keys and who is bound, exchanges, stores, and what is kept over them.
 //!
 //! One object of each kind is kept from line to line, and a line changes it or tells of it.
 #![tactic(auto)]
@@ -19,6 +19,7 @@ mod stored;
 mod stores;
 mod turns;
 mod values;
+mod words;
 
 use exchanges::Table;
 use hc_vector::{Calls, Fault, Vector, tell_all};
@@ -28,6 +29,7 @@ use std::alloc::Global;
 use std::process::ExitCode;
 use stored::Stored;
 use turns::Turns;
+use words::Words;
 
 fn main(rt: HostRuntime) -> ExitCode {
     match Parts::new(rt.alloc()) {
@@ -39,6 +41,7 @@ fn main(rt: HostRuntime) -> ExitCode {
 /// What is kept from line to line.
 #[derive(Drop)]
 struct Parts {
+    words: Words,
     bytes: ManyBytes,
     sorted: Sorted,
     turns: Turns,
@@ -48,8 +51,10 @@ struct Parts {
 
 impl Parts {
     fn new(alloc: Global) -> Result<Parts, Fault> {
+        let words = Words::new(alloc)?;
         let stored = Stored::new(alloc)?;
         Ok(Parts {
+            words,
             bytes: ManyBytes::new(alloc),
             sorted: Sorted::new(alloc),
             turns: Turns::new(alloc),
@@ -57,11 +62,19 @@ impl Parts {
             stored,
         })
     }
+
+    /// Makes a call of stitching, which is of sparse bytes, or else one of the words of HTTP.
+    fn tell_other(&mut self, vector: &Vector, value: &mut String) -> Result<(), Fault> {
+        match vector.name() {
+            "next_part" | "first_hole" | "accepts" => self.bytes.tell(vector, value),
+            _ => self.words.tell(vector, value),
+        }
+    }
 }
 
 impl Calls for Parts {
-    /// The first word of a call's name says of which object it is. Calls of stitching are of sparse bytes
-    /// too, and have names of their own.
+    /// The first word of a call's name says of which part it is. Calls of the words of HTTP have names of
+    /// their own.
     fn tell(&mut self, vector: &Vector, value: &mut String) -> Result<(), Fault> {
         let name = vector.name();
         let (object, _) = name.split_once('_').unwrap_or((name, ""));
@@ -70,7 +83,8 @@ impl Calls for Parts {
             "line" | "key" | "keys" | "active" => self.turns.tell(vector, value),
             "exchange" | "exchanges" => self.table.tell(vector, value),
             "store" | "entries" => self.stored.tell(vector, value),
-            _ => self.bytes.tell(vector, value),
+            "bytes" => self.bytes.tell(vector, value),
+            _ => self.tell_other(vector, value),
         }
     }
 }

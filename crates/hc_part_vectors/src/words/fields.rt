@@ -1,5 +1,5 @@
 //! Calls of `hc_fields`, on the list that the lines before left.
-use crate::lists::{append_often, tell_list, tell_read, tell_read_of_many};
+use crate::words::lists::{append_often, tell_list, tell_read, tell_read_of_many};
 use hc_fields::{Fields, agree_on, has_field, only_value};
 use hc_text::NoMemory;
 use hc_vector::{Fault, Vector, fields_of, quote, show};

@@ -1,6 +1,6 @@
 //! Calls of `hc_record`.
-use crate::heads::{head_of, kind_of, record_of, tell_head};
-use crate::tally::tell_changes;
+use crate::words::heads::{head_of, kind_of, record_of, tell_head};
+use crate::words::tally::tell_changes;
 use hc_etag::Tag;
 use hc_fields::Fields;
 use hc_record::{StoredHead, joining_tag, read_record, seal_record};

@@ -1,5 +1,5 @@
 //! Stored heads as arguments and as values.
-use crate::lists::lines_of;
+use crate::words::lists::lines_of;
 use hc_fields::Fields;
 use hc_record::{Kind, StoredHead, joining_tag, write_record};
 use hc_text::NoMemory;

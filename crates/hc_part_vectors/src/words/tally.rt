@@ -1,6 +1,6 @@
 //! Records that differ in one byte.
-use crate::heads::record_of;
-use crate::lists::lines_of;
+use crate::words::heads::record_of;
+use crate::words::lists::lines_of;
 use hc_record::{StoredHead, read_record};
 use hc_text::NoMemory;
 use std::alloc::Global;

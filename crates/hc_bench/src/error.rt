@@ -1,10 +1,12 @@
 //! Why a bench doesn't come to its end.
 
+use hc_fields::FieldError;
 use hc_io::SourceFailed;
 use hc_msg::MsgError;
 use hc_sched::FeedError;
 use hc_store::StoreError;
 use hc_text::NoMemory;
+use http_header::{HeaderMapError, HeaderNameError, HeaderValueError};
 use std::alloc::{AllocError, AllocFailed};
 use std::io::{Error, ErrorKind};
 
@@ -29,6 +31,15 @@ impl BenchError {
             BenchError::StreamFailed => 3,
             BenchError::NoMemory => 6,
         }
+    }
+}
+
+/// An answer is to be the right one.
+pub(crate) fn expect(is_right: bool) -> Result<(), BenchError> {
+    if is_right {
+        Ok(())
+    } else {
+        Err(BenchError::Wrong)
     }
 }
 
@@ -64,6 +75,42 @@ impl From<NoMemory> for BenchError {
 impl From<SourceFailed> for BenchError {
     fn from(_: SourceFailed) -> Self {
         BenchError::StreamFailed
+    }
+}
+
+impl From<FieldError> for BenchError {
+    fn from(e: FieldError) -> Self {
+        match e {
+            FieldError::NoMemory => BenchError::NoMemory,
+            _ => BenchError::Wrong,
+        }
+    }
+}
+
+impl From<HeaderNameError> for BenchError {
+    fn from(e: HeaderNameError) -> Self {
+        match e {
+            HeaderNameError::OutOfMemory => BenchError::NoMemory,
+            HeaderNameError::Invalid => BenchError::Wrong,
+        }
+    }
+}
+
+impl From<HeaderValueError> for BenchError {
+    fn from(e: HeaderValueError) -> Self {
+        match e {
+            HeaderValueError::OutOfMemory => BenchError::NoMemory,
+            HeaderValueError::Invalid => BenchError::Wrong,
+        }
+    }
+}
+
+impl From<HeaderMapError> for BenchError {
+    fn from(e: HeaderMapError) -> Self {
+        match e {
+            HeaderMapError::OutOfMemory => BenchError::NoMemory,
+            HeaderMapError::MaxSizeReached => BenchError::Wrong,
+        }
     }
 }
 

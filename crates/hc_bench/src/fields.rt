@@ -1,9 +1,9 @@
 //! Lists of `hc_fields`, made and looked up.
 ghost use Rattle.std.specs.Prelude.{◌≤◌};
 
-use crate::error::BenchError;
+use crate::error::{BenchError, expect};
 use crate::words::{number_of, times_of};
-use hc_fields::{FieldError, Fields};
+use hc_fields::Fields;
 use std::alloc::Global;
 
 /// The most fields of a list.
@@ -19,30 +19,24 @@ pub(crate) fn run(alloc: Global, words: &[String]) -> Result<(), BenchError> {
     };
     let count = number_of(count.as_str(), 1, MOST)?;
     for _round in 0..times_of(times.as_str())? {
-        if look_up(alloc, count)? != count {
-            return Err(BenchError::Wrong);
-        }
+        expect(look_up(alloc, count)? == count)?;
     }
     Ok(())
 }
 
 /// Makes a list of `count` fields, and answers how many of their names it has.
 fn look_up(alloc: Global, count: u64) -> Result<u64, BenchError> {
-    let fields = build(alloc, count)?;
+    let mut fields = Fields::new(alloc)?;
+    append(&mut fields, count)?;
     Ok(found_in(&fields, count))
 }
 
-/// The list of the first `count` fields.
-fn build(alloc: Global, count: u64) -> Result<Fields, BenchError> {
-    let mut fields = Fields::new(alloc)?;
+/// Appends the first `count` fields.
+fn append(fields: &mut Fields, count: u64) -> Result<(), BenchError> {
     for place in 0..count {
-        match fields.append(&name_at(place), VALUE) {
-            Ok(()) => {}
-            Err(FieldError::NoMemory) => return Err(BenchError::NoMemory),
-            Err(_) => return Err(BenchError::Wrong),
-        }
+        fields.append(&name_at(place), VALUE)?;
     }
-    Ok(fields)
+    Ok(())
 }
 
 /// How many of the first `count` names the list has.

@@ -38,13 +38,19 @@ fn walk(alloc: Global, order: Order, count: u64) -> Result<(), BenchError>
     requires { count ≤ 2 ^ 20 }
 {
     let mut line = KeyLine::new(alloc);
+    enter_each(&mut line, count)?;
+    for step in [Step::Pass, Step::Back, Step::Away, Step::Back, Step::Leave] {
+        step_each(&mut line, step, order, count);
+    }
+    Ok(())
+}
+
+/// So many consumers enter.
+fn enter_each(line: &mut KeyLine, count: u64) -> Result<(), BenchError> {
     for c in 0..count {
         if !line.is_in(c) {
             line.enter(c)?;
         }
-    }
-    for step in [Step::Pass, Step::Back, Step::Away, Step::Back, Step::Leave] {
-        step_each(&mut line, step, order, count);
     }
     Ok(())
 }

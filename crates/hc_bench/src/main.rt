@@ -52,12 +52,15 @@ fn run(rt: &HostRuntime, subject: &str, words: &[String]) -> Result<(), BenchErr
         "call" => rules::run(alloc, words),
         "message" => messages::run(alloc, words),
         "line" => line::run(alloc, words),
-        "schedule" => {
-            let mut input = StdSource::new(rt.stdin());
-            schedules::run(alloc, words, &mut input, &mut rt.stdout())
-        },
+        "schedule" => run_schedule(rt, words),
         _ => Err(BenchError::Usage),
     }
+}
+
+/// Does what they ask for over the program's streams.
+fn run_schedule(rt: &HostRuntime, words: &[String]) -> Result<(), BenchError> {
+    let mut input = StdSource::new(rt.stdin());
+    schedules::run(rt.alloc(), words, &mut input, &mut rt.stdout())
 }
 
 /// The words after the program's name.

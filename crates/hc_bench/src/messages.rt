@@ -1,10 +1,10 @@
 //! Heads and chunked bodies that are read, beside `httparse` and a plain copy.
-ghost use Rattle.std.specs.Prelude.{◌<◌};
+ghost use Rattle.std.specs.Prelude.{◌<◌, ◌≤◌, IfOk, length};
 
-use crate::error::BenchError;
+use crate::error::{BenchError, expect};
 use crate::texts::{CHUNKED, LONG_ANSWERS, LONG_REQUESTS, SHORT_ANSWERS, SHORT_REQUESTS};
 use crate::words::times_of;
-use hc_msg::{RequestReader, ResponseReader, Taken, write_chunk};
+use hc_msg::{RequestReader, ResponseReader, write_chunk};
 use httparse::{EMPTY_HEADER, Request, Response, Status};
 use std::alloc::Global;
 
@@ -56,22 +56,42 @@ fn by_turns(texts: [&str; 2], k: u64) -> &[u8] {
 
 fn requests(alloc: Global, texts: [&str; 2], times: u64) -> Result<(), BenchError> {
     let mut reader = RequestReader::new(alloc);
+    take_requests(&mut reader, texts, times)
+}
+
+fn take_requests(
+    reader: &mut RequestReader,
+    texts: [&str; 2],
+    times: u64,
+) -> Result<(), BenchError> {
     for k in 0..times {
-        if reader.take(by_turns(texts, k))?.got.is_none() {
-            return Err(BenchError::Wrong);
-        }
+        take_request(reader, by_turns(texts, k))?;
     }
     Ok(())
 }
 
+/// Takes a request that is whole.
+fn take_request(reader: &mut RequestReader, text: &[u8]) -> Result<(), BenchError> {
+    let taken = reader.take(text)?;
+    expect(taken.got.is_some())
+}
+
 fn answers(alloc: Global, texts: [&str; 2], times: u64) -> Result<(), BenchError> {
     for k in 0..times {
-        let mut reader = ResponseReader::new(alloc, false);
-        if reader.take(by_turns(texts, k), PIECE_LEN)?.got.is_none() {
-            return Err(BenchError::Wrong);
-        }
+        answer(alloc, by_turns(texts, k))?;
     }
     Ok(())
+}
+
+fn answer(alloc: Global, text: &[u8]) -> Result<(), BenchError> {
+    let mut reader = ResponseReader::new(alloc, false);
+    take_head(&mut reader, text)
+}
+
+/// Takes a head that is whole.
+fn take_head(reader: &mut ResponseReader, text: &[u8]) -> Result<(), BenchError> {
+    let taken = reader.take(text, PIECE_LEN)?;
+    expect(taken.got.is_some())
 }
 
 fn plain_requests(texts: [&str; 2], times: u64) -> Result<(), BenchError> {
@@ -98,13 +118,28 @@ fn plain_answers(texts: [&str; 2], times: u64) -> Result<(), BenchError> {
 
 /// A chunked body of so many pieces.
 fn body(alloc: Global, times: u64) -> Result<(), BenchError> {
-    let piece = vec![in alloc; b'x'; PIECE_LEN]?;
-    let mut chunk = Vec::new(alloc);
-    write_chunk(&piece, &mut chunk)?;
+    let chunk = chunk(alloc)?;
     let mut reader = ResponseReader::new(alloc, false);
-    reader.take(CHUNKED.as_bytes(), PIECE_LEN)?;
+    take_chunks(&mut reader, &chunk, times)
+}
+
+/// A piece as a chunk.
+fn chunk(alloc: Global) -> Result<Vec<u8>, BenchError> {
+    let piece = vec![in alloc; b'x'; PIECE_LEN]?;
+    chunk_of(alloc, &piece)
+}
+
+fn chunk_of(alloc: Global, piece: &[u8]) -> Result<Vec<u8>, BenchError> {
+    let mut chunk = Vec::new(alloc);
+    write_chunk(piece, &mut chunk)?;
+    Ok(chunk)
+}
+
+/// Takes the head of an answer, and so many chunks.
+fn take_chunks(reader: &mut ResponseReader, chunk: &[u8], times: u64) -> Result<(), BenchError> {
+    take_head(reader, CHUNKED.as_bytes())?;
     for _ in 0..times {
-        take_all(&mut reader, &chunk)?;
+        take_all(reader, chunk)?;
     }
     Ok(())
 }
@@ -116,23 +151,36 @@ fn take_all(reader: &mut ResponseReader, text: &[u8]) -> Result<(), BenchError> 
         if rest.is_empty() {
             break;
         }
-        let Taken { used, got: _ } = reader.take(rest, PIECE_LEN)?;
-        if used == 0 {
-            return Err(BenchError::Wrong);
-        }
+        let used = take(reader, rest)?;
+        expect(used > 0)?;
         rest = &rest[used..];
     }
     Ok(())
 }
 
+/// Takes a part of the text, and answers how long it is.
+fn take(reader: &mut ResponseReader, text: &[u8]) -> Result<usize, BenchError>
+    ensures { IfOk result (λ used. used ≤ length text.now) }
+{
+    let taken = reader.take(text, PIECE_LEN)?;
+    Ok(taken.used)
+}
+
 /// The same bytes, each piece copied.
 fn plain_body(alloc: Global, times: u64) -> Result<(), BenchError> {
     let piece = vec![in alloc; b'x'; PIECE_LEN]?;
+    copy_often(alloc, &piece, times)
+}
+
+fn copy_often(alloc: Global, piece: &[u8], times: u64) -> Result<(), BenchError> {
     for k in 0..times {
-        let copy = Vec::from_slice(alloc, &piece)?;
-        if copy.get(k as usize % PIECE_LEN) != Some(&b'x') {
-            return Err(BenchError::Wrong);
-        }
+        copy(alloc, piece, k as usize % PIECE_LEN)?;
     }
     Ok(())
+}
+
+/// Copies the piece, and looks at this place of the copy.
+fn copy(alloc: Global, piece: &[u8], at: usize) -> Result<(), BenchError> {
+    let copy = Vec::from_slice(alloc, piece)?;
+    expect(copy.get(at) == Some(&b'x'))
 }

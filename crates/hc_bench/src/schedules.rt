@@ -1,5 +1,6 @@
 //! Schedules that are read as a stream, and events that are written.
-ghost use Rattle.std.specs.Prelude.{◌≤◌, IfOk};
+ghost use Rattle.std.specs.Prelude.{◌≡◌, ◌≤◌, IfOk};
+ghost use Rattle.hc_sched.specs.Feeding.{lines_in};
 ghost use Rattle.hc_sched.specs.Schedule.{IsEvent};
 
 use crate::error::BenchError;
@@ -34,7 +35,7 @@ pub(crate) fn run<S: Source, W: Write>(
         [what] if what.as_str() == "read" => read(alloc, input),
         [what, times] => {
             let times = times_of(times.as_str())?;
-            write(alloc, common_event(alloc, what.as_str())?, times, output)
+            write(alloc, what.as_str(), times, output)
         }
         _ => Err(BenchError::Usage),
     }
@@ -42,15 +43,27 @@ pub(crate) fn run<S: Source, W: Write>(
 
 /// Reads a schedule to its end.
 fn read<S: Source>(alloc: Global, source: &mut S) -> Result<(), BenchError> {
+    let mut buffer = vec![in alloc; 0u8; READ_LEN]?;
     let mut feed = Feed::new(alloc);
     let mut events = Vec::new(alloc);
-    let mut buffer = vec![in alloc; 0u8; READ_LEN]?;
+    read_into(source, &mut buffer, &mut feed, &mut events)
+}
+
+/// Reads it part by part.
+fn read_into<S: Source>(
+    source: &mut S,
+    buffer: &mut [u8],
+    feed: &mut Feed,
+    events: &mut Vec<Timed>,
+) -> Result<(), BenchError>
+    requires { lines_in feed.old ≡ 0 }
+{
     for _ in 0..u64::MAX {
-        let n = source.read(&mut buffer)?;
+        let n = source.read(buffer)?;
         if n == 0 {
             break;
         }
-        feed.feed(&buffer[..n], &mut events)?;
+        feed.feed(&buffer[..n], events)?;
         events.clear();
     }
     feed.finish()?;
@@ -83,17 +96,29 @@ fn piece(alloc: Global, len: usize) -> Result<Event, BenchError>
 /// Writes the event so many times.
 fn write<W: Write>(
     alloc: Global,
-    event: Event,
+    what: &str,
+    times: u64,
+    output: &mut W,
+) -> Result<(), BenchError> {
+    let event = common_event(alloc, what)?;
+    let timed = Timed { now: NOW, event };
+    let mut text = Vec::new(alloc);
+    write_by(&timed, &mut text, times, output)
+}
+
+/// Writes it so many times, by way of a text.
+fn write_by<W: Write>(
+    timed: &Timed,
+    text: &mut Vec<u8>,
     times: u64,
     output: &mut W,
 ) -> Result<(), BenchError>
-    requires { IsEvent event }
+    requires event { IsEvent timed.now.event }
+    requires moment { timed.now.now ≡ NOW }
 {
-    let timed = Timed { now: NOW, event };
-    let mut text = Vec::new(alloc);
     for k in 0..times {
         let last = if k == 0 { 0 } else { NOW };
-        write_event(last, &timed, &mut text)?;
+        write_event(last, timed, text)?;
         if text.len() >= WRITE_LEN {
             output.write_all(text.as_slice())?;
             text.clear();

@@ -2,7 +2,7 @@
 ghost use Rattle.std.specs.Prelude.{◌≡◌, ◌≤◌, ◌^◌, length};
 ghost use Rattle.hc_sparse.specs.Cells.{nothing};
 
-use crate::error::BenchError;
+use crate::error::{BenchError, expect};
 use crate::order::{Order, order_of, place};
 use crate::words::{number_of, times_of};
 use hc_sparse::{PlainSparse, Sparse, SparseBytes};
@@ -42,9 +42,7 @@ pub(crate) fn run(alloc: Global, words: &[String]) -> Result<(), BenchError> {
     let pieces = number_of(pieces.as_str(), 1, MOST)?;
     let piece = [b'x'; PIECE_LEN as usize];
     for _round in 0..times_of(times.as_str())? {
-        if download(alloc, way, &piece, pieces)? != size_by(way, pieces) {
-            return Err(BenchError::Wrong);
-        }
+        expect(download(alloc, way, &piece, pieces)? == size_by(way, pieces))?;
     }
     Ok(())
 }
@@ -77,9 +75,30 @@ fn download(alloc: Global, way: Way, piece: &[u8], pieces: u64) -> Result<u64, B
     match way {
         Way::Append => append(alloc, piece, pieces),
         Way::Lone => put_alone(alloc, pieces),
-        Way::Blocks(order) => put(&mut Sparse::new(alloc), order, piece, pieces),
-        Way::Runs(order) => put(&mut PlainSparse::new(alloc), order, piece, pieces),
+        Way::Blocks(order) => put_into_blocks(alloc, order, piece, pieces),
+        Way::Runs(order) => put_into_runs(alloc, order, piece, pieces),
     }
+}
+
+fn put_into_blocks(
+    alloc: Global,
+    order: Order,
+    piece: &[u8],
+    pieces: u64,
+) -> Result<u64, BenchError>
+    requires piece { length piece.now ≡ PIECE_LEN }
+    requires few { pieces ≤ 2 ^ 20 }
+{
+    let mut body = Sparse::new(alloc);
+    put(&mut body, order, piece, pieces)
+}
+
+fn put_into_runs(alloc: Global, order: Order, piece: &[u8], pieces: u64) -> Result<u64, BenchError>
+    requires piece { length piece.now ≡ PIECE_LEN }
+    requires few { pieces ≤ 2 ^ 20 }
+{
+    let mut body = PlainSparse::new(alloc);
+    put(&mut body, order, piece, pieces)
 }
 
 /// Appends each piece to a list of bytes.

@@ -49,13 +49,24 @@ fn run_on(
 {
     let mut store = Memory::new(alloc, NO_LIMITS);
     let slot = fill(&mut store, alloc, head, slots)?;
-    let bytes = [b'x'; LEN as usize];
     match call {
         "create" => create_rounds(&mut store, alloc, head, times),
-        "put" => put_rounds(&mut store, slot, &bytes, times),
-        "read" => read_rounds(&mut store, slot, times),
-        "run" => run_rounds(&mut store, slot, &bytes, times),
-        "seal" => seal_rounds(&mut store, slot, times),
+        _ => run_at(&mut store, slot, call, times),
+    }
+}
+
+/// Makes the calls that are of an empty slot.
+fn run_at(store: &mut Memory, slot: Slot, call: &str, times: u64) -> Result<(), BenchError>
+    requires live { is_live (slots_in store.old) slot.n ≡ true }
+    requires empty { (p : ℕ) → cells_in (slots_in store.old) slot.n p ≡ None }
+    requires few { times ≤ 2 ^ 32 }
+{
+    let bytes = [b'x'; LEN as usize];
+    match call {
+        "put" => put_rounds(store, slot, &bytes, times),
+        "read" => read_rounds(store, slot, times),
+        "run" => run_rounds(store, slot, &bytes, times),
+        "seal" => seal_rounds(store, slot, times),
         _ => Err(BenchError::Usage),
     }
 }

@@ -1,11 +1,13 @@
 //! Calls of freshness.
 ghost use Rattle.std.specs.Prelude.{◌≡◌, ◌≤◌, ◌<◌};
 
-use crate::error::BenchError;
+use crate::error::{BenchError, expect};
 use crate::rules::two_heads::TwoHeads;
+use crate::rules::validation::bare_request;
 use hc_cachectl::Directives;
 use hc_event::{Load, Request, Why};
 use hc_fresh::{HeadFacts, RequestFacts, allowed, allowed_to};
+use std::alloc::Global;
 
 /// For how many seconds the heads are fresh.
 const LIFETIME: u64 = 3600;
@@ -22,7 +24,12 @@ pub(super) fn keep_facts(heads: &TwoHeads, times: u64) -> Result<(), BenchError>
 }
 
 /// `allowed` of a stored head and a request without fields, at the moment at which the head came.
-pub(super) fn allow(heads: &TwoHeads, request: &Request, times: u64) -> Result<(), BenchError> {
+pub(super) fn allow(alloc: Global, heads: &TwoHeads, times: u64) -> Result<(), BenchError> {
+    let request = bare_request(alloc)?;
+    allow_often(heads, &request, times)
+}
+
+fn allow_often(heads: &TwoHeads, request: &Request, times: u64) -> Result<(), BenchError> {
     for round in 0..times {
         let head = heads.at(round);
         if head.requested > head.answered
@@ -47,9 +54,7 @@ fn is_fresh_or_none(why: Option<Why>) -> bool {
 pub(super) fn allow_by_facts(times: u64) -> Result<(), BenchError> {
     for round in 0..times {
         let why = allowed_to(&facts_of(round), &REQUEST, now_of(round));
-        if !is_fresh_or_none(why) {
-            return Err(BenchError::Wrong);
-        }
+        expect(is_fresh_or_none(why))?;
     }
     Ok(())
 }

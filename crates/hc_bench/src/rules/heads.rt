@@ -1,9 +1,9 @@
 //! Calls on the fields of heads.
 
-use crate::error::BenchError;
+use crate::error::{BenchError, expect};
 use crate::rules::two_heads::TwoHeads;
 use hc_cachectl::{Directives, read_request, read_response};
-use std::alloc::Global;
+use hc_fields::Fields;
 
 /// What the heads ask of a cache.
 const DIRECTIVES: Directives = Directives {
@@ -25,9 +25,7 @@ const LINES_LEN: usize = 266;
 /// `read_response` of the fields of a head.
 pub(super) fn read_responses(heads: &TwoHeads, times: u64) -> Result<(), BenchError> {
     for round in 0..times {
-        if read_response(&heads.at(round).fields) != DIRECTIVES {
-            return Err(BenchError::Wrong);
-        }
+        expect(read_response(&heads.at(round).fields) == DIRECTIVES)?;
     }
     Ok(())
 }
@@ -35,9 +33,7 @@ pub(super) fn read_responses(heads: &TwoHeads, times: u64) -> Result<(), BenchEr
 /// `read_request` of the same fields.
 pub(super) fn read_requests(heads: &TwoHeads, times: u64) -> Result<(), BenchError> {
     for round in 0..times {
-        if read_request(&heads.at(round).fields) != DIRECTIVES {
-            return Err(BenchError::Wrong);
-        }
+        expect(read_request(&heads.at(round).fields) == DIRECTIVES)?;
     }
     Ok(())
 }
@@ -45,23 +41,26 @@ pub(super) fn read_requests(heads: &TwoHeads, times: u64) -> Result<(), BenchErr
 /// `copy` of the fields of a head.
 pub(super) fn copy_fields(heads: &TwoHeads, times: u64) -> Result<(), BenchError> {
     for round in 0..times {
-        let copy = heads.at(round).fields.copy()?;
-        if copy.len() != FIELD_COUNT {
-            return Err(BenchError::Wrong);
-        }
+        copy(&heads.at(round).fields)?;
     }
     Ok(())
 }
 
+fn copy(fields: &Fields) -> Result<(), BenchError> {
+    let copy = fields.copy()?;
+    expect(copy.len() == FIELD_COUNT)
+}
+
 /// `write_lines` of the fields of a head.
-pub(super) fn write_lines(alloc: Global, heads: &TwoHeads, times: u64) -> Result<(), BenchError> {
-    let mut to = Vec::new(alloc);
+pub(super) fn write_lines(
+    heads: &TwoHeads,
+    times: u64,
+    to: &mut Vec<u8>,
+) -> Result<(), BenchError> {
     for round in 0..times {
         to.clear();
-        heads.at(round).fields.write_lines(&mut to)?;
-        if to.len() != LINES_LEN {
-            return Err(BenchError::Wrong);
-        }
+        heads.at(round).fields.write_lines(to)?;
+        expect(to.len() == LINES_LEN)?;
     }
     Ok(())
 }

@@ -1,12 +1,11 @@
 //! Calls on byte ranges.
 ghost use Rattle.hc_range.specs.Spans.{IsInOrder, IsWithin};
 
-use crate::error::BenchError;
+use crate::error::{BenchError, expect};
 use hc_range::{
     Asked, ContentRange, Span, read_content_range, read_range, resolve, write_content_range,
     write_range,
 };
-use std::alloc::Global;
 
 /// The length of the representation.
 const TOTAL: u64 = 1234;
@@ -15,9 +14,7 @@ const TOTAL: u64 = 1234;
 pub(super) fn read_ranges(times: u64) -> Result<(), BenchError> {
     for round in 0..times {
         let (text, asked) = range_case(round);
-        if read_range(text) != Some(asked) {
-            return Err(BenchError::Wrong);
-        }
+        expect(read_range(text) == Some(asked))?;
     }
     Ok(())
 }
@@ -36,9 +33,7 @@ fn range_case(round: u64) -> (&'static [u8], Asked) {
 pub(super) fn read_content_ranges(times: u64) -> Result<(), BenchError> {
     for round in 0..times {
         let (text, range) = content_range_case(round);
-        if read_content_range(text) != Some(range) {
-            return Err(BenchError::Wrong);
-        }
+        expect(read_content_range(text) == Some(range))?;
     }
     Ok(())
 }
@@ -68,9 +63,7 @@ fn content_range_case(round: u64) -> (&'static [u8], ContentRange) {
 pub(super) fn resolve_ranges(times: u64) -> Result<(), BenchError> {
     for round in 0..times {
         let (asked, span) = resolve_case(round);
-        if resolve(asked, TOTAL) != Some(span) {
-            return Err(BenchError::Wrong);
-        }
+        expect(resolve(asked, TOTAL) == Some(span))?;
     }
     Ok(())
 }
@@ -91,14 +84,11 @@ fn resolve_case(round: u64) -> (Asked, Span)
 const RANGE_LEN: usize = 13;
 
 /// `write_range` of a span.
-pub(super) fn write_ranges(alloc: Global, times: u64) -> Result<(), BenchError> {
-    let mut to = Vec::new(alloc);
+pub(super) fn write_ranges(times: u64, to: &mut Vec<u8>) -> Result<(), BenchError> {
     for round in 0..times {
         to.clear();
-        write_range(span_at(round), TOTAL, &mut to)?;
-        if to.len() != RANGE_LEN {
-            return Err(BenchError::Wrong);
-        }
+        write_range(span_at(round), TOTAL, to)?;
+        expect(to.len() == RANGE_LEN)?;
     }
     Ok(())
 }
@@ -107,14 +97,11 @@ pub(super) fn write_ranges(alloc: Global, times: u64) -> Result<(), BenchError> 
 const CONTENT_RANGE_LEN: usize = 18;
 
 /// `write_content_range` of a span.
-pub(super) fn write_content_ranges(alloc: Global, times: u64) -> Result<(), BenchError> {
-    let mut to = Vec::new(alloc);
+pub(super) fn write_content_ranges(times: u64, to: &mut Vec<u8>) -> Result<(), BenchError> {
     for round in 0..times {
         to.clear();
-        write_content_range(span_at(round), TOTAL, &mut to)?;
-        if to.len() != CONTENT_RANGE_LEN {
-            return Err(BenchError::Wrong);
-        }
+        write_content_range(span_at(round), TOTAL, to)?;
+        expect(to.len() == CONTENT_RANGE_LEN)?;
     }
     Ok(())
 }

@@ -1,9 +1,9 @@
 //! Calls on records.
 
-use crate::error::BenchError;
+use crate::error::{BenchError, expect};
 use crate::rules::heads::FIELD_COUNT;
 use crate::rules::two_heads::TwoHeads;
-use hc_record::{read_record, write_record};
+use hc_record::{StoredHead, read_record, write_record};
 use std::alloc::Global;
 
 /// How many bytes the records of the heads have.
@@ -24,14 +24,15 @@ etag: \"33a64df551425fcc55e4d42a148795d9f25f89d4\"\n\
 last-modified: Mon, 13 Nov 2023 08:00:00 GMT\nvary: accept-encoding\n";
 
 /// `write_record` of a head.
-pub(super) fn write_records(alloc: Global, heads: &TwoHeads, times: u64) -> Result<(), BenchError> {
-    let mut to = Vec::new(alloc);
+pub(super) fn write_records(
+    heads: &TwoHeads,
+    times: u64,
+    to: &mut Vec<u8>,
+) -> Result<(), BenchError> {
     for round in 0..times {
         to.clear();
-        write_record(heads.at(round), &mut to)?;
-        if to.len() != RECORD_LEN {
-            return Err(BenchError::Wrong);
-        }
+        write_record(heads.at(round), to)?;
+        expect(to.len() == RECORD_LEN)?;
     }
     Ok(())
 }
@@ -39,12 +40,22 @@ pub(super) fn write_records(alloc: Global, heads: &TwoHeads, times: u64) -> Resu
 /// `read_record` of a record.
 pub(super) fn read_records(alloc: Global, times: u64) -> Result<(), BenchError> {
     for round in 0..times {
-        let head = read_record(alloc, record_text(round))?.ok_or(BenchError::Wrong)?;
-        if head.fields.len() != FIELD_COUNT {
-            return Err(BenchError::Wrong);
-        }
+        read(alloc, record_text(round))?;
     }
     Ok(())
+}
+
+fn read(alloc: Global, text: &[u8]) -> Result<(), BenchError> {
+    let read = read_record(alloc, text)?;
+    expect(is_right(&read))
+}
+
+/// Whether a head was read, and has all fields.
+fn is_right(read: &Option<StoredHead>) -> bool {
+    match read {
+        Some(head) => head.fields.len() == FIELD_COUNT,
+        None => false,
+    }
 }
 
 /// The record of a typical head, with other moments by turns.

@@ -1,6 +1,6 @@
 //! Calls on entity tags.
 
-use crate::error::BenchError;
+use crate::error::{BenchError, expect};
 use hc_etag::{Tag, TagList, read_tag, read_tag_list, weak_equal, write_tag};
 use hc_text::Bytes;
 use std::alloc::Global;
@@ -9,12 +9,22 @@ use std::alloc::Global;
 pub(super) fn read_tags(alloc: Global, times: u64) -> Result<(), BenchError> {
     for round in 0..times {
         let (text, opaque) = tag_case(round);
-        let tag = read_tag(alloc, text)?.ok_or(BenchError::Wrong)?;
-        if tag.opaque.as_slice() != opaque {
-            return Err(BenchError::Wrong);
-        }
+        read(alloc, text, opaque)?;
     }
     Ok(())
+}
+
+fn read(alloc: Global, text: &[u8], opaque: &[u8]) -> Result<(), BenchError> {
+    let tag = read_tag(alloc, text)?;
+    expect(is_tag(&tag, opaque))
+}
+
+/// Whether a tag was read, and this stands between its quotes.
+fn is_tag(tag: &Option<Tag>, opaque: &[u8]) -> bool {
+    match tag {
+        Some(tag) => tag.opaque.as_slice() == opaque,
+        None => false,
+    }
 }
 
 /// A tag, and what stands between its quotes.
@@ -34,19 +44,21 @@ fn tag_case(round: u64) -> (&'static [u8], &'static [u8]) {
 pub(super) fn read_tag_lists(alloc: Global, times: u64) -> Result<(), BenchError> {
     for round in 0..times {
         let (text, count) = tag_list_case(round);
-        let list = read_tag_list(alloc, text)?.ok_or(BenchError::Wrong)?;
-        if count_of(&list) != Some(count) {
-            return Err(BenchError::Wrong);
-        }
+        read_list(alloc, text, count)?;
     }
     Ok(())
 }
 
-/// How many tags the list has, unless it is `*`.
-fn count_of(list: &TagList) -> Option<usize> {
+fn read_list(alloc: Global, text: &[u8], count: usize) -> Result<(), BenchError> {
+    let list = read_tag_list(alloc, text)?;
+    expect(count_of(&list) == Some(count))
+}
+
+/// How many tags the list has that was read, unless it is `*`.
+fn count_of(list: &Option<TagList>) -> Option<usize> {
     match list {
-        TagList::Tags(tags) => Some(tags.items.len()),
-        TagList::Any => None,
+        Some(TagList::Tags(tags)) => Some(tags.items.len()),
+        _ => None,
     }
 }
 
@@ -69,10 +81,12 @@ fn tag_list_case(round: u64) -> (&'static [u8], usize) {
 /// `weak_equal` of two equal tags.
 pub(super) fn compare_tags(alloc: Global, times: u64) -> Result<(), BenchError> {
     let tags = TwoTags::new(alloc)?;
+    compare(&tags, times)
+}
+
+fn compare(tags: &TwoTags, times: u64) -> Result<(), BenchError> {
     for round in 0..times {
-        if !weak_equal(tags.at(round), tags.at(round ^ 1)) {
-            return Err(BenchError::Wrong);
-        }
+        expect(weak_equal(tags.at(round), tags.at(round ^ 1)))?;
     }
     Ok(())
 }
@@ -81,15 +95,16 @@ pub(super) fn compare_tags(alloc: Global, times: u64) -> Result<(), BenchError> 
 const TEXT_LEN: usize = 42;
 
 /// `write_tag` of a tag of 40 bytes.
-pub(super) fn write_tags(alloc: Global, times: u64) -> Result<(), BenchError> {
+pub(super) fn write_tags(alloc: Global, times: u64, to: &mut Vec<u8>) -> Result<(), BenchError> {
     let tags = TwoTags::new(alloc)?;
-    let mut to = Vec::new(alloc);
+    write(&tags, times, to)
+}
+
+fn write(tags: &TwoTags, times: u64, to: &mut Vec<u8>) -> Result<(), BenchError> {
     for round in 0..times {
         to.clear();
-        write_tag(tags.at(round), &mut to)?;
-        if to.len() != TEXT_LEN {
-            return Err(BenchError::Wrong);
-        }
+        write_tag(tags.at(round), to)?;
+        expect(to.len() == TEXT_LEN)?;
     }
     Ok(())
 }

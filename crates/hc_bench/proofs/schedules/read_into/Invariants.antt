@@ -1,6 +1,6 @@
 use Rattle.std.proofs.Common.{◌≤◌, ◌^◌}
 use Rattle.hc_sched.specs.Feeding.{lines_in}
-use Rattle.hc_bench.proofs.schedules.read.Given as goal
+use Rattle.hc_bench.proofs.schedules.read_into.Given as goal
 
 -- each line has a byte
 abbrev pub invariant-loop : goal.invariant-loop

@@ -33,26 +33,37 @@ impl Report {
 
     /// Keeps the act that the line is, and writes the text of a copy as an entry of its number.
     fn keep(&mut self, v: &Vector, to: &mut String) -> Result<(), Fault> {
-        let act = act_of(v)?;
-        let copy = act.copy()?;
-        self.acts.push(act)?;
-        tell_entry(v.alloc(), self.acts.list().len() as u64, &[copy], to)
+        self.acts.push(act_of(v)?)?;
+        let mut copies = Vec::new(v.alloc());
+        self.copy_last(&mut copies)?;
+        tell_entry(v.alloc(), self.acts.list().len() as u64, &copies, to)
     }
 
-    /// Writes the entry of this number with all acts, which are handed out.
+    fn copy_last(&self, to: &mut Vec<Act>) -> Result<(), NoMemory> {
+        if let Some(act) = self.acts.list().last() {
+            to.push(act.copy()?)?;
+        }
+        Ok(())
+    }
+
+    /// Writes the entry of this number with all acts, which are handed out, and how many are left.
     fn tell(&mut self, v: &Vector, to: &mut String) -> Result<(), Fault> {
-        let acts = self.drain(v.alloc())?;
-        tell_entry(v.alloc(), v.number(0), &acts, to)?;
+        self.tell_drained(v, to)?;
         write!(to, " {} left", self.acts.list().len())?;
         Ok(())
     }
 
-    fn drain(&mut self, alloc: Global) -> Result<Vec<Act>, NoMemory> {
-        let mut acts = Vec::new(alloc);
+    fn tell_drained(&mut self, v: &Vector, to: &mut String) -> Result<(), Fault> {
+        let mut acts = Vec::new(v.alloc());
+        self.drain(&mut acts)?;
+        tell_entry(v.alloc(), v.number(0), &acts, to)
+    }
+
+    fn drain(&mut self, to: &mut Vec<Act>) -> Result<(), NoMemory> {
         for act in self.acts.drain() {
-            acts.push(act)?;
+            to.push(act)?;
         }
-        Ok(acts)
+        Ok(())
     }
 }
 
@@ -76,29 +87,29 @@ fn act_of(v: &Vector) -> Result<Act, Fault> {
 /// The act that the line is, where that has only numbers.
 fn plain_act_of(v: &Vector) -> Result<Act, Fault> {
     let n = v.number(0);
-    Ok(match v.call() {
-        "ask n" => Act::Ask { x: n },
-        "close n" => Act::Close { x: n },
-        "ended n" => Act::Ended { c: n },
-        "evicted n" => Act::Evicted { r: n },
+    match v.call() {
+        "ask n" => Ok(Act::Ask { x: n }),
+        "close n" => Ok(Act::Close { x: n }),
+        "ended n" => Ok(Act::Ended { c: n }),
+        "evicted n" => Ok(Act::Evicted { r: n }),
         "failed nw" => {
             let cause = cause_at(v, 1)?;
-            Act::Failed { c: n, cause }
+            Ok(Act::Failed { c: n, cause })
         }
         "pending nw" => {
             let wait = wait_at(v, 1)?;
-            Act::Pending { c: n, wait }
+            Ok(Act::Pending { c: n, wait })
         }
         "lost nw" => {
             let kind = kind_at(v, 1)?;
-            Act::Lost { r: n, kind }
+            Ok(Act::Lost { r: n, kind })
         }
         "denied n" | "denied nn" => {
             let refusal = refusal_of(n, v.number(1))?;
-            Act::Denied { refusal }
+            Ok(Act::Denied { refusal })
         }
-        _ => return Err(Fault::NoSuchCall),
-    })
+        _ => Err(Fault::NoSuchCall),
+    }
 }
 
 /// The exchange, its consumer, its need, and the request.
@@ -150,7 +161,10 @@ fn tell_room(v: &Vector, to: &mut String) -> Result<(), Fault> {
 
 /// Whether room that is made for so many acts falls by one with each, and is back when they are gone.
 fn keeps_room(alloc: Global, count: usize) -> Result<bool, NoMemory> {
-    let mut acts = Acts::new(alloc);
+    fill_and_empty(&mut Acts::new(alloc), count)
+}
+
+fn fill_and_empty(acts: &mut Acts, count: usize) -> Result<bool, NoMemory> {
     acts.reserve(count)?;
     let before = acts.spare();
     for x in 0..count as u64 {

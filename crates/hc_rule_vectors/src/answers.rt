@@ -1,20 +1,25 @@
 //! Answers that come in pieces, however they are cut.
 ghost use Rattle.std.specs.Prelude.{◌<◌};
 
-use crate::told::{tell_bytes, tell_response};
+use crate::told::{CUTS, tell_bytes, tell_response};
 use hc_msg::{MsgError, ResponseReader, Taken, WirePart};
-use hc_vector::{Fault, Vector, quote};
+use hc_vector::{Fault, Vector, quote, tell};
 use std::alloc::Global;
 
 /// Writes what is told of an answer to a GET or a HEAD, and also what is told where it is cut
 /// otherwise, where that is another.
 pub(crate) fn tell_answers(v: &Vector, to: &mut String) -> Result<(), Fault> {
-    let no_body = v.word(0) == "head";
-    tell_answer(Heard::new(v.alloc(), no_body), v.text(1), 1, 9, to)?;
-    for size in [2, 3, 7, 16, 64, 999, 1 << 30] {
-        let heard = Heard::new(v.alloc(), no_body);
-        let mut other = String::new(v.alloc());
-        tell_answer(heard, v.text(1), size, size.min(9), &mut other)?;
+    tell_answer(v, 1, 9, to)?;
+    let mut other = String::new(v.alloc());
+    tell_other(v, to, &mut other)
+}
+
+/// Writes what is told, in `other`, where the answer is cut by the first of these sizes that tells
+/// another.
+fn tell_other(v: &Vector, to: &mut String, other: &mut String) -> Result<(), Fault> {
+    for size in CUTS {
+        other.clear();
+        tell_answer(v, *size, (*size).min(9), other)?;
         if other.as_str() != to.as_str() {
             write!(to, " but by {size} {other}")?;
             break;
@@ -25,8 +30,15 @@ pub(crate) fn tell_answers(v: &Vector, to: &mut String) -> Result<(), Fault> {
 
 /// Writes what is heard of the answer, which comes in pieces of `size` bytes, of which `most` are taken
 /// at once.
-fn tell_answer(
-    mut heard: Heard,
+fn tell_answer(v: &Vector, size: usize, most: usize, to: &mut String) -> Result<(), Fault>
+    requires { 0 < most }
+{
+    let mut heard = Heard::new(v.alloc(), v.word(0) == "head");
+    hear(&mut heard, v.text(1), size, most, to)
+}
+
+fn hear(
+    heard: &mut Heard,
     text: &[u8],
     size: usize,
     most: usize,
@@ -103,20 +115,30 @@ impl Heard {
             tell_bytes(&self.body, to)?;
         }
         match self.error {
-            Some(e) => write!(to, " {e:?}")?,
-            None if self.is_ended => return tell_end(rest, to),
-            None => return self.tell_close(to),
+            Some(e) => {
+                to.push(' ')?;
+                tell(&e, to)
+            }
+            None if self.is_ended => tell_end(rest, to),
+            None => self.tell_close(to),
         }
-        Ok(())
     }
 
     fn tell_close(&mut self, to: &mut String) -> Result<(), Fault> {
-        match self.reader.finish() {
-            Ok(WirePart::End) => to.push_str(" closed end")?,
-            Ok(_) => to.push_str(" closed")?,
-            Err(e) => write!(to, " closed {e:?}")?,
+        let closed = self.reader.finish();
+        tell_closed(&closed, to)
+    }
+}
+
+/// Writes what the end of the connection comes to.
+fn tell_closed(closed: &Result<WirePart, MsgError>, to: &mut String) -> Result<(), Fault> {
+    match closed {
+        Ok(WirePart::End) => Ok(to.push_str(" closed end")?),
+        Ok(_) => Ok(to.push_str(" closed")?),
+        Err(e) => {
+            to.push_str(" closed ")?;
+            tell(e, to)
         }
-        Ok(())
     }
 }
 

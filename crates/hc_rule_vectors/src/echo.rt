@@ -1,6 +1,6 @@
 //! A cache that stores nothing: each consumer has an exchange of its own, of its number, and is given
 //! each piece as it comes.
-use hc_event::{Act, Cause, Event, Need, Request, Response, Wait};
+use hc_event::{Act, Acts, Cause, Event, Need, Request, Response, Wait};
 use hc_text::{Bytes, NoMemory, read_number};
 use std::alloc::Global;
 
@@ -20,6 +20,8 @@ struct Flow {
 pub(crate) struct Echo {
     alloc: Global,
     flows: Vec<Flow>,
+    /// What was done at the last event.
+    acts: Acts,
 }
 
 impl Echo {
@@ -28,6 +30,7 @@ impl Echo {
         Echo {
             alloc,
             flows: Vec::new(alloc),
+            acts: Acts::new(alloc),
         }
     }
 
@@ -42,29 +45,39 @@ impl Echo {
         Ok(wanted)
     }
 
-    /// What is done at the event.
-    pub(crate) fn step(&mut self, event: &Event) -> Result<Vec<Act>, NoMemory> {
+    /// What was done at the last event.
+    pub(crate) fn acts(&self) -> &[Act] {
+        self.acts.list()
+    }
+
+    /// Answers the event by acts.
+    pub(crate) fn step(&mut self, event: &Event) -> Result<(), NoMemory> {
+        self.acts.clear();
         match event {
-            Event::Start { c, request } => {
-                self.flows.push(Flow::new(*c, request)?)?;
-                Ok(Vec::new(self.alloc))
-            }
+            Event::Start { c, request } => self.start(*c, request),
             Event::Poll { c: n, .. }
             | Event::Cancel { c: n }
             | Event::Head { x: n, .. }
             | Event::Piece { x: n, .. }
             | Event::Fault { x: n }
             | Event::End { x: n } => self.step_of(*n, event),
-            Event::Doom { .. } => Ok(Vec::new(self.alloc)),
+            Event::Doom { .. } => Ok(()),
         }
     }
 
-    /// What is done at an event of the consumer of this number, or of its exchange.
-    fn step_of(&mut self, n: u64, event: &Event) -> Result<Vec<Act>, NoMemory> {
-        match self.flows.iter().position(|flow| flow.c == n) {
-            Some(i) => self.flows[i].step(self.alloc, event),
-            None => Ok(Vec::new(self.alloc)),
+    fn start(&mut self, c: u64, request: &Request) -> Result<(), NoMemory> {
+        self.flows.push(Flow::new(c, request)?)?;
+        Ok(())
+    }
+
+    /// Answers an event of the consumer of this number, or of its exchange.
+    fn step_of(&mut self, n: u64, event: &Event) -> Result<(), NoMemory> {
+        for flow in &mut self.flows {
+            if flow.c == n {
+                return flow.step(event, &mut self.acts);
+            }
         }
+        Ok(())
     }
 }
 
@@ -80,69 +93,63 @@ impl Flow {
         })
     }
 
-    fn step(&mut self, alloc: Global, event: &Event) -> Result<Vec<Act>, NoMemory> {
+    fn step(&mut self, event: &Event, acts: &mut Acts) -> Result<(), NoMemory> {
         let c = self.c;
         self.is_wanted = false;
         match event {
-            Event::Poll { .. } => self.poll(alloc),
+            Event::Poll { .. } => self.poll(acts),
             Event::Head { response, .. } => {
                 self.left = length_of(response);
-                Ok(Vec::new(alloc))
+                Ok(())
             }
-            Event::Piece { bytes, .. } => self.piece(alloc, bytes.copy()?),
-            Event::Cancel { .. } if self.is_opened => one(alloc, Act::Close { x: c }),
-            Event::Cancel { .. } => Ok(Vec::new(alloc)),
+            Event::Piece { bytes, .. } => self.piece(bytes, acts),
+            Event::Cancel { .. } if self.is_opened => acts.push(Act::Close { x: c }),
+            Event::Cancel { .. } => Ok(()),
             _ => {
                 let cause = Cause::Net(c);
-                one(alloc, Act::Failed { c, cause })
+                acts.push(Act::Failed { c, cause })
             }
         }
     }
 
-    fn poll(&mut self, alloc: Global) -> Result<Vec<Act>, NoMemory> {
+    fn poll(&mut self, acts: &mut Acts) -> Result<(), NoMemory> {
         let c = self.c;
         self.is_wanted = true;
         if !self.is_opened {
-            return self.open(alloc);
+            return self.open(acts);
         }
         if self.left.is_none() {
             let wait = Wait::Head(c);
-            return one(alloc, Act::Pending { c, wait });
+            return acts.push(Act::Pending { c, wait });
         }
-        one(alloc, Act::Ask { x: c })
+        acts.push(Act::Ask { x: c })
     }
 
-    fn open(&mut self, alloc: Global) -> Result<Vec<Act>, NoMemory> {
+    fn open(&mut self, acts: &mut Acts) -> Result<(), NoMemory> {
         let c = self.c;
         self.is_opened = true;
-        let request = self.request.copy()?;
-        let need = Need::Miss;
-        one(
-            alloc,
-            Act::Opened {
-                x: c,
-                c,
-                need,
-                request,
-            },
-        )
+        acts.push(Act::Opened {
+            x: c,
+            c,
+            need: Need::Miss,
+            request: self.request.copy()?,
+        })
     }
 
-    fn piece(&mut self, alloc: Global, bytes: Bytes) -> Result<Vec<Act>, NoMemory> {
+    fn piece(&mut self, bytes: &Bytes, acts: &mut Acts) -> Result<(), NoMemory> {
         let c = self.c;
         let left = self.left.unwrap_or(0).saturating_sub(bytes.len() as u64);
         self.left = Some(left);
-        let given = Act::Given {
+        acts.push(Act::Given {
             c,
             x: c,
             at: 0,
-            bytes,
-        };
-        let mut acts = one(alloc, given)?;
+            bytes: bytes.copy()?,
+        })?;
         if left == 0 {
-            acts.push(Act::Ended { c })?;
+            return acts.push(Act::Ended { c });
         }
-        Ok(acts)
+        Ok(())
     }
 }
 
@@ -152,11 +159,4 @@ fn length_of(response: &Response) -> Option<u64> {
         .fields
         .get(b"content-length")
         .and_then(|length| read_number(length))
-}
-
-/// One act alone.
-fn one(alloc: Global, act: Act) -> Result<Vec<Act>, NoMemory> {
-    let mut acts = Vec::new(alloc);
-    acts.push(act)?;
-    Ok(acts)
 }

@@ -6,16 +6,15 @@ use hc_vector::{Fault, Vector, tell};
 /// Whole heads have no more bytes.
 const MOST: usize = 32_768;
 
-/// Writes the value of the call, if it is one of these.
-pub(crate) fn call(v: &Vector, to: &mut String) -> Result<bool, Fault> {
+/// Writes the value of the call. `NoSuchCall` where it is none of these.
+pub(crate) fn call(v: &Vector, to: &mut String) -> Result<(), Fault> {
     match v.call() {
         "call_of t" => tell_call(v, to),
         "reply_of wt" => tell_reply(v, to),
         "find_end t" => tell_end(v, to),
         "line_end t" => tell(&line_end(v.text(0)), to),
-        _ => return Ok(false),
-    }?;
-    Ok(true)
+        _ => Err(Fault::NoSuchCall),
+    }
 }
 
 /// Writes what the head of a request asks for.
@@ -46,7 +45,8 @@ fn tell_read(reply: &Reply, to: &mut String) -> Result<(), Fault> {
     match reply {
         Reply::Skips => Ok(to.push_str("skips")?),
         Reply::Shows(response, framing) => {
-            write!(to, "{framing:?} ")?;
+            tell(framing, to)?;
+            to.push(' ')?;
             tell_response(response, to)
         }
     }
@@ -55,9 +55,14 @@ fn tell_read(reply: &Reply, to: &mut String) -> Result<(), Fault> {
 /// Writes where the head ends.
 fn tell_end(v: &Vector, to: &mut String) -> Result<(), Fault> {
     match find_end(0, Scan::Before, v.text(0)) {
-        Ok(Sought::Ends(end)) => write!(to, "ends at {end}")?,
-        Ok(Sought::Open(scan)) => write!(to, "open {scan:?}")?,
-        Err(e) => write!(to, "{e:?}")?,
+        Ok(Sought::Ends(end)) => {
+            to.push_str("ends at ")?;
+            tell(&end, to)
+        }
+        Ok(Sought::Open(scan)) => {
+            to.push_str("open ")?;
+            tell(&scan, to)
+        }
+        Err(e) => tell(&e, to),
     }
-    Ok(())
 }

@@ -30,20 +30,45 @@ struct Libraries {
 
 impl Calls for Libraries {
     fn tell(&mut self, vector: &Vector, value: &mut String) -> Result<(), Fault> {
-        let is_told = freshness::call(vector, value)?
-            || validation::call(vector, value)?
-            || requests::call(vector, value)?
-            || plans::call(vector, value)?
-            || schedules::call(vector, value)?
-            || heads::call(vector, value)?
-            || messages::call(vector, value)?
-            || drawing::call(vector, value)?;
-        if is_told {
-            Ok(())
-        } else {
+        let told = call(vector, value);
+        if is_of_none(told) {
             self.report.call(vector, value)
+        } else {
+            told
         }
     }
+}
+
+/// Writes the value of a call that keeps nothing. `NoSuchCall` where it is none of these.
+fn call(vector: &Vector, value: &mut String) -> Result<(), Fault> {
+    let mut told = freshness::call(vector, value);
+    if is_of_none(told) {
+        told = validation::call(vector, value);
+    }
+    if is_of_none(told) {
+        told = requests::call(vector, value);
+    }
+    if is_of_none(told) {
+        told = plans::call(vector, value);
+    }
+    if is_of_none(told) {
+        told = schedules::call(vector, value);
+    }
+    if is_of_none(told) {
+        told = heads::call(vector, value);
+    }
+    if is_of_none(told) {
+        told = messages::call(vector, value);
+    }
+    if is_of_none(told) {
+        told = drawing::call(vector, value);
+    }
+    told
+}
+
+/// Whether those that were asked so far have no such call.
+fn is_of_none(told: Result<(), Fault>) -> bool {
+    told == Err(Fault::NoSuchCall)
 }
 
 fn main(rt: HostRuntime) -> ExitCode {

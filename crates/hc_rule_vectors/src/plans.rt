@@ -9,28 +9,26 @@ use hc_text::NoMemory;
 use hc_vector::{Fault, Vector, tell};
 use std::alloc::Global;
 
-/// Writes the value of the call, if it is one of these.
-pub(crate) fn call(v: &Vector, to: &mut String) -> Result<bool, Fault> {
+/// Writes the value of the call. `NoSuchCall` where it is none of these.
+pub(crate) fn call(v: &Vector, to: &mut String) -> Result<(), Fault> {
     match v.call() {
         "read_step nnnwnnn" | "read_step nnnwwnn" => tell_step(v, to),
         "lesser nn" => tell(&lesser(v.option(0), v.number(1)), to),
         "weight_of n" => tell_weight(v, to),
-        _ => return call_of_any_count(v, to),
-    }?;
-    Ok(true)
+        _ => call_of_any_count(v, to),
+    }
 }
 
-/// Writes the value of the call, if it is one of these, which take more arguments or fewer.
-fn call_of_any_count(v: &Vector, to: &mut String) -> Result<bool, Fault> {
+/// Writes the value of a call with more arguments or fewer. `NoSuchCall` where it is none of these.
+fn call_of_any_count(v: &Vector, to: &mut String) -> Result<(), Fault> {
     match v.name() {
         "plan_of" => tell_plan(v, to),
         "admission_of" => tell_admission(v, to),
         "least_bound" => tell_least(v, to),
         "room_of" => tell_room(v, to),
         "survivor_at" => tell_survivor(v, to),
-        _ => return Ok(false),
-    }?;
-    Ok(true)
+        _ => Err(Fault::NoSuchCall),
+    }
 }
 
 fn tell_plan(v: &Vector, to: &mut String) -> Result<(), Fault> {
@@ -125,10 +123,15 @@ fn tell_least(v: &Vector, to: &mut String) -> Result<(), Fault> {
 /// Those who are bound, from this place on.
 fn bound_from(v: &Vector, from: usize) -> Result<Vec<Bound>, Fault> {
     let mut bound = Vec::new(v.alloc());
+    add_bound(v, from, &mut bound)?;
+    Ok(bound)
+}
+
+fn add_bound(v: &Vector, from: usize, bound: &mut Vec<Bound>) -> Result<(), Fault> {
     for at in from..v.argument_count() {
         bound.push(bound_at(v, at)?)?;
     }
-    Ok(bound)
+    Ok(())
 }
 
 fn tell_weight(v: &Vector, to: &mut String) -> Result<(), Fault> {
@@ -150,19 +153,16 @@ fn tell_room(v: &Vector, to: &mut String) -> Result<(), Fault> {
     if used >= 1 << 62 || count >= 1 << 62 {
         return Err(Fault::NoSuchCall);
     }
-    let idle = numbers_from(v, 4)?;
-    match name {
-        "slot" => tell(&room_of(&limits, used, Write::Slot, &idle), to),
-        "piece" => tell(
-            &room_of(&limits, used, Write::Piece { stored, count }, &idle),
-            to,
-        ),
-        _ => Err(Fault::NoSuchCall),
-    }
+    let write = match name {
+        "slot" => Write::Slot,
+        "piece" => Write::Piece { stored, count },
+        _ => return Err(Fault::NoSuchCall),
+    };
+    tell(&room_of(&limits, used, write, &numbers_from(v, 4)?), to)
 }
 
 /// The numbers from this place on.
-fn numbers_from(v: &Vector, from: usize) -> Result<Vec<u64>, Fault> {
+fn numbers_from(v: &Vector, from: usize) -> Result<Vec<u64>, NoMemory> {
     let mut numbers = Vec::new(v.alloc());
     for at in from..v.argument_count() {
         numbers.push(v.number(at))?;
@@ -172,22 +172,26 @@ fn numbers_from(v: &Vector, from: usize) -> Result<Vec<u64>, Fault> {
 
 /// Writes who stands at the end of what is stored: each member, with where it stands.
 fn tell_survivor(v: &Vector, to: &mut String) -> Result<(), Fault> {
-    let numbers = numbers_from(v, 1)?;
-    if numbers.len() % 2 != 0 {
-        return Err(Fault::NoSuchCall);
-    }
-    let members = members_of(v.alloc(), &numbers)?;
+    let members = members_of(v.alloc(), &numbers_from(v, 1)?)?;
     tell(&survivor_at(v.number(0), &members), to)
 }
 
 /// The members that stand in a row, the number and the offset of each.
-fn members_of(alloc: Global, numbers: &[u64]) -> Result<Vec<Member>, NoMemory> {
+fn members_of(alloc: Global, numbers: &[u64]) -> Result<Vec<Member>, Fault> {
+    if numbers.len() % 2 != 0 {
+        return Err(Fault::NoSuchCall);
+    }
     let mut members = Vec::new(alloc);
+    add_members(numbers, &mut members)?;
+    Ok(members)
+}
+
+fn add_members(numbers: &[u64], members: &mut Vec<Member>) -> Result<(), NoMemory> {
     for member in numbers.chunks_exact(2) {
         members.push(Member {
             c: member[0],
             offset: member[1],
         })?;
     }
-    Ok(members)
+    Ok(())
 }

@@ -1,16 +1,17 @@
 //! Calls of `hc_rules` on requests and on the heads of answers.
 use crate::given::{event_at, fields_at, is_yes, range_at, request_at, response_at};
 use crate::words::need_at;
-use hc_etag::read_tag;
+use hc_etag::{Tag, read_tag};
 use hc_range::Span;
 use hc_rules::{
-    Gate, HeadView, OpenExchange, class_of, content_range_of, fits_to_found, head_case,
-    hole_answer, is_conditional, is_storable, length_of, refusal_of, route_of, wanted_of,
+    Gate, HeadView, OpenExchange, RequestClass, class_of, content_range_of, fits_to_found,
+    head_case, hole_answer, is_conditional, is_storable, length_of, refusal_of, route_of,
+    wanted_of,
 };
 use hc_vector::{Fault, Vector, tell};
 
-/// Writes the value of the call, if it is one of these.
-pub(crate) fn call(v: &Vector, to: &mut String) -> Result<bool, Fault> {
+/// Writes the value of the call. `NoSuchCall` where it is none of these.
+pub(crate) fn call(v: &Vector, to: &mut String) -> Result<(), Fault> {
     match v.call() {
         "class_of t" => tell_class(v, to),
         "wanted_of tn" => tell_wanted(v, to),
@@ -24,14 +25,17 @@ pub(crate) fn call(v: &Vector, to: &mut String) -> Result<bool, Fault> {
         "hole_answer tnnnt" => tell_hole_answer(v, to),
         "route_of w" => tell_route(v, to),
         "head_case wwnwwwwwww" => tell_head_case(v, to),
-        _ => return Ok(false),
-    }?;
-    Ok(true)
+        _ => Err(Fault::NoSuchCall),
+    }
 }
 
 /// Writes what holds of the class of a request, and its range.
 fn tell_class(v: &Vector, to: &mut String) -> Result<(), Fault> {
-    let class = class_of(&request_at(v, 0)?);
+    let request = request_at(v, 0)?;
+    tell_class_as(class_of(&request), to)
+}
+
+fn tell_class_as(class: RequestClass, to: &mut String) -> Result<(), Fault> {
     if class.disabled {
         to.push_str("disabled ")?;
     }
@@ -63,7 +67,12 @@ fn tell_refusal(
         is_live: is_yes(v, 2)?,
         exchange,
     };
-    tell(&refusal_of(&gate, &event_at(v, at)?), to)
+    tell_refusal_at(&gate, v, at, to)
+}
+
+fn tell_refusal_at(gate: &Gate, v: &Vector, at: usize, to: &mut String) -> Result<(), Fault> {
+    let event = event_at(v, at)?;
+    tell(&refusal_of(gate, &event), to)
 }
 
 /// Writes the refusal of an event of an open exchange: whether it has its head, whether a piece was asked
@@ -110,13 +119,19 @@ fn tell_conditional(v: &Vector, to: &mut String) -> Result<(), Fault> {
 
 /// Writes what an answer is to a hole of a representation with this tag and length.
 fn tell_hole_answer(v: &Vector, to: &mut String) -> Result<(), Fault> {
-    let tag = read_tag(v.alloc(), v.text(0))?.ok_or(Fault::NoSuchCall)?;
+    match read_tag(v.alloc(), v.text(0))? {
+        Some(tag) => tell_hole_answer_with(&tag, v, to),
+        None => Err(Fault::NoSuchCall),
+    }
+}
+
+fn tell_hole_answer_with(tag: &Tag, v: &Vector, to: &mut String) -> Result<(), Fault> {
     let hole = Span {
         lo: v.number(2),
         hi: v.number(3),
     };
     let answer = response_at(v, 4)?;
-    tell(&hole_answer(&tag, v.number(1), hole, &answer), to)
+    tell(&hole_answer(tag, v.number(1), hole, &answer), to)
 }
 
 fn tell_route(v: &Vector, to: &mut String) -> Result<(), Fault> {
@@ -134,16 +149,28 @@ fn head_view_of(v: &Vector) -> Result<HeadView, Fault> {
     if status > 999 {
         return Err(Fault::NoSuchCall);
     }
+    let [bad, conditional, selects, storable, fits, joins, lost] = answers_at(v, 3)?;
     Ok(HeadView {
         need: need_at(v, 0)?,
         shown: is_yes(v, 1)?,
         status: status as u16,
-        bad: is_yes(v, 3)?,
-        conditional: is_yes(v, 4)?,
-        selects: is_yes(v, 5)?,
-        storable: is_yes(v, 6)?,
-        fits: is_yes(v, 7)?,
-        joins: is_yes(v, 8)?,
-        lost: is_yes(v, 9)?,
+        bad,
+        conditional,
+        selects,
+        storable,
+        fits,
+        joins,
+        lost,
     })
+}
+
+/// Seven answers, from this place on.
+fn answers_at(v: &Vector, from: usize) -> Result<[bool; 7], Fault> {
+    let mut answers = [false; 7];
+    let mut at = from;
+    for answer in &mut answers {
+        *answer = is_yes(v, at)?;
+        at = at.saturating_add(1);
+    }
+    Ok(answers)
 }

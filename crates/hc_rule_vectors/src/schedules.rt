@@ -3,15 +3,16 @@ ghost use Rattle.std.specs.Prelude.{◌+◌, ◌<◌, ◌≤◌, ◌^◌, length
 ghost use Rattle.hc_sched.specs.Feeding.{lines_in};
 
 use crate::given::{MOST, event_at};
-use crate::told::tell_event;
+use crate::told::{tell_event, tell_text};
 use hc_event::Event;
 use hc_sched::{Feed, FeedError, Refused, SchedRefusal, Timed, write_event};
 use hc_target::is_target;
-use hc_vector::{Fault, Vector, quote, tell};
+use hc_text::NoMemory;
+use hc_vector::{Fault, Vector, tell};
 use std::alloc::Global;
 
-/// Writes the value of the call, if it is one of these.
-pub(crate) fn call(v: &Vector, to: &mut String) -> Result<bool, Fault> {
+/// Writes the value of the call. `NoSuchCall` where it is none of these.
+pub(crate) fn call(v: &Vector, to: &mut String) -> Result<(), Fault> {
     match v.call() {
         "is_target t" => tell_target(v, to),
         "copy t" => tell_copy(v, to),
@@ -19,9 +20,8 @@ pub(crate) fn call(v: &Vector, to: &mut String) -> Result<bool, Fault> {
         "read_schedule nnt" => tell_read(v, to),
         "cut_schedule t" => tell_cuts(v, to),
         "write_end nnn" => tell_end(v, to),
-        _ => return Ok(false),
-    }?;
-    Ok(true)
+        _ => Err(Fault::NoSuchCall),
+    }
 }
 
 fn tell_target(v: &Vector, to: &mut String) -> Result<(), Fault> {
@@ -41,9 +41,17 @@ fn tell_end(v: &Vector, to: &mut String) -> Result<(), Fault> {
         return Err(Fault::NoSuchCall);
     }
     let mut text = Vec::new(v.alloc());
+    write_end(last, now, x, &mut text)?;
+    tell_text(&text, to)
+}
+
+fn write_end(last: u64, now: u64, x: u64, text: &mut Vec<u8>) -> Result<(), NoMemory>
+    requires later { last ≤ now }
+    requires small_moment { now < 2 ^ 62 }
+    requires small_number { x < 2 ^ 62 }
+{
     let event = Event::End { x };
-    write_event(last, &Timed { now, event }, &mut text)?;
-    Ok(quote(&text, to)?)
+    write_event(last, &Timed { now, event }, text)
 }
 
 /// Writes what is told of a text in pieces of so many bytes.
@@ -55,9 +63,15 @@ fn tell_read(v: &Vector, to: &mut String) -> Result<(), Fault> {
 /// another.
 fn tell_alike(v: &Vector, to: &mut String) -> Result<(), Fault> {
     read(v.alloc(), v.number(0), v.text(1), 1, to)?;
+    let mut other = String::new(v.alloc());
+    tell_other(v, to, &mut other)
+}
+
+/// Writes what is told of the first size from 2 that tells another, in `other`.
+fn tell_other(v: &Vector, to: &mut String, other: &mut String) -> Result<(), Fault> {
     for size in 2..301 {
-        let mut other = String::new(v.alloc());
-        read(v.alloc(), v.number(0), v.text(1), size, &mut other)?;
+        other.clear();
+        read(v.alloc(), v.number(0), v.text(1), size, other)?;
         if other.as_str() != to.as_str() {
             write!(to, " but by {size} {other}")?;
             break;
@@ -80,8 +94,21 @@ fn read(
     }
     let mut feed = Feed::after(alloc, moment);
     let mut events = Vec::new(alloc);
-    let fed = feed_pieces(&mut feed, text, size, &mut events);
-    tell_events(&events, to)?;
+    tell_pieces(&mut feed, text, size, &mut events, to)
+}
+
+fn tell_pieces(
+    feed: &mut Feed,
+    text: &[u8],
+    size: usize,
+    events: &mut Vec<Timed>,
+    to: &mut String,
+) -> Result<(), Fault>
+    requires some { 0 < size }
+    requires few { lines_in feed.old + length text.now ≤ 2 ^ 60 }
+{
+    let fed = feed_pieces(feed, text, size, events);
+    tell_events(events, to)?;
     tell_answer(fed, feed.held(), to)?;
     to.push_str(", ")?;
     let ended = feed.finish();
@@ -121,11 +148,12 @@ fn feed_pieces(
 /// Writes an answer, and how many bytes are held.
 fn tell_answer(answer: Result<(), FeedError>, held: usize, to: &mut String) -> Result<(), Fault> {
     match answer {
-        Ok(()) => write!(to, "ok {held}")?,
-        Err(FeedError::Refused(Refused { line, why })) => write!(to, "line {line} {why:?} {held}")?,
-        Err(FeedError::NoMemory) => return Err(Fault::NoMemory),
+        Ok(()) => Ok(write!(to, "ok {held}")?),
+        Err(FeedError::Refused(Refused { line, why })) => {
+            Ok(write!(to, "line {line} {why:?} {held}")?)
+        }
+        Err(FeedError::NoMemory) => Err(Fault::NoMemory),
     }
-    Ok(())
 }
 
 /// Writes how many of the front parts of a schedule are whole, how many are cut short, and how many are

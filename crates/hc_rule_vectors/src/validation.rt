@@ -2,12 +2,14 @@
 use crate::given::{fields_at, head_at, is_yes, request_at, response_at};
 use crate::told::{tell_fields, tell_response};
 use crate::words::{span_at, why_at};
+use hc_event::Request;
 use hc_fields::Fields;
-use hc_validate::{conditional, origin_answer, origin_byte, selects, shown, update};
+use hc_record::StoredHead;
+use hc_validate::{Answer, conditional, origin_answer, origin_byte, selects, shown, update};
 use hc_vector::{Fault, Vector, tell};
 
-/// Writes the value of the call, if it is one of these.
-pub(crate) fn call(v: &Vector, to: &mut String) -> Result<bool, Fault> {
+/// Writes the value of the call. `NoSuchCall` where it is none of these.
+pub(crate) fn call(v: &Vector, to: &mut String) -> Result<(), Fault> {
     match v.call() {
         "conditional tt" => tell_conditional(v, to),
         "selects tt" => tell_selects(v, to),
@@ -16,19 +18,26 @@ pub(crate) fn call(v: &Vector, to: &mut String) -> Result<bool, Fault> {
         "shown twnw" | "shown twww" => tell_shown(v, to),
         "origin_answer t" => tell_origin(v, to),
         "origin_byte n" => tell(&char::from(origin_byte(v.number(0))), to),
-        _ => return Ok(false),
-    }?;
-    Ok(true)
+        _ => Err(Fault::NoSuchCall),
+    }
 }
 
 /// Writes the fields of the conditional request.
 fn tell_conditional(v: &Vector, to: &mut String) -> Result<(), Fault> {
     let head = head_at(v, 0)?;
     let request = request_at(v, 1)?;
+    tell_conditional_for(&head, &request, to)
+}
+
+fn tell_conditional_for(
+    head: &StoredHead,
+    request: &Request,
+    to: &mut String,
+) -> Result<(), Fault> {
     if !request.fields.within_limits() {
         return Err(Fault::NoSuchCall);
     }
-    let asked = conditional(&head, &request)?;
+    let asked = conditional(head, request)?;
     tell_fields(&asked.fields, to)
 }
 
@@ -39,19 +48,30 @@ fn tell_selects(v: &Vector, to: &mut String) -> Result<(), Fault> {
 }
 
 fn tell_update(v: &Vector, to: &mut String) -> Result<(), Fault> {
-    let stored = fields_at(v, 0)?;
     let from = fields_at(v, 1)?;
-    tell_fields(&update(&stored, &from)?, to)
+    let updated = updated_by(&from, v)?;
+    tell_fields(&updated, to)
 }
 
 /// Writes how many fields come of an update by so many.
 fn tell_update_by_many(v: &Vector, to: &mut String) -> Result<(), Fault> {
     let mut from = Fields::new(v.alloc())?;
-    for _ in 0..v.number(1) {
-        from.append(b"x-n", b"1")?;
+    add_many(v.number(1), &mut from)?;
+    let updated = updated_by(&from, v)?;
+    tell(&updated.len(), to)
+}
+
+fn add_many(count: u64, to: &mut Fields) -> Result<(), Fault> {
+    for _ in 0..count {
+        to.append(b"x-n", b"1")?;
     }
+    Ok(())
+}
+
+/// What an update by these fields makes of those that the first argument lists.
+fn updated_by(from: &Fields, v: &Vector) -> Result<Fields, Fault> {
     let stored = fields_at(v, 0)?;
-    tell(&update(&stored, &from)?.len(), to)
+    Ok(update(&stored, from)?)
 }
 
 /// Writes what is shown of a head: why, which span of it, and whether to a consumer with a range.
@@ -63,15 +83,17 @@ fn tell_shown(v: &Vector, to: &mut String) -> Result<(), Fault> {
     if ranged && !is_within {
         return Err(Fault::NoSuchCall);
     }
-    let head = head_at(v, 0)?;
-    let response = shown(head, why, span, ranged)?;
+    let response = shown(head_at(v, 0)?, why, span, ranged)?;
     tell_response(&response, to)
 }
 
 /// Writes the bytes and the head of the answer.
 fn tell_origin(v: &Vector, to: &mut String) -> Result<(), Fault> {
-    let request = request_at(v, 0)?;
-    let answer = origin_answer(&request)?;
+    let answer = origin_answer(&request_at(v, 0)?)?;
+    tell_answer(&answer, to)
+}
+
+fn tell_answer(answer: &Answer, to: &mut String) -> Result<(), Fault> {
     write!(to, "{} to {}, ", answer.lo, answer.hi)?;
     tell_response(&answer.response, to)
 }

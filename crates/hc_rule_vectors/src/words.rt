@@ -119,10 +119,11 @@ pub(crate) fn span_at(v: &Vector, at: usize) -> Result<Option<Span>, Fault> {
 
 /// A consumer that is bound to a representation, by how it is.
 pub(crate) fn bound_at(v: &Vector, at: usize) -> Result<Bound, Fault> {
-    let (kind, c) = match parts_at(v, at)? {
-        ("shared", [c, _, _]) => (BoundKind::Shared, c),
-        ("exclusive", [c, _, _]) => (BoundKind::Exclusive, c),
-        ("reader", [c, _, _]) => (BoundKind::Reader, c),
+    let (name, [c, _, _]) = parts_at(v, at)?;
+    let kind = match name {
+        "shared" => BoundKind::Shared,
+        "exclusive" => BoundKind::Exclusive,
+        "reader" => BoundKind::Reader,
         _ => return Err(Fault::NoSuchCall),
     };
     Ok(Bound { c, kind })

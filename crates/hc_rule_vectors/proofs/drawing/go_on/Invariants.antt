@@ -1,5 +1,5 @@
 use Rattle.std.proofs.Common.{◌+◌, ◌*◌, ◌≤◌}
-use Rattle.hc_rule_vectors.proofs.drawing.walk.Given as goal
+use Rattle.hc_rule_vectors.proofs.drawing.go_on.Given as goal
 
 abbrev pub invariant-loop-i : goal.invariant-loop-i
 invariant-loop-i l = record {

@@ -1,5 +1,5 @@
 //! A course that is over before its schedule is.
-ghost use Rattle.std.specs.Prelude.{◌≡◌, ◌<◌, ◌≤◌, ◌^◌, ⊤, nat_eq, vec_len};
+ghost use Rattle.std.specs.Prelude.{◌≡◌, ◌<◌, ◌^◌, ⊤, nat_eq};
 
 use hc_driver::{Course, go_through};
 use hc_event::{Acts, Event};
@@ -7,6 +7,7 @@ use hc_io::{MemorySink, MemorySource};
 use hc_sched::Ended;
 use hc_text::NoMemory;
 use std::alloc::Global;
+use std::process::Abort;
 use std::test::Fail;
 
 /// Answers so many more events, each by its number in the schedule.
@@ -55,16 +56,25 @@ impl Course for Countdown {
     }
 }
 
-/// How a schedule ends that is read byte by byte, where a read fails at call `fails`, whether the
-/// course is over then, and what is written.
-fn count_down(
-    alloc: Global,
+const SCHEDULE: &[u8] = b"poll 1 1\npoll 2 1\nno line\n";
+
+/// A source that gives the schedule byte by byte and fails at its 20th read.
+fn source_of(alloc: Global) -> Result<MemorySource, Fail> {
+    let schedule = Vec::from_slice(alloc, SCHEDULE)?;
+    Ok(MemorySource::new(schedule, 1, vec![in alloc; 20]?))
+}
+
+/// Counts down from `left` over the schedule. It ends in this way, the course is over then or not, and
+/// two events are written.
+fn expect<R: Abort + AllocGlobal>(
+    rt: &R,
     left: u64,
-    schedule: Vec<u8>,
-    fails: u64,
-) -> Result<(Ended, bool, Vec<u8>), NoMemory>
-    requires some { 0 < left }
-    requires short { vec_len schedule ≤ 2 ^ 60 }
+    source: &mut MemorySource,
+    sink: &mut MemorySink,
+    how: Ended,
+    is_over: bool,
+)
+    requires { 0 < left }
 {
     let mut on = Countdown {
         left,
@@ -72,30 +82,24 @@ fn count_down(
         steps: 0,
         received: 0,
     };
-    let mut source = MemorySource::new(schedule, 1, vec![in alloc; fails]?);
-    let mut sink = MemorySink::new(alloc, Vec::new(alloc));
-    let ended = go_through(alloc, 0, &mut on, &mut source, &mut sink);
-    Ok((ended, on.is_over(), Vec::from_slice(alloc, sink.taken())?))
+    let ended = go_through(rt.alloc(), 0, &mut on, source, sink);
+    assert_eq!(rt; ended, how);
+    assert!(rt; on.is_over() == is_over);
+    assert_eq!(rt; sink.taken(), b"12".as_slice());
 }
-
-const SCHEDULE: &[u8] = b"poll 1 1\npoll 2 1\nno line\n";
 
 #[test]
 fn reads_on_until_it_is_over(rt: HostRuntime) -> Result<(), Fail> {
-    let schedule = Vec::from_slice(rt.alloc(), SCHEDULE)?;
-    let (ended, is_over, taken) = count_down(rt.alloc(), 2, schedule, 20)?;
-    assert_eq!(rt; ended, Ended::Done);
-    assert!(rt; is_over);
-    assert_eq!(rt; taken.as_slice(), b"12".as_slice());
+    let mut source = source_of(rt.alloc())?;
+    let mut sink = MemorySink::new(rt.alloc(), Vec::new(rt.alloc()));
+    expect(&rt, 2, &mut source, &mut sink, Ended::Done, true);
     Ok(())
 }
 
 #[test]
 fn fails_before_it_is_over(rt: HostRuntime) -> Result<(), Fail> {
-    let schedule = Vec::from_slice(rt.alloc(), SCHEDULE)?;
-    let (ended, is_over, taken) = count_down(rt.alloc(), 3, schedule, 20)?;
-    assert_eq!(rt; ended, Ended::SourceFailed);
-    assert!(rt; !is_over);
-    assert_eq!(rt; taken.as_slice(), b"12".as_slice());
+    let mut source = source_of(rt.alloc())?;
+    let mut sink = MemorySink::new(rt.alloc(), Vec::new(rt.alloc()));
+    expect(&rt, 3, &mut source, &mut sink, Ended::SourceFailed, false);
     Ok(())
 }

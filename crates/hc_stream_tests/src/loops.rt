@@ -7,6 +7,7 @@ use hc_io::{MemorySink, MemorySource};
 use hc_sched::{Ended, Refused, SchedRefusal};
 use hc_text::NoMemory;
 use std::alloc::Global;
+use std::process::Abort;
 use std::test::Fail;
 
 /// Answers each poll by an end, and another event by nothing.
@@ -46,91 +47,106 @@ const SCHEDULE: &[u8] = b"poll 1 1\nat 7\nhead 1 200 1\na: b\npiece 1 6869\npoll
 
 const REPORT: &[u8] = b"> 1\nended 1\n> 2\n> 3\n> 4\nended 2\n";
 
-/// How a schedule ends that comes in pieces of `size` bytes, where reads and writes fail at these
-/// calls, and what is written then.
-fn report(
+/// A schedule that comes in pieces of `size` bytes, where reads fail at these calls.
+fn source_of(
     alloc: Global,
     schedule: &[u8],
     size: usize,
-    reads: Vec<u64>,
-    writes: Vec<u64>,
-) -> Result<(Ended, Vec<u8>), NoMemory>
+    fails: &[u64],
+) -> Result<MemorySource, Fail>
     requires some { 0 < size }
     requires short { length schedule.now < 2 ^ 40 }
 {
+    let bytes = Vec::from_slice(alloc, schedule)?;
+    Ok(MemorySource::new(bytes, size, Vec::from_slice(alloc, fails)?))
+}
+
+/// The schedule ends in this way, and this report is written, where writes fail at these calls.
+fn expect<R: Abort + AllocGlobal>(
+    rt: &R,
+    source: &mut MemorySource,
+    fails: &[u64],
+    how: Ended,
+    report: &[u8],
+) -> Result<(), Fail> {
+    let fails = Vec::from_slice(rt.alloc(), fails)?;
+    let mut sink = MemorySink::new(rt.alloc(), fails);
+    expect_in(rt, source, &mut sink, how, report);
+    Ok(())
+}
+
+fn expect_in<R: Abort + AllocGlobal>(
+    rt: &R,
+    source: &mut MemorySource,
+    sink: &mut MemorySink,
+    how: Ended,
+    report: &[u8],
+) {
     let mut echo = Echo {
         moment: 0,
         steps: 0,
         received: 0,
     };
-    let mut source = MemorySource::new(Vec::from_slice(alloc, schedule)?, size, reads);
-    let mut sink = MemorySink::new(alloc, writes);
-    let ended = step_through(alloc, 0, &mut echo, &mut source, &mut sink);
-    Ok((ended, Vec::from_slice(alloc, sink.taken())?))
+    let ended = step_through(rt.alloc(), 0, &mut echo, source, sink);
+    assert_eq!(rt; ended, how);
+    assert_eq!(rt; sink.taken(), report);
 }
 
 #[test]
 fn reports_however_the_schedule_is_cut(rt: HostRuntime) -> Result<(), Fail> {
     for size in 1..80 {
-        let (ended, taken) = report(
-            rt.alloc(),
-            SCHEDULE,
-            size,
-            Vec::new(rt.alloc()),
-            Vec::new(rt.alloc()),
-        )?;
-        assert_eq!(rt; ended, Ended::Done);
-        assert_eq!(rt; taken.as_slice(), REPORT);
+        let mut source = source_of(rt.alloc(), SCHEDULE, size, &[])?;
+        expect(&rt, &mut source, &[], Ended::Done, REPORT)?;
     }
     Ok(())
 }
 
 #[test]
 fn reports_what_comes_before_a_refusal(rt: HostRuntime) -> Result<(), Fail> {
-    let rows = [
-        (
-            b"poll 1 1\npoll 01 1\npoll 2 1\n".as_slice(),
-            2,
-            SchedRefusal::BadLine,
-        ),
-        (b"poll 1 1\npoll 2".as_slice(), 2, SchedRefusal::CutShort),
-    ];
-    for (schedule, line, why) in rows {
-        assert!(rt; schedule.len() < 100);
-        for size in [1, 5, 100] {
-            let (ended, taken) = report(
-                rt.alloc(),
-                schedule,
-                size,
-                Vec::new(rt.alloc()),
-                Vec::new(rt.alloc()),
-            )?;
-            assert_eq!(rt; ended, Ended::Refused(Refused { line, why }));
-            assert_eq!(rt; taken.as_slice(), b"> 1\nended 1\n".as_slice());
-        }
+    let bad_line = b"poll 1 1\npoll 01 1\npoll 2 1\n";
+    let cut_short = b"poll 1 1\npoll 2";
+    for size in [1, 5, 100] {
+        expect_refused(&rt, bad_line, size, SchedRefusal::BadLine)?;
+        expect_refused(&rt, cut_short, size, SchedRefusal::CutShort)?;
     }
     Ok(())
 }
 
+/// The second line is refused, behind one poll.
+fn expect_refused<R: Abort + AllocGlobal>(
+    rt: &R,
+    schedule: &[u8],
+    size: usize,
+    why: SchedRefusal,
+) -> Result<(), Fail>
+    requires some { 0 < size }
+    requires short { length schedule.now < 2 ^ 40 }
+{
+    let mut source = source_of(rt.alloc(), schedule, size, &[])?;
+    let refused = Ended::Refused(Refused { line: 2, why });
+    expect(rt, &mut source, &[], refused, b"> 1\nended 1\n")
+}
+
 #[test]
-fn reports_until_something_fails(rt: HostRuntime) -> Result<(), Fail> {
-    let (ended, taken) = report(
-        rt.alloc(),
-        SCHEDULE,
-        10,
-        vec![in rt.alloc(); 3]?,
-        Vec::new(rt.alloc()),
-    )?;
-    assert_eq!(rt; ended, Ended::SourceFailed);
-    assert_eq!(rt; taken.as_slice(), b"> 1\nended 1\n".as_slice());
-    let (ended, taken) = report(
-        rt.alloc(),
-        SCHEDULE,
-        10,
-        Vec::new(rt.alloc()),
-        vec![in rt.alloc(); 3]?,
-    )?;
-    assert_eq!(rt; ended, Ended::SinkFailed);
-    assert_eq!(rt; taken.as_slice(), b"> 1\nended 1\n> 2\n".as_slice());
-    Ok(())
+fn reports_until_a_read_fails(rt: HostRuntime) -> Result<(), Fail> {
+    let mut source = source_of(rt.alloc(), SCHEDULE, 10, &[3])?;
+    expect(
+        &rt,
+        &mut source,
+        &[],
+        Ended::SourceFailed,
+        b"> 1\nended 1\n",
+    )
+}
+
+#[test]
+fn reports_until_a_write_fails(rt: HostRuntime) -> Result<(), Fail> {
+    let mut source = source_of(rt.alloc(), SCHEDULE, 10, &[])?;
+    expect(
+        &rt,
+        &mut source,
+        &[3],
+        Ended::SinkFailed,
+        b"> 1\nended 1\n> 2\n",
+    )
 }

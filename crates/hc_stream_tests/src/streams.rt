@@ -4,6 +4,7 @@ use hc_io::{
     SourceFailed, StdSink, StdSource, read_all, write_all,
 };
 use std::io::{self, ErrorKind};
+use std::process::Abort;
 use std::test::Fail;
 
 /// A reader of std that fails.
@@ -28,7 +29,12 @@ fn a_source_in_memory_gives_steps_and_fails_as_listed(rt: HostRuntime) -> Result
     let bytes = Vec::from_slice(rt.alloc(), b"abcdefgh")?;
     assert!(rt; bytes.len() == 8);
     let mut source = MemorySource::new(bytes, 3, vec![in rt.alloc(); 2, 5]?);
-    let rows = [
+    gives_as_listed(&rt, &mut source);
+    Ok(())
+}
+
+fn gives_as_listed<R: Abort>(rt: &R, source: &mut MemorySource) {
+    let rows = &[
         (Some(3), b"abc--"),
         (None, b"-----"),
         (Some(3), b"def--"),
@@ -37,25 +43,31 @@ fn a_source_in_memory_gives_steps_and_fails_as_listed(rt: HostRuntime) -> Result
         (Some(0), b"-----"),
     ];
     for (n, stored) in rows {
-        let (given, into) = read_five(&mut source);
-        assert_eq!(rt; given, n);
+        let (given, into) = read_five(source);
+        assert_eq!(rt; given, *n);
         assert!(rt; into.as_slice() == stored.as_slice());
     }
-    Ok(())
 }
 
 #[test]
 fn sinks_in_memory_take_and_fail_as_listed(rt: HostRuntime) -> Result<(), Fail> {
     let mut sink = MemorySink::new(rt.alloc(), vec![in rt.alloc(); 2]?);
+    takes_as_listed(&rt, &mut sink);
+    takes(&rt, &mut PlainSink::new(rt.alloc()));
+    Ok(())
+}
+
+fn takes_as_listed<R: Abort>(rt: &R, sink: &mut MemorySink) {
     assert_eq!(rt; sink.write(b"a"), Ok(1));
     assert_eq!(rt; sink.write(b"b"), Err(SinkError::SinkFailed));
     assert!(rt; sink.taken() == b"a".as_slice());
-    assert_eq!(rt; write_all(&mut sink, b"bc"), Ok(()));
+    assert_eq!(rt; write_all(sink, b"bc"), Ok(()));
     assert!(rt; sink.taken() == b"abc".as_slice());
-    let mut plain = PlainSink::new(rt.alloc());
+}
+
+fn takes<R: Abort>(rt: &R, plain: &mut PlainSink) {
     assert_eq!(rt; plain.write(b"a"), Ok(1));
     assert!(rt; plain.taken() == b"a".as_slice());
-    Ok(())
 }
 
 #[test]
@@ -70,12 +82,20 @@ fn a_plain_source_is_read_to_its_end(rt: HostRuntime) -> Result<(), Fail> {
 
 #[test]
 fn a_source_in_memory_is_read_to_its_end_or_its_fault(rt: HostRuntime) -> Result<(), Fail> {
-    for (fails, want) in [(9, None), (3, Some(ReadError::SourceFailed))] {
-        let bytes = Vec::from_slice(rt.alloc(), b"abcde")?;
-        assert!(rt; bytes.len() == 5);
-        let mut source = MemorySource::new(bytes, 2, vec![in rt.alloc(); fails]?);
-        assert_eq!(rt; read_all(rt.alloc(), &mut source).err(), want);
-    }
+    is_read(&rt, 9, None)?;
+    is_read(&rt, 3, Some(ReadError::SourceFailed))
+}
+
+/// Five bytes are read, two at a time, where this read fails.
+fn is_read<R: Abort + AllocGlobal>(
+    rt: &R,
+    fails: u64,
+    want: Option<ReadError>,
+) -> Result<(), Fail> {
+    let bytes = Vec::from_slice(rt.alloc(), b"abcde")?;
+    assert!(rt; bytes.len() == 5);
+    let mut source = MemorySource::new(bytes, 2, vec![in rt.alloc(); fails]?);
+    assert_eq!(rt; read_all(rt.alloc(), &mut source).err(), want);
     Ok(())
 }
 
@@ -151,23 +171,36 @@ impl io::Write for Funnel {
 #[test]
 fn moves_many_bytes_in_short_pieces(rt: HostRuntime) -> Result<(), Fail> {
     let mut bytes = Vec::new(rt.alloc());
-    for i in 0..200_000u32 {
-        bytes.push((i % 251) as u8)?;
-    }
-    let mut source = StdSource::new(Trickle {
-        left: bytes.as_slice(),
-        calls: 0,
-    });
-    let read = read_all(rt.alloc(), &mut source)?;
-    assert!(rt; read.as_slice() == bytes.as_slice());
-
+    add_many(&mut bytes)?;
+    reads_many(&rt, &bytes)?;
     let mut to = Funnel {
         taken: Vec::new(rt.alloc()),
         calls: 0,
     };
-    let mut sink = StdSink::new(&mut to);
-    assert_eq!(rt; write_all(&mut sink, bytes.as_slice()), Ok(()));
-    drop(sink);
-    assert!(rt; to.taken.as_slice() == bytes.as_slice());
+    writes_many(&rt, &bytes, &mut to);
     Ok(())
+}
+
+fn add_many(bytes: &mut Vec<u8>) -> Result<(), Fail> {
+    for i in 0..200_000u32 {
+        bytes.push((i % 251) as u8)?;
+    }
+    Ok(())
+}
+
+fn reads_many<R: Abort + AllocGlobal>(rt: &R, bytes: &[u8]) -> Result<(), Fail> {
+    let mut source = StdSource::new(Trickle {
+        left: bytes,
+        calls: 0,
+    });
+    let read = read_all(rt.alloc(), &mut source)?;
+    assert!(rt; read.as_slice() == bytes);
+    Ok(())
+}
+
+fn writes_many<R: Abort>(rt: &R, bytes: &[u8], to: &mut Funnel) {
+    let mut sink = StdSink::new(&mut *to);
+    assert_eq!(rt; write_all(&mut sink, bytes), Ok(()));
+    drop(sink);
+    assert!(rt; to.taken.as_slice() == bytes);
 }

@@ -23,7 +23,13 @@ use trials::{Stop, run};
 fn main(rt: HostRuntime) -> ExitCode {
     let mut input = StdSource::new(rt.stdin());
     let mut out = StdSink::new(rt.stdout());
-    ExitCode::from(match run(rt.alloc(), &mut input, &mut out) {
+    let ran = run(rt.alloc(), &mut input, &mut out);
+    ExitCode::from(status_of(&rt, ran))
+}
+
+/// The status, and why on standard error, where no other program can tell.
+fn status_of(rt: &HostRuntime, ran: Result<(), Stop>) -> u8 {
+    match ran {
         Ok(()) => 0,
         Err(Stop::BadLine { line }) => {
             let _ = eprintln!(rt; "line {line} is none of a trial");
@@ -36,5 +42,5 @@ fn main(rt: HostRuntime) -> ExitCode {
         Err(Stop::SourceFailed) => 3,
         Err(Stop::SinkFailed) => 4,
         Err(Stop::NoMemory) => 6,
-    })
+    }
 }

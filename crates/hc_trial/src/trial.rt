@@ -1,4 +1,8 @@
 //! A trial.
+ghost use Rattle.std.specs.Prelude.{◌≡◌, ◌+◌, ◌≤◌, IfOk};
+ghost use Rattle.hc_store.specs.Slots.{no_slots};
+ghost use Rattle.hc_core.specs.Steps.{last_moment, steps, bytes_received};
+ghost use Rattle.hc_front.specs.Steps as fronts;
 
 use crate::trials::Stop;
 use hc_core::Cache;
@@ -36,21 +40,25 @@ impl Trial {
             return Ok(None);
         };
         let words: Vec<&str> = line.split_whitespace().collect(alloc)?;
-        let [word, max_entry, max_total, calls @ ..] = words.as_slice() else {
+        Trial::of_words(alloc, words.as_slice())
+    }
+
+    fn of_words(alloc: Global, words: &[&str]) -> Result<Option<Trial>, NoMemory> {
+        let [word, max_entry, max_total, calls @ ..] = words else {
             return Ok(None);
         };
         let (Some(max_entry), Some(max_total)) = (number_of(max_entry), number_of(max_total)) else {
             return Ok(None);
         };
-        let limits = Limits {
-            max_entry,
-            max_total,
+        let Some(fails) = fails_of(alloc, calls)? else {
+            return Ok(None);
         };
-        let has_front = *word == "front";
-        let fails = fails_of(alloc, calls)?;
-        Ok(fails.map(|fails| Trial {
-            has_front,
-            limits,
+        Ok(Some(Trial {
+            has_front: *word == "front",
+            limits: Limits {
+                max_entry,
+                max_total,
+            },
             fails,
             schedule: Vec::new(alloc),
         }))
@@ -68,50 +76,119 @@ impl Trial {
             return Err(Stop::TooLong);
         }
         let store = Failing::new(Memory::new(alloc, self.limits), self.fails);
-        let mut cache = Cache::new(store, self.limits, alloc)?;
         let mut source = MemorySource::new(self.schedule, PART, Vec::new(alloc));
-        if self.has_front {
-            let mut front = Front::new(alloc, cache);
-            let ended = replay_front(alloc, 0, &mut front, &mut source, out);
-            let ended = ending(alloc, ended)?;
-            return Ok(write_all(out, format!(in alloc; "ended {ended}\n")?.as_bytes())?);
-        }
-        let ended = replay(alloc, 0, &mut cache, &mut source, out);
-        let ended = ending(alloc, ended)?;
-        write_left(alloc, ended.as_str(), &cache, out)
+        let cache = new_cache(alloc, store, self.limits)?;
+        replay_over(alloc, cache, self.has_front, &mut source, out)
     }
 }
 
-/// Writes how a replay ended, and what its cache has then.
-fn write_left<B: Backend, K: Sink>(
+/// A cache that no event reached, over this store.
+fn new_cache<B: Backend + Drop>(
     alloc: Global,
-    ended: &str,
-    cache: &Cache<B>,
+    store: B,
+    limits: Limits,
+) -> Result<Cache<B>, NoMemory>
+    requires empty { B.slots store ≡ no_slots }
+    requires limits { B.limits store ≡ limits }
+    ensures moment { IfOk result (λ cache. last_moment cache ≤ 0) }
+    ensures unused { IfOk result (λ cache. steps cache + bytes_received cache ≡ 0) }
+{
+    let cache = Cache::new(store, limits, alloc)?;
+    Ok(cache)
+}
+
+/// Replays the source on the cache, behind a front or not, and writes what comes of it.
+fn replay_over<B: Backend + Drop, K: Sink>(
+    alloc: Global,
+    mut cache: Cache<B>,
+    has_front: bool,
+    source: &mut MemorySource,
     out: &mut K,
-) -> Result<(), Stop> {
+) -> Result<(), Stop>
+    requires moment { last_moment cache ≤ 0 }
+    requires unused { steps cache + bytes_received cache ≡ 0 }
+{
+    if has_front {
+        replay_before(alloc, &mut Front::new(alloc, cache), source, out)
+    } else {
+        replay_on(alloc, &mut cache, source, out)
+    }
+}
+
+/// Replays the source on the front, and writes what comes of it.
+fn replay_before<B: Backend, K: Sink>(
+    alloc: Global,
+    front: &mut Front<B>,
+    source: &mut MemorySource,
+    out: &mut K,
+) -> Result<(), Stop>
+    requires moment { fronts.last_moment front.old ≤ 0 }
+    requires unused { fronts.steps front.old + fronts.bytes_received front.old ≡ 0 }
+{
+    let ended = replay_front(alloc, 0, front, source, out);
+    let mut text = String::new(alloc);
+    tell_end(ended, &mut text)?;
+    write_text(&text, out)
+}
+
+/// Replays the source on the cache, and writes what comes of it and what the cache has then.
+fn replay_on<B: Backend, K: Sink>(
+    alloc: Global,
+    cache: &mut Cache<B>,
+    source: &mut MemorySource,
+    out: &mut K,
+) -> Result<(), Stop>
+    requires moment { last_moment cache.old ≤ 0 }
+    requires unused { steps cache.old + bytes_received cache.old ≡ 0 }
+{
+    let ended = replay(alloc, 0, cache, source, out);
+    let mut text = String::new(alloc);
+    tell_end(ended, &mut text)?;
+    tell_left(alloc, cache, &mut text)?;
+    write_text(&text, out)
+}
+
+fn write_text<K: Sink>(text: &String, out: &mut K) -> Result<(), Stop> {
+    Ok(write_all(out, text.as_bytes())?)
+}
+
+/// Tells how much is stored, and how many events were stepped.
+fn tell_left<B: Backend>(alloc: Global, cache: &Cache<B>, to: &mut String) -> Result<(), Stop> {
+    let stored = stored(kind_in(alloc, cache)?);
+    let steps = cache.steps();
+    Ok(write!(to, "stored {stored}\nstepped {steps}\n")?)
+}
+
+fn kind_in<B: Backend>(alloc: Global, cache: &Cache<B>) -> Result<Option<Kind>, NoMemory> {
     let key = Key {
         bytes: b"http://a.test/x".to_vec(alloc)?,
     };
-    let stored = stored(cache.kind_of(&key));
-    let steps = cache.steps();
-    let text = format!(in alloc; "ended {ended}\nstored {stored}\nstepped {steps}\n")?;
-    Ok(write_all(out, text.as_bytes())?)
+    Ok(cache.kind_of(&key))
 }
 
 /// The calls that fail, by their names and numbers. None where these are no pairs of such.
 fn fails_of(alloc: Global, words: &[&str]) -> Result<Option<Vec<(Op, u64)>>, NoMemory> {
+    let mut fails = Vec::new(alloc);
+    if add_fails(words, &mut fails)? {
+        Ok(Some(fails))
+    } else {
+        Ok(None)
+    }
+}
+
+/// Adds the calls of the pairs. False where these are no pairs of a call and a number.
+fn add_fails(words: &[&str], fails: &mut Vec<(Op, u64)>) -> Result<bool, NoMemory> {
     let pairs = words.chunks_exact(2);
     if !pairs.remainder().is_empty() {
-        return Ok(None);
+        return Ok(false);
     }
-    let mut fails = Vec::new(alloc);
     for pair in pairs {
         let (Some(op), Some(number)) = (op_of(pair[0]), number_of(pair[1])) else {
-            return Ok(None);
+            return Ok(false);
         };
         fails.push((op, number))?;
     }
-    Ok(Some(fails))
+    Ok(true)
 }
 
 /// The call of a name.
@@ -131,13 +208,13 @@ fn number_of(word: &str) -> Option<u64> {
     read_plain(word.as_bytes())
 }
 
-/// How a replay ended that came to an end of its schedule.
-fn ending(alloc: Global, ended: Ended) -> Result<String, Stop> {
+/// Tells how a replay ended that came to an end of its schedule.
+fn tell_end(ended: Ended, to: &mut String) -> Result<(), Stop> {
     match ended {
-        Ended::Done => Ok(String::from_str(alloc, "done")?),
+        Ended::Done => Ok(to.push_str("ended done\n")?),
         Ended::Refused(refused) => {
             let (line, why) = (refused.line, refusal(refused.why));
-            Ok(format!(in alloc; "refused {line} {why}")?)
+            Ok(write!(to, "ended refused {line} {why}\n")?)
         }
         Ended::SourceFailed | Ended::WireFailed => Err(Stop::SourceFailed),
         Ended::SinkFailed => Err(Stop::SinkFailed),

@@ -57,13 +57,27 @@ pub(crate) fn run<S: Source, K: Sink>(
     out: &mut K,
 ) -> Result<(), Stop> {
     let text = read_all(alloc, source)?;
+    run_text(alloc, &text, out)
+}
+
+fn run_text<K: Sink>(alloc: Global, text: &[u8], out: &mut K) -> Result<(), Stop> {
     let mut open = None;
+    take_lines(alloc, text, &mut open, out)?;
+    end(alloc, &mut open, out)
+}
+
+fn take_lines<K: Sink>(
+    alloc: Global,
+    text: &[u8],
+    open: &mut Option<Trial>,
+    out: &mut K,
+) -> Result<(), Stop> {
     let mut number = 0u64;
     for line in text.split_inclusive(|byte| *byte == b'\n') {
         number = number.wrapping_add(1);
-        take_line(alloc, number, line, &mut open, out)?;
+        take_line(alloc, number, line, open, out)?;
     }
-    end(alloc, &mut open, out)
+    Ok(())
 }
 
 /// Takes the next line. It ends the open trial, and is written, where it isn't one of its schedule.
@@ -79,13 +93,20 @@ fn take_line<K: Sink>(
         end(alloc, open, out)?;
         write_all(out, line)?;
         if begins {
-            let bad = Stop::BadLine { line: number };
-            *open = Some(Trial::new(alloc, line)?.ok_or(bad)?);
+            *open = Some(begun(alloc, number, line)?);
         }
         return Ok(());
     }
     match open {
         Some(trial) => Ok(trial.add(line)?),
+        None => Err(Stop::BadLine { line: number }),
+    }
+}
+
+/// The trial that the line of this number begins.
+fn begun(alloc: Global, number: u64, line: &[u8]) -> Result<Trial, Stop> {
+    match Trial::new(alloc, line)? {
+        Some(trial) => Ok(trial),
         None => Err(Stop::BadLine { line: number }),
     }
 }

@@ -1,6 +1,6 @@
 //! Bytes that a wire has taken and holds.
 use crate::fault::Fault;
-use crate::wires::{bound, next_of};
+use crate::wires::{bound, connect, next_of};
 use hc_sockets::MioWire;
 use hc_wire::{Wire, WireEvent};
 use std::net::Net;
@@ -18,10 +18,7 @@ fn hold_between<R: Net + Clock + AllocGlobal + Drop>(
     far: &mut MioWire<R>,
 ) -> Result<(), Fault> {
     let mut into = [0; 9];
-    let k = far.dial()?;
-    let WireEvent::Accepted(client) = next_of(near, &mut into)? else {
-        return Err(Fault::OtherTalk);
-    };
+    let (k, client) = connect(near, far, &mut into)?;
     // The far side is told that it is connected.
     far.next(true, &mut into)?;
     far.send(k, b"abc")?;

@@ -1,6 +1,6 @@
 //! A connection that is reset while its reading is off.
 use crate::fault::Fault;
-use crate::wires::{bound, next_of};
+use crate::wires::{bound, connect, next_of};
 use hc_sockets::MioWire;
 use hc_wire::{Wire, WireEvent};
 use std::net::Net;
@@ -19,10 +19,7 @@ fn cut_between<R: Net + Clock + AllocGlobal + Drop>(
     far: &mut MioWire<R>,
 ) -> Result<(), Fault> {
     let mut into = [0; 1];
-    let k = far.dial()?;
-    let WireEvent::Accepted(client) = next_of(near, &mut into)? else {
-        return Err(Fault::OtherTalk);
-    };
+    let (k, client) = connect(near, far, &mut into)?;
     near.reads(client, false);
     near.send(client, b"abc")?;
     near.next(true, &mut into)?;

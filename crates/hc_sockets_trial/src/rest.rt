@@ -2,7 +2,7 @@
 ghost use Rattle.std.specs.Prelude.{◌<◌, length};
 
 use crate::fault::Fault;
-use crate::wires::{bound, next_of};
+use crate::wires::{bound, connect};
 use hc_sockets::MioWire;
 use hc_text::Bytes;
 use hc_wire::{Wire, WireEvent};
@@ -20,10 +20,7 @@ const EVENTS: u32 = 1_000;
 pub(crate) fn hold_rest<R: Net + Clock + AllocGlobal + Clone + Drop>(rt: &R) -> Result<(), Fault> {
     let (mut near, mut far) = bound(rt, 26_000)?;
     let mut into = [0; LIST];
-    let k = far.dial()?;
-    let WireEvent::Accepted(_) = next_of(&mut near, &mut into)? else {
-        return Err(Fault::OtherTalk);
-    };
+    let (k, _) = connect(&mut near, &mut far, &mut into)?;
     // The far side is told that it is connected.
     far.next(true, &mut into)?;
     send_lists(&mut far, rt.alloc(), k)?;

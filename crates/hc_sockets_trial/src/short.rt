@@ -1,6 +1,6 @@
 //! A connection on which a few bytes come, and at once the end.
 use crate::fault::Fault;
-use crate::wires::{bound, next_of};
+use crate::wires::{bound, connect, next_of};
 use hc_sockets::MioWire;
 use hc_wire::{Wire, WireEvent};
 use std::net::Net;
@@ -20,10 +20,7 @@ fn talk_between<R: Net + Clock + AllocGlobal + Drop>(
     far: &mut MioWire<R>,
 ) -> Result<(), Fault> {
     let mut into = [0; 9];
-    let k = far.dial()?;
-    let WireEvent::Accepted(client) = next_of(near, &mut into)? else {
-        return Err(Fault::OtherTalk);
-    };
+    let (k, client) = connect(near, far, &mut into)?;
     near.send(client, b"abc")?;
     near.close(client);
     if next_of(far, &mut into)? != WireEvent::Got(k, 3) || !into.starts_with(b"abc") {

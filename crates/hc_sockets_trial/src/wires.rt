@@ -25,6 +25,21 @@ pub(crate) fn bound<R: Net + Clock + AllocGlobal + Clone + Drop>(
     Ok((near, far))
 }
 
+/// Connects the far wire to the near one: the number of the connection there, and here.
+pub(crate) fn connect<R: Net + Clock + AllocGlobal + Drop>(
+    near: &mut MioWire<R>,
+    far: &mut MioWire<R>,
+    into: &mut [u8],
+) -> Result<(u64, u64), Fault>
+    requires { 0 < length into.old }
+{
+    let k = far.dial()?;
+    match next_of(near, into)? {
+        WireEvent::Accepted(client) => Ok((k, client)),
+        _ => Err(Fault::OtherTalk),
+    }
+}
+
 /// Binds the wire to a port of this machine that is free, the first from this one on.
 pub(crate) fn listen<R: Net + Clock + AllocGlobal + Drop>(
     wire: &mut MioWire<R>,

@@ -103,6 +103,26 @@ def more_than_may(program):
         return closed == [b""] * 8 and served == b"hi" and fetched(proxy, "/good") == (200, b"hi")
 
 
+def ends_its_side(program):
+    """A client that ends its sending side before its answer is whole gets no more of it, and is closed."""
+    with serving(program, Saying(GOOD, never=["hold"])) as proxy:
+        with proxy.connect() as client:
+            client.sendall(request("/never"))
+            client.shutdown(socket.SHUT_WR)
+            found = client.recv(1)
+        return found == b"" and fetched(proxy, "/good") == (200, b"hi")
+
+
+def many_leave_while_they_wait(program):
+    """600 clients ask an origin that says nothing, and leave one after another. Nobody counts who has left, and others are served."""
+    with serving(program, Saying(GOOD, never=["hold"])) as proxy:
+        for _ in range(600):
+            with proxy.connect() as client:
+                client.sendall(request("/never"))
+        time.sleep(0.2)
+        return fetched(proxy, "/good") == (200, b"hi")
+
+
 # ORIGINS
 
 
@@ -225,6 +245,7 @@ class InTurn(Saying):
 
 
 CASES = [tls_hello, a_head_without_end, long_lines, bad_hosts, a_length_twice, one_never_reads, one_stalls_beside_another]
-CASES += [one_breaks_off, more_than_may, garbage, a_head_that_is_too_long, lengths_that_differ, closes_at_once, breaks_at_once]
+CASES += [one_breaks_off, more_than_may, ends_its_side, many_leave_while_they_wait]
+CASES += [garbage, a_head_that_is_too_long, lengths_that_differ, closes_at_once, breaks_at_once]
 CASES += [nobody_listens, closes_in_mid_body, breaks_in_mid_body, a_chunk_that_is_longer, a_chunk_that_is_shorter]
 CASES += [a_chunk_line_too_long, a_chunk_past_the_limit, never_answers, goes_on_after_a_break]

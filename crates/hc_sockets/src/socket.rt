@@ -24,6 +24,8 @@ pub(crate) struct Socket {
     readable: bool,
     /// The other side has told its end.
     ending: bool,
+    /// Its end stands next: no byte before it is left.
+    at_end: bool,
     /// The system has told that it is broken.
     cut: bool,
     /// The system takes none of its bytes now.
@@ -73,6 +75,7 @@ impl Socket {
             held: Held::new(alloc),
             readable: false,
             ending: false,
+            at_end: false,
             cut: false,
             blocked: false,
             short: false,
@@ -96,6 +99,7 @@ impl Socket {
         }
         if event.is_read_closed() || event.is_error() {
             self.ending = true;
+            self.look_for_end();
         }
         self.cut = self.cut || event.is_error();
         if event.is_writable() || event.is_error() {
@@ -151,12 +155,20 @@ impl Socket {
             && (self.broken && !self.told
                 || self.is_cut_unread()
                 || self.has_room()
+                || self.has_unread_end()
                 || self.reads && self.readable && !self.ended && !self.broken)
     }
 
     /// Whether it is broken, and no read will tell that.
     fn is_cut_unread(&self) -> bool {
         self.cut && !self.broken && (!self.reads || self.ended)
+    }
+
+    /// Whether its end is to be told, and no read will tell that.
+    fn has_unread_end(&self) -> bool
+        ensures { result ≡ true → self.now.ended ≡ false }
+    {
+        self.at_end && !self.ended && !self.broken
     }
 
     /// Whether it takes bytes again, after it took less than it was offered.
@@ -200,11 +212,27 @@ impl Socket {
                 None => {}
             }
         }
+        if self.has_unread_end() {
+            self.ended = true;
+            return Some(WireEvent::Ended(k));
+        }
         if self.broken && !self.told {
             self.told = true;
             return Some(WireEvent::Broke(k));
         }
         None
+    }
+
+    /// Where it isn't read, whether its end stands next. Bytes before that are left to be read.
+    fn look_for_end(&mut self)
+        ensures { KeepsStage self.old self.new }
+    {
+        if self.reads || !self.ending {
+            return;
+        }
+        if let Some(stream) = &self.stream {
+            self.at_end = matches!(stream.peek(&mut [0]), Ok(0));
+        }
     }
 
     /// Reads what there is: 0 is its end, and None that there is nothing now.
@@ -308,6 +336,7 @@ impl Socket {
         ensures ended { self.new.ended ≡ self.old.ended }
     {
         self.reads = on;
+        self.look_for_end();
     }
 
     /// Sends what is held, as far as the system takes it.

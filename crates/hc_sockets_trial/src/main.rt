@@ -3,6 +3,7 @@
 //! It exits with 0, or with 1 after it has said on standard error what was otherwise than it is to be.
 #![tactic(auto)]
 
+mod end;
 mod fault;
 mod held;
 mod hidden;
@@ -26,5 +27,6 @@ fn main(rt: HostRuntime) -> Result<(), Fault> {
     quiet::look(&rt)?;
     hidden::flood(&rt)?;
     reset::cut_unread(&rt)?;
+    end::end_unread(&rt)?;
     refused::dial_in_vain(&rt)
 }

@@ -1,7 +1,7 @@
 #!/usr/bin/env python3
 """Counts what a schedule and its report say, line by line, without the picture's own reading.
 
-usage: picture/checks/count.py SCHEDULE REPORT
+usage: tools/picture/checks/count.py SCHEDULE REPORT
 
 Each line of the output is a name and a number.
 """

@@ -1,7 +1,7 @@
 #!/usr/bin/env python3
 """Proves and builds the program: each crate as soon as those that it stands on are done, several side by side.
 
-usage: launch/build.py [AT_ONCE]
+usage: tools/build.py [AT_ONCE]
 
 A line tells each crate that is done, and about how much time is left, reckoned by the lines of code that are to be proved. What
 was built before and hasn't changed is done at once. Where a crate is not proved, what the toolchain says is shown.

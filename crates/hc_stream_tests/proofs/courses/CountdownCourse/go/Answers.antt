@@ -1,6 +1,0 @@
-use Rattle.std.proofs.Common.{inl}
-use Rattle.hc_driver.proofs.Reported.{on_err}
-use Rattle.hc_stream_tests.proofs.courses.CountdownCourse.go.Goals as goal
-
-pub returns-in_err-push-clause-lacks : goal.returns-in_err-push-clause-lacks
-returns-in_err-push-clause-lacks c = on_err c.from_residual.result (inl tt)

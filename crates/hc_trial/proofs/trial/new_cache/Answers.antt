@@ -1,5 +1,0 @@
-use Rattle.hc_replay.proofs.Reported.{new_moment}
-use Rattle.hc_trial.proofs.trial.new_cache.Goals as goal
-
-pub returns-clause-moment : goal.returns-clause-moment
-returns-clause-moment g c = new_moment c.in_ok-cache.cache c.in_ok-cache.ensures.stands

@@ -21,7 +21,7 @@ from grammar import Unreadable, shown
 from model import Model
 from reading import Reading
 
-LAUNCHER = pathlib.Path(__file__).resolve().parent.parent / "vosdrieng"
+LAUNCHER = pathlib.Path(__file__).resolve().parents[2] / "vosdrieng"
 DRAWN, REFUSED, WRONG_WORDS, NOT_READ, NOT_WRITTEN = range(5)
 
 

@@ -3,46 +3,49 @@
 
 usage: tools/build.py [AT_ONCE]
 
-A line tells each crate that is done, and about how much time is left, reckoned by the lines of code that are to be proved. What
-was built before and hasn't changed is done at once. Where a crate is not proved, what the toolchain says is shown.
+A line tells each crate that is done, how many there are, and about how much time is left. That is reckoned by the times that the
+crates took when they were last proved in this clone, which are kept; of a crate that never was, by its lines of code. What was built
+before and hasn't changed is done at once. Where a crate is not proved, what the toolchain says is shown.
 """
 import concurrent.futures
+import contextlib
+import json
 import os
-import pathlib
 import subprocess
 import sys
 import time
 
-TOP = pathlib.Path(__file__).resolve().parent.parent
-CRATES = TOP / "crates"
+sys.dont_write_bytecode = True
+from crates import CRATES, TOP, below, crate_lines
+
 PROGRAM = "hc_app"
+PARTS = ("src", "specs", "proofs")
+KEPT = TOP / "tools" / "out" / "build-times.json"
 # Memory of a check, in bytes: so many are made side by side as memory has room for.
 OF_A_CHECK = 5 << 30
+# Seconds within which a crate is done that was built before: it tells nothing of how long its proof takes.
+AT_ONCE = 5
 
 
-def crate_lines():
-    """The crates of crates.txt, lowest first, each with the crates that it stands on."""
-    lines = [line.split("#")[0].strip() for line in (TOP / "crates.txt").read_text().splitlines()]
-    pairs = [line.split(":", 1) for line in lines if line]
-    crates = {left.split()[0]: right.split() for left, right in pairs}
-    return {crate: [it for it in below if it in crates] for crate, below in crates.items()}
-
-
-def needed(crates):
-    """The crates below the program and the program."""
-    wanted = [PROGRAM]
-    for crate in wanted:
-        wanted += [it for it in crates[crate] if it not in wanted]
-    return [crate for crate in crates if crate in wanted]
+def sources(crate, part):
+    return [it for it in (CRATES / crate / part).rglob("*") if it.is_file()]
 
 
 def size(crate):
     """How much work a crate is: its lines of code, with which the time of its check goes, and a line for 127 of proofs."""
-    lines = {part: 0 for part in ("src", "specs", "proofs")}
-    for part in lines:
-        paths = [it for it in (CRATES / crate / part).rglob("*") if it.is_file()]
-        lines[part] = sum(len(path.read_bytes().splitlines()) for path in paths)
+    lines = {part: sum(len(path.read_bytes().splitlines()) for path in sources(crate, part)) for part in PARTS}
     return lines["src"] + (lines["specs"] + lines["proofs"]) / 127
+
+
+def built(crates):
+    """The crates whose libraries are newer than what they are made from. They are done at once."""
+    found = set()
+    for crate, under in crates.items():
+        stamp = CRATES / crate / "out" / "rlib" / "stamp"
+        made = stamp.stat().st_mtime if stamp.exists() else 0
+        if found.issuperset(under) and all(it.stat().st_mtime < made for part in PARTS for it in sources(crate, part)):
+            found.add(crate)
+    return found
 
 
 def at_once():
@@ -68,42 +71,82 @@ def minutes(seconds):
     return f"{seconds / 60:.0f} min" if seconds >= 90 else f"{seconds:.0f} s"
 
 
-class Progress:
-    """How much of the work is done."""
+class Times:
+    """How long each crate takes: as when it was last proved, or else by its size, at the pace of those that were."""
 
     def __init__(self, crates):
-        self.sizes, self.began, self.done = {it: size(it) for it in crates}, time.time(), 0
+        self.sizes, self.built, self.kept = {crate: size(crate) for crate in crates}, built(crates), {}
+        with contextlib.suppress(OSError, ValueError):
+            self.kept = json.loads(KEPT.read_text())
 
-    def tell(self, crate):
-        self.done += self.sizes[crate]
-        spent, share = time.time() - self.began, self.done / sum(self.sizes.values())
-        left = f"about {minutes(spent / share - spent)} left" if share < 1 else "all is built"
-        print(f"vosdrieng: {crate} ({share:.0%} after {minutes(spent)}, {left})", file=sys.stderr, flush=True)
+    def keep(self, crate, seconds):
+        if seconds <= AT_ONCE:
+            return
+        self.kept[crate] = round(seconds)
+        with contextlib.suppress(OSError):
+            KEPT.parent.mkdir(exist_ok=True)
+            KEPT.write_text(json.dumps(self.kept, indent=1) + "\n")
+
+    def expected(self, crate):
+        if crate in self.built:
+            return 1
+        if crate in self.kept:
+            return self.kept[crate]
+        known = [it for it in self.sizes if it in self.kept]
+        pace = sum(self.kept[it] for it in known) / sum(self.sizes[it] for it in known) if known else 0
+        return self.sizes[crate] * pace
+
+
+def next_ones(crates, waiting, done, places):
+    """The crates that may begin: all that they stand on is done."""
+    return [it for it in waiting if done.issuperset(crates[it])][:places]
+
+
+def left(crates, times, done, began, most):
+    """How many seconds the rest takes, where each crate begins as `build_all` has it. `began` tells since when some are at work."""
+    now, done = time.time(), set(done)
+    ends = {crate: max(now, since + times.expected(crate)) for crate, since in began.items()}
+    waiting = [it for it in crates if it not in done and it not in ends]
+    while waiting or ends:
+        ready = next_ones(crates, waiting, done, most - len(ends))
+        waiting = [it for it in waiting if it not in ready]
+        ends |= {it: now + times.expected(it) for it in ready}
+        now, crate = min((end, crate) for crate, end in ends.items())
+        del ends[crate]
+        done.add(crate)
+    return now - time.time()
+
+
+def tell(crate, done, crates, seconds):
+    rest = f"about {minutes(seconds)} left" if len(done) < len(crates) else "all is built"
+    print(f"vosdrieng: {len(done)} of {len(crates)}: {crate} ({rest})", file=sys.stderr, flush=True)
 
 
 def build_all(crates, most):
     """Builds each crate behind those that it stands on. What the toolchain said of one that isn't proved."""
-    order = needed(crates)
-    progress, waiting, done = Progress(order), list(order), set()
-    print(f"vosdrieng: proving and building {len(order)} crates, {most} at a time", file=sys.stderr, flush=True)
+    times, waiting, done, began = Times(crates), list(crates), set(), {}
+    print(f"vosdrieng: proving and building {len(crates)} crates, {most} at a time", file=sys.stderr, flush=True)
     with concurrent.futures.ThreadPoolExecutor(most) as pool:
         running = {}
         while waiting or running:
-            ready = [it for it in waiting if done.issuperset(crates[it])][: most - len(running)]
+            ready = next_ones(crates, waiting, done, most - len(running))
             waiting = [it for it in waiting if it not in ready]
+            began |= {it: time.time() for it in ready}
             running.update({pool.submit(build, it): it for it in ready})
             ended, _ = concurrent.futures.wait(running, return_when=concurrent.futures.FIRST_COMPLETED)
             for future in ended:
                 crate = running.pop(future)
                 if future.result() is not None:
                     return f"{crate} is not proved:\n{future.result()}"
+                times.keep(crate, time.time() - began.pop(crate))
                 done.add(crate)
-                progress.tell(crate)
+                tell(crate, done, crates, left(crates, times, done, began, most))
     return None
 
 
 def main(words):
-    fault = build_all(crate_lines(), int(words[0]) if words else at_once())
+    lines, crates = crate_lines(), below([PROGRAM])
+    fault = build_all({crate: [it for it in lines[crate] if it in crates] for crate in crates}, int(words[0]) if words else at_once())
     if fault:
         print("vosdrieng: " + "\n".join(fault.splitlines()[:1] + fault.splitlines()[-40:]), file=sys.stderr)
     return 70 if fault else 0

@@ -12,7 +12,9 @@ def crate_lines():
     return {left.split()[0]: right.split() for left, right in pairs}
 
 
-def own_crates():
-    """Each crate, and those crates of the repository that it stands on."""
-    crates = crate_lines()
-    return {crate: [it for it in below if it in crates] for crate, below in crates.items()}
+def below(crates):
+    """These crates and all crates of the repository that they stand on, lowest first."""
+    lines, wanted = crate_lines(), list(crates)
+    for crate in wanted:
+        wanted += [it for it in lines[crate] if it in lines and it not in wanted]
+    return [crate for crate in lines if crate in wanted]

@@ -118,8 +118,9 @@ def left(crates, times, done, began, most):
 
 
 def tell(crate, done, crates, seconds):
-    rest = f"about {minutes(seconds)} left" if len(done) < len(crates) else "all is built"
-    print(f"vosdrieng: {len(done)} of {len(crates)}: {crate} ({rest})", file=sys.stderr, flush=True)
+    # Nothing is known before the first crate is proved.
+    rest = " (all is built)" if len(done) == len(crates) else f" (about {minutes(seconds)} left)" if seconds >= 1 else ""
+    print(f"vosdrieng: {len(done)} of {len(crates)}: {crate}{rest}", file=sys.stderr, flush=True)
 
 
 def build_all(crates, most):

@@ -11,8 +11,8 @@ def of(option):
 
 
 TURNS = ("Bypass", "Miss", "Vary", "Validate")
-CONSTANTS = {"Exchanges": "base promised front", "Currents": "current", "Reading": "is_written bound offset hi_of own_open source",
-             "Writers": "came_alone exclusive", "Dooms": "doomed", "Lines": "turn", "Weights": "weights", "Polls": "move_of has_joined", "Steps": "held",
+CONSTANTS = {"Exchanges": "base promised_bytes front", "Currents": "current", "Reading": "is_written bound offset hi_of own_open source",
+             "Writers": "came_alone exclusive", "Dooms": "doomed_key_of", "Lines": "turn", "Weights": "weights", "Polls": "move_of has_joined", "Steps": "run_held_for",
              "Keys": "concerns_exchange concerns_representation concerns_consumer loses", "ConsumerRows": "back_in_line",
              "Evictions": "evict_all unevicting", "Tables": "after_accepted", "StartingOver": "starts_over", "Flaws": "flaw_in",
              "Frames": "speaks_of speaks_of_exchange is_event_for beside",
@@ -139,7 +139,7 @@ class Facts:
         for x, w in self.W.items():
             if w.is_open and of(w.head) is not None and self.family(x) in self.V:
                 v = self.V[self.family(x)]
-                n, total = of(self.promised(w)), of(v.head.total)
+                n, total = of(self.promised_bytes(w)), of(v.head.total)
                 if n is None:
                     self.holds("own: untold", total is None and self.base(w) == 0 and v.reach == len(w.body) and self.family(x) == x)
                 else:
@@ -218,7 +218,7 @@ class Facts:
             self.holds("founded is of the key", self.W[r].request.key == v.key)
         if on:
             x = of(v.writer)
-            promised = of(self.promised(self.W[x]))
+            promised = of(self.promised_bytes(self.W[x]))
             self.holds("growing", stored == set(range(v.reach)) and self.front(self.W[x]) == v.reach and self.family(x) == r
                        and total == (None if promised is None else self.base(self.W[x]) + promised))
         for x in self.about[r]:
@@ -239,7 +239,7 @@ class Facts:
         if of(w.head) is None:
             lo, hi = w.need.args()
         else:
-            promised = of(self.promised(w))
+            promised = of(self.promised_bytes(w))
             lo, hi = self.front(w), None if promised is None else self.base(w) + promised
         self.holds("what is to come is absent", not any(lo <= p and (hi is None or p < hi) for p in body))
 
@@ -304,7 +304,7 @@ class Facts:
                     self.holds("busy reads", self.place(waits.args()[0])._name == "Bound")
 
     def dooms(self, old, entry):
-        key = None if self.is_denied(entry.acts) else of(self.doomed(old, entry))
+        key = None if self.is_denied(entry.acts) else of(self.doomed_key_of(old, entry))
         if key is not None:
             self.barrier[bytes(key)] = old.opened
         for r, v in self.V.items():
@@ -344,7 +344,7 @@ class Facts:
             if self.requests[2](k.request):
                 self.holds("place: only", name in ("Line", "Bound", "Over"))
         for x, w in self.W.items():
-            k, n = self.K[w.c], of(self.promised(w))
+            k, n = self.K[w.c], of(self.promised_bytes(w))
             self.holds("exchange: received", len(w.body) <= t.received)
             self.holds("exchange: promised", n is None or len(w.body) <= n)
             self.holds("exchange: unreached", n is None or not w.is_open or len(w.body) != n)
@@ -441,7 +441,7 @@ class Facts:
             self.holds("numbers: total", total is None or total < 1 << 62 or total <= t.received)
             self.holds("numbers: reach", v.reach <= most)
         for w in self.W.values():
-            n = of(self.promised(w))
+            n = of(self.promised_bytes(w))
             self.holds("numbers: promise", self.base(w) + n <= 1 << 62 if n is not None else self.base(w) == 0)
             self.holds("numbers: front", self.front(w) <= most)
         for k in self.K.values():
@@ -494,7 +494,7 @@ class Facts:
             self.holds("loss: family", of(w.head) is None or self.family(x) == r)
             self.holds("loss: its bytes", all(base <= p and of(v.body(p)).byte == w.body[p - base] for p in fresh))
             for n in (1, 3, 1000):
-                got = of(self.held(t, c, k, n))
+                got = of(self.run_held_for(t, c, k, n))
                 if of(v.stored(offset)) is None:
                     brought = w.body[offset - base:][:n] if offset >= base else ()
                     self.holds("loss: held", (got is None and not brought) or got is not None and
@@ -511,7 +511,7 @@ class Facts:
         if not k.shown:
             self.holds("direct: ungiven", k.given == 0)
         if not w.is_open and due is None:
-            n = of(self.promised(w))
+            n = of(self.promised_bytes(w))
             self.holds("direct: finished", len(w.body) == n if n is not None else w.is_ended)
         if due is not None:
             self.holds("direct: due over", due is None or not w.is_open)

@@ -110,11 +110,19 @@ def take_input(to):
     return NO_RUN
 
 
+def unblock():
+    signal.pthread_sigmask(signal.SIG_UNBLOCK, [signal.SIGTERM])
+
+
 def tried(crate, words, given):
     """Runs the program of a crate. What was said on standard error, by it and by the toolchain."""
     given.seek(0)
-    with subprocess.Popen(["rt", "try", "--", *words], cwd=crate, stdin=given, stderr=subprocess.PIPE) as running:
+    how = {"cwd": crate, "stdin": given, "stderr": subprocess.PIPE, "preexec_fn": unblock}
+    # A signal waits until there is somebody to end.
+    signal.pthread_sigmask(signal.SIG_BLOCK, [signal.SIGTERM])
+    with subprocess.Popen(["rt", "try", "--", *words], **how) as running:
         try:
+            unblock()
             return running.communicate()[1].decode(errors="replace")
         finally:
             running.terminate()

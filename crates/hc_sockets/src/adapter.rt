@@ -70,6 +70,8 @@ pub struct MioWire<R: Net + Clock + AllocGlobal + Drop> {
     unasked: u64,
     handed: u64,
     failed: u64,
+    /// The last call told of room.
+    roomy: bool,
     ghost few: { handed ≤ 2 ^ 45 },
     ghost below: { IsBelow next table.sockets },
 }
@@ -90,6 +92,7 @@ impl<R: Net + Clock + AllocGlobal + Drop> MioWire<R> {
             unasked: 0,
             handed: 0,
             failed: 0,
+            roomy: false,
         }
     }
 
@@ -196,6 +199,8 @@ impl<R: Net + Clock + AllocGlobal + Drop> Wire for MioWire<R> {
         let Some(moment) = seconds(&self.rt) else {
             return Err(self.fail());
         };
+        let wait = wait && !self.roomy;
+        self.roomy = false;
         self.table.age(CALLS);
         self.unasked = self.unasked.saturating_add(1);
         if self.unasked >= ASKED && !self.ask(false) {
@@ -203,6 +208,7 @@ impl<R: Net + Clock + AllocGlobal + Drop> Wire for MioWire<R> {
         }
         if let Some(event) = self.due(into)? {
             self.handed += 1;
+            self.roomy = matches!(event, WireEvent::Room(_));
             return Ok((moment, event));
         }
         if !wait && self.unasked < QUIET {
@@ -216,6 +222,7 @@ impl<R: Net + Clock + AllocGlobal + Drop> Wire for MioWire<R> {
             return Err(self.fail());
         }
         let event = self.due(into)?.unwrap_or(WireEvent::Quiet);
+        self.roomy = matches!(event, WireEvent::Room(_));
         self.handed += 1;
         Ok((moment, event))
     }

@@ -1,5 +1,5 @@
 -- What is known of the items before one, and behind it.
-use Rattle.std.specs.Prelude.{◌≡◌, ℕ, ◌+◌, ◌≤◌, List, length, drop, bytes_eq, nat_eq, nat_le, nat_lt, Bool, false, not, ◌&&◌, Option, Some, None, ◌==◌}
+use Rattle.std.specs.Prelude.{◌≡◌, ℕ, ◌+◌, ◌≤◌, List, length, drop, bytes_eq, nat_eq, nat_le, nat_lt, Bool, false, not, ◌&&◌, Option, Some, None, ◌==◌, ◌||◌}
 use Rattle.std.specs.List.{list_any}
 use Rattle.std.specs.HashMap.{get}
 use Rattle.std.specs.HashSet.{contains, contains_by}
@@ -26,8 +26,8 @@ pub record Knows (s : Seen) (earlier items : List Content) : Type 0 where
   pub said : (x : ℕ) → contains nat_eq s.said x ≡ list_any (says x) earlier
   pub last : TellsLast (get nat_eq s.last) items
 
--- the number of a run's exchange is below the end, wasn't said, and isn't that of one behind this place
-abbrev pub is_own_in : Seen → ℕ → ℕ → Run → Bool
-is_own_in s i end run =
+-- the number of a run's exchange is below the end, wasn't said, and is this one's or isn't that of one behind
+abbrev pub is_own_in : Seen → ℕ → ℕ → ℕ → Run → Bool
+is_own_in s i r end run =
     nat_lt 0 run.x && nat_lt run.x end && not (contains nat_eq s.said run.x)
-    && not (is_from (i + 1) (get nat_eq s.last run.x))
+    && (r == run.x || not (is_from (i + 1) (get nat_eq s.last run.x)))

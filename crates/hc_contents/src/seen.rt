@@ -66,21 +66,24 @@ impl Seen {
     {
         is_given_out(item.r, end)
             && !self.said.contains(&item.r)
-            && self.has_own_runs(i, item.runs.as_slice(), end)
+            && self.has_own_runs(i, item.r, item.runs.as_slice(), end)
     }
 
-    /// The runs are of exchanges whose numbers no earlier item says, and which are no later one's.
-    fn has_own_runs(&self, i: usize, runs: &[Run], end: u64) -> bool
-        ensures { result ≡ list_all (is_own_in self.now i end) runs.now }
+    /// The runs are of exchanges whose numbers no earlier item says. Each is the item's own number `r`, or
+    /// no later one's.
+    fn has_own_runs(&self, i: usize, r: u64, runs: &[Run], end: u64) -> bool
+        ensures { result ≡ list_all (is_own_in self.now i r end) runs.now }
     {
-        runs.iter().all(|run| self.is_own(i, run, end))
+        runs.iter().all(|run| self.is_own(i, r, run, end))
     }
 
     /// So is that of one.
-    fn is_own(&self, i: usize, run: &Run, end: u64) -> bool
-        ensures { result ≡ is_own_in self.now i end run.now }
+    fn is_own(&self, i: usize, r: u64, run: &Run, end: u64) -> bool
+        ensures { result ≡ is_own_in self.now i r end run.now }
     {
-        is_given_out(run.x, end) && !self.said.contains(&run.x) && !self.stands_behind(i, run.x)
+        is_given_out(run.x, end)
+            && !self.said.contains(&run.x)
+            && (r == run.x || !self.stands_behind(i, run.x))
     }
 
     /// An item behind this place has the number.

@@ -41,20 +41,20 @@ few_runs n x (run ∷ runs) h =
     let most = right_max n (max (run.at + length run.bytes) (last_end runs)) in
     omega (arith, place, some, more, most)
 
-given_out : (contents : Contents) (earlier later : List Content) (run : Run) → is_own_run contents earlier later run ≡ true → run.x < contents.next_exchange
-given_out contents earlier later run own =
+given_out : (contents : Contents) (earlier : List Content) (r : ℕ) (later : List Content) (run : Run) → is_own_run contents earlier r later run ≡ true → run.x < contents.next_exchange
+given_out contents earlier r later run own =
     let outer = and_parts _ _ own in
     let inner = and_parts _ _ outer.0 in
     let given = and_parts _ _ inner.0 in
     below run.x contents.next_exchange given.1
 
-module _ (contents : Contents) (earlier later : List Content) (total : ℕ) (next : contents.next_exchange ≤ 2 ^ 60) (small : total < 2 ^ 62) where
-  run_has : (run : Run) → is_own_run contents earlier later run ≡ true → run.at + length run.bytes ≤ total → HasRunText run
+module _ (contents : Contents) (earlier : List Content) (r : ℕ) (later : List Content) (total : ℕ) (next : contents.next_exchange ≤ 2 ^ 60) (small : total < 2 ^ 62) where
+  run_has : (run : Run) → is_own_run contents earlier r later run ≡ true → run.at + length run.bytes ≤ total → HasRunText run
   run_has run own end =
-      let x : run.x < contents.next_exchange = given_out contents earlier later run own in
+      let x : run.x < contents.next_exchange = given_out contents earlier r later run own in
       record { x = omega (arith, x, next); place = omega (arith, end, small); count = omega (arith, end, small) }
 
-  runs_have : (runs : List Run) → list_all (is_own_run contents earlier later) runs ≡ true → last_end runs ≤ total → All HasRunText runs
+  runs_have : (runs : List Run) → list_all (is_own_run contents earlier r later) runs ≡ true → last_end runs ≤ total → All HasRunText runs
   runs_have [] own end = All-nil HasRunText
   runs_have (run ∷ runs) own end =
       let both = and_parts _ _ own in
@@ -88,7 +88,7 @@ module _ (limits : Limits) (contents : Contents) (next : contents.next_exchange 
         r = omega (arith, small, next);
         head = own;
         count = omega (arith, few, end.1, end.2);
-        runs = runs_have contents earlier later end.0 next end.1 item.runs runs.1 end.2;
+        runs = runs_have contents earlier item.r later end.0 next end.1 item.runs runs.1 end.2;
       }
 
   items_have : (earlier : List Content) (items : List coded.Content) → are_good limits contents earlier (map plain_item items) ≡ true → All HasItemText (map plain_item items)

@@ -285,13 +285,13 @@ module _ (limits : Limits) (t : Tables) (g : IsSettled limits t) where
     own_numbers earlier later before after =
         and_both _ _
         (and_both _ _ (given r i r (in_range r i)) (not_by (list_any (says r) earlier) (none_of r (says r) earlier before row_unsaid)))
-        (all_of (is_own_run left earlier later) (item r i).runs (λ run any. by_run run.x (byte_of r i run.x any)))
+        (all_of (is_own_run left earlier r later) (item r i).runs (λ run any. by_run run.x (byte_of r i run.x any)))
       where
-        by_run : (x : ℕ) → HasByte t r x → (is_given_out left x && not (list_any (says x) earlier) && not (list_any (λ (other : Content). other.r == x) later)) ≡ true
+        by_run : (x : ℕ) → HasByte t r x → (is_given_out left x && not (list_any (says x) earlier) && (r == x || not (list_any (λ (other : Content). other.r == x) later))) ≡ true
         by_run x mine =
             and_both _ _
             (and_both _ _ (given r i x (g.origins.given_out r x mine)) (not_by (list_any (says x) earlier) (none_of r (says x) earlier before (run_unsaid x mine))))
-            (not_by (list_any (λ (other : Content). other.r == x) later) (none_of r (λ (other : Content). other.r == x) later after (not_numbered x mine)))
+            (or_right (r == x) _ (not_by (list_any (λ (other : Content). other.r == x) later) (none_of r (λ (other : Content). other.r == x) later after (not_numbered x mine))))
 
     good_item : (earlier later : List Content) → AllOther r earlier → AllOther r later → is_good limits left earlier (item r i) later ≡ true
     good_item earlier later before after =

@@ -4,7 +4,7 @@
 -- induction over the list, two items with bytes of one number are one (`one_item`). If there is an item of that number,
 -- it is this one (`own_item`). Each byte of the first tables is one of an item (`byte_of`), and its number was given
 -- out (`range`). `origins_begin` joins these.
-use Rattle.std.{proofs.{Common.{◌≡◌, inl, inr, ℕ, ◌-◌, ◌<◌, ◌≤◌, List, [], ◌∷◌, length, Bool, true, false, Option, Some, None, refl, ap, sym, ◌∙◌, arith}, lemmas.Bool.Decides.{nat_tests}}, specs.{Prelude.{is_some, find, nat_eq, nat_lt, option_map, ◌==◌}, List.{list_any, list_all}}}
+use Rattle.std.{proofs.{Common.{◌≡◌, inl, inr, ℕ, ◌-◌, ◌<◌, ◌≤◌, List, [], ◌∷◌, length, Bool, true, false, Option, Some, None, refl, ap, sym, ◌∙◌, arith}, lemmas.Bool.Decides.{nat_tests}}, specs.{Prelude.{is_some, find, nat_eq, nat_lt, option_map, ◌==◌, ◌||◌}, List.{list_any, list_all}}}
 use Rattle.hc_text.proofs.Basics.{and_left, and_right, bool_cases, not_some as none_some, not_true, or_right, some_inj}
 use Rattle.hc_effects.proofs.Vocabulary.{Limits, may_begin, are_good, is_good, is_given_out, is_own_run, says, Content, Contents, HasByte, Origins, Representation, first_tables, representation_of_content}
 use Rattle.hc_sparse.proofs.CellLemmas.{inside-cases}
@@ -46,22 +46,25 @@ one_of test x (run ∷ runs) all any = elim (eq_cases run.x x) [
   | inr off ↦ one_of test x runs (and_right (test run) (list_all test runs) all) (rw off.0 at any)
 ]
 
+unless_so : (b c : Bool) → b ≡ false → (b || c) ≡ true → c ≡ true
+unless_so b c off one = rw off at one
+
 module _ (limits : Limits) (contents : Contents) where
   -- what a good item says of a number of its own
-  record SaysAlone (x : ℕ) (earlier later : List Content) : Type 0 where
+  record SaysAlone (r x : ℕ) (earlier later : List Content) : Type 0 where
     given : is_given_out contents x ≡ true
     fresh : list_any (says x) earlier ≡ false
-    alone : list_any (of_number x) later ≡ false
+    alone : nat_eq r x ≡ false → list_any (of_number x) later ≡ false
 
-  run_alone : (x : ℕ) (earlier : List Content) (item : Content) (later : List Content) → is_good limits contents earlier item later ≡ true → has_run x item ≡ true → SaysAlone x earlier later
+  run_alone : (x : ℕ) (earlier : List Content) (item : Content) (later : List Content) → is_good limits contents earlier item later ≡ true → has_run x item ≡ true → SaysAlone item.r x earlier later
   run_alone x earlier item later good has =
-      by_run (one_of (is_own_run contents earlier later) x item.runs (and_right _ _ (and_right _ _ (and_left _ _ (and_left _ _ (and_left _ _ (and_left _ _ good)))))) has)
+      by_run (one_of (is_own_run contents earlier item.r later) x item.runs (and_right _ _ (and_right _ _ (and_left _ _ (and_left _ _ (and_left _ _ (and_left _ _ good)))))) has)
     where
-      by_run : OneOf (is_own_run contents earlier later) x → SaysAlone x earlier later
+      by_run : OneOf (is_own_run contents earlier item.r later) x → SaysAlone item.r x earlier later
       by_run a = rw (← a.from) (record {
         given = and_left _ _ (and_left _ _ a.passes);
         fresh = not_true (list_any (says a.run.x) earlier) (and_right _ _ (and_left _ _ a.passes));
-        alone = not_true (list_any (of_number a.run.x) later) (and_right _ _ a.passes);
+        alone = λ other. not_true (list_any (of_number a.run.x) later) (unless_so (nat_eq item.r a.run.x) _ other (and_right _ _ a.passes));
       })
 
   -- an item says a number: as that of its representation, or of a run
@@ -120,7 +123,7 @@ module _ (limits : Limits) (contents : Contents) where
       | inl there ↦ sym there.1 ∙ here.1
       | inr off ↦
           let one : item ≡ a = some_inj item a (rw here.0 at is) in
-          absurd (false_true (sym ((run_alone x earlier item later (and_left _ _ good) (ap (has_run x) one ∙ has)).alone) ∙ found_any x b later (rw off.0 at also)))
+          absurd (false_true (sym ((run_alone x earlier item later (and_left _ _ good) (ap (has_run x) one ∙ has)).alone off.0) ∙ found_any x b later (rw off.0 at also)))
     ]
     | inr off ↦ elim (eq_cases item.r x) [
       | inl there ↦ absurd (said_before r x item a earlier later (and_right _ _ good) (rw off.0 at is) has (says_row x item there.1))

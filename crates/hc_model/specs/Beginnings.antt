@@ -50,16 +50,16 @@ is_given_out contents x = nat_lt 0 x && nat_lt x contents.next_exchange
 abbrev pub says : ℕ → Content → Bool
 says x item = item.r == x || list_any (λ (run : Run). run.x == x) item.runs
 
--- the number is said by no earlier item, and is no later one's representation
-abbrev pub is_own_run : Contents → List Content → List Content → Run → Bool
-is_own_run contents earlier later run =
+-- the number is said by no earlier item, and is this one's representation or no later one's
+abbrev pub is_own_run : Contents → List Content → ℕ → List Content → Run → Bool
+is_own_run contents earlier r later run =
     is_given_out contents run.x && not (list_any (says run.x) earlier)
-    && not (list_any (λ (other : Content). other.r == run.x) later)
+    && (r == run.x || not (list_any (λ (other : Content). other.r == run.x) later))
 
 abbrev pub has_own_numbers : Contents → List Content → Content → List Content → Bool
 has_own_numbers contents earlier item later =
     is_given_out contents item.r && not (list_any (says item.r) earlier)
-    && list_all (is_own_run contents earlier later) item.runs
+    && list_all (is_own_run contents earlier item.r later) item.runs
 
 -- ITS HEAD
 

@@ -20,9 +20,10 @@ use hc_sched::{Feed, Timed};
 use hc_text::NoMemory;
 use std::alloc::Global;
 
-/// How many events were answered, and the acts and the text of the last answer.
+/// Answers a schedule that comes in pieces: how many events were answered, and the acts and the text
+/// of the last answer.
 #[derive(Drop)]
-pub(crate) struct Answering {
+pub struct Answering {
     number: u64,
     acts: Acts,
     text: Vec<u8>,
@@ -30,7 +31,7 @@ pub(crate) struct Answering {
 
 impl Answering {
     /// Of no event.
-    pub(crate) fn new(alloc: Global) -> Answering
+    pub fn new(alloc: Global) -> Answering
         ensures { result.number ≡ 0 }
     {
         Answering {
@@ -40,9 +41,13 @@ impl Answering {
         }
     }
 
-    /// Answers what a piece of the schedule brings, up to a refusal, and writes the answers. `events`
-    /// is cleared before, and has the events after.
-    pub(crate) fn go_piece<C: Course, K: Sink>(
+    /// Answers what a piece of the schedule brings, up to a refusal, and writes the answers, each
+    /// before the next event is answered. `events` is room for them: it is cleared before.
+    ///
+    /// At Refused all events before the refused line are answered. At SinkFailed and at NoMemory some
+    /// first of them are, and all answers are written but a last part of the last one; or the next
+    /// answer was refused memory. SourceFailed never comes.
+    pub fn go_piece<C: Course, K: Sink>(
         &mut self,
         feed: &mut Feed,
         piece: &[u8],

@@ -8,5 +8,7 @@ mod reporting;
 mod stop;
 mod through;
 
+pub use answering::Answering;
 pub use course::Course;
+pub use stop::Stop;
 pub use through::{go_through, step_through};

@@ -8,7 +8,7 @@ use hc_text::NoMemory;
 
 /// Why a schedule is not gone through any further.
 #[derive(Clone, Copy, Debug, PartialEq, Eq)]
-pub(crate) enum Stop {
+pub enum Stop {
     /// Nothing more is answered.
     Over,
     /// A line is refused.

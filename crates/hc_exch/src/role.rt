@@ -12,6 +12,4 @@ pub enum Role {
     Hole { r: u64 },
     /// It founded the representation, or goes on with it.
     Body { r: u64 },
-    /// It brings a representation that is lost, for one consumer alone.
-    Alone { r: u64 },
 }

@@ -16,6 +16,10 @@ use Rattle.hc_model.specs.Rows.{Tables}
 use Rattle.hc_model.specs.Runs.{IsOwed}
 use Rattle.hc_model.specs.Tables.{tables}
 
+-- how much the store of the program may hold, in bytes: of one body, and of all
+abbrev pub program_limits : Limits
+program_limits = record { max_entry = 16777216; max_total = 268435456 }
+
 -- the exchanges that are wanted, in ascending order of their numbers
 pub record AreWanted (t : Tables) (wanted : List ℕ) : Type 0 where
   pub ascending : is_sorted itself wanted ≡ true

@@ -3,7 +3,7 @@ ghost use Rattle.std.specs.Prelude.{◌≡◌, ◌≢◌, ◌≤◌, IfOk};
 ghost use Rattle.hc_io.specs.Faults.{HasRisen};
 ghost use Rattle.hc_sched.specs.declared.schedule.Ended.TheVariants as ended;
 ghost use Rattle.hc_replay.specs.Generates.{Generates};
-ghost use Rattle.hc_replay.specs.Summaries.{IsSummary};
+ghost use Rattle.hc_replay.specs.Summaries.{IsSummary, program_limits};
 
 use crate::rounds::Rounds;
 use hc_io::{Sink, SinkError, write_all};
@@ -25,7 +25,7 @@ pub const PROGRAM_LIMITS: Limits = Limits {
 /// of that. No other end comes.
 pub fn generate<K: Sink>(alloc: Global, seed: u64, count: u64, sink: &mut K) -> Ended
     requires few { count ≤ 1_000_000 }
-    ensures ends { Generates PROGRAM_LIMITS seed count (K.taken sink.old) (K.taken sink.new)
+    ensures ends { Generates program_limits seed count (K.taken sink.old) (K.taken sink.new)
         result }
 
     // A fault comes only where one was counted, and none is counted where none comes.
@@ -46,7 +46,7 @@ pub fn generate<K: Sink>(alloc: Global, seed: u64, count: u64, sink: &mut K) -> 
 /// The summary of the run.
 fn summary(alloc: Global, seed: u64, count: u64) -> Result<Vec<u8>, NoMemory>
     requires few { count ≤ 1_000_000 }
-    ensures { IfOk result (λ text. IsSummary PROGRAM_LIMITS seed count text.items) }
+    ensures { IfOk result (λ text. IsSummary program_limits seed count text.items) }
 {
     let mut rounds = Rounds::new(alloc, PROGRAM_LIMITS, seed)?;
     for _ in 0..count {

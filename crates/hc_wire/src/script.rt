@@ -78,6 +78,7 @@ impl ScriptWire {
         requires { IsScript script.items }
         ensures log { ⟦<ScriptWire as Wire>⟧.log result ≡ Some empty_log }
         ensures shut { (k : ℕ) → IsOpen (⟦<ScriptWire as Wire>⟧.stages result k) → ⊥ }
+        ensures faults { ⟦<ScriptWire as Wire>⟧.faults result ≡ 0 }
 
         // It begins with the script's first event and the first call, at the moment 0.
         ensures script { result.script ≡ script }

@@ -15,7 +15,8 @@ use Rattle.hc_entry.specs.{Kept.{with_current, nothing}, Keys.{kept_of}}
 use Rattle.hc_exch.specs.{Exchanges.{table_of, next_of}, Known.{unknown}, declared.row.Open.{Open}}
 use Rattle.hc_effects.proofs.Vocabulary.{ascend_from, is_kind_right, current, is_usable, Content, Contents, kind_of, bound, Tables, Representation, first_tables, representation_of_content, numbers, last_end}
 use Rattle.hc_effects.proofs.Tests.{none_some}
-use Rattle.hc_state.specs.{declared.{rows.Rows.{Rows}, consumer.Consumer.{Consumer}}, Kept.{KeepsConsumer, KeepsExchange, KeepsRunning}, Lines.{KeepsKey}, Stands.{RowsStand}, Stored.{IsEntry, KeepsEntry, is_usable_row}}
+use Rattle.hc_state.specs.{declared.{rows.Rows.{Rows}}, Kept.{KeepsConsumer, KeepsExchange, KeepsRunning}, Lines.{KeepsKey}, Stands.{RowsStand}, Stored.{IsEntry, KeepsEntry, is_usable_row}}
+use Rattle.hc_txn.specs.declared.transaction.Transaction.{Transaction as Consumer}
 use Rattle.hc_state.specs.Stored as stored
 use Rattle.hc_core.proofs.BegunRuns.{runs_cells, runs_reach, runs_rest, kind_begun, whole_begun}
 use Rattle.hc_core.specs.Begins.{with_items, kept_item, KeepsItem}

@@ -18,7 +18,8 @@ use Rattle.hc_model.specs.Contents.{is_idle}
 use Rattle.hc_model.specs.Rows as rows
 use Rattle.hc_effects.proofs.{Basics.{number_is}, Closed.{among_filter, among_append_left, reversed as among_reverse, among_append_right}, CurrentKeeps.{current_is}, KeysKeep.{current_row}, PollKeeps.{current_stays}, Sums.{filter_among}, Tests.{none_some}}
 use Rattle.hc_laws.proofs.{RunsFrom.{end_is}, SoundRuns.{carried, measures_in_runs}}
-use Rattle.hc_state.specs.{declared.{consumer.Consumer.{Consumer}, rows.Rows.{Rows}}, Kept.{KeepsConsumer, KeepsExchange, KeepsRunning}, Lines.{KeepsKey, has_turn, is_away, is_passed}, Stands.{RowsStand}, Stored.{IsEntry, KeepsEntry, TellsLength, TellsWriter, is_first, is_over, is_usable_row}}
+use Rattle.hc_state.specs.{declared.{rows.Rows.{Rows}}, Kept.{KeepsConsumer, KeepsExchange, KeepsRunning}, Lines.{KeepsKey, has_turn, is_away, is_passed}, Stands.{RowsStand}, Stored.{IsEntry, KeepsEntry, TellsLength, TellsWriter, is_first, is_over, is_usable_row}}
+use Rattle.hc_txn.specs.declared.transaction.Transaction.{Transaction as Consumer}
 use Rattle.hc_state.specs.Stored as stored
 use Rattle.hc_core.proofs.{BegunRuns.{kind_begun}, HeadsGrow.{HeadsGrow, heads_grow}, NobodyLive.{nobody, nobody_says, unbound, none_bound, shut, none_held}, RunsBack.{cells_back}, Standing.{law_of_runs}, BegunItems.{good_of}}
 use Rattle.hc_state.proofs.{CurrentTies.{stays_stored}, LiveCounts.{filter-reverse}}

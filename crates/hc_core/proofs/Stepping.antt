@@ -12,12 +12,12 @@ use Rattle.hc_effects.proofs.Tests.{none_some}
 use Rattle.hc_exch.specs.{Exchanges.{table_of, next_of}, Known.{unknown}}
 use Rattle.hc_stored.specs.Entries.{shelf_of}
 use Rattle.hc_entry.specs.{Keys.{kept_of}, Kept.{nothing}}
-use Rattle.hc_laws.proofs.{Barred.{next_tables, denied_tables}, ChainRuns.{chains_in_runs}, GivesStored.{gives_stored_in_runs}, InRuns.{delivers_in_runs, turns_in_runs, dooms_in_runs, binds_in_runs}, StoresGrow.{stores_grow_in_runs}, TruthRuns.{truth_in_runs}, Undenied.{undenied}, FromNothing.{begins_well}}
+use Rattle.hc_laws.proofs.{Barred.{next_tables, denied_tables}, ChainRuns.{chains_in_runs}, GivesStored.{gives_stored_in_runs}, FitsRuns.{few_in_runs}, InRuns.{delivers_in_runs, turns_in_runs, dooms_in_runs, binds_in_runs}, OpenRuns.{open_in_runs}, StoresGrow.{stores_grow_in_runs}, TruthRuns.{truth_in_runs}, Undenied.{undenied}, FromNothing.{begins_well}}
 use Rattle.hc_state.specs.{declared.rows.Rows.{Rows}, Stands.{RowsStand, StandsForSome, Answers, gate_of}, Facts.{Facts}, Good.{StandsUntil, StandsAt}}
 use Rattle.hc_on_leave.proofs.{Gates.{denies_as}, Sets.{acts_set}}
 use Rattle.hc_core.proofs.{Standing.{facts_of_runs, sized_of_any, sized_of_some}, Denying.{stands_denied, stands_begun}}
 use Rattle.hc_state.proofs.{Maps.{merely_below}, Words.{more_received, none_received}}
-use Rattle.hc_core.specs.{declared.cache.Cache.{Cache}, Steps.{StandsFor, Steps, KeepsPromises}}
+use Rattle.hc_core.specs.{declared.cache.Cache.{Cache}, Steps.{StandsFor, Steps, HasEvictedFew, KeepsPromises}}
 
 -- THE BEGINNING
 
@@ -268,6 +268,10 @@ module _ {B : Type 0} {g : Ghosts B} (s u : Cache B g) (now : ℕ) (ev : Event) 
 
 -- THE PROMISES
 
+evicted_few : (limits : Limits) (contents : Contents) (h : History) → may_begin limits contents ≡ true → IsRun limits contents h → HasEvictedFew h
+evicted_few limits contents [] may run = tt
+evicted_few limits contents (e ∷ h) may run = few_in_runs limits contents may h e run
+
 pub keeps_promises : {B : Type 0} {g : Ghosts B} (s : Cache B g) → KeepsPromises s
 keeps_promises s contents h stands = record {
   once = delivers_in_runs (shelf_of s.rows.entries).limits contents h stands.begins stands.run;
@@ -277,5 +281,7 @@ keeps_promises s contents h stands = record {
   truthful = truth_in_runs (shelf_of s.rows.entries).limits contents h stands.begins stands.run;
   binds = binds_in_runs (shelf_of s.rows.entries).limits contents h stands.begins stands.run;
   stored = stores_grow_in_runs (shelf_of s.rows.entries).limits contents h stands.begins stands.run;
+  few_open = open_in_runs (shelf_of s.rows.entries).limits contents h stands.begins stands.run;
   gives = gives_stored_in_runs (shelf_of s.rows.entries).limits contents h stands.begins stands.run;
+  evicted = evicted_few (shelf_of s.rows.entries).limits contents h stands.begins stands.run;
 }

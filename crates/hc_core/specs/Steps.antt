@@ -1,5 +1,5 @@
 -- A cache represents a history, and its step for one entry more.
-use Rattle.std.specs.Prelude.{◌≡◌, ℕ, ◌+◌, ◌≤◌, List, ◌∷◌, ◌++◌, Bool, true}
+use Rattle.std.specs.Prelude.{◌≡◌, ℕ, ◌+◌, ◌≤◌, List, [], ◌∷◌, ◌++◌, Bool, true}
 use Rattle.std.specs.HashMap.{hash_map_len}
 use Rattle.hc_store.specs.declared.backend.Backend.{Ghosts}
 use Rattle.hc_event.specs.declared.event.Event.{Event}
@@ -12,7 +12,8 @@ use Rattle.hc_model.specs.Entries.{History, Contents}
 use Rattle.hc_rules.specs.declared.room.Limits.{Limits}
 use Rattle.hc_model.specs.Flaws.{failures_in}
 use Rattle.hc_model.specs.Chains.{ChainsEnd}
-use Rattle.hc_model.specs.Laws.{DeliversOnce, HasOneTurn, IsBehindDooms, IsBoundBehindDooms, IsTruthful, StoresGrow}
+use Rattle.hc_model.specs.Laws.{DeliversOnce, HasOneTurn, IsBehindDooms, IsBoundBehindDooms, IsSmallPiece, IsTruthful, StoresGrow, count_evicted}
+use Rattle.hc_model.specs.Live.{FewOpen}
 use Rattle.hc_model.specs.Numbers.{AreShort}
 use Rattle.hc_model.specs.Reads.{GivesStored}
 use Rattle.hc_model.specs.Rows.{Tables}
@@ -83,19 +84,27 @@ pub record Steps {B : Type 0} {g : Ghosts B} (s u : Cache B g) (before out : Lis
 
 -- WHAT IS PROMISED OVER ALL INTERLEAVINGS
 
+-- the last entry evicted two representations at most, where a piece has at most 65,536 bytes
+abbrev pub HasEvictedFew : History → Type 0
+HasEvictedFew [] = Unit {0}
+HasEvictedFew (e ∷ h) = IsSmallPiece e.event → count_evicted e.acts ≤ 2
+
 -- of every history that the cache represents: each position is delivered once, of each key one exchange at most has
 -- the turn, a chain of waits ends after three links, what is used came after the last doom of its key, and what is
--- stored is what it is called. What a consumer became bound to by the last entry came after that doom too. By that
--- entry nothing that was stored went, and who polled with its next byte stored was given some.
+-- stored is what it is called. No more exchanges are open than consumers are live. What a consumer became bound to by
+-- the last entry came after that doom too. By that entry nothing that was stored went but what few evictions took, and
+-- who polled with its next byte stored was given some.
 pub record Keeps (contents : Contents) (h : History) : Type 0 where
   pub once : DeliversOnce (tables contents h)
   pub turn : HasOneTurn (tables contents h)
   pub waits : ChainsEnd (tables contents h)
   pub barrier : IsBehindDooms contents h
   pub truthful : IsTruthful (tables contents h)
+  pub few_open : FewOpen (tables contents h)
   pub binds : IsBoundBehindDooms contents h
   pub stored : StoresGrow contents h
   pub gives : GivesStored contents h
+  pub evicted : HasEvictedFew h
 
 abbrev pub KeepsPromises : {B : Type 0} {g : Ghosts B} → Cache B g → Type 0
 KeepsPromises s = (contents : Contents) (h : History) → StandsFor s contents h → Keeps contents h

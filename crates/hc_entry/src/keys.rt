@@ -60,6 +60,17 @@ impl KeyTable {
         row_in(&self.rows, key)?.current
     }
 
+    /// The turn if the consumer were in line too, and the representation that is current.
+    pub fn seen(&self, key: &Key, c: u64) -> (u64, Option<u64>)
+        ensures turn { Some result.0 ≡ turn_with c (line_of self.now key.now) }
+        ensures current { result.1 ≡ (kept_of self.now key.now).current }
+    {
+        match row_in(&self.rows, key) {
+            Some(row) => (row.line.turn_with(c), row.current),
+            None => (c, None),
+        }
+    }
+
     /// Whether the consumer waits for the key: in line, passed or away.
     pub fn is_in(&self, key: &Key, c: u64) -> bool
         ensures { result ≡ is_in c (line_of self.now key.now) }

@@ -10,7 +10,9 @@ use Rattle.hc_exch.specs.Known as known
 use Rattle.hc_model.specs.Effects as effects
 use Rattle.hc_model.specs.Owners as owners
 use Rattle.hc_model.specs.Rows as rows
-use Rattle.hc_state.specs.{declared.{consumer.Consumer.{Consumer}, rows.Rows.{Rows}}, Changes.{ChangesAt, put_down}, Kept.{answer_for, answer_at}, Leaving.{LeavesPlace}, Stands.{RowsStand}, Stopped.{NobodyAwaits, Waited}}
+use Rattle.hc_state.specs.{declared.{rows.Rows.{Rows}}, Changes.{ChangesAt}, Kept.{answer_for, answer_at}, Leaving.{LeavesPlace}, Stands.{RowsStand}, Stopped.{NobodyAwaits, Waited}}
+use Rattle.hc_txn.specs.declared.transaction.Transaction.{Transaction as Consumer}
+use Rattle.hc_txn.specs.Transactions.{put_down}
 use Rattle.hc_state.proofs.{Closing.{stands_unstored}, Dropping.{stands_down, moved_to}}
 
 -- the rows once it is closed, told in two ways

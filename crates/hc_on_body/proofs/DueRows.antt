@@ -13,7 +13,9 @@ use Rattle.hc_stored.specs.Entries.{shelf_of}
 use Rattle.hc_entry.specs.Keys.{kept_of}
 use Rattle.hc_exch.specs.Exchanges.{table_of, next_of}
 use Rattle.hc_model.specs.Rows as rows
-use Rattle.hc_state.specs.{declared.{consumer.Consumer.{Consumer}, rows.Rows.{Rows}}, Changes.{ChangesAmong, with_due}, Kept.{IsKept, KeepsConsumer, held_for, held_of, held_alone, unread, unstored_bytes}, Lines.{has_turn, is_passed, is_away, is_away_at}, Stands.{RowsStand}, Stopped.{with_consumers, NobodyAwaits, due_for}, Stored.{is_first}}
+use Rattle.hc_state.specs.{declared.{rows.Rows.{Rows}}, Changes.{ChangesAmong}, Kept.{IsKept, KeepsConsumer, held_for, held_of, held_alone, unread, unstored_bytes}, Lines.{has_turn, is_passed, is_away, is_away_at}, Stands.{RowsStand}, Stopped.{with_consumers, NobodyAwaits, due_for}, Stored.{is_first}}
+use Rattle.hc_txn.specs.declared.transaction.Transaction.{Transaction as Consumer}
+use Rattle.hc_txn.specs.Transactions.{with_due}
 use Rattle.hc_state.proofs.{FallbackSteps.{live_same}, Fallbacks.{unstored_moved}, OneOfEach.{entries_same}, Ties.{consumer_same, exchange_same, key_same, kept_same}}
 
 module _ (t : Tables) (among : ℕ → Bool) (why : Cause) where

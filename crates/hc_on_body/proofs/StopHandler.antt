@@ -16,7 +16,8 @@ use Rattle.hc_model.specs.Rows as rows
 use Rattle.hc_model.specs.Sound as sound
 use Rattle.hc_model.specs.Whose as whose
 use Rattle.hc_effects.proofs.{AboutKeeps.{own_open_of}, Exclusives.{exclusive_parts}, HoleLemmas.{covers_yes}, LettingGo.{may_let_go}, Stops.{writer_about}, Tests.{none_some}}
-use Rattle.hc_state.specs.{declared.{rows.Rows.{Rows}, stop.Readers.{Readers, TheVariants.{the_data as readers}}}, Changes.{Numbered, ChangesAmong, with_due}, Facts.{Facts}, Kept.{held_alone, unstored_bytes, first_lacking}, Leaving.{writing_of}, Stands.{RowsStand, KeepsRest}, Stopped.{with_consumers, due_for, NobodyAwaits, MayStop, IsBroken, HasStopped, BrokeOff}, Stops.{readers_of, readers_by, reads_from, goes_on, opener_of, alone_in}, Stored.{KeepsEntry}}
+use Rattle.hc_state.specs.{declared.{rows.Rows.{Rows}, stop.Readers.{Readers, TheVariants.{the_data as readers}}}, Changes.{Numbered, ChangesAmong}, Facts.{Facts}, Kept.{held_alone, unstored_bytes, first_lacking}, Leaving.{writing_of}, Stands.{RowsStand, KeepsRest}, Stopped.{with_consumers, due_for, NobodyAwaits, MayStop, IsBroken, HasStopped, BrokeOff}, Stops.{readers_of, readers_by, reads_from, goes_on, opener_of, alone_in}, Stored.{KeepsEntry}}
+use Rattle.hc_txn.specs.Transactions.{with_due}
 use Rattle.hc_state.specs.Stopped as stopped
 use Rattle.hc_state.proofs.{Fallbacks.{unstored_moved}, LeftAlone.{unwritten_none}, LeftRows.{writing_as}, Stopping.{runs, head_there, brought_some, brought_none}}
 use Rattle.hc_on_body.proofs.DueRows.{told_same, may_due, awaits_due, stands_due}

@@ -25,7 +25,7 @@ use Rattle.hc_effects.proofs.{LettingGo.{may_let_go, bound_let_go}, StopFrames.{
 use Rattle.hc_effects.proofs.StopEffects as past_effects
 use Rattle.hc_effects.proofs.StopSeals as seal_effects
 use Rattle.hc_state.specs.{declared.rows.Rows.{Rows}, Changes.{ChangesAt, ChangesAmong}, Facts.{Facts}, Stands.{Answered, RowsStand}, Stopped.{SealedWhole, NobodyAwaits}, Stops.{brought_by}, Stored.{KeepsEntry}}
-use Rattle.hc_state.specs.Changes as changes
+use Rattle.hc_txn.specs.Transactions as changes
 use Rattle.hc_state.specs.Stopped as stopped
 use Rattle.hc_state.proofs.{Answering.{does_answered, lossy_answered}, CloseHandler.{unread_go, unawaited_go}, Counting.{stands_counted}, Losing.{may_lost}, OneOfEach.{first_by}, SealHandler.{nothing_else}, SealWritten.{sealed_lasting}, Stopping.{head_there, brought_some, brought_none}}
 use Rattle.hc_on_body.proofs.{CameAlone.{NobodyFirst, nobody_first, nobody_first_go}, StopHandler.{none_alone}, WholeEnds.{stands_whole, entries_whole, gone_longer, sealed_longer, stands_past}}

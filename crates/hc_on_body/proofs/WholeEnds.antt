@@ -18,7 +18,9 @@ use Rattle.hc_exch.specs.{Exchanges.{table_of}, Known.{Known}}
 use Rattle.hc_exch.specs.Known as known
 use Rattle.hc_model.specs.Rows as rows
 use Rattle.hc_effects.proofs.{HoleLemmas.{covers_yes}, Tests.{none_some}}
-use Rattle.hc_state.specs.{declared.{consumer.Consumer.{Consumer}, rows.Rows.{Rows}}, Changes.{ChangesAt, ChangesAmong, with_end}, Kept.{IsKept, KeepsConsumer, KeepsExchange, head_in, answer_at, held_for, held_of, held_alone, unstored_bytes, answer_for}, Lines.{KeepsKey}, Stands.{RowsStand}, Stopped.{NobodyAwaits}, Stored.{IsEntry, TellsLength, told, untold, KeepsEntry, KeepsEntries, is_first, is_usable_row, is_over, TellsWriter}}
+use Rattle.hc_state.specs.{declared.{rows.Rows.{Rows}}, Changes.{ChangesAt, ChangesAmong}, Kept.{IsKept, KeepsConsumer, KeepsExchange, head_in, answer_at, held_for, held_of, held_alone, unstored_bytes, answer_for}, Lines.{KeepsKey}, Stands.{RowsStand}, Stopped.{NobodyAwaits}, Stored.{IsEntry, TellsLength, told, untold, KeepsEntry, KeepsEntries, is_first, is_usable_row, is_over, TellsWriter}}
+use Rattle.hc_txn.specs.declared.transaction.Transaction.{Transaction as Consumer}
+use Rattle.hc_txn.specs.Transactions.{with_end}
 use Rattle.hc_state.proofs.{Fallbacks.{unstored_moved}, Closing.{exchange_closed, key_closed, entries_closed}, OneOfEach.{first_by, growing_same, kind_same, entries_same}, Ties.{entry_same, exchange_same, key_same, kept_same, put_over, writer_then}}
 use Rattle.hc_on_body.proofs.{BreakHandler.{closed_is}, CameAlone.{NobodyFirst}, Ended.{with_over, told_alike, runs_end, held_end, away_end, base_end, promise_end}}
 

@@ -18,7 +18,8 @@ use Rattle.hc_rules.proofs.RangeReads.{same_bytes, bytes_eq-same}
 use Rattle.hc_model.specs.Exchanges as exchanges
 use Rattle.hc_model.specs.Owners as owners
 use Rattle.hc_model.specs.Rows as rows
-use Rattle.hc_state.specs.{declared.{consumer.Consumer.{Consumer}, rows.Rows.{Rows}}, Dooms.{IsAwaited, IsToClose, IsUnheard}, Kept.{KeepsConsumer, KeepsRunning}, Stands.{RowsStand}}
+use Rattle.hc_state.specs.{declared.{rows.Rows.{Rows}}, Dooms.{IsAwaited, IsToClose, IsUnheard}, Kept.{KeepsConsumer, KeepsRunning}, Stands.{RowsStand}}
+use Rattle.hc_txn.specs.declared.transaction.Transaction.{Transaction as Consumer}
 use Rattle.hc_on_head.proofs.{AscendingLists.{above_first, among_later, among_cases, is_first, is_later, among-reverse, reverse_ascends}, Woken.{stands_for, Stood, nobody, back, beside, stays, stood, Waits, waits_of, waiting_lives}}
 use Rattle.hc_state.proofs.{Ties.{kept_row}, TurnTies.{among_in, filter_in}}
 

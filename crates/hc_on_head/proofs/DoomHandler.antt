@@ -16,7 +16,8 @@ use Rattle.hc_exch.specs.{Exchanges.{table_of}, Known.{without_exchange}}
 use Rattle.hc_rules.proofs.RangeReads.{same_bytes, bytes_eq-same}
 use Rattle.hc_model.specs.Rows as rows
 use Rattle.hc_effects.proofs.{LettingGo.{may_let_go}, SameTables.{all_closed_is}, Tests.{and_false, none_some}}
-use Rattle.hc_state.specs.{declared.rows.Rows.{Rows}, Changes.{ChangesAmong, once_over}, Dooms.{Closes, IsUnheard, KeepsLine, IsDoomed}, Lines.{KeepsKey, has_turn, is_passed, is_away, is_away_at}, Stands.{RowsStand, KeepsRest}, Stored.{KeepsEntry, KeepsEntries, is_over}}
+use Rattle.hc_state.specs.{declared.rows.Rows.{Rows}, Changes.{ChangesAmong}, Dooms.{Closes, IsUnheard, KeepsLine, IsDoomed}, Lines.{KeepsKey, has_turn, is_passed, is_away, is_away_at}, Stands.{RowsStand, KeepsRest}, Stored.{KeepsEntry, KeepsEntries, is_over}}
+use Rattle.hc_txn.specs.Transactions.{once_over}
 use Rattle.hc_state.proofs.{FallbackSteps.{live_same}, OneOfEach.{first_row, bound_same, growing_same, kind_same}, Ties.{entry_same, key_same, overs_closed}, Apart.{or_offs}}
 use Rattle.hc_on_head.proofs.{DoomCloses.{IsBare, bare_among, closes_are}, DoomTies.{s, exchange_is, over_row, line_row, same_consumer, none_row, all_consumers, exchange_shut}, Woken.{stands_for, Stood, nobody, back, beside, stays, stood, waiting_lives, bytes-flip}}
 

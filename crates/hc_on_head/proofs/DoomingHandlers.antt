@@ -16,7 +16,9 @@ use Rattle.hc_model.specs.Owners as owners
 use Rattle.hc_model.specs.Rows as rows
 use Rattle.hc_effects.proofs.{Basics.{same_functions}, SameTables.{without, shut, back_from_any, waits_for_any, some_go_is, all_closed_is}, UnsafeEffects.{dooms_taken, dooms_bad}, Tests.{and_false, none_some}}
 use Rattle.hc_effects.proofs.SameTables as tables
-use Rattle.hc_state.specs.{declared.{consumer.Consumer.{Consumer}, rows.Rows.{Rows}}, Changes.{ChangesAt, standing_at}, Dooms.{IsUnheard, IsDoomed}, Facts.{Facts}, Heads.{AwaitsHead, IsPastStore, IsReadAlone}, Kept.{IsKept, KeepsConsumer, KeepsExchange, KeepsRunning, answer_for, unread, held_for}, Lines.{KeepsKey, has_turn, is_away, is_away_at, is_passed}, Stands.{Answered, RowsStand, Stands}, Stored.{KeepsEntries, is_over}}
+use Rattle.hc_state.specs.{declared.{rows.Rows.{Rows}}, Changes.{ChangesAt}, Dooms.{IsUnheard, IsDoomed}, Facts.{Facts}, Heads.{AwaitsHead, IsPastStore, IsReadAlone}, Kept.{IsKept, KeepsConsumer, KeepsExchange, KeepsRunning, answer_for, unread, held_for}, Lines.{KeepsKey, has_turn, is_away, is_away_at, is_passed}, Stands.{Answered, RowsStand, Stands}, Stored.{KeepsEntries, is_over}}
+use Rattle.hc_txn.specs.declared.transaction.Transaction.{Transaction as Consumer}
+use Rattle.hc_txn.specs.Transactions.{standing_at}
 use Rattle.hc_on_leave.proofs.{AnswerHandler.{reader_kept, opened_as}, HeardExchange.{drop_none, held_empty}, HeardRows.{Asker, headless_of, kept_as, runs_as}, LeaveHandlers.{flawless}, OneConsumer.{HoldsAsMuch, held_same}, RefuseHandler.{length_as}, UnstoredHandlers.{read_then, unwritten}}
 use Rattle.hc_state.proofs.{Answering.{does_answered}, Fallbacks.{same, held_alike}, FallbackSteps.{live_same}, ConsumerSteps.{SaysOfIt, key_with, key_stays}, Counting.{stands_counted}, KeySteps.{not_lined}, Maps.{merely_true, merely_false}, OneOfEach.{stands_then, entries_same, growing_same}, QueueHandler.{becomes_by}, Ties.{key_same, overs_but}, Unbinding.{entries_unbound}}
 use Rattle.hc_on_head.proofs.{DoomCloses.{among_is}, DoomTies.{in_is}, HeadTold.{heard_as, past_of_runs}}

@@ -15,7 +15,8 @@ use Rattle.hc_exch.specs.{declared.{exchanges.Exchanges.{Exchanges}, row.Open.{O
 use Rattle.hc_event.specs.declared.place.Place.TheVariants as place
 use Rattle.hc_model.specs.Rows as rows
 use Rattle.hc_effects.proofs.{FoundDoes.{Founds, founds_of}, Tests.{none_some}, EventsKeep.{no_head as head_none}}
-use Rattle.hc_state.specs.{declared.{consumer.Consumer.{Consumer}, rows.Rows.{Rows}, founded.Founding.{Founding}}, Facts.{Facts}, Founding.{BeginsFounding, IsFounding}, Heads.{AwaitsHead, IsAskedBy, IsReadAlone, StandsApart, goes_with}, Kept.{IsRunning}, Renewals.{IsUnrenewed}, Room.{HasActs, LeavesActs, GivesWay, loss_by, room_for_write}, Stands.{Answered, RowsStand, Stands}, Stored.{KeepsEntry}}
+use Rattle.hc_state.specs.{declared.{rows.Rows.{Rows}, founded.Founding.{Founding}}, Facts.{Facts}, Founding.{BeginsFounding, IsFounding}, Heads.{AwaitsHead, IsAskedBy, IsReadAlone, StandsApart, goes_with}, Kept.{IsRunning}, Renewals.{IsUnrenewed}, Room.{HasActs, LeavesActs, GivesWay, loss_by, room_for_write}, Stands.{Answered, RowsStand, Stands}, Stored.{KeepsEntry}}
+use Rattle.hc_txn.specs.declared.transaction.Transaction.{Transaction as Consumer}
 use Rattle.hc_on_leave.proofs.{AnswerHandler.{reader_kept}, FoundHandler.{fallback, first, second, es, m, may_fallback, may_first, make_second, one_way, m_unfounded, m_asker, read_alone, founds_answered, lost_answered, full_told}, HeardRows.{Asker, Headless, asker, headless_of, heard_row, runs_as}}
 use Rattle.hc_on_head.proofs.HeadTold.{past_of_runs}
 use Rattle.hc_state.proofs.{Maps.{known_of, merely_below, merely_false}, ReaderSteps.{stands_read}, Rooms.{room_is}}

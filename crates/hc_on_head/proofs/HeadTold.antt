@@ -15,7 +15,8 @@ use Rattle.hc_entry.specs.{Keys.{kept_of, line_of}, Lines.{is_among, is_in}}
 use Rattle.hc_exch.specs.{declared.row.{ExchangeView.{ExchangeView}, Open.{Open}}, Exchanges.{table_of}, Known.{open_view, view_of, length_by}}
 use Rattle.hc_effects.proofs.{FoundBy.{CaseBy, case_by, turn_direct}, Basics.{some_row}, Tests.{none_some}}
 use Rattle.hc_effects.proofs.FoundBy as cases
-use Rattle.hc_state.specs.{declared.{consumer.Consumer.{Consumer}, rows.Rows.{Rows}}, Handlers.{IsInKey}, Facts.{Facts}, Founding.{MayFound}, Heads.{aim_in, kept_at, heard_view, changes_by, is_past_case, is_bad_case, IsPastStore, puts_down, goes_past, starts_anew, let_go_by, goes_with}, Kept.{IsRunning}, Lines.{is_away, is_away_at}, Stands.{RowsStand, Stands}}
+use Rattle.hc_state.specs.{declared.{rows.Rows.{Rows}}, Handlers.{IsInKey}, Facts.{Facts}, Founding.{MayFound}, Heads.{aim_in, kept_at, heard_view, changes_by, is_past_case, is_bad_case, IsPastStore, puts_down, goes_past, starts_anew, let_go_by, goes_with}, Kept.{IsRunning}, Lines.{is_away, is_away_at}, Stands.{RowsStand, Stands}}
+use Rattle.hc_txn.specs.declared.transaction.Transaction.{Transaction as Consumer}
 use Rattle.hc_on_leave.proofs.{HeadCases.{it_is}, HeardRows.{Asker, Headless, asker, headless_of, heard_row, runs_as}, UnstoredHandlers.{awaits_viewed}}
 use Rattle.hc_on_head.specs.Comings.{MayCome, IsPast}
 use Rattle.hc_on_head.proofs.HeadViews.{case_is, aim_is, view_is as views_as}

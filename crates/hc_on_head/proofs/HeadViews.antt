@@ -20,7 +20,8 @@ use Rattle.hc_stored.specs.{declared.view.EntryView.{EntryView}, Entries.{shelf_
 use Rattle.hc_model.specs.Owners as owners
 use Rattle.hc_model.specs.Rows as rows
 use Rattle.hc_effects.proofs.{Bounded.{range_order}, Joining.{filling}, ExclusiveWriters.{filter_some}, Tests.{none_some}}
-use Rattle.hc_state.specs.{declared.{consumer.Consumer.{Consumer}, rows.Rows.{Rows}}, Facts.{Facts}, Heads.{aim_in, kept_at, joins_kept, heard_view}, Kept.{IsRunning, KeepsConsumer, role_awaited}, Stands.{RowsStand}, Stored.{KeepsEntry, IsEntry, TellsLength, told, untold}}
+use Rattle.hc_state.specs.{declared.{rows.Rows.{Rows}}, Facts.{Facts}, Heads.{aim_in, kept_at, joins_kept, heard_view}, Kept.{IsRunning, KeepsConsumer, role_awaited}, Stands.{RowsStand}, Stored.{KeepsEntry, IsEntry, TellsLength, told, untold}}
+use Rattle.hc_txn.specs.declared.transaction.Transaction.{Transaction as Consumer}
 use Rattle.hc_on_leave.proofs.{HeadCases.{case_same}, HeardRows.{Asker, runs_as}}
 use Rattle.hc_state.proofs.{Maps.{merely_true}, Ties.{kept_row}}
 

@@ -18,7 +18,9 @@ use Rattle.hc_exch.specs.Exchanges as exch
 use Rattle.hc_model.specs.Rows as rows
 use Rattle.hc_effects.proofs.{FirstKeeps.{case_is}, FoundBy.{case_by}, ExclusiveWriters.{filter_some}, LossStands.{joins_again, not_founding}, Basics.{some_row}}
 use Rattle.hc_effects.proofs.UpdateEffects as does
-use Rattle.hc_state.specs.{declared.{consumer.Consumer.{Consumer}, rows.Rows.{Rows}}, Changes.{BecomesAt, ChangesAt, Numbered}, Facts.{Facts}, Heads.{IsAskedBy}, Joining.{Brings, bringing, IsAbout, IsGrowing, Shares, growing, joins_hole, without_own}, Kept.{IsKept, KeepsConsumer}, Leaving.{LeavesKey}, Renewals.{renewed_head}, Stands.{Answered, RowsStand, open_at}, Stopped.{HoldsNothing}, Stored.{IsEntry, KeepsEntry, as_written}}
+use Rattle.hc_state.specs.{declared.{rows.Rows.{Rows}}, Changes.{BecomesAt, ChangesAt, Numbered}, Facts.{Facts}, Heads.{IsAskedBy}, Joining.{Brings, bringing, IsAbout, IsGrowing, Shares, growing, joins_hole}, Kept.{IsKept, KeepsConsumer}, Leaving.{LeavesKey}, Renewals.{renewed_head}, Stands.{Answered, RowsStand, open_at}, Stopped.{HoldsNothing}, Stored.{IsEntry, KeepsEntry, as_written}}
+use Rattle.hc_txn.specs.declared.transaction.Transaction.{Transaction as Consumer}
+use Rattle.hc_txn.specs.Transactions.{without_own}
 use Rattle.hc_state.proofs.{Answering.{does_answered, lossy_answered}, Counting.{stands_counted}, CurrentTies.{entry_row}, Maps.{known_of}, QueueHandler.{becomes_by}}
 use Rattle.hc_on_leave.proofs.{HeardRows.{Asker, asked_by, asker_of, headless_of, kept_as, runs_as}, LoseAlone.{holds_none}, UnstoredHandlers.{unwritten}}
 use Rattle.hc_on_head.proofs.{JoinEntries.{entries_joined, entry_gone, entry_growing}, JoinRows.{IsJoinable, stands_joined}, JoinTold.{Joins, first, later, goes_on, hole_aim, joinable_as, joinable_lost, joins_lost_too, joins_of, need_is, told_of, view_joins}}

@@ -12,7 +12,8 @@ use Rattle.hc_effects.proofs.Vocabulary.{Need, Response, HeadCase, HeadView, hea
 use Rattle.hc_stored.specs.{Entries.{shelf_of}, Kept.{Kept}, Shelf.{Shelf, is_kept}}
 use Rattle.hc_exch.specs.{declared.row.{ExchangeView.{ExchangeView}, Open.{Open}}, Exchanges.{table_of}, Known.{open_view, view_of}}
 use Rattle.hc_effects.proofs.{FoundBy.{CaseBy, case_by, first_joins, later_joins}, Basics.{some_row}}
-use Rattle.hc_state.specs.{declared.{consumer.Consumer.{Consumer}, rows.Rows.{Rows}}, Heads.{aim_in, heard_view, is_bad_case, joins_kept, kept_at}, Joining.{IsAbout, IsAboutKept, joins_hole}, Stands.{Stands}}
+use Rattle.hc_state.specs.{declared.{rows.Rows.{Rows}}, Heads.{aim_in, heard_view, is_bad_case, joins_kept, kept_at}, Joining.{IsAbout, IsAboutKept, joins_hole}, Stands.{Stands}}
+use Rattle.hc_txn.specs.declared.transaction.Transaction.{Transaction as Consumer}
 use Rattle.hc_on_leave.proofs.{HeadCases.{case_unvalidated}, HeardRows.{Headless, headless_of}}
 use Rattle.hc_on_head.specs.Comings.{FitsCase}
 use Rattle.hc_on_head.proofs.HeadTold.{founds_as, good_as, past_of_runs, viewed_as, waits_as_told}

@@ -14,7 +14,8 @@ use Rattle.hc_stored.specs.{Entries.{shelf_of}, Kept.{Kept}, declared.view.Entry
 use Rattle.hc_exch.specs.{declared.row.{Open.{Open}, Opening.{Opening}}, Exchanges.{table_of}, Known.{begins_with}, Openings.{opened_with}}
 use Rattle.hc_model.specs.Rows as rows
 use Rattle.hc_effects.proofs.{Tests.{none_some}, HoleLemmas.{covers_all}}
-use Rattle.hc_state.specs.{declared.{consumer.Consumer.{Consumer}, rows.Rows.{Rows}}, Facts.{Facts}, Joining.{LacksOnly}, Kept.{KeepsConsumer, KeepsRunning}, Stands.{RowsStand}, Stored.{IsEntry}}
+use Rattle.hc_state.specs.{declared.{rows.Rows.{Rows}}, Facts.{Facts}, Joining.{LacksOnly}, Kept.{KeepsConsumer, KeepsRunning}, Stands.{RowsStand}, Stored.{IsEntry}}
+use Rattle.hc_txn.specs.declared.transaction.Transaction.{Transaction as Consumer}
 use Rattle.hc_on_leave.proofs.{AnswerHandler.{opened_as}, StoreHandler.{stored_size}}
 use Rattle.hc_state.proofs.{CurrentTies.{covers_as, entry_at, stored_ends}, Ties.{kept_row}}
 

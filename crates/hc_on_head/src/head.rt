@@ -12,7 +12,7 @@ ghost use Rattle.hc_exch.specs.Exchanges.{table_of};
 ghost use Rattle.hc_exch.specs.Known.{is_open};
 ghost use Rattle.hc_fields.specs.FieldList.{IsWithinLimits};
 ghost use Rattle.hc_model.specs.Live.{most_live};
-ghost use Rattle.hc_state.specs.declared.consumer.Consumer.{Consumer};
+ghost use Rattle.hc_txn.specs.declared.transaction.Transaction.{Transaction as Consumer};
 ghost use Rattle.hc_state.specs.Heads.{IsTimely, aim_in, kept_at, joins_kept, heard_view, let_go_by, is_past_case, changes_by};
 ghost use Rattle.hc_state.specs.Stands.{Answers, AnswersCase, Stands, open_at};
 ghost use Rattle.hc_on_head.specs.Comings.{FitsCase, MayCome};

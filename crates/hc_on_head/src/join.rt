@@ -62,7 +62,7 @@ pub(crate) fn join<B: Backend>(
         Ok(()) => {
             bring(rows, heard, response, r);
             if resumes {
-                share(rows, heard, r);
+                share(rows, heard, r)?;
             }
             Ok(())
         }
@@ -117,12 +117,14 @@ fn bring<B: Backend>(rows: &mut Rows<B>, heard: Heard, response: &Response, r: u
 }
 
 /// The exchange writes the representation for several from now on.
-fn share<B: Backend>(rows: &mut Rows<B>, heard: Heard, r: u64)
+fn share<B: Backend>(rows: &mut Rows<B>, heard: Heard, r: u64) -> Result<(), NoMemory>
     requires there { is_kept (shelf_of rows.old.entries) r ≡ true }
-    ensures { Shares rows.old rows.new heard.c heard.x r }
+    ensures shares { OnOk result (Shares rows.old rows.new heard.c heard.x r) }
+    ensures faults { (shelf_of rows.new.entries).faults ≡ (shelf_of rows.old.entries).faults }
 {
-    rows.entries.set_writer(r, heard.x);
+    rows.entries.set_writer(r, heard.x)?;
     disown(&mut rows.consumers, heard.c);
+    Ok(())
 }
 
 /// The exchange brings all that is missing, for a consumer that asks for the whole: others may

@@ -14,7 +14,9 @@ use Rattle.hc_exch.specs.{declared.{role.Role.TheVariants.{the_data as role}, ro
 use Rattle.hc_exch.specs.Exchanges as exch
 use Rattle.hc_model.specs.Effects as effects
 use Rattle.hc_model.specs.Rows as rows
-use Rattle.hc_state.specs.{declared.{consumer.Consumer.{Consumer}, rows.Rows.{Rows}}, Changes.{Numbered, ChangesAt, with_answer}, Heads.{IsReadAlone, EndsInRange, answered_by, end_of_answer, end_from}, Kept.{IsKept, IsRunning, KeepsConsumer, KeepsExchange, KeepsRunning, answer_for, held_for, role_of}, Stands.{RowsStand}}
+use Rattle.hc_state.specs.{declared.{rows.Rows.{Rows}}, Changes.{Numbered, ChangesAt}, Heads.{IsReadAlone, EndsInRange, answered_by, end_of_answer, end_from}, Kept.{IsKept, IsRunning, KeepsConsumer, KeepsExchange, KeepsRunning, answer_for, held_for, role_of}, Stands.{RowsStand}}
+use Rattle.hc_txn.specs.declared.transaction.Transaction.{Transaction as Consumer}
+use Rattle.hc_txn.specs.Transactions.{with_answer}
 use Rattle.hc_effects.proofs.{ToldNumbers.{EndsEarly}, Tests.{none_some}}
 use Rattle.hc_on_leave.proofs.{HeardExchange.{held_empty, held_else, here, others, key_heard, entries_heard}, HeardRows.{headless_of, runs_as, kept_as}}
 use Rattle.hc_state.proofs.{OneOfEach.{stands_then}, QueueHandler.{becomes_by}}

@@ -15,7 +15,8 @@ use Rattle.hc_model.specs.LettingGo.{first_idle}
 use Rattle.hc_model.specs.Rows as rows
 use Rattle.hc_model.specs.Sound as sound
 use Rattle.hc_effects.proofs.{FoundCases.{founding_writes}, FoundDoes.{Founds, whole, part, replaced, founds_does, founds_goes, lost_does, replaces, founder, status_is, total_whole, empty_total, part_wanted, founder_unshown, is_part}, FoundEffects.{all_one, room_apart, room_one, current_there}, FoundOrder.{founded_last, past_last}, FoundRoom.{room_same, gives_same}, KeyActs.{HasRow}, LettingGo.{may_let_go, keeps_may, keeps_may_all}, SameTables.{is_in, waits_for_any, back_from_any, without, all_go_is}, WeightsLeft.{all_weigh_less, all_weigh_apart, fits_after, one_gives_way}, Tests.{none_some}}
-use Rattle.hc_state.specs.{declared.{consumer.Consumer.{Consumer}, rows.Rows.{Rows}, founded.Founding.{Founding}}, Facts.{Facts}, Founding.{BeginsFounding, IsFounding, is_shared_by, part_by, total_by}, Heads.{AwaitsHead, IsReadAlone, goes_with}, Kept.{IsRunning}, Room.{GivesWay}, Stands.{Answered, RowsStand}}
+use Rattle.hc_state.specs.{declared.{rows.Rows.{Rows}, founded.Founding.{Founding}}, Facts.{Facts}, Founding.{BeginsFounding, IsFounding, is_shared_by, part_by, total_by}, Heads.{AwaitsHead, IsReadAlone, goes_with}, Kept.{IsRunning}, Room.{GivesWay}, Stands.{Answered, RowsStand}}
+use Rattle.hc_txn.specs.declared.transaction.Transaction.{Transaction as Consumer}
 use Rattle.hc_state.proofs.{Counting.{stands_counted}, OneOfEach.{bound_same}, Rooms.{used_is}}
 use Rattle.hc_on_leave.proofs.{FoundRows.{IsUnfounded, founded_stands}, HeardRows.{runs_as}, PieceRoom.{may_make_room}, UnstoredHandlers.{may_moved, read_then}}
 

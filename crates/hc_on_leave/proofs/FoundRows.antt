@@ -19,7 +19,9 @@ use Rattle.hc_entry.specs.Kept as keyed
 use Rattle.hc_exch.specs.{declared.{role.Role.TheVariants.{the_data as role}, row.Open.{Open}}, Exchanges.{table_of}, Known.{Known, is_all, length_by}}
 use Rattle.hc_model.specs.{Heads.{founded_head}, Effects.{with_answer}}
 use Rattle.hc_model.specs.Rows as rows
-use Rattle.hc_state.specs.{declared.{consumer.Consumer.{Consumer}, rows.Rows.{Rows}, founded.Founding.{Founding}}, Changes.{BecomesAt}, Founding.{BeginsFounding, founds_with, brings_body, head_by, total_by, kind_begun, writer_by}, Heads.{IsReadAlone}, Kept.{IsKept, IsRunning, KeepsConsumer, KeepsExchange, KeepsRunning, answer_for, held_alone, held_for, held_of, unread, unstored_bytes, role_of}, Lines.{KeepsKey, has_turn, is_away, is_passed}, Stands.{RowsStand}, Stored.{IsEntry, KeepsEntry, KeepsEntries, is_first, is_usable_row, as_written, TellsLength, TellsWriter}}
+use Rattle.hc_state.specs.{declared.{rows.Rows.{Rows}, founded.Founding.{Founding}}, Changes.{BecomesAt}, Founding.{BeginsFounding, brings_body, head_by, total_by, kind_begun, writer_by}, Heads.{IsReadAlone}, Kept.{IsKept, IsRunning, KeepsConsumer, KeepsExchange, KeepsRunning, answer_for, held_alone, held_for, held_of, unread, unstored_bytes, role_of}, Lines.{KeepsKey, has_turn, is_away, is_passed}, Stands.{RowsStand}, Stored.{IsEntry, KeepsEntry, KeepsEntries, is_first, is_usable_row, as_written, TellsLength, TellsWriter}}
+use Rattle.hc_txn.specs.declared.transaction.Transaction.{Transaction as Consumer}
+use Rattle.hc_txn.specs.Transactions.{founding as founds_with}
 use Rattle.hc_state.specs.Stored as stored
 use Rattle.hc_on_leave.proofs.{AnswerHandler.{all_reached}, HeardExchange.{entries_heard, key_heard, held_empty}, HeardRows.{runs_as, kept_as}}
 use Rattle.hc_state.proofs.{Fallbacks.{unstored_moved}, FallbackSteps.{live_same}, KeySteps.{IsUnsaid, apart_unsaid}, OneOfEach.{bound_same, kind_same}, QueueHandler.{becomes_by}, Ties.{consumer_same, entry_same, exchange_same}}

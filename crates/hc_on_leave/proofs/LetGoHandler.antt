@@ -20,7 +20,8 @@ use Rattle.hc_rules.proofs.RangeReads.{same_bytes, bytes_eq-same}
 use Rattle.hc_model.specs.Effects.{waits_for}
 use Rattle.hc_model.specs.Rows as rows
 use Rattle.hc_effects.proofs.{CurrentKeeps.{usable_row}, IdleNow.{filter_both}, LettingGo.{current_let_go, bound_let_go, live_let_go, current_may, let_go_nothing}, PollKeeps.{find_passes}}
-use Rattle.hc_state.specs.{declared.{consumer.Consumer.{Consumer}, rows.Rows.{Rows}}, Changes.{ChangesAmong, over_if_passed}, Kept.{KeepsConsumer, KeepsExchange, held_for}, Lines.{KeepsKey, has_turn, is_passed, is_away}, Stands.{RowsStand}, Stored.{IsEntry, TellsLength, told, untold, KeepsEntry, KeepsEntries, is_first, is_usable_row, is_usable_kept}}
+use Rattle.hc_state.specs.{declared.{rows.Rows.{Rows}}, Changes.{ChangesAmong, over_if_passed}, Kept.{KeepsConsumer, KeepsExchange, held_for}, Lines.{KeepsKey, has_turn, is_passed, is_away}, Stands.{RowsStand}, Stored.{IsEntry, TellsLength, told, untold, KeepsEntry, KeepsEntries, is_first, is_usable_row, is_usable_kept}}
+use Rattle.hc_txn.specs.declared.transaction.Transaction.{Transaction as Consumer}
 use Rattle.hc_state.proofs.{Fallbacks.{IsAlike, same, fallback, held_gone, users_alike}, BoundLists.{bound_none, bound_some}, OneOfEach.{first_by, kind_same}, Ties.{consumer_same, key_same, entry_same, exchange_same, SaysSame, UsesSame}}
 
 -- ROWS THAT ARE GONE

@@ -15,7 +15,8 @@ use Rattle.hc_rules.proofs.LeastFolds.{least-append}
 use Rattle.hc_rules.specs.Survivors as members
 use Rattle.hc_model.specs.Rows as rows
 use Rattle.hc_effects.proofs.HoleLemmas.{first_from}
-use Rattle.hc_state.specs.{declared.{consumer.Consumer.{Consumer}, rows.Rows.{Rows}}, DetachedReaders.{ChangesEach, MayLoseShared, LosesShared, detached_reader_of, after_parting, stands_at}, Kept.{KeepsConsumer, unstored_bytes, held_alone, first_lacking}, Stands.{RowsStand}, Stopped.{HoldsNothing}, Stored.{IsEntry, KeepsEntry}}
+use Rattle.hc_state.specs.{declared.{rows.Rows.{Rows}}, DetachedReaders.{ChangesEach, MayLoseShared, LosesShared, detached_reader_of, after_parting, stands_at}, Kept.{KeepsConsumer, unstored_bytes, held_alone, first_lacking}, Stands.{RowsStand}, Stopped.{HoldsNothing}, Stored.{IsEntry, KeepsEntry}}
+use Rattle.hc_txn.specs.declared.transaction.Transaction.{Transaction as Consumer}
 use Rattle.hc_on_leave.proofs.LoseParts as parts
 use Rattle.hc_state.proofs.TurnTies.{least_alike, least_some, filter_in, among_in}
 

@@ -16,7 +16,8 @@ use Rattle.hc_model.specs.Rows as rows
 use Rattle.hc_effects.proofs.{FirstKeeps.{case_is}, FoundBy.{CaseBy, case_by}, HeadFacts.{stays_open, undue}, LettingGo.{may_let_go}, Tests.{none_some}, UpdateEffects.{unchanged}}
 use Rattle.hc_effects.proofs.FoundBy as cases
 use Rattle.hc_effects.proofs.HeadEffects as does
-use Rattle.hc_state.specs.{declared.rows.Rows.{Rows}, Changes.{ChangesAt, with_due}, Facts.{Facts}, Heads.{AwaitsHead, IsBare, IsReadAlone, IsUnread, puts_down, goes_past, starts_anew, breaks_off, broken_by, goes_with, unless_over}, Stands.{Answered, KeepsRest, RowsStand}}
+use Rattle.hc_state.specs.{declared.rows.Rows.{Rows}, Changes.{ChangesAt}, Facts.{Facts}, Heads.{AwaitsHead, IsBare, IsReadAlone, IsUnread, puts_down, goes_past, starts_anew, breaks_off, broken_by, goes_with, unless_over}, Stands.{Answered, KeepsRest, RowsStand}}
+use Rattle.hc_txn.specs.Transactions.{with_due}
 use Rattle.hc_state.proofs.{Answering.{does_answered}, Counting.{stands_counted}}
 use Rattle.hc_on_leave.proofs.{AskerHandler.{unended}, DueHandler.{stands_due}, HeardRows.{Asker, waits_as}, RefuseHandler.{stands_refused, closes_as}}
 

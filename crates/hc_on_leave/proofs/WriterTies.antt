@@ -14,7 +14,8 @@ use Rattle.hc_exch.specs.{Exchanges.{table_of}, Known.{Table}}
 use Rattle.hc_model.specs.Rows as rows
 use Rattle.hc_model.specs.Sound as sound
 use Rattle.hc_effects.proofs.Exclusives.{exclusive_parts}
-use Rattle.hc_state.specs.{declared.{consumer.Consumer.{Consumer}, rows.Rows.{Rows}}, Facts.{Facts}, Kept.{IsKept, KeepsConsumer}, Leaving.{if_running, writing_by, writing_of}, Stands.{RowsStand}, Stored.{IsEntry, is_first}}
+use Rattle.hc_state.specs.{declared.{rows.Rows.{Rows}}, Facts.{Facts}, Kept.{IsKept, KeepsConsumer}, Leaving.{if_running, writing_by, writing_of}, Stands.{RowsStand}, Stored.{IsEntry, is_first}}
+use Rattle.hc_txn.specs.declared.transaction.Transaction.{Transaction as Consumer}
 use Rattle.hc_state.proofs.{CurrentTies.{stored_ends, covers_as, kept_entry, viewed_entry}, LeftRows.{running_as, writing_as}}
 
 -- WHAT IS TOLD

@@ -18,7 +18,7 @@ use crate::acts::put;
 use hc_entry::KeyTable;
 use hc_event::{Act, Acts};
 use hc_rules::{Room, Write};
-use hc_state::{Consumer, Rows, start_over_if_passed};
+use hc_state::{Rows, Transaction, start_over_if_passed};
 use hc_store::Backend;
 use hc_text::Key;
 use std::collections::HashMap;
@@ -89,7 +89,12 @@ pub fn is_current<B: Backend>(rows: &Rows<B>, r: u64) -> bool
 }
 
 /// Whoever has passed for the key starts over.
-fn start_passed_over(consumers: &mut HashMap<u64, Consumer>, keys: &KeyTable, key: &Key, now: u64)
+fn start_passed_over(
+    consumers: &mut HashMap<u64, Transaction>,
+    keys: &KeyTable,
+    key: &Key,
+    now: u64,
+)
     ensures { ChangesAmong consumers.old consumers.new (λ c. is_in c (line_of keys.now key.now))
         (over_if_passed now) }
 {

@@ -77,7 +77,7 @@ pub fn leave_line<B: Backend>(rows: &mut Rows<B>, c: u64)
 }
 
 /// The same, of what is kept by key.
-pub fn leave_line_in(keys: &mut KeyTable, consumer: &hc_state::Consumer, c: u64)
+pub fn leave_line_in(keys: &mut KeyTable, consumer: &hc_state::Transaction, c: u64)
     requires { IsQueued keys.old c consumer.now }
     ensures { IsLeft keys.old keys.new c consumer.now }
 {

@@ -7,7 +7,7 @@ ghost use Rattle.hc_state.specs.Candidates.{ExclusiveIs, HasMoreIs};
 ghost use Rattle.hc_state.specs.Stands.{Stands};
 
 use crate::writing::{if_running, writing_in};
-use hc_state::{Consumer, Rows};
+use hc_state::{Rows, Transaction};
 use hc_store::Backend;
 use hc_stored::EntryView;
 
@@ -41,7 +41,7 @@ pub fn exclusive_in<B: Backend>(rows: &Rows<B>, r: u64, entry: &EntryView) -> Op
 }
 
 /// Whether the consumer has more to come: an exchange of its own, or a hole ahead.
-fn has_more<B: Backend>(rows: &Rows<B>, r: u64, consumer: &Consumer) -> bool
+fn has_more<B: Backend>(rows: &Rows<B>, r: u64, consumer: &Transaction) -> bool
     requires there { is_kept (shelf_of rows.now.entries) r ≡ true }
     requires counts { consumer.now.lo + consumer.now.given < 2 ^ 63 }
     ensures { HasMoreIs rows.now r consumer.now result }

@@ -16,7 +16,9 @@ use Rattle.hc_validate.specs.Showing.{shown_response}
 use Rattle.hc_exch.specs.Exchanges.{table_of, next_of}
 use Rattle.hc_model.specs.Rows as rows
 use Rattle.hc_effects.proofs.ShowEffects.{shows_new}
-use Rattle.hc_state.specs.{declared.{consumer.Consumer.{Consumer}, rows.Rows.{Rows}}, Handlers.{IsLeft, LeavesLine}, Changes.{Numbered, ChangesAt, bound_shown}, Kept.{IsKept, KeepsConsumer, KeepsExchange, held_for}, Lines.{KeepsKey}, Plans.{is_idle_at, begin_of, end_of, shows_part, HasCurrent}, Stands.{Answered, RowsStand}, Stored.{KeepsEntries}}
+use Rattle.hc_state.specs.{declared.{rows.Rows.{Rows}}, Handlers.{IsLeft, LeavesLine}, Changes.{Numbered, ChangesAt}, Kept.{IsKept, KeepsConsumer, KeepsExchange, held_for}, Lines.{KeepsKey}, Plans.{is_idle_at, begin_of, end_of, shows_part, HasCurrent}, Stands.{Answered, RowsStand}, Stored.{KeepsEntries}}
+use Rattle.hc_txn.specs.declared.transaction.Transaction.{Transaction as Consumer}
+use Rattle.hc_txn.specs.Transactions.{bound_shown}
 use Rattle.hc_state.proofs.{Answering.{does_answered}, Fallbacks.{answer_fallback}, FallbackSteps.{length_same, live_same}, Counting.{stands_counted}, CurrentTies.{now_kept, total_told}, KeySteps.{apart_unsaid}, Maps.{known_of}, OneOfEach.{stands_then}, QueueHandler.{becomes_by}, Ties.{exchange_same, key_same}}
 use Rattle.hc_on_poll.proofs.{BoundHandler.{held_bound, entry_with, entries_bound}, OpenHandler.{unread_yet}, PassesHandler.{current_as}, PastHandler.{idle_reads, idle_lives, keys_past}}
 use Rattle.hc_text.proofs.Basics.{eqb-other, eqb-same, same_or, some_inj as some_is}

@@ -22,7 +22,8 @@ use Rattle.hc_model.specs.Rows as rows
 use Rattle.hc_model.specs.Sound as sound
 use Rattle.hc_effects.proofs.{ExclusiveWriters.{writer_some}, Tests.{none_some}}
 use Rattle.hc_model.specs.Steps as steps
-use Rattle.hc_state.specs.{declared.{consumer.Consumer.{Consumer}, rows.Rows.{Rows}}, Handlers.{most, asks_or_waits, asked_in}, Facts.{Facts}, Kept.{KeepsRunning}, Leaving.{if_running, writing_of}, Reads.{goes_alone, held_own, bound_view, headless_own, is_headless_open, WaitsForNoHead, IsRunAhead, ReadViewIs}, Stands.{RowsStand}, Stored.{IsEntry, TellsLength, told, untold}}
+use Rattle.hc_state.specs.{declared.{rows.Rows.{Rows}}, Handlers.{most, asks_or_waits, asked_in}, Facts.{Facts}, Kept.{KeepsRunning}, Leaving.{if_running, writing_of}, Reads.{goes_alone, held_own, bound_view, headless_own, is_headless_open, WaitsForNoHead, IsRunAhead, ReadViewIs}, Stands.{RowsStand}, Stored.{IsEntry, TellsLength, told, untold}}
+use Rattle.hc_txn.specs.declared.transaction.Transaction.{Transaction as Consumer}
 use Rattle.hc_on_poll.proofs.{Ahead.{IsAhead, ahead, none_ahead}, BoundViews.{Holds, next_as, offset_is, entry_there, entry_is, cells_are, ends_by, bound_at, ahead_is, next_ahead, source_is, held_is, held_same, holds_something, lost_run}, ReadLemmas.{third_is, some_more}, ShowStored.{IsBoundRow, headless_as}}
 use Rattle.hc_on_poll.proofs.ReadLemmas as lemmas
 

@@ -16,7 +16,8 @@ use Rattle.hc_model.specs.Origins as origins
 use Rattle.hc_model.specs.Rows as rows
 use Rattle.hc_model.specs.Sound as sound
 use Rattle.hc_effects.proofs.{Basics.{same_functions, some_row, number_is as is_it}, HoleLemmas.{first_from, first_before, first_passes}, Tests.{none_some}}
-use Rattle.hc_state.specs.{declared.{consumer.Consumer.{Consumer}, rows.Rows.{Rows}}, Facts.{Facts}, Kept.{held_for, held_of, held_alone, unread, unstored_bytes, first_lacking}, Leaving.{if_running, writing_of}, Reads.{goes_alone, held_own}, Stands.{RowsStand}, Stored.{IsEntry}}
+use Rattle.hc_state.specs.{declared.{rows.Rows.{Rows}}, Facts.{Facts}, Kept.{held_for, held_of, held_alone, unread, unstored_bytes, first_lacking}, Leaving.{if_running, writing_of}, Reads.{goes_alone, held_own}, Stands.{RowsStand}, Stored.{IsEntry}}
+use Rattle.hc_txn.specs.declared.transaction.Transaction.{Transaction as Consumer}
 use Rattle.hc_state.proofs.LeftRows.{running_as, writing_as}
 use Rattle.hc_on_poll.proofs.{ReadLemmas.{run_some}, ShowStored.{IsBoundRow, bound_entry, bound_kept}}
 

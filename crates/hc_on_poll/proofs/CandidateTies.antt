@@ -20,7 +20,8 @@ use Rattle.hc_stored.specs.{declared.{entries.Entries.{Entries}, view.EntryView.
 use Rattle.hc_fresh.specs.{declared.facts.HeadFacts.{HeadFacts}, Allowed.{allowed_by}, Lifetimes.{lifetime}, Vary.{matches_vary}, Ages.{age, age_value, corrected_initial_age}, Facts.{head_facts, allowed}}
 use Rattle.hc_model.specs.Rows as rows
 use Rattle.hc_effects.proofs.{Bounded.{range_order}, Tests.{none_some}}
-use Rattle.hc_state.specs.{declared.{consumer.Consumer.{Consumer}, rows.Rows.{Rows}}, Candidates.{hole_in, AllowedIs}, Facts.{Facts}, Kept.{IsKept}, Leaving.{writing_of}, Stands.{RowsStand}, Stored.{IsEntry}}
+use Rattle.hc_state.specs.{declared.{rows.Rows.{Rows}}, Candidates.{hole_in, AllowedIs}, Facts.{Facts}, Kept.{IsKept}, Leaving.{writing_of}, Stands.{RowsStand}, Stored.{IsEntry}}
+use Rattle.hc_txn.specs.declared.transaction.Transaction.{Transaction as Consumer}
 use Rattle.hc_state.proofs.{CurrentTies.{stored_ends, stays_stored, total_told, entry_at}, LeftRows.{writing_as}, TurnTies.{least_alike, filter_in, among_in}}
 use Rattle.hc_on_poll.proofs.HoleTies.{hole_as}
 

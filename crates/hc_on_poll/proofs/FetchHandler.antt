@@ -15,7 +15,9 @@ use Rattle.hc_effects.proofs.Vocabulary.{Act, Need, Request, Limits, route_of, i
 use Rattle.hc_exch.specs.{declared.{role.Role.TheVariants.{the_data as role}, exchanges.Exchanges.{Exchanges}}, Exchanges.{table_of, next_of}, Known.{with_new_exchange, Changes}}
 use Rattle.hc_model.specs.Rows as rows
 use Rattle.hc_effects.proofs.{LettingGo.{may_let_go}, TurnEffects.{fetches, bypasses}}
-use Rattle.hc_state.specs.{declared.{consumer.Consumer.{Consumer}, rows.Rows.{Rows}}, Changes.{Numbered, ChangesAt, lined_up, with_turn}, Facts.{Facts}, Kept.{IsKept, KeepsConsumer}, Lines.{KeepsKey, has_turn, is_passed, is_away}, Plans.{is_idle_at, in_line, tables_in_turn, IsNext, StandsInLine, BeginsTurn}, Stands.{Answered, RowsStand}}
+use Rattle.hc_state.specs.{declared.{rows.Rows.{Rows}}, Changes.{Numbered, ChangesAt}, Facts.{Facts}, Kept.{IsKept, KeepsConsumer}, Lines.{KeepsKey, has_turn, is_passed, is_away}, Plans.{is_idle_at, in_line, tables_in_turn, IsNext, StandsInLine, BeginsTurn}, Stands.{Answered, RowsStand}}
+use Rattle.hc_txn.specs.declared.transaction.Transaction.{Transaction as Consumer}
+use Rattle.hc_txn.specs.Transactions.{lined_up, with_turn}
 use Rattle.hc_state.proofs.{Answering.{does_answered}, ConsumerSteps.{keys_with}, Counting.{stands_counted}, KeySteps.{says_elsewhere, lined, holds_key}, Maps.{becomes_then}, Ties.{key_same, kept_row}, TurnTies.{turn_next}}
 use Rattle.hc_on_leave.proofs.MayGo.{may_opened, may_with}
 use Rattle.hc_on_poll.specs.Keeps.{HasBegun}

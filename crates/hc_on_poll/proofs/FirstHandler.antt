@@ -18,7 +18,9 @@ use Rattle.hc_stored.specs.Shelf as shelf
 use Rattle.hc_exch.specs.{declared.{exchanges.Exchanges.{Exchanges}, role.Role.TheVariants.{the_data as role}}, Exchanges.{table_of, next_of}, Known.{with_new_exchange, exchange_at_opening, Changes}}
 use Rattle.hc_model.specs.Rows as rows
 use Rattle.hc_effects.proofs.{HoleEffects.{fills_first}, Tests.{and_false}}
-use Rattle.hc_state.specs.{declared.{consumer.Consumer.{Consumer}, rows.Rows.{Rows}}, Changes.{Numbered, ChangesAt, BecomesAt, bound_first}, Kept.{IsKept, IsRunning, KeepsConsumer, KeepsExchange, KeepsRunning, answer_for, held_for}, Lines.{KeepsKey, is_away}, Plans.{is_idle_at, HasCurrent}, Stands.{Answered, RowsStand}}
+use Rattle.hc_state.specs.{declared.{rows.Rows.{Rows}}, Changes.{Numbered, ChangesAt, BecomesAt}, Kept.{IsKept, IsRunning, KeepsConsumer, KeepsExchange, KeepsRunning, answer_for, held_for}, Lines.{KeepsKey, is_away}, Plans.{is_idle_at, HasCurrent}, Stands.{Answered, RowsStand}}
+use Rattle.hc_txn.specs.declared.transaction.Transaction.{Transaction as Consumer}
+use Rattle.hc_txn.specs.Transactions.{bound_first}
 use Rattle.hc_state.proofs.{Answering.{does_answered}, Fallbacks.{answer_fallback}, FallbackSteps.{length_same, live_same}, ConsumerSteps.{keys_with}, Counting.{stands_counted}, CurrentTies.{IsNow, now_kept}, KeySteps.{not_lined, says_elsewhere, away_key}, OneOfEach.{stands_then}, QueueHandler.{becomes_by}, Ties.{key_same, overs_opened}}
 use Rattle.hc_on_poll.proofs.{BoundHandler.{held_bound, entry_first, entries_bound}, CandidateTies.{range_of_class}, OpenHandler.{unread_yet}, OpenKeys.{key_with_opening}, OpenKinds.{kinds_opened}, PassesHandler.{current_as}, PastHandler.{idle_reads, idle_lives}}
 

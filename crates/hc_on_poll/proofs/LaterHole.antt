@@ -18,7 +18,9 @@ use Rattle.hc_model.specs.Sound as sound
 use Rattle.hc_effects.proofs.{HoleEffects.{fills_later}, OpensFrom.{opens_hole}, ExclusiveWriters.{bound_some}, PollTree.{OpensHole}, Said.{IsOpening}, Tests.{none_some}}
 use Rattle.hc_effects.proofs.PollTree as tree
 use Rattle.hc_effects.proofs.Said as said
-use Rattle.hc_state.specs.{declared.{consumer.Consumer.{Consumer}, rows.Rows.{Rows}}, Changes.{ChangesAt, BecomesAt, with_own}, Facts.{Facts}, Kept.{IsKept, KeepsConsumer, KeepsExchange, answer_at, KeepsRunning, first_lacking, held_for, held_of, held_alone, unread, unstored_bytes}, Lines.{KeepsKey, has_turn, is_passed, is_away, is_away_at}, Stands.{RowsStand, Answered}, Stored.{KeepsEntries, is_first}}
+use Rattle.hc_state.specs.{declared.{rows.Rows.{Rows}}, Changes.{ChangesAt, BecomesAt}, Facts.{Facts}, Kept.{IsKept, KeepsConsumer, KeepsExchange, answer_at, KeepsRunning, first_lacking, held_for, held_of, held_alone, unread, unstored_bytes}, Lines.{KeepsKey, has_turn, is_passed, is_away, is_away_at}, Stands.{RowsStand, Answered}, Stored.{KeepsEntries, is_first}}
+use Rattle.hc_txn.specs.declared.transaction.Transaction.{Transaction as Consumer}
+use Rattle.hc_txn.specs.Transactions.{with_own}
 use Rattle.hc_state.proofs.{Answering.{does_answered}, FallbackSteps.{length_same, live_same}, Fallbacks.{unstored_moved}, Counting.{stands_counted}, OneOfEach.{stands_then, bound_same, first_row}, QueueHandler.{becomes_by}, Ties.{entry_same, key_same, overs_opened}}
 use Rattle.hc_on_poll.proofs.{BoundViews.{unstored_own, absent_here, lost_run, unread_bound}, OpenHandler.{unread_yet}, OpenKinds.{kinds_opened}, ShowStored.{IsBoundRow}}
 

@@ -1,3 +1,4 @@
+pub mod Deciding
 pub mod StartHandler
 pub mod Asking
 pub mod ReadLemmas

@@ -17,7 +17,9 @@ use Rattle.hc_model.specs.Planning as planning
 use Rattle.hc_model.specs.Rows as rows
 use Rattle.hc_effects.proofs.{EndsKeep.{wanted_within}, WantedSpans.{wanted_some}, PlanBy.{PlanBy, plan_by}, Tests.{and_false}}
 use Rattle.hc_effects.proofs.PlanBy as plans
-use Rattle.hc_state.specs.{declared.{consumer.Consumer.{Consumer}, rows.Rows.{Rows}}, Handlers.{queues}, Facts.{Facts}, Kept.{IsKept, KeepsConsumer}, Plans.{IsIdle, IsWaiting, HasCurrent, IsPlanOf, IsShownPart, begin_of, end_of, AnswersFirst, AnswersPoll}, Stands.{RowsStand, Stands}, Stored.{is_first}}
+use Rattle.hc_state.specs.{declared.{rows.Rows.{Rows}}, Facts.{Facts}, Kept.{IsKept, KeepsConsumer}, Plans.{IsIdle, IsWaiting, HasCurrent, IsPlanOf, IsShownPart, begin_of, end_of, AnswersFirst, AnswersPoll}, Stands.{RowsStand, Stands}, Stored.{is_first}}
+use Rattle.hc_txn.specs.declared.transaction.Transaction.{Transaction as Consumer}
+use Rattle.hc_txn.specs.Transactions.{queues}
 use Rattle.hc_on_poll.specs.Ready.{MayPass}
 use Rattle.hc_on_poll.proofs.{CandidateTies.{head_at_is, in_order, range_of_class}, HoleTies.{hole_inside}, PassesHandler.{current_as}, PlanHandlers.{found, waits_there, current_admits, plan_answers}}
 use Rattle.hc_state.proofs.{CurrentTies.{IsNow, now_kept, stays_stored, stored_ends, total_told}, Maps.{known_of, some_that, merely_true, merely_within}, Ties.{kept_row}, TurnTies.{least_none, among_in, filter_in}, Words.{few_received}}

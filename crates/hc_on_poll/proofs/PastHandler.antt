@@ -13,7 +13,9 @@ use Rattle.hc_effects.proofs.Vocabulary.{Act, Need, Request, RequestClass, Limit
 use Rattle.hc_exch.specs.{declared.{role.Role.TheVariants.{the_data as role}, exchanges.Exchanges.{Exchanges}}, Exchanges.{table_of, next_of}, Known.{with_new_exchange, Changes}}
 use Rattle.hc_model.specs.Rows as rows
 use Rattle.hc_effects.proofs.PastEffects.{passes_by}
-use Rattle.hc_state.specs.{declared.{consumer.Consumer.{Consumer}, rows.Rows.{Rows}}, Handlers.{queues, IsLeft, LeftIf, LeavesLine}, Changes.{Numbered, ChangesAt, reading_past}, Kept.{IsKept, KeepsConsumer}, Lines.{KeepsKey}, Plans.{is_idle_at}, Stands.{Answered, RowsStand}}
+use Rattle.hc_state.specs.{declared.{rows.Rows.{Rows}}, Handlers.{IsLeft, LeftIf, LeavesLine}, Changes.{Numbered, ChangesAt}, Kept.{IsKept, KeepsConsumer}, Lines.{KeepsKey}, Plans.{is_idle_at}, Stands.{Answered, RowsStand}}
+use Rattle.hc_txn.specs.declared.transaction.Transaction.{Transaction as Consumer}
+use Rattle.hc_txn.specs.Transactions.{queues, reading_past}
 use Rattle.hc_state.proofs.{Answering.{does_answered}, ConsumerSteps.{keys_with, key_with, key_stays}, Counting.{stands_counted}, KeySteps.{IsUnsaid, leaves_key, says_elsewhere, says_none, apart_unsaid, unqueued_unsaid}, Maps.{known_of}, QueueHandler.{becomes_by}}
 use Rattle.hc_on_poll.proofs.{OpenHandler.{past}, OpenKeys.{key_opened}, OpenStands.{stands_opened}}
 

@@ -23,7 +23,9 @@ use Rattle.hc_model.specs.Rows as rows
 use Rattle.hc_effects.proofs.{Asked.{Asked, AskedBy, plan_asks}, Joining.{mix}, PlanBy.{PlanBy, plan_by}, TurnMoves.{Does, Queues, does_polled}, Tests.{none_some}, OpenedAs.{bypassing_is as bypassing_as}}
 use Rattle.hc_effects.proofs.PlanBy as plans
 use Rattle.hc_effects.proofs.TurnMoves as does
-use Rattle.hc_state.specs.{declared.{consumer.Consumer.{Consumer}, rows.Rows.{Rows}}, Handlers.{queues}, Facts.{Facts}, Good.{StandsBy}, Kept.{IsKept, KeepsConsumer}, Lines.{is_passed}, Plans.{plan_view, looks_at_stored, is_idle_at, IsIdle, IsLookedAt, IsNext, IsWaiting, IsKeptPassed, HasCurrent, IsPlanOf, shows_part, AnswersShowing, AnswersOpening, AnswersValidating, AnswersPoll}, Reads.{AnswersMisread}, Stands.{Answered, Answers, AnswersMove, RowsStand, Stands}}
+use Rattle.hc_state.specs.{declared.{rows.Rows.{Rows}}, Facts.{Facts}, Good.{StandsBy}, Kept.{IsKept, KeepsConsumer}, Lines.{is_passed}, Plans.{plan_view, looks_at_stored, is_idle_at, IsIdle, IsLookedAt, IsNext, IsWaiting, IsKeptPassed, HasCurrent, IsPlanOf, shows_part, AnswersShowing, AnswersOpening, AnswersValidating, AnswersPoll}, Reads.{AnswersMisread}, Stands.{Answered, Answers, AnswersMove, RowsStand, Stands}}
+use Rattle.hc_txn.specs.declared.transaction.Transaction.{Transaction as Consumer}
+use Rattle.hc_txn.specs.Transactions.{queues}
 use Rattle.hc_state.specs.Reads as reads
 use Rattle.hc_on_poll.specs.Ready.{IsCurrentWith, MayAsk, MayLeaveLine, MayPass, MayQueue}
 use Rattle.hc_on_poll.proofs.{Accepted.{poll_lives}, CandidateTies.{head_at_is}, PassesHandler.{current_as}, PastHandler.{queues_as}, PlanTies.{plans_are, unlooked}, WaitHandlers.{plans_move}}

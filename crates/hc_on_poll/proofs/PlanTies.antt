@@ -13,7 +13,8 @@ use Rattle.hc_entry.specs.{Keys.{kept_of, line_of}, Lines.{turn_with}}
 use Rattle.hc_model.specs.Lines as lines
 use Rattle.hc_model.specs.Planning as planning
 use Rattle.hc_model.specs.Rows as rows
-use Rattle.hc_state.specs.{declared.{consumer.Consumer.{Consumer}, rows.Rows.{Rows}}, Kept.{IsKept}, Plans.{plan_view, looks_at_stored}, Stands.{RowsStand}}
+use Rattle.hc_state.specs.{declared.{rows.Rows.{Rows}}, Kept.{IsKept}, Plans.{plan_view, looks_at_stored}, Stands.{RowsStand}}
+use Rattle.hc_txn.specs.declared.transaction.Transaction.{Transaction as Consumer}
 use Rattle.hc_state.proofs.TurnTies.{turn_with_is}
 
 -- SINCE WHEN IT WAITS

@@ -4,7 +4,8 @@ use Rattle.hc_store.specs.declared.backend.Backend.{Ghosts}
 use Rattle.hc_effects.proofs.Vocabulary.{Request, Place, is_live_place}
 use Rattle.hc_fields.specs.FieldList.{IsWithinLimits, size_of}
 use Rattle.hc_model.specs.Rows as rows
-use Rattle.hc_state.specs.{declared.{consumer.Consumer.{Consumer}, rows.Rows.{Rows}}, Kept.{IsKept, KeepsConsumer}, Plans.{IsRequestWithinLimits}, Stands.{Stands}}
+use Rattle.hc_state.specs.{declared.{rows.Rows.{Rows}}, Kept.{IsKept, KeepsConsumer}, Plans.{IsRequestWithinLimits}, Stands.{Stands}}
+use Rattle.hc_txn.specs.declared.transaction.Transaction.{Transaction as Consumer}
 use Rattle.hc_state.proofs.{Maps.{merely_true, merely_below, some_that}, Ties.{kept_row}, Words.{there}}
 
 module _ {B : Type 0} {g : Ghosts B} (r : Rows B g) (some : ∥ Stands r ∥₁) (c : ℕ) (k : Consumer) (there : get nat_eq r.consumers c ≡ Some k) where

@@ -17,7 +17,9 @@ use Rattle.hc_stored.specs.{Entries.{shelf_of}, Shelf.{head_at, is_kept}}
 use Rattle.hc_exch.specs.Exchanges as exch
 use Rattle.hc_exch.specs.Exchanges.{table_of}
 use Rattle.hc_exch.specs.Known as known
-use Rattle.hc_state.specs.{declared.{consumer.Consumer.{Consumer}, rows.Rows.{Rows}}, Handlers.{most, given_acts, asks_or_waits, asked_in}, Changes.{ChangesAt, once_given}, Facts.{Facts}, Reads.{IsShownAt, WaitsForNoHead, IsRunAhead, IsInLength, ReadViewIs}, Stands.{RowsStand, Stands, Answered}}
+use Rattle.hc_state.specs.{declared.{rows.Rows.{Rows}}, Handlers.{most, given_acts, asks_or_waits, asked_in}, Changes.{ChangesAt}, Facts.{Facts}, Reads.{IsShownAt, WaitsForNoHead, IsRunAhead, IsInLength, ReadViewIs}, Stands.{RowsStand, Stands, Answered}}
+use Rattle.hc_txn.specs.declared.transaction.Transaction.{Transaction as Consumer}
+use Rattle.hc_txn.specs.Transactions.{once_given}
 use Rattle.hc_on_poll.proofs.BoundGives as gives
 use Rattle.hc_on_poll.proofs.BoundReads as bound
 use Rattle.hc_state.proofs.{Maps.{merely_true, merely_below}, Words.{few_received}}

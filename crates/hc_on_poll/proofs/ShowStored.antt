@@ -20,7 +20,9 @@ use Rattle.hc_model.specs.Moves as moves
 use Rattle.hc_model.specs.Rows as rows
 use Rattle.hc_model.specs.Sound as sound
 use Rattle.hc_effects.proofs.{ShowEffects.{shows_reader}, Tests.{none_some}, Basics.{some_row}}
-use Rattle.hc_state.specs.{declared.{consumer.Consumer.{Consumer}, rows.Rows.{Rows}}, Changes.{ChangesAt, once_shown}, Facts.{Facts}, Kept.{IsKept, answer_at, KeepsConsumer, KeepsExchange, KeepsRunning, held_for}, Leaving.{IsUserAt}, Reads.{IsUnshownBy, is_headless_open, waits_for_first, may_be_part, is_part, why_shown}, Stands.{RowsStand, Stands, Answered}, Stored.{IsEntry, TellsLength, told, untold, KeepsEntry, is_first}}
+use Rattle.hc_state.specs.{declared.{rows.Rows.{Rows}}, Changes.{ChangesAt}, Facts.{Facts}, Kept.{IsKept, answer_at, KeepsConsumer, KeepsExchange, KeepsRunning, held_for}, Leaving.{IsUserAt}, Reads.{IsUnshownBy, is_headless_open, waits_for_first, may_be_part, is_part, why_shown}, Stands.{RowsStand, Stands, Answered}, Stored.{IsEntry, TellsLength, told, untold, KeepsEntry, is_first}}
+use Rattle.hc_txn.specs.declared.transaction.Transaction.{Transaction as Consumer}
+use Rattle.hc_txn.specs.Transactions.{once_shown}
 use Rattle.hc_state.proofs.{Answering.{does_answered}, Counting.{stands_counted}, QueueHandler.{becomes_by}, ReaderSteps.{held_same, exchange_reading, stands_reading}, Ties.{kept_row}, Unbinding.{user_kept}, Words.{few_received}}
 use Rattle.hc_on_poll.proofs.{ReadLemmas.{first_is, second_is}, WaitHandlers.{head_waits}}
 

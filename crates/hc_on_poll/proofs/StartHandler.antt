@@ -15,13 +15,15 @@ use Rattle.hc_rules.proofs.RangeReads.{bytes_eq-same}
 use Rattle.hc_exch.specs.Exchanges.{table_of}
 use Rattle.hc_stored.specs.Entries.{shelf_of}
 use Rattle.hc_model.specs.Rows as rows
-use Rattle.hc_state.specs.{declared.{consumer.Consumer.{Consumer}, rows.Rows.{Rows}}, Handlers.{IsEntered}, Changes.{BecomesAt}, Kept.{KeepsConsumer, KeepsExchange, held_for}, Lines.{KeepsKey, has_turn, is_passed, is_away}, Stands.{RowsStand}, Stored.{KeepsEntry, is_first}}
+use Rattle.hc_state.specs.{declared.{rows.Rows.{Rows}}, Handlers.{IsEntered}, Changes.{BecomesAt}, Kept.{KeepsConsumer, KeepsExchange, held_for}, Lines.{KeepsKey, has_turn, is_passed, is_away}, Stands.{RowsStand}, Stored.{KeepsEntry, is_first}}
+use Rattle.hc_txn.specs.declared.transaction.Transaction.{Transaction as Consumer}
+use Rattle.hc_txn.specs.Transactions.{begun}
 use Rattle.hc_state.proofs.{Fallbacks.{IsAlike, same, fallback, held_alike, users_alike}, ConsumerSteps.{KeyAfter, SaysOfIt, key_with, key_stays, keys_with, at_it}, Ties.{kept_none, consumer_same, exchange_same, entry_same, key_same}}
 use Rattle.hc_state.proofs.LiveCounts as counts
 
 module _ {B : Type 0} {g : Ghosts B} {limits : Limits} (r u : Rows B g) (t : Tables) (law : Lawful t) (now c : ℕ) (request copied : Request) (k : Consumer) (stands : RowsStand limits r t) (ascending : r.last_start < c) (copies : copied ≡ request)
     (last : u.last_start ≡ c) (exchanges : u.exchanges ≡ r.exchanges) (same_entries : u.entries ≡ r.entries) (becomes : BecomesAt r.consumers u.consumers c (Some k))
-    (is : k ≡ record { request = copied; class = class_of request; since = now; place = place.Line; own = None; shown = false; answer = None; lo = 0; hi = None; given = 0; due = None }) where
+    (is : k ≡ begun copied now) where
   abbrev s : Tables
   s = with_event now (event.Start c request) (with_start now c request t)
 
@@ -41,7 +43,7 @@ module _ {B : Type 0} {g : Ghosts B} {limits : Limits} (r u : Rows B g) (t : Tab
   ]
 
   kept_here : KeepsConsumer s (Some k) (Some (new_consumer now request))
-  kept_here = rw is (assumption copies)
+  kept_here = rw is (rw copies (assumption copies))
 
   consumers : (d : ℕ) → KeepsConsumer s (get nat_eq u.consumers d) (s.consumer d)
   consumers d = elim (same_or c d) [

@@ -7,7 +7,7 @@ use Rattle.hc_stored.specs.Entries.{shelf_of}
 use Rattle.hc_stored.specs.Shelf.{head_at}
 use Rattle.hc_entry.specs.declared.keys.KeyTable.{KeyTable}
 use Rattle.hc_exch.specs.Exchanges.{next_of}
-use Rattle.hc_state.specs.declared.consumer.Consumer.{Consumer}
+use Rattle.hc_txn.specs.declared.transaction.Transaction.{Transaction as Consumer}
 use Rattle.hc_state.specs.declared.rows.Rows.{Rows}
 use Rattle.hc_state.specs.Handlers.{IsQueued}
 use Rattle.hc_state.specs.Plans.{IsIdle, IsKeptPassed, IsNext, IsWaiting, HasCurrent}

@@ -10,7 +10,7 @@ ghost use Rattle.hc_state.specs.Plans.{PlanViewIs, IsLookedAt, looks_at_stored, 
 ghost use Rattle.hc_state.specs.Frames.{KeepsFaults};
 ghost use Rattle.hc_on_poll.specs.Ready.{IsCurrentWith, MayOpen};
 
-use crate::candidate::candidate;
+use crate::candidate::{candidate, decide};
 use crate::hole::open_first_hole;
 use crate::plan::{bypass, fetch, open_past, revalidate, wait_for_turn, wait_for_use};
 use crate::show::bind;
@@ -19,7 +19,7 @@ use hc_on_leave::leave::fail;
 use hc_on_leave::misread::misread_by;
 use hc_record::StoredHead;
 use hc_rules::{Plan, PlanView, plan_of};
-use hc_state::{Consumer, Rows};
+use hc_state::{Rows, Transaction};
 use hc_store::Backend;
 use hc_text::NoMemory;
 
@@ -41,48 +41,55 @@ pub(crate) fn carry_out<B: Backend>(
     ensures kept { KeepsFaults result rows.old rows.new (act_list out.old) (act_list out.new) }
 {
     let consumer = rows.consumers.get(&c).unwrap();
-    let view = plan_view(rows, now, c, consumer);
-    let Some(r) = looked_at(rows, consumer, &view) else {
-        return carry_out_bare(rows, now, c, &view, out);
+    let looked = look_up(rows, now, c, consumer);
+    let Some(r) = looked.current else {
+        return carry_out_bare(rows, now, c, &looked.view, out);
     };
     match rows.entries.head(r) {
         Ok(head) => {
-            let current = Some(candidate(rows, now, c, r, &head));
-            let plan = plan_of(&PlanView { current, ..view });
+            let current = candidate(rows, now, c, r, &head);
+            let plan = decide(rows, now, c, looked.view.turn, current);
             carry_out_plan(rows, now, c, r, head, plan, out)
         }
         Err(error) => misread_by(rows, now, c, r, error, out),
     }
 }
 
-/// What the plan of a consumer looks at, but for what is current.
-fn plan_view<B: Backend>(rows: &Rows<B>, now: u64, c: u64, consumer: &Consumer) -> PlanView
-    ensures { PlanViewIs rows.now now c result consumer.now }
+/// What the plan of a consumer looks at before any stored head is read.
+#[derive(Clone, Copy)]
+struct LookUp {
+    /// All but what is current.
+    view: PlanView,
+    /// What is current for its key, where its plan depends on that.
+    current: Option<u64>,
+}
+
+/// The key of a consumer is looked up, once.
+fn look_up<B: Backend>(rows: &Rows<B>, now: u64, c: u64, consumer: &Transaction) -> LookUp
+    ensures view { PlanViewIs rows.now now c result.view consumer.now }
+    ensures current { IsLookedAt rows.now.keys result.view result.current consumer.now }
 {
     let (passed, kept) = match consumer.place {
         Place::Passed { kept, .. } => (true, kept),
         _ => (false, None),
     };
-    PlanView {
+    let (turn, current) = rows.keys.seen(&consumer.request.key, c);
+    let view = PlanView {
         moment: now,
         since: consumer.since,
         c,
         class: consumer.class,
         passed,
         kept,
-        turn: rows.keys.turn_with(&consumer.request.key, c),
+        turn,
         current: None,
-    }
-}
-
-/// What is current for the consumer, where its plan depends on that.
-fn looked_at<B: Backend>(rows: &Rows<B>, consumer: &Consumer, view: &PlanView) -> Option<u64>
-    ensures { IsLookedAt rows.now.keys view.now result consumer.now }
-{
-    if !looks_at_stored(view) {
-        return None;
-    }
-    rows.keys.current(&consumer.request.key)
+    };
+    let current = if looks_at_stored(&view) {
+        current
+    } else {
+        None
+    };
+    LookUp { view, current }
 }
 
 /// A plan is carried out, with the stored head of what is current.

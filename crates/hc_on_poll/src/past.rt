@@ -15,7 +15,7 @@ use hc_event::{Acts, Wait, Why};
 use hc_on_leave::leave::{end_reading, fail};
 use hc_on_leave::writing::if_running;
 use hc_rules::{ReadStep, ReadView, read_step};
-use hc_state::{Consumer, Rows, show_answer};
+use hc_state::{Rows, Transaction, show_answer};
 use hc_store::Backend;
 use hc_text::NoMemory;
 
@@ -80,7 +80,7 @@ pub(crate) fn read_past<B: Backend>(
 }
 
 /// What the reading of the consumer looks at.
-fn past_view<B: Backend>(rows: &Rows<B>, consumer: &Consumer, offset: u64, x: u64) -> ReadView
+fn past_view<B: Backend>(rows: &Rows<B>, consumer: &Transaction, offset: u64, x: u64) -> ReadView
     ensures { result ≡ past_view (table_of rows.now.exchanges x) x offset consumer.now }
 {
     ReadView {

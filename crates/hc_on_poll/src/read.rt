@@ -10,14 +10,15 @@ ghost use Rattle.hc_exch.specs.Exchanges.{table_of, Becomes};
 ghost use Rattle.hc_exch.specs.Known.{is_open, with_asking};
 ghost use Rattle.hc_model.specs.Currents.{is_number};
 ghost use Rattle.hc_model.specs.Moves.{acts_of};
-ghost use Rattle.hc_state.specs.Changes.{ChangesAt, once_given};
+ghost use Rattle.hc_state.specs.Changes.{ChangesAt};
+ghost use Rattle.hc_txn.specs.Transactions.{once_given};
 ghost use Rattle.hc_state.specs.Leaving.{if_running, writing_by};
 ghost use Rattle.hc_state.specs.Stands.{Answers, KeepsRest};
 ghost use Rattle.hc_state.specs.Handlers.{most, given_acts, asks_or_waits, asked_in};
 ghost use Rattle.hc_state.specs.Reads.{headless_own, held_own};
 ghost use Rattle.hc_state.specs.Frames.{KeepsFaults};
 ghost use Rattle.hc_on_poll.specs.Ready.{MayOpen};
-ghost use Rattle.hc_on_poll.specs.Readers.{reader_of, Reads, ReadsUnstored, UnstoredViewIs};
+ghost use Rattle.hc_on_poll.specs.Readers.{reader_of, NextReadIs, Reads, ReadsUnstored, UnstoredAheadIs};
 
 use crate::hole::open_later_hole;
 use crate::shown::is_headless;
@@ -27,11 +28,12 @@ use hc_on_leave::acts::put;
 use hc_on_leave::leave::{end_reading, fail};
 use hc_on_leave::misread::misread_by;
 use hc_on_leave::writing::{if_running, writing_in};
-use hc_rules::{ReadStep, ReadView, read_step};
-use hc_state::{Consumer, Rows, count_given};
+use hc_rules::ReadStep;
+use hc_state::{Rows, Transaction, count_given};
 use hc_store::Backend;
 use hc_stored::EntryView;
 use hc_text::{Bytes, NoMemory};
+use hc_txn::Ahead;
 
 /// Who reads what is stored and was shown its head, as the reading looks at it.
 #[derive(Clone, Copy)]
@@ -51,7 +53,7 @@ pub(crate) struct Reader {
 
 impl Reader {
     /// The consumer as a reader of the representation.
-    pub(crate) fn of(c: u64, r: u64, consumer: &Consumer) -> Reader
+    pub(crate) fn of(c: u64, r: u64, consumer: &Transaction) -> Reader
         requires { consumer.now.lo + consumer.now.given < 2 ^ 63 }
         ensures { result ≡ reader_of c r consumer.now }
     {
@@ -118,7 +120,7 @@ fn read_on<B: Backend>(
         now (Poll reader.c want)) }
     ensures kept { KeepsFaults result rows.old rows.new (act_list out.old) (act_list out.new) }
 {
-    match read_step(&read_view(rows, reader)) {
+    match next_read(rows, reader) {
         ReadStep::Held => {
             let x = reader.own.unwrap();
             let count = most(reader.hi, reader.offset, want);
@@ -148,18 +150,27 @@ fn headless_own<B: Backend>(rows: &Rows<B>, own: Option<u64>) -> Option<u64>
     if is_headless(rows, x) { Some(x) } else { None }
 }
 
-/// What the reading of the consumer looks at, where nothing is stored.
-fn read_view<B: Backend>(rows: &Rows<B>, reader: Reader) -> ReadView
+/// What the transaction does next, where nothing is stored.
+fn next_read<B: Backend>(rows: &Rows<B>, reader: Reader) -> ReadStep
+    requires there { is_kept (shelf_of rows.now.entries) reader.r ≡ true }
+    requires reads { IsSomeAnd (get nat_eq rows.now.consumers reader.c)
+        (ReadsUnstored rows.now reader) }
+    requires small { reader.offset < 2 ^ 63 }
+    ensures { NextReadIs rows.now reader result }
+{
+    let ahead = ahead(rows, reader);
+    rows.consumers.get(&reader.c).unwrap().read_by(&ahead)
+}
+
+/// What stands ahead of the transaction, where nothing is stored.
+fn ahead<B: Backend>(rows: &Rows<B>, reader: Reader) -> Ahead
     requires { is_kept (shelf_of rows.now.entries) reader.r ≡ true }
-    ensures { UnstoredViewIs rows.now reader result }
+    ensures { UnstoredAheadIs rows.now reader result }
 {
     let entry = rows.entries.entry(reader.r).unwrap();
-    ReadView {
-        offset: reader.offset,
-        hi: reader.hi,
+    Ahead {
         stored: None,
         held: goes_alone(&entry, reader.c) && held_own(rows, reader.own) > 0,
-        due: reader.due,
         source: source(rows, &entry, reader.own),
         next_stored: rows.entries.next_present(reader.r, reader.offset),
     }

@@ -9,8 +9,7 @@ ghost use Rattle.hc_state.specs.Handlers.{IsEntered, KeepsRows};
 ghost use Rattle.hc_state.specs.Stands.{Answers, Stands};
 
 use hc_event::Request;
-use hc_rules::class_of;
-use hc_state::{Consumer, Rows};
+use hc_state::{Rows, Transaction};
 use hc_store::Backend;
 use hc_text::{Key, NoMemory};
 
@@ -28,7 +27,7 @@ pub fn start<B: Backend>(
     ensures exchanges { rows.new.exchanges ≡ rows.old.exchanges }
     ensures faults { (shelf_of rows.new.entries).faults ≡ (shelf_of rows.old.entries).faults }
 {
-    let consumer = Consumer::new(request.copy()?, class_of(request), now);
+    let consumer = Transaction::new(request, now)?;
     let queues = consumer.queues();
     rows.consumers.insert(c, consumer)?;
     enter_line(rows, c, &request.key, queues)?;

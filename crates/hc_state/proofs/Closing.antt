@@ -14,7 +14,8 @@ use Rattle.hc_entry.specs.Kept as keyed
 use Rattle.hc_exch.specs.{Exchanges.{table_of}, Known.{Known, without_exchange}}
 use Rattle.hc_exch.specs.Exchanges as exch
 use Rattle.hc_model.specs.Rows as rows
-use Rattle.hc_state.specs.{declared.{consumer.Consumer.{Consumer}, rows.Rows.{Rows}}, Kept.{KeepsConsumer, head_in, KeepsExchange, KeepsRunning, held_for, held_of, held_alone, unstored_bytes}, Lines.{KeepsKey, is_away, is_away_at}, Stands.{RowsStand}, Stopped.{NobodyAwaits}, Stored.{KeepsEntry, KeepsEntries, TellsWriter}}
+use Rattle.hc_state.specs.{declared.{rows.Rows.{Rows}}, Kept.{KeepsConsumer, head_in, KeepsExchange, KeepsRunning, held_for, held_of, held_alone, unstored_bytes}, Lines.{KeepsKey, is_away, is_away_at}, Stands.{RowsStand}, Stopped.{NobodyAwaits}, Stored.{KeepsEntry, KeepsEntries, TellsWriter}}
+use Rattle.hc_txn.specs.declared.transaction.Transaction.{Transaction as Consumer}
 use Rattle.hc_state.proofs.{Fallbacks.{same, held_alike}, OneOfEach.{first_row, growing_same, kind_same}, PastRows.{consumer_alike}, Ties.{exchange_same, key_same, overs_closed, writer_then}}
 
 -- WHAT IS OVER BROUGHT AS MUCH

@@ -13,7 +13,9 @@ use Rattle.hc_entry.specs.{declared.keys.KeyTable.{KeyTable}, Keys.{kept_of}}
 use Rattle.hc_exch.specs.{Exchanges.{table_of}, Known.{Known, forgotten}}
 use Rattle.hc_stored.specs.{Entries.{shelf_of}, Shelf.{Shelf}}
 use Rattle.hc_model.specs.Rows as rows
-use Rattle.hc_state.specs.{declared.{consumer.Consumer.{Consumer}, rows.Rows.{Rows}}, Changes.{ChangesAt, BecomesAt, one, put_down}, Kept.{IsKept, KeepsConsumer, KeepsExchange, answer_for, is_direct, held_for, held_of, held_alone, unread, unstored_bytes}, Leaving.{LeavesKey, Forgets, IsUserAt, UnbindsAt}, Lines.{KeepsKey, is_passed, is_away, is_away_at}, Stands.{RowsStand}, Stored.{KeepsEntries, is_first}}
+use Rattle.hc_state.specs.{declared.{rows.Rows.{Rows}}, Changes.{ChangesAt, BecomesAt, one}, Kept.{IsKept, KeepsConsumer, KeepsExchange, answer_for, is_direct, held_for, held_of, held_alone, unread, unstored_bytes}, Leaving.{LeavesKey, Forgets, IsUserAt, UnbindsAt}, Lines.{KeepsKey, is_passed, is_away, is_away_at}, Stands.{RowsStand}, Stored.{KeepsEntries, is_first}}
+use Rattle.hc_txn.specs.declared.transaction.Transaction.{Transaction as Consumer}
+use Rattle.hc_txn.specs.Transactions.{put_down}
 use Rattle.hc_state.proofs.{Apart.{keys_apart, entries_apart, user_at}, ConsumerSteps.{all_kept_with}, Maps.{merely_true}, FallbackSteps.{live_same}, QueueHandler.{becomes_by}, Ties.{exchange_same, kept_row, runs_same}}
 use Rattle.hc_state.proofs.LiveCounts as counts
 

@@ -15,7 +15,8 @@ use Rattle.hc_exch.specs.Known as known
 use Rattle.hc_model.specs.Rows as rows
 use Rattle.hc_model.specs.Sound as sound
 use Rattle.hc_effects.proofs.{OfConsumers.{left_open}, ExclusiveWriters.{filter_some}, Basics.{some_row}}
-use Rattle.hc_state.specs.{declared.{consumer.Consumer.{Consumer}, rows.Rows.{Rows}}, Kept.{IsKept, KeepsConsumer, KeepsRunning}, Handlers.{IsDown}, Leaving.{if_running, writing_of, last_read, left_of}, Stands.{RowsStand}, Stored.{KeepsEntry, TellsWriter, as_written, forgotten, is_over}}
+use Rattle.hc_state.specs.{declared.{rows.Rows.{Rows}}, Kept.{IsKept, KeepsConsumer, KeepsRunning}, Handlers.{IsDown}, Leaving.{if_running, writing_of, last_read, left_of}, Stands.{RowsStand}, Stored.{KeepsEntry, TellsWriter, as_written, forgotten, is_over}}
+use Rattle.hc_txn.specs.declared.transaction.Transaction.{Transaction as Consumer}
 use Rattle.hc_state.proofs.{Ties.{kept_row}, Words.{there}}
 
 -- LISTS

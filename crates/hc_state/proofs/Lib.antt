@@ -5,6 +5,7 @@ pub mod ConsumerSteps
 pub mod Counting
 pub mod Fallbacks
 pub mod OneOfEach
+pub mod Passing
 pub mod Unbinding
 pub mod Apart
 pub mod Dropping

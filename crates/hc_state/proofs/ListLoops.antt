@@ -2,7 +2,8 @@
 use Rattle.std.proofs.Common.{ℕ, List, take}
 use Rattle.hc_stored.specs.Kept.{itself}
 use Rattle.hc_sorted.specs.Sorted.{has}
-use Rattle.hc_state.specs.{declared.consumer.Consumer.{Consumer}, Changes.{Numbered, ChangesAmong}}
+use Rattle.hc_state.specs.{Changes.{Numbered, ChangesAmong}}
+use Rattle.hc_txn.specs.declared.transaction.Transaction.{Transaction as Consumer}
 
 -- the first so many of them changed
 abbrev pub ChangedFirst : ℕ → List ℕ → (Consumer → Consumer) → Numbered Consumer → Numbered Consumer → Type 0

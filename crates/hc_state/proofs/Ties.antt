@@ -11,7 +11,8 @@ use Rattle.hc_effects.proofs.Vocabulary.{route_of, Place, BoundBy, current, tota
 use Rattle.hc_exch.specs.{Known.{Known}, declared.{role.Role.{Role, TheVariants.{the_data as role}}, row.Open.{Open}}}
 use Rattle.hc_stored.specs.Kept.{Kept}
 use Rattle.hc_model.specs.Rows as rows
-use Rattle.hc_state.specs.{declared.consumer.Consumer.{Consumer}, Kept.{IsKept, IsRunning, KeepsConsumer, KeepsExchange, KeepsRunning, answer_for, held_for, role_awaited}, Lines.{KeepsKey, has_turn, is_passed, is_away}, Stored.{KeepsEntry, TellsWriter, as_written, forgotten, is_first, is_over}}
+use Rattle.hc_state.specs.{Kept.{IsKept, IsRunning, KeepsConsumer, KeepsExchange, KeepsRunning, answer_for, held_for, role_awaited}, Lines.{KeepsKey, has_turn, is_passed, is_away}, Stored.{KeepsEntry, TellsWriter, as_written, forgotten, is_first, is_over}}
+use Rattle.hc_txn.specs.declared.transaction.Transaction.{Transaction as Consumer}
 
 -- CONSUMERS
 

@@ -22,9 +22,10 @@ use Rattle.hc_model.specs.Exchanges.{family, front}
 use Rattle.hc_model.specs.LettingGo.{MayLetGo}
 use Rattle.hc_model.specs.Rows.{Tables, Exchange, Representation}
 use Rattle.hc_model.specs.Writers.{survivor}
-use Rattle.hc_state.specs.declared.consumer.Consumer.{Consumer}
+use Rattle.hc_txn.specs.declared.transaction.Transaction.{Transaction as Consumer}
 use Rattle.hc_state.specs.declared.rows.Rows.{Rows}
-use Rattle.hc_state.specs.Changes.{Numbered, with_due, with_own}
+use Rattle.hc_state.specs.Changes.{Numbered}
+use Rattle.hc_txn.specs.Transactions.{with_due, with_own}
 use Rattle.hc_state.specs.Facts.{Facts}
 use Rattle.hc_state.specs.Stands.{Answered, RowsStand}
 

@@ -23,7 +23,7 @@ use Rattle.hc_model.specs.Effects.{let_some_go, all_closed, woken, awaited_and}
 use Rattle.hc_model.specs.Lawful.{Lawful}
 use Rattle.hc_model.specs.Rows.{Tables}
 use Rattle.hc_model.specs.StartingOver.{awaited_exchange}
-use Rattle.hc_state.specs.declared.consumer.Consumer.{Consumer}
+use Rattle.hc_txn.specs.declared.transaction.Transaction.{Transaction as Consumer}
 use Rattle.hc_state.specs.declared.rows.Rows.{Rows}
 use Rattle.hc_state.specs.Kept.{KeepsConsumer}
 use Rattle.hc_state.specs.Leaving.{IsUserAt, UnbindsAt}

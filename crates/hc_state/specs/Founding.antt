@@ -32,7 +32,8 @@ use Rattle.hc_exch.specs.Known.{Known, with_good_head, turned_into, is_all, leng
 use Rattle.hc_event.specs.declared.place.Place.TheVariants as place
 use Rattle.hc_event.specs.declared.place.BoundBy.TheVariants as by
 use Rattle.hc_model.specs.Heads.{kept_fields, varied_by, total_of_part}
-use Rattle.hc_state.specs.declared.consumer.Consumer.{Consumer}
+use Rattle.hc_txn.specs.declared.transaction.Transaction.{Transaction as Consumer}
+use Rattle.hc_txn.specs.Transactions.{founding as founds_with}
 use Rattle.hc_state.specs.declared.rows.Rows.{Rows}
 use Rattle.hc_state.specs.declared.founded.Founding.{Founding}
 use Rattle.hc_state.specs.Changes.{ChangesAt}
@@ -97,15 +98,6 @@ part_of _ total = (0, total)
 abbrev pub part_by : Bool → Option Asked → Option ℕ → ℕ × Option ℕ
 part_by true range total = (0, total)
 part_by false range total = part_of (wanted_of range total) total
-
--- it reads this of what its exchange founded, which isn't its own any more where others read too
-abbrev pub founds_with : ℕ → Bool → ℕ → Option ℕ → Consumer → Consumer
-founds_with x shared lo hi k = record k {
-  place = place.Bound x lo hi by.Founding;
-  own = if shared then None else k.own;
-  lo = lo;
-  hi = hi;
-}
 
 -- an exchange brings what it founds, whose head tells this length
 abbrev pub brings_body : ℕ → Length → Known → Known

@@ -21,9 +21,11 @@ use Rattle.hc_event.specs.declared.place.Place.{Place}
 use Rattle.hc_event.specs.declared.place.Place.TheVariants as place
 use Rattle.hc_model.specs.Moves as moves
 use Rattle.hc_model.specs.Moves.{Move}
-use Rattle.hc_state.specs.declared.consumer.Consumer.{Consumer}
+use Rattle.hc_txn.specs.declared.transaction.Transaction.{Transaction as Consumer}
+use Rattle.hc_txn.specs.Transactions.{queues}
 use Rattle.hc_state.specs.declared.rows.Rows.{Rows}
-use Rattle.hc_state.specs.Changes.{ChangesAt, BecomesAt, put_down}
+use Rattle.hc_state.specs.Changes.{ChangesAt, BecomesAt}
+use Rattle.hc_txn.specs.Transactions.{put_down}
 
 -- WHERE A CONSUMER STANDS
 
@@ -40,10 +42,6 @@ abbrev pub IsDown : Cause → Consumer → Type 0
 IsDown why k = k.place ≡ place.Down why
 
 -- THE LINE
-
--- it waits in the line of its key with others
-abbrev pub queues : Consumer → Bool
-queues k = not k.class.disabled && not k.class.only
 
 -- where it waits with others, it is kept that it does
 abbrev pub IsQueued : KeyTable → ℕ → Consumer → Type 0

@@ -29,8 +29,8 @@ use Rattle.hc_model.specs.Cases.{joins_by}
 use Rattle.hc_model.specs.Currents.{current}
 use Rattle.hc_model.specs.Rows as rows
 use Rattle.hc_model.specs.Rows.{Tables, Exchange}
-use Rattle.hc_state.specs.declared.consumer.Consumer.{Consumer}
-use Rattle.hc_state.specs.Changes.{with_answer}
+use Rattle.hc_txn.specs.declared.transaction.Transaction.{Transaction as Consumer}
+use Rattle.hc_txn.specs.Transactions.{with_answer}
 
 -- WHAT ITS CASE LOOKS AT
 

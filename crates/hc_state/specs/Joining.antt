@@ -22,7 +22,8 @@ use Rattle.hc_exch.specs.Exchanges.{table_of}
 use Rattle.hc_exch.specs.Known.{Known, with_good_head, turned_into, length_by}
 use Rattle.hc_model.specs.RepresentationRows.{is_last_part, resumes}
 use Rattle.hc_model.specs.Rows.{Tables, Exchange, Representation}
-use Rattle.hc_state.specs.declared.consumer.Consumer.{Consumer}
+use Rattle.hc_txn.specs.declared.transaction.Transaction.{Transaction as Consumer}
+use Rattle.hc_txn.specs.Transactions.{without_own}
 use Rattle.hc_state.specs.declared.rows.Rows.{Rows}
 use Rattle.hc_state.specs.Changes.{ChangesAt}
 use Rattle.hc_state.specs.Facts.{Facts}
@@ -78,10 +79,6 @@ pub record Brings {B : Type 0} {g : Ghosts B} (a u : Rows B g) (c x r : ℕ)
   pub exchanges : exch.Becomes (bringing r response) x a.exchanges u.exchanges
 
 -- THE CONSUMER
-
--- its exchange isn't its own any more
-abbrev pub without_own : Consumer → Consumer
-without_own k = record k { own = None }
 
 -- x writes r for several, and isn't c's own any more
 pub record Shares {B : Type 0} {g : Ghosts B} (a u : Rows B g) (c x r : ℕ) : Type 0 where

@@ -35,9 +35,9 @@ use Rattle.hc_model.specs.Planning as planning
 use Rattle.hc_model.specs.Planning.{has_passed}
 use Rattle.hc_model.specs.Rows as rows
 use Rattle.hc_model.specs.Rows.{Tables}
-use Rattle.hc_state.specs.declared.consumer.Consumer.{Consumer}
+use Rattle.hc_txn.specs.declared.transaction.Transaction.{Transaction as Consumer}
 use Rattle.hc_state.specs.declared.rows.Rows.{Rows}
-use Rattle.hc_state.specs.Handlers.{queues}
+use Rattle.hc_txn.specs.Transactions.{queues}
 use Rattle.hc_state.specs.Facts.{Facts}
 use Rattle.hc_state.specs.Stands.{RowsStand, Answers, AnswersMove}
 

@@ -29,7 +29,7 @@ use Rattle.hc_model.specs.Currents.{current, is_number}
 use Rattle.hc_model.specs.Reading.{is_bound_place}
 use Rattle.hc_model.specs.Rows as rows
 use Rattle.hc_model.specs.Rows.{Tables}
-use Rattle.hc_state.specs.declared.consumer.Consumer.{Consumer}
+use Rattle.hc_txn.specs.declared.transaction.Transaction.{Transaction as Consumer}
 use Rattle.hc_state.specs.declared.rows.Rows.{Rows}
 use Rattle.hc_state.specs.Handlers.{most}
 use Rattle.hc_state.specs.Facts.{Facts}

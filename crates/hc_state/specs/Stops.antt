@@ -19,7 +19,7 @@ use Rattle.hc_state.specs.declared.stop.Stop.{Stop}
 use Rattle.hc_state.specs.declared.stop.Stop.TheVariants as stop
 use Rattle.hc_state.specs.declared.stop.Readers.{Readers}
 use Rattle.hc_state.specs.declared.stop.Readers.TheVariants as readers
-use Rattle.hc_state.specs.declared.consumer.Consumer.{Consumer}
+use Rattle.hc_txn.specs.declared.transaction.Transaction.{Transaction as Consumer}
 use Rattle.hc_state.specs.Leaving.{writing_of}
 
 abbrev pub body_of : Role → Option ℕ

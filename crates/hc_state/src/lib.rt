@@ -13,8 +13,9 @@ pub use changes::{
     make_all_due, make_due, own, part, read_founded, read_past, show, show_answer, stand,
     start_over, start_over_if_passed, take_answer, take_turn,
 };
-pub use consumer::{Consumer, awaited};
+pub use consumer::awaited;
 pub use founded::{Founding, founded_head};
+pub use hc_txn::Transaction;
 pub use rows::Rows;
 pub use stop::{Readers, Stop};
 pub use stored::renewed;

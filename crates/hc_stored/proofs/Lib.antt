@@ -1,3 +1,4 @@
+pub mod GroupLemmas
 pub mod OrderLemmas
 pub mod ElementLemmas
 pub mod ShelfLemmas

@@ -1,3 +1,4 @@
+pub mod Groups
 pub mod Kept
 pub mod Shelf
 pub mod Heads
@@ -6,3 +7,4 @@ pub mod Shelved
 pub mod Entries
 pub mod Views
 pub mod Begun
+pub mod Grouped

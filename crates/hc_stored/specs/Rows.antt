@@ -9,6 +9,7 @@ use Rattle.hc_record.specs.Head.{opaque_of}
 use Rattle.hc_store.specs.Slots.{Held, Slots}
 use Rattle.hc_stored.specs.declared.summary.HeadSummary.{HeadSummary}
 use Rattle.hc_stored.specs.declared.entry.Entry.{Entry}
+use Rattle.hc_stored.specs.Groups.{exchange_of}
 use Rattle.hc_stored.specs.Heads.{Summary}
 use Rattle.hc_stored.specs.Kept.{Kept, itself, alone_if, unless_it, is_nobody}
 
@@ -44,7 +45,7 @@ row_of e = record {
   reach = e.reach;
   bound = e.bound.items;
   first = e.first;
-  writer = e.writer;
+  writer = exchange_of e.writers;
   is_lost = e.lost;
   alone = e.alone;
   is_gone = e.gone;

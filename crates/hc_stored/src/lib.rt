@@ -3,6 +3,8 @@
 
 mod entries;
 mod entry;
+mod group;
+mod one;
 mod order;
 mod ranges;
 mod rows;

@@ -1,7 +1,11 @@
 //! Entries by the numbers of their representations: one changes, and the others stay.
-ghost use Rattle.std.specs.Prelude.{◌≡◌, ℕ, ◌∷◌, Some, None, is_some, option_map, true, false, OnOk, OnErr};
+ghost use Rattle.std.specs.Prelude.{◌≡◌, ◌≤◌, ◌^◌, ℕ, ◌∷◌, Some, None, is_some, option_map, true, false, OnOk, OnErr};
 ghost use Rattle.hc_sorted.specs.Sorted.{is_sorted, has};
 ghost use Rattle.hc_stored.specs.Kept.{itself};
+ghost use Rattle.std.specs.Option.{option_and_then};
+ghost use Rattle.hc_writers.specs.Writing.{survivor};
+ghost use Rattle.hc_stored.specs.Groups.{told_if_member};
+ghost use Rattle.hc_stored.specs.Grouped.{group_at};
 ghost use Rattle.hc_stored.specs.Rows.{row_of, rows_of, summary_in, with_row, Changes, with_summary, reaching, sealed_as, used_by, used_first_by, unused_by, going, losing, written_in, slot_at, users_at, is_over, is_unused_row};
 
 use crate::entry::Entry;
@@ -83,6 +87,7 @@ pub(crate) fn tell_in(rows: &mut HashMap<u64, Entry>, r: u64, summary: HeadSumma
 
 /// Bytes of it came that end there, and with the last of them another kind.
 pub(crate) fn fill_in(rows: &mut HashMap<u64, Entry>, r: u64, end: u64, last: Option<Kind>)
+    requires { end ≤ 2 ^ 62 }
     ensures { Changes (reaching end last) r (rows_of rows.old) (rows_of rows.new) }
 {
     if let Some(entry) = rows.get_mut(&r) {
@@ -156,11 +161,36 @@ pub(crate) fn lose_in(rows: &mut HashMap<u64, Entry>, r: u64, alone: Option<u64>
     }
 }
 
-/// This exchange writes it.
-pub(crate) fn write_in(rows: &mut HashMap<u64, Entry>, r: u64, x: u64)
-    ensures { Changes (written_in x) r (rows_of rows.old) (rows_of rows.new) }
+/// This exchange writes it for all who are bound to it.
+pub(crate) fn write_in(rows: &mut HashMap<u64, Entry>, r: u64, x: u64) -> Result<(), NoMemory>
+    requires { is_sorted itself (users_at (rows_of rows.old r)) ≡ true }
+    ensures ok { OnOk result (Changes (written_in x) r (rows_of rows.old) (rows_of rows.new)) }
+    ensures err { OnErr result ((q : ℕ) → rows_of rows.new q ≡ rows_of rows.old q) }
 {
     if let Some(entry) = rows.get_mut(&r) {
-        entry.writer = Some(x);
+        entry.write(x)?;
+    }
+    Ok(())
+}
+
+/// A consumer that reads it along stands there.
+pub(crate) fn stand_in(rows: &mut HashMap<u64, Entry>, r: u64, c: u64, offset: u64)
+    ensures rows { (q : ℕ) → rows_of rows.new q ≡ rows_of rows.old q }
+    ensures group { group_at rows.new r
+        ≡ option_map (told_if_member c offset) (group_at rows.old r) }
+{
+    if let Some(entry) = rows.get_mut(&r) {
+        entry.tell(c, offset);
+    }
+}
+
+/// A write of it was refused while several read it along. Who goes on, if anybody.
+pub(crate) fn lose_shared_in(rows: &mut HashMap<u64, Entry>, r: u64) -> Option<u64>
+    ensures survivor { result ≡ option_and_then survivor (group_at rows.old r) }
+    ensures rows { Changes (losing result) r (rows_of rows.old) (rows_of rows.new) }
+{
+    match rows.get_mut(&r) {
+        Some(entry) => entry.lose_shared(),
+        None => None,
     }
 }

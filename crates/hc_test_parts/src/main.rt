@@ -1,5 +1,5 @@
 //! Vectors of the words of HTTP and of the parts of the cache: sparse bytes and stitching, lists by
-//! number, lines of keys and who is bound, exchanges, stores, and what is kept over them.
+//! number, lines of keys, who is bound, writer groups, exchanges, stores, and what is kept over them.
 //!
 //! One object of each kind is kept from line to line, and a line changes it or tells of it.
 #![tactic(auto)]
@@ -8,6 +8,7 @@ mod active;
 mod alike;
 mod entries;
 mod exchanges;
+mod group;
 mod keys;
 mod lines;
 mod order;
@@ -22,6 +23,7 @@ mod values;
 mod words;
 
 use exchanges::Table;
+use group::tell_group;
 use hc_test_frame::{Calls, Fault, Vector, tell_all};
 use sorted::Sorted;
 use sparse::ManyBytes;
@@ -84,6 +86,7 @@ impl Calls for Parts {
             "exchange" | "exchanges" => self.table.tell(vector, value),
             "store" | "entries" => self.stored.tell(vector, value),
             "bytes" => self.bytes.tell(vector, value),
+            "group" => tell_group(vector, value),
             _ => self.tell_other(vector, value),
         }
     }

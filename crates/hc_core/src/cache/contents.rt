@@ -28,6 +28,7 @@ impl<B: Backend> Cache<B> {
             → may_begin (limits_in self.old) (plain_contents found) ≡ true) }
         ensures same { (contents : model.Contents) (h : model.History)
             → StandsFor self.old contents h ↔ StandsFor self.new contents h }
+        ensures limits { limits_in self.new ≡ limits_in self.old }
         ensures moment { last_moment self.new ≡ last_moment self.old }
         ensures steps { steps self.new ≡ steps self.old }
         ensures received { bytes_received self.new ≡ bytes_received self.old }

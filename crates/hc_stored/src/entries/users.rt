@@ -5,12 +5,18 @@ ghost use Rattle.hc_stored.specs.Kept.{with_user, with_first, left_by, kept_as_g
 ghost use Rattle.hc_stored.specs.Views.{admits, admits_first, has_user};
 
 use super::Entries;
-use crate::rows::{bind_first_in, bind_in, drop_in, go_in, is_over, lose_in, unbind_in, write_in};
+use crate::rows::{
+    bind_first_in, bind_in, drop_in, go_in, is_over, lose_in, lose_shared_in, stand_in, unbind_in,
+    write_in,
+};
 use hc_store::Backend;
 use hc_text::NoMemory;
 
 impl<B: Backend> Entries<B> {
     ghost use Rattle.hc_stored.specs.Entries.{shelf_of};
+    ghost use Rattle.hc_stored.specs.Grouped.{group_of};
+    ghost use Rattle.hc_stored.specs.Groups.{told_if_member};
+    ghost use Rattle.hc_writers.specs.Writing.{survivor};
     ghost use Rattle.hc_stored.specs.Shelf.{is_kept, same_order, moved_first, taken_out, Becomes, Stays};
 
     /// One more consumer is bound, and the representation stands first in the order.
@@ -78,13 +84,37 @@ impl<B: Backend> Entries<B> {
         lose_in(&mut self.rows, r, alone);
     }
 
-    /// This exchange writes the representation for all.
-    pub fn set_writer(&mut self, r: u64, x: u64)
+    /// A consumer that reads the representation along stands there.
+    pub fn tell(&mut self, r: u64, c: u64, offset: u64)
+        ensures stays { Stays (shelf_of self.old) (shelf_of self.new) }
+        ensures faults { (shelf_of self.new).faults ≡ (shelf_of self.old).faults }
+        ensures group { group_of self.new r
+            ≡ option_map (told_if_member c offset) (group_of self.old r) }
+    {
+        stand_in(&mut self.rows, r, c, offset);
+    }
+
+    /// A write of the representation was refused while several read it along: the survivor of these
+    /// goes on with it, if there is one.
+    pub fn lose_shared(&mut self, r: u64) -> Option<u64>
         requires { is_kept (shelf_of self.old) r ≡ true }
-        ensures changed { Becomes (option_map (written_by x)) same_order r
+        ensures survivor { result ≡ option_and_then survivor (group_of self.old r) }
+        ensures changed { Becomes (option_map (kept_as_lost result)) same_order r
             (shelf_of self.old) (shelf_of self.new) }
         ensures faults { (shelf_of self.new).faults ≡ (shelf_of self.old).faults }
     {
-        write_in(&mut self.rows, r, x);
+        lose_shared_in(&mut self.rows, r)
+    }
+
+    /// This exchange writes the representation for all.
+    pub fn set_writer(&mut self, r: u64, x: u64) -> Result<(), NoMemory>
+        requires { is_kept (shelf_of self.old) r ≡ true }
+        ensures ok { OnOk result (Becomes (option_map (written_by x)) same_order r
+            (shelf_of self.old) (shelf_of self.new)) }
+        ensures err { OnErr result (Stays (shelf_of self.old) (shelf_of self.new)) }
+        ensures faults { (shelf_of self.new).faults ≡ (shelf_of self.old).faults }
+    {
+        write_in(&mut self.rows, r, x)?;
+        Ok(())
     }
 }

@@ -4,7 +4,8 @@ use Rattle.hc_effects.proofs.Vocabulary.{act_list, promised_bytes}
 use Rattle.hc_stored.specs.{Entries.{shelf_of}, Kept.{itself}, Views.{bound_in}}
 use Rattle.hc_sorted.specs.Sorted.{has}
 use Rattle.hc_effects.proofs.LettingGo.{may_let_go}
-use Rattle.hc_state.specs.{Changes.{ChangesAmong, with_end}, Stopped.{SealedWhole}}
+use Rattle.hc_state.specs.{Changes.{ChangesAmong}, Stopped.{SealedWhole}}
+use Rattle.hc_txn.specs.Transactions.{with_end}
 use Rattle.hc_state.proofs.{Maps.{merely_true, merely_below}, Words.{few_received}}
 use Rattle.hc_on_body.proofs.{OpenViews.{viewed}, WholeAnswers.{past_answered, whole_answered, brought_row, unbrought, brought_kept, delivered_short, nobody_alone, own_family}}
 use Rattle.hc_on_body.proofs.stop.end_whole.Goals as goal

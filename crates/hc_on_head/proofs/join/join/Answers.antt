@@ -22,14 +22,8 @@ returns-then-is_lost-clause-answers g c = λ k any joins limits t w facts stands
 pub share-requires : goal.share-requires
 share-requires g c = record { there = kept_growing c.args.rows.now c.renew_growing.new.rows c.bring-in-Ok.new.rows c.args.heard.now c.args.heard.x c.args.r c.args.response.now c.requires.comes.accepted c.requires.about.there c.in-Ok.ensures.ok c.bring-in-Ok.ensures.entries }
 
-pub returns-then-resumes-clause-kept : goal.returns-then-resumes-clause-kept
-returns-then-resumes-clause-kept g c =
-    let same = c.share.ensures.faults ∙ ap (λ z. (shelf_of z).faults) c.bring-in-Ok.ensures.entries in
-    let later = c.renew_growing.ensures.fails.cause.later in
-    record { told = tt; faults = omega (arith, same, later) }
-
-pub returns-then-resumes-clause-answers : goal.returns-then-resumes-clause-answers
-returns-then-resumes-clause-answers g c = λ k any joins limits t w facts stands goes row is doomless same.
+pub returns-in_ok-share-in-Ok-clause-answers : goal.returns-in_ok-share-in-Ok-clause-answers
+returns-in_ok-share-in-Ok-clause-answers g c = λ k any joins limits t w facts stands goes row is doomless same.
     let r = c.args.rows.now in
     let now = c.args.heard.now in
     let x = c.args.heard.x in
@@ -39,7 +33,7 @@ returns-then-resumes-clause-answers g c = λ k any joins limits t w facts stands
     let kept = sym j.is.is_lost ∙ (sym (c.is_lost.ensures j.e j.kept) ∙ c.if-is_lost.false) in
     let resumed = sym c.if-resumes.true ∙ c.resumes-resumes.ensures _ t w j.p j.e j.hole.0 j.hole.1 facts stands row j.a.awaits.is_open j.hole.2 j.for_it j.row kept j.kept j.told in
     joins_answered r c.share.new.rows t facts now x response goes w j.a k (joins_of k joins) is q j.aim j.p j.row (act_list c.args.out.now) kept true resumed
-    (stands_shared r c.share.new.rows t now x q c.args.heard.c response w j.a.v j.p j.can j.a.k j.o j.e stands j.for_it j.a.there j.running j.on j.kept c.renew_growing.new.rows c.bring-in-Ok.new.rows c.in-Ok.ensures.ok c.bring-in-Ok.ensures c.share.ensures)
+    (stands_shared r c.share.new.rows t now x q c.args.heard.c response w j.a.v j.p j.can j.a.k j.o j.e stands j.for_it j.a.there j.running j.on j.kept c.renew_growing.new.rows c.bring-in-Ok.new.rows c.in-Ok.ensures.ok c.bring-in-Ok.ensures c.in_ok-share-in-Ok.ensures.shares)
     (shelf_of r.entries).faults
 
 pub returns-else-resumes-clause-answers : goal.returns-else-resumes-clause-answers

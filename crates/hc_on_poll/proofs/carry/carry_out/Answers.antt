@@ -4,12 +4,14 @@
 -- `some_plan_at`. What is looked at is current for its key (`looked_current`). Its head is read between, which keeps the
 -- rows but for the count of faults. So what they represent stays (`read_some`, `read_current`), and what is answered then is
 -- answered (`read_answers`). Where it can't be read, `misread_by` answers.
-use Rattle.std.{proofs.{Common.{Some, nat_eq, subst}, Math.Logic.{∥∥₁_map}}, specs.HashMap.{get}}
-use Rattle.hc_effects.proofs.Vocabulary.{act_list}
+use Rattle.std.{proofs.{Common.{Some, nat_eq, subst, ◌∙◌, ◌≡◌}, Math.Logic.{∥∥₁_map}}, specs.HashMap.{get}}
+use Rattle.hc_effects.proofs.Vocabulary.{act_list, plan_of}
+use Rattle.hc_txn.specs.Views.{plan_view_by}
 use Rattle.hc_record.specs.Plain.{plain}
 use Rattle.hc_state.specs.{Kept.{KeepsConsumer}, Plans.{IsIdle, HasCurrent}}
 use Rattle.hc_state.proofs.{Maps.{known_of, lent, some_that}, Words.{ok_then, on_ok_two}}
 use Rattle.hc_on_poll.proofs.PlanHandlers.{unlooked_plan, some_plan_at, looked_current, current_kept, fault_only, read_current, read_until, read_some, read_answers, read_fault}
+use Rattle.hc_on_poll.proofs.Deciding.{decided}
 use Rattle.hc_on_poll.proofs.carry.carry_out.Goals as goal
 
 pub carry_out_bare-requires-clause-opens : goal.carry_out_bare-requires-clause-opens
@@ -22,7 +24,7 @@ carry_out_bare-requires-clause-plan g c = λ limits t v facts stands row.
     let k = c.unwrap-consumer.result.now in
     let at = lent c.get.result at_row c.unwrap-consumer.result c.get.ensures.value c.unwrap-consumer.ensures in
     let kept = subst (KeepsConsumer t (Some k)) row (subst (λ o. KeepsConsumer t o (t.consumer c.args.c)) at (stands.consumers c.args.c)) in
-    unlooked_plan r t facts stands c.args.c k v row kept (known_of at_row k IsIdle at c.requires.idle) c.args.now c.plan_view-view.result c.plan_view-view.ensures c.looked_at.result c.looked_at.ensures c.in_default.is
+    unlooked_plan r t facts stands c.args.c k v row kept (known_of at_row k IsIdle at c.requires.idle) c.args.now c.look_up-looked.result.view c.look_up-looked.ensures.view c.look_up-looked.result.current c.look_up-looked.ensures.current c.in_default.is
 
 pub head-requires : goal.head-requires
 head-requires g c =
@@ -31,19 +33,19 @@ head-requires g c =
     let k = c.unwrap-consumer.result.now in
     let at = lent c.get.result at_row c.unwrap-consumer.result c.get.ensures.value c.unwrap-consumer.ensures in
     current_kept r (∥∥₁_map c.requires.stands (λ u. u.0)) c.args.now c.args.c c.requires.idle c.in-Some.r
-    (some_that at_row k (HasCurrent r.keys c.in-Some.r) at (looked_current k r.keys c.plan_view-view.result c.looked_at.result c.in-Some.r c.looked_at.ensures c.in-Some.is))
+    (some_that at_row k (HasCurrent r.keys c.in-Some.r) at (looked_current k r.keys c.look_up-looked.result.view c.look_up-looked.result.current c.in-Some.r c.look_up-looked.ensures.current c.in-Some.is))
 
-pub candidate-requires-clause-stands : goal.candidate-requires-clause-stands
-candidate-requires-clause-stands g c = read_until c.args.rows.now c.head.new.self c.head.ensures.same c.args.now c.requires.stands
+pub candidate-current-requires-clause-stands : goal.candidate-current-requires-clause-stands
+candidate-current-requires-clause-stands g c = read_until c.args.rows.now c.head.new.self c.head.ensures.same c.args.now c.requires.stands
 
-pub candidate-requires-clause-current : goal.candidate-requires-clause-current
-candidate-requires-clause-current g c =
+pub candidate-current-requires-clause-current : goal.candidate-current-requires-clause-current
+candidate-current-requires-clause-current g c =
     let r = c.args.rows.now in
     let at_row = get nat_eq r.consumers c.args.c in
     let k = c.unwrap-consumer.result.now in
     let at = lent c.get.result at_row c.unwrap-consumer.result c.get.ensures.value c.unwrap-consumer.ensures in
     read_current r c.head.new.self c.head.ensures.same c.args.c c.in-Some.r (plain c.in-Ok.head)
-    (some_that at_row k (HasCurrent r.keys c.in-Some.r) at (looked_current k r.keys c.plan_view-view.result c.looked_at.result c.in-Some.r c.looked_at.ensures c.in-Some.is)) c.in-Ok.ensures.head
+    (some_that at_row k (HasCurrent r.keys c.in-Some.r) at (looked_current k r.keys c.look_up-looked.result.view c.look_up-looked.result.current c.in-Some.r c.look_up-looked.ensures.current c.in-Some.is)) c.in-Ok.ensures.head
 
 pub carry_out_plan-requires-clause-opens : goal.carry_out_plan-requires-clause-opens
 carry_out_plan-requires-clause-opens g c = record { stands = read_some c.args.rows.now c.head.new.self c.head.ensures.same c.args.now c.requires.stands; few = c.requires.few }
@@ -55,9 +57,10 @@ carry_out_plan-requires-clause-plan g c = λ limits t v facts stands row.
     let k = c.unwrap-consumer.result.now in
     let at = lent c.get.result at_row c.unwrap-consumer.result c.get.ensures.value c.unwrap-consumer.ensures in
     let kept = subst (KeepsConsumer t (Some k)) row (subst (λ o. KeepsConsumer t o (t.consumer c.args.c)) at (stands.consumers c.args.c)) in
-    let held = looked_current k r.keys c.plan_view-view.result c.looked_at.result c.in-Some.r c.looked_at.ensures c.in-Some.is in
-    some_plan_at (record r { entries = c.head.new.self }) t facts stands c.args.c k v row kept (known_of at_row k IsIdle at c.requires.idle) c.args.now c.plan_view-view.result c.plan_view-view.ensures
-    c.in-Some.r c.candidate.result held (c.candidate.ensures _ t v) c.plan_of-plan.result c.plan_of-plan.ensures
+    let held = looked_current k r.keys c.look_up-looked.result.view c.look_up-looked.result.current c.in-Some.r c.look_up-looked.ensures.current c.in-Some.is in
+    some_plan_at (record r { entries = c.head.new.self }) t facts stands c.args.c k v row kept (known_of at_row k IsIdle at c.requires.idle) c.args.now c.look_up-looked.result.view c.look_up-looked.ensures.view
+    c.in-Some.r c.candidate-current.result held (c.candidate-current.ensures _ t v) c.decide-plan.result
+    (known_of at_row k (λ j. c.decide-plan.result ≡ plan_of (plan_view_by c.args.now c.args.c c.look_up-looked.result.view.turn (Some c.candidate-current.result) j)) at c.decide-plan.ensures ∙ decided r c.args.now c.args.c k c.look_up-looked.result.view c.look_up-looked.ensures.view (Some c.candidate-current.result))
 
 pub misread_by-requires-clause-stands : goal.misread_by-requires-clause-stands
 misread_by-requires-clause-stands g c = read_some c.args.rows.now c.head.new.self c.head.ensures.same c.args.now c.requires.stands
@@ -76,4 +79,4 @@ returns-in-Err-clause-answers g c =
     on_ok_two c.misread_by.result c.misread_by.ensures.failed c.misread_by.ensures.answers (λ other.
     read_fault r c.head.new.self c.head.ensures.same (c.head.ensures.cause.fault (fault_only c.head.result c.in-Err.error c.in-Err.is c.head.ensures.no_limit other))
     c.misread_by.new.rows (act_list c.args.out.now) (act_list c.misread_by.new.out) c.args.now c.args.c c.in-Some.r c.requires.idle
-    (some_that at_row k (HasCurrent r.keys c.in-Some.r) at (looked_current k r.keys c.plan_view-view.result c.looked_at.result c.in-Some.r c.looked_at.ensures c.in-Some.is)))
+    (some_that at_row k (HasCurrent r.keys c.in-Some.r) at (looked_current k r.keys c.look_up-looked.result.view c.look_up-looked.result.current c.in-Some.r c.look_up-looked.ensures.current c.in-Some.is)))

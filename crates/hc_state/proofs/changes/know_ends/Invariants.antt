@@ -1,4 +1,4 @@
-use Rattle.hc_state.specs.Changes.{with_end}
+use Rattle.hc_txn.specs.Transactions.{with_end}
 use Rattle.hc_state.proofs.ListLoops.{ChangedFirst}
 use Rattle.hc_state.proofs.changes.know_ends.Given as goal
 

@@ -1,4 +1,4 @@
-use Rattle.hc_state.specs.Changes.{with_due}
+use Rattle.hc_txn.specs.Transactions.{with_due}
 use Rattle.hc_state.proofs.ListLoops.{ChangedFirst}
 use Rattle.hc_state.proofs.changes.make_all_due.Given as goal
 

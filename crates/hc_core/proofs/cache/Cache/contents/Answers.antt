@@ -12,3 +12,9 @@ returns-clause-told g c = contents_told c.args.self.now _ refl refl c.next_numbe
 
 pub returns-clause-fits : goal.returns-clause-fits
 returns-clause-fits g c = may_again c.args.self.now _ refl refl c.next_number.ensures c.in_ok-items.ensures.items (c.args.self.now.good c.if-self.false)
+
+pub returns-in_err-items-clause-limits : goal.returns-in_err-items-clause-limits
+returns-in_err-items-clause-limits g c = c.items_of.ensures.same.limits
+
+pub returns-clause-limits : goal.returns-clause-limits
+returns-clause-limits g c = c.items_of.ensures.same.limits

@@ -1,0 +1,30 @@
+-- The writer group of a representation, beside who is bound to that.
+use Rattle.std.specs.Prelude.{◌≡◌, ℕ, List, map, Bool, true, false, Option, Some, None, option_map, IfSome, if◌then◌else◌}
+use Rattle.hc_writers.specs.Writing.{Writing, consumer_of, is_member, joined_by, moved_to, without_member}
+
+abbrev pub exchange_of : Option Writing → Option ℕ
+exchange_of group = option_map (λ (w : Writing). w.exchange) group
+
+abbrev pub left_if_member : ℕ → Writing → Writing
+left_if_member c w = if is_member c w then without_member c w else w
+
+abbrev pub told_if_member : ℕ → ℕ → Writing → Writing
+told_if_member c offset w = if is_member c w then moved_to c offset w else w
+
+abbrev pub joined_unless : Bool → ℕ → Option Writing → Option Writing
+joined_unless lost c group = if lost then group else option_map (joined_by c) group
+
+-- it isn't a member, and the group goes on
+pub record MayJoin (c : ℕ) (w : Writing) : Type 0 where
+  pub new : is_member c w ≡ false
+  pub shared : w.alone ≡ false
+
+-- whoever is bound is a member, and what is stored ends there
+pub record HasMembers (bound : List ℕ) (reach : ℕ) (w : Writing) : Type 0 where
+  pub shared : w.alone ≡ false
+  pub members : map consumer_of w.members ≡ bound
+  pub end : w.end ≡ reach
+
+-- until it is lost
+abbrev pub IsGrouped : Bool → List ℕ → ℕ → Option Writing → Type 0
+IsGrouped lost bound reach group = lost ≡ false → IfSome group (HasMembers bound reach)

@@ -4,7 +4,7 @@
 -- made goes on so. One that is cut short ends the loop; so does the closing of all connections behind the last turn,
 -- which sends nothing. That all was sent then is read off what rests behind the last turn (`client_sent`,
 -- `exchange_sent`).
-use Rattle.std.{proofs.{Common.{◌≡◌, ◌⊎◌, inl, inr, ◌≤◌, ◌<◌, ℕ, ◌+◌, ◌-◌, List, [], ◌∷◌, ◌++◌, Bool, true, false, Option, Some, None, Ok, Err, refl, ap, sym, ◌∙◌, subst, arith, append_assoc, append-nil}, lemmas.{Bool.Decides.{nat_tests}, List.{length-drop}}}, specs.{Prelude.{◌&&◌, ◌||◌, not, nat_eq, nat_lt, find, filter, map, drop, length, option_map, IfSome, Result, IsErrAnd, if◌then◌else◌}, List.{list_all}}}
+use Rattle.std.{proofs.{Common.{◌≡◌, ◌⊎◌, inl, inr, ◌≤◌, ◌<◌, ℕ, ◌+◌, ◌-◌, List, [], ◌∷◌, ◌++◌, Bool, true, false, Option, Some, None, Ok, Err, refl, ap, sym, ◌∙◌, subst, arith, append-nil, take_all}, lemmas.{Bool.Decides.{nat_tests}, List.{length-drop}}}, specs.{Prelude.{◌&&◌, ◌||◌, not, nat_eq, nat_lt, find, filter, map, drop, length, option_map, IfSome, Result, IsErrAnd, if◌then◌else◌}, List.{list_all}}}
 use Rattle.hc_text.proofs.Basics.{both_true as both_hold, or_left, or_right}
 use Rattle.hc_core.specs.Steps.{steps, faults_in}
 use Rattle.hc_io.specs.Sink.{Takes, TakesFront}
@@ -19,20 +19,26 @@ use Rattle.hc_store.specs.declared.backend.Backend.{Ghosts}
 use Rattle.hc_wire.specs.{Events.{Stage, Unseen}, Logs.{Log, Taker, Called, empty_log, is_numbered, is_at_end, shut, standings_in, stage_from, stage_in, sent_in}}
 use Rattle.hc_wire.specs.declared.event.WireEvent.TheVariants as event
 use Rattle.hc_proxy.specs.declared.proxy.Proxy as loop
-use Rattle.hc_proxy.specs.{declared.stop.Stop.{Stop}, Connections.{connection_of, taken_at}, Endings.{IsLog, IsFresh, Serves, was_sent}, Keeping.{Frame, HasUpstreams, IsUpstream, IsUpstreamAt}, Logging.{AreApart, short_from, is_short}, Loops.{AllFit}, Network.{open_exchanges, heard}, Records.{text_of}, Resting.{IsRestingClient, IsRestingAt, Rests}, Rows.{Client, Upstream, Proxy, unused}, Sending.{owed_by, is_taken, client_is_sent, taker_of, exchange_is_sent, all_is_sent}, Serving.{IsOfLoop, IsCutShort, IsStill, Begins, TurnsTo, TurnStops, EndsBy, ServesAs, IsClosed, all_closed}, Stops.{ended_as, ended_by}, Turns.{turned_by, behind_all, record_of}, Waiting.{waits}}
+use Rattle.hc_proxy.specs.{declared.stop.Stop.{Stop}, Connections.{connection_of, taken_at}, Endings.{IsLog, IsFresh, Serves, TakesTurns, was_sent}, Keeping.{Frame, HasUpstreams, IsUpstream, IsUpstreamAt}, Logging.{AreApart, short_from, is_short}, Loops.{AllFit}, Network.{open_exchanges, heard}, Records.{text_of}, Resting.{IsRestingClient, IsRestingAt, Rests}, Rows.{Client, Upstream, Proxy, unused}, Sending.{owed_by, is_taken, client_is_sent, taker_of, exchange_is_sent, all_is_sent}, Serving.{IsOfLoop, IsCutShort, IsStill, Begins, TurnsTo, TurnStops, EndsBy, ServesAs, IsClosed, all_closed}, Stops.{ended_as, ended_by}, Turns.{turned_by, behind_all, behind_calls, record_of}, Waiting.{waits}}
 use Rattle.hc_proxy.specs.declared.stop.Stop.TheVariants as stop
-use Rattle.hc_proxy.proofs.{Fitting.{all_reversed, opened_within}, FinishGoes.{takes_all}, Rows.{sent_all}, TakersStand.{open_taker, sent_found, taken_found}}
+use Rattle.hc_proxy.proofs.{Fitting.{all_reversed, opened_within}, Rows.{sent_all}, Stands.{loops_are_runs}, TakersStand.{open_taker, sent_found, taken_found}}
 use Rattle.hc_state.proofs.LeftRows.{all_passing}
 
 -- WHAT A SINK TOOK
 
-front_behind : (out mid new : Option (List ℕ)) (written text : List ℕ) → Takes out mid written → TakesFront mid new text → TakesFront out new (written ++ text)
-front_behind out mid new written text a b = record {
-  front = written ++ b.front;
-  rest = b.rest;
-  whole = append_assoc written b.front b.rest ∙ ap (λ (z : List ℕ). written ++ z) b.whole;
-  takes = takes_both out mid new written b.front a b.takes;
-}
+-- all of the record was taken, and nothing is lacking of the last turn's
+whole_turns : (limits : Limits) (log : Log) (out out' : Option (List ℕ)) → Takes out out' (record_of (behind_all limits log)) → TakesTurns limits log out out'
+whole_turns limits log out out' takes =
+    let all : behind_calls limits log (length log.calls) ≡ behind_all limits log = ap (λ cs. turned_by limits log.dialled cs unused) (take_all (length log.calls) log.calls (omega arith)) in
+    record {
+      turns = length log.calls;
+      all_but_one = omega arith;
+      between = out';
+      earlier = subst (λ (p : Proxy). Takes out out' (record_of p)) (sym all) takes;
+      last = [];
+      part = record { front = []; rest = []; whole = refl; takes = takes_none out' };
+      record_is = ap record_of (sym all) ∙ sym (append-nil (record_of (behind_calls limits log (length log.calls))));
+    }
 
 -- BETWEEN TURNS
 
@@ -97,7 +103,7 @@ module _ {B : Type 0} {g : Ghosts B} where
 
     -- WHERE IT ENDS
 
-    by_stop : (turns : ℕ) (log : Log) (new : Option (List ℕ)) (e : Stop) → IsLog limits log → length log.calls ≤ turns → TakesFront out new (record_of (behind_all limits log)) → Serves limits turns log out new (ended_by e)
+    by_stop : (turns : ℕ) (log : Log) (new : Option (List ℕ)) (e : Stop) → IsLog limits log → length log.calls ≤ turns → TakesTurns limits log out new → Serves limits turns log out new (ended_by e)
     by_stop turns log new stop.SinkFailed is few front = Serves.unwritten is few front
     by_stop turns log new stop.WireFailed is few front = Serves.unwired is few front
     by_stop turns log new stop.NoMemory is few front = Serves.wanting is few front
@@ -115,7 +121,15 @@ module _ {B : Type 0} {g : Ghosts B} where
           bound = cut.bound ∙ t.bound;
           serves =
               by_stop turns cut.log' new e c'.is_log (let a = cut.calls in let b = t.calls in omega arith)
-              (subst (TakesFront out new) (sym c'.record_is) (front_behind out out' new t.f.written c'.text t.takes c'.takes));
+              (record {
+                turns = c'.turns;
+                all_but_one = c'.all_but_one;
+                between = out';
+                earlier = subst (Takes out out') c'.written_is t.takes;
+                last = c'.text;
+                part = c'.takes;
+                record_is = c'.record_is ∙ ap (λ (z : List ℕ). z ++ c'.text) c'.written_is;
+              });
         }
 
     is_log_now : IsLog limits t.log
@@ -138,7 +152,7 @@ module _ {B : Type 0} {g : Ghosts B} where
       log' = t.log;
       told_is = subst (λ (z : Option Log). (z ≡ None) ⊎ (z ≡ Some t.log)) (sym same) t.still.follows.told_is;
       bound = t.bound;
-      serves = by_stop turns t.log out' e is_log_now (let b = t.calls in omega arith) (takes_all out out' (record_of (behind_all limits t.log)) all_taken);
+      serves = by_stop turns t.log out' e is_log_now (let b = t.calls in omega arith) (whole_turns limits t.log out out' all_taken);
     }
 
 -- ALL ARE CLOSED
@@ -345,8 +359,8 @@ told_ends limits turns log told (Some l) out out' end is e = by_told e.told_is
     by_old (Some old) (inl none) l' same = absurd (let never : Some old ≡ None = none in cc)
     by_old (Some old) (inr it) l' same = same ∙ ap (λ (z : Log). z.bound) (sym (some_is old log it))
 
-    by_told : (Some l ≡ None) ⊎ (Some l ≡ Some e.log') → Serves limits turns l out out' end × IfSome told (λ old. l.bound ≡ old.bound)
+    by_told : (Some l ≡ None) ⊎ (Some l ≡ Some e.log') → ServesAs limits turns told (Some l) out out' end
     by_told (inl none) = absurd (let never : Some l ≡ None = none in cc)
     by_told (inr same) =
         let it : l ≡ e.log' = some_is l e.log' same in
-        subst (λ (z : Log). Serves limits turns z out out' end × IfSome told (λ old. z.bound ≡ old.bound)) (sym it) (e.serves, by_old told is e.log' e.bound)
+        subst (λ (z : Log). ServesAs limits turns told (Some z) out out' end) (sym it) (e.serves, loops_are_runs limits e.log', by_old told is e.log' e.bound)

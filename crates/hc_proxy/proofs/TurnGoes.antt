@@ -4,7 +4,7 @@
 -- Where the turn is cut short, each connection has taken a first part of what it is owed behind the whole turn, and
 -- what was written is a first part of its record. Where it isn't, the tables behind it are those that the definitions
 -- owe, if the store counted no failure.
-use Rattle.std.{proofs.{Common.{◌≡◌, ◌≤◌, ◌<◌, ◌^◌, ℕ, ◌+◌, List, [], ◌∷◌, ◌++◌, Bool, true, false, Option, refl, ap, sym, ◌∙◌, subst, arith, append_assoc, append-nil}, lemmas.List.{length-append}}, specs.{Prelude.{length, map, max, reverse, find, Result, IfOk, OnErr}, List.{list_all}}}
+use Rattle.std.{proofs.{Common.{◌≡◌, ◌⊎◌, ◌≤◌, ◌<◌, ◌^◌, ℕ, ◌+◌, List, [], ◌∷◌, ◌++◌, Bool, true, false, Option, Some, None, refl, ap, sym, ◌∙◌, subst, arith, append_assoc, append-nil, take_all}, lemmas.List.{length-append, take-append-le}}, specs.{Prelude.{length, map, take, max, reverse, find, Result, IfOk, OnErr}, List.{list_all}}}
 use Rattle.hc_core.specs.Steps.{steps, faults_in}
 use Rattle.hc_io.proofs.Takings.{takes_none}
 use Rattle.hc_effects.proofs.Vocabulary.{Entry, History, Limits}
@@ -13,7 +13,7 @@ use Rattle.hc_sched.specs.Schedule.{timed_text}
 use Rattle.hc_wire.specs.{Events.{Stage, Unseen, IsOfOpen, FitsIn, stages_after, got_bytes}, Logs.{Log, Called, Tells, is_numbered, stage_from, with_call}, declared.event.WireEvent.{WireEvent}}
 use Rattle.hc_wire.specs.declared.event.WireEvent.TheVariants as event
 use Rattle.hc_proxy.specs.declared.proxy.Proxy as loop
-use Rattle.hc_proxy.specs.{declared.stop.Stop.{Stop}, Carrying.{acts_in, carried}, Endings.{was_sent}, Handling.{begun}, Invariants.{AreServed, last_event}, Keeping.{Frame, Turn, Begun, KeepsPolled, Goes}, Loops.{Fits, AllFit}, Records.{text_of}, Rows.{Proxy, unused}, Serving.{IsOfLoop, IsCutShort, IsStill, FinishesTurn, CutsTurn, TurnsTo, TurnStops}, Turns.{so_far, happened, turned, turned_by, behind_all, record_of, timed_of, text_behind}, Underway.{OnWire, IsPolledOn}, Waiting.{waits}}
+use Rattle.hc_proxy.specs.{declared.stop.Stop.{Stop}, Carrying.{acts_in, carried}, Endings.{was_sent}, Handling.{begun}, Invariants.{AreServed, last_event}, Keeping.{Frame, Turn, Begun, KeepsPolled, Goes}, Loops.{Fits, AllFit}, Records.{text_of}, Rows.{Proxy, unused}, Serving.{IsOfLoop, IsCutShort, IsStill, FinishesTurn, CutsTurn, TurnsTo, TurnStops}, Turns.{so_far, happened, turned, turned_by, behind_all, behind_calls, record_of, timed_of, text_behind}, Underway.{OnWire, IsPolledOn}, Waiting.{waits}}
 use Rattle.hc_proxy.proofs.{Fitting.{dialled_all, fits_now}, Folds.{turned_more, fit_more}, Later.{carried_is_same}, LetGo.{AreGone, turns_gone, unused_gone}, Marked.{contained_among}, MoreDials.{turn_same, turns_same, fits_same, all_fit}, Openings.{StandsKnown, unused_known, turns_know}, Parts.{turn_part}, SentStill.{sent_still}, ServedTurn.{WellHeld, happened_served}, SkippedSteps.{among}, Stands.{turn_goes, unused_stands}, StepOn.{stands_of}, Texts.{record_more}}
 use Rattle.hc_proxy.proofs.TurnBegins as begins
 use Rattle.hc_peers.proofs.Outcomes.{err-map, if_ok-map}
@@ -52,6 +52,13 @@ module _ (limits : Limits) (log : Log) (p : Proxy) (call : Called) (l : IsOfLoop
         ∙ (turned_more limits (log.dialled ++ more) log.calls call unused
         ∙ (ap (turned limits (log.dialled ++ more) call) behind_same ∙ turn_same limits log.dialled more call p enough)))
 
+    -- the turns before are those of the log as it was
+    pub before_on : behind_calls limits log' (length log.calls) ≡ p
+    before_on =
+        ap (λ ks. turned_by limits ks (take (length log.calls) log'.calls) unused) dialled
+        ∙ (ap (λ cs. turned_by limits (log.dialled ++ more) cs unused) (ap (take (length log.calls)) calls ∙ (take-append-le (length log.calls) log.calls (call ∷ []) (omega arith) ∙ take_all (length log.calls) log.calls (omega arith)))
+        ∙ behind_same)
+
     pub fit_on : AllFit limits log'.dialled unused log'.calls
     fit_on =
         subst (λ ks. AllFit limits ks unused log'.calls) (sym dialled)
@@ -59,6 +66,37 @@ module _ (limits : Limits) (log : Log) (p : Proxy) (call : Called) (l : IsOfLoop
         (fit_more limits (log.dialled ++ more) log.calls call unused
         (all_fit limits log.dialled more log.calls unused (unused_stands limits) enough_behind l.fit)
         (subst (λ (r : Proxy). Fits limits (log.dialled ++ more) r call) (sym behind_same) (fits_same limits log.dialled more call p enough fits))))
+
+-- BETWEEN TURNS
+
+module _ {B : Type 0} {g : Ghosts B} (n : ℕ) (f : Frame) (x : loop.Proxy B g) (p : Proxy) (log : Log) (told : Option Log) (stages : ℕ → Stage) (s : IsStill n f x p log told stages) where
+  -- what is written is the record of the turns before
+  written_so : f.written ≡ record_of p
+  written_so = sym (s.rests.cache.text ∙ (ap (λ (z : List ℕ). f.written ++ z) s.written ∙ append-nil f.written))
+
+  -- the next call fails
+  pub stops_before : (told' : Option Log) → told' ≡ told → (out : Option (List ℕ)) → TurnStops f p log x x told' out out
+  stops_before told' same out = record {
+    log' = log;
+    told_is = subst (λ (z : Option Log). (z ≡ None) ⊎ (z ≡ Some log)) (sym same) s.follows.told_is;
+    bound = refl;
+    calls = omega arith;
+    goes = λ none l. record {
+      is_log = record {
+        fit = l.fit;
+        sent = subst (λ (r : Proxy). list_all (was_sent log.dialled r) log.takers ≡ true) l.tables l.sent;
+        dialled = let same = s.rests.opened in subst (λ (r : Proxy). length log.dialled ≤ r.tables.opened) l.tables (omega arith);
+      };
+      turns = length log.calls;
+      all_but_one = omega arith;
+      written_is = written_so ∙ ap record_of (l.tables ∙ sym (ap (λ cs. turned_by f.limits log.dialled cs unused) (take_all (length log.calls) log.calls (omega arith))));
+      text = [];
+      takes = record { front = []; rest = []; whole = refl; takes = takes_none out };
+      record_is = ap record_of (sym l.tables) ∙ (s.rests.cache.text ∙ ap (λ (z : List ℕ). f.written ++ z) s.written);
+    };
+  }
+
+-- A TURN
 
 module _ {B : Type 0} {g : Ghosts B} (n : ℕ) (f : Frame) (x : loop.Proxy B g) (p : Proxy) (log : Log) (told told' : Option Log) (stages stages' : ℕ → Stage) (s : IsStill n f x p log told stages)
     (wait : Bool) (moment : ℕ) (what : WireEvent) (slice : List ℕ) (of_open : IsOfOpen what stages) (stand : (k : ℕ) → stages' k ≡ stages_after what stages k) (fits : FitsIn what 16384) (early : moment < 2 ^ 62) (many : n + 1 ≤ 2 ^ 45)
@@ -125,6 +163,9 @@ module _ {B : Type 0} {g : Ghosts B} (n : ℕ) (f : Frame) (x : loop.Proxy B g) 
   enough : p.tables.opened ≤ length log.dialled
   enough = let is = s.rests.opened in omega arith
 
+  written_now : f.written ≡ record_of p
+  written_now = written_so n f x p log told stages s
+
   module _ (l : IsOfLoop f.limits log p) where
     known : StandsKnown f.limits p
     known = subst (StandsKnown f.limits) (sym l.tables) (turns_know f.limits log.dialled log.calls unused (unused_known f.limits))
@@ -155,6 +196,9 @@ module _ {B : Type 0} {g : Ghosts B} (n : ℕ) (f : Frame) (x : loop.Proxy B g) 
                 let same = s.rests.opened in
                 subst (λ (r : Proxy). length log.dialled ≤ r.tables.opened) (sym is) (omega arith);
           };
+          turns = length log.calls;
+          all_but_one = let is = length-append log.calls (call ∷ []) in omega arith;
+          written_is = written_now ∙ ap record_of (sym (before_on f.limits log p call l enough call_fits [] log' refl (sym (append-nil log.dialled))));
           text = more.0;
           takes = record { front = []; rest = more.0; whole = refl; takes = takes_none out };
           record_is =
@@ -162,19 +206,6 @@ module _ {B : Type 0} {g : Ghosts B} (n : ℕ) (f : Frame) (x : loop.Proxy B g) 
               ∙ (ap (λ (h : History). text_behind 0 (map timed_of (reverse h))) part.first
               ∙ (more.1 ∙ ap (λ (z : List ℕ). z ++ more.0) (s.rests.cache.text ∙ (ap (λ (z : List ℕ). f.written ++ z) s.written ∙ append-nil f.written))));
         }
-
-    -- before the call
-    pub cut_before : (out : Option (List ℕ)) → IsCutShort f.limits log f.written out out
-    cut_before out = record {
-      is_log = record {
-        fit = l.fit;
-        sent = subst (λ (r : Proxy). list_all (was_sent log.dialled r) log.takers ≡ true) l.tables l.sent;
-        dialled = let same = s.rests.opened in subst (λ (r : Proxy). length log.dialled ≤ r.tables.opened) l.tables (omega arith);
-      };
-      text = [];
-      takes = record { front = []; rest = []; whole = refl; takes = takes_none out };
-      record_is = ap record_of (sym l.tables) ∙ (s.rests.cache.text ∙ ap (λ (z : List ℕ). f.written ++ z) s.written);
-    }
 
   -- memory was wanting before anything was written
   pub stops_early : (x1 : loop.Proxy B g) (out : Option (List ℕ)) → TurnStops f p log x x1 told' out out
@@ -216,6 +247,9 @@ module _ {B : Type 0} {g : Ghosts B} (n : ℕ) (f : Frame) (x : loop.Proxy B g) 
                 sent = subst (λ (r : Proxy). list_all (was_sent c.log'.dialled r) c.log'.takers ≡ true) (sym is) (c.sent sent_here);
                 dialled = subst (λ (r : Proxy). length c.log'.dialled ≤ r.tables.opened) (sym is) (let le = c.few in let t = ap (λ (u : _). u.opened) same.tables in omega arith);
               };
+              turns = length log.calls;
+              all_but_one = let is = calls_on c.log' c.calls in omega arith;
+              written_is = written_now ∙ ap record_of (sym (before_on f.limits log p call l enough call_fits c.more c.log' c.calls c.dialled));
               text = text_of y.record;
               takes = c.takes;
               record_is = ap record_of is ∙ (ap (λ (h : History). text_behind 0 (map timed_of (reverse h))) same.history ∙ goes.keeps.keeps.cache.text);

@@ -1,5 +1,5 @@
 -- What came of the serving loop, by how it ended.
-use Rattle.std.specs.Prelude.{◌≡◌, ◌≤◌, ◌&&◌, ◌||◌, ◌==◌, nat_le, not, ℕ, List, [], length, take, bytes_eq, Bool, true, Option, Some, None}
+use Rattle.std.specs.Prelude.{◌≡◌, ◌≤◌, ◌+◌, ◌++◌, ◌&&◌, ◌||◌, ◌==◌, nat_le, not, ℕ, List, [], length, take, bytes_eq, Bool, true, Option, Some, None}
 use Rattle.std.specs.List.{list_all}
 use Rattle.hc_io.specs.Sink.{Takes, TakesFront}
 use Rattle.hc_rules.specs.declared.room.Limits.{Limits}
@@ -10,7 +10,7 @@ use Rattle.hc_proxy.specs.Connections.{exchange_of}
 use Rattle.hc_proxy.specs.Loops.{AllFit}
 use Rattle.hc_proxy.specs.Rows.{Client, Upstream, Proxy, unused}
 use Rattle.hc_proxy.specs.Sending.{all_is_sent}
-use Rattle.hc_proxy.specs.Turns.{behind_all, record_of}
+use Rattle.hc_proxy.specs.Turns.{behind_all, behind_calls, record_of}
 
 -- WHAT WAS SENT
 
@@ -59,21 +59,28 @@ pub record IsFinished (log : Log) (p : Proxy) : Type 0 where
 
 -- HOW IT ENDS
 
+-- The record of all turns but the last was taken whole, and then some first part of the record of the last.
+pub record TakesTurns (limits : Limits) (log : Log) (out out' : Option (List ℕ)) : Type 0 where
+  pub turns : ℕ
+  pub all_but_one : length log.calls ≤ turns + 1
+  pub between : Option (List ℕ)
+  pub earlier : Takes out between (record_of (behind_calls limits log turns))
+  pub last : List ℕ
+  pub part : TakesFront between out' last
+  pub record_is : record_of (behind_all limits log) ≡ record_of (behind_calls limits log turns) ++ last
+
 pub data Serves (limits : Limits) (turns : ℕ) (log : Log) (out out' : Option (List ℕ))
     : Ended → Type 0 where
   -- so many turns were made, and their record was taken
   done : IsLog limits log → length log.calls ≡ turns → IsFinished log (behind_all limits log) →
       Takes out out' (record_of (behind_all limits log)) →
       Serves limits turns log out out' ended.Done
-  -- no more than so many were, the last may be cut short, and some first part of their record was taken
-  unwired : IsLog limits log → length log.calls ≤ turns →
-      TakesFront out out' (record_of (behind_all limits log)) →
+  -- no more than so many were, and the last may be cut short: of its record alone something may be lacking
+  unwired : IsLog limits log → length log.calls ≤ turns → TakesTurns limits log out out' →
       Serves limits turns log out out' ended.WireFailed
-  unwritten : IsLog limits log → length log.calls ≤ turns →
-      TakesFront out out' (record_of (behind_all limits log)) →
+  unwritten : IsLog limits log → length log.calls ≤ turns → TakesTurns limits log out out' →
       Serves limits turns log out out' ended.SinkFailed
-  wanting : IsLog limits log → length log.calls ≤ turns →
-      TakesFront out out' (record_of (behind_all limits log)) →
+  wanting : IsLog limits log → length log.calls ≤ turns → TakesTurns limits log out out' →
       Serves limits turns log out out' ended.NoMemory
 
 -- no input is read, so it neither fails nor is refused

@@ -16,12 +16,13 @@ use Rattle.hc_proxy.specs.declared.stop.Stop.TheVariants as stop
 use Rattle.hc_proxy.specs.Endings.{IsFresh, IsLog, Serves, SentOn, was_sent}
 use Rattle.hc_proxy.specs.Carrying.{carried}
 use Rattle.hc_proxy.specs.Keeping.{Frame, Turn}
+use Rattle.hc_proxy.specs.Laws.{IsRunOfLoop}
 use Rattle.hc_proxy.specs.Logging.{Follows}
 use Rattle.hc_proxy.specs.Loops.{AllFit}
 use Rattle.hc_proxy.specs.Records.{text_of}
 use Rattle.hc_proxy.specs.Resting.{Rests, IsWithin}
 use Rattle.hc_proxy.specs.Rows.{Proxy, unused}
-use Rattle.hc_proxy.specs.Turns.{behind_all, record_of}
+use Rattle.hc_proxy.specs.Turns.{behind_all, behind_calls, record_of}
 use Rattle.hc_proxy.specs.Waiting.{waits}
 
 -- THE LOG
@@ -32,9 +33,13 @@ pub record IsOfLoop (limits : Limits) (log : Log) (p : Proxy) : Type 0 where
   pub tables : p ≡ behind_all limits log
   pub sent : list_all (was_sent log.dialled p) log.takers ≡ true
 
--- The last turn was cut short: so much was written before it, and some first part of the rest since.
+-- The last turn was cut short: what was written before it is the record of the turns before, and some first part of the
+-- rest was written since.
 pub record IsCutShort (limits : Limits) (log : Log) (written : List ℕ) (out out' : Option (List ℕ)) : Type 0 where
   pub is_log : IsLog limits log
+  pub turns : ℕ
+  pub all_but_one : length log.calls ≤ turns + 1
+  pub written_is : written ≡ record_of (behind_calls limits log turns)
   pub text : List ℕ
   pub takes : TakesFront out out' text
   pub record_is : record_of (behind_all limits log) ≡ written ++ text
@@ -143,8 +148,10 @@ pub record EndsBy (limits : Limits) (turns : ℕ) (log : Log) (told : Option Log
   pub bound : log'.bound ≡ log.bound
   pub serves : Serves limits turns log' out out' end
 
--- the same of what the wire tells, if it tells anything: what was bound stays
+-- The same of what the wire tells, if it tells anything: what was bound stays, and what happened is a run, in which each
+-- consumer reads one answer whole.
 abbrev pub ServesAs : Limits → ℕ → Option Log → Option Log → Option (List ℕ) → Option (List ℕ) → Ended → Type 0
 ServesAs limits turns told None out out' end = Unit {0}
 ServesAs limits turns told (Some log) out out' end =
-    Serves limits turns log out out' end × IfSome told (λ old. log.bound ≡ old.bound)
+    Serves limits turns log out out' end × IsRunOfLoop limits (behind_all limits log)
+    × IfSome told (λ old. log.bound ≡ old.bound)

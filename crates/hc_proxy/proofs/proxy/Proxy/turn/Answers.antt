@@ -83,3 +83,10 @@ returns-in_err-happens-clause-err g c f p before s w =
     let many : n + 1 ≤ 2 ^ 45 = (let a = c.in_ok-moment.ensures.events in let b = c.in_ok-moment.ensures.in_all in omega arith) in
     on_err c.from_residual-in_err-happens.result _
     (goes.stops_early n f x p before told told' stages stages' s c.args.wait c.in_ok-moment.moment c.in_ok-moment.event c.next.new.into c.in_ok-moment.ensures.of_open c.in_ok-moment.ensures.stages fits c.in_ok-moment.ensures.moment many c.in_ok-moment.ensures.ok w c.happens.new.self (g.K.Sink.taken c.args.log.now))
+
+pub returns-in_err-moment-clause-err : goal.returns-in_err-moment-clause-err
+returns-in_err-moment-clause-err g c f p before s w =
+    let told = g.W.Wire.log c.args.wire.now in
+    let told' = g.W.Wire.log c.next.new.self in
+    on_err c.from_residual.result _
+    (goes.stops_before (g.W.Wire.events c.args.wire.now) f c.args.self.now p before told (g.W.Wire.stages c.args.wire.now) s told' c.in_err-moment.ensures.err (g.K.Sink.taken c.args.log.now))

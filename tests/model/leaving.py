@@ -14,12 +14,15 @@ def is_current(tables: Tables, stored: Representation) -> bool:
 
 
 def let_go(tables: Tables, number: int | None) -> None:
-    """No new consumer uses it from now on; those who read it read on."""
+    """No new consumer uses it from now on: who was let through starts over, and those who read it read on."""
     stored = tables.representations.get(number)
     if stored is None:
         return
     if is_current(tables, stored):
         del tables.current[stored.key]
+        for consumer in tables.of_key(stored.key):
+            if consumer.place is Place.LET_THROUGH:
+                stand_in_line(tables, consumer)
     if not stored.bound:
         _remove(tables, stored)
 

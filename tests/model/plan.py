@@ -55,8 +55,11 @@ Plan = GoPast | Fetch | Wait | Read | Fill | Miss
 
 
 def turn_of(tables: Tables, key: bytes, extra: Consumer | None = None) -> int | None:
-    """Who has the turn: whose exchange of the turn has no head, or else the least in line, this one counted as there too."""
-    waiting = tables.of_key(key)
+    """Who has the turn: whose exchange of the turn has no head, or else the least in line, this one counted as there too.
+
+    Who goes past the store, or is for what is stored alone, never has it.
+    """
+    waiting = [it for it in tables.of_key(key) if not it.wish.is_disabled and not it.wish.is_only]
     asking = [it.number for it in waiting if it.place is Place.ASKING]
     in_line = [it.number for it in waiting if it.place is Place.IN_LINE or it is extra]
     return next(iter(asking or in_line), None)
@@ -95,7 +98,16 @@ def _by_hole(stored: Representation, why: str, part: Interval | None) -> Plan:
     return Wait("busy", min(stored.bound)) if stored.bound else Fill(hole, part)
 
 
-def _by_wanted(consumer: Consumer, stored: Representation, why: str) -> Plan:
+def exclusive_writer_of(tables: Tables, stored: Representation) -> int | None:
+    """Who alone writes what is stored: as long as some of what it wants is missing, and no failure is due to it."""
+    if stored.exclusive is None:
+        return None
+    writer = tables.consumers[stored.exclusive]
+    left = (writer.offset, writer.part[1] if writer.part else stored.total)
+    return writer.number if writer.cause is None and stored.body.hole_in(left) else None
+
+
+def _by_wanted(tables: Tables, consumer: Consumer, stored: Representation, why: str) -> Plan:
     wanted, part = consumer.wish.range, None
     if wanted is not None:
         if stored.total is None:
@@ -105,8 +117,9 @@ def _by_wanted(consumer: Consumer, stored: Representation, why: str) -> Plan:
             return GoPast("unsatisfied")
     if stored.shared is not None:
         return Read(why, None) if wanted is None else Wait("busy", min(stored.bound))
-    if stored.exclusive is not None:
-        return Wait("busy", stored.exclusive)
+    exclusive = exclusive_writer_of(tables, stored)
+    if exclusive is not None:
+        return Wait("busy", exclusive)
     return _by_hole(stored, why, part)
 
 
@@ -117,7 +130,7 @@ def _by_current(tables: Tables, consumer: Consumer) -> Plan:
     if not vary.matches(stored.head, consumer.request.fields):
         return Fetch("vary")
     why = _why(tables, consumer, stored)
-    return Fetch("validate", is_conditional=True) if why is None else _by_wanted(consumer, stored, why)
+    return Fetch("validate", is_conditional=True) if why is None else _by_wanted(tables, consumer, stored, why)
 
 
 def _in_turn(tables: Tables, consumer: Consumer) -> Plan:

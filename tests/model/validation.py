@@ -3,7 +3,7 @@ from dataclasses import replace
 
 from dates import date_of
 from etags import are_strongly_equal, are_weakly_equal, one_etag
-from fields import Fields, are_within_limits, merged, values, with_value, without
+from fields import Fields, are_within_limits, first_value, merged, values, with_value, without
 from messages import StoredHead
 from ranges import Interval, written_content_range
 import cache_control
@@ -25,9 +25,9 @@ def conditions_for(head: StoredHead) -> Fields:
     found = []
     if one_etag(head.fields):
         found.append((b"if-none-match", values(head.fields, b"etag")[0]))
-    modified = values(head.fields, b"last-modified")
-    if len(modified) == 1 and date_of(modified[0]) is not None:
-        found.append((b"if-modified-since", modified[0]))
+    modified = first_value(head.fields, b"last-modified")
+    if modified is not None and date_of(modified) is not None:
+        found.append((b"if-modified-since", modified))
     return tuple(sorted(found))
 
 

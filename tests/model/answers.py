@@ -1,0 +1,162 @@
+"""Random heads of answers, and requests: mostly those that an origin and a caller would send, and some hostile ones."""
+import random
+
+from events import Head
+from fields import Field, Fields, first_value, merged
+from messages import Load, Request
+from ranges import FromTo, resolved
+from tables import Consumer, Exchange, Purpose, Tables
+
+CACHE_CONTROLS = [
+    b"max-age=60", b"max-age=10", b"max-age=0", b"no-cache", b"no-store", b"max-age=60, must-revalidate", b"max-age=5, must-revalidate",
+    b"private, max-age=30", b"max-age=x", b"max-age", b'max-age="20"', b"MAX-AGE=15", b'foo="a, no-store", max-age=7', b"max-age=9999999999",
+    b"no-cache=set-cookie, max-age=60", b"s-maxage=9", b"max-age=5, max-age=100", b", ,max-age=8", b"max-age = 5", b"max-age=",
+    b'ext="a\\"b, no-store", max-age=40', b"no-store=1", b"max-age=2147483648", b"must-revalidate", b"max-age='5'", b'max-age="', b'max-age="1\\2"',
+]
+ASKED_CONTROLS = [
+    b"no-cache", b"no-store", b"max-age=0", b"max-age=5", b"max-age=100", b"min-fresh=10", b"min-fresh=x", b"max-stale", b"max-stale=5",
+    b"max-stale=100", b"max-stale=x", b"only-if-cached", b"max-age=x", b"foo", b"max-stale=", b'max-stale="7"', b"only-if-cached, max-stale",
+    b"min-fresh=0", b"max-age=99999999999, max-stale=9", b"max-stale, max-age=3",
+]
+TAGS = [b'"a"', b'"a"', b'"a"', b'"b"', b'W/"a"', b"a", b'""', b'"a', b'w/"a"', b'W/"b"', b'"a b"', b'"\xe9"', b'"a\\"']
+DATES = [
+    b"Thu, 01 Jan 1970 00:16:40 GMT", b"Thu, 01 Jan 1970 00:10:00 GMT", b"Thursday, 01-Jan-70 00:16:50 GMT", b"Thu Jan  1 00:17:00 1970", b"0",
+    b"Thu, 01 Jan 1970 00:18:20 GMT", b"Fri, 01 Jan 1970 00:16:40 GMT", b"", b"Thu, 01 Jan 1970 00:17:10 gmt", b"Thu, 01 Jan 1970 00:16:60 GMT",
+    b"Sun, 06 Nov 1994 08:49:37 GMT", b"Sunday, 06-Nov-94 08:49:37 GMT", b"Thu, 01 Jan 1970 00:00:00 GMT", b"Tue, 31 Feb 2020 00:00:00 GMT",
+    b"Thu, 1 Jan 1970 00:16:40 GMT", b"Tue, 01 Jan 2069 00:00:00 GMT", b"Tuesday, 01-Jan-69 00:00:00 GMT",
+]
+RANGES = [
+    b"bytes=0-1", b"bytes=0-2", b"bytes=2-3", b"bytes=1-", b"bytes=-2", b"bytes=0-", b"bytes=3-5", b"bytes=4-9", b"bytes=9-", b"bytes=-0",
+    b"bytes=5-2", b"bytes=0-1,3-4", b"BYTES=1-2", b"bytes= 1-2", b"bytes=00-03", b"items=0-1", b"bytes=-99", b"bytes=0-0", b"bytes=",
+    b"bytes=4611686018427387904-", b"bytes=0-4611686018427387904", b"bytes=1-99999999999999999999", b"bytes=-4611686018427387904", b"bytes=-",
+]
+LENGTHS = [b"6", b"5, 5", b"x", b"", b",", b"06", b"-1", b"6, 7", b"+6", b"4611686018427387904", b"99999999999999999999", b'"6"', b"6 6"]
+PARTS = [
+    b"bytes 0-2/6", b"bytes 3-5/6", b"bytes 0-5/6", b"bytes 0-2/*", b"bytes */6", b"bytes 0-9/6", b"bytes 2-1/6", b"BYTES 0-1/6", b"bytes 0-2/6 ",
+    b"bytes  0-2/6", b"items 0-2/6", b"bytes 00-02/06", b"bytes 0-2/3", b"bytes=0-2/6", b"bytes 0-4611686018427387904/*", b"bytes 1-1/2",
+]
+VARIES = [b"accept", b"Accept", b"*", b"accept, x-a", b"range", b"if-none-match", b"", b",", b"a b", b"x-b", b'"accept"', b"accept, *", b"if-range"]
+ACCEPTS = [b"a", b"b", b"a, b", b""]
+TOTALS = [0, 1, 2, 3, 4, 6, 6, 6, 6, 9, 12]
+STATUSES = [200, 200, 200, 200, 203, 204, 206, 301, 304, 404, 416, 500, 503, 599, 400, 399]
+
+
+class Chance(random.Random):
+    def one_in(self, count: int) -> bool:
+        return self.randrange(count) == 0
+
+    def maybe(self, name: bytes, found: list[bytes], one_in: int) -> list[Field]:
+        """A field with one of these values, now and then twice."""
+        if not self.one_in(one_in):
+            return []
+        return [(name, self.choice(found)) for _ in range(2 if self.one_in(12) else 1)]
+
+
+def clean(fields: list[Field]) -> Fields:
+    """Sorted by name, and as a schedule may have them."""
+    return tuple(sorted(((name, value.strip(b" \t")) for name, value in fields), key=lambda it: it[0]))
+
+
+def request_of(chance: Chance, key: bytes, is_conditional: bool) -> Request:
+    method = chance.choice([b"GET"] * 24 + [b"HEAD", b"POST", b"get", b"OPTIONS", b"PUT", b"TRACE"])
+    load = chance.choice([Load.NORMAL] * 12 + list(Load))
+    fields = chance.maybe(b"range", RANGES[:7] if chance.one_in(2) else RANGES, 3)
+    fields += chance.maybe(b"cache-control", ASKED_CONTROLS, 6) + chance.maybe(b"pragma", [b"no-cache", b"x", b"No-Cache=1"], 40)
+    fields += chance.maybe(b"accept", ACCEPTS, 4) + chance.maybe(b"x-a", ACCEPTS, 8)
+    rare = 2 if is_conditional else 60
+    fields += chance.maybe(b"if-none-match", LISTS, rare) + chance.maybe(b"if-modified-since", DATES, 2 * rare)
+    if is_conditional and not chance.one_in(8):
+        fields = [it for it in fields if it[0] != b"range"]
+    fields += chance.maybe(b"if-match", TAGS, 150) + chance.maybe(b"if-range", TAGS, 150) + chance.maybe(b"if-unmodified-since", DATES, 150)
+    return Request(method, load, key, clean(fields + many(chance, 60)))
+
+
+LISTS = TAGS + [b"*", b'"a", "b"', b'W/"b" , "a"', b',"a"', b'"b"', b'"b","c"', b"*, \"a\"", b'"a" "b"', b", ", b'"x",', b"a, b", b'"a,b"', b"**"]
+
+
+def many(chance: Chance, one_in: int) -> list[Field]:
+    """So many fields, or such long ones, that an update may pass a limit."""
+    if not chance.one_in(one_in):
+        return []
+    if chance.one_in(2):
+        return [(b"y%02d" % it, b"v") for it in range(chance.choice([30, 50, 58]))]
+    return [(chance.choice([b"z1", b"z2", b"z3"]), b"v" * 8000) for _ in range(chance.choice([1, 2, 3]))]
+
+
+def _told(chance: Chance, tag: list[bytes]) -> list[Field]:
+    fields = [(b"cache-control", b"max-age=60")] if chance.one_in(2) else chance.maybe(b"cache-control", CACHE_CONTROLS, 2)
+    fields += chance.maybe(b"age", [b"0", b"5", b"30", b"x", b"99999999999", b"-1", b"5, 6"], 12) + chance.maybe(b"date", DATES, 8)
+    fields += chance.maybe(b"expires", DATES, 8) + chance.maybe(b"last-modified", DATES, 6) + chance.maybe(b"vary", VARIES, 10)
+    fields += chance.maybe(b"accept-ranges", [b"none", b"bytes", b"None", b"none, bytes", b"x"], 14) + chance.maybe(b"pragma", [b"no-cache"], 50)
+    fields += chance.maybe(b"x-c", ACCEPTS, 8) + chance.maybe(b"connection", [b"close", b"x-c"], 30) + chance.maybe(b"content-encoding", [b"gzip"], 30)
+    return fields + [(b"etag", it) for it in tag] + many(chance, 40)
+
+
+def _tag(chance: Chance) -> list[bytes]:
+    if not chance.one_in(5):
+        return [b'"a"']
+    return [chance.choice(TAGS) for _ in range(chance.choice([0, 1, 1, 1, 2]))]
+
+
+def _sized(chance: Chance, count: int) -> list[Field]:
+    if chance.one_in(9):
+        return chance.maybe(b"content-length", LENGTHS, 2)
+    return [(b"content-length", b"%d" % count)]
+
+
+def whole(chance: Chance, number: int, total: int) -> Head:
+    return Head(number, 200, clean(_told(chance, _tag(chance)) + _sized(chance, total)))
+
+
+def part(chance: Chance, number: int, low: int, end: int, total: int, tag: list[bytes]) -> Head:
+    fields = _told(chance, tag) + [(b"content-range", b"bytes %d-%d/%d" % (low, end - 1, total))]
+    if chance.one_in(3):
+        fields += _sized(chance, end - low)
+    return Head(number, 206, clean(fields))
+
+
+def _any(chance: Chance, number: int) -> Head:
+    fields = _told(chance, _tag(chance)) + chance.maybe(b"content-length", LENGTHS + [b"0", b"6", b"3"], 2)
+    return Head(number, chance.choice(STATUSES), clean(fields + chance.maybe(b"content-range", PARTS, 3)))
+
+
+def _not_modified(chance: Chance, number: int) -> Head:
+    tag = [] if chance.one_in(3) else _tag(chance)
+    fields = [it for it in _told(chance, tag) if not chance.one_in(3)]
+    return Head(number, 304, clean(fields))
+
+
+def _for_range(chance: Chance, consumer: Consumer, number: int, total: int) -> Head:
+    wanted = resolved(consumer.wish.range, total)
+    if not wanted:
+        return Head(number, 416, ((b"content-range", b"bytes */%d" % total),))
+    low, end = wanted
+    if chance.one_in(5):
+        end = chance.randint(low + 1, min(total, end + 1))
+    return part(chance, number, low, end, total, _tag(chance))
+
+
+def _for_hole(chance: Chance, tables: Tables, exchange: Exchange) -> Head:
+    stored = tables.representations[exchange.aim]
+    low, end = exchange.hole
+    if chance.one_in(6):
+        end = chance.randint(low + 1, end)
+    if chance.one_in(15):
+        low, end = max(0, low + chance.choice([-1, 1])), end + 1
+    total = stored.total if not chance.one_in(20) else stored.total + 1
+    tag = [first_value(stored.head.fields, b"etag")] if not chance.one_in(12) else _tag(chance)
+    return part(chance, exchange.number, low, max(end, low + 1), max(total, end, low + 1), tag)
+
+
+def head_for(chance: Chance, tables: Tables, exchange: Exchange, total: int) -> Head:
+    """Mostly what an origin would answer that has so many bytes."""
+    consumer = tables.consumers[exchange.consumer]
+    if chance.one_in(7):
+        return _any(chance, exchange.number)
+    if exchange.purpose is Purpose.HOLE and not chance.one_in(8):
+        return _for_hole(chance, tables, exchange)
+    if exchange.is_conditional and not chance.one_in(3):
+        return _not_modified(chance, exchange.number)
+    if consumer.wish.range is not None and not chance.one_in(4):
+        return _for_range(chance, consumer, exchange.number, total)
+    return whole(chance, exchange.number, total)

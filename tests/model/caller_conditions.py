@@ -11,8 +11,8 @@ OTHERS = (b"range", b"if-match", b"if-unmodified-since", b"if-range")
 
 
 def _is_list(told: list[bytes]) -> bool:
-    """One asterisk, or tags."""
-    return told == [b"*"] or all(etags_of(it) is not None for it in told)
+    """One asterisk, or one list of tags over all lines (section 5.3)."""
+    return told == [b"*"] or etags_of(b",".join(told)) is not None
 
 
 def is_conditional(request: Request) -> bool:
@@ -25,7 +25,7 @@ def is_conditional(request: Request) -> bool:
     tags, dates = values(fields, b"if-none-match"), values(fields, b"if-modified-since")
     if not tags and not dates:
         return False
-    return _is_list(tags) and (not dates or len(dates) == 1 and date_of(dates[0]) is not None)
+    return (not tags or _is_list(tags)) and (not dates or len(dates) == 1 and date_of(dates[0]) is not None)
 
 
 def without_conditions(request: Request) -> Request:
@@ -36,7 +36,7 @@ def _is_listed(tag: Etag | None, told: list[bytes]) -> bool:
     """Section 13.1.2."""
     if told == [b"*"]:
         return True
-    return tag is not None and any(are_weakly_equal(tag, it) for text in told for it in etags_of(text) or [])
+    return tag is not None and any(are_weakly_equal(tag, it) for it in etags_of(b",".join(told)) or [])
 
 
 def holds(request: Request, status: int, fields: Fields) -> bool:

@@ -40,7 +40,7 @@ def _found(tables: Tables, consumer: Consumer, exchange: Exchange, acts: list[Ac
     tables.weight += stored.weight
     exchange.writes = stored.number
     consumer.place, consumer.why, consumer.held_by = Place.BOUND, f"fetched:{exchange.number}", None
-    bind(consumer, stored)
+    bind(tables, consumer, stored)
     return stored
 
 

@@ -1,13 +1,14 @@
 """Images: what a store has, as a text."""
-from dataclasses import dataclass
+from collections import Counter
+from dataclasses import dataclass, field
 
 from bodies import Body, Run
 from cache import Cache
 from events import Cancel
-from leaving import refuses_ranges
 from records import Record, line_of, numbers_of, read_record, text_of_record
 from schedule import Lines, NoTarget, OffGrammar, Refused, number, target
-from tables import MOST_BODY, MOST_STORED, SLOT, Representation, Tables
+from tables import MOST_BODY, MOST_STORED, Representation, Tables
+from validation import NOT_STORED
 
 
 class BadImage(Exception):
@@ -43,7 +44,7 @@ def kind_of(stored: Representation) -> bytes:
     if stored.is_whole:
         return b"W"
     has_front = len(stored.body.runs) > 0 and stored.body.hole_in((0, stored.body.reach)) is None
-    return b"T" if has_front and stored.head.status == 200 else b"R"
+    return b"T" if has_front else b"R"
 
 
 def _item(stored: Representation) -> Item:
@@ -52,7 +53,7 @@ def _item(stored: Representation) -> Item:
 
 def contents_of(tables: Tables) -> Contents:
     """What is left once nobody is live."""
-    left = sorted((tables.representations[it] for it in tables.current.values()), key=lambda it: it.idle_since)
+    left = sorted((tables.representations[it] for it in tables.current.values()), key=lambda it: it.bound_last)
     return Contents(tables.now, tables.last, tables.next_exchange, tuple(_item(it) for it in left))
 
 
@@ -106,6 +107,9 @@ def read_image(text: bytes) -> tuple[Contents, int]:
     return Contents(now, last, next_exchange, items), lines.at
 
 
+MOST_EXCHANGES = 2**60
+
+
 def _representation(item: Item) -> Representation:
     body = Body()
     for run in item.runs:
@@ -114,43 +118,77 @@ def _representation(item: Item) -> Representation:
 
 
 def _are_runs(item: Item, next_exchange: int) -> bool:
-    """Bytes of earlier exchanges, none over another, and none behind the end."""
-    behind = 0
+    """Bytes of earlier exchanges, none over another or behind the end, as long as one exchange brought them."""
+    before: Run | None = None
     for run in item.runs:
-        if run.at < behind or not run.data or not 1 <= run.exchange < next_exchange:
+        if not run.data or not 1 <= run.exchange < next_exchange or before and run.at < before.end:
             return False
-        behind = run.end
-    return item.record.total is not None and behind <= item.record.total
+        if before and run.at == before.end and run.exchange == before.exchange:
+            return False
+        before = run
+    return before is None or before.end <= item.record.total
 
 
-def _is_completable(stored: Representation) -> bool:
-    return stored.head.tag is not None and not refuses_ranges(stored)
+def _is_fit_head(item: Item, now: int) -> bool:
+    head = item.record.head
+    is_told_anew = any(name in NOT_STORED for name, _ in head.fields)
+    return head.requested <= head.answered <= now and not is_told_anew and (head.status == 200 or head.tag is not None)
 
 
 def _is_fit(item: Item, contents: Contents) -> bool:
-    head = item.record.head
-    if not 1 <= item.number < contents.next_exchange or not _are_runs(item, contents.next_exchange):
+    """What holds of an item alone."""
+    if not 1 <= item.number < contents.next_exchange or item.record.total is None or not _is_fit_head(item, contents.now):
         return False
-    if not head.requested <= head.answered <= contents.now:
+    if not _are_runs(item, contents.next_exchange):
         return False
     stored = _representation(item)
-    return kind_of(stored) == item.record.kind and (stored.is_whole or _is_completable(stored))
+    is_completable = stored.is_whole or item.record.head.tag is not None
+    return kind_of(stored) == item.record.kind and is_completable and stored.body.size <= MOST_BODY
+
+
+@dataclass
+class Earlier:
+    """What the items before one have, and how many items of all have each number."""
+
+    founders: Counter[int]
+    keys: set[bytes] = field(default_factory=set)
+    numbers: set[int] = field(default_factory=set)
+    exchanges: set[int] = field(default_factory=set)
+
+    def is_alone(self, item: Item) -> bool:
+        """Whether its key, its number and the exchanges that brought it are no other item's."""
+        if item.key in self.keys or item.number in self.numbers:
+            return False
+        found = {run.exchange for run in item.runs}
+        return not found & self.exchanges and all(self.founders[it] == (it == item.number) for it in found)
+
+    def add(self, item: Item) -> None:
+        self.keys.add(item.key)
+        self.numbers.add(item.number)
+        self.exchanges |= {run.exchange for run in item.runs}
+
+
+def _check(contents: Contents) -> None:
+    earlier = Earlier(Counter(it.number for it in contents.items))
+    for place, item in enumerate(contents.items):
+        if not _is_fit(item, contents) or not earlier.is_alone(item):
+            raise BadContent(place)
+        earlier.add(item)
+    if not 1 <= contents.next_exchange <= MOST_EXCHANGES:
+        raise BadContent(len(contents.items))
 
 
 def tables_of(contents: Contents) -> Tables:
     """A cache that begins with these contents."""
-    if contents.next_exchange < 1:
-        raise BadContent(0)
+    _check(contents)
     tables = Tables(contents.now, contents.last, contents.next_exchange)
-    for place, item in enumerate(contents.items):
-        if item.key in tables.current or item.number in tables.representations or not _is_fit(item, contents):
-            raise BadContent(place)
+    for item in contents.items:
         stored = _representation(item)
-        tables.idles += 1
-        stored.idle_since = tables.idles
+        tables.bindings += 1
+        stored.bound_last = tables.bindings
         tables.representations[stored.number] = stored
         tables.current[stored.key] = stored.number
         tables.weight += stored.weight
-        if stored.body.size > MOST_BODY or tables.weight > MOST_STORED:
-            raise Full
+    if tables.weight > MOST_STORED:
+        raise Full
     return tables

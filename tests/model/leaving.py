@@ -27,9 +27,11 @@ def let_go(tables: Tables, number: int | None) -> None:
         _remove(tables, stored)
 
 
-def bind(consumer: Consumer, stored: Representation) -> None:
+def bind(tables: Tables, consumer: Consumer, stored: Representation) -> None:
     consumer.representation = stored.number
     stored.bound.add(consumer.number)
+    tables.bindings += 1
+    stored.bound_last = tables.bindings
 
 
 def unbind(tables: Tables, consumer: Consumer) -> None:
@@ -40,12 +42,8 @@ def unbind(tables: Tables, consumer: Consumer) -> None:
     stored.bound.discard(consumer.number)
     if stored.exclusive == consumer.number:
         stored.exclusive = None
-    if not stored.bound:
-        if is_current(tables, stored):
-            tables.idles += 1
-            stored.idle_since = tables.idles
-        else:
-            _remove(tables, stored)
+    if not stored.bound and not is_current(tables, stored):
+        _remove(tables, stored)
 
 
 def stop_waiting(tables: Tables, consumer: Consumer) -> None:
@@ -128,7 +126,7 @@ def leave(tables: Tables, consumer: Consumer, acts: list[Act]) -> None:
 def _idle(tables: Tables) -> list[Representation]:
     """What may give way, in its order."""
     found = [stored for number in tables.current.values() if not (stored := tables.representations[number]).bound]
-    return sorted(found, key=lambda it: it.idle_since)
+    return sorted(found, key=lambda it: it.bound_last)
 
 
 def make_room(tables: Tables, more: int, acts: list[Act]) -> bool:

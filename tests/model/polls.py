@@ -71,12 +71,12 @@ def _carry_out(tables: Tables, consumer: Consumer, acts: list[Act]) -> None:
             acts.append(Pending(consumer.number, kind, whom))
         case Read(why, part):
             stop_waiting(tables, consumer)
-            bind(consumer, stored)
+            bind(tables, consumer, stored)
             consumer.place, consumer.why = Place.BOUND, why
             _start_reading(consumer, part)
             _show_stored(tables, consumer, acts)
         case Fill(hole, part):
-            bind(consumer, stored)
+            bind(tables, consumer, stored)
             consumer.place, stored.exclusive = Place.JOINING, consumer.number
             _start_reading(consumer, part)
             _open_hole(tables, consumer, stored, hole, acts)

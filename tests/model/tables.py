@@ -96,7 +96,7 @@ class Representation:
     shared: int | None = None  # the open exchange that writes for a writer group
     exclusive: int | None = None  # the consumer that alone writes
     is_lost: bool = False
-    idle_since: int = 0  # the least was bound for longest
+    bound_last: int = 0  # to the least nobody was newly bound for longest
 
     @property
     def weight(self) -> int:
@@ -119,7 +119,7 @@ class Tables:
     current: dict[bytes, int] = field(default_factory=dict)
     waiting: dict[bytes, set[int]] = field(default_factory=dict)  # by key: who isn't bound, past the store or over
     weight: int = 0
-    idles: int = 0  # how often a representation became idle
+    bindings: int = 0  # how often a consumer was bound
 
     def current_of(self, key: bytes) -> Representation | None:
         number = self.current.get(key)

@@ -12,7 +12,7 @@ _URL = re.compile(
 )
 _USER = re.compile(rb"[!$%&'()*+,\-.0-9A-Z_a-z~]*\Z")
 _DOMAIN = re.compile(rb"[!\"$&'()*+,\-.0-9;=_`a-z{}~]+\Z")
-_PATH = re.compile(rb"[!$%&'()*+,\-./0-9:;=@A-Z\[\]^_a-z|~]*\Z")
+_PATH = re.compile(rb"[!$%&'()*+,\-./0-9:;=@A-Z\[\]_a-z|~]*\Z")
 _QUERY = re.compile(rb"[!$%&()*+,\-./0-9:;=?@A-Z\[\\\]^_`a-z{|}~]*\Z")
 _DOTS = re.compile(rb"(?:\.|%2[eE]){1,2}\Z")
 _NUMBER = re.compile(rb"(?:[0-9]+|0[xX][0-9a-fA-F]*)\Z")

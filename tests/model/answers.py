@@ -1,5 +1,6 @@
 """Random heads of answers, and requests: mostly those that an origin and a caller would send, and some hostile ones."""
 import random
+from dataclasses import dataclass
 
 from events import Head
 from fields import Field, Fields, first_value, merged
@@ -41,15 +42,50 @@ TOTALS = [0, 1, 2, 3, 4, 6, 6, 6, 6, 9, 12]
 STATUSES = [200, 200, 200, 200, 203, 204, 206, 301, 304, 404, 416, 500, 503, 599, 400, 399]
 
 
+@dataclass(frozen=True)
+class Taste:
+    """What a schedule is about: the greater a number, the rarer what it is of."""
+
+    calm: int = 1  # odd fields, statuses and lengths
+    ranged: int = 3  # requests of a part
+    short_lived: int = 2  # heads that say something else than a minute
+    breaks: int = 12  # exchanges that end or fail early
+    waits: int = 12  # moments between events
+    keys: int = 4
+    live: int = 7  # consumers at once
+    total: int | None = None  # the same for all answers
+
+TASTES = [
+    Taste(),
+    Taste(calm=4),
+    Taste(calm=12, ranged=2, keys=1, total=12),
+    Taste(calm=12, ranged=2, keys=2, total=30, breaks=5, waits=60),
+    Taste(calm=12, ranged=9, keys=1, total=9, breaks=4, waits=40),
+    Taste(calm=8, ranged=4, short_lived=1, keys=2, total=6, waits=5),
+    Taste(calm=20, ranged=5, keys=1, total=40, breaks=40, waits=30),
+    Taste(calm=20, ranged=1, keys=1, total=40, breaks=6, waits=60, live=2),
+    Taste(calm=6, ranged=1, keys=1, total=20, breaks=9, waits=30, live=3),
+]
+
+
 class Chance(random.Random):
+    taste = Taste()
+
+    def draw_taste(self) -> None:
+        self.taste = self.choice(TASTES)
+
+    def is_odd(self, one_in: int) -> bool:
+        """Something that a calm schedule has seldom."""
+        return self.one_in(one_in * self.taste.calm)
+
     def one_in(self, count: int) -> bool:
         return self.randrange(count) == 0
 
     def maybe(self, name: bytes, found: list[bytes], one_in: int) -> list[Field]:
         """A field with one of these values, now and then twice."""
-        if not self.one_in(one_in):
+        if not self.is_odd(one_in):
             return []
-        return [(name, self.choice(found)) for _ in range(2 if self.one_in(12) else 1)]
+        return [(name, self.choice(found)) for _ in range(2 if self.is_odd(12) else 1)]
 
 
 def clean(fields: list[Field]) -> Fields:
@@ -57,17 +93,29 @@ def clean(fields: list[Field]) -> Fields:
     return tuple(sorted(((name, value.strip(b" \t")) for name, value in fields), key=lambda it: it[0]))
 
 
+def _range_of(chance: Chance) -> list[Field]:
+    if not chance.one_in(chance.taste.ranged) or chance.one_in(4):
+        return []
+    if chance.is_odd(2):
+        return [(b"range", chance.choice(RANGES)) for _ in range(2 if chance.is_odd(12) else 1)]
+    total = chance.taste.total or 6
+    low = chance.randrange(total)
+    return [(b"range", chance.choice([b"bytes=%d-%d" % (low, chance.randint(low, total)), b"bytes=%d-" % low, b"bytes=-%d" % (low + 1)]))]
+
+
 def request_of(chance: Chance, key: bytes, is_conditional: bool) -> Request:
-    method = chance.choice([b"GET"] * 24 + [b"HEAD", b"POST", b"get", b"OPTIONS", b"PUT", b"TRACE"])
-    load = chance.choice([Load.NORMAL] * 12 + list(Load))
-    fields = chance.maybe(b"range", RANGES[:7] if chance.one_in(2) else RANGES, 3)
-    fields += chance.maybe(b"cache-control", ASKED_CONTROLS, 6) + chance.maybe(b"pragma", [b"no-cache", b"x", b"No-Cache=1"], 40)
+    method = chance.choice([b"HEAD", b"POST", b"get", b"OPTIONS", b"PUT", b"TRACE"]) if chance.is_odd(5) else b"GET"
+    load = chance.choice(list(Load)) if chance.is_odd(3) or chance.one_in(12) else Load.NORMAL
+    fields = _range_of(chance)
+    fields += chance.maybe(b"cache-control", ASKED_CONTROLS, 5) + chance.maybe(b"pragma", [b"no-cache", b"x", b"No-Cache=1"], 40)
     fields += chance.maybe(b"accept", ACCEPTS, 4) + chance.maybe(b"x-a", ACCEPTS, 8)
-    rare = 2 if is_conditional else 60
-    fields += chance.maybe(b"if-none-match", LISTS, rare) + chance.maybe(b"if-modified-since", DATES, 2 * rare)
-    if is_conditional and not chance.one_in(8):
+    if is_conditional and not chance.one_in(3):
         fields = [it for it in fields if it[0] != b"range"]
-    fields += chance.maybe(b"if-match", TAGS, 150) + chance.maybe(b"if-range", TAGS, 150) + chance.maybe(b"if-unmodified-since", DATES, 150)
+        fields += [(b"if-none-match", chance.choice(LISTS)) for _ in range(chance.choice([0, 1, 1, 1, 1, 2]))]
+        fields += [(b"if-modified-since", chance.choice(DATES)) for _ in range(chance.choice([0, 0, 1, 1, 1, 1, 2]))]
+    for name in (b"if-none-match", b"if-match", b"if-range"):
+        fields += chance.maybe(name, TAGS, 150)
+    fields += chance.maybe(b"if-unmodified-since", DATES, 150) + chance.maybe(b"if-modified-since", DATES, 150)
     return Request(method, load, key, clean(fields + many(chance, 60)))
 
 
@@ -76,7 +124,7 @@ LISTS = TAGS + [b"*", b'"a", "b"', b'W/"b" , "a"', b',"a"', b'"b"', b'"b","c"', 
 
 def many(chance: Chance, one_in: int) -> list[Field]:
     """So many fields, or such long ones, that an update may pass a limit."""
-    if not chance.one_in(one_in):
+    if not chance.is_odd(one_in):
         return []
     if chance.one_in(2):
         return [(b"y%02d" % it, b"v") for it in range(chance.choice([30, 50, 58]))]
@@ -84,7 +132,9 @@ def many(chance: Chance, one_in: int) -> list[Field]:
 
 
 def _told(chance: Chance, tag: list[bytes]) -> list[Field]:
-    fields = [(b"cache-control", b"max-age=60")] if chance.one_in(2) else chance.maybe(b"cache-control", CACHE_CONTROLS, 2)
+    fields = [(b"cache-control", b"max-age=60")] if chance.one_in(2) else []
+    if not fields and chance.one_in(chance.taste.short_lived):
+        fields = [(b"cache-control", chance.choice(CACHE_CONTROLS if chance.is_odd(1) else CACHE_CONTROLS[:7]))]
     fields += chance.maybe(b"age", [b"0", b"5", b"30", b"x", b"99999999999", b"-1", b"5, 6"], 12) + chance.maybe(b"date", DATES, 8)
     fields += chance.maybe(b"expires", DATES, 8) + chance.maybe(b"last-modified", DATES, 6) + chance.maybe(b"vary", VARIES, 10)
     fields += chance.maybe(b"accept-ranges", [b"none", b"bytes", b"None", b"none, bytes", b"x"], 14) + chance.maybe(b"pragma", [b"no-cache"], 50)
@@ -93,13 +143,13 @@ def _told(chance: Chance, tag: list[bytes]) -> list[Field]:
 
 
 def _tag(chance: Chance) -> list[bytes]:
-    if not chance.one_in(5):
+    if not chance.is_odd(5):
         return [b'"a"']
     return [chance.choice(TAGS) for _ in range(chance.choice([0, 1, 1, 1, 2]))]
 
 
 def _sized(chance: Chance, count: int) -> list[Field]:
-    if chance.one_in(9):
+    if chance.is_odd(9) or chance.one_in(9):
         return chance.maybe(b"content-length", LENGTHS, 2)
     return [(b"content-length", b"%d" % count)]
 
@@ -141,19 +191,19 @@ def _for_hole(chance: Chance, tables: Tables, exchange: Exchange) -> Head:
     low, end = exchange.hole
     if chance.one_in(6):
         end = chance.randint(low + 1, end)
-    if chance.one_in(15):
+    if chance.is_odd(15):
         low, end = max(0, low + chance.choice([-1, 1])), end + 1
-    total = stored.total if not chance.one_in(20) else stored.total + 1
-    tag = [first_value(stored.head.fields, b"etag")] if not chance.one_in(12) else _tag(chance)
+    total = stored.total if not chance.is_odd(20) else stored.total + 1
+    tag = [first_value(stored.head.fields, b"etag")] if not chance.is_odd(12) else _tag(chance)
     return part(chance, exchange.number, low, max(end, low + 1), max(total, end, low + 1), tag)
 
 
 def head_for(chance: Chance, tables: Tables, exchange: Exchange, total: int) -> Head:
     """Mostly what an origin would answer that has so many bytes."""
     consumer = tables.consumers[exchange.consumer]
-    if chance.one_in(7):
+    if chance.is_odd(7) or chance.one_in(40):
         return _any(chance, exchange.number)
-    if exchange.purpose is Purpose.HOLE and not chance.one_in(8):
+    if exchange.purpose is Purpose.HOLE and not chance.is_odd(8):
         return _for_hole(chance, tables, exchange)
     if exchange.is_conditional and not chance.one_in(3):
         return _not_modified(chance, exchange.number)

@@ -4,7 +4,8 @@ from collections.abc import Callable, Iterator
 
 import program
 from answers import Chance
-from generator import KINDS, Case
+from cases import Case
+from generator import KINDS
 
 Outcome = tuple[int, bytes, bytes]  # status, output, diagnostics
 Runner = Callable[[Case], Outcome]

@@ -3,29 +3,18 @@ from collections.abc import Callable
 from dataclasses import dataclass, field
 
 import images
+import large
 from answers import TOTALS, Chance, head_for, request_of
 from cache import Cache
+from cases import Case
 from events import Act, Cancel, Doom, End, Event, Fault, Head, Piece, Poll, Start
 from fetch import Fetch
 from front import Front
 from tables import Consumer, Exchange, Tables
 from texts import text_of_event, text_of_moment
 
-KEYS = [b"http://a.test/x", b"http://a.test/x", b"http://a.test/y", b"https://b.test/z?q"]
+KEYS = [b"http://a.test/x", b"http://a.test/y", b"https://b.test/z?q", b"http://a.test/x"]
 Step = Callable[[int, Event], object]
-
-
-@dataclass(frozen=True)
-class Case:
-    """Words of the program and its input, with how many events that has."""
-
-    words: tuple[str, ...]
-    items: tuple[bytes, ...]
-    events: int
-
-    @property
-    def text(self) -> bytes:
-        return b"".join(self.items)
 
 
 @dataclass
@@ -42,7 +31,7 @@ class Play:
     events: int = 0
 
     def pass_time(self) -> None:
-        if self.chance.one_in(12):
+        if self.chance.one_in(self.chance.taste.waits):
             self.now += self.chance.choice([1, 1, 2, 5, 9, 10, 19, 20, 21, 60])
             self.items.append(text_of_moment(self.now))
 
@@ -59,7 +48,7 @@ class Play:
 
     def start(self) -> Event:
         number = self.tables.last + (1 if not self.chance.one_in(30) else self.chance.choice([0, 2, 5]))
-        key = self.chance.choice(KEYS)
+        key = self.chance.choice(KEYS[: self.chance.taste.keys])
         return Start(number, request_of(self.chance, key, self.is_conditional))
 
     def poll(self, consumer: Consumer) -> Event:
@@ -79,10 +68,12 @@ class Play:
         exchange = self.chance.choice(wanted)
         if exchange.has_head:
             is_unknown = exchange.length.promise is None
-            if self.chance.one_in(3 if is_unknown else 12):
-                return self.chance.choice([End, End, Fault])(exchange.number)
+            if self.chance.one_in(3 if is_unknown else self.chance.taste.breaks):
+                return self.chance.choice([End, Fault])(exchange.number)
             return self.piece(exchange)
-        return Fault(exchange.number) if self.chance.one_in(20) else head_for(self.chance, self.tables, exchange, self.chance.choice(TOTALS))
+        if self.chance.one_in(20):
+            return Fault(exchange.number)
+        return head_for(self.chance, self.tables, exchange, self.chance.taste.total or self.chance.choice(TOTALS))
 
     def hostile(self) -> Event:
         """Some of these are denied."""
@@ -98,10 +89,12 @@ class Play:
 
     def event(self) -> Event:
         drawn, live = self.chance.randrange(100), self.live()
-        if self.has_starts and (drawn < 14 and len(live) < 7 or not live):
+        if self.has_starts and (drawn < 14 and len(live) < self.chance.taste.live or not live):
             return self.start()
-        if drawn < 60 and live:
+        if drawn < 58 and live:
             return self.poll(self.chance.choice(live))
+        if drawn < 61 and live and self.has_starts:
+            return Cancel(self.chance.choice(live).number)
         if drawn < 95:
             found = self.network()
             if found:
@@ -153,10 +146,13 @@ def _ended(chance: Chance, play: Play) -> tuple[bytes, ...]:
 
 
 def _size(chance: Chance) -> int:
+    chance.draw_taste()
     return chance.choice([20, 60, 100, 100, 160])
 
 
 def replay_case(chance: Chance) -> list[Case]:
+    if chance.one_in(150):
+        return large.crowd(chance)
     cache = Cache()
     play = Play(chance, cache.step, cache.tables)
     play.run(_size(chance))
@@ -185,6 +181,8 @@ def _mutated(chance: Chance, image: bytes) -> bytes:
 
 def save_case(chance: Chance) -> list[Case]:
     """A schedule that is saved, and one that goes on from what was."""
+    if chance.one_in(50):
+        return chance.choice([large.crowded_store, large.large_body, large.large_part])(chance)
     cache = Cache()
     play = Play(chance, cache.step, cache.tables)
     play.run(_size(chance))

@@ -1,6 +1,6 @@
 """What the events share: who leaves, what is closed, what goes and what gives way."""
 from events import Act, Closed, Evicted
-from fields import values
+from fields import all_elements
 from tables import MOST_BODY, MOST_STORED, Consumer, Exchange, Place, Representation, Tables
 
 
@@ -79,7 +79,7 @@ def fail_unshown(tables: Tables, consumer: Consumer, cause: str) -> None:
 
 def refuses_ranges(stored: Representation) -> bool:
     """RFC 9110 section 14.3."""
-    return any(it.lower() == b"none" for it in values(stored.head.fields, b"accept-ranges"))
+    return any(it.lower() == b"none" for it in all_elements(stored.head.fields, b"accept-ranges"))
 
 
 def _is_keepable(stored: Representation) -> bool:

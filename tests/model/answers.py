@@ -42,6 +42,9 @@ TOTALS = [0, 1, 2, 3, 4, 6, 6, 6, 6, 9, 12]
 STATUSES = [200, 200, 200, 200, 203, 204, 206, 301, 304, 404, 416, 500, 503, 599, 400, 399]
 
 
+BYTES = bytes(range(32, 127)) + b" ,,;=\"\"\\-/0019aA%:.\t\x00\n\x7f\x80\xc3\xff"
+
+
 @dataclass(frozen=True)
 class Taste:
     """What a schedule is about: the greater a number, the rarer what it is of."""
@@ -85,7 +88,22 @@ class Chance(random.Random):
         """A field with one of these values, now and then twice."""
         if not self.is_odd(one_in):
             return []
-        return [(name, self.choice(found)) for _ in range(2 if self.is_odd(12) else 1)]
+        return [(name, self.value(found)) for _ in range(2 if self.is_odd(12) else 1)]
+
+    def value(self, found: list[bytes]) -> bytes:
+        value = self.choice(found)
+        return clean_value(self.mutated(value)) if self.is_odd(9) else value
+
+    def mutated(self, text: bytes) -> bytes:
+        """A text with one byte more, less or otherwise."""
+        at = self.randrange(len(text) + 1)
+        byte = bytes([self.choice(BYTES)])
+        return self.choice([text[:at] + text[at + 1 :], text[:at] + byte + text[at:], text[:at] + byte + text[at + 1 :]])
+
+
+def clean_value(value: bytes) -> bytes:
+    """What a schedule may have as a value."""
+    return bytes(it for it in value if it == 9 or 32 <= it != 127).strip(b" \t")
 
 
 def clean(fields: list[Field]) -> Fields:
@@ -97,7 +115,7 @@ def _range_of(chance: Chance) -> list[Field]:
     if not chance.one_in(chance.taste.ranged) or chance.one_in(4):
         return []
     if chance.is_odd(2):
-        return [(b"range", chance.choice(RANGES)) for _ in range(2 if chance.is_odd(12) else 1)]
+        return [(b"range", chance.value(RANGES)) for _ in range(2 if chance.is_odd(12) else 1)]
     total = chance.taste.total or 6
     low = chance.randrange(total)
     return [(b"range", chance.choice([b"bytes=%d-%d" % (low, chance.randint(low, total)), b"bytes=%d-" % low, b"bytes=-%d" % (low + 1)]))]
@@ -111,8 +129,8 @@ def request_of(chance: Chance, key: bytes, is_conditional: bool) -> Request:
     fields += chance.maybe(b"accept", ACCEPTS, 4) + chance.maybe(b"x-a", ACCEPTS, 8)
     if is_conditional and not chance.one_in(3):
         fields = [it for it in fields if it[0] != b"range"]
-        fields += [(b"if-none-match", chance.choice(LISTS)) for _ in range(chance.choice([0, 1, 1, 1, 1, 2]))]
-        fields += [(b"if-modified-since", chance.choice(DATES)) for _ in range(chance.choice([0, 0, 1, 1, 1, 1, 2]))]
+        fields += [(b"if-none-match", chance.value(LISTS)) for _ in range(chance.choice([0, 1, 1, 1, 1, 2]))]
+        fields += [(b"if-modified-since", chance.value(DATES)) for _ in range(chance.choice([0, 0, 1, 1, 1, 1, 2]))]
     for name in (b"if-none-match", b"if-match", b"if-range"):
         fields += chance.maybe(name, TAGS, 150)
     fields += chance.maybe(b"if-unmodified-since", DATES, 150) + chance.maybe(b"if-modified-since", DATES, 150)
@@ -134,7 +152,7 @@ def many(chance: Chance, one_in: int) -> list[Field]:
 def _told(chance: Chance, tag: list[bytes]) -> list[Field]:
     fields = [(b"cache-control", b"max-age=60")] if chance.one_in(2) else []
     if not fields and chance.one_in(chance.taste.short_lived):
-        fields = [(b"cache-control", chance.choice(CACHE_CONTROLS if chance.is_odd(1) else CACHE_CONTROLS[:7]))]
+        fields = [(b"cache-control", chance.value(CACHE_CONTROLS if chance.is_odd(1) else CACHE_CONTROLS[:7]))]
     fields += chance.maybe(b"age", [b"0", b"5", b"30", b"x", b"99999999999", b"-1", b"5, 6"], 12) + chance.maybe(b"date", DATES, 8)
     fields += chance.maybe(b"expires", DATES, 8) + chance.maybe(b"last-modified", DATES, 6) + chance.maybe(b"vary", VARIES, 10)
     fields += chance.maybe(b"accept-ranges", [b"none", b"bytes", b"None", b"none, bytes", b"x"], 14) + chance.maybe(b"pragma", [b"no-cache"], 50)
@@ -145,7 +163,7 @@ def _told(chance: Chance, tag: list[bytes]) -> list[Field]:
 def _tag(chance: Chance) -> list[bytes]:
     if not chance.is_odd(5):
         return [b'"a"']
-    return [chance.choice(TAGS) for _ in range(chance.choice([0, 1, 1, 1, 2]))]
+    return [chance.value(TAGS) for _ in range(chance.choice([0, 1, 1, 1, 2]))]
 
 
 def _sized(chance: Chance, count: int) -> list[Field]:

@@ -129,19 +129,24 @@ TARGETS = [
 ]
 
 
-def hostile_end(chance: Chance, has_starts: bool) -> bytes:
+def hostile_lines(chance: Chance, has_starts: bool) -> bytes:
     """Lines that may be refused."""
     if chance.one_in(2):
         target = chance.choice(TARGETS)
+        target = chance.mutated(target) if chance.one_in(2) else target
         lines = [b"doom %s\n" % target] + [b"start 900 GET disable %s 0\npoll 900 1\n" % target] * has_starts
         return chance.choice(lines) + b"poll 1 1\n"
     return chance.choice(BAD_LINES) + b"poll 1 1\n"
 
 
 def _ended(chance: Chance, play: Play) -> tuple[bytes, ...]:
+    """What was played, now and then with a change or hostile lines behind it."""
     items = [*play.items]
-    if chance.one_in(3):
-        items.append(hostile_end(chance, play.has_starts))
+    if chance.one_in(6):
+        place = chance.randrange(len(items))
+        items[place] = chance.mutated(items[place])
+    elif chance.one_in(4):
+        items.append(hostile_lines(chance, play.has_starts))
     return tuple(items)
 
 
@@ -153,6 +158,8 @@ def _size(chance: Chance) -> int:
 def replay_case(chance: Chance) -> list[Case]:
     if chance.one_in(150):
         return large.crowd(chance)
+    if chance.one_in(6):
+        return [Case(("replay",), (hostile_lines(chance, True),), 1) for _ in range(12)]
     cache = Cache()
     play = Play(chance, cache.step, cache.tables)
     play.run(_size(chance))

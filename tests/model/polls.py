@@ -66,8 +66,7 @@ def _carry_out(tables: Tables, consumer: Consumer, acts: list[Act]) -> None:
         case Fetch():
             _fetch(tables, consumer, plan, acts)
         case Wait(kind, whom):
-            if kind == "busy":
-                consumer.place = Place.LET_THROUGH
+            consumer.place = Place.LET_THROUGH if kind == "busy" else Place.IN_LINE
             acts.append(Pending(consumer.number, kind, whom))
         case Read(why, part):
             stop_waiting(tables, consumer)

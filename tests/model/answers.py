@@ -189,7 +189,7 @@ def _any(chance: Chance, number: int) -> Head:
 
 
 def _not_modified(chance: Chance, number: int) -> Head:
-    tag = [] if chance.one_in(3) else _tag(chance)
+    tag = chance.choice([[], [b'"a"'], [b'W/"a"'], _tag(chance)])
     fields = [it for it in _told(chance, tag) if not chance.one_in(3)]
     return Head(number, 304, clean(fields))
 

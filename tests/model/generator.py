@@ -4,6 +4,7 @@ from dataclasses import dataclass, field
 
 import images
 import large
+import syntax
 from answers import TOTALS, Chance, head_for, request_of
 from cache import Cache
 from cases import Case
@@ -30,10 +31,13 @@ class Play:
     items: list[bytes] = field(default_factory=list)
     events: int = 0
 
+    def wait(self, seconds: int) -> None:
+        self.now += seconds
+        self.items.append(text_of_moment(self.now))
+
     def pass_time(self) -> None:
         if self.chance.one_in(self.chance.taste.waits):
-            self.now += self.chance.choice([1, 1, 2, 5, 9, 10, 19, 20, 21, 60])
-            self.items.append(text_of_moment(self.now))
+            self.wait(self.chance.choice([1, 1, 2, 5, 9, 10, 19, 20, 21, 60]))
 
     def add(self, event: Event) -> None:
         self.items.append(text_of_event(event))
@@ -162,14 +166,20 @@ def replay_case(chance: Chance) -> list[Case]:
         return [Case(("replay",), (hostile_lines(chance, True),), 1) for _ in range(12)]
     cache = Cache()
     play = Play(chance, cache.step, cache.tables)
-    play.run(_size(chance))
+    if chance.one_in(4):
+        syntax.play_keys(chance, play, 15)
+    else:
+        play.run(_size(chance))
     return [Case(("replay",), _ended(chance, play), play.events)]
 
 
 def conditional_case(chance: Chance) -> list[Case]:
     front = Front(Cache())
     play = Play(chance, front.step, front.cache.tables, is_conditional=True)
-    play.run(_size(chance))
+    if chance.one_in(4):
+        syntax.play_keys(chance, play, 15)
+    else:
+        play.run(_size(chance))
     return [Case(("conditional",), _ended(chance, play), play.events)]
 
 
@@ -188,8 +198,8 @@ def _mutated(chance: Chance, image: bytes) -> bytes:
 
 def save_case(chance: Chance) -> list[Case]:
     """A schedule that is saved, and one that goes on from what was."""
-    if chance.one_in(50):
-        return chance.choice([large.crowded_store, large.large_body, large.large_part])(chance)
+    if chance.one_in(30):
+        return chance.choice([large.crowded_store, large.crowded_store, large.large_body, large.large_part])(chance)
     cache = Cache()
     play = Play(chance, cache.step, cache.tables)
     play.run(_size(chance))

@@ -1,7 +1,6 @@
 """Whether a text is a target: a web URL in the one spelling of the URL Standard, without a fragment."""
 import ipaddress
 import re
-import unicodedata
 
 LONGEST = 8192
 
@@ -20,16 +19,6 @@ _IPV4 = re.compile(rb"(?:(?:0|[1-9][0-9]{0,2})(?:\.(?!\Z)|\Z)){4}\Z")
 _PORTS = {b"http": b"80", b"https": b"443"}
 
 
-def _is_encoded_label(label: bytes) -> bool:
-    """A label of Punycode that is written again as it is."""
-    try:
-        text = label[4:].decode("ascii").encode("ascii").decode("punycode")
-    except UnicodeError:
-        return False
-    is_plain = unicodedata.normalize("NFC", text).casefold() == text and not text.isascii()
-    return is_plain and text.encode("punycode") == label[4:]
-
-
 def _is_ipv6(host: bytes) -> bool:
     try:
         return str(ipaddress.IPv6Address(host.decode())).encode() == host
@@ -38,6 +27,7 @@ def _is_ipv6(host: bytes) -> bool:
 
 
 def _is_host(host: bytes) -> bool:
+    """Labels in Punycode are not looked into."""
     if host.startswith(b"["):
         return _is_ipv6(host[1:-1])
     if not _DOMAIN.match(host):
@@ -46,7 +36,7 @@ def _is_host(host: bytes) -> bool:
     last = labels[-2] if labels[-1] == b"" and len(labels) > 1 else labels[-1]
     if _NUMBER.match(last):
         return bool(_IPV4.match(host)) and all(int(it) < 256 for it in labels)
-    return all(_is_encoded_label(it) for it in labels if it.startswith(b"xn--"))
+    return True
 
 
 def _is_port(port: bytes | None, scheme: bytes) -> bool:

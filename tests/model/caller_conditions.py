@@ -10,9 +10,17 @@ CONDITIONS = (b"if-none-match", b"if-modified-since")
 OTHERS = (b"range", b"if-match", b"if-unmodified-since", b"if-range")
 
 
+def _listed_tags(told: list[bytes]) -> list[Etag] | None:
+    """The tags of all lines, each a list of its own; None where one is no list, or where they have no tag."""
+    lists = [etags_of(it) for it in told]
+    if None in lists:
+        return None
+    return [tag for it in lists for tag in it] or None
+
+
 def _is_list(told: list[bytes]) -> bool:
-    """One asterisk, or one list of tags over all lines (section 5.3)."""
-    return told == [b"*"] or etags_of(b",".join(told)) is not None
+    """One asterisk, or tags."""
+    return told == [b"*"] or _listed_tags(told) is not None
 
 
 def is_conditional(request: Request) -> bool:
@@ -36,7 +44,7 @@ def _is_listed(tag: Etag | None, told: list[bytes]) -> bool:
     """Section 13.1.2."""
     if told == [b"*"]:
         return True
-    return tag is not None and any(are_weakly_equal(tag, it) for it in etags_of(b",".join(told)) or [])
+    return tag is not None and any(are_weakly_equal(tag, it) for it in _listed_tags(told) or [])
 
 
 def holds(request: Request, status: int, fields: Fields) -> bool:

@@ -43,7 +43,7 @@ def are_weakly_equal(one: Etag, other: Etag) -> bool:
 
 
 def etags_of(text: bytes) -> list[Etag] | None:
-    """The tags of a list, at least one; None where the text is no list."""
+    """The tags of a list, maybe none; None where the text is no list (section 5.6.1)."""
     at, found = _GAP.match(text).end(), []
     while at < len(text):
         tag = _NEXT.match(text, at)
@@ -54,4 +54,4 @@ def etags_of(text: bytes) -> list[Etag] | None:
         if at < len(text) and text[at : at + 1] != b",":
             return None
         at = _GAP.match(text, at).end()
-    return found or None
+    return found

@@ -53,6 +53,7 @@ class Taste:
     ranged: int = 3  # requests of a part
     short_lived: int = 2  # heads that say something else than a minute
     breaks: int = 12  # exchanges that end or fail early
+    cut: int = 5  # parts that are shorter than what was asked for
     waits: int = 12  # moments between events
     keys: int = 4
     live: int = 7  # consumers at once
@@ -66,8 +67,9 @@ TASTES = [
     Taste(calm=12, ranged=9, keys=1, total=9, breaks=4, waits=40),
     Taste(calm=8, ranged=4, short_lived=1, keys=2, total=6, waits=5),
     Taste(calm=20, ranged=5, keys=1, total=40, breaks=40, waits=30),
-    Taste(calm=20, ranged=1, keys=1, total=40, breaks=6, waits=60, live=2),
-    Taste(calm=6, ranged=1, keys=1, total=20, breaks=9, waits=30, live=3),
+    Taste(calm=20, ranged=1, keys=1, total=40, breaks=6, waits=60, live=2, cut=2),
+    Taste(calm=6, ranged=1, keys=1, total=20, breaks=9, waits=30, live=3, cut=1),
+    Taste(calm=20, ranged=1, keys=1, total=60, breaks=20, waits=40, live=1, cut=1),
 ]
 
 
@@ -199,7 +201,7 @@ def _for_range(chance: Chance, consumer: Consumer, number: int, total: int) -> H
     if not wanted:
         return Head(number, 416, ((b"content-range", b"bytes */%d" % total),))
     low, end = wanted
-    if chance.one_in(5):
+    if chance.one_in(chance.taste.cut):
         end = chance.randint(low + 1, min(total, end + 1))
     return part(chance, number, low, end, total, _tag(chance))
 
@@ -207,7 +209,7 @@ def _for_range(chance: Chance, consumer: Consumer, number: int, total: int) -> H
 def _for_hole(chance: Chance, tables: Tables, exchange: Exchange) -> Head:
     stored = tables.representations[exchange.aim]
     low, end = exchange.hole
-    if chance.one_in(6):
+    if chance.one_in(chance.taste.cut):
         end = chance.randint(low + 1, end)
     if chance.is_odd(15):
         low, end = max(0, low + chance.choice([-1, 1])), end + 1
@@ -219,7 +221,7 @@ def _for_hole(chance: Chance, tables: Tables, exchange: Exchange) -> Head:
 def head_for(chance: Chance, tables: Tables, exchange: Exchange, total: int) -> Head:
     """Mostly what an origin would answer that has so many bytes."""
     consumer = tables.consumers[exchange.consumer]
-    if chance.is_odd(7) or chance.one_in(40):
+    if chance.is_odd(7) or chance.one_in(12 if consumer.is_shown else 40):
         return _any(chance, exchange.number)
     if exchange.purpose is Purpose.HOLE and not chance.is_odd(8):
         return _for_hole(chance, tables, exchange)

@@ -45,6 +45,8 @@ def number(word: bytes, least: int = 0, most: int = MOST) -> int:
 
 
 def target(word: bytes) -> bytes:
+    if not word:
+        raise OffGrammar
     if not targets.is_target(word):
         raise NoTarget
     return word
@@ -96,8 +98,6 @@ def _read_start(line: bytes) -> tuple[list[bytes], int]:
     if not _METHOD.match(words[2]) or words[2] == b"CONNECT" or words[3] not in [it.value for it in Load]:
         raise OffGrammar
     count = number(words[5], 0, MOST_FIELDS)
-    if not words[4]:
-        raise OffGrammar
     target(words[4])
     return words, count
 

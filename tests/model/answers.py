@@ -3,9 +3,9 @@ import random
 from dataclasses import dataclass
 
 from events import Head
-from fields import Field, Fields, first_value, merged
+from fields import Field, Fields, first_value
 from messages import Load, Request
-from ranges import FromTo, resolved
+from ranges import resolved
 from tables import Consumer, Exchange, Purpose, Tables
 
 CACHE_CONTROLS = [
@@ -157,8 +157,9 @@ def _told(chance: Chance, tag: list[bytes]) -> list[Field]:
         fields = [(b"cache-control", chance.value(CACHE_CONTROLS if chance.is_odd(1) else CACHE_CONTROLS[:7]))]
     fields += chance.maybe(b"age", [b"0", b"5", b"30", b"x", b"99999999999", b"-1", b"5, 6"], 12) + chance.maybe(b"date", DATES, 8)
     fields += chance.maybe(b"expires", DATES, 8) + chance.maybe(b"last-modified", DATES, 6) + chance.maybe(b"vary", VARIES, 10)
-    fields += chance.maybe(b"accept-ranges", [b"none", b"bytes", b"None", b"none, bytes", b"x"], 14) + chance.maybe(b"pragma", [b"no-cache"], 50)
-    fields += chance.maybe(b"x-c", ACCEPTS, 8) + chance.maybe(b"connection", [b"close", b"x-c"], 30) + chance.maybe(b"content-encoding", [b"gzip"], 30)
+    fields += chance.maybe(b"accept-ranges", [b"none", b"bytes", b"None", b"none, bytes", b"x"], 14)
+    fields += chance.maybe(b"pragma", [b"no-cache"], 50) + chance.maybe(b"x-c", ACCEPTS, 8)
+    fields += chance.maybe(b"connection", [b"close", b"x-c"], 30) + chance.maybe(b"content-encoding", [b"gzip"], 30)
     return fields + [(b"etag", it) for it in tag] + many(chance, 40)
 
 
@@ -211,10 +212,12 @@ def _for_hole(chance: Chance, tables: Tables, exchange: Exchange) -> Head:
     low, end = exchange.hole
     if chance.one_in(chance.taste.cut):
         end = chance.randint(low + 1, end)
-    if chance.is_odd(15):
-        low, end = max(0, low + chance.choice([-1, 1])), end + 1
-    total = stored.total if not chance.is_odd(20) else stored.total + 1
-    tag = [first_value(stored.head.fields, b"etag")] if not chance.is_odd(12) else _tag(chance)
+    if chance.one_in(20):
+        low, end = max(0, low + chance.choice([-1, 0, 1])), end + chance.choice([0, 1])
+    total = stored.total + chance.choice([-1, 1]) if chance.one_in(30) else stored.total
+    tag = [first_value(stored.head.fields, b"etag")]
+    if chance.one_in(15):
+        tag = chance.choice([[], [b'"b"'], [b'W/"a"'], tag + tag, _tag(chance)])
     return part(chance, exchange.number, low, max(end, low + 1), max(total, end, low + 1), tag)
 
 

@@ -3,7 +3,7 @@ from dataclasses import replace
 
 from events import Act, Lost
 from leaving import close, fail_unshown, finish, let_go, why_no_room
-from tables import Consumer, Exchange, Place, Representation, Tables
+from tables import Consumer, Exchange, Representation, Tables
 
 
 def _readers(tables: Tables, exchange: Exchange) -> list[Consumer]:

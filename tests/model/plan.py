@@ -90,8 +90,6 @@ def _may_read(tables: Tables, consumer: Consumer) -> bool:
 
 def _by_hole(stored: Representation, why: str, part: Interval | None) -> Plan:
     """Of what is current, that no exchange writes for a writer group and no consumer alone."""
-    if stored.total is None:
-        return Read(why, part)
     hole = stored.body.hole_in(part or (0, stored.total))
     if hole is None:
         return Read(why, part)

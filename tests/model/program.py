@@ -135,7 +135,7 @@ def command_of(words: list[str]) -> Callable[[Input], Result] | None:
         return PLAIN.get(words[0])
     if len(words) != 4 or words[0] != "fetch":
         return None
-    target, parts, size = words[1].encode(), _number(words[2], 1, MOST_PARTS), _number(words[3], 1, MOST_SIZE)
+    target, parts, size = words[1].encode(errors="surrogateescape"), _number(words[2], 1, MOST_PARTS), _number(words[3], 1, MOST_SIZE)
     if not targets.is_target(target) or parts is None or size is None:
         return None
     return lambda source: fetch(source, target, parts, size)

@@ -35,6 +35,7 @@ LENGTHS = [b"6", b"5, 5", b"x", b"", b",", b"06", b"-1", b"6, 7", b"+6", b"46116
 PARTS = [
     b"bytes 0-2/6", b"bytes 3-5/6", b"bytes 0-5/6", b"bytes 0-2/*", b"bytes */6", b"bytes 0-9/6", b"bytes 2-1/6", b"BYTES 0-1/6", b"bytes 0-2/6 ",
     b"bytes  0-2/6", b"items 0-2/6", b"bytes 00-02/06", b"bytes 0-2/3", b"bytes=0-2/6", b"bytes 0-4611686018427387904/*", b"bytes 1-1/2",
+    b"bytes 0-4611686018427387903/*", b"bytes 1-4611686018427387902/4611686018427387903",
 ]
 VARIES = [b"accept", b"Accept", b"*", b"accept, x-a", b"range", b"if-none-match", b"", b",", b"a b", b"x-b", b'"accept"', b"accept, *", b"if-range"]
 ACCEPTS = [b"a", b"b", b"a, b", b""]

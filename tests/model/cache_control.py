@@ -1,11 +1,12 @@
 """Directives of Cache-Control (RFC 9111 sections 1.2.2, 5.2 and 5.4)."""
+import math
 import re
 from dataclasses import dataclass
 
 from fields import Fields, all_elements, is_token, number_of
 
 MOST_SECONDS = 2**31
-UNBOUNDED = 2**62  # max-stale without an argument
+UNBOUNDED = math.inf  # max-stale without an argument
 
 _QUOTED = re.compile(rb'"((?:[^"\\]|\\.)*)"\Z', re.DOTALL)
 _ESCAPED = re.compile(rb"\\(.)", re.DOTALL)
@@ -18,7 +19,7 @@ class RequestDirectives:
     only_if_cached: bool
     max_age: int | None
     min_fresh: int | None
-    max_stale: int | None
+    max_stale: float | None
 
 
 @dataclass(frozen=True)
@@ -55,7 +56,7 @@ def _seconds_or(found: dict[bytes, bytes | None], name: bytes, unreadable: int) 
     return unreadable if seconds is None else seconds
 
 
-def _max_stale(found: dict[bytes, bytes | None]) -> int | None:
+def _max_stale(found: dict[bytes, bytes | None]) -> float | None:
     if b"max-stale" not in found:
         return None
     argument = found[b"max-stale"]

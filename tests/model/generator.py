@@ -12,6 +12,7 @@ from events import Cancel, Doom, End, Event, Fault, Head, Piece, Poll, Start
 from fetch import Fetch
 from front import Front
 from hostile import hostile_lines
+from ranges import MOST
 from tables import Consumer, Exchange, Tables
 from texts import text_of_event, text_of_moment
 
@@ -38,7 +39,9 @@ class Play:
 
     def pass_time(self) -> None:
         if self.chance.one_in(self.chance.taste.waits):
-            self.wait(self.chance.choice([1, 1, 2, 5, 9, 10, 19, 20, 21, 60]))
+            longest = MOST - self.now
+            seconds = longest if self.chance.one_in(60) else self.chance.choice([1, 1, 2, 5, 9, 10, 19, 20, 21, 60])
+            self.wait(min(seconds, longest))
 
     def add(self, event: Event) -> None:
         self.items.append(text_of_event(event))

@@ -35,17 +35,3 @@ def cases_of(kind: str, events: int, seed: int) -> Iterator[Case]:
 
 def is_different(case: Case, run: Runner) -> bool:
     return run(case) != by_model(case)
-
-
-def shrunk(case: Case, run: Runner) -> Case:
-    """A shorter case that differs too: items are left out by halves, then one by one."""
-    items, step = list(case.items), max(1, len(case.items) // 2)
-    while step:
-        at = len(items)
-        while at > 0:
-            fewer = items[: max(0, at - step)] + items[at:]
-            if is_different(Case(case.words, tuple(fewer), 0), run):
-                items = fewer
-            at -= step
-        step //= 2
-    return Case(case.words, tuple(items), 0)

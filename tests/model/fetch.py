@@ -77,8 +77,8 @@ class Fetch:
     def _start_others(self, now: int) -> None:
         count = min(self.parts, -(-self.total // self.size))
         for part in range(1, count):
-            low, high = part * self.size, (part + 1) * self.size
-            self._start(now, part + 1, b"bytes=%d-%d" % (low, high - 1) if part + 1 < count else b"bytes=%d-" % low)
+            end = (part + 1) * self.size if part + 1 < count else self.total
+            self._start(now, part + 1, b"bytes=%d-%d" % (part * self.size, end - 1))
 
     def _ready(self) -> bytes:
         """The bytes from what was written on that are there without a gap."""

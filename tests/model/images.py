@@ -152,20 +152,18 @@ class Earlier:
 
     founders: Counter[int]
     keys: set[bytes] = field(default_factory=set)
-    numbers: set[int] = field(default_factory=set)
-    exchanges: set[int] = field(default_factory=set)
+    said: set[int] = field(default_factory=set)
 
     def is_alone(self, item: Item) -> bool:
-        """Whether its key, its number and the exchanges that brought it are no other item's."""
-        if item.key in self.keys or item.number in self.numbers:
-            return False
+        """Whether no earlier item has its key, its number or an exchange that brought it, and no later one the latter as its number."""
         found = {run.exchange for run in item.runs}
-        return not found & self.exchanges and all(self.founders[it] == (it == item.number) for it in found)
+        if item.key in self.keys or self.said & {item.number, *found}:
+            return False
+        return not any(self.founders[it] for it in found - {item.number})
 
     def add(self, item: Item) -> None:
         self.keys.add(item.key)
-        self.numbers.add(item.number)
-        self.exchanges |= {run.exchange for run in item.runs}
+        self.said.update((item.number, *(run.exchange for run in item.runs)))
 
 
 def _check(contents: Contents) -> None:

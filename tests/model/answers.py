@@ -120,8 +120,9 @@ def _range_of(chance: Chance) -> list[Field]:
     if chance.is_odd(2):
         return [(b"range", chance.value(RANGES)) for _ in range(2 if chance.is_odd(12) else 1)]
     total = chance.taste.total or 6
-    low = chance.randrange(total)
-    return [(b"range", chance.choice([b"bytes=%d-%d" % (low, chance.randint(low, total)), b"bytes=%d-" % low, b"bytes=-%d" % (low + 1)]))]
+    low = chance.choice([0, total, *range(total)])
+    forms = [b"bytes=%d-%d" % (low, chance.randint(low, total)), b"bytes=%d-" % low, b"bytes=-%d" % low]
+    return [(b"range", chance.choice(forms))]
 
 
 def request_of(chance: Chance, key: bytes, is_conditional: bool) -> Request:

@@ -56,6 +56,7 @@ def on_piece(tables: Tables, exchange: Exchange, data: bytes, acts: list[Act]) -
     exchange.is_asked = False
     stored = tables.representations.get(exchange.writes)
     if stored is None or stored.is_lost:
+        tables.consumers[exchange.consumer].held_by = exchange.number
         _hold(exchange, data)
     elif kind := why_no_room(tables, stored, len(data), acts):
         _lose(tables, exchange, stored, kind, data, acts)

@@ -1,7 +1,7 @@
 """The cache: tables, and one function an event, that answers acts."""
 from arrivals import on_end, on_fault, on_piece
 from denials import denial_of
-from events import Act, Cancel, Doom, End, Event, Fault, Head, Piece, Poll, Start
+from events import Act, Cancel, Closed, Doom, End, Event, Fault, Head, Piece, Poll, Start
 from heads import doom_key, on_head
 from leaving import leave
 from polls import on_poll, on_start
@@ -9,7 +9,7 @@ from tables import Tables
 
 
 class Cache:
-    """Each step answers the acts that are owed to its event."""
+    """Each step answers the acts that are owed to its event: closings stand last, by rising number."""
 
     def __init__(self, tables: Tables | None = None):
         self.tables = tables or Tables()
@@ -21,7 +21,7 @@ class Cache:
             return [denied]
         acts: list[Act] = []
         self._accept(event, acts)
-        return acts
+        return sorted(acts, key=lambda it: it.exchange if isinstance(it, Closed) else -1)
 
     def _accept(self, event: Event, acts: list[Act]) -> None:
         tables = self.tables

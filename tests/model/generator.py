@@ -193,7 +193,7 @@ def save_case(chance: Chance) -> list[Case]:
 
 
 def fetch_case(chance: Chance) -> list[Case]:
-    parts, size = chance.choice([1, 2, 2, 3, 3, 8]), chance.choice([1, 2, 2, 3, 3, 10, 2**40])
+    parts, size = chance.choice([1, 2, 2, 3, 3, 8, 1000]), chance.choice([1, 2, 2, 3, 3, 10, 2**40])
     course = Fetch(KEYS[0], parts, size)
     play = Play(chance, course.step, course.cache.tables, has_starts=False)
     for _ in range(_size(chance)):

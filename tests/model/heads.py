@@ -1,7 +1,7 @@
 """What a head does, by its case, and what a doom does."""
 import validation
 import vary
-from events import Act, Closed, Head, Lost
+from events import Act, Head, Lost
 from head_cases import HeadCase, head_case, is_server_error
 from leaving import bind, close, fail_unshown, finish, go_past, let_go, make_room, stand_in_line, stop_waiting
 from lengths import BadLength, Length, length_of
@@ -19,10 +19,6 @@ def doom_key(tables: Tables, key: bytes, acts: list[Act]) -> None:
         if exchange:
             close(tables, exchange, acts)
     let_go(tables, tables.current.get(key))
-
-
-def _is_changing(exchange: Exchange, status: int) -> bool:
-    return is_unsafe(exchange.request.method) and status < 400
 
 
 def _found(tables: Tables, consumer: Consumer, exchange: Exchange, acts: list[Act]) -> Representation | None:
@@ -59,85 +55,109 @@ def _found_range(tables: Tables, consumer: Consumer, exchange: Exchange, acts: l
         consumer.offset, stored.exclusive = consumer.part[0], consumer.number
 
 
-def _join(consumer: Consumer, exchange: Exchange, stored: Representation, now: int) -> None:
+def _join(tables: Tables, consumer: Consumer, exchange: Exchange, acts: list[Act]) -> None:
     """A part brings the hole: for all who read where it is all that is missing, and the consumer wants all."""
-    stored.head = validation.renewed(stored.head, exchange.fields, exchange.opened, now)
+    stored = tables.representations[exchange.aim]
+    stored.head = validation.renewed(stored.head, exchange.fields, exchange.opened, tables.now)
     exchange.writes = stored.number
-    if not consumer.is_shown:
-        consumer.place, consumer.why = Place.BOUND, f"validated:{exchange.number}"
     missing = stored.body.hole_in((0, stored.total))
     brought = (exchange.length.base, exchange.length.base + exchange.length.promise)
     if consumer.part is None and missing == brought and brought[1] == stored.total:
         consumer.exchange, stored.exclusive, stored.shared = None, None, exchange.number
 
 
-def _by_turn(tables: Tables, case: HeadCase, consumer: Consumer, exchange: Exchange, acts: list[Act]) -> None:
-    current = tables.current_of(exchange.request.key)
-    match case:
-        case HeadCase.VALIDATED:
-            finish(tables, exchange)
-            current.head = validation.renewed(current.head, exchange.fields, exchange.opened, tables.now)
-            consumer.place, consumer.exchange = Place.LET_THROUGH, None
-            consumer.validated = (exchange.number, current.number)
-        case HeadCase.NOT_VALIDATED:
-            finish(tables, exchange)
-            stand_in_line(tables, consumer)
-            let_go(tables, exchange.aim)
-        case HeadCase.TURN_SERVER_ERROR:
-            go_past(tables, consumer, exchange)
-        case HeadCase.FOUNDS_WHOLE:
-            _found_whole(tables, consumer, exchange, acts)
-        case HeadCase.FOUNDS_RANGE:
-            _found_range(tables, consumer, exchange, acts)
-        case HeadCase.PASSES_BY:
-            go_past(tables, consumer, exchange)
-            let_go(tables, tables.current.get(exchange.request.key))
-
-
-def _by_first_hole(tables: Tables, case: HeadCase, consumer: Consumer, exchange: Exchange, acts: list[Act]) -> None:
-    joined = exchange.aim
-    match case:
-        case HeadCase.FIRST_JOINS:
-            stop_waiting(tables, consumer)
-            _join(consumer, exchange, tables.representations[joined], tables.now)
-        case HeadCase.FIRST_SERVER_ERROR:
-            go_past(tables, consumer, exchange)
-        case HeadCase.FIRST_CHANGED:
-            stand_in_line(tables, consumer)
-            let_go(tables, joined)
-            close(tables, exchange, acts)
-        case HeadCase.FIRST_REPLACED:
-            go_past(tables, consumer, exchange)
-            let_go(tables, joined)
-            _found_whole(tables, consumer, exchange, acts)
-        case HeadCase.FIRST_PASSES_BY:
-            go_past(tables, consumer, exchange)
-            let_go(tables, joined)
-
-
-def _by_later_hole(tables: Tables, case: HeadCase, consumer: Consumer, exchange: Exchange, acts: list[Act]) -> None:
-    if case is HeadCase.LATER_JOINS:
-        _join(consumer, exchange, tables.representations[exchange.aim], tables.now)
-        return
-    is_bad = case is HeadCase.LATER_BAD
-    consumer.cause = f"bad-head:{exchange.number}" if is_bad else f"changed:{exchange.number}"
-    consumer.exchange = None
+def _bad(tables: Tables, consumer: Consumer, exchange: Exchange, acts: list[Act]) -> None:
+    fail_unshown(tables, consumer, f"bad-head:{exchange.number}")
     close(tables, exchange, acts)
-    if not is_bad and not is_server_error(exchange.status):
+
+
+def _taken(tables: Tables, consumer: Consumer, exchange: Exchange, acts: list[Act]) -> None:
+    """Its consumer reads it past the store already."""
+    consumer.offset = exchange.length.base
+
+
+def _goes_past(tables: Tables, consumer: Consumer, exchange: Exchange, acts: list[Act]) -> None:
+    go_past(tables, consumer, exchange)
+
+
+def _validated(tables: Tables, consumer: Consumer, exchange: Exchange, acts: list[Act]) -> None:
+    finish(tables, exchange)
+    current = tables.current_of(exchange.request.key)
+    current.head = validation.renewed(current.head, exchange.fields, exchange.opened, tables.now)
+    consumer.place, consumer.exchange = Place.LET_THROUGH, None
+    consumer.validated = (exchange.number, current.number)
+
+
+def _not_validated(tables: Tables, consumer: Consumer, exchange: Exchange, acts: list[Act]) -> None:
+    finish(tables, exchange)
+    stand_in_line(tables, consumer)
+    let_go(tables, exchange.aim)
+
+
+def _passes_by(tables: Tables, consumer: Consumer, exchange: Exchange, acts: list[Act]) -> None:
+    go_past(tables, consumer, exchange)
+    let_go(tables, tables.current.get(exchange.request.key))
+
+
+def _first_joins(tables: Tables, consumer: Consumer, exchange: Exchange, acts: list[Act]) -> None:
+    stop_waiting(tables, consumer)
+    consumer.place, consumer.why = Place.BOUND, f"validated:{exchange.number}"
+    _join(tables, consumer, exchange, acts)
+
+
+def _first_changed(tables: Tables, consumer: Consumer, exchange: Exchange, acts: list[Act]) -> None:
+    stand_in_line(tables, consumer)
+    let_go(tables, exchange.aim)
+    close(tables, exchange, acts)
+
+
+def _first_replaced(tables: Tables, consumer: Consumer, exchange: Exchange, acts: list[Act]) -> None:
+    _first_passes_by(tables, consumer, exchange, acts)
+    _found_whole(tables, consumer, exchange, acts)
+
+
+def _first_passes_by(tables: Tables, consumer: Consumer, exchange: Exchange, acts: list[Act]) -> None:
+    go_past(tables, consumer, exchange)
+    let_go(tables, exchange.aim)
+
+
+def _later_bad(tables: Tables, consumer: Consumer, exchange: Exchange, acts: list[Act]) -> None:
+    consumer.cause, consumer.exchange = f"bad-head:{exchange.number}", None
+    close(tables, exchange, acts)
+
+
+def _later_changed(tables: Tables, consumer: Consumer, exchange: Exchange, acts: list[Act]) -> None:
+    consumer.cause, consumer.exchange = f"changed:{exchange.number}", None
+    close(tables, exchange, acts)
+    if not is_server_error(exchange.status):
         let_go(tables, exchange.aim)
 
 
-def _by_past(tables: Tables, exchange: Exchange, acts: list[Act]) -> None:
-    if _is_changing(exchange, exchange.status):
-        doom_key(tables, exchange.request.key, acts)
+BY_CASE = {
+    HeadCase.PAST_BAD: _bad,
+    HeadCase.PAST_TAKEN: _taken,
+    HeadCase.TURN_BAD: _bad,
+    HeadCase.VALIDATED: _validated,
+    HeadCase.NOT_VALIDATED: _not_validated,
+    HeadCase.TURN_SERVER_ERROR: _goes_past,
+    HeadCase.FOUNDS_WHOLE: _found_whole,
+    HeadCase.FOUNDS_RANGE: _found_range,
+    HeadCase.PASSES_BY: _passes_by,
+    HeadCase.FIRST_BAD: _bad,
+    HeadCase.FIRST_JOINS: _first_joins,
+    HeadCase.FIRST_SERVER_ERROR: _goes_past,
+    HeadCase.FIRST_CHANGED: _first_changed,
+    HeadCase.FIRST_REPLACED: _first_replaced,
+    HeadCase.FIRST_PASSES_BY: _first_passes_by,
+    HeadCase.LATER_BAD: _later_bad,
+    HeadCase.LATER_JOINS: _join,
+    HeadCase.LATER_CHANGED: _later_changed,
+}
 
 
-BAD_UNSHOWN = (HeadCase.PAST_BAD, HeadCase.TURN_BAD, HeadCase.FIRST_BAD)
-OF_TURN = (
-    HeadCase.VALIDATED, HeadCase.NOT_VALIDATED, HeadCase.TURN_SERVER_ERROR,
-    HeadCase.FOUNDS_WHOLE, HeadCase.FOUNDS_RANGE, HeadCase.PASSES_BY,
-)
-OF_LATER = (HeadCase.LATER_BAD, HeadCase.LATER_JOINS, HeadCase.LATER_CHANGED)
+def _is_changing(exchange: Exchange) -> bool:
+    """Whether something may have changed at the origin (RFC 9111 section 4.4)."""
+    return exchange.purpose is Purpose.PAST and is_unsafe(exchange.request.method) and exchange.status < 400
 
 
 def _length(exchange: Exchange, event: Head) -> Length | None:
@@ -147,20 +167,6 @@ def _length(exchange: Exchange, event: Head) -> Length | None:
         return None
 
 
-def _by_case(tables: Tables, case: HeadCase, consumer: Consumer, exchange: Exchange, acts: list[Act]) -> None:
-    if case in BAD_UNSHOWN:
-        fail_unshown(tables, consumer, f"bad-head:{exchange.number}")
-        close(tables, exchange, acts)
-    if case in OF_TURN:
-        _by_turn(tables, case, consumer, exchange, acts)
-    elif case in OF_LATER:
-        _by_later_hole(tables, case, consumer, exchange, acts)
-    elif exchange.purpose is Purpose.HOLE and case not in BAD_UNSHOWN:
-        _by_first_hole(tables, case, consumer, exchange, acts)
-    if exchange.purpose is Purpose.PAST:
-        _by_past(tables, exchange, acts)
-
-
 def on_head(tables: Tables, event: Head, acts: list[Act]) -> None:
     exchange = tables.exchanges[event.exchange]
     consumer, length = tables.consumers[exchange.consumer], _length(exchange, event)
@@ -168,9 +174,8 @@ def on_head(tables: Tables, event: Head, acts: list[Act]) -> None:
     stored = tables.representations.get(exchange.aim)
     case = head_case(consumer, exchange, current, stored, event.status, event.fields, length)
     exchange.status, exchange.fields, exchange.length = event.status, event.fields, length
-    if consumer.place is Place.PAST and length is not None:
-        consumer.offset = length.base
     if length is not None and length.promise == 0:
         exchange.is_open = False
-    _by_case(tables, case, consumer, exchange, acts)
-    acts.sort(key=lambda it: it.exchange if isinstance(it, Closed) else -1)
+    BY_CASE[case](tables, consumer, exchange, acts)
+    if _is_changing(exchange):
+        doom_key(tables, exchange.request.key, acts)

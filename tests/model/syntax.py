@@ -28,7 +28,9 @@ def _answer(chance: Chance, number: int) -> Head:
     plain = [(b"content-length", b"3"), (b"cache-control", b"max-age=60"), (b"etag", b'"a"'), (b"last-modified", DATES[1])]
     odd = [_odd(chance, ODD_ANSWERS) for _ in range(chance.choice([1, 1, 2]))]
     names = {name for name, _ in odd}
-    fields = [it for it in plain if it[0] not in names and not chance.one_in(4)] + odd
+    beside = set() if chance.one_in(4) else names  # else a name may have two values
+    fields = [it for it in plain if it[0] not in beside and not chance.one_in(4)] + odd
+    chance.shuffle(fields)
     return Head(number, 206 if b"content-range" in names else 200, clean(fields))
 
 
@@ -43,7 +45,7 @@ def _one_key(chance: Chance, play, key: bytes) -> None:
     first = Request(b"GET", Load.NORMAL, key, clean([(b"range", b"bytes=0-2")] * chance.one_in(3)))
     for event in (Start(consumer, first), Poll(consumer, 9), _answer(chance, exchange), Poll(consumer, 9), Poll(consumer, 9)):
         play.add(event)
-    for event in (Piece(exchange, b"abc"), Poll(consumer, 9), Poll(consumer, 9)):
+    for event in (Piece(exchange, chance.choice([b"a", b"abc", b"abc"])), Poll(consumer, 9), Poll(consumer, 9)):
         play.add(event)
     if chance.one_in(2):
         play.add(Cancel(consumer))

@@ -41,9 +41,8 @@ class Facts:
             self.broken[name] += 1
             raise AssertionError("the fact %r doesn't hold" % name)
 
-    def state(self, t, limits, old, entry):
-        """All of one state, and of the entry that led to it."""
-        self.t, self.entry = t, entry
+    def read_rows(self, t):
+        """The rows by their numbers, and which open exchanges are about which representation."""
         self.W = {x: of(t.exchange(x)) for x in t.openings}
         self.V = {r: of(t.representation(r)) for r in t.founded}
         self.K = {c: of(t.consumer(c)) for c in t.starts}
@@ -54,6 +53,11 @@ class Facts:
                 self.about[family].append(x)
             elif w.is_open and of(w.head) is None and w.need._name == "Hole":
                 self.about[of(w.aim)].append(x)
+
+    def state(self, t, limits, old, entry):
+        """All of one state, and of the entry that led to it."""
+        self.t, self.entry = t, entry
+        self.read_rows(t)
         self.numbered()
         for x, w in self.W.items():
             self.exchange(x, w)
@@ -62,6 +66,10 @@ class Facts:
         for c, k in self.K.items():
             self.consumer(c, k)
         self.owners()
+        self.owning()
+        self.promised()
+        self.writing_alone()
+        self.founded_alone()
         self.turns()
         self.dooms(old, entry)
         self.left(limits)
@@ -111,6 +119,9 @@ class Facts:
                 self.holds("own: waiting " + way, of(k.own) == x and ((way == "Direct" and p._name == "Direct" and p.args()[0] == x)
                     or (way == "Turn" and p._name == "Turn" and p.args()[0] == x)
                     or (way == "Hole" and p._name == "Bound" and p.args()[0] == of(w.aim))))
+
+    def owning(self):
+        t = self.t
         for c, k in self.K.items():
             p = k.place
             if p._name == "Passed":
@@ -136,6 +147,8 @@ class Facts:
                     self.holds("own: hi total", total is not None and hi <= total)
                 if total is not None:
                     self.holds("own: offset", self.offset(t, k) <= (hi if hi is not None else total))
+
+    def promised(self):
         for x, w in self.W.items():
             if w.is_open and of(w.head) is not None and self.family(x) in self.V:
                 v = self.V[self.family(x)]
@@ -144,6 +157,9 @@ class Facts:
                     self.holds("own: untold", total is None and self.base(w) == 0 and v.reach == len(w.body) and self.family(x) == x)
                 else:
                     self.holds("own: told", total is not None and self.base(w) + n <= total)
+
+    def writing_alone(self):
+        t = self.t
         for r, v in self.V.items():
             for c in self.bound_to(r):
                 k = self.K[c]
@@ -158,6 +174,9 @@ class Facts:
                 if first and of(k.due) is None and of(k.own) is None and not self.is_written(t, v):
                     hi = of(self.hi_of(t, k.place))
                     self.holds("pen: rested", hi is not None and all(of(v.stored(p)) is not None for p in range(self.offset(t, k), hi)))
+
+    def founded_alone(self):
+        t = self.t
         for r, v in self.V.items():
             total = of(v.head.total)
             if total is not None:

@@ -1,0 +1,3 @@
+pub mod FieldTests
+pub mod FieldReads
+pub mod Rooms

@@ -1,0 +1,4 @@
+pub mod Told
+pub mod Dropped
+pub mod Steps
+pub mod Coming

@@ -1,0 +1,4 @@
+pub mod Slots
+pub mod Images
+pub mod Sessions
+pub mod Calls

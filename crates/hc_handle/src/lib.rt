@@ -1,0 +1,8 @@
+//! What stands behind a handle that a program keeps: a cache, and what its last event led to.
+#![tactic(auto)]
+
+pub mod calls;
+pub mod handle;
+mod picture;
+pub mod session;
+pub mod slot;

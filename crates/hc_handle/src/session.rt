@@ -1,0 +1,183 @@
+//! A cache, and what its last event led to.
+ghost use Rattle.std.specs.Prelude.{◌≡◌, ◌≢◌, [], Option, Some, None, true, false, IfOk, IfErr, IfSome, OnOk};
+ghost use Rattle.std.proofs.Props.{props};
+ghost use Rattle.hc_core.specs.Steps.{has_failed};
+
+use crate::picture::{begin_with, image_of, read_whole};
+use hc_binary::{ActNumbers, Refused, copy_act, numbers_of, put};
+use hc_core::Cache;
+use hc_event::{Acts, Event};
+use hc_rules::Limits;
+use hc_store::Memory;
+use std::alloc::Global;
+
+/// Moments are before this.
+const LAST_MOMENT: u64 = 1 << 62;
+
+/// So many events are answered at most.
+const MOST_STEPS: u64 = 1 << 59;
+
+/// So many bytes of pieces are taken at most.
+const MOST_BYTES: u64 = 1 << 60;
+
+/// A cache, the acts of its last event, and how many of them were told.
+#[derive(Drop)]
+pub struct Session {
+    /// Memory was refused: nothing is answered any more.
+    pub(crate) spent: bool,
+    pub(crate) cache: Cache<Memory>,
+    /// Those of the last event.
+    pub(crate) acts: Acts,
+    /// How many of them were told.
+    pub(crate) told: usize,
+    ghost tied: { spent ≡ false → has_failed cache ≡ false } by { Prim.hlevel props },
+}
+
+impl Session {
+    ghost use Rattle.hc_handle.specs.Sessions.{Begins, BeginsWith, IsUnopened, refused_at, IsAnswered, Answered, IsNext, bytes_told, IsCopied, moment_of, live_of};
+    ghost use Rattle.hc_event.specs.WithinLimits.{IsEventWithinLimits};
+    ghost use Rattle.hc_binary.specs.Copies.{HoldsFront};
+    ghost use Rattle.hc_binary.specs.declared.refused.Refused.TheVariants as refused;
+
+    /// A cache that begins with nothing, and may hold so much.
+    pub(crate) fn new(alloc: Global, limits: Limits) -> Result<Session, Refused>
+        ensures begins { IfOk result (Begins limits) }
+        ensures memory { IfErr result (λ e. e ≡ Refused.NoMemory) }
+    {
+        let cache = Cache::new(Memory::new(alloc, limits), limits, alloc)?;
+        Ok(Session {
+            spent: false,
+            cache,
+            acts: Acts::new(alloc),
+            told: 0,
+        })
+    }
+
+    /// A cache that begins with what an image has, and may hold so much.
+    pub(crate) fn open(alloc: Global, limits: Limits, image: &[u8]) -> Result<Session, Refused>
+        ensures begins { IfOk result (BeginsWith limits image.now) }
+        ensures refused { IfErr result (IsUnopened limits image.now) }
+    {
+        let contents = read_whole(alloc, image)?;
+        let cache = begin_with(alloc, limits, &contents)?;
+        Ok(Session {
+            spent: false,
+            cache,
+            acts: Acts::new(alloc),
+            told: 0,
+        })
+    }
+
+    /// Why no event is answered at this moment, if none is.
+    fn refusal(&self, now: u64) -> Option<Refused>
+        ensures value { result ≡ refused_at self.now now }
+        ensures spent { result ≡ Some Refused.NoMemory → self.now.spent ≡ true }
+    {
+        if self.spent {
+            return Some(Refused::NoMemory);
+        }
+        if self.cache.steps() >= MOST_STEPS || self.cache.received() >= MOST_BYTES {
+            return Some(Refused::Exhausted);
+        }
+        if now < self.cache.last_moment() || now >= LAST_MOMENT {
+            return Some(Refused::BadMoment);
+        }
+        None
+    }
+
+    /// Memory was refused.
+    fn spend(&mut self)
+        ensures { self.new.spent ≡ true }
+    {
+        self.spent = true;
+        self.acts.clear();
+        self.told = 0;
+    }
+
+    /// Answers an event, if it is one.
+    pub(crate) fn answer(&mut self, now: u64, given: Result<Event, Refused>) -> Result<(), Refused>
+        requires { IfOk given (λ e. IsEventWithinLimits e) }
+        ensures { IsAnswered self.old self.new now given result }
+    {
+        if let Some(why) = self.refusal(now) {
+            return Err(why);
+        }
+        match given {
+            Ok(event) => self.step(now, &event),
+            Err(why) => {
+                if why == Refused::NoMemory {
+                    self.spend();
+                }
+                Err(why)
+            }
+        }
+    }
+
+    /// Steps the cache by an event.
+    fn step(&mut self, now: u64, event: &Event) -> Result<(), Refused>
+        requires admitted { refused_at self.old now ≡ None }
+        requires within_limits { IsEventWithinLimits event.now }
+        ensures answered { OnOk result (Answered self.old self.new now event.now) }
+        ensures memory { IfErr result (λ e. e ≡ Refused.NoMemory) }
+        ensures spent { IfErr result (λ _. self.new.spent ≡ true) }
+    {
+        self.acts.clear();
+        self.told = 0;
+        self.spent = true;
+        self.cache.step(now, event, &mut self.acts)?;
+        self.spent = false;
+        Ok(())
+    }
+
+    /// The next act of the last event, in numbers.
+    pub(crate) fn next_act(&mut self) -> Option<ActNumbers>
+        ensures { IsNext self.old self.new result }
+    {
+        let act = self.acts.list().get(self.told)?;
+        let numbers = numbers_of(act);
+        self.told += 1;
+        Some(numbers)
+    }
+
+    /// Copies the first of the bytes of the act that was told last, as many as fit.
+    pub(crate) fn copy_told(&self, into: &mut [u8]) -> usize
+        ensures { HoldsFront into.new result (bytes_told self.now) }
+    {
+        if self.told == 0 {
+            return 0;
+        }
+        match self.acts.list().get(self.told - 1) {
+            Some(act) => copy_act(act, into),
+            None => 0,
+        }
+    }
+
+    /// Copies the first bytes of the image of what the cache has, as many as fit, and says how many it has in all.
+    pub(crate) fn copy_image(&mut self, alloc: Global, into: &mut [u8]) -> Result<usize, Refused>
+        ensures { IsCopied self.old self.new into.new result }
+    {
+        if self.spent {
+            return Err(Refused::NoMemory);
+        }
+        if self.cache.live() > 0 {
+            return Err(Refused::Live);
+        }
+        let image = image_of(alloc, &mut self.cache)?;
+        put(&image, into, 0);
+        Ok(image.len())
+    }
+
+    /// The moment of the last event, or of the image.
+    pub(crate) fn moment(&self) -> u64
+        ensures { result ≡ moment_of self.now }
+    {
+        self.cache.last_moment()
+    }
+
+    /// How many consumers are live.
+    pub(crate) fn live(&self) -> u64
+        ensures { result ≡ live_of self.now }
+    {
+        self.cache.live() as u64
+    }
+}

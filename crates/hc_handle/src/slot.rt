@@ -1,0 +1,55 @@
+//! A session as its pointer.
+ghost use Rattle.std.specs.Prelude.{◌≡◌, Option, Some, None, true};
+ghost use Rattle.hc_handle.specs.declared.session.Session.{Session};
+ghost use Rattle.hc_handle.specs.Slots.{slot_code, has_session};
+
+use crate::session::Session;
+use std::alloc::Global;
+use std::marker::Model;
+
+/// The pointer of a session, if there is one.
+#[repr(C)]
+#[derive(Drop)]
+pub struct Slot {
+    at: *mut u8,
+    pub ghost session: { Option Session } by { slot_code },
+}
+
+impl Model for Slot {
+    ghost use Rattle.hc_handle.specs.Slots.{slot_owns};
+    ghost use Rattle.hc_handle.specs.contracts.session.Session.{the_row};
+
+    ghost also_owns = { λ s. slot_owns the_row s.at s.session };
+}
+
+impl Slot {
+    /// Of no session.
+    pub(crate) fn empty() -> Slot
+        ensures { result.session ≡ None }
+    {
+        Slot {
+            at: std::ptr::null_mut(),
+        }
+    }
+
+    /// Of this session.
+    pub(crate) fn of(session: Box<Session>) -> Slot
+        ensures { result.session ≡ Some session.value }
+    {
+        Slot {
+            at: Box::into_raw(session) as *mut u8,
+        }
+    }
+
+    /// The session.
+    pub(crate) fn into_box(self, alloc: Global) -> Box<Session>
+        requires { has_session self.session ≡ true }
+        ensures { self.session ≡ Some result.value }
+    {
+        let Slot { at } = self;
+        unsafe { Box::from_raw(alloc, at as *mut Session) }
+    }
+}
+
+// The session is the slot's own, and a session may go to another thread.
+unsafe impl Send for Slot {}

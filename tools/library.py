@@ -1,0 +1,84 @@
+#!/usr/bin/env python3
+"""Proves and builds the library that programs link: libvosdrieng.a, libvosdrieng.so, vosdrieng.h and vosdrieng.pc.
+
+usage: tools/library.py [FOLDER]
+
+FOLDER is out/library where none is named. What is proved is the crate hc_c and those below it. The archive has that, and the
+functions of the kit in C on which it stands, which call malloc, realloc and free. It takes gcc and ar.
+"""
+import os
+import pathlib
+import re
+import shutil
+import subprocess
+import sys
+import tempfile
+
+sys.dont_write_bytecode = True
+from build import at_once, build_all
+from crates import CRATES, TOP, below, crate_lines
+
+LIBRARY = "hc_c"
+HEADER = TOP / "include" / "vosdrieng.h"
+# What a program may call. All other names stay within the shared library.
+NAMES = "{ global: vosdrieng_*; local: *; };\n"
+PKG_CONFIG = """\
+prefix={prefix}
+
+Name: vosdrieng
+Description: An HTTP cache in a program
+Version: {version}
+Cflags: -I${{prefix}}
+Libs: -L${{prefix}} -lvosdrieng
+"""
+
+
+def kit():
+    """The folder of the toolchain."""
+    return pathlib.Path(os.path.realpath(shutil.which("rt"))).parent.parent
+
+
+def version():
+    return re.search(r'VOSDRIENG_VERSION "([^"]*)"', HEADER.read_text()).group(1)
+
+
+def objects(archive, into):
+    into.mkdir()
+    subprocess.run(["ar", "x", archive.resolve()], cwd=into, check=True)
+    return sorted(into.iterdir())
+
+
+def link(archives, folder):
+    """One archive of all the objects, and a shared library of them."""
+    with tempfile.TemporaryDirectory() as room:
+        room = pathlib.Path(room)
+        parts = [it for n, archive in enumerate(archives) for it in objects(archive, room / str(n))]
+        static, names = folder / "libvosdrieng.a", room / "names"
+        names.write_text(NAMES)
+        static.unlink(missing_ok=True)
+        subprocess.run(["ar", "rcs", static, *parts], check=True)
+        words = ["gcc", "-shared", f"-Wl,--version-script={names}", "-Wl,--gc-sections", "-o", folder / "libvosdrieng.so"]
+        subprocess.run([*words, *parts], check=True)
+
+
+def main(words):
+    folder = pathlib.Path(words[0] if words else TOP / "out" / "library")
+    for tool in ("rt", "gcc", "ar"):
+        if not shutil.which(tool):
+            print(f"vosdrieng: the library isn't built yet, and {tool}, which that needs, is not here", file=sys.stderr)
+            return 70
+    lines, crates = crate_lines(), below([LIBRARY])
+    fault = build_all({crate: [it for it in lines[crate] if it in crates] for crate in crates}, at_once())
+    if fault:
+        print("vosdrieng: " + "\n".join(fault.splitlines()[:1] + fault.splitlines()[-40:]), file=sys.stderr)
+        return 70
+    folder.mkdir(parents=True, exist_ok=True)
+    link([CRATES / LIBRARY / "out" / f"lib{LIBRARY}.a", *(kit() / "c" / name for name in ("liblibc_c.a", "libos_c.a"))], folder)
+    shutil.copyfile(HEADER, folder / HEADER.name)
+    (folder / "vosdrieng.pc").write_text(PKG_CONFIG.format(prefix=folder.resolve(), version=version()))
+    print(f"vosdrieng: {folder} has libvosdrieng.a, libvosdrieng.so, vosdrieng.h and vosdrieng.pc", file=sys.stderr)
+    return 0
+
+
+if __name__ == "__main__":
+    sys.exit(main(sys.argv[1:]))

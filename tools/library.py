@@ -28,8 +28,8 @@ prefix={prefix}
 Name: vosdrieng
 Description: An HTTP cache in a program
 Version: {version}
-Cflags: -I${{prefix}}
-Libs: -L${{prefix}} -lvosdrieng
+Cflags: -I{include}
+Libs: -L{lib} -lvosdrieng
 """
 
 
@@ -40,6 +40,10 @@ def kit():
 
 def version():
     return re.search(r'VOSDRIENG_VERSION "([^"]*)"', HEADER.read_text()).group(1)
+
+
+def pkg_config(prefix, include="${prefix}", lib="${prefix}"):
+    return PKG_CONFIG.format(prefix=prefix, include=include, lib=lib, version=version())
 
 
 def objects(archive, into):
@@ -75,7 +79,7 @@ def main(words):
     folder.mkdir(parents=True, exist_ok=True)
     link([CRATES / LIBRARY / "out" / f"lib{LIBRARY}.a", *(kit() / "c" / name for name in ("liblibc_c.a", "libos_c.a"))], folder)
     shutil.copyfile(HEADER, folder / HEADER.name)
-    (folder / "vosdrieng.pc").write_text(PKG_CONFIG.format(prefix=folder.resolve(), version=version()))
+    (folder / "vosdrieng.pc").write_text(pkg_config(folder.resolve()))
     print(f"vosdrieng: {folder} has libvosdrieng.a, libvosdrieng.so, vosdrieng.h and vosdrieng.pc", file=sys.stderr)
     return 0
 

@@ -42,7 +42,13 @@ static void need(int holds, const char *what) {
     exit(1);
 }
 
-static uint64_t now(void) { return (uint64_t)time(NULL); }
+/* The time, and never an earlier one than before. */
+static uint64_t now(void) {
+    static uint64_t newest;
+    uint64_t moment = (uint64_t)time(NULL);
+    return newest = moment > newest ? moment : newest;
+}
+
 static const uint8_t *text(const char *s) { return (const uint8_t *)s; }
 
 /* A field of the origin's head that is passed on. */
@@ -60,7 +66,8 @@ static size_t on_header(char *line, size_t one, size_t n, void *at) {
     if (len == 0) {
         long status = 0;
         curl_easy_getinfo(x->easy, CURLINFO_RESPONSE_CODE, &status);
-        if (status >= 200) vosdrieng_head(&cache, now(), x->number, (uint32_t)status, text(x->fields), x->length);
+        /* A head that is refused ends the transfer, and with it the exchange. */
+        if (status >= 200 && vosdrieng_head(&cache, now(), x->number, (uint32_t)status, text(x->fields), x->length) != VOSDRIENG_OK) return 0;
         carry_out();
     } else if (is_passed(line) && x->length + len + 1 < sizeof x->fields) {
         memcpy(x->fields + x->length, line, len);
@@ -184,7 +191,7 @@ int main(int count, char **words) {
             if (!r->live) continue;
             live++;
             if (r == readers + 3 && r->at > 50000) vosdrieng_cancel(&cache, now(), r->consumer), r->live = 0;
-            else vosdrieng_poll(&cache, now(), r->consumer, 65536);
+            else need(vosdrieng_poll(&cache, now(), r->consumer, 65536) == VOSDRIENG_OK, "no memory");
             carry_out();
         }
         work();

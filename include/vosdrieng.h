@@ -8,10 +8,12 @@
 **
 ** docs/RULES.md says which acts are due, docs/FORMATS.md has the same events and acts as text, and docs/PROOFS.md what is proved.
 **
+**     #define TEXT(text) (const uint8_t *)(text), strlen(text)
+**
 **     vosdrieng_cache cache = {0};
 **     vosdrieng_act act;
 **     if (vosdrieng_new(&cache, 16777216, 268435456) != VOSDRIENG_OK) return 1;
-**     vosdrieng_start(&cache, now, 1, "GET", 3, VOSDRIENG_NORMAL, url, strlen(url), "", 0);
+**     vosdrieng_start(&cache, now, 1, TEXT("GET"), VOSDRIENG_NORMAL, TEXT(url), TEXT(""));
 **     vosdrieng_poll(&cache, now, 1, 65536);
 **     while (vosdrieng_next_act(&cache, &act)) carry_out(&cache, &act);
 **     vosdrieng_free(&cache);
@@ -22,7 +24,7 @@
 **
 ** THREADS. Two handles share nothing, so each thread may have caches of its own. A handle may go from thread to thread, as long as one call
 ** on it has returned before the next begins, ordered by a lock, by a thread's start or by its join. No call may be made from a signal
-** handler, or in the child of a fork of a process with threads.
+** handler. In the child of a fork malloc has to work, and a handle on which another thread was amid a call may not be used there.
 **
 ** MEMORY comes from the program's malloc, realloc and free. No call aborts, prints, or jumps out.
 */
@@ -50,7 +52,7 @@ uint32_t vosdrieng_version(void);
 ** A HANDLE OF A CACHE
 **
 ** The caller keeps it, by value, and passes its address. Set it to zero before its first call. Its members are the library's: they
-** are neither read nor written by anybody else. Where they were, the handle may be told as one without a cache, and may not.
+** are neither read nor written by anybody else. Where they were written, or the handle wasn't zero at first, anything may happen.
 ** A copy of a handle is no handle: after a call with one of the two, the other may not be used.
 */
 typedef struct vosdrieng_cache {
@@ -61,12 +63,13 @@ typedef struct vosdrieng_cache {
 /*
 ** WHAT CALLS ANSWER
 **
-** The calls that return a `vosdrieng_answer` return one of these. Where several causes hold, the one with the lowest number is
-** answered, but that want of memory may be told in place of BAD_TARGET and BAD_FIELDS. After any answer to an event but VOSDRIENG_OK and
+** The calls that return a `vosdrieng_answer` return one of these. Of several causes but VOSDRIENG_NO_MEMORY the one with the lowest
+** number is answered. VOSDRIENG_NO_MEMORY may come in place of any. After any answer to an event but VOSDRIENG_OK and
 ** VOSDRIENG_NO_MEMORY nothing has changed: a call that is refused counts for nothing, and the acts of the event before it can still
 ** be taken.
 **
-** An event that the cache denies is no refused call: it is answered VOSDRIENG_OK, and its one act is VOSDRIENG_ACT_DENIED.
+** An event that the cache denies is no refused call: it is answered VOSDRIENG_OK, and its one act is VOSDRIENG_ACT_DENIED. It counts
+** as an event: its moment is the last one then, and its act replaces those before.
 */
 typedef uint32_t vosdrieng_answer;
 
@@ -74,8 +77,9 @@ typedef uint32_t vosdrieng_answer;
 #define VOSDRIENG_OK 0
 /* The handle has no cache: none was made, it was freed, or making it failed. */
 #define VOSDRIENG_NO_HANDLE 1
-/* Memory was refused. After an event was answered so, each later event and image is answered so too; vosdrieng_free works, and so does
-** making a new cache with the handle. Where only vosdrieng_image was answered so, what the cache has stays. */
+/* Memory was refused. After an event was answered so, each later event is answered so too, and nothing is promised of acts and
+** images; vosdrieng_free works, and so does making a new cache with the handle. Where only vosdrieng_image was answered so, what the
+** cache has stays. */
 #define VOSDRIENG_NO_MEMORY 2
 /* The cache has taken 2^59 events, or 2^60 bytes of pieces. */
 #define VOSDRIENG_EXHAUSTED 3
@@ -106,7 +110,8 @@ typedef uint32_t vosdrieng_answer;
 **
 ** A name is a token, in any case; the cache lowers it. A value may be empty; it has no control byte but tab, no space or tab at an
 ** end, and at most 8,192 bytes. Of one name there may be several lines, and names stand in any order. There are at most 64
-** lines, and their names and values have at most 32,768 bytes in all. No lines are no bytes. The library tells fields so too, in
+** lines, and their names and values have at most 32,768 bytes in all. No lines are no bytes. The last line ends by a line feed too, and
+** a carriage return is refused. The library tells fields so too, in
 ** lower case and sorted by name, those of one name in the order in which they came.
 */
 
@@ -136,16 +141,19 @@ void vosdrieng_free(vosdrieng_cache *cache);
 ** Each is at a moment `now`, in whole seconds since 1970, that isn't before the one of the last event. Numbers of consumers and of
 ** exchanges are below 2^62. An event that is answered OK replaces the acts of the one before it.
 **
-** vosdrieng_start: a consumer begins with its request. The caller numbers consumers, each above all before it. `mode` is one of
+** vosdrieng_start: a consumer begins with its request. The caller numbers consumers, each above all before it: from 1 on in a new
+** cache, and behind vosdrieng_open above the last consumer of the image. `mode` is one of
 ** VOSDRIENG_NORMAL and so on.
 ** Answers: OK, NO_HANDLE, NO_MEMORY, EXHAUSTED, BAD_MOMENT, LIMIT (`consumer`, `mode`), BAD_METHOD, BAD_TARGET, BAD_FIELDS.
 **
-** vosdrieng_poll: the consumer asks for at most `want` bytes, up to 65,536. Poll it again where it is to wait, once what it waits
-** for came; what it waits for and for whom is told by the act VOSDRIENG_ACT_PENDING.
+** vosdrieng_poll: the consumer asks for at most `want` bytes, up to 65,536. Where it is to wait, VOSDRIENG_ACT_PENDING tells what it
+** waits for and for whom. Poll it again once that came. One that waits for another consumer is polled as well 20 seconds after it started
+** or last started over: then it goes past the store.
 ** Answers: OK, NO_HANDLE, NO_MEMORY, EXHAUSTED, BAD_MOMENT, LIMIT (`consumer`, `want`).
 **
 ** vosdrieng_cancel: the consumer leaves.
-** vosdrieng_end: the body of the exchange came to its end. vosdrieng_fault: the exchange broke.
+** vosdrieng_end: the body of the exchange came to its end. vosdrieng_fault: the exchange broke, its head never came, or its head was
+** refused.
 ** Answers: OK, NO_HANDLE, NO_MEMORY, EXHAUSTED, BAD_MOMENT, LIMIT (the number).
 **
 ** vosdrieng_doom: what is stored for the target is not to be used any more.
@@ -182,11 +190,12 @@ vosdrieng_answer vosdrieng_fault(vosdrieng_cache *cache, uint64_t now, uint64_t 
 ** ACTS
 **
 ** vosdrieng_next_act tells the next act of the last event that was answered OK, in order, and returns 1; or it returns 0, and
-** `act` is as it was: all were told, there was no event, or the handle has no cache.
+** `act` is as it was: all were told, there was no event, or the handle has no cache. Behind an event that was answered NO_MEMORY
+** no act is to be carried out.
 **
 ** vosdrieng_act_bytes copies the first `room` of the bytes of the act that was told last, or all where there are fewer, and returns
-** how many it copied. They can be copied again until the next event is answered. act.length says how many there are. Before an
-** act is told there are none.
+** how many it copied. They can be copied again until another act is told, or an event is answered OK or NO_MEMORY. act.length says how
+** many there are. Before an act is told there are none.
 **
 ** Neither needs memory. What an act doesn't have is 0.
 **
@@ -291,13 +300,13 @@ size_t vosdrieng_act_bytes(vosdrieng_cache *cache, uint8_t *into, size_t room);
 ** WHAT THE STORE HAS
 **
 ** vosdrieng_image copies the first `room` bytes of the image of what the store has, or all where there are fewer; `len` is how many
-** the image has. Nobody may be live. vosdrieng_open makes a cache with it, over limits that hold as much, unless 2^60 exchanges were
+** the image has. Nobody may be live. vosdrieng_open makes a cache with it, with the same limits, unless 2^60 exchanges were
 ** opened. Where `room` was too small, call again with more: each call makes the image anew. At any answer but OK `len` is 0.
 ** Answers: OK, NO_HANDLE, NO_MEMORY, LIVE.
 **
 ** vosdrieng_faults is how often the store failed. A store in memory never does: 0. So it is for a handle without a cache.
-** vosdrieng_moment is the moment of the last event, or that of the image; vosdrieng_live how many consumers are live. Both are 0
-** without a cache.
+** vosdrieng_moment is the moment of the last event; before the first it is that of the image, or 0. vosdrieng_live is how many consumers
+** are live. Both are 0 without a cache.
 */
 vosdrieng_answer vosdrieng_image(vosdrieng_cache *cache, uint8_t *into, size_t room, size_t *len);
 uint64_t vosdrieng_faults(vosdrieng_cache *cache);

@@ -53,19 +53,19 @@ use std::alloc::Global;
 /// - 0: all that is due is written: the input is a schedule and `out` has its report, which is that of
 ///   a run, or its image, or the body that is fetched, or the summary of the rounds; or the turns are
 ///   made, and `out` has the record of `serve`.
-/// - 1: the input is refused at a line, which ends in the last 16,384 bytes that were read. `out`
-///   has the report of all events before it, or at `save` nothing, and `diag` the line and why.
+/// - 1: the input is refused at a line, which ends in the last 16,384 bytes that were read, but for `open`.
+///   `out` has the report of all events before it, or at `save` nothing, and `diag` the line and why.
 /// - 2: the words are no command. `diag` has the usage, and nothing is read.
-/// - 3: `input` failed. No line of what was read is refused, and `out` has the report of the events
-///   whose items are whole in it; or at `save` and `open` nothing.
+/// - 3: `input` failed. At `save` and `open` `out` has nothing. Else no line of what was read is refused,
+///   and `out` has the report of the events whose items are whole in it.
 /// - 4: `out` failed: it has the report of all events that were stepped but the last, and some
 ///   first part of the last one's, or of the summary, the image or the record. Or `diag` failed: `out`
 ///   has all that was due.
 /// - 5: `wire` failed, which `serve` and `origin` alone use.
 /// - 6: there was not enough memory. Each has some first part of what was due.
 /// - 7: the words are `open`, and the image is refused. `diag` has why, and `out` nothing.
-/// - 8: the words are `fetch`, and it ended before all of the body was written. `diag` has why, and `out`
-///   all that was given from the first byte on.
+/// - 8: the words are `fetch`, and an event ended it, as a start or a cancel does, or the input ended before
+///   all of the body was written. `diag` has why, and `out` all that was given from the first byte on.
 ///
 /// At 4 and 6 all events before the last 16,384 bytes that were read were stepped: nothing is read on
 /// before what was read is stepped and reported. `open` reads all of its input first.

@@ -88,7 +88,7 @@ fn write_image_refusal(end: OpenEnded, to: &mut Vec<u8>) -> Result<(), NoMemory>
     Ok(())
 }
 
-/// Says why a fetch ended before all of the body was written.
+/// Says which event ended a fetch, or that its input ended early.
 pub(crate) fn say_fetch<D: Sink>(
     alloc: Global,
     end: FetchEnded,

@@ -25,7 +25,7 @@ pub enum Status {
     NoMemory,
     /// The image is refused. Nothing is written, and `diag` has why.
     ImageRefused,
-    /// The fetch ended before all of the body was written. `diag` has why.
+    /// An event ended the fetch, or its input ended before all of the body was written. `diag` has why.
     FetchStopped,
 }
 

@@ -34,13 +34,13 @@ http {{
     scgi_temp_path {folder}/scgi;
     server {{
         listen 127.0.0.1:{port};
-        root {folder}/root;
+        root {folder}/site;
         gzip on;
         gzip_min_length 1;
         gzip_types text/plain;
         default_type application/octet-stream;
         types {{ text/plain txt; }}
-        location /day/ {{ alias {folder}/root/; expires 1d; }}
+        location /day/ {{ alias {folder}/site/; expires 1d; }}
     }}
 }}
 """
@@ -52,13 +52,13 @@ class ServerTest(unittest.TestCase):
     def setUp(self) -> None:
         self.folder = pathlib.Path(tempfile.mkdtemp())
         self.addCleanup(shutil.rmtree, self.folder)
-        (self.folder / "root").mkdir()
+        (self.folder / "site").mkdir()
         self.write(BODY, 1_000_000_000)
-        (self.folder / "root" / "a.txt").write_bytes(b"line\n" * 1000)
+        (self.folder / "site" / "a.txt").write_bytes(b"line\n" * 1000)
         self.now = time.time()
 
     def write(self, body: bytes, moment: int) -> None:
-        path = self.folder / "root" / "film"
+        path = self.folder / "site" / "film"
         path.write_bytes(body)
         os.utime(path, (moment, moment))
 
@@ -102,7 +102,7 @@ class ServerTest(unittest.TestCase):
 
     def test_python(self) -> None:
         port = self.free_port()
-        words = [sys.executable, "-m", "http.server", "--bind", "127.0.0.1", "--directory", str(self.folder / "root"), str(port)]
+        words = [sys.executable, "-m", "http.server", "--bind", "127.0.0.1", "--directory", str(self.folder / "site"), str(port)]
         self.all_of(self.begin(words, f"http://127.0.0.1:{port}"))
 
     @unittest.skipUnless(shutil.which("nginx"), "nginx isn't here: apt-get install nginx-light")

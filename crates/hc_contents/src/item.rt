@@ -11,6 +11,7 @@ ghost use Rattle.hc_contents.specs.PlainContents.{plain_item};
 use crate::contents::Content;
 use hc_fields::has_field;
 use hc_record::{Kind, StoredHead};
+use hc_rules::brings_part;
 use hc_sparse::Run;
 
 /// Where some runs end, and how many bytes they have.
@@ -110,7 +111,7 @@ fn has_right_head(item: &Content, now: u64) -> bool
 fn needs_tag(item: &Content) -> bool
     ensures { result ≡ needs_tag (plain_item item.now) }
 {
-    !is_whole(item.head.kind) || item.head.status == 206 || has_joined(item)
+    !is_whole(item.head.kind) || brings_part(item.head.status) || has_joined(item)
 }
 
 /// Whether all of it is stored.

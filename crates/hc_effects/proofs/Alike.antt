@@ -5,7 +5,7 @@
 -- representations (`heard_same`), consumers (`acted_same`, `due_same`), and what is written (`written_same`). All go by
 -- the event and by the cases of a head. That evictions come last is built on these.
 use Rattle.std.{proofs.{lemmas.Bool.Decides.{nat_tests}, Common.{arith, ◌≡◌, ℕ, List, [], ◌∷◌, ◌++◌, Bool, Option, Some, None, refl, ap, ◌∙◌}}, specs.Prelude.{map, ◌==◌, ◌||◌, ◌&&◌, not, if◌then◌else◌}}
-use Rattle.hc_effects.proofs.Vocabulary.{Opening, opening_in, asks_in, closes_in, shows_in, given_in, leaves_in, Act, Event, Response, HeadCase, Place, loses_in, has_loss, misreads_in, fails_in, wait_in, showing_in, case_at, case_of, consumer_heard, by_head, consumer_acted, is_current, doomed_key_of, doomed_in, bypass_key, bypassed_by, is_key, Entry, exchange_after, exchange_heard, exchange_acted, exchange_made, exchange_at, family, becomes_due, cause_of_loss, cause_of_head, goes_by_case, goes_by_exchange, ends_founding, is_keepable, goes_itself, representation_heard, founded_at, Tables, Exchange, Representation, Consumer, founds, binds, written_in, head_writes, first_found, sealed_representation, seals_at, sealed_by, is_sealed, stops, act, case}
+use Rattle.hc_effects.proofs.Vocabulary.{brings_whole, Opening, opening_in, asks_in, closes_in, shows_in, given_in, leaves_in, Act, Event, Response, HeadCase, Place, loses_in, has_loss, misreads_in, fails_in, wait_in, showing_in, case_at, case_of, consumer_heard, by_head, consumer_acted, is_current, doomed_key_of, doomed_in, bypass_key, bypassed_by, is_key, Entry, exchange_after, exchange_heard, exchange_acted, exchange_made, exchange_at, family, becomes_due, cause_of_loss, cause_of_head, goes_by_case, goes_by_exchange, ends_founding, is_keepable, goes_itself, representation_heard, founded_at, Tables, Exchange, Representation, Consumer, founds, binds, written_in, head_writes, first_found, sealed_representation, seals_at, sealed_by, is_sealed, stops, act, case}
 use Rattle.hc_event.specs.declared.event.Event.TheVariants as event
 
 -- the acts say the same but for what makes room
@@ -71,7 +71,7 @@ module _ (t : Tables) (now : ℕ) (ev : Event) (a b : List Act) (k : AreAlike a 
       any_of_five _ _ _ _ _ _ _ _ _ _
       (ap (λ z. is_current t v.key r && (is_key z v.key || is_key (bypass_key e) v.key)) doomed_same ∙ ap (λ z. is_current t v.key r && (is_key (doomed_key_of t f) v.key || is_key z v.key)) bypassed_same)
       (by_exchange_same r (exchange_at t ev)) (k.loses r) (k.misreads r)
-      (ap (λ z. (v.head.status == 200 && z) && not (is_keepable v)) (ends_same r (t.exchange r)))
+      (ap (λ z. (brings_whole v.head.status && z) && not (is_keepable v)) (ends_same r (t.exchange r)))
 
   -- EXCHANGES
 
@@ -137,7 +137,7 @@ module _ (t : Tables) (now : ℕ) (ev : Event) (a b : List Act) (k : AreAlike a 
 
   sealing_same : (r : ℕ) (z : Option Representation) → is_sealed t e r z ≡ is_sealed t f r z
   sealing_same r None = refl
-  sealing_same r (Some v) = ap (λ q. not v.is_gone && not ((v.head.status == 200 && q) && not (is_keepable v))) (ends_same r (t.exchange r))
+  sealing_same r (Some v) = ap (λ q. not v.is_gone && not ((brings_whole v.head.status && q) && not (is_keepable v))) (ends_same r (t.exchange r))
 
   sealed_by_same : (x : ℕ) (z : Option Exchange) → sealed_by t e x z ≡ sealed_by t f x z
   sealed_by_same x None = refl

@@ -4,9 +4,9 @@
 -- At a head nothing is opened or left to anybody, so an own exchange was so before (`own_before`). What founds or joins
 -- so that several may write gives its consumer's exchange up (`shared_by`, `founded_shared`); so it isn't its own then
 -- (`from_head`, `from_resumed`). Many files use `is_on` and `written_by`.
-use Rattle.std.{proofs.{Common.{◌≡◌, inl, inr, ℕ, Bool, true, false, Option, Some, None, refl, ap, sym, ◌∙◌, subst, arith}, lemmas.Bool.Decides.{nat_tests}}, specs.Prelude.{is_some, ◌&&◌, ◌||◌, ◌==◌, not, nat_eq}}
+use Rattle.std.{proofs.{Common.{◌≡◌, inl, inr, ℕ, Bool, true, false, Option, Some, None, refl, ap, sym, ◌∙◌, subst, arith}, lemmas.Bool.Decides.{nat_tests}}, specs.Prelude.{is_some, ◌&&◌, ◌||◌, not}}
 use Rattle.hc_text.proofs.Basics.{both_true as both, and_left, and_right, not_some as none_some, not_true, same_some as same_row, some_inj}
-use Rattle.hc_effects.proofs.Vocabulary.{Response, HeadCase, has_loss, loses_in, case_at, head_view, is_founding, is_joining, consumer_heard, by_head, becomes_shared, is_resumed, is_number, row_of, Entry, family, is_open, entry_of, is_written, is_open_writer, resumes, writer_at, Tables, Exchange, Representation, Consumer, may_stand, after_accepted, event, case}
+use Rattle.hc_effects.proofs.Vocabulary.{brings_part, Response, HeadCase, has_loss, loses_in, case_at, head_view, is_founding, is_joining, consumer_heard, by_head, becomes_shared, is_resumed, is_number, row_of, Entry, family, is_open, entry_of, is_written, is_open_writer, resumes, writer_at, Tables, Exchange, Representation, Consumer, may_stand, after_accepted, event, case}
 use Rattle.hc_effects.proofs.{Basics.{false_true, or_false, number_is}, ExchangeFrom.{ExchangeFrom, exchange_from}, FirstKeeps.{case_of_head, is_new}, FoundBy.{CaseBy}, LossStands.{no_loss}, OwnFrom.{OwnFrom, own_from}, OwnersKeep.{is_opened, left_writing, new_number}, RepFrom.{RepFrom, rep_from, IsKept, IsResumed}, Step.{Step}}
 use Rattle.hc_effects.proofs.ExchangeFrom as exchange
 use Rattle.hc_effects.proofs.FoundBy as cases
@@ -133,11 +133,11 @@ module _ (step : Step) (stand : may_stand step.limits step.tables (entry_of step
 
   -- A FOUNDED ONE
 
-  whole_status : (r x : ℕ) (response : Response) → writer_at r response ≡ Some x → (response.status == 206) ≡ false
+  whole_status : (r x : ℕ) (response : Response) → writer_at r response ≡ Some x → brings_part response.status ≡ false
   whole_status r x response is = grind (arith, nat_tests)
 
-  range_206 : (lost : Bool) (w : Exchange) (response : Response) → CaseBy (head_view t lost w response) case.FoundsRange → response.status ≡ 206
-  range_206 lost w response (cases.founds_range way status fits kept good) = status
+  range_brings : (lost : Bool) (w : Exchange) (response : Response) → CaseBy (head_view t lost w response) case.FoundsRange → brings_part response.status ≡ true
+  range_brings lost w response (cases.founds_range way status fits kept good) = status
 
   pub founded_shared : (r x : ℕ) (response : Response) (w : Exchange) (g : Option HeadCase) → ev ≡ event.Head r response → t.exchange r ≡ Some w → case_at t e ≡ g → is_founding g ≡ true → writer_at r response ≡ Some x → becomes_shared t e response w g ≡ true
   founded_shared r x response w None here row is on writer = absurd (false_true on)
@@ -145,10 +145,9 @@ module _ (step : Step) (stand : may_stand step.limits step.tables (entry_of step
   founded_shared r x response w (Some case.FirstReplaced) here row is on writer = refl
   founded_shared r x response w (Some case.FoundsRange) here row is on writer =
       absurd (
-      let status : response.status ≡ 206 = range_206 (has_loss e.acts) w response (case_of_head t e r response w case.FoundsRange here row is) in
-      let test : nat_eq response.status 206 ≡ false = whole_status r x response writer in
-      let other : nat_eq response.status 206 ≡ true = grind (arith, nat_tests) in
-      false_true (sym test ∙ other))
+      let status : brings_part response.status ≡ true = range_brings (has_loss e.acts) w response (case_of_head t e r response w case.FoundsRange here row is) in
+      let test : brings_part response.status ≡ false = whole_status r x response writer in
+      false_true (sym test ∙ status))
   founded_shared r x response w (Some case.DirectBad) here row is on writer = absurd (false_true on)
   founded_shared r x response w (Some case.DirectTaken) here row is on writer = absurd (false_true on)
   founded_shared r x response w (Some case.TurnBad) here row is on writer = absurd (false_true on)

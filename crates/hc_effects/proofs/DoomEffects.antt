@@ -4,11 +4,11 @@
 -- goes, and nothing else (`current_is`, `goes`); no other row changes (`rows`). A consumer starts over where it waits
 -- for the key, or for what goes (`consumers`). `tables_are` joins these rows, and `doom_does` adds the acts. The
 -- handler of a doom is proved by it.
-use Rattle.std.{proofs.Common.{◌≡◌, inl, inr, ℕ, List, [], Bool, true, false, Option, Some, None, refl, ap, ap₂, sym, ◌∙◌}, specs.Prelude.{◌&&◌, ◌||◌, ◌==◌, is_none, bytes_eq, if◌then◌else◌, map, filter, reverse, option_map}}
+use Rattle.std.{proofs.Common.{◌≡◌, inl, inr, ℕ, List, [], Bool, true, false, Option, Some, None, refl, ap, ap₂, sym, ◌∙◌}, specs.Prelude.{◌&&◌, ◌||◌, is_none, bytes_eq, if◌then◌else◌, map, filter, reverse, option_map}}
 use mathlib.Core.Path.{fun_ext}
 use Rattle.hc_text.proofs.Basics.{and_left, and_right, bool_cases, not_some as none_some, never_true as not_so, and_off as then_false}
 use Rattle.hc_text.specs.declared.names.Key.{Key}
-use Rattle.hc_effects.proofs.Vocabulary.{act, Event, Limits, closing, closes_row, awaits, consumer_after, back_in_line, current, is_current, is_number, denial, doomed_key_of, Does, with_event, let_some_go, let_all_go, as_gone, over, all_closed, sent_back, woken, is_awaited, awaited_and, Entry, family, NoFlaw, beside, becomes_gone, ends_early, ends_founding, Lawful, representation_after, Tables, Exchange, Representation, Consumer, after_accepted, with_item_first}
+use Rattle.hc_effects.proofs.Vocabulary.{brings_whole, act, Event, Limits, closing, closes_row, awaits, consumer_after, back_in_line, current, is_current, is_number, denial, doomed_key_of, Does, with_event, let_some_go, let_all_go, as_gone, over, all_closed, sent_back, woken, is_awaited, awaited_and, Entry, family, NoFlaw, beside, becomes_gone, ends_early, ends_founding, Lawful, representation_after, Tables, Exchange, Representation, Consumer, after_accepted, with_item_first}
 use Rattle.hc_event.specs.declared.event.Event.TheVariants as event
 use Rattle.hc_rules.specs.Refusals as refusals
 use Rattle.hc_rules.proofs.RangeReads.{bytes_eq-same, same_bytes}
@@ -87,7 +87,7 @@ module _ (limits : Limits) (t : Tables) (law : Lawful t) (now : ℕ) (key : Key)
       by_row (Some w) = then_false w.is_open _ (closes_as t now ev (dooms key) NoFlaw xs r ∙ unfounded r v there)
 
       ends_none : ends_early t it r v ≡ false
-      ends_none = then_false (v.head.status == 200) _ (by_row (t.exchange r))
+      ends_none = then_false (brings_whole v.head.status) _ (by_row (t.exchange r))
 
   rows : (r : ℕ) → representation_after t it r (t.representation r) ≡ (if is_in rs r then option_map as_gone (t.representation r) else t.representation r)
   rows r = by_row (t.representation r) refl

@@ -4,16 +4,17 @@
 -- bound (`ends_by`): where it was, the length stays known, and so its end is within; what it founds has the length of
 -- its head (`founded_by`, `founds_by`). What it is shown has the length by which its plan took the interval
 -- (`shown_by`), which has the most work. `measures_kept` adds the other measures.
-use Rattle.std.{proofs.{lemmas.Bool.Decides.{nat_tests}, Common.{◌≡◌, ℕ, ◌≤◌, false, Option, Some, refl, ap, sym, ◌∙◌, subst, arith}}, specs.Prelude.{is_some, nat_eq}}
-use Rattle.hc_text.proofs.Basics.{not_some as none_some, number_not, same_some as same_row, some_inj}
+use Rattle.std.{proofs.{lemmas.Bool.Decides.{nat_tests}, Common.{◌≡◌, ℕ, ◌≤◌, true, false, Option, Some, refl, ap, sym, ◌∙◌, subst, arith}}, specs.Prelude.{is_some}}
+use Rattle.hc_text.proofs.Basics.{not_some as none_some, same_some as same_row, some_inj}
 use Rattle.hc_range.specs.declared.range.{Asked.{Asked}, Span.{Span}}
-use Rattle.hc_effects.proofs.Vocabulary.{opening_in, Response, HeadCase, range_of, wanted_of, BoundBy, Showing, showing_in, case_at, consumer_heard, by_opening, waiting, Entry, promise_in, founded_total, entry_of, Measures, move_of, reads, Tables, Exchange, Representation, Consumer, after_accepted, event, case, wanted, place}
+use Rattle.hc_effects.proofs.Vocabulary.{brings_part, brings_whole, opening_in, Response, HeadCase, range_of, wanted_of, BoundBy, Showing, showing_in, case_at, consumer_heard, by_opening, waiting, Entry, promise_in, founded_total, entry_of, Measures, move_of, reads, Tables, Exchange, Representation, Consumer, after_accepted, event, case, wanted, place}
 use Rattle.hc_model.specs.Measures.{EndsWithin}
 use Rattle.hc_model.specs.Sound as sound
-use Rattle.hc_effects.proofs.{Basics.{false_true}, BoundFrom.{BoundFrom, IsRow, IsInterval, IsShown, IsFounded, bound_from}, BoundKeeps.{shown_place_is}, FirstKeeps.{case_of_head, whole_200, replaced_200, is_new}, MeasuresKeep.{brings_kept, tight_kept, within_kept}, RepFrom.{RepFrom, rep_from, IsKept, IsEnded}, Said.{IsShowing, showing_by}, ShownFrom.{ShownAs, shown_from}, Step.{Step}}
+use Rattle.hc_effects.proofs.{Basics.{false_true}, BoundFrom.{BoundFrom, IsRow, IsInterval, IsShown, IsFounded, bound_from}, BoundKeeps.{shown_place_is}, FirstKeeps.{case_of_head, whole_brings, replaced_brings, is_new}, MeasuresKeep.{brings_kept, tight_kept, within_kept}, RepFrom.{RepFrom, rep_from, IsKept, IsEnded}, Said.{IsShowing, showing_by}, ShownFrom.{ShownAs, shown_from}, Step.{Step}}
 use Rattle.hc_effects.proofs.BoundFrom as from
 use Rattle.hc_effects.proofs.RepFrom as rep
 use Rattle.hc_effects.proofs.ShownFrom as shown_as
+use Rattle.hc_rules.proofs.Statuses.{whole_is_no_part}
 
 -- A SPAN THAT IS WANTED
 
@@ -58,14 +59,14 @@ module _ (step : Step) (m : Measures step.tables) where
 
     -- what it founds has the length that its head tells
     founded_by : (x : ℕ) (response : Response) (w : Exchange) (k : Consumer) (g : Option HeadCase) → ev ≡ event.Head x response → t.exchange x ≡ Some w → case_at t e ≡ g → IsFounded t e c r lo (Some hi) how x response w k g → IsSpanOf (founded_total w response) hi
-    founded_by x response w k _ here row is (from.whole from_is to) = whole_total (whole_200 t _ w response (case_of_head t e x response w case.FoundsWhole here row is)) to
+    founded_by x response w k _ here row is (from.whole from_is to) = whole_total (whole_brings t _ w response (case_of_head t e x response w case.FoundsWhole here row is)) to
       where
-        whole_total : response.status ≡ 200 → Some hi ≡ promise_in w response → IsSpanOf (founded_total w response) hi
-        whole_total status to = let off : nat_eq response.status 206 ≡ false = number_not response.status 206 (λ is. let no : 200 ≡ 206 = sym status ∙ is in absurd (omega arith)) in record { total = hi; known = rw off (sym to); ends = omega arith }
-    founded_by x response w k _ here row is (from.replaced from_is to) = whole_total (replaced_200 t _ w response (case_of_head t e x response w case.FirstReplaced here row is)) to
+        whole_total : brings_whole response.status ≡ true → Some hi ≡ promise_in w response → IsSpanOf (founded_total w response) hi
+        whole_total status to = let off : brings_part response.status ≡ false = whole_is_no_part response.status status in record { total = hi; known = rw off (sym to); ends = omega arith }
+    founded_by x response w k _ here row is (from.replaced from_is to) = whole_total (replaced_brings t _ w response (case_of_head t e x response w case.FirstReplaced here row is)) to
       where
-        whole_total : response.status ≡ 200 → Some hi ≡ promise_in w response → IsSpanOf (founded_total w response) hi
-        whole_total status to = let off : nat_eq response.status 206 ≡ false = number_not response.status 206 (λ is. let no : 200 ≡ 206 = sym status ∙ is in absurd (omega arith)) in record { total = hi; known = rw off (sym to); ends = omega arith }
+        whole_total : brings_whole response.status ≡ true → Some hi ≡ promise_in w response → IsSpanOf (founded_total w response) hi
+        whole_total status to = let off : brings_part response.status ≡ false = whole_is_no_part response.status status in record { total = hi; known = rw off (sym to); ends = omega arith }
     founded_by x response w k _ here row is (from.part i) = interval_within (range_of k.request) (founded_total w response) lo hi i
 
     founds_by : (x : ℕ) (response : Response) (w : Exchange) (k : Consumer) → ev ≡ event.Head x response → t.exchange x ≡ Some w → x ≡ r → IsFounded t e c r lo (Some hi) how x response w k (case_at t e) → RepFrom t e r v → EndsWithin v hi

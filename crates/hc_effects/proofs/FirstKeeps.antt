@@ -4,9 +4,9 @@
 -- (`first_from`): it was, it founds with a part, or its first hole is opened where nobody is bound (`open_free`). Of
 -- two, each pair of these ways is one consumer or can't be (`one`). Whoever did knows its end (`end_known`). `case_is`,
 -- `is_new` and `is_opener` are used by many files.
-use Rattle.std.{proofs.{Common.{◌≡◌, ℕ, [], Bool, true, false, Option, Some, None, refl, ap, sym, ◌∙◌, subst, arith}, lemmas.Bool.Decides.{nat_tests}}, specs.Prelude.{is_some, ◌==◌, nat_eq}}
+use Rattle.std.{proofs.{Common.{◌≡◌, ℕ, [], Bool, true, false, Option, Some, None, refl, ap, sym, ◌∙◌, subst, arith}, lemmas.Bool.Decides.{nat_tests}}, specs.Prelude.{is_some}}
 use Rattle.hc_text.proofs.Basics.{same_some as same_row, some_inj}
-use Rattle.hc_effects.proofs.Vocabulary.{Opening, opening_in, Event, Response, HeadCase, Limits, head_case, BoundBy, has_loss, wait_in, case_at, case_of, head_view, denial, as_open, Entry, Flaw, entry_of, bound, bound_to, Tables, Exchange, Representation, Consumer, Sound, IsFirst, after_accepted, came_alone, status_in, Wait, Move, move_of, head_refusal, route_of, consumer_heard, waiting, waiting_place, current, event, case, place, by, wait, route}
+use Rattle.hc_effects.proofs.Vocabulary.{brings_part, brings_whole, Opening, opening_in, Event, Response, HeadCase, Limits, head_case, BoundBy, has_loss, wait_in, case_at, case_of, head_view, denial, as_open, Entry, Flaw, entry_of, bound, bound_to, Tables, Exchange, Representation, Consumer, Sound, IsFirst, after_accepted, came_alone, status_in, Wait, Move, move_of, head_refusal, route_of, consumer_heard, waiting, waiting_place, current, event, case, place, by, wait, route}
 use Rattle.hc_model.specs.Sound.{OneFirst}
 use Rattle.hc_model.specs.Sound as sound
 use Rattle.hc_effects.proofs.{BoundFrom.{BoundFrom, IsFounded, bound_from}, FoundBy.{CaseBy, case_by}, OpensFrom.{nobody_bound}, ExclusiveWriters.{bound_some}, RepFrom.{RepFrom, rep_from, stays}, Said.{IsPoll, IsOpening, WaitsAs, opening_by, waiting_by}}
@@ -15,6 +15,7 @@ use Rattle.hc_effects.proofs.FoundBy as cases
 use Rattle.hc_effects.proofs.RepFrom as rep
 use Rattle.hc_effects.proofs.Said as said
 use Rattle.hc_rules.specs.Refusals as refusals
+use Rattle.hc_rules.proofs.Statuses.{part_succeeds, whole_or_part}
 
 -- THE CASE OF A HEAD
 
@@ -27,20 +28,20 @@ pub case_of_head : (t : Tables) (e : Entry) (x : ℕ) (response : Response) (w :
 case_of_head t e x response w c at row is =
     subst (CaseBy (head_view t (has_loss e.acts) w response)) (some_inj (head_case (head_view t (has_loss e.acts) w response)) c (sym (case_is t e x response w at row) ∙ is)) (case_by (head_view t (has_loss e.acts) w response))
 
-pub whole_200 : (t : Tables) (lost : Bool) (w : Exchange) (response : Response) → CaseBy (head_view t lost w response) case.FoundsWhole → response.status ≡ 200
-whole_200 t lost w response (cases.founds_whole way status kept good) = status
+pub whole_brings : (t : Tables) (lost : Bool) (w : Exchange) (response : Response) → CaseBy (head_view t lost w response) case.FoundsWhole → brings_whole response.status ≡ true
+whole_brings t lost w response (cases.founds_whole way status kept good) = status
 
-pub replaced_200 : (t : Tables) (lost : Bool) (w : Exchange) (response : Response) → CaseBy (head_view t lost w response) case.FirstReplaced → response.status ≡ 200
-replaced_200 t lost w response (cases.first_replaced way shown status kept good) = status
+pub replaced_brings : (t : Tables) (lost : Bool) (w : Exchange) (response : Response) → CaseBy (head_view t lost w response) case.FirstReplaced → brings_whole response.status ≡ true
+replaced_brings t lost w response (cases.first_replaced way shown status kept good) = status
 
--- who founds with all of a body founds by a 200, and else knows its end
+-- who founds with all of a body founds by a whole, and else knows its end
 pub data Founds (t : Tables) (e : Entry) (lo : ℕ) (hi : Option ℕ) (response : Response) : Type 0 where
-  whole : response.status ≡ 200 → Founds t e lo hi response
+  whole : brings_whole response.status ≡ true → Founds t e lo hi response
   part : is_some hi ≡ true → Founds t e lo hi response
 
 pub founds_as : (t : Tables) (e : Entry) (c r lo : ℕ) (hi : Option ℕ) (how : BoundBy) (x : ℕ) (response : Response) (w : Exchange) (k : Consumer) (o : Option HeadCase) → e.event ≡ event.Head x response → t.exchange x ≡ Some w → case_at t e ≡ o → IsFounded t e c r lo hi how x response w k o → Founds t e lo hi response
-founds_as t e c r lo hi how x response w k _ at row is (from.whole a b) = whole (whole_200 t (has_loss e.acts) w response (case_of_head t e x response w case.FoundsWhole at row is))
-founds_as t e c r lo hi how x response w k _ at row is (from.replaced a b) = whole (replaced_200 t (has_loss e.acts) w response (case_of_head t e x response w case.FirstReplaced at row is))
+founds_as t e c r lo hi how x response w k _ at row is (from.whole a b) = whole (whole_brings t (has_loss e.acts) w response (case_of_head t e x response w case.FoundsWhole at row is))
+founds_as t e c r lo hi how x response w k _ at row is (from.replaced a b) = whole (replaced_brings t (has_loss e.acts) w response (case_of_head t e x response w case.FirstReplaced at row is))
 founds_as t e c r lo hi how x response w k _ at row is (from.part i) = part (sym (ap (λ (o : Option ℕ). is_some o) i.to))
 
 abbrev response_in : Event → Response → Response
@@ -71,20 +72,18 @@ module _ (limits : Limits) (t : Tables) (now : ℕ) (flaw : Flaw) (s : Sound t) 
       by_row (Some v) row there = status_by r v (now_on.representation r) row refl
 
   pub came_kept : (r lo : ℕ) (hi : Option ℕ) (how : BoundBy) → is_some (t.representation r) ≡ true → came_alone now_on (place.Bound r lo hi how) ≡ came_alone t (place.Bound r lo hi how)
-  came_kept r lo hi by.Founding there = ap (λ n. n == 206) (status_kept r there)
+  came_kept r lo hi by.Founding there = ap brings_part (status_kept r there)
   came_kept r lo hi _ there = refl
 
   -- the status of what a head founds is the head's
   founded_status : (x : ℕ) (response : Response) (u : Representation) → ev ≡ event.Head x response → t.representation x ≡ None → RepFrom t e x u → u.head.status ≡ response.status
   founded_status x response u at none it5 = grind (arith, nat_tests)
 
-  pub founded_came : (x lo : ℕ) (hi : Option ℕ) (response : Response) (o : Option Representation) → ev ≡ event.Head x response → t.representation x ≡ None → now_on.representation x ≡ o → (status_in o == 206) ≡ true → response.status ≡ 206
-  founded_came x lo hi response None at none is alone = absurd (let never : false ≡ true = alone in cc)
+  pub founded_came : (x lo : ℕ) (hi : Option ℕ) (response : Response) (o : Option Representation) → ev ≡ event.Head x response → t.representation x ≡ None → now_on.representation x ≡ o → brings_part (status_in o) ≡ true → brings_part response.status ≡ true
+  founded_came x lo hi response None at none is alone = absurd (omega (arith, (part_succeeds 0 alone).0))
   founded_came x lo hi response (Some u) at none is alone =
       let status : u.head.status ≡ response.status = founded_status x response u at none (rep_from t e x (t.representation x) u refl is) in
-      let test : nat_eq u.head.status 206 ≡ true = alone in
-      let number : u.head.status ≡ 206 = grind (arith, nat_tests) in
-      sym status ∙ number
+      sym (ap brings_part status) ∙ alone
 
   -- an accepted head is one of an open exchange without a head
   pub record IsNew (x : ℕ) (w : Exchange) : Type 0 where
@@ -104,10 +103,10 @@ module _ (limits : Limits) (t : Tables) (now : ℕ) (flaw : Flaw) (s : Sound t) 
 
   -- KNOWN ENDS
 
-  end_founded : (x lo : ℕ) (hi : Option ℕ) (response : Response) → ev ≡ event.Head x response → t.representation x ≡ None → Founds t e lo hi response → (status_in (now_on.representation x) == 206) ≡ true → is_some hi ≡ true
+  end_founded : (x lo : ℕ) (hi : Option ℕ) (response : Response) → ev ≡ event.Head x response → t.representation x ≡ None → Founds t e lo hi response → brings_part (status_in (now_on.representation x)) ≡ true → is_some hi ≡ true
   end_founded x lo hi response at none (part known) alone = known
   end_founded x lo hi response at none (whole status) alone =
-      absurd (let other : response.status ≡ 206 = founded_came x lo hi response (now_on.representation x) at none refl alone in omega arith)
+      absurd (whole_or_part response.status status (founded_came x lo hi response (now_on.representation x) at none refl alone))
 
   end_known : (c r lo : ℕ) (hi : Option ℕ) (how : BoundBy) (u : Consumer) → came_alone now_on (place.Bound r lo hi how) ≡ true → BoundFrom t e c r lo hi how u → is_some hi ≡ true
   end_known c r lo hi how u alone (from.stays k row at) =
@@ -115,8 +114,8 @@ module _ (limits : Limits) (t : Tables) (now : ℕ) (flaw : Flaw) (s : Sound t) 
       s.writes.known_end r c lo hi how k row.row at (sym (came_kept r lo hi how there) ∙ alone)
   end_known c r lo hi how u alone (from.founds k x response w row at exchange here of_r by_is all) =
       let new = is_new x response w at exchange in
-      let founding : (status_in (now_on.representation r) == 206) ≡ true = subst (λ (b : BoundBy). came_alone now_on (place.Bound r lo hi b) ≡ true) by_is alone in
-      end_founded x lo hi response at new.unfounded (founds_as t e c r lo hi how x response w k (case_at t e) at exchange refl all) (subst (λ q. (status_in (now_on.representation q) == 206) ≡ true) (sym of_r) founding)
+      let founding : brings_part (status_in (now_on.representation r)) ≡ true = subst (λ (b : BoundBy). came_alone now_on (place.Bound r lo hi b) ≡ true) by_is alone in
+      end_founded x lo hi response at new.unfounded (founds_as t e c r lo hi how x response w k (case_at t e) at exchange refl all) (subst (λ q. brings_part (status_in (now_on.representation q)) ≡ true) (sym of_r) founding)
   end_known c r lo hi how u alone (from.opens k o row is here free way hole) = sym (ap (λ (z : Option ℕ). is_some z) hole.interval.to)
   end_known c r lo hi how u alone (from.shows k z row is all) = absurd (let never : false ≡ true = subst (λ (b : BoundBy). came_alone now_on (place.Bound r lo hi b) ≡ true) all.by_is alone in cc)
 

@@ -6,7 +6,8 @@
 -- these cases, and so need not look at the table.
 use Rattle.std.{proofs.{Common.{◌≡◌, Bool, true, false, Some, refl, sym, ◌∙◌, subst, arith}, lemmas.Bool.Decides.{nat_tests}}, specs.Prelude.{◌&&◌, ◌||◌, ◌==◌, not, nat_eq, nat_le, if◌then◌else◌}}
 use Rattle.hc_text.proofs.Basics.{either, eq_is as is_number, and_left as left, never_true as not_so, not_true, and_right as right}
-use Rattle.hc_effects.proofs.Vocabulary.{Route, HeadCase, HeadView, head_case, case_on, direct_case, turn_case, first_case, later_case, route_of, is_founding, route, case}
+use Rattle.hc_effects.proofs.Vocabulary.{brings_part, brings_whole, Route, HeadCase, HeadView, head_case, case_on, direct_case, turn_case, first_case, later_case, route_of, is_founding, route, case}
+use Rattle.hc_rules.proofs.Statuses.{whole_succeeds, part_succeeds}
 
 -- the route that a case is of, and whether its consumer was shown a head
 pub record IsWay (v : HeadView) (way : Route) (shown : Bool) : Type 0 where
@@ -20,14 +21,14 @@ pub data CaseBy (v : HeadView) : HeadCase → Type 0 where
   validated : route_of v.need ≡ route.Turn → v.status ≡ 304 → v.conditional ≡ true → v.lost ≡ false → CaseBy v case.Validated
   not_validated : route_of v.need ≡ route.Turn → v.status ≡ 304 → CaseBy v case.NotValidated
   turn_server_error : route_of v.need ≡ route.Turn → CaseBy v case.TurnServerError
-  founds_whole : route_of v.need ≡ route.Turn → v.status ≡ 200 → v.lost ≡ false → v.bad ≡ false → CaseBy v case.FoundsWhole
-  founds_range : route_of v.need ≡ route.Turn → v.status ≡ 206 → v.fits ≡ true → v.lost ≡ false → v.bad ≡ false → CaseBy v case.FoundsRange
+  founds_whole : route_of v.need ≡ route.Turn → brings_whole v.status ≡ true → v.lost ≡ false → v.bad ≡ false → CaseBy v case.FoundsWhole
+  founds_range : route_of v.need ≡ route.Turn → brings_part v.status ≡ true → v.fits ≡ true → v.lost ≡ false → v.bad ≡ false → CaseBy v case.FoundsRange
   passes_by : route_of v.need ≡ route.Turn → CaseBy v case.PassesBy
   first_bad : route_of v.need ≡ route.Hole → v.shown ≡ false → v.bad ≡ true → CaseBy v case.FirstBad
   first_joins : route_of v.need ≡ route.Hole → v.shown ≡ false → v.joins ≡ true → v.bad ≡ false → CaseBy v case.FirstJoins
   first_server_error : route_of v.need ≡ route.Hole → v.shown ≡ false → CaseBy v case.FirstServerError
   first_changed : route_of v.need ≡ route.Hole → v.shown ≡ false → CaseBy v case.FirstChanged
-  first_replaced : route_of v.need ≡ route.Hole → v.shown ≡ false → v.status ≡ 200 → v.lost ≡ false → v.bad ≡ false → CaseBy v case.FirstReplaced
+  first_replaced : route_of v.need ≡ route.Hole → v.shown ≡ false → brings_whole v.status ≡ true → v.lost ≡ false → v.bad ≡ false → CaseBy v case.FirstReplaced
   first_passes_by : route_of v.need ≡ route.Hole → v.shown ≡ false → CaseBy v case.FirstPassesBy
   later_bad : route_of v.need ≡ route.Hole → v.shown ≡ true → v.bad ≡ true → CaseBy v case.LaterBad
   later_joins : route_of v.need ≡ route.Hole → v.shown ≡ true → v.joins ≡ true → v.bad ≡ false → CaseBy v case.LaterJoins
@@ -43,16 +44,16 @@ module _ (v : HeadView) where
       either (CaseBy v) (v.status == 304 && v.conditional && v.selects && not v.lost) _ _ (λ h. validated way (is_number v.status 304 (left (v.status == 304) _ (left _ v.selects (left _ (not v.lost) h)))) (right (v.status == 304) v.conditional (left _ v.selects (left _ (not v.lost) h))) (not_true v.lost (right _ (not v.lost) h))) (λ h0.
       either (CaseBy v) (v.status == 304 && v.conditional) _ _ (λ h. not_validated way (is_number v.status 304 (left (v.status == 304) _ h))) (λ h1.
       either (CaseBy v) (nat_le 500 v.status) _ _ (λ h. turn_server_error way) (λ h2.
-      either (CaseBy v) (v.status == 200 && v.storable && not v.lost) _ _ (λ h. founds_whole way (is_number v.status 200 (left (v.status == 200) _ (left _ (not v.lost) h))) (not_true v.lost (right _ (not v.lost) h)) good) (λ h3.
-      either (CaseBy v) (v.status == 206 && v.storable && v.fits && not v.lost) _ _ (λ h. founds_range way (is_number v.status 206 (left (v.status == 206) _ (left _ v.fits (left _ (not v.lost) h)))) (right _ v.fits (left _ (not v.lost) h)) (not_true v.lost (right _ (not v.lost) h)) good) (λ h4. passes_by way))))))
+      either (CaseBy v) (brings_whole v.status && v.storable && not v.lost) _ _ (λ h. founds_whole way (left (brings_whole v.status) _ (left _ (not v.lost) h)) (not_true v.lost (right _ (not v.lost) h)) good) (λ h3.
+      either (CaseBy v) (brings_part v.status && v.storable && v.fits && not v.lost) _ _ (λ h. founds_range way (left (brings_part v.status) _ (left _ v.fits (left _ (not v.lost) h))) (right _ v.fits (left _ (not v.lost) h)) (not_true v.lost (right _ (not v.lost) h)) good) (λ h4. passes_by way))))))
 
   first : route_of v.need ≡ route.Hole → v.shown ≡ false → CaseBy v (first_case v)
   first way shown =
       either (CaseBy v) v.bad _ _ (first_bad way shown) (λ good.
       either (CaseBy v) v.joins _ _ (λ h. first_joins way shown h good) (λ h0.
       either (CaseBy v) (nat_le 500 v.status) _ _ (λ h. first_server_error way shown) (λ h1.
-      either (CaseBy v) (v.status == 206 || v.status == 304 || v.status == 416) _ _ (λ h. first_changed way shown) (λ h2.
-      either (CaseBy v) (v.status == 200 && v.storable && not v.lost) _ _ (λ h. first_replaced way shown (is_number v.status 200 (left (v.status == 200) _ (left _ (not v.lost) h))) (not_true v.lost (right _ (not v.lost) h)) good) (λ h3. first_passes_by way shown)))))
+      either (CaseBy v) (brings_part v.status || v.status == 304 || v.status == 416) _ _ (λ h. first_changed way shown) (λ h2.
+      either (CaseBy v) (brings_whole v.status && v.storable && not v.lost) _ _ (λ h. first_replaced way shown (left (brings_whole v.status) _ (left _ (not v.lost) h)) (not_true v.lost (right _ (not v.lost) h)) good) (λ h3. first_passes_by way shown)))))
 
   later : route_of v.need ≡ route.Hole → v.shown ≡ true → CaseBy v (later_case v)
   later way shown =
@@ -72,9 +73,9 @@ module _ (v : HeadView) where
 
 -- why a head founds
 pub data FoundingBy (v : HeadView) : HeadCase → Type 0 where
-  whole : route_of v.need ≡ route.Turn → v.status ≡ 200 → v.lost ≡ false → FoundingBy v case.FoundsWhole
-  part : route_of v.need ≡ route.Turn → v.status ≡ 206 → v.fits ≡ true → v.lost ≡ false → v.bad ≡ false → FoundingBy v case.FoundsRange
-  replaced : route_of v.need ≡ route.Hole → v.status ≡ 200 → v.lost ≡ false → FoundingBy v case.FirstReplaced
+  whole : route_of v.need ≡ route.Turn → brings_whole v.status ≡ true → v.lost ≡ false → FoundingBy v case.FoundsWhole
+  part : route_of v.need ≡ route.Turn → brings_part v.status ≡ true → v.fits ≡ true → v.lost ≡ false → v.bad ≡ false → FoundingBy v case.FoundsRange
+  replaced : route_of v.need ≡ route.Hole → brings_whole v.status ≡ true → v.lost ≡ false → FoundingBy v case.FirstReplaced
 
 founding_of : (v : HeadView) (g : HeadCase) → CaseBy v g → is_founding (Some g) ≡ true → FoundingBy v g
 founding_of v _ (founds_whole way h l g) on = whole way h l
@@ -97,9 +98,9 @@ pub unchanged_founds : (v : HeadView) → v.status ≡ 304 → is_founding (Some
 unchanged_founds v status = not_so (is_founding (Some (head_case v))) (λ on. by_case (founding_by v on))
   where
     by_case : {g : HeadCase} → FoundingBy v g → ⊥
-    by_case (whole way h l) = let no : 304 ≡ 200 = sym status ∙ h in omega arith
-    by_case (part way h f l g) = let no : 304 ≡ 206 = sym status ∙ h in omega arith
-    by_case (replaced way h l) = let no : 304 ≡ 200 = sym status ∙ h in omega arith
+    by_case (whole way h l) = omega (arith, (whole_succeeds v.status h).1)
+    by_case (part way h f l g) = omega (arith, (part_succeeds v.status h).1)
+    by_case (replaced way h l) = omega (arith, (whole_succeeds v.status h).1)
 
 -- WHAT IS VALIDATED
 

@@ -4,10 +4,10 @@
 -- into one form, for what is founded and for what is lost at once (`founds_does`, `lost_does`), with what goes
 -- (`replaces`). Then what is told of it: whether it is a part (`status_is`), what its consumer wants of that
 -- (`part_wanted`), and that this one was shown no head yet (`founder_unshown`).
-use Rattle.std.{proofs.Common.{◌≡◌, ◌≢◌, ℕ, ◌+◌, ◌-◌, ◌≤◌, List, [], ◌∷◌, ◌++◌, Bool, true, false, Option, Some, None, refl, ap, sym, ◌∙◌, subst, arith}, specs.Prelude.{◌==◌, ◌||◌, bytes_eq, codes, is_some, map, if◌then◌else◌}}
+use Rattle.std.{proofs.lemmas.Bool.Decides.{nat_tests}, proofs.Common.{◌<◌, ◌≡◌, ◌≢◌, ℕ, ◌+◌, ◌-◌, ◌≤◌, List, [], ◌∷◌, ◌++◌, Bool, true, false, Option, Some, None, refl, ap, sym, ◌∙◌, subst, arith}, specs.Prelude.{nat_eq, ◌||◌, bytes_eq, codes, is_some, map, if◌then◌else◌}}
 use Rattle.hc_text.proofs.Basics.{and_left, and_right, not_some as none_some}
 use Rattle.hc_range.specs.{declared.range.{Asked.{Asked}, Span.{Span}, ContentRange.{ContentRange}}, Spans.{resolved_span}}
-use Rattle.hc_effects.proofs.Vocabulary.{range, act, event, case, route, wanted, by, LostKind, Event, Request, Response, HeadCase, Limits, head_case, is_storable, fits_to_found, fits_part, begins_at, length_of, content_length_of, part_length, promise_of, agrees, is_head, route_of, content_range_of, is_get, range_of, wanted_of, strong_of, head_view, is_founding, fits_asker, was_shown, bound_by_total, current, is_number, denial, Does, with_event, let_all_go, let_some_go, with_consumer, with_answer, with_founding, just_founded, entry_without_acts, promise_in, NoFlaw, Loses, goes_by_case, founded_total, total_of_part, Lawful, IsAwaiting, Tables, Exchange, Consumer, with_item_first, evicted}
+use Rattle.hc_effects.proofs.Vocabulary.{brings_part, range, act, event, case, route, wanted, by, LostKind, Event, Request, Response, HeadCase, Limits, head_case, is_storable, fits_to_found, fits_part, begins_at, length_of, content_length_of, part_length, promise_of, agrees, is_head, route_of, content_range_of, is_get, range_of, wanted_of, strong_of, head_view, is_founding, fits_asker, was_shown, bound_by_total, current, is_number, denial, Does, with_event, let_all_go, let_some_go, with_consumer, with_answer, with_founding, just_founded, entry_without_acts, promise_in, NoFlaw, Loses, goes_by_case, founded_total, total_of_part, Lawful, IsAwaiting, Tables, Exchange, Consumer, with_item_first, evicted}
 use Rattle.hc_rules.specs.declared.length.Length.TheVariants as says
 use Rattle.hc_rules.proofs.RangeReads.{same_bytes}
 use Rattle.hc_fields.specs.FieldElements.{elements_in}
@@ -15,6 +15,7 @@ use Rattle.hc_event.specs.declared.place.Place.TheVariants as place
 use Rattle.hc_model.specs.Owners as owners
 use Rattle.hc_effects.proofs.{Basics.{false_true}, FoundBy.{CaseBy, case_by}, FoundCases.{whole_lost, range_lost, replaced_lost, range_storable}, FoundEffects.{adds_one, founds_whole, founds_range, first_replaced, passes_by_lost, first_replaced_lost}, HeadFacts.{waiter}, SameTables.{is_in, in_one}, ToldNumbers.{range_early}}
 use Rattle.hc_effects.proofs.FoundBy as cases
+use Rattle.hc_rules.proofs.Statuses.{whole_is_no_part, part_succeeds, part_not_204}
 
 pub data Founds : HeadCase → Type 0 where
   whole : Founds case.FoundsWhole
@@ -67,12 +68,16 @@ pub storable_get : (request : Request) (response : Response) → is_storable req
 unfolding is_storable
 storable_get request response on = and_left (is_get request) _ (and_left _ _ (and_left _ _ on))
 
-pub part_has : (w : Exchange) (response : Response) → route_of w.need ≡ route.Turn → response.status ≡ 206 → is_get w.request ≡ true → promise_in w response ≢ Some 0
+pub part_has : (w : Exchange) (response : Response) → route_of w.need ≡ route.Turn → brings_part response.status ≡ true → is_get w.request ≡ true → promise_in w response ≢ Some 0
 unfolding length_of
 part_has w response way status get none = by_range (content_range_of response.fields) refl (sym promise_is ∙ none)
   where
     promise_is : promise_in w response ≡ promise_of (part_length (content_length_of (elements_in (codes "content-length") response.fields)) (content_range_of response.fields))
-    promise_is = (let bodied = get_no_head w.request get in rw (bodied, way, status) refl)
+    promise_is =
+        let bodied = get_no_head w.request get in
+        let full = part_not_204 response.status status in
+        let changed : nat_eq response.status 304 ≡ false = (let low : response.status < 300 = (part_succeeds response.status status).1 in grind (arith, nat_tests)) in
+        rw (bodied, full, changed, way, status) refl
 
     by_agreed : (b : Bool) (first last : ℕ) → first ≤ last → promise_of (if b then says.Part first (last + 1 - first) else says.Bad) ≡ Some 0 → ⊥
     by_agreed false first last le is = none_some 0 is
@@ -118,22 +123,19 @@ module _ (limits : Limits) (t : Tables) (law : Lawful t) (now x : ℕ) (response
 
   -- WHAT IS FOUNDED
 
-  is_200 : response.status ≡ 200 → (response.status == 206) ≡ false
-  is_200 status = ap (λ n. n == 206) status
-
-  pub status_is : (g : HeadCase) → Founds g → Is g → (response.status == 206) ≡ is_part g
+  pub status_is : (g : HeadCase) → Founds g → Is g → brings_part response.status ≡ is_part g
   status_is _ whole is = by_case (case_as case.FoundsWhole is)
     where
-      by_case : CaseBy (head_view t false w response) case.FoundsWhole → (response.status == 206) ≡ false
-      by_case (cases.founds_whole way status kept good) = is_200 status
+      by_case : CaseBy (head_view t false w response) case.FoundsWhole → brings_part response.status ≡ false
+      by_case (cases.founds_whole way status kept good) = whole_is_no_part response.status status
   status_is _ part is = by_case (case_as case.FoundsRange is)
     where
-      by_case : CaseBy (head_view t false w response) case.FoundsRange → (response.status == 206) ≡ true
-      by_case (cases.founds_range way status fits kept good) = ap (λ n. n == 206) status
+      by_case : CaseBy (head_view t false w response) case.FoundsRange → brings_part response.status ≡ true
+      by_case (cases.founds_range way status fits kept good) = status
   status_is _ replaced is = by_case (case_as case.FirstReplaced is)
     where
-      by_case : CaseBy (head_view t false w response) case.FirstReplaced → (response.status == 206) ≡ false
-      by_case (cases.first_replaced way shown status kept good) = is_200 status
+      by_case : CaseBy (head_view t false w response) case.FirstReplaced → brings_part response.status ≡ false
+      by_case (cases.first_replaced way shown status kept good) = whole_is_no_part response.status status
 
   pub total_whole : (g : HeadCase) → Founds g → Is g → is_part g ≡ false → founded_total w response ≡ promise_in w response
   total_whole g founds is off = rw (status_is g founds is, off) refl

@@ -4,9 +4,9 @@
 -- nothing. With the acts that gives `parts_are_kept`. Why a representation goes is read off the tests of
 -- `becomes_gone`, one by one. Where neither event nor acts speak of a representation, none of those reasons holds, so
 -- its row stays as it was. The same for exchanges: an event and acts that do not speak of one leave its row.
-use Rattle.std.{proofs.{Common.{◌≡◌, inl, inr, ℕ, List, Bool, true, false, Option, Some, None, refl, ap, sym, ◌∙◌, arith}, lemmas.Bool.Decides.{nat_tests}}, specs.Prelude.{nat_eq, ◌==◌, ◌||◌, ◌&&◌, not, if◌then◌else◌}}
+use Rattle.std.{proofs.{Common.{◌≡◌, inl, inr, ℕ, List, Bool, true, false, Option, Some, None, refl, ap, sym, ◌∙◌, arith}, lemmas.Bool.Decides.{nat_tests}}, specs.Prelude.{◌==◌, ◌||◌, ◌&&◌, not, if◌then◌else◌}}
 use Rattle.hc_text.proofs.Basics.{and_left, and_right, bool_cases, not_true as not_keepable, never_true as not_so, or_cases, some_inj}
-use Rattle.hc_effects.proofs.Vocabulary.{Opening, opening_in, asks_in, closes_in, evicts_in, Event, Response, HeadCase, loses_in, misreads_in, has_loss, case_at, case_of, is_updating, current, is_current, is_number, doomed_key_of, bypass_key, is_key, Entry, entry_without_acts, exchange_after, exchange_heard, exchange_acted, exchange_made, family, exchange_at, exchange_in, becomes_gone, goes_itself, goes_by_case, goes_by_exchange, goes_by_head, is_current_of, ends_early, ends_founding, stops_early, is_keepable, representation_after, representation_heard, representation_acted, representation_after_head, updates, representation_after_piece, with_total_if_none, length_in, founded_at, Tables, Exchange, Representation, event, case}
+use Rattle.hc_effects.proofs.Vocabulary.{brings_whole, Opening, opening_in, asks_in, closes_in, evicts_in, Event, Response, HeadCase, loses_in, misreads_in, has_loss, case_at, case_of, is_updating, current, is_current, is_number, doomed_key_of, bypass_key, is_key, Entry, entry_without_acts, exchange_after, exchange_heard, exchange_acted, exchange_made, family, exchange_at, exchange_in, becomes_gone, goes_itself, goes_by_case, goes_by_exchange, goes_by_head, is_current_of, ends_early, ends_founding, stops_early, is_keepable, representation_after, representation_heard, representation_acted, representation_after_head, updates, representation_after_piece, with_total_if_none, length_in, founded_at, Tables, Exchange, Representation, event, case}
 use Rattle.hc_model.specs.Frames.{updates_row, is_headed, is_of_family, is_filled, is_ended, KeepsParts, PartsAreKept, answers_about, head_about, is_event_of, is_current_for, are_acts_of, speaks_of, OthersStay, OthersDontGo, GoesBy, GoneIsCaused, is_opened, speaks_of_exchange, ExchangesStay}
 use Rattle.hc_model.specs.Frames as frames
 use Rattle.hc_effects.proofs.{Basics.{false_true, or_false, number_is, number_yes}, KeyNames.{key_is}}
@@ -108,9 +108,6 @@ parts_are_kept t e r v row =
 
 -- WHY IT GOES
 
-status_is : (n : ℕ) → (n == 200) ≡ true → n ≡ 200
-status_is n h = let test : nat_eq n 200 ≡ true = h in grind (arith, nat_tests)
-
 module _ (t : Tables) (e : Entry) (r : ℕ) (v : Representation) where
   caused_key : (is_current t v.key r && (is_key (doomed_key_of t e) v.key || is_key (bypass_key e) v.key)) ≡ true → GoesBy t e r v
   caused_key h =
@@ -136,14 +133,14 @@ module _ (t : Tables) (e : Entry) (r : ℕ) (v : Representation) where
   caused_head (event.Fault x) at h = absurd (no_head (event.Fault x) (t.exchange x) at refl h)
   caused_head _ at h = absurd (false_true h)
 
-  caused_stop : (z : Option Exchange) → t.exchange r ≡ z → v.head.status ≡ 200 → is_keepable v ≡ false → ends_founding e r z ≡ true → GoesBy t e r v
+  caused_stop : (z : Option Exchange) → t.exchange r ≡ z → brings_whole v.head.status ≡ true → is_keepable v ≡ false → ends_founding e r z ≡ true → GoesBy t e r v
   caused_stop None row status off h = absurd (false_true h)
   caused_stop (Some w) row status off h = frames.by_stop w row (and_left w.is_open _ h) status off (and_right w.is_open _ h)
 
   caused_early : (ends_early t e r v && not (is_keepable v)) ≡ true → GoesBy t e r v
   caused_early h =
       let early : ends_early t e r v ≡ true = and_left (ends_early t e r v) _ h in
-      caused_stop (t.exchange r) refl (status_is v.head.status (and_left (v.head.status == 200) _ early)) (not_keepable (is_keepable v) (and_right (ends_early t e r v) _ h)) (and_right (v.head.status == 200) _ early)
+      caused_stop (t.exchange r) refl (and_left (brings_whole v.head.status) _ early) (not_keepable (is_keepable v) (and_right (ends_early t e r v) _ h)) (and_right (brings_whole v.head.status) _ early)
 
   caused_itself : goes_itself t e r v ≡ true → GoesBy t e r v
   caused_itself h = elim (or_cases _ (ends_early t e r v && not (is_keepable v)) h) [

@@ -4,9 +4,9 @@
 -- `may_join`). The test of joining says that the head is a 206 for the hole, with the tag and the total of what is
 -- stored (`IsFilling`, `filling`). Its length is then a part that lies in the hole, or it has no body (`lies_hole`,
 -- `lies`). HeadKeeps builds on these.
-use Rattle.std.{proofs.{Common.{◌≡◌, ◌≢◌, ℕ, ◌+◌, ◌-◌, ◌<◌, ◌≤◌, Bool, true, false, cond, List, Option, Some, None, refl, sym, ◌∙◌, subst, arith}, lemmas.Bool.Decides.{nat_tests}}, specs.Prelude.{codes, ◌==◌}}
+use Rattle.std.{proofs.{Common.{◌≡◌, ◌≢◌, ℕ, ◌+◌, ◌-◌, ◌<◌, ◌≤◌, Bool, true, false, cond, List, Option, Some, None, refl, sym, ◌∙◌, subst, arith}, lemmas.Bool.Decides.{nat_tests}}, specs.Prelude.{codes}}
 use Rattle.hc_text.proofs.Basics.{either}
-use Rattle.hc_effects.proofs.Vocabulary.{range, need, route, case, Response, Request, Need, Route, HeadCase, HeadView, Length, head_case, case_on, direct_case, turn_case, first_case, later_case, length_of, content_length_of, part_length, has_no_body, route_of, content_range_of, Representation, is_joining, joins_row, joins_by}
+use Rattle.hc_effects.proofs.Vocabulary.{brings_part, range, need, route, case, Response, Request, Need, Route, HeadCase, HeadView, Length, head_case, case_on, direct_case, turn_case, first_case, later_case, length_of, content_length_of, part_length, has_no_body, route_of, content_range_of, Representation, is_joining, joins_row, joins_by}
 use Rattle.hc_rules.specs.declared.length.Length.TheVariants as told
 use Rattle.hc_rules.proofs.JoinLaws.{joins-right}
 use Rattle.hc_fields.specs.FieldElements.{elements_in}
@@ -68,7 +68,7 @@ pub record IsFilling (n : Need) (o : Option Representation) (response : Response
   pub known : v.head.total ≡ Some total
   pub part : content_range_of response.fields ≡ Some (range.Part from last (Some total))
   pub within : last < to
-  pub status : response.status ≡ 206
+  pub status : brings_part response.status ≡ true
 
 filling_by : (from to : ℕ) (v : Representation) (response : Response) (opaque : Option (List ℕ)) (total : Option ℕ) → v.head.joining ≡ opaque → v.head.total ≡ total → joins_by opaque total (record { lo = from; hi = to }) response ≡ true → IsFilling (need.Hole from to) (Some v) response
 filling_by from to v response None total tag known h = absurd (let never : false ≡ true = h in cc)
@@ -95,15 +95,14 @@ lies_part from to last total said below =
 first_side : (from to : ℕ) (b : Bool) (x y : Length) → b ≡ true → LiesIn from to x → LiesIn from to (cond b x y)
 first_side from to b x y is lies = grind (arith, nat_tests)
 
-lies_hole : (from to last total : ℕ) (request : Request) (response : Response) → response.status ≡ 206 → content_range_of response.fields ≡ Some (range.Part from last (Some total)) → last < to → LiesIn from to (length_of (need.Hole from to) request response)
+lies_hole : (from to last total : ℕ) (request : Request) (response : Response) → brings_part response.status ≡ true → content_range_of response.fields ≡ Some (range.Part from last (Some total)) → last < to → LiesIn from to (length_of (need.Hole from to) request response)
 unfolding length_of
 lies_hole from to last total request response status part below =
-    let is_part : (response.status == 206) ≡ true = grind (arith, nat_tests) in
     let said = content_length_of (elements_in (codes "content-length") response.fields) in
     let here : LiesIn from to (part_length said (content_range_of response.fields)) = rw part (lies_part from to last total said below) in
-    mix (LiesIn from to) (has_no_body request response.status) (told.Promised 0) _ empty (first_side from to (response.status == 206) _ _ is_part here)
+    mix (LiesIn from to) (has_no_body request response.status) (told.Promised 0) _ empty (first_side from to (brings_part response.status) _ _ status here)
 
--- the head that joins is a 206 to a hole
+-- the head that joins is a part for a hole
 pub lies : (n : Need) (o : Option Representation) (request : Request) (response : Response) (f : IsFilling n o response) → LiesIn f.from f.to (length_of n request response)
 lies n o request response f =
     subst (λ (m : Need). LiesIn f.from f.to (length_of m request response)) (sym f.need_is)

@@ -6,7 +6,7 @@
 -- said (`far`). `leaves` joins this into the tables.
 use Rattle.std.{proofs.{lemmas.Bool.Decides.{nat_tests}, Common.{arith, ◌≡◌, inl, inr, ℕ, List, [], ◌∷◌, ◌++◌, Bool, true, false, Option, Some, None, refl, ap, sym, ◌∙◌}}, specs.Prelude.{◌&&◌, ◌||◌, ◌==◌, not, nat_eq, if◌then◌else◌, map, option_map}}
 use Rattle.hc_text.proofs.Basics.{bool_cases, eqb-same, not_some as none_some, or_false as or_off, or_rest, plus_none, and_off as then_false}
-use Rattle.hc_effects.proofs.Vocabulary.{Opening, opening_in, asks_in, closes_in, evicts_in, leaves_in, shows_in, given_in, Act, Cause, Event, Limits, loses_in, misreads_in, showing_in, wait_in, accepted_acts, answer_acts, loss_acts, is_asked, closing, leaver_by, consumer_after, consumer_acted, consumer_heard, is_current, is_number, with_event, with_consumer, let_all_go, over, as_gone, as_over, left_by, is_unkeepable, going_with, Entry, exchange_after, is_open, Flaw, NoFlaw, becomes_gone, ends_early, ends_founding, is_keepable, Lawful, is_failed_read, representation_after, Tables, Exchange, Representation, Consumer, loses_what_it_waits_for, after_accepted, with_item_first, starts_after, last_start_after, opened_after, openings_after, act, cause}
+use Rattle.hc_effects.proofs.Vocabulary.{brings_whole, Opening, opening_in, asks_in, closes_in, evicts_in, leaves_in, shows_in, given_in, Act, Cause, Event, Limits, loses_in, misreads_in, showing_in, wait_in, accepted_acts, answer_acts, loss_acts, is_asked, closing, leaver_by, consumer_after, consumer_acted, consumer_heard, is_current, is_number, with_event, with_consumer, let_all_go, over, as_gone, as_over, left_by, is_unkeepable, going_with, Entry, exchange_after, is_open, Flaw, NoFlaw, becomes_gone, ends_early, ends_founding, is_keepable, Lawful, is_failed_read, representation_after, Tables, Exchange, Representation, Consumer, loses_what_it_waits_for, after_accepted, with_item_first, starts_after, last_start_after, opened_after, openings_after, act, cause}
 use Rattle.hc_event.specs.declared.event.Event.TheVariants as event
 use Rattle.hc_event.specs.declared.place.Place.TheVariants as place
 use Rattle.hc_effects.proofs.{ActParts.{IsFarFrom, far_closing, far_lost_only, closes_before, evicts_closed, loses_closed, asks_closed, asks_loss}, Basics.{false_true, number_is}, ConsumerEffects.{after_by, others}, OfConsumers.{IsOf, BringsNothing, brings_nothing, left_open, closes_left, goes_as, row_acted, consumer_itself, binds_none}, SameTables.{is_in, in_one, shut}, Untouched.{own_stays, spared_bodiless, exchange_absent}, OpeningPoll.{no_misread}}
@@ -176,19 +176,19 @@ module _ (limits : Limits) (t : Tables) (law : Lawful t) (now c : ℕ) (k : Cons
       by_left : (z : Option ℕ) → left_by t c k ≡ z → (ends_early t e r v && not (is_keepable v)) ≡ is_number (going_with t z) r
       by_left None left =
           let off : closes_in r (front ++ rest) ≡ false = closes_as r ∙ (in_one (left_by t c k) r ∙ ap (λ z. is_number z r) left) in
-          rw (founding (t.exchange r) false off (λ on. absurd (false_true on))) (drop_false (v.head.status == 200) (not (is_keepable v)))
+          rw (founding (t.exchange r) false off (λ on. absurd (false_true on))) (drop_false (brings_whole v.head.status) (not (is_keepable v)))
       by_left (Some x) left = elim (bool_cases (nat_eq x r)) [
         | inl here ↦
             let on : closes_in r (front ++ rest) ≡ true = closes_as r ∙ (in_one (left_by t c k) r ∙ (ap (λ z. is_number z r) left ∙ here)) in
             let same : Some x ≡ Some r = number_is (Some x) r here in
             rw (founding (t.exchange r) true on (λ _. left_open t law.sound law.owned c k row r (left ∙ same)))
-            (drop_true (v.head.status == 200) (not (is_keepable v))
-            ∙ (by_test (v.head.status == 200 && not (is_keepable v))
+            (drop_true (brings_whole v.head.status) (not (is_keepable v))
+            ∙ (by_test (brings_whole v.head.status && not (is_keepable v))
             ∙ (ap (λ (z : Option Representation). is_number (if is_unkeepable z then Some r else None) r) (sym there)
             ∙ ap (λ z. is_number (going_with t z) r) (sym same))))
         | inr apart ↦
             let off : closes_in r (front ++ rest) ≡ false = closes_as r ∙ (in_one (left_by t c k) r ∙ (ap (λ z. is_number z r) left ∙ apart)) in
-            rw (founding (t.exchange r) false off (λ on. absurd (false_true on))) (drop_false (v.head.status == 200) (not (is_keepable v)) ∙ sym (other x (is_unkeepable (t.representation x)) apart))
+            rw (founding (t.exchange r) false off (λ on. absurd (false_true on))) (drop_false (brings_whole v.head.status) (not (is_keepable v)) ∙ sym (other x (is_unkeepable (t.representation x)) apart))
       ]
 
   -- by a loss, a failed read, or with what founded it

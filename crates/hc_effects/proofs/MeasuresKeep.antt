@@ -4,11 +4,11 @@
 -- (`about`), so what it brings is what fills the body (`one_piece`): front and reach move together. A head that comes
 -- joins a body or founds one; there the measure is read off the head (`founded_measured`). `brings_kept` joins this;
 -- `tight_kept` and `within_kept` are of the body alone.
-use Rattle.std.{proofs.{Common.{◌≡◌, ◌⊎◌, inl, inr, ℕ, ◌+◌, ◌<◌, ◌≤◌, List, [], length, true, false, Option, Some, None, refl, ap, sym, ◌∙◌, subst, arith, max, length-append}, lemmas.Bool.Decides.{nat_tests}}, specs.{Prelude.{if◌then◌else◌, is_some, nat_eq, unwrap_or}, Option.{option_or}}}
-use Rattle.hc_text.proofs.Basics.{and_right, bool_cases, not_some as none_some, number_not, same_some as same_row}
+use Rattle.std.{proofs.{Common.{◌≡◌, ◌⊎◌, inl, inr, ℕ, ◌+◌, ◌<◌, ◌≤◌, List, [], length, true, false, Option, Some, None, refl, ap, sym, ◌∙◌, subst, arith, max, length-append}, lemmas.Bool.Decides.{nat_tests}}, specs.{Prelude.{if◌then◌else◌, is_some, unwrap_or}, Option.{option_or}}}
+use Rattle.hc_text.proofs.Basics.{and_right, bool_cases, not_some as none_some, same_some as same_row}
 use Rattle.hc_sparse.specs.Cells.{cells_with}
 use Rattle.hc_range.specs.declared.range.{Asked.{Asked}, ContentRange.{ContentRange}}
-use Rattle.hc_effects.proofs.Vocabulary.{range, event, route, Response, HeadCase, Length, head_case, fits_to_found, fits_part, length_of, base_of, promise_of, is_bad, route_of, content_range_of, piece_refusal, end_refusal, range_of, has_loss, case_at, head_view, is_founding, is_joining, fits_asker, denial, as_open, Entry, base, promised_bytes, front, family, length_by, founded_total, entry_of, Measures, IsMeasured, new_representation, length_in, Tables, Exchange, Representation, Consumer, IsAbout, after_accepted}
+use Rattle.hc_effects.proofs.Vocabulary.{brings_part, brings_whole, range, event, route, Response, HeadCase, Length, head_case, fits_to_found, fits_part, length_of, base_of, promise_of, is_bad, route_of, content_range_of, piece_refusal, end_refusal, range_of, has_loss, case_at, head_view, is_founding, is_joining, fits_asker, denial, as_open, Entry, base, promised_bytes, front, family, length_by, founded_total, entry_of, Measures, IsMeasured, new_representation, length_in, Tables, Exchange, Representation, Consumer, IsAbout, after_accepted}
 use Rattle.hc_rules.specs.Refusals as refusals
 use Rattle.hc_model.specs.Measures as measures
 use Rattle.hc_model.specs.Sound as sound
@@ -17,6 +17,7 @@ use Rattle.hc_effects.proofs.ExchangeFrom as exchange
 use Rattle.hc_effects.proofs.Fills as fills_by
 use Rattle.hc_effects.proofs.FoundBy as cases
 use Rattle.hc_effects.proofs.RepFrom as rep
+use Rattle.hc_rules.proofs.Statuses.{whole_is_no_part}
 
 -- a part that fits to found tells its length
 pub record IsPart (response : Response) : Type 0 where
@@ -198,9 +199,9 @@ module _ (step : Step) (m : Measures step.tables) where
     body_none : z.body ≡ []
     body_none = got.body_is ∙ (s.waits.headless x w row bare).0
 
-    whole : is_joining (case_at t e) ≡ false → got.response.status ≡ 200 → IsMeasured z founded_now
+    whole : is_joining (case_at t e) ≡ false → brings_whole got.response.status ≡ true → IsMeasured z founded_now
     whole unjoined status =
-        let off : nat_eq got.response.status 206 ≡ false = number_not got.response.status 206 (λ is. let no : 200 ≡ 206 = sym status ∙ is in absurd (omega arith)) in
+        let off : brings_part got.response.status ≡ false = whole_is_no_part got.response.status status in
         let first : base z ≡ 0 = ap base_of length_is ∙ whole_base w.need w.request got.response off in
         let known : founded_total w got.response ≡ promise_of told_length = rw off refl in
         by_promise (promise_of told_length) refl first known
@@ -209,10 +210,10 @@ module _ (step : Step) (m : Measures step.tables) where
         by_promise None is first known = measures.untold (ap promise_of length_is ∙ is) (known ∙ is) first (got.joined_is ∙ (rw unjoined (s.waits.headless x w row bare).1)) (ap (λ (b : List ℕ). length b) body_none)
         by_promise (Some n) is first known = measures.told n n (ap promise_of length_is ∙ is) (known ∙ is) (omega arith)
 
-    part : (route_of w.need ≡ route.Direct → ⊥) → got.response.status ≡ 206 → fits_asker (t.consumer w.c) got.response ≡ true → is_bad told_length ≡ false → IsMeasured z founded_now
+    part : (route_of w.need ≡ route.Direct → ⊥) → brings_part got.response.status ≡ true → fits_asker (t.consumer w.c) got.response ≡ true → is_bad told_length ≡ false → IsMeasured z founded_now
     part past status fits good =
         let p = asker_by (t.consumer w.c) got.response fits in
-        let on : nat_eq got.response.status 206 ≡ true = (let st : got.response.status ≡ 206 = status in grind (arith, nat_tests)) in
+        let on : brings_part got.response.status ≡ true = status in
         let known : founded_total w got.response ≡ Some p.total = rw (on, p.told) refl in
         measured_within p.total founded_now (part_within w.need w.request got.response p.first p.last p.total past status p.told good) known
 

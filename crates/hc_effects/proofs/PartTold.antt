@@ -4,11 +4,11 @@
 -- (`with_order`). So a part that a head tells is in order (`part_order`). Where its length isn't bad the head promises
 -- as many bytes as the part has, or it has no body (`part_told`); so it ends by the total (`part_within`). A whole
 -- answer begins at the first position (`whole_base`).
-use Rattle.std.{proofs.{Common.{◌≡◌, inl, inr, ℕ, ◌+◌, ◌-◌, ◌<◌, ◌≤◌, List, [], ◌∷◌, Bool, true, false, cond, Option, Some, None, refl, arith}, lemmas.Bool.Decides.{nat_tests}}, specs.{Prelude.{nat_eq, nat_lt, codes, bytes_eq, if◌then◌else◌, option_map, take, drop}, Option.{option_and_then}, Str.{str_to_ascii_lowercase}}}
+use Rattle.std.{proofs.{Common.{◌≡◌, inl, inr, ℕ, ◌+◌, ◌-◌, ◌<◌, ◌≤◌, List, [], ◌∷◌, Bool, true, false, cond, Option, Some, None, refl, arith}, lemmas.Bool.Decides.{nat_tests}}, specs.{Prelude.{nat_lt, codes, bytes_eq, if◌then◌else◌, option_map, take, drop}, Option.{option_and_then}, Str.{str_to_ascii_lowercase}}}
 use Rattle.hc_text.proofs.Basics.{bool_cases, not_some as none_some, some_inj}
 use Rattle.hc_fields.specs.{FieldElements.{elements_in}, FieldList.{values_of}, FirstValues.{only_of}}
 use Rattle.hc_range.specs.declared.range.Asked.{Asked, TheVariants.{FromTo, From, Last}}
-use Rattle.hc_effects.proofs.Vocabulary.{range, route, Request, Response, Need, Length, Route, length_of, base_of, promise_of, is_bad, part_length, agrees, content_length_of, has_no_body, tells_part, route_of, content_range_of, content_range_in, spec_in, positions_from, positions_by, from_to, number_of, split_at, hyphen}
+use Rattle.hc_effects.proofs.Vocabulary.{brings_part, range, route, Request, Response, Need, Length, Route, length_of, base_of, promise_of, is_bad, part_length, agrees, content_length_of, has_no_body, tells_part, route_of, content_range_of, content_range_in, spec_in, positions_from, positions_by, from_to, number_of, split_at, hyphen}
 use Rattle.hc_rules.specs.declared.length.Length.TheVariants as told
 use Rattle.hc_rules.specs.RangeTexts.{response_in, response_from, content_range_from, with_total, without_part, slash}
 
@@ -105,12 +105,12 @@ within_part first last total said i =
     (λ good. let a : first ≤ last = i.is_sorted in let b : last < total = i.within in record { n = last + 1 - first; promise = refl; ends = omega arith })
     (λ bad. absurd (let never : true ≡ false = bad in cc))
 
-by_way : (way : Route) (status : ℕ) → (way ≡ route.Direct → ⊥) → status ≡ 206 → tells_part way status ≡ true
+by_way : (way : Route) (status : ℕ) → (way ≡ route.Direct → ⊥) → brings_part status ≡ true → tells_part way status ≡ true
 by_way route.Direct status past is = absurd (past refl)
-by_way _ status past is = let test : nat_eq status 206 ≡ true = grind (arith, nat_tests) in test
+by_way _ status past is = is
 
 -- a part that isn't bad promises bytes within the whole
-pub part_within : (n : Need) (request : Request) (response : Response) (first last total : ℕ) → (route_of n ≡ route.Direct → ⊥) → response.status ≡ 206 → content_range_of response.fields ≡ Some (range.Part first last (Some total)) → is_bad (length_of n request response) ≡ false → IsWithin total (length_of n request response)
+pub part_within : (n : Need) (request : Request) (response : Response) (first last total : ℕ) → (route_of n ≡ route.Direct → ⊥) → brings_part response.status ≡ true → content_range_of response.fields ≡ Some (range.Part first last (Some total)) → is_bad (length_of n request response) ≡ false → IsWithin total (length_of n request response)
 unfolding length_of
 part_within n request response first last total past status part =
     let said = content_length_of (elements_in (codes "content-length") response.fields) in
@@ -126,11 +126,11 @@ plain_told elements = grind (arith, nat_tests)
 base_if : (b : Bool) (x y : Length) → base_of x ≡ 0 → base_of y ≡ 0 → base_of (cond b x y) ≡ 0
 base_if b x y p q = grind (arith, nat_tests)
 
-off_way : (way : Route) (status : ℕ) → nat_eq status 206 ≡ false → tells_part way status ≡ false
+off_way : (way : Route) (status : ℕ) → brings_part status ≡ false → tells_part way status ≡ false
 off_way way status off = grind (arith, nat_tests)
 
 -- a whole answer begins at the first position
-pub whole_base : (n : Need) (request : Request) (response : Response) → nat_eq response.status 206 ≡ false → base_of (length_of n request response) ≡ 0
+pub whole_base : (n : Need) (request : Request) (response : Response) → brings_part response.status ≡ false → base_of (length_of n request response) ≡ 0
 unfolding length_of
 whole_base n request response off =
     base_if (has_no_body request response.status) (told.Promised 0) _ refl
@@ -146,7 +146,7 @@ pub data IsTold (first last : ℕ) (l : Length) : Type 0 where
 told_if : (first last : ℕ) (b : Bool) (x y : Length) → (is_bad x ≡ false → IsTold first last x) → (is_bad y ≡ false → IsTold first last y) → is_bad (cond b x y) ≡ false → IsTold first last (cond b x y)
 told_if first last b x y p q = grind (arith, nat_tests)
 
-pub part_told : (n : Need) (request : Request) (response : Response) (first last total : ℕ) → (route_of n ≡ route.Direct → ⊥) → response.status ≡ 206 → content_range_of response.fields ≡ Some (range.Part first last (Some total)) → is_bad (length_of n request response) ≡ false → IsTold first last (length_of n request response)
+pub part_told : (n : Need) (request : Request) (response : Response) (first last total : ℕ) → (route_of n ≡ route.Direct → ⊥) → brings_part response.status ≡ true → content_range_of response.fields ≡ Some (range.Part first last (Some total)) → is_bad (length_of n request response) ≡ false → IsTold first last (length_of n request response)
 unfolding length_of
 part_told n request response first last total past status is_part =
     let said = content_length_of (elements_in (codes "content-length") response.fields) in

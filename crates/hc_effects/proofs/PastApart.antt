@@ -4,10 +4,10 @@
 -- was there (`rep_before`). None is founded either. A head that founds puts its consumer elsewhere, since of a part
 -- that founds an interval is wanted (`fits_wanted`, `placed_not`). Who stood there was shown its head, or waits for it
 -- past the store (`stood_past`). `unfounded_kept` joins these.
-use Rattle.std.{proofs.{Common.{◌≡◌, inl, inr, ℕ, ◌+◌, Bool, true, false, Option, Some, None, refl, ap, sym, ◌∙◌, subst, arith}, lemmas.Bool.Decides.{nat_tests}}, specs.Prelude.{is_some, nat_eq}}
+use Rattle.std.{proofs.{Common.{◌≡◌, inl, inr, ℕ, ◌+◌, Bool, true, false, Option, Some, None, refl, ap, sym, ◌∙◌, subst, arith}, lemmas.Bool.Decides.{nat_tests}}, specs.Prelude.{is_some}}
 use Rattle.hc_text.proofs.Basics.{and_right, not_some as none_some, same_some as same_row}
 use Rattle.hc_range.specs.{declared.range.{ContentRange.{ContentRange}, Span.{Span}, Asked.{Asked}}, Spans.{resolved_span}}
-use Rattle.hc_effects.proofs.Vocabulary.{range, event, route, wanted, by, place, Response, HeadCase, head_case, fits_to_found, fits_part, begins_at, route_of, content_range_of, range_of, wanted_of, wanted_part, BoundBy, has_loss, case_at, head_view, is_founding, fits_asker, consumer_heard, by_head, place_by_case, bound_to_wanted, denial, Entry, founded_total, entry_of, IsAwaiting, IsPast, Tables, Exchange, Representation, Consumer, may_stand, after_accepted}
+use Rattle.hc_effects.proofs.Vocabulary.{brings_part, range, event, route, wanted, by, place, Response, HeadCase, head_case, fits_to_found, fits_part, begins_at, route_of, content_range_of, range_of, wanted_of, wanted_part, BoundBy, has_loss, case_at, head_view, is_founding, fits_asker, consumer_heard, by_head, place_by_case, bound_to_wanted, denial, Entry, founded_total, entry_of, IsAwaiting, IsPast, Tables, Exchange, Representation, Consumer, may_stand, after_accepted}
 use Rattle.hc_rules.specs.Refusals as refusals
 use Rattle.hc_model.specs.Owners as owners
 use Rattle.hc_effects.proofs.{Basics.{false_true}, FirstKeeps.{is_new, case_is}, FoundBy.{FoundingBy, founding_by, founds_way}, NumbersKeep.{opens_next}, Once.{never}, PastKeeps.{IsFrom, PlaceFrom, direct_from}, PieceKeeps.{eq_cases}, RepFrom.{RepFrom, rep_from}, ToBeShown.{heard_place}, Waiters.{waiter_of}, Step.{Step}}
@@ -31,12 +31,11 @@ part_range asked (Some (range.Unsatisfied total)) h = absurd (false_true h)
 part_range asked (Some (range.Part first last None)) h = absurd (false_true h)
 part_range asked (Some (range.Part first last (Some total))) h = part_wanted asked first last total (resolved_span asked total) refl h
 
-fits_wanted : (w : Exchange) (response : Response) (q : Option Asked) → response.status ≡ 206 → fits_to_found q response ≡ true → (z : Span) × (wanted_of q (founded_total w response) ≡ wanted.Interval z)
+fits_wanted : (w : Exchange) (response : Response) (q : Option Asked) → brings_part response.status ≡ true → fits_to_found q response ≡ true → (z : Span) × (wanted_of q (founded_total w response) ≡ wanted.Interval z)
 fits_wanted w response None status h = absurd (false_true h)
 fits_wanted w response (Some asked) status h =
-    let on : nat_eq response.status 206 ≡ true = grind (arith, nat_tests) in
     let got = part_range asked (content_range_of response.fields) (and_right _ _ h) in
-    let told : founded_total w response ≡ Rattle.hc_model.specs.Heads.total_of_part (content_range_of response.fields) = rw on refl in
+    let told : founded_total w response ≡ Rattle.hc_model.specs.Heads.total_of_part (content_range_of response.fields) = rw status refl in
     (got.0, ap (wanted_of (Some asked)) told ∙ got.1)
 
 -- IT IS APART

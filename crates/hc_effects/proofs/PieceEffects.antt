@@ -6,7 +6,7 @@
 -- after which who writes alone goes on (`loses_alone`).
 use Rattle.std.{proofs.{lemmas.Bool.Decides.{nat_tests}, Common.{arith, ◌≡◌, inl, inr, ℕ, List, [], ◌∷◌, ◌++◌, Bool, true, false, Option, Some, None, refl, ap, sym, ◌∙◌, subst}}, specs.Prelude.{◌&&◌, ◌||◌, ◌==◌, not, nat_eq, if◌then◌else◌, map, option_map}}
 use Rattle.hc_text.proofs.Basics.{eqb-same, not_some as none_some, and_off as then_false}
-use Rattle.hc_effects.proofs.Vocabulary.{act, LostKind, Event, Limits, Place, loses_in, loss_acts, closing, is_current, denial, Does, with_event, with_exchange, with_representation, let_go, let_all_go, as_gone, over, lost_to, Entry, entry_without_acts, exchange_after, with_piece, family, front, Flaw, NoFlaw, Loses, beside, becomes_gone, ends_early, ends_founding, is_keepable, Lawful, is_written, representation_after, representation_heard, representation_after_piece, with_stored_bytes, Tables, Exchange, Representation, Consumer, after_accepted, evicted, write_in, exclusive, goes_on_with}
+use Rattle.hc_effects.proofs.Vocabulary.{brings_whole, act, LostKind, Event, Limits, Place, loses_in, loss_acts, closing, is_current, denial, Does, with_event, with_exchange, with_representation, let_go, let_all_go, as_gone, over, lost_to, Entry, entry_without_acts, exchange_after, with_piece, family, front, Flaw, NoFlaw, Loses, beside, becomes_gone, ends_early, ends_founding, is_keepable, Lawful, is_written, representation_after, representation_heard, representation_after_piece, with_stored_bytes, Tables, Exchange, Representation, Consumer, after_accepted, evicted, write_in, exclusive, goes_on_with}
 use Rattle.hc_event.specs.declared.event.Event.TheVariants as event
 use Rattle.hc_effects.proofs.{Basics.{false_true, append_none}, Dues.{undue_of, stop_none}, FewClosings.{ClosesLittle, nothing_lost, closes_nothing}, Frames.{undoomed}, PieceKeeps.{eq_cases}, SameTables.{is_in, back_from_any}, ToldFrames.{pieces, says_little, e, exchange_one, goes_as, loses_as, closes_as, representation_by, representation_none, lost_by, beside_same, consumer_by, told_by, told_does, told_plainly}, Untouched.{IsSpared, loss_spared}, ActParts.{leaver_lost}}
 
@@ -24,7 +24,7 @@ module _ (limits : Limits) (t : Tables) (law : Lawful t) (now x : ℕ) (bytes : 
       ∙ rw (undoomed t (it flaw xs) refl) (by_tests (is_in xs r) refl)
     where
       ends_none : is_in xs r ≡ false → ends_early t (it flaw xs) r v ≡ false
-      ends_none off = then_false (v.head.status == 200) (ends_founding (it flaw xs) r (t.exchange r)) (by_row (t.exchange r))
+      ends_none off = then_false (brings_whole v.head.status) (ends_founding (it flaw xs) r (t.exchange r)) (by_row (t.exchange r))
         where
           by_row : (z : Option Exchange) → ends_founding (it flaw xs) r z ≡ false
           by_row None = refl

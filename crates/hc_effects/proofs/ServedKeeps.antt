@@ -4,19 +4,20 @@
 -- entry. Who was bound before was served in one of three ways: it shares a writing, writes alone, or reads what is
 -- stored (`by_served`). Each way goes on, or the writing ends and all that is wanted is stored, or who is left goes on
 -- alone. Who is bound by this entry opened a first hole, was shown a head by its plan, or founded the representation.
-use Rattle.std.{proofs.{Common.{◌≡◌, ◌⊎◌, inl, inr, ℕ, ◌+◌, ◌≤◌, List, [], length, Bool, true, false, Option, Some, None, refl, ap, sym, ◌∙◌, subst, arith}, lemmas.Bool.Decides.{nat_tests}}, specs.{Prelude.{if◌then◌else◌, is_some, is_none, ◌==◌, ◌&&◌, ◌||◌, not, nat_eq, unwrap_or}, Option.{option_or}}}
+use Rattle.std.{proofs.{Common.{◌≡◌, ◌⊎◌, inl, inr, ℕ, ◌+◌, ◌≤◌, List, [], length, Bool, true, false, Option, Some, None, refl, ap, sym, ◌∙◌, subst, arith}, lemmas.Bool.Decides.{nat_tests}}, specs.{Prelude.{if◌then◌else◌, is_some, is_none, ◌&&◌, ◌||◌, not, nat_eq, unwrap_or}, Option.{option_or}}}
 use Rattle.hc_text.proofs.Basics.{never_true, or_cases, and_none as and_off, eq_is, both_true as and_both, and_left, and_right, bool_cases, not_some as none_some, same_some as same_row, some_inj}
 use Rattle.hc_sparse.specs.Cells.{Cells, Covers, cells_with}
 use Rattle.hc_range.specs.declared.range.Span.{Span}
-use Rattle.hc_effects.proofs.Vocabulary.{Opening, opening_in, leaves_in, closes_in, given_in, Event, Response, HeadCase, BoundBy, Showing, showing_in, loses_in, has_loss, case_at, head_view, must_close, is_refused, brings_head, is_doomed, has_no_survivor, is_left, leaver, leaver_by, consumer_heard, consumer_acted, by_opening, waiting, is_number, doomed_key_of, doomed_in, doomed_by_head, doomed_by_case, is_key, Entry, exchange_heard, promise_in, is_open, is_reached, family, becomes_due, cause_by_loss, first_hole, covers, entry_of, Measures, is_written, bound, hi_of, offset, reads, new_representation, writer_at, Tables, Exchange, Representation, Consumer, IsBound, IsServed, IsExclusiveWriter, IsFirst, IsGrowing, after_accepted, brings_body, came_alone, loses_writing, survivor, goes_on_with, status_in, stops, event, case, place, by}
+use Rattle.hc_effects.proofs.Vocabulary.{brings_part, brings_whole, Opening, opening_in, leaves_in, closes_in, given_in, Event, Response, HeadCase, BoundBy, Showing, showing_in, loses_in, has_loss, case_at, head_view, must_close, is_refused, brings_head, is_doomed, has_no_survivor, is_left, leaver, leaver_by, consumer_heard, consumer_acted, by_opening, waiting, is_number, doomed_key_of, doomed_in, doomed_by_head, doomed_by_case, is_key, Entry, exchange_heard, promise_in, is_open, is_reached, family, becomes_due, cause_by_loss, first_hole, covers, entry_of, Measures, is_written, bound, hi_of, offset, reads, new_representation, writer_at, Tables, Exchange, Representation, Consumer, IsBound, IsServed, IsExclusiveWriter, IsFirst, IsGrowing, after_accepted, brings_body, came_alone, loses_writing, survivor, goes_on_with, status_in, stops, event, case, place, by}
 use Rattle.hc_model.specs.Sound as sound
-use Rattle.hc_effects.proofs.{ApartKeeps.{written_by, is_on}, Basics.{false_true, number_is}, BoundFrom.{BoundFrom, IsRow, IsFounded, IsFirstHole, IsShown, bound_from}, BoundKeeps.{planned_at}, Closed.{before}, ConsumerFilters.{acted}, Dues.{due_before, undue_parts}, EndsKeep.{known_kept, measures_kept}, Fills.{Fills, fills}, FirstKeeps.{IsNew, came_kept, case_of_head, case_is, is_new, open_free, whole_200, replaced_200}, FoundBy.{CaseBy}, Forward.{after_is}, HoleLemmas.{covers_all}, LossBy.{IsReal, IsSealing, sealed_loss, seals_one, fresh}, LossServes.{survives}, Losses.{HasRest, goes_on_or_rests}, OwnersKeep.{is_opened}, ExclusiveWriters.{writer_some, none_about}, PollKeeps.{current_stays}, RepFrom.{RepFrom, rep_from, IsKept, IsResumed}, Said.{ShowsBy, leaving_by, showing_by}, SaidActs.{leaver_leaves}, ShownFrom.{ShownAs, IsPlanned}, Stops.{writer_about}, Unclosed.{had_to}, Waiters.{waiter_of, doomed_same, case_same}, WriterEnds.{all_stored}, WritingStops.{IsAll}, Step.{Step}}
+use Rattle.hc_effects.proofs.{ApartKeeps.{written_by, is_on}, Basics.{false_true, number_is}, BoundFrom.{BoundFrom, IsRow, IsFounded, IsFirstHole, IsShown, bound_from}, BoundKeeps.{planned_at}, Closed.{before}, ConsumerFilters.{acted}, Dues.{due_before, undue_parts}, EndsKeep.{known_kept, measures_kept}, Fills.{Fills, fills}, FirstKeeps.{IsNew, came_kept, case_of_head, case_is, is_new, open_free, whole_brings, replaced_brings}, FoundBy.{CaseBy}, Forward.{after_is}, HoleLemmas.{covers_all}, LossBy.{IsReal, IsSealing, sealed_loss, seals_one, fresh}, LossServes.{survives}, Losses.{HasRest, goes_on_or_rests}, OwnersKeep.{is_opened}, ExclusiveWriters.{writer_some, none_about}, PollKeeps.{current_stays}, RepFrom.{RepFrom, rep_from, IsKept, IsResumed}, Said.{ShowsBy, leaving_by, showing_by}, SaidActs.{leaver_leaves}, ShownFrom.{ShownAs, IsPlanned}, Stops.{writer_about}, Unclosed.{had_to}, Waiters.{waiter_of, doomed_same, case_same}, WriterEnds.{all_stored}, WritingStops.{IsAll}, Step.{Step}}
 use Rattle.hc_effects.proofs.BoundFrom as from
 use Rattle.hc_effects.proofs.Fills as fills_by
 use Rattle.hc_effects.proofs.FoundBy as cases
 use Rattle.hc_effects.proofs.Forward as forward
 use Rattle.hc_effects.proofs.RepFrom as rep
 use Rattle.hc_effects.proofs.ShownFrom as shown_as
+use Rattle.hc_rules.proofs.Statuses.{whole_is_no_part}
 
 -- what was written over stays there
 pub written_covers : (at x lo hi : ℕ) (bytes : List ℕ) (f : Cells) → Covers f lo hi → Covers (cells_with at x bytes f) lo hi
@@ -362,8 +363,8 @@ module _ (step : Step) (m : Measures step.tables) (real : IsReal step.limits ste
     is_reached_zero None h = absurd (false_true h)
     is_reached_zero (Some n) h = let test : nat_eq n 0 ≡ true = h in let zero_is : n ≡ 0 = grind (arith, nat_tests) in ap Some zero_is
 
-    range_206 : (w : Exchange) (response : Response) → CaseBy (head_view t (has_loss e.acts) w response) case.FoundsRange → response.status ≡ 206
-    range_206 w response (cases.founds_range way status fits kept good) = status
+    range_brings : (w : Exchange) (response : Response) → CaseBy (head_view t (has_loss e.acts) w response) case.FoundsRange → brings_part response.status ≡ true
+    range_brings w response (cases.founds_range way status fits kept good) = status
 
     module _ (x : ℕ) (response : Response) (w : Exchange) (here : ev ≡ event.Head x response) (exchange_row : t.exchange x ≡ Some w) where
       -- a head that founds leaves its exchange unclosed
@@ -420,10 +421,10 @@ module _ (step : Step) (m : Measures step.tables) (real : IsReal step.limits ste
               let still : is_open (now_on.exchange x) ≡ true = ap is_open (after_is t e x w (t.exchange x) exchange_row) ∙ and_both _ _ (ap not (unshut (closes_in x e.acts) refl)) heard in
               absurd (false_true (sym off ∙ still))
 
-      whole : (z : Exchange) (answer : Response) → x ≡ r → new_representation r e answer z ≡ p → response ≡ answer → response.status ≡ 200 → is_refused (case_at t e) ≡ false → doomed_by_case (case_at t e) w response ≡ None → hi ≡ promise_in w response → Served
+      whole : (z : Exchange) (answer : Response) → x ≡ r → new_representation r e answer z ≡ p → response ≡ answer → brings_whole response.status ≡ true → is_refused (case_at t e) ≡ false → doomed_by_case (case_at t e) w response ≡ None → hi ≡ promise_in w response → Served
       whole z answer of_r made same status unrefused undoomed to = elim (bool_cases (is_open (now_on.exchange x))) [
         | inl on ↦
-            let other : nat_eq answer.status 206 ≡ false = (let st : answer.status ≡ 200 = ap (λ (a : Response). a.status) (sym same) ∙ status in grind (arith, nat_tests)) in
+            let other : brings_part answer.status ≡ false = ap (λ (a : Response). brings_part a.status) (sym same) ∙ whole_is_no_part response.status status in
             let writes : writer_at r answer ≡ Some r = rw other refl in
             sound.shares (written_by now_on p r (sym (ap (λ (a : Representation). a.is_lost) made)) (sym (ap (λ (a : Representation). a.writer) made) ∙ writes) (ap (λ n. is_open (now_on.exchange n)) (sym of_r) ∙ on))
         | inr off ↦
@@ -431,11 +432,10 @@ module _ (step : Step) (m : Measures step.tables) (real : IsReal step.limits ste
             reads_to 0 0 (end_is p.head.total refl ∙ ap (λ a. option_or a p.head.total) none) (λ d from_lo lt. absurd (omega arith)) (omega arith)
       ]
 
-      part : (z : Exchange) (answer : Response) → new_representation r e answer z ≡ p → response ≡ answer → response.status ≡ 206 → how ≡ by.Founding → Served
+      part : (z : Exchange) (answer : Response) → new_representation r e answer z ≡ p → response ≡ answer → brings_part response.status ≡ true → how ≡ by.Founding → Served
       part z answer made same status by_is =
-          let is_206 : p.head.status ≡ 206 = sym (ap (λ (a : Representation). a.head.status) made) ∙ (ap (λ (a : Response). a.status) (sym same) ∙ status) in
-          let test : nat_eq p.head.status 206 ≡ true = grind (arith, nat_tests) in
-          let status_is : (status_in (now_on.representation r) == 206) ≡ true = ap (λ q. status_in q == 206) after ∙ test in
+          let test : brings_part p.head.status ≡ true = sym (ap (λ (a : Representation). brings_part a.head.status) made) ∙ (ap (λ (a : Response). brings_part a.status) (sym same) ∙ status) in
+          let status_is : brings_part (status_in (now_on.representation r)) ≡ true = ap (λ q. brings_part (status_in q)) after ∙ test in
           first_now (sym (ap (λ (a : Representation). a.is_lost) made)) (ap (λ g. came_alone now_on (place.Bound r lo hi g)) by_is ∙ status_is)
 
     head_inj : (a d : ℕ) (f g : Response) → event.Head a f ≡ event.Head d g → f ≡ g
@@ -443,11 +443,11 @@ module _ (step : Step) (m : Measures step.tables) (real : IsReal step.limits ste
 
     founded_by : (k : Consumer) (x : ℕ) (response : Response) (w : Exchange) (g : Option HeadCase) → ev ≡ event.Head x response → t.exchange x ≡ Some w → x ≡ r → how ≡ by.Founding → case_at t e ≡ g → IsFounded t e c r lo hi how x response w k g → (z : Exchange) (answer : Response) → new_representation r e answer z ≡ p → response ≡ answer → Served
     founded_by k x response w _ here exchange_row of_r by_is is (from.whole from_is to) z answer made same =
-        whole x response w here exchange_row z answer of_r made same (whole_200 t (has_loss e.acts) w response (case_of_head t e x response w case.FoundsWhole here exchange_row is)) (ap is_refused is) (ap (λ q. doomed_by_case q w response) is) to
+        whole x response w here exchange_row z answer of_r made same (whole_brings t (has_loss e.acts) w response (case_of_head t e x response w case.FoundsWhole here exchange_row is)) (ap is_refused is) (ap (λ q. doomed_by_case q w response) is) to
     founded_by k x response w _ here exchange_row of_r by_is is (from.replaced from_is to) z answer made same =
-        whole x response w here exchange_row z answer of_r made same (replaced_200 t (has_loss e.acts) w response (case_of_head t e x response w case.FirstReplaced here exchange_row is)) (ap is_refused is) (ap (λ q. doomed_by_case q w response) is) to
+        whole x response w here exchange_row z answer of_r made same (replaced_brings t (has_loss e.acts) w response (case_of_head t e x response w case.FirstReplaced here exchange_row is)) (ap is_refused is) (ap (λ q. doomed_by_case q w response) is) to
     founded_by k x response w _ here exchange_row of_r by_is is (from.part i) z answer made same =
-        part x response w here exchange_row z answer made same (range_206 w response (case_of_head t e x response w case.FoundsRange here exchange_row is)) by_is
+        part x response w here exchange_row z answer made same (range_brings w response (case_of_head t e x response w case.FoundsRange here exchange_row is)) by_is
 
     founded : (k : Consumer) (x : ℕ) (response : Response) (w : Exchange) → ev ≡ event.Head x response → t.exchange x ≡ Some w → x ≡ r → how ≡ by.Founding → IsFounded t e c r lo hi how x response w k (case_at t e) → RepFrom t e r p → Served
     founded k x response w here exchange_row of_r by_is is (rep.was v kept) =

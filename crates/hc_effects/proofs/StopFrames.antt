@@ -6,7 +6,7 @@
 -- (`row_by`). Who reads from it fails, and nobody else (`unhit`). `stop_does` joins this into the tables.
 use Rattle.std.{proofs.{lemmas.Bool.Decides.{nat_tests}, Common.{arith, ◌≡◌, inl, inr, ℕ, List, [], ◌++◌, Bool, true, false, Option, Some, None, refl, ap, sym, ◌∙◌}}, specs.{Prelude.{◌&&◌, ◌||◌, ◌==◌, not, nat_eq, length, is_some, if◌then◌else◌, option_map}, Option.{option_or}}}
 use Rattle.hc_text.proofs.Basics.{bool_cases, eqb-same, not_some as none_some, or_none as or_nothing, same_some as same_row, and_off as then_false}
-use Rattle.hc_effects.proofs.Vocabulary.{Act, Cause, Event, is_same_number, Limits, Place, loses_in, loss_acts, closing, leaver, consumer_after, consumer_heard, own_after, is_current, is_number, denial, doomed_key_of, Does, with_event, with_exchange, failing, let_all_go, as_gone, over, at_end, going_with, Entry, entry_without_acts, exchange_heard, family, exchange_in, becomes_due, cause_of_stop, cause_of_head, stop_cause, short_cause, Flaw, beside, becomes_gone, ends_early, ends_founding, stops_early, is_short, is_keepable, Lawful, is_bound_place, is_written, own_open, shared_exchange, source, writing_in, reads, representation_after, representation_heard, with_total_if_none, length_in, Tables, Exchange, Representation, Consumer, write_in, brings_body, cause, place}
+use Rattle.hc_effects.proofs.Vocabulary.{brings_whole, Act, Cause, Event, is_same_number, Limits, Place, loses_in, loss_acts, closing, leaver, consumer_after, consumer_heard, own_after, is_current, is_number, denial, doomed_key_of, Does, with_event, with_exchange, failing, let_all_go, as_gone, over, at_end, going_with, Entry, entry_without_acts, exchange_heard, family, exchange_in, becomes_due, cause_of_stop, cause_of_head, stop_cause, short_cause, Flaw, beside, becomes_gone, ends_early, ends_founding, stops_early, is_short, is_keepable, Lawful, is_bound_place, is_written, own_open, shared_exchange, source, writing_in, reads, representation_after, representation_heard, with_total_if_none, length_in, Tables, Exchange, Representation, Consumer, write_in, brings_body, cause, place}
 use Rattle.hc_event.specs.declared.event.Event.TheVariants as event
 use Rattle.hc_rules.specs.Refusals as refusals
 use Rattle.hc_model.specs.Sound as sound
@@ -209,7 +209,7 @@ module _ (limits : Limits) (t : Tables) (law : Lawful t) (now x : ℕ) (w : Exch
       drop : (a c d : Bool) → ((a && false) || c || d) ≡ (c || d)
       drop a c d = grind (arith, nat_tests)
 
-      going_is : nat_eq x q ≡ true → x ≡ q → (v.head.status == 200 && not (is_keepable v)) ≡ is_number (going_with t (Some x)) q
+      going_is : nat_eq x q ≡ true → x ≡ q → (brings_whole v.head.status && not (is_keepable v)) ≡ is_number (going_with t (Some x)) q
       going_is test same = grind (arith, nat_tests)
 
       not_going : nat_eq x q ≡ false → false ≡ is_number going q
@@ -230,16 +230,16 @@ module _ (limits : Limits) (t : Tables) (law : Lawful t) (now x : ℕ) (w : Exch
       early_by : (z : Option Exchange) → t.exchange q ≡ z → (ends_early t it q v && not (is_keepable v)) ≡ is_number going q
       early_by None is =
           let apart : nat_eq x q ≡ false = elim (eq_cases x q) [ inl same ↦ absurd (none_some w (sym is ∙ (sym (ap t.exchange same.1) ∙ row))) | inr other ↦ other.0 ] in
-          ap (λ z. (v.head.status == 200 && ends_founding it q z) && not (is_keepable v)) is
-          ∙ (and_false (v.head.status == 200 && false) (not (is_keepable v)) (then_false (v.head.status == 200) false refl) ∙ not_going apart)
+          ap (λ z. (brings_whole v.head.status && ends_founding it q z) && not (is_keepable v)) is
+          ∙ (and_false (brings_whole v.head.status && false) (not (is_keepable v)) (then_false (brings_whole v.head.status) false refl) ∙ not_going apart)
       early_by (Some z) is =
-          ap (λ o. (v.head.status == 200 && ends_founding it q o) && not (is_keepable v)) is
-          ∙ (ap (λ a. (v.head.status == 200 && a) && not (is_keepable v)) (founding z is)
+          ap (λ o. (brings_whole v.head.status && ends_founding it q o) && not (is_keepable v)) is
+          ∙ (ap (λ a. (brings_whole v.head.status && a) && not (is_keepable v)) (founding z is)
           ∙ elim (eq_cases x q) [
             | inl same ↦
                 let opened : z.is_open ≡ true = ap (λ (p : Exchange). p.is_open) (same_row (t.exchange q) z w is (sym (ap t.exchange same.1) ∙ row)) ∙ on in
-                rw (opened, same.0) (three (v.head.status == 200) s.early (not (is_keepable v)) ∙ (ap (λ a. if s.early then a else false) (going_is same.0 same.1) ∙ going_if s.early))
-            | inr apart ↦ rw apart.0 (none_off (v.head.status == 200) z.is_open s.early (not (is_keepable v)) ∙ not_going apart.0)
+                rw (opened, same.0) (three (brings_whole v.head.status) s.early (not (is_keepable v)) ∙ (ap (λ a. if s.early then a else false) (going_is same.0 same.1) ∙ going_if s.early))
+            | inr apart ↦ rw apart.0 (none_off (brings_whole v.head.status) z.is_open s.early (not (is_keepable v)) ∙ not_going apart.0)
           ])
 
   -- REPRESENTATIONS

@@ -4,11 +4,11 @@
 -- `range_early`), and a Content-Length (`told_early`). A length is told by one of these or by none, and ends early in
 -- each case (`length_early`). So does what an exchange promises (`promise_early`). What founds tells its total by a
 -- whole body or by a part (`founded_early`).
-use Rattle.std.{proofs.{lemmas.Bool.Decides.{nat_tests}, Common.{◌≡◌, ◌≤◌, ◌<◌, inl, inr, ℕ, ◌+◌, ◌-◌, ◌^◌, List, [], ◌∷◌, codes, Bool, false, Option, Some, None, refl, arith}}, specs.Prelude.{if◌then◌else◌, ◌==◌, option_and_then}}
+use Rattle.std.{proofs.{lemmas.Bool.Decides.{nat_tests}, Common.{◌≡◌, ◌≤◌, ◌<◌, inl, inr, ℕ, ◌+◌, ◌-◌, ◌^◌, List, [], ◌∷◌, codes, Bool, false, Option, Some, None, refl, arith}}, specs.Prelude.{if◌then◌else◌, option_and_then}}
 use Rattle.hc_text.proofs.Basics.{bool_cases, not_some as none_some, some_inj}
 use Rattle.hc_fields.specs.{FieldElements.{elements_in}, FieldList.{values_of}, FirstValues.{only_of}}
 use Rattle.hc_range.specs.declared.range.ContentRange.{ContentRange}
-use Rattle.hc_effects.proofs.Vocabulary.{range, Request, Response, Need, Length, Route, length_of, content_length_of, part_length, all_tell, agrees, has_no_body, tells_part, base_of, promise_of, route_of, number_of, content_range_of, content_range_in, base, promised_bytes, length_by, total_of_part, founded_total, Exchange}
+use Rattle.hc_effects.proofs.Vocabulary.{brings_part, range, Request, Response, Need, Length, Route, length_of, content_length_of, part_length, all_tell, agrees, has_no_body, tells_part, base_of, promise_of, route_of, number_of, content_range_of, content_range_in, base, promised_bytes, length_by, total_of_part, founded_total, Exchange}
 use Rattle.hc_rules.specs.declared.length.Length.TheVariants as says
 use Rattle.hc_rules.specs.Lengths.{promised_or_bad}
 use Rattle.hc_rules.proofs.{Numbers.{IsNumber-told}, RangeReads.{content_range_in-some}}
@@ -98,10 +98,10 @@ no_part_if b l m a b1 = grind (arith, nat_tests)
 told_no_part : (elements : List (List ℕ)) → TellsNoPart (content_length_of elements)
 told_no_part elements = grind (arith, nat_tests)
 
-tells_off : (r : Route) (status : ℕ) → (status == 206) ≡ false → tells_part r status ≡ false
+tells_off : (r : Route) (status : ℕ) → brings_part status ≡ false → tells_part r status ≡ false
 tells_off r status whole = grind (arith, nat_tests)
 
-whole_no_part : (need : Need) (request : Request) (response : Response) → (response.status == 206) ≡ false → TellsNoPart (length_of need request response)
+whole_no_part : (need : Need) (request : Request) (response : Response) → brings_part response.status ≡ false → TellsNoPart (length_of need request response)
 unfolding length_of
 whole_no_part need request response whole =
     no_part_if (has_no_body request response.status) (says.Promised 0) _ tt (rw (tells_off (route_of need) response.status whole) (told_no_part (elements_in (codes "content-length") response.fields)))
@@ -111,7 +111,7 @@ by_whole l n early whole is = grind (arith, nat_tests)
 
 -- the length of what a head founds
 pub founded_early : (w : Exchange) (response : Response) (n : ℕ) → founded_total w response ≡ Some n → n < 2 ^ 62
-founded_early w response n is = elim (bool_cases (response.status == 206)) [
+founded_early w response n is = elim (bool_cases (brings_part response.status)) [
   | inl part ↦ part_total (content_range_of response.fields) n (range_early response) (rw part at is)
   | inr whole ↦
       let promise : promise_of (length_of w.need w.request response) ≡ Some n = rw whole at is in

@@ -118,6 +118,7 @@ pub use Rattle.hc_rules.specs.Requests.{is_get, ranges_in, ranges_read, wanted_o
 unfoldable pub use Rattle.hc_rules.specs.Requests.{class_of, is_bypassing, is_disabled, is_only, range_of}
 pub use Rattle.hc_rules.specs.Rooms.{gives_way, grown_by, is_too_large, weight_of}
 unfoldable pub use Rattle.hc_rules.specs.Rooms.{room_of}
+pub use Rattle.hc_rules.specs.Statuses.{brings_part, brings_whole}
 pub use Rattle.hc_rules.specs.Survivors.{stands_at}
 pub use Rattle.hc_rules.specs.TagTexts.{strong_of}
 pub use Rattle.hc_rules.specs.declared.heads.HeadCase.{HeadCase}

@@ -7,7 +7,7 @@
 use Rattle.std.{proofs.{Common.{◌≡◌, inl, inr, ℕ, List, Bool, true, false, Option, Some, None, refl, ap, sym, ◌∙◌, subst, arith}, lemmas.Bool.Decides.{nat_tests}}, specs.Prelude.{if◌then◌else◌, ◌&&◌, ◌||◌, ◌==◌, not, nat_eq}}
 use Rattle.hc_text.proofs.Basics.{and_left, and_right, or_cases}
 use Rattle.hc_range.specs.declared.range.Span.{Span}
-use Rattle.hc_effects.proofs.Vocabulary.{Opening, opening_in, leaves_in, closes_in, Event, Need, Route, Limits, route_of, is_bypassing, range_of, wanted_of, Place, BoundBy, Showing, showing_in, loses_in, misreads_in, opened_place, unless_bound, by_opening, shown_place, own_after, waiting, consumer_acted, due_after, current, is_current, denial, doomed_key_of, bypass_key, bypassed_by, bypassed_for, is_key, Entry, exchange_opened, aim_from, aim_of, Flaw, becomes_gone, goes_itself, goes_in, goes_by_head, ends_early, ends_founding, is_keepable, entry_of, Opens, Owners, IsAwaiting, Awaits, poll_move, bound_to, Tables, Exchange, Representation, Consumer, may_stand, Sound, starts_over, sends_back, loses_what_it_waits_for, after_accepted, event, need, route, wanted, by}
+use Rattle.hc_effects.proofs.Vocabulary.{brings_whole, Opening, opening_in, leaves_in, closes_in, Event, Need, Route, Limits, route_of, is_bypassing, range_of, wanted_of, Place, BoundBy, Showing, showing_in, loses_in, misreads_in, opened_place, unless_bound, by_opening, shown_place, own_after, waiting, consumer_acted, due_after, current, is_current, denial, doomed_key_of, bypass_key, bypassed_by, bypassed_for, is_key, Entry, exchange_opened, aim_from, aim_of, Flaw, becomes_gone, goes_itself, goes_in, goes_by_head, ends_early, ends_founding, is_keepable, entry_of, Opens, Owners, IsAwaiting, Awaits, poll_move, bound_to, Tables, Exchange, Representation, Consumer, may_stand, Sound, starts_over, sends_back, loses_what_it_waits_for, after_accepted, event, need, route, wanted, by}
 use Rattle.hc_event.specs.declared.place.Place.TheVariants as place
 use Rattle.hc_model.specs.Owners as owners
 use Rattle.hc_effects.proofs.{Basics.{false_true}, FirstKeeps.{is_opener}, Forward.{is_kept}, OpenedAs.{OpenedAs, Way}, OpeningPoll.{leaves_none, misreads_none, evicts_none, shows_none, doomed_not, case_not, closes_none, loses_none}, StaysOn.{settled, stays_by}}
@@ -48,7 +48,7 @@ module _ (limits : Limits) (t : Tables) (now : ℕ) (flaw : Flaw) (s : Sound t) 
 
     itself_not : (r : ℕ) (v : Representation) (kept : Option ℕ) → k.place ≡ place.Passed r kept → goes_itself t e r v ≡ true → ⊥
     itself_not r v kept at h = elim (or_cases _ (ends_early t e r v && not (is_keepable v)) h) [
-      | inr early ↦ founding_not r (t.exchange r) (and_right (v.head.status == 200) _ (and_left _ _ early))
+      | inr early ↦ founding_not r (t.exchange r) (and_right (brings_whole v.head.status) _ (and_left _ _ early))
       | inl more ↦ elim (or_cases _ (misreads_in r e.acts) more) [
         | inr misread ↦ false_true (sym (misreads_none limits t now flaw s c want p here opens move_is r) ∙ misread)
         | inl less ↦ elim (or_cases _ (loses_in r e.acts) less) [

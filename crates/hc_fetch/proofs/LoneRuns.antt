@@ -4,9 +4,9 @@
 -- stands where it stood, or the head of its exchange binds it or puts it past the store, or it starts over, which it
 -- does where it was free (`place_after`). So where it is free after an entry it was before, and nothing was founded
 -- (`free_before`): what is current stays or goes.
-use Rattle.std.{proofs.Common.{◌≡◌, ◌⊎◌, inl, inr, ℕ, ◌+◌, ◌<◌, ◌^◌, List, Bool, true, false, Option, Some, None, refl, ap, sym, ◌∙◌, subst, arith}, specs.{Prelude.{◌==◌, ◌&&◌, ◌||◌, not, nat_eq, nat_le, is_none, is_some, if◌then◌else◌}, Option.{option_and_then, option_or}}}
-use Rattle.hc_text.proofs.Basics.{and_left, and_right, bool_cases, either, not_some as none_some, or_cases, some_inj, eq_is as status_is}
-use Rattle.hc_effects.proofs.Vocabulary.{Opening, opening_in, leaves_in, shows_in, Cause, Need, Wait, Why, Event, Request, Response, BoundBy, Place, content_range_of, HeadCase, HeadView, Wanted, Limits, head_case, turn_case, case_on, fits_to_found, fits_part, length_of, is_bad, route_of, is_disabled, is_only, is_bypassing, range_of, wanted_of, Showing, showing_in, wait_in, has_loss, Aims, case_at, case_of, head_view, is_founding, fits_asker, bound_to_wanted, place_by_case, consumer_heard, by_head, by_fault, waiting_place, waiting, opened_place, unless_bound, by_opening, shown_place, consumer_acted, consumer_settled, consumer_made, consumer_after, current, denial, doomed_key_of, doomed_in, is_key, Entry, is_headless, exchange_at, is_for, flaw_in, founded_total, total_of_part, Move, Nothing, Opens, Shows, Fails, shows_stored, IsPast, IsAwaiting, Passed, move_of, shows_head, shows_at, shows_bound, shows_direct, shows_answer, has_joined, or_else, waits_for_head, if_headless, by_place, own_open, bound_to, Tables, Exchange, Representation, Consumer, new_representation, length_in, starts_over, waits_at, sends_back, loses_what_it_waits_for, after_accepted, after_denied, cause, need, wait, event, place, range, case, wanted}
+use Rattle.std.{proofs.Common.{◌≡◌, ◌⊎◌, inl, inr, ℕ, ◌+◌, ◌<◌, ◌^◌, List, Bool, true, false, Option, Some, None, refl, ap, sym, ◌∙◌, subst}, specs.{Prelude.{◌==◌, ◌&&◌, ◌||◌, not, nat_eq, nat_le, is_none, is_some, if◌then◌else◌}, Option.{option_and_then, option_or}}}
+use Rattle.hc_text.proofs.Basics.{and_left, and_right, bool_cases, either, not_some as none_some, or_cases, some_inj}
+use Rattle.hc_effects.proofs.Vocabulary.{brings_part, brings_whole, Opening, opening_in, leaves_in, shows_in, Cause, Need, Wait, Why, Event, Request, Response, BoundBy, Place, content_range_of, HeadCase, HeadView, Wanted, Limits, head_case, turn_case, case_on, fits_to_found, fits_part, length_of, is_bad, route_of, is_disabled, is_only, is_bypassing, range_of, wanted_of, Showing, showing_in, wait_in, has_loss, Aims, case_at, case_of, head_view, is_founding, fits_asker, bound_to_wanted, place_by_case, consumer_heard, by_head, by_fault, waiting_place, waiting, opened_place, unless_bound, by_opening, shown_place, consumer_acted, consumer_settled, consumer_made, consumer_after, current, denial, doomed_key_of, doomed_in, is_key, Entry, is_headless, exchange_at, is_for, flaw_in, founded_total, total_of_part, Move, Nothing, Opens, Shows, Fails, shows_stored, IsPast, IsAwaiting, Passed, move_of, shows_head, shows_at, shows_bound, shows_direct, shows_answer, has_joined, or_else, waits_for_head, if_headless, by_place, own_open, bound_to, Tables, Exchange, Representation, Consumer, new_representation, length_in, starts_over, waits_at, sends_back, loses_what_it_waits_for, after_accepted, after_denied, cause, need, wait, event, place, range, case, wanted}
 use Rattle.hc_event.specs.declared.place.BoundBy.TheVariants as by
 use Rattle.hc_range.specs.declared.range.{Asked.{Asked}, ContentRange.{ContentRange}}
 use Rattle.hc_model.specs.Moves as moves
@@ -19,6 +19,7 @@ use Rattle.hc_effects.proofs.Said as said
 use Rattle.hc_laws.proofs.{TurnFacts.{IsTaken}, SoundRuns.{IsCarried}, CoversNew.{head_inj}}
 use Rattle.hc_fetch.specs.{declared.plan.FetchPlan.{FetchPlan}, Bounds.{IsPlan}, Deciding.{is_foreign}, Plans.{first_fields, request_of}}
 use Rattle.hc_fetch.proofs.Lone.{IsFirstRange, first_range, wanted_first, turn_is, cached, asks_origin, plain, planned}
+use Rattle.hc_rules.proofs.Statuses.{whole_or_part}
 
 -- it reads nothing, and its plan is still to be made or its head to come
 abbrev pub is_free : Place → Bool
@@ -49,7 +50,7 @@ pub record IsLone (p : FetchPlan) (t : Tables) : Type 0 where
   pub good : (x : ℕ) (k : Consumer) (w : Exchange) (response : Response) → t.consumer 1 ≡ Some k → k.place ≡ place.Direct x → t.exchange x ≡ Some w → w.head ≡ Some response
       → is_bad (length_of w.need w.request response) ≡ false
   pub first : (k : Consumer) (r lo : ℕ) (hi : Option ℕ) (how : BoundBy) → t.consumer 1 ≡ Some k → k.place ≡ place.Bound r lo hi how → lo ≡ 0
-  pub parts : (r : ℕ) (v : Representation) → t.representation r ≡ Some v → v.head.status ≡ 206 → IsPart t v
+  pub parts : (r : ℕ) (v : Representation) → t.representation r ≡ Some v → brings_part v.head.status ≡ true → IsPart t v
 
 -- A HEAD THAT IS SHOWN
 
@@ -95,8 +96,8 @@ module _ (t : Tables) (k : Consumer) (m : Move) where
 data IsMissCase (v : HeadView) : HeadCase → Type 0 where
   refused : IsMissCase v case.TurnBad
   server_error : v.bad ≡ false → IsMissCase v case.TurnServerError
-  founds_whole : v.status ≡ 200 → IsMissCase v case.FoundsWhole
-  founds_part : v.bad ≡ false → v.status ≡ 206 → v.fits ≡ true → IsMissCase v case.FoundsRange
+  founds_whole : brings_whole v.status ≡ true → IsMissCase v case.FoundsWhole
+  founds_part : v.bad ≡ false → brings_part v.status ≡ true → v.fits ≡ true → IsMissCase v case.FoundsRange
   passes_by : v.bad ≡ false → IsMissCase v case.PassesBy
 
 turn_miss : (v : HeadView) → v.conditional ≡ false → IsMissCase v (turn_case v)
@@ -106,9 +107,9 @@ turn_miss v plain =
     (λ on. absurd (true_false (sym (and_right (v.status == 304) v.conditional (and_left _ v.selects (and_left _ (not v.lost) on))) ∙ plain))) (λ other.
     either (IsMissCase v) (v.status == 304 && v.conditional) case.NotValidated _ (λ on. absurd (true_false (sym (and_right (v.status == 304) v.conditional on) ∙ plain))) (λ unasked.
     either (IsMissCase v) (nat_le 500 v.status) case.TurnServerError _ (λ on. server_error good) (λ low.
-    either (IsMissCase v) (v.status == 200 && v.storable && not v.lost) case.FoundsWhole _ (λ on. founds_whole (status_is v.status 200 (and_left (v.status == 200) v.storable (and_left _ (not v.lost) on)))) (λ another.
-    either (IsMissCase v) (v.status == 206 && v.storable && v.fits && not v.lost) case.FoundsRange case.PassesBy
-    (λ on. founds_part good (status_is v.status 206 (and_left (v.status == 206) v.storable (and_left _ v.fits (and_left _ (not v.lost) on)))) (and_right _ v.fits (and_left _ (not v.lost) on))) (λ on. passes_by good))))))
+    either (IsMissCase v) (brings_whole v.status && v.storable && not v.lost) case.FoundsWhole _ (λ on. founds_whole (and_left (brings_whole v.status) v.storable (and_left _ (not v.lost) on))) (λ another.
+    either (IsMissCase v) (brings_part v.status && v.storable && v.fits && not v.lost) case.FoundsRange case.PassesBy
+    (λ on. founds_part good (and_left (brings_part v.status) v.storable (and_left _ v.fits (and_left _ (not v.lost) on))) (and_right _ v.fits (and_left _ (not v.lost) on))) (λ on. passes_by good))))))
 
 miss_case : (v : HeadView) → v.need ≡ need.Miss → v.conditional ≡ false → IsMissCase v (head_case v)
 unfolding head_case
@@ -647,12 +648,12 @@ module _ (limits : Limits) (p : FetchPlan) (plan_is : IsPlan p) (t : Tables) (e 
       by_total (inr over) = over.total_is ∙ ap (λ (q : Option ℕ). option_or q (Some (length_in (t.exchange r)))) part.total
 
   -- a part is founded for a range, and tells the length of the whole
-  total_told : (o : Option Asked) (response : Response) (w : Exchange) → response.status ≡ 206 → fits_to_found o response ≡ true → (n : ℕ) × (founded_total w response ≡ Some n)
+  total_told : (o : Option Asked) (response : Response) (w : Exchange) → brings_part response.status ≡ true → fits_to_found o response ≡ true → (n : ℕ) × (founded_total w response ≡ Some n)
   total_told None response w status fits = absurd (false_true fits)
   total_told (Some asked) response w status fits = by_range (content_range_of response.fields) refl (and_right _ _ fits)
     where
       told : (q : Option ContentRange) → content_range_of response.fields ≡ q → founded_total w response ≡ total_of_part q
-      told q is = let test : nat_eq response.status 206 ≡ true = rw status refl in rw (test, is) refl
+      told q is = rw (status, is) refl
 
       by_range : (q : Option ContentRange) → content_range_of response.fields ≡ q → fits_part asked q ≡ true → (n : ℕ) × (founded_total w response ≡ Some n)
       by_range None is h = absurd (false_true h)
@@ -664,12 +665,12 @@ module _ (limits : Limits) (p : FetchPlan) (plan_is : IsPlan p) (t : Tables) (e 
   fits_some None response fits = absurd (false_true fits)
   fits_some (Some asked) response fits = refl
 
-  part_founded : (r : ℕ) (response : Response) (w : Exchange) → e.event ≡ event.Head r response → t.exchange r ≡ Some w → response.status ≡ 206 → is_founding (case_at t e) ≡ true → (g : HeadCase) → IsMissCase (head_view t (has_loss e.acts) w response) g
+  part_founded : (r : ℕ) (response : Response) (w : Exchange) → e.event ≡ event.Head r response → t.exchange r ≡ Some w → brings_part response.status ≡ true → is_founding (case_at t e) ≡ true → (g : HeadCase) → IsMissCase (head_view t (has_loss e.acts) w response) g
       → case_at t e ≡ Some g → IsPart now_on (new_representation r e response w)
   part_founded r response w at there status on _ refused is = absurd (false_true (sym (ap is_founding is) ∙ on))
   part_founded r response w at there status on _ (server_error good) is = absurd (false_true (sym (ap is_founding is) ∙ on))
   part_founded r response w at there status on _ (passes_by good) is = absurd (false_true (sym (ap is_founding is) ∙ on))
-  part_founded r response w at there status on _ (founds_whole other) is = absurd (let no : 200 ≡ 206 = sym other ∙ status in omega arith)
+  part_founded r response w at there status on _ (founds_whole other) is = absurd (whole_or_part response.status other status)
   part_founded r response w at there status on _ (founds_part good told fits) is =
       let op = c.is_owned.opener r w there in
       let fit : fits_to_found (range_of op.k.request) response ≡ true = sym (ap (λ (o : Option Consumer). fits_asker o response) op.row) ∙ fits in
@@ -684,12 +685,12 @@ module _ (limits : Limits) (p : FetchPlan) (plan_is : IsPlan p) (t : Tables) (e 
             ap (λ (q : Request). is_some (range_of q)) ((is_after t e 1 was.k u was.row row).request ∙ ap (λ (z : Consumer). z.request) (sym same)) ∙ fits_some (range_of op.k.request) response fit;
       }
 
-  part_from : (r : ℕ) (u : Representation) → RepFrom t e r u → u.head.status ≡ 206 → IsPart now_on u
-  part_from r u (rep.was v kept) status = part_kept r v u kept (l.parts r v kept.row (sym kept.status_is ∙ status))
+  part_from : (r : ℕ) (u : Representation) → RepFrom t e r u → brings_part u.head.status ≡ true → IsPart now_on u
+  part_from r u (rep.was v kept) status = part_kept r v u kept (l.parts r v kept.row (sym (ap brings_part kept.status_is) ∙ status))
   part_from r u (rep.founded response w none at there on made) status =
       let miss = l.misses r w there in
       subst (IsPart now_on) made
-      (part_founded r response w at there (ap (λ (z : Representation). z.head.status) made ∙ status) on _ (miss_case (head_view t (has_loss e.acts) w response) miss (rw miss refl)) (case_is t e r response w at there))
+      (part_founded r response w at there (ap (λ (z : Representation). brings_part z.head.status) made ∙ status) on _ (miss_case (head_view t (has_loss e.acts) w response) miss (rw miss refl)) (case_is t e r response w at there))
 
   pub lone_kept : IsLone p now_on
   lone_kept = record {

@@ -8,7 +8,7 @@ use Rattle.std.{proofs.{Common.{◌≡◌, ℕ, ◌+◌, ◌-◌, ◌<◌, ◌�
 use Rattle.hc_text.proofs.Basics.{bool_cases, not_some as none_some, same_bytes as same_name, some_inj, and_right, and_left}
 use Rattle.hc_fields.specs.{FieldList.{comes_before, field_list_with, has_name, values_of, without}, FirstValues.{only_of}}
 use Rattle.hc_range.specs.{declared.range.{ContentRange.{ContentRange}, Span.{Span}}, Spans.{IsWithin, content_range_text}}
-use Rattle.hc_effects.proofs.Vocabulary.{range, by, place, route, Why, Response, Place, length_of, base_of, promise_of, route_of, content_range_of, content_range_in, total_in, base, Move, Shows, shows_stored, span_to, Parts, Places, is_ranged, shows_at, shows_direct, shows_answer, hi_of, end_in, end_of_direct, end_by, Tables, Exchange, Representation, Consumer}
+use Rattle.hc_effects.proofs.Vocabulary.{brings_part, range, by, place, route, Why, Response, Place, length_of, base_of, promise_of, route_of, content_range_of, content_range_in, total_in, base, Move, Shows, shows_stored, span_to, Parts, Places, is_ranged, shows_at, shows_direct, shows_answer, hi_of, end_in, end_of_direct, end_by, Tables, Exchange, Representation, Consumer}
 use Rattle.hc_range.proofs.RangeLemmas.{content_range_text_spells}
 use Rattle.hc_event.specs.declared.act.Why.TheVariants as why_is
 use Rattle.hc_rules.proofs.RangeReads.{content_range_in-spelled}
@@ -18,6 +18,7 @@ use Rattle.hc_effects.proofs.{Basics.{false_true, some_row}, PartTold.{part_with
 use Rattle.hc_laws.proofs.SoundRuns.{IsCarried}
 use Rattle.hc_fetch.specs.{declared.plan.FetchPlan.{FetchPlan}, Heads.{Head, total_of, total_by}}
 use Rattle.hc_fetch.proofs.{Ends.{KnownEnd, KnownHead}, LoneRuns.{IsLone}}
+use Rattle.hc_rules.proofs.Statuses.{ok_no_part, partial_brings}
 
 -- A FIELD THAT STANDS ONCE
 
@@ -111,13 +112,13 @@ module _ (p : FetchPlan) (t : Tables) (c : IsCarried t) (b : Places t) (parts : 
 
       first : response.status ≡ 200 → base w ≡ 0
       first status =
-          let off : nat_eq response.status 206 ≡ false = (let other = whole_not_part response.status status in grind (arith, nat_tests)) in
+          let off = ok_no_part response.status status in
           ap (λ (o : Option Response). base_of (Rattle.hc_model.specs.Exchanges.length_by w o)) headed ∙ whole_base w.need w.request response off
 
       part_of_it : (total : ℕ) → TellsPart response.status response.fields total → (n : ℕ) × KnownEnd t x n × (n ≤ total)
       part_of_it total tells =
           let good = l.good x k w response row at there headed in
-          let within = part_within w.need w.request response 0 tells.last total miss tells.status_is tells.told good in
+          let within = part_within w.need w.request response 0 tells.last total miss (partial_brings response.status tells.status_is) tells.told good in
           let told : end_in (t.exchange x) ≡ Some (base w + within.n) = ap end_in there ∙ ap (λ q. end_of_direct q w) (ap (λ (o : Option Response). promise_of (Rattle.hc_model.specs.Exchanges.length_by w o)) headed ∙ within.promise) in
           let first_is : base w ≡ base_of (length_of w.need w.request response) = ap (λ (o : Option Response). base_of (Rattle.hc_model.specs.Exchanges.length_by w o)) headed in
           let ends_by = within.ends in
@@ -135,7 +136,7 @@ module _ (p : FetchPlan) (t : Tables) (c : IsCarried t) (b : Places t) (parts : 
     top = hi_of t k.place
 
     abbrev ranged : Bool
-    ranged = is_ranged k && (v.head.status == 206)
+    ranged = is_ranged k && brings_part v.head.status
 
     abbrev shown : Response
     shown = shown_response v.head (why_is.Fetched q) (span_to a top) ranged
@@ -159,7 +160,7 @@ module _ (p : FetchPlan) (t : Tables) (c : IsCarried t) (b : Places t) (parts : 
     shown_part true None n is up known total tells = absurd (whole_not_part 200 refl tells.status_is)
     shown_part true (Some h) None is up known total tells = absurd (whole_not_part 200 refl tells.status_is)
     shown_part true (Some h) (Some n) is up known total tells =
-        let status : v.head.status ≡ 206 = (let test : nat_eq v.head.status 206 ≡ true = and_right (is_ranged k) _ is in grind (arith, nat_tests)) in
+        let status : brings_part v.head.status ≡ true = and_right (is_ranged k) _ is in
         let own : is_ranged k ≡ true = and_left (is_ranged k) _ is in
         let at_hi = bound_at d refl status in
         let h_is : at_hi.0 ≡ h = some_inj at_hi.0 h (ap (λ o. option_or o v.head.total) (sym at_hi.1) ∙ (sym top_is ∙ up)) in
@@ -179,11 +180,10 @@ module _ (p : FetchPlan) (t : Tables) (c : IsCarried t) (b : Places t) (parts : 
         let last : n ≡ total = part_total a (h - 1) 0 tells.last n total two in
         (n, total_ends n known, omega arith)
       where
-        bound_at : (o : Option ℕ) → d ≡ o → v.head.status ≡ 206 → (m : ℕ) × (d ≡ Some m)
+        bound_at : (o : Option ℕ) → d ≡ o → brings_part v.head.status ≡ true → (m : ℕ) × (d ≡ Some m)
         bound_at (Some m) is status = (m, is)
         bound_at None is status =
-            let test : nat_eq v.head.status 206 ≡ true = rw status refl in
-            let came : Rattle.hc_model.specs.Writers.came_alone t (place.Bound q a d by.Founding) ≡ true = ap (λ (o : Option Representation). Rattle.hc_model.specs.Writers.status_in o == 206) there ∙ test in
+            let came : Rattle.hc_model.specs.Writers.came_alone t (place.Bound q a d by.Founding) ≡ true = ap (λ (o : Option Representation). brings_part (Rattle.hc_model.specs.Writers.status_in o)) there ∙ status in
             absurd (false_true (sym (ap (λ o. is_some o) is) ∙ c.is_sound.writes.known_end q 1 a d by.Founding k row at came))
 
         part_total : (i j x y m z : ℕ) → Some (range.Part i j (Some m)) ≡ Some (range.Part x y (Some z)) → m ≡ z
@@ -195,10 +195,10 @@ module _ (p : FetchPlan) (t : Tables) (c : IsCarried t) (b : Places t) (parts : 
     shown_whole (Some m) is status n up =
         let same : m ≡ n = some_inj m n (sym (ap (λ o. option_or o v.head.total) is) ∙ (sym top_is ∙ up)) in
         let stands : k.place ≡ place.Bound q a (Some n) by.Founding = at ∙ ap (λ o. place.Bound q a o by.Founding) (is ∙ ap Some same) in
-        elim (bool_cases (v.head.status == 206)) [
-          | inr off ↦ total_ends n (parts.whole 1 q a n k v row stands there (λ bad. false_true (sym off ∙ rw bad refl)))
+        elim (bool_cases (brings_part v.head.status)) [
+          | inr off ↦ total_ends n (parts.whole 1 q a n k v row stands there off)
           | inl on ↦
-              let part = l.parts q v there (let test : nat_eq v.head.status 206 ≡ true = on in grind (arith, nat_tests)) in
+              let part = l.parts q v there on in
               let own : is_ranged k ≡ true = part.ranged k row in
               let test : ranged ≡ true = rw (own, on) refl in
               let is_part : shown.status ≡ 206 = ap (λ b. status_by b top v.head.total) test ∙ (ap (λ o. status_by true o v.head.total) up ∙ ap (λ o. status_by true (Some n) o) part.total) in
@@ -216,7 +216,7 @@ module _ (p : FetchPlan) (t : Tables) (c : IsCarried t) (b : Places t) (parts : 
         })
       where
         shows_row : t.representation q ≡ t.representation q → shows_at t k (place.Bound q a d by.Founding) ≡ Some (Shows q (why_is.Fetched q) shown a top)
-        shows_row same = ap (λ (o : Option Representation). Some (shows_stored q (why_is.Fetched q) (is_ranged k && Rattle.hc_model.specs.Writers.status_in o == 206) a top o)) there
+        shows_row same = ap (λ (o : Option Representation). Some (shows_stored q (why_is.Fetched q) (is_ranged k && brings_part (Rattle.hc_model.specs.Writers.status_in o)) a top o)) there
 
   bound_shown : (q a : ℕ) (d : Option ℕ) → k.place ≡ place.Bound q a d by.Founding → shows_at t k (place.Bound q a d by.Founding) ≡ Some show → FirstShown t r lo hi head.status head.fields
   bound_shown q a d at is =

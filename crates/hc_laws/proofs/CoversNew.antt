@@ -4,14 +4,15 @@
 -- position. So the front of what its head founds is at most there (`whole`, `part`, `founds_within`). A first hole
 -- begins no earlier than its consumer reads (`hole_begins`), and all of the span before it is stored. CoversKept takes
 -- these for who becomes bound now; the law of fronts uses `founds_from`.
-use Rattle.std.{proofs.{Common.{◌≡◌, ℕ, ◌-◌, ◌≤◌, [], Bool, true, false, Option, Some, None, refl, ap, sym, ◌∙◌, subst, arith, min}, lemmas.Bool.Decides.{nat_tests}}, specs.Prelude.{is_some, is_none, nat_eq}}
-use Rattle.hc_text.proofs.Basics.{and_right, not_some as none_some, number_not, same_some as same_row, some_inj}
+use Rattle.std.{proofs.{Common.{◌≡◌, ℕ, ◌-◌, ◌≤◌, [], Bool, true, false, Option, Some, None, refl, ap, sym, ◌∙◌, subst, arith, min}, lemmas.Bool.Decides.{nat_tests}}, specs.Prelude.{is_some, is_none}}
+use Rattle.hc_text.proofs.Basics.{and_right, not_some as none_some, same_some as same_row, some_inj}
 use Rattle.hc_sparse.specs.Cells.{Covers}
 use Rattle.hc_range.specs.{declared.range.{Asked.{Asked}, ContentRange.{ContentRange}, Span.{Span}}, Spans.{resolved_span}}
-use Rattle.hc_effects.proofs.Vocabulary.{range, need, event, case, route, wanted, Opening, opening_in, Need, Request, Response, HeadCase, Length, fits_to_found, fits_part, begins_at, length_of, base_of, promise_of, route_of, content_range_of, range_of, wanted_of, wanted_part, BoundBy, has_loss, case_at, head_view, fits_asker, consumer_heard, waiting, current, Entry, base, front, length_by, founded_total, first_hole, absent_from, entry_of, bound_to, hole_start, Tables, Exchange, Representation, Consumer, after_accepted}
-use Rattle.hc_effects.proofs.{Basics.{false_true}, BoundFrom.{IsRow, IsInterval, IsFounded, IsFirstHole}, ExchangeFrom.{IsSame, IsHeaded}, FirstKeeps.{case_of_head, whole_200, replaced_200, is_new, is_opener}, FoundBy.{founds_range, CaseBy}, HoleLemmas.{first_before, first_from, some_of}, HolesOpened.{first_hole_is}, OwnersKeep.{is_opened}, PartTold.{IsTold, part_told, whole_base}, PollKeeps.{current_stays}, EndsKeep.{interval_inj}, Step.{Step}}
+use Rattle.hc_effects.proofs.Vocabulary.{brings_part, brings_whole, range, need, event, case, route, wanted, Opening, opening_in, Need, Request, Response, HeadCase, Length, fits_to_found, fits_part, begins_at, length_of, base_of, promise_of, route_of, content_range_of, range_of, wanted_of, wanted_part, BoundBy, has_loss, case_at, head_view, fits_asker, consumer_heard, waiting, current, Entry, base, front, length_by, founded_total, first_hole, absent_from, entry_of, bound_to, hole_start, Tables, Exchange, Representation, Consumer, after_accepted}
+use Rattle.hc_effects.proofs.{Basics.{false_true}, BoundFrom.{IsRow, IsInterval, IsFounded, IsFirstHole}, ExchangeFrom.{IsSame, IsHeaded}, FirstKeeps.{case_of_head, whole_brings, replaced_brings, is_new, is_opener}, FoundBy.{founds_range, CaseBy}, HoleLemmas.{first_before, first_from, some_of}, HolesOpened.{first_hole_is}, OwnersKeep.{is_opened}, PartTold.{IsTold, part_told, whole_base}, PollKeeps.{current_stays}, EndsKeep.{interval_inj}, Step.{Step}}
 use Rattle.hc_effects.proofs.BoundFrom as from
 use Rattle.hc_effects.proofs.OpenedAs as opened
+use Rattle.hc_rules.proofs.Statuses.{whole_is_no_part}
 
 pub head_inj : (a d : ℕ) (f g : Response) → event.Head a f ≡ event.Head d g → f ≡ g
 head_inj a d f g is = cc
@@ -28,11 +29,10 @@ pub record IsPartFrom (response : Response) (lo : ℕ) : Type 0 where
 begins_by : (first last : ℕ) (span : Span) (q : Option Span) → begins_at q first last ≡ true → wanted_part q ≡ wanted.Interval span → first ≡ span.lo
 begins_by first last span q h is = grind (arith, nat_tests)
 
-module _ (k : Consumer) (w : Exchange) (response : Response) (lo : ℕ) (hi : Option ℕ) (status : response.status ≡ 206) (i : IsInterval (wanted_of (range_of k.request) (founded_total w response)) lo hi) where
+module _ (k : Consumer) (w : Exchange) (response : Response) (lo : ℕ) (hi : Option ℕ) (status : brings_part response.status ≡ true) (i : IsInterval (wanted_of (range_of k.request) (founded_total w response)) lo hi) where
   part_by : (asked : Asked) (z : Option ContentRange) → range_of k.request ≡ Some asked → content_range_of response.fields ≡ z → fits_part asked z ≡ true → IsPartFrom response lo
   part_by asked (Some (range.Part first last (Some total))) is at h =
-      let on : nat_eq response.status 206 ≡ true = (let st : response.status ≡ 206 = status in grind (arith, nat_tests)) in
-      let told : founded_total w response ≡ Some total = rw (on, at) refl in
+      let told : founded_total w response ≡ Some total = rw (status, at) refl in
       let wants : wanted_part (resolved_span asked total) ≡ wanted.Interval i.span = sym (ap (λ q. wanted_of q (founded_total w response)) is ∙ ap (wanted_of (Some asked)) told) ∙ i.wanted_is in
       record { first = first; last = last; total = total; told = at; starts = begins_by first last i.span (resolved_span asked total) h wants ∙ i.from }
   part_by asked _ is at h = absurd (false_true h)
@@ -67,8 +67,8 @@ module _ (step : Step) where
         let empty : z.body ≡ [] = got.body_is ∙ (s.waits.headless x w exchange_row (is_new limits t now flaw s ev goes x response w here exchange_row).bare).0 in
         grind (arith, nat_tests)
 
-    whole : response.status ≡ 200 → front z ≤ lo
-    whole status = grind (arith, nat_tests, number_not, whole_base, from_base)
+    whole : brings_whole response.status ≡ true → front z ≤ lo
+    whole status = grind (arith, nat_tests, whole_is_no_part, whole_base, from_base)
 
     part : CaseBy view case.FoundsRange → IsInterval (wanted_of (range_of k.request) (founded_total w response)) lo hi → front z ≤ lo
     part (founds_range way status fits kept good) i =
@@ -77,8 +77,8 @@ module _ (step : Step) where
         from_base (omega arith)
 
     by_founded : (g : Option HeadCase) → case_at t e ≡ g → IsFounded t e c r lo hi how x response w k g → front z ≤ lo
-    by_founded _ is (from.whole a b) = whole (whole_200 t (has_loss e.acts) w response (case_of_head t e x response w case.FoundsWhole here exchange_row is))
-    by_founded _ is (from.replaced a b) = whole (replaced_200 t (has_loss e.acts) w response (case_of_head t e x response w case.FirstReplaced here exchange_row is))
+    by_founded _ is (from.whole a b) = whole (whole_brings t (has_loss e.acts) w response (case_of_head t e x response w case.FoundsWhole here exchange_row is))
+    by_founded _ is (from.replaced a b) = whole (replaced_brings t (has_loss e.acts) w response (case_of_head t e x response w case.FirstReplaced here exchange_row is))
     by_founded _ is (from.part i) = part (case_of_head t e x response w case.FoundsRange here exchange_row is) i
 
     -- and no later, where it is open then

@@ -4,11 +4,11 @@
 -- grows with what its exchange brings (`grown`). What is founded begins with nothing (`now_founded`). The most work is
 -- a resumed one (`resumes_told`): all before the part is stored, so it begins at the reach (`reach_is`), and it is the
 -- last one, so it ends by the total. `growing_kept` joins the three.
-use Rattle.std.{proofs.{Common.{◌≡◌, ◌⊎◌, inl, inr, ℕ, zero, suc, ◌+◌, ◌-◌, ◌<◌, ◌≤◌, List, length, Bool, true, false, Option, Some, None, refl, ap, sym, ◌∙◌, subst, arith, min, length-append}, lemmas.Bool.Decides.{nat_tests}}, specs.Prelude.{if◌then◌else◌, is_some, is_none, ◌==◌, ◌&&◌, ◌||◌, not, nat_eq, nat_le, unwrap_or}}
+use Rattle.std.{proofs.{Common.{◌≡◌, ◌⊎◌, inl, inr, ℕ, zero, suc, ◌+◌, ◌-◌, ◌<◌, ◌≤◌, List, length, Bool, true, false, Option, Some, None, refl, ap, sym, ◌∙◌, subst, arith, min, length-append}, lemmas.Bool.Decides.{nat_tests}}, specs.Prelude.{if◌then◌else◌, is_some, is_none, ◌&&◌, ◌||◌, not, nat_eq, nat_le, unwrap_or}}
 use Rattle.hc_text.proofs.Basics.{both_false, and_left, and_right, bool_cases, not_some as none_some, same_some as same_row, some_inj}
 use Rattle.hc_sparse.specs.Cells.{cells_with, Cells, Covers}
 use Rattle.hc_sparse.proofs.CellLemmas.{inside-cases}
-use Rattle.hc_effects.proofs.Vocabulary.{range, event, route, Response, Need, Length, length_of, base_of, promise_of, route_of, has_loss, loses_in, case_at, is_joining, row_of, Entry, exchange_heard, exchange_acted, promise_in, base, promised_bytes, front, length_by, is_open, is_reached, covers, absent_from, entry_of, Measures, is_written, new_representation, resumes, hole_start, is_last_part, writer_at, Tables, Exchange, Representation, may_stand, IsGrowing, InHole, end_from, after_accepted}
+use Rattle.hc_effects.proofs.Vocabulary.{brings_part, range, event, route, Response, Need, Length, length_of, base_of, promise_of, route_of, has_loss, loses_in, case_at, is_joining, row_of, Entry, exchange_heard, exchange_acted, promise_in, base, promised_bytes, front, length_by, is_open, is_reached, covers, absent_from, entry_of, Measures, is_written, new_representation, resumes, hole_start, is_last_part, writer_at, Tables, Exchange, Representation, may_stand, IsGrowing, InHole, end_from, after_accepted}
 use Rattle.hc_rules.specs.declared.length.Length.TheVariants as told
 use Rattle.hc_effects.proofs.{ApartKeeps.{IsOn, is_on, was_written}, Basics.{false_true, number_is}, ExchangeFrom.{IsSame, IsHeaded}, Fills.{Fills, fills, Brings, brings}, FirstKeeps.{case_is, is_new}, Forward.{after_is}, HeadKeeps.{IsJoin, is_join}, HoleLemmas.{covers_all, first_to}, MeasuresKeep.{held, IsHeld, total_same, one_piece}, PartTold.{part_told, whole_base, IsTold, part_order}, RepFrom.{was, founded, IsEnded, RepFrom, rep_from, IsKept, IsResumed}, Step.{Step}}
 use Rattle.hc_effects.proofs.Fills as fills_by
@@ -203,7 +203,7 @@ module _ (step : Step) (m : Measures step.tables) where
     zero_end None n is = refl
     zero_end (Some k) n is = ap Some (omega arith)
 
-    now_founded : (u : Representation) → new_representation x e got.response w ≡ u → now_on.representation x ≡ Some u → (got.response.status == 206) ≡ false → IsGrowing now_on x u x z
+    now_founded : (u : Representation) → new_representation x e got.response w ≡ u → now_on.representation x ≡ Some u → brings_part got.response.status ≡ false → IsGrowing now_on x u x z
     now_founded u made there off =
         let first : base z ≡ 0 = ap base_of length_is ∙ whole_base w.need w.request got.response off in
         let none : length z.body ≡ 0 = body_none in
@@ -256,13 +256,13 @@ module _ (step : Step) (m : Measures step.tables) where
   is_founded : (r x : ℕ) (response : Response) (w : Exchange) (u : Representation) → ev ≡ event.Head r response → t.exchange r ≡ Some w → new_representation r e response w ≡ u → now_on.representation r ≡ Some u → IsOn now_on u x → u.writer ≡ Some x → (z : Exchange) × IsGrowing now_on r u x z
   is_founded r x response w u here row made there on writer =
       let writes : writer_at r response ≡ Some x = ap (λ (a : Representation). a.writer) made ∙ writer in
-      let off : (response.status == 206) ≡ false = writer_if (response.status == 206) r x writes in
+      let off : brings_part response.status ≡ false = writer_if (brings_part response.status) r x writes in
       let number : r ≡ x = some_inj r x (sym (ap (λ b. if b then None else Some r) off) ∙ writes) in
       let goes_on = forward.is_on t e r w row in
       let got = headed_of r w goes_on.u response here goes_on.same row in
       let answer : response ≡ got.response = cc in
       let opened = open_of r goes_on.u goes_on.row (ap (λ n. is_open (now_on.exchange n)) number ∙ on.open_now) in
-      let grows : IsGrowing now_on r u r goes_on.u = now_founded r w goes_on.u row goes_on.same opened goes_on.row got u (ap (λ (a : Response). new_representation r e a w) (sym answer) ∙ made) there (ap (λ (a : Response). a.status == 206) (sym answer) ∙ off) in
+      let grows : IsGrowing now_on r u r goes_on.u = now_founded r w goes_on.u row goes_on.same opened goes_on.row got u (ap (λ (a : Response). new_representation r e a w) (sym answer) ∙ made) there (ap (λ (a : Response). brings_part a.status) (sym answer) ∙ off) in
       (goes_on.u, subst (λ n. IsGrowing now_on r u n goes_on.u) number grows)
 
   growing_by : may_stand limits t e ≡ true → (r x : ℕ) (u : Representation) → now_on.representation r ≡ Some u → IsOn now_on u x → u.writer ≡ Some x → RepFrom t e r u → (z : Exchange) × IsGrowing now_on r u x z

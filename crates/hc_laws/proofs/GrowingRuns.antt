@@ -6,7 +6,7 @@
 -- where that stops nothing else goes on with it (`stops_by`).
 use Rattle.std.{proofs.{Common.{◌≡◌, inl, inr, ℕ, List, [], ◌∷◌, Bool, true, false, Option, Some, None, refl, ap, sym, ◌∙◌, subst, arith}, lemmas.Bool.Decides.{nat_tests}}, specs.{Prelude.{if◌then◌else◌, is_some, ◌==◌, unwrap_or, nat_eq}, List.{list_any}}}
 use Rattle.hc_text.proofs.Basics.{none_of, and_left, bool_cases, not_some as none_some}
-use Rattle.hc_effects.proofs.Vocabulary.{is_denied, Event, Response, Limits, has_loss, case_at, is_joining, denial, Entry, family, is_open, Flaw, flaw_in, Grows, IsComing, entry_of, is_growing, brings_to, OfRuns, Measures, IsMeasured, is_written, Tables, Exchange, Representation, Sound, IsAbout, tables, after_accepted, after_denied}
+use Rattle.hc_effects.proofs.Vocabulary.{brings_whole, is_denied, Event, Response, Limits, has_loss, case_at, is_joining, denial, Entry, family, is_open, Flaw, flaw_in, Grows, IsComing, entry_of, is_growing, brings_to, OfRuns, Measures, IsMeasured, is_written, Tables, Exchange, Representation, Sound, IsAbout, tables, after_accepted, after_denied}
 use Rattle.hc_model.specs.Growing.{Growing, StopsGrowing, StopsInRuns}
 use Rattle.hc_model.specs.Measures as measures
 use Rattle.hc_model.specs.Sound as sound
@@ -52,7 +52,7 @@ module _ (t : Tables) (s : Sound t) where
     coming_by : (r : ℕ) (v : Representation) → t.representation r ≡ Some v → v.is_gone ≡ false → v.head.total ≡ None → IsComing t r v
     coming_by r v there not_gone none = by_writer v.writer refl
       where
-        by_growing : (x : ℕ) → is_written t v ≡ true → v.head.status ≡ 200 → v.writer ≡ Some x → ((w : Exchange) × sound.IsGrowing t r v x w) → IsComing t r v
+        by_growing : (x : ℕ) → is_written t v ≡ true → brings_whole v.head.status ≡ true → v.writer ≡ Some x → ((w : Exchange) × sound.IsGrowing t r v x w) → IsComing t r v
         by_growing x written status writer all = by_measure (m.brings x all.0 v all.1.row opened all.1.headed (ap t.representation all.1.family_is ∙ there))
           where
             opened : all.0.is_open ≡ true

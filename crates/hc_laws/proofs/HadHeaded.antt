@@ -4,16 +4,17 @@
 -- that comes joins or founds. Unless it is written for several, the exchange stays its consumer's own, and nothing is
 -- due (`own_had`). So its consumer has to be the exclusive writer: as who waited for the hole (`kept_had`), or as who
 -- came alone (`whole_had`, `part_had`). `had_kept` joins these.
-use Rattle.std.{proofs.{Common.{◌≡◌, ◌⊎◌, inl, inr, ℕ, List, [], ◌∷◌, Bool, true, false, Option, Some, None, refl, ap, sym, ◌∙◌, subst, arith}, lemmas.Bool.Decides.{nat_tests}}, specs.Prelude.{if◌then◌else◌, is_some, ◌==◌, ◌&&◌, ◌||◌, not, nat_eq, unwrap_or}}
-use Rattle.hc_text.proofs.Basics.{both_false, both_true as and_both, and_left, and_right, bool_cases, not_some as none_some, never_true as not_so, not_true, number_not, or_left, or_right, same_some as same_row}
+use Rattle.std.{proofs.{Common.{◌≡◌, ◌⊎◌, inl, inr, ℕ, List, [], ◌∷◌, Bool, true, false, Option, Some, None, refl, ap, sym, ◌∙◌, subst, arith}, lemmas.Bool.Decides.{nat_tests}}, specs.Prelude.{if◌then◌else◌, is_some, ◌&&◌, ◌||◌, not, nat_eq, unwrap_or}}
+use Rattle.hc_text.proofs.Basics.{both_false, both_true as and_both, and_left, and_right, bool_cases, not_some as none_some, never_true as not_so, not_true, or_left, or_right, same_some as same_row}
 use Rattle.hc_range.specs.{declared.range.{Asked.{Asked}, ContentRange.{ContentRange}, Span.{Span}}, Spans.{resolved_span}}
-use Rattle.hc_effects.proofs.Vocabulary.{range, act, event, case, route, wanted, place, by, Opening, opening_in, Act, Response, HeadCase, head_case, fits_to_found, fits_part, begins_at, route_of, content_range_of, range_of, wanted_of, wanted_part, BoundBy, loses_in, has_loss, case_at, head_view, is_founding, is_joining, is_updating, fits_asker, consumer_heard, consumer_acted, by_head, by_opening, own_after, left_to, waiting, due_after, place_by_case, becomes_shared, is_resumed, bound_to_wanted, is_number, row_of, Entry, is_for, is_open, family, cause_of_head, cause_by_case, founded_total, entry_of, Measures, is_written, reads, representation_heard, new_representation, resumes, updates, with_renewed_head, representation_after_head, Tables, Exchange, Representation, Consumer, IsAbout, IsHad, starts_over, after_accepted, came_alone, status_in, loses_writing}
+use Rattle.hc_effects.proofs.Vocabulary.{brings_part, brings_whole, range, act, event, case, route, wanted, place, by, Opening, opening_in, Act, Response, HeadCase, head_case, fits_to_found, fits_part, begins_at, route_of, content_range_of, range_of, wanted_of, wanted_part, BoundBy, loses_in, has_loss, case_at, head_view, is_founding, is_joining, is_updating, fits_asker, consumer_heard, consumer_acted, by_head, by_opening, own_after, left_to, waiting, due_after, place_by_case, becomes_shared, is_resumed, bound_to_wanted, is_number, row_of, Entry, is_for, is_open, family, cause_of_head, cause_by_case, founded_total, entry_of, Measures, is_written, reads, representation_heard, new_representation, resumes, updates, with_renewed_head, representation_after_head, Tables, Exchange, Representation, Consumer, IsAbout, IsHad, starts_over, after_accepted, came_alone, status_in, loses_writing}
 use Rattle.hc_model.specs.ConsumerRows.{with_head}
 use Rattle.hc_model.specs.Sound as sound
 use Rattle.hc_effects.proofs.{Forward.{is_kept}, AboutKeeps.{own_open_is}, ApartKeeps.{written_by}, Basics.{false_true, or_false}, Dues.{due_none}, ExchangeFrom.{ExchangeFrom, IsSame, IsHeaded, exchange_from}, FirstKeeps.{case_is, is_new}, FoundBy.{FoundingBy, founding_by}, HadKeeps.{own_had, settled, bare_had, was_headed}, HasBound.{head_stands, stays_on, joins_place, awaiting_bound}, HeadKeeps.{is_join}, LossBy.{IsReal}, MeasuresKeep.{founder_not}, OwnersKeep.{is_opened}, RepFrom.{was, founded, RepFrom, rep_from, IsKept}, Waiters.{IsWaiter, waiter_of, unwritten, waits_undue}, Step.{Step}}
 use Rattle.hc_effects.proofs.ExchangeFrom as exchange
 use Rattle.hc_effects.proofs.FoundBy as cases
 use Rattle.hc_laws.proofs.{HadNew.{new_had}, UndueKeeps.{founder_undue, no_cause}}
+use Rattle.hc_rules.proofs.Statuses.{whole_is_no_part}
 
 -- where nothing is lost, r isn't
 pub lossless_none : (r : ℕ) (acts : List Act) → has_loss acts ≡ false → loses_in r acts ≡ false
@@ -32,15 +33,14 @@ some_span : (x : Option Span) (first last : ℕ) → begins_at x first last ≡ 
 some_span None first last h = absurd (false_true h)
 some_span (Some span) first last h = (span, refl)
 
-part_by : (k : Consumer) (w : Exchange) (response : Response) (asked : Asked) (z : Option ContentRange) → range_of k.request ≡ Some asked → response.status ≡ 206 → content_range_of response.fields ≡ z → fits_part asked z ≡ true → IsWantedPart k w response
+part_by : (k : Consumer) (w : Exchange) (response : Response) (asked : Asked) (z : Option ContentRange) → range_of k.request ≡ Some asked → brings_part response.status ≡ true → content_range_of response.fields ≡ z → fits_part asked z ≡ true → IsWantedPart k w response
 part_by k w response asked (Some (range.Part first last (Some total))) is status at h =
     let span = some_span (resolved_span asked total) first last h in
-    let on : nat_eq response.status 206 ≡ true = (let st : response.status ≡ 206 = status in grind (arith, nat_tests)) in
-    let told : founded_total w response ≡ Some total = rw (on, at) refl in
+    let told : founded_total w response ≡ Some total = rw (status, at) refl in
     record { span = span.0; wanted_is = ap (λ q. wanted_of q (founded_total w response)) is ∙ (ap (wanted_of (Some asked)) told ∙ ap wanted_part span.1) }
 part_by k w response asked _ is status at h = absurd (false_true h)
 
-fits_by : (k : Consumer) (w : Exchange) (response : Response) (z : Option Asked) → range_of k.request ≡ z → response.status ≡ 206 → fits_to_found z response ≡ true → IsWantedPart k w response
+fits_by : (k : Consumer) (w : Exchange) (response : Response) (z : Option Asked) → range_of k.request ≡ z → brings_part response.status ≡ true → fits_to_found z response ≡ true → IsWantedPart k w response
 fits_by k w response None is status h = absurd (false_true h)
 fits_by k w response (Some asked) is status h = part_by k w response asked (content_range_of response.fields) is status refl (and_right _ _ h)
 
@@ -173,13 +173,13 @@ module _ (step : Step) (m : Measures step.tables) (real : IsReal step.limits ste
       found_binds : (is_founding (case_at t e) || is_joining (case_at t e)) ≡ true
       found_binds = or_left _ _ founding
 
-      whole_had : got.response.status ≡ 200 → IsHad now_on x p x
+      whole_had : brings_whole got.response.status ≡ true → IsHad now_on x p x
       whole_had status =
-          let off : nat_eq got.response.status 206 ≡ false = number_not got.response.status 206 (λ is. let no : 200 ≡ 206 = sym status ∙ is in absurd (omega arith)) in
+          let off : brings_part got.response.status ≡ false = whole_is_no_part got.response.status status in
           let writer : p.writer ≡ Some x = sym (ap (λ (q : Representation). q.writer) made) ∙ rw off refl in
           sound.shared (written_by now_on p x (sym (ap (λ (q : Representation). q.is_lost) made)) writer (ap is_open after_x ∙ on)) writer
 
-      part_had : case_at t e ≡ Some case.FoundsRange → got.response.status ≡ 206 → fits_asker (t.consumer w.c) got.response ≡ true → IsHad now_on x p x
+      part_had : case_at t e ≡ Some case.FoundsRange → brings_part got.response.status ≡ true → fits_asker (t.consumer w.c) got.response ≡ true → IsHad now_on x p x
       part_had is status fits =
           let part = fits_by k w got.response (range_of k.request) refl status (sym (ap (λ q. fits_asker q got.response) waiter.row) ∙ fits) in
           let placed : place_by_case x got.response w k (case_at t e) ≡ place.Bound x part.span.lo (Some part.span.hi) by.Founding = ap (place_by_case x got.response w k) is ∙ ap (bound_to_wanted x by.Founding (place.Direct x)) part.wanted_is in
@@ -188,7 +188,7 @@ module _ (step : Step) (m : Measures step.tables) (real : IsReal step.limits ste
           let undue = founder_undue step real.stand x w.c got.response w k got.at is_row founding waiter waiter.at in
           let stands : (u found_binds unshared).place ≡ place.Bound x part.span.lo (Some part.span.hi) by.Founding = u_place found_binds unshared ∙ placed in
           let none = due_none t e w.c k (consumer_acted t e w.c (consumer_heard t e w.c ev k)) (u found_binds unshared) (u_is found_binds unshared) (ap reads stands) undue.0 undue.1 in
-          let alone : came_alone now_on (place.Bound x part.span.lo (Some part.span.hi) by.Founding) ≡ true = ap (λ q. status_in q == 206) after ∙ grind (arith, nat_tests) in
+          let alone : came_alone now_on (place.Bound x part.span.lo (Some part.span.hi) by.Founding) ≡ true = ap (λ q. brings_part (status_in q)) after ∙ (sym (ap (λ (q : Representation). brings_part q.head.status) made) ∙ status) in
           sound.own w.c (u found_binds unshared) (sound.is_bound part.span.lo (Some part.span.hi) by.Founding (u_row found_binds unshared) stands) (own_open_is now_on (u found_binds unshared) x (record { own = own_if found_binds unshared stays; w = z; row = after_x; opened = on })) none
           (sound.first (sym (ap (λ (q : Representation). q.is_lost) made)) (sound.first (u found_binds unshared) part.span.lo (Some part.span.hi) by.Founding (u_row found_binds unshared) stands alone))
 

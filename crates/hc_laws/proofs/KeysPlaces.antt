@@ -6,7 +6,7 @@
 -- `keys_are_kept` adds the exchanges; at the beginning there are neither (`keys_begin`).
 use Rattle.std.{proofs.Common.{◌≡◌, ◌⊎◌, inl, inr, ℕ, List, [], ◌∷◌, ◌++◌, Bool, true, false, Option, Some, None, refl, ap, sym, ◌∙◌, subst, arith}, specs.{Prelude.{◌&&◌, ◌==◌, not, if◌then◌else◌, map, find, is_none}, Option.{option_or, option_map}}}
 use Rattle.hc_text.proofs.Basics.{eq_itself as eq-refl, eq_tells as eq_is, not_some as none_some, same_some as same_row, some_inj}
-use Rattle.hc_effects.proofs.Vocabulary.{Opening, opening_in, leaves_in, Act, Cause, Wait, Event, Request, Response, HeadCase, Route, Wanted, Limits, route_of, wanted_of, range_of, BoundBy, Place, wait_in, Showing, showing_in, accepted_acts, answer_acts, loss_acts, case_at, is_founding, closing, bound_to_wanted, place_by_case, passed_on, by_head, by_fault, by_opening, becomes_shared, consumer_after, consumer_settled, consumer_acted, consumer_heard, consumer_made, waiting, waiting_place, passed_by, kept_by, opened_place, place_for_hole, unless_bound, shown_place, own_after, left_to, due_after, back_in_line, new_consumer, current, row_of, is_number, denial, Entry, Content, aim_of, aim_from, becomes_due, Flaw, NoFlaw, Loses, founded_total, HasRow, IsOfOneKey, ExchangeKeys, ConsumerKeys, entry_of, Move, acts_of, reads, bound_to, representation_after, founded_at, new_representation, Tables, Exchange, Representation, Consumer, Sound, IsBound, starts_over, after_accepted, representation_of_content, evicted, loses_writing, survivor, act, wait, case, route, wanted, by}
+use Rattle.hc_effects.proofs.Vocabulary.{brings_part, Opening, opening_in, leaves_in, Act, Cause, Wait, Event, Request, Response, HeadCase, Route, Wanted, Limits, route_of, wanted_of, range_of, BoundBy, Place, wait_in, Showing, showing_in, accepted_acts, answer_acts, loss_acts, case_at, is_founding, closing, bound_to_wanted, place_by_case, passed_on, by_head, by_fault, by_opening, becomes_shared, consumer_after, consumer_settled, consumer_acted, consumer_heard, consumer_made, waiting, waiting_place, passed_by, kept_by, opened_place, place_for_hole, unless_bound, shown_place, own_after, left_to, due_after, back_in_line, new_consumer, current, row_of, is_number, denial, Entry, Content, aim_of, aim_from, becomes_due, Flaw, NoFlaw, Loses, founded_total, HasRow, IsOfOneKey, ExchangeKeys, ConsumerKeys, entry_of, Move, acts_of, reads, bound_to, representation_after, founded_at, new_representation, Tables, Exchange, Representation, Consumer, Sound, IsBound, starts_over, after_accepted, representation_of_content, evicted, loses_writing, survivor, act, wait, case, route, wanted, by}
 use Rattle.hc_event.specs.declared.event.Event.TheVariants as event
 use Rattle.hc_event.specs.declared.place.Place.TheVariants as place
 use Rattle.hc_model.specs.{Sound.{is_bound}, ConsumerRows.{with_opening}, Keys.{KeysAreKept, KeysBegin}}
@@ -424,7 +424,7 @@ module _ (limits : Limits) (t : Tables) (now : ℕ) (flaw : Flaw) (s : Sound t) 
 
   writer_by : (r x : ℕ) (v : Representation) → keeps.WasRow t e r v → v.writer ≡ Some x → (w : Exchange) × (t.exchange x ≡ Some w) × (w.request.key ≡ v.key)
   writer_by r x v (keeps.was_row old there key writes) is = writer_was r x old v there key writes is
-  writer_by r x v (keeps.new_row response w row key writes) is = (w, writer_new r x response.status w row (response.status == 206) (sym writes ∙ is), sym key)
+  writer_by r x v (keeps.new_row response w row key writes) is = (w, writer_new r x response.status w row (brings_part response.status) (sym writes ∙ is), sym key)
 
   writer_of : (r x : ℕ) (v : Representation) → keeps.WasRow t e r v → v.writer ≡ Some x → (w : Exchange) × (u.exchange x ≡ Some w) × (v.key ≡ w.request.key)
   writer_of r x v was is =

@@ -2,7 +2,7 @@
 -- gone.
 use Rattle.std.{proofs.{Common.{◌≡◌, ◌⊎◌, inl, inr, ℕ, ◌≤◌, length, Bool, true, false, Some, refl, ap, sym, ◌∙◌, arith}, lemmas.Bool.Decides.{nat_tests}}, specs.Prelude.{◌&&◌, ◌==◌, not, nat_eq}}
 use Rattle.hc_text.proofs.Basics.{bool_cases}
-use Rattle.hc_effects.proofs.Vocabulary.{closes_in, loses_in, Entry, promised_bytes, is_open, becomes_gone, goes_itself, ends_early, ends_founding, stops_early, is_keepable, is_below, entry_of, Measures, is_written, Tables, Exchange, Representation, IsGrowing, after_accepted, event}
+use Rattle.hc_effects.proofs.Vocabulary.{brings_whole, closes_in, loses_in, Entry, promised_bytes, is_open, becomes_gone, goes_itself, ends_early, ends_founding, stops_early, is_keepable, is_below, entry_of, Measures, is_written, Tables, Exchange, Representation, IsGrowing, after_accepted, event}
 use Rattle.hc_effects.proofs.{ApartKeeps.{is_on}, Basics.{false_true, or_false}, RepFrom.{heard, IsKept}, WritingStops.{IsAll, ends_all}, Step.{Step}}
 
 module _ (step : Step) (m : Measures step.tables) where
@@ -30,7 +30,7 @@ module _ (step : Step) (m : Measures step.tables) where
     unfolding becomes_gone
     not_early = (or_false _ (ends_early t e r v && not (is_keepable v)) (or_false (goes_itself t e r v) _ goes_parts.0).0).1
 
-    module _ (unkeepable : is_keepable v ≡ false) (whole : v.head.status ≡ 200) (on : is_written t v ≡ true) (writer : v.writer ≡ Some r) where
+    module _ (unkeepable : is_keepable v ≡ false) (whole : brings_whole v.head.status ≡ true) (on : is_written t v ≡ true) (writer : v.writer ≡ Some r) where
       lasts : ends_early t e r v ≡ false
       lasts = by_test (ends_early t e r v) (is_keepable v) not_early unkeepable
         where
@@ -38,7 +38,7 @@ module _ (step : Step) (m : Measures step.tables) where
           by_test a b h off = grind (arith, nat_tests)
 
       not_founding_end : ends_founding e r (t.exchange r) ≡ false
-      not_founding_end = by_test (v.head.status == 200) (ends_founding e r (t.exchange r)) lasts (let st : v.head.status ≡ 200 = whole in let test : nat_eq v.head.status 200 ≡ true = grind (arith, nat_tests) in test)
+      not_founding_end = by_test (brings_whole v.head.status) (ends_founding e r (t.exchange r)) lasts whole
         where
           by_test : (a b : Bool) → (a && b) ≡ false → a ≡ true → b ≡ false
           by_test a b h on = grind (arith, nat_tests)

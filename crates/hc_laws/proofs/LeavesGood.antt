@@ -8,7 +8,7 @@ use Rattle.std.{proofs.{Common.{◌≡◌, ◌≢◌, inl, inr, ℕ, ◌+◌, �
 use Rattle.hc_text.proofs.Basics.{or_right, both_true as and_both, and_left, and_right, bool_cases, not_some as none_some, some_inj}
 use Rattle.hc_record.specs.declared.kind.Kind.TheVariants as kind
 use Rattle.hc_rules.proofs.RangeReads.{same_bytes}
-use Rattle.hc_effects.proofs.Vocabulary.{weight_of, Limits, may_begin, are_good, is_good, is_given_out, has_own_numbers, is_own_run, says, is_kind_right, same_kind, kind_of_runs, ascend_from, needs_tag, is_whole, has_right_head, weights_of, runs_from, content_of, content_at, idle_now, contents_of, is_current, Content, Contents, family, covers, kind_of, brings_to, is_complete, covers_all, is_front, IsInLimits, AreOnce, HasByte, Origins, bound, is_written, Tables, Exchange, Representation, Sizes, Sound, Among, IsStored, StoredHeads, AreWithinLimits, IsOfOne, Tags, tables, bytes_in, last_end, KeysAreTargets}
+use Rattle.hc_effects.proofs.Vocabulary.{brings_part, weight_of, Limits, may_begin, are_good, is_good, is_given_out, has_own_numbers, is_own_run, says, is_kind_right, same_kind, kind_of_runs, ascend_from, needs_tag, is_whole, has_right_head, weights_of, runs_from, content_of, content_at, idle_now, contents_of, is_current, Content, Contents, family, covers, kind_of, brings_to, is_complete, covers_all, is_front, IsInLimits, AreOnce, HasByte, Origins, bound, is_written, Tables, Exchange, Representation, Sizes, Sound, Among, IsStored, StoredHeads, AreWithinLimits, IsOfOne, Tags, tables, bytes_in, last_end, KeysAreTargets}
 use Rattle.hc_sparse.specs.{Cells.{Covers}, declared.run.Run.{Run}}
 use Rattle.hc_model.specs.{Sound.{headed}, Contents.{is_idle}, Laws.{LeavesInRuns}}
 use Rattle.hc_model.specs.Origins as origins
@@ -203,12 +203,9 @@ module _ (limits : Limits) (t : Tables) (g : IsSettled limits t) where
         by_tag (Some opaque) is = ap is_some is
         by_tag None is =
             let whole : is_whole (kind_of t r v) ≡ true = one_whole (g.tags.one r v i.row i.not_gone is) in
-            let full : (v.head.status == 206) ≡ false = not_eq v.head.status 206 (g.tags.parts r v i.row is) in
+            let full : brings_part v.head.status ≡ false = g.tags.parts r v i.row is in
             let own : list_any (λ (run : Run). not (run.x == r)) item.runs ≡ false = runs_own item.runs (λ x any. g.tags.own r x v i.row is (byte_of x any)) in
             absurd (false_true (sym (rw (whole, full, own) refl) ∙ h))
-          where
-            not_eq : (a b : ℕ) → a ≢ b → (a == b) ≡ false
-            not_eq a b other = elim (eq_cases a b) [ inl here ↦ absurd (other here.1) | inr off ↦ off.0 ]
 
     head_ok : has_right_head left item ≡ true
     head_ok =

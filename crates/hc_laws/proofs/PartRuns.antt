@@ -2,16 +2,17 @@
 --
 -- By how its reader became bound. At a first hole the interval is one that is wanted of a range that is read, so it
 -- isn't empty (`interval_some`, `first_by`). What is founded has the status and the length that its head tells
--- (`founded_row`), and keeps them (`kept_row`). So who founds by a 206 reads a part that isn't empty (`part_by`), and
+-- (`founded_row`), and keeps them (`kept_row`). So who founds by a part reads a part that isn't empty (`part_by`), and
 -- else all of it (`whole_by`). `parts_kept` joins these, and `parts_in_runs` is the law.
-use Rattle.std.{proofs.{Common.{◌≡◌, ◌≢◌, inl, inr, ℕ, ◌<◌, Bool, true, false, Option, Some, None, refl, ap, sym, ◌∙◌, arith}, lemmas.Bool.Decides.{nat_tests}}, specs.{Prelude.{is_some, nat_eq}, Option.{option_or}}}
+use Rattle.std.{proofs.{Common.{◌≡◌, inl, inr, ℕ, ◌<◌, Bool, true, false, Option, Some, None, refl, ap, sym, ◌∙◌, arith}}, specs.{Prelude.{is_some}, Option.{option_or}}}
 use Rattle.hc_text.proofs.Basics.{not_some as none_some, same_some as same_row, some_inj}
-use Rattle.hc_effects.proofs.Vocabulary.{Event, Request, Response, HeadCase, Limits, range_of, wanted_of, BoundBy, has_loss, case_at, head_view, consumer_heard, waiting, denial, Entry, promise_in, Flaw, founded_total, entry_of, OfRuns, OfRunsIn, Parts, is_ranged, length_in, Tables, Exchange, Representation, Consumer, Sound, after_accepted, event, case, by, place}
+use Rattle.hc_effects.proofs.Vocabulary.{brings_part, brings_whole, Event, Request, Response, HeadCase, Limits, range_of, wanted_of, BoundBy, has_loss, case_at, head_view, consumer_heard, waiting, denial, Entry, promise_in, Flaw, founded_total, entry_of, OfRuns, OfRunsIn, Parts, is_ranged, length_in, Tables, Exchange, Representation, Consumer, Sound, after_accepted, event, case, by, place}
 use Rattle.hc_model.specs.Sound as sound
-use Rattle.hc_effects.proofs.{Basics.{some_row}, BoundFrom.{BoundFrom, IsRow, IsFounded, IsInterval, bound_from}, Bounded.{range_order}, ConsumerFilters.{acted, heard_same}, FirstKeeps.{case_of_head, whole_200, replaced_200, is_new}, FoundBy.{founds_range, CaseBy}, RepFrom.{RepFrom, rep_from}, WantedSpans.{wanted_some}}
+use Rattle.hc_effects.proofs.{Basics.{false_true, some_row}, BoundFrom.{BoundFrom, IsRow, IsFounded, IsInterval, bound_from}, Bounded.{range_order}, ConsumerFilters.{acted, heard_same}, FirstKeeps.{case_of_head, whole_brings, replaced_brings, is_new}, FoundBy.{founds_range, CaseBy}, RepFrom.{RepFrom, rep_from}, WantedSpans.{wanted_some}}
 use Rattle.hc_effects.proofs.BoundFrom as from
 use Rattle.hc_effects.proofs.RepFrom as rep
 use Rattle.hc_laws.proofs.{RunFacts.{in_runs}, CoversNew.{head_inj}}
+use Rattle.hc_rules.proofs.Statuses.{whole_is_no_part, whole_or_part}
 
 -- A RANGE THAT IS READ
 
@@ -23,11 +24,11 @@ interval_some request o lo hi on i =
 
 -- AN ENTRY
 
-range_206 : (t : Tables) (lost : Bool) (w : Exchange) (response : Response) → CaseBy (head_view t lost w response) case.FoundsRange → response.status ≡ 206
-range_206 t lost w response (founds_range way status fits kept good) = status
+range_brings : (t : Tables) (lost : Bool) (w : Exchange) (response : Response) → CaseBy (head_view t lost w response) case.FoundsRange → brings_part response.status ≡ true
+range_brings t lost w response (founds_range way status fits kept good) = status
 
-whole_total : (w : Exchange) (response : Response) → response.status ≡ 200 → founded_total w response ≡ promise_in w response
-whole_total w response status = let off : nat_eq response.status 206 ≡ false = grind (arith, nat_tests, status) in rw off refl
+whole_total : (w : Exchange) (response : Response) → brings_whole response.status ≡ true → founded_total w response ≡ promise_in w response
+whole_total w response status = rw (whole_is_no_part response.status status) refl
 
 hole_founding : (y : ℕ) → by.FirstHole y ≡ by.Founding → ⊥
 hole_founding y is = cc
@@ -94,36 +95,36 @@ module _ (limits : Limits) (t : Tables) (now : ℕ) (flaw : Flaw) (s : Sound t) 
   was_there : (c r lo hi : ℕ) (k : Consumer) → t.consumer c ≡ Some k → k.place ≡ place.Bound r lo (Some hi) by.Founding → (v : Representation) × (t.representation r ≡ Some v)
   was_there c r lo hi k row at = some_row (t.representation r) (s.numbered.bound_to r c k (sound.is_bound lo (Some hi) by.Founding row at))
 
-  part_by : (c r lo hi : ℕ) (u : Consumer) (v : Representation) → now_on.representation r ≡ Some v → v.head.status ≡ 206 → is_ranged u ≡ true → BoundFrom t e c r lo (Some hi) by.Founding u → lo < hi
+  part_by : (c r lo hi : ℕ) (u : Consumer) (v : Representation) → now_on.representation r ≡ Some v → brings_part v.head.status ≡ true → is_ranged u ≡ true → BoundFrom t e c r lo (Some hi) by.Founding u → lo < hi
   part_by c r lo hi u v there status on (from.stays k row at) =
       let was = was_there c r lo hi k row.row at in
-      p.founded c r lo hi k was.0 row.row at was.1 (sym (kept_row r was.0 v was.1 there).0 ∙ status) (ranged k u (request_is c r lo (Some hi) by.Founding k u row) on)
+      p.founded c r lo hi k was.0 row.row at was.1 (sym (ap brings_part (kept_row r was.0 v was.1 there).0) ∙ status) (ranged k u (request_is c r lo (Some hi) by.Founding k u row) on)
   part_by c r lo hi u v there status on (from.founds k x response w row here exchange_row mine of_r by_is all) = by_case (case_at t e) refl all
     where
-      never : response.status ≡ 200 → lo < hi
-      never is = absurd (let no : 206 ≡ 200 = sym status ∙ ((founded_row r x response w v here exchange_row of_r there).0 ∙ is) in omega arith)
+      never : brings_whole response.status ≡ true → lo < hi
+      never is = absurd (whole_or_part v.head.status (ap brings_whole (founded_row r x response w v here exchange_row of_r there).0 ∙ is) status)
 
       by_case : (g : Option HeadCase) → case_at t e ≡ g → IsFounded t e c r lo (Some hi) by.Founding x response w k g → lo < hi
-      by_case _ is (from.whole a b) = never (whole_200 t (has_loss e.acts) w response (case_of_head t e x response w case.FoundsWhole here exchange_row is))
-      by_case _ is (from.replaced a b) = never (replaced_200 t (has_loss e.acts) w response (case_of_head t e x response w case.FirstReplaced here exchange_row is))
+      by_case _ is (from.whole a b) = never (whole_brings t (has_loss e.acts) w response (case_of_head t e x response w case.FoundsWhole here exchange_row is))
+      by_case _ is (from.replaced a b) = never (replaced_brings t (has_loss e.acts) w response (case_of_head t e x response w case.FirstReplaced here exchange_row is))
       by_case _ is (from.part i) = interval_some k.request _ lo hi (ranged k u (request_is c r lo (Some hi) by.Founding k u row) on) i
   part_by c r lo hi u v there status on (from.opens k o row is mine free way hole) = absurd (hole_founding o.x (sym hole.by_is))
   part_by c r lo hi u v there status on (from.shows k z row is all) = absurd (founding_plan all.by_is)
 
-  whole_by : (c r lo hi : ℕ) (u : Consumer) (v : Representation) → now_on.representation r ≡ Some v → v.head.status ≢ 206 → BoundFrom t e c r lo (Some hi) by.Founding u → v.head.total ≡ Some hi
+  whole_by : (c r lo hi : ℕ) (u : Consumer) (v : Representation) → now_on.representation r ≡ Some v → brings_part v.head.status ≡ false → BoundFrom t e c r lo (Some hi) by.Founding u → v.head.total ≡ Some hi
   whole_by c r lo hi u v there status (from.stays k row at) =
       let was = was_there c r lo hi k row.row at in
       let kept = kept_row r was.0 v was.1 there in
-      kept.1 hi (p.whole c r lo hi k was.0 row.row at was.1 (λ is. status (kept.0 ∙ is)))
+      kept.1 hi (p.whole c r lo hi k was.0 row.row at was.1 (sym (ap brings_part kept.0) ∙ status))
   whole_by c r lo hi u v there status (from.founds k x response w row here exchange_row mine of_r by_is all) = by_case (case_at t e) refl all
     where
       founded : (v.head.status ≡ response.status) × (v.head.total ≡ founded_total w response)
       founded = founded_row r x response w v here exchange_row of_r there
 
       by_case : (g : Option HeadCase) → case_at t e ≡ g → IsFounded t e c r lo (Some hi) by.Founding x response w k g → v.head.total ≡ Some hi
-      by_case _ is (from.whole a b) = founded.1 ∙ (whole_total w response (whole_200 t (has_loss e.acts) w response (case_of_head t e x response w case.FoundsWhole here exchange_row is)) ∙ sym b)
-      by_case _ is (from.replaced a b) = founded.1 ∙ (whole_total w response (replaced_200 t (has_loss e.acts) w response (case_of_head t e x response w case.FirstReplaced here exchange_row is)) ∙ sym b)
-      by_case _ is (from.part i) = absurd (status (founded.0 ∙ range_206 t (has_loss e.acts) w response (case_of_head t e x response w case.FoundsRange here exchange_row is)))
+      by_case _ is (from.whole a b) = founded.1 ∙ (whole_total w response (whole_brings t (has_loss e.acts) w response (case_of_head t e x response w case.FoundsWhole here exchange_row is)) ∙ sym b)
+      by_case _ is (from.replaced a b) = founded.1 ∙ (whole_total w response (replaced_brings t (has_loss e.acts) w response (case_of_head t e x response w case.FirstReplaced here exchange_row is)) ∙ sym b)
+      by_case _ is (from.part i) = absurd (false_true (sym status ∙ (ap brings_part founded.0 ∙ range_brings t (has_loss e.acts) w response (case_of_head t e x response w case.FoundsRange here exchange_row is))))
   whole_by c r lo hi u v there status (from.opens k o row is mine free way hole) = absurd (hole_founding o.x (sym hole.by_is))
   whole_by c r lo hi u v there status (from.shows k z row is all) = absurd (founding_plan all.by_is)
 

@@ -4,17 +4,18 @@
 -- over (`by_writing`). Its exchange can't have become that of a writing: it would promise bytes and go on
 -- (`shared_not`, `promises_some`). Who founds a part or opens a first hole has an exchange (`founded_not`,
 -- `opens_not`). An open exchange about it would be its own (`about_not`). `rested_kept` joins these.
-use Rattle.std.{proofs.{Common.{◌≡◌, ◌⊎◌, inl, inr, ℕ, ◌+◌, ◌-◌, ◌≤◌, List, Bool, true, false, Option, Some, None, refl, ap, sym, ◌∙◌, subst, arith}, lemmas.{Bool.Decides.{nat_tests}, Slice.Eq.{bytes_eq-Decides}}}, specs.Prelude.{if◌then◌else◌, is_some, ◌==◌, nat_eq, bytes_eq, codes, unwrap_or}}
+use Rattle.std.{proofs.{Common.{◌<◌, ◌≡◌, ◌⊎◌, inl, inr, ℕ, ◌+◌, ◌-◌, ◌≤◌, List, Bool, true, false, Option, Some, None, refl, ap, sym, ◌∙◌, subst, arith}, lemmas.{Bool.Decides.{nat_tests}, Slice.Eq.{bytes_eq-Decides}}}, specs.Prelude.{if◌then◌else◌, is_some, nat_eq, bytes_eq, codes, unwrap_or}}
 use Rattle.hc_text.proofs.Basics.{bool_cases, not_some as none_some, same_some as same_row, some_inj}
-use Rattle.hc_effects.proofs.Vocabulary.{range, event, case, route, place, by, Opening, opening_in, Need, Request, Response, HeadCase, length_of, promise_of, is_bad, is_head, agrees, content_length_of, route_of, content_range_of, is_disabled, is_get, BoundBy, loses_in, case_at, is_joining, is_refused, consumer_heard, consumer_acted, by_opening, waiting, becomes_shared, doomed_by_case, Entry, promise_in, is_open, family, becomes_due, entry_of, Measures, is_written, own_open, reads, Tables, Exchange, Representation, Consumer, IsBound, IsFirst, IsExclusiveWriter, IsHad, after_accepted, came_alone, status_in}
+use Rattle.hc_effects.proofs.Vocabulary.{brings_part, brings_whole, range, event, case, route, place, by, Opening, opening_in, Need, Request, Response, HeadCase, length_of, promise_of, is_bad, is_head, agrees, content_length_of, route_of, content_range_of, is_disabled, is_get, BoundBy, loses_in, case_at, is_joining, is_refused, consumer_heard, consumer_acted, by_opening, waiting, becomes_shared, doomed_by_case, Entry, promise_in, is_open, family, becomes_due, entry_of, Measures, is_written, own_open, reads, Tables, Exchange, Representation, Consumer, IsBound, IsFirst, IsExclusiveWriter, IsHad, after_accepted, came_alone, status_in}
 use Rattle.hc_text.specs.declared.names.MethodName.{MethodName}
 use Rattle.hc_fields.specs.FieldElements.{elements_in}
 use Rattle.hc_rules.specs.declared.length.Length.TheVariants as lengths
 use Rattle.hc_model.specs.Sound as sound
-use Rattle.hc_effects.proofs.{Forward.{IsOn}, AboutKeeps.{own_open_of}, ApartKeeps.{written_by}, Basics.{false_true, true_false, or_false, some_none}, Beside.{IsBeside}, BoundFrom.{BoundFrom, IsRow, IsFounded, bound_from}, Dues.{due_before}, ExchangeFrom.{IsHeaded}, FirstKeeps.{case_of_head, whole_200, replaced_200, is_new, came_kept, one_first_kept, founded_came}, HeadKeeps.{IsJoin}, LossBy.{IsReal}, Losses.{HasRest}, PartTold.{part_order}, ExclusiveWriters.{writer_some}, PieceKeeps.{eq_cases}, RepFrom.{was, founded, RepFrom, rep_from, IsKept, IsResumed}, ServedKeeps.{rest_by, still_rests, resumed_not, none_promised}, Waiters.{waiter_of}, WriterEnds.{all_stored}, Step.{Step}}
+use Rattle.hc_effects.proofs.{Forward.{IsOn}, AboutKeeps.{own_open_of}, ApartKeeps.{written_by}, Basics.{false_true, true_false, or_false, some_none}, Beside.{IsBeside}, BoundFrom.{BoundFrom, IsRow, IsFounded, bound_from}, Dues.{due_before}, ExchangeFrom.{IsHeaded}, FirstKeeps.{case_of_head, whole_brings, replaced_brings, is_new, came_kept, one_first_kept, founded_came}, HeadKeeps.{IsJoin}, LossBy.{IsReal}, Losses.{HasRest}, PartTold.{part_order}, ExclusiveWriters.{writer_some}, PieceKeeps.{eq_cases}, RepFrom.{was, founded, RepFrom, rep_from, IsKept, IsResumed}, ServedKeeps.{rest_by, still_rests, resumed_not, none_promised}, Waiters.{waiter_of}, WriterEnds.{all_stored}, Step.{Step}}
 use Rattle.hc_effects.proofs.BoundFrom as from
 use Rattle.hc_laws.proofs.{HadHeaded.{had_kept}, OwnNone.{IsShared, own_none, after_none}}
 use Rattle.hc_laws.proofs.TogetherHeads as together
+use Rattle.hc_rules.proofs.Statuses.{whole_or_part, part_succeeds, part_not_204}
 
 -- WHO READS GETS A BODY
 
@@ -27,14 +28,14 @@ not_head : (request : Request) → bytes_eq request.method (codes "GET") ≡ tru
 not_head request get = ap (λ (a : List ℕ). bytes_eq a (codes "HEAD")) ((bytes_eq-Decides request.method (codes "GET")).0 get)
 
 -- a part that isn't bad, of which a body comes, promises a byte
-promises_some : (n : Need) (request : Request) (response : Response) (first last total : ℕ) → route_of n ≡ route.Hole → is_head request ≡ false → response.status ≡ 206 → content_range_of response.fields ≡ Some (range.Part first last (Some total)) → is_bad (length_of n request response) ≡ false → promise_of (length_of n request response) ≡ Some 0 → ⊥
+promises_some : (n : Need) (request : Request) (response : Response) (first last total : ℕ) → route_of n ≡ route.Hole → is_head request ≡ false → brings_part response.status ≡ true → content_range_of response.fields ≡ Some (range.Part first last (Some total)) → is_bad (length_of n request response) ≡ false → promise_of (length_of n request response) ≡ Some 0 → ⊥
 unfolding length_of
 promises_some n request response first last total way plain status part good none =
-    let a : nat_eq response.status 204 ≡ false = (let st : response.status ≡ 206 = status in grind (arith, nat_tests)) in
-    let b : nat_eq response.status 304 ≡ false = (let st : response.status ≡ 206 = status in grind (arith, nat_tests)) in
-    let d : nat_eq response.status 206 ≡ true = (let st : response.status ≡ 206 = status in grind (arith, nat_tests)) in
+    let a = part_not_204 response.status status in
+    let low : response.status < 300 = (part_succeeds response.status status).1 in
+    let b : nat_eq response.status 304 ≡ false = grind (arith, nat_tests) in
     let said = content_length_of (elements_in (codes "content-length") response.fields) in
-    by_test (agrees said (last + 1 - first)) (rw (plain, a, b, way, d, part) at good) (rw (plain, a, b, way, d, part) at none)
+    by_test (agrees said (last + 1 - first)) (rw (plain, a, b, way, status, part) at good) (rw (plain, a, b, way, status, part) at none)
   where
     by_test : (b : Bool) → is_bad (if b then lengths.Part first (last + 1 - first) else lengths.Bad) ≡ false → promise_of (if b then lengths.Part first (last + 1 - first) else lengths.Bad) ≡ Some 0 → ⊥
     by_test true g p = let order = part_order response.fields first last total part in let is_sorted : first ≤ last = order.is_sorted in let zero_is : last + 1 - first ≡ 0 = some_inj (last + 1 - first) 0 p in absurd (omega arith)
@@ -167,17 +168,17 @@ module _ (step : Step) (m : Measures step.tables) (i : IsBeside step.tables) (re
         new : Rattle.hc_effects.proofs.FirstKeeps.IsNew limits t now flaw s ev goes x w
         new = is_new limits t now flaw s ev goes x response w here exchange_row
 
-        status : response.status ≡ 206
+        status : brings_part response.status ≡ true
         status =
-            let founding : (status_in (now_on.representation r) == 206) ≡ true = subst (λ (b : BoundBy). came_alone now_on (place.Bound r lo hi b) ≡ true) by_is came in
-            founded_came limits t now flaw s ev goes x lo hi response (now_on.representation x) here new.unfounded refl (subst (λ q. (status_in (now_on.representation q) == 206) ≡ true) (sym of_r) founding)
+            let founding : brings_part (status_in (now_on.representation r)) ≡ true = subst (λ (b : BoundBy). came_alone now_on (place.Bound r lo hi b) ≡ true) by_is came in
+            founded_came limits t now flaw s ev goes x lo hi response (now_on.representation x) here new.unfounded refl (subst (λ q. brings_part (status_in (now_on.representation q)) ≡ true) (sym of_r) founding)
 
-        not_200 : response.status ≡ 200 → ⊥
-        not_200 is = let a : response.status ≡ 200 = is in let b : response.status ≡ 206 = status in absurd (omega arith)
+        no_whole : brings_whole response.status ≡ true → ⊥
+        no_whole is = whole_or_part response.status is status
 
         unshared : (g : Option HeadCase) → case_at t e ≡ g → IsFounded t e c r lo hi how x response w k g → becomes_shared t e response w g ≡ false
-        unshared _ is (from.whole a b) = absurd (not_200 (whole_200 t _ w response (case_of_head t e x response w case.FoundsWhole here exchange_row is)))
-        unshared _ is (from.replaced a b) = absurd (not_200 (replaced_200 t _ w response (case_of_head t e x response w case.FirstReplaced here exchange_row is)))
+        unshared _ is (from.whole a b) = absurd (no_whole (whole_brings t _ w response (case_of_head t e x response w case.FoundsWhole here exchange_row is)))
+        unshared _ is (from.replaced a b) = absurd (no_whole (replaced_brings t _ w response (case_of_head t e x response w case.FirstReplaced here exchange_row is)))
         unshared _ is (from.part a) = refl
 
         head_same : (a d : ℕ) (f h : Response) → event.Head a f ≡ event.Head d h → (a ≡ d) × (f ≡ h)

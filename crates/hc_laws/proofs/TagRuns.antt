@@ -1,14 +1,14 @@
 -- In every run what has no tag by which others could join it comes from its one exchange, or is all there.
 --
--- At an entry it is kept by `tags_kept`. At the beginning a good item without a tag is whole, no 206, and all its runs
+-- At an entry it is kept by `tags_kept`. At the beginning a good item without a tag is whole, no part, and all its runs
 -- are of its own number (`untagged`, `own_runs`). A whole item has every position below its length: its runs end where
 -- their bytes add up (`whole_by`, `all_there`). `tags_begin` joins these for the first tables, and `tags_in_runs`
 -- carries it.
-use Rattle.std.{proofs.{Common.{◌≡◌, ◌≢◌, inl, inr, ℕ, List, [], ◌∷◌, Bool, true, false, Option, Some, None, refl, ap, sym, ◌∙◌, arith}, lemmas.Bool.Decides.{nat_tests}}, specs.{Prelude.{is_some, ◌||◌, ◌==◌, not, nat_eq, find, option_map, if◌then◌else◌}, List.{list_any}}}
+use Rattle.std.{proofs.{Common.{◌≡◌, inl, inr, ℕ, List, [], ◌∷◌, Bool, true, false, Option, Some, None, refl, ap, sym, ◌∙◌, arith}, lemmas.Bool.Decides.{nat_tests}}, specs.{Prelude.{is_some, ◌||◌, ◌==◌, not, nat_eq, find, option_map, if◌then◌else◌}, List.{list_any}}}
 use Rattle.hc_text.proofs.Basics.{and_left, and_right, not_some as none_some, not_false as not_no, some_inj}
 use Rattle.hc_record.specs.declared.kind.Kind.{Kind}
 use Rattle.hc_record.specs.declared.kind.Kind.TheVariants as kind
-use Rattle.hc_effects.proofs.Vocabulary.{Limits, may_begin, needs_tag, is_whole, is_kind_right, kind_of_runs, same_kind, Content, Contents, OfRuns, HasByte, Representation, IsOfOne, Tags, first_tables, representation_of_content, last_end, bytes_in}
+use Rattle.hc_effects.proofs.Vocabulary.{brings_part, Limits, may_begin, needs_tag, is_whole, is_kind_right, kind_of_runs, same_kind, Content, Contents, OfRuns, HasByte, Representation, IsOfOne, Tags, first_tables, representation_of_content, last_end, bytes_in}
 use Rattle.hc_sparse.specs.{Cells.{Covers, size_below}, Runs.{cells_of}, declared.run.Run.{Run}}
 use Rattle.hc_model.specs.StoredHeads as heads
 use Rattle.hc_effects.proofs.{Basics.{false_true, or_false}, PieceKeeps.{eq_cases}}
@@ -17,7 +17,7 @@ use Rattle.hc_laws.proofs.{MeasuresBegin.{ascending_item, known_item}, OriginsBe
 -- an item without a tag
 record IsUntagged (item : Content) : Type 0 where
   whole : is_whole item.head.kind ≡ true
-  full : (item.head.status == 206) ≡ false
+  full : brings_part item.head.status ≡ false
   own : list_any (λ (run : Run). not (run.x == item.r)) item.runs ≡ false
 
 untagged : (item : Content) → needs_tag item ≡ false → IsUntagged item
@@ -77,8 +77,8 @@ module _ (limits : Limits) (contents : Contents) (may : may_begin limits content
     one : IsOfOne (first_tables contents) v
     one = all_there item.head.total refl (known_item limits contents may r item found)
 
-    parts : v.head.status ≢ 206
-    parts is = false_true (sym no_tag.full ∙ grind (arith, nat_tests))
+    parts : brings_part v.head.status ≡ false
+    parts = sym (ap (λ (z : Representation). brings_part z.head.status) row) ∙ no_tag.full
 
     number : item.r ≡ r
     number = by_find contents.items found
@@ -106,7 +106,7 @@ module _ (limits : Limits) (contents : Contents) (may : may_begin limits content
   tags_begin : Tags (first_tables contents)
   tags_begin = record {
     joined = λ x r w v row is there none. none_some w row;
-    parts = λ r v row none is. by_row ⊥ r v (item_at r) refl row (λ item found same. parts r item v found same none is);
+    parts = λ r v row none. by_row (brings_part v.head.status ≡ false) r v (item_at r) refl row (λ item found same. parts r item v found same none);
     own = λ r x v row none has. by_row (x ≡ r) r v (item_at r) refl row (λ item found same. own_byte r x v item found same none has);
     one = λ r v row not_gone none. by_row (IsOfOne (first_tables contents) v) r v (item_at r) refl row (λ item found same. one r item v found same none);
   }

@@ -1,13 +1,13 @@
 -- What has no tag by which others could join it comes from its one exchange, or is all there.
 --
 -- A part founds by a strong tag only, and that is one by which parts join (`strong_joins`); what is joined has a tag
--- (`joins_tagged`). So what has none was no 206 (`parts_by`), and all its bytes are of the exchange that founded it
+-- (`joins_tagged`). So what has none was no part (`parts_by`), and all its bytes are of the exchange that founded it
 -- (`own_row`). As long as that writes, it comes from there. Once it is over all is there, or what is unkeepable goes
 -- (`one_row`). `tags_kept` joins these.
 use Rattle.std.{proofs.Common.{◌≡◌, ◌≢◌, ◌⊎◌, inl, inr, ℕ, List, [], ◌∷◌, length, Bool, true, false, Option, Some, None, refl, ap, sym, ◌∙◌, arith}, specs.{Prelude.{is_some, ◌||◌, not, unwrap_or, if◌then◌else◌, codes}, Option.{option_and_then}}}
 use Rattle.hc_text.proofs.Basics.{and_left, and_right, not_some as none_some, some_inj}
 use Rattle.hc_etag.specs.TagTexts.{strong_in}
-use Rattle.hc_effects.proofs.Vocabulary.{Event, Response, fits_to_found, range_of, strong_of, Limits, loses_in, has_loss, case_at, is_joining, fits_asker, row_of, denial, Entry, is_open, front, Flaw, is_keepable, entry_of, HasByte, is_written, new_representation, Tables, Exchange, Representation, Consumer, IsGrowing, IsOfOne, Tags, after_accepted, after_denied, event}
+use Rattle.hc_effects.proofs.Vocabulary.{brings_part, brings_whole, Event, Response, fits_to_found, range_of, strong_of, Limits, loses_in, has_loss, case_at, is_joining, fits_asker, row_of, denial, Entry, is_open, front, Flaw, is_keepable, entry_of, HasByte, is_written, new_representation, Tables, Exchange, Representation, Consumer, IsGrowing, IsOfOne, Tags, after_accepted, after_denied, event}
 use Rattle.hc_fields.specs.{FieldList.{values_of}, FirstValues.{only_of}}
 use Rattle.hc_range.specs.declared.range.Asked.{Asked}
 use Rattle.hc_record.specs.Head.{joining_of, one_strong_opaque, strong_opaque}
@@ -23,6 +23,7 @@ use Rattle.hc_effects.proofs.ExchangeFrom as exchange
 use Rattle.hc_effects.proofs.Fills as fill
 use Rattle.hc_laws.proofs.FoundedAs as founded
 use Rattle.hc_effects.proofs.RepFrom as rep
+use Rattle.hc_rules.proofs.Statuses.{whole_is_no_part}
 
 -- THE TAG OF A PART THAT FOUNDS
 
@@ -128,22 +129,17 @@ module _ (limits : Limits) (t : Tables) (now : ℕ) (flaw : Flaw) (c : IsCarried
       let own : joining_of (Rattle.hc_model.specs.Heads.kept_fields response.fields) ≡ None = ap (λ (z : Representation). z.head.joining) made ∙ none in
       strong_joins (values_of (codes "etag") response.fields) (asker_tag (t.consumer w.c) response fits) (sym (ap one_strong_opaque (etag_kept response.fields)) ∙ own)
 
-  whole_status : (r : ℕ) (response : Response) (w : Exchange) (p : Representation) → new_representation r e response w ≡ p → response.status ≡ 200 → p.head.status ≢ 206
-  whole_status r response w p made whole is =
-      let same : response.status ≡ p.head.status = ap (λ (z : Representation). z.head.status) made in
-      let here : response.status ≡ 200 = whole in
-      let part : p.head.status ≡ 206 = is in
-      let no : 200 ≡ 206 = sym here ∙ (same ∙ part) in
-      absurd (omega arith)
+  whole_status : (r : ℕ) (response : Response) (w : Exchange) (p : Representation) → new_representation r e response w ≡ p → brings_whole response.status ≡ true → brings_part p.head.status ≡ false
+  whole_status r response w p made whole = sym (ap (λ (z : Representation). brings_part z.head.status) made) ∙ whole_is_no_part response.status whole
 
-  parts_by : (r : ℕ) (p : Representation) → now_on.representation r ≡ Some p → p.head.joining ≡ None → RepFrom t e r p → p.head.status ≢ 206
-  parts_by r p after none (rep.was v kept) is = g.parts r v kept.row (untagged_before r v p kept none) (sym kept.status_is ∙ is)
-  parts_by r p after none (rep.founded response w none_there here row on made) is = by_way (founded_as (step_of limits t now flaw c.is_sound c.is_owned ev goes) c.is_measured real r response w p here row on made after)
+  parts_by : (r : ℕ) (p : Representation) → now_on.representation r ≡ Some p → p.head.joining ≡ None → RepFrom t e r p → brings_part p.head.status ≡ false
+  parts_by r p after none (rep.was v kept) = ap brings_part kept.status_is ∙ g.parts r v kept.row (untagged_before r v p kept none)
+  parts_by r p after none (rep.founded response w none_there here row on made) = by_way (founded_as (step_of limits t now flaw c.is_sound c.is_owned ev goes) c.is_measured real r response w p here row on made after)
     where
-      by_way : FoundedAs (step_of limits t now flaw c.is_sound c.is_owned ev goes) c.is_measured real r response w p here row on made after → ⊥
-      by_way (founded.comes cells_with writer status) = whole_status r response w p made status is
-      by_way (founded.empty status known) = whole_status r response w p made status is
-      by_way (founded.part total status known fits) = tag_founded r response w p made none fits
+      by_way : FoundedAs (step_of limits t now flaw c.is_sound c.is_owned ev goes) c.is_measured real r response w p here row on made after → brings_part p.head.status ≡ false
+      by_way (founded.comes cells_with writer status) = whole_status r response w p made status
+      by_way (founded.empty status known) = whole_status r response w p made status
+      by_way (founded.part total status known fits) = absurd (tag_founded r response w p made none fits)
 
   -- it comes, or is all there
   module _ (r : ℕ) (v p : Representation) (kept : IsKept t e r v p) (not_gone : p.is_gone ≡ false) (none : p.head.joining ≡ None) where
@@ -157,7 +153,7 @@ module _ (limits : Limits) (t : Tables) (now : ℕ) (flaw : Flaw) (c : IsCarried
     stays_whole : (total : ℕ) → v.head.total ≡ Some total → Covers v.stored 0 total → IsOfOne now_on p
     stays_whole total known covered = heads.whole total (known_kept (step_of limits t now flaw c.is_sound c.is_owned ev goes) c.is_measured r total v p kept known) (λ q lo hi. stored_stays t e r q v p (fills t e r v p kept) (covered q lo hi))
 
-    module _ (x : ℕ) (on : is_written t v ≡ true) (status : v.head.status ≡ 200) (writer : v.writer ≡ Some x) where
+    module _ (x : ℕ) (on : is_written t v ≡ true) (status : brings_whole v.head.status ≡ true) (writer : v.writer ≡ Some x) where
       grows : (w : Exchange) × IsGrowing t r v x w
       grows = (c.is_sound.rows r v kept.row).growing x on writer
 
@@ -174,12 +170,12 @@ module _ (limits : Limits) (t : Tables) (now : ℕ) (flaw : Flaw) (c : IsCarried
 
       goes_on : (is_open (now_on.exchange r) ≡ true) ⊎ IsAll p → IsOfOne now_on p
       goes_on (inr all) = heads.whole all.total all.known all.covered
-      goes_on (inl still) = heads.comes (written_by now_on p r (kept.lost_is ∙ rw (not_lost (step_of limits t now flaw c.is_sound c.is_owned ev goes) c.is_measured r v p kept.row kept not_gone, (is_on t v x on writer).kept) refl) (writer_now kept.writer_is) still) (kept.status_is ∙ status)
+      goes_on (inl still) = heads.comes (written_by now_on p r (kept.lost_is ∙ rw (not_lost (step_of limits t now flaw c.is_sound c.is_owned ev goes) c.is_measured r v p kept.row kept not_gone, (is_on t v x on writer).kept) refl) (writer_now kept.writer_is) still) (ap brings_whole kept.status_is ∙ status)
 
       written_on : IsOfOne now_on p
       written_on = goes_on (lasting (step_of limits t now flaw c.is_sound c.is_owned ev goes) c.is_measured r v p kept.row kept not_gone unkeepable status on (writer ∙ ap Some mine))
 
-    by_writer : (z : Option ℕ) → v.writer ≡ z → is_written t v ≡ true → v.head.status ≡ 200 → IsOfOne now_on p
+    by_writer : (z : Option ℕ) → v.writer ≡ z → is_written t v ≡ true → brings_whole v.head.status ≡ true → IsOfOne now_on p
     by_writer None is on status = absurd (writer_some t v on is)
     by_writer (Some x) is on status = written_on x on status is
 
@@ -195,7 +191,7 @@ module _ (limits : Limits) (t : Tables) (now : ℕ) (flaw : Flaw) (c : IsCarried
   one_row r p after not_gone none (rep.founded response w none_there here row on made) = by_way (founded_as (step_of limits t now flaw c.is_sound c.is_owned ev goes) c.is_measured real r response w p here row on made after)
     where
       by_way : FoundedAs (step_of limits t now flaw c.is_sound c.is_owned ev goes) c.is_measured real r response w p here row on made after → IsOfOne now_on p
-      by_way (founded.comes cells_with writer status) = heads.comes cells_with (sym (ap (λ (z : Representation). z.head.status) made) ∙ status)
+      by_way (founded.comes cells_with writer status) = heads.comes cells_with (sym (ap (λ (z : Representation). brings_whole z.head.status) made) ∙ status)
       by_way (founded.empty status known) = heads.whole 0 known (λ q lo hi. absurd (omega arith))
       by_way (founded.part total status known fits) = absurd (tag_founded r response w p made none fits)
 

@@ -6,7 +6,7 @@
 -- nothing goes (`goes_none`). The law of turns needs that.
 use Rattle.std.{proofs.{lemmas.Bool.Decides.{nat_tests}, Common.{arith, ◌≡◌, ℕ, [], Bool, true, false, Option, Some, None, refl, ap, sym, ◌∙◌}}, specs.Prelude.{◌&&◌, ◌||◌, ◌==◌, not, is_some, if◌then◌else◌, nat_le}}
 use Rattle.hc_text.proofs.Basics.{and_left, and_none, and_right as and_then, not_true as not_yes}
-use Rattle.hc_effects.proofs.Vocabulary.{opening_in, Response, HeadCase, HeadView, Route, Limits, head_case, case_on, direct_case, first_case, later_case, is_conditional, is_same_number, route_of, has_loss, misreads_in, answer_acts, case_at, case_of, head_view, validates, must_close, is_refused, has_no_survivor, awaits, current, is_current, doomed_key_of, doomed_in, doomed_by_head, doomed_by_case, bypass_key, bypassed_by, Entry, entry_without_acts, exchange_at, flaw_in, becomes_gone, goes_by_head, goes_by_exchange, goes_by_case, ends_early, ends_founding, stops_early, Tables, Exchange, Representation, evicted, first_idle, room_for, room_by, write_in, need, event, case, route}
+use Rattle.hc_effects.proofs.Vocabulary.{brings_part, brings_whole, opening_in, Response, HeadCase, HeadView, Route, Limits, head_case, case_on, direct_case, first_case, later_case, is_conditional, is_same_number, route_of, has_loss, misreads_in, answer_acts, case_at, case_of, head_view, validates, must_close, is_refused, has_no_survivor, awaits, current, is_current, doomed_key_of, doomed_in, doomed_by_head, doomed_by_case, bypass_key, bypassed_by, Entry, entry_without_acts, exchange_at, flaw_in, becomes_gone, goes_by_head, goes_by_exchange, goes_by_case, ends_early, ends_founding, stops_early, Tables, Exchange, Representation, evicted, first_idle, room_for, room_by, write_in, need, event, case, route}
 use Rattle.hc_effects.proofs.{ActParts.{leaver_lost}, Joining.{mix}, KeyRows.{same_number}}
 use Rattle.hc_laws.proofs.{TurnFacts.{none_goes, loss_seen, is_asking, IsTaken, seen, stays_open, told_quiet, evicts_none, same_case, same_doom}, PassedKeeps.{conditional_need}, HadHeaded.{lossless_none as no_loss}}
 
@@ -26,7 +26,7 @@ module _ (v : HeadView) where
   abbrev passes : Bool
   passes = v.status == 304 && v.conditional && v.selects && not v.lost
 
-  turn_rest : Other (if v.status == 304 && v.conditional then case.NotValidated else if nat_le 500 v.status then case.TurnServerError else if v.status == 200 && v.storable && not v.lost then case.FoundsWhole else if v.status == 206 && v.storable && v.fits && not v.lost then case.FoundsRange else case.PassesBy)
+  turn_rest : Other (if v.status == 304 && v.conditional then case.NotValidated else if nat_le 500 v.status then case.TurnServerError else if brings_whole v.status && v.storable && not v.lost then case.FoundsWhole else if brings_part v.status && v.storable && v.fits && not v.lost then case.FoundsRange else case.PassesBy)
   turn_rest = grind (arith, nat_tests)
 
   by_passing : (b : Bool) (rest : HeadCase) → Other rest → (if b then case.Validated else rest) ≡ case.Validated → b ≡ true
@@ -40,8 +40,8 @@ module _ (v : HeadView) where
       mix Other v.bad case.FirstBad _ refl
       (mix Other v.joins case.FirstJoins _ refl
       (mix Other (nat_le 500 v.status) case.FirstServerError _ refl
-      (mix Other (v.status == 206 || v.status == 304 || v.status == 416) case.FirstChanged _ refl
-      (mix Other (v.status == 200 && v.storable && not v.lost) case.FirstReplaced case.FirstPassesBy refl refl))))
+      (mix Other (brings_part v.status || v.status == 304 || v.status == 416) case.FirstChanged _ refl
+      (mix Other (brings_whole v.status && v.storable && not v.lost) case.FirstReplaced case.FirstPassesBy refl refl))))
 
   later_other : Other (later_case v)
   later_other = mix Other v.bad case.LaterBad _ refl (mix Other v.joins case.LaterJoins case.LaterChanged refl refl)
@@ -131,5 +131,5 @@ module _ (limits : Limits) (t : Tables) (e : Entry) (taken : IsTaken limits t e)
       let head : goes_by_head t e r ≡ false = ap (λ ev. goes_by_exchange t e r (exchange_at t ev)) at ∙ (ap (goes_by_exchange t e r) row ∙ ap (λ c. goes_by_case t e r c w) found) in
       let past : bypass_key e ≡ None = ap bypassed_by opens_none in
       let reads : misreads_in r e.acts ≡ false = (told_quiet limits t e taken 0 r silent (ap is_asking at)).misreads in
-      let early : ends_early t e r v ≡ false = ap (λ b. v.head.status == 200 && b) (ends_none r (t.exchange r)) ∙ and_none (v.head.status == 200) in
+      let early : ends_early t e r v ≡ false = ap (λ b. brings_whole v.head.status && b) (ends_none r (t.exchange r)) ∙ and_none (brings_whole v.head.status) in
       rw (doom_at, past, head, no_loss r e.acts lossless, reads, early, evicts_none limits t e taken r evicted_none) (none_goes v (is_current t v.key r))

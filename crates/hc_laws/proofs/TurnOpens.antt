@@ -4,9 +4,9 @@
 -- misread (`goes_none`). An exchange is opened by such a poll, and `OpensFor` tells why (`opened_at`). Its consumer
 -- doesn't start over, since what it waits for is neither doomed nor lost (`loses_nothing`). So it stands where the acts
 -- leave it, with the new exchange as its own (`opener_after`, `opener_stands`).
-use Rattle.std.{proofs.Common.{◌≡◌, ◌⊎◌, inl, inr, ℕ, ◌+◌, List, [], ◌∷◌, ◌++◌, length, Bool, true, false, Option, Some, None, refl, ap, sym, ◌∙◌, subst}, specs.Prelude.{◌&&◌, ◌||◌, ◌==◌, nat_eq, not, is_none, if◌then◌else◌}}
+use Rattle.std.{proofs.Common.{◌≡◌, ◌⊎◌, inl, inr, ℕ, ◌+◌, List, [], ◌∷◌, ◌++◌, length, Bool, true, false, Option, Some, None, refl, ap, sym, ◌∙◌, subst}, specs.Prelude.{◌&&◌, ◌||◌, nat_eq, not, is_none, if◌then◌else◌}}
 use Rattle.hc_text.proofs.Basics.{and_left, and_none, eq_itself as eq-refl, not_some as none_some, plus_none, some_inj}
-use Rattle.hc_effects.proofs.Vocabulary.{Opening, opening_in, closes_in, leaves_in, shows_in, given_in, Act, Need, Event, Request, Limits, route_of, is_bypassing, BoundBy, Place, wait_in, fails_in, leaver_in, loses_in, misreads_in, has_loss, without_losses, Showing, showing_in, loss_acts, case_at, case_of, must_close, is_doomed, is_left, leaver, leaver_by, is_refused, brings_head, has_no_survivor, awaits, consumer_after, consumer_settled, consumer_acted, consumer_heard, by_opening, waiting, waiting_place, shown_place, own_after, left_to, due_after, back_in_line, unless_bound, opened_place, is_number, is_current, doomed_key_of, doomed_in, bypass_key, bypassed_by, bypassed_for, is_key, Entry, exchange_at, is_headless, family, Flaw, Loses, flaw_in, becomes_gone, goes_by_head, goes_by_exchange, ends_early, ends_founding, stops_early, goes_in, Turns, StandsFor, turn_with, Move, acts_of, bound_to, is_written, Tables, Exchange, Representation, Consumer, may_be, Sound, starts_over, sends_back, loses_what_it_waits_for, brings_body, loses_writing, survivor, written_representation, written_in, seals_at, stops, first_found, lossless, need, wait, event, route, by}
+use Rattle.hc_effects.proofs.Vocabulary.{brings_whole, Opening, opening_in, closes_in, leaves_in, shows_in, given_in, Act, Need, Event, Request, Limits, route_of, is_bypassing, BoundBy, Place, wait_in, fails_in, leaver_in, loses_in, misreads_in, has_loss, without_losses, Showing, showing_in, loss_acts, case_at, case_of, must_close, is_doomed, is_left, leaver, leaver_by, is_refused, brings_head, has_no_survivor, awaits, consumer_after, consumer_settled, consumer_acted, consumer_heard, by_opening, waiting, waiting_place, shown_place, own_after, left_to, due_after, back_in_line, unless_bound, opened_place, is_number, is_current, doomed_key_of, doomed_in, bypass_key, bypassed_by, bypassed_for, is_key, Entry, exchange_at, is_headless, family, Flaw, Loses, flaw_in, becomes_gone, goes_by_head, goes_by_exchange, ends_early, ends_founding, stops_early, goes_in, Turns, StandsFor, turn_with, Move, acts_of, bound_to, is_written, Tables, Exchange, Representation, Consumer, may_be, Sound, starts_over, sends_back, loses_what_it_waits_for, brings_body, loses_writing, survivor, written_representation, written_in, seals_at, stops, first_found, lossless, need, wait, event, route, by}
 use Rattle.hc_event.specs.declared.place.Place.TheVariants as place
 use Rattle.hc_model.specs.ConsumerRows.{with_opening}
 use Rattle.hc_model.specs.Laws as laws
@@ -92,7 +92,7 @@ module _ (limits : Limits) (t : Tables) (e : Entry) (taken : IsTaken limits t e)
   unfolding becomes_gone
   goes_none r v past reads =
       let none : doomed_key_of t e ≡ None = doom_none in
-      let early : ends_early t e r v ≡ false = ap (λ b. v.head.status == 200 && b) (ends_none r (t.exchange r)) ∙ and_none (v.head.status == 200) in
+      let early : ends_early t e r v ≡ false = ap (λ b. brings_whole v.head.status && b) (ends_none r (t.exchange r)) ∙ and_none (brings_whole v.head.status) in
       rw (none, past, head_none r, loses_none r, reads, early, evicts_asked limits t e taken r (ap facts.is_asking at)) (facts.none_goes v (is_current t v.key r))
 
 -- WHO OPENS

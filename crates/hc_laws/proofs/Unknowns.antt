@@ -6,7 +6,7 @@
 -- founded without a length is written by its own exchange. `unknown_kept` joins both.
 use Rattle.std.{proofs.Common.{◌≡◌, ◌⊎◌, inl, inr, ℕ, ◌+◌, Bool, true, false, Option, Some, None, refl, ap, sym, ◌∙◌}, specs.Prelude.{is_some, ◌&&◌, ◌==◌, not, nat_lt, unwrap_or, option_map}}
 use Rattle.hc_text.proofs.Basics.{not_some as none_some, some_inj}
-use Rattle.hc_effects.proofs.Vocabulary.{Response, Limits, may_begin, is_kind_right, case_at, is_founding, Entry, Content, Contents, is_open, is_keepable, entry_of, item_of, AfterDenials, Measures, IsMeasured, is_written, covers, new_representation, asks_whole, hole_start, resumes, Tables, Exchange, Representation, IsGrowing, representation_of_content, first_tables, after_accepted, event}
+use Rattle.hc_effects.proofs.Vocabulary.{brings_whole, Response, Limits, may_begin, is_kind_right, case_at, is_founding, Entry, Content, Contents, is_open, is_keepable, entry_of, item_of, AfterDenials, Measures, IsMeasured, is_written, covers, new_representation, asks_whole, hole_start, resumes, Tables, Exchange, Representation, IsGrowing, representation_of_content, first_tables, after_accepted, event}
 use Rattle.hc_model.specs.Gone.{refuses_ranges}
 use Rattle.hc_model.specs.Measures as measures
 use Rattle.hc_effects.proofs.{ApartKeeps.{written_by, is_on}, Basics.{false_true, some_none}, LossBy.{IsReal}, ExclusiveWriters.{writer_some}, RepFrom.{RepFrom, rep_from, IsKept, IsResumed, IsEnded}, WritingStops.{IsAll}, Step.{Step}}
@@ -15,7 +15,7 @@ use Rattle.hc_effects.proofs.RepFrom as rep
 
 pub record IsOnlyWritten (t : Tables) (v : Representation) : Type 0 where
   pub written : is_written t v ≡ true
-  pub whole : v.head.status ≡ 200
+  pub whole : brings_whole v.head.status ≡ true
 
 abbrev pub Unknown : Tables → Type 0
 Unknown t = (r : ℕ) (v : Representation) → t.representation r ≡ Some v → v.is_gone ≡ false → v.head.total ≡ None → IsOnlyWritten t v
@@ -103,7 +103,7 @@ module _ (step : Step) (m : Measures step.tables) (unknown : Unknown step.tables
           by_parts h = by_test (asks_whole (t.consumer R.w.c)) (covers v.stored v.reach 0 (hole_start R.w.need)) (v.size == hole_start R.w.need) (rw none_before at h)
 
       by_writer : IsOnlyWritten now_on p
-      by_writer = record { written = written_by now_on p x (kept.lost_is ∙ rw (not_lost step m r v p there kept not_gone, (is_on t v x was.written writer).kept) refl) (writer_now kept.writer_is) still; whole = kept.status_is ∙ was.whole }
+      by_writer = record { written = written_by now_on p x (kept.lost_is ∙ rw (not_lost step m r v p there kept not_gone, (is_on t v x was.written writer).kept) refl) (writer_now kept.writer_is) still; whole = ap brings_whole kept.status_is ∙ was.whole }
 
     writes_on : (z : Option ℕ) → v.writer ≡ z → IsOnlyWritten now_on p
     writes_on None is = absurd (writer_some t v was.written is)
@@ -112,7 +112,7 @@ module _ (step : Step) (m : Measures step.tables) (unknown : Unknown step.tables
   -- WHAT IS FOUNDED
 
   founded_by : (r : ℕ) (response : Response) (w : Exchange) (p : Representation) (here : ev ≡ event.Head r response) (row : t.exchange r ≡ Some w) (founding : is_founding (case_at t e) ≡ true) (made : new_representation r e response w ≡ p) (after : now_on.representation r ≡ Some p) → p.head.total ≡ None → FoundedAs step m real r response w p here row founding made after → IsOnlyWritten now_on p
-  founded_by r response w p here row founding made after none (comes on writer status) = record { written = on; whole = sym (ap (λ (q : Representation). q.head.status) made) ∙ status }
+  founded_by r response w p here row founding made after none (comes on writer status) = record { written = on; whole = sym (ap (λ (q : Representation). brings_whole q.head.status) made) ∙ status }
   founded_by r response w p here row founding made after none (empty status known) = absurd (none_some 0 (sym none ∙ known))
   founded_by r response w p here row founding made after none (part total status known fits) = absurd (none_some total (sym none ∙ known))
 

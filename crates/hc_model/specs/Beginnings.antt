@@ -9,6 +9,7 @@ use Rattle.hc_record.specs.declared.kind.Kind.{Kind}
 use Rattle.hc_record.specs.declared.kind.Kind.TheVariants as kind
 use Rattle.hc_rules.specs.declared.room.Limits.{Limits}
 use Rattle.hc_rules.specs.Rooms.{weight_of}
+use Rattle.hc_rules.specs.Statuses.{brings_part}
 use Rattle.hc_validate.specs.Updates.{is_within_limits}
 use Rattle.hc_model.specs.Entries.{Content, Contents}
 use Rattle.hc_model.specs.Tables.{last_end, bytes_in}
@@ -70,7 +71,7 @@ is_whole _ = false
 -- only by its tag could it have come to be, or be completed
 abbrev pub needs_tag : Content → Bool
 needs_tag item =
-    not (is_whole item.head.kind) || item.head.status == 206
+    not (is_whole item.head.kind) || brings_part item.head.status
     || list_any (λ (run : Run). not (run.x == item.r)) item.runs
 
 abbrev pub has_right_head : Contents → Content → Bool

@@ -12,6 +12,7 @@ use Rattle.hc_event.specs.declared.act.Need.{Need}
 use Rattle.hc_rules.specs.declared.room.Limits.{Limits}
 use Rattle.hc_event.specs.declared.place.Place.{Place}
 use Rattle.hc_event.specs.declared.place.Place.TheVariants as place
+use Rattle.hc_rules.specs.Statuses.{brings_whole}
 use Rattle.hc_model.specs.Answers.{accepted_acts}
 use Rattle.hc_model.specs.Closings.{is_last_reader, awaits}
 use Rattle.hc_model.specs.ConsumerRows.{back_in_line, new_consumer}
@@ -252,10 +253,10 @@ abbrev pub left_by : Tables → ℕ → Consumer → Option ℕ
 left_by t c k =
     option_or (own_open t k) (if is_last_reader t c k.place then shared_exchange t k.place else None)
 
--- a 200 founded it, and it can't be completed later
+-- a whole answer founded it, and it can't be completed later
 abbrev pub is_unkeepable : Option Representation → Bool
 is_unkeepable None = false
-is_unkeepable (Some v) = v.head.status == 200 && not (is_keepable v)
+is_unkeepable (Some v) = brings_whole v.head.status && not (is_keepable v)
 
 -- what goes with the exchange that founded it
 abbrev pub going_with : Tables → Option ℕ → Option ℕ

@@ -8,6 +8,7 @@ use Rattle.hc_rules.specs.declared.heads.HeadCase.{HeadCase}
 use Rattle.hc_rules.specs.declared.heads.HeadCase.TheVariants as case
 use Rattle.hc_rules.specs.declared.room.Limits.{Limits}
 use Rattle.hc_rules.specs.Lengths.{is_same_number}
+use Rattle.hc_rules.specs.Statuses.{brings_whole}
 use Rattle.hc_event.specs.declared.place.Place.{Place}
 use Rattle.hc_event.specs.declared.place.Place.TheVariants as place
 use Rattle.hc_model.specs.ActFilters.{loses_in, misreads_in}
@@ -143,7 +144,7 @@ pub data GoesBy (t : Tables) (e : Entry) (r : ℕ) (v : Representation) : Type 0
       t.exchange x ≡ Some w → goes_by_case t e r (case_at t e) w ≡ true → GoesBy t e r v
   by_loss : loses_in r e.acts ≡ true → GoesBy t e r v
   by_misread : misreads_in r e.acts ≡ true → GoesBy t e r v
-  by_stop : (w : Exchange) → t.exchange r ≡ Some w → w.is_open ≡ true → v.head.status ≡ 200 →
+  by_stop : (w : Exchange) → t.exchange r ≡ Some w → w.is_open ≡ true → brings_whole v.head.status ≡ true →
       is_keepable v ≡ false → (stops_early w r e.event || closes_in r e.acts) ≡ true →
       GoesBy t e r v
   by_eviction : evicts_in r e.acts ≡ true → GoesBy t e r v

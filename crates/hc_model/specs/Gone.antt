@@ -8,6 +8,7 @@ use Rattle.hc_event.specs.declared.event.Event.{Event}
 use Rattle.hc_event.specs.declared.event.Event.TheVariants as event
 use Rattle.hc_rules.specs.declared.heads.HeadCase.{HeadCase}
 use Rattle.hc_rules.specs.declared.heads.HeadCase.TheVariants as case
+use Rattle.hc_rules.specs.Statuses.{brings_whole}
 use Rattle.hc_model.specs.Entries.{Entry}
 use Rattle.hc_model.specs.ActFilters.{loses_in, has_loss, misreads_in}
 use Rattle.hc_model.specs.Rows.{Tables, Exchange, Representation}
@@ -66,9 +67,9 @@ abbrev pub ends_founding : Entry → ℕ → Option Exchange → Bool
 ends_founding e r None = false
 ends_founding e r (Some w) = w.is_open && (stops_early w r e.event || closes_in r e.acts)
 
--- the 200 that founded r faults, is short or is closed
+-- the whole answer that founded r faults, is short or is closed
 abbrev pub ends_early : Tables → Entry → ℕ → Representation → Bool
-ends_early t e r v = v.head.status == 200 && ends_founding e r (t.exchange r)
+ends_early t e r v = brings_whole v.head.status && ends_founding e r (t.exchange r)
 
 -- its origin takes no ranges (RFC 9110 section 14.3)
 abbrev pub refuses_ranges : Representation → Bool

@@ -2,6 +2,7 @@
 -- by the one that founded it.
 use Rattle.std.specs.Prelude.{◌≡◌, ℕ, ◌∷◌, true, false, Some, None, is_some}
 use Rattle.hc_rules.specs.declared.room.Limits.{Limits}
+use Rattle.hc_rules.specs.Statuses.{brings_whole}
 use Rattle.hc_model.specs.Beginnings.{may_begin}
 use Rattle.hc_model.specs.Entries.{Entry, History, Contents}
 use Rattle.hc_model.specs.Exchanges.{family, is_open}
@@ -19,11 +20,11 @@ pub record Grows (t : Tables) (x r : ℕ) : Type 0 where
   pub headed : is_some w.head ≡ true
   pub of_r : family x w ≡ r
 
--- it is written for several, from the 200 that founded it
+-- it is written for several, from the whole answer that founded it
 pub record IsComing (t : Tables) (r : ℕ) (v : Representation) : Type 0 where
   pub written : is_written t v ≡ true
   pub writer : v.writer ≡ Some r
-  pub status : v.head.status ≡ 200
+  pub status : brings_whole v.head.status ≡ true
   pub grows : Grows t r r
 
 pub record Growing (t : Tables) : Type 0 where

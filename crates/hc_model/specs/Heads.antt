@@ -1,5 +1,5 @@
 -- The head of a representation: as it is founded, and as a later one updates it (RFC 9111 sections 3.1 and 3.2).
-use Rattle.std.specs.Prelude.{ℕ, List, codes, bytes_eq, ◌==◌, Bool, filter, if◌then◌else◌, Option, Some, None}
+use Rattle.std.specs.Prelude.{ℕ, List, codes, bytes_eq, Bool, filter, if◌then◌else◌, Option, Some, None}
 use Rattle.std.specs.List.{list_any}
 use Rattle.http_header.specs.Token.{lowercase}
 use Rattle.hc_fields.specs.FieldList.{without}
@@ -10,6 +10,7 @@ use Rattle.hc_event.specs.declared.event.Response.{Response}
 use Rattle.hc_record.specs.Head.{Head, joining_of}
 use Rattle.hc_record.specs.declared.kind.Kind.TheVariants as kind
 use Rattle.hc_rules.specs.RangeTexts.{content_range_of}
+use Rattle.hc_rules.specs.Statuses.{brings_part}
 use Rattle.hc_validate.specs.Heads.{FieldPairs}
 use Rattle.hc_validate.specs.Updates.{updated_fields}
 use Rattle.hc_model.specs.Rows.{Exchange}
@@ -35,7 +36,7 @@ total_of_part (Some (range.Unsatisfied total)) = None
 -- the length of what a head founds
 abbrev pub founded_total : Exchange → Response → Option ℕ
 founded_total w response =
-    if response.status == 206 then total_of_part (content_range_of response.fields)
+    if brings_part response.status then total_of_part (content_range_of response.fields)
     else promise_in w response
 
 -- the head of what is founded at this moment. How much of a representation is stored isn't read from its head

@@ -1,5 +1,5 @@
 -- What an accepted poll does.
-use Rattle.std.specs.Prelude.{ℕ, Bool, false, Option, Some, None, is_some, if◌then◌else◌, ◌==◌, ◌&&◌}
+use Rattle.std.specs.Prelude.{ℕ, Bool, false, Option, Some, None, is_some, if◌then◌else◌, ◌&&◌}
 use Rattle.std.specs.Option.{option_and_then}
 use Rattle.hc_event.specs.declared.event.Response.{Response}
 use Rattle.hc_event.specs.declared.act.Wait.TheVariants as wait
@@ -8,6 +8,7 @@ use Rattle.hc_event.specs.declared.place.Place.{Place}
 use Rattle.hc_event.specs.declared.place.Place.TheVariants as place
 use Rattle.hc_event.specs.declared.place.BoundBy.{BoundBy}
 use Rattle.hc_event.specs.declared.place.BoundBy.TheVariants as by
+use Rattle.hc_rules.specs.Statuses.{brings_part}
 use Rattle.hc_model.specs.Rows.{Tables, Exchange, Consumer}
 use Rattle.hc_model.specs.Exchanges.{base, is_headless}
 use Rattle.hc_model.specs.Reading.{hi_of, own_open}
@@ -36,7 +37,7 @@ has_joined (Some w) = is_some w.joined
 abbrev pub shows_bound : Tables → Consumer → ℕ → ℕ → Option ℕ → BoundBy → Option Move
 shows_bound t k r lo hi by.Founding =
     Some (shows_stored r (why.Fetched r)
-    (is_ranged k && status_in (t.representation r) == 206) lo hi (t.representation r))
+    (is_ranged k && brings_part (status_in (t.representation r))) lo hi (t.representation r))
 shows_bound t k r lo hi (by.FirstHole y) =
     if has_joined (t.exchange y)
     then Some (shows_stored r (why.Validated y) (is_ranged k) lo hi (t.representation r)) else None

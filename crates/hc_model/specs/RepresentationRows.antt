@@ -11,6 +11,7 @@ use Rattle.hc_event.specs.declared.act.Need.{Need}
 use Rattle.hc_event.specs.declared.act.Need.TheVariants as need
 use Rattle.hc_rules.specs.RangeTexts.{content_range_of}
 use Rattle.hc_rules.specs.Requests.{range_of}
+use Rattle.hc_rules.specs.Statuses.{brings_part}
 use Rattle.hc_model.specs.Entries.{Entry}
 use Rattle.hc_model.specs.ActFilters.{loses_in}
 use Rattle.hc_model.specs.Rows.{Tables, Exchange, Representation, Consumer}
@@ -26,7 +27,7 @@ use Rattle.hc_model.specs.Heads.{founded_head, updated_head}
 
 -- a whole answer begins a shared writing
 abbrev pub writer_at : ℕ → Response → Option ℕ
-writer_at x response = if response.status == 206 then None else Some x
+writer_at x response = if brings_part response.status then None else Some x
 
 abbrev pub new_representation : ℕ → Entry → Response → Exchange → Representation
 new_representation r e response w = record {

@@ -3,6 +3,7 @@ use Rattle.std.specs.Prelude.{◌≡◌, ◌≢◌, ◌≤◌, ℕ, [], ◌∷�
 use Rattle.hc_fields.specs.FirstValues.{has_field}
 use Rattle.hc_event.specs.declared.event.Event.{Event}
 use Rattle.hc_event.specs.declared.event.Event.TheVariants as event
+use Rattle.hc_rules.specs.Statuses.{brings_whole, brings_part}
 use Rattle.hc_sparse.specs.Cells.{Covers}
 use Rattle.hc_validate.specs.Updates.{is_within_limits}
 use Rattle.hc_model.specs.Entries.{History}
@@ -41,7 +42,7 @@ AreWithinLimits t =
 
 -- what none can join comes from its one exchange, or is all there
 pub data IsOfOne (t : Tables) (v : Representation) : Type 0 where
-  comes : is_written t v ≡ true → v.head.status ≡ 200 → IsOfOne t v
+  comes : is_written t v ≡ true → brings_whole v.head.status ≡ true → IsOfOne t v
   whole : (total : ℕ) → v.head.total ≡ Some total → Covers v.stored 0 total → IsOfOne t v
 
 -- what has no tag is no part, has no byte of another exchange than its own, and is whole once that
@@ -50,7 +51,7 @@ pub record Tags (t : Tables) : Type 0 where
   pub joined : (x r : ℕ) (w : Exchange) (v : Representation) → t.exchange x ≡ Some w →
       w.joined ≡ Some r → t.representation r ≡ Some v → v.head.joining ≢ None
   pub parts : (r : ℕ) (v : Representation) → t.representation r ≡ Some v →
-      v.head.joining ≡ None → v.head.status ≢ 206
+      v.head.joining ≡ None → brings_part v.head.status ≡ false
   pub own : (r x : ℕ) (v : Representation) → t.representation r ≡ Some v →
       v.head.joining ≡ None → HasByte t r x → x ≡ r
   pub one : (r : ℕ) (v : Representation) → t.representation r ≡ Some v → v.is_gone ≡ false →

@@ -1,5 +1,5 @@
 -- Who writes a representation alone, and who goes on with it when it is lost.
-use Rattle.std.specs.Prelude.{ℕ, List, Bool, true, false, Option, Some, None, is_some, is_none, if◌then◌else◌, ◌==◌, ◌||◌, ◌&&◌, not, map}
+use Rattle.std.specs.Prelude.{ℕ, List, Bool, true, false, Option, Some, None, is_some, is_none, if◌then◌else◌, ◌||◌, ◌&&◌, not, map}
 use Rattle.hc_event.specs.declared.event.Event.{Event}
 use Rattle.hc_event.specs.declared.event.Event.TheVariants as event
 use Rattle.hc_rules.specs.declared.admission.Bound.{Bound}
@@ -8,6 +8,7 @@ use Rattle.hc_rules.specs.declared.admission.BoundKind.TheVariants as kind
 use Rattle.hc_rules.specs.declared.survivor.Member.{Member}
 use Rattle.hc_rules.specs.Admissions.{least_of}
 use Rattle.hc_rules.specs.Survivors.{survivor_at}
+use Rattle.hc_rules.specs.Statuses.{brings_part}
 use Rattle.hc_event.specs.declared.place.Place.{Place}
 use Rattle.hc_event.specs.declared.place.Place.TheVariants as place
 use Rattle.hc_event.specs.declared.place.BoundBy.TheVariants as by
@@ -26,7 +27,7 @@ status_in (Some v) = v.head.status
 -- it became bound as the only one: by a first hole, or by founding with a part
 abbrev pub came_alone : Tables → Place → Bool
 came_alone t (place.Bound r lo hi (by.FirstHole y)) = true
-came_alone t (place.Bound r lo hi by.Founding) = status_in (t.representation r) == 206
+came_alone t (place.Bound r lo hi by.Founding) = brings_part (status_in (t.representation r))
 came_alone t _ = false
 
 -- a position from its offset to its end isn't stored

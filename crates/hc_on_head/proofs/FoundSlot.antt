@@ -1,7 +1,7 @@
 -- A slot is taken for what is founded: what changes with it.
-use Rattle.std.{proofs.{lemmas.Bool.Decides.{nat_tests}, Common.{arith, ◌≡◌, ◌≢◌, inl, inr, ℕ, ◌<◌, ◌^◌, false, Option, Some, None, refl, ap, sym, ◌∙◌, subst}}, specs.Prelude.{option_map, ◌==◌, if◌then◌else◌}}
+use Rattle.std.{proofs.{lemmas.Bool.Decides.{nat_tests}, Common.{arith, ◌≡◌, inl, inr, ℕ, ◌<◌, ◌^◌, true, false, Option, Some, None, refl, ap, sym, ◌∙◌, subst}}, specs.Prelude.{option_map, ◌==◌, if◌then◌else◌}}
 use Rattle.hc_text.proofs.Basics.{eqb-other, eqb-same, same_or}
-use Rattle.hc_effects.proofs.Vocabulary.{Need, Request, Response, Length, is_bad, length_of, promise_of, content_range_of, just_opened, total_of_part}
+use Rattle.hc_effects.proofs.Vocabulary.{brings_part, Need, Request, Response, Length, is_bad, length_of, promise_of, content_range_of, just_opened, total_of_part}
 use Rattle.hc_effects.proofs.ToldNumbers.{founded_early}
 use Rattle.hc_entry.specs.{declared.keys.KeyTable.{KeyTable}, Kept.{with_current}}
 use Rattle.hc_entry.specs.Keys as keys
@@ -46,14 +46,14 @@ current_of op running x a b opens becomes o at = subst (λ (q : Request). keys.B
 -- ITS LENGTH
 
 abbrev pub total_with : Need → Request → Response → Option ℕ
-total_with need request response = if response.status == 206 then total_of_part (content_range_of response.fields) else promise_of (length_of need request response)
+total_with need request response = if brings_part response.status then total_of_part (content_range_of response.fields) else promise_of (length_of need request response)
 
 -- a head tells less than 2^62
 pub total_small : (need : Need) (request : Request) (response : Response) (n : ℕ) → total_with need request response ≡ Some n → n < 2 ^ 62
 total_small need request response n is = founded_early (just_opened 0 0 need request None) response n is
 
-pub total_then : (need : Need) (request : Request) (response : Response) (total : Option ℕ) → response.status ≡ 206 → total ≡ total_of_part (content_range_of response.fields) → total ≡ total_with need request response
+pub total_then : (need : Need) (request : Request) (response : Response) (total : Option ℕ) → brings_part response.status ≡ true → total ≡ total_of_part (content_range_of response.fields) → total ≡ total_with need request response
 total_then need request response total status is = is ∙ sym (rw status refl)
 
-pub total_else : (need : Need) (request : Request) (response : Response) (total : Option ℕ) → response.status ≢ 206 → total ≡ promise_of (length_of need request response) → total ≡ total_with need request response
-total_else need request response total status is = is ∙ sym (rw (eqb-other response.status 206 status) refl)
+pub total_else : (need : Need) (request : Request) (response : Response) (total : Option ℕ) → brings_part response.status ≡ false → total ≡ promise_of (length_of need request response) → total ≡ total_with need request response
+total_else need request response total status is = is ∙ sym (rw status refl)

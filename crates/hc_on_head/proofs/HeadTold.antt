@@ -4,12 +4,12 @@
 -- case of the head is that of the tables. Each property is then read off by cases: a bad head has a bad case, and only
 -- a head past the store dooms. What is let go is what the exchange was opened about, where its role tells that
 -- (`goes_by`). `told_as`, `told_unselected` and `told_dooming` join these for `take_head`.
-use Rattle.std.{proofs.{lemmas.Bool.Decides.{nat_tests}, Common.{arith, ◌≡◌, ◌⊎◌, inl, inr, ℕ, List, Bool, true, false, Option, Some, None, refl, ap, ap₂, sym, ◌∙◌, subst}}, specs.{Prelude.{IsTrue, ◌==◌, is_some, nat_eq, nat_lt, option_map, IsSomeAnd, ◌&&◌, ◌||◌, if◌then◌else◌}, HashMap.{get}}}
+use Rattle.std.{proofs.{lemmas.Bool.Decides.{nat_tests}, Common.{arith, ◌≡◌, ◌⊎◌, inl, inr, ℕ, List, Bool, true, false, Option, Some, None, refl, ap, ap₂, sym, ◌∙◌, subst}}, specs.{Prelude.{IsTrue, is_some, nat_eq, nat_lt, option_map, IsSomeAnd, ◌&&◌, ◌||◌, if◌then◌else◌}, HashMap.{get}}}
 use Rattle.hc_text.proofs.Basics.{and_both as both_of, false_true, same_some as same_row, some_inj as some_is}
-use Rattle.hc_effects.proofs.Vocabulary.{Limits, Request, Response, HeadCase, HeadView, Route, head_case, case_on, is_bad, route_of, head_refusal, Place, head_view, is_founding, current, doomed_by_case, changes, is_headless, is_in_line, Tables, Exchange, awaited_exchange, case, route, place, by}
+use Rattle.hc_effects.proofs.Vocabulary.{brings_part, brings_whole, Limits, Request, Response, HeadCase, HeadView, Route, head_case, case_on, is_bad, route_of, head_refusal, Place, head_view, is_founding, current, doomed_by_case, changes, is_headless, is_in_line, Tables, Exchange, awaited_exchange, case, route, place, by}
 use Rattle.hc_store.specs.declared.backend.Backend.{Ghosts}
 use Rattle.hc_fields.specs.FieldList.{IsWithinLimits}
-use Rattle.hc_rules.proofs.RangeReads.{bytes_eq-same}
+use Rattle.hc_rules.proofs.{RangeReads.{bytes_eq-same}, Statuses.{part_is_no_whole}}
 use Rattle.hc_stored.specs.Entries.{shelf_of}
 use Rattle.hc_entry.specs.{Keys.{kept_of, line_of}, Lines.{is_among, is_in}}
 use Rattle.hc_exch.specs.{declared.row.{ExchangeView.{ExchangeView}, Open.{Open}}, Exchanges.{table_of}, Known.{open_view, view_of, length_by}}
@@ -208,10 +208,10 @@ pub record ToldUnselected (t : Tables) (x : ℕ) (response : Response) (aim : Op
 
 -- A HEAD THAT FOUNDS
 
--- a 200 or a 206
-founds_status : (v : HeadView) (k : HeadCase) → CaseBy v k → is_founding (Some k) ≡ true → IsTrue (v.status == 200 || v.status == 206)
+-- by a whole or a part
+founds_status : (v : HeadView) (k : HeadCase) → CaseBy v k → is_founding (Some k) ≡ true → IsTrue (brings_whole v.status || brings_part v.status)
 founds_status v _ (cases.founds_whole way s kept good) on = rw s refl
-founds_status v _ (cases.founds_range way s fits kept good) on = rw s refl
+founds_status v _ (cases.founds_range way s fits kept good) on = (let other = part_is_no_whole v.status s in rw (other, s) refl)
 founds_status v _ (cases.first_replaced way shown s kept good) on = rw s refl
 founds_status v _ _ on = false_true on
 

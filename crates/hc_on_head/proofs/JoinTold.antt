@@ -1,12 +1,12 @@
 -- A head that joins: how long its part is, and who waits for it.
 --
--- Both cases say that it is a good 206 for a hole (`view_joins`). Such a head promises its part, which isn't empty, so
+-- Both cases say that it is a good part for a hole (`view_joins`). Such a head promises its part, which isn't empty, so
 -- the exchange goes on (`goes_on`). What it joins has a known length, which its entry tells (`told_of`). By the laws
 -- its consumer is bound to what it is about, and nobody else waits for that head. So it is `IsJoinable`
 -- (`joinable_as`), also where that is lost first (`joinable_lost`). `JoinHandler` uses these.
 use Rattle.std.{proofs.{lemmas.Bool.Decides.{nat_tests}, Common.{◌≡◌, ◌⊎◌, inl, inr, ℕ, ◌+◌, ◌-◌, ◌<◌, ◌≤◌, List, Bool, true, false, Option, Some, None, refl, ap, ap₂, sym, ◌∙◌, subst, arith}}, specs.Prelude.{codes, is_some, bytes_eq, not, ◌||◌, ◌==◌, if◌then◌else◌, option_map}}
 use Rattle.hc_text.proofs.Basics.{eqb-other, eqb-same, false_true, same_or, same_some as same_row, some_inj as some_is}
-use Rattle.hc_effects.proofs.Vocabulary.{Limits, Need, Request, Response, HeadCase, HeadView, Length, head_case, length_of, content_length_of, is_bad, is_head, promise_of, agrees, route_of, content_range_of, is_get, is_disabled, BoundBy, head_view, joins_row, row_of, as_gone, lost_to, let_go, with_representation, back_from, promise_in, is_headless, is_reached, StandsFor, IsAwaiting, Tables, Exchange, Representation, InHole, range, need, case, route, place, by}
+use Rattle.hc_effects.proofs.Vocabulary.{brings_part, Limits, Need, Request, Response, HeadCase, HeadView, Length, head_case, length_of, content_length_of, is_bad, is_head, promise_of, agrees, route_of, content_range_of, is_get, is_disabled, BoundBy, head_view, joins_row, row_of, as_gone, lost_to, let_go, with_representation, back_from, promise_in, is_headless, is_reached, StandsFor, IsAwaiting, Tables, Exchange, Representation, InHole, range, need, case, route, place, by}
 use Rattle.hc_store.specs.declared.backend.Backend.{Ghosts}
 use Rattle.hc_stored.specs.Kept.{Kept}
 use Rattle.hc_exch.specs.declared.row.Open.{Open}
@@ -21,6 +21,7 @@ use Rattle.hc_effects.proofs.{FoundBy.{CaseBy, case_by, first_joins, later_joins
 use Rattle.hc_state.specs.{declared.rows.Rows.{Rows}, Facts.{Facts}, Heads.{aim_in}, Joining.{joins_hole}, Kept.{IsRunning, role_awaited}, Stored.{IsEntry, TellsLength, told, untold}}
 use Rattle.hc_on_head.proofs.{HeadViews.{no_hole_left, part_within}, JoinRows.{IsJoinable}}
 use Rattle.hc_on_leave.proofs.HeardRows.{Asker}
+use Rattle.hc_rules.proofs.Statuses.{part_succeeds, part_not_204}
 
 -- WHICH CASE IT IS
 
@@ -57,13 +58,18 @@ joins_lost_too v g how is = by_case how (subst (CaseBy v) is (case_by v))
 
 -- HOW LONG ITS PART IS
 
-no_body_none : (b : Bool) (n : ℕ) → b ≡ false → n ≡ 206 → (b || n == 204 || n == 304) ≡ false
-no_body_none b n off is = grind (arith, nat_tests)
+no_body_none : (b : Bool) (n : ℕ) → b ≡ false → brings_part n ≡ true → (b || n == 204 || n == 304) ≡ false
+no_body_none b n off is =
+    let full = part_not_204 n is in
+    let low : n < 300 = (part_succeeds n is).1 in
+    grind (arith, nat_tests)
 
--- a 206 to a GET for a hole promises its part
-part_promised : (from to last total : ℕ) (request : Request) (response : Response) → is_head request ≡ false → response.status ≡ 206 → content_range_of response.fields ≡ Some (range.Part from last (Some total)) → is_bad (length_of (need.Hole from to) request response) ≡ false → from ≤ last → is_reached (promise_of (length_of (need.Hole from to) request response)) 0 ≡ false
+-- a part to a GET for a hole promises it
+part_promised : (from to last total : ℕ) (request : Request) (response : Response) → is_head request ≡ false → brings_part response.status ≡ true → content_range_of response.fields ≡ Some (range.Part from last (Some total)) → is_bad (length_of (need.Hole from to) request response) ≡ false → from ≤ last → is_reached (promise_of (length_of (need.Hole from to) request response)) 0 ≡ false
 unfolding length_of
-part_promised from to last total request response get status part good order = grind (arith, nat_tests)
+part_promised from to last total request response get status part good order =
+    let full = no_body_none (is_head request) response.status get status in
+    grind (arith, nat_tests)
 
 -- a GET is no HEAD
 get_is_no_head : (request : Request) → is_disabled request ≡ false → is_head request ≡ false

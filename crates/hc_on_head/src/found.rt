@@ -29,7 +29,7 @@ use hc_on_leave::evict::{let_some_go, make_room};
 use hc_on_leave::lose::lost_kind;
 use hc_range::ContentRange;
 use hc_record::{Kind, StoredHead};
-use hc_rules::{HeadCase, Wanted, Write, content_range_of, length_of, wanted_of};
+use hc_rules::{HeadCase, Wanted, Write, brings_part, content_range_of, length_of, wanted_of};
 use hc_state::{Founding, Rows, founded_head, read_founded};
 use hc_store::{Backend, StoreError};
 use hc_text::NoMemory;
@@ -116,7 +116,7 @@ fn head_founded<B: Backend>(
 {
     let opening = rows.exchanges.opening(heard.x).unwrap();
     let promise = length_of(*opening.need, opening.request, response).promise();
-    let total = if response.status == 206 {
+    let total = if brings_part(response.status) {
         total_of(content_range_of(&response.fields))
     } else {
         promise

@@ -4,11 +4,11 @@
 -- room. By these steps the tables have room as the rules say, and one gives way at most (`one_way`). Nothing has the
 -- number of what is founded yet (`m_fresh`), so `FoundRows` applies (`founds_answered`). Where the store refuses, the
 -- consumer reads on past it, and the loss is of a kind that the room allows (`lost_answered`). `found` uses both.
-use Rattle.std.{proofs.{Common.{◌≡◌, ◌≢◌, ◌⊎◌, inl, inr, ℕ, ◌+◌, ◌<◌, ◌≤◌, List, [], ◌∷◌, ◌++◌, Bool, true, false, Option, Some, None, refl, ap, ap₂, sym, ◌∙◌, subst, arith}, lemmas.{Bool.{cases_Bool, Decides.{nat_tests}}, List.{append_assoc}}}, specs.{Prelude.{◌==◌, ◌&&◌, not, is_some, nat_eq, nat_le, filter, map, option_map, unwrap_or, if◌then◌else◌}, HashMap.{get}, Option.{option_or}}}
+use Rattle.std.{proofs.{Common.{◌≡◌, ◌≢◌, ◌⊎◌, inl, inr, ℕ, ◌+◌, ◌<◌, ◌≤◌, List, [], ◌∷◌, ◌++◌, Bool, true, false, Option, Some, None, refl, ap, ap₂, sym, ◌∙◌, subst, arith}, lemmas.{Bool.{cases_Bool, Decides.{nat_tests}}, List.{append_assoc}}}, specs.{Prelude.{◌&&◌, not, is_some, nat_eq, nat_le, filter, map, option_map, unwrap_or, if◌then◌else◌}, HashMap.{get}, Option.{option_or}}}
 use Rattle.hc_text.proofs.Basics.{eqb-other, eqb-same, false_true, same_or, some_inj as some_is}
 use Rattle.hc_store.specs.declared.backend.Backend.{Ghosts}
 use Rattle.hc_range.specs.declared.range.Span.{Span}
-use Rattle.hc_effects.proofs.Vocabulary.{Act, LostKind, Event, Need, Request, Response, HeadCase, Limits, Room, head_case, length_of, promise_of, content_range_of, range_of, wanted_of, room_of, gives_way, Place, head_view, is_founding, back_in_line, idle_now, current, denial, doomed_by_case, with_event, as_gone, let_all_go, let_some_go, with_consumer, with_answer, with_founding, just_founded, entry_without_acts, promise_in, family, NoFlaw, Loses, flaw_in, goes_by_case, founded_total, total_of_part, IsInUse, MayMakeRoom, MayLetGo, weight_now, weights_now, room_now, giving_way, AreOnce, bound, is_bound, Tables, Exchange, Representation, has_room, may_lose, Among, with_item_first, evicted, room_for, is_fault, act, kind as kinds, event, case, wanted, room, write, by, place}
+use Rattle.hc_effects.proofs.Vocabulary.{brings_part, Act, LostKind, Event, Need, Request, Response, HeadCase, Limits, Room, head_case, length_of, promise_of, content_range_of, range_of, wanted_of, room_of, gives_way, Place, head_view, is_founding, back_in_line, idle_now, current, denial, doomed_by_case, with_event, as_gone, let_all_go, let_some_go, with_consumer, with_answer, with_founding, just_founded, entry_without_acts, promise_in, family, NoFlaw, Loses, flaw_in, goes_by_case, founded_total, total_of_part, IsInUse, MayMakeRoom, MayLetGo, weight_now, weights_now, room_now, giving_way, AreOnce, bound, is_bound, Tables, Exchange, Representation, has_room, may_lose, Among, with_item_first, evicted, room_for, is_fault, act, kind as kinds, event, case, wanted, room, write, by, place}
 use Rattle.hc_stored.specs.Entries.{shelf_of}
 use Rattle.hc_exch.specs.{Exchanges.{table_of}, Known.{length_by}, declared.row.Open.{Open}}
 use Rattle.hc_model.specs.LettingGo.{first_idle}
@@ -328,7 +328,7 @@ module _ (limits : Limits) (t : Tables) (facts : Facts limits t) (now x : ℕ) (
       runs = runs_as a roomy x o w gives.rows running (m_row limits t facts now x w v awaits as_gone)
 
       total_is : total_by o response ≡ founded_total w response
-      total_is = ap₂ (λ (n : Need) (e : Request). if response.status == 206 then total_of_part (content_range_of response.fields) else promise_of (length_of n e response)) runs.need runs.request
+      total_is = ap₂ (λ (n : Need) (e : Request). if brings_part response.status then total_of_part (content_range_of response.fields) else promise_of (length_of n e response)) runs.need runs.request
 
       part_is : (f.lo, f.hi) ≡ part_by (is_shared_by g) (range_of v.request) (founded_total w response)
       part_is = grind (arith, nat_tests, part_by, total_by, total_is)

@@ -6,7 +6,7 @@
 -- (`began_kept`). `founded_stands` joins them for `FoundHandler`.
 use Rattle.std.{proofs.{Common.{◌≡◌, ◌≢◌, ◌⊎◌, inl, inr, ℕ, List, [], ◌∷◌, Bool, true, false, Option, Some, None, refl, ap, ap₂, sym, ◌∙◌, subst, arith}, lemmas.Bool.Decides.{nat_tests}}, specs.{Prelude.{◌==◌, ◌&&◌, ◌||◌, not, nat_eq, bytes_eq, filter, find, is_some, if◌then◌else◌}, HashMap.{get}, List.{list_any}, Option.{option_or}}}
 use Rattle.hc_text.proofs.Basics.{any_none, eqb-other, eqb-same, false_true, never_true as not_true, same_or, some_inj as some_is}
-use Rattle.hc_effects.proofs.Vocabulary.{Limits, Need, Request, Response, Length, length_of, base_of, promise_of, content_range_of, Place, BoundBy, current, is_number, is_usable, total_in, is_live, exchange_with_head, just_founded, with_consumer, with_founding, promise_in, family, is_reached, founded_total, total_of_part, varied_by, kind_of, is_growing, brings_to, is_bound, is_bound_place, Tables, Exchange, Representation, Among, came_alone, is_in_line, by, bound, place}
+use Rattle.hc_effects.proofs.Vocabulary.{brings_part, Limits, Need, Request, Response, Length, length_of, base_of, promise_of, content_range_of, Place, BoundBy, current, is_number, is_usable, total_in, is_live, exchange_with_head, just_founded, with_consumer, with_founding, promise_in, family, is_reached, founded_total, total_of_part, varied_by, kind_of, is_growing, brings_to, is_bound, is_bound_place, Tables, Exchange, Representation, Among, came_alone, is_in_line, by, bound, place}
 use Rattle.hc_effects.proofs.Tests.{and_false}
 use Rattle.hc_store.specs.declared.backend.Backend.{Ghosts}
 use Rattle.hc_sparse.specs.Cells.{Covers, nothing}
@@ -55,7 +55,7 @@ filters_but f h x (n ∷ ns) off same = by_number (same_or n x) (filters_but f h
 
 module _ {B : Type 0} {g : Ghosts B} {limits : Limits} (a u : Rows B g) (m : Tables) (now x : ℕ) (response : Response) (w : Exchange) (past : rows.Consumer) (k : Consumer) (o : Open) (f : Founding) (l : Length)
     (stands : RowsStand limits a m) (alone : IsReadAlone m x w past) (fresh : IsUnfounded m x) (there : get nat_eq a.consumers w.c ≡ Some k) (running : (table_of a.exchanges x).running ≡ Some o) (told : l ≡ length_of w.need w.request response)
-    (key_is : f.key ≡ o.request.key) (head_is : plain f.head ≡ head_by o now response) (shares : f.shared ≡ not (response.status == 206)) (ends : option_or f.hi (founded_total w response) ≡ f.hi) (empties : promise_in w response ≡ Some 0 → founded_total w response ≡ Some 0)
+    (key_is : f.key ≡ o.request.key) (head_is : plain f.head ≡ head_by o now response) (shares : f.shared ≡ not (brings_part response.status)) (ends : option_or f.hi (founded_total w response) ≡ f.hi) (empties : promise_in w response ≡ Some 0 → founded_total w response ≡ Some 0)
     (begins : BeginsFounding a u x w.c f response) (length_is : length_by (table_of a.exchanges x).running response ≡ l) (limits_are : (shelf_of a.entries).limits ≡ limits) where
   abbrev z : Exchange
   z = exchange_with_head now response w.joined w
@@ -310,7 +310,7 @@ module _ {B : Type 0} {g : Ghosts B} {limits : Limits} (a u : Rows B g) (m : Tab
   began = founded_kept f.key (plain f.head) w.c (not f.shared) (writer_by f.shared x)
 
   total_is : total_by o response ≡ founded_total w response
-  total_is = ap₂ (λ (n : Need) (e : Request). if response.status == 206 then total_of_part (content_range_of response.fields) else promise_of (length_of n e response)) runs.need runs.request
+  total_is = ap₂ (λ (n : Need) (e : Request). if brings_part response.status then total_of_part (content_range_of response.fields) else promise_of (length_of n e response)) runs.need runs.request
 
   head_sealed : sealed_head kinds.Growing v.head.total (plain f.head) ≡ v.head
   head_sealed = grind (arith, nat_tests)
@@ -383,7 +383,7 @@ module _ {B : Type 0} {g : Ghosts B} {limits : Limits} (a u : Rows B g) (m : Tab
         | inr some ↦ absurd (let never : kinds.Growing ≡ kinds.Whole = sym (kind_is ∙ (ap kind_begun is ∙ rw (eqb-other i 0 some) refl)) ∙ whole in cc)
       ]
 
-  status_shares : (response.status == 206) ≡ not f.shared
+  status_shares : brings_part response.status ≡ not f.shared
   status_shares = sym (ap not shares ∙ grind (arith, nat_tests))
 
   began_bound : (d : ℕ) → has itself d (w.c ∷ []) ≡ is_bound x (s.consumer d)

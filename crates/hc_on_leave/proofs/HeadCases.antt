@@ -1,8 +1,9 @@
 -- The case of a head that isn't said to select what is stored: it is the same, unless it is a 304 that may.
 use Rattle.std.{proofs.{lemmas.Bool.Decides.{nat_tests}, Common.{arith, ◌≡◌, Bool, true, false, refl, ap, ap₂, sym, ◌∙◌, subst}}, specs.Prelude.{nat_le, not, ◌&&◌, ◌==◌, if◌then◌else◌}}
-use Rattle.hc_effects.proofs.Vocabulary.{HeadCase, HeadView, Route, head_case, case_on, route_of, case, route}
+use Rattle.hc_effects.proofs.Vocabulary.{brings_part, brings_whole, HeadCase, HeadView, Route, head_case, case_on, route_of, case, route}
 use Rattle.hc_effects.proofs.{FoundBy.{CaseBy, case_by}, WrittenEffects.{by_turn}}
 use Rattle.hc_effects.proofs.FoundBy as cases
+use Rattle.hc_rules.proofs.Statuses.{past_no_whole, past_no_part}
 
 abbrev turned : Bool → Bool → Bool → Bool → HeadCase → HeadCase
 turned bad asked selects kept rest =
@@ -29,8 +30,8 @@ module _ (v : HeadView) (selects : Bool) (g : HeadCase) (off : g ≡ case.NotVal
 abbrev rest : HeadView → HeadCase
 rest v =
     if nat_le 500 v.status then case.TurnServerError
-    else if v.status == 200 && v.storable && not v.lost then case.FoundsWhole
-    else if v.status == 206 && v.storable && v.fits && not v.lost then case.FoundsRange
+    else if brings_whole v.status && v.storable && not v.lost then case.FoundsWhole
+    else if brings_part v.status && v.storable && v.fits && not v.lost then case.FoundsRange
     else case.PassesBy
 
 parts_of : (bad asked kept : Bool) (other : HeadCase) → turned bad asked false kept other ≡ case.NotValidated → (other ≡ case.NotValidated → ⊥) → (bad ≡ false) × (asked ≡ true)
@@ -41,7 +42,11 @@ module _ (v : HeadView) (unselected : head_case (record v { selects = false }) �
   it_is = by_turn (subst (CaseBy (record v { selects = false })) unselected (case_by (record v { selects = false })))
 
   passes : rest v ≡ case.PassesBy
-  passes = (let status = it_is.1 in rw status refl)
+  passes =
+      let status = it_is.1 in
+      let a = past_no_whole v.status (omega (arith, status)) in
+      let b = past_no_part v.status (omega (arith, status)) in
+      rw (a, b, status) refl
 
   apart : rest v ≡ case.NotValidated → ⊥
   apart is = let never : case.PassesBy ≡ case.NotValidated = sym passes ∙ is in cc

@@ -24,6 +24,7 @@ use crate::evict::let_go;
 use hc_event::{Act, Acts, LostKind};
 use hc_exch::Role;
 use hc_record::Kind;
+use hc_rules::brings_whole;
 use hc_state::{Rows, Stop};
 use hc_store::Backend;
 use hc_stored::EntryView;
@@ -41,7 +42,7 @@ pub(crate) fn stop_of<B: Backend>(rows: &Rows<B>, x: u64) -> Stop
     };
     if entry.is_gone {
         Stop::Nothing
-    } else if x == r && entry.status == 200 && !is_keepable(&entry) {
+    } else if x == r && brings_whole(entry.status) && !is_keepable(&entry) {
         Stop::LetGo(r)
     } else {
         Stop::Seal(r)

@@ -4,9 +4,9 @@
 -- not tell it, and then it is where the reader stops, as the code takes it (`total_is`). Where a part is shown, it
 -- isn't empty and lies within the length (`part_fits`, `part_known`). Who waits for the head of a first hole waits on
 -- (`first_waits_answered`); all others are shown the head (`stored_answered`).
-use Rattle.std.{proofs.{Common.{◌≡◌, ◌≢◌, ℕ, ◌<◌, ◌≤◌, ◌^◌, List, [], ◌∷◌, ◌++◌, Bool, true, false, Option, Some, None, refl, ap, ap₂, sym, ◌∙◌, subst, arith}, lemmas.Bool.Decides.{nat_tests}}, specs.{Prelude.{is_some, is_none, nat_eq, option_and_then, option_map, not, ◌&&◌, if◌then◌else◌}, Option.{option_or}, HashMap.{get}}}
+use Rattle.std.{proofs.{Common.{◌≡◌, ℕ, ◌<◌, ◌≤◌, ◌^◌, List, [], ◌∷◌, ◌++◌, Bool, true, false, Option, Some, None, refl, ap, ap₂, sym, ◌∙◌, subst, arith}}, specs.{Prelude.{is_some, is_none, nat_eq, option_and_then, option_map, not, ◌&&◌, if◌then◌else◌}, Option.{option_or}, HashMap.{get}}}
 use Rattle.hc_text.proofs.Basics.{eqb-same, false_true, some_inj as some_is}
-use Rattle.hc_effects.proofs.Vocabulary.{Limits, Act, Why, Response, class_of, RequestClass, BoundBy, is_number, total_in, with_consumer, with_event, is_headless, Lawful, Move, Shows, acts_of, span_to, shows_stored, is_ranged, move_of, shows_head, shows_at, shows_bound, has_joined, if_headless, waits_for_head, by_place, or_else, own_open, hi_of, lo_of, reads, Numbers, Tables, Exchange, Representation, IsToBeShown, status_in, came_alone, act, wait, event, by, place}
+use Rattle.hc_effects.proofs.Vocabulary.{brings_part, Limits, Act, Why, Response, class_of, RequestClass, BoundBy, is_number, total_in, with_consumer, with_event, is_headless, Lawful, Move, Shows, acts_of, span_to, shows_stored, is_ranged, move_of, shows_head, shows_at, shows_bound, has_joined, if_headless, waits_for_head, by_place, or_else, own_open, hi_of, lo_of, reads, Numbers, Tables, Exchange, Representation, IsToBeShown, status_in, came_alone, act, wait, event, by, place}
 use Rattle.hc_store.specs.declared.backend.Backend.{Ghosts}
 use Rattle.hc_event.specs.declared.act.Why.TheVariants as why
 use Rattle.hc_range.specs.{Spans.{IsWithin}, declared.range.Span.{Span}}
@@ -123,11 +123,11 @@ module _ (t : Tables) {limits : _} (facts : Facts limits t) (c q : ℕ) (how : B
   came_as b same alone = ap (λ (z : BoundBy). came_alone t (place.Bound q rd.lo rd.hi z)) same ∙ alone
 
   -- who founded with the whole reads all of it
-  whole_is : (h : ℕ) → how ≡ by.Founding → rd.hi ≡ Some h → rd.p.head.status ≢ 206 → rd.p.head.total ≡ Some h
+  whole_is : (h : ℕ) → how ≡ by.Founding → rd.hi ≡ Some h → brings_part rd.p.head.status ≡ false → rd.p.head.total ≡ Some h
   whole_is h founding to status = facts.parts.whole c q rd.lo h rd.v rd.p rd.row (rd.at ∙ (ap (λ (o : Option ℕ). place.Bound q rd.lo o how) to ∙ ap (place.Bound q rd.lo (Some h)) founding)) rd.there status
 
-  alone_206 : rd.p.head.status ≡ 206 → came_alone t (place.Bound q rd.lo rd.hi by.Founding) ≡ true
-  alone_206 status = ap (λ (z : Option Representation). nat_eq (status_in z) 206) rd.there ∙ rw status refl
+  alone_by_part : brings_part rd.p.head.status ≡ true → came_alone t (place.Bound q rd.lo rd.hi by.Founding) ≡ true
+  alone_by_part status = ap (λ (z : Option Representation). brings_part (status_in z)) rd.there ∙ status
 
   -- its length is told, or where it stops reading is
   total_is : rd.v.shown ≡ false → option_or e.head.total k.hi ≡ rd.p.head.total
@@ -141,12 +141,12 @@ module _ (t : Tables) {limits : _} (facts : Facts limits t) (c q : ℕ) (how : B
       by_told (Some n) known same = ap (λ (o : Option ℕ). option_or o k.hi) (same ∙ known) ∙ sym known
       by_told None none same = ap (λ (o : Option ℕ). option_or o k.hi) (same ∙ none) ∙ (none_told rd.hi refl none ∙ sym none)
 
-      by_founding : (n h : ℕ) (b : Bool) → rd.p.head.total ≡ Some n → e.first ≡ None → how ≡ by.Founding → rd.hi ≡ Some h → nat_eq rd.p.head.status 206 ≡ b → Some h ≡ Some n
-      by_founding n h true known nobody founding to on = first_kept (came_as by.Founding founding (alone_206 (let same : rd.p.head.status ≡ 206 = grind (arith, nat_tests, on) in same))) nobody
-      by_founding n h false known nobody founding to off = sym (whole_is h founding to (λ same. false_true (sym off ∙ rw same refl))) ∙ known
+      by_founding : (n h : ℕ) (b : Bool) → rd.p.head.total ≡ Some n → e.first ≡ None → how ≡ by.Founding → rd.hi ≡ Some h → brings_part rd.p.head.status ≡ b → Some h ≡ Some n
+      by_founding n h true known nobody founding to on = first_kept (came_as by.Founding founding (alone_by_part on)) nobody
+      by_founding n h false known nobody founding to off = sym (whole_is h founding to off) ∙ known
 
       by_way : (n h : ℕ) (b : BoundBy) → rd.p.head.total ≡ Some n → e.first ≡ None → how ≡ b → rd.hi ≡ Some h → Some h ≡ Some n
-      by_way n h by.Founding known nobody same to = by_founding n h (nat_eq rd.p.head.status 206) known nobody same to refl
+      by_way n h by.Founding known nobody same to = by_founding n h (brings_part rd.p.head.status) known nobody same to refl
       by_way n h (by.FirstHole y) known nobody same to = first_kept (came_as (by.FirstHole y) same refl) nobody
       by_way n h by.Plan known nobody same to = shown_by_plan same unshown
 
@@ -199,7 +199,7 @@ module _ (t : Tables) {limits : _} (facts : Facts limits t) (c q : ℕ) (how : B
 
         -- who came alone knows where it stops reading
         alone_by : (b : BoundBy) → how ≡ b → may_be_part b e.head.status ≡ true → came_alone t (place.Bound q rd.lo rd.hi b) ≡ true
-        alone_by by.Founding same on = alone_206 (sym (same_status e.head rd.p.head rd.p.head.total is.head) ∙ (let at : e.head.status ≡ 206 = grind (arith, nat_tests, on) in at))
+        alone_by by.Founding same on = alone_by_part (sym (ap brings_part (same_status e.head rd.p.head rd.p.head.total is.head)) ∙ on)
         alone_by (by.FirstHole y) same on = refl
         alone_by by.Plan same on = shown_by_plan same unshown
 
@@ -209,7 +209,7 @@ module _ (t : Tables) {limits : _} (facts : Facts limits t) (c q : ℕ) (how : B
         some_part : (h : ℕ) (b : BoundBy) → rd.hi ≡ Some h → how ≡ b → may_be_part b e.head.status ≡ true → rd.lo < h
         some_part h by.Founding to same on =
             facts.parts.founded c q rd.lo h rd.v rd.p rd.row (rd.at ∙ (ap (λ (o : Option ℕ). place.Bound q rd.lo o how) to ∙ ap (place.Bound q rd.lo (Some h)) same)) rd.there
-            (sym (same_status e.head rd.p.head rd.p.head.total is.head) ∙ (let at : e.head.status ≡ 206 = grind (arith, nat_tests, on) in at)) ranged
+            (sym (ap brings_part (same_status e.head rd.p.head rd.p.head.total is.head)) ∙ on) ranged
         some_part h (by.FirstHole y) to same on =
             facts.parts.first c q rd.lo h y rd.v rd.row (rd.at ∙ (ap (λ (o : Option ℕ). place.Bound q rd.lo o how) to ∙ ap (place.Bound q rd.lo (Some h)) same)) ranged
         some_part h by.Plan to same on = shown_by_plan same unshown
@@ -354,8 +354,8 @@ module _ {B : Type 0} {g : Ghosts B} {limits : Limits} (r : Rows B g) (t : Table
     -- as the tables have it
     shows_it : (b : BoundBy) → how ≡ b → shows_bound t rd.v q rd.lo (hi_of t rd.v.place) b ≡ Some (Shows q (why_shown q b) (shown_response rd.p.head (why_shown q b) (span_to rd.lo (hi_of t rd.v.place)) (is_part k.class b e.head.status)) rd.lo (hi_of t rd.v.place))
     shows_it by.Founding same =
-        let status : nat_eq (status_in (t.representation q)) 206 ≡ nat_eq e.head.status 206 = ap (λ (z : Option Representation). nat_eq (status_in z) 206) rd.there ∙ ap (λ (n : ℕ). nat_eq n 206) (sym (same_status e.head rd.p.head rd.p.head.total is.head)) in
-        ap (λ (z : Option Representation). Some (shows_stored q (why.Fetched q) (is_ranged rd.v && nat_eq (status_in (t.representation q)) 206) rd.lo (hi_of t rd.v.place) z)) rd.there
+        let status : brings_part (status_in (t.representation q)) ≡ brings_part e.head.status = ap (λ (z : Option Representation). brings_part (status_in z)) rd.there ∙ ap brings_part (sym (same_status e.head rd.p.head rd.p.head.total is.head)) in
+        ap (λ (z : Option Representation). Some (shows_stored q (why.Fetched q) (is_ranged rd.v && brings_part (status_in (t.representation q))) rd.lo (hi_of t rd.v.place) z)) rd.there
         ∙ ap (λ (b : Bool). Some (Shows q (why.Fetched q) (shown_response rd.p.head (why.Fetched q) (span_to rd.lo (hi_of t rd.v.place)) b) rd.lo (hi_of t rd.v.place))) (ap₂ (λ (a b : Bool). a && b) (sym ranged_is) status)
     shows_it (by.FirstHole y) same =
         ap (λ (b : Bool). if b then Some (shows_stored q (why.Validated y) (is_ranged rd.v) rd.lo (hi_of t rd.v.place) (t.representation q)) else None) (joined_is to_be_shown)

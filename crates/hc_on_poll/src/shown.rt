@@ -16,7 +16,7 @@ use crate::wait::wait;
 use hc_event::{Acts, BoundBy, Wait, Why};
 use hc_on_leave::misread::misread_by;
 use hc_record::StoredHead;
-use hc_rules::RequestClass;
+use hc_rules::{RequestClass, brings_part};
 use hc_state::{Rows, show};
 use hc_store::Backend;
 use hc_text::NoMemory;
@@ -100,7 +100,7 @@ fn is_part(class: RequestClass, by: BoundBy, status: u16) -> bool
         return false;
     }
     match by {
-        BoundBy::Founding => status == 206,
+        BoundBy::Founding => brings_part(status),
         BoundBy::FirstHole(_) | BoundBy::Plan => true,
     }
 }

@@ -4,26 +4,21 @@
 -- lines that were read are those of the head that it spells (`same_first`). Behind them stands the tag (`tag_first`),
 -- then the fields for Vary and those of the head, of which the numbers say how many (`vary_of`, `fields_of`). The parts
 -- that were read make the record again (`assembled`). Where one is missing no head spells the text.
-use Rattle.std.{proofs.{Common.{◌≡◌, ◌≢◌, ℕ, true, List, [], ◌∷◌, ◌++◌, length, take, drop, get_or, IsTrue, refl, sym, ap, ◌∙◌, inl, inr, arith}, lemmas.{Bool.{or_cases, eqb-true}, List.{append_assoc, append-nil, take_at, drop_at}}}, specs.Prelude.{◌==◌, ◌||◌, codes}}
+use Rattle.std.{proofs.{Common.{◌≡◌, ◌≢◌, ℕ, true, false, List, [], ◌∷◌, ◌++◌, length, take, drop, get_or, IsTrue, refl, sym, ap, ◌∙◌, inl, inr, arith}, lemmas.{Bool.{or_cases}, List.{append_assoc, append-nil, take_at, drop_at}}}, specs.Prelude.{◌||◌, codes}}
 use Rattle.hc_text.specs.Texts.{lacks}
 use Rattle.hc_fields.specs.{FieldList.{values_of, IsListOf}, Lines.{fields_text}}
 use Rattle.hc_text.proofs.Cuts.{cut_once}
 use Rattle.hc_fields.proofs.FieldTexts.{fields_once}
 use Rattle.hc_record.specs.{declared.{version.Version.{Version, TheVariants.{First, Second}}, parts.{Seal.{Seal}, Numbers.{Numbers}, FirstLines.{FirstLines}}}, Head.{Head, IsHead}, Lines.{IsSmall, version_line, seal_line, joining_text, tag_line}, Parts.{seal_text, IsSmallSeal, numbers_text, AreSmall, first_text, AreFirst}, Record.{field_lines, spelling}}
 use Rattle.hc_record.proofs.{JoiningLemmas.{lacks-joining}, Once.{SameSeal, seal_once, SameNumbers, numbers_once}}
+use Rattle.hc_rules.specs.Statuses.{brings_whole, brings_part}
+use Rattle.hc_rules.proofs.Statuses.{whole_succeeds, part_succeeds}
 
-pub status_cases : (status : ℕ) → IsTrue (status == 200 || status == 206) → (status ≢ 200) × (status ≢ 206) → ⊥
-status_cases status known other =
-    elim (or_cases (status == 200) (status == 206) known) [
-      | inl full ↦ other.0 (eqb-true _ _ full)
-      | inr part ↦ other.1 (eqb-true _ _ part)
-    ]
-
-small_status : (status : ℕ) → IsTrue (status == 200 || status == 206) → IsSmall status
+small_status : (status : ℕ) → IsTrue (brings_whole status || brings_part status) → IsSmall status
 small_status status known =
-    elim (or_cases (status == 200) (status == 206) known) [
-      | inl full ↦ omega (arith, eqb-true status 200 full)
-      | inr part ↦ omega (arith, eqb-true status 206 part)
+    elim (or_cases (brings_whole status) (brings_part status) known) [
+      | inl full ↦ omega (arith, (whole_succeeds status full).1)
+      | inr part ↦ omega (arith, (part_succeeds status part).1)
     ]
 
 -- the first lines of a head's record
@@ -171,9 +166,11 @@ no_numbers version seal text one two version_is small seal_is none first after f
     none first.numbers after fit.numbers seals.rest
 
 -- a text whose status is of no founding head
-pub no_status : (version : Version) (seal : Seal) (n : Numbers) (text one two three : List ℕ) → version_line version ++ one ≡ text → IsSmallSeal seal → seal_text seal ++ two ≡ one → AreSmall n → numbers_text n ++ three ≡ two → (n.status ≢ 200) × (n.status ≢ 206) → (first : FirstLines) (after : List ℕ) → AreFirst first → first_text first ++ after ≢ text
+pub no_status : (version : Version) (seal : Seal) (n : Numbers) (text one two three : List ℕ) → version_line version ++ one ≡ text → IsSmallSeal seal → seal_text seal ++ two ≡ one → AreSmall n → numbers_text n ++ three ≡ two → (brings_whole n.status || brings_part n.status) ≡ false → (first : FirstLines) (after : List ℕ) → AreFirst first → first_text first ++ after ≢ text
 no_status version seal n text one two three version_is small seal_is small_n n_is other first after fit same =
     let versions = version_once first.version version _ one (sym (first_parts first after) ∙ (same ∙ sym version_is)) in
     let seals = seal_once first.seal.kind seal.kind first.seal.total seal.total _ two fit.seal small (versions.1 ∙ sym seal_is) in
     let ns = numbers_once first.numbers n after three fit.numbers small_n (seals.rest ∙ sym n_is) in
-    status_cases n.status (rw (fit.status_is ∙ ns.status) at fit.known_status) other
+    let known : (brings_whole n.status || brings_part n.status) ≡ true = rw (fit.status_is ∙ ns.status) at fit.known_status in
+    let never : false ≡ true = sym other ∙ known in
+    cc

@@ -1,5 +1,5 @@
 -- The plain head: what a stored head tells, as data.
-use Rattle.std.specs.Prelude.{◌≡◌, ℕ, ◌-◌, ◌==◌, ◌||◌, ◌&&◌, IsTrue, List, [], ◌∷◌, ◌++◌, length, take, drop, codes, bytes_eq, if◌then◌else◌, Option, Some, None}
+use Rattle.std.specs.Prelude.{◌≡◌, ℕ, ◌-◌, ◌||◌, ◌&&◌, IsTrue, List, [], ◌∷◌, ◌++◌, length, take, drop, codes, bytes_eq, if◌then◌else◌, Option, Some, None}
 use Rattle.std.specs.Option.{ForSome, option_map}
 use Rattle.std.specs.List.{list_all}
 use Rattle.hc_text.specs.Texts.{IsSmall}
@@ -7,6 +7,7 @@ use Rattle.hc_etag.specs.declared.tag.Tag.{Tag}
 use Rattle.hc_etag.specs.Etags.{is_etagc, quote}
 use Rattle.hc_fields.specs.FieldList.{values_of, IsFieldList, IsWithinLimits}
 use Rattle.hc_record.specs.declared.kind.Kind.{Kind}
+use Rattle.hc_rules.specs.Statuses.{brings_whole, brings_part}
 
 pub record Head : Type 0 where
   pub kind : Kind
@@ -47,7 +48,7 @@ opaque_of tag = option_map (λ (t : Tag). t.opaque) tag
 
 -- what holds of each stored head: each of its numbers has a spelling, and so have its fields
 pub record IsHead (head : Head) : Type 0 where
-  pub known_status : IsTrue (head.status == 200 || head.status == 206)
+  pub known_status : IsTrue (brings_whole head.status || brings_part head.status)
   pub small_total : IsSmallTotal head.total
   pub small_requested : IsSmall head.requested
   pub small_answered : IsSmall head.answered

@@ -1,11 +1,12 @@
 -- The parts of a record as a reader takes them.
-use Rattle.std.specs.Prelude.{◌≡◌, ℕ, ◌==◌, ◌||◌, Bool, IsTrue, List, ◌++◌, MatchBool}
+use Rattle.std.specs.Prelude.{◌≡◌, ℕ, ◌||◌, Bool, IsTrue, List, ◌++◌, MatchBool}
 pub use Rattle.hc_fields.specs.FieldList.{IsListOf}
 use Rattle.hc_record.specs.declared.parts.Seal.{Seal}
 use Rattle.hc_record.specs.declared.parts.Numbers.{Numbers}
 use Rattle.hc_record.specs.declared.parts.FirstLines.{FirstLines}
 use Rattle.hc_record.specs.declared.version.Version.{Version}
 use Rattle.hc_record.specs.Lines.{IsSmall, IsSmallTotal, version_line, seal_line, numbers_line, tag_line}
+use Rattle.hc_rules.specs.Statuses.{brings_whole, brings_part}
 
 abbrev pub seal_text : Seal → List ℕ
 seal_text seal = seal_line seal.kind seal.total
@@ -30,7 +31,7 @@ pub record AreFirst (first : FirstLines) : Type 0 where
   pub seal : IsSmallSeal first.seal
   pub numbers : AreSmall first.numbers
   pub status_is : first.status ≡ first.numbers.status
-  pub known_status : IsTrue (first.status == 200 || first.status == 206)
+  pub known_status : IsTrue (brings_whole first.status || brings_part first.status)
 
 -- it is told whether two texts make one line in this version
 abbrev pub TellsSame : Version → List ℕ → List ℕ → Bool → Type 0

@@ -1,10 +1,11 @@
 -- The record of a stored head.
-use Rattle.std.specs.Prelude.{◌≡◌, ℕ, ◌==◌, ◌||◌, IsTrue, List, ◌++◌, length, Option}
+use Rattle.std.specs.Prelude.{◌≡◌, ℕ, ◌||◌, IsTrue, List, ◌++◌, length, Option}
 use Rattle.hc_fields.specs.Lines.{fields_text}
 use Rattle.hc_record.specs.declared.kind.Kind.{Kind}
 use Rattle.hc_record.specs.declared.version.Version.{Version}
 use Rattle.hc_record.specs.Head.{Head}
 use Rattle.hc_record.specs.Lines.{version_line, seal_line, numbers_line, joining_text, tag_line}
+use Rattle.hc_rules.specs.Statuses.{brings_whole, brings_part}
 
 -- the line of status, moments and counts of fields of a head
 abbrev pub head_numbers : Head → List ℕ
@@ -41,5 +42,5 @@ pub record HasFirstLines (text : List ℕ) : Type 0 where
   pub vary_count : ℕ
   pub count : ℕ
   pub rest : List ℕ
-  pub known_status : IsTrue (status == 200 || status == 206)
+  pub known_status : IsTrue (brings_whole status || brings_part status)
   pub text_is : version_line version ++ (seal_line kind total ++ (numbers_line status requested answered vary_count count ++ rest)) ≡ text

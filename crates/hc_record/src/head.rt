@@ -16,7 +16,7 @@ pub struct StoredHead {
     pub kind: Kind,
     /// The length of the whole representation, where it is known.
     pub total: Option<u64>,
-    /// The status of the founding head, 200 or 206.
+    /// The status of the founding head.
     pub status: u16,
     /// When the exchange was opened that brought the head or updated it last.
     pub requested: u64,

@@ -1,6 +1,7 @@
 //! The lines of a record before its fields.
-ghost use Rattle.std.specs.Prelude.{◌≡◌, ◌≢◌, ◌↔◌, ◌==◌, ◌||◌, ◌∷◌, [], ◌++◌, ℕ, List, true, IsTrue, IfSome, IfNone, MatchOption};
+ghost use Rattle.std.specs.Prelude.{◌≡◌, ◌≢◌, ◌↔◌, ◌||◌, ◌∷◌, [], ◌++◌, ℕ, List, true, false, IsTrue, IfSome, IfNone, MatchOption};
 ghost use Rattle.hc_etag.specs.Etags.{quote};
+ghost use Rattle.hc_rules.specs.Statuses.{brings_whole, brings_part};
 ghost use Rattle.hc_record.specs.Head.{opaque_of};
 ghost use Rattle.hc_record.specs.Lines.{joining_text, tag_line};
 ghost use Rattle.hc_record.specs.Parts.{seal_text, IsSmallSeal, numbers_text, AreSmall, first_text, AreFirst, TellsSame};
@@ -10,6 +11,7 @@ use crate::cursor::Cursor;
 use crate::kind::Kind;
 use crate::version::Version;
 use hc_etag::Tag;
+use hc_rules::{brings_part, brings_whole};
 
 /// Kind and total.
 #[derive(Clone, Copy)]
@@ -37,15 +39,19 @@ pub(crate) struct FirstLines {
     pub(crate) status: u16,
 }
 
-/// The status of a founding head, 200 or 206.
+/// The status of a founding head, which brings a whole or a part.
+#[tactic(auto, using(hc_rules::proofs::Statuses::past_no_whole, hc_rules::proofs::Statuses::past_no_part))]
 fn status_of(number: u64) -> Option<u16>
-    ensures { MatchOption result ((number ≢ 200) × (number ≢ 206))
-        (λ status. (status ≡ number) × IsTrue (status == 200 || status == 206)) }
+    ensures { MatchOption result ((brings_whole number || brings_part number) ≡ false)
+        (λ status. (status ≡ number) × IsTrue (brings_whole status || brings_part status)) }
 {
-    match number {
-        200 => Some(200),
-        206 => Some(206),
-        _ => None,
+    let Ok(status) = u16::try_from(number) else {
+        return None;
+    };
+    if brings_whole(status) || brings_part(status) {
+        Some(status)
+    } else {
+        None
     }
 }
 

@@ -4,7 +4,7 @@ use Rattle.hc_text.proofs.{Basics.{not_true as denied, eqb-same}, Cutting.{none_
 use Rattle.hc_range.specs.declared.range.{Span.{Span}, ContentRange.{ContentRange, TheVariants.{Part}}}
 use Rattle.hc_cachectl.specs.Directives.{of_response}
 use Rattle.hc_event.specs.declared.event.Response.{Response}
-use Rattle.hc_rules.specs.{RangeTexts.{content_range_of}, TagTexts.{strong_of, strongly_equals, is_same_tag}, Joins.{joins, fills}, Laws.{IsJoin, JoinsAreRight}}
+use Rattle.hc_rules.specs.{RangeTexts.{content_range_of}, Statuses.{brings_part}, TagTexts.{strong_of, strongly_equals, is_same_tag}, Joins.{joins, fills}, Laws.{IsJoin, JoinsAreRight}}
 use Rattle.hc_rules.proofs.RangeReads.{same_bytes, bytes_eq-same}
 
 leb-lt : (m n : ℕ) → leb (m + 1) n ≡ true → m < n
@@ -35,7 +35,7 @@ strong-some fields false opaque h = elim (seen (strong_of fields)) [
 join-some : (tag : Bool × List ℕ) (total : ℕ) (hole : Span) (answer : Response) → joins tag total hole answer ≡ true → (last : ℕ) × IsJoin tag total hole answer last
 unfolding joins
 join-some tag total hole answer h =
-    let status = eqb answer.status 206 in
+    let status = brings_part answer.status in
     let strong = strongly_equals answer.fields tag.0 tag.1 in
     let part = fills (content_range_of answer.fields) total hole in
     let a = and_parts (status && strong && part) (not (of_response answer.fields).no_store) h in
@@ -43,7 +43,7 @@ join-some tag total hole answer h =
     let d = and_parts status strong b.0 in
     let (last, (told, within)) = fills-some (content_range_of answer.fields) total hole b.1 in
     let (strict, same) = strong-some answer.fields tag.0 tag.1 d.1 in
-    (last, record { status = eqb-true answer.status 206 d.0; strict = strict; same = same; told = told; within = within; kept = denied (of_response answer.fields).no_store a.1 })
+    (last, record { status = d.0; strict = strict; same = same; told = told; within = within; kept = denied (of_response answer.fields).no_store a.1 })
 
 strong-same : (fields : List (List ℕ × List ℕ)) (weak : Bool) (opaque : List ℕ) → weak ≡ false → strong_of fields ≡ Some opaque → strongly_equals fields weak opaque ≡ true
 strong-same fields true opaque strict same = absurd (cc)
@@ -57,11 +57,10 @@ fills-part o last total hole told within =
 some-join : (tag : Bool × List ℕ) (total : ℕ) (hole : Span) (answer : Response) (last : ℕ) → IsJoin tag total hole answer last → joins tag total hole answer ≡ true
 unfolding joins
 some-join tag total hole answer last h =
-    let status : eqb answer.status 206 ≡ true = ap (λ (s : ℕ). eqb s 206) h.status in
     let strong = strong-same answer.fields tag.0 tag.1 h.strict h.same in
     let part = fills-part (content_range_of answer.fields) last total hole h.told h.within in
     let kept : not (of_response answer.fields).no_store ≡ true = ap not h.kept in
-    and_from _ _ (and_from _ _ (and_from _ _ status strong) part) kept
+    and_from _ _ (and_from _ _ (and_from _ _ h.status strong) part) kept
 
 pub joins-right : JoinsAreRight
 joins-right tag total hole answer = (join-some tag total hole answer, λ h. some-join tag total hole answer h.0 h.1)

@@ -4,7 +4,7 @@ use Rattle.hc_text.proofs.Basics.{either}
 use Rattle.hc_range.specs.declared.range.ContentRange.{ContentRange}
 use Rattle.hc_range.specs.declared.range.ContentRange.TheVariants as range
 use Rattle.hc_event.specs.declared.{event.{Request.{Request}, Response.{Response}}, act.Need.{Need}}
-use Rattle.hc_rules.specs.{declared.{need.Route.{Route}, length.Length.{Length, TheVariants.{Unknown, Promised, Part, Bad}}}, Needs.{route_of}, Lengths.{is_same_number, promised_or_bad, all_tell, content_length_of, has_no_body, agrees, part_length, tells_part, length_of}, RangeTexts.{number_of, content_range_of}, Laws.{declared_in, AllSay, IsRightLength, LengthsAreRight}}
+use Rattle.hc_rules.specs.{declared.{need.Route.{Route}, length.Length.{Length, TheVariants.{Unknown, Promised, Part, Bad}}}, Needs.{route_of}, Lengths.{is_same_number, promised_or_bad, all_tell, content_length_of, has_no_body, agrees, part_length, tells_part, length_of}, RangeTexts.{number_of, content_range_of}, Statuses.{brings_part}, Laws.{declared_in, AllSay, IsRightLength, LengthsAreRight}}
 use Rattle.hc_rules.specs.declared.need.Route.TheVariants as route
 
 same : (n : ℕ) (o : Option ℕ) → is_same_number (Some n) o ≡ true → o ≡ Some n
@@ -45,9 +45,9 @@ module _ (need : Need) (request : Request) (response : Response) (body : has_no_
   agreed (Part base m) n t h = absurd t
   agreed Bad n t h = absurd (both_ways _ refl h)
 
-  turned : (r : Route) (status : ℕ) → tells_part r status ≡ true → (status ≡ 206) × (r ≢ route.Direct)
+  turned : (r : Route) (status : ℕ) → tells_part r status ≡ true → (brings_part status ≡ true) × (r ≢ route.Direct)
   turned route.Direct status h = absurd (both_ways _ refl h)
-  turned _ status h = (eqb-true status 206 h, λ is. absurd (cc))
+  turned _ status h = (h, λ is. absurd (cc))
 
   part : (said : Length) (told_range : Option ContentRange) → content_range_of response.fields ≡ told_range → Told (declared_in response) said → tells_part (route_of need) response.status ≡ true → IsRightLength need request response (part_length said told_range)
   part said (Some (range.Part first last total)) is t tells =

@@ -1,4 +1,5 @@
 pub mod Numbers
+pub mod Statuses
 pub mod LengthFolds
 pub mod RangeReads
 pub mod LeastFolds

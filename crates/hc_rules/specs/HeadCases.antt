@@ -18,6 +18,7 @@ use Rattle.hc_rules.specs.declared.heads.HeadView.{HeadView}
 use Rattle.hc_rules.specs.Needs.{route_of}
 use Rattle.hc_rules.specs.RangeTexts.{content_range_of}
 use Rattle.hc_rules.specs.Requests.{is_get}
+use Rattle.hc_rules.specs.Statuses.{brings_whole, brings_part}
 use Rattle.hc_fields.specs.FirstValues.{has_field}
 use Rattle.hc_rules.specs.TagTexts.{strong_of}
 
@@ -32,8 +33,8 @@ turn_case v =
     else if v.status == 304 && v.conditional && v.selects && not v.lost then case.Validated
     else if v.status == 304 && v.conditional then case.NotValidated
     else if nat_le 500 v.status then case.TurnServerError
-    else if v.status == 200 && v.storable && not v.lost then case.FoundsWhole
-    else if v.status == 206 && v.storable && v.fits && not v.lost then case.FoundsRange
+    else if brings_whole v.status && v.storable && not v.lost then case.FoundsWhole
+    else if brings_part v.status && v.storable && v.fits && not v.lost then case.FoundsRange
     else case.PassesBy
 
 -- of one for a hole, for a consumer that was shown no head
@@ -42,8 +43,8 @@ first_case v =
     if v.bad then case.FirstBad
     else if v.joins then case.FirstJoins
     else if nat_le 500 v.status then case.FirstServerError
-    else if v.status == 206 || v.status == 304 || v.status == 416 then case.FirstChanged
-    else if v.status == 200 && v.storable && not v.lost then case.FirstReplaced
+    else if brings_part v.status || v.status == 304 || v.status == 416 then case.FirstChanged
+    else if brings_whole v.status && v.storable && not v.lost then case.FirstReplaced
     else case.FirstPassesBy
 
 -- and for one that was
@@ -73,7 +74,7 @@ is_conditional _ request = false
 -- the answer to this request may be stored (RFC 9111 section 3)
 unfoldable pub is_storable : Request → Response → Bool
 is_storable request response =
-    is_get request && (response.status == 200 || response.status == 206)
+    is_get request && (brings_whole response.status || brings_part response.status)
     && not (of_request request.fields).no_store && not (of_response response.fields).no_store
 
 abbrev pub begins_at : Option Span → ℕ → ℕ → Bool

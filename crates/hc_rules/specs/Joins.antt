@@ -8,6 +8,7 @@ use Rattle.hc_event.specs.declared.event.Response.{Response}
 use Rattle.hc_rules.specs.declared.joins.HoleAnswer.{HoleAnswer}
 use Rattle.hc_rules.specs.declared.joins.HoleAnswer.TheVariants as answer
 use Rattle.hc_rules.specs.RangeTexts.{content_range_of}
+use Rattle.hc_rules.specs.Statuses.{brings_whole, brings_part}
 use Rattle.hc_rules.specs.TagTexts.{strongly_equals}
 
 -- the part is one of a whole of this length
@@ -22,16 +23,16 @@ fills (Some (range.Unsatisfied n)) total hole = false
 fills (Some (range.Part first last told)) total hole =
     is_of_total told total && first == hole.lo && nat_le (last + 1) hole.hi
 
--- The answer brings bytes of the hole from the same representation: a 206 whose tag is strongly equal to this one
+-- The answer brings bytes of the hole from the same representation: a part whose tag is strongly equal to this one
 -- and that may be stored.
 unfoldable pub joins : Bool × List ℕ → ℕ → Span → Response → Bool
 joins tag total hole response =
-    response.status == 206 && strongly_equals response.fields tag.0 tag.1
+    brings_part response.status && strongly_equals response.fields tag.0 tag.1
     && fills (content_range_of response.fields) total hole
     && not (of_response response.fields).no_store
 
 unfoldable pub hole_answer : Bool × List ℕ → ℕ → Span → Response → HoleAnswer
 hole_answer tag total hole response =
     if joins tag total hole response then answer.Joins
-    else if response.status == 200 then answer.Replaced
+    else if brings_whole response.status then answer.Replaced
     else answer.Other

@@ -9,6 +9,7 @@ use Rattle.hc_range.specs.Ranges.{SpellsRange, SpellsContentRange}
 use Rattle.hc_etag.specs.Etags.{SpellsTag}
 use Rattle.hc_rules.specs.RangeTexts.{asked_in, content_range_in, content_range_of, number_of}
 use Rattle.hc_rules.specs.Lengths.{has_no_body, tells_part, length_of}
+use Rattle.hc_rules.specs.Statuses.{brings_whole, brings_part}
 use Rattle.hc_etag.specs.TagTexts.{strong_in}
 use Rattle.hc_rules.specs.TagTexts.{strong_of}
 use Rattle.hc_event.specs.declared.event.Event.{Event}
@@ -170,7 +171,7 @@ IsRightLength need request response told.Unknown =
 IsRightLength need request response (told.Promised n) =
     ((has_no_body request response.status ≡ true) × (n ≡ 0)) ⊎ AllSay n (declared_in response)
 IsRightLength need request response (told.Part base count) =
-    (response.status ≡ 206) × (route_of need ≢ route.Direct) × SaysPart response base count
+    (brings_part response.status ≡ true) × (route_of need ≢ route.Direct) × SaysPart response base count
 IsRightLength need request response told.Bad =
     (has_no_body request response.status ≡ false)
     × ((declared_in response ≢ []) ⊎ (tells_part (route_of need) response.status ≡ true))
@@ -183,8 +184,8 @@ LengthsAreRight =
 -- CASES OF HEADS
 
 -- the head is good, may be stored, and its write isn't lost
-abbrev pub MayFound : HeadView → ℕ → Type 0
-MayFound v status = (v.bad ≡ false) × (v.storable ≡ true) × (v.lost ≡ false) × (v.status ≡ status)
+abbrev pub MayFound : HeadView → Bool → Type 0
+MayFound v brings = (v.bad ≡ false) × (v.storable ≡ true) × (v.lost ≡ false) × (brings ≡ true)
 
 -- what a case says of its head
 abbrev pub IsRightCase : HeadView → HeadCase → Type 0
@@ -194,14 +195,14 @@ IsRightCase v case.TurnBad = v.bad ≡ true
 IsRightCase v case.Validated = (v.bad ≡ false) × (v.status ≡ 304) × (v.conditional ≡ true) × (v.selects ≡ true) × (v.lost ≡ false)
 IsRightCase v case.NotValidated = (v.bad ≡ false) × (v.status ≡ 304) × (v.conditional ≡ true)
 IsRightCase v case.TurnServerError = (v.bad ≡ false) × (500 ≤ v.status)
-IsRightCase v case.FoundsWhole = MayFound v 200
-IsRightCase v case.FoundsRange = MayFound v 206 × (v.fits ≡ true)
+IsRightCase v case.FoundsWhole = MayFound v (brings_whole v.status)
+IsRightCase v case.FoundsRange = MayFound v (brings_part v.status) × (v.fits ≡ true)
 IsRightCase v case.PassesBy = v.bad ≡ false
 IsRightCase v case.FirstBad = v.bad ≡ true
 IsRightCase v case.FirstJoins = (v.bad ≡ false) × (v.joins ≡ true)
 IsRightCase v case.FirstServerError = (v.bad ≡ false) × (500 ≤ v.status)
 IsRightCase v case.FirstChanged = (v.bad ≡ false) × (v.joins ≡ false)
-IsRightCase v case.FirstReplaced = MayFound v 200
+IsRightCase v case.FirstReplaced = MayFound v (brings_whole v.status)
 IsRightCase v case.FirstPassesBy = (v.bad ≡ false) × (v.joins ≡ false)
 IsRightCase v case.LaterBad = v.bad ≡ true
 IsRightCase v case.LaterJoins = (v.bad ≡ false) × (v.joins ≡ true)
@@ -213,10 +214,10 @@ CasesAreRight = (v : HeadView) → IsRightCase v (head_case v)
 
 -- WHAT FILLS A HOLE
 
--- The answer is a 206 with a strong tag of these bytes, which brings the bytes from the start of the hole to this position, at most to
+-- The answer is a part with a strong tag of these bytes, which brings the bytes from the start of the hole to this position, at most to
 -- the end of the hole, tells this total, and may be stored.
 pub record IsJoin (tag : Bool × List ℕ) (total : ℕ) (hole : Span) (answer : Response) (last : ℕ) : Type 0 where
-  pub status : answer.status ≡ 206
+  pub status : brings_part answer.status ≡ true
   pub strict : tag.0 ≡ false
   pub same : strong_of answer.fields ≡ Some tag.1
   pub told : content_range_of answer.fields ≡ Some (range.Part hole.lo last (Some total))

@@ -13,6 +13,7 @@ use Rattle.hc_rules.specs.declared.length.Length.{Length}
 use Rattle.hc_rules.specs.declared.length.Length.TheVariants.{Unknown, Promised, Part, Bad}
 use Rattle.hc_rules.specs.Needs.{route_of}
 use Rattle.hc_rules.specs.RangeTexts.{number_of, content_range_of}
+use Rattle.hc_rules.specs.Statuses.{brings_part}
 
 abbrev pub is_same_number : Option ℕ → Option ℕ → Bool
 is_same_number (Some m) (Some n) = m == n
@@ -57,10 +58,10 @@ abbrev pub IsPartInOrder : ContentRange → Type 0
 IsPartInOrder (range.Part first last total) = (first ≤ last) × (last < 2 ^ 62)
 IsPartInOrder (range.Unsatisfied total) = Unit {0}
 
--- a 206 tells where it begins, where it isn't an answer that goes past the store
+-- a part tells where it begins, where it isn't an answer that goes past the store
 abbrev pub tells_part : Route → ℕ → Bool
 tells_part route.Direct status = false
-tells_part _ status = status == 206
+tells_part _ status = brings_part status
 
 -- what the head says to an exchange that was opened for this need, with this request
 unfoldable pub length_of : Need → Request → Response → Length

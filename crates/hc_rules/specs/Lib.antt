@@ -2,6 +2,7 @@ pub mod Needs
 pub mod RangeTexts
 pub mod TagTexts
 pub mod Requests
+pub mod Statuses
 pub mod Refusals
 pub mod Lengths
 pub mod LengthSoFar

@@ -5,6 +5,7 @@ ghost use Rattle.hc_rules.specs.HeadCases.{head_case, direct_case, turn_case, fi
 
 use crate::need::{Route, route_of};
 use crate::range_text::content_range_of;
+use crate::status::{brings_part, brings_whole};
 use crate::tag_text::strong_of;
 use hc_cachectl::{read_request, read_response};
 use hc_event::{Need, Request, Response};
@@ -25,27 +26,27 @@ pub enum HeadCase {
     NotValidated,
     /// A server error: the exchange goes on past the store (RFC 9111 section 4.3.3).
     TurnServerError,
-    /// A 200 that founds a representation.
+    /// A whole that founds a representation.
     FoundsWhole,
-    /// A 206 that founds a representation (RFC 9111 section 3.3).
+    /// A part that founds a representation (RFC 9111 section 3.3).
     FoundsRange,
     /// Anything else: the exchange goes on past the store.
     PassesBy,
     /// For a hole, before a head was shown: the head is bad.
     FirstBad,
-    /// A 206 that brings bytes of the hole (RFC 9111 section 3.4).
+    /// A part that brings bytes of the hole (RFC 9111 section 3.4).
     FirstJoins,
     /// A server error: the exchange goes on past the store.
     FirstServerError,
     /// Another representation is there now, or none.
     FirstChanged,
-    /// A 200 that founds a representation in place of that with the hole.
+    /// A whole that founds a representation in place of that with the hole.
     FirstReplaced,
     /// Anything else: the exchange goes on past the store.
     FirstPassesBy,
     /// For a hole, after a head was shown: the head is bad.
     LaterBad,
-    /// A 206 that brings bytes of the hole.
+    /// A part that brings bytes of the hole.
     LaterJoins,
     /// Anything else: what was shown can't be completed.
     LaterChanged,
@@ -68,7 +69,7 @@ pub struct HeadView {
     pub selects: bool,
     /// The head may be stored.
     pub storable: bool,
-    /// As a 206 it is fit to found a representation for the consumer's range.
+    /// As a part it is fit to found a representation for the consumer's range.
     pub fits: bool,
     /// It brings bytes of the hole from the same representation.
     pub joins: bool,
@@ -109,8 +110,8 @@ fn turn_case(view: &HeadView) -> HeadCase
         304 if view.conditional && view.selects && !view.lost => HeadCase::Validated,
         304 if view.conditional => HeadCase::NotValidated,
         500.. => HeadCase::TurnServerError,
-        200 if view.storable && !view.lost => HeadCase::FoundsWhole,
-        206 if view.storable && view.fits && !view.lost => HeadCase::FoundsRange,
+        n if brings_whole(n) && view.storable && !view.lost => HeadCase::FoundsWhole,
+        n if brings_part(n) && view.storable && view.fits && !view.lost => HeadCase::FoundsRange,
         _ => HeadCase::PassesBy,
     }
 }
@@ -123,8 +124,8 @@ fn first_case(view: &HeadView) -> HeadCase
         _ if view.bad => HeadCase::FirstBad,
         _ if view.joins => HeadCase::FirstJoins,
         500.. => HeadCase::FirstServerError,
-        206 | 304 | 416 => HeadCase::FirstChanged,
-        200 if view.storable && !view.lost => HeadCase::FirstReplaced,
+        n if brings_part(n) || n == 304 || n == 416 => HeadCase::FirstChanged,
+        n if brings_whole(n) && view.storable && !view.lost => HeadCase::FirstReplaced,
         _ => HeadCase::FirstPassesBy,
     }
 }
@@ -152,19 +153,19 @@ pub fn is_conditional(need: Need, request: &Request) -> bool
             || request.fields.count(b"if-modified-since") > 0)
 }
 
-/// Whether the answer to the request may be stored: a 200 or 206 to a GET, neither of them with
-/// `no-store` (RFC 9111 section 3).
+/// Whether the answer to the request may be stored: a whole or a part to a GET, neither of them
+/// with `no-store` (RFC 9111 section 3).
 #[tactic(auto, unfolding(crate::specs::HeadCases::is_storable))]
 pub fn is_storable(request: &Request, response: &Response) -> bool
     ensures { result ≡ is_storable request.now response.now }
 {
     request.method.bytes.as_slice() == b"GET".as_slice()
-        && (response.status == 200 || response.status == 206)
+        && (brings_whole(response.status) || brings_part(response.status))
         && !read_request(&request.fields).no_store
         && !read_response(&response.fields).no_store
 }
 
-/// Whether a 206 that may be stored is fit to found a representation for a consumer with this range:
+/// Whether a part that may be stored is fit to found a representation for a consumer with this range:
 /// it has one strong tag, its total is given, and it begins where the range does and isn't longer.
 /// Without a range it isn't.
 pub fn fits_to_found(range: Option<Asked>, response: &Response) -> bool

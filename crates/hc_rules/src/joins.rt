@@ -4,6 +4,7 @@ ghost use Rattle.hc_etag.specs.Tags.{value_of};
 ghost use Rattle.hc_rules.specs.Joins.{joins, hole_answer, fills};
 
 use crate::range_text::content_range_of;
+use crate::status::{brings_part, brings_whole};
 use crate::tag_text::strongly_equals;
 use hc_cachectl::read_response;
 use hc_etag::Tag;
@@ -15,7 +16,7 @@ use hc_range::{ContentRange, Span};
 pub enum HoleAnswer {
     /// It brings bytes of the hole, from its start on, of the same representation.
     Joins,
-    /// It is a 200, which brings a representation of its own.
+    /// It brings a whole, which is a representation of its own.
     Replaced,
     /// It is any other answer.
     Other,
@@ -30,7 +31,7 @@ pub fn hole_answer(tag: &Tag, total: u64, hole: Span, answer: &Response) -> Hole
     if joins(tag, total, hole, answer) {
         return HoleAnswer::Joins;
     }
-    if answer.status == 200 {
+    if brings_whole(answer.status) {
         return HoleAnswer::Replaced;
     }
     HoleAnswer::Other
@@ -41,7 +42,7 @@ pub fn hole_answer(tag: &Tag, total: u64, hole: Span, answer: &Response) -> Hole
 fn joins(tag: &Tag, total: u64, hole: Span, answer: &Response) -> bool
     ensures { result ≡ joins (value_of tag.now) total hole answer.now }
 {
-    answer.status == 206
+    brings_part(answer.status)
         && strongly_equals(&answer.fields, tag)
         && fills(content_range_of(&answer.fields), total, hole)
         && !read_response(&answer.fields).no_store

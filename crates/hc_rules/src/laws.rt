@@ -26,7 +26,7 @@ pub fn cases_are_right()
     ensures { CasesAreRight }
 {}
 
-/// What joins is a 206 with a strongly equal tag and the same total, which brings bytes of the hole
+/// What joins is a part with a strongly equal tag and the same total, which brings bytes of the hole
 /// from its start on and may be stored; and each such answer joins.
 pub fn joins_are_right()
     ensures { JoinsAreRight }

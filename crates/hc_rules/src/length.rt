@@ -8,6 +8,7 @@ ghost use Rattle.hc_rules.specs.LengthSoFar.{with_element, with_elements};
 
 use crate::need::{Route, route_of};
 use crate::range_text::content_range_of;
+use crate::status::brings_part;
 use hc_event::{Need, Request, Response};
 use hc_fields::Fields;
 use hc_range::ContentRange;
@@ -29,7 +30,7 @@ pub enum Length {
 /// What a head says to an exchange that was opened for this need, with this request.
 ///
 /// The answer to a HEAD, and the statuses 204 and 304, have no body. Else all elements of
-/// Content-Length are to be the same number (RFC 9110 section 8.6). A 206 that doesn't go past the
+/// Content-Length are to be the same number (RFC 9110 section 8.6). A part that doesn't go past the
 /// store has one readable Content-Range (section 14.4), with which Content-Length agrees.
 #[tactic(auto, unfolding(crate::specs::Lengths::length_of))]
 pub fn length_of(need: Need, request: &Request, response: &Response) -> Length
@@ -39,7 +40,7 @@ pub fn length_of(need: Need, request: &Request, response: &Response) -> Length
         return Length::Promised(0);
     }
     let said = content_length_of(&response.fields);
-    if response.status != 206 || route_of(need) == Route::Direct {
+    if !brings_part(response.status) || route_of(need) == Route::Direct {
         return said;
     }
     said.of_part(content_range_of(&response.fields))

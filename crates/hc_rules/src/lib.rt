@@ -14,6 +14,7 @@ mod reading;
 mod refusal;
 mod request;
 mod room;
+mod status;
 mod survivor;
 mod tag_text;
 
@@ -33,4 +34,5 @@ pub use reading::{ReadStep, ReadView, read_step};
 pub use refusal::{Gate, OpenExchange, exchange_refusal, refusal_of};
 pub use request::{RequestClass, Wanted, class_of, wanted_of};
 pub use room::{Limits, Room, SLOT_WEIGHT, Write, room_of, weight_of};
+pub use status::{brings_part, brings_whole};
 pub use survivor::{Member, survivor_at};

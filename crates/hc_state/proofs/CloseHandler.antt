@@ -1,6 +1,6 @@
 -- An exchange is closed that stops: the acts, and the tables that the rows represent.
 --
--- By `Stopping` it brought nothing that stays, or a 200 that can't be completed later; what is to be sealed is for
+-- By `Stopping` it brought nothing that stays, or a whole that can't be completed later; what is to be sealed is for
 -- `SealHandler`. In the first case what it founded is gone already, if anything, and letting that go changes nothing
 -- (`let_gone_is`). In the second that is let go before. Who starts over then reads nothing and waits for no head, so
 -- the exchange may still be closed (`stopped_going`). `has_left` says the same of a leave.
@@ -124,7 +124,7 @@ module _ {B : Type 0} {g : Ghosts B} (limits : Limits) (u : Rows B g) (t : Table
       by_test false off = quiet None (rw off refl) acts rows
       by_test true on = quiet (Some x) (rw on refl) acts (subst (RowsStand limits u) (sym (by_row (t.representation x) refl on)) rows)
 
-  -- a 200 that can't be completed later goes
+  -- a whole that can't be completed later goes
   stopped_gone : (r : Rows B g) → RowsStand limits r (let_go now x s) → KeepsRest r u → u.consumers ≡ r.consumers → exch.Becomes known.without_exchange x r.exchanges u.exchanges → GoesWith t x x stop.w → out ≡ before → HasStopped limits faults u t f before out now x
   stopped_gone r stands rest consumers becomes goes acts =
       quiet (Some x) (rw (goes.row, goes.unkept) refl) acts

@@ -1,7 +1,7 @@
 -- What an exchange that stops brought is what the event writes, where that is sealed.
 use Rattle.std.{proofs.{lemmas.Bool.Decides.{nat_tests}, Common.{arith, ◌≡◌, ◌≢◌, inl, inr, ℕ, List, [], ◌∷◌, Bool, true, false, Option, Some, None, refl, ap, sym, ◌∙◌}}, specs.Prelude.{is_some, nat_eq, not, ◌&&◌, ◌||◌, ◌==◌, if◌then◌else◌}}
 use Rattle.hc_text.proofs.Basics.{eq_tells, eqb-other, eqb-same, same_or}
-use Rattle.hc_effects.proofs.Vocabulary.{closes_in, is_unkeepable, going_with, Entry, family, ends_early, ends_founding, is_keepable, stops_early, Lawful, Tables, Exchange, Representation, Among, sealed_representation, seals_at, sealed_by, is_sealed, stops, first_found}
+use Rattle.hc_effects.proofs.Vocabulary.{brings_whole, closes_in, is_unkeepable, going_with, Entry, family, ends_early, ends_founding, is_keepable, stops_early, Lawful, Tables, Exchange, Representation, Among, sealed_representation, seals_at, sealed_by, is_sealed, stops, first_found}
 use Rattle.hc_effects.proofs.Tests.{none_some}
 
 found_only : (f : ℕ → Option ℕ) (x r : ℕ) (ys : List ℕ) → Among x ys → f x ≡ Some r → ((y : ℕ) → x ≢ y → f y ≡ None) → first_found f ys ≡ Some r
@@ -33,7 +33,7 @@ module _ (t : Tables) (law : Lawful t) (e : Entry) (x : ℕ) (w : Exchange) (r :
       founding (Some z) row = by_closing z.is_open (stops_early z r e.event || closes_in r e.acts) z row refl
 
       by_row : (z : Option Exchange) → t.exchange r ≡ z → (ends_early t e r v && not (is_keepable v)) ≡ false
-      by_row z row = by_tests (nat_eq v.head.status 200) (ends_founding e r (t.exchange r)) (not (is_keepable v)) ∙ founding (t.exchange r) refl
+      by_row z row = by_tests (brings_whole v.head.status) (ends_founding e r (t.exchange r)) (not (is_keepable v)) ∙ founding (t.exchange r) refl
 
   seals_here : seals_at t e x ≡ Some r
   unfolding is_keepable

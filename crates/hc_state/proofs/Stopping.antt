@@ -22,7 +22,7 @@ pub record IsApartNow (t : Tables) (x : ℕ) : Type 0 where
   pub apart : (q : ℕ) (p : Representation) → t.representation q ≡ Some p → p.is_gone ≡ false → brings_to q x (t.exchange x) ≡ false
   pub went : (p : Representation) → t.representation x ≡ Some p → is_unkeepable (Some p) ≡ true → p.is_gone ≡ true
 
--- a 200 that can't be completed later
+-- a whole that can't be completed later
 pub record GoesWith (t : Tables) (x q : ℕ) (w : Exchange) : Type 0 where
   pub here : q ≡ x
   pub founded : family x w ≡ x

@@ -1,5 +1,5 @@
 -- What a head founds, and who reads it.
-use Rattle.std.specs.Prelude.{◌≡◌, ℕ, ◌==◌, ◌||◌, not, IsTrue, List, bytes_eq, Bool, true, false, Option, Some, None, if◌then◌else◌}
+use Rattle.std.specs.Prelude.{◌≡◌, ℕ, ◌||◌, not, IsTrue, List, bytes_eq, Bool, true, false, Option, Some, None, if◌then◌else◌}
 use Rattle.http_header.specs.Token.{lowercase}
 use Rattle.hc_fields.specs.FieldList.{IsWithinLimits}
 use Rattle.hc_range.specs.declared.range.Asked.{Asked}
@@ -17,6 +17,7 @@ use Rattle.hc_rules.specs.declared.length.Length.{Length}
 use Rattle.hc_rules.specs.Lengths.{length_of, promise_of}
 use Rattle.hc_rules.specs.RangeTexts.{content_range_of}
 use Rattle.hc_rules.specs.Requests.{wanted_of}
+use Rattle.hc_rules.specs.Statuses.{brings_whole, brings_part}
 use Rattle.hc_store.specs.declared.backend.Backend.{Ghosts}
 use Rattle.hc_stored.specs.Entries.{shelf_of}
 use Rattle.hc_stored.specs.Kept as entry
@@ -40,9 +41,9 @@ use Rattle.hc_state.specs.Changes.{ChangesAt}
 
 -- WHAT MAY FOUND
 
--- a 200 or 206 with no more fields than a head from outside has
+-- it brings a whole or a part, with no more fields than a head from outside has
 pub record MayFound (response : Response) : Type 0 where
-  pub status : IsTrue (response.status == 200 || response.status == 206)
+  pub status : IsTrue (brings_whole response.status || brings_part response.status)
   pub within_limits : IsWithinLimits response.fields
 
 -- ITS HEAD
@@ -70,7 +71,7 @@ promise_by o response = promise_of (length_of o.need o.request response)
 -- the length of what it founds
 abbrev pub total_by : Open → Response → Option ℕ
 total_by o response =
-    if response.status == 206 then total_of_part (content_range_of response.fields)
+    if brings_part response.status then total_of_part (content_range_of response.fields)
     else promise_by o response
 
 -- all of it is there, where nothing is promised

@@ -25,6 +25,7 @@ use Rattle.hc_exch.specs.declared.row.Open.{Open}
 use Rattle.hc_event.specs.declared.place.BoundBy.{BoundBy}
 use Rattle.hc_event.specs.declared.place.BoundBy.TheVariants as by
 use Rattle.hc_event.specs.declared.place.Place.TheVariants as place
+use Rattle.hc_rules.specs.Statuses.{brings_part}
 use Rattle.hc_model.specs.Currents.{current, is_number}
 use Rattle.hc_model.specs.Reading.{is_bound_place}
 use Rattle.hc_model.specs.Rows as rows
@@ -72,7 +73,7 @@ waits_for_first table _ = false
 
 -- where it has a range, it is shown a part: not where it founded with the whole
 abbrev pub may_be_part : BoundBy → ℕ → Bool
-may_be_part by.Founding status = status == 206
+may_be_part by.Founding status = brings_part status
 may_be_part _ status = true
 
 abbrev pub is_part : RequestClass → BoundBy → ℕ → Bool

@@ -21,6 +21,7 @@ use Rattle.hc_state.specs.declared.stop.Readers.{Readers}
 use Rattle.hc_state.specs.declared.stop.Readers.TheVariants as readers
 use Rattle.hc_txn.specs.declared.transaction.Transaction.{Transaction as Consumer}
 use Rattle.hc_state.specs.Leaving.{writing_of}
+use Rattle.hc_rules.specs.Statuses.{brings_whole}
 
 abbrev pub body_of : Role → Option ℕ
 body_of (role.Body r) = Some r
@@ -36,9 +37,9 @@ abbrev pub may_complete : EntryView → Bool
 may_complete entry =
     entry.has_tag && is_some entry.total && nat_lt 0 entry.size && not entry.refuses_ranges
 
--- it goes with the 200 that founded it
+-- it goes with the whole answer that founded it
 abbrev pub goes_with : ℕ → ℕ → EntryView → Bool
-goes_with x r entry = x == r && entry.status == 200 && not (may_complete entry)
+goes_with x r entry = x == r && brings_whole entry.status && not (may_complete entry)
 
 abbrev pub stop_by : ℕ → ℕ → Option Kept → Stop
 stop_by x r None = stop.Nothing

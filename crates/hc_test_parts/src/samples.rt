@@ -25,6 +25,7 @@ impl Sample {
     }
 }
 
+#[tactic(auto, unfolding(hc_rules::specs::Statuses::brings_whole))]
 fn head(alloc: Global) -> Result<StoredHead, Fault>
     ensures { IfOk result (λ head. head.requested ≤ head.answered) }
 {

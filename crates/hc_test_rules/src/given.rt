@@ -98,6 +98,7 @@ pub(crate) fn is_yes(v: &Vector, at: usize) -> Result<bool, Fault> {
 
 /// A stored head that was asked for and came at these moments, with the fields at one place, and with those
 /// at another, if there is one, of the request that it is for.
+#[tactic(auto, unfolding(hc_rules::specs::Statuses::brings_whole))]
 pub(crate) fn head_of(
     v: &Vector,
     requested: u64,

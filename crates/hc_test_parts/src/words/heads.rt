@@ -2,6 +2,7 @@
 use crate::words::lists::lines_of;
 use hc_fields::Fields;
 use hc_record::{Kind, StoredHead, joining_tag, write_record};
+use hc_rules::{brings_part, brings_whole};
 use hc_test_frame::{Fault, Vector, fields_of, quote};
 use hc_text::NoMemory;
 
@@ -25,11 +26,12 @@ pub(crate) fn head_of(v: &Vector) -> Result<Option<StoredHead>, Fault> {
     let Some(kind) = kind_of(v.word(0)) else {
         return Ok(None);
     };
-    let status = match v.number(2) {
-        200 => 200,
-        206 => 206,
-        _ => return Ok(None),
+    let Ok(status) = u16::try_from(v.number(2)) else {
+        return Ok(None);
     };
+    if !brings_whole(status) && !brings_part(status) {
+        return Ok(None);
+    }
     let (total, requested, answered) = (v.option(1), v.number(3), v.number(4));
     if total.is_some_and(|n| n >= LIMIT) || requested >= LIMIT || answered >= LIMIT {
         return Ok(None);

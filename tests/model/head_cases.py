@@ -6,6 +6,7 @@ from etags import are_strongly_equal, one_strong_etag
 from fields import Fields
 from lengths import Length
 from ranges import resolved
+from statuses import brings_part, brings_whole
 from tables import Consumer, Exchange, Purpose, Representation
 from validation import selects
 
@@ -39,7 +40,7 @@ def is_storable(exchange: Exchange, status: int, fields: Fields) -> bool:
     """RFC 9111 section 3."""
     return (
         exchange.request.method == b"GET"
-        and status in (200, 206)
+        and (brings_whole(status) or brings_part(status))
         and not cache_control.of_request(exchange.request.fields).no_store
         and not cache_control.of_response(fields).no_store
     )
@@ -56,7 +57,7 @@ def _is_fit_to_found(consumer: Consumer, fields: Fields, length: Length) -> bool
 def joins(exchange: Exchange, stored: Representation, status: int, fields: Fields, length: Length) -> bool:
     """Whether a part belongs to the same body, and fills the hole from its front on."""
     return (
-        status == 206
+        brings_part(status)
         and are_strongly_equal(one_strong_etag(fields), stored.head.tag)
         and length.total is not None
         and length.total == stored.total
@@ -73,7 +74,7 @@ def _turn_case(consumer: Consumer, exchange: Exchange, current: Representation |
     if is_server_error(status):
         return HeadCase.TURN_SERVER_ERROR
     if is_storable(exchange, status, fields):
-        if status == 200:
+        if brings_whole(status):
             return HeadCase.FOUNDS_WHOLE
         if _is_fit_to_found(consumer, fields, length):
             return HeadCase.FOUNDS_RANGE
@@ -85,7 +86,7 @@ def _first_case(exchange: Exchange, stored: Representation, status: int, fields:
         return HeadCase.FIRST_JOINS
     if is_server_error(status):
         return HeadCase.FIRST_SERVER_ERROR
-    if status in (206, 304, 416):
+    if brings_part(status) or status in (304, 416):
         return HeadCase.FIRST_CHANGED
     return HeadCase.FIRST_REPLACED if is_storable(exchange, status, fields) else HeadCase.FIRST_PASSES_BY
 

@@ -7,6 +7,7 @@ from cache import Cache
 from events import Cancel
 from records import Record, line_of, numbers_of, read_record, text_of_record
 from schedule import Lines, NoTarget, OffGrammar, Refused, number, target
+from statuses import brings_whole
 from tables import MOST_BODY, MOST_STORED, Representation, Tables
 from validation import NOT_STORED
 
@@ -132,7 +133,7 @@ def _are_runs(item: Item, next_exchange: int) -> bool:
 def _is_fit_head(item: Item, now: int) -> bool:
     head = item.record.head
     is_told_anew = any(name in NOT_STORED for name, _ in head.fields)
-    return head.requested <= head.answered <= now and not is_told_anew and (head.status == 200 or head.tag is not None)
+    return head.requested <= head.answered <= now and not is_told_anew and (brings_whole(head.status) or head.tag is not None)
 
 
 def _is_fit(item: Item, contents: Contents) -> bool:

@@ -1,6 +1,7 @@
 """What the events share: who leaves, what is closed, what goes and what gives way."""
 from events import Act, Closed, Evicted
 from fields import all_elements
+from statuses import brings_whole
 from tables import MOST_BODY, MOST_STORED, Consumer, Exchange, Place, Representation, Tables
 
 
@@ -98,7 +99,7 @@ def finish(tables: Tables, exchange: Exchange) -> None:
         return
     if stored.shared == exchange.number:
         stored.shared = None
-    is_founder = stored.number == exchange.number and stored.head.status == 200
+    is_founder = stored.number == exchange.number and brings_whole(stored.head.status)
     if is_founder and not stored.is_whole and not _is_keepable(stored):
         let_go(tables, stored.number)
 

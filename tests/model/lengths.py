@@ -3,6 +3,7 @@ from dataclasses import dataclass
 
 from fields import Fields, all_elements, number_of, values
 from ranges import MOST, content_range_of
+from statuses import brings_part
 
 
 @dataclass(frozen=True)
@@ -43,7 +44,7 @@ def length_of(method: bytes, status: int, fields: Fields, is_past_store: bool) -
     """Of the answer to such a request; a part counts as one where what is stored is concerned."""
     if method == b"HEAD" or status in (204, 304):
         return Length(0, 0, 0)
-    if status == 206 and not is_past_store:
+    if brings_part(status) and not is_past_store:
         return _part(fields)
     declared = _declared(fields)
     return Length(0, declared, declared)

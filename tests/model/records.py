@@ -6,6 +6,7 @@ from fields import MOST_FIELD_BYTES, MOST_FIELDS, Fields, bytes_of, first_value
 from messages import StoredHead
 from report import text_of_fields
 from schedule import Lines, OffGrammar, field_of, number
+from statuses import brings_part, brings_whole
 
 MOST_ASKED, MOST_ASKED_BYTES = 80, 49_152
 UNKNOWN = b"-" * 20
@@ -66,6 +67,6 @@ def read_record(lines: Lines) -> Record:
     tag_line = line_of(lines) if version == b"record 2" else None
     asked_with = _fields(lines, asked, MOST_ASKED, MOST_ASKED_BYTES)
     head = StoredHead(status, _fields(lines, had, MOST_FIELDS, MOST_FIELD_BYTES), requested, answered, asked_with)
-    if status not in (200, 206) or tag_line is not None and tag_line != b"tag " + _tag_text(head):
+    if not (brings_whole(status) or brings_part(status)) or tag_line is not None and tag_line != b"tag " + _tag_text(head):
         raise OffGrammar
     return Record(kind_line[:1], total, head)

@@ -18,7 +18,7 @@ def is_direct(need):
 def is_storable(method, asked, status, fields):
     """The answer may be stored (RFC 9111 section 3)."""
     refuses = heads.has_directive(asked, b"no-store") or heads.has_directive(fields, b"no-store")
-    return method == "GET" and status in (200, 206) and not refuses
+    return method == "GET" and (heads.brings_whole(status) or heads.brings_part(status)) and not refuses
 
 
 def selects(stored, fields):
@@ -45,7 +45,7 @@ def fits_to_found(asked, fields):
 def joins(rep, hole, status, fields):
     """A 206 belongs to the stored body (RFC 9110 section 15.3.7.3)."""
     part = heads.part_of(fields)
-    if status != 206 or rep is None or rep.tag is None or rep.total is None or part is None:
+    if not heads.brings_part(status) or rep is None or rep.tag is None or rep.total is None or part is None:
         return False
     fits = part[2] == rep.total and part[0] == hole[0] and part[1] < hole[1]
     return fits and heads.strong_tag(fields) == rep.tag and not heads.has_directive(fields, b"no-store")
@@ -81,7 +81,7 @@ def turn_case(answer):
         return "Validated" if holds else "NotValidated"
     if answer.status >= 500:
         return "TurnServerError"
-    if answer.may_be_stored and answer.status == 200:
+    if answer.may_be_stored and heads.brings_whole(answer.status):
         return "FoundsWhole"
     if answer.may_be_stored and fits_to_found(answer.consumer.range, answer.fields):
         return "FoundsRange"
@@ -95,9 +95,9 @@ def first_case(answer):
         return "FirstJoins"
     if answer.status >= 500:
         return "FirstServerError"
-    if answer.status in (206, 304, 416):
+    if heads.brings_part(answer.status) or answer.status in (304, 416):
         return "FirstChanged"
-    return "FirstReplaced" if answer.may_be_stored and answer.status == 200 else "FirstPassesBy"
+    return "FirstReplaced" if answer.may_be_stored and heads.brings_whole(answer.status) else "FirstPassesBy"
 
 
 def later_case(answer):

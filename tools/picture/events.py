@@ -62,7 +62,7 @@ def let_go(step, exchange, current):
 
 def found(model, step, exchange, key):
     event = step.event
-    total = heads.part_of(event.fields)[2] if event.status == 206 else exchange.promise
+    total = heads.part_of(event.fields)[2] if heads.brings_part(event.status) else exchange.promise
     rep = Representation(exchange.x, exchange.key, step.n, event.status, event.fields, total)
     model.reps[exchange.x] = rep
     key.reps.append(exchange.x)

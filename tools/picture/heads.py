@@ -99,12 +99,22 @@ def declared_length(fields):
     return True, numbers.pop() if numbers else None
 
 
+def brings_whole(status):
+    """RFC 9110 section 15.3.1."""
+    return status == 200
+
+
+def brings_part(status):
+    """RFC 9110 section 15.3.7."""
+    return status == 206
+
+
 def length_of(takes_part, method, status, fields):
     """Where the body of an answer begins and how many bytes it has, or None for that; None where that is bad."""
     if method == "HEAD" or status in (204, 304):
         return 0, 0
     usable, declared = declared_length(fields)
-    if status == 206 and takes_part:
+    if brings_part(status) and takes_part:
         part = part_of(fields)
         if part is None or not usable or declared not in (None, part[1] + 1 - part[0]):
             return None

@@ -5,6 +5,7 @@ by the rules of docs/RULES.md.
 """
 import acts
 import events
+import heads
 from grammar import Unreadable
 from things import BODY, HEAD, READY, Key
 
@@ -141,7 +142,7 @@ class Model:
     def end_early(self, exchange, step, why):
         """What a 200 that breaks off founded is kept where it can be completed, and else goes."""
         rep = self.reps.get(exchange.x)
-        if rep is None or rep.gone or rep.status != 200 or exchange.over is not None:
+        if rep is None or rep.gone or not heads.brings_whole(rep.status) or exchange.over is not None:
             return
         if rep.is_keepable():
             rep.mark(step.n, "truncated", f"{rep.size} of {rep.total} bytes are kept, {why}")

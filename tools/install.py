@@ -43,7 +43,7 @@ def files():
 
 def places(copied):
     """All paths that are written, below the prefix, but the list of them."""
-    return sorted([*copied, COMMAND, *[PKG_CONFIG] * ("include/vosdrieng.h" in copied)])
+    return sorted([*copied, COMMAND, *[PKG_CONFIG, f"lib/{library.soname()}"] * ("include/vosdrieng.h" in copied)])
 
 
 def folders(paths):
@@ -65,6 +65,7 @@ def write(top, copied, prefix):
         (top / place).chmod(0o755 if os.access(path, os.X_OK) else 0o644)
     (top / COMMAND).symlink_to(f"../{SHARED}/vosdrieng")
     if PKG_CONFIG in places(copied):
+        (top / "lib" / library.soname()).symlink_to("libvosdrieng.so")
         (top / PKG_CONFIG).write_text(library.pkg_config(prefix, "${prefix}/include", "${prefix}/lib"))
 
 

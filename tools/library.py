@@ -42,6 +42,11 @@ def version():
     return re.search(r'VOSDRIENG_VERSION "([^"]*)"', HEADER.read_text()).group(1)
 
 
+def soname():
+    """The name by which programs load the shared library. Below 1.0.0 each version has its own."""
+    return f"libvosdrieng.so.{version()}"
+
+
 def pkg_config(prefix, include="${prefix}", lib="${prefix}"):
     return PKG_CONFIG.format(prefix=prefix, include=include, lib=lib, version=version())
 
@@ -53,7 +58,7 @@ def objects(archive, into):
 
 
 def link(archives, folder):
-    """One archive of all the objects, and a shared library of them."""
+    """One archive of all the objects, and a shared library of them, with a link to it by its soname."""
     with tempfile.TemporaryDirectory() as room:
         room = pathlib.Path(room)
         parts = [it for n, archive in enumerate(archives) for it in objects(archive, room / str(n))]
@@ -61,8 +66,10 @@ def link(archives, folder):
         names.write_text(NAMES)
         static.unlink(missing_ok=True)
         subprocess.run(["ar", "rcs", static, *parts], check=True)
-        words = ["gcc", "-shared", f"-Wl,--version-script={names}", "-Wl,--gc-sections", "-o", folder / "libvosdrieng.so"]
+        words = ["gcc", "-shared", f"-Wl,--version-script={names},-soname,{soname()},--gc-sections", "-o", folder / "libvosdrieng.so"]
         subprocess.run([*words, *parts], check=True)
+    (folder / soname()).unlink(missing_ok=True)
+    (folder / soname()).symlink_to("libvosdrieng.so")
 
 
 def main(words):

@@ -1,3 +1,4 @@
 pub mod FieldTests
 pub mod FieldReads
 pub mod Rooms
+pub mod Lengths

@@ -1,7 +1,8 @@
 //! Acts in numbers.
-ghost use Rattle.std.specs.Prelude.{◌≡◌, min, length, ◌+◌, ◌*◌, ◌^◌};
+ghost use Rattle.std.specs.Prelude.{◌≡◌, min, length, ◌+◌, ◌-◌, ◌*◌, ◌^◌};
 ghost use Rattle.hc_fields.specs.FieldList.{size_of};
-ghost use Rattle.hc_binary.specs.Numbers.{numbers_of, lines_length, opened_numbers, shown_numbers, sum_of};
+ghost use Rattle.hc_fields.specs.Lines.{fields_text};
+ghost use Rattle.hc_binary.specs.Numbers.{bytes_of, numbers_of, lines_length, opened_numbers, shown_numbers, sum_of};
 
 use crate::detail::{
     cause_detail, lost_detail, need_detail, refusal_detail, wait_detail, why_detail,
@@ -56,13 +57,16 @@ const NOTHING: ActNumbers = ActNumbers {
 
 /// How many bytes the lines of fields have.
 fn lines_length(fields: &Fields) -> u64
-    ensures { result ≡ lines_length fields.now }
+    ensures value { result ≡ lines_length fields.now }
+    ensures text { result ≡ length (fields_text fields.now) }
 {
     (fields.size() + 3 * fields.len()) as u64
 }
 
 fn opened_numbers(x: u64, c: u64, need: Need, request: &Request) -> ActNumbers
-    ensures { result ≡ opened_numbers x c need request.now }
+    ensures value { result ≡ opened_numbers x c need request.now }
+    ensures length { result.length
+        ≡ min (length (bytes_of (Act.Opened x c need request.now))) (2 ^ 64 - 1) }
 {
     let detail = need_detail(need);
     let method_length = request.method.bytes.len() as u64;
@@ -93,7 +97,9 @@ fn shown_numbers(
     lo: u64,
     hi: Option<u64>,
 ) -> ActNumbers
-    ensures { result ≡ shown_numbers c r why status fields.now lo hi }
+    ensures value { result ≡ shown_numbers c r why status fields.now lo hi }
+    ensures length { result.length
+        ≡ min (length (bytes_of (Act.Shown c r why status fields.now lo hi))) (2 ^ 64 - 1) }
 {
     let detail = why_detail(why);
     ActNumbers {
@@ -155,9 +161,10 @@ fn denied_numbers(refusal: Refusal) -> ActNumbers
     }
 }
 
-/// An act in numbers.
+/// An act in numbers. Its length is that of its bytes, or the largest number of 64 bits.
 pub fn numbers_of(act: &Act) -> ActNumbers
-    ensures { result ≡ numbers_of act.now }
+    ensures value { result ≡ numbers_of act.now }
+    ensures length { result.length ≡ min (length (bytes_of act.now)) (2 ^ 64 - 1) }
 {
     match act {
         Act::Opened {

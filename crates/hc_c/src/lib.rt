@@ -31,8 +31,8 @@ pub extern "C" fn vosdrieng_new(
 ) -> u32
     ensures done { result ≡ 0
         → IsBegun (record { max_entry = max_entry; max_total = max_total })
-        handle.new.slot.session }
-    ensures memory { result ≢ 0 → (result ≡ 2) × (handle.new.slot.session ≡ None) }
+        handle.new.pointer.session }
+    ensures memory { result ≢ 0 → (result ≡ 2) × (handle.new.pointer.session ≡ None) }
 {
     calls::new(
         alloc,
@@ -55,8 +55,8 @@ pub extern "C" fn vosdrieng_open(
 ) -> u32
     ensures done { result ≡ 0
         → IsOpened (record { max_entry = max_entry; max_total = max_total }) image.now
-        handle.new.slot.session }
-    ensures closed { result ≢ 0 → handle.new.slot.session ≡ None }
+        handle.new.pointer.session }
+    ensures closed { result ≢ 0 → handle.new.pointer.session ≡ None }
     ensures cause { result ≢ 0 → result ≢ 2
         → IsClosed (record { max_entry = max_entry; max_total = max_total }) image.now result }
 {
@@ -74,7 +74,7 @@ pub extern "C" fn vosdrieng_open(
 /// Lets the cache go. A handle without one is left so.
 #[unsafe(no_mangle)]
 pub extern "C" fn vosdrieng_free(alloc: Global, handle: &mut Handle)
-    ensures { handle.new.slot.session ≡ None }
+    ensures { handle.new.pointer.session ≡ None }
 {
     calls::free(alloc, handle)
 }
@@ -91,7 +91,7 @@ pub extern "C" fn vosdrieng_start(
     target: &[u8],
     fields: &[u8],
 ) -> u32
-    ensures { Comes handle.old.slot.session handle.new.slot.session now
+    ensures { Comes handle.old.pointer.session handle.new.pointer.session now
         (start_made c method.now mode target.now
         fields.now) result }
 {
@@ -118,7 +118,8 @@ pub extern "C" fn vosdrieng_poll(
     c: u64,
     want: u32,
 ) -> u32
-    ensures { Comes handle.old.slot.session handle.new.slot.session now (poll_made c want) result }
+    ensures { Comes handle.old.pointer.session handle.new.pointer.session now
+        (poll_made c want) result }
 {
     calls::poll(alloc, handle, now, c, want)
 }
@@ -126,7 +127,7 @@ pub extern "C" fn vosdrieng_poll(
 /// A consumer leaves.
 #[unsafe(no_mangle)]
 pub extern "C" fn vosdrieng_cancel(alloc: Global, handle: &mut Handle, now: u64, c: u64) -> u32
-    ensures { Comes handle.old.slot.session handle.new.slot.session now
+    ensures { Comes handle.old.pointer.session handle.new.pointer.session now
         (numbered c (event.Cancel c)) result }
 {
     calls::cancel(alloc, handle, now, c)
@@ -135,7 +136,7 @@ pub extern "C" fn vosdrieng_cancel(alloc: Global, handle: &mut Handle, now: u64,
 /// What is stored for a target is not to be used any more.
 #[unsafe(no_mangle)]
 pub extern "C" fn vosdrieng_doom(alloc: Global, handle: &mut Handle, now: u64, target: &[u8]) -> u32
-    ensures { Comes handle.old.slot.session handle.new.slot.session now
+    ensures { Comes handle.old.pointer.session handle.new.pointer.session now
         (doom_made target.now) result }
 {
     calls::doom(alloc, handle, now, target)
@@ -151,7 +152,7 @@ pub extern "C" fn vosdrieng_head(
     status: u32,
     fields: &[u8],
 ) -> u32
-    ensures { Comes handle.old.slot.session handle.new.slot.session now
+    ensures { Comes handle.old.pointer.session handle.new.pointer.session now
         (head_made x status fields.now) result }
 {
     calls::head(alloc, handle, now, x, status, fields)
@@ -166,7 +167,7 @@ pub extern "C" fn vosdrieng_piece(
     x: u64,
     bytes: &[u8],
 ) -> u32
-    ensures { Comes handle.old.slot.session handle.new.slot.session now
+    ensures { Comes handle.old.pointer.session handle.new.pointer.session now
         (piece_made x bytes.now) result }
 {
     calls::piece(alloc, handle, now, x, bytes)
@@ -175,7 +176,7 @@ pub extern "C" fn vosdrieng_piece(
 /// An exchange ended cleanly.
 #[unsafe(no_mangle)]
 pub extern "C" fn vosdrieng_end(alloc: Global, handle: &mut Handle, now: u64, x: u64) -> u32
-    ensures { Comes handle.old.slot.session handle.new.slot.session now
+    ensures { Comes handle.old.pointer.session handle.new.pointer.session now
         (numbered x (event.End x)) result }
 {
     calls::end(alloc, handle, now, x)
@@ -184,7 +185,7 @@ pub extern "C" fn vosdrieng_end(alloc: Global, handle: &mut Handle, now: u64, x:
 /// An exchange broke.
 #[unsafe(no_mangle)]
 pub extern "C" fn vosdrieng_fault(alloc: Global, handle: &mut Handle, now: u64, x: u64) -> u32
-    ensures { Comes handle.old.slot.session handle.new.slot.session now
+    ensures { Comes handle.old.pointer.session handle.new.pointer.session now
         (numbered x (event.Fault x)) result }
 {
     calls::fault(alloc, handle, now, x)
@@ -197,9 +198,10 @@ pub extern "C" fn vosdrieng_next_act(
     handle: &mut Handle,
     act: &mut ActNumbers,
 ) -> u32
-    ensures told { result ≡ 1 → HasNext handle.old.slot.session handle.new.slot.session act.new }
-    ensures none { result ≢ 1 → (result ≡ 0) × NoNext handle.old.slot.session
-        × (handle.new.slot.session ≡ handle.old.slot.session) × (act.new ≡ act.old) }
+    ensures told { result ≡ 1
+        → HasNext handle.old.pointer.session handle.new.pointer.session act.new }
+    ensures none { result ≢ 1 → (result ≡ 0) × NoNext handle.old.pointer.session
+        × (handle.new.pointer.session ≡ handle.old.pointer.session) × (act.new ≡ act.old) }
 {
     calls::next_act(alloc, handle, act)
 }
@@ -207,8 +209,8 @@ pub extern "C" fn vosdrieng_next_act(
 /// Copies the first of the bytes of the act that was told last, as many as fit, and says how many.
 #[unsafe(no_mangle)]
 pub extern "C" fn vosdrieng_act_bytes(alloc: Global, handle: &mut Handle, into: &mut [u8]) -> usize
-    ensures front { HoldsFront into.new result (bytes_in_handle handle.old.slot.session) }
-    ensures same { handle.new.slot.session ≡ handle.old.slot.session }
+    ensures front { HoldsFront into.new result (bytes_in_handle handle.old.pointer.session) }
+    ensures same { handle.new.pointer.session ≡ handle.old.pointer.session }
 {
     calls::act_bytes(alloc, handle, into)
 }
@@ -221,8 +223,8 @@ pub extern "C" fn vosdrieng_image(
     into: &mut [u8],
     len: &mut usize,
 ) -> u32
-    ensures image { ArePictured handle.old.slot.session into.new len.new result }
-    ensures stays { AllStay handle.old.slot.session handle.new.slot.session }
+    ensures image { ArePictured handle.old.pointer.session into.new len.new result }
+    ensures stays { AllStay handle.old.pointer.session handle.new.pointer.session }
 {
     calls::image(alloc, handle, into, len)
 }
@@ -235,20 +237,20 @@ pub extern "C" fn vosdrieng_faults(handle: &mut Handle) -> u64
     calls::faults(handle)
 }
 
-/// The moment of the last event, or of the image; 0 without a cache.
+/// The moment of the last event, or of the image; 0 without a cache, and where memory was refused.
 #[unsafe(no_mangle)]
 pub extern "C" fn vosdrieng_moment(alloc: Global, handle: &mut Handle) -> u64
-    ensures value { result ≡ moment_in handle.old.slot.session }
-    ensures same { handle.new.slot.session ≡ handle.old.slot.session }
+    ensures value { result ≡ moment_in handle.old.pointer.session }
+    ensures same { handle.new.pointer.session ≡ handle.old.pointer.session }
 {
     calls::moment(alloc, handle)
 }
 
-/// How many consumers are live; 0 without a cache.
+/// How many consumers are live; 0 without a cache, and where memory was refused.
 #[unsafe(no_mangle)]
 pub extern "C" fn vosdrieng_live(alloc: Global, handle: &mut Handle) -> u64
-    ensures value { result ≡ live_in_handle handle.old.slot.session }
-    ensures same { handle.new.slot.session ≡ handle.old.slot.session }
+    ensures value { result ≡ live_in_handle handle.old.pointer.session }
+    ensures same { handle.new.pointer.session ≡ handle.old.pointer.session }
 {
     calls::live(alloc, handle)
 }

@@ -1,4 +1,4 @@
--- The machine value of a `Slot`, and what it owns. Assumes `Logic`.
+-- The machine value of a `SessionPointer`, and what it owns. Assumes `Logic`.
 use Rattle.std.proofs.Common.{◌≡◌, ℕ, List, [], ◌∷◌, ◌++◌, refl, subst}
 use Rattle.std.specs.Prelude.{Option, Some, None, Bool, true, false}
 use lib.Dec.{T}
@@ -26,13 +26,13 @@ use Rattle.std.specs.contracts.boxed.Box as boxed
 use Rattle.std.specs.contracts.alloc.Global as global
 use Rattle.std.proofs.alloc.Global.TheLaws as global_laws
 use Rattle.std.specs.contracts.impls.GlobalAllocator.TheImpl as heap
-use Rattle.hc_handle.specs.Slots.{slot_owns, has_session}
+use Rattle.hc_handle.specs.Pointers.{pointer_owns, has_session}
 use Rattle.hc_handle.specs.contracts.session.Session as session
 use Rattle.hc_handle.proofs.session.Session.TheLaws as session_laws
-use Rattle.hc_handle.specs.contracts.slot.Slot as slot
+use Rattle.hc_handle.specs.contracts.pointer.SessionPointer as pointer
 
 abbrev pub S : RattleType
-S = slot.the_row
+S = pointer.the_row
 
 abbrev pub Boxed : RattleType
 Boxed = boxed.the_row session.the_row global.the_row heap.ghosts
@@ -76,23 +76,23 @@ pub word_good : (b o : ℕ) → T (has_ty (layout S) (word b o)) × WT (word b o
 word_good b o = (tt, (tt, tt))
 
 module _ {M : Type 1} {𝓤 : Ura M} {𝓛 : Logic 𝓤} {K : Type 0} {Γ : List (Item 𝓤)} {G : Goal 𝓤 𝓛.H} where
-  pub slot_out : K → (d : S.Denot) (vs : List Val) (x : R.Denot) → d.session ≡ Some x
+  pub pointer_out : K → (d : S.Denot) (vs : List Val) (x : R.Denot) → d.session ≡ Some x
       → ((b o : ℕ) → d.at ≡ block_ptr b o → vs ≡ word b o ∷ [] → Seq K 𝓛 (‵ (box_owns chunk R (block_ptr b o) x) ∷ Γ) G)
       → Seq K 𝓛 (‵ (S.own_val d vs) ∷ Γ) G
-  slot_out t d vs x is k =
+  pointer_out t d vs x is k =
       fsplit t $ fpick t (λ vss. fsplit t $ feq_l t (λ ev. fsplit t $ feq_l t (λ ep. drop t $
-      rewrite t 0 (λ (m : Option R.Denot). ‵ (slot_owns R d.at m)) is refl $
+      rewrite t 0 (λ (m : Option R.Denot). ‵ (pointer_owns R d.at m)) is refl $
       in_a_block t d.at (λ p. box_owns chunk R p x) (fst∗ 𝓤 (never 𝓤) (sem 𝓛 (chunk (bare (lone R.mir)) null_ptr))) (λ b o e. k b o e
       (subst (λ (p : Ptr). vs ≡ vstruct (of_list (ptr_val p ∷ [])) ∷ []) e
       (subst (λ (ps : List Val). vs ≡ vstruct (of_list (ps ++ [])) ∷ []) ep ev))))))
 
-  pub slot_in : K → (b o : ℕ) (x : R.Denot)
+  pub pointer_in : K → (b o : ℕ) (x : R.Denot)
       → Step K 𝓛 (‵ (S.own_val (record { at = block_ptr b o; session = Some x }) (word b o ∷ [])) ∷ Γ) G (‵ (box_owns chunk R (block_ptr b o) x) ∷ Γ) G
-  slot_in t b o x = step (λ s.
+  pointer_in t b o x = step (λ s.
       nothing t $ feq_i t (List Val) (vptr b o ∷ []) (vptr b o ∷ []) refl $ fjoin t $ feq_i t (List Val) (word b o ∷ []) (word b o ∷ []) refl $ fjoin t $
-      fpack t (Valss (RawPtr ∷ [])) (within (shape slot.the_type) (block_ptr b o, tt) (word b o ∷ [])) (vptr b o ∷ [], tt) $ fjoin t $ s)
+      fpack t (Valss (RawPtr ∷ [])) (within (shape pointer.the_type) (block_ptr b o, tt) (word b o ∷ [])) (vptr b o ∷ [], tt) $ fjoin t $ s)
 
-  pub slot_none : K → Step K 𝓛 (‵ (S.own_val (record { at = null_ptr; session = None }) (vstruct (vcons null vnil) ∷ [])) ∷ Γ) G Γ G
-  slot_none t = step (λ s.
+  pub pointer_none : K → Step K 𝓛 (‵ (S.own_val (record { at = null_ptr; session = None }) (vstruct (vcons null vnil) ∷ [])) ∷ Γ) G Γ G
+  pointer_none t = step (λ s.
       nothing t $ nothing t $ feq_i t (List Val) (null ∷ []) (null ∷ []) refl $ fjoin t $ feq_i t (List Val) (vstruct (vcons null vnil) ∷ []) (vstruct (vcons null vnil) ∷ []) refl $ fjoin t $
-      fpack t (Valss (RawPtr ∷ [])) (within (shape slot.the_type) (null_ptr, tt) (vstruct (vcons null vnil) ∷ [])) (null ∷ [], tt) $ fjoin t $ s)
+      fpack t (Valss (RawPtr ∷ [])) (within (shape pointer.the_type) (null_ptr, tt) (vstruct (vcons null vnil) ∷ [])) (null ∷ [], tt) $ fjoin t $ s)

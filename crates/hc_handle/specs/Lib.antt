@@ -1,4 +1,4 @@
-pub mod Slots
+pub mod Pointers
 pub mod Images
 pub mod Sessions
 pub mod Calls

@@ -25,9 +25,9 @@ fn code_of(answered: Result<(), Refused>) -> u32
 
 /// The session is put into a handle that has none.
 fn place(alloc: Global, handle: &mut Handle, session: Session) -> u32
-    requires { handle.old.slot.session ≡ None }
-    ensures done { result ≡ 0 → handle.new.slot.session ≡ Some session }
-    ensures memory { result ≢ 0 → (result ≡ 2) × (handle.new.slot.session ≡ None) }
+    requires { handle.old.pointer.session ≡ None }
+    ensures done { result ≡ 0 → handle.new.pointer.session ≡ Some session }
+    ensures memory { result ≢ 0 → (result ≡ 2) × (handle.new.pointer.session ≡ None) }
 {
     match Box::new(alloc, session) {
         Ok(session) => {
@@ -40,8 +40,8 @@ fn place(alloc: Global, handle: &mut Handle, session: Session) -> u32
 
 /// A cache that begins with nothing, in place of the one that the handle had.
 pub fn new(alloc: Global, handle: &mut Handle, limits: Limits) -> u32
-    ensures done { result ≡ 0 → IsBegun limits handle.new.slot.session }
-    ensures memory { result ≢ 0 → (result ≡ 2) × (handle.new.slot.session ≡ None) }
+    ensures done { result ≡ 0 → IsBegun limits handle.new.pointer.session }
+    ensures memory { result ≢ 0 → (result ≡ 2) × (handle.new.pointer.session ≡ None) }
 {
     drop(handle.take(alloc));
     match Session::new(alloc, limits) {
@@ -52,8 +52,8 @@ pub fn new(alloc: Global, handle: &mut Handle, limits: Limits) -> u32
 
 /// A cache that begins with what an image has, in place of the one that the handle had.
 pub fn open(alloc: Global, handle: &mut Handle, limits: Limits, image: &[u8]) -> u32
-    ensures done { result ≡ 0 → IsOpened limits image.now handle.new.slot.session }
-    ensures closed { result ≢ 0 → handle.new.slot.session ≡ None }
+    ensures done { result ≡ 0 → IsOpened limits image.now handle.new.pointer.session }
+    ensures closed { result ≢ 0 → handle.new.pointer.session ≡ None }
     ensures cause { result ≢ 0 → result ≢ 2 → IsClosed limits image.now result }
 {
     drop(handle.take(alloc));
@@ -65,7 +65,7 @@ pub fn open(alloc: Global, handle: &mut Handle, limits: Limits, image: &[u8]) ->
 
 /// Lets the cache go. A handle without one is left so.
 pub fn free(alloc: Global, handle: &mut Handle)
-    ensures { handle.new.slot.session ≡ None }
+    ensures { handle.new.pointer.session ≡ None }
 {
     drop(handle.take(alloc));
 }
@@ -74,7 +74,7 @@ pub fn free(alloc: Global, handle: &mut Handle)
 fn hand_in(alloc: Global, handle: &mut Handle, now: u64, given: Result<Event, Refused>) -> u32
     requires { IfOk given (λ e. IsEventWithinLimits e) }
     ensures { (made : Made) → Makes made given
-        → Comes handle.old.slot.session handle.new.slot.session now made result }
+        → Comes handle.old.pointer.session handle.new.pointer.session now made result }
 {
     let Some(mut session) = handle.take(alloc) else {
         return 1;
@@ -86,7 +86,7 @@ fn hand_in(alloc: Global, handle: &mut Handle, now: u64, given: Result<Event, Re
 
 /// A consumer begins with its request.
 pub fn start(alloc: Global, handle: &mut Handle, now: u64, c: u64, asked: Asked<'_>) -> u32
-    ensures { Comes handle.old.slot.session handle.new.slot.session now
+    ensures { Comes handle.old.pointer.session handle.new.pointer.session now
         (start_made c asked.entry.method.now asked.entry.mode asked.entry.target.now
         asked.entry.fields.now) result }
 {
@@ -95,14 +95,14 @@ pub fn start(alloc: Global, handle: &mut Handle, now: u64, c: u64, asked: Asked<
 
 /// A consumer asks for bytes.
 pub fn poll(alloc: Global, handle: &mut Handle, now: u64, c: u64, want: u32) -> u32
-    ensures { Comes handle.old.slot.session handle.new.slot.session now (poll_made c want) result }
+    ensures { Comes handle.old.pointer.session handle.new.pointer.session now (poll_made c want) result }
 {
     hand_in(alloc, handle, now, hc_binary::poll(c, want))
 }
 
 /// A consumer leaves.
 pub fn cancel(alloc: Global, handle: &mut Handle, now: u64, c: u64) -> u32
-    ensures { Comes handle.old.slot.session handle.new.slot.session now
+    ensures { Comes handle.old.pointer.session handle.new.pointer.session now
         (numbered c (event.Cancel c)) result }
 {
     hand_in(alloc, handle, now, hc_binary::cancel(c))
@@ -110,7 +110,7 @@ pub fn cancel(alloc: Global, handle: &mut Handle, now: u64, c: u64) -> u32
 
 /// What is stored for a target is not to be used any more.
 pub fn doom(alloc: Global, handle: &mut Handle, now: u64, target: &[u8]) -> u32
-    ensures { Comes handle.old.slot.session handle.new.slot.session now
+    ensures { Comes handle.old.pointer.session handle.new.pointer.session now
         (doom_made target.now) result }
 {
     hand_in(alloc, handle, now, hc_binary::doom(alloc, target))
@@ -118,7 +118,7 @@ pub fn doom(alloc: Global, handle: &mut Handle, now: u64, target: &[u8]) -> u32
 
 /// The head of an exchange came.
 pub fn head(alloc: Global, handle: &mut Handle, now: u64, x: u64, status: u32, fields: &[u8]) -> u32
-    ensures { Comes handle.old.slot.session handle.new.slot.session now
+    ensures { Comes handle.old.pointer.session handle.new.pointer.session now
         (head_made x status fields.now) result }
 {
     hand_in(
@@ -131,7 +131,7 @@ pub fn head(alloc: Global, handle: &mut Handle, now: u64, x: u64, status: u32, f
 
 /// Bytes of the body of an exchange came.
 pub fn piece(alloc: Global, handle: &mut Handle, now: u64, x: u64, bytes: &[u8]) -> u32
-    ensures { Comes handle.old.slot.session handle.new.slot.session now
+    ensures { Comes handle.old.pointer.session handle.new.pointer.session now
         (piece_made x bytes.now) result }
 {
     hand_in(alloc, handle, now, hc_binary::piece(alloc, x, bytes))
@@ -139,7 +139,7 @@ pub fn piece(alloc: Global, handle: &mut Handle, now: u64, x: u64, bytes: &[u8])
 
 /// An exchange ended cleanly.
 pub fn end(alloc: Global, handle: &mut Handle, now: u64, x: u64) -> u32
-    ensures { Comes handle.old.slot.session handle.new.slot.session now
+    ensures { Comes handle.old.pointer.session handle.new.pointer.session now
         (numbered x (event.End x)) result }
 {
     hand_in(alloc, handle, now, hc_binary::end(x))
@@ -147,7 +147,7 @@ pub fn end(alloc: Global, handle: &mut Handle, now: u64, x: u64) -> u32
 
 /// An exchange broke.
 pub fn fault(alloc: Global, handle: &mut Handle, now: u64, x: u64) -> u32
-    ensures { Comes handle.old.slot.session handle.new.slot.session now
+    ensures { Comes handle.old.pointer.session handle.new.pointer.session now
         (numbered x (event.Fault x)) result }
 {
     hand_in(alloc, handle, now, hc_binary::fault(x))
@@ -155,9 +155,9 @@ pub fn fault(alloc: Global, handle: &mut Handle, now: u64, x: u64) -> u32
 
 /// Tells the next act of the last event in numbers. 1 where there was one, and else 0.
 pub fn next_act(alloc: Global, handle: &mut Handle, act: &mut ActNumbers) -> u32
-    ensures told { result ≡ 1 → HasNext handle.old.slot.session handle.new.slot.session act.new }
-    ensures none { result ≢ 1 → (result ≡ 0) × NoNext handle.old.slot.session
-        × (handle.new.slot.session ≡ handle.old.slot.session) × (act.new ≡ act.old) }
+    ensures told { result ≡ 1 → HasNext handle.old.pointer.session handle.new.pointer.session act.new }
+    ensures none { result ≢ 1 → (result ≡ 0) × NoNext handle.old.pointer.session
+        × (handle.new.pointer.session ≡ handle.old.pointer.session) × (act.new ≡ act.old) }
 {
     let Some(mut session) = handle.take(alloc) else {
         return 0;
@@ -175,8 +175,8 @@ pub fn next_act(alloc: Global, handle: &mut Handle, act: &mut ActNumbers) -> u32
 
 /// Copies the first of the bytes of the act that was told last, as many as fit, and says how many.
 pub fn act_bytes(alloc: Global, handle: &mut Handle, into: &mut [u8]) -> usize
-    ensures front { HoldsFront into.new result (bytes_in_handle handle.old.slot.session) }
-    ensures same { handle.new.slot.session ≡ handle.old.slot.session }
+    ensures front { HoldsFront into.new result (bytes_in_handle handle.old.pointer.session) }
+    ensures same { handle.new.pointer.session ≡ handle.old.pointer.session }
 {
     let Some(session) = handle.take(alloc) else {
         return hc_binary::put(b"", into, 0);
@@ -188,8 +188,8 @@ pub fn act_bytes(alloc: Global, handle: &mut Handle, into: &mut [u8]) -> usize
 
 /// Copies the first bytes of the image of what the store has, as many as fit. `len` is how many it has.
 pub fn image(alloc: Global, handle: &mut Handle, into: &mut [u8], len: &mut usize) -> u32
-    ensures image { ArePictured handle.old.slot.session into.new len.new result }
-    ensures stays { AllStay handle.old.slot.session handle.new.slot.session }
+    ensures image { ArePictured handle.old.pointer.session into.new len.new result }
+    ensures stays { AllStay handle.old.pointer.session handle.new.pointer.session }
 {
     *len = 0;
     let Some(mut session) = handle.take(alloc) else {
@@ -215,8 +215,8 @@ pub fn faults(_handle: &mut Handle) -> u64
 
 /// The moment of the last event, or of the image; 0 without a cache.
 pub fn moment(alloc: Global, handle: &mut Handle) -> u64
-    ensures value { result ≡ moment_in handle.old.slot.session }
-    ensures same { handle.new.slot.session ≡ handle.old.slot.session }
+    ensures value { result ≡ moment_in handle.old.pointer.session }
+    ensures same { handle.new.pointer.session ≡ handle.old.pointer.session }
 {
     let Some(session) = handle.take(alloc) else {
         return 0;
@@ -228,8 +228,8 @@ pub fn moment(alloc: Global, handle: &mut Handle) -> u64
 
 /// How many consumers are live; 0 without a cache.
 pub fn live(alloc: Global, handle: &mut Handle) -> u64
-    ensures value { result ≡ live_in_handle handle.old.slot.session }
-    ensures same { handle.new.slot.session ≡ handle.old.slot.session }
+    ensures value { result ≡ live_in_handle handle.old.pointer.session }
+    ensures same { handle.new.pointer.session ≡ handle.old.pointer.session }
 {
     let Some(session) = handle.take(alloc) else {
         return 0;

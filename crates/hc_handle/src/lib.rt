@@ -4,5 +4,5 @@
 pub mod calls;
 pub mod handle;
 mod picture;
+pub mod pointer;
 pub mod session;
-pub mod slot;

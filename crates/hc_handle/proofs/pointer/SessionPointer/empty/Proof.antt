@@ -16,11 +16,11 @@ use denote.Signature.{types_at}
 use denote.Steps.{nothing}
 use denote.Triple.Walked.{Stays, walk_of}
 use Rattle.std.proofs.raw_atomic.Walks.{proved_at, leaves}
-use Rattle.hc_handle.proofs.Steps.{null, slot_none}
-use Rattle.hc_handle.specs.contracts.slot.Slot.empty.{ended, clauses}
-use Rattle.hc_handle.specs.contracts.slot.Slot.empty.Key.{name as #self}
-use Rattle.hc_handle.proofs.slot.Slot.empty.Statement.{statement}
-use Rattle.hc_handle.proofs.slot.Slot.empty.Code as code
+use Rattle.hc_handle.proofs.Steps.{null, pointer_none}
+use Rattle.hc_handle.specs.contracts.pointer.SessionPointer.empty.{ended, clauses}
+use Rattle.hc_handle.specs.contracts.pointer.SessionPointer.empty.Key.{name as #self}
+use Rattle.hc_handle.proofs.pointer.SessionPointer.empty.Statement.{statement}
+use Rattle.hc_handle.proofs.pointer.SessionPointer.empty.Code as code
 
 abbrev stayed : Stays ended.signature.params ended.kept
 stayed = tt
@@ -32,6 +32,6 @@ empty_spec {M} 𝓤 𝓛 𝓜 𝓡 w =
     let Post : Val → SProp 𝓤 = (walk_of 𝓛 ended stayed c).post z in
     qed 𝓛 ((‵ ftrue ⊛ ‵ (owns (types_at ended.signature.params z.0.0) z.0.3 z.0.4)) ∷ raw ((c z.0.0 z.0.3).requires z.1) ∷ []) ∵ drop ! $ drop ! $
     enter ! 𝓣.C 𝓣.Λ fn [] Post $ alloc_all ! (λ l. pass_all ! refl tt $
-    sets ! (agg ! (and_then ! (lit ! tt) (no_more !))) refl (tt, (record { fits = lit< tt }, tt)) $ slot_none ! $
+    sets ! (agg ! (and_then ! (lit ! tt) (no_more !))) refl (tt, (record { fits = lit< tt }, tt)) $ pointer_none ! $
     use0 𝓛 (raw (fact 𝓤 (None ≡ None))) (fact_i 𝓤 (None ≡ None) (emp 𝓤) refl) $ nothing ! $ nothing ! $ returns ! (look_at ! 0 refl) $ free_all ! refl $
     keep ! (0 ∷ 1 ∷ 3 ∷ 2 ∷ []) $ by ! (leaves 𝓛 ended stayed c z (vstruct (vcons null vnil)) (record { at = null_ptr; session = None }) tt tt)))

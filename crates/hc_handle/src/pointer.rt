@@ -1,7 +1,7 @@
 //! A session as its pointer.
 ghost use Rattle.std.specs.Prelude.{◌≡◌, Option, Some, None, true};
 ghost use Rattle.hc_handle.specs.declared.session.Session.{Session};
-ghost use Rattle.hc_handle.specs.Slots.{slot_code, has_session};
+ghost use Rattle.hc_handle.specs.Pointers.{session_code, has_session};
 
 use crate::session::Session;
 use std::alloc::Global;
@@ -10,33 +10,33 @@ use std::marker::Model;
 /// The pointer of a session, if there is one.
 #[repr(C)]
 #[derive(Drop)]
-pub struct Slot {
+pub struct SessionPointer {
     at: *mut u8,
-    pub ghost session: { Option Session } by { slot_code },
+    pub ghost session: { Option Session } by { session_code },
 }
 
-impl Model for Slot {
-    ghost use Rattle.hc_handle.specs.Slots.{slot_owns};
+impl Model for SessionPointer {
+    ghost use Rattle.hc_handle.specs.Pointers.{pointer_owns};
     ghost use Rattle.hc_handle.specs.contracts.session.Session.{the_row};
 
-    ghost also_owns = { λ s. slot_owns the_row s.at s.session };
+    ghost also_owns = { λ s. pointer_owns the_row s.at s.session };
 }
 
-impl Slot {
+impl SessionPointer {
     /// Of no session.
-    pub(crate) fn empty() -> Slot
+    pub(crate) fn empty() -> SessionPointer
         ensures { result.session ≡ None }
     {
-        Slot {
+        SessionPointer {
             at: std::ptr::null_mut(),
         }
     }
 
     /// Of this session.
-    pub(crate) fn of(session: Box<Session>) -> Slot
+    pub(crate) fn of(session: Box<Session>) -> SessionPointer
         ensures { result.session ≡ Some session.value }
     {
-        Slot {
+        SessionPointer {
             at: Box::into_raw(session) as *mut u8,
         }
     }
@@ -46,10 +46,10 @@ impl Slot {
         requires { has_session self.session ≡ true }
         ensures { self.session ≡ Some result.value }
     {
-        let Slot { at } = self;
+        let SessionPointer { at } = self;
         unsafe { Box::from_raw(alloc, at as *mut Session) }
     }
 }
 
-// The session is the slot's own, and a session may go to another thread.
-unsafe impl Send for Slot {}
+// The session is the pointer's own, and a session may go to another thread.
+unsafe impl Send for SessionPointer {}

@@ -38,13 +38,13 @@ use Rattle.std.proofs.alloc.Global.TheLaws as global_laws
 use Rattle.std.proofs.impls.GlobalAllocator.TheImpl.Met as heap_met
 use Rattle.std_alloc.specs.contracts.boxed.Box.into_raw as callee
 use Rattle.std_alloc.proofs.boxed.Box.into_raw.Met.{met}
-use Rattle.hc_handle.proofs.Steps.{R, Z, E, word, word_good, slot_in, Boxed}
+use Rattle.hc_handle.proofs.Steps.{R, Z, E, word, word_good, pointer_in, Boxed}
 use Rattle.hc_handle.proofs.Dropped.{drops, dropped}
 use Rattle.hc_handle.proofs.session.Session.TheLaws as session_laws
-use Rattle.hc_handle.specs.contracts.slot.Slot.of.{ended, clauses}
-use Rattle.hc_handle.specs.contracts.slot.Slot.of.Key.{name as #self}
-use Rattle.hc_handle.proofs.slot.Slot.of.Statement.{statement}
-use Rattle.hc_handle.proofs.slot.Slot.of.Code as code
+use Rattle.hc_handle.specs.contracts.pointer.SessionPointer.of.{ended, clauses}
+use Rattle.hc_handle.specs.contracts.pointer.SessionPointer.of.Key.{name as #self}
+use Rattle.hc_handle.proofs.pointer.SessionPointer.of.Statement.{statement}
+use Rattle.hc_handle.proofs.pointer.SessionPointer.of.Code as code
 
 abbrev stayed : Stays ended.signature.params ended.kept
 stayed = (stay_dropped (plain (λ _. Boxed)) yes, tt)
@@ -75,6 +75,6 @@ of_spec {M} 𝓤 𝓛 𝓜 𝓡 w =
     in_a_block ! r (λ p. box_owns chunk R p x) (fst∗ 𝓤 (never 𝓤) (sem 𝓛 (chunk (bare (lone R.mir)) null_ptr))) (λ b' o' e'.
     move ! (1 ∷ []) $ split ! $ drop ! $ feq_l ! (λ eu.
     lands_as ! (ap only (eu ∙ ap (λ (p : Ptr). ptr_val p ∷ []) e')) refl (tt, tt) $ sets ! (of_opd ! (get ! refl)) refl (tt, tt) $
-    sets ! (agg ! (and_then ! (get ! refl) (no_more !))) refl (word_good b' o') $ slot_in ! b' o' x $
+    sets ! (agg ! (and_then ! (get ! refl) (no_more !))) refl (word_good b' o') $ pointer_in ! b' o' x $
     use0 𝓛 (raw (fact 𝓤 (Some x ≡ Some x))) (fact_i 𝓤 (Some x ≡ Some x) (emp 𝓤) refl) $ nothing ! $ nothing ! $ fjoin ! $ nothing ! $ returns ! (look_at ! 0 refl) $ free_all ! refl $
     keep ! (0 ∷ 1 ∷ 3 ∷ 2 ∷ []) $ by ! (leaves 𝓛 ended stayed c z (word b' o') (record { at = block_ptr b' o'; session = Some x }) (_, tt) (_, tt))))))))))))

@@ -10,13 +10,13 @@ use Rattle.libc.specs.Heap.{chunk}
 use Rattle.hc_handle.specs.declared.session.Session.{Session}
 use Rattle.hc_handle.specs.contracts.session.Session.{the_row}
 
-abbrev pub slot_owns : (R : RattleType) → Ptr → Option R.Denot → Fml
-slot_owns R p None = ftrue
-slot_owns R p (Some x) = box_owns chunk R p x
+abbrev pub pointer_owns : (R : RattleType) → Ptr → Option R.Denot → Fml
+pointer_owns R p None = ftrue
+pointer_owns R p (Some x) = box_owns chunk R p x
 
 -- by which a proof tells such values apart
-abbrev pub slot_code : Coded (Option Session)
-slot_code = coded_option the_row.coded
+abbrev pub session_code : Coded (Option Session)
+session_code = coded_option the_row.coded
 
 abbrev pub has_session : Option Session → Bool
 has_session None = false

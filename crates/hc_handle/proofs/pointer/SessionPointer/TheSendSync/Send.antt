@@ -1,20 +1,19 @@
--- A slot may go to another thread, since a session may, and the heap frees a block on any thread.
+-- A pointer may go to another thread, since a session may, and the heap frees a block on any thread.
 use Rattle.std.specs.Prelude.{Option, Some, None}
 use mir.Raw.{raw}
 use base.Shift.{Keyless}
 use denote.Memory.{lone}
-use denote.RattleType.{RattleType}
 use denote.RawPtr.{Ptr}
 use denote.Param.Send.{IsSend, owning_send, sendable}
 use Rattle.std_alloc.proofs.SendSync.{lies}
 use Rattle.std.proofs.Crossing.{frees}
 use Rattle.std.specs.declared.alloc.Global.{Global}
-use Rattle.hc_handle.specs.Slots.{slot_owns}
+use Rattle.hc_handle.specs.Pointers.{pointer_owns}
 use Rattle.hc_handle.specs.contracts.session.Session as session
-use Rattle.hc_handle.specs.contracts.slot.Slot.{the_row, the_type}
+use Rattle.hc_handle.specs.contracts.pointer.SessionPointer.{the_row, the_type}
 use Rattle.hc_handle.proofs.session.Session.TheSendSync.{the_send}
 
-owns_keyless : (a : Global) (p : Ptr) (m : Option session.the_row.Denot) → Keyless (slot_owns session.the_row p m)
+owns_keyless : (a : Global) (p : Ptr) (m : Option session.the_row.Denot) → Keyless (pointer_owns session.the_row p m)
 owns_keyless a p None = tt
 owns_keyless a p (Some x) = (lies session.the_row the_send p x, frees.frees a (raw (lone session.the_row.mir)) p)
 

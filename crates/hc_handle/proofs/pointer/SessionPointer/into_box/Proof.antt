@@ -36,13 +36,13 @@ use Rattle.std.specs.contracts.alloc.Global as global
 use Rattle.std.proofs.impls.GlobalAllocator.TheImpl.Met as heap_met
 use Rattle.std_alloc.specs.contracts.boxed.Box.from_raw as callee
 use Rattle.std_alloc.proofs.boxed.Box.from_raw.Met.{met}
-use Rattle.hc_handle.proofs.Steps.{R, S, Z, E, word, word_good, slot_out, some_of}
-use Rattle.hc_handle.specs.Slots.{has_session}
+use Rattle.hc_handle.proofs.Steps.{R, S, Z, E, word, word_good, pointer_out, some_of}
+use Rattle.hc_handle.specs.Pointers.{has_session}
 use Rattle.hc_handle.proofs.session.Session.TheLaws as session_laws
-use Rattle.hc_handle.specs.contracts.slot.Slot.into_box.{ended, clauses}
-use Rattle.hc_handle.specs.contracts.slot.Slot.into_box.Key.{name as #self}
-use Rattle.hc_handle.proofs.slot.Slot.into_box.Statement.{statement}
-use Rattle.hc_handle.proofs.slot.Slot.into_box.Code as code
+use Rattle.hc_handle.specs.contracts.pointer.SessionPointer.into_box.{ended, clauses}
+use Rattle.hc_handle.specs.contracts.pointer.SessionPointer.into_box.Key.{name as #self}
+use Rattle.hc_handle.proofs.pointer.SessionPointer.into_box.Statement.{statement}
+use Rattle.hc_handle.proofs.pointer.SessionPointer.into_box.Code as code
 
 abbrev stayed : Stays ended.signature.params ended.kept
 stayed = (stay_dropped (plain (λ _. S)) yes, (stay_dropped (plain (λ _. global.the_row)) yes, tt))
@@ -58,7 +58,7 @@ into_box_spec {M} 𝓤 𝓛 𝓜 𝓡 wired =
     proved_at 𝓛 ended stayed c 𝓜 𝓡 (Goes-dropped 𝓛 0 (plain (λ _. S)) yes (λ κs x f. refl), (Goes-dropped 𝓛 0 (plain (λ _. global.the_row)) yes (λ κs x f. refl), tt)) #self fn (code.unfolded 𝓤 H 𝓜 𝓡 wired) (λ z are.
     let d = z.0.3.0 in let a = z.0.3.1.0 in let Post : Val → SProp 𝓤 = (walk_of 𝓛 ended stayed c).post z in let Run : List Val → SProp 𝓤 = λ ws. WpFn 𝓤 H 𝓣.C 𝓣.Λ fn ws Post in
     qed 𝓛 ((‵ ftrue ⊛ ‵ (owns (types_at ended.signature.params z.0.0) z.0.3 z.0.4)) ∷ raw (fact 𝓤 (has_session d.session ≡ true)) ∷ []) ∵ move ! (1 ∷ []) $ heard ! _ (λ has. let x = (some_of d.session has).0 in let is : d.session ≡ Some x = (some_of d.session has).1 in split ! $ drop ! $ fsplit ! $
-    slot_out ! d z.0.4.0 x is (λ b o e ws. move ! (1 ∷ []) $ fsplit ! $ handle_tells al ! a z.0.4.1.0 (λ h us fits.
+    pointer_out ! d z.0.4.0 x is (λ b o e ws. move ! (1 ∷ []) $ fsplit ! $ handle_tells al ! a z.0.4.1.0 (λ h us fits.
     let k = triple_of 𝓛 (callee.signature R Z al.g al.d al.drops) (callee.spec R Z al.g al.d al.drops 𝓛 𝓜.mem 𝓡.returns) in let B = box.B E in
     suffices ! (Run (word b o ∷ h ∷ [])) (subst (λ (vs : List Val). ent 𝓤 (Run (word b o ∷ h ∷ [])) (Run vs)) (sym (λ i. ws i ++ (us i ++ []))) (id⊢ 𝓤 (Run (word b o ∷ h ∷ [])))) $
     enter ! 𝓣.C 𝓣.Λ fn (word b o ∷ h ∷ []) Post $ alloc_all ! (λ l. pass_all ! refl (word_good b o, (fits, tt)) $ let Ev = env fn.locals l in

@@ -1,5 +1,5 @@
 -- What a call on a handle leads to: what the handle had and has, and the code that is answered.
-use Rattle.std.specs.Prelude.{◌≡◌, ◌≢◌, ℕ, true, List, [], Option, Some, None, Result, Ok, Err}
+use Rattle.std.specs.Prelude.{◌≡◌, ◌≢◌, ℕ, List, [], Option, Some, None, Result, Ok, Err}
 use Rattle.std.specs.List.{slice_get}
 use Rattle.hc_binary.specs.Events.{Made}
 use Rattle.hc_binary.specs.Refusals.{code_of}
@@ -9,7 +9,7 @@ use Rattle.hc_event.specs.Acts.{act_list}
 use Rattle.hc_rules.specs.declared.room.Limits.{Limits}
 use Rattle.hc_handle.specs.declared.session.Session.{Session}
 use Rattle.hc_handle.specs.Images.{Stays}
-use Rattle.hc_handle.specs.Sessions.{Begins, BeginsWith, IsUnopened, HasAnswered, HasImage, IsNext, refused_at, bytes_told, moment_of, live_of}
+use Rattle.hc_handle.specs.Sessions.{Begins, BeginsWith, IsUnopened, HasAnswered, HasImage, IsNext, IsSilent, refused_at, bytes_told, moment_told, live_told}
 
 -- CODES
 
@@ -34,13 +34,13 @@ abbrev pub AreAnswered : Option Session → Option Session → ℕ → Made → 
 AreAnswered (Some s) (Some u) now made = HasAnswered s u now made
 AreAnswered _ _ now made = ⊥
 
--- nothing is answered any more
+-- nothing is answered any more, and there is no act to tell
 abbrev pub IsSpent : Option Session → Type 0
-IsSpent (Some s) = s.spent ≡ true
+IsSpent (Some s) = IsSilent s
 IsSpent None = ⊥
 
--- What comes of an event at a moment, as it was made: at 0 it was answered. At 2 memory was refused, and nothing is answered any more.
--- Any other code is the one that is owed, and nothing has changed.
+-- What comes of an event at a moment, as it was made: at 0 it was answered. At 2 memory was refused: nothing is answered any more, and
+-- there is no act to tell. Any other code is the one that is owed, and nothing has changed.
 pub record Comes (s u : Option Session) (now : ℕ) (made : Made) (code : ℕ) : Type 0 where
   pub done : code ≡ 0 → AreAnswered s u now made
   pub owed : code ≢ 2 → code ≡ owed_code s now made
@@ -107,8 +107,8 @@ AllStay (Some s) (Some u) =
 
 abbrev pub moment_in : Option Session → ℕ
 moment_in None = 0
-moment_in (Some s) = moment_of s
+moment_in (Some s) = moment_told s
 
 abbrev pub live_in_handle : Option Session → ℕ
 live_in_handle None = 0
-live_in_handle (Some s) = live_of s
+live_in_handle (Some s) = live_told s

@@ -68,10 +68,14 @@ IsOwed (Some why) made e = e ≡ why
 IsOwed None (Err why) e = e ≡ why
 IsOwed None (Ok event) e = e ≡ refused.NoMemory
 
+-- nothing is answered any more, and there is no act to tell
+abbrev pub IsSilent : Session → Type 0
+IsSilent s = (s.spent ≡ true) × (act_list s.acts ≡ []) × (s.told ≡ 0)
+
 -- why it isn't: where memory was refused nothing is answered any more, and else nothing has changed
 pub record IsRefused (s u : Session) (now : ℕ) (made : Made) (e : Refused) : Type 0 where
   pub owed : IsOwed (refused_at s now) made e
-  pub spent : e ≡ refused.NoMemory → u.spent ≡ true
+  pub spent : e ≡ refused.NoMemory → IsSilent u
   pub kept : e ≢ refused.NoMemory → u ≡ s
 
 abbrev pub IsAnswered : Session → Session → ℕ → Made → Result (Unit {0}) Refused → Type 0
@@ -108,12 +112,19 @@ moment_of s = last_moment s.cache
 abbrev pub live_of : Session → ℕ
 live_of s = live_in s.cache
 
+-- what is told of them: 0 where memory was refused
+abbrev pub moment_told : Session → ℕ
+moment_told s = if s.spent then 0 else moment_of s
+
+abbrev pub live_told : Session → ℕ
+live_told s = if s.spent then 0 else live_of s
+
 -- what is told of an image, and what a room has of it
 abbrev pub HasImage : Session → List ℕ → Result ℕ Refused → Type 0
 HasImage s room (Ok len) =
-    (live_of s ≡ 0) × (image : List ℕ) × IsImageOf s.cache image × (len ≡ length image)
-    × ((n : ℕ) × HoldsFront room n image)
-HasImage s room (Err refused.Live) = 0 < live_of s
+    (s.spent ≡ false) × (live_of s ≡ 0) × (image : List ℕ) × IsImageOf s.cache image
+    × (len ≡ length image) × ((n : ℕ) × HoldsFront room n image)
+HasImage s room (Err refused.Live) = (s.spent ≡ false) × (0 < live_of s)
 HasImage s room (Err refused.NoMemory) = Unit {0}
 HasImage s room (Err _) = ⊥
 

@@ -95,7 +95,8 @@ pub fn start(alloc: Global, handle: &mut Handle, now: u64, c: u64, asked: Asked<
 
 /// A consumer asks for bytes.
 pub fn poll(alloc: Global, handle: &mut Handle, now: u64, c: u64, want: u32) -> u32
-    ensures { Comes handle.old.pointer.session handle.new.pointer.session now (poll_made c want) result }
+    ensures { Comes handle.old.pointer.session handle.new.pointer.session now
+        (poll_made c want) result }
 {
     hand_in(alloc, handle, now, hc_binary::poll(c, want))
 }
@@ -155,7 +156,8 @@ pub fn fault(alloc: Global, handle: &mut Handle, now: u64, x: u64) -> u32
 
 /// Tells the next act of the last event in numbers. 1 where there was one, and else 0.
 pub fn next_act(alloc: Global, handle: &mut Handle, act: &mut ActNumbers) -> u32
-    ensures told { result ≡ 1 → HasNext handle.old.pointer.session handle.new.pointer.session act.new }
+    ensures told { result ≡ 1
+        → HasNext handle.old.pointer.session handle.new.pointer.session act.new }
     ensures none { result ≢ 1 → (result ≡ 0) × NoNext handle.old.pointer.session
         × (handle.new.pointer.session ≡ handle.old.pointer.session) × (act.new ≡ act.old) }
 {
@@ -213,7 +215,7 @@ pub fn faults(_handle: &mut Handle) -> u64
     0
 }
 
-/// The moment of the last event, or of the image; 0 without a cache.
+/// The moment of the last event, or of the image; 0 without a cache, and where memory was refused.
 pub fn moment(alloc: Global, handle: &mut Handle) -> u64
     ensures value { result ≡ moment_in handle.old.pointer.session }
     ensures same { handle.new.pointer.session ≡ handle.old.pointer.session }
@@ -226,7 +228,7 @@ pub fn moment(alloc: Global, handle: &mut Handle) -> u64
     moment
 }
 
-/// How many consumers are live; 0 without a cache.
+/// How many consumers are live; 0 without a cache, and where memory was refused.
 pub fn live(alloc: Global, handle: &mut Handle) -> u64
     ensures value { result ≡ live_in_handle handle.old.pointer.session }
     ensures same { handle.new.pointer.session ≡ handle.old.pointer.session }

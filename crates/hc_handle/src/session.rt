@@ -1,7 +1,8 @@
 //! A cache, and what its last event led to.
-ghost use Rattle.std.specs.Prelude.{◌≡◌, ◌≢◌, [], Option, Some, None, true, false, IfOk, IfErr, IfSome, OnOk};
+ghost use Rattle.std.specs.Prelude.{◌≡◌, ◌≢◌, [], Option, Some, None, true, false, IfOk, IfErr, IfSome, OnOk, OnErr};
 ghost use Rattle.std.proofs.Props.{props};
 ghost use Rattle.hc_core.specs.Steps.{has_failed};
+ghost use Rattle.hc_event.specs.Acts.{act_list};
 
 use crate::picture::{begin_with, image_of, read_whole};
 use hc_binary::{ActNumbers, Refused, copy_act, numbers_of, put};
@@ -31,10 +32,12 @@ pub struct Session {
     /// How many of them were told.
     pub(crate) told: usize,
     ghost tied: { spent ≡ false → has_failed cache ≡ false } by { Prim.hlevel props },
+    ghost silent: { spent ≡ true → act_list acts ≡ [] } by { Prim.hlevel props },
+    ghost untold: { spent ≡ true → told ≡ 0 } by { Prim.hlevel props },
 }
 
 impl Session {
-    ghost use Rattle.hc_handle.specs.Sessions.{Begins, BeginsWith, IsUnopened, refused_at, IsAnswered, Answered, IsNext, bytes_told, IsCopied, moment_of, live_of};
+    ghost use Rattle.hc_handle.specs.Sessions.{Begins, BeginsWith, IsUnopened, refused_at, IsAnswered, Answered, IsNext, IsSilent, bytes_told, IsCopied, moment_told, live_told};
     ghost use Rattle.hc_event.specs.WithinLimits.{IsEventWithinLimits};
     ghost use Rattle.hc_binary.specs.Copies.{HoldsFront};
     ghost use Rattle.hc_binary.specs.declared.refused.Refused.TheVariants as refused;
@@ -71,7 +74,7 @@ impl Session {
     /// Why no event is answered at this moment, if none is.
     fn refusal(&self, now: u64) -> Option<Refused>
         ensures value { result ≡ refused_at self.now now }
-        ensures spent { result ≡ Some Refused.NoMemory → self.now.spent ≡ true }
+        ensures spent { result ≡ Some Refused.NoMemory → IsSilent self.now }
     {
         if self.spent {
             return Some(Refused::NoMemory);
@@ -87,7 +90,7 @@ impl Session {
 
     /// Memory was refused.
     fn spend(&mut self)
-        ensures { self.new.spent ≡ true }
+        ensures { IsSilent self.new }
     {
         self.spent = true;
         self.acts.clear();
@@ -119,7 +122,7 @@ impl Session {
         requires within_limits { IsEventWithinLimits event.now }
         ensures answered { OnOk result (Answered self.old self.new now event.now) }
         ensures memory { IfErr result (λ e. e ≡ Refused.NoMemory) }
-        ensures spent { IfErr result (λ _. self.new.spent ≡ true) }
+        ensures spent { OnErr result (IsSilent self.new) }
     {
         self.acts.clear();
         self.told = 0;
@@ -167,17 +170,23 @@ impl Session {
         Ok(image.len())
     }
 
-    /// The moment of the last event, or of the image.
+    /// The moment of the last event, or of the image; 0 where memory was refused.
     pub(crate) fn moment(&self) -> u64
-        ensures { result ≡ moment_of self.now }
+        ensures { result ≡ moment_told self.now }
     {
+        if self.spent {
+            return 0;
+        }
         self.cache.last_moment()
     }
 
-    /// How many consumers are live.
+    /// How many consumers are live; 0 where memory was refused.
     pub(crate) fn live(&self) -> u64
-        ensures { result ≡ live_of self.now }
+        ensures { result ≡ live_told self.now }
     {
+        if self.spent {
+            return 0;
+        }
         self.cache.live() as u64
     }
 }

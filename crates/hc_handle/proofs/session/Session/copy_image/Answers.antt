@@ -5,6 +5,7 @@ use Rattle.hc_handle.proofs.session.Session.copy_image.Goals as goal
 pub returns : goal.returns
 returns c = record {
   copied = (
+    c.if-self.false,
     omega (arith, c.live.ensures.kept, c.if-live-gt0.false),
     c.in_ok-image.image.items,
     c.in_ok-image.ensures.image,

@@ -77,9 +77,9 @@ typedef uint32_t vosdrieng_answer;
 #define VOSDRIENG_OK 0
 /* The handle has no cache: none was made, it was freed, or making it failed. */
 #define VOSDRIENG_NO_HANDLE 1
-/* Memory was refused. After an event was answered so, each later event is answered so too, and nothing is promised of acts and
-** images; vosdrieng_free works, and so does making a new cache with the handle. Where only vosdrieng_image was answered so, what the
-** cache has stays. */
+/* Memory was refused. After an event was answered so, each later event and vosdrieng_image are answered so too. Then no act is told, none
+** has bytes, and vosdrieng_moment and vosdrieng_live are 0. vosdrieng_free works, and so does making a new cache with the handle. Where
+** only vosdrieng_image was answered so, what the cache has stays. */
 #define VOSDRIENG_NO_MEMORY 2
 /* The cache has taken 2^59 events, or 2^60 bytes of pieces. */
 #define VOSDRIENG_EXHAUSTED 3
@@ -190,12 +190,11 @@ vosdrieng_answer vosdrieng_fault(vosdrieng_cache *cache, uint64_t now, uint64_t 
 ** ACTS
 **
 ** vosdrieng_next_act tells the next act of the last event that was answered OK, in order, and returns 1; or it returns 0, and
-** `act` is as it was: all were told, there was no event, or the handle has no cache. Behind an event that was answered NO_MEMORY
-** no act is to be carried out.
+** `act` is as it was: all were told, there was no event, an event was answered NO_MEMORY, or the handle has no cache.
 **
 ** vosdrieng_act_bytes copies the first `room` of the bytes of the act that was told last, or all where there are fewer, and returns
 ** how many it copied. They can be copied again until another act is told, or an event is answered OK or NO_MEMORY. act.length says how
-** many there are. Before an act is told there are none.
+** many there are. Before an act is told there are none, and none behind NO_MEMORY.
 **
 ** Neither needs memory. What an act doesn't have is 0.
 **
@@ -306,7 +305,7 @@ size_t vosdrieng_act_bytes(vosdrieng_cache *cache, uint8_t *into, size_t room);
 **
 ** vosdrieng_faults is how often the store failed. A store in memory never does: 0. So it is for a handle without a cache.
 ** vosdrieng_moment is the moment of the last event; before the first it is that of the image, or 0. vosdrieng_live is how many consumers
-** are live. Both are 0 without a cache.
+** are live. Both are 0 without a cache, and after an event was answered NO_MEMORY.
 */
 vosdrieng_answer vosdrieng_image(vosdrieng_cache *cache, uint8_t *into, size_t room, size_t *len);
 uint64_t vosdrieng_faults(vosdrieng_cache *cache);

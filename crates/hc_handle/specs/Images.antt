@@ -55,13 +55,15 @@ IsUnbegun limits contents _ = ⊥
 
 -- AN IMAGE IS MADE
 
--- The text is the image of what every history leaves that the cache stands for. A cache of the same limits may begin with it, unless
--- the number of the next exchange is above 2^60.
+-- The text is the image of what every history leaves that the cache stands for. A cache that may hold as much or more may begin with
+-- it, unless the number of the next exchange is above 2^60.
 pub record IsImageOf {B : Type 0} {g : Ghosts B} (s : Cache B g) (image : List ℕ) : Type 0 where
   pub contents : Contents
   pub image_is : image ≡ images.image_of contents
   pub left : (before : Contents) (h : History) → StandsFor s before h → contents ≡ contents_of (tables before h)
-  pub begins : contents.next_exchange ≤ 2 ^ 60 → may_begin (limits_in s) contents ≡ true
+  pub begins : contents.next_exchange ≤ 2 ^ 60 → (limits : Limits) →
+      (limits_in s).max_entry ≤ limits.max_entry → (limits_in s).max_total ≤ limits.max_total →
+      may_begin limits contents ≡ true
 
 -- the cache stands for the same histories
 pub record Stays {B : Type 0} {g : Ghosts B} (s u : Cache B g) : Type 0 where

@@ -299,8 +299,8 @@ size_t vosdrieng_act_bytes(vosdrieng_cache *cache, uint8_t *into, size_t room);
 ** WHAT THE STORE HAS
 **
 ** vosdrieng_image copies the first `room` bytes of the image of what the store has, or all where there are fewer; `len` is how many
-** the image has. Nobody may be live. vosdrieng_open makes a cache with it, with the same limits, unless 2^60 exchanges were
-** opened. Where `room` was too small, call again with more: each call makes the image anew. At any answer but OK `len` is 0.
+** the image has. Nobody may be live. vosdrieng_open makes a cache with it, with the same limits or larger ones, unless 2^60
+** exchanges were opened. Where `room` was too small, call again with more: each call makes the image anew. At any answer but OK `len` is 0.
 ** Answers: OK, NO_HANDLE, NO_MEMORY, LIVE.
 **
 ** vosdrieng_faults is how often the store failed. A store in memory never does: 0. So it is for a handle without a cache.

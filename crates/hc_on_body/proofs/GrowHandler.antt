@@ -211,7 +211,9 @@ module _ {B : Type 0} {g : Ghosts B} {limits : Limits} (r put : Rows B g) (t : T
       nobody = nobody;
       w = w;
       row = row_left;
+      opened = opened;
       headed = headed;
+      writes = writer_is;
       of_r = it.of_q;
       front_is = front_is;
     }

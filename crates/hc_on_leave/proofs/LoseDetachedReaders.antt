@@ -1,43 +1,28 @@
 -- Who goes on with what several read together is whom the tables name, and nothing is held for it yet.
 --
--- The tables name the least of those who are bound and stand where all that came ends. The code looks for the least in
--- a loop over who is bound (`takes_next`, `leaves_next`), and both lists have the same members (`members_in`). Since it
--- stands at the end, no byte of its exchange is left that isn't stored for it (`nothing_held`). `loses_shared` joins
--- these with `stands_parted` of `LoseParts` and the loss of the entry, for `lose_shared`.
-use Rattle.std.{proofs.{Common.{◌≡◌, inl, inr, ℕ, ◌+◌, ◌-◌, ◌<◌, ◌≤◌, List, [], ◌∷◌, ◌++◌, length, drop, take, get_or, min, Bool, true, false, cond, Option, Some, None, refl, ap, ap₂, sym, ◌∙◌, subst, arith}, lemmas.{Bool.{cases_Bool, Decides.{nat_tests}}, List.{append-nil, drop_all, take_more, Elements.{filter-append}}}}, specs.{Prelude.{is_some, is_none, nat_eq, filter, map, option_map, ◌&&◌, ◌||◌, ◌==◌, if◌then◌else◌}, HashMap.{get}}}
-use Rattle.hc_text.proofs.Basics.{eqb-same, false_true, same_some as same_row, and_off as then_false}
-use Rattle.hc_effects.proofs.Vocabulary.{Limits, Member, least, lesser, Place, is_number, is_live_place, if_bound, left_with, let_go, lost_to, with_representation, writing_lost, base, front, family, MayLetGo, bound, is_bound, is_bound_place, offset, lo_of, Tables, Exchange, Representation, survivor, member, offset_in, cause, place}
+-- The code tells the writer group where each member stands, and that answers its survivor. Whoever is bound is a member,
+-- and stands where the tables say (`placed_as`), so both name the least of the same consumers (`named`, `members_in`,
+-- `survivor_is`). Since it stands at the end, no byte of its exchange is left that isn't stored for it (`nothing_held`).
+-- `loses_shared` joins these with `stands_parted` of `LoseParts` and the loss of the entry, for `lose_shared`.
+use Rattle.std.{proofs.{Common.{◌≡◌, ℕ, ◌+◌, ◌-◌, ◌≤◌, ◌^◌, List, [], ◌∷◌, drop, min, Bool, true, false, Option, Some, None, refl, ap, ap₂, sym, ◌∙◌, subst, arith}, lemmas.{Bool.{Decides.{nat_tests}}, List.{drop_all}}}, specs.{Prelude.{is_some, is_none, nat_eq, filter, map, option_map, not, IfSome, ◌&&◌, ◌||◌, ◌==◌, if◌then◌else◌}, Option.{option_and_then}, HashMap.{get}}}
+use Rattle.hc_text.proofs.Basics.{eqb-same, false_true, or_right, same_some as same_row, some_inj as some_is, and_off as then_false}
+use Rattle.hc_effects.proofs.Vocabulary.{Limits, Member, Place, is_number, is_live_place, if_bound, left_with, let_go, writing_lost, base, front, family, MayLetGo, bound, is_bound, is_bound_place, offset, lo_of, Tables, Exchange, Representation, survivor, member, offset_in, cause, place}
+use Rattle.hc_effects.proofs.Tests.{none_some}
 use Rattle.hc_store.specs.declared.backend.Backend.{Ghosts}
-use Rattle.hc_stored.specs.{Entries.{shelf_of}, Kept.{Kept, itself}, Shelf.{is_kept}, Views.{bound_in}}
+use Rattle.hc_stored.specs.{declared.entries.Entries.{Entries}, Entries.{shelf_of}, Grouped.{group_of}, Groups.{HasMembers, IsGroupOf, exchange_of}, Kept.{Kept, itself, kept_as_lost}, Shelf.{is_kept}, Views.{bound_in}}
+use Rattle.hc_stored.specs.Shelf as shelf
 use Rattle.hc_entry.specs.Lines.{is_among}
 use Rattle.hc_sorted.specs.Sorted.{has}
-use Rattle.hc_rules.proofs.LeastFolds.{least-append}
 use Rattle.hc_rules.specs.Survivors as members
 use Rattle.hc_model.specs.Rows as rows
+use Rattle.hc_writers.specs.Writing.{Writing, consumer_of}
+use Rattle.hc_writers.specs.Writing as writing
 use Rattle.hc_effects.proofs.HoleLemmas.{first_from}
-use Rattle.hc_state.specs.{declared.{rows.Rows.{Rows}}, DetachedReaders.{ChangesEach, MayLoseShared, LosesShared, detached_reader_of, after_parting, stands_at}, Kept.{KeepsConsumer, unstored_bytes, held_alone, first_lacking}, Stands.{RowsStand}, Stopped.{HoldsNothing}, Stored.{IsEntry, KeepsEntry}}
+use Rattle.hc_state.specs.{declared.{rows.Rows.{Rows}}, Changes.{Numbered}, DetachedReaders.{ChangesEach, MayLoseShared, LosesShared, after_parting}, Kept.{KeepsConsumer, unstored_bytes, held_alone, first_lacking}, Stands.{RowsStand}, Stopped.{HoldsNothing}, Stored.{IsEntry, KeepsEntry, TellsWriter, as_written, forgotten, is_over}}
 use Rattle.hc_txn.specs.declared.transaction.Transaction.{Transaction as Consumer}
+use Rattle.hc_on_leave.specs.Telling.{placed, placed_among, told_among}
 use Rattle.hc_on_leave.proofs.LoseParts as parts
-use Rattle.hc_state.proofs.TurnTies.{least_alike, least_some, filter_in, among_in}
-
--- STEP BY STEP
-
--- the least of those that pass the test, with the next one
-least_step : (p : ℕ → Bool) (xs : List ℕ) (i d : ℕ) → i < length xs → least (filter p (take (i + 1) xs)) ≡ cond (p (get_or xs i d)) (lesser (least (filter p (take i xs))) (get_or xs i d)) (least (filter p (take i xs)))
-least_step p xs i d within =
-    let x = get_or xs i d in
-    let front = filter p (take i xs) in
-    let split : filter p (take (i + 1) xs) ≡ front ++ filter p (x ∷ []) = ap (filter p) (take_more xs i d within) ∙ filter-append p (take i xs) (x ∷ []) in
-    elim (cases_Bool (p x)) [
-      | inl passes ↦ rw (split, passes) (least-append front x)
-      | inr fails ↦ rw (split, fails) (ap least (append-nil front))
-    ]
-
-pub takes_next : (p : ℕ → Bool) (xs : List ℕ) (i d : ℕ) (so_far next : Option ℕ) → i < length xs → so_far ≡ least (filter p (take i xs)) → p (get_or xs i d) ≡ true → next ≡ lesser so_far (get_or xs i d) → next ≡ least (filter p (take (i + 1) xs))
-takes_next p xs i d so_far next within before passes is = rw (least_step p xs i d within, passes) (is ∙ ap (λ (o : Option ℕ). lesser o (get_or xs i d)) before)
-
-pub leaves_next : (p : ℕ → Bool) (xs : List ℕ) (i d : ℕ) (so_far next : Option ℕ) → i < length xs → so_far ≡ least (filter p (take i xs)) → p (get_or xs i d) ≡ false → next ≡ so_far → next ≡ least (filter p (take (i + 1) xs))
-leaves_next p xs i d so_far next within before fails is = rw (least_step p xs i d within, fails) (is ∙ before)
+use Rattle.hc_state.proofs.{Losing.{may_lost, stands_lost}, ReaderSteps.{stands_read}, TurnTies.{least_alike, least_some, filter_in, among_in}}
 
 -- WHO STANDS THERE
 
@@ -69,6 +54,38 @@ members_in t end c (d ∷ cs) = by_test (offset_in t (t.consumer d) == end) refl
     by_test true is rest = rw (is, rest) (swaps (nat_eq d c) (stood c) (is_among c cs) (λ on. ap stood (sym (eq_by on)) ∙ is))
     by_test false is rest = rw (is, rest) (drops (nat_eq d c) (stood c) (is_among c cs) (λ on. ap stood (sym (eq_by on)) ∙ is))
 
+-- who is named among those that stand there, where each stands as this says
+pub named : (f : Member → Member) (stood : ℕ → Bool) (end : ℕ) (all : List ℕ) → ((m : Member) → (f m).c ≡ m.c) → ((m : Member) → is_among m.c all ≡ true → members.stands_at end (f m) ≡ stood m.c)
+    → (c : ℕ) (ms : List Member) → ((n : ℕ) → is_among n (map consumer_of ms) ≡ true → is_among n all ≡ true) → is_among c (map consumer_of (filter (members.stands_at end) (map f ms))) ≡ (stood c && is_among c (map consumer_of ms))
+named f stood end all same stands c [] within = sym (then_false (stood c) false refl)
+named f stood end all same stands c (m ∷ ms) within = by_test (stood m.c) refl (named f stood end all same stands c ms (λ n on. within n (or_right (nat_eq m.c n) (is_among n (map consumer_of ms)) on)))
+  where
+    later : List ℕ
+    later = map consumer_of (filter (members.stands_at end) (map f ms))
+
+    rest : List ℕ
+    rest = map consumer_of ms
+
+    here : members.stands_at end (f m) ≡ stood m.c
+    here = stands m (within m.c (let one = eqb-same m.c in rw one refl))
+
+    eq_by : nat_eq m.c c ≡ true → m.c ≡ c
+    eq_by on = grind (arith, nat_tests, on)
+
+    swaps : (e b r : Bool) → (e ≡ true → b ≡ true) → (e || (b && r)) ≡ (b && (e || r))
+    swaps true true r same = refl
+    swaps true false r same = false_true (same refl)
+    swaps false b r same = refl
+
+    drops : (e b r : Bool) → (e ≡ true → b ≡ false) → (b && r) ≡ (b && (e || r))
+    drops e false r same = refl
+    drops true true r same = false_true (sym (same refl))
+    drops false true r same = refl
+
+    by_test : (b : Bool) → stood m.c ≡ b → is_among c later ≡ (stood c && is_among c rest) → is_among c (map consumer_of (filter (members.stands_at end) (map f (m ∷ ms)))) ≡ (stood c && is_among c (map consumer_of (m ∷ ms)))
+    by_test true is before = rw (here ∙ is, same m, before) (swaps (nat_eq m.c c) (stood c) (is_among c rest) (λ on. ap stood (sym (eq_by on)) ∙ is))
+    by_test false is before = rw (here ∙ is, before) (drops (nat_eq m.c c) (stood c) (is_among c rest) (λ on. ap stood (sym (eq_by on)) ∙ is))
+
 -- who is bound is listed
 pub bound_among : (t : Tables) (q c : ℕ) → MayLetGo t → is_among c (bound t q) ≡ is_bound q (t.consumer c)
 unfolding bound
@@ -80,21 +97,60 @@ survivor_among t q c v is = sym (members_in t v.reach c (bound t q)) ∙ (least_
 
 -- THE HEIR
 
+-- who is told keeps its number
+pub told_number : (consumers : Numbered Consumer) (cs : List ℕ) (m : Member) → (placed_among consumers cs m).c ≡ m.c
+told_number consumers cs m = by_test (has itself m.c cs) (get nat_eq consumers m.c)
+  where
+    by_test : (b : Bool) (o : Option Consumer) → (if b then placed m o else m).c ≡ m.c
+    by_test true None = refl
+    by_test true (Some k) = refl
+    by_test false o = refl
+
+pub told_numbers : (consumers : Numbered Consumer) (cs : List ℕ) (ms : List Member) → map consumer_of (map (placed_among consumers cs) ms) ≡ map consumer_of ms
+told_numbers consumers cs [] = refl
+told_numbers consumers cs (m ∷ ms) = ap₂ (λ (n : ℕ) (ns : List ℕ). n ∷ ns) (told_number consumers cs m) (told_numbers consumers cs ms)
+
 module _ {B : Type 0} {g : Ghosts B} {limits : Limits} (r : Rows B g) (t : Tables) (stands : RowsStand limits r t) (may : MayLetGo t) (q : ℕ) (v : Representation) (row : t.representation q ≡ Some v) (kept : v.is_lost ≡ false) (e : Kept) (there : (shelf_of r.entries).kept q ≡ Some e) where
   is : IsEntry t q e v
   is = subst (λ k. KeepsEntry t q k (Some v)) there (subst (KeepsEntry t q ((shelf_of r.entries).kept q)) row (stands.entries.each q))
 
-  stood_as : (c : ℕ) (o : Option Consumer) (k : Option rows.Consumer) → KeepsConsumer t o k → (stands_at v.reach o && is_bound q k) ≡ ((offset_in t k == v.reach) && is_bound q k)
-  stood_as c o k keeps = grind (arith, nat_tests)
+  abbrev stood : ℕ → Bool
+  stood c = offset_in t (t.consumer c) == v.reach
 
-  -- whom the code finds is the survivor
-  pub detached_reader_is : detached_reader_of r.consumers (Some e) ≡ survivor t q v
-  detached_reader_is = least_alike (filter (λ c. stands_at e.reach (get nat_eq r.consumers c)) e.bound) (map (λ (m : Member). m.c) (filter (members.stands_at v.reach) (map (member t) (bound t q)))) (λ c.
-      filter_in (λ d. stands_at e.reach (get nat_eq r.consumers d)) c e.bound
-      ∙ (ap₂ (λ (n : ℕ) (b : Bool). stands_at n (get nat_eq r.consumers c) && b) (is.reach kept) (is.bound c)
-      ∙ (stood_as c (get nat_eq r.consumers c) (t.consumer c) (stands.consumers c)
-      ∙ (ap (λ (b : Bool). (offset_in t (t.consumer c) == v.reach) && b) (sym (bound_among t q c may))
+  least_of : (a b n : ℕ) → a ≡ b → n ≤ 2 ^ 62 → (min a (2 ^ 64 - 1) == n) ≡ (b == n)
+  least_of a b n same within = grind (arith, nat_tests)
+
+  -- whoever is bound stands where the tables have it
+  placed_as : v.reach ≤ 2 ^ 62 → (m : Member) (o : Option Consumer) (k : Option rows.Consumer) → KeepsConsumer t o k → is_bound q k ≡ true → members.stands_at v.reach (placed m o) ≡ (offset_in t k == v.reach)
+  placed_as within m o None keeps on = false_true on
+  placed_as within m None (Some k) keeps on = by_place k.place keeps on
+    where
+      by_place : (p : Place) → is_live_place p ≡ false → is_bound_place q p ≡ true → members.stands_at v.reach (placed m None) ≡ (offset_in t (Some k) == v.reach)
+      by_place place.Over off there_on = false_true there_on
+      by_place place.Line off _ = false_true (sym off)
+      by_place (place.Passed n how) off _ = false_true (sym off)
+      by_place (place.Turn x) off _ = false_true (sym off)
+      by_place (place.Bound n lo hi how) off _ = false_true (sym off)
+      by_place (place.Direct x) off _ = false_true (sym off)
+      by_place (place.Down why) off _ = false_true (sym off)
+  placed_as within m (Some c) (Some k) keeps on = least_of (c.lo + c.given) (offset t k) v.reach (ap₂ (λ (a b : ℕ). a + b) keeps.begins keeps.given) within
+
+  -- whom the group answers is the survivor
+  pub survivor_is : (w : Writing) → HasMembers e.bound e.reach (told_among r.consumers e.bound w) → e.reach ≤ 2 ^ 62 → writing.survivor (told_among r.consumers e.bound w) ≡ survivor t q v
+  survivor_is w group within =
+      let reach : e.reach ≡ v.reach = is.reach kept in
+      let end : w.end ≡ v.reach = group.end ∙ reach in
+      let below : v.reach ≤ 2 ^ 62 = subst (λ (n : ℕ). n ≤ 2 ^ 62) reach within in
+      let numbers : map consumer_of w.members ≡ e.bound = sym (told_numbers r.consumers e.bound w.members) ∙ group.members in
+      least_alike (map consumer_of (filter (members.stands_at w.end) (map (placed_among r.consumers e.bound) w.members))) (map consumer_of (filter (members.stands_at v.reach) (map (member t) (bound t q)))) (λ c.
+      ap (λ (n : ℕ). is_among c (map consumer_of (filter (members.stands_at n) (map (placed_among r.consumers e.bound) w.members)))) end
+      ∙ (named (placed_among r.consumers e.bound) stood v.reach e.bound (told_number r.consumers e.bound) (here below) c w.members (λ n on. sym (ap (is_among n) numbers) ∙ on)
+      ∙ (ap (λ (ns : List ℕ). stood c && is_among c ns) numbers
+      ∙ (ap (λ (b : Bool). stood c && b) (is.bound c ∙ sym (bound_among t q c may))
       ∙ sym (members_in t v.reach c (bound t q))))))
+    where
+      here : v.reach ≤ 2 ^ 62 → (m : Member) → is_among m.c e.bound ≡ true → members.stands_at v.reach (placed_among r.consumers e.bound m) ≡ stood m.c
+      here below m on = ap (λ (b : Bool). members.stands_at v.reach (if b then placed m (get nat_eq r.consumers m.c) else m)) on ∙ (placed_as below m (get nat_eq r.consumers m.c) (t.consumer m.c) (stands.consumers m.c) (sym (is.bound m.c) ∙ on))
 
 -- NOTHING IS HELD FOR IT YET
 
@@ -159,22 +215,65 @@ module _ (t : Tables) (q x : ℕ) (v : Representation) (loses : MayLoseShared t 
 
 -- ALL OF IT
 
-pub loses_shared : {B : Type 0} {g : Ghosts B} {limits : Limits} (r mid u : Rows B g) (t : Tables) (now q x : ℕ) (v : Representation) (detached_reader : Option ℕ) → MayLoseShared t q x v → RowsStand limits r t → is_kept (shelf_of r.entries) q ≡ true → detached_reader ≡ detached_reader_of r.consumers ((shelf_of r.entries).kept q)
-    → mid.last_start ≡ r.last_start → mid.exchanges ≡ r.exchanges → mid.keys ≡ r.keys → mid.entries ≡ r.entries
-    → ChangesEach r.consumers mid.consumers (λ d. has itself d (bound_in ((shelf_of r.entries).kept q))) (after_parting detached_reader x (cause.StoreWrite q))
-    → ((limits : Limits) (s : Tables) (p : Representation) → MayLetGo s → s.representation q ≡ Some p → p.alone ≡ None → HoldsNothing s q p detached_reader → RowsStand limits mid s → RowsStand limits u (let_go now q (with_representation q (Some (lost_to detached_reader p)) s)))
-    → LosesShared limits u t now q x v detached_reader
-loses_shared {limits = limits} r mid u t now q x v detached_reader may stands there found last exchanges same_keys same_entries changes loses = by_kept ((shelf_of r.entries).kept q) refl there
+-- what is kept names the exchange that writes it
+writer_kept : (t : Tables) (x : ℕ) (w : Exchange) (mine told : Option ℕ) → TellsWriter t.exchange mine told → told ≡ Some x → t.exchange x ≡ Some w → w.is_open ≡ true → mine ≡ Some x
+writer_kept t x w mine told (as_written same) named row opened = same ∙ named
+writer_kept t x w mine told (forgotten y none at over) named row opened =
+    let one : y ≡ x = some_is y x (sym at ∙ named) in
+    let open_still : is_over (t.exchange y) ≡ not w.is_open = ap is_over (ap t.exchange one ∙ row) in
+    false_true (ap not (sym opened) ∙ (sym open_still ∙ over))
+
+bound_lost : (o : Option ℕ) (k : Option Kept) → bound_in (option_map (kept_as_lost o) k) ≡ bound_in k
+bound_lost o None = refl
+bound_lost o (Some k) = refl
+
+pub loses_shared : {B : Type 0} {g : Ghosts B} {limits : Limits} (r u : Rows B g) (told lost : Entries B g) (consumers : Numbered Consumer) (t : Tables) (now q x : ℕ) (v : Representation) (o : Option ℕ) → MayLoseShared t q x v → RowsStand limits r t → is_kept (shelf_of r.entries) q ≡ true
+    → shelf.Stays (shelf_of r.entries) (shelf_of told) → group_of told q ≡ option_map (told_among r.consumers (bound_in ((shelf_of r.entries).kept q))) (group_of r.entries q) → IfSome ((shelf_of told).kept q) (IsGroupOf (group_of told q))
+    → o ≡ option_and_then writing.survivor (group_of told q) → shelf.Becomes (option_map (kept_as_lost o)) shelf.same_order q (shelf_of told) (shelf_of lost)
+    → ChangesEach r.consumers consumers (λ d. has itself d (bound_in ((shelf_of lost).kept q))) (after_parting o x (cause.StoreWrite q))
+    → ((limits : Limits) (s : Tables) → MayLetGo s → RowsStand limits (record r { entries = lost; consumers = consumers }) s → RowsStand limits u (let_go now q s))
+    → LosesShared limits u t now q x v o
+loses_shared {B} {g} {limits} r u told lost consumers t now q x v o may stands there stays group grouped answer changed changes goes = by_kept ((shelf_of r.entries).kept q) refl there
   where
-    by_kept : (o : Option Kept) → (shelf_of r.entries).kept q ≡ o → is_some o ≡ true → LosesShared limits u t now q x v detached_reader
+    asked : Rows B g
+    asked = record r { entries = told }
+
+    parted : Rows B g
+    parted = record r { entries = told; consumers = consumers }
+
+    over : Rows B g
+    over = record r { entries = lost; consumers = consumers }
+
+    stood : RowsStand limits asked t
+    stood = stands_read r asked t refl refl refl refl stays stands
+
+    by_kept : (k : Option Kept) → (shelf_of r.entries).kept q ≡ k → is_some k ≡ true → LosesShared limits u t now q x v o
     by_kept None at on = false_true on
     by_kept (Some e) at on =
+        let now_at : (shelf_of told).kept q ≡ Some e = stays.kept q ∙ at in
         let entry : IsEntry t q e v = subst (λ k. KeepsEntry t q k (Some v)) at (subst (KeepsEntry t q ((shelf_of r.entries).kept q)) may.there (stands.entries.each q)) in
-        let same : detached_reader ≡ survivor t q v = found ∙ (ap (detached_reader_of r.consumers) at ∙ detached_reader_is r t stands may.may q v may.there may.kept e at) in
-        let alike : (d : ℕ) → has itself d (bound_in ((shelf_of r.entries).kept q)) ≡ is_bound q (t.consumer d) = λ d. ap (λ (k : Option Kept). has itself d (bound_in k)) at ∙ entry.bound d in
+        let of_group : IsGroupOf (group_of told q) e = subst (λ k. IfSome k (IsGroupOf (group_of told q))) now_at grouped in
+        let same : o ≡ survivor t q v = by_group e at entry of_group (group_of r.entries q) refl in
+        let z : Tables = writing_lost q o (Some x) t in
+        let lost_as : (shelf_of lost).kept q ≡ option_map (kept_as_lost o) ((shelf_of told).kept q) = changed.kept q ∙ rw (eqb-same q) refl in
+        let bound_as : bound_in ((shelf_of lost).kept q) ≡ e.bound = ap bound_in lost_as ∙ (bound_lost o ((shelf_of told).kept q) ∙ ap bound_in now_at) in
+        let alike : (d : ℕ) → has itself d (bound_in ((shelf_of lost).kept q)) ≡ is_bound q (t.consumer d) = λ d. ap (has itself d) bound_as ∙ entry.bound d in
+        let nothing : HoldsNothing z q v o = subst (λ (n : Option ℕ). HoldsNothing (writing_lost q n (Some x) t) q v n) (sym same) (nothing_held t q x v may) in
         record {
           detached_reader_is = same;
-          rows = loses _ (writing_lost q detached_reader (Some x) t) v (parts.may_part t q x detached_reader may.may) may.there may.nobody
-              (subst (λ (o : Option ℕ). HoldsNothing (writing_lost q o (Some x) t) q v o) (sym same) (nothing_held t q x v may))
-              (parts.stands_parted r mid t q x detached_reader v (λ d. has itself d (bound_in ((shelf_of r.entries).kept q))) stands may.there may.nobody last exchanges same_keys same_entries (λ d some. alike d) changes);
+          rows = goes _ _ (may_lost z q v o may.there (parts.may_part t q x o may.may))
+              (stands_lost parted over z q v o may.there
+              (parts.stands_parted asked parted t q x o v (λ d. has itself d (bound_in ((shelf_of lost).kept q))) stood may.there may.nobody refl refl refl refl (λ d some. alike d) changes)
+              may.nobody nothing refl refl refl refl changed (ap (λ k. is_some k) now_at));
         }
+      where
+        by_group : (e : Kept) → (shelf_of r.entries).kept q ≡ Some e → IsEntry t q e v → IsGroupOf (group_of told q) e → (w : Option Writing) → group_of r.entries q ≡ w → o ≡ survivor t q v
+        by_group e at entry of_group w was =
+            let mine : exchange_of (group_of told q) ≡ Some x = of_group.exchange ∙ writer_kept t x may.w e.writer v.writer entry.writer may.writes may.row may.opened in
+            by_told w (group ∙ ap₂ (λ (k : Option Kept) (n : Option Writing). option_map (told_among r.consumers (bound_in k)) n) at was) mine
+          where
+            by_told : (n : Option Writing) → group_of told q ≡ option_map (told_among r.consumers e.bound) n → exchange_of (group_of told q) ≡ Some x → o ≡ survivor t q v
+            by_told None told_as has_one = none_some x (sym (ap exchange_of told_as) ∙ has_one)
+            by_told (Some n) told_as has_one =
+                let members_are : HasMembers e.bound e.reach (told_among r.consumers e.bound n) = subst (λ (h : Option Writing). IfSome h (HasMembers e.bound e.reach)) told_as (of_group.members (entry.is_lost ∙ may.kept)) in
+                answer ∙ (ap (option_and_then writing.survivor) told_as ∙ survivor_is r t stands may.may q v may.there may.kept e at n members_are of_group.within)

@@ -14,6 +14,8 @@ use Rattle.hc_exch.specs.{Exchanges.{table_of}, Known.{length_by, is_open, witho
 use Rattle.hc_exch.specs.Exchanges as exch
 use Rattle.hc_model.specs.Owners as owners
 use Rattle.hc_model.specs.Rows as rows
+use Rattle.hc_model.specs.Exchanges as exchanges
+use Rattle.hc_model.specs.Reading.{is_open_writer}
 use Rattle.hc_effects.proofs.{FirstKeeps.{case_is}, FoundBy.{unchanged_founds}, KeysKeep.{current_row}, LettingGo.{may_let_go}, ExclusiveWriters.{writer_some}, PollKeeps.{current_stays}, UpdateEffects.{validated_lost}, WrittenEffects.{validated_lost_written}, Tests.{none_some}}
 use Rattle.hc_state.specs.{declared.rows.Rows.{Rows}, Facts.{Facts}, Heads.{IsUnread, unless_over}, DetachedReaders.{MayLoseShared, LosesWriting, shared_loss}, Kept.{unstored_bytes}, Leaving.{writing_of}, Stands.{Answered, KeepsRest, RowsStand}, Stopped.{HoldsNothing, NobodyAwaits}}
 use Rattle.hc_state.proofs.{Answering.{lossy_answered}, Fallbacks.{unstored_moved}, Closing.{stands_unstored}, Counting.{stands_counted}, CurrentTies.{stays_stored}, LeftRows.{writing_as}, Maps.{act_and}, TurnTies.{least_alike}}
@@ -223,6 +225,14 @@ module _ {B : Type 0} {g : Ghosts B} {limits : Limits} (r second : Rows B g) (t 
     grown : (z : Exchange) × IsGrowing t q v y z
     grown = grows r t facts stands q v there y writing
 
+    opened : grown.0.is_open ≡ true
+    unfolding is_written
+    opened = sym (ap (is_open_writer t) writer ∙ ap exchanges.is_open grown.1.row) ∙ later (not v.is_lost) (is_open_writer t v.writer) on
+      where
+        later : (a b : Bool) → (a && b) ≡ true → b ≡ true
+        later true b both = both
+        later false b both = false_true both
+
     -- it isn't the one whose head came
     pub other : x ≢ y
     other e =
@@ -237,7 +247,9 @@ module _ {B : Type 0} {g : Ghosts B} {limits : Limits} (r second : Rows B g) (t 
       nobody = nobody;
       w = grown.0;
       row = rw (eqb-other x y other) grown.1.row;
+      opened = opened;
       headed = grown.1.headed;
+      writes = writer;
       of_r = grown.1.family_is;
       front_is = grown.1.front_is;
     }

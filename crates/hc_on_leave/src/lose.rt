@@ -1,28 +1,33 @@
 //! What is lost while it is written for several.
-ghost use Rattle.std.specs.Prelude.{◌≡◌, ◌+◌, ◌≤◌, ◌<◌, ◌++◌, ◌∷◌, [], true, None, nat_eq, Ok, Some, IfOk, OnErr};
-ghost use Rattle.std.specs.HashMap.{get};
+ghost use Rattle.std.specs.Prelude.{◌≡◌, ◌+◌, ◌≤◌, ◌++◌, ◌∷◌, [], true, Some, option_map, IfOk, OnErr};
 ghost use Rattle.hc_event.specs.Acts.{act_list, spare};
 ghost use Rattle.hc_event.specs.declared.act.Act.TheVariants as act;
 ghost use Rattle.hc_stored.specs.Entries.{shelf_of};
-ghost use Rattle.hc_stored.specs.Shelf.{is_kept};
+ghost use Rattle.hc_stored.specs.Shelf.{is_kept, Stays};
 ghost use Rattle.hc_exch.specs.Exchanges.{table_of};
 ghost use Rattle.hc_exch.specs.Known.{is_open};
 ghost use Rattle.hc_model.specs.Rows.{Tables, Representation};
 ghost use Rattle.hc_rules.specs.declared.room.Limits.{Limits};
-ghost use Rattle.hc_state.specs.DetachedReaders.{detached_reader_of, stands_at, MayLoseShared, LosesShared, LosesWriting};
+ghost use Rattle.hc_state.specs.DetachedReaders.{MayLoseShared, LosesShared, LosesWriting};
 ghost use Rattle.hc_state.specs.Stands.{RowsStand};
 ghost use Rattle.hc_event.specs.declared.act.LostKind.{LostKind};
 ghost use Rattle.hc_store.specs.declared.error.StoreError.TheVariants as errors;
 ghost use Rattle.hc_state.specs.Room.{loss_by};
 ghost use Rattle.hc_on_leave.specs.Leaves.{KeepsAround};
+ghost use Rattle.hc_on_leave.specs.Telling.{told_among};
+ghost use Rattle.hc_stored.specs.Grouped.{group_of};
+ghost use Rattle.hc_stored.specs.Views.{bound_in};
 
+use crate::acts::put;
 use crate::close::close;
-use crate::seal::lose_to;
-use hc_event::{Acts, Cause, LostKind};
-use hc_rules::lesser;
+use crate::evict::let_go;
+use hc_event::{Act, Acts, Cause, LostKind};
 use hc_state::{Rows, part};
 use hc_store::{Backend, StoreError};
+use hc_stored::Entries;
 use hc_text::NoMemory;
+use hc_txn::Transaction;
+use std::collections::HashMap;
 
 /// A write of what the exchange writes for several was refused. Where one of them has read all
 /// that is stored, it goes on alone with the exchange; to each other a failure is due. Who goes
@@ -43,17 +48,19 @@ pub fn lose_shared<B: Backend>(
     ensures room { spare out.new + 1 ≡ spare out.old }
     ensures around { KeepsAround rows.old rows.new }
 {
-    let detached_reader = detached_reader(rows, r);
+    tell_offsets(&mut rows.entries, &rows.consumers, r);
+    let survivor = rows.entries.lose_shared(r);
     let cause = Cause::StoreWrite(r);
     part(
         &mut rows.consumers,
         rows.entries.bound(r),
-        detached_reader,
+        survivor,
         x,
         cause,
     );
-    lose_to(rows, now, r, detached_reader, kind, out);
-    detached_reader
+    put(out, Act::Lost { r, kind });
+    let_go(rows, now, r);
+    survivor
 }
 
 /// The same, and the exchange is closed where nobody goes on with it.
@@ -78,27 +85,20 @@ pub fn lose_writing<B: Backend>(
     }
 }
 
-/// The least of those who read the representation together that has read all that is stored.
-fn detached_reader<B: Backend>(rows: &Rows<B>, r: u64) -> Option<u64>
-    ensures { result ≡ detached_reader_of rows.now.consumers ((shelf_of rows.now.entries).kept r) }
+/// The writer group of the representation is told where each of its members stands.
+fn tell_offsets<B: Backend>(entries: &mut Entries<B>, consumers: &HashMap<u64, Transaction>, r: u64)
+    ensures stays { Stays (shelf_of entries.old) (shelf_of entries.new) }
+    ensures faults { (shelf_of entries.new).faults ≡ (shelf_of entries.old).faults }
+    ensures told { group_of entries.new r ≡ option_map
+        (told_among consumers.now (bound_in ((shelf_of entries.old).kept r)))
+        (group_of entries.old r) }
 {
-    let end = rows.entries.entry(r)?.reach;
-    let mut detached_reader = None;
-    for c in rows.entries.bound(r) {
-        if stands_at(rows, *c, end) {
-            detached_reader = lesser(detached_reader, *c);
+    for i in 0..entries.bound(r).len() {
+        let c = entries.bound(r)[i];
+        if let Some(consumer) = consumers.get(&c) {
+            let offset = consumer.lo.saturating_add(consumer.given);
+            entries.tell(r, c, offset);
         }
-    }
-    detached_reader
-}
-
-/// Whether the consumer is live, and stands there.
-fn stands_at<B: Backend>(rows: &Rows<B>, c: u64, end: u64) -> bool
-    ensures { result ≡ stands_at end (get nat_eq rows.now.consumers c) }
-{
-    match rows.consumers.get(&c) {
-        Some(consumer) => consumer.stands_at(end),
-        None => false,
     }
 }
 

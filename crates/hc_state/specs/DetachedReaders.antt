@@ -29,19 +29,6 @@ use Rattle.hc_txn.specs.Transactions.{with_due, with_own}
 use Rattle.hc_state.specs.Facts.{Facts}
 use Rattle.hc_state.specs.Stands.{Answered, RowsStand}
 
--- WHO GOES ON
-
--- it is live, and stands at this position
-abbrev pub stands_at : ℕ → Option Consumer → Bool
-stands_at end None = false
-stands_at end (Some k) = k.lo + k.given == end
-
--- the least of those who are bound that stands where the last byte ends
-abbrev pub detached_reader_of : Numbered Consumer → Option Kept → Option ℕ
-detached_reader_of consumers None = None
-detached_reader_of consumers (Some k) =
-    least (filter (λ c. stands_at k.reach (get nat_eq consumers c)) k.bound)
-
 -- WHAT BECOMES OF THEM
 
 -- the detached reader has the exchange for its own, and to each other this failure is due
@@ -66,7 +53,9 @@ pub record MayLoseShared (t : Tables) (r x : ℕ) (v : Representation) : Type 0 
   pub nobody : v.alone ≡ None
   pub w : Exchange
   pub row : t.exchange x ≡ Some w
+  pub opened : w.is_open ≡ true
   pub headed : is_some w.head ≡ true
+  pub writes : v.writer ≡ Some x
   pub of_r : family x w ≡ r
   pub front_is : front w ≡ v.reach
 

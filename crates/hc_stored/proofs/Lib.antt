@@ -1,4 +1,5 @@
 pub mod GroupLemmas
+pub mod GroupTies
 pub mod OrderLemmas
 pub mod ElementLemmas
 pub mod ShelfLemmas

@@ -1,6 +1,7 @@
 -- The writer group of a representation, beside who is bound to that.
-use Rattle.std.specs.Prelude.{◌≡◌, ℕ, List, map, Bool, true, false, Option, Some, None, option_map, IfSome, if◌then◌else◌}
+use Rattle.std.specs.Prelude.{◌≡◌, ℕ, ◌≤◌, ◌^◌, List, map, Bool, true, false, Option, Some, None, option_map, IfSome, if◌then◌else◌}
 use Rattle.hc_writers.specs.Writing.{Writing, consumer_of, is_member, joined_by, moved_to, without_member}
+use Rattle.hc_stored.specs.Kept.{Kept}
 
 abbrev pub exchange_of : Option Writing → Option ℕ
 exchange_of group = option_map (λ (w : Writing). w.exchange) group
@@ -28,3 +29,9 @@ pub record HasMembers (bound : List ℕ) (reach : ℕ) (w : Writing) : Type 0 wh
 -- until it is lost
 abbrev pub IsGrouped : Bool → List ℕ → ℕ → Option Writing → Type 0
 IsGrouped lost bound reach group = lost ≡ false → IfSome group (HasMembers bound reach)
+
+-- what is kept of a representation names the exchange of its group, and whoever is bound is a member
+pub record IsGroupOf (group : Option Writing) (k : Kept) : Type 0 where
+  pub exchange : exchange_of group ≡ k.writer
+  pub members : IsGrouped k.is_lost k.bound k.reach group
+  pub within : k.reach ≤ 2 ^ 62

@@ -1,4 +1,5 @@
 //! What is kept of a representation beside its slot.
+ghost use Rattle.std.specs.Prelude.{◌≤◌, ◌^◌};
 ghost use Rattle.std.proofs.Props.{props};
 ghost use Rattle.hc_stored.specs.Groups.{IsGrouped};
 
@@ -28,5 +29,6 @@ pub(crate) struct Entry {
     pub(crate) alone: Option<u64>,
     /// It isn't used for a new consumer any more.
     pub(crate) gone: bool,
+    ghost within: { reach ≤ 2 ^ 62 },
     ghost grouped: { IsGrouped lost bound.items reach writers } by { Prim.hlevel props },
 }

@@ -1,5 +1,5 @@
 //! Who is bound to representations, and what becomes of them.
-ghost use Rattle.std.specs.Prelude.{◌≡◌, ℕ, true, option_map, OnOk, OnErr};
+ghost use Rattle.std.specs.Prelude.{◌≡◌, ℕ, true, option_map, IfSome, OnOk, OnErr};
 ghost use Rattle.std.specs.Option.{option_and_then};
 ghost use Rattle.hc_stored.specs.Kept.{with_user, with_first, left_by, kept_as_gone, kept_as_lost, written_by};
 ghost use Rattle.hc_stored.specs.Views.{admits, admits_first, has_user};
@@ -15,7 +15,7 @@ use hc_text::NoMemory;
 impl<B: Backend> Entries<B> {
     ghost use Rattle.hc_stored.specs.Entries.{shelf_of};
     ghost use Rattle.hc_stored.specs.Grouped.{group_of};
-    ghost use Rattle.hc_stored.specs.Groups.{told_if_member};
+    ghost use Rattle.hc_stored.specs.Groups.{told_if_member, IsGroupOf};
     ghost use Rattle.hc_writers.specs.Writing.{survivor};
     ghost use Rattle.hc_stored.specs.Shelf.{is_kept, same_order, moved_first, taken_out, Becomes, Stays};
 
@@ -99,6 +99,7 @@ impl<B: Backend> Entries<B> {
     pub fn lose_shared(&mut self, r: u64) -> Option<u64>
         requires { is_kept (shelf_of self.old) r ≡ true }
         ensures survivor { result ≡ option_and_then survivor (group_of self.old r) }
+        ensures group { IfSome ((shelf_of self.old).kept r) (IsGroupOf (group_of self.old r)) }
         ensures changed { Becomes (option_map (kept_as_lost result)) same_order r
             (shelf_of self.old) (shelf_of self.new) }
         ensures faults { (shelf_of self.new).faults ≡ (shelf_of self.old).faults }

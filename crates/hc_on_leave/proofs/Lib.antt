@@ -28,6 +28,7 @@ pub mod StoreHandler
 pub mod LoseParts
 pub mod LoseDetachedReaders
 pub mod TellOffsets
+pub mod LeftGroup
 pub mod LoseAlone
 pub mod LoseTurn
 pub mod RefusedPiece

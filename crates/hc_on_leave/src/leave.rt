@@ -10,22 +10,18 @@ ghost use Rattle.hc_model.specs.Moves.{Ends, Fails};
 ghost use Rattle.hc_rules.specs.declared.room.Limits.{Limits};
 ghost use Rattle.hc_state.specs.Stands.{Answers, AnswersMove, Stands, RowsStand};
 ghost use Rattle.hc_state.specs.Handlers.{IsQueued, IsLeft, LeavesLine};
-ghost use Rattle.std.specs.List.{list_all};
-ghost use Rattle.hc_stored.specs.Views.{bound_in};
 ghost use Rattle.hc_model.specs.Currents.{is_number};
 ghost use Rattle.hc_model.specs.Effects.{with_consumer, as_over, left_by};
 ghost use Rattle.hc_model.specs.Rows.{Tables, Consumer};
 ghost use Rattle.hc_state.specs.Facts.{Facts};
-ghost use Rattle.hc_state.specs.Leaving.{if_running, last_read, left_of};
 ghost use Rattle.hc_state.specs.Left.{HasLeft};
 ghost use Rattle.hc_on_leave.specs.Leaves.{MayLeave};
 
 use crate::acts::put;
 use crate::gone::remove_consumer;
 use crate::seal::stop_bringing;
-use crate::writing::{if_running, writing};
 use hc_entry::KeyTable;
-use hc_event::{Act, Acts, Cause, Place};
+use hc_event::{Act, Acts, Cause};
 use hc_state::Rows;
 use hc_store::Backend;
 
@@ -96,58 +92,17 @@ fn leave<B: Backend>(rows: &mut Rows<B>, now: u64, c: u64, out: &mut Acts)
         (act_list out.old) (act_list out.new) now c k }
     ensures faults { (shelf_of rows.old.entries).faults ≤ (shelf_of rows.new.entries).faults }
 {
-    match left_by(rows, c) {
-        None => remove_consumer(rows, c),
-        Some(x) => {
-            let alone = if_own(rows, c, x);
-            remove_consumer(rows, c);
-            put(out, Act::Close { x });
-            stop_bringing(rows, now, x, alone, out);
-        }
-    }
-}
-
-/// The exchange that nobody reads any more once the consumer leaves: its own, or that of the
-/// shared writing of which it is the last reader.
-pub(crate) fn left_by<B: Backend>(rows: &Rows<B>, c: u64) -> Option<u64>
-    requires { is_some (get nat_eq rows.now.consumers c) ≡ true }
-    ensures { IsSomeAnd (get nat_eq rows.now.consumers c) (λ k. result ≡ left_of rows.now c k) }
-{
-    let consumer = rows.consumers.get(&c).unwrap();
-    let own = if_running(rows, consumer.own);
-    if own.is_some() {
-        return own;
-    }
-    last_read(rows, c, consumer.place)
-}
-
-/// The exchange of the shared writing that the consumer reads as the last one.
-fn last_read<B: Backend>(rows: &Rows<B>, c: u64, place: Place) -> Option<u64>
-    ensures { result ≡ last_read (table_of rows.now.exchanges) (shelf_of rows.now.entries) c place }
-{
-    match place {
-        Place::Bound { r, .. } if is_last(rows, r, c) => writing(rows, r),
-        _ => None,
-    }
-}
-
-/// Nobody else is bound to the representation.
-fn is_last<B: Backend>(rows: &Rows<B>, r: u64, c: u64) -> bool
-    ensures { result ≡ list_all (λ d. d == c) (bound_in ((shelf_of rows.now.entries).kept r)) }
-{
-    rows.entries.bound(r).iter().all(|d| *d == c)
+    let own = rows.consumers.get(&c).unwrap().own;
+    let Some(x) = remove_consumer(rows, c) else {
+        return;
+    };
+    put(out, Act::Close { x });
+    stop_bringing(rows, now, x, if_own(own, x, c), out);
 }
 
 /// The consumer, where the exchange is its own.
-fn if_own<B: Backend>(rows: &Rows<B>, c: u64, x: u64) -> Option<u64>
-    requires { is_some (get nat_eq rows.now.consumers c) ≡ true }
-    ensures { IsSomeAnd (get nat_eq rows.now.consumers c)
-        (λ k. result ≡ (if is_number k.own x then Some c else None)) }
+fn if_own(own: Option<u64>, x: u64, c: u64) -> Option<u64>
+    ensures { result ≡ (if is_number own x then Some c else None) }
 {
-    let consumer = rows.consumers.get(&c).unwrap();
-    if consumer.own == Some(x) {
-        Some(c)
-    } else {
-        None
-    }
+    if own == Some(x) { Some(c) } else { None }
 }

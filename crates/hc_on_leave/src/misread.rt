@@ -11,7 +11,6 @@ use crate::acts::put;
 use crate::close::close;
 use crate::evict::let_go;
 use crate::gone::remove_consumer;
-use crate::leave::left_by;
 use hc_event::{Act, Acts, Cause};
 use hc_state::Rows;
 use hc_store::{Backend, StoreError};
@@ -43,8 +42,7 @@ pub fn misread_by<B: Backend>(
     }
     let cause = Cause::StoreRead(r);
     put(out, Act::Failed { c, cause });
-    let left = left_by(rows, c);
-    remove_consumer(rows, c);
+    let left = remove_consumer(rows, c);
     let_go(rows, now, r);
     if let Some(x) = left {
         close(rows, x, out);

@@ -189,7 +189,7 @@ pub fn lose_to<B: Backend>(
 }
 
 /// What is stored can be completed later.
-fn is_keepable(entry: &EntryView) -> bool
+pub(crate) fn is_keepable(entry: &EntryView) -> bool
     ensures { result ≡ may_complete entry.now }
 {
     entry.has_tag && entry.total.is_some() && entry.size > 0 && !entry.refuses_ranges

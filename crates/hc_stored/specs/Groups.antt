@@ -1,6 +1,7 @@
 -- The writer group of a representation, beside who is bound to that.
 use Rattle.std.specs.Prelude.{◌≡◌, ℕ, ◌≤◌, ◌^◌, List, map, Bool, true, false, Option, Some, None, option_map, IfSome, if◌then◌else◌}
-use Rattle.hc_writers.specs.Writing.{Writing, consumer_of, is_member, joined_by, moved_to, without_member}
+use Rattle.hc_writers.specs.Writing.{Writing, consumer_of, is_member, joined_by, moved_to, without_member, left_as}
+use Rattle.hc_writers.specs.declared.writers.Left.{Left}
 use Rattle.hc_stored.specs.Kept.{Kept}
 
 abbrev pub exchange_of : Option Writing → Option ℕ
@@ -8,6 +9,10 @@ exchange_of group = option_map (λ (w : Writing). w.exchange) group
 
 abbrev pub left_if_member : ℕ → Writing → Writing
 left_if_member c w = if is_member c w then without_member c w else w
+
+-- what the group is once it has left, if it was a member
+abbrev pub left_answer : Bool → ℕ → Writing → Option Left
+left_answer keepable c w = if is_member c w then Some (left_as keepable (without_member c w)) else None
 
 abbrev pub told_if_member : ℕ → ℕ → Writing → Writing
 told_if_member c offset w = if is_member c w then moved_to c offset w else w

@@ -2,10 +2,10 @@
 ghost use Rattle.std.specs.Prelude.{◌≡◌, ◌+◌, ◌-◌, ◌≤◌, ◌^◌, false, IfSome, option_map, IfOk, OnOk, OnErr};
 ghost use Rattle.std.specs.Option.{option_and_then};
 ghost use Rattle.hc_writers.specs.Writing.{Writing, begun, is_member, joined_by, moved_to, grown_by, survivor, after_loss};
-ghost use Rattle.hc_stored.specs.Groups.{left_if_member, told_if_member, joined_unless, exchange_of, MayJoin};
+ghost use Rattle.hc_stored.specs.Groups.{left_if_member, left_answer, told_if_member, joined_unless, exchange_of, MayJoin};
 
 use hc_text::NoMemory;
-use hc_writers::Writers;
+use hc_writers::{Left, Writers};
 use std::alloc::Global;
 
 /// One consumer reads along, where an exchange writes for several.
@@ -43,14 +43,16 @@ pub(crate) fn join(group: &mut Option<Writers>, lost: bool, c: u64) -> Result<()
     }
 }
 
-/// One reads along no more, if it did.
-pub(crate) fn leave(group: &mut Option<Writers>, c: u64)
-    ensures { group.new ≡ option_map (left_if_member c) group.old }
+/// One reads along no more, if it did. What the group is then.
+pub(crate) fn leave(group: &mut Option<Writers>, c: u64, keepable: bool) -> Option<Left>
+    ensures left { group.new ≡ option_map (left_if_member c) group.old }
+    ensures answer { result ≡ option_and_then (left_answer keepable c) group.old }
 {
-    if let Some(writers) = group {
-        if writers.holds(c) {
-            writers.leave(c, true);
-        }
+    let writers = group.as_mut()?;
+    if writers.holds(c) {
+        Some(writers.leave(c, keepable))
+    } else {
+        None
     }
 }
 

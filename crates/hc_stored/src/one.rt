@@ -7,7 +7,7 @@ ghost use Rattle.hc_store.specs.Slots.{Held};
 ghost use Rattle.hc_stored.specs.Heads.{summary_of};
 ghost use Rattle.hc_stored.specs.Begun.{begun_row};
 ghost use Rattle.hc_stored.specs.Kept.{itself, founded_kept};
-ghost use Rattle.hc_stored.specs.Groups.{told_if_member};
+ghost use Rattle.hc_stored.specs.Groups.{left_answer, told_if_member};
 ghost use Rattle.hc_writers.specs.Writing.{survivor};
 ghost use Rattle.std.specs.Option.{option_and_then};
 
@@ -19,7 +19,7 @@ use hc_record::{Kind, StoredHead};
 use hc_sorted::{leave_out, put_reserved};
 use hc_store::Slot;
 use hc_text::{Key, NoMemory};
-use hc_writers::Writers;
+use hc_writers::{Left, Writers};
 use std::alloc::Global;
 
 impl Entry {
@@ -97,16 +97,18 @@ impl Entry {
         Ok(())
     }
 
-    /// One isn't bound any more.
-    pub(crate) fn unbind(&mut self, c: u64)
+    /// One isn't bound any more. What its writer group is then.
+    pub(crate) fn unbind(&mut self, c: u64, keepable: bool) -> Option<Left>
         requires { is_sorted itself self.old.bound.items ≡ true }
-        ensures { row_of self.new ≡ unused_by c (row_of self.old) }
+        ensures row { row_of self.new ≡ unused_by c (row_of self.old) }
+        ensures left { result ≡ option_and_then (left_answer keepable c) self.old.writers }
     {
         leave_out(&mut self.bound, c);
-        leave(&mut self.writers, c);
+        let left = leave(&mut self.writers, c, keepable);
         if self.first == Some(c) {
             self.first = None;
         }
+        left
     }
 
     /// Bytes came that end there, and with the last of them another kind.

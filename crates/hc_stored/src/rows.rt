@@ -4,7 +4,7 @@ ghost use Rattle.hc_sorted.specs.Sorted.{is_sorted, has};
 ghost use Rattle.hc_stored.specs.Kept.{itself};
 ghost use Rattle.std.specs.Option.{option_and_then};
 ghost use Rattle.hc_writers.specs.Writing.{survivor};
-ghost use Rattle.hc_stored.specs.Groups.{told_if_member};
+ghost use Rattle.hc_stored.specs.Groups.{left_answer, told_if_member};
 ghost use Rattle.hc_stored.specs.Grouped.{group_at};
 ghost use Rattle.hc_stored.specs.Rows.{row_of, rows_of, summary_in, with_row, Changes, with_summary, reaching, sealed_as, used_by, used_first_by, unused_by, going, losing, written_in, slot_at, users_at, is_over, is_unused_row};
 
@@ -14,6 +14,7 @@ use crate::summary::HeadSummary;
 use hc_record::Kind;
 use hc_store::Slot;
 use hc_text::NoMemory;
+use hc_writers::Left;
 use std::collections::HashMap;
 
 /// The slot of one.
@@ -132,13 +133,20 @@ pub(crate) fn bind_first_in(rows: &mut HashMap<u64, Entry>, r: u64, c: u64) -> R
     Ok(())
 }
 
-/// One isn't bound to it any more.
-pub(crate) fn unbind_in(rows: &mut HashMap<u64, Entry>, r: u64, c: u64)
+/// One isn't bound to it any more. What its writer group is then.
+pub(crate) fn unbind_in(
+    rows: &mut HashMap<u64, Entry>,
+    r: u64,
+    c: u64,
+    keepable: bool,
+) -> Option<Left>
     requires { is_sorted itself (users_at (rows_of rows.old r)) ≡ true }
-    ensures { Changes (unused_by c) r (rows_of rows.old) (rows_of rows.new) }
+    ensures rows { Changes (unused_by c) r (rows_of rows.old) (rows_of rows.new) }
+    ensures left { result ≡ option_and_then (left_answer keepable c) (group_at rows.old r) }
 {
-    if let Some(entry) = rows.get_mut(&r) {
-        entry.unbind(c);
+    match rows.get_mut(&r) {
+        Some(entry) => entry.unbind(c, keepable),
+        None => None,
     }
 }
 

@@ -282,6 +282,6 @@ fn unbind<B: Backend>(entries: &mut Entries<B>, r: u64) -> Option<u64> {
         [c] => *c,
         _ => return None,
     };
-    entries.unbind(r, c);
+    entries.unbind(r, c, true);
     Some(c)
 }

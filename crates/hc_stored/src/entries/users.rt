@@ -11,11 +11,12 @@ use crate::rows::{
 };
 use hc_store::Backend;
 use hc_text::NoMemory;
+use hc_writers::Left;
 
 impl<B: Backend> Entries<B> {
     ghost use Rattle.hc_stored.specs.Entries.{shelf_of};
     ghost use Rattle.hc_stored.specs.Grouped.{group_of};
-    ghost use Rattle.hc_stored.specs.Groups.{told_if_member, IsGroupOf};
+    ghost use Rattle.hc_stored.specs.Groups.{left_answer, told_if_member, IsGroupOf};
     ghost use Rattle.hc_writers.specs.Writing.{survivor};
     ghost use Rattle.hc_stored.specs.Shelf.{is_kept, same_order, moved_first, taken_out, Becomes, Stays};
 
@@ -46,17 +47,23 @@ impl<B: Backend> Entries<B> {
     }
 
     /// A consumer isn't bound any more. What is gone and has nobody now is dropped with its slot.
-    pub fn unbind(&mut self, r: u64, c: u64)
+    /// What its writer group is then, where it was a member of one: the last of it leaves what is
+    /// stored, which may be worth keeping.
+    pub fn unbind(&mut self, r: u64, c: u64, keepable: bool) -> Option<Left>
         requires { has_user c ((shelf_of self.old).kept r) ≡ true }
+        ensures left { result
+            ≡ option_and_then (left_answer keepable c) (group_of self.old r) }
+        ensures group { IfSome ((shelf_of self.old).kept r) (IsGroupOf (group_of self.old r)) }
         ensures changed { Becomes (option_and_then (left_by c)) same_order r
             (shelf_of self.old) (shelf_of self.new) }
         ensures faults { (shelf_of self.new).faults ≡ (shelf_of self.old).faults }
     {
-        unbind_in(&mut self.rows, r, c);
+        let left = unbind_in(&mut self.rows, r, c, keepable);
         if is_over(&self.rows, r) {
             let slot = drop_in(&mut self.rows, r);
             self.store.drop_slot(slot);
         }
+        left
     }
 
     /// The representation is gone, and where nobody is bound to it, it is dropped with its slot.

@@ -2,6 +2,7 @@ use Rattle.std.{proofs.Common.{nat_eq, refl}, specs.HashMap.{get}}
 use Rattle.hc_stored.specs.Entries.{shelf_of}
 use Rattle.hc_state.specs.Leaving.{LeavesPlace}
 use Rattle.hc_state.proofs.{Dropping.{merely_user, user_of}, Maps.{lent, merely_false, some_that}}
+use Rattle.hc_on_leave.specs.Groups.{LeavesGroup}
 use Rattle.hc_on_leave.proofs.OffLine.{off_line}
 use Rattle.hc_on_leave.proofs.gone.leave_place.Goals as goal
 
@@ -27,3 +28,10 @@ returns-clause-place g c =
     let at = lent c.get.result (get nat_eq r.consumers c.args.c) c.unwrap-consumer.result c.get.ensures.value c.unwrap-consumer.ensures in
     some_that (get nat_eq r.consumers c.args.c) k (LeavesPlace r _ c.args.c) at
     (record { last_start = refl; consumers = refl; line = c.leave_key_at.ensures; forgets = c.forget_own.ensures; unbinds = c.unbind_from.ensures.unbound })
+
+pub returns-clause-left : goal.returns-clause-left
+returns-clause-left g c =
+    let r = c.args.rows.now in
+    let k = c.unwrap-consumer.result.now in
+    let at = lent c.get.result (get nat_eq r.consumers c.args.c) c.unwrap-consumer.result c.get.ensures.value c.unwrap-consumer.ensures in
+    some_that (get nat_eq r.consumers c.args.c) k (λ m. LeavesGroup m.place c.args.c r.entries c.unbind_from.result) at c.unbind_from.ensures.left

@@ -2,10 +2,10 @@
 --
 -- The loop keeps that what was read isn't refused, and that its events went wholly (`IsOn`).
 -- A text is read piece by piece, so the next piece brings the events that come next (`brought-append`).
--- What came of the piece is a case of `Passes`. The loop goes on with the longer text (`on_more`), or ends as
--- the piece did (`ends_stopped`): all that was read before the piece went wholly (`at_once`). At the end of the
--- source the feed answers the refusal of the text (`ends_done`, `ends_cut_short`).
-use Rattle.std.{proofs.{Common.{◌≡◌, ◌⊎◌, ℕ, ◌+◌, ◌*◌, ◌≤◌, ◌^◌, List, [], ◌∷◌, ◌++◌, length, Option, Some, None, Result, Ok, Err, Bool, true, false, refl, sym, ap, subst, ◌∙◌, inl, inr, arith, append_assoc, length-append}, lemmas.{List.{append-nil}, Bool.{cases_Bool}}}, specs.Result.{IsErrAnd}}
+-- What came of the piece is a case of `Passes`. The loop goes on with the longer text (`on_more`), or breaks off as
+-- the piece did (`breaks_at`): all that was read before the piece went wholly (`at_once`). At the end of the
+-- source all was read (`read_out`), and the feed answers the refusal of the text (`ends_done`, `ends_cut_short`).
+use Rattle.std.{proofs.{Common.{◌≡◌, ◌⊎◌, ℕ, ◌+◌, ◌*◌, ◌≤◌, ◌^◌, List, [], ◌∷◌, ◌++◌, length, Option, Some, None, Result, Ok, Err, Bool, true, false, refl, sym, ap, subst, ◌∙◌, inl, inr, arith, append_assoc, length-append}, lemmas.{List.{append-nil}, Bool.{cases_Bool}}}, specs.{Prelude.{IfErr}, Result.{IsErrAnd}}}
 use Rattle.hc_event.specs.declared.event.Event.{Event}
 use Rattle.hc_io.specs.Source.{Gives, GivesAll, IsAtEnd}
 use Rattle.hc_io.proofs.Givings.{gives_none, gives_more}
@@ -13,8 +13,9 @@ use Rattle.hc_sched.specs.{declared.{place.Place.{Place}, schedule.{Refused.{Ref
 use Rattle.hc_sched.specs.declared.schedule.Ended.TheVariants as ended
 use Rattle.hc_sched.specs.declared.schedule.FeedError.TheVariants as error
 use Rattle.hc_sched.proofs.{FeedLemmas.{after-append, after-stopped, events_in-append}, OneReading.{brings_timed, is_read, is_spelled}}
-use Rattle.hc_driver.specs.{declared.stop.Stop.{Stop}, Counting.{size_of, last_moment}, Courses.{Goes}, Endings.{How, Wholly, UpToEnd, UpToLast, UpToWant, SoFar, ToEnd, IsReading, events_from, IsUnrefused, IsRefused, IsRefusedAtOnce, IsSteppedAtOnce, Ends}, Pieces.{Wants, Comes, Passes}, Stops.{of_feed, ended_by, ended_as}}
+use Rattle.hc_driver.specs.{declared.stop.Stop.{Stop}, Breaks.{Breaks, IsReadOut}, Counting.{size_of, last_moment}, Courses.{Goes}, Endings.{How, Wholly, UpToEnd, UpToLast, UpToWant, SoFar, ToEnd, IsReading, events_from, IsUnrefused, IsRefused, IsRefusedAtOnce, IsSteppedAtOnce, Ends}, Pieces.{Wants, Comes, Passes}, Stops.{of_feed, ended_by, ended_as}}
 use Rattle.hc_driver.specs.declared.stop.Stop.TheVariants as stop
+use Rattle.hc_driver.specs.Breaks as breaks
 use Rattle.hc_driver.specs.Courses as courses
 use Rattle.hc_driver.specs.Endings as endings
 use Rattle.hc_driver.specs.Pieces as pieces
@@ -49,7 +50,7 @@ IsAs feed (Ok done) = refusal_at feed ≡ None
 IsAs feed (Err (error.Refused r)) = refusal_at feed ≡ Some r
 IsAs feed (Err error.NoMemory) = ⊥
 
-abbrev stop_of : Result (Unit {0}) Stop → Stop
+abbrev stop_of : {T : Type 0} → Result T Stop → Stop
 stop_of (Ok x) = stop.Over
 stop_of (Err z) = z
 
@@ -233,11 +234,6 @@ module _ {A : Type 0} (tells : A → ℕ → ℕ → Event → List ℕ → A �
   unrefused : (s u : A) (moment given : ℕ) (now : Extent) (feed : Progress) (left mid a b : Option (List ℕ)) → (on : IsOn tells over spent s u moment given now feed left mid a b) → IsUnrefused moment on.text
   unrefused s u moment given now feed left mid a b on = subst IsReading (sym on.leads) on.reading
 
-  pub ends_unreadable : (s u : A) (moment given : ℕ) (now : Extent) (feed : Progress) (left mid new a b : Option (List ℕ))
-      → IsOn tells over spent s u moment given now feed left mid a b → new ≡ mid → Ends (Goes tells over spent 0 s u a b) moment left new ended.SourceFailed
-  ends_unreadable s u moment given now feed left mid new a b on same =
-      endings.unreadable on.text (rw same on.gives) (unrefused s u moment given now feed left mid a b on) on.goes
-
   refusal_here : (feed : Progress) → IsReading feed → (result : Result (Unit {0}) FeedError) → result ≡ ending feed → IsAs feed result
   refusal_here feed reading result is = subst (λ (l : Result (Unit {0}) FeedError). IsAs feed l) (sym is) (subst (λ (p : Progress). IsAs p (ending p)) (sym reading.2) (here reading.0 reading.1))
     where
@@ -250,26 +246,37 @@ module _ {A : Type 0} (tells : A → ℕ → ℕ → Event → List ℕ → A �
   refusal-is : (moment : ℕ) (text : List ℕ) (feed : Progress) → after (beginning moment) text ≡ feed → refusal_of moment text ≡ refusal_at feed
   refusal-is moment text feed leads = ap refusal_at leads
 
-  pub ends_done : (s u : A) (moment given : ℕ) (now : Extent) (feed : Progress) (left mid new a b : Option (List ℕ)) (result : Result (Unit {0}) FeedError)
-      → IsOn tells over spent s u moment given now feed left mid a b → Gives mid new [] → IsAtEnd new → result ≡ ending feed → result ≡ Ok tt → Ends (Goes tells over spent 0 s u a b) moment left new ended.Done
-  ends_done s u moment given now feed left mid new a b result on gives end is ok =
-      let none : refusal_at feed ≡ None = subst (λ (l : Result (Unit {0}) FeedError). IsAs feed l) ok (refusal_here feed on.reading result is) in
-      let spelled = is_spelled moment on.text (refusal-is moment on.text feed on.leads ∙ none) in
-      let same = (is_read moment on.text spelled.0 spelled.1).1 in
-      endings.done on.text spelled.0 (gives_all left new on.text (rests left mid new on.text on.gives gives) end) spelled.1
-      (subst (λ (l : List Timed). Goes tells over spent 0 s u a b Wholly l) same on.goes)
+  -- all was read
+  pub read_out : (s u : A) (moment given : ℕ) (now : Extent) (feed : Progress) (left mid new a b : Option (List ℕ))
+      → IsOn tells over spent s u moment given now feed left mid a b → Gives mid new [] → IsAtEnd new → IsReadOut (Goes tells over spent 0 s u a b) moment left new feed
+  read_out s u moment given now feed left mid new a b on gives end = record {
+    text = on.text;
+    gives = gives_all left new on.text (rests left mid new on.text on.gives gives) end;
+    leads = on.leads;
+    unrefused = unrefused s u moment given now feed left mid a b on;
+    went = on.goes;
+  }
 
-  pub ends_cut_short : (s u : A) (moment given : ℕ) (now : Extent) (feed : Progress) (left mid new a b : Option (List ℕ)) (result : Result (Unit {0}) FeedError) (e : FeedError) (stopped : Result (Unit {0}) Stop)
-      → IsOn tells over spent s u moment given now feed left mid a b → Gives mid new [] → IsAtEnd new → result ≡ ending feed → result ≡ Err e → IsErrAnd stopped (λ (st : Stop). st ≡ of_feed e)
-      → Ends (Goes tells over spent 0 s u a b) moment left new (ended_as stopped)
-  ends_cut_short s u moment given now feed left mid new a b result e (Ok x) on gives end is err stops = absurd stops
-  ends_cut_short s u moment given now feed left mid new a b result (error.Refused r) (Err st) on gives end is err stops =
-      let some : refusal_at feed ≡ Some r = subst (λ (l : Result (Unit {0}) FeedError). IsAs feed l) err (refusal_here feed on.reading result is) in
-      subst (λ (l : Stop). Ends (Goes tells over spent 0 s u a b) moment left new (ended_by l)) (sym stops)
-      (endings.refused ToEnd on.text r (gives_all left new on.text (rests left mid new on.text on.gives gives) end)
-      (endings.at_end (unrefused s u moment given now feed left mid a b on) (refusal-is moment on.text feed on.leads ∙ some)) on.goes)
-  ends_cut_short s u moment given now feed left mid new a b result error.NoMemory (Err st) on gives end is err stops =
-      absurd (subst (λ (l : Result (Unit {0}) FeedError). IsAs feed l) err (refusal_here feed on.reading result is))
+  -- and how it ends is by what the feed answers
+  module _ (s u : A) (moment : ℕ) (feed : Progress) (left new a b : Option (List ℕ)) (result : Result (Unit {0}) FeedError) (out : IsReadOut (Goes tells over spent 0 s u a b) moment left new feed) (is : result ≡ ending feed) where
+    refusal_read : IsAs feed result
+    refusal_read = refusal_here feed (subst IsReading out.leads out.unrefused) result is
+
+    pub ends_done : result ≡ Ok tt → Ends (Goes tells over spent 0 s u a b) moment left new ended.Done
+    ends_done ok =
+        let none : refusal_at feed ≡ None = subst (λ (l : Result (Unit {0}) FeedError). IsAs feed l) ok refusal_read in
+        let spelled = is_spelled moment out.text (refusal-is moment out.text feed out.leads ∙ none) in
+        let same = (is_read moment out.text spelled.0 spelled.1).1 in
+        endings.done out.text spelled.0 out.gives spelled.1
+        (subst (λ (l : List Timed). Goes tells over spent 0 s u a b Wholly l) same out.went)
+
+    pub ends_cut_short : (e : FeedError) (stopped : Result (Unit {0}) Stop) → result ≡ Err e → IsErrAnd stopped (λ (st : Stop). st ≡ of_feed e) → Ends (Goes tells over spent 0 s u a b) moment left new (ended_as stopped)
+    ends_cut_short e (Ok x) err stops = absurd stops
+    ends_cut_short (error.Refused r) (Err st) err stops =
+        let some : refusal_at feed ≡ Some r = subst (λ (l : Result (Unit {0}) FeedError). IsAs feed l) err refusal_read in
+        subst (λ (l : Stop). Ends (Goes tells over spent 0 s u a b) moment left new (ended_by l)) (sym stops)
+        (endings.refused ToEnd out.text r out.gives (endings.at_end out.unrefused (refusal-is moment out.text feed out.leads ∙ some)) out.went)
+    ends_cut_short error.NoMemory (Err st) err stops = absurd (subst (λ (l : Result (Unit {0}) FeedError). IsAs feed l) err refusal_read)
 
   stays : (moment : ℕ) (text : List ℕ) (r : Refused) → after (beginning moment) text ≡ Stopped r → IsRefused moment text r
   stays moment text r leads more = ap refusal_at (after-append (beginning moment) text more ∙ (ap (λ (p : Progress). after p more) leads ∙ after-stopped r more))
@@ -306,8 +313,8 @@ module _ {A : Type 0} (tells : A → ℕ → ℕ → Event → List ℕ → A �
       are_all = append_assoc earlier first rest ∙ (ap (λ (l : List Timed). earlier ++ l) whole ∙ sym parts);
     }
 
-    ends_refused : (r : Refused) → after feed piece ≡ Stopped r → Here Wholly (events_in feed piece) → Ends Whole moment left new (ended.Refused r)
-    ends_refused r stops went =
+    breaks_refused : (r : Refused) → after feed piece ≡ Stopped r → Here Wholly (events_in feed piece) → Breaks Whole moment left new (stop.Refused r)
+    breaks_refused r stops went =
         let leads = after-append (beginning moment) on.text piece ∙ (ap (λ (p : Progress). after p piece) on.leads ∙ stops) in
         let refused : IsRefusedAtOnce moment (on.text ++ piece) r =
         record {
@@ -318,35 +325,39 @@ module _ {A : Type 0} (tells : A → ℕ → ℕ → Event → List ℕ → A �
           unrefused = unrefused s t moment given now feed left mid a b on;
           refuses = stays moment (on.text ++ piece) r leads;
         } in
-        endings.refused SoFar (on.text ++ piece) r all (endings.within refused) (subst (λ (l : List Timed). Whole Wholly l) (sym parts) (joined Wholly (events_in feed piece) went))
+        breaks.refused (on.text ++ piece) r all refused (subst (λ (l : List Timed). Whole Wholly l) (sym parts) (joined Wholly (events_in feed piece) went))
 
-    ends_wanting : pieces.Some Here UpToLast (events_in feed piece) ⊎ Wants Here (events_in feed piece) → Ends Whole moment left new ended.NoMemory
-    ends_wanting (inl some) = endings.wanting (on.text ++ piece) (earlier ++ some.first) some.rest all (at_once some.first some.rest some.whole) (joined UpToLast some.first some.went)
-    ends_wanting (inr wants) =
-        endings.wanting_answer (on.text ++ piece) (earlier ++ wants.first) wants.rest wants.next all (at_once wants.first (wants.next ∷ wants.rest) wants.whole) (joined UpToWant wants.first wants.went)
+    breaks_wanting : pieces.Some Here UpToLast (events_in feed piece) ⊎ Wants Here (events_in feed piece) → Breaks Whole moment left new stop.NoMemory
+    breaks_wanting (inl some) = breaks.wanting (on.text ++ piece) (earlier ++ some.first) some.rest all (at_once some.first some.rest some.whole) (joined UpToLast some.first some.went)
+    breaks_wanting (inr wants) =
+        breaks.wanting_answer (on.text ++ piece) (earlier ++ wants.first) wants.rest wants.next all (at_once wants.first (wants.next ∷ wants.rest) wants.whole) (joined UpToWant wants.first wants.went)
 
-    pub ends_stopped : (st : Stop) → Passes Here feed piece feed' (Err st) → Ends Whole moment left new (ended_by st)
-    ends_stopped stop.Over some = endings.over (on.text ++ piece) (earlier ++ some.first) some.rest all (at_once some.first some.rest some.whole) (joined UpToEnd some.first some.went)
-    ends_stopped (stop.Refused r) passes = ends_refused r passes.0 passes.1
-    ends_stopped stop.SourceFailed never = absurd never
-    ends_stopped stop.SinkFailed some = endings.unwritten (on.text ++ piece) (earlier ++ some.first) some.rest all (at_once some.first some.rest some.whole) (joined UpToLast some.first some.went)
-    ends_stopped stop.NoMemory it = ends_wanting it
+    pub breaks_at : (st : Stop) → Passes Here feed piece feed' (Err st) → Breaks Whole moment left new st
+    breaks_at stop.Over some = breaks.over (on.text ++ piece) (earlier ++ some.first) some.rest all (at_once some.first some.rest some.whole) (joined UpToEnd some.first some.went)
+    breaks_at (stop.Refused r) passes = breaks_refused r passes.0 passes.1
+    breaks_at stop.SourceFailed never = absurd never
+    breaks_at stop.SinkFailed some = breaks.unwritten (on.text ++ piece) (earlier ++ some.first) some.rest all (at_once some.first some.rest some.whole) (joined UpToLast some.first some.went)
+    breaks_at stop.NoMemory it = breaks_wanting it
 
-  -- as what was read stopped it, so it ends
-  pub ends_source : (s u : A) (moment given : ℕ) (now : Extent) (feed : Progress) (left mid new a b : Option (List ℕ)) (stopped : Result (Unit {0}) Stop)
-      → IsOn tells over spent s u moment given now feed left mid a b → new ≡ mid → IsErrAnd stopped (λ (st : Stop). st ≡ stop.SourceFailed) → Ends (Goes tells over spent 0 s u a b) moment left new (ended_as stopped)
-  ends_source s u moment given now feed left mid new a b (Ok x) on same stops = absurd stops
-  ends_source s u moment given now feed left mid new a b (Err st) on same stops =
-      subst (λ (l : Stop). Ends (Goes tells over spent 0 s u a b) moment left new (ended_by l)) (sym stops) (ends_unreadable s u moment given now feed left mid new a b on same)
+  -- what an error names
+  names : {T : Type 0} (st : Stop) (result : Result T Stop) (P : Stop → Type 0) → IsErrAnd result (λ (e : Stop). e ≡ st) → P st → IfErr result P
+  names st (Ok x) P is p = absurd is
+  names st (Err e) P is p = subst P (sym is) p
 
-  pub ends_as : (s t u : A) (moment given : ℕ) (now : Extent) (feed feed' : Progress) (piece : List ℕ) (left mid new a b c : Option (List ℕ)) (st : Stop) (result stopped : Result (Unit {0}) Stop)
+  -- what was read stopped it
+  pub breaks_source : {T : Type 0} (s u : A) (moment given : ℕ) (now : Extent) (feed : Progress) (left mid new a b : Option (List ℕ)) (stopped : Result T Stop)
+      → IsOn tells over spent s u moment given now feed left mid a b → new ≡ mid → IsErrAnd stopped (λ (st : Stop). st ≡ stop.SourceFailed) → IfErr stopped (Breaks (Goes tells over spent 0 s u a b) moment left new)
+  breaks_source s u moment given now feed left mid new a b stopped on same stops =
+      names stop.SourceFailed stopped (Breaks (Goes tells over spent 0 s u a b) moment left new) stops
+      (breaks.unreadable on.text (rw same on.gives) (unrefused s u moment given now feed left mid a b on) on.goes)
+
+  pub breaks_as : {T : Type 0} (s t u : A) (moment given : ℕ) (now : Extent) (feed feed' : Progress) (piece : List ℕ) (left mid new a b c : Option (List ℕ)) (st : Stop) (result : Result (Unit {0}) Stop) (stopped : Result T Stop)
       → IsOn tells over spent s t moment given now feed left mid a b → Gives mid new piece → length piece ≤ 16384
       → Passes (Goes tells over spent now.number t u b c) feed piece feed' result → result ≡ Err st → IsErrAnd stopped (λ (e : Stop). e ≡ st)
-      → Ends (Goes tells over spent 0 s u a c) moment left new (ended_as stopped)
-  ends_as s t u moment given now feed feed' piece left mid new a b c st result (Ok x) on gives short goes was stops = absurd stops
-  ends_as s t u moment given now feed feed' piece left mid new a b c st result (Err e) on gives short goes was stops =
-      subst (λ (l : Stop). Ends (Goes tells over spent 0 s u a c) moment left new (ended_by l)) (sym stops)
-      (ends_stopped s t u moment given now feed feed' piece left mid new a b c on gives short st (subst (λ (l : Result (Unit {0}) Stop). Passes (Goes tells over spent now.number t u b c) feed piece feed' l) was goes))
+      → IfErr stopped (Breaks (Goes tells over spent 0 s u a c) moment left new)
+  breaks_as s t u moment given now feed feed' piece left mid new a b c st result stopped on gives short goes was stops =
+      names st stopped (Breaks (Goes tells over spent 0 s u a c) moment left new) stops
+      (breaks_at s t u moment given now feed feed' piece left mid new a b c on gives short st (subst (λ (l : Result (Unit {0}) Stop). Passes (Goes tells over spent now.number t u b c) feed piece feed' l) was goes))
 
   -- where nothing more is answered, the course is over
   ended_over : (s u : A) (n : ℕ) (before now : Progress) (piece : List ℕ) (a b : Option (List ℕ)) → Passes (Goes tells over spent n s u a b) before piece now (Err stop.Over) → over u ≡ true
@@ -355,7 +366,7 @@ module _ {A : Type 0} (tells : A → ℕ → ℕ → Event → List ℕ → A �
       by_way : (events : List Timed) → Goes tells over spent n s u a b UpToEnd events → over u ≡ true
       by_way events (courses.up_to_end h are leads is_over taken) = is_over
 
-  pub over_as : (s u : A) (n : ℕ) (before now : Progress) (piece : List ℕ) (a b : Option (List ℕ)) (st : Stop) (result stopped : Result (Unit {0}) Stop)
+  pub over_as : {T : Type 0} (s u : A) (n : ℕ) (before now : Progress) (piece : List ℕ) (a b : Option (List ℕ)) (st : Stop) (result : Result (Unit {0}) Stop) (stopped : Result T Stop)
       → Passes (Goes tells over spent n s u a b) before piece now result → result ≡ Err st → IsErrAnd stopped (λ (e : Stop). e ≡ st) → stopped ≡ Err stop.Over → over u ≡ true
   over_as s u n before now piece a b st result (Ok x) goes was stops is = absurd stops
   over_as s u n before now piece a b st result (Err e) goes was stops is =
@@ -363,3 +374,19 @@ module _ {A : Type 0} (tells : A → ℕ → ℕ → Event → List ℕ → A �
       ended_over s u n before now piece a b
       (subst (λ (l : Stop). Passes (Goes tells over spent n s u a b) before piece now (Err l)) (sym stops ∙ same)
       (subst (λ (l : Result (Unit {0}) Stop). Passes (Goes tells over spent n s u a b) before piece now l) was goes))
+
+-- HOW A WHOLE SCHEDULE ENDS
+
+module _ (Went : How → List Timed → Type 0) (moment : ℕ) (left left' : Option (List ℕ)) where
+  -- what stops the reading ends it
+  ends_broken : (st : Stop) → Breaks Went moment left left' st → Ends Went moment left left' (ended_by st)
+  ends_broken _ (breaks.over text first rest gives at_once went) = endings.over text first rest gives at_once went
+  ends_broken _ (breaks.refused text r gives at_once went) = endings.refused SoFar text r gives (endings.within at_once) went
+  ends_broken _ (breaks.unreadable text gives unrefused went) = endings.unreadable text gives unrefused went
+  ends_broken _ (breaks.unwritten text first rest gives at_once went) = endings.unwritten text first rest gives at_once went
+  ends_broken _ (breaks.wanting text first rest gives at_once went) = endings.wanting text first rest gives at_once went
+  ends_broken _ (breaks.wanting_answer text first rest next gives at_once went) = endings.wanting_answer text first rest next gives at_once went
+
+  pub ends_as : (st : Stop) (result : Result (Unit {0}) Stop) → Breaks Went moment left left' st → IsErrAnd result (λ (e : Stop). e ≡ st) → Ends Went moment left left' (ended_as result)
+  ends_as st (Ok x) broken is = absurd is
+  ends_as st (Err e) broken is = subst (λ (l : Stop). Ends Went moment left left' (ended_by l)) (sym is) (ends_broken st broken)

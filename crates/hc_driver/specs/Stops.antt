@@ -26,7 +26,7 @@ ended_by stop.SourceFailed = ended.SourceFailed
 ended_by stop.SinkFailed = ended.SinkFailed
 ended_by stop.NoMemory = ended.NoMemory
 
-abbrev pub ended_as : Result (Unit {0}) Stop → Ended
+abbrev pub ended_as : {T : Type 0} → Result T Stop → Ended
 ended_as (Ok done) = ended.Done
 ended_as (Err stop) = ended_by stop
 

@@ -11,4 +11,4 @@ mod through;
 pub use answering::Answering;
 pub use course::Course;
 pub use stop::Stop;
-pub use through::{go_through, step_through};
+pub use through::{go_through, go_through_prefix, step_through};

@@ -1,11 +1,13 @@
 //! A whole schedule.
-ghost use Rattle.std.specs.Prelude.{◌≡◌, ◌≢◌, ◌+◌, ◌<◌, ◌≤◌, ◌^◌, true, false, OnOk, IsErrOf};
+ghost use Rattle.std.specs.Prelude.{◌≡◌, ◌≢◌, ◌+◌, ◌<◌, ◌≤◌, ◌^◌, true, false, OnOk, IfOk, IfErr, IsErrOf};
 ghost use Rattle.hc_io.specs.Faults.{HasRisen};
 ghost use Rattle.hc_driver.specs.Courses.{Goes};
+ghost use Rattle.hc_driver.specs.Breaks.{Breaks, IsReadOut};
 ghost use Rattle.hc_driver.specs.Endings.{Ends};
 ghost use Rattle.hc_driver.specs.Stepping.{Steps};
 ghost use Rattle.hc_driver.specs.Stops.{ended_as};
 ghost use Rattle.hc_sched.specs.declared.schedule.Ended.TheVariants as ended;
+ghost use Rattle.hc_sched.specs.Feeding.{lines_in};
 
 use crate::answering::Answering;
 use crate::course::Course;
@@ -121,6 +123,52 @@ fn run<C: Course, S: Source, K: Sink>(
     ensures few { OnOk result (C.steps on.new ≤ 2 ^ 59) }
     ensures little { OnOk result (C.received on.new ≤ 2 ^ 60) }
 {
+    let mut feed = go_through_prefix(alloc, moment, on, source, sink)?;
+    feed.finish()?;
+    Ok(())
+}
+
+/// Reads a first part of a schedule from this moment on, in seconds since 1970, wherever it was cut.
+/// It has each event answered whose item is whole, as `go_through` does. The feed stands where the
+/// text ends.
+///
+/// At Ok all of the source was read, and no line is refused. It isn't asked whether the text ends
+/// behind an item, so CutShort never comes. An error says what stopped it, as where `go_through`
+/// ends so.
+pub fn go_through_prefix<C: Course, S: Source, K: Sink>(
+    alloc: Global,
+    moment: u64,
+    on: &mut C,
+    source: &mut S,
+    sink: &mut K,
+) -> Result<Feed, Stop>
+    requires small { moment < 2 ^ 62 }
+    requires later { C.moment on.old ≤ moment }
+    requires new { C.steps on.old + C.received on.old ≡ 0 }
+    requires open { C.over on.old ≡ false }
+    ensures read { IfOk result (IsReadOut (Goes C.tells C.over C.spent 0 on.old on.new
+        (K.taken sink.old) (K.taken sink.new))
+        moment (S.left source.old) (S.left source.new)) }
+    ensures breaks { IfErr result (Breaks (Goes C.tells C.over C.spent 0 on.old on.new
+        (K.taken sink.old) (K.taken sink.new))
+        moment (S.left source.old) (S.left source.new)) }
+
+    // A fault comes only where one was counted, and none is counted where none comes.
+    ensures source { IsErrOf result Stop.SourceFailed
+        → HasRisen (S.faults source.old) (S.faults source.new) }
+    ensures source_calm { ended_as result ≢ ended.SourceFailed
+        → S.faults source.new ≡ S.faults source.old }
+    ensures sink { IsErrOf result Stop.SinkFailed
+        → HasRisen (K.faults sink.old) (K.faults sink.new) }
+    ensures sink_calm { ended_as result ≢ ended.SinkFailed
+        → K.faults sink.new ≡ K.faults sink.old }
+    ensures over { IsErrOf result Stop.Over → C.over on.new ≡ true }
+
+    // No more than 2^60 bytes were read.
+    ensures lines { IfOk result (λ feed. lines_in feed ≤ 2 ^ 60) }
+    ensures few { OnOk result (C.steps on.new ≤ 2 ^ 59) }
+    ensures little { OnOk result (C.received on.new ≤ 2 ^ 60) }
+{
     let mut feed = Feed::after(alloc, moment);
     let mut answering = Answering::new(alloc);
     let mut events = Vec::new(alloc);
@@ -132,6 +180,5 @@ fn run<C: Course, S: Source, K: Sink>(
         }
         answering.go_piece(&mut feed, &piece[..n], &mut events, on, sink)?;
     }
-    feed.finish()?;
-    Ok(())
+    Ok(feed)
 }

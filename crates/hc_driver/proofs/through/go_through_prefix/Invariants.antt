@@ -1,6 +1,6 @@
 use Rattle.std.proofs.Common.{◌≡◌, ◌-◌, ◌^◌}
 use Rattle.hc_driver.proofs.Runs.{IsOn}
-use Rattle.hc_driver.proofs.through.run.Given as goal
+use Rattle.hc_driver.proofs.through.go_through_prefix.Given as goal
 
 abbrev pub invariant-loop-events : goal.invariant-loop-events
 invariant-loop-events g l = IsOn g.C.Course.tells g.C.Course.over g.C.Course.spent l.fn.on l.on l.fn.moment (g.S.Source.given l.fn.source)

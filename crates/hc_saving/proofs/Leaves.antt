@@ -4,7 +4,7 @@
 -- (`is_leaving`). Who is cancelled is over, all others are as live as they were, and nobody starts: so one less is live
 -- (`one_less`). What has left so far is kept as the way to the end: whatever leaves behind it, leaves behind the
 -- history at first (`IsLeaving`).
-use Rattle.std.{proofs.{Common.{◌≡◌, ◌≢◌, ◌≤◌, ℕ, ◌+◌, List, [], ◌∷◌, length, Bool, true, false, Option, Some, None, refl, ap, sym, ◌∙◌, subst, arith}, Math.{Bridge.{le_prop}, Logic.{∥∥₁_elim, ∥∥₁_map}}, lemmas.Bool.Decides.{nat_tests}}, specs.Prelude.{is_some, nat_eq, if◌then◌else◌}}
+use Rattle.std.{proofs.{Common.{◌≡◌, ◌≢◌, ◌≤◌, ℕ, ◌+◌, List, ◌∷◌, length, Bool, true, false, Option, Some, None, refl, ap, sym, ◌∙◌, subst, arith}, Math.{Bridge.{le_prop}, Logic.{∥∥₁_elim, ∥∥₁_map}}, lemmas.Bool.Decides.{nat_tests}}, specs.Prelude.{is_some, nat_eq}}
 use Rattle.hc_effects.proofs.Vocabulary.{Act, Event, Limits, live, is_live, Entry, History, Contents, failures_in, Lawful, Tables, Consumer, IsOwed, owed, tables, after, starts_after}
 use Rattle.hc_event.specs.declared.event.Event.TheVariants as event
 use Rattle.hc_store.specs.declared.backend.Backend.{Ghosts}

@@ -5,7 +5,7 @@
 -- so an image of such contents is never refused (`always_taken`). A cache that begins with contents stands for their
 -- beginning, and for each run that leaves them. Its store counts no failure, so no act tells one. So what was replayed
 -- is a run from the contents, and goes on behind whatever left them (`continued`), at each ending (`ends_continued`).
-use Rattle.std.{proofs.{Common.{◌≡◌, ◌≢◌, ◌≤◌, ℕ, ◌+◌, List, [], ◌∷◌, ◌++◌, true, false, Option, Some, None, refl, sym, ◌∙◌, subst, arith}, lemmas.List.{append-nil}}, specs.Prelude.{is_none}}
+use Rattle.std.{proofs.{Common.{◌≡◌, ◌≢◌, ℕ, List, [], ◌++◌, true, false, Option, Some, None, refl, sym, ◌∙◌, subst, arith}, lemmas.List.{append-nil}}, specs.Prelude.{is_none}}
 use Rattle.hc_io.specs.Source.{GivesAll}
 use Rattle.hc_sched.specs.{declared.schedule.{Ended.{Ended}, Timed.{Timed}}, Schedule.{Spells}}
 use Rattle.hc_sched.specs.declared.schedule.Ended.TheVariants as ended
@@ -23,9 +23,11 @@ use Rattle.hc_replay.specs.{Histories.{run_of}, Replays.{IsWholeRun, IsReplayed,
 use Rattle.hc_replay.specs.Replays as replays
 use Rattle.hc_image.specs.{Readings.{BeginsWithNone}, Spelled.{SpellsImage}}
 use Rattle.hc_image.proofs.Once.{image_once}
-use Rattle.hc_saving.specs.{declared.open.OpenEnded.{OpenEnded}, Opens.{IsOpened, Leaves, IsContinued, Continues, Opens, Completes, IsImageTaken, IsUnopened, BeginsWith, IsUnbegun, refused_by}}
+use Rattle.hc_saving.specs.{declared.open.OpenEnded.{OpenEnded}, Opens.{IsOpened, Leaves, IsContinued, Continues, Opens, Completes, IsImageTaken, IsUnopened, ended_by}, declared.begin.BeginError.{BeginError}, Begins.{BeginsWith, IsUnbegun, refused_by}}
 use Rattle.hc_saving.specs.declared.open.OpenEnded.TheVariants as opened
 use Rattle.hc_saving.specs.Opens as opens
+use Rattle.hc_saving.specs.Begins as begins
+use Rattle.hc_saving.specs.declared.begin.BeginError.TheVariants as begin
 use Rattle.hc_saving.proofs.Saved.{gives_front}
 
 -- WHICH IMAGE
@@ -56,27 +58,33 @@ unopened_completes limits (Some old) left' text _ gives opens.unread = tt
 
 -- why no cache began, by its cause
 pub unbegun : (limits : Limits) (contents : Contents) (why : ContentsError) (before now : ℕ) → IsCause limits contents before now why → IsUnbegun limits contents (refused_by why)
-unbegun limits contents (error.BadContent i) before now cause = opens.bad i cause
-unbegun limits contents error.Full before now cause = opens.heavy cause
-unbegun limits contents error.Fault before now cause = opens.lacking
-unbegun limits contents error.NoMemory before now cause = opens.lacking
+unbegun limits contents (error.BadContent i) before now cause = begins.refused (unfit.BadContent i) cause
+unbegun limits contents error.Full before now cause = begins.refused unfit.Full cause
+unbegun limits contents error.Fault before now cause = begins.lacking
+unbegun limits contents error.NoMemory before now cause = begins.lacking
 
 -- so the open ends
-pub unbegun_ends : (limits : Limits) (left left' out : Option (List ℕ)) (text schedule : List ℕ) (contents : Contents) (e : OpenEnded) → GivesAll left left' text → IsOpened text contents schedule → IsUnbegun limits contents e → Opens limits left left' out out e
-unbegun_ends limits left left' out text schedule contents _ gives is (opens.bad i says) = opens.bad_content text schedule contents i gives is says refl
-unbegun_ends limits left left' out text schedule contents _ gives is (opens.heavy says) = opens.full text schedule contents gives is says refl
-unbegun_ends limits left left' out text schedule contents _ gives is opens.lacking = opens.wanting text (gives_front left left' text gives) refl
+pub unbegun_ends : (limits : Limits) (left left' out : Option (List ℕ)) (text schedule : List ℕ) (contents : Contents) (e : BeginError) → GivesAll left left' text → IsOpened text contents schedule → IsUnbegun limits contents e → Opens limits left left' out out (ended_by e)
+unbegun_ends limits left left' out text schedule contents _ gives is (begins.refused (unfit.BadContent i) says) = opens.bad_content text schedule contents i gives is says refl
+unbegun_ends limits left left' out text schedule contents _ gives is (begins.refused unfit.Full says) = opens.full text schedule contents gives is says refl
+unbegun_ends limits left left' out text schedule contents _ gives is begins.lacking = opens.wanting text (gives_front left left' text gives) refl
 
 -- and it tells of each image that the input begins with
-pub unbegun_completes : (limits : Limits) (left left' : Option (List ℕ)) (text schedule : List ℕ) (contents : Contents) (e : OpenEnded) → GivesAll left left' text → IsOpened text contents schedule → IsUnbegun limits contents e → Completes limits left e
-unbegun_completes limits None left' text schedule contents e gives is why = tt
-unbegun_completes limits (Some old) left' text schedule contents _ gives is (opens.bad i says) = λ c s q.
-    let same = (opened_once text contents c schedule s is (subst (λ (t : List ℕ). IsOpened t c s) (sym gives.0) q)).0 in
-    subst (λ (d : Contents). unfit_of limits d ≡ Some (unfit.BadContent i)) same says
-unbegun_completes limits (Some old) left' text schedule contents _ gives is (opens.heavy says) = λ c s q.
-    let same = (opened_once text contents c schedule s is (subst (λ (t : List ℕ). IsOpened t c s) (sym gives.0) q)).0 in
-    subst (λ (d : Contents). unfit_of limits d ≡ Some unfit.Full) same says
-unbegun_completes limits (Some old) left' text schedule contents _ gives is opens.lacking = tt
+pub unbegun_completes : (limits : Limits) (left left' : Option (List ℕ)) (text schedule : List ℕ) (contents : Contents) (e : BeginError) → GivesAll left left' text → IsOpened text contents schedule → IsUnbegun limits contents e → Completes limits left (ended_by e)
+unbegun_completes limits left left' text schedule contents _ gives is (begins.refused why says) = by_unfit left why gives says
+  where
+    each : (old : List ℕ) → text ≡ old → (why : Unfit) → unfit_of limits contents ≡ Some why → (c : Contents) (s : List ℕ) → IsOpened old c s → unfit_of limits c ≡ Some why
+    each old same why says c s q =
+        let once = (opened_once text contents c schedule s is (subst (λ (t : List ℕ). IsOpened t c s) (sym same) q)).0 in
+        subst (λ (d : Contents). unfit_of limits d ≡ Some why) once says
+
+    by_unfit : (left : Option (List ℕ)) (why : Unfit) → GivesAll left left' text → unfit_of limits contents ≡ Some why → Completes limits left (ended_by (begin.Unfit why))
+    by_unfit None (unfit.BadContent i) gives says = tt
+    by_unfit None unfit.Full gives says = tt
+    by_unfit (Some old) (unfit.BadContent i) gives says = each old gives.0 (unfit.BadContent i) says
+    by_unfit (Some old) unfit.Full gives says = each old gives.0 unfit.Full says
+unbegun_completes limits None left' text schedule contents _ gives is begins.lacking = tt
+unbegun_completes limits (Some old) left' text schedule contents _ gives is begins.lacking = tt
 
 -- what a replay tells of the schedule behind its image it tells of the schedule behind each
 pub run_completes : (limits : Limits) (left left' : Option (List ℕ)) (text schedule : List ℕ) (contents : Contents) (e : Ended) → GivesAll left left' text → IsOpened text contents schedule → replays.Completes contents.now (Some schedule) e → Completes limits left (opened.Ran e)
@@ -120,7 +128,7 @@ unfolding tables
 begun_moment s contents stands = stands.moment
 
 module _ {B : Type 0} {g : Ghosts B} (limits : Limits) (contents : Contents) (s : Cache B g) (stands : StandsFor s contents []) (serves : ServesAll s contents) (limited : limits_in s ≡ limits) (calm : (v : Cache B g) → faults_in v ≡ 0) where
-  behind : (before : Contents) (earlier : History) → Leaves limits before earlier contents → StandsFor s before earlier
+  pub behind : (before : Contents) (earlier : History) → Leaves limits before earlier contents → StandsFor s before earlier
   behind before earlier leaves =
       serves before earlier (subst (λ (l : Limits). may_begin l before ≡ true) (sym limited) leaves.begins) leaves.short
       (subst (λ (l : Limits). IsRun l before earlier) (sym limited) leaves.run) leaves.empty leaves.contents_are

@@ -5,7 +5,7 @@
 -- which a store may begin: no more exchanges were opened than events came, and the text that brought them had at least
 -- two bytes for each (`is_left`). So what was written is the image of what was left, at each ending.
 use Rattle.std.{proofs.{Common.{◌≡◌, ◌≢◌, inl, inr, ◌≤◌, ◌<◌, ◌^◌, ℕ, suc, ◌+◌, ◌-◌, List, [], ◌∷◌, ◌++◌, length, Bool, true, false, Option, Some, None, refl, ap, sym, ◌∙◌, subst, arith}, lemmas.List.{append-nil}}, specs.Prelude.{if◌then◌else◌}}
-use Rattle.hc_effects.proofs.Vocabulary.{is_denied, Limits, may_begin, contents_of, History, Contents, no_contents, IsRun, tables, after, after_accepted, after_denied}
+use Rattle.hc_effects.proofs.Vocabulary.{is_denied, Limits, may_begin, contents_of, History, Contents, no_contents, tables, after, after_accepted, after_denied}
 use Rattle.hc_io.specs.{Faults.{HasRisen}, Source.{Gives, GivesAll}}
 use Rattle.hc_sched.specs.{declared.schedule.{Ended.{Ended}, Timed.{Timed}}, Laws.{AreTimed}, Schedule.{Item, Spells, events_of}}
 use Rattle.hc_sched.specs.declared.schedule.Ended.TheVariants as ended
@@ -15,60 +15,53 @@ use Rattle.hc_driver.specs.{Courses.{Goes}, Endings.{How, Wholly, UpToEnd, Ends}
 use Rattle.hc_driver.specs.Endings as endings
 use Rattle.hc_driver.specs.Stepping as steps
 use Rattle.hc_driver.proofs.Timings.{timed_back}
-use Rattle.hc_store.specs.declared.backend.Backend.{Ghosts}
-use Rattle.hc_laws.proofs.{CountedOpenings.{openings_counted}, ReadWhole.{runs_read_whole}}
-use Rattle.hc_core.specs.{declared.cache.Cache.{Cache}, Steps.{StandsFor, Answers, limits_in, last_moment, steps as steps_in}}
+use Rattle.hc_laws.proofs.{CountedOpenings.{openings_counted}}
+use Rattle.hc_core.specs.{Steps.{StandsFor, Answers, limits_in, last_moment, steps as steps_in}}
 use Rattle.hc_replay.specs.{Histories.{run_of, failures}, Replays.{IsWholeRun, IsReplayed}}
 use Rattle.hc_replay.proofs.Reported.{replayed, leads_limits}
 use Rattle.hc_image.specs.{Images.{image_of}, Spelled.{SpellsImage}}
-use Rattle.hc_saving.specs.{declared.silent.Silent.{Silent}, Leaving.{HasLeft}, Saves.{IsLeft, IsSaved, Saves, Writes, saved_of}, Silence.{AnswersSilently, IsSpent}}
+use Rattle.hc_saving.specs.{declared.silent.Silent.{Silent}, Recovers.{IsLeftBehind}, Saves.{IsLeft, IsSaved, Saves, Writes, saved_of}, Silence.{AnswersSilently, IsSpent}}
 use Rattle.hc_saving.specs.Saves as saves
 
 -- WHAT IS LEFT
 
-module _ {B : Type 0} {g : Ghosts B} (s u : Cache B g) (h : History) (q : HasLeft s u no_contents h) (limits : limits_in u ≡ limits_in s) (count : steps_in s ≡ length h) (few : steps_in u ≤ 2 ^ 59 + 1024)
-    (found : Contents) (told : found ≡ saved_of q.left) (fits : found.next_exchange ≤ 2 ^ 60 → may_begin (limits_in u) found ≡ true) (written : may_begin (limits_in u) found ≡ true → SpellsImage (image_of found) found) where
+module _ (limits : Limits) (h : History) (found : Contents) (q : IsLeftBehind limits no_contents h found) (few : length h ≤ 2 ^ 59)
+    (fits : found.next_exchange ≤ 2 ^ 60 → may_begin limits found ≡ true) (written : may_begin limits found ≡ true → SpellsImage (image_of found) found) where
+  told : found ≡ saved_of q.left
+  told = sym q.leaves.contents_are
+
   next_few : found.next_exchange ≤ 2 ^ 60
   unfolding contents_of
   next_few =
-      let opened : (tables no_contents q.left).opened ≤ no_contents.next_exchange - 1 + length q.left = openings_counted (limits_in u) no_contents q.left q.stands.begins q.stands.run in
+      let opened : (tables no_contents q.left).opened ≤ no_contents.next_exchange - 1 + length q.left = openings_counted limits no_contents q.left q.leaves.begins q.leaves.run in
       let next : found.next_exchange ≡ (tables no_contents q.left).opened + 1 = ap (λ (c : Contents). c.next_exchange) told in
-      let number = q.number in
-      omega (arith, opened, next, number, count, few)
+      let long = q.few in
+      omega (arith, opened, next, long, few)
 
-  image_spells : SpellsImage (image_of found) (saved_of q.left)
-  image_spells = subst (SpellsImage (image_of found)) told (written (fits next_few))
-
-  begins : may_begin (limits_in s) (saved_of q.left) ≡ true
-  begins = subst (λ (l : Limits). may_begin l (saved_of q.left) ≡ true) limits (subst (λ (c : Contents). may_begin (limits_in u) c ≡ true) told (fits next_few))
-
-  is_left : IsLeft (limits_in s) h (image_of found)
+  is_left : IsLeft limits h (image_of found)
   is_left = record {
     left = q.left;
     leave = q.leave;
-    whole = record {
-      run = subst (λ (l : Limits). IsRun l no_contents q.left) limits q.stands.run;
-      reads = runs_read_whole (limits_in u) no_contents q.left q.stands.begins q.stands.run;
-    };
-    begins = begins;
+    whole = record { run = q.leaves.run; reads = q.reads };
+    begins = subst (λ (c : Contents). may_begin limits c ≡ true) told (fits next_few);
     image_is = ap image_of told;
-    spells = image_spells;
+    spells = subst (SpellsImage (image_of found)) told (written (fits next_few));
   }
 
   -- its image is what was written, behind nothing
-  pub image_left : (image before : List ℕ) → before ≡ [] → image ≡ before ++ image_of found → IsLeft (limits_in s) h image
+  pub image_left : (image before : List ℕ) → before ≡ [] → image ≡ before ++ image_of found → IsLeft limits h image
   image_left image before nothing written =
-      subst (IsLeft (limits_in s) h) (sym (written ∙ ap (λ (l : List ℕ). l ++ image_of found) nothing)) is_left
+      subst (IsLeft limits h) (sym (written ∙ ap (λ (l : List ℕ). l ++ image_of found) nothing)) is_left
 
 -- WHAT WAS STEPPED
 
 -- these steps of the cache were made
-record Stepped (s u : Silent) (h : courses.History) : Type 0 where
-  history : steps.History
-  leads : steps.Leads (λ a now event acts b. Answers a b now event acts) s.cache history u.cache
-  events_are : steps.events_in history ≡ courses.events_in h
+pub record Stepped (s u : Silent) (h : courses.History) : Type 0 where
+  pub history : steps.History
+  pub leads : steps.Leads (λ a now event acts b. Answers a b now event acts) s.cache history u.cache
+  pub events_are : steps.events_in history ≡ courses.events_in h
 
-stepped : (n : ℕ) (s u : Silent) (h : courses.History) → courses.Leads AnswersSilently never n s h u → Stepped s u h
+pub stepped : (n : ℕ) (s u : Silent) (h : courses.History) → courses.Leads AnswersSilently never n s h u → Stepped s u h
 stepped n s _ _ courses.nothing = record { history = []; leads = steps.nothing; events_are = refl }
 stepped n s u _ (courses.more h e t _ leads off tells) =
     let q = stepped n s t h leads in
@@ -79,7 +72,7 @@ stepped n s u _ (courses.more h e t _ leads off tells) =
     }
 
 -- the moment behind what was stepped is small
-moment_of : (h : steps.History) (contents : Contents) (last : ℕ) → contents.now < 2 ^ 62 → AreTimed last (steps.events_in h) → (tables contents (run_of h)).moment < 2 ^ 62
+pub moment_of : (h : steps.History) (contents : Contents) (last : ℕ) → contents.now < 2 ^ 62 → AreTimed last (steps.events_in h) → (tables contents (run_of h)).moment < 2 ^ 62
 unfolding tables after
 moment_of [] contents last early timed = early
 moment_of (e ∷ h) contents last early timed =

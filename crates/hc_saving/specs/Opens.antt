@@ -1,5 +1,5 @@
 -- What came of an open: an image was read, and the schedule behind it was stepped from what the image has.
-use Rattle.std.specs.Prelude.{◌≡◌, ◌≢◌, ℕ, ◌+◌, List, [], ◌++◌, Option, Some, None, true}
+use Rattle.std.specs.Prelude.{◌≡◌, ◌≢◌, ℕ, List, ◌++◌, Option, Some, None, true}
 use Rattle.hc_io.specs.Sink.{Takes}
 use Rattle.hc_io.specs.Source.{Gives, GivesAll}
 use Rattle.hc_sched.specs.declared.schedule.Ended.{Ended}
@@ -20,18 +20,14 @@ use Rattle.hc_model.specs.Entries.{History, Contents}
 use Rattle.hc_model.specs.Numbers.{AreShort}
 use Rattle.hc_model.specs.Runs.{IsRun}
 use Rattle.hc_model.specs.Tables.{tables}
-use Rattle.hc_core.specs.declared.begin.ContentsError.{ContentsError}
-use Rattle.hc_core.specs.declared.begin.ContentsError.TheVariants as error
-use Rattle.hc_core.specs.Steps.{StandsFor, ServesAll, limits_in, bytes_received}
-use Rattle.hc_core.specs.Steps.{steps as steps_in}
 use Rattle.hc_replay.specs.Histories.{run_of, failures}
 use Rattle.hc_replay.specs.Replays.{IsWholeRun}
 use Rattle.hc_image.specs.Readings.{BeginsWithNone}
 use Rattle.hc_image.specs.Spelled.{SpellsImage}
+use Rattle.hc_saving.specs.declared.begin.BeginError.{BeginError}
+use Rattle.hc_saving.specs.declared.begin.BeginError.TheVariants as begin
 use Rattle.hc_saving.specs.declared.open.OpenEnded.{OpenEnded}
 use Rattle.hc_saving.specs.declared.open.OpenEnded.TheVariants as opened
-use Rattle.hc_store.specs.declared.backend.Backend.{Ghosts}
-use Rattle.hc_core.specs.declared.cache.Cache.{Cache}
 
 -- THE IMAGE
 
@@ -127,23 +123,7 @@ pub data IsUnopened (text : List ℕ) : OpenEnded → Type 0 where
 -- A CACHE BEGINS
 
 -- how an open ends where none does
-abbrev pub refused_by : ContentsError → OpenEnded
-refused_by (error.BadContent i) = opened.BadContent i
-refused_by error.Full = opened.Full
-refused_by error.Fault = opened.Ran ended.NoMemory
-refused_by error.NoMemory = opened.Ran ended.NoMemory
-
--- it begins with these contents, and is unused
-pub record BeginsWith {B : Type 0} {g : Ghosts B} (limits : Limits) (contents : Contents) (cache : Cache B g) : Type 0 where
-  pub fits : unfit_of limits contents ≡ None
-  pub stands : StandsFor cache contents []
-  pub serves : ServesAll cache contents
-  pub unused : steps_in cache + bytes_received cache ≡ 0
-  pub limited : limits_in cache ≡ limits
-
--- or the contents are refused, or memory was
-pub data IsUnbegun (limits : Limits) (contents : Contents) : OpenEnded → Type 0 where
-  bad : (i : ℕ) → unfit_of limits contents ≡ Some (unfit.BadContent i) →
-      IsUnbegun limits contents (opened.BadContent i)
-  heavy : unfit_of limits contents ≡ Some unfit.Full → IsUnbegun limits contents opened.Full
-  lacking : IsUnbegun limits contents (opened.Ran ended.NoMemory)
+abbrev pub ended_by : BeginError → OpenEnded
+ended_by (begin.Unfit (unfit.BadContent i)) = opened.BadContent i
+ended_by (begin.Unfit unfit.Full) = opened.Full
+ended_by begin.NoMemory = opened.Ran ended.NoMemory

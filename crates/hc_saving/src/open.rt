@@ -1,4 +1,6 @@
 //! How an open ends.
+use crate::begin::BeginError;
+use hc_contents::Unfit;
 use hc_sched::Ended;
 
 /// How an open ends.
@@ -14,4 +16,19 @@ pub enum OpenEnded {
     BadContent { i: u64 },
     /// All of it weighs more than a store may hold.
     Full,
+}
+
+impl From<BeginError> for OpenEnded {
+    ghost use Rattle.std.specs.Prelude.{◌≡◌};
+    ghost use Rattle.hc_saving.specs.Opens.{ended_by};
+
+    ghost from_gives = { λ e ended. ended ≡ ended_by e };
+
+    fn from(e: BeginError) -> Self {
+        match e {
+            BeginError::Unfit(Unfit::BadContent { i }) => OpenEnded::BadContent { i },
+            BeginError::Unfit(Unfit::Full) => OpenEnded::Full,
+            BeginError::NoMemory => OpenEnded::Ran(Ended::NoMemory),
+        }
+    }
 }

@@ -5,21 +5,19 @@ ghost use Rattle.hc_sched.specs.declared.schedule.Ended.TheVariants as ended;
 ghost use Rattle.hc_saving.specs.declared.open.OpenEnded.TheVariants as opened;
 ghost use Rattle.hc_model.specs.Beginnings.{may_begin};
 ghost use Rattle.hc_model.specs.Entries as model;
-ghost use Rattle.hc_core.specs.declared.begin.ContentsError.TheVariants as error;
 ghost use Rattle.hc_image.specs.Spelled.{SpellsImage};
 ghost use Rattle.hc_contents.specs.PlainContents.{plain_contents};
-ghost use Rattle.hc_saving.specs.Opens.{Opens, Completes, IsImageTaken, IsOpened, IsUnopened, BeginsWith, IsUnbegun, refused_by};
+ghost use Rattle.hc_saving.specs.Opens.{Opens, Completes, IsImageTaken, IsOpened, IsUnopened};
 ghost use Rattle.hc_saving.specs.Saves.{IsLeft};
 
+use crate::begin::begin;
 use crate::open::OpenEnded;
 use hc_contents::Contents;
-use hc_core::{Cache, ContentsError};
 use hc_image::read_image;
 use hc_io::{PlainSource, ReadError, Sink, Source, read_all};
 use hc_replay::replay;
 use hc_rules::Limits;
 use hc_sched::Ended;
-use hc_store::Memory;
 use hc_text::NoMemory;
 use std::alloc::Global;
 
@@ -68,7 +66,7 @@ pub fn reopen<S: Source, K: Sink>(
     let moment = contents.now;
     let mut cache = match begin(alloc, limits, contents) {
         Ok(cache) => cache,
-        Err(ended) => return ended,
+        Err(e) => return OpenEnded::from(e),
     };
     let mut schedule = PlainSource::new(schedule);
     OpenEnded::Ran(replay(alloc, moment, &mut cache, &mut schedule, sink))
@@ -100,30 +98,5 @@ fn parts_of(alloc: Global, text: Vec<u8>) -> Result<Parts, OpenEnded>
             schedule,
         }),
         Err(_) => Err(OpenEnded::Ran(Ended::NoMemory)),
-    }
-}
-
-/// Begins a cache with these contents.
-fn begin(alloc: Global, limits: Limits, contents: Contents) -> Result<Cache<Memory>, OpenEnded>
-    ensures begun { IfOk result (BeginsWith limits (plain_contents contents)) }
-    ensures none { IfErr result (IsUnbegun limits (plain_contents contents)) }
-{
-    let store = Memory::new(alloc, limits);
-    match Cache::with_contents(store, limits, &contents, alloc) {
-        Ok(cache) => Ok(cache),
-        Err(refused) => Err(refused_as(refused.why)),
-    }
-}
-
-/// How an open ends where no cache begins. A store in memory doesn't fail.
-fn refused_as(why: ContentsError) -> OpenEnded
-    requires { why ≢ error.Fault }
-    ensures { result ≡ refused_by why }
-{
-    match why {
-        ContentsError::BadContent { i } => OpenEnded::BadContent { i },
-        ContentsError::Full => OpenEnded::Full,
-        ContentsError::NoMemory => OpenEnded::Ran(Ended::NoMemory),
-        ContentsError::Fault => unreachable!(),
     }
 }

@@ -8,6 +8,7 @@ ghost use Rattle.hc_saving.specs.Leaving.{StandsForAny};
 ghost use Rattle.hc_saving.specs.Saves.{Saves, Writes};
 
 use crate::leaving::image_left;
+use crate::nowhere::Nowhere;
 use crate::silent::Silent;
 use hc_core::Cache;
 use hc_driver::go_through;
@@ -69,21 +70,5 @@ fn write_left<K: Sink>(alloc: Global, cache: Cache<Memory>, sink: &mut K) -> End
         Ok(()) => Ended::Done,
         Err(SinkError::SinkFailed) => Ended::SinkFailed,
         Err(SinkError::NoMemory) => Ended::NoMemory,
-    }
-}
-
-/// Takes all bytes, and keeps none.
-#[derive(Drop)]
-struct Nowhere;
-
-impl Sink for Nowhere {
-    ghost use Rattle.std.specs.Prelude.{None};
-
-    ghost faults = { λ _. 0 };
-
-    ghost taken = { λ _. None };
-
-    fn write(&mut self, from: &[u8]) -> Result<usize, SinkError> {
-        Ok(from.len())
     }
 }

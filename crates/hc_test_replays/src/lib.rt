@@ -6,4 +6,6 @@ mod contents;
 #[cfg(test)]
 mod hostile;
 #[cfg(test)]
+mod recoveries;
+#[cfg(test)]
 mod reports;

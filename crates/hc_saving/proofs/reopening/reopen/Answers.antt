@@ -28,19 +28,19 @@ returns-in-Err-clause-saved g c = λ h image schedule is here.
 
 pub returns-in-Err-begin-clause-ends : goal.returns-in-Err-begin-clause-ends
 returns-in-Err-begin-clause-ends g c =
-    unbegun_ends c.args.limits _ _ _ c.in-Ok.text.items c.in-Ok-parts_of.parts.schedule.items (plain_contents c.in-Ok-parts_of.parts.contents) c.in-Err-begin.ended c.in-Ok.ensures.ok c.in-Ok-parts_of.ensures.found c.in-Err-begin.ensures.none
+    rw c.from.ensures (unbegun_ends c.args.limits _ _ _ c.in-Ok.text.items c.in-Ok-parts_of.parts.schedule.items (plain_contents c.in-Ok-parts_of.parts.contents) c.in-Err-begin.e c.in-Ok.ensures.ok c.in-Ok-parts_of.ensures.found c.in-Err-begin.ensures.none)
 
 pub returns-in-Err-begin-clause-complete : goal.returns-in-Err-begin-clause-complete
 returns-in-Err-begin-clause-complete g c =
-    unbegun_completes c.args.limits _ _ c.in-Ok.text.items c.in-Ok-parts_of.parts.schedule.items (plain_contents c.in-Ok-parts_of.parts.contents) c.in-Err-begin.ended c.in-Ok.ensures.ok c.in-Ok-parts_of.ensures.found c.in-Err-begin.ensures.none
+    rw c.from.ensures (unbegun_completes c.args.limits _ _ c.in-Ok.text.items c.in-Ok-parts_of.parts.schedule.items (plain_contents c.in-Ok-parts_of.parts.contents) c.in-Err-begin.e c.in-Ok.ensures.ok c.in-Ok-parts_of.ensures.found c.in-Err-begin.ensures.none)
 
 pub returns-in-Err-begin-clause-begins : goal.returns-in-Err-begin-clause-begins
 returns-in-Err-begin-clause-begins g c = λ contents image schedule is may here.
-    always_taken c.args.limits _ c.in-Err-begin.ended (returns-in-Err-begin-clause-complete g c) contents image schedule is may here
+    always_taken c.args.limits _ c.from.result (returns-in-Err-begin-clause-complete g c) contents image schedule is may here
 
 pub returns-in-Err-begin-clause-saved : goal.returns-in-Err-begin-clause-saved
 returns-in-Err-begin-clause-saved g c = λ h image schedule is here.
-    always_taken c.args.limits _ c.in-Err-begin.ended (returns-in-Err-begin-clause-complete g c) (saved_of is.left) image schedule is.spells is.begins here
+    always_taken c.args.limits _ c.from.result (returns-in-Err-begin-clause-complete g c) (saved_of is.left) image schedule is.spells is.begins here
 
 pub replay-requires-clause-later : goal.replay-requires-clause-later
 replay-requires-clause-later g c =

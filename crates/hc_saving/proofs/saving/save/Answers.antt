@@ -1,4 +1,4 @@
-use Rattle.std.proofs.Common.{refl, ◌∙◌, subst, arith, ◌≡◌}
+use Rattle.std.proofs.Common.{refl, subst, arith, ◌≡◌}
 use Rattle.hc_effects.proofs.Vocabulary.{Limits, no_contents}
 use Rattle.hc_replay.specs.Histories.{run_of, failures}
 use Rattle.hc_replay.proofs.Reported.{new_moment}

@@ -2,7 +2,7 @@ use Rattle.std.proofs.Common.{◌≡◌, true, subst}
 use Rattle.hc_contents.specs.PlainContents.{plain_contents}
 use Rattle.hc_effects.proofs.Vocabulary.{Limits, may_begin}
 use Rattle.hc_saving.proofs.Opened.{fitting, unbegun}
-use Rattle.hc_saving.proofs.reopening.begin.Goals as goal
+use Rattle.hc_saving.proofs.begin.begin.Goals as goal
 
 pub returns-in-Ok-clause-begun : goal.returns-in-Ok-clause-begun
 returns-in-Ok-clause-begun c =

@@ -7,7 +7,8 @@
 -- words or the input.
 use Rattle.std.{proofs.{Common.{◌≡◌, ◌⊎◌, ℕ, List, Option, Some, None, [], ◌∷◌, true, false, refl, ap, sym, ◌∙◌, subst, inl, inr, arith}, lemmas.Slice.Eq.{bytes_eq-Decides}}, specs.Prelude.{codes, bytes_eq}}
 use Rattle.hc_io.specs.{Faults.{HasRisen}, Source.{Gives}}
-use Rattle.hc_sched.specs.{declared.schedule.Refused.{Refused}, Laws.{refusal_of}, Schedule.{Item, Spells}}
+use Rattle.hc_sched.specs.{declared.schedule.Refused.{Refused}, Schedule.{Item, Spells}}
+use Rattle.hc_sched.specs.Reading.{refusal_of}
 use Rattle.hc_sched.proofs.OneReading.{is_read}
 use Rattle.hc_driver.specs.Endings as endings
 use Rattle.hc_driver.specs.Endings.{Reach, IsRead, IsRefusedIn}

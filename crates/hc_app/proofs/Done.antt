@@ -17,7 +17,8 @@ use Rattle.hc_driver.proofs.Reported.{all_reported}
 use Rattle.hc_model.specs.{Entries.{no_contents}, Runs.{IsRun}}
 use Rattle.hc_core.specs.{declared.cache.Cache.{Cache}, Steps.{StandsFor, limits_in, faults_in}}
 use Rattle.hc_replay.specs.Replays as replays
-use Rattle.hc_replay.specs.{Replays.{IsReplayed, IsWholeRun}, Histories.{run_of}}
+use Rattle.hc_replay.specs.{Replays.{IsReplayed}, Histories.{run_of}}
+use Rattle.hc_replay.specs.WholeRuns.{IsWholeRun}
 use Rattle.hc_replay.specs.Generates as generates
 use Rattle.hc_app.specs.{declared.status.Status.{Status}, Concluding.{Concludes}, Owing.{Streams, Does}, Replaying.{store_limits, IsWhole, IsReport, BeginsReplay}, Statuses.{stopped_as}, Texts.{usage_text}}
 use Rattle.hc_app.specs.declared.status.Status.TheVariants as status

@@ -12,7 +12,7 @@ use Rattle.hc_driver.specs.Endings as endings
 use Rattle.hc_driver.specs.{Endings.{How, UpToEnd, ToEnd, IsSteppedAtOnce}, Stepping.{History, report_of, report_before, last_entry}}
 use Rattle.hc_driver.proofs.Reported.{all_reported}
 use Rattle.hc_model.specs.{Entries.{no_contents}, Runs.{IsRun}}
-use Rattle.hc_replay.specs.Replays.{IsWholeRun}
+use Rattle.hc_replay.specs.WholeRuns.{IsWholeRun}
 use Rattle.hc_store.specs.declared.backend.Backend.{Ghosts}
 use Rattle.hc_front.specs.{declared.front.Front.{Front}, FrontHistories.{FrontHistory, core_of, told_of}, Replays.{IsReplayed}, Steps.{FrontStands, limits_in, faults_in}}
 use Rattle.hc_front.specs.Replays as replays

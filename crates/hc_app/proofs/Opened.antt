@@ -13,7 +13,8 @@ use Rattle.hc_driver.specs.{Endings.{How, UpToEnd, ToEnd, IsSteppedAtOnce}, Step
 use Rattle.hc_driver.proofs.Reported.{all_reported}
 use Rattle.hc_contents.specs.Fit.{unfit_of}
 use Rattle.hc_model.specs.Entries.{Contents}
-use Rattle.hc_saving.specs.{declared.open.OpenEnded.{OpenEnded}, Opens.{IsOpened, IsContinued, Continues}}
+use Rattle.hc_saving.specs.{declared.open.OpenEnded.{OpenEnded}, Opens.{Continues}}
+use Rattle.hc_saving.specs.Continued.{IsOpened, IsContinued}
 use Rattle.hc_saving.specs.declared.open.OpenEnded.TheVariants as opened
 use Rattle.hc_saving.specs.Opens as opens
 use Rattle.hc_saving.proofs.Saved.{gives_front}

@@ -15,7 +15,7 @@ use Rattle.hc_model.specs.Entries.{Contents}
 use Rattle.hc_image.specs.Readings.{BeginsWithNone}
 use Rattle.hc_saving.specs.declared.open.OpenEnded.{OpenEnded}
 use Rattle.hc_saving.specs.declared.open.OpenEnded.TheVariants as opened
-use Rattle.hc_saving.specs.Opens.{IsOpened, IsContinued}
+use Rattle.hc_saving.specs.Continued.{IsOpened, IsContinued}
 use Rattle.hc_app.specs.declared.status.Status.{Status}
 use Rattle.hc_app.specs.declared.status.Status.TheVariants as status
 use Rattle.hc_app.specs.Concluding.{Concludes}

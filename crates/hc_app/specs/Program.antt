@@ -2,7 +2,7 @@
 -- owes: `Replaying`, `Generating`, `Saving`, `Opening`, `Fronting` and `Fetching`.
 use Rattle.std.specs.Prelude.{◌≡◌, ◌⊎◌, ℕ, List, [], Option, Some}
 use Rattle.hc_sched.specs.declared.schedule.Refused.{Refused}
-use Rattle.hc_sched.specs.Laws.{refusal_of}
+use Rattle.hc_sched.specs.Reading.{refusal_of}
 use Rattle.hc_sched.specs.Schedule.{Item, Spells}
 use Rattle.hc_driver.specs.Endings.{Reach, SoFar}
 use Rattle.hc_model.specs.Entries.{Contents}

@@ -1,6 +1,6 @@
 -- What came of the serving loop, by the status.
 use Rattle.std.specs.Prelude.{◌≡◌, ℕ, List, Option, Some}
-use Rattle.hc_proxy.specs.Serving.{ServesAs}
+use Rattle.hc_proxy.specs.Served.{ServesAs}
 use Rattle.hc_sched.specs.declared.schedule.Ended.{Ended}
 use Rattle.hc_sched.specs.declared.schedule.Ended.TheVariants as ended
 use Rattle.hc_wire.specs.Logs.{Log, Tells, with_binding}

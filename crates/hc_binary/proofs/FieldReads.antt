@@ -1,7 +1,8 @@
 -- Lines of fields, read one after another.
 use Rattle.std.proofs.{Common.{◌≡◌, ◌≢◌, ℕ, ◌+◌, ◌<◌, true, false, not, ◌==◌, List, [], ◌∷◌, ◌++◌, length, take, drop, Option, Some, None, Result, Ok, Err, inl, inr, refl, sym, ap, subst, ◌∙◌, arith, append_assoc, length-append}, lemmas.{Bool.{and_parts, ne_eqb, not-true}, List.{append-nil}}}
 use Rattle.std.specs.{Prelude.{position}, Result.{IsErrAnd, MatchResult}}
-use Rattle.hc_text.specs.{Texts.{lacks}, Cuts.{cut}}
+use Rattle.hc_text.specs.Texts.{lacks}
+use Rattle.hc_text.specs.Texts.{cut}
 use Rattle.hc_text.proofs.Cutting.{none_or_some}
 use Rattle.hc_text.proofs.Cuts.{cut-position, lacks-all}
 use Rattle.hc_sched.specs.Words.{◌>>=◌}

@@ -10,7 +10,7 @@ use hc_text::cut;
 use std::alloc::Global;
 
 /// The name and the value of a line `NAME: VALUE`.
-#[tactic(auto, unfolding(hc_text::specs::Cuts::behind, hc_sched::specs::FieldLines::field_parts))]
+#[tactic(auto, unfolding(hc_text::specs::Texts::behind, hc_sched::specs::FieldLines::field_parts))]
 fn named(line: &[u8]) -> Option<(&[u8], &[u8])>
     ensures { option_map (λ field. (field.0.now, field.1.now)) result ≡ field_parts line.now }
 {

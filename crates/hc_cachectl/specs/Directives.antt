@@ -3,7 +3,7 @@ use Rattle.std.specs.Prelude.{ℕ, ◌≤◌, ◌==◌, ◌||◌, Bool, List, if
 use Rattle.std.specs.Option.{option_map, option_and_then, unwrap_or}
 use Rattle.std.specs.List.{list_any, find, before_first, after_first}
 use Rattle.http_header.specs.Token.{lowercase}
-use Rattle.hc_fields.specs.FieldElements.{elements_in}
+use Rattle.hc_fields.specs.FirstValues.{elements_in}
 use Rattle.hc_cachectl.specs.Seconds.{most_seconds, seconds_of}
 use Rattle.hc_cachectl.specs.declared.directives.Directives.{Directives}
 

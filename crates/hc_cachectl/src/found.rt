@@ -3,7 +3,7 @@ ghost use Rattle.std.specs.Prelude.{◌≡◌};
 ghost use Rattle.std.specs.Option.{option_map, option_and_then};
 ghost use Rattle.http_header.specs.Token.{lowercase};
 ghost use Rattle.hc_text.specs.Elements.{elements};
-ghost use Rattle.hc_fields.specs.FieldElements.{elements_in};
+ghost use Rattle.hc_fields.specs.FirstValues.{elements_in};
 ghost use Rattle.hc_cachectl.specs.Found.{with_element, with_elements, nothing_found, seconds_or, staleness_of, said_by};
 
 use crate::directives::Directives;

@@ -8,7 +8,8 @@ use Rattle.hc_text.proofs.Basics.{or_right as or_after, or_left as or_before}
 use Rattle.hc_event.specs.{Filters.{leaves_in}, declared.act.Act.{Act}}
 use Rattle.hc_event.specs.declared.act.Act.TheVariants as act
 use Rattle.hc_fields.specs.FieldList.{has_name}
-use Rattle.hc_validate.specs.{Heads.{FieldPairs}, Updates.{is_renewed, left_by}}
+use Rattle.hc_validate.specs.Updates.{is_renewed, left_by}
+use Rattle.hc_validate.specs.Updates.{FieldPairs}
 use Rattle.hc_condition.specs.{NotModified.{is_told, told_fields, told_names}, Telling.{is_leaving}}
 
 -- ACTS

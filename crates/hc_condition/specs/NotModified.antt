@@ -4,7 +4,7 @@ use Rattle.std.specs.List.{list_any}
 use Rattle.hc_fields.specs.FieldList.{without}
 use Rattle.hc_event.specs.declared.event.Request.{Request}
 use Rattle.hc_validate.specs.Origin.{has_tag}
-use Rattle.hc_validate.specs.Tags.{tag_of}
+use Rattle.hc_validate.specs.Selection.{tag_of}
 use Rattle.hc_etag.specs.TagListTexts.{Listed, AnyTag, TheseTags, list_in}
 use Rattle.hc_condition.specs.External.{none_match_of, only_date}
 

@@ -4,7 +4,7 @@ ghost use Rattle.std.specs.List.{list_any};
 ghost use Rattle.hc_etag.specs.PlainTags.{plain_tag};
 ghost use Rattle.hc_etag.specs.Tags.{values_of};
 ghost use Rattle.hc_validate.specs.Origin.{is_tag};
-ghost use Rattle.hc_validate.specs.Tags.{tag_of};
+ghost use Rattle.hc_validate.specs.Selection.{tag_of};
 ghost use Rattle.hc_etag.specs.TagListTexts.{TheseTags, list_in, plain_list};
 ghost use Rattle.hc_condition.specs.NotModified.{has_same, is_no_later, is_not_modified, lists};
 ghost use Rattle.hc_condition.specs.External.{none_match_of};

@@ -9,7 +9,8 @@ use Rattle.std.specs.HashMap as hash
 use Rattle.hc_effects.proofs.Vocabulary.{is_live, Contents, History, tables}
 use Rattle.hc_state.proofs.Ties.{kept_lives}
 use Rattle.hc_store.specs.declared.backend.Backend.{Ghosts}
-use Rattle.hc_core.specs.{Steps.{StandsFor, IsLeastLive, live_in}, declared.cache.Cache.{Cache}}
+use Rattle.hc_core.specs.{Steps.{StandsFor, live_in}, declared.cache.Cache.{Cache}}
+use Rattle.hc_model.specs.Denials.{IsLeastLive}
 
 abbrev pub lesser : Option ℕ → ℕ → ℕ
 lesser None k = k

@@ -7,7 +7,7 @@ use Rattle.hc_event.specs.declared.act.Act.{Act}
 use Rattle.hc_stored.specs.Entries.{store_of}
 use Rattle.hc_model.specs.Beginnings.{may_begin}
 use Rattle.hc_model.specs.Contents.{contents_of}
-use Rattle.hc_model.specs.Denials.{live, is_live}
+use Rattle.hc_model.specs.Denials.{live}
 use Rattle.hc_model.specs.Entries.{History, Contents}
 use Rattle.hc_rules.specs.declared.room.Limits.{Limits}
 use Rattle.hc_model.specs.Flaws.{failures_in}
@@ -16,7 +16,6 @@ use Rattle.hc_model.specs.Laws.{DeliversOnce, HasOneTurn, IsBehindDooms, IsBound
 use Rattle.hc_model.specs.Live.{FewOpen}
 use Rattle.hc_model.specs.Numbers.{AreShort}
 use Rattle.hc_model.specs.Reads.{GivesStored}
-use Rattle.hc_model.specs.Rows.{Tables}
 use Rattle.hc_model.specs.Runs.{IsRun}
 use Rattle.hc_model.specs.Tables.{tables}
 use Rattle.hc_state.specs.Stands.{RowsStand}
@@ -108,10 +107,3 @@ pub record Keeps (contents : Contents) (h : History) : Type 0 where
 
 abbrev pub KeepsPromises : {B : Type 0} {g : Ghosts B} → Cache B g → Type 0
 KeepsPromises s = (contents : Contents) (h : History) → StandsFor s contents h → Keeps contents h
-
--- WHO IS LIVE
-
--- c is live, and nobody with a lower number
-pub record IsLeastLive (t : Tables) (c : ℕ) : Type 0 where
-  pub live : is_live (t.consumer c) ≡ true
-  pub least : (d : ℕ) → is_live (t.consumer d) ≡ true → c ≤ d

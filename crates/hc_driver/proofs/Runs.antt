@@ -9,7 +9,8 @@ use Rattle.std.{proofs.{Common.{◌≡◌, ◌⊎◌, ℕ, ◌+◌, ◌*◌, ◌
 use Rattle.hc_event.specs.declared.event.Event.{Event}
 use Rattle.hc_io.specs.Source.{Gives, GivesAll, IsAtEnd}
 use Rattle.hc_io.proofs.Givings.{gives_none, gives_more}
-use Rattle.hc_sched.specs.{declared.{place.Place.{Place}, schedule.{Refused.{Refused}, Timed.{Timed}, FeedError.{FeedError}}}, Reading.{Progress, Reads, Stopped, after, events_in}, Feeding.{beginning, lines_in, is_between, Feeds, ending}, Laws.{AreTimed, refusal_at, refusal_of}, Schedule.{IsSmall}}
+use Rattle.hc_sched.specs.{declared.{place.Place.{Place}, schedule.{Refused.{Refused}, Timed.{Timed}, FeedError.{FeedError}}}, Reading.{Progress, Reads, Stopped, after, events_in}, Feeding.{lines_in, is_between, Feeds, ending}, Laws.{AreTimed, refusal_at}, Schedule.{IsSmall}}
+use Rattle.hc_sched.specs.Reading.{beginning, refusal_of}
 use Rattle.hc_sched.specs.declared.schedule.Ended.TheVariants as ended
 use Rattle.hc_sched.specs.declared.schedule.FeedError.TheVariants as error
 use Rattle.hc_sched.proofs.{FeedLemmas.{after-append, after-stopped, events_in-append}, OneReading.{brings_timed, is_read, is_spelled}}

@@ -10,7 +10,7 @@ use Rattle.hc_range.specs.{declared.range.{Asked.{Asked}, Span.{Span}, ContentRa
 use Rattle.hc_effects.proofs.Vocabulary.{brings_part, range, act, event, case, route, wanted, by, LostKind, Event, Request, Response, HeadCase, Limits, head_case, is_storable, fits_to_found, fits_part, begins_at, length_of, content_length_of, part_length, promise_of, agrees, is_head, route_of, content_range_of, is_get, range_of, wanted_of, strong_of, head_view, is_founding, fits_asker, was_shown, bound_by_total, current, is_number, denial, Does, with_event, let_all_go, let_some_go, with_consumer, with_answer, with_founding, just_founded, entry_without_acts, promise_in, NoFlaw, Loses, goes_by_case, founded_total, total_of_part, Lawful, IsAwaiting, Tables, Exchange, Consumer, with_item_first, evicted}
 use Rattle.hc_rules.specs.declared.length.Length.TheVariants as says
 use Rattle.hc_rules.proofs.RangeReads.{same_bytes}
-use Rattle.hc_fields.specs.FieldElements.{elements_in}
+use Rattle.hc_fields.specs.FirstValues.{elements_in}
 use Rattle.hc_event.specs.declared.place.Place.TheVariants as place
 use Rattle.hc_model.specs.Owners as owners
 use Rattle.hc_effects.proofs.{Basics.{false_true}, FoundBy.{CaseBy, case_by}, FoundCases.{whole_lost, range_lost, replaced_lost, range_storable}, FoundEffects.{adds_one, founds_whole, founds_range, first_replaced, passes_by_lost, first_replaced_lost}, HeadFacts.{waiter}, SameTables.{is_in, in_one}, ToldNumbers.{range_early}}

@@ -9,7 +9,7 @@ use Rattle.hc_text.proofs.Basics.{either}
 use Rattle.hc_effects.proofs.Vocabulary.{brings_part, range, need, route, case, Response, Request, Need, Route, HeadCase, HeadView, Length, head_case, case_on, direct_case, turn_case, first_case, later_case, length_of, content_length_of, part_length, has_no_body, route_of, content_range_of, Representation, is_joining, joins_row, joins_by}
 use Rattle.hc_rules.specs.declared.length.Length.TheVariants as told
 use Rattle.hc_rules.proofs.JoinLaws.{joins-right}
-use Rattle.hc_fields.specs.FieldElements.{elements_in}
+use Rattle.hc_fields.specs.FirstValues.{elements_in}
 
 -- why a head is one that joins
 pub data MayJoin (v : HeadView) : HeadCase → Type 0 where

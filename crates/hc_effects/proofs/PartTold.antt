@@ -6,7 +6,8 @@
 -- answer begins at the first position (`whole_base`).
 use Rattle.std.{proofs.{Common.{◌≡◌, inl, inr, ℕ, ◌+◌, ◌-◌, ◌<◌, ◌≤◌, List, [], ◌∷◌, Bool, true, false, cond, Option, Some, None, refl, arith}, lemmas.Bool.Decides.{nat_tests}}, specs.{Prelude.{nat_lt, codes, bytes_eq, if◌then◌else◌, option_map, take, drop}, Option.{option_and_then}, Str.{str_to_ascii_lowercase}}}
 use Rattle.hc_text.proofs.Basics.{bool_cases, not_some as none_some, some_inj}
-use Rattle.hc_fields.specs.{FieldElements.{elements_in}, FieldList.{values_of}, FirstValues.{only_of}}
+use Rattle.hc_fields.specs.{FieldList.{values_of}, FirstValues.{only_of}}
+use Rattle.hc_fields.specs.FirstValues.{elements_in}
 use Rattle.hc_range.specs.declared.range.Asked.{Asked, TheVariants.{FromTo, From, Last}}
 use Rattle.hc_effects.proofs.Vocabulary.{brings_part, range, route, Request, Response, Need, Length, Route, length_of, base_of, promise_of, is_bad, part_length, agrees, content_length_of, has_no_body, tells_part, route_of, content_range_of, content_range_in, spec_in, positions_from, positions_by, from_to, number_of, split_at, hyphen}
 use Rattle.hc_rules.specs.declared.length.Length.TheVariants as told

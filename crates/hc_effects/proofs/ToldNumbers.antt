@@ -6,7 +6,8 @@
 -- whole body or by a part (`founded_early`).
 use Rattle.std.{proofs.{lemmas.Bool.Decides.{nat_tests}, Common.{◌≡◌, ◌≤◌, ◌<◌, inl, inr, ℕ, ◌+◌, ◌-◌, ◌^◌, List, [], ◌∷◌, codes, Bool, false, Option, Some, None, refl, arith}}, specs.Prelude.{if◌then◌else◌, option_and_then}}
 use Rattle.hc_text.proofs.Basics.{bool_cases, not_some as none_some, some_inj}
-use Rattle.hc_fields.specs.{FieldElements.{elements_in}, FieldList.{values_of}, FirstValues.{only_of}}
+use Rattle.hc_fields.specs.{FieldList.{values_of}, FirstValues.{only_of}}
+use Rattle.hc_fields.specs.FirstValues.{elements_in}
 use Rattle.hc_range.specs.declared.range.ContentRange.{ContentRange}
 use Rattle.hc_effects.proofs.Vocabulary.{brings_part, range, Request, Response, Need, Length, Route, length_of, content_length_of, part_length, all_tell, agrees, has_no_body, tells_part, base_of, promise_of, route_of, number_of, content_range_of, content_range_in, base, promised_bytes, length_by, total_of_part, founded_total, Exchange}
 use Rattle.hc_rules.specs.declared.length.Length.TheVariants as says

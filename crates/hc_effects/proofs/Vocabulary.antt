@@ -102,7 +102,7 @@ unfoldable pub use Rattle.hc_model.specs.Writes.{written_representation}
 pub use Rattle.hc_rules.specs.Admissions.{is_of, is_same_kind}
 pub use Rattle.hc_rules.specs.HeadCases.{begins_at, case_on, direct_case, first_case, fits_part, fits_to_found, is_conditional, later_case, turn_case}
 unfoldable pub use Rattle.hc_rules.specs.HeadCases.{head_case, is_storable}
-pub use Rattle.hc_rules.specs.Least.{least, lesser}
+pub use Rattle.hc_rules.specs.Admissions.{least, lesser}
 pub use Rattle.hc_rules.specs.Lengths.{agrees, all_tell, base_of, content_length_of, has_no_body, is_bad, is_head, is_same_number, part_length, promise_of, tells_part}
 unfoldable pub use Rattle.hc_rules.specs.Lengths.{length_of}
 pub use Rattle.hc_rules.specs.Needs.{route_of}
@@ -119,7 +119,7 @@ unfoldable pub use Rattle.hc_rules.specs.Requests.{class_of, is_bypassing, is_di
 pub use Rattle.hc_rules.specs.Rooms.{gives_way, grown_by, is_too_large, weight_of}
 unfoldable pub use Rattle.hc_rules.specs.Rooms.{room_of}
 pub use Rattle.hc_rules.specs.Statuses.{brings_part, brings_whole}
-pub use Rattle.hc_rules.specs.Survivors.{stands_at}
+pub use Rattle.hc_rules.specs.Admissions.{stands_at}
 pub use Rattle.hc_rules.specs.TagTexts.{strong_of}
 pub use Rattle.hc_rules.specs.declared.heads.HeadCase.{HeadCase}
 pub use Rattle.hc_rules.specs.declared.heads.HeadView.{HeadView}

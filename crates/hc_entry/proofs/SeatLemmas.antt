@@ -8,7 +8,7 @@ use Rattle.std.{proofs.{Common.{◌≡◌, ℕ, zero, suc, ◌<◌, ◌≤◌, �
 use Rattle.hc_text.proofs.Basics.{same_consumer}
 use Rattle.hc_sorted.specs.Sorted.{above, is_sorted, is_at as numbered, with_item, without}
 use Rattle.hc_sorted.proofs.SortedLemmas.{is_sorted-above, has-above, has-with, has-without, is_sorted-with, is_sorted-filter, without-none}
-use Rattle.hc_rules.specs.Least.{least}
+use Rattle.hc_rules.specs.Admissions.{least}
 use Rattle.hc_entry.specs.{declared.seat.{Seat.{Seat}, Stand.{Stand}}, Users.{itself, first_of}, Tournaments.{at, IsLeastAt}, Seats.{is_same_stand, called_at, seat_of, standing, called_from, seat_in_line, moved_to, IsSeated}, Lines.{Line, is_among, holder_without, stands, left_by}}
 use Rattle.hc_entry.specs.declared.seat.Stand.TheVariants as stand
 use Rattle.hc_entry.proofs.{UserLemmas.{least-ascending}, LineLemmas.{stands-left, stands-with}}

@@ -12,7 +12,8 @@ use Rattle.hc_effects.proofs.Vocabulary.{brings_part, range, by, place, route, W
 use Rattle.hc_range.proofs.RangeLemmas.{content_range_text_spells}
 use Rattle.hc_event.specs.declared.act.Why.TheVariants as why_is
 use Rattle.hc_rules.proofs.RangeReads.{content_range_in-spelled}
-use Rattle.hc_validate.specs.{Heads.{FieldPairs, with_one}, Showing.{with_age, with_range, part_of, shown_as, shown_response}}
+use Rattle.hc_validate.specs.Showing.{with_age, with_range, part_of, shown_as, shown_response}
+use Rattle.hc_validate.specs.Updates.{FieldPairs, with_one}
 use Rattle.hc_model.specs.Sound as sound
 use Rattle.hc_effects.proofs.{Basics.{false_true, some_row}, PartTold.{part_within, whole_base}}
 use Rattle.hc_laws.proofs.SoundRuns.{IsCarried}

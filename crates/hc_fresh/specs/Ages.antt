@@ -4,7 +4,18 @@ use Rattle.std.specs.Option.{option_and_then, unwrap_or}
 use Rattle.hc_cachectl.specs.Seconds.{plain_seconds}
 use Rattle.hc_fields.specs.FirstValues.{first_value}
 use Rattle.hc_record.specs.Head.{Head}
-use Rattle.hc_fresh.specs.Dates.{date_of}
+use Rattle.std.specs.Prelude.{ℕ, List, Option, codes}
+use Rattle.httpdate.specs.Date.{parse_secs}
+
+-- Dates of a stored head (RFC 9110 section 5.6.7).
+
+-- the second that the first value of this name shows, where it is a date
+abbrev pub date_in : List ℕ → List (List ℕ × List ℕ) → Option ℕ
+date_in name fields = option_and_then parse_secs (first_value name fields)
+
+-- when the head was made: its Date (RFC 9110 section 6.6.1), or else when it came
+abbrev pub date_of : Head → ℕ
+date_of head = unwrap_or (date_in (codes "date") head.fields) head.answered
 
 -- what Age says (RFC 9111 section 5.1), where it is digits alone
 abbrev pub age_value : List (List ℕ × List ℕ) → ℕ

@@ -3,7 +3,7 @@ use Rattle.std.specs.Prelude.{ℕ, ◌-◌, ◌/◌, min, nat_le, List, Option, 
 use Rattle.hc_cachectl.specs.Directives.{of_response}
 use Rattle.hc_fields.specs.FirstValues.{has_field}
 use Rattle.hc_record.specs.Head.{Head}
-use Rattle.hc_fresh.specs.Dates.{date_in, date_of}
+use Rattle.hc_fresh.specs.Ages.{date_in, date_of}
 
 -- up to Expires, which is past where it can't be read (RFC 9111 section 5.3)
 abbrev pub seconds_until : Option ℕ → ℕ → ℕ

@@ -4,7 +4,7 @@ use Rattle.std.specs.List.{list_all}
 use Rattle.http_header.specs.Token.{is_token_byte, lowercase}
 use Rattle.hc_event.specs.declared.event.Request.{Request}
 use Rattle.hc_fields.specs.Agreement.{agree_on}
-use Rattle.hc_fields.specs.FieldElements.{elements_in}
+use Rattle.hc_fields.specs.FirstValues.{elements_in}
 use Rattle.hc_record.specs.Head.{Head}
 
 abbrev pub is_token : List ℕ → Bool

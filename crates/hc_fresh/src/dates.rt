@@ -4,7 +4,7 @@ ghost use Rattle.std.specs.Option.{ForSome};
 ghost use Rattle.http_header.specs.Token.{lowercase};
 ghost use Rattle.hc_fields.specs.FirstValues.{first_value};
 ghost use Rattle.hc_record.specs.Plain.{plain};
-ghost use Rattle.hc_fresh.specs.Dates.{date_in, date_of};
+ghost use Rattle.hc_fresh.specs.Ages.{date_in, date_of};
 
 use hc_fields::Fields;
 use hc_record::StoredHead;

@@ -2,7 +2,7 @@
 ghost use Rattle.std.specs.Prelude.{◌≡◌, ◌<◌, ◌≤◌, ◌^◌, min, codes};
 ghost use Rattle.std.specs.Option.{ForSome};
 ghost use Rattle.hc_record.specs.Plain.{plain};
-ghost use Rattle.hc_fresh.specs.Dates.{date_in, date_of};
+ghost use Rattle.hc_fresh.specs.Ages.{date_in, date_of};
 ghost use Rattle.hc_fresh.specs.Lifetimes.{heuristic_lifetime, lifetime, lifetime_by, seconds_until};
 
 use crate::dates::{date_in, date_of};

@@ -10,7 +10,7 @@ use Rattle.hc_driver.specs.Stepping as steps
 use Rattle.hc_driver.specs.Stepping.{events_in, report_of, report_before, last_entry}
 use Rattle.hc_model.specs.Entries.{Contents}
 use Rattle.hc_replay.specs.Histories.{failures}
-use Rattle.hc_replay.specs.Replays.{IsWholeRun}
+use Rattle.hc_replay.specs.WholeRuns.{IsWholeRun}
 use Rattle.hc_front.specs.declared.front.Front.{Front}
 use Rattle.hc_front.specs.FrontHistories.{FrontHistory, core_of, told_of}
 use Rattle.hc_front.specs.Steps.{FrontStands, has_failed, limits_in, faults_in}

@@ -10,7 +10,8 @@ use Rattle.hc_event.specs.declared.event.Request.{Request}
 use Rattle.hc_fields.specs.FieldList.{IsWithinLimits, size_of}
 use Rattle.hc_range.specs.{declared.range.{Asked.{Asked}, Span.{Span}}, Spans.{resolved_span, content_range_text}}
 use Rattle.hc_range.specs.declared.range.Asked.TheVariants as asked
-use Rattle.hc_validate.specs.{Heads.{FieldPairs, with_one}, Showing.{with_length}, declared.origin.Answer.{Answer}, Origin.{IsOriginAnswer, IsAnswerOf, answer_by, cut_by, common, size_asked, size_at, size_in, path_of, part, whole, unsatisfied_answer, may_cut}}
+use Rattle.hc_validate.specs.{Showing.{with_length}, declared.origin.Answer.{Answer}, Origin.{IsOriginAnswer, IsAnswerOf, answer_by, cut_by, common, size_asked, size_at, size_in, path_of, part, whole, unsatisfied_answer, may_cut}}
+use Rattle.hc_validate.specs.Updates.{FieldPairs, with_one}
 use Rattle.hc_validate.proofs.{Common.{size-common}, Numbers.{short-decimal}, Settings.{length-with_one, size_of-with_one}}
 use Rattle.hc_generate.specs.{Draws.{draw_below, state_after_draw}, Requests.{drawn_request, range_from}}
 use Rattle.hc_generate.specs.Requests as made

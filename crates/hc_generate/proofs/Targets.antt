@@ -1,6 +1,6 @@
 -- The keys are targets.
 use Rattle.std.{proofs.{Common.{◌≡◌, ℕ, suc, ◌<◌, Bool, true, refl, arith}, lemmas.Bool.{and_parts}}, specs.{Prelude.{◌&&◌}, Fmt.{digits}}}
-use Rattle.hc_text.specs.Cuts.{cut, behind}
+use Rattle.hc_text.specs.Texts.{cut, behind}
 use Rattle.hc_target.specs.{Targets.{is_target, is_short_word}, PlainTargets.{is_plain_target}}
 use Rattle.hc_target.proofs.PlainTargets.{plain_target}
 use Rattle.hc_generate.specs.{Draws.{draw_below}, Requests.{key_of, drawn_request}}

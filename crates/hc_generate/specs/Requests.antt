@@ -3,7 +3,7 @@ use Rattle.std.specs.Prelude.{ℕ, ◌+◌, ◌*◌, ◌==◌, List, [], ◌∷�
 use Rattle.std.specs.Fmt.{decimal}
 use Rattle.hc_event.specs.declared.event.Load.TheVariants.{Normal}
 use Rattle.hc_event.specs.declared.event.Request.{Request}
-use Rattle.hc_validate.specs.Heads.{FieldPairs}
+use Rattle.hc_validate.specs.Updates.{FieldPairs}
 use Rattle.hc_generate.specs.Draws.{state_after_draw, draw_below}
 
 -- how many bytes the representation of key i has

@@ -1,6 +1,6 @@
 -- What elements say, read one by one, is what they say as a whole.
 use Rattle.std.{proofs.Common.{arith, ◌≡◌, ℕ, ◌+◌, ◌<◌, length, drop, get_or, List, [], ◌∷◌, ◌++◌, refl, sym, ap, ◌∙◌}, specs.Prelude.{codes}}
-use Rattle.hc_fields.specs.FieldElements.{elements_in}
+use Rattle.hc_fields.specs.FirstValues.{elements_in}
 use Rattle.hc_rules.specs.{declared.length.Length.{Length}, LengthSoFar.{with_elements}}
 use Rattle.hc_head.specs.{declared.lengths.Coding.{Coding, TheVariants.{Plain, Other}}, Held.{field_in, fields_in}, Responses.{is_chunked}, Codings.{with_coding, with_codings, is_coding, coding_with, length_with}}
 use Rattle.httparse.specs.declared.borrowed.Header.{Header}

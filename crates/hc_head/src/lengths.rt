@@ -2,7 +2,7 @@
 ghost use Rattle.std.specs.Prelude.{◌≡◌, codes, bytes_eq};
 ghost use Rattle.http_header.specs.Token.{lowercase};
 ghost use Rattle.hc_text.specs.Elements.{elements};
-ghost use Rattle.hc_fields.specs.FieldElements.{elements_in};
+ghost use Rattle.hc_fields.specs.FirstValues.{elements_in};
 ghost use Rattle.hc_rules.specs.Lengths.{content_length_of};
 ghost use Rattle.hc_rules.specs.LengthSoFar.{with_element, with_elements};
 ghost use Rattle.hc_rules.specs.RangeTexts.{number_of};

@@ -8,7 +8,7 @@ use Rattle.std.{proofs.{Common.{◌<◌, ◌≡◌, ◌⊎◌, inl, inr, ℕ, �
 use Rattle.hc_text.proofs.Basics.{bool_cases, not_some as none_some, same_some as same_row, some_inj}
 use Rattle.hc_effects.proofs.Vocabulary.{brings_part, brings_whole, range, event, case, route, place, by, Opening, opening_in, Need, Request, Response, HeadCase, length_of, promise_of, is_bad, is_head, agrees, content_length_of, route_of, content_range_of, is_disabled, is_get, BoundBy, loses_in, case_at, is_joining, is_refused, consumer_heard, consumer_acted, by_opening, waiting, becomes_shared, doomed_by_case, Entry, promise_in, is_open, family, becomes_due, entry_of, Measures, is_written, own_open, reads, Tables, Exchange, Representation, Consumer, IsBound, IsFirst, IsExclusiveWriter, IsHad, after_accepted, came_alone, status_in}
 use Rattle.hc_text.specs.declared.names.MethodName.{MethodName}
-use Rattle.hc_fields.specs.FieldElements.{elements_in}
+use Rattle.hc_fields.specs.FirstValues.{elements_in}
 use Rattle.hc_rules.specs.declared.length.Length.TheVariants as lengths
 use Rattle.hc_model.specs.Sound as sound
 use Rattle.hc_effects.proofs.{Forward.{IsOn}, AboutKeeps.{own_open_of}, ApartKeeps.{written_by}, Basics.{false_true, true_false, or_false, some_none}, Beside.{IsBeside}, BoundFrom.{BoundFrom, IsRow, IsFounded, bound_from}, Dues.{due_before}, ExchangeFrom.{IsHeaded}, FirstKeeps.{case_of_head, whole_brings, replaced_brings, is_new, came_kept, one_first_kept, founded_came}, HeadKeeps.{IsJoin}, LossBy.{IsReal}, Losses.{HasRest}, PartTold.{part_order}, ExclusiveWriters.{writer_some}, PieceKeeps.{eq_cases}, RepFrom.{was, founded, RepFrom, rep_from, IsKept, IsResumed}, ServedKeeps.{rest_by, still_rests, resumed_not, none_promised}, Waiters.{waiter_of}, WriterEnds.{all_stored}, Step.{Step}}

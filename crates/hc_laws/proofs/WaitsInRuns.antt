@@ -49,7 +49,7 @@ module _ (t : Tables) (s : Sound t) (unknown : Unknown t) where
   none_least [] h = refl
   none_least (n ∷ ns) h = absurd (by_rest (least ns) h)
     where
-      by_rest : (q : Option ℕ) → Rattle.hc_rules.specs.Least.lesser q n ≡ None → ⊥
+      by_rest : (q : Option ℕ) → Rattle.hc_rules.specs.Admissions.lesser q n ≡ None → ⊥
       by_rest None h = some_none n h
       by_rest (Some a) h = some_none _ h
 

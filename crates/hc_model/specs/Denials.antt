@@ -54,3 +54,8 @@ gate t event = record {
 -- the first refusal that applies
 abbrev pub denial : Tables → Event → Option Refusal
 denial t event = refusals.refusal_of (gate t event) event
+
+-- c is live, and nobody with a lower number
+pub record IsLeastLive (t : Tables) (c : ℕ) : Type 0 where
+  pub live : is_live (t.consumer c) ≡ true
+  pub least : (d : ℕ) → is_live (t.consumer d) ≡ true → c ≤ d

@@ -2,7 +2,7 @@
 use Rattle.std.specs.Prelude.{ℕ, length, codes, bytes_eq, Bool, false, Option, Some, None, is_some, ◌==◌, ◌||◌, ◌&&◌, not, nat_lt}
 use Rattle.std.specs.List.{list_any}
 use Rattle.http_header.specs.Token.{lowercase}
-use Rattle.hc_fields.specs.FieldElements.{elements_in}
+use Rattle.hc_fields.specs.FirstValues.{elements_in}
 use Rattle.hc_event.specs.Filters.{closes_in, evicts_in}
 use Rattle.hc_event.specs.declared.event.Event.{Event}
 use Rattle.hc_event.specs.declared.event.Event.TheVariants as event

@@ -3,7 +3,7 @@ use Rattle.std.specs.Prelude.{ℕ, List, codes, bytes_eq, Bool, filter, if◌the
 use Rattle.std.specs.List.{list_any}
 use Rattle.http_header.specs.Token.{lowercase}
 use Rattle.hc_fields.specs.FieldList.{without}
-use Rattle.hc_fields.specs.FieldElements.{elements_in}
+use Rattle.hc_fields.specs.FirstValues.{elements_in}
 use Rattle.hc_range.specs.declared.range.ContentRange.{ContentRange}
 use Rattle.hc_range.specs.declared.range.ContentRange.TheVariants as range
 use Rattle.hc_event.specs.declared.event.Response.{Response}
@@ -11,7 +11,7 @@ use Rattle.hc_record.specs.Head.{Head, joining_of}
 use Rattle.hc_record.specs.declared.kind.Kind.TheVariants as kind
 use Rattle.hc_rules.specs.RangeTexts.{content_range_of}
 use Rattle.hc_rules.specs.Statuses.{brings_part}
-use Rattle.hc_validate.specs.Heads.{FieldPairs}
+use Rattle.hc_validate.specs.Updates.{FieldPairs}
 use Rattle.hc_validate.specs.Updates.{updated_fields}
 use Rattle.hc_model.specs.Rows.{Exchange}
 use Rattle.hc_model.specs.ExchangeRows.{promise_in}

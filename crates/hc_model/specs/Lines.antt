@@ -1,7 +1,7 @@
 -- The line of a key, and whose turn it is.
 use Rattle.std.specs.Prelude.{ℕ, List, ◌∷◌, bytes_eq, Bool, true, false, Option, Some, None, ◌&&◌, not, filter, find, unwrap_or}
 use Rattle.std.specs.Option.{option_or}
-use Rattle.hc_rules.specs.Least.{least}
+use Rattle.hc_rules.specs.Admissions.{least}
 use Rattle.hc_rules.specs.Requests.{is_disabled, is_only}
 use Rattle.hc_event.specs.declared.place.Place.{Place}
 use Rattle.hc_event.specs.declared.place.Place.TheVariants as place

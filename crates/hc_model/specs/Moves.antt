@@ -15,7 +15,7 @@ use Rattle.hc_event.specs.declared.act.Wait.{Wait}
 use Rattle.hc_event.specs.declared.act.Wait.TheVariants as wait
 use Rattle.hc_event.specs.declared.act.Why.{Why}
 use Rattle.hc_event.specs.declared.act.Cause.{Cause}
-use Rattle.hc_validate.specs.Heads.{with_one}
+use Rattle.hc_validate.specs.Updates.{with_one}
 use Rattle.hc_validate.specs.Showing.{shown_response}
 use Rattle.hc_model.specs.Rows.{Tables, Exchange, Representation}
 

@@ -15,7 +15,7 @@ use Rattle.hc_rules.specs.declared.plan.Candidate.{Candidate}
 use Rattle.hc_rules.specs.declared.plan.PlanView.{PlanView}
 use Rattle.hc_rules.specs.Plans.{plan_of}
 use Rattle.hc_rules.specs.Requests.{class_of, range_of, wanted_of}
-use Rattle.hc_rules.specs.Least.{least}
+use Rattle.hc_rules.specs.Admissions.{least}
 use Rattle.hc_fresh.specs.Facts.{allowed}
 use Rattle.hc_fresh.specs.Vary.{matches_vary}
 use Rattle.hc_validate.specs.Conditions.{conditional}

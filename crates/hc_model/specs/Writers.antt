@@ -7,7 +7,7 @@ use Rattle.hc_rules.specs.declared.admission.BoundKind.{BoundKind}
 use Rattle.hc_rules.specs.declared.admission.BoundKind.TheVariants as kind
 use Rattle.hc_rules.specs.declared.survivor.Member.{Member}
 use Rattle.hc_rules.specs.Admissions.{least_of}
-use Rattle.hc_rules.specs.Survivors.{survivor_at}
+use Rattle.hc_rules.specs.Admissions.{survivor_at}
 use Rattle.hc_rules.specs.Statuses.{brings_part}
 use Rattle.hc_event.specs.declared.place.Place.{Place}
 use Rattle.hc_event.specs.declared.place.Place.TheVariants as place

@@ -10,7 +10,7 @@ use Rattle.hc_effects.proofs.Vocabulary.{brings_part, Limits, Need, Request, Res
 use Rattle.hc_store.specs.declared.backend.Backend.{Ghosts}
 use Rattle.hc_stored.specs.Kept.{Kept}
 use Rattle.hc_exch.specs.declared.row.Open.{Open}
-use Rattle.hc_fields.specs.FieldElements.{elements_in}
+use Rattle.hc_fields.specs.FirstValues.{elements_in}
 use Rattle.hc_rules.specs.declared.length.Length.TheVariants as says
 use Rattle.hc_rules.proofs.RangeReads.{same_bytes}
 use Rattle.hc_model.specs.Effects.{waits_for}

@@ -13,7 +13,7 @@ use Rattle.hc_stored.specs.{declared.entries.Entries.{Entries}, Entries.{shelf_o
 use Rattle.hc_stored.specs.Shelf as shelf
 use Rattle.hc_entry.specs.Lines.{is_among}
 use Rattle.hc_sorted.specs.Sorted.{has}
-use Rattle.hc_rules.specs.Survivors as members
+use Rattle.hc_rules.specs.Admissions as members
 use Rattle.hc_model.specs.Rows as rows
 use Rattle.hc_writers.specs.Writing.{Writing, consumer_of}
 use Rattle.hc_writers.specs.Writing as writing

@@ -2,7 +2,7 @@
 use Rattle.std.{proofs.Common.{◌≡◌, ◌≤◌, ℕ, List, [], ◌++◌, length, true, Option, Some, None, Bor, refl, ap, sym, ◌∙◌, subst, arith}, specs.{Prelude.{unwrap_or, IsSomeAnd}, Option.{option_copied}}}
 use Rattle.hc_fields.specs.{FieldList.{IsFieldList, is_own_value}, FirstValues.{first_value}}
 use Rattle.hc_range.specs.{declared.range.Span.{Span}, Spans.{IsWithin, range_text}}
-use Rattle.hc_validate.specs.Heads.{FieldPairs}
+use Rattle.hc_validate.specs.Updates.{FieldPairs}
 use Rattle.hc_validate.proofs.{Numbers.{own-range, short-range}, Stored.{IsFit, first_fits}}
 
 -- the text of a range, as it is set

@@ -19,7 +19,8 @@ use Rattle.hc_store.specs.declared.backend.Backend.{Ghosts}
 use Rattle.hc_wire.specs.{Events.{Stage, Unseen}, Logs.{Log, Taker, Called, empty_log, is_numbered, is_at_end, shut, standings_in, stage_from, stage_in, sent_in}}
 use Rattle.hc_wire.specs.declared.event.WireEvent.TheVariants as event
 use Rattle.hc_proxy.specs.declared.proxy.Proxy as loop
-use Rattle.hc_proxy.specs.{declared.stop.Stop.{Stop}, Connections.{connection_of, taken_at}, Endings.{IsLog, IsFresh, Serves, TakesTurns, was_sent}, Keeping.{Frame, HasUpstreams, IsUpstream, IsUpstreamAt}, Logging.{AreApart, short_from, is_short}, Loops.{AllFit}, Network.{open_exchanges, heard}, Records.{text_of}, Resting.{IsRestingClient, IsRestingAt, Rests}, Rows.{Client, Upstream, Proxy, unused}, Sending.{owed_by, is_taken, client_is_sent, taker_of, exchange_is_sent, all_is_sent}, Serving.{IsOfLoop, IsCutShort, IsStill, Begins, TurnsTo, TurnStops, EndsBy, ServesAs, IsClosed, all_closed}, Stops.{ended_as, ended_by}, Turns.{turned_by, behind_all, behind_calls, record_of}, Waiting.{waits}}
+use Rattle.hc_proxy.specs.{declared.stop.Stop.{Stop}, Connections.{connection_of, taken_at}, Endings.{IsLog, IsFresh, Serves, TakesTurns, was_sent}, Keeping.{Frame, HasUpstreams, IsUpstream, IsUpstreamAt}, Logging.{AreApart, short_from, is_short}, Loops.{AllFit}, Network.{open_exchanges, heard}, Records.{text_of}, Resting.{IsRestingClient, IsRestingAt, Rests}, Rows.{Client, Upstream, Proxy, unused}, Sending.{owed_by, is_taken, client_is_sent, taker_of, exchange_is_sent, all_is_sent}, Serving.{IsOfLoop, IsCutShort, IsStill, Begins, TurnsTo, TurnStops, EndsBy, IsClosed, all_closed}, Stops.{ended_as, ended_by}, Turns.{turned_by, behind_all, behind_calls, record_of}, Waiting.{waits}}
+use Rattle.hc_proxy.specs.Served.{ServesAs}
 use Rattle.hc_proxy.specs.declared.stop.Stop.TheVariants as stop
 use Rattle.hc_proxy.proofs.{Fitting.{all_reversed, opened_within}, Rows.{sent_all}, Stands.{loops_are_runs}, TakersStand.{open_taker, sent_found, taken_found}}
 use Rattle.hc_state.proofs.LeftRows.{all_passing}

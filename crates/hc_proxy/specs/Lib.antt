@@ -31,3 +31,4 @@ pub mod Underway
 pub mod Unsent
 pub mod Hearing
 pub mod Serving
+pub mod Served

@@ -1,5 +1,5 @@
 -- What comes of a turn and of the whole loop: how what is kept stands for the log, and what was written.
-use Rattle.std.specs.Prelude.{◌≡◌, ◌⊎◌, ◌≤◌, ℕ, ◌+◌, List, [], ◌++◌, length, map, Bool, true, Option, Some, None, IfSome, Result, IsErrOf}
+use Rattle.std.specs.Prelude.{◌≡◌, ◌⊎◌, ◌≤◌, ℕ, ◌+◌, List, [], ◌++◌, length, map, Bool, true, Option, Some, None, Result, IsErrOf}
 use Rattle.std.specs.List.{list_all}
 use Rattle.hc_core.specs.Steps.{faults_in}
 use Rattle.hc_io.specs.Faults as sink
@@ -16,7 +16,6 @@ use Rattle.hc_proxy.specs.declared.stop.Stop.TheVariants as stop
 use Rattle.hc_proxy.specs.Endings.{IsFresh, IsLog, Serves, SentOn, was_sent}
 use Rattle.hc_proxy.specs.Carrying.{carried}
 use Rattle.hc_proxy.specs.Keeping.{Frame, Turn}
-use Rattle.hc_proxy.specs.Laws.{IsRunOfLoop}
 use Rattle.hc_proxy.specs.Logging.{Follows}
 use Rattle.hc_proxy.specs.Loops.{AllFit}
 use Rattle.hc_proxy.specs.Records.{text_of}
@@ -147,11 +146,3 @@ pub record EndsBy (limits : Limits) (turns : ℕ) (log : Log) (told : Option Log
   pub told_is : (told ≡ None) ⊎ (told ≡ Some log')
   pub bound : log'.bound ≡ log.bound
   pub serves : Serves limits turns log' out out' end
-
--- The same of what the wire tells, if it tells anything: what was bound stays, and what happened is a run, in which each
--- consumer reads one answer whole.
-abbrev pub ServesAs : Limits → ℕ → Option Log → Option Log → Option (List ℕ) → Option (List ℕ) → Ended → Type 0
-ServesAs limits turns told None out out' end = Unit {0}
-ServesAs limits turns told (Some log) out out' end =
-    Serves limits turns log out out' end × IsRunOfLoop limits (behind_all limits log)
-    × IfSome told (λ old. log.bound ≡ old.bound)

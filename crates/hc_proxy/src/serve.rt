@@ -12,7 +12,8 @@ ghost use Rattle.hc_proxy.specs.Keeping.{Frame, Turn, Begun, IsBegun, KeepsPolle
 ghost use Rattle.hc_proxy.specs.Logging.{Follows};
 ghost use Rattle.hc_proxy.specs.Resting.{Rests};
 ghost use Rattle.hc_proxy.specs.Rows as rows;
-ghost use Rattle.hc_proxy.specs.Serving.{Begins, EndsBy, HasCauses, IsBeginning, IsClosed, IsReady, IsStill, ServesAs, TurnStops, TurnsTo, FinishesTurn, CutsTurn};
+ghost use Rattle.hc_proxy.specs.Serving.{Begins, EndsBy, HasCauses, IsBeginning, IsClosed, IsReady, IsStill, TurnStops, TurnsTo, FinishesTurn, CutsTurn};
+ghost use Rattle.hc_proxy.specs.Served.{ServesAs};
 ghost use Rattle.hc_proxy.specs.Stops.{ended_as};
 ghost use Rattle.hc_proxy.specs.Turns.{happened};
 ghost use Rattle.hc_proxy.specs.Underway.{IsPolledOn, OnWire};

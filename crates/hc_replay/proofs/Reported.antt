@@ -9,7 +9,8 @@ use Rattle.std.proofs.Common.{◌≡◌, ℕ, ◌+◌, ◌≤◌, List, [], ◌+
 use Rattle.hc_io.specs.Source.{Gives, GivesAll}
 use Rattle.hc_store.specs.declared.backend.Backend.{Ghosts}
 use Rattle.hc_effects.proofs.Vocabulary.{Act, Event, Limits, Contents, History, no_contents, IsRun, tables}
-use Rattle.hc_sched.specs.{declared.schedule.{Ended.{Ended}, Refused.{Refused}, Timed.{Timed}}, Laws.{refusal_of}}
+use Rattle.hc_sched.specs.declared.schedule.{Ended.{Ended}, Refused.{Refused}, Timed.{Timed}}
+use Rattle.hc_sched.specs.Reading.{refusal_of}
 use Rattle.hc_sched.specs.declared.schedule.Ended.TheVariants as ended
 use Rattle.hc_sched.proofs.OneReading.{is_read}
 use Rattle.hc_driver.specs.Endings as endings

@@ -1,4 +1,5 @@
 pub mod Histories
 pub mod Replays
+pub mod WholeRuns
 pub mod Summaries
 pub mod Generates

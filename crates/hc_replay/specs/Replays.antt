@@ -11,18 +11,11 @@ use Rattle.hc_driver.specs.Endings.{How, Wholly, UpToLast, UpToWant}
 use Rattle.hc_driver.specs.Stepping as steps
 use Rattle.hc_driver.specs.Stepping.{events_in, report_of, report_before, last_entry}
 use Rattle.hc_model.specs.Entries.{Contents, History}
-use Rattle.hc_model.specs.Reads.{ReadsWhole}
-use Rattle.hc_model.specs.Runs.{IsRun}
 use Rattle.hc_core.specs.declared.cache.Cache.{Cache}
 use Rattle.hc_core.specs.Steps.{StandsFor, has_failed, limits_in, faults_in}
 use Rattle.hc_core.specs.Steps.{steps as steps_in}
-use Rattle.hc_rules.specs.declared.room.Limits.{Limits}
 use Rattle.hc_replay.specs.Histories.{run_of, failures}
-
--- It is a run over these limits from these contents, in which each consumer reads one answer whole.
-pub record IsWholeRun (limits : Limits) (contents : Contents) (h : History) : Type 0 where
-  pub run : IsRun limits contents h
-  pub reads : ReadsWhole contents h
+use Rattle.hc_replay.specs.WholeRuns.{IsWholeRun}
 
 -- What was stepped goes on with a run that the cache stood for, and the cache stands for that now.
 pub record GoesOn {B : Type 0} {g : Ghosts B} (s u : Cache B g) (h : steps.History) (contents : Contents) (before : History) : Type 0 where

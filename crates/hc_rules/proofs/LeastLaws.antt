@@ -1,7 +1,8 @@
 -- The least of a list is one of it, and none is less.
 use Rattle.std.{proofs.{lemmas.{Bool.{cases_Bool, cases_lt, Decides.{nat_tests}}, List.Elements.{All-cons, All-nil}}, Common.{◌≡◌, ◌≢◌, ℕ, zero, suc, ◌≤◌, Bool, true, cond, min, List, [], ◌∷◌, map, get_or, Option, Some, None, refl, inl, inr, arith}}, specs.Prelude.{All, Contains, filter}}
 use Rattle.hc_text.proofs.Basics.{either}
-use Rattle.hc_rules.specs.{declared.{survivor.Member.{Member}, admission.Bound.{Bound}}, Least.{least, lesser}, Survivors.{stands_at}, Admissions.{admission_of, beside_writing, beside_exclusive, with_holes, is_of, numbers, least_of, least_bound}, Laws.{IsLeastOf, SurvivorsAreLeast, IsRightAdmission, AdmissionsAreRight, those}}
+use Rattle.hc_rules.specs.{declared.{survivor.Member.{Member}, admission.Bound.{Bound}}, Admissions.{admission_of, beside_writing, beside_exclusive, with_holes, is_of, numbers, least_of, least_bound}, Laws.{IsLeastOf, SurvivorsAreLeast, IsRightAdmission, AdmissionsAreRight, those}}
+use Rattle.hc_rules.specs.Admissions.{least, lesser, stands_at}
 use Rattle.hc_rules.specs.declared.admission.BoundKind.TheVariants as kind
 use Rattle.hc_rules.specs.declared.admission.Admission.TheVariants as admission
 

@@ -5,7 +5,30 @@ use Rattle.hc_rules.specs.declared.admission.BoundKind.{BoundKind}
 use Rattle.hc_rules.specs.declared.admission.BoundKind.TheVariants as kind
 use Rattle.hc_rules.specs.declared.admission.Admission.{Admission}
 use Rattle.hc_rules.specs.declared.admission.Admission.TheVariants as admission
-use Rattle.hc_rules.specs.Least.{least}
+use Rattle.std.specs.Prelude.{ℕ, ◌==◌, Bool, List, map, filter, Option}
+use Rattle.hc_rules.specs.declared.survivor.Member.{Member}
+use Rattle.std.specs.Prelude.{ℕ, min, List, [], ◌∷◌, Option, Some, None}
+
+-- The least of some numbers.
+
+-- the lesser of the two, or the one that there is
+abbrev pub lesser : Option ℕ → ℕ → Option ℕ
+lesser None b = Some b
+lesser (Some a) b = Some (min a b)
+
+-- the least of the list, if it isn't empty
+abbrev pub least : List ℕ → Option ℕ
+least [] = None
+least (n ∷ ns) = lesser (least ns) n
+
+-- The detached reader of a representation that is lost while several write it together.
+
+abbrev pub stands_at : ℕ → Member → Bool
+stands_at end m = m.offset == end
+
+-- the least member that stands at this position
+abbrev pub survivor_at : ℕ → List Member → Option ℕ
+survivor_at end members = least (map (λ (m : Member). m.c) (filter (stands_at end) members))
 
 abbrev pub is_same_kind : BoundKind → BoundKind → Bool
 is_same_kind kind.Shared kind.Shared = true

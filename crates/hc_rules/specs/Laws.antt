@@ -14,7 +14,7 @@ use Rattle.hc_etag.specs.TagTexts.{strong_in}
 use Rattle.hc_rules.specs.TagTexts.{strong_of}
 use Rattle.hc_event.specs.declared.event.Event.{Event}
 use Rattle.hc_event.specs.declared.event.Event.TheVariants as event
-use Rattle.hc_fields.specs.FieldElements.{elements_in}
+use Rattle.hc_fields.specs.FirstValues.{elements_in}
 use Rattle.hc_event.specs.declared.event.Request.{Request}
 use Rattle.hc_event.specs.declared.event.Response.{Response}
 use Rattle.hc_event.specs.declared.act.Need.{Need}
@@ -49,7 +49,7 @@ use Rattle.hc_rules.specs.Plans.{plan_of, plan_on, why_by, allowed_by}
 use Rattle.hc_rules.specs.Readings.{read_step}
 use Rattle.hc_rules.specs.Rooms.{gives_way}
 use Rattle.hc_rules.specs.Admissions.{admission_of, is_of, numbers, least_of, least_bound}
-use Rattle.hc_rules.specs.Survivors.{survivor_at, stands_at}
+use Rattle.hc_rules.specs.Admissions.{survivor_at, stands_at}
 use Rattle.hc_rules.specs.Joins.{joins}
 
 -- TEXTS

@@ -9,9 +9,7 @@ pub mod LengthSoFar
 pub mod HeadCases
 pub mod Joins
 pub mod Plans
-pub mod Least
 pub mod Admissions
 pub mod Readings
 pub mod Rooms
-pub mod Survivors
 pub mod Laws

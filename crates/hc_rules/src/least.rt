@@ -1,6 +1,6 @@
 //! The least of some numbers.
 ghost use Rattle.std.specs.Prelude.{◌≡◌};
-ghost use Rattle.hc_rules.specs.Least.{lesser};
+ghost use Rattle.hc_rules.specs.Admissions.{lesser};
 
 /// The lesser of the two, or the one that there is.
 pub fn lesser(a: Option<u64>, b: u64) -> Option<u64>

@@ -1,7 +1,7 @@
 //! The length of a body, as its head tells it.
 ghost use Rattle.std.specs.Prelude.{◌≡◌, codes, IfSome};
 ghost use Rattle.hc_text.specs.Elements.{elements};
-ghost use Rattle.hc_fields.specs.FieldElements.{elements_in};
+ghost use Rattle.hc_fields.specs.FirstValues.{elements_in};
 ghost use Rattle.hc_rules.specs.Lengths.{length_of, content_length_of, part_length, has_no_body, base_of, promise_of, is_bad, IsPartInOrder};
 ghost use Rattle.hc_rules.specs.RangeTexts.{number_of};
 ghost use Rattle.hc_rules.specs.LengthSoFar.{with_element, with_elements};

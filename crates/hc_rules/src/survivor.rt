@@ -1,6 +1,6 @@
 //! The detached reader of a representation that is lost while several write it together.
 ghost use Rattle.std.specs.Prelude.{◌≡◌};
-ghost use Rattle.hc_rules.specs.Survivors.{survivor_at};
+ghost use Rattle.hc_rules.specs.Admissions.{survivor_at};
 
 use crate::least::lesser;
 

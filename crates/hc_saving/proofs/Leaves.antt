@@ -11,8 +11,10 @@ use Rattle.hc_store.specs.declared.backend.Backend.{Ghosts}
 use Rattle.hc_model.specs.Live.{Leaves}
 use Rattle.hc_laws.proofs.{Faultless.{faultless_are_owed}, LawfulRuns.{lawful_in_runs}, LeaverGoes.{leaver_goes}, LiveRuns.{few_in_runs}}
 use Rattle.hc_state.proofs.LiveCounts.{counted, one, counted_moves}
-use Rattle.hc_core.specs.{declared.cache.Cache.{Cache}, Steps.{StandsFor, Answers, Steps, IsLeastLive, faults_in, limits_in, last_moment, live_in, steps, bytes_received}}
-use Rattle.hc_saving.specs.Leaving.{AllLeave, HasLeft, StandsForAny, leaving}
+use Rattle.hc_core.specs.{declared.cache.Cache.{Cache}, Steps.{StandsFor, Answers, Steps, faults_in, limits_in, last_moment, live_in, steps, bytes_received}}
+use Rattle.hc_model.specs.Denials.{IsLeastLive}
+use Rattle.hc_saving.specs.Leaving.{AllLeave, leaving}
+use Rattle.hc_saving.specs.LeftCaches.{HasLeft, StandsForAny}
 use Rattle.hc_saving.specs.Leaving as leaving_all
 
 -- ONE LEAVES

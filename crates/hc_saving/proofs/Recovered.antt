@@ -7,7 +7,8 @@
 use Rattle.std.{proofs.{Common.{◌≡◌, ◌≤◌, ◌<◌, ◌^◌, ◌+◌, ℕ, List, [], ◌++◌, length, take, drop, true, Option, Some, None, Result, Err, refl, ap, sym, ◌∙◌, subst, arith, append_assoc}, lemmas.List.{append-nil, length-drop, take-append-drop, take_all}}, specs.{Prelude.{Ok, IfErr}, Result.{IsErrAnd}}}
 use Rattle.hc_io.specs.Source.{Gives, GivesAll}
 use Rattle.hc_io.proofs.Givings.{gives_none}
-use Rattle.hc_sched.specs.{declared.schedule.{Refused.{Refused}, Timed.{Timed}}, Feeding.{beginning}, Reading.{events_in}, Laws.{AreTimed, refusal_of}, Reading.{Progress}, Schedule.{Item, Spells}}
+use Rattle.hc_sched.specs.{declared.schedule.{Refused.{Refused}, Timed.{Timed}}, Reading.{events_in, Progress}, Laws.{AreTimed}, Schedule.{Item, Spells}}
+use Rattle.hc_sched.specs.Reading.{beginning, refusal_of}
 use Rattle.hc_sched.proofs.OneReading.{is_read, brings_all, brings_items, brings_timed}
 use Rattle.hc_driver.specs.Breaks as breaks
 use Rattle.hc_driver.specs.Courses as courses
@@ -24,7 +25,8 @@ use Rattle.hc_replay.specs.{Histories.{run_of}, Replays.{IsReplayed}}
 use Rattle.hc_replay.proofs.Reported.{replayed, leads_limits}
 use Rattle.hc_image.proofs.Once.{image_once}
 use Rattle.hc_image.specs.{Readings.{BeginsWithNone}, Spelled.{SpellsImage}}
-use Rattle.hc_saving.specs.{declared.{silent.Silent.{Silent}, recovering.RecoverError.{RecoverError}, begin.BeginError.{BeginError}}, Begins.{BeginsWith, IsUnbegun}, Leaving.{HasLeft}, Recovers.{BeginsAs, AreWholeEvents, IsLeftBehind, IsRecovered, Recovers, IsTaken, IsStepped, HasNone, IsUnread, IsUnstepped, of_begin}, Silence.{AnswersSilently, IsSpent}}
+use Rattle.hc_saving.specs.{declared.{silent.Silent.{Silent}, recovering.RecoverError.{RecoverError}, begin.BeginError.{BeginError}}, Begins.{BeginsWith, IsUnbegun}, Recovers.{BeginsAs, AreWholeEvents, IsLeftBehind, IsRecovered, Recovers, IsTaken, IsStepped, HasNone, IsUnread, IsUnstepped, of_begin}, Silence.{AnswersSilently, IsSpent}}
+use Rattle.hc_saving.specs.LeftCaches.{HasLeft}
 use Rattle.hc_saving.specs.Begins as begins
 use Rattle.hc_saving.specs.Recovers as recovers
 use Rattle.hc_saving.specs.declared.recovering.RecoverError.TheVariants as error

@@ -17,7 +17,8 @@ use Rattle.hc_driver.specs.Stepping as steps
 use Rattle.hc_driver.proofs.Timings.{timed_back}
 use Rattle.hc_laws.proofs.{CountedOpenings.{openings_counted}}
 use Rattle.hc_core.specs.{Steps.{StandsFor, Answers, limits_in, last_moment, steps as steps_in}}
-use Rattle.hc_replay.specs.{Histories.{run_of, failures}, Replays.{IsWholeRun, IsReplayed}}
+use Rattle.hc_replay.specs.{Histories.{run_of, failures}, Replays.{IsReplayed}}
+use Rattle.hc_replay.specs.WholeRuns.{IsWholeRun}
 use Rattle.hc_replay.proofs.Reported.{replayed, leads_limits}
 use Rattle.hc_image.specs.{Images.{image_of}, Spelled.{SpellsImage}}
 use Rattle.hc_saving.specs.{declared.silent.Silent.{Silent}, Recovers.{IsLeftBehind}, Saves.{IsLeft, IsSaved, Saves, Writes, saved_of}, Silence.{AnswersSilently, IsSpent}}

@@ -1,5 +1,5 @@
 -- What came of an open: an image was read, and the schedule behind it was stepped from what the image has.
-use Rattle.std.specs.Prelude.{◌≡◌, ◌≢◌, ℕ, List, ◌++◌, Option, Some, None, true}
+use Rattle.std.specs.Prelude.{◌≡◌, ◌≢◌, ℕ, List, Option, Some, None}
 use Rattle.hc_io.specs.Sink.{Takes}
 use Rattle.hc_io.specs.Source.{Gives, GivesAll}
 use Rattle.hc_sched.specs.declared.schedule.Ended.{Ended}
@@ -9,51 +9,19 @@ use Rattle.hc_sched.specs.Schedule.{Item, Spells}
 use Rattle.hc_driver.specs.Courses.{TakesThenFront}
 use Rattle.hc_driver.specs.Endings.{How, Wholly, UpToLast, UpToWant, Ends}
 use Rattle.hc_driver.specs.Stepping as steps
-use Rattle.hc_driver.specs.Stepping.{events_in, report_of, report_before, last_entry}
+use Rattle.hc_driver.specs.Stepping.{report_of, report_before, last_entry}
 use Rattle.hc_rules.specs.declared.room.Limits.{Limits}
 use Rattle.hc_contents.specs.Fit.{unfit_of}
 use Rattle.hc_contents.specs.declared.unfit.Unfit.TheVariants as unfit
-use Rattle.hc_model.specs.Beginnings.{may_begin}
-use Rattle.hc_model.specs.Contents.{contents_of}
-use Rattle.hc_model.specs.Denials.{live}
-use Rattle.hc_model.specs.Entries.{History, Contents}
-use Rattle.hc_model.specs.Numbers.{AreShort}
-use Rattle.hc_model.specs.Runs.{IsRun}
-use Rattle.hc_model.specs.Tables.{tables}
-use Rattle.hc_replay.specs.Histories.{run_of, failures}
-use Rattle.hc_replay.specs.Replays.{IsWholeRun}
+use Rattle.hc_model.specs.Entries.{Contents}
 use Rattle.hc_image.specs.Readings.{BeginsWithNone}
-use Rattle.hc_image.specs.Spelled.{SpellsImage}
 use Rattle.hc_saving.specs.declared.begin.BeginError.{BeginError}
 use Rattle.hc_saving.specs.declared.begin.BeginError.TheVariants as begin
 use Rattle.hc_saving.specs.declared.open.OpenEnded.{OpenEnded}
 use Rattle.hc_saving.specs.declared.open.OpenEnded.TheVariants as opened
-
--- THE IMAGE
-
--- The text is an image of the contents, and then this schedule.
-pub record IsOpened (text : List ℕ) (contents : Contents) (schedule : List ℕ) : Type 0 where
-  pub image : List ℕ
-  pub is_image : SpellsImage image contents
-  pub text_is : image ++ schedule ≡ text
+use Rattle.hc_saving.specs.Continued.{IsOpened, IsContinued}
 
 -- WHAT GOES ON
-
--- A run that nobody is live behind leaves these contents.
-pub record Leaves (limits : Limits) (before : Contents) (h : History) (contents : Contents) : Type 0 where
-  pub begins : may_begin limits before ≡ true
-  pub short : AreShort before
-  pub run : IsRun limits before h
-  pub empty : live (tables before h) ≡ 0
-  pub contents_are : contents_of (tables before h) ≡ contents
-
--- These events are a run from the contents, over a store that never fails, and go on with each run that leaves them.
-pub record IsContinued (limits : Limits) (contents : Contents) (events : List Timed) (h : steps.History) : Type 0 where
-  pub events_are : events_in h ≡ events
-  pub whole : IsWholeRun limits contents (run_of h)
-  pub goes_on : (before : Contents) (earlier : History) → Leaves limits before earlier contents →
-      IsWholeRun limits before (run_of h ++ earlier)
-  pub sound : failures h ≡ 0
 
 -- How far these events went on, and what a sink took of their report.
 pub data Continues (limits : Limits) (contents : Contents) (out out' : Option (List ℕ)) : How → List Timed → Type 0 where

@@ -29,7 +29,7 @@ use Rattle.hc_saving.specs.declared.begin.BeginError.TheVariants as begin
 use Rattle.hc_saving.specs.declared.recovering.RecoverError.{RecoverError}
 use Rattle.hc_saving.specs.declared.recovering.RecoverError.TheVariants as error
 use Rattle.hc_saving.specs.Leaving.{AllLeave}
-use Rattle.hc_saving.specs.Opens.{Leaves}
+use Rattle.hc_saving.specs.Continued.{Leaves}
 
 -- THE IMAGE
 

@@ -16,7 +16,7 @@ use Rattle.hc_model.specs.Contents.{contents_of}
 use Rattle.hc_model.specs.Entries.{History, Contents, no_contents}
 use Rattle.hc_model.specs.Tables.{tables}
 use Rattle.hc_replay.specs.Histories.{run_of, failures}
-use Rattle.hc_replay.specs.Replays.{IsWholeRun}
+use Rattle.hc_replay.specs.WholeRuns.{IsWholeRun}
 use Rattle.hc_image.specs.Images.{image_of}
 use Rattle.hc_image.specs.Spelled.{SpellsImage}
 use Rattle.hc_saving.specs.Leaving.{AllLeave}

@@ -5,7 +5,7 @@ ghost use Rattle.hc_model.specs.Entries as model;
 ghost use Rattle.hc_model.specs.Entries.{History, no_contents};
 ghost use Rattle.hc_contents.specs.PlainContents.{plain_contents};
 ghost use Rattle.hc_core.specs.Steps.{StandsFor, last_moment, steps, bytes_received, limits_in, live_in};
-ghost use Rattle.hc_saving.specs.Leaving.{HasLeft, StandsForAny};
+ghost use Rattle.hc_saving.specs.LeftCaches.{HasLeft, StandsForAny};
 ghost use Rattle.hc_saving.specs.Recovers.{IsLeftBehind};
 ghost use Rattle.hc_saving.specs.Saves.{IsLeft};
 

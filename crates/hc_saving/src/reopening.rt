@@ -7,7 +7,8 @@ ghost use Rattle.hc_model.specs.Beginnings.{may_begin};
 ghost use Rattle.hc_model.specs.Entries as model;
 ghost use Rattle.hc_image.specs.Spelled.{SpellsImage};
 ghost use Rattle.hc_contents.specs.PlainContents.{plain_contents};
-ghost use Rattle.hc_saving.specs.Opens.{Opens, Completes, IsImageTaken, IsOpened, IsUnopened};
+ghost use Rattle.hc_saving.specs.Opens.{Opens, Completes, IsImageTaken, IsUnopened};
+ghost use Rattle.hc_saving.specs.Continued.{IsOpened};
 ghost use Rattle.hc_saving.specs.Saves.{IsLeft};
 
 use crate::begin::begin;

@@ -4,7 +4,7 @@ ghost use Rattle.hc_io.specs.Faults.{HasRisen};
 ghost use Rattle.hc_sched.specs.declared.schedule.Ended.TheVariants as ended;
 ghost use Rattle.hc_model.specs.Entries.{History, no_contents};
 ghost use Rattle.hc_core.specs.Steps.{StandsFor, last_moment, steps, bytes_received, limits_in};
-ghost use Rattle.hc_saving.specs.Leaving.{StandsForAny};
+ghost use Rattle.hc_saving.specs.LeftCaches.{StandsForAny};
 ghost use Rattle.hc_saving.specs.Saves.{Saves, Writes};
 
 use crate::leaving::image_left;

@@ -6,7 +6,8 @@
 -- load are brief, a number has few digits, and a piece has the longest text.
 use Rattle.std.{proofs.{lemmas.Bool.Decides.{nat_tests}, Common.{◌≡◌, ℕ, ◌≤◌, true, false, List, ◌∷◌, ◌++◌, length, Some, refl, ap, arith, length-append, le-leb, leb-true}}, specs.{Prelude.{option_map}, Fmt.{decimal}}}
 use Rattle.http_header.specs.Token.{is_token_byte}
-use Rattle.hc_text.specs.{Texts.{lacks, IsSmall}, Cuts.{behind}}
+use Rattle.hc_text.specs.Texts.{lacks, IsSmall}
+use Rattle.hc_text.specs.Texts.{behind}
 use Rattle.hc_event.specs.declared.event.Event.TheVariants as event
 use Rattle.hc_event.specs.declared.event.Load.{Load}
 use Rattle.hc_event.specs.declared.event.Load.TheVariants as load

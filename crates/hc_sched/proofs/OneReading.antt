@@ -9,7 +9,8 @@ use Rattle.hc_event.specs.declared.event.Event.TheVariants as event
 use Rattle.hc_fields.specs.Lines.{fields_text}
 use Rattle.hc_text.proofs.Cuts.{cut_once}
 use Rattle.hc_fields.proofs.FieldTexts.{fields_once}
-use Rattle.hc_sched.specs.{declared.{begun.Begun.{Begun}, schedule.{Refused.{Refused}, Timed.{Timed}}}, Pieces.{bytes_of}, FirstLines.{First, Sets, Starts, Heads, Brings, Dooms, Tells, first_of}, Reading.{Progress, Reads, Stopped, Spent, after, events_in}, Feeding.{beginning, is_between}, Schedule.{Item, Moment, Happens, item_line, item_fields, item_text, text_of, IsHead, IsItem, IsSmall, IsSchedule, Spells, moment_after, events_of}, Laws.{HasRead, AreTimed, refusal_at, refusal_of}}
+use Rattle.hc_sched.specs.{declared.{begun.Begun.{Begun}, schedule.{Refused.{Refused}, Timed.{Timed}}}, Pieces.{bytes_of}, FirstLines.{First, Sets, Starts, Heads, Brings, Dooms, Tells, first_of}, Reading.{Progress, Reads, Stopped, Spent, after, events_in}, Feeding.{is_between}, Schedule.{Item, Moment, Happens, item_line, item_fields, item_text, text_of, IsHead, IsItem, IsSmall, IsSchedule, Spells, moment_after, events_of}, Laws.{HasRead, AreTimed, refusal_at}}
+use Rattle.hc_sched.specs.Reading.{beginning, refusal_of}
 use Rattle.hc_sched.specs.declared.schedule.SchedRefusal.TheVariants as why
 use Rattle.hc_sched.proofs.{FieldReads.{Pair}, FeedLemmas.{after-append, after-stopped, events_in-append}, Forms.{first_for, first_of-line, line-short}, Hex.{bytes_of-piece_text}, Spelled.{items_read}, Standing.{StandsFor, begun_text, text_step}}
 

@@ -6,7 +6,8 @@
 -- `says_number`). `first_of-says` joins them all; the proof of what the reading represents uses it.
 use Rattle.std.{proofs.{lemmas.{Bool.{cases_Bool, and_parts, Decides.{nat_tests}}, Slice.Eq.{bytes_eq-Decides}}, Common.{arith, ◌≡◌, ◌⊎◌, ℕ, ◌≤◌, ◌&&◌, Bool, true, List, [], ◌∷◌, ◌++◌, Option, Some, None, refl, sym, ap, subst, ◌∙◌, inl, inr}}, specs.{Prelude.{codes, nat_le, bytes_eq, option_map, if◌then◌else◌}, Fmt.{decimal}}}
 use Rattle.hc_text.proofs.{Basics.{mapped_from as option_map-parts}, Cutting.{append-cut, append-behind}}
-use Rattle.hc_text.specs.{Texts.{IsSmall}, Cuts.{cut, behind}}
+use Rattle.hc_text.specs.Texts.{IsSmall}
+use Rattle.hc_text.specs.Texts.{cut, behind}
 use Rattle.hc_event.specs.declared.event.Event.TheVariants as event
 use Rattle.hc_event.specs.declared.event.Load.{Load}
 use Rattle.hc_event.specs.declared.event.Load.TheVariants as load

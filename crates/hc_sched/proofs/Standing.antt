@@ -5,7 +5,8 @@
 -- work: a field line ends the item where it is the last one missing, else it is counted down. `line_step` joins both
 -- kinds of lines. A byte grows the line, ends it or is refused (`byte_step`); `text_step` goes on by induction.
 use Rattle.std.{proofs.{lemmas.{Bool.{cases_Bool, cases_lt, cases_eq, eq-eqb, ne_eqb, eqb-true, le-ltb, Decides.{nat_tests}}, List.{append-nil}}, Common.{◌≡◌, ℕ, ◌+◌, ◌-◌, ◌<◌, ◌≤◌, ◌==◌, true, List, [], ◌∷◌, ◌++◌, length, Option, Some, None, refl, sym, ap, subst, ◌∙◌, inl, inr, arith, append_assoc, zero-add, lt-ltb}}, specs.{Prelude.{codes}, Fmt.{decimal}}}
-use Rattle.hc_text.specs.{Texts.{IsSmall}, Cuts.{cut, behind}}
+use Rattle.hc_text.specs.Texts.{IsSmall}
+use Rattle.hc_text.specs.Texts.{cut, behind}
 use Rattle.hc_event.specs.declared.event.Event.TheVariants as event
 use Rattle.hc_fields.specs.{FieldList.{field_list_with}, Lines.{fields_text}}
 use Rattle.hc_fields.proofs.{Edits.{IsFieldList-put, length-put, size_of-put}, Ends.{put-last}, LineLemmas.{fields_text-push}}

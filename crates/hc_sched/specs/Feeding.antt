@@ -10,10 +10,6 @@ use Rattle.hc_sched.specs.declared.schedule.Timed.{Timed}
 use Rattle.hc_sched.specs.Limits.{MayBegun}
 use Rattle.hc_sched.specs.Reading.{Progress, Reads, Stopped, Spent, Step, first_place, refuse, take_line, after, events_in}
 
--- the reading of a text at its beginning, at this moment
-abbrev pub beginning : ℕ → Progress
-beginning moment = Reads (first_place moment) []
-
 -- what a feed stands for, by its error
 abbrev pub progress_of : Option FeedError → Reader → Progress
 progress_of None reader = Reads reader.place reader.line.items

@@ -4,7 +4,7 @@ use Rattle.std.specs.List.{list_all}
 use Rattle.hc_fields.specs.FieldList.{comes_before, size_of, is_own_value}
 use Rattle.hc_fields.specs.Lines.{is_lower_byte}
 use Rattle.hc_sched.specs.Words.{◌>>=◌}
-use Rattle.hc_text.specs.Cuts.{cut, behind}
+use Rattle.hc_text.specs.Texts.{cut, behind}
 
 -- the name and the value of a line `NAME: VALUE`
 unfoldable pub field_parts : List ℕ → Option (List ℕ × List ℕ)

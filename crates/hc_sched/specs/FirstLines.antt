@@ -8,7 +8,7 @@ use Rattle.hc_event.specs.declared.event.Event.TheVariants as event
 use Rattle.hc_event.specs.declared.event.Load.{Load}
 use Rattle.hc_event.specs.declared.event.Load.TheVariants as load
 use Rattle.hc_sched.specs.Words.{◌>>=◌, or_else, plain_of, plain_within, number_and_rest}
-use Rattle.hc_text.specs.Cuts.{cut, behind}
+use Rattle.hc_text.specs.Texts.{cut, behind}
 use Rattle.hc_sched.specs.Pieces.{is_piece_text}
 
 -- What the first line of an item says. The target is any word: whether it is one is tested apart.

@@ -4,8 +4,9 @@ use Rattle.hc_sched.specs.declared.place.Place.{Place}
 use Rattle.hc_sched.specs.declared.schedule.Refused.{Refused}
 use Rattle.hc_sched.specs.declared.schedule.SchedRefusal.TheVariants as why
 use Rattle.hc_sched.specs.declared.schedule.Timed.{Timed}
-use Rattle.hc_sched.specs.Reading.{Progress, Reads, Stopped, Spent, after, events_in}
-use Rattle.hc_sched.specs.Feeding.{beginning, is_between}
+use Rattle.hc_sched.specs.Reading.{Progress, Reads, Stopped, Spent, after, events_in, refusal_of}
+use Rattle.hc_sched.specs.Feeding.{is_between}
+use Rattle.hc_sched.specs.Reading.{beginning}
 use Rattle.hc_sched.specs.Schedule.{Item, IsEvent, IsSmall, IsSchedule, Spells, text_of, events_of, timed_text}
 
 -- between two items, behind so many lines
@@ -32,10 +33,6 @@ refusal_at (Reads place line) =
     else Some (record { line = place.lines + 1; why = why.CutShort })
 refusal_at (Stopped refused) = Some refused
 refusal_at Spent = None
-
--- the first refusal of a text that begins at this moment
-abbrev pub refusal_of : ℕ → List ℕ → Option Refused
-refusal_of now text = refusal_at (after (beginning now) text)
 
 -- The text begins with these items of a schedule, and brings their events.
 pub record HasRead (now : ℕ) (text : List ℕ) (events : List Timed) : Type 0 where

@@ -15,6 +15,16 @@ use Rattle.hc_target.specs.Targets.{is_target}
 use Rattle.hc_sched.specs.Pieces.{bytes_of}
 use Rattle.hc_sched.specs.FirstLines.{First, Sets, Starts, Heads, Brings, Dooms, Tells, first_of}
 use Rattle.hc_sched.specs.FieldLines.{field_of}
+use Rattle.std.specs.Prelude.{ℕ, List, Option}
+use Rattle.std.specs.Prelude.{ℕ, []}
+
+-- the reading of a text at its beginning, at this moment
+abbrev pub beginning : ℕ → Progress
+beginning moment = Reads (first_place moment) []
+
+-- the first refusal of a text that begins at this moment
+abbrev pub refusal_of : ℕ → List ℕ → Option Refused
+refusal_of now text = refusal_at (after (beginning now) text)
 
 -- Where the reading of a schedule stands.
 pub data Progress : Type 0 where

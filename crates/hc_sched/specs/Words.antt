@@ -1,5 +1,5 @@
 -- Words of a line, and steps that may fail.
-use Rattle.hc_text.specs.Cuts.{cut}
+use Rattle.hc_text.specs.Texts.{cut}
 use Rattle.std.specs.Prelude.{ℕ, ◌+◌, ◌^◌, ◌==◌, ◌&&◌, nat_lt, nat_le, List, length, take, drop, bytes_eq, position, Option, Some, None, option_map, if◌then◌else◌}
 use Rattle.std.specs.Fmt.{decimal}
 use Rattle.std.specs.Str.Parse.{digits_value}

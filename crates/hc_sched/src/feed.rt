@@ -28,7 +28,8 @@ impl Model for Feed {
 }
 
 impl Feed {
-    ghost use Rattle.hc_sched.specs.Feeding.{beginning, lines_in, held_in, Feeds, StandsAt, AnswersAgain, ending, progress_at_end, stopped_by};
+    ghost use Rattle.hc_sched.specs.Feeding.{lines_in, held_in, Feeds, StandsAt, AnswersAgain, ending, progress_at_end, stopped_by};
+    ghost use Rattle.hc_sched.specs.Reading.{beginning};
 
     /// A feed at the beginning of a text, at moment 0.
     pub fn new(alloc: Global) -> Feed

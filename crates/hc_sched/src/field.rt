@@ -17,7 +17,7 @@ const MOST_VALUE: usize = 8192;
 const MOST_SIZE: usize = 32_768;
 
 /// The name and the value of a line `NAME: VALUE`.
-#[tactic(auto, unfolding(hc_text::specs::Cuts::behind, crate::specs::FieldLines::field_parts))]
+#[tactic(auto, unfolding(hc_text::specs::Texts::behind, crate::specs::FieldLines::field_parts))]
 fn named(line: &[u8]) -> Option<(&[u8], &[u8])>
     ensures value { option_map (λ field. (field.0.now, field.1.now)) result ≡ field_parts line.now }
     ensures len { IfSome result

@@ -187,7 +187,7 @@ fn read_doom(words: &[u8]) -> Option<First<'_>>
 }
 
 /// What the line says as the first line of an item, or None where it is none.
-#[tactic(auto, unfolding(hc_text::specs::Cuts::behind, crate::specs::FirstLines::first_of))]
+#[tactic(auto, unfolding(hc_text::specs::Texts::behind, crate::specs::FirstLines::first_of))]
 pub(crate) fn read_first(line: &[u8]) -> Option<First<'_>>
     ensures value { option_map as_first result ≡ first_of line.now }
     ensures suits { IfSome result (λ first. Suits (as_first first) (length line.now)) }

@@ -31,7 +31,8 @@ fn next_line(text: &[u8]) -> Option<(&[u8], &[u8])>
 }
 
 impl Reader {
-    ghost use Rattle.hc_sched.specs.Feeding.{beginning, IsWithin, Feeds, join_line, is_between, held_in};
+    ghost use Rattle.hc_sched.specs.Feeding.{IsWithin, Feeds, join_line, is_between, held_in};
+    ghost use Rattle.hc_sched.specs.Reading.{beginning};
 
     /// The reading at the beginning, at this moment.
     pub(crate) fn new(alloc: Global, moment: u64) -> Reader

@@ -3,7 +3,8 @@ use Rattle.std.{proofs.{Common.{◌≡◌, ℕ, ◌<◌, ◌≤◌, ◌^◌, len
 use Rattle.hc_text.proofs.Basics.{and_left, and_right, some_inj as some_is}
 use Rattle.hc_fields.specs.FieldList.{IsFieldList, IsWithinLimits, size_of}
 use Rattle.hc_record.specs.Head.{Head, IsHead, one_strong_opaque}
-use Rattle.hc_validate.specs.{Heads.{FieldPairs}, Updates.{is_within_limits, updated_fields}}
+use Rattle.hc_validate.specs.Updates.{is_within_limits, updated_fields}
+use Rattle.hc_validate.specs.Updates.{FieldPairs}
 use Rattle.hc_effects.proofs.FieldsKeep.{values_kept, within_limits_kept}
 use Rattle.hc_stored.specs.{Kept.{Kept, with_head}, Shelf.{Shelf, Becomes, Stays, head_at, same_order}}
 use Rattle.hc_exch.specs.{declared.row.{Open.{Open}, Opening.{Opening}}, Known.{begins_with}, Openings.{opened_with}}

@@ -2,10 +2,12 @@
 use Rattle.std.{proofs.{Common.{◌≡◌, ℕ, ◌+◌, Bool, true, false, not, List, [], ◌∷◌, ◌++◌, drop, Some, refl, ap, sym, ◌∙◌, arith}, lemmas.{List.{append_assoc, drop_more}, Option.{slice_get_within, get_or_from_slice_get}}}, specs.{Prelude.{◌||◌, bytes_eq, codes, filter, slice_get}, List.{list_any}}}
 use Rattle.hc_text.proofs.Basics.{false_true}
 use Rattle.http_header.specs.Token.{lowercase}
-use Rattle.hc_fields.specs.{FieldElements.{elements_in}, FieldList.{IsFieldList, IsWithinLimits, has_name, without}}
+use Rattle.hc_fields.specs.FieldList.{IsFieldList, IsWithinLimits, has_name, without}
+use Rattle.hc_fields.specs.FirstValues.{elements_in}
 use Rattle.hc_fields.proofs.Edits.{length-parts, size_of-parts}
 use Rattle.hc_rules.proofs.RangeReads.{bytes_eq-same, same_bytes}
-use Rattle.hc_validate.specs.{Heads.{FieldPairs}, Updates.{is_renewed, left_by}}
+use Rattle.hc_validate.specs.Updates.{is_renewed, left_by}
+use Rattle.hc_validate.specs.Updates.{FieldPairs}
 use Rattle.hc_validate.proofs.Renewals.{field_at, left_by-more}
 use Rattle.hc_effects.proofs.Vocabulary.{kept_fields, varied_by}
 use Rattle.hc_model.specs.Heads.{is_varied}

@@ -13,7 +13,7 @@ use Rattle.hc_stored.specs.Entries.{shelf_of}
 use Rattle.hc_stored.specs.Kept.{Kept}
 use Rattle.hc_rules.specs.declared.heads.HeadCase.TheVariants as heads
 use Rattle.hc_rules.specs.HeadCases.{head_case}
-use Rattle.hc_rules.specs.Least.{least}
+use Rattle.hc_rules.specs.Admissions.{least}
 use Rattle.hc_model.specs.Cases.{head_view}
 use Rattle.hc_model.specs.Currents.{current, is_number}
 use Rattle.hc_model.specs.Denials.{denial}

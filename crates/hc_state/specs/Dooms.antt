@@ -6,7 +6,7 @@ use Rattle.hc_store.specs.declared.backend.Backend.{Ghosts}
 use Rattle.hc_event.specs.declared.act.Act.{Act}
 use Rattle.hc_event.specs.declared.act.Act.TheVariants as act
 use Rattle.hc_rules.specs.declared.need.Route.TheVariants as route
-use Rattle.hc_rules.specs.Least.{lesser}
+use Rattle.hc_rules.specs.Admissions.{lesser}
 use Rattle.hc_rules.specs.Needs.{route_of}
 use Rattle.hc_sorted.specs.Sorted.{is_sorted}
 use Rattle.hc_stored.specs.Entries.{shelf_of}

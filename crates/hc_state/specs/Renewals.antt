@@ -2,7 +2,7 @@
 use Rattle.std.specs.Prelude.{◌≡◌, ℕ, Bool, true, false, Some, option_map}
 use Rattle.hc_event.specs.declared.event.Response.{Response}
 use Rattle.hc_record.specs.Head.{Head}
-use Rattle.hc_validate.specs.Heads.{FieldPairs}
+use Rattle.hc_validate.specs.Updates.{FieldPairs}
 use Rattle.hc_validate.specs.Selection.{selects}
 use Rattle.hc_validate.specs.Updates.{updated_fields}
 use Rattle.hc_store.specs.declared.backend.Backend.{Ghosts}

@@ -2,7 +2,7 @@
 ghost use Rattle.std.specs.Prelude.{◌≡◌, ◌<◌, ◌^◌, codes, IfOk};
 ghost use Rattle.std.specs.List.{list_any};
 ghost use Rattle.hc_text.specs.Elements.{elements};
-ghost use Rattle.hc_fields.specs.FieldElements.{elements_in};
+ghost use Rattle.hc_fields.specs.FirstValues.{elements_in};
 ghost use Rattle.hc_record.specs.Head.{IsSmallTotal};
 ghost use Rattle.hc_record.specs.Plain.{plain};
 ghost use Rattle.hc_model.specs.Heads.{varied_by};

@@ -2,7 +2,7 @@
 use Rattle.std.specs.Prelude.{ℕ, List, Bool, codes, bytes_eq, Option}
 use Rattle.std.specs.List.{list_any}
 use Rattle.http_header.specs.Token.{lowercase}
-use Rattle.hc_fields.specs.FieldElements.{elements_in}
+use Rattle.hc_fields.specs.FirstValues.{elements_in}
 use Rattle.hc_record.specs.declared.kind.Kind.{Kind}
 use Rattle.hc_record.specs.Head.{Head}
 use Rattle.hc_fresh.specs.declared.facts.HeadFacts.{HeadFacts}

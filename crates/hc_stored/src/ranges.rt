@@ -2,7 +2,7 @@
 ghost use Rattle.std.specs.Prelude.{◌≡◌, codes};
 ghost use Rattle.std.specs.List.{list_any};
 ghost use Rattle.hc_text.specs.Elements.{elements};
-ghost use Rattle.hc_fields.specs.FieldElements.{elements_in};
+ghost use Rattle.hc_fields.specs.FirstValues.{elements_in};
 ghost use Rattle.hc_stored.specs.Heads.{is_none_element};
 
 use hc_fields::Fields;

@@ -8,7 +8,7 @@ use Rattle.std.{proofs.{Common.{◌≡◌, ℕ, ◌≤◌, ◌==◌, ◌&&◌, �
 use Rattle.percent_encoding.specs.Percent.{IsKept}
 use Rattle.url.proofs.{SetLemmas.{kept_from_passes}, Theorems.{parse_url-serialize_special}, ValidLemmas.{IsAscii-serialize}}
 use Rattle.url.specs.{Parser.{parse_url}, declared.{sets.TheConstants.{FORBIDDEN_DOMAIN, PATH, SPECIAL_QUERY, USERINFO}, scheme.SchemeType.TheVariants.{SpecialNotFile}}, Input.{rsplit_once, rsplit_step, lowercase, is_empty}, Ipv4.{ends_in_a_number, last_label, last_label_of, parse_number, is_number}, Host.{IsDomain}, Path.{IsSegment, IsSegmentList, join_segments, dot_count}, Scheme.{default_port, scheme_type, is_slash, scheme_len}, Parts.{IsValid, IsValidHead, serialize, kind_of}}
-use Rattle.hc_text.specs.Cuts.{cut, behind}
+use Rattle.hc_text.specs.Texts.{cut, behind}
 use Rattle.hc_target.specs.{Targets.{is_target, is_short_word, has_own_text, ReadsTarget}, PlainTargets.{is_host_byte, is_path_byte, is_query_byte, begins_dots, is_plain_path, is_plain_path_and_query, is_plain_rest, is_plain_target, plain_url}}
 use Rattle.hc_text.proofs.Cutting.{none_or_some, append-cut, append-behind}
 use Rattle.hc_target.proofs.TargetLemmas.{is_target-own}

@@ -4,7 +4,7 @@ use Rattle.std.specs.Prelude.{ℕ, ◌==◌, ◌&&◌, ◌||◌, not, nat_le, Bo
 use Rattle.std.specs.List.{list_all}
 use Rattle.url.specs.Parts.{Parts}
 use Rattle.url.specs.declared.host.Host.TheVariants.{Domain}
-use Rattle.hc_text.specs.Cuts.{cut, behind}
+use Rattle.hc_text.specs.Texts.{cut, behind}
 
 -- a lower-case letter, a dot or a hyphen
 abbrev pub is_host_byte : ℕ → Bool

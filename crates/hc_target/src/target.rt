@@ -2,7 +2,7 @@
 ghost use Rattle.std.specs.Prelude.{◌≡◌, ◌≤◌, true, length, IfOk, IsTrue};
 ghost use Rattle.std.specs.List.{list_all};
 ghost use Rattle.hc_target.specs.PlainTargets.{is_host_byte, is_path_byte, is_query_byte, is_plain_path, is_plain_path_and_query, is_plain_target};
-ghost use Rattle.hc_text.specs.Cuts.{cut};
+ghost use Rattle.hc_text.specs.Texts.{cut};
 ghost use Rattle.hc_target.specs.Targets.{is_target, is_short_word, has_own_text, ReadsTarget};
 
 use hc_text::{NoMemory, cut, lacks};
@@ -75,7 +75,7 @@ fn is_plain_path_and_query(text: &[u8]) -> bool
 
 /// Whether the text is a target that needs no reading: a host of lower-case letters, dots and
 /// hyphens, and a path and a query that the URL Standard takes as they stand.
-#[tactic(auto, unfolding(hc_text::specs::Cuts::behind, crate::specs::PlainTargets::is_plain_target))]
+#[tactic(auto, unfolding(hc_text::specs::Texts::behind, crate::specs::PlainTargets::is_plain_target))]
 fn is_plain_target(text: &[u8]) -> bool
     ensures { result ≡ is_plain_target text.now }
 {

@@ -1,7 +1,7 @@
 -- A text that is cut, and what stands behind a prefix.
 use Rattle.std.{proofs.{Common.{◌≡◌, ℕ, ◌+◌, ◌<◌, ◌≤◌, ◌⊎◌, ◌==◌, true, not, List, [], ◌∷◌, ◌++◌, length, take, drop, get_or, Option, Some, None, refl, sym, ap, ◌∙◌, inl, inr, arith, lt-ltb}, lemmas.{Bool.{cases_Bool, cases_lt, and_parts, eqb-true, le-ltb}, List.{take-append-drop, take_at, drop_at, Sums.{passes_at_first, split_at_first}}, Slice.Eq.{bytes_eq-Decides}}}, specs.{Prelude.{bytes_eq, option_map}, List.{position_or_len}}}
 pub use Rattle.hc_text.specs.Texts.{lacks}
-use Rattle.hc_text.specs.Cuts.{cut, behind}
+use Rattle.hc_text.specs.Texts.{cut, behind}
 
 pub none_or_some : {A : Type 0} (o : Option A) → (o ≡ None) ⊎ ((x : A) × (o ≡ Some x))
 none_or_some None = inl refl

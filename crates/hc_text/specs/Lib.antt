@@ -3,4 +3,3 @@ pub mod Numbers
 pub mod Elements
 pub mod Items
 pub mod Texts
-pub mod Cuts

@@ -1,7 +1,7 @@
 //! Where a byte stands in a text.
 ghost use Rattle.std.specs.Prelude.{◌≡◌, ◌==◌, ◌+◌, length, IfSome, option_map, position};
 ghost use Rattle.hc_text.specs.Texts.{lacks};
-ghost use Rattle.hc_text.specs.Cuts.{cut};
+ghost use Rattle.hc_text.specs.Texts.{cut};
 
 use memchr::memchr;
 
@@ -13,7 +13,7 @@ pub fn position_of(text: &[u8], byte: u8) -> Option<usize>
 }
 
 /// The text up to the first `byte`, and the text behind it.
-#[tactic(auto, unfolding(crate::specs::Cuts::cut))]
+#[tactic(auto, unfolding(crate::specs::Texts::cut))]
 pub fn cut(text: &[u8], byte: u8) -> Option<(&[u8], &[u8])>
     ensures value { option_map (λ parts. (parts.0.now, parts.1.now)) result ≡ cut byte text.now }
     ensures len { IfSome result

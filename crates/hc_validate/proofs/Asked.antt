@@ -1,7 +1,8 @@
 -- What Range asks for, as it is read.
 use Rattle.std.{proofs.Common.{◌≡◌, ℕ, List, Option, Some, None, subst}, specs.Prelude.{IfSome, IsSomeAnd}}
 use Rattle.hc_range.specs.{declared.range.Asked.{Asked}, Ranges.{SpellsRange}}
-use Rattle.hc_validate.specs.{Heads.{FieldPairs}, Origin.{IsAsked, range_of}}
+use Rattle.hc_validate.specs.Origin.{IsAsked, range_of}
+use Rattle.hc_validate.specs.Updates.{FieldPairs}
 
 no_spelling : (text : List ℕ) → ((asked : Asked) → SpellsRange text asked → None ≡ Some asked) → (asked : Asked) → ¬ (SpellsRange text asked)
 no_spelling text none asked spells = let e : None ≡ Some asked = none asked spells in absurd (cc)

@@ -3,7 +3,7 @@ use Rattle.std.{proofs.{Common.{◌≡◌, ℕ, ◌+◌, ◌≤◌, ◌<◌, tru
 use Rattle.http_header.specs.Token.{IsToken, lowercase}
 use Rattle.hc_fields.specs.{declared.error.FieldError.{FieldError, TheVariants.{BadName, BadValue, TooMany, TooLong, NoMemory}}, FieldList.{Refuses, is_own_value, size_of, without}}
 use Rattle.hc_fields.proofs.Edits.{length-parts, length-put, size_of-parts, size_of-put}
-use Rattle.hc_validate.specs.Heads.{FieldPairs, with_one}
+use Rattle.hc_validate.specs.Updates.{FieldPairs, with_one}
 
 pub length-without : (name : List ℕ) (fields : FieldPairs) → length (without name fields) ≤ length fields
 length-without name fields = omega (arith, length-parts name fields)

@@ -1,7 +1,7 @@
 -- The values of a stored head are values of fields.
 use Rattle.std.{proofs.{Common.{◌≡◌, ℕ, zero, suc, ◌≤◌, true, List, [], ◌∷◌, length, inl, inr, subst, arith}, lemmas.Bool.{cases_Bool}}, specs.Prelude.{All, Some, slice_get}}
 use Rattle.hc_fields.specs.{FieldList.{IsField, IsFieldList, has_name, is_own_value, values_of}, FirstValues.{first_value}}
-use Rattle.hc_validate.specs.Heads.{FieldPairs}
+use Rattle.hc_validate.specs.Updates.{FieldPairs}
 
 -- a value that a field may have
 pub record IsFit (value : List ℕ) : Type 0 where

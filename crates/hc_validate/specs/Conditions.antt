@@ -3,9 +3,9 @@ use Rattle.std.specs.Prelude.{ℕ, Bool, List, Option, Some, None, codes, is_som
 use Rattle.hc_fields.specs.FirstValues.{first_value}
 use Rattle.hc_record.specs.Head.{Head}
 use Rattle.hc_event.specs.declared.event.Request.{Request}
-use Rattle.hc_fresh.specs.Dates.{date_in}
-use Rattle.hc_validate.specs.Heads.{FieldPairs, with_one}
-use Rattle.hc_validate.specs.Tags.{tag_of}
+use Rattle.hc_fresh.specs.Ages.{date_in}
+use Rattle.hc_validate.specs.Updates.{FieldPairs, with_one}
+use Rattle.hc_validate.specs.Selection.{tag_of}
 
 -- the condition with this value, where there is one and it applies
 abbrev pub with_condition : Bool → List ℕ → Option (List ℕ) → FieldPairs → FieldPairs

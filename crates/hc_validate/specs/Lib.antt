@@ -1,5 +1,3 @@
-pub mod Heads
-pub mod Tags
 pub mod Conditions
 pub mod Selection
 pub mod Updates

@@ -15,7 +15,7 @@ use Rattle.hc_range.specs.declared.range.Asked.{Asked}
 use Rattle.hc_range.specs.declared.range.Span.{Span}
 use Rattle.hc_range.specs.Ranges.{SpellsRange}
 use Rattle.hc_range.specs.Spans.{resolved_span}
-use Rattle.hc_validate.specs.Heads.{FieldPairs, with_one}
+use Rattle.hc_validate.specs.Updates.{FieldPairs, with_one}
 use Rattle.hc_validate.specs.Showing.{with_length, with_range}
 use Rattle.hc_validate.specs.declared.origin.Answer.{Answer}
 

@@ -7,7 +7,7 @@ use Rattle.hc_range.specs.Spans.{content_range_text}
 use Rattle.hc_event.specs.declared.event.Response.{Response}
 use Rattle.hc_event.specs.declared.act.Why.{Why}
 use Rattle.hc_event.specs.declared.act.Why.TheVariants as why
-use Rattle.hc_validate.specs.Heads.{FieldPairs, with_one}
+use Rattle.hc_validate.specs.Updates.{FieldPairs, with_one}
 
 -- an answer that isn't validated tells its age
 abbrev pub with_age : Why → FieldPairs → FieldPairs

@@ -2,7 +2,17 @@
 use Rattle.std.specs.Prelude.{ℕ, ◌∷◌, [], ◌&&◌, not, nat_le, Bool, List, codes, bytes_eq, filter, length, if◌then◌else◌}
 use Rattle.std.specs.List.{list_any}
 use Rattle.hc_fields.specs.FieldList.{has_name, field_list_with, size_of}
-use Rattle.hc_validate.specs.Heads.{FieldPairs}
+use Rattle.std.specs.Prelude.{ℕ, List}
+use Rattle.hc_fields.specs.FieldList.{field_list_with, without}
+
+-- Fields in which one value stands for a name.
+
+abbrev pub FieldPairs : Type 0
+FieldPairs = List (List ℕ × List ℕ)
+
+-- the fields with this value in place of all of its name
+abbrev pub with_one : List ℕ → List ℕ → FieldPairs → FieldPairs
+with_one name value fields = field_list_with name value (without name fields)
 
 -- names that no update changes
 abbrev pub fixed_names : List (List ℕ)

@@ -2,7 +2,7 @@
 ghost use Rattle.std.specs.Prelude.{◌≡◌, ◌≤◌, ◌<◌, ◌+◌, length, true, OnOk, OnErr};
 ghost use Rattle.http_header.specs.Token.{IsToken, lowercase};
 ghost use Rattle.hc_fields.specs.FieldList.{is_own_value, size_of};
-ghost use Rattle.hc_validate.specs.Heads.{with_one};
+ghost use Rattle.hc_validate.specs.Updates.{with_one};
 
 use hc_fields::{FieldError, Fields};
 use hc_text::NoMemory;

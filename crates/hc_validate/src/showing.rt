@@ -6,7 +6,7 @@ ghost use Rattle.http_header.specs.Token.{IsToken, lowercase};
 ghost use Rattle.hc_fields.specs.FieldList.{size_of};
 ghost use Rattle.hc_range.specs.Spans.{IsWithin};
 ghost use Rattle.hc_record.specs.Plain.{plain};
-ghost use Rattle.hc_validate.specs.Heads.{with_one};
+ghost use Rattle.hc_validate.specs.Updates.{with_one};
 ghost use Rattle.hc_validate.specs.Showing.{part_of, shown_response, with_age, with_length, with_range};
 
 use crate::setting::set_field;

@@ -1,7 +1,7 @@
 //! The entity tag of a head.
 ghost use Rattle.std.specs.Prelude.{◌≡◌, option_map};
 ghost use Rattle.hc_etag.specs.PlainTags.{plain_tag};
-ghost use Rattle.hc_validate.specs.Tags.{tag_of};
+ghost use Rattle.hc_validate.specs.Selection.{tag_of};
 
 use hc_etag::{TagText, tag_in};
 use hc_fields::{Fields, only_value};

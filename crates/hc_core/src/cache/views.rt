@@ -8,7 +8,8 @@ ghost use Rattle.hc_model.specs.Denials.{live};
 ghost use Rattle.hc_model.specs.Kinds.{kind_for};
 ghost use Rattle.hc_model.specs.Lines.{turn};
 ghost use Rattle.hc_model.specs.Tables.{tables};
-ghost use Rattle.hc_core.specs.Steps.{StandsFor, last_moment, steps, bytes_received, live_in, store_in, IsLeastLive};
+ghost use Rattle.hc_core.specs.Steps.{StandsFor, last_moment, steps, bytes_received, live_in, store_in};
+ghost use Rattle.hc_model.specs.Denials.{IsLeastLive};
 
 use crate::cache::Cache;
 use hc_record::Kind;

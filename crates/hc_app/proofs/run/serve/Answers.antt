@@ -1,7 +1,7 @@
 use Rattle.std.proofs.Common.{◌∙◌, refl, subst, ℕ}
 use Rattle.hc_rules.specs.declared.room.Limits.{Limits}
 use Rattle.hc_wire.specs.Wires.{HasRisen}
-use Rattle.hc_proxy.specs.Serving.{ServesAs}
+use Rattle.hc_proxy.specs.Served.{ServesAs}
 use Rattle.hc_app.specs.Serving as serving
 use Rattle.hc_app.proofs.Served.{never_source, wire_is, wire_off, sink_is, sink_off, unbound_serves}
 use Rattle.hc_app.proofs.run.serve.Goals as goal

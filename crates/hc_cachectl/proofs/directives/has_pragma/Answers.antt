@@ -1,5 +1,5 @@
 use Rattle.std.{proofs.Common.{refl}, specs.Prelude.{codes}}
-use Rattle.hc_fields.specs.FieldElements.{elements_in}
+use Rattle.hc_fields.specs.FirstValues.{elements_in}
 use Rattle.hc_cachectl.proofs.Folds.{found_no_cache}
 use Rattle.hc_cachectl.proofs.directives.has_pragma.Goals as goal
 

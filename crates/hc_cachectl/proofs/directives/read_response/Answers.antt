@@ -1,5 +1,5 @@
 use Rattle.std.specs.Prelude.{codes}
-use Rattle.hc_fields.specs.FieldElements.{elements_in}
+use Rattle.hc_fields.specs.FirstValues.{elements_in}
 use Rattle.hc_cachectl.proofs.{Caps.{capped}, Folds.{said_is}}
 use Rattle.hc_cachectl.proofs.directives.read_response.Goals as goal
 

@@ -1,5 +1,5 @@
 use Rattle.std.{proofs.Common.{◌∙◌, ap, sym}, specs.Prelude.{Option}}
-use Rattle.hc_validate.specs.Tags.{tag_of}
+use Rattle.hc_validate.specs.Selection.{tag_of}
 use Rattle.hc_etag.specs.TagListTexts.{Listed}
 use Rattle.hc_condition.specs.NotModified.{lists}
 use Rattle.hc_etag.proofs.ListReads.{list_is}

@@ -1,6 +1,7 @@
 use Rattle.std.proofs.{Common.{◌∙◌, ◌+◌, ◌≤◌, ◌≡◌, ℕ, List, drop, length, ap, arith, sym}, lemmas.List.{drop_all}}
 use Rattle.hc_fields.specs.FieldList.{without}
-use Rattle.hc_validate.specs.{Heads.{FieldPairs}, Updates.{left_by}}
+use Rattle.hc_validate.specs.Updates.{left_by}
+use Rattle.hc_validate.specs.Updates.{FieldPairs}
 use Rattle.hc_validate.proofs.Renewals.{field_at, left_by-more, left_by-nil}
 use Rattle.hc_condition.proofs.Told.{first_left, left_told, untold, untold-more, untold-told}
 use Rattle.hc_condition.proofs.telling.told_fields.Goals as goal

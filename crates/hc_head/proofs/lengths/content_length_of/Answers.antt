@@ -1,5 +1,5 @@
 use Rattle.std.specs.Prelude.{codes}
-use Rattle.hc_fields.specs.FieldElements.{elements_in}
+use Rattle.hc_fields.specs.FirstValues.{elements_in}
 use Rattle.hc_rules.proofs.LengthFolds.{told_is}
 use Rattle.hc_head.specs.Held.{fields_in}
 use Rattle.hc_head.proofs.CodingFolds.{length_next}

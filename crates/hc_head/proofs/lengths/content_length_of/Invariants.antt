@@ -1,5 +1,5 @@
 use Rattle.std.{proofs.Common.{◌≡◌, drop}, specs.Prelude.{codes}}
-use Rattle.hc_fields.specs.FieldElements.{elements_in}
+use Rattle.hc_fields.specs.FirstValues.{elements_in}
 use Rattle.hc_rules.specs.{Lengths.{content_length_of}, LengthSoFar.{with_elements}}
 use Rattle.hc_head.specs.Held.{fields_in}
 use Rattle.hc_head.proofs.lengths.content_length_of.Given as goal

@@ -1,5 +1,5 @@
 use Rattle.std.{proofs.{Common.{◌≡◌, [], drop, ◌∙◌, ap}, lemmas.List.{drop_all}}, specs.Prelude.{codes}}
-use Rattle.hc_fields.specs.FieldElements.{elements_in}
+use Rattle.hc_fields.specs.FirstValues.{elements_in}
 use Rattle.hc_head.specs.{Codings.{is_coding}, Held.{fields_in}}
 use Rattle.hc_head.proofs.CodingFolds.{coding_next, coding_is}
 use Rattle.hc_head.proofs.lengths.is_chunked.Goals as goal

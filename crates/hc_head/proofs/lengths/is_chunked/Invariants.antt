@@ -1,5 +1,5 @@
 use Rattle.std.{proofs.Common.{◌≡◌, drop}, specs.Prelude.{codes}}
-use Rattle.hc_fields.specs.FieldElements.{elements_in}
+use Rattle.hc_fields.specs.FirstValues.{elements_in}
 use Rattle.hc_head.specs.{declared.lengths.Coding.TheVariants.{Plain}, Codings.{with_codings}, Held.{fields_in}}
 use Rattle.hc_head.proofs.lengths.is_chunked.Given as goal
 

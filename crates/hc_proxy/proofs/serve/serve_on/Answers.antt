@@ -1,7 +1,8 @@
 use Rattle.std.proofs.Common.{◌≡◌, ◌+◌, Ok, Err, refl, ap, sym, ◌∙◌, subst, arith}
 use Rattle.hc_core.specs.Steps.{steps, limits_in, bytes_received}
 use Rattle.hc_sched.specs.declared.schedule.Ended.TheVariants as ended
-use Rattle.hc_proxy.specs.{Endings.{MayEnd}, Serving.{ServesAs}, Stops.{ended_by}}
+use Rattle.hc_proxy.specs.{Endings.{MayEnd}, Stops.{ended_by}}
+use Rattle.hc_proxy.specs.Served.{ServesAs}
 use Rattle.hc_proxy.proofs.{Causes.{may_end, ends_wire, ends_wire_calm, ends_sink, ends_sink_calm}, LoopGoes.{log_of, frame_of, loop_begins, told_ends, told_first}}
 use Rattle.hc_proxy.proofs.serve.serve_on.Goals as goal
 

@@ -1,5 +1,6 @@
 use Rattle.std.{proofs.Common.{◌∙◌, sym}, specs.Prelude.{codes}}
-use Rattle.hc_fields.specs.{FieldList.{values_of}, FieldElements.{elements_in}}
+use Rattle.hc_fields.specs.FieldList.{values_of}
+use Rattle.hc_fields.specs.FirstValues.{elements_in}
 use Rattle.hc_rules.proofs.LengthFolds.{one_more, told_is}
 use Rattle.hc_rules.proofs.length.content_length_of.Goals as goal
 

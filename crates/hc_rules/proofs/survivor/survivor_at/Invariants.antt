@@ -1,5 +1,5 @@
 use Rattle.std.proofs.Common.{◌≡◌, take}
-use Rattle.hc_rules.specs.Survivors.{survivor_at}
+use Rattle.hc_rules.specs.Admissions.{survivor_at}
 use Rattle.hc_rules.proofs.survivor.survivor_at.Given as goal
 
 abbrev pub invariant-loop-member : goal.invariant-loop-member

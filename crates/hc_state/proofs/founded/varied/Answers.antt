@@ -1,5 +1,6 @@
 use Rattle.std.proofs.{Common.{◌∙◌, ◌+◌, ℕ, List, ◌≤◌, drop, length, ap, arith, sym}, lemmas.List.{drop_all}}
-use Rattle.hc_validate.specs.{Heads.{FieldPairs}, Updates.{left_by}}
+use Rattle.hc_validate.specs.Updates.{left_by}
+use Rattle.hc_validate.specs.Updates.{FieldPairs}
 use Rattle.hc_validate.proofs.Renewals.{left_by-nil}
 use Rattle.hc_state.proofs.{Varied.{unnamed, varied-first, varied-removed, varied-kept}, founded.varied.Goals.{then-not-is_varied, else-not-is_varied}}
 use Rattle.hc_state.proofs.founded.varied.Goals as goal

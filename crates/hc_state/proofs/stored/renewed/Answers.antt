@@ -1,7 +1,7 @@
 use Rattle.std.proofs.Common.{sym, subst}
 use Rattle.hc_fields.specs.FieldList.{IsFieldList}
 use Rattle.hc_record.specs.{Head.{Head, IsHead}, Plain.{plain}}
-use Rattle.hc_validate.specs.Heads.{FieldPairs}
+use Rattle.hc_validate.specs.Updates.{FieldPairs}
 use Rattle.hc_state.proofs.Renewing.{renewed_is}
 use Rattle.hc_state.proofs.stored.renewed.Goals as goal
 

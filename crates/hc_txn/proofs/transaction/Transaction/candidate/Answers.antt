@@ -1,5 +1,5 @@
 use Rattle.std.{proofs.Common.{ap, sym, subst}, specs.Prelude.{codes}}
-use Rattle.hc_fields.specs.FieldElements.{elements_in}
+use Rattle.hc_fields.specs.FirstValues.{elements_in}
 use Rattle.hc_cachectl.specs.Directives.{IsCapped}
 use Rattle.hc_cachectl.proofs.Caps.{capped}
 use Rattle.hc_fresh.specs.declared.facts.RequestFacts.{RequestFacts}

@@ -6,10 +6,11 @@
 -- (`seated-moved`), leaves (`seated-left`) or enters. The turn of the tournament is the least in line (`turn-least`).
 use Rattle.std.{proofs.{Common.{◌≡◌, ℕ, zero, suc, ◌<◌, ◌≤◌, ◌⊎◌, List, [], ◌∷◌, length, map, set, Bool, true, false, not, eqb, Option, Some, None, refl, sym, ap, ◌∙◌, inl, inr, arith, get_or-set_same, get_or-set_other, length-set}, lemmas.{Bool.{cases_Bool, cases_eq, cases_lt, eqb-true, eqb-false, eq-eqb, ne_eqb}, List.{get_or_past}}}, specs.{Prelude.{◌||◌, is_some, if◌then◌else◌, nat_eq}, Map.{keys_of}, List.{AllByRecursion, IsDistinct}}}
 use Rattle.hc_text.proofs.Basics.{same_consumer}
-use Rattle.hc_sorted.specs.Sorted.{above, is_sorted, is_at as numbered, with_item, without}
-use Rattle.hc_sorted.proofs.SortedLemmas.{is_sorted-above, has-above, has-with, has-without, is_sorted-with, is_sorted-filter, without-none}
+use Rattle.hc_text.specs.Sorted.{above, is_sorted, is_at as numbered, with_item, without}
+use Rattle.hc_text.proofs.SortedLemmas.{is_sorted-above, has-above, has-with, has-without, is_sorted-with, is_sorted-filter, without-none}
 use Rattle.hc_rules.specs.Admissions.{least}
-use Rattle.hc_entry.specs.{declared.seat.{Seat.{Seat}, Stand.{Stand}}, Users.{itself, first_of}, Tournaments.{at, IsLeastAt}, Seats.{is_same_stand, called_at, seat_of, standing, called_from, seat_in_line, moved_to, IsSeated}, Lines.{Line, is_among, holder_without, stands, left_by}}
+use Rattle.hc_entry.specs.{declared.seat.{Seat.{Seat}, Stand.{Stand}}, Users.{first_of}, Tournaments.{at, IsLeastAt}, Seats.{is_same_stand, called_at, seat_of, standing, called_from, seat_in_line, moved_to, IsSeated}, Lines.{Line, holder_without, stands, left_by}}
+use Rattle.hc_text.specs.Sorted.{itself, is_among}
 use Rattle.hc_entry.specs.declared.seat.Stand.TheVariants as stand
 use Rattle.hc_entry.proofs.{UserLemmas.{least-ascending}, LineLemmas.{stands-left, stands-with}}
 

@@ -1,7 +1,8 @@
 -- Who stands where in a line, and at which seat.
 use Rattle.std.{proofs.{Common.{◌≡◌, ℕ, suc, ◌+◌, ◌<◌, List, [], ◌∷◌, length, Bool, true, false, eqb, Option, Some, None, refl, sym, ap, ◌∙◌, inl, inr, arith}, lemmas.{Bool.{cases_lt, eq-eqb, ne_eqb}, List.{get_or_past}}}, specs.{Prelude.{nat_eq, if◌then◌else◌}, Map.{keys_of}, List.{IsDistinct}}}
-use Rattle.hc_sorted.specs.Sorted.{with_item}
-use Rattle.hc_entry.specs.{Users.{itself}, declared.seat.{Seat.{Seat}, Stand.{Stand}}, Tournaments.{at}, Seats.{is_same_stand, seat_of, standing, stand_in, IsSeated}, Lines.{is_among, is_empty, stands, IsOrderly}}
+use Rattle.hc_text.specs.Sorted.{with_item}
+use Rattle.hc_entry.specs.{declared.seat.{Seat.{Seat}, Stand.{Stand}}, Tournaments.{at}, Seats.{is_same_stand, seat_of, standing, stand_in, IsSeated}, Lines.{is_empty, stands, IsOrderly}}
+use Rattle.hc_text.specs.Sorted.{itself, is_among}
 use Rattle.hc_entry.specs.declared.seat.Stand.TheVariants as stand
 use Rattle.hc_entry.proofs.{SeatLemmas.{among-standing, standing-is_sorted, stands_at, line_of}, OrderLemmas.{length-with}}
 

@@ -1,8 +1,8 @@
 -- The line of a key: who waits for the turn, who passed, and who is away.
 use Rattle.std.specs.Prelude.{◌≡◌, ℕ, ◌<◌, ◌==◌, ◌||◌, Bool, true, false, List, [], ◌∷◌, length, ◌+◌, map, if◌then◌else◌, Option, Some, None, slice_index_or}
-use Rattle.hc_sorted.specs.Sorted.{is_sorted, has, with_item, without}
+use Rattle.hc_text.specs.Sorted.{is_sorted, has, with_item, without, is_among}
 use Rattle.hc_rules.specs.Admissions.{least, lesser}
-use Rattle.hc_entry.specs.Users.{itself}
+use Rattle.hc_text.specs.Sorted.{itself}
 
 -- The consumers in line, the passed and the away ones, each by number, the one in line that holds the turn, if one does,
 -- and the consumer of each place, if it has one.
@@ -15,9 +15,6 @@ pub record Line : Type 0 where
 
 abbrev pub nobody : Line
 nobody = record { in_line = []; passed = []; away = []; holder = None; places = [] }
-
-abbrev pub is_among : ℕ → List ℕ → Bool
-is_among c cs = has itself c cs
 
 abbrev pub is_in : ℕ → Line → Bool
 is_in c l = is_among c l.in_line || is_among c l.passed || is_among c l.away

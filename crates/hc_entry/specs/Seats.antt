@@ -2,13 +2,14 @@
 use Rattle.std.specs.Prelude.{◌≡◌, ℕ, ◌<◌, Bool, true, false, List, [], ◌∷◌, length, if◌then◌else◌, Option, Some, None, nat_eq}
 use Rattle.std.specs.Map.{lookup, keys_of}
 use Rattle.std.specs.List.{IsDistinct}
-use Rattle.hc_sorted.specs.Sorted.{with_item}
-use Rattle.hc_entry.specs.Users.{itself}
+use Rattle.hc_text.specs.Sorted.{with_item}
+use Rattle.hc_text.specs.Sorted.{itself}
 use Rattle.hc_entry.specs.declared.seat.Seat.{Seat}
 use Rattle.hc_entry.specs.declared.seat.Stand.{Stand}
 use Rattle.hc_entry.specs.declared.seat.Stand.TheVariants as stand
 use Rattle.hc_entry.specs.Tournaments.{at}
-use Rattle.hc_entry.specs.Lines.{Line, is_among, stands, line_after_pass, gone_away, come_back}
+use Rattle.hc_entry.specs.Lines.{Line, stands, line_after_pass, gone_away, come_back}
+use Rattle.hc_text.specs.Sorted.{is_among}
 
 abbrev pub is_same_stand : Stand → Stand → Bool
 is_same_stand stand.InLine stand.InLine = true

@@ -1,7 +1,7 @@
 -- Who is bound to a representation, and how.
 use Rattle.std.specs.Prelude.{◌≡◌, ℕ, ◌+◌, ◌-◌, ◌≤◌, ◌==◌, ◌&&◌, Bool, true, false, List, [], ◌∷◌, map, Option, Some, None, if◌then◌else◌}
 use Rattle.std.specs.List.{list_any, list_all}
-use Rattle.hc_sorted.specs.Sorted.{is_sorted, has, with_item, without, with_replacement}
+use Rattle.hc_text.specs.Sorted.{is_sorted, has, with_item, without, with_replacement, itself}
 use Rattle.hc_rules.specs.declared.admission.Bound.{Bound}
 use Rattle.hc_rules.specs.declared.admission.BoundKind.{BoundKind}
 use Rattle.hc_rules.specs.declared.admission.BoundKind.TheVariants as kind
@@ -15,9 +15,6 @@ pub record Users : Type 0 where
   pub bound : List Bound
   pub spare : ℕ
   pub gone : Bool
-
-abbrev pub itself : ℕ → ℕ
-itself c = c
 
 abbrev pub consumer_of : Bound → ℕ
 consumer_of b = b.c

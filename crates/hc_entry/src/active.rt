@@ -5,8 +5,7 @@ ghost use Rattle.hc_rules.specs.Admissions.{admission_of, least_of, least_bound,
 ghost use Rattle.hc_entry.specs.Users.{nobody, is_bound, is_bound_as, with_user, users_with, rebound, users_without_writer, all_unshared, left_by, are_all, first_of, admission_by, kind_by};
 
 use hc_rules::{Admission, BoundKind};
-use hc_sorted::{has_item, put_reserved, take_out};
-use hc_text::NoMemory;
+use hc_text::{NoMemory, has_item, put_reserved, take_out};
 use std::alloc::Global;
 use std::marker::Model;
 

@@ -4,7 +4,8 @@ ghost use Rattle.std.specs.Bool.{OnTrue};
 ghost use Rattle.std.specs.Map.{keys_of};
 ghost use Rattle.std.specs.HashMap.{IsUnique};
 ghost use Rattle.hc_entry.specs.Seats.{seat_of, stand_in, moved_to};
-ghost use Rattle.hc_entry.specs.Lines.{nobody, is_among, is_in, is_empty, line_with, line_after_pass, gone_away, come_back, all_back, passed_back, held_by, left_by, turn_of, turn_with, holder_without, consumer_at, Enters, AllArePlacedBelow, IsItsPlace};
+ghost use Rattle.hc_entry.specs.Lines.{nobody, is_in, is_empty, line_with, line_after_pass, gone_away, come_back, all_back, passed_back, held_by, left_by, turn_of, turn_with, holder_without, consumer_at, Enters, AllArePlacedBelow, IsItsPlace};
+ghost use Rattle.hc_text.specs.Sorted.{is_among};
 
 use crate::seat::{Seat, Stand};
 use crate::tournament::Tournament;

@@ -1,7 +1,8 @@
 -- The lists of wanted exchanges agree with what is known.
 use Rattle.std.specs.Prelude.{◌≡◌, ◌≢◌, ℕ, ◌≤◌, true, false, is_some, nat_eq}
 use Rattle.std.specs.HashMap.{get}
-use Rattle.hc_exch.specs.Wishes.{Wished, is_among}
+use Rattle.hc_exch.specs.Wishes.{Wished}
+use Rattle.hc_text.specs.Sorted.{is_among}
 use Rattle.hc_exch.specs.Known.{Table, unknown, is_wanted, is_idle, fits}
 use Rattle.hc_exch.specs.Rows.{Rows, rows_of, keeps}
 

@@ -1,17 +1,11 @@
 -- Which open exchanges are wanted, and which wait for an ask.
 use Rattle.std.specs.Prelude.{◌≡◌, ℕ, ◌+◌, ◌≤◌, Bool, true, List, []}
-use Rattle.hc_sorted.specs.Sorted.{is_sorted, has, with_item, without}
-
-abbrev pub itself : ℕ → ℕ
-itself x = x
+use Rattle.hc_text.specs.Sorted.{is_sorted, has, with_item, without, itself}
 
 -- those of which a head or a piece is wanted, and the other ones, by number
 pub record Wished : Type 0 where
   pub wanted : List ℕ
   pub idle : List ℕ
-
-abbrev pub is_among : ℕ → List ℕ → Bool
-is_among x xs = has itself x xs
 
 abbrev pub nobody : Wished
 nobody = record { wanted = []; idle = [] }

@@ -1,10 +1,10 @@
 //! Which open exchanges are wanted: each is found at once, and they are listed without the others.
 ghost use Rattle.std.specs.Prelude.{◌≡◌, true, false, OnOk, OnErr};
-ghost use Rattle.hc_exch.specs.Wishes.{is_among, nobody, wants_more, asks, rests, leaves, itself};
-ghost use Rattle.hc_sorted.specs.Sorted.{is_sorted};
+ghost use Rattle.hc_exch.specs.Wishes.{nobody, wants_more, asks, rests, leaves};
+ghost use Rattle.hc_text.specs.Sorted.{is_among, itself};
+ghost use Rattle.hc_text.specs.Sorted.{is_sorted};
 
-use hc_sorted::{has_item, leave_out, put_reserved, take_out};
-use hc_text::NoMemory;
+use hc_text::{NoMemory, has_item, leave_out, put_reserved, take_out};
 use std::alloc::Global;
 use std::marker::Model;
 

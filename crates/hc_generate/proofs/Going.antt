@@ -6,7 +6,7 @@
 -- `goes_on` joins both for a round. The contract of the generator's step reads off its parts.
 use Rattle.std.{proofs.Common.{◌≡◌, ℕ, zero, suc, ◌+◌, ◌^◌, ◌<◌, ◌≤◌, List, length, Bool, true, false, Option, Some, None, refl, ap, sym, ◌∙◌, subst, arith}, specs.Prelude.{nat_lt, Result, Ok, Err, IfOk, is_err}}
 use Rattle.hc_event.specs.{declared.event.Event.{Event}, WithinLimits.{IsEventWithinLimits}}
-use Rattle.hc_sorted.specs.Sorted.{item_with}
+use Rattle.hc_text.specs.Sorted.{item_with}
 use Rattle.hc_generate.specs.{declared.{action.Action.{Action}, exchange.{Exchange.{Exchange}, Brought.{Brought}, Owed.{Owed}}}, Actions.{action_of}, Draws.{draw_below, choice_of}, Rounds.{IsShort, IsShortIfMade, IsWithinLimitsIfMade, Move, Nothing, Makes, Answers, onward, start_move, polled_by, answered_by, answered_to, cancelled_by, faulted_by, by_action, round, IsMade, IsRound}, Sending.{Brings, number_of, origin_bytes, next_length}, States.{State}}
 use Rattle.hc_generate.specs.declared.action.Action.TheVariants as action
 use Rattle.hc_generate.specs.declared.exchange.Owed.TheVariants as owes

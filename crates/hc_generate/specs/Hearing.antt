@@ -3,7 +3,7 @@ use Rattle.std.specs.Prelude.{ℕ, ◌==◌, not, Bool, false, List, filter, Opt
 use Rattle.hc_event.specs.declared.act.Act.{Act}
 use Rattle.hc_event.specs.declared.act.Act.TheVariants as act
 use Rattle.hc_event.specs.Filters.{Opening, opening_in, closes_in, leaves_in}
-use Rattle.hc_sorted.specs.Sorted.{with_item, without}
+use Rattle.hc_text.specs.Sorted.{with_item, without}
 use Rattle.hc_generate.specs.declared.exchange.Exchange.{Exchange}
 use Rattle.hc_generate.specs.declared.exchange.Owed.TheVariants.{Answer}
 use Rattle.hc_generate.specs.Sending.{number_of}

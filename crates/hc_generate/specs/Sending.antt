@@ -1,7 +1,7 @@
 -- What the origin brings to an exchange: its answer, then the bytes of that, in pieces.
 use Rattle.std.specs.Prelude.{◌≡◌, ℕ, zero, suc, ◌+◌, ◌-◌, min, nat_lt, List, [], ◌∷◌, if◌then◌else◌}
 use Rattle.hc_event.specs.declared.event.Event.TheVariants.{Head, Piece}
-use Rattle.hc_sorted.specs.Sorted.{with_replacement, without}
+use Rattle.hc_text.specs.Sorted.{with_replacement, without}
 use Rattle.hc_validate.specs.declared.origin.Answer.{Answer}
 use Rattle.hc_validate.specs.Origin.{IsOriginAnswer, origin_byte}
 use Rattle.hc_generate.specs.declared.exchange.Brought.{Brought}

@@ -1,6 +1,6 @@
 -- What the generator knows.
 use Rattle.std.specs.Prelude.{◌≡◌, ℕ, ◌≤◌, List, [], true}
-use Rattle.hc_sorted.specs.Sorted.{is_sorted, has}
+use Rattle.hc_text.specs.Sorted.{is_sorted, has, itself}
 use Rattle.hc_generate.specs.declared.counts.Counts.{Counts}
 use Rattle.hc_generate.specs.declared.exchange.Exchange.{Exchange}
 use Rattle.hc_generate.specs.Sending.{number_of}
@@ -21,9 +21,6 @@ pub record State : Type 0 where
 -- nothing was made yet
 abbrev pub beginning : ℕ → State
 beginning seed = record { draws = seed; moment = 1000000; last = 0; live = []; exchanges = []; counts = summary [] }
-
-abbrev pub itself : ℕ → ℕ
-itself n = n
 
 -- Numbers rise, and none of a live consumer is above the last.
 pub record IsInOrder (last : ℕ) (live : List ℕ) (exchanges : List Exchange) : Type 0 where

@@ -1,12 +1,11 @@
 //! What the origin owes to exchanges.
 ghost use Rattle.std.specs.Prelude.{◌≡◌, ◌+◌, ◌<◌, ◌^◌, true, IfOk, vec_len, vec_capacity};
-ghost use Rattle.hc_sorted.specs.Sorted.{is_sorted, has};
+ghost use Rattle.hc_text.specs.Sorted.{is_sorted, has};
 ghost use Rattle.hc_generate.specs.Hearing.{with_begun};
 ghost use Rattle.hc_generate.specs.Sending.{Brings, next_piece, number_of, origin_bytes, owed_then};
 
 use hc_event::{Event, Request};
-use hc_sorted::{Numbered, leave_out, put_reserved, replace_in};
-use hc_text::{Bytes, NoMemory};
+use hc_text::{Bytes, NoMemory, Numbered, leave_out, put_reserved, replace_in};
 use hc_validate::{origin_answer, origin_byte};
 use std::alloc::Global;
 

@@ -9,8 +9,9 @@ use Rattle.hc_text.proofs.Basics.{eqb-same, false_true, same_some as same_row, a
 use Rattle.hc_store.specs.declared.backend.Backend.{Ghosts}
 use Rattle.hc_effects.proofs.Vocabulary.{Act, Cause, Response, Limits, BoundBy, is_number, base, front, family, is_headless, Lawful, own_open, is_bound, is_bound_place, is_written, writing_in, offset, Tables, Exchange, Representation, IsBound, IsAbout, IsHad, IsExclusiveWriter, IsOwner, exclusive, place}
 use Rattle.hc_sparse.specs.Cells.{Cell, Covers, EndsBy}
-use Rattle.hc_sorted.specs.Sorted.{has}
-use Rattle.hc_stored.specs.{Entries.{shelf_of}, Kept.{Kept, itself}, Views.{bound_in}}
+use Rattle.hc_text.specs.Sorted.{has}
+use Rattle.hc_stored.specs.{Entries.{shelf_of}, Kept.{Kept}, Views.{bound_in}}
+use Rattle.hc_text.specs.Sorted.{itself}
 use Rattle.hc_exch.specs.Exchanges.{table_of}
 use Rattle.hc_model.specs.Rows as rows
 use Rattle.hc_model.specs.Sound as sound

@@ -11,9 +11,10 @@ use Rattle.hc_store.specs.declared.backend.Backend.{Ghosts}
 use Rattle.hc_effects.proofs.Vocabulary.{Act, Cause, Response, Limits, denial, Does, with_event, at_end, failing, if_bound, with_due, with_dues, with_exchange, with_length, with_loss, with_representation, let_go, let_some_go, as_gone, lost_to, going_with, Entry, base, front, family, promised_bytes, is_headless, short_of, NoFlaw, Loses, is_short, stops_early, Grows, IsComing, is_growing, brings_to, Lawful, IsMeasured, told, untold, bound, is_bound, is_bound_place, with_total_if_none, Tables, Exchange, Representation, IsAbout, written_representation, exclusive, status_in, act, kind, place}
 use Rattle.hc_event.specs.declared.event.Event.TheVariants as event
 use Rattle.hc_record.specs.declared.kind.Kind.TheVariants as kinds
-use Rattle.hc_sorted.specs.Sorted.{has}
+use Rattle.hc_text.specs.Sorted.{has}
 use Rattle.hc_sparse.specs.Cells.{Cell, Covers, EndsBy}
-use Rattle.hc_stored.specs.{Entries.{shelf_of}, Kept.{Kept, itself}, Views.{bound_in}}
+use Rattle.hc_stored.specs.{Entries.{shelf_of}, Kept.{Kept}, Views.{bound_in}}
+use Rattle.hc_text.specs.Sorted.{itself}
 use Rattle.hc_stored.specs.Kept as entry
 use Rattle.hc_exch.specs.Exchanges as exch
 use Rattle.hc_exch.specs.Exchanges.{table_of}

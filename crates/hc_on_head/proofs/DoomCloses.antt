@@ -9,11 +9,12 @@ use Rattle.hc_text.proofs.Basics.{and_both as both_parts, or_cases as either_par
 use Rattle.hc_effects.proofs.Vocabulary.{Limits, Request, route_of, Place, awaits, is_number, is_live, is_awaited, awaited_and, is_headless, Lawful, IsAwaiting, Awaits, Tables, Exchange, awaited_exchange, waits_at, with_item_first, route, place, by}
 use Rattle.hc_effects.proofs.{Tests.{none_some}, Basics.{number_yes, number_is}}
 use Rattle.hc_store.specs.declared.backend.Backend.{Ghosts}
-use Rattle.hc_entry.specs.{Keys.{line_of}, Lines.{is_among, is_in}, Users.{itself}}
+use Rattle.hc_entry.specs.{Keys.{line_of}, Lines.{is_in}}
+use Rattle.hc_text.specs.Sorted.{is_among, itself}
 use Rattle.hc_entry.proofs.SeatLemmas.{same_members, first_in}
 use Rattle.hc_exch.specs.{declared.row.Open.{Open}, Exchanges.{table_of}, Known.{is_open}}
-use Rattle.hc_sorted.specs.Sorted.{is_sorted}
-use Rattle.hc_sorted.proofs.SortedLemmas.{is_sorted-filter, is_sorted-above}
+use Rattle.hc_text.specs.Sorted.{is_sorted}
+use Rattle.hc_text.proofs.SortedLemmas.{is_sorted-filter, is_sorted-above}
 use Rattle.hc_rules.proofs.RangeReads.{same_bytes, bytes_eq-same}
 use Rattle.hc_model.specs.Exchanges as exchanges
 use Rattle.hc_model.specs.Owners as owners

@@ -9,7 +9,8 @@ use Rattle.hc_text.proofs.Basics.{eqb-other, false_true, mapped, same_or, same_s
 use Rattle.hc_effects.proofs.Vocabulary.{Limits, Act, is_disabled, is_only, Place, back_in_line, current, is_live, over, all_closed, awaited_and, let_some_go, woken, family, is_headless, brings_to, Lawful, MayLetGo, WaitsOn, is_in_line, Tables, Exchange, Representation, waits_at, act, place, by}
 use Rattle.hc_store.specs.declared.backend.Backend.{Ghosts}
 use Rattle.hc_stored.specs.{Entries.{shelf_of}, Shelf.{Shelf}}
-use Rattle.hc_entry.specs.{declared.keys.KeyTable.{KeyTable}, Keys.{kept_of, line_of}, Kept.{Kept, on_line, line_in}, Lines.{is_among, is_in, all_back}}
+use Rattle.hc_entry.specs.{declared.keys.KeyTable.{KeyTable}, Keys.{kept_of, line_of}, Kept.{Kept, on_line, line_in}, Lines.{is_in, all_back}}
+use Rattle.hc_text.specs.Sorted.{is_among}
 use Rattle.hc_entry.specs.Keys as keys
 use Rattle.hc_entry.proofs.OrderLemmas.{among-all}
 use Rattle.hc_exch.specs.{Exchanges.{table_of}, Known.{without_exchange}}

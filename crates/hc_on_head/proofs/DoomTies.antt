@@ -8,7 +8,8 @@ use Rattle.std.{proofs.{lemmas.Bool.Decides.{nat_tests}, Common.{arith, ◌≡�
 use Rattle.hc_text.proofs.Basics.{false_true, same_some as same_row, some_inj as some_is}
 use Rattle.hc_effects.proofs.Vocabulary.{Limits, Response, is_disabled, is_only, Place, back_in_line, is_number, over, woken, family, promised_bytes, is_open, Lawful, lo_of, hi_of, base_in, end_in, end_of_direct, is_bound_place, Tables, Exchange, Representation, waits_at, by, reads, place}
 use Rattle.hc_store.specs.declared.backend.Backend.{Ghosts}
-use Rattle.hc_entry.specs.{Keys.{line_of}, Lines.{is_among, is_in}}
+use Rattle.hc_entry.specs.{Keys.{line_of}, Lines.{is_in}}
+use Rattle.hc_text.specs.Sorted.{is_among}
 use Rattle.hc_exch.specs.Known.{Known, without_exchange}
 use Rattle.hc_model.specs.Rows as rows
 use Rattle.hc_effects.proofs.SameTables as tables

@@ -11,7 +11,8 @@ use Rattle.hc_store.specs.declared.backend.Backend.{Ghosts}
 use Rattle.hc_fields.specs.FieldList.{IsWithinLimits}
 use Rattle.hc_rules.proofs.{RangeReads.{bytes_eq-same}, Statuses.{part_is_no_whole}}
 use Rattle.hc_stored.specs.Entries.{shelf_of}
-use Rattle.hc_entry.specs.{Keys.{kept_of, line_of}, Lines.{is_among, is_in}}
+use Rattle.hc_entry.specs.{Keys.{kept_of, line_of}, Lines.{is_in}}
+use Rattle.hc_text.specs.Sorted.{is_among}
 use Rattle.hc_exch.specs.{declared.row.{ExchangeView.{ExchangeView}, Open.{Open}}, Exchanges.{table_of}, Known.{open_view, view_of, length_by}}
 use Rattle.hc_effects.proofs.{FoundBy.{CaseBy, case_by, turn_direct}, Basics.{some_row}, Tests.{none_some}}
 use Rattle.hc_effects.proofs.FoundBy as cases

@@ -1,7 +1,8 @@
 -- A consumer waits for its key no more: what is kept by key represents the tables without it.
 use Rattle.std.{proofs.Common.{◌≡◌, ℕ, List, Bool, true, false, Some, None, refl, ap, sym, ◌∙◌, subst}, specs.Prelude.{bytes_eq, ◌||◌}}
 use Rattle.hc_rules.proofs.RangeReads.{same_bytes}
-use Rattle.hc_entry.specs.{declared.keys.KeyTable.{KeyTable}, Kept.{on_line}, Keys.{kept_of, line_of}, Lines.{is_among, is_in, left_by}}
+use Rattle.hc_entry.specs.{declared.keys.KeyTable.{KeyTable}, Kept.{on_line}, Keys.{kept_of, line_of}, Lines.{is_in, left_by}}
+use Rattle.hc_text.specs.Sorted.{is_among}
 use Rattle.hc_entry.specs.Kept as keyed
 use Rattle.hc_effects.proofs.Vocabulary.{with_consumer, is_in_line, holds_turn, Tables}
 use Rattle.hc_effects.proofs.Tests.{and_false}

@@ -10,10 +10,11 @@ use Rattle.hc_effects.proofs.Vocabulary.{brings_part, Limits, Need, Request, Res
 use Rattle.hc_effects.proofs.Tests.{and_false}
 use Rattle.hc_store.specs.declared.backend.Backend.{Ghosts}
 use Rattle.hc_sparse.specs.Cells.{Covers, nothing}
-use Rattle.hc_sorted.specs.Sorted.{has}
+use Rattle.hc_text.specs.Sorted.{has}
 use Rattle.hc_record.specs.{Head.{Head, sealed_head}, Plain.{plain}, declared.kind.Kind.TheVariants.{the_data as kinds}}
 use Rattle.hc_rules.proofs.RangeReads.{bytes_eq-same, same_bytes}
-use Rattle.hc_stored.specs.{Entries.{shelf_of}, Kept.{Kept, itself, alone_if, founded_kept}}
+use Rattle.hc_stored.specs.{Entries.{shelf_of}, Kept.{Kept, alone_if, founded_kept}}
+use Rattle.hc_text.specs.Sorted.{itself}
 use Rattle.hc_entry.specs.{Keys.{kept_of}, Kept.{with_current}}
 use Rattle.hc_entry.specs.Kept as keyed
 use Rattle.hc_exch.specs.{declared.{role.Role.TheVariants.{the_data as role}, row.Open.{Open}}, Exchanges.{table_of}, Known.{Known, is_all, length_by}}

@@ -11,9 +11,10 @@ use Rattle.hc_event.specs.declared.place.Place.TheVariants as place
 use Rattle.hc_exch.specs.{Exchanges.{table_of}, Known.{Table}}
 use Rattle.hc_model.specs.Currents.{is_number}
 use Rattle.hc_rules.specs.declared.survivor.Member.{Member}
-use Rattle.hc_sorted.specs.Sorted.{has, without}
+use Rattle.hc_text.specs.Sorted.{has, without}
 use Rattle.hc_store.specs.declared.backend.Backend.{Ghosts}
-use Rattle.hc_stored.specs.{declared.entries.Entries.{Entries}, Entries.{shelf_of}, Grouped.{group_of}, Groups.{HasMembers, IsGroupOf, exchange_of, left_answer}, Kept.{Kept, itself}, Views.{bound_in, has_user}}
+use Rattle.hc_stored.specs.{declared.entries.Entries.{Entries}, Entries.{shelf_of}, Grouped.{group_of}, Groups.{HasMembers, IsGroupOf, exchange_of, left_answer}, Kept.{Kept}, Views.{bound_in, has_user}}
+use Rattle.hc_text.specs.Sorted.{itself}
 use Rattle.hc_state.specs.{declared.rows.Rows.{Rows}, Leaving.{IsUserAt, if_running, last_read, left_of, writing_of}}
 use Rattle.hc_txn.specs.declared.transaction.Transaction.{Transaction as Consumer}
 use Rattle.hc_writers.specs.Writing.{Writing, consumer_of, is_member, is_nobody, left_as, without_member}

@@ -8,14 +8,16 @@ use Rattle.std.{proofs.{Common.{◌≡◌, ℕ, List, Bool, true, false, cond, O
 use Rattle.hc_text.proofs.Basics.{eqb-same, false_true, mapped, some_inj as some_is, and_off as then_false}
 use Rattle.hc_effects.proofs.Vocabulary.{Limits, Place, back_in_line, current, is_usable, total_in, is_live, as_gone, let_go, unless_it, family, MayLetGo, is_in_line, holds_turn, Queues, has_passed, Tables, Exchange, Representation, status_in, bound, kind_of, place}
 use Rattle.hc_store.specs.declared.backend.Backend.{Ghosts}
-use Rattle.hc_stored.specs.{Entries.{shelf_of}, Kept.{Kept, itself, is_nobody}, Views.{key_in}, Shelf.{taken_out}}
+use Rattle.hc_stored.specs.{Entries.{shelf_of}, Kept.{Kept, is_nobody}, Views.{key_in}, Shelf.{taken_out}}
+use Rattle.hc_text.specs.Sorted.{itself}
 use Rattle.hc_stored.specs.Kept as kept
 use Rattle.hc_stored.specs.Shelf as shelves
-use Rattle.hc_entry.specs.{declared.keys.KeyTable.{KeyTable}, Keys.{kept_of, line_of}, Kept.{on_line, with_current}, Lines.{is_among, is_in, passed_back}}
+use Rattle.hc_entry.specs.{declared.keys.KeyTable.{KeyTable}, Keys.{kept_of, line_of}, Kept.{on_line, with_current}, Lines.{is_in, passed_back}}
+use Rattle.hc_text.specs.Sorted.{is_among}
 use Rattle.hc_entry.specs.Keys as keys
 use Rattle.hc_entry.proofs.OrderLemmas.{among-merged}
 use Rattle.hc_exch.specs.Exchanges.{table_of, next_of}
-use Rattle.hc_sorted.specs.Sorted.{without}
+use Rattle.hc_text.specs.Sorted.{without}
 use Rattle.hc_rules.proofs.RangeReads.{same_bytes, bytes_eq-same}
 use Rattle.hc_model.specs.Effects.{waits_for}
 use Rattle.hc_model.specs.Rows as rows

@@ -9,10 +9,11 @@ use Rattle.hc_text.proofs.Basics.{eqb-same, false_true, or_right, same_some as s
 use Rattle.hc_effects.proofs.Vocabulary.{Limits, Member, Place, is_number, is_live_place, if_bound, left_with, let_go, writing_lost, base, front, family, MayLetGo, bound, is_bound, is_bound_place, offset, lo_of, Tables, Exchange, Representation, survivor, member, offset_in, cause, place}
 use Rattle.hc_effects.proofs.Tests.{none_some}
 use Rattle.hc_store.specs.declared.backend.Backend.{Ghosts}
-use Rattle.hc_stored.specs.{declared.entries.Entries.{Entries}, Entries.{shelf_of}, Grouped.{group_of}, Groups.{HasMembers, IsGroupOf, exchange_of}, Kept.{Kept, itself, kept_as_lost}, Shelf.{is_kept}, Views.{bound_in}}
+use Rattle.hc_stored.specs.{declared.entries.Entries.{Entries}, Entries.{shelf_of}, Grouped.{group_of}, Groups.{HasMembers, IsGroupOf, exchange_of}, Kept.{Kept, kept_as_lost}, Shelf.{is_kept}, Views.{bound_in}}
+use Rattle.hc_text.specs.Sorted.{itself}
 use Rattle.hc_stored.specs.Shelf as shelf
-use Rattle.hc_entry.specs.Lines.{is_among}
-use Rattle.hc_sorted.specs.Sorted.{has}
+use Rattle.hc_text.specs.Sorted.{is_among}
+use Rattle.hc_text.specs.Sorted.{has}
 use Rattle.hc_rules.specs.Admissions as members
 use Rattle.hc_model.specs.Rows as rows
 use Rattle.hc_writers.specs.Writing.{Writing, consumer_of}

@@ -7,9 +7,10 @@ use Rattle.std.{proofs.{Common.{◌≡◌, ℕ, ◌+◌, ◌-◌, ◌<◌, ◌^�
 use Rattle.hc_text.proofs.Basics.{false_true}
 use Rattle.hc_effects.proofs.Tests.{none_some}
 use Rattle.hc_rules.specs.declared.survivor.Member.{Member}
-use Rattle.hc_sorted.specs.Sorted.{has, with_replacement}
+use Rattle.hc_text.specs.Sorted.{has, with_replacement}
 use Rattle.hc_store.specs.declared.backend.Backend.{Ghosts}
-use Rattle.hc_stored.specs.{declared.entries.Entries.{Entries}, Entries.{shelf_of}, Grouped.{group_of}, Groups.{told_if_member}, Kept.{itself}, Shelf.{Stays}, Views.{bound_in}}
+use Rattle.hc_stored.specs.{declared.entries.Entries.{Entries}, Entries.{shelf_of}, Grouped.{group_of}, Groups.{told_if_member}, Shelf.{Stays}, Views.{bound_in}}
+use Rattle.hc_text.specs.Sorted.{itself}
 use Rattle.hc_state.specs.Changes.{Numbered}
 use Rattle.hc_txn.specs.declared.transaction.Transaction.{Transaction}
 use Rattle.hc_writers.specs.Writing.{Writing, consumer_of, is_member, moved_to, standing_at}

@@ -2,8 +2,8 @@
 use Rattle.std.specs.Prelude.{ℕ, ◌+◌, ◌-◌, ◌^◌, min, List, map, Option, Some, None, if◌then◌else◌, nat_eq}
 use Rattle.std.specs.HashMap.{get}
 use Rattle.hc_rules.specs.declared.survivor.Member.{Member}
-use Rattle.hc_sorted.specs.Sorted.{has}
-use Rattle.hc_stored.specs.Kept.{itself}
+use Rattle.hc_text.specs.Sorted.{has}
+use Rattle.hc_text.specs.Sorted.{itself}
 use Rattle.hc_state.specs.Changes.{Numbered}
 use Rattle.hc_txn.specs.declared.transaction.Transaction.{Transaction}
 use Rattle.hc_writers.specs.Writing.{Writing, standing_at}

@@ -6,9 +6,10 @@
 -- moving to the front may be swapped (`entries_bound`). `BindHandler` and `FirstHandler` use these.
 use Rattle.std.{proofs.Common.{◌≡◌, ◌≢◌, inl, inr, ℕ, List, [], ◌∷◌, Bool, true, false, Option, Some, None, refl, ap, sym, ◌∙◌, subst}, specs.Prelude.{filter, not, option_map, ◌==◌, ◌&&◌}}
 use Rattle.hc_text.proofs.Basics.{eqb-other, eqb-same, false_true, same_or, same_some as same_row, and_off as then_false}
-use Rattle.hc_sorted.specs.Sorted.{has, with_item, without}
-use Rattle.hc_sorted.proofs.SortedLemmas.{has-with}
-use Rattle.hc_stored.specs.{Kept.{Kept, itself, with_user, with_first}, Shelf.{Shelf, Becomes, moved_first}}
+use Rattle.hc_text.specs.Sorted.{has, with_item, without}
+use Rattle.hc_text.proofs.SortedLemmas.{has-with}
+use Rattle.hc_stored.specs.{Kept.{Kept, with_user, with_first}, Shelf.{Shelf, Becomes, moved_first}}
+use Rattle.hc_text.specs.Sorted.{itself}
 use Rattle.hc_effects.proofs.Vocabulary.{Place, BoundBy, is_number, family, kind_of, Lawful, reads, is_bound, is_bound_place, Tables, Exchange, Representation, came_alone, place, by, bound}
 use Rattle.hc_effects.proofs.Tests.{and_false, none_some}
 use Rattle.hc_model.specs.Rows as rows

@@ -12,11 +12,12 @@ use Rattle.hc_fields.specs.FirstValues.{first_value}
 use Rattle.hc_record.specs.{Head.{Head, sealed_head}, declared.{head.StoredHead.{StoredHead}, kind.Kind.{Kind, TheVariants.{the_data as kinds}}}, Plain.{plain}}
 use Rattle.hc_range.specs.{declared.range.Asked.{Asked}, Spans.{IsInOrder}}
 use Rattle.hc_sparse.specs.Cells.{EndsBy}
-use Rattle.hc_sorted.specs.Sorted.{above, is_sorted}
+use Rattle.hc_text.specs.Sorted.{above, is_sorted}
 use Rattle.hc_store.specs.{declared.backend.Backend.{Ghosts}, Slots.{Held}}
-use Rattle.hc_entry.specs.Lines.{is_among}
+use Rattle.hc_text.specs.Sorted.{is_among}
 use Rattle.hc_exch.specs.Exchanges.{table_of}
-use Rattle.hc_stored.specs.{declared.{entries.Entries.{Entries}, view.EntryView.{EntryView}}, Entries.{shelf_of}, Kept.{Kept, itself}, Rows.{Row, rows_of, kept_by, kept_of}, Shelf.{cells_at, cells_in}, Views.{facts_in, view_of, bound_in}}
+use Rattle.hc_stored.specs.{declared.{entries.Entries.{Entries}, view.EntryView.{EntryView}}, Entries.{shelf_of}, Kept.{Kept}, Rows.{Row, rows_of, kept_by, kept_of}, Shelf.{cells_at, cells_in}, Views.{facts_in, view_of, bound_in}}
+use Rattle.hc_text.specs.Sorted.{itself}
 use Rattle.hc_fresh.specs.{declared.facts.HeadFacts.{HeadFacts}, Allowed.{allowed_by}, Lifetimes.{lifetime}, Vary.{matches_vary}, Ages.{age, age_value, corrected_initial_age}, Facts.{head_facts, allowed}}
 use Rattle.hc_model.specs.Rows as rows
 use Rattle.hc_effects.proofs.{Bounded.{range_order}, Tests.{none_some}}

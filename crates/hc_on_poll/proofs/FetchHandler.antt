@@ -8,7 +8,8 @@ use Rattle.std.{proofs.Common.{◌≡◌, ◌≢◌, inl, inr, ℕ, ◌+◌, Lis
 use Rattle.hc_text.proofs.Basics.{and_both as both_true, eqb-other, eqb-same, false_true, not_true as not_on, same_or, and_off as then_false}
 use Rattle.hc_store.specs.declared.backend.Backend.{Ghosts}
 use Rattle.hc_stored.specs.Entries.{shelf_of}
-use Rattle.hc_entry.specs.{declared.keys.KeyTable.{KeyTable}, Keys.{kept_of, line_of}, Kept.{on_line, line_in}, Lines.{is_among, is_in, held_by, turn_of, turn_with}}
+use Rattle.hc_entry.specs.{declared.keys.KeyTable.{KeyTable}, Keys.{kept_of, line_of}, Kept.{on_line, line_in}, Lines.{is_in, held_by, turn_of, turn_with}}
+use Rattle.hc_text.specs.Sorted.{is_among}
 use Rattle.hc_entry.specs.Keys as keys
 use Rattle.hc_entry.specs.Kept as keyed
 use Rattle.hc_effects.proofs.Vocabulary.{Act, Need, Request, Limits, route_of, is_disabled, is_only, Place, current, with_event, with_consumer, with_opening, just_opened, let_some_go, Lawful, MayLetGo, is_in_line, holds_place, Opens, acts_of, move_of, Tables, Exchange, need, event, route, place}

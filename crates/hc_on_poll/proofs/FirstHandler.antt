@@ -9,11 +9,12 @@ use Rattle.hc_text.proofs.Basics.{eqb-other, eqb-same, false_true, same_or, and_
 use Rattle.hc_store.specs.declared.backend.Backend.{Ghosts}
 use Rattle.hc_effects.proofs.Vocabulary.{Act, Need, Request, RequestClass, Limits, route_of, range_of, wanted_of, Place, current, total_in, is_live, with_event, used_last, with_consumer, with_opening, just_opened, kind_of, Lawful, is_in_line, Opens, acts_of, move_of, bound_to, Tables, Exchange, Representation, event, route, wanted, need, place, by}
 use Rattle.hc_range.specs.declared.range.{Asked.{Asked}, Span.{Span}}
-use Rattle.hc_sorted.specs.Sorted.{has}
+use Rattle.hc_text.specs.Sorted.{has}
 use Rattle.hc_rules.proofs.RangeReads.{bytes_eq-same}
 use Rattle.hc_entry.specs.{declared.keys.KeyTable.{KeyTable}, Keys.{kept_of}, Kept.{on_line}, Lines.{gone_away}}
 use Rattle.hc_entry.specs.Keys as keys
-use Rattle.hc_stored.specs.{declared.entries.Entries.{Entries}, Entries.{shelf_of}, Kept.{Kept, itself, with_first}, Shelf.{moved_first}, Views.{admits_first}}
+use Rattle.hc_stored.specs.{declared.entries.Entries.{Entries}, Entries.{shelf_of}, Kept.{Kept, with_first}, Shelf.{moved_first}, Views.{admits_first}}
+use Rattle.hc_text.specs.Sorted.{itself}
 use Rattle.hc_stored.specs.Shelf as shelf
 use Rattle.hc_exch.specs.{declared.{exchanges.Exchanges.{Exchanges}, role.Role.TheVariants.{the_data as role}}, Exchanges.{table_of, next_of}, Known.{with_new_exchange, exchange_at_opening, Changes}}
 use Rattle.hc_model.specs.Rows as rows

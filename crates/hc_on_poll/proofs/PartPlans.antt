@@ -10,9 +10,10 @@ use Rattle.hc_effects.proofs.Vocabulary.{Limits, Act, Why, Request, Candidate, P
 use Rattle.hc_store.specs.declared.backend.Backend.{Ghosts}
 use Rattle.hc_range.specs.{declared.range.{Asked.{Asked}, Span.{Span}}, Spans.{IsWithin}}
 use Rattle.hc_record.specs.{declared.head.StoredHead.{StoredHead}, Head.{Head}, Plain.{plain}}
-use Rattle.hc_sorted.specs.Sorted.{has}
-use Rattle.hc_entry.specs.Lines.{is_among}
-use Rattle.hc_stored.specs.{Entries.{shelf_of}, Kept.{itself}, Shelf.{head_at}, Views.{admits, admits_first}}
+use Rattle.hc_text.specs.Sorted.{has}
+use Rattle.hc_text.specs.Sorted.{is_among}
+use Rattle.hc_stored.specs.{Entries.{shelf_of}, Shelf.{head_at}, Views.{admits, admits_first}}
+use Rattle.hc_text.specs.Sorted.{itself}
 use Rattle.hc_model.specs.Planning as planning
 use Rattle.hc_model.specs.Rows as rows
 use Rattle.hc_effects.proofs.{EndsKeep.{wanted_within}, WantedSpans.{wanted_some}, PlanBy.{PlanBy, plan_by}, Tests.{and_false}}

@@ -8,9 +8,11 @@ use Rattle.std.{proofs.{Math.Logic.{∥∥₁_map}, Common.{◌≡◌, ◌≢◌
 use Rattle.hc_text.proofs.Basics.{false_true}
 use Rattle.hc_effects.proofs.Vocabulary.{Limits, Act, Need, Why, Response, Request, Route, Candidate, Plan, PlanView, least, lesser, route_of, plan_of, bare_plan, from_store, in_time, by_current, RequestClass, class_of, is_bypassing, is_disabled, is_only, Place, current, row_of, denial, gate, is_live, is_in_line, Move, Opens, Fails, Shows, span_to, plan_move, has_passed, candidate, candidate_at, move_of, is_bound, is_bound_place, Tables, Representation, need, event, route, plan, place, cause, wait}
 use Rattle.hc_store.specs.{declared.{backend.Backend.{Ghosts}, error.StoreError.{StoreError, TheVariants.{the_data as errors}}}, Causes.{HasNoLimit}}
-use Rattle.hc_sorted.specs.Sorted.{has}
-use Rattle.hc_stored.specs.{declared.entries.Entries.{Entries}, Entries.{shelf_of}, Kept.{Kept, itself}, Shelf.{is_kept, head_at, Stays}, Views.{admits}}
-use Rattle.hc_entry.specs.{declared.keys.KeyTable.{KeyTable}, Keys.{kept_of, line_of}, Kept.{line_in}, Lines.{Line, is_among, is_in, turn_with}}
+use Rattle.hc_text.specs.Sorted.{has}
+use Rattle.hc_stored.specs.{declared.entries.Entries.{Entries}, Entries.{shelf_of}, Kept.{Kept}, Shelf.{is_kept, head_at, Stays}, Views.{admits}}
+use Rattle.hc_text.specs.Sorted.{itself}
+use Rattle.hc_entry.specs.{declared.keys.KeyTable.{KeyTable}, Keys.{kept_of, line_of}, Kept.{line_in}, Lines.{Line, is_in, turn_with}}
+use Rattle.hc_text.specs.Sorted.{is_among}
 use Rattle.hc_range.specs.declared.range.Span.{Span}
 use Rattle.hc_validate.specs.{Showing.{shown_response}, Conditions.{conditional}}
 use Rattle.hc_rules.specs.Plans as rules

@@ -1,8 +1,8 @@
 -- The generator and the cache go on by a round.
 use Rattle.std.proofs.Common.{◌≡◌, ℕ, ◌+◌, ◌≤◌, List, [], ◌∷◌, true, Some, None, ap, sym, ◌∙◌, subst, arith}
 use Rattle.hc_effects.proofs.Vocabulary.{Event, Act, Limits, Contents, History, no_contents, is_wanted, IsOwed, tables, received_in, event}
-use Rattle.hc_sorted.specs.Sorted.{is_sorted}
-use Rattle.hc_exch.specs.Wishes.{is_among, itself}
+use Rattle.hc_text.specs.Sorted.{is_sorted}
+use Rattle.hc_text.specs.Sorted.{is_among, itself}
 use Rattle.hc_generate.specs.{Hearing.{state_after}, Rounds.{IsRound, IsShort}, States.{State}}
 use Rattle.hc_core.specs.Steps as core
 use Rattle.hc_core.specs.Steps.{StandsFor, Answers, last_moment, bytes_received, limits_in}

@@ -3,7 +3,8 @@
 use Rattle.std.{proofs.{lemmas.Bool.Decides.{nat_tests}, Common.{arith, ◌≡◌, ◌≢◌, ℕ, List, Bool, true, false, Some, refl, ap, sym, ◌∙◌, subst}}, specs.Prelude.{bytes_eq, ◌||◌}}
 use Rattle.hc_text.proofs.Basics.{eqb-other, eqb-same, false_true}
 use Rattle.hc_rules.proofs.RangeReads.{same_bytes}
-use Rattle.hc_entry.specs.{declared.keys.KeyTable.{KeyTable}, Keys.{kept_of, line_of}, Kept.{on_line}, Lines.{is_among, is_in, left_by}}
+use Rattle.hc_entry.specs.{declared.keys.KeyTable.{KeyTable}, Keys.{kept_of, line_of}, Kept.{on_line}, Lines.{is_in, left_by}}
+use Rattle.hc_text.specs.Sorted.{is_among}
 use Rattle.hc_entry.specs.Kept as keyed
 use Rattle.hc_stored.specs.Shelf.{Shelf}
 use Rattle.hc_effects.proofs.Vocabulary.{with_consumer, Lawful, is_in_line, is_bound, Tables}

@@ -1,8 +1,9 @@
 -- Somebody is bound to a representation in the tables where and only where somebody is kept as bound to it.
 use Rattle.std.{proofs.{Common.{◌≡◌, ◌≢◌, ℕ, List, [], ◌∷◌, length, Bool, true, false, Option, Some, None, refl, sym, ◌∙◌, arith}, lemmas.Bool.Decides.{nat_tests}}, specs.Prelude.{is_some, filter, ◌==◌}}
 use Rattle.hc_text.proofs.Basics.{eqb-same, false_true}
-use Rattle.hc_stored.specs.Kept.{Kept, itself, is_nobody}
-use Rattle.hc_sorted.specs.Sorted.{has}
+use Rattle.hc_stored.specs.Kept.{Kept, is_nobody}
+use Rattle.hc_text.specs.Sorted.{itself}
+use Rattle.hc_text.specs.Sorted.{has}
 use Rattle.hc_effects.proofs.Vocabulary.{bound, is_bound, Tables, Representation, Among}
 use Rattle.hc_effects.proofs.ExclusiveWriters.{filter_some}
 use Rattle.hc_model.specs.Rows as rows

@@ -2,7 +2,8 @@
 use Rattle.std.{proofs.{lemmas.Bool.Decides.{nat_tests}, Common.{arith, ◌≡◌, ◌≢◌, ◌⊎◌, inl, inr, ℕ, ◌+◌, List, [], Bool, true, false, cond, eqb, Option, refl, sym, ◌∙◌, subst}}, specs.{Prelude.{nat_eq, bytes_eq, ◌==◌, if◌then◌else◌}, HashMap.{get}}}
 use Rattle.hc_text.proofs.Basics.{eqb-other, eqb-same, same_or}
 use Rattle.hc_store.specs.declared.backend.Backend.{Ghosts}
-use Rattle.hc_entry.specs.{declared.keys.KeyTable.{KeyTable}, Keys.{kept_of}, Lines.{is_among, is_held_by}}
+use Rattle.hc_entry.specs.{declared.keys.KeyTable.{KeyTable}, Keys.{kept_of}, Lines.{is_held_by}}
+use Rattle.hc_text.specs.Sorted.{is_among}
 use Rattle.hc_entry.specs.Keys as keys
 use Rattle.hc_entry.specs.Kept as keyed
 use Rattle.hc_effects.proofs.Vocabulary.{current, with_consumer, is_in_line, Tables}

@@ -8,8 +8,9 @@ use Rattle.std.{proofs.{Common.{◌≡◌, inl, inr, ℕ, List, [], ◌∷◌, B
 use Rattle.hc_text.proofs.Basics.{both_true as and_both, and_left as and_first, and_right as and_then, eqb-same, false_true, never_true as not_true, or_right as or_then, same_test}
 use Rattle.hc_effects.proofs.Vocabulary.{Limits, Place, is_last_reader, is_number, left_by, with_consumer, as_over, is_open, Lawful, bound, is_bound, if_open, shared_exchange, writing_in, is_written, is_open_writer, Tables, Exchange, Representation, Among, Cause, place}
 use Rattle.hc_store.specs.declared.backend.Backend.{Ghosts}
-use Rattle.hc_sorted.specs.Sorted.{has}
-use Rattle.hc_stored.specs.{Entries.{shelf_of}, Kept.{Kept, itself}, Views.{bound_in}}
+use Rattle.hc_text.specs.Sorted.{has}
+use Rattle.hc_stored.specs.{Entries.{shelf_of}, Kept.{Kept}, Views.{bound_in}}
+use Rattle.hc_text.specs.Sorted.{itself}
 use Rattle.hc_exch.specs.{Exchanges.{table_of}, declared.row.Open.{Open}}
 use Rattle.hc_exch.specs.Known as known
 use Rattle.hc_model.specs.Rows as rows

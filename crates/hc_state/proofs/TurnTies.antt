@@ -6,7 +6,8 @@
 -- `turn_next` is for who stands in line only from now on. The plan of a poll uses them.
 use Rattle.std.{proofs.{Common.{◌≡◌, ◌≢◌, ◌⊎◌, inl, inr, ℕ, ◌≤◌, List, [], ◌∷◌, Bool, true, false, min, eqb, Option, Some, None, refl, ap, sym, ◌∙◌, arith}, lemmas.Bool.Decides.{nat_tests}}, specs.{Prelude.{filter, find, is_some, unwrap_or, ◌&&◌, ◌||◌}, Option.{option_or}}}
 use Rattle.hc_text.proofs.Basics.{and_both as and_parts, bool_cases, eq_by, eqb-same, false_true, or_cases as in_either, or_right as later_in, same_or, some_inj as some_is}
-use Rattle.hc_entry.specs.{Kept.{Kept, line_in}, Lines.{is_among, is_held_by, turn_of, turn_with}}
+use Rattle.hc_entry.specs.{Kept.{Kept, line_in}, Lines.{is_held_by, turn_of, turn_with}}
+use Rattle.hc_text.specs.Sorted.{is_among}
 use Rattle.hc_effects.proofs.Vocabulary.{least, lesser, is_in_line, holds_turn, line, holder, Tables, Consumer, Among, IsListed}
 use Rattle.hc_effects.proofs.Tests.{none_some}
 use Rattle.hc_model.specs.Lines as lines

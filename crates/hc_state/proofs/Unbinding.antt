@@ -6,12 +6,13 @@
 -- that whoever is bound is on the list.
 use Rattle.std.{proofs.{Common.{◌≡◌, ◌≢◌, inl, inr, ℕ, List, [], ◌∷◌, Bool, true, false, cond, eqb, Option, Some, None, refl, ap, sym, ◌∙◌, subst, arith}, lemmas.Bool.Decides.{nat_tests}}, specs.{Prelude.{is_some, not, ◌&&◌, if◌then◌else◌}, Option.{option_and_then}}}
 use Rattle.hc_text.proofs.Basics.{eqb-other, eqb-same, false_true, same_or}
-use Rattle.hc_sorted.specs.Sorted.{has, without}
-use Rattle.hc_sorted.proofs.SortedLemmas.{has-without}
+use Rattle.hc_text.specs.Sorted.{has, without}
+use Rattle.hc_text.proofs.SortedLemmas.{has-without}
 use Rattle.hc_stored.specs.Kept as entry
-use Rattle.hc_stored.specs.{Kept.{Kept, itself, is_nobody, unless_it, without_user}, Shelf.{Shelf, same_order}, Views.{bound_in}}
+use Rattle.hc_stored.specs.{Kept.{Kept, is_nobody, unless_it, without_user}, Shelf.{Shelf, same_order}, Views.{bound_in}}
+use Rattle.hc_text.specs.Sorted.{itself}
 use Rattle.hc_stored.specs.Shelf as shelf
-use Rattle.hc_entry.specs.Lines.{is_among}
+use Rattle.hc_text.specs.Sorted.{is_among}
 use Rattle.hc_effects.proofs.Vocabulary.{Place, BoundBy, is_number, with_consumer, kind_of, bound, is_bound, is_bound_place, Tables, Representation, Among, came_alone, place}
 use Rattle.hc_model.specs.Rows as rows
 use Rattle.hc_effects.proofs.{ExclusiveWriters.{filter_some}, Tests.{and_false}}

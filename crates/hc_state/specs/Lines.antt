@@ -1,7 +1,8 @@
 -- What is kept by key is what the tables say of it.
 use Rattle.std.specs.Prelude.{◌≡◌, ℕ, List, bytes_eq, Bool, false, Option, Some, None, ◌&&◌}
 use Rattle.hc_entry.specs.Kept.{Kept}
-use Rattle.hc_entry.specs.Lines.{is_among, is_held_by}
+use Rattle.hc_entry.specs.Lines.{is_held_by}
+use Rattle.hc_text.specs.Sorted.{is_among}
 use Rattle.hc_event.specs.declared.place.Place.{Place}
 use Rattle.hc_event.specs.declared.place.Place.TheVariants as place
 use Rattle.hc_event.specs.declared.place.BoundBy.TheVariants as by

@@ -4,14 +4,15 @@ use Rattle.hc_record.specs.declared.kind.Kind.{Kind}
 use Rattle.hc_record.specs.declared.kind.Kind.TheVariants as kind
 use Rattle.hc_sparse.specs.Cells.{Cells, EndsBy}
 use Rattle.hc_stored.specs.declared.view.EntryView.{EntryView}
-use Rattle.hc_stored.specs.Kept.{Kept, itself}
+use Rattle.hc_stored.specs.Kept.{Kept}
+use Rattle.hc_text.specs.Sorted.{itself}
 use Rattle.hc_stored.specs.Shelf.{Shelf}
 use Rattle.hc_stored.specs.Views.{view_of, bound_in}
 use Rattle.hc_exch.specs.declared.role.Role.{Role}
 use Rattle.hc_exch.specs.declared.role.Role.TheVariants as role
 use Rattle.hc_exch.specs.declared.row.Open.{Open}
 use Rattle.hc_exch.specs.Known.{Table}
-use Rattle.hc_sorted.specs.Sorted.{has}
+use Rattle.hc_text.specs.Sorted.{has}
 use Rattle.hc_model.specs.Currents.{is_number}
 use Rattle.hc_model.specs.Kinds.{is_complete, is_front}
 use Rattle.hc_model.specs.Rows.{Representation}

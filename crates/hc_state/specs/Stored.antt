@@ -3,8 +3,9 @@ use Rattle.std.specs.Prelude.{◌≡◌, ◌≢◌, ◌<◌, ◌^◌, ℕ, [], B
 use Rattle.hc_sparse.specs.Cells.{Covers}
 use Rattle.hc_record.specs.Head.{sealed_head}
 use Rattle.hc_record.specs.declared.kind.Kind.TheVariants as kinds
-use Rattle.hc_sorted.specs.Sorted.{has}
-use Rattle.hc_stored.specs.Kept.{Kept, itself}
+use Rattle.hc_text.specs.Sorted.{has}
+use Rattle.hc_stored.specs.Kept.{Kept}
+use Rattle.hc_text.specs.Sorted.{itself}
 use Rattle.hc_stored.specs.Shelf.{Shelf}
 use Rattle.hc_model.specs.Currents.{is_number}
 use Rattle.hc_model.specs.Kinds.{kind_of}

@@ -2,8 +2,8 @@
 ghost use Rattle.std.specs.Prelude.{◌≡◌, ◌+◌, ◌≤◌, ◌^◌, IsSomeAnd, nat_eq};
 ghost use Rattle.std.specs.Option.{option_and_then};
 ghost use Rattle.std.specs.HashMap.{get};
-ghost use Rattle.hc_sorted.specs.Sorted.{has};
-ghost use Rattle.hc_stored.specs.Kept.{itself};
+ghost use Rattle.hc_text.specs.Sorted.{has};
+ghost use Rattle.hc_text.specs.Sorted.{itself};
 ghost use Rattle.hc_state.specs.DetachedReaders.{ChangesEach, after_parting};
 ghost use Rattle.hc_txn.specs.Transactions.{without_own};
 ghost use Rattle.hc_txn.specs.Transactions.{founding as founds_with};

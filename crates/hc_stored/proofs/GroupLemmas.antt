@@ -1,11 +1,12 @@
 -- Whoever is bound is a member of the writer group, until that is lost.
 use Rattle.std.{proofs.{Common.{◌≡◌, ℕ, List, map, Bool, true, false, Option, Some, None, refl, sym, ap, ◌∙◌, inl, inr}, lemmas.Bool.cases_Bool}, specs.Prelude.{IfSome, option_map}}
 use Rattle.hc_text.proofs.Basics.{false_true}
-use Rattle.hc_sorted.specs.Sorted.{has, with_item, without}
-use Rattle.hc_sorted.proofs.SortedLemmas.{without-none}
+use Rattle.hc_text.specs.Sorted.{has, with_item, without}
+use Rattle.hc_text.proofs.SortedLemmas.{without-none}
 use Rattle.hc_writers.specs.Writing.{Writing, consumer_of, is_member, resumed, standing_at}
 use Rattle.hc_writers.proofs.NumberLemmas.{has_numbers, with_numbers, without_numbers, first_numbers, moved_numbers}
-use Rattle.hc_stored.specs.{Groups.{IsGrouped, HasMembers, MayJoin, joined_unless, left_if_member, told_if_member}, Kept.{itself}}
+use Rattle.hc_stored.specs.Groups.{IsGrouped, HasMembers, MayJoin, joined_unless, left_if_member, told_if_member}
+use Rattle.hc_text.specs.Sorted.{itself}
 
 pub may_join : (c : ℕ) (bound : List ℕ) (reach : ℕ) (group : Option Writing) → has itself c bound ≡ false → IfSome group (HasMembers bound reach) → IfSome group (MayJoin c)
 may_join c bound reach None off h = tt

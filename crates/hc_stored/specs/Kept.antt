@@ -1,6 +1,6 @@
 -- What is kept of a representation, and how it changes.
 use Rattle.std.specs.Prelude.{ℕ, ◌+◌, ◌==◌, ◌&&◌, max, length, List, [], ◌∷◌, Bool, true, false, Option, Some, None, if◌then◌else◌}
-use Rattle.hc_sorted.specs.Sorted.{with_item, without}
+use Rattle.hc_text.specs.Sorted.{with_item, without, itself}
 use Rattle.hc_sparse.specs.Cells.{Cells, nothing, cells_with}
 use Rattle.hc_record.specs.declared.kind.Kind.{Kind}
 use Rattle.hc_record.specs.Head.{Head, sealed_head}
@@ -17,9 +17,6 @@ pub record Kept : Type 0 where
   pub is_lost : Bool
   pub alone : Option ℕ  -- who goes on with it after it was lost
   pub is_gone : Bool
-
-abbrev pub itself : ℕ → ℕ
-itself c = c
 
 -- FOUNDED
 

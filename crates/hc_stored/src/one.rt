@@ -2,11 +2,12 @@
 ghost use Rattle.std.specs.Prelude.{◌≡◌, ◌+◌, ◌≤◌, ◌<◌, ◌^◌, ℕ, true, false, length, vec_len, IfOk, OnOk, OnErr, option_map};
 ghost use Rattle.hc_record.specs.Plain.{plain};
 ghost use Rattle.hc_sparse.specs.Cells.{size};
-ghost use Rattle.hc_sorted.specs.Sorted.{is_sorted, has};
+ghost use Rattle.hc_text.specs.Sorted.{is_sorted, has};
 ghost use Rattle.hc_store.specs.Slots.{Held};
 ghost use Rattle.hc_stored.specs.Heads.{summary_of};
 ghost use Rattle.hc_stored.specs.Begun.{begun_row};
-ghost use Rattle.hc_stored.specs.Kept.{itself, founded_kept};
+ghost use Rattle.hc_stored.specs.Kept.{founded_kept};
+ghost use Rattle.hc_text.specs.Sorted.{itself};
 ghost use Rattle.hc_stored.specs.Groups.{left_answer, told_if_member};
 ghost use Rattle.hc_writers.specs.Writing.{survivor};
 ghost use Rattle.std.specs.Option.{option_and_then};
@@ -16,9 +17,8 @@ use crate::group::{begin, exchange, grow, join, leave, lose, tell};
 use crate::summary::HeadSummary;
 use crate::view::EntryView;
 use hc_record::{Kind, StoredHead};
-use hc_sorted::{leave_out, put_reserved};
 use hc_store::Slot;
-use hc_text::{Key, NoMemory};
+use hc_text::{Key, NoMemory, leave_out, put_reserved};
 use hc_writers::{Left, Writers};
 use std::alloc::Global;
 

@@ -1,7 +1,7 @@
 //! Entries by the numbers of their representations: one changes, and the others stay.
 ghost use Rattle.std.specs.Prelude.{◌≡◌, ◌≤◌, ◌^◌, ℕ, ◌∷◌, Some, None, is_some, option_map, true, false, OnOk, OnErr};
-ghost use Rattle.hc_sorted.specs.Sorted.{is_sorted, has};
-ghost use Rattle.hc_stored.specs.Kept.{itself};
+ghost use Rattle.hc_text.specs.Sorted.{is_sorted, has};
+ghost use Rattle.hc_text.specs.Sorted.{itself};
 ghost use Rattle.std.specs.Option.{option_and_then};
 ghost use Rattle.hc_writers.specs.Writing.{survivor};
 ghost use Rattle.hc_stored.specs.Groups.{left_answer, told_if_member};

@@ -1,12 +1,10 @@
 //! Calls of lists sorted by number.
 ghost use Rattle.std.specs.Prelude.{◌≡◌, true};
-ghost use Rattle.hc_sorted.specs.Sorted.{is_sorted};
-ghost use Rattle.hc_exch.specs.Wishes.{itself};
+ghost use Rattle.hc_text.specs.Sorted.{is_sorted};
+ghost use Rattle.hc_text.specs.Sorted.{itself};
 
-use hc_sorted::{
-    Numbered, has_item, item_at, leave_out, put_in, put_reserved, replace_in, take_out,
-};
 use hc_test_frame::{Fault, Vector, tell};
+use hc_text::{Numbered, has_item, item_at, leave_out, put_in, put_reserved, replace_in, take_out};
 use std::alloc::Global;
 
 /// Both kinds of lists.

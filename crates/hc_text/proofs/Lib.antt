@@ -5,3 +5,4 @@ pub mod LawLemmas
 pub mod Cuts
 pub mod Cutting
 pub mod Growth
+pub mod SortedLemmas

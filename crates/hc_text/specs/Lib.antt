@@ -3,3 +3,4 @@ pub mod Numbers
 pub mod Elements
 pub mod Items
 pub mod Texts
+pub mod Sorted

@@ -8,6 +8,7 @@ mod list;
 mod memory;
 mod names;
 mod number;
+mod sorted;
 mod split;
 mod token;
 
@@ -18,5 +19,8 @@ pub use list::{Item, next_item};
 pub use memory::NoMemory;
 pub use names::{Key, MethodName, Value};
 pub use number::{read_number, read_plain, write_number};
+pub use sorted::{
+    Numbered, has_item, item_at, leave_out, put_in, put_reserved, replace_in, take_out,
+};
 pub use split::{cut, lacks, position_of};
 pub use token::is_token;

@@ -2,8 +2,8 @@
 ghost use Rattle.std.specs.Prelude.{◌≡◌, ℕ, true, IfSome, IfNone};
 ghost use Rattle.hc_model.specs.Entries.{Contents, History};
 ghost use Rattle.hc_model.specs.Exchanges.{is_open, is_wanted};
-ghost use Rattle.hc_sorted.specs.Sorted.{is_sorted};
-ghost use Rattle.hc_exch.specs.Wishes.{is_among, itself};
+ghost use Rattle.hc_text.specs.Sorted.{is_sorted};
+ghost use Rattle.hc_text.specs.Sorted.{is_among, itself};
 ghost use Rattle.hc_model.specs.Denials.{live};
 ghost use Rattle.hc_model.specs.Kinds.{kind_for};
 ghost use Rattle.hc_model.specs.Lines.{turn};

@@ -6,8 +6,7 @@ use crate::exchange::owe;
 use crate::generator::Generator;
 use crate::request::{KEYS, drawn_request, key_of};
 use hc_event::Event;
-use hc_sorted::{item_at, leave_out, put_in};
-use hc_text::NoMemory;
+use hc_text::{NoMemory, item_at, leave_out, put_in};
 
 /// So many consumers are live at most.
 const MOST_LIVE: usize = 64;

@@ -1,5 +1,5 @@
 use Rattle.std.proofs.Common.{◌∙◌, ap}
-use Rattle.hc_sorted.specs.Sorted.{has}
+use Rattle.hc_text.specs.Sorted.{has}
 use Rattle.hc_generate.specs.Sending.{number_of}
 use Rattle.hc_generate.proofs.OrderLemmas.{has-left_out}
 use Rattle.hc_generate.proofs.exchange.put_begun.Goals as goal

@@ -1,6 +1,6 @@
 use Rattle.std.{proofs.{Common.{◌≡◌, ◌∙◌, ap, not, rules, of_calls}, lemmas.Fn.{filter_same}}, specs.List.{list_any}}
-use Rattle.hc_sorted.specs.Sorted.{is_sorted}
-use Rattle.hc_sorted.proofs.SortedLemmas.{is_sorted-filter}
+use Rattle.hc_text.specs.Sorted.{is_sorted}
+use Rattle.hc_text.proofs.SortedLemmas.{is_sorted-filter}
 use Rattle.hc_generate.specs.{declared.exchange.Exchange.{Exchange}, Hearing.{closes, still_open}, Sending.{number_of}}
 use Rattle.hc_generate.proofs.ActLemmas.{still_open-any}
 use Rattle.hc_generate.proofs.hearing.forget_closed.Goals as goal

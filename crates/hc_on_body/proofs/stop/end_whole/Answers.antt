@@ -1,8 +1,9 @@
 use Rattle.std.{proofs.Common.{◌≡◌, ℕ, ◌^◌, None, refl, ap, ◌∙◌, subst}, specs.Prelude.{is_some}}
 use Rattle.hc_text.proofs.Basics.{same_some as same_row}
 use Rattle.hc_effects.proofs.Vocabulary.{act_list, promised_bytes}
-use Rattle.hc_stored.specs.{Entries.{shelf_of}, Kept.{itself}, Views.{bound_in}}
-use Rattle.hc_sorted.specs.Sorted.{has}
+use Rattle.hc_stored.specs.{Entries.{shelf_of}, Views.{bound_in}}
+use Rattle.hc_text.specs.Sorted.{itself}
+use Rattle.hc_text.specs.Sorted.{has}
 use Rattle.hc_effects.proofs.LettingGo.{may_let_go}
 use Rattle.hc_state.specs.{Changes.{ChangesAmong}, Stopped.{SealedWhole}}
 use Rattle.hc_txn.specs.Transactions.{with_end}

@@ -1,7 +1,7 @@
 use Rattle.std.{proofs.Common.{ℕ, List, ap, ◌∙◌, subst}, specs.Prelude.{is_some}}
 use Rattle.hc_effects.proofs.Vocabulary.{cause}
-use Rattle.hc_stored.specs.Kept.{itself}
-use Rattle.hc_sorted.specs.Sorted.{has}
+use Rattle.hc_text.specs.Sorted.{itself}
+use Rattle.hc_text.specs.Sorted.{has}
 use Rattle.hc_state.specs.DetachedReaders.{ChangesEach, after_parting}
 use Rattle.hc_on_leave.proofs.LoseDetachedReaders.{loses_shared}
 use Rattle.hc_on_leave.proofs.lose.lose_shared.Goals as goal

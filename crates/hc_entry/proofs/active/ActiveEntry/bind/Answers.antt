@@ -1,5 +1,5 @@
 use Rattle.std.proofs.Common.{◌≡◌, ◌-◌, vec_len, vec_capacity, true, map, sym, ap, ◌∙◌, arith}
-use Rattle.hc_sorted.specs.Sorted.{with_item}
+use Rattle.hc_text.specs.Sorted.{with_item}
 use Rattle.hc_entry.specs.Users.{Users, is_bound, are_all, bound_as, consumer_of, with_user}
 use Rattle.hc_entry.proofs.UserLemmas.{has-map, with-map, map-kind, made}
 use Rattle.hc_entry.proofs.active.ActiveEntry.bind.Goals as goal

@@ -1,6 +1,7 @@
 use Rattle.std.proofs.Common.{sym, ap, ◌∙◌}
 use Rattle.hc_entry.specs.declared.seat.Stand.TheVariants as stand
-use Rattle.hc_entry.specs.Lines.{Line, is_among}
+use Rattle.hc_entry.specs.Lines.{Line}
+use Rattle.hc_text.specs.Sorted.{is_among}
 use Rattle.hc_entry.proofs.SeatLemmas.{among-standing, stands_at}
 use Rattle.hc_entry.proofs.line.KeyLine.has_passed.Goals as goal
 

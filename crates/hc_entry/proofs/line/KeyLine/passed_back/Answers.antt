@@ -1,5 +1,6 @@
 use Rattle.std.proofs.Common.{◌≡◌, ◌+◌, ℕ, Option, Some, subst, sym, ap, ◌∙◌, arith}
-use Rattle.hc_entry.specs.Lines.{Line, passed_back, is_among, is_in, consumer_at}
+use Rattle.hc_entry.specs.Lines.{Line, passed_back, is_in, consumer_at}
+use Rattle.hc_text.specs.Sorted.{is_among}
 use Rattle.hc_entry.proofs.{SeatLemmas.{line_of}, StandLemmas.{orderly-seated}, AllBackLemmas.{ArePassedBackBelow, passed-back-none, passed-back-next, passed-back-stays, passed-back-all}, line.KeyLine.passed_back.Goals.{in-Some+then-has_passed, in-Some+else-has_passed, in_default}}
 use Rattle.hc_entry.proofs.line.KeyLine.passed_back.Goals as goal
 

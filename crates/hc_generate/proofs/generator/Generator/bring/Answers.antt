@@ -1,5 +1,5 @@
 use Rattle.std.proofs.Common.{ap, sym, ◌∙◌}
-use Rattle.hc_sorted.specs.Sorted.{item_with}
+use Rattle.hc_text.specs.Sorted.{item_with}
 use Rattle.hc_generate.specs.Sending.{number_of}
 use Rattle.hc_generate.proofs.OrderLemmas.{has-is_found}
 use Rattle.hc_generate.proofs.generator.Generator.bring.Goals as goal

@@ -1,5 +1,5 @@
-use Rattle.hc_sorted.proofs.SortedLemmas.{insert-place, is_sorted-with}
-use Rattle.hc_sorted.proofs.put_in.Goals as goal
+use Rattle.hc_text.proofs.SortedLemmas.{insert-place, is_sorted-with}
+use Rattle.hc_text.proofs.sorted.put_in.Goals as goal
 
 pub returns-clause-ok : goal.returns-clause-ok
 returns-clause-ok g c =

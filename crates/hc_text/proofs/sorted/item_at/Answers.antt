@@ -1,6 +1,6 @@
 use Rattle.std.{proofs.{Common.{ap, ◌∙◌, sym}, lemmas.Bool.{ltb-true, ltb-false}}, specs.Option.{option_copied}}
-use Rattle.hc_sorted.proofs.SortedLemmas.{found_here, found_other, found_past}
-use Rattle.hc_sorted.proofs.item_at.Goals as goal
+use Rattle.hc_text.proofs.SortedLemmas.{found_here, found_other, found_past}
+use Rattle.hc_text.proofs.sorted.item_at.Goals as goal
 
 pub returns-in_err-item : goal.returns-in_err-item
 returns-in_err-item g c =

@@ -6,7 +6,7 @@
 -- `remove-place`, `set-place`). Each keeps the order, and says who is there then (`has-with`, `has-without`).
 use Rattle.std.{proofs.{Common.{◌≡◌, ℕ, zero, suc, ◌+◌, ◌<◌, ◌≤◌, List, [], ◌∷◌, length, get_or, set, Bool, true, false, not, cond, eqb, leb, ltb, Some, None, refl, sym, ap, ◌∙◌, inl, inr, arith, lt-ltb}, lemmas.{Bool.{cases_Bool, and_parts, le-leb, lt-leb, ltb-true, ltb-false, leb-true, leb-false, eqb-true, eqb-false, eq-eqb, ne_eqb}, List.Sums.{position_or_len_is}}}, specs.{Prelude.{◌&&◌, ◌||◌, filter, is_some}, List.{list_any, insert, remove, Sorted.{IsNonDecreasingBy, IsPartitionPoint}}}}
 use Rattle.hc_text.proofs.Basics.{and_false}
-use Rattle.hc_sorted.specs.Sorted.{above, is_sorted, is_at, has, item_with, with_item, without, with_replacement, place}
+use Rattle.hc_text.specs.Sorted.{above, is_sorted, is_at, has, item_with, with_item, without, with_replacement, place}
 
 or_swap : (a b c : Bool) → a || (b || c) ≡ b || (a || c)
 or_swap true true c = refl

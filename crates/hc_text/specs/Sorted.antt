@@ -40,3 +40,11 @@ module _ {X : Type 0} (number : X → ℕ) where
   -- the first whose number isn't below n
   abbrev pub place : ℕ → List X → ℕ
   place n xs = position_or_len (λ x. nat_le n (number x)) xs
+
+-- a number, which is in order by itself
+abbrev pub itself : ℕ → ℕ
+itself n = n
+
+-- a number is one of these
+abbrev pub is_among : ℕ → List ℕ → Bool
+is_among n numbers = has itself n numbers

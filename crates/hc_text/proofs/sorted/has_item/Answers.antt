@@ -1,6 +1,6 @@
 use Rattle.std.{proofs.Common.{◌≡◌, Option, Some, None, refl, sym, ap, ◌∙◌, Bor}, specs.Option.{option_copied, is_some}}
-use Rattle.hc_sorted.proofs.SortedLemmas.{has-found}
-use Rattle.hc_sorted.proofs.has_item.Goals as goal
+use Rattle.hc_text.proofs.SortedLemmas.{has-found}
+use Rattle.hc_text.proofs.sorted.has_item.Goals as goal
 
 is_some-copied : {X : Type 0} (o : Option (Bor X)) → is_some o ≡ is_some (option_copied o)
 is_some-copied None = refl

@@ -1,6 +1,6 @@
 use Rattle.std.proofs.{Common.{rules, of_calls, ltb}, lemmas.{Fn.{always_returns_same}, List.Sorted.{IsPartitionedBy-ltb}}}
-use Rattle.hc_sorted.proofs.SortedLemmas.{place_is, IsNonDecreasingBy-is_sorted}
-use Rattle.hc_sorted.proofs.place_of.Goals as goal
+use Rattle.hc_text.proofs.SortedLemmas.{place_is, IsNonDecreasingBy-is_sorted}
+use Rattle.hc_text.proofs.sorted.place_of.Goals as goal
 
 pub returns-clause-place : goal.returns-clause-place
 returns-clause-place g c =

@@ -1,7 +1,7 @@
 use Rattle.std.proofs.Common.{◌≡◌, length, vec_len, refl, arith, sym, ap, ◌∙◌}
-use Rattle.hc_sorted.specs.Sorted.{place}
-use Rattle.hc_sorted.proofs.SortedLemmas.{place-has, set-place, is_sorted-replaced}
-use Rattle.hc_sorted.proofs.replace_in.Goals as goal
+use Rattle.hc_text.specs.Sorted.{place}
+use Rattle.hc_text.proofs.SortedLemmas.{place-has, set-place, is_sorted-replaced}
+use Rattle.hc_text.proofs.sorted.replace_in.Goals as goal
 
 pub index_mut-requires : goal.index_mut-requires
 index_mut-requires g c =

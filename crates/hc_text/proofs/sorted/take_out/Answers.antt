@@ -1,7 +1,7 @@
 use Rattle.std.proofs.Common.{◌≡◌, length, vec_len, not, refl, arith, sym, ap, ◌∙◌, Some}
-use Rattle.hc_sorted.specs.Sorted.{is_at, place}
-use Rattle.hc_sorted.proofs.SortedLemmas.{place-has, remove-place, found-has, is_sorted-filter}
-use Rattle.hc_sorted.proofs.take_out.Goals as goal
+use Rattle.hc_text.specs.Sorted.{is_at, place}
+use Rattle.hc_text.proofs.SortedLemmas.{place-has, remove-place, found-has, is_sorted-filter}
+use Rattle.hc_text.proofs.sorted.take_out.Goals as goal
 
 pub remove-requires : goal.remove-requires
 remove-requires g c =

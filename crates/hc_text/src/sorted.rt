@@ -1,11 +1,9 @@
 //! Lists whose numbers rise: what has a number is found by halving, and changed where it stands.
-#![tactic(auto)]
-
 ghost use Rattle.std.specs.Prelude.{◌≡◌, ℕ, ◌+◌, ◌<◌, ◌≤◌, true, false, Some, if◌then◌else◌, length, vec_len, vec_capacity, IsOk, OnOk, OnErr};
 ghost use Rattle.std.specs.Option.{option_copied};
-ghost use Rattle.hc_sorted.specs.Sorted.{is_sorted, has, item_with, with_item, without, with_replacement, place};
+ghost use Rattle.hc_text.specs.Sorted.{is_sorted, has, item_with, with_item, without, with_replacement, place};
 
-use hc_text::NoMemory;
+use crate::NoMemory;
 
 /// What has a number, by which a list of it is in order.
 pub trait Numbered {

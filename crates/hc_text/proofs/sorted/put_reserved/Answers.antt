@@ -1,6 +1,6 @@
 use Rattle.std.{proofs.Common.{◌≡◌, true}, specs.Result.{is_ok}}
-use Rattle.hc_sorted.proofs.SortedLemmas.{insert-place, is_sorted-with}
-use Rattle.hc_sorted.proofs.put_reserved.Goals as goal
+use Rattle.hc_text.proofs.SortedLemmas.{insert-place, is_sorted-with}
+use Rattle.hc_text.proofs.sorted.put_reserved.Goals as goal
 
 pub returns-clause-items : goal.returns-clause-items
 returns-clause-items g c =

@@ -5,8 +5,7 @@
 -- is four of these and a port. Where a part fails there is none, since any address would begin with the parts before it
 -- (`off_three`, `off_port`). Where all are there it is this one (`address_is`).
 use Rattle.std.{proofs.{Common.{◌≡◌, ◌⊎◌, inl, inr, ℕ, ◌+◌, ◌<◌, ◌≤◌, ◌^◌, true, List, [], ◌∷◌, ◌++◌, Option, Some, None, refl, ap, sym, ◌∙◌, arith}, lemmas.{Bool.{and_from, not_from_false, ne_eqb}, Fmt.{decimal_is_IsNumeral, decimal_injective}, Str.Parse.{digit_from_value}}}, specs.{Prelude.{◌==◌, IfNone}, Fmt.{decimal}, Str.Parse.{AllDigits}}}
-use Rattle.hc_text.specs.{Numbers.{IsPlain}, Texts.{lacks}}
-use Rattle.hc_text.specs.Texts.{cut}
+use Rattle.hc_text.specs.{Numbers.{IsPlain}, Texts.{lacks, cut}}
 use Rattle.hc_text.proofs.{Cuts.{lacks-decimal}, Cutting.{cut-first, append-cut}}
 use Rattle.hc_wire.specs.declared.event.Address.{Address}
 use Rattle.hc_app.specs.Addresses.{Begins, IsPort, IsAddress}

@@ -3,16 +3,16 @@ use Rattle.std.{proofs.Common.{◌≡◌, ◌≢◌, ◌∙◌, ℕ, Option, Non
 use Rattle.hc_origin.specs.Endings.{IsFresh}
 use Rattle.hc_sched.specs.declared.schedule.Ended.{Ended}
 use Rattle.hc_sched.specs.declared.schedule.Ended.TheVariants as ended
-use Rattle.hc_wire.specs.{Events.{Stage, Unseen, IsOpen}, Logs.{Log, Tells, with_binding}, declared.event.{Address.{Address}, WireError.{WireError}}}
+use Rattle.hc_wire.specs.{Events.{Stage, Unseen, IsOpen}, Logs.{Log, Reports, with_binding}, declared.event.{Address.{Address}, WireError.{WireError}}}
 use Rattle.hc_wire.specs.declared.event.WireError.TheVariants as wire
 use Rattle.hc_app.specs.{declared.status.Status.{Status}, Answering.{IsEndedAs, AnswersOrigin, done, unwired, wanting}, Statuses.{unbound_as}}
 use Rattle.hc_app.specs.declared.status.Status.TheVariants as status
 use Rattle.hc_app.specs.Answering as answering
 
-pub fresh_bound : (old new : Option Log) (listen : Address) → Tells old new (with_binding (Some listen) None) → IfSome old IsFresh → IfSome new IsFresh
-fresh_bound None new listen tells fresh = subst (λ (o : Option Log). IfSome o IsFresh) (sym tells) tt
-fresh_bound (Some log) new listen tells fresh =
-    subst (λ (o : Option Log). IfSome o IsFresh) (sym tells) (record { uncalled = fresh.uncalled; undialled = fresh.undialled; untaken = fresh.untaken })
+pub fresh_bound : (old new : Option Log) (listen : Address) → Reports old new (with_binding (Some listen) None) → IfSome old IsFresh → IfSome new IsFresh
+fresh_bound None new listen reports fresh = subst (λ (o : Option Log). IfSome o IsFresh) (sym reports) tt
+fresh_bound (Some log) new listen reports fresh =
+    subst (λ (o : Option Log). IfSome o IsFresh) (sym reports) (record { uncalled = fresh.uncalled; undialled = fresh.undialled; untaken = fresh.untaken })
 
 -- one that wasn't handed out isn't open
 pub shut_bound : (before after : ℕ → Stage) → ((k : ℕ) → after k ≡ before k) → ((k : ℕ) → before k ≡ Unseen) → (k : ℕ) → IsOpen (after k) → ⊥
@@ -38,6 +38,6 @@ not_wire _ _ done off = λ is. cc
 not_wire _ _ unwired off = λ is. off refl
 not_wire _ _ wanting off = λ is. cc
 
-pub unbound_answer : (listen : Address) (turns : ℕ) (told told' : Option Log) (e : WireError) → told' ≡ told → AnswersOrigin listen turns told told' (unbound_as e)
-unbound_answer listen turns told told' wire.WireFailed same = answering.unbound same
-unbound_answer listen turns told told' wire.NoMemory same = answering.wanting_all same
+pub unbound_answer : (listen : Address) (turns : ℕ) (reported reported' : Option Log) (e : WireError) → reported' ≡ reported → AnswersOrigin listen turns reported reported' (unbound_as e)
+unbound_answer listen turns reported reported' wire.WireFailed same = answering.unbound same
+unbound_answer listen turns reported reported' wire.NoMemory same = answering.wanting_all same

@@ -7,8 +7,7 @@
 -- words or the input.
 use Rattle.std.{proofs.{Common.{◌≡◌, ◌⊎◌, ℕ, List, Option, Some, None, [], ◌∷◌, true, false, refl, ap, sym, ◌∙◌, subst, inl, inr, arith}, lemmas.Slice.Eq.{bytes_eq-Decides}}, specs.Prelude.{codes, bytes_eq}}
 use Rattle.hc_io.specs.{Faults.{HasRisen}, Source.{Gives}}
-use Rattle.hc_sched.specs.{declared.schedule.Refused.{Refused}, Schedule.{Item, Spells}}
-use Rattle.hc_sched.specs.Reading.{refusal_of}
+use Rattle.hc_sched.specs.{declared.schedule.Refused.{Refused}, Schedule.{Item, Spells}, Reading.{refusal_of}}
 use Rattle.hc_sched.proofs.OneReading.{is_read}
 use Rattle.hc_driver.specs.Endings as endings
 use Rattle.hc_driver.specs.Endings.{Reach, IsRead, IsRefusedIn}
@@ -248,9 +247,9 @@ module _ (left : List ℕ) (out diag : Option (List ℕ)) (o d : ℕ) (after : S
   says_usage : (reach : Reach) (text out word : List ℕ) (s : Status) → OwesUsage reach text (Saying out word s) → code_of s ≡ 2
   says_usage _ _ _ _ _ program.usage_alone = refl
 
-  told : (s : Status) → Does program.telling_usage start after s → IsFaultless s → EndsWith s status.Usage
-  told =
-      by_owed program.telling_usage status.Usage (λ reach text report read owes. absurd (never_quiet reach text report owes))
+  reported : (s : Status) → Does program.saying_usage start after s → IsFaultless s → EndsWith s status.Usage
+  reported =
+      by_owed program.saying_usage status.Usage (λ reach text report read owes. absurd (never_quiet reach text report owes))
       (λ reach text report word s read owes. inl (says_usage reach text report word s owes))
 
   -- BY THE WORDS
@@ -291,9 +290,9 @@ module _ (left : List ℕ) (out diag : Option (List ℕ)) (o d : ℕ) (after : S
     asked s off c off_origin off_serve is (program.obeyed done word did same) = record { done = done; named_so = same_name done c word is; did = did }
     asked s off c off_origin off_serve is (program.answered listen turns word did same) = absurd (differ (command.Origin listen turns) c off_origin word is)
     asked s off c off_origin off_serve is (program.served listen from turns word did same) = absurd (differ (command.Serve listen from turns) c off_serve word is)
-    asked s off c off_origin off_serve is (program.told none unfetched did same) = absurd (none c is)
+    asked s off c off_origin off_serve is (program.reported none unfetched did same) = absurd (none c is)
     asked s off c off_origin off_serve is (program.fetched plan f did same) = absurd (fetch_apart c is plan f)
-    asked _ off c off_origin off_serve is (program.wanting same told_same) = absurd (off refl)
+    asked _ off c off_origin off_serve is (program.wanting same reported_same) = absurd (off refl)
 
     did_replay : (c : Command) (s : Status) → bytes_eq (name_of c) (codes "replay") ≡ true → Does (duty_of c) start after s → Does replaying.replaying start after s
     did_replay command.Replay s same did = did
@@ -329,11 +328,11 @@ module _ (left : List ℕ) (out diag : Option (List ℕ)) (o d : ℕ) (after : S
     keeps_some s off _ (program.fronted items is spells) keeps sound = let q = asked s off command.Conditional refl refl is keeps in spelled_fronts items spells s (did_front q.done s q.named_so q.did) sound
     keeps_some s off _ (program.unfronted r is refused) keeps sound = let q = asked s off command.Conditional refl refl is keeps in refused_fronts r refused s (did_front q.done s q.named_so q.did) sound
     keeps_some s off _ (program.no_command none unfetched) (program.obeyed word_is word did same) sound = absurd (none word_is word)
-    keeps_some s off _ (program.no_command none unfetched) (program.told other apart did same) sound = told s did sound
+    keeps_some s off _ (program.no_command none unfetched) (program.reported other apart did same) sound = reported s did sound
     keeps_some s off _ (program.no_command none unfetched) (program.answered listen turns word did same) sound = absurd (none (command.Origin listen turns) word)
     keeps_some s off _ (program.no_command none unfetched) (program.served listen from turns word did same) sound = absurd (none (command.Serve listen from turns) word)
     keeps_some s off _ (program.no_command none unfetched) (program.fetched plan f did same) sound = absurd (unfetched plan f)
-    keeps_some _ off _ (program.no_command none unfetched) (program.wanting same told_same) sound = absurd (off refl)
+    keeps_some _ off _ (program.no_command none unfetched) (program.wanting same reported_same) sound = absurd (off refl)
 
     -- want of memory is free
     keeps_due : (s due : Status) → IsDue words left due → Keeps words start after wire wire' s → IsFaultless s → EndsWith s due

@@ -1,11 +1,11 @@
 -- What the program did, by how a replay or a generation ended.
 --
 -- A store in memory counts no failure, so a run over it tells none (`whole`), and how far events were replayed tells
--- the report that is owed or begun (`reported`, `begun`). An ending and what was told of it have the ending in common,
+-- the report that is owed or begun (`report_owed`, `begun`). An ending and what was told of it have the ending in common,
 -- so at each there are one or three cases (`does_replay`, `does_generate`). What the streams counted is handed on as
 -- the calls below told it.
 use Rattle.std.{proofs.{Common.{◌≡◌, ◌≢◌, ℕ, List, [], ◌∷◌, Option, Err, refl, sym, subst, arith}, lemmas.List.{append-nil}}, specs.Result.{IsErrOf}}
-use Rattle.hc_io.specs.{Faults.{HasRisen}, declared.sink.SinkError.{SinkError}, Sink.{Takes, TakesFront}}
+use Rattle.hc_io.specs.{Faults.{HasRisen}, declared.sink.SinkError.{SinkError}, Sink.{Takes, TakesPrefix}}
 use Rattle.hc_io.specs.declared.sink.SinkError.TheVariants as sink
 use Rattle.hc_io.proofs.{Givings.{gives_none}, Takings.{takes_none}}
 use Rattle.hc_rules.specs.declared.room.Limits.{Limits}
@@ -13,12 +13,11 @@ use Rattle.hc_sched.specs.declared.schedule.{Ended.{Ended}, Timed.{Timed}}
 use Rattle.hc_sched.specs.declared.schedule.Ended.TheVariants as ended
 use Rattle.hc_driver.specs.Endings as endings
 use Rattle.hc_driver.specs.{Endings.{How, UpToEnd, SoFar, ToEnd, IsSteppedAtOnce}, Stepping.{History, report_of, report_before, last_entry}}
-use Rattle.hc_driver.proofs.Reported.{all_reported}
+use Rattle.hc_driver.proofs.ReportSteps.{all_reported}
 use Rattle.hc_model.specs.{Entries.{no_contents}, Runs.{IsRun}}
 use Rattle.hc_core.specs.{declared.cache.Cache.{Cache}, Steps.{StandsFor, limits_in, faults_in}}
 use Rattle.hc_replay.specs.Replays as replays
-use Rattle.hc_replay.specs.{Replays.{IsReplayed}, Histories.{run_of}}
-use Rattle.hc_replay.specs.WholeRuns.{IsWholeRun}
+use Rattle.hc_replay.specs.{Replays.{IsReplayed}, Histories.{run_of}, WholeRuns.{IsWholeRun}}
 use Rattle.hc_replay.specs.Generates as generates
 use Rattle.hc_app.specs.{declared.status.Status.{Status}, Concluding.{Concludes}, Owing.{Streams, Does}, Replaying.{store_limits, IsWhole, IsReport, BeginsReplay}, Statuses.{stopped_as}, Texts.{usage_text}}
 use Rattle.hc_app.specs.declared.status.Status.TheVariants as status
@@ -52,8 +51,8 @@ module _ {B : Type 0} {g : Rattle.hc_store.specs.declared.backend.Backend.Ghosts
         sound = omega arith;
       }
 
-  reported : (u : Cache B g) (events : List Timed) (h : History) → IsReplayed s u events h → IsReport events (report_of h)
-  reported u events h is = record { history = h; whole = whole u events h is; events_are = is.events_are; report_is = refl }
+  report_owed : (u : Cache B g) (events : List Timed) (h : History) → IsReplayed s u events h → IsReport events (report_of h)
+  report_owed u events h is = record { history = h; whole = whole u events h is; events_are = is.events_are; report_is = refl }
 
   begun : (u : Cache B g) (text : List ℕ) (first rest : List Timed) (h : History) → IsReplayed s u first h → IsSteppedAtOnce 0 text first rest → BeginsReplay text (report_before h) (last_entry h)
   begun u text first rest h is stepped = record {
@@ -81,17 +80,17 @@ module _ {B : Type 0} {g : Rattle.hc_store.specs.declared.backend.Backend.Ghosts
 
     pub does_replay : (e : Ended) (st : Status) → endings.Ends Went 0 left left' e → Concludes diag diag' d d' e st → (e ≡ ended.SinkFailed → HasRisen o o') → (e ≢ ended.SinkFailed → o' ≡ o) → Does replaying.replaying before after st
     does_replay _ _ (endings.done text items gives spells (replays.wholly h is taken)) (concluding.quiet _ _ concluding.done same sound) failed kept =
-        owing.done ToEnd text (report_of h) gives (replaying.spelled text (report_of h) items spells (reported u _ h is)) taken same
-    does_replay _ _ (endings.over text first rest gives stepped went) told failed kept = absurd (never_over first went)
+        owing.done ToEnd text (report_of h) gives (replaying.spelled text (report_of h) items spells (report_owed u _ h is)) taken same
+    does_replay _ _ (endings.over text first rest gives stepped went) reported failed kept = absurd (never_over first went)
     does_replay _ _ (endings.refused reach text r read refused went) (concluding.quiet _ _ is_quiet same sound) failed kept = elim is_quiet [ ]
-    does_replay _ _ (endings.refused reach text r read refused (replays.wholly h is taken)) (concluding.told _ said sound) failed kept =
-        owing.said reach text (report_of h) _ _ read (replaying.refused reach text (report_of h) r refused (reported u _ h is)) taken said
-    does_replay _ _ (endings.refused reach text r read refused (replays.wholly h is taken)) (concluding.untold _ said risen) failed kept =
-        owing.unsaid reach text (report_of h) _ _ read (replaying.refused reach text (report_of h) r refused (reported u _ h is)) taken said (record { failed = risen; sound = kept (λ other. cc) })
+    does_replay _ _ (endings.refused reach text r read refused (replays.wholly h is taken)) (concluding.reported _ said sound) failed kept =
+        owing.said reach text (report_of h) _ _ read (replaying.refused reach text (report_of h) r refused (report_owed u _ h is)) taken said
+    does_replay _ _ (endings.refused reach text r read refused (replays.wholly h is taken)) (concluding.unreported _ said risen) failed kept =
+        owing.unsaid reach text (report_of h) _ _ read (replaying.refused reach text (report_of h) r refused (report_owed u _ h is)) taken said (record { failed = risen; sound = kept (λ other. cc) })
     does_replay _ _ (endings.refused reach text r read refused (replays.wholly h is taken)) (concluding.wanting_word _ said sound) failed kept =
-        owing.wanting_word reach text (report_of h) _ _ read (replaying.refused reach text (report_of h) r refused (reported u _ h is)) taken said
+        owing.wanting_word reach text (report_of h) _ _ read (replaying.refused reach text (report_of h) r refused (report_owed u _ h is)) taken said
     does_replay _ _ (endings.unreadable text gives unrefused (replays.wholly h is taken)) (concluding.quiet _ _ concluding.unreadable same sound) failed kept =
-        owing.unreadable text (report_of h) gives (unrefused, reported u _ h is) taken same
+        owing.unreadable text (report_of h) gives (unrefused, report_owed u _ h is) taken same
     does_replay _ _ (endings.unwritten text first rest gives stepped (replays.up_to_last h is taken)) (concluding.quiet _ _ concluding.unwritten same sound) failed kept =
         owing.unwritten text (report_before h) (last_entry h) gives (begun u text first rest h is stepped) taken (record { failed = failed refl; unsaid = same; sound = sound })
     does_replay _ _ (endings.wanting text first rest gives stepped (replays.up_to_last h is taken)) (concluding.quiet _ _ concluding.wanting same sound) failed kept =
@@ -143,9 +142,9 @@ module _ (left out diag diag' : Option (List ℕ)) (o d d' : ℕ) where
   abbrev with_word : Streams
   with_word = record { left = left; out = out; diag = diag'; out_faults = o; diag_faults = d' }
 
-  pub usage_said : Takes diag diag' usage_text → Does program.telling_usage untouched with_word status.Usage
+  pub usage_said : Takes diag diag' usage_text → Does program.saying_usage untouched with_word status.Usage
   usage_said said = owing.said SoFar [] [] usage_text status.Usage (gives_none left) program.usage_alone (takes_none out) said
 
-  pub usage_unsaid : (e : SinkError) → TakesFront diag diag' usage_text → (IsErrOf {T = Unit {0}} (Err e) sink.SinkFailed → HasRisen d d') → Does program.telling_usage untouched with_word (stopped_as e)
+  pub usage_unsaid : (e : SinkError) → TakesPrefix diag diag' usage_text → (IsErrOf {T = Unit {0}} (Err e) sink.SinkFailed → HasRisen d d') → Does program.saying_usage untouched with_word (stopped_as e)
   usage_unsaid sink.SinkFailed said failed = owing.unsaid SoFar [] [] usage_text status.Usage (gives_none left) program.usage_alone (takes_none out) said (record { failed = failed refl; sound = refl })
   usage_unsaid sink.NoMemory said failed = owing.wanting_word SoFar [] [] usage_text status.Usage (gives_none left) program.usage_alone (takes_none out) said

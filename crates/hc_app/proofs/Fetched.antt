@@ -1,11 +1,11 @@
 -- What the program did, by how a fetch ended.
 --
 -- What the words spell is a plan, or none (`is_plan`, `no_plan`, `no_parts`, `no_size`, `no_target`). A fetch ends as
--- schedules do, or what ended it early is told (`stopped_told`, `stopped_untold`). Each ending of a fetch is one of
+-- schedules do, or what ended it early is told (`stopped_reported`, `stopped_unreported`). Each ending of a fetch is one of
 -- what is owed, or begun (`does_fetch`). What a status says of faults it says of the ending that it comes from.
 use Rattle.std.{proofs.{Common.{◌≡◌, ◌≢◌, ℕ, ◌+◌, ◌≤◌, ◌^◌, List, [], ◌∷◌, length, Bool, true, false, Option, Some, None, Err, refl, sym, ap, ◌∙◌, subst, arith}, lemmas.Fmt.{decimal_injective}}, specs.{Prelude.{codes, bytes_eq, ◌==◌, if◌then◌else◌}, Option.{option_or}, Result.{IsErrOf}}}
 use Rattle.hc_text.proofs.Basics.{not_some as none_some, some_inj}
-use Rattle.hc_io.specs.{Faults.{HasRisen}, Sink.{Takes, TakesFront}, Source.{GivesAll}, declared.sink.SinkError.{SinkError}}
+use Rattle.hc_io.specs.{Faults.{HasRisen}, Sink.{Takes, TakesPrefix}, Source.{GivesAll}, declared.sink.SinkError.{SinkError}}
 use Rattle.hc_io.specs.declared.sink.SinkError.TheVariants as sink
 use Rattle.hc_text.specs.Numbers.{IsPlain}
 use Rattle.hc_target.specs.Targets.{is_target}
@@ -95,13 +95,13 @@ module _ (diag diag' : Option (List ℕ)) (d d' : ℕ) where
   pub ended_as : (end x : FetchEnded) (e : Ended) (s : Status) → end ≡ x → IsEndedAs x e → Concludes diag diag' d d' e s → ConcludesFetch diag diag' d d' end s
   ended_as end x e s is by concludes = subst (λ (z : FetchEnded). ConcludesFetch diag diag' d d' z s) (sym is) (fetching.as_schedule x e s by concludes)
 
-  pub stopped_told : (end : FetchEnded) → IsStopped end → Takes diag diag' (fetch_text end) → d' ≡ d → ConcludesFetch diag diag' d d' end status.FetchStopped
-  stopped_told end is said calm = fetching.told end is said calm
+  pub stopped_reported : (end : FetchEnded) → IsStopped end → Takes diag diag' (fetch_text end) → d' ≡ d → ConcludesFetch diag diag' d d' end status.FetchStopped
+  stopped_reported end is said calm = fetching.reported end is said calm
 
-  pub stopped_untold : (end : FetchEnded) → IsStopped end → (error : SinkError) → TakesFront diag diag' (fetch_text end) → (IsErrOf {T = Unit {0}} (Err error) sink.SinkFailed → HasRisen d d')
+  pub stopped_unreported : (end : FetchEnded) → IsStopped end → (error : SinkError) → TakesPrefix diag diag' (fetch_text end) → (IsErrOf {T = Unit {0}} (Err error) sink.SinkFailed → HasRisen d d')
       → (IsErrOf {T = Unit {0}} (Err error) sink.NoMemory → d' ≡ d) → ConcludesFetch diag diag' d d' end (stopped_as error)
-  stopped_untold end is sink.SinkFailed front failed calm = fetching.untold end is front (failed refl)
-  stopped_untold end is sink.NoMemory front failed calm = fetching.wanting_word end is front (calm refl)
+  stopped_unreported end is sink.SinkFailed front failed calm = fetching.unreported end is front (failed refl)
+  stopped_unreported end is sink.NoMemory front failed calm = fetching.wanting_word end is front (calm refl)
 
   -- WHAT ITS STATUS SAYS
 
@@ -119,16 +119,16 @@ module _ (diag diag' : Option (List ℕ)) (d d' : ℕ) where
     stream_status end s (fetching.as_schedule _ e _ as_is by) source still sinks kept =
         let same = same_end end e as_is in
         concluded.stream_status diag diag' d d' input input' out out' e s by (λ is. source (same.0.0 is)) (λ off. still (λ is. off (same.0.1 is))) (λ is. sinks (same.1.0 is)) (λ off. kept (λ is. off (same.1.1 is)))
-    stream_status end _ (fetching.told _ stopped said calm) source still sinks kept =
+    stream_status end _ (fetching.reported _ stopped said calm) source still sinks kept =
         all_calm input input' out out' d d' status.FetchStopped (λ is. cc) (λ is. cc) (still (λ is. subst IsStopped is stopped)) (kept (λ is. subst IsStopped is stopped)) calm
-    stream_status end _ (fetching.untold _ stopped said risen) source still sinks kept = diag_risen input input' out out' d d' risen (still (λ is. subst IsStopped is stopped))
+    stream_status end _ (fetching.unreported _ stopped said risen) source still sinks kept = diag_risen input input' out out' d d' risen (still (λ is. subst IsStopped is stopped))
     stream_status end _ (fetching.wanting_word _ stopped said calm) source still sinks kept =
         all_calm input input' out out' d d' status.NoMemory (λ is. cc) (λ is. cc) (still (λ is. subst IsStopped is stopped)) (kept (λ is. subst IsStopped is stopped)) calm
 
   pub wireless : (end : FetchEnded) (s : Status) → ConcludesFetch diag diag' d d' end s → s ≢ status.WireFailed
   wireless end s (fetching.as_schedule _ e _ as_is by) = concluded.wireless diag diag' d d' e s by
-  wireless end _ (fetching.told _ stopped said calm) = λ is. cc
-  wireless end _ (fetching.untold _ stopped said failed) = λ is. cc
+  wireless end _ (fetching.reported _ stopped said calm) = λ is. cc
+  wireless end _ (fetching.unreported _ stopped said failed) = λ is. cc
   wireless end _ (fetching.wanting_word _ stopped said calm) = λ is. cc
 
 -- WHAT IT DID
@@ -207,8 +207,8 @@ module _ (plan : FetchPlan) (left left' out out' diag diag' : Option (List ℕ))
   says : (reach : Reach) (text written : List ℕ) (end : FetchEnded) (st : Status) → IsStopped end → IsRead reach left left' text → OwesFetch plan reach text (Saying written (fetch_text end) status.FetchStopped) → Takes out out' written
       → (end ≢ fetched.SinkFailed → o' ≡ o) → ConcludesFetch diag diag' d d' end st → Does (fetching.fetching plan) before after st
   says reach text written end st stopped read owes takes kept (fetching.as_schedule _ e _ as_is by) = absurd (unlike_schedules end e as_is stopped)
-  says reach text written end _ stopped read owes takes kept (fetching.told _ is said calm) = owing.said reach text written _ _ read owes takes said
-  says reach text written end _ stopped read owes takes kept (fetching.untold _ is said risen) =
+  says reach text written end _ stopped read owes takes kept (fetching.reported _ is said calm) = owing.said reach text written _ _ read owes takes said
+  says reach text written end _ stopped read owes takes kept (fetching.unreported _ is said risen) =
       owing.unsaid reach text written _ _ read owes takes said (record { failed = risen; sound = kept (λ same. subst IsStopped same stopped) })
   says reach text written end _ stopped read owes takes kept (fetching.wanting_word _ is said calm) = owing.wanting_word reach text written _ _ read owes takes said
 
@@ -232,8 +232,8 @@ module _ (plan : FetchPlan) (left left' out out' diag diag' : Option (List ℕ))
       → (by ≢ fetched.SinkFailed → o' ≡ o) → ConcludesFetch diag diag' d d' by st → Does (fetching.fetching plan) before after st
   does_end _ text items f _ gives spells w is whole (done total) kept (fetching.as_schedule _ _ _ (fetching.done _) (concluding.quiet _ _ concluding.done same sound)) =
       owing.done ToEnd text (written_of f) gives (fetching.done text (written_of f) items f total spells (written_all _ f w) is whole) w.taken same
-  does_end _ text items f _ gives spells w is whole (done total) kept (fetching.told _ stopped said calm) = absurd stopped
-  does_end _ text items f _ gives spells w is whole (done total) kept (fetching.untold _ stopped said risen) = absurd stopped
+  does_end _ text items f _ gives spells w is whole (done total) kept (fetching.reported _ stopped said calm) = absurd stopped
+  does_end _ text items f _ gives spells w is whole (done total) kept (fetching.unreported _ stopped said risen) = absurd stopped
   does_end _ text items f _ gives spells w is whole (done total) kept (fetching.wanting_word _ stopped said calm) = absurd stopped
   does_end _ text items f st gives spells w is whole (unfinished n) kept concludes =
       says ToEnd text (written_of f) (fetched.Unfinished n) st tt gives (fetching.unfinished text (written_of f) items f n spells (written_all _ f w) is) w.taken kept concludes
@@ -247,27 +247,27 @@ module _ (plan : FetchPlan) (left left' out out' diag diag' : Option (List ℕ))
   does_fetch _ st (endings.foreign text first rest next f gives stepped is w) concludes failed kept =
       says SoFar text (written_of f) (fetched.Foreign (length f + 1)) st tt gives (fetching.foreign text (written_of f) first rest next f stepped is (written_all first f w)) w.taken kept concludes
   does_fetch _ _ (endings.refused reach text r f read refused w) (fetching.as_schedule _ _ _ (fetching.refused _) (concluding.quiet _ _ is_quiet same sound)) failed kept = elim is_quiet [ ]
-  does_fetch _ _ (endings.refused reach text r f read refused w) (fetching.as_schedule _ _ _ (fetching.refused _) (concluding.told _ said sound)) failed kept =
+  does_fetch _ _ (endings.refused reach text r f read refused w) (fetching.as_schedule _ _ _ (fetching.refused _) (concluding.reported _ said sound)) failed kept =
       owing.said reach text (written_of f) _ _ read (fetching.refused reach text (written_of f) f r refused (written_all _ f w)) w.taken said
-  does_fetch _ _ (endings.refused reach text r f read refused w) (fetching.as_schedule _ _ _ (fetching.refused _) (concluding.untold _ said risen)) failed kept =
+  does_fetch _ _ (endings.refused reach text r f read refused w) (fetching.as_schedule _ _ _ (fetching.refused _) (concluding.unreported _ said risen)) failed kept =
       owing.unsaid reach text (written_of f) _ _ read (fetching.refused reach text (written_of f) f r refused (written_all _ f w)) w.taken said (record { failed = risen; sound = kept (λ other. cc) })
   does_fetch _ _ (endings.refused reach text r f read refused w) (fetching.as_schedule _ _ _ (fetching.refused _) (concluding.wanting_word _ said sound)) failed kept =
       owing.wanting_word reach text (written_of f) _ _ read (fetching.refused reach text (written_of f) f r refused (written_all _ f w)) w.taken said
-  does_fetch _ _ (endings.refused reach text r f read refused w) (fetching.told _ stopped said calm) failed kept = absurd stopped
-  does_fetch _ _ (endings.refused reach text r f read refused w) (fetching.untold _ stopped said risen) failed kept = absurd stopped
+  does_fetch _ _ (endings.refused reach text r f read refused w) (fetching.reported _ stopped said calm) failed kept = absurd stopped
+  does_fetch _ _ (endings.refused reach text r f read refused w) (fetching.unreported _ stopped said risen) failed kept = absurd stopped
   does_fetch _ _ (endings.refused reach text r f read refused w) (fetching.wanting_word _ stopped said calm) failed kept = absurd stopped
   does_fetch _ _ (endings.unreadable text f gives unrefused w) (fetching.as_schedule _ _ _ fetching.unreadable (concluding.quiet _ _ concluding.unreadable same sound)) failed kept =
       owing.unreadable text (written_of f) gives (record { unrefused = unrefused; f = f; written = written_all _ f w }) w.taken same
-  does_fetch _ _ (endings.unreadable text f gives unrefused w) (fetching.told _ stopped said calm) failed kept = absurd stopped
-  does_fetch _ _ (endings.unreadable text f gives unrefused w) (fetching.untold _ stopped said risen) failed kept = absurd stopped
+  does_fetch _ _ (endings.unreadable text f gives unrefused w) (fetching.reported _ stopped said calm) failed kept = absurd stopped
+  does_fetch _ _ (endings.unreadable text f gives unrefused w) (fetching.unreported _ stopped said risen) failed kept = absurd stopped
   does_fetch _ _ (endings.unreadable text f gives unrefused w) (fetching.wanting_word _ stopped said calm) failed kept = absurd stopped
   does_fetch _ _ (endings.unwritten text first rest gives stepped w) (fetching.as_schedule _ _ _ fetching.unwritten (concluding.quiet _ _ concluding.unwritten same sound)) failed kept =
       owing.unwritten text (written_before w.f) (written_last w.f) gives (begun text first rest w stepped) w.taken (record { failed = failed refl; unsaid = same; sound = sound })
-  does_fetch _ _ (endings.unwritten text first rest gives stepped w) (fetching.told _ stopped said calm) failed kept = absurd stopped
-  does_fetch _ _ (endings.unwritten text first rest gives stepped w) (fetching.untold _ stopped said risen) failed kept = absurd stopped
+  does_fetch _ _ (endings.unwritten text first rest gives stepped w) (fetching.reported _ stopped said calm) failed kept = absurd stopped
+  does_fetch _ _ (endings.unwritten text first rest gives stepped w) (fetching.unreported _ stopped said risen) failed kept = absurd stopped
   does_fetch _ _ (endings.unwritten text first rest gives stepped w) (fetching.wanting_word _ stopped said calm) failed kept = absurd stopped
   does_fetch _ _ (endings.wanting text first rest gives stepped w) (fetching.as_schedule _ _ _ fetching.wanting (concluding.quiet _ _ concluding.wanting same sound)) failed kept =
       owing.wanting text (written_before w.f) (written_last w.f) gives (begun text first rest w stepped) w.taken same
-  does_fetch _ _ (endings.wanting text first rest gives stepped w) (fetching.told _ stopped said calm) failed kept = absurd stopped
-  does_fetch _ _ (endings.wanting text first rest gives stepped w) (fetching.untold _ stopped said risen) failed kept = absurd stopped
+  does_fetch _ _ (endings.wanting text first rest gives stepped w) (fetching.reported _ stopped said calm) failed kept = absurd stopped
+  does_fetch _ _ (endings.wanting text first rest gives stepped w) (fetching.unreported _ stopped said risen) failed kept = absurd stopped
   does_fetch _ _ (endings.wanting text first rest gives stepped w) (fetching.wanting_word _ stopped said calm) failed kept = absurd stopped

@@ -1,20 +1,19 @@
 -- What the program did, by how an open ended.
 --
 -- Where the image is refused its text is told, and nothing was written (`does_refuse`). Else the schedule was run: what
--- went on behind the image is the report that is owed or begun (`reported`, `begun`), at each ending (`does_run`). An
+-- went on behind the image is the report that is owed or begun (`report_owed`, `begun`), at each ending (`does_run`). An
 -- ending says of its status what that of the schedule says, and no status but 7 comes of a refused image.
 use Rattle.std.{proofs.Common.{◌≡◌, ◌≢◌, ℕ, List, [], ◌∷◌, Option, Some, None, Err, refl, sym, ap, subst}, specs.Result.{IsErrOf}}
-use Rattle.hc_io.specs.{Faults.{HasRisen}, Sink.{Takes, TakesFront}, Source.{Gives, GivesAll}, declared.sink.SinkError.{SinkError}}
+use Rattle.hc_io.specs.{Faults.{HasRisen}, Sink.{Takes, TakesPrefix}, Source.{Gives, GivesAll}, declared.sink.SinkError.{SinkError}}
 use Rattle.hc_io.specs.declared.sink.SinkError.TheVariants as sink
 use Rattle.hc_sched.specs.{declared.schedule.{Ended.{Ended}, Timed.{Timed}}, Schedule.{Spells}}
 use Rattle.hc_sched.specs.declared.schedule.Ended.TheVariants as ended
 use Rattle.hc_driver.specs.Endings as endings
 use Rattle.hc_driver.specs.{Endings.{How, UpToEnd, ToEnd, IsSteppedAtOnce}, Stepping.{History, report_of, report_before, last_entry}}
-use Rattle.hc_driver.proofs.Reported.{all_reported}
+use Rattle.hc_driver.proofs.ReportSteps.{all_reported}
 use Rattle.hc_contents.specs.Fit.{unfit_of}
 use Rattle.hc_model.specs.Entries.{Contents}
-use Rattle.hc_saving.specs.{declared.open.OpenEnded.{OpenEnded}, Opens.{Continues}}
-use Rattle.hc_saving.specs.Continued.{IsOpened, IsContinued}
+use Rattle.hc_saving.specs.{declared.open.OpenEnded.{OpenEnded}, Opens.{Continues}, Continued.{IsOpened, IsContinued}}
 use Rattle.hc_saving.specs.declared.open.OpenEnded.TheVariants as opened
 use Rattle.hc_saving.specs.Opens as opens
 use Rattle.hc_saving.proofs.Saved.{gives_front}
@@ -30,8 +29,8 @@ use Rattle.hc_app.proofs.{Failed.{all_calm, diag_risen}, Done.{never_wire}, Save
 
 module _ (diag diag' : Option (List ℕ)) (d d' : ℕ) where
   -- a refused image
-  pub refusal_told : (e : OpenEnded) → ((x : Ended) → e ≢ opened.Ran x) → Takes diag diag' (image_text e) → d' ≡ d → ConcludesOpen diag diag' d d' e status.ImageRefused
-  refusal_told e off said calm = opening.told e (refused e off) said calm
+  pub refusal_reported : (e : OpenEnded) → ((x : Ended) → e ≢ opened.Ran x) → Takes diag diag' (image_text e) → d' ≡ d → ConcludesOpen diag diag' d d' e status.ImageRefused
+  refusal_reported e off said calm = opening.reported e (refused e off) said calm
     where
       refused : (e : OpenEnded) → ((x : Ended) → e ≢ opened.Ran x) → IsImageRefused e
       refused (opened.Ran x) off = off x refl
@@ -39,15 +38,15 @@ module _ (diag diag' : Option (List ℕ)) (d d' : ℕ) where
       refused (opened.BadContent i) off = tt
       refused opened.Full off = tt
 
-  pub refusal_untold : (e : OpenEnded) → ((x : Ended) → e ≢ opened.Ran x) → (error : SinkError) → TakesFront diag diag' (image_text e) → (IsErrOf {T = Unit {0}} (Err error) sink.SinkFailed → HasRisen d d')
+  pub refusal_unreported : (e : OpenEnded) → ((x : Ended) → e ≢ opened.Ran x) → (error : SinkError) → TakesPrefix diag diag' (image_text e) → (IsErrOf {T = Unit {0}} (Err error) sink.SinkFailed → HasRisen d d')
       → (IsErrOf {T = Unit {0}} (Err error) sink.NoMemory → d' ≡ d) → ConcludesOpen diag diag' d d' e (stopped_as error)
-  refusal_untold (opened.Ran x) off error front failed calm = absurd (off x refl)
-  refusal_untold opened.BadImage off sink.SinkFailed front failed calm = opening.untold opened.BadImage tt front (failed refl)
-  refusal_untold opened.BadImage off sink.NoMemory front failed calm = opening.wanting_word opened.BadImage tt front (calm refl)
-  refusal_untold (opened.BadContent i) off sink.SinkFailed front failed calm = opening.untold (opened.BadContent i) tt front (failed refl)
-  refusal_untold (opened.BadContent i) off sink.NoMemory front failed calm = opening.wanting_word (opened.BadContent i) tt front (calm refl)
-  refusal_untold opened.Full off sink.SinkFailed front failed calm = opening.untold opened.Full tt front (failed refl)
-  refusal_untold opened.Full off sink.NoMemory front failed calm = opening.wanting_word opened.Full tt front (calm refl)
+  refusal_unreported (opened.Ran x) off error front failed calm = absurd (off x refl)
+  refusal_unreported opened.BadImage off sink.SinkFailed front failed calm = opening.unreported opened.BadImage tt front (failed refl)
+  refusal_unreported opened.BadImage off sink.NoMemory front failed calm = opening.wanting_word opened.BadImage tt front (calm refl)
+  refusal_unreported (opened.BadContent i) off sink.SinkFailed front failed calm = opening.unreported (opened.BadContent i) tt front (failed refl)
+  refusal_unreported (opened.BadContent i) off sink.NoMemory front failed calm = opening.wanting_word (opened.BadContent i) tt front (calm refl)
+  refusal_unreported opened.Full off sink.SinkFailed front failed calm = opening.unreported opened.Full tt front (failed refl)
+  refusal_unreported opened.Full off sink.NoMemory front failed calm = opening.wanting_word opened.Full tt front (calm refl)
 
   -- WHAT ITS STATUS SAYS
 
@@ -59,16 +58,16 @@ module _ (diag diag' : Option (List ℕ)) (d d' : ℕ) where
         → (e ≡ opened.Ran ended.SinkFailed → HasRisen out out') → (e ≢ opened.Ran ended.SinkFailed → out' ≡ out) → IsStreamStatus input input' out out' d d' s
     stream_status _ s (opening.ran e _ by) source still sinks kept =
         concluded.stream_status diag diag' d d' input input' out out' e s by (λ is. source (ap opened.Ran is)) (λ off. still (λ is. off (ran_once e ended.SourceFailed is))) (λ is. sinks (ap opened.Ran is)) (λ off. kept (λ is. off (ran_once e ended.SinkFailed is)))
-    stream_status e _ (opening.told _ refused said calm) source still sinks kept =
+    stream_status e _ (opening.reported _ refused said calm) source still sinks kept =
         all_calm input input' out out' d d' status.ImageRefused (λ is. cc) (λ is. cc) (still (λ is. subst IsImageRefused is refused)) (kept (λ is. subst IsImageRefused is refused)) calm
-    stream_status e _ (opening.untold _ refused said risen) source still sinks kept = diag_risen input input' out out' d d' risen (still (λ is. subst IsImageRefused is refused))
+    stream_status e _ (opening.unreported _ refused said risen) source still sinks kept = diag_risen input input' out out' d d' risen (still (λ is. subst IsImageRefused is refused))
     stream_status e _ (opening.wanting_word _ refused said calm) source still sinks kept =
         all_calm input input' out out' d d' status.NoMemory (λ is. cc) (λ is. cc) (still (λ is. subst IsImageRefused is refused)) (kept (λ is. subst IsImageRefused is refused)) calm
 
   pub wireless : (e : OpenEnded) (s : Status) → ConcludesOpen diag diag' d d' e s → s ≢ status.WireFailed
   wireless _ s (opening.ran e _ by) = concluded.wireless diag diag' d d' e s by
-  wireless e _ (opening.told _ refused said calm) = λ is. cc
-  wireless e _ (opening.untold _ refused said failed) = λ is. cc
+  wireless e _ (opening.reported _ refused said calm) = λ is. cc
+  wireless e _ (opening.unreported _ refused said failed) = λ is. cc
   wireless e _ (opening.wanting_word _ refused said calm) = λ is. cc
 
 -- WHAT IT DID
@@ -83,9 +82,9 @@ module _ (left left' out out' diag diag' : Option (List ℕ)) (o o' d d' : ℕ) 
   does_refuse : (text : List ℕ) (e : OpenEnded) (st : Status) → GivesAll left left' text → IsRefusedImage text e → out' ≡ out → IsImageRefused e → ConcludesOpen diag diag' d d' e st → (e ≢ opened.Ran ended.SinkFailed → o' ≡ o)
       → Does opening.opening before after st
   does_refuse text _ st gives why unwritten refused (opening.ran e _ by) kept = absurd refused
-  does_refuse text e _ gives why unwritten refused (opening.told _ is said calm) kept =
+  does_refuse text e _ gives why unwritten refused (opening.reported _ is said calm) kept =
       owing.said ToEnd text [] (image_text e) status.ImageRefused gives (opening.refused_image text e why) (untaken out out' unwritten) said
-  does_refuse text e _ gives why unwritten refused (opening.untold _ is said failed) kept =
+  does_refuse text e _ gives why unwritten refused (opening.unreported _ is said failed) kept =
       owing.unsaid ToEnd text [] (image_text e) status.ImageRefused gives (opening.refused_image text e why) (untaken out out' unwritten) said
       (record { failed = failed; sound = kept (λ same. subst IsImageRefused same refused) })
   does_refuse text e _ gives why unwritten refused (opening.wanting_word _ is said calm) kept =
@@ -95,8 +94,8 @@ module _ (left left' out out' diag diag' : Option (List ℕ)) (o o' d d' : ℕ) 
     taken_so : IsTaken text contents schedule
     taken_so = record { is_opened = is; fits = fits }
 
-    reported : (events : List Timed) (h : History) → IsContinued store_limits contents events h → IsReportFrom contents events (report_of h)
-    reported events h continued = record { history = h; continued = continued; report_is = refl }
+    report_owed : (events : List Timed) (h : History) → IsContinued store_limits contents events h → IsReportFrom contents events (report_of h)
+    report_owed events h continued = record { history = h; continued = continued; report_is = refl }
 
     begun : (part : List ℕ) (first more : List Timed) (h : History) → Gives (Some schedule) rest part → IsContinued store_limits contents first h → IsSteppedAtOnce contents.now part first more → opening.BeginsOpen text (report_before h) (last_entry h)
     begun part first more h given continued stepped = opening.report (record {
@@ -123,16 +122,16 @@ module _ (left left' out out' diag diag' : Option (List ℕ)) (o o' d d' : ℕ) 
     does_run : (e : Ended) (st : Status) → e ≢ ended.SourceFailed → endings.Ends Went contents.now (Some schedule) rest e → Concludes diag diag' d d' e st → (e ≡ ended.SinkFailed → HasRisen o o') → (e ≢ ended.SinkFailed → o' ≡ o)
         → Does opening.opening before after st
     does_run _ _ readable (endings.done part items given spells (opens.wholly h continued taken)) (concluding.quiet _ _ concluding.done same sound) failed kept =
-        owing.done ToEnd text (report_of h) gives (opening.spelled text schedule (report_of h) contents items taken_so (subst (λ (l : List ℕ). Spells contents.now l items) given.0 spells) (reported _ h continued)) taken same
+        owing.done ToEnd text (report_of h) gives (opening.spelled text schedule (report_of h) contents items taken_so (subst (λ (l : List ℕ). Spells contents.now l items) given.0 spells) (report_owed _ h continued)) taken same
     does_run _ _ readable (endings.over part first more given stepped went) said failed kept = absurd (never_over first went)
     does_run _ _ readable (endings.refused reach part r read refused went) (concluding.quiet _ _ is_quiet same sound) failed kept = elim is_quiet [ ]
-    does_run _ _ readable (endings.refused reach part r read refused (opens.wholly h continued taken)) (concluding.told _ said sound) failed kept =
-        owing.said ToEnd text (report_of h) _ _ gives (opening.refused text schedule part (report_of h) contents reach rest r taken_so read refused (reported _ h continued)) taken said
-    does_run _ _ readable (endings.refused reach part r read refused (opens.wholly h continued taken)) (concluding.untold _ said risen) failed kept =
-        owing.unsaid ToEnd text (report_of h) _ _ gives (opening.refused text schedule part (report_of h) contents reach rest r taken_so read refused (reported _ h continued)) taken said
+    does_run _ _ readable (endings.refused reach part r read refused (opens.wholly h continued taken)) (concluding.reported _ said sound) failed kept =
+        owing.said ToEnd text (report_of h) _ _ gives (opening.refused text schedule part (report_of h) contents reach rest r taken_so read refused (report_owed _ h continued)) taken said
+    does_run _ _ readable (endings.refused reach part r read refused (opens.wholly h continued taken)) (concluding.unreported _ said risen) failed kept =
+        owing.unsaid ToEnd text (report_of h) _ _ gives (opening.refused text schedule part (report_of h) contents reach rest r taken_so read refused (report_owed _ h continued)) taken said
         (record { failed = risen; sound = kept (λ other. cc) })
     does_run _ _ readable (endings.refused reach part r read refused (opens.wholly h continued taken)) (concluding.wanting_word _ said sound) failed kept =
-        owing.wanting_word ToEnd text (report_of h) _ _ gives (opening.refused text schedule part (report_of h) contents reach rest r taken_so read refused (reported _ h continued)) taken said
+        owing.wanting_word ToEnd text (report_of h) _ _ gives (opening.refused text schedule part (report_of h) contents reach rest r taken_so read refused (report_owed _ h continued)) taken said
     does_run _ _ readable (endings.unreadable part given unrefused went) said failed kept = absurd (readable refl)
     does_run _ _ readable (endings.unwritten part first more given stepped (opens.up_to_last h continued taken)) (concluding.quiet _ _ concluding.unwritten same sound) failed kept =
         owing.unwritten text (report_before h) (last_entry h) (gives_front left left' text gives) (begun part first more h given continued stepped) taken (record { failed = failed refl; unsaid = same; sound = sound })
@@ -159,16 +158,16 @@ module _ (left left' out out' diag diag' : Option (List ℕ)) (o o' d d' : ℕ) 
     where
       inner : opened.Ran e ≡ opened.Ran ended.SinkFailed → e ≡ ended.SinkFailed
       inner same = cc
-  does_open _ st (opens.ran text schedule contents rest e gives is fits readable ends) (opening.told _ refused said calm) failed kept = absurd refused
-  does_open _ st (opens.ran text schedule contents rest e gives is fits readable ends) (opening.untold _ refused said risen) failed kept = absurd refused
+  does_open _ st (opens.ran text schedule contents rest e gives is fits readable ends) (opening.reported _ refused said calm) failed kept = absurd refused
+  does_open _ st (opens.ran text schedule contents rest e gives is fits readable ends) (opening.unreported _ refused said risen) failed kept = absurd refused
   does_open _ st (opens.ran text schedule contents rest e gives is fits readable ends) (opening.wanting_word _ refused said calm) failed kept = absurd refused
   does_open _ st (opens.unreadable text gives unwritten) (opening.ran _ _ by) failed kept = does_stop text st gives unwritten by
-  does_open _ st (opens.unreadable text gives unwritten) (opening.told _ refused said calm) failed kept = absurd refused
-  does_open _ st (opens.unreadable text gives unwritten) (opening.untold _ refused said risen) failed kept = absurd refused
+  does_open _ st (opens.unreadable text gives unwritten) (opening.reported _ refused said calm) failed kept = absurd refused
+  does_open _ st (opens.unreadable text gives unwritten) (opening.unreported _ refused said risen) failed kept = absurd refused
   does_open _ st (opens.unreadable text gives unwritten) (opening.wanting_word _ refused said calm) failed kept = absurd refused
   does_open _ st (opens.wanting text gives unwritten) (opening.ran _ _ by) failed kept = does_want text st gives unwritten by
-  does_open _ st (opens.wanting text gives unwritten) (opening.told _ refused said calm) failed kept = absurd refused
-  does_open _ st (opens.wanting text gives unwritten) (opening.untold _ refused said risen) failed kept = absurd refused
+  does_open _ st (opens.wanting text gives unwritten) (opening.reported _ refused said calm) failed kept = absurd refused
+  does_open _ st (opens.wanting text gives unwritten) (opening.unreported _ refused said risen) failed kept = absurd refused
   does_open _ st (opens.wanting text gives unwritten) (opening.wanting_word _ refused said calm) failed kept = absurd refused
 
 module _ (left left' out out' : Option (List ℕ)) where

@@ -1,10 +1,10 @@
 -- What the program did, by how a save ended.
 use Rattle.std.proofs.Common.{◌≡◌, ◌≢◌, ℕ, List, [], Option, refl, sym, subst}
-use Rattle.hc_io.specs.{Faults.{HasRisen}, Sink.{Takes, TakesFront}}
+use Rattle.hc_io.specs.{Faults.{HasRisen}, Sink.{Takes, TakesPrefix}}
 use Rattle.hc_io.proofs.Takings.{takes_none}
 use Rattle.hc_sched.specs.declared.schedule.Ended.{Ended}
 use Rattle.hc_sched.specs.declared.schedule.Ended.TheVariants as ended
-use Rattle.hc_driver.specs.{Courses.{TakesThenFront}, Endings.{ToEnd}}
+use Rattle.hc_driver.specs.{Courses.{TakesThenPrefix}, Endings.{ToEnd}}
 use Rattle.hc_saving.specs.Saves as saves
 use Rattle.hc_saving.proofs.Saved.{gives_front}
 use Rattle.hc_app.specs.{declared.status.Status.{Status}, Concluding.{Concludes}, Owing.{Streams, Does}, Replaying.{store_limits}}
@@ -18,10 +18,10 @@ module _ (out out' : Option (List ℕ)) where
   untaken same = subst (λ (o : Option (List ℕ)). Takes out o []) (sym same) (takes_none out)
 
   -- neither before the next nor of it
-  pub none_taken : out' ≡ out → TakesThenFront out out' [] []
+  pub none_taken : out' ≡ out → TakesThenPrefix out out' [] []
   none_taken same = record { part = []; rest = []; whole = refl; takes = untaken same }
 
-  pub then_front : (text : List ℕ) → TakesFront out out' text → TakesThenFront out out' [] text
+  pub then_front : (text : List ℕ) → TakesPrefix out out' text → TakesThenPrefix out out' [] text
   then_front text takes = record { part = takes.front; rest = takes.rest; whole = takes.whole; takes = takes.takes }
 
 module _ (left left' out out' diag diag' : Option (List ℕ)) (o o' d d' : ℕ) where
@@ -35,9 +35,9 @@ module _ (left left' out out' diag diag' : Option (List ℕ)) (o o' d d' : ℕ) 
   does_save _ _ (saves.done text image items gives spells is takes) (concluding.quiet _ _ concluding.done same sound) failed kept =
       owing.done ToEnd text image gives (saving.spelled text image items spells is) takes same
   does_save _ _ (saves.refused reach text r read refused unwritten) (concluding.quiet _ _ is_quiet same sound) failed kept = elim is_quiet [ ]
-  does_save _ _ (saves.refused reach text r read refused unwritten) (concluding.told _ said sound) failed kept =
+  does_save _ _ (saves.refused reach text r read refused unwritten) (concluding.reported _ said sound) failed kept =
       owing.said reach text [] _ _ read (saving.refused reach text r refused) (untaken out out' unwritten) said
-  does_save _ _ (saves.refused reach text r read refused unwritten) (concluding.untold _ said risen) failed kept =
+  does_save _ _ (saves.refused reach text r read refused unwritten) (concluding.unreported _ said risen) failed kept =
       owing.unsaid reach text [] _ _ read (saving.refused reach text r refused) (untaken out out' unwritten) said (record { failed = risen; sound = kept (λ other. cc) })
   does_save _ _ (saves.refused reach text r read refused unwritten) (concluding.wanting_word _ said sound) failed kept =
       owing.wanting_word reach text [] _ _ read (saving.refused reach text r refused) (untaken out out' unwritten) said

@@ -4,16 +4,16 @@ use Rattle.hc_proxy.specs.Endings.{IsFresh}
 use Rattle.hc_origin.specs.Endings as origin
 use Rattle.hc_sched.specs.declared.schedule.Ended.{Ended}
 use Rattle.hc_sched.specs.declared.schedule.Ended.TheVariants as ended
-use Rattle.hc_wire.specs.{Logs.{Log, Tells, with_binding}, declared.event.{Address.{Address}, WireError.{WireError}}}
+use Rattle.hc_wire.specs.{Logs.{Log, Reports, with_binding}, declared.event.{Address.{Address}, WireError.{WireError}}}
 use Rattle.hc_wire.specs.declared.event.WireError.TheVariants as wire
 use Rattle.hc_app.specs.{declared.status.Status.{Status}, Serving.{IsServedAs, ServesFrom, done, unwired, unwritten, wanting}, Statuses.{unbound_as}}
 use Rattle.hc_app.specs.declared.status.Status.TheVariants as status
 use Rattle.hc_app.specs.Serving as serving
 
-pub fresh_served : (old new : Option Log) (listen from : Address) → Tells old new (with_binding (Some listen) (Some from)) → IfSome old origin.IsFresh → IfSome new IsFresh
-fresh_served None new listen from tells fresh = subst (λ (o : Option Log). IfSome o IsFresh) (sym tells) tt
-fresh_served (Some log) new listen from tells fresh =
-    subst (λ (o : Option Log). IfSome o IsFresh) (sym tells) (record { calls = fresh.uncalled; dialled = fresh.undialled; takers = fresh.untaken })
+pub fresh_served : (old new : Option Log) (listen from : Address) → Reports old new (with_binding (Some listen) (Some from)) → IfSome old origin.IsFresh → IfSome new IsFresh
+fresh_served None new listen from reports fresh = subst (λ (o : Option Log). IfSome o IsFresh) (sym reports) tt
+fresh_served (Some log) new listen from reports fresh =
+    subst (λ (o : Option Log). IfSome o IsFresh) (sym reports) (record { calls = fresh.uncalled; dialled = fresh.undialled; takers = fresh.untaken })
 
 pub never_source : (e : Ended) (s : Status) → IsServedAs e s → s ≢ status.SourceFailed
 never_source _ _ done = λ is. cc
@@ -45,6 +45,6 @@ sink_off _ _ unwired off = λ is. cc
 sink_off _ _ unwritten off = λ is. off refl
 sink_off _ _ wanting off = λ is. cc
 
-pub unbound_serves : (listen from : Address) (turns : ℕ) (told told' : Option Log) (out out' : Option (List ℕ)) (e : WireError) → told' ≡ told → out' ≡ out → ServesFrom listen from turns told told' out out' (unbound_as e)
-unbound_serves listen from turns told told' out out' wire.WireFailed same kept = serving.unbound same kept
-unbound_serves listen from turns told told' out out' wire.NoMemory same kept = serving.wanting_all same kept
+pub unbound_serves : (listen from : Address) (turns : ℕ) (reported reported' : Option Log) (out out' : Option (List ℕ)) (e : WireError) → reported' ≡ reported → out' ≡ out → ServesFrom listen from turns reported reported' out out' (unbound_as e)
+unbound_serves listen from turns reported reported' out out' wire.WireFailed same kept = serving.unbound same kept
+unbound_serves listen from turns reported reported' out out' wire.NoMemory same kept = serving.wanting_all same kept

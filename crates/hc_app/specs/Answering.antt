@@ -3,7 +3,7 @@ use Rattle.std.specs.Prelude.{◌≡◌, ℕ, Option, None, Some}
 use Rattle.hc_origin.specs.Endings.{AnswersAs}
 use Rattle.hc_sched.specs.declared.schedule.Ended.{Ended}
 use Rattle.hc_sched.specs.declared.schedule.Ended.TheVariants as ended
-use Rattle.hc_wire.specs.Logs.{Log, Tells, with_binding}
+use Rattle.hc_wire.specs.Logs.{Log, Reports, with_binding}
 use Rattle.hc_wire.specs.declared.event.Address.{Address}
 use Rattle.hc_app.specs.declared.status.Status.{Status}
 use Rattle.hc_app.specs.declared.status.Status.TheVariants as status
@@ -15,9 +15,9 @@ pub data IsEndedAs : Ended → Status → Type 0 where
   wanting : IsEndedAs ended.NoMemory status.NoMemory
 
 -- It listened at the address, and answered for so many turns; or nothing could be bound.
-pub data AnswersOrigin (listen : Address) (turns : ℕ) (told told' : Option Log) : Status → Type 0 where
+pub data AnswersOrigin (listen : Address) (turns : ℕ) (reported reported' : Option Log) : Status → Type 0 where
   answered : (s : Status) (bound : Option Log) (end : Ended) →
-      Tells told bound (with_binding (Some listen) None) → AnswersAs turns bound told' end →
-      IsEndedAs end s → AnswersOrigin listen turns told told' s
-  unbound : told' ≡ told → AnswersOrigin listen turns told told' status.WireFailed
-  wanting_all : told' ≡ told → AnswersOrigin listen turns told told' status.NoMemory
+      Reports reported bound (with_binding (Some listen) None) → AnswersAs turns bound reported' end →
+      IsEndedAs end s → AnswersOrigin listen turns reported reported' s
+  unbound : reported' ≡ reported → AnswersOrigin listen turns reported reported' status.WireFailed
+  wanting_all : reported' ≡ reported → AnswersOrigin listen turns reported reported' status.NoMemory

@@ -1,7 +1,7 @@
 -- How an ending is told, and the status that it comes to.
 use Rattle.std.specs.Prelude.{◌≡◌, ℕ, List, Option}
 use Rattle.hc_io.specs.Faults.{HasRisen}
-use Rattle.hc_io.specs.Sink.{Takes, TakesFront}
+use Rattle.hc_io.specs.Sink.{Takes, TakesPrefix}
 use Rattle.hc_sched.specs.declared.schedule.Ended.{Ended}
 use Rattle.hc_sched.specs.declared.schedule.Ended.TheVariants as ended
 use Rattle.hc_sched.specs.declared.schedule.Refused.{Refused}
@@ -20,11 +20,11 @@ pub data IsQuiet : Ended → Status → Type 0 where
 pub data Concludes (diag diag' : Option (List ℕ)) (faults faults' : ℕ) : Ended → Status → Type 0 where
   quiet : (e : Ended) (s : Status) → IsQuiet e s → diag' ≡ diag → faults' ≡ faults →
       Concludes diag diag' faults faults' e s
-  told : (refused : Refused) → Takes diag diag' (refusal_text refused) → faults' ≡ faults →
+  reported : (refused : Refused) → Takes diag diag' (refusal_text refused) → faults' ≡ faults →
       Concludes diag diag' faults faults' (ended.Refused refused) status.Refused
-  untold : (refused : Refused) → TakesFront diag diag' (refusal_text refused) →
+  unreported : (refused : Refused) → TakesPrefix diag diag' (refusal_text refused) →
       HasRisen faults faults' →
       Concludes diag diag' faults faults' (ended.Refused refused) status.SinkFailed
-  wanting_word : (refused : Refused) → TakesFront diag diag' (refusal_text refused) →
+  wanting_word : (refused : Refused) → TakesPrefix diag diag' (refusal_text refused) →
       faults' ≡ faults →
       Concludes diag diag' faults faults' (ended.Refused refused) status.NoMemory

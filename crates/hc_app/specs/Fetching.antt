@@ -1,7 +1,7 @@
 -- What a fetch owes: the body of one resource, which its consumers read in parts.
 use Rattle.std.specs.Prelude.{◌≡◌, ℕ, ◌+◌, ◌≤◌, ◌^◌, List, [], ◌∷◌, ◌++◌, length, codes, true, Option, Some}
 use Rattle.hc_io.specs.Faults.{HasRisen}
-use Rattle.hc_io.specs.Sink.{Takes, TakesFront}
+use Rattle.hc_io.specs.Sink.{Takes, TakesPrefix}
 use Rattle.hc_text.specs.Numbers.{IsPlain}
 use Rattle.hc_sched.specs.declared.schedule.Ended.{Ended}
 use Rattle.hc_sched.specs.declared.schedule.Ended.TheVariants as ended
@@ -126,9 +126,9 @@ pub data IsEndedAs : FetchEnded → Ended → Type 0 where
 pub data ConcludesFetch (diag diag' : Option (List ℕ)) (faults faults' : ℕ) : FetchEnded → Status → Type 0 where
   as_schedule : (end : FetchEnded) (e : Ended) (s : Status) → IsEndedAs end e →
       Concludes diag diag' faults faults' e s → ConcludesFetch diag diag' faults faults' end s
-  told : (end : FetchEnded) → IsStopped end → Takes diag diag' (fetch_text end) → faults' ≡ faults →
+  reported : (end : FetchEnded) → IsStopped end → Takes diag diag' (fetch_text end) → faults' ≡ faults →
       ConcludesFetch diag diag' faults faults' end status.FetchStopped
-  untold : (end : FetchEnded) → IsStopped end → TakesFront diag diag' (fetch_text end) →
+  unreported : (end : FetchEnded) → IsStopped end → TakesPrefix diag diag' (fetch_text end) →
       HasRisen faults faults' → ConcludesFetch diag diag' faults faults' end status.SinkFailed
-  wanting_word : (end : FetchEnded) → IsStopped end → TakesFront diag diag' (fetch_text end) →
+  wanting_word : (end : FetchEnded) → IsStopped end → TakesPrefix diag diag' (fetch_text end) →
       faults' ≡ faults → ConcludesFetch diag diag' faults faults' end status.NoMemory

@@ -9,7 +9,7 @@ use Rattle.hc_model.specs.Entries.{no_contents}
 use Rattle.hc_model.specs.Reads.{ReadsWhole}
 use Rattle.hc_model.specs.Runs.{IsRun}
 use Rattle.hc_replay.specs.Histories.{failures}
-use Rattle.hc_front.specs.FrontHistories.{FrontHistory, core_of, told_of}
+use Rattle.hc_front.specs.FrontHistories.{FrontHistory, core_of, answered_of}
 use Rattle.hc_app.specs.declared.status.Status.TheVariants as status
 use Rattle.hc_app.specs.Owing.{Owed, Quiet, Saying, Duty}
 use Rattle.hc_app.specs.Replaying.{store_limits}
@@ -19,7 +19,7 @@ use Rattle.hc_app.specs.Texts.{refusal_text}
 -- store that never fails, in which each consumer reads one interval of one body, whole where the cache tells it its end.
 pub record IsFronted (history : History) : Type 0 where
   pub heard : FrontHistory
-  pub told : told_of no_contents heard ≡ history
+  pub reported : answered_of no_contents heard ≡ history
   pub run : IsRun store_limits no_contents (core_of no_contents heard)
   pub reads : ReadsWhole no_contents (core_of no_contents heard)
   pub sound : failures history ≡ 0

@@ -1,7 +1,7 @@
 -- What an open owes: why the image is refused, or the report of the schedule behind it.
 use Rattle.std.specs.Prelude.{◌≡◌, ℕ, List, [], Option, Some, None}
 use Rattle.hc_io.specs.Faults.{HasRisen}
-use Rattle.hc_io.specs.Sink.{Takes, TakesFront}
+use Rattle.hc_io.specs.Sink.{Takes, TakesPrefix}
 use Rattle.hc_io.specs.Source.{Gives}
 use Rattle.hc_sched.specs.declared.schedule.Ended.{Ended}
 use Rattle.hc_sched.specs.declared.schedule.Refused.{Refused}
@@ -100,9 +100,9 @@ IsImageRefused _ = Unit {0}
 pub data ConcludesOpen (diag diag' : Option (List ℕ)) (faults faults' : ℕ) : OpenEnded → Status → Type 0 where
   ran : (e : Ended) (s : Status) → Concludes diag diag' faults faults' e s →
       ConcludesOpen diag diag' faults faults' (opened.Ran e) s
-  told : (e : OpenEnded) → IsImageRefused e → Takes diag diag' (image_text e) → faults' ≡ faults →
+  reported : (e : OpenEnded) → IsImageRefused e → Takes diag diag' (image_text e) → faults' ≡ faults →
       ConcludesOpen diag diag' faults faults' e status.ImageRefused
-  untold : (e : OpenEnded) → IsImageRefused e → TakesFront diag diag' (image_text e) →
+  unreported : (e : OpenEnded) → IsImageRefused e → TakesPrefix diag diag' (image_text e) →
       HasRisen faults faults' → ConcludesOpen diag diag' faults faults' e status.SinkFailed
-  wanting_word : (e : OpenEnded) → IsImageRefused e → TakesFront diag diag' (image_text e) →
+  wanting_word : (e : OpenEnded) → IsImageRefused e → TakesPrefix diag diag' (image_text e) →
       faults' ≡ faults → ConcludesOpen diag diag' faults faults' e status.NoMemory

@@ -1,9 +1,9 @@
 -- What a command does with its streams, whatever it owes.
 use Rattle.std.specs.Prelude.{◌≡◌, ℕ, List, Option}
 use Rattle.hc_io.specs.Faults.{HasRisen}
-use Rattle.hc_io.specs.Sink.{Takes, TakesFront}
+use Rattle.hc_io.specs.Sink.{Takes, TakesPrefix}
 use Rattle.hc_io.specs.Source.{Gives}
-use Rattle.hc_driver.specs.Courses.{TakesThenFront}
+use Rattle.hc_driver.specs.Courses.{TakesThenPrefix}
 use Rattle.hc_driver.specs.Endings.{Reach, IsRead}
 use Rattle.hc_app.specs.declared.status.Status.{Status}
 use Rattle.hc_app.specs.declared.status.Status.TheVariants as status
@@ -81,19 +81,19 @@ pub data Does (duty : Duty) (before after : Streams) : Status → Type 0 where
       Does duty before after status.SourceFailed
   -- the output failed behind all of one part, within the next
   unwritten : (text out next : List ℕ) → Gives before.left after.left text →
-      duty.Begins text out next → TakesThenFront before.out after.out out next →
+      duty.Begins text out next → TakesThenPrefix before.out after.out out next →
       IsOutFailure before after → Does duty before after status.SinkFailed
   wanting : (text out next : List ℕ) → Gives before.left after.left text →
-      duty.Begins text out next → TakesThenFront before.out after.out out next →
+      duty.Begins text out next → TakesThenPrefix before.out after.out out next →
       after.diag ≡ before.diag → Does duty before after status.NoMemory
   -- all of the output was taken, and some first part of the word; the diagnostics failed
   unsaid : (reach : Reach) (text out word : List ℕ) (s : Status) →
       IsRead reach before.left after.left text → duty.Owes reach text (Saying out word s) →
-      Takes before.out after.out out → TakesFront before.diag after.diag word →
+      Takes before.out after.out out → TakesPrefix before.diag after.diag word →
       IsDiagFailure before after → Does duty before after status.SinkFailed
   wanting_word : (reach : Reach) (text out word : List ℕ) (s : Status) →
       IsRead reach before.left after.left text → duty.Owes reach text (Saying out word s) →
-      Takes before.out after.out out → TakesFront before.diag after.diag word →
+      Takes before.out after.out out → TakesPrefix before.diag after.diag word →
       Does duty before after status.NoMemory
   -- nothing was read, written or said
   wanting_all : after ≡ before → Does duty before after status.NoMemory

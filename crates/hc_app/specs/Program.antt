@@ -50,34 +50,34 @@ duty_of (command.Serve listen origin turns) = no_duty
 pub data OwesUsage : Reach → List ℕ → Owed → Type 0 where
   usage_alone : OwesUsage SoFar [] (Saying [] usage_text status.Usage)
 
-abbrev pub telling_usage : Duty
-telling_usage = record { Owes = OwesUsage; Stops = NeverStops; Begins = NeverBegins }
+abbrev pub saying_usage : Duty
+saying_usage = record { Owes = OwesUsage; Stops = NeverStops; Begins = NeverBegins }
 
 -- THE PROGRAM
 
 -- What the program did, by its status: what the words ask for, a command or a fetch, and else the usage. The wire is called for
 -- the test origin, which uses no stream, and for the serving loop, which writes its record.
-pub data Keeps (words : List (List ℕ)) (before after : Streams) (told told' : Option Log) : Status → Type 0 where
+pub data Keeps (words : List (List ℕ)) (before after : Streams) (reported reported' : Option Log) : Status → Type 0 where
   obeyed : {s : Status} (command : Command) → IsCommand words command →
-      Does (duty_of command) before after s → told' ≡ told → Keeps words before after told told' s
+      Does (duty_of command) before after s → reported' ≡ reported → Keeps words before after reported reported' s
   answered : {s : Status} (listen : Address) (turns : ℕ) → IsCommand words (command.Origin listen turns) →
-      AnswersOrigin listen turns told told' s → after ≡ before → Keeps words before after told told' s
+      AnswersOrigin listen turns reported reported' s → after ≡ before → Keeps words before after reported reported' s
   served : {s : Status} (listen origin : Address) (turns : ℕ) →
       IsCommand words (command.Serve listen origin turns) →
-      ServesFrom listen origin turns told told' before.out after.out s → IsSilent before after →
-      Keeps words before after told told' s
+      ServesFrom listen origin turns reported reported' before.out after.out s → IsSilent before after →
+      Keeps words before after reported reported' s
   fetched : {s : Status} (plan : FetchPlan) → IsFetch words plan → Does (fetching plan) before after s →
-      told' ≡ told → Keeps words before after told told' s
-  told : {s : Status} → IsNoCommand words → NoFetch words → Does telling_usage before after s →
-      told' ≡ told → Keeps words before after told told' s
+      reported' ≡ reported → Keeps words before after reported reported' s
+  reported : {s : Status} → IsNoCommand words → NoFetch words → Does saying_usage before after s →
+      reported' ≡ reported → Keeps words before after reported reported' s
   -- the words could not be read
-  wanting : after ≡ before → told' ≡ told → Keeps words before after told told' status.NoMemory
+  wanting : after ≡ before → reported' ≡ reported → Keeps words before after reported reported' status.NoMemory
 
 -- A status with its exit number, and what the program did.
-pub record Ends (code : ℕ) (words : List (List ℕ)) (before after : Streams) (told told' : Option Log) : Type 0 where
+pub record Ends (code : ℕ) (words : List (List ℕ)) (before after : Streams) (reported reported' : Option Log) : Type 0 where
   pub ended : Status
   pub code_is : code ≡ code_of ended
-  pub keeps : Keeps words before after told told' ended
+  pub keeps : Keeps words before after reported reported' ended
 
 -- COMPLETENESS
 

@@ -3,7 +3,7 @@ use Rattle.std.specs.Prelude.{◌≡◌, ℕ, List, Option, Some}
 use Rattle.hc_proxy.specs.Served.{ServesAs}
 use Rattle.hc_sched.specs.declared.schedule.Ended.{Ended}
 use Rattle.hc_sched.specs.declared.schedule.Ended.TheVariants as ended
-use Rattle.hc_wire.specs.Logs.{Log, Tells, with_binding}
+use Rattle.hc_wire.specs.Logs.{Log, Reports, with_binding}
 use Rattle.hc_wire.specs.declared.event.Address.{Address}
 use Rattle.hc_app.specs.declared.status.Status.{Status}
 use Rattle.hc_app.specs.declared.status.Status.TheVariants as status
@@ -19,13 +19,13 @@ pub data IsServedAs : Ended → Status → Type 0 where
 
 -- It listened at one address and dialled the other, and served for so many turns from an empty store, whose record went to the
 -- output; or nothing could be bound.
-pub data ServesFrom (listen origin : Address) (turns : ℕ) (told told' : Option Log) (out out' : Option (List ℕ)) : Status → Type 0 where
+pub data ServesFrom (listen origin : Address) (turns : ℕ) (reported reported' : Option Log) (out out' : Option (List ℕ)) : Status → Type 0 where
   served : (s : Status) (bound : Option Log) (end : Ended) →
-      Tells told bound (with_binding (Some listen) (Some origin)) →
-      ServesAs store_limits turns bound told' out out' end → IsServedAs end s →
-      ServesFrom listen origin turns told told' out out' s
-  unbound : told' ≡ told → out' ≡ out → ServesFrom listen origin turns told told' out out' status.WireFailed
-  wanting_all : told' ≡ told → out' ≡ out → ServesFrom listen origin turns told told' out out' status.NoMemory
+      Reports reported bound (with_binding (Some listen) (Some origin)) →
+      ServesAs store_limits turns bound reported' out out' end → IsServedAs end s →
+      ServesFrom listen origin turns reported reported' out out' s
+  unbound : reported' ≡ reported → out' ≡ out → ServesFrom listen origin turns reported reported' out out' status.WireFailed
+  wanting_all : reported' ≡ reported → out' ≡ out → ServesFrom listen origin turns reported reported' out out' status.NoMemory
 
 -- nothing was read, and nothing was said
 pub record IsSilent (before after : Streams) : Type 0 where

@@ -1,7 +1,7 @@
 //! What is said on the diagnostics.
 ghost use Rattle.std.specs.Prelude.{◌≡◌, ◌∷◌, [], ◌++◌, OnOk, IsErrOf};
 ghost use Rattle.std.specs.Fmt.{decimal};
-ghost use Rattle.hc_io.specs.Sink.{Takes, TakesFront, HasSinkCause};
+ghost use Rattle.hc_io.specs.Sink.{Takes, TakesPrefix, HasSinkCause};
 ghost use Rattle.hc_sched.specs.Report.{cause_word};
 ghost use Rattle.hc_app.specs.Texts.{refusal_text, refusal_line, image_text, fetch_text, usage_text};
 
@@ -21,7 +21,7 @@ pub(crate) fn say_refusal<D: Sink>(
 ) -> Result<(), SinkError>
     ensures said { OnOk result
         (Takes (D.taken diag.old) (D.taken diag.new) (refusal_text refused)) }
-    ensures front { TakesFront (D.taken diag.old) (D.taken diag.new) (refusal_text refused) }
+    ensures front { TakesPrefix (D.taken diag.old) (D.taken diag.new) (refusal_text refused) }
     ensures cause { HasSinkCause (D.faults diag.old) (D.faults diag.new) result }
     ensures calm { OnOk result (D.faults diag.new ≡ D.faults diag.old) }
     ensures no_fault { IsErrOf result SinkError.NoMemory → D.faults diag.new ≡ D.faults diag.old }
@@ -61,7 +61,7 @@ pub(crate) fn say_image<D: Sink>(
     diag: &mut D,
 ) -> Result<(), SinkError>
     ensures said { OnOk result (Takes (D.taken diag.old) (D.taken diag.new) (image_text end)) }
-    ensures front { TakesFront (D.taken diag.old) (D.taken diag.new) (image_text end) }
+    ensures front { TakesPrefix (D.taken diag.old) (D.taken diag.new) (image_text end) }
     ensures cause { HasSinkCause (D.faults diag.old) (D.faults diag.new) result }
     ensures calm { OnOk result (D.faults diag.new ≡ D.faults diag.old) }
     ensures no_fault { IsErrOf result SinkError.NoMemory → D.faults diag.new ≡ D.faults diag.old }
@@ -95,7 +95,7 @@ pub(crate) fn say_fetch<D: Sink>(
     diag: &mut D,
 ) -> Result<(), SinkError>
     ensures said { OnOk result (Takes (D.taken diag.old) (D.taken diag.new) (fetch_text end)) }
-    ensures front { TakesFront (D.taken diag.old) (D.taken diag.new) (fetch_text end) }
+    ensures front { TakesPrefix (D.taken diag.old) (D.taken diag.new) (fetch_text end) }
     ensures cause { HasSinkCause (D.faults diag.old) (D.faults diag.new) result }
     ensures calm { OnOk result (D.faults diag.new ≡ D.faults diag.old) }
     ensures no_fault { IsErrOf result SinkError.NoMemory → D.faults diag.new ≡ D.faults diag.old }
@@ -172,21 +172,21 @@ fn write_cause(cause: Cause, to: &mut Vec<u8>) -> Result<(), NoMemory>
     ensures { OnOk result (to.new.items ≡ to.old.items ++ cause_word cause) }
 {
     match cause {
-        Cause::Net(x) => write_told(b"net:", x, to),
+        Cause::Net(x) => write_reported(b"net:", x, to),
         Cause::Short { x, got, promised } => write_short(x, got, promised, to),
-        Cause::Changed(x) => write_told(b"changed:", x, to),
-        Cause::StoreWrite(r) => write_told(b"store-write:", r, to),
-        Cause::StoreRead(r) => write_told(b"store-read:", r, to),
+        Cause::Changed(x) => write_reported(b"changed:", x, to),
+        Cause::StoreWrite(r) => write_reported(b"store-write:", r, to),
+        Cause::StoreRead(r) => write_reported(b"store-read:", r, to),
         Cause::Miss => {
             to.extend_from_slice(b"miss")?;
             Ok(())
         }
-        Cause::BadHead(x) => write_told(b"bad-head:", x, to),
+        Cause::BadHead(x) => write_reported(b"bad-head:", x, to),
     }
 }
 
 /// Appends a word and a number right behind it.
-fn write_told(word: &[u8], n: u64, to: &mut Vec<u8>) -> Result<(), NoMemory>
+fn write_reported(word: &[u8], n: u64, to: &mut Vec<u8>) -> Result<(), NoMemory>
     ensures { OnOk result (to.new.items ≡ to.old.items ++ (word.now ++ decimal n)) }
 {
     to.extend_from_slice(word)?;
@@ -198,15 +198,15 @@ fn write_short(x: u64, got: u64, promised: u64, to: &mut Vec<u8>) -> Result<(), 
     ensures { OnOk result
         (to.new.items ≡ to.old.items ++ cause_word (Cause.Short x got promised)) }
 {
-    write_told(b"short:", x, to)?;
-    write_told(b":", got, to)?;
-    write_told(b"/", promised, to)
+    write_reported(b"short:", x, to)?;
+    write_reported(b":", got, to)?;
+    write_reported(b"/", promised, to)
 }
 
 /// Says which words are a command.
 pub(crate) fn say_usage<D: Sink>(diag: &mut D) -> Result<(), SinkError>
     ensures said { OnOk result (Takes (D.taken diag.old) (D.taken diag.new) usage_text) }
-    ensures front { TakesFront (D.taken diag.old) (D.taken diag.new) usage_text }
+    ensures front { TakesPrefix (D.taken diag.old) (D.taken diag.new) usage_text }
     ensures cause { HasSinkCause (D.faults diag.old) (D.faults diag.new) result }
     ensures calm { OnOk result (D.faults diag.new ≡ D.faults diag.old) }
     ensures no_fault { IsErrOf result SinkError.NoMemory → D.faults diag.new ≡ D.faults diag.old }

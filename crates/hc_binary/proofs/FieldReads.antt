@@ -1,10 +1,7 @@
 -- Lines of fields, read one after another.
-use Rattle.std.proofs.{Common.{◌≡◌, ◌≢◌, ℕ, ◌+◌, ◌<◌, true, false, not, ◌==◌, List, [], ◌∷◌, ◌++◌, length, take, drop, Option, Some, None, Result, Ok, Err, inl, inr, refl, sym, ap, subst, ◌∙◌, arith, append_assoc, length-append}, lemmas.{Bool.{and_parts, ne_eqb, not-true}, List.{append-nil}}}
-use Rattle.std.specs.{Prelude.{position}, Result.{IsErrAnd, MatchResult}}
-use Rattle.hc_text.specs.Texts.{lacks}
-use Rattle.hc_text.specs.Texts.{cut}
-use Rattle.hc_text.proofs.Cutting.{none_or_some}
-use Rattle.hc_text.proofs.Cuts.{cut-position, lacks-all}
+use Rattle.std.{proofs.{Common.{◌≡◌, ◌≢◌, ℕ, ◌+◌, ◌<◌, true, false, not, ◌==◌, List, [], ◌∷◌, ◌++◌, length, take, drop, Option, Some, None, Result, Ok, Err, inl, inr, refl, sym, ap, subst, ◌∙◌, arith, append_assoc, length-append}, lemmas.{Bool.{and_parts, ne_eqb, not-true}, List.{append-nil}}}, specs.{Prelude.{position}, Result.{IsErrAnd, MatchResult}}}
+use Rattle.hc_text.specs.Texts.{lacks, cut}
+use Rattle.hc_text.proofs.{Cutting.{none_or_some}, Cuts.{cut-position, lacks-all}}
 use Rattle.hc_sched.specs.Words.{◌>>=◌}
 use Rattle.hc_binary.specs.FieldTexts.{fields_of, line_behind, read_on, IsRest}
 

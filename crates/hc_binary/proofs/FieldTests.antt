@@ -1,13 +1,10 @@
 -- What the tests of a field tell.
-use Rattle.std.proofs.{Common.{◌≡◌, ℕ, ◌≤◌, true, false, Bool, ◌&&◌, List, length, Option, Some, None, refl, ap, inl, inr, arith, leb-true}, lemmas.{Bool.{and_parts, and_from, both_ways, le-leb}, List.Sums.{AllPass-from_list_all, list_all-from_AllPass}}}
-use Rattle.std.specs.{List.{list_all}, Prelude.{nat_le, if◌then◌else◌}}
+use Rattle.std.{proofs.{Common.{◌≡◌, ℕ, ◌≤◌, true, false, Bool, ◌&&◌, List, length, Option, Some, None, refl, ap, inl, inr, arith, leb-true}, lemmas.{Bool.{and_parts, and_from, both_ways, le-leb}, List.Sums.{AllPass-from_list_all, list_all-from_AllPass}}}, specs.{List.{list_all}, Prelude.{nat_le, if◌then◌else◌}}}
 use Rattle.http_header.specs.Token.{IsToken, is_token_byte, lowercase}
-use Rattle.hc_fields.specs.FieldList.{field_list_with, size_of, is_own_value, IsAllowed, IsWithinLimits, Refuses}
-use Rattle.hc_fields.specs.declared.error.FieldError.{FieldError}
+use Rattle.hc_fields.specs.{FieldList.{field_list_with, size_of, is_own_value, IsAllowed, IsWithinLimits, Refuses}, declared.error.FieldError.{FieldError}}
 use Rattle.hc_fields.specs.declared.error.FieldError.TheVariants as error
 use Rattle.hc_fields.proofs.{Edits.{length-put, size_of-put}, Kept.{length-lowercase}}
-use Rattle.hc_sched.specs.Words.{◌>>=◌}
-use Rattle.hc_sched.specs.FieldLines.{field_parts}
+use Rattle.hc_sched.specs.{Words.{◌>>=◌}, FieldLines.{field_parts}}
 use Rattle.hc_binary.specs.FieldTexts.{is_field, are_within_limits, with_field, line_behind}
 
 abbrev Pair : Type 0

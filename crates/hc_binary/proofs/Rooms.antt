@@ -1,9 +1,8 @@
 -- Bytes that are put into a room.
-use Rattle.std.proofs.{Common.{◌≡◌, ℕ, ◌+◌, ◌-◌, ◌<◌, ◌≤◌, List, [], ◌∷◌, ◌++◌, length, take, drop, refl, sym, ap, ◌∙◌, inl, inr, arith, append_assoc, length-append}, lemmas.{Bool.{cases_lt}, Option.{slice_get_within, get_or_from_slice_get}, List.{append-nil, take_more, take-append-drop, length-take-le, take-append-le, take_all, take_at}}}
-use Rattle.std.specs.{Prelude.{min, Some}, List.{slice_get}}
+use Rattle.std.{proofs.{Common.{◌≡◌, ℕ, ◌+◌, ◌-◌, ◌<◌, ◌≤◌, List, [], ◌∷◌, ◌++◌, length, take, drop, refl, sym, ap, ◌∙◌, inl, inr, arith, append_assoc, length-append}, lemmas.{Bool.{cases_lt}, Option.{slice_get_within, get_or_from_slice_get}, List.{append-nil, take_more, take-append-drop, length-take-le, take-append-le, take_all, take_at}}}, specs.{Prelude.{min, Some}, List.{slice_get}}}
 use borrow.Rule.Slice.PartMut.{put_mid, post_of, same_len_mid}
 use Rattle.hc_fields.specs.Lines.{field_text, fields_text}
-use Rattle.hc_binary.specs.Copies.{HoldsFront, Puts}
+use Rattle.hc_binary.specs.Copies.{HoldsPrefix, Puts}
 
 pub puts_then : (old middle new : List ℕ) (at between n : ℕ) (bytes more : List ℕ) → Puts old at bytes middle between → Puts middle between more new n → Puts old at (bytes ++ more) new n
 puts_then old middle new at between n bytes more first then = record {
@@ -76,8 +75,8 @@ pub lines_all : (old new : List ℕ) (at n : ℕ) (fs : List (List ℕ × List �
 lines_all old new at n fs i past h = rw (take_all i fs past) at h
 
 -- from the beginning of a room
-pub holds_from : (old new bytes : List ℕ) (n : ℕ) → Puts old 0 bytes new n → HoldsFront new n bytes
+pub holds_from : (old new bytes : List ℕ) (n : ℕ) → Puts old 0 bytes new n → HoldsPrefix new n bytes
 holds_from old new bytes n h = h.holds [] (record { count = omega arith; front = refl })
 
-pub holds_none : (room : List ℕ) → HoldsFront room 0 []
+pub holds_none : (room : List ℕ) → HoldsPrefix room 0 []
 holds_none room = record { count = omega arith; front = refl }

@@ -9,20 +9,20 @@ use Rattle.hc_sched.specs.FirstLines.{is_method}
 use Rattle.hc_sched.specs.Words.{or_else}
 use Rattle.hc_target.specs.Targets.{is_target}
 use Rattle.hc_binary.specs.FieldTexts.{fields_of}
-use Rattle.hc_binary.specs.declared.refused.Refused.{Refused}
-use Rattle.hc_binary.specs.declared.refused.Refused.TheVariants as refused
+use Rattle.hc_binary.specs.declared.refused.CallRefusal.{CallRefusal}
+use Rattle.hc_binary.specs.declared.refused.CallRefusal.TheVariants as refused
 
 -- an event, or why there is none
 abbrev pub Made : Type 0
-Made = Result Event Refused
+Made = Result Event CallRefusal
 
 -- what was to be made was, or memory was refused
-abbrev pub Makes : {A : Type 0} → Result A Refused → Result A Refused → Type 0
+abbrev pub Makes : {A : Type 0} → Result A CallRefusal → Result A CallRefusal → Type 0
 Makes owed (Ok a) = owed ≡ Ok a
 Makes owed (Err e) = e ≢ refused.NoMemory → owed ≡ Err e
 
 -- a number of a consumer or an exchange
-abbrev pub numbered : {A : Type 0} → ℕ → A → Result A Refused
+abbrev pub numbered : {A : Type 0} → ℕ → A → Result A CallRefusal
 numbered n a = if nat_lt n (2 ^ 62) then Ok a else Err refused.Limit
 
 abbrev pub load_of : ℕ → Option Load
@@ -36,11 +36,11 @@ load_of mode =
     else None
 
 -- the fields of these lines
-abbrev pub fields_made : {A : Type 0} → List ℕ → (List (List ℕ × List ℕ) → Result A Refused) → Result A Refused
+abbrev pub fields_made : {A : Type 0} → List ℕ → (List (List ℕ × List ℕ) → Result A CallRefusal) → Result A CallRefusal
 fields_made text made = or_else (fields_of text) made (Err refused.BadFields)
 
 -- the request, which loads so
-abbrev pub request_made : List ℕ → Load → List ℕ → List ℕ → Result Request Refused
+abbrev pub request_made : List ℕ → Load → List ℕ → List ℕ → Result Request CallRefusal
 request_made method load target text =
     if not (is_method method) then Err refused.BadMethod
     else if not (is_target target) then Err refused.BadTarget
@@ -48,7 +48,7 @@ request_made method load target text =
     (λ fields. Ok (record { method = method; key = target; load = load; fields = fields }))
 
 -- the start of a consumer with this request
-abbrev pub as_start : ℕ → Result Request Refused → Made
+abbrev pub as_start : ℕ → Result Request CallRefusal → Made
 as_start c (Ok request) = Ok (event.Start c request)
 as_start c (Err e) = Err e
 
@@ -78,5 +78,5 @@ piece_made x bytes =
 -- THE CODE
 
 -- the key was made of a target
-abbrev pub key_made : List ℕ → Result (List ℕ) Refused
+abbrev pub key_made : List ℕ → Result (List ℕ) CallRefusal
 key_made target = if is_target target then Ok target else Err refused.BadTarget

@@ -5,8 +5,8 @@ use Rattle.http_header.specs.Token.{is_token_byte, lowercase}
 use Rattle.hc_fields.specs.FieldList.{field_list_with, is_own_value, size_of}
 use Rattle.hc_sched.specs.Words.{◌>>=◌}
 use Rattle.hc_sched.specs.FieldLines.{field_parts}
-use Rattle.hc_binary.specs.declared.refused.Refused.{Refused}
-use Rattle.hc_binary.specs.declared.refused.Refused.TheVariants as refused
+use Rattle.hc_binary.specs.declared.refused.CallRefusal.{CallRefusal}
+use Rattle.hc_binary.specs.declared.refused.CallRefusal.TheVariants as refused
 
 -- a token, and a value of at most 8,192 bytes
 abbrev pub is_field : List ℕ × List ℕ → Bool
@@ -44,7 +44,7 @@ fields_of text = read_on [] [] text
 -- THE CODE
 
 -- a line was read so, unless memory was refused
-abbrev pub IsRead : Option (List (List ℕ × List ℕ)) → List (List ℕ × List ℕ) → Result (Unit {0}) Refused → Type 0
+abbrev pub IsRead : Option (List (List ℕ × List ℕ)) → List (List ℕ × List ℕ) → Result (Unit {0}) CallRefusal → Type 0
 IsRead owed fields (Ok done) = owed ≡ Some fields
 IsRead owed fields (Err e) = e ≢ refused.NoMemory → (e ≡ refused.BadFields) × (owed ≡ None)
 

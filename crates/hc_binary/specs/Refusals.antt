@@ -1,9 +1,9 @@
 -- The numbers of refusals.
 use Rattle.std.specs.Prelude.{ℕ}
-use Rattle.hc_binary.specs.declared.refused.Refused.{Refused}
-use Rattle.hc_binary.specs.declared.refused.Refused.TheVariants as refused
+use Rattle.hc_binary.specs.declared.refused.CallRefusal.{CallRefusal}
+use Rattle.hc_binary.specs.declared.refused.CallRefusal.TheVariants as refused
 
-abbrev pub code_of : Refused → ℕ
+abbrev pub code_of : CallRefusal → ℕ
 code_of refused.NoHandle = 1
 code_of refused.NoMemory = 2
 code_of refused.Exhausted = 3

@@ -2,7 +2,7 @@
 ghost use Rattle.std.specs.Prelude.{◌≡◌, ◌+◌, ◌≤◌, ◌++◌, List, ℕ, length, min, take, drop};
 ghost use Rattle.hc_fields.specs.Lines.{field_text, fields_text};
 ghost use Rattle.hc_binary.specs.Numbers.{bytes_of};
-ghost use Rattle.hc_binary.specs.Copies.{HoldsFront, Puts};
+ghost use Rattle.hc_binary.specs.Copies.{HoldsPrefix, Puts};
 
 use hc_event::{Act, Request};
 use hc_fields::Fields;
@@ -72,7 +72,7 @@ fn put_request(request: &Request, into: &mut [u8], at: usize) -> usize
 
 /// Copies the first of the bytes of an act, as many as fit, and says how many these are.
 pub fn copy_act(act: &Act, into: &mut [u8]) -> usize
-    ensures { HoldsFront into.new result (bytes_of act.now) }
+    ensures { HoldsPrefix into.new result (bytes_of act.now) }
 {
     match act {
         Act::Opened { request, .. } => put_request(request, into, 0),

@@ -5,7 +5,7 @@ ghost use Rattle.hc_binary.specs.Events.{numbered, start_made, poll_made, head_m
 ghost use Rattle.hc_event.specs.declared.event.Event.TheVariants as event;
 
 use crate::fields::read_fields;
-use crate::refused::Refused;
+use crate::refused::CallRefusal;
 use crate::request::{Asked, load_of, read_key, read_request};
 use hc_event::{Event, Response};
 use hc_text::Bytes;
@@ -18,44 +18,44 @@ const LIMIT: u64 = 1 << 62;
 const MOST_BYTES: usize = 65_536;
 
 /// The number, if it may be that of a consumer or an exchange.
-fn small(n: u64) -> Result<u64, Refused>
+fn small(n: u64) -> Result<u64, CallRefusal>
     ensures { Makes (numbered n n) result }
 {
     if n < LIMIT {
         Ok(n)
     } else {
-        Err(Refused::Limit)
+        Err(CallRefusal::Limit)
     }
 }
 
 /// A consumer begins with its request.
-pub fn start(alloc: Global, c: u64, asked: Asked<'_>) -> Result<Event, Refused>
+pub fn start(alloc: Global, c: u64, asked: Asked<'_>) -> Result<Event, CallRefusal>
     ensures made { Makes (start_made c asked.entry.method.now asked.entry.mode
         asked.entry.target.now asked.entry.fields.now) result }
     ensures within_limits { IfOk result (λ e. IsEventWithinLimits e) }
 {
     let c = small(c)?;
     let Some(load) = load_of(asked.mode) else {
-        return Err(Refused::Limit);
+        return Err(CallRefusal::Limit);
     };
     let request = read_request(alloc, asked, load)?;
     Ok(Event::Start { c, request })
 }
 
 /// A consumer asks for bytes.
-pub fn poll(c: u64, want: u32) -> Result<Event, Refused>
+pub fn poll(c: u64, want: u32) -> Result<Event, CallRefusal>
     ensures made { Makes (poll_made c want) result }
     ensures within_limits { IfOk result (λ e. IsEventWithinLimits e) }
 {
     let c = small(c)?;
     if want as usize > MOST_BYTES {
-        return Err(Refused::Limit);
+        return Err(CallRefusal::Limit);
     }
     Ok(Event::Poll { c, want })
 }
 
 /// A consumer leaves.
-pub fn cancel(c: u64) -> Result<Event, Refused>
+pub fn cancel(c: u64) -> Result<Event, CallRefusal>
     ensures made { Makes (numbered c (event.Cancel c)) result }
     ensures within_limits { IfOk result (λ e. IsEventWithinLimits e) }
 {
@@ -63,7 +63,7 @@ pub fn cancel(c: u64) -> Result<Event, Refused>
 }
 
 /// What is stored for a target is not to be used any more.
-pub fn doom(alloc: Global, target: &[u8]) -> Result<Event, Refused>
+pub fn doom(alloc: Global, target: &[u8]) -> Result<Event, CallRefusal>
     ensures made { Makes (doom_made target.now) result }
     ensures within_limits { IfOk result (λ e. IsEventWithinLimits e) }
 {
@@ -72,13 +72,13 @@ pub fn doom(alloc: Global, target: &[u8]) -> Result<Event, Refused>
 }
 
 /// The head of an exchange came.
-pub fn head(alloc: Global, x: u64, status: u32, fields: &[u8]) -> Result<Event, Refused>
+pub fn head(alloc: Global, x: u64, status: u32, fields: &[u8]) -> Result<Event, CallRefusal>
     ensures made { Makes (head_made x status fields.now) result }
     ensures within_limits { IfOk result (λ e. IsEventWithinLimits e) }
 {
     let x = small(x)?;
     if status < 200 || status > 599 {
-        return Err(Refused::Limit);
+        return Err(CallRefusal::Limit);
     }
     let fields = read_fields(alloc, fields)?;
     let response = Response {
@@ -89,15 +89,15 @@ pub fn head(alloc: Global, x: u64, status: u32, fields: &[u8]) -> Result<Event, 
 }
 
 /// Bytes of the body of an exchange came. They are copied.
-pub fn piece(alloc: Global, x: u64, bytes: &[u8]) -> Result<Event, Refused>
+pub fn piece(alloc: Global, x: u64, bytes: &[u8]) -> Result<Event, CallRefusal>
     ensures made { Makes (piece_made x bytes.now) result }
     ensures within_limits { IfOk result (λ e. IsEventWithinLimits e) }
 {
     let x = small(x)?;
     if bytes.len() > MOST_BYTES {
-        return Err(Refused::Limit);
+        return Err(CallRefusal::Limit);
     }
-    let bytes = bytes.to_vec(alloc).map_err(|_| Refused::NoMemory)?;
+    let bytes = bytes.to_vec(alloc).map_err(|_| CallRefusal::NoMemory)?;
     Ok(Event::Piece {
         x,
         bytes: Bytes::shared(bytes),
@@ -105,7 +105,7 @@ pub fn piece(alloc: Global, x: u64, bytes: &[u8]) -> Result<Event, Refused>
 }
 
 /// An exchange ended cleanly.
-pub fn end(x: u64) -> Result<Event, Refused>
+pub fn end(x: u64) -> Result<Event, CallRefusal>
     ensures made { Makes (numbered x (event.End x)) result }
     ensures within_limits { IfOk result (λ e. IsEventWithinLimits e) }
 {
@@ -113,7 +113,7 @@ pub fn end(x: u64) -> Result<Event, Refused>
 }
 
 /// An exchange broke.
-pub fn fault(x: u64) -> Result<Event, Refused>
+pub fn fault(x: u64) -> Result<Event, CallRefusal>
     ensures made { Makes (numbered x (event.Fault x)) result }
     ensures within_limits { IfOk result (λ e. IsEventWithinLimits e) }
 {

@@ -4,7 +4,7 @@ ghost use Rattle.hc_sched.specs.FieldLines.{field_parts};
 ghost use Rattle.hc_fields.specs.FieldList.{IsWithinLimits};
 ghost use Rattle.hc_binary.specs.FieldTexts.{fields_of, line_behind, read_on, IsRead, IsRest};
 
-use crate::refused::Refused;
+use crate::refused::CallRefusal;
 use hc_fields::{FieldError, Fields};
 use hc_text::cut;
 use std::alloc::Global;
@@ -20,24 +20,24 @@ fn named(line: &[u8]) -> Option<(&[u8], &[u8])>
 }
 
 /// Why a field is refused.
-fn refused_by(e: FieldError) -> Refused
-    ensures memory { e ≡ FieldError.NoMemory → result ≡ Refused.NoMemory }
-    ensures others { e ≢ FieldError.NoMemory → result ≡ Refused.BadFields }
+fn refused_by(e: FieldError) -> CallRefusal
+    ensures memory { e ≡ FieldError.NoMemory → result ≡ CallRefusal.NoMemory }
+    ensures others { e ≢ FieldError.NoMemory → result ≡ CallRefusal.BadFields }
 {
     match e {
-        FieldError::NoMemory => Refused::NoMemory,
-        _ => Refused::BadFields,
+        FieldError::NoMemory => CallRefusal::NoMemory,
+        _ => CallRefusal::BadFields,
     }
 }
 
 /// The field of a line comes behind these.
 #[tactic(auto, unfolding(crate::specs::FieldTexts::line_behind))]
-fn read_line(fields: &mut Fields, line: &[u8]) -> Result<(), Refused>
+fn read_line(fields: &mut Fields, line: &[u8]) -> Result<(), CallRefusal>
     ensures read { IsRead (line_behind fields.old line.now) fields.new result }
     ensures within_limits { OnOk result (IsWithinLimits fields.new) }
 {
     let Some((name, value)) = named(line) else {
-        return Err(Refused::BadFields);
+        return Err(CallRefusal::BadFields);
     };
     if let Err(e) = fields.append(name, value) {
         return Err(refused_by(e));
@@ -45,14 +45,14 @@ fn read_line(fields: &mut Fields, line: &[u8]) -> Result<(), Refused>
     if fields.within_limits() {
         Ok(())
     } else {
-        Err(Refused::BadFields)
+        Err(CallRefusal::BadFields)
     }
 }
 
 /// The fields whose lines the text is.
-pub(crate) fn read_fields(alloc: Global, text: &[u8]) -> Result<Fields, Refused>
+pub(crate) fn read_fields(alloc: Global, text: &[u8]) -> Result<Fields, CallRefusal>
     ensures value { MatchResult result (λ fields. fields_of text.now ≡ Some fields)
-        (λ e. e ≢ Refused.NoMemory → (e ≡ Refused.BadFields) × (fields_of text.now ≡ None)) }
+        (λ e. e ≢ CallRefusal.NoMemory → (e ≡ CallRefusal.BadFields) × (fields_of text.now ≡ None)) }
     ensures within_limits { IfOk result (λ fields. IsWithinLimits fields) }
 {
     let mut fields = Fields::new(alloc)?;
@@ -64,6 +64,6 @@ pub(crate) fn read_fields(alloc: Global, text: &[u8]) -> Result<Fields, Refused>
     if rest.is_empty() {
         Ok(fields)
     } else {
-        Err(Refused::BadFields)
+        Err(CallRefusal::BadFields)
     }
 }

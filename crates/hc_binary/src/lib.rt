@@ -12,5 +12,5 @@ mod request;
 pub use act::{ActNumbers, numbers_of};
 pub use copies::{copy_act, put};
 pub use event::{cancel, doom, end, fault, head, piece, poll, start};
-pub use refused::Refused;
+pub use refused::CallRefusal;
 pub use request::Asked;

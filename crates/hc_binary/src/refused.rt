@@ -1,12 +1,12 @@
 //! Why a call is refused.
-ghost use Rattle.hc_binary.specs.declared.refused.Refused.TheVariants.{NoMemory as no_memory};
+ghost use Rattle.hc_binary.specs.declared.refused.CallRefusal.TheVariants.{NoMemory as no_memory};
 ghost use Rattle.std.specs.Prelude.{◌≡◌};
 
 use hc_text::NoMemory;
 
 /// Why a call is refused. Of several causes the earliest here is told.
 #[derive(Clone, Copy, Debug, PartialEq, Eq)]
-pub enum Refused {
+pub enum CallRefusal {
     /// The handle has no cache.
     NoHandle,
     /// Memory was refused.
@@ -37,7 +37,7 @@ pub enum Refused {
     BadText,
 }
 
-impl Refused {
+impl CallRefusal {
     ghost use Rattle.hc_binary.specs.Refusals.{code_of};
 
     /// Its number, from 1.
@@ -45,28 +45,28 @@ impl Refused {
         ensures { result ≡ code_of self }
     {
         match self {
-            Refused::NoHandle => 1,
-            Refused::NoMemory => 2,
-            Refused::Exhausted => 3,
-            Refused::BadMoment => 4,
-            Refused::Limit => 5,
-            Refused::BadMethod => 6,
-            Refused::BadTarget => 7,
-            Refused::BadFields => 8,
-            Refused::Live => 9,
-            Refused::BadImage => 10,
-            Refused::BadContent => 11,
-            Refused::Full => 12,
-            Refused::Late => 13,
-            Refused::BadText => 14,
+            CallRefusal::NoHandle => 1,
+            CallRefusal::NoMemory => 2,
+            CallRefusal::Exhausted => 3,
+            CallRefusal::BadMoment => 4,
+            CallRefusal::Limit => 5,
+            CallRefusal::BadMethod => 6,
+            CallRefusal::BadTarget => 7,
+            CallRefusal::BadFields => 8,
+            CallRefusal::Live => 9,
+            CallRefusal::BadImage => 10,
+            CallRefusal::BadContent => 11,
+            CallRefusal::Full => 12,
+            CallRefusal::Late => 13,
+            CallRefusal::BadText => 14,
         }
     }
 }
 
-impl From<NoMemory> for Refused {
+impl From<NoMemory> for CallRefusal {
     ghost from_gives = { λ _ e. e ≡ no_memory };
 
     fn from(_: NoMemory) -> Self {
-        Refused::NoMemory
+        CallRefusal::NoMemory
     }
 }

@@ -8,7 +8,7 @@ ghost use Rattle.hc_fields.specs.FieldList.{IsWithinLimits};
 ghost use Rattle.hc_binary.specs.Events.{load_of, key_made, request_made, Makes};
 
 use crate::fields::read_fields;
-use crate::refused::Refused;
+use crate::refused::CallRefusal;
 use hc_event::{Load, Request};
 use hc_target::is_target;
 use hc_text::{Key, MethodName};
@@ -57,30 +57,30 @@ fn is_method(text: &[u8]) -> bool
 }
 
 /// The key of a target.
-pub(crate) fn read_key(alloc: Global, target: &[u8]) -> Result<Key, Refused>
+pub(crate) fn read_key(alloc: Global, target: &[u8]) -> Result<Key, CallRefusal>
     ensures made { Makes (key_made target.now) result }
     ensures target { IfOk result (λ key. is_target key ≡ true) }
 {
     if !is_target(alloc, target)? {
-        return Err(Refused::BadTarget);
+        return Err(CallRefusal::BadTarget);
     }
-    let bytes = target.to_vec(alloc).map_err(|_| Refused::NoMemory)?;
+    let bytes = target.to_vec(alloc).map_err(|_| CallRefusal::NoMemory)?;
     Ok(Key { bytes })
 }
 
 /// The request, which loads so.
-pub(crate) fn read_request(alloc: Global, asked: Asked<'_>, load: Load) -> Result<Request, Refused>
+pub(crate) fn read_request(alloc: Global, asked: Asked<'_>, load: Load) -> Result<Request, CallRefusal>
     ensures made { Makes (request_made asked.entry.method.now load asked.entry.target.now
         asked.entry.fields.now) result }
     ensures target { IfOk result (λ request. is_target request.key ≡ true) }
     ensures fields { IfOk result (λ request. IsWithinLimits request.fields) }
 {
     if !is_method(asked.method) {
-        return Err(Refused::BadMethod);
+        return Err(CallRefusal::BadMethod);
     }
     let key = read_key(alloc, asked.target)?;
     let fields = read_fields(alloc, asked.fields)?;
-    let bytes = asked.method.to_vec(alloc).map_err(|_| Refused::NoMemory)?;
+    let bytes = asked.method.to_vec(alloc).map_err(|_| CallRefusal::NoMemory)?;
     Ok(Request {
         method: MethodName { bytes },
         key,

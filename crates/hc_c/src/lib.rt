@@ -2,7 +2,7 @@
 #![tactic(auto)]
 
 ghost use Rattle.std.specs.Prelude.{◌≡◌, ◌≢◌, None};
-ghost use Rattle.hc_binary.specs.Copies.{HoldsFront};
+ghost use Rattle.hc_binary.specs.Copies.{HoldsPrefix};
 ghost use Rattle.hc_binary.specs.Events.{numbered, start_made, poll_made, head_made, piece_made, doom_made};
 ghost use Rattle.hc_event.specs.declared.event.Event.TheVariants as event;
 ghost use Rattle.hc_handle.specs.Calls.{Comes, IsBegun, IsOpened, IsClosed, HasNext, NoNext, bytes_in_handle, ArePictured, AllStay, moment_in, live_in_handle};
@@ -198,7 +198,7 @@ pub extern "C" fn vosdrieng_next_act(
     handle: &mut Handle,
     act: &mut ActNumbers,
 ) -> u32
-    ensures told { result ≡ 1
+    ensures next { result ≡ 1
         → HasNext handle.old.pointer.session handle.new.pointer.session act.new }
     ensures none { result ≢ 1 → (result ≡ 0) × NoNext handle.old.pointer.session
         × (handle.new.pointer.session ≡ handle.old.pointer.session) × (act.new ≡ act.old) }
@@ -209,7 +209,7 @@ pub extern "C" fn vosdrieng_next_act(
 /// Copies the first of the bytes of the act that was told last, as many as fit, and says how many.
 #[unsafe(no_mangle)]
 pub extern "C" fn vosdrieng_act_bytes(alloc: Global, handle: &mut Handle, into: &mut [u8]) -> usize
-    ensures front { HoldsFront into.new result (bytes_in_handle handle.old.pointer.session) }
+    ensures front { HoldsPrefix into.new result (bytes_in_handle handle.old.pointer.session) }
     ensures same { handle.new.pointer.session ≡ handle.old.pointer.session }
 {
     calls::act_bytes(alloc, handle, into)

@@ -58,19 +58,19 @@ folded found (e ∷ es) =
     ) refl in
     folded (with_element found e) es ∙ more
 
-told_or-present : (d : ℕ) (seconds : Option ℕ) → seconds_or d (present seconds) ≡ unwrap_or seconds d
-told_or-present d None = refl
-told_or-present d (Some n) = refl
+reported_or-present : (d : ℕ) (seconds : Option ℕ) → seconds_or d (present seconds) ≡ unwrap_or seconds d
+reported_or-present d None = refl
+reported_or-present d (Some n) = refl
 
-told_or-argument : (d : ℕ) (e : List ℕ) → seconds_or d (argument_in e) ≡ unwrap_or (seconds_in e) d
-told_or-argument d e = elim (cases_Bool (list_any is_equals e)) [
-  | inl passes ↦ rw passes (told_or-present d (seconds_of (after_first is_equals e)))
+reported_or-argument : (d : ℕ) (e : List ℕ) → seconds_or d (argument_in e) ≡ unwrap_or (seconds_in e) d
+reported_or-argument d e = elim (cases_Bool (list_any is_equals e)) [
+  | inl passes ↦ rw passes (reported_or-present d (seconds_of (after_first is_equals e)))
   | inr fails ↦ rw fails refl
 ]
 
-told : (d : ℕ) (o : Option (List ℕ)) → option_map (seconds_or d) (option_map argument_in o) ≡ option_map (λ e. unwrap_or (seconds_in e) d) o
-told d None = refl
-told d (Some e) = ap Some (told_or-argument d e)
+reported : (d : ℕ) (o : Option (List ℕ)) → option_map (seconds_or d) (option_map argument_in o) ≡ option_map (λ e. unwrap_or (seconds_in e) d) o
+reported d None = refl
+reported d (Some e) = ap Some (reported_or-argument d e)
 
 staleness_of-present : (seconds : Option ℕ) → staleness_of (present seconds) ≡ option_map Some seconds
 staleness_of-present None = refl
@@ -90,8 +90,8 @@ pub said_is : (es : List (List ℕ)) → said_by (with_elements nothing_found es
 said_is es =
     rw (
       folded nothing_found es,
-      told 0 (find (is_directive (codes "max-age")) es),
-      told most_seconds (find (is_directive (codes "min-fresh")) es),
+      reported 0 (find (is_directive (codes "max-age")) es),
+      reported most_seconds (find (is_directive (codes "min-fresh")) es),
       stale (find (is_directive (codes "max-stale")) es),
     ) refl
 

@@ -13,14 +13,14 @@ seconds_after seconds [] = seconds
 seconds_after seconds (d ∷ ds) = if is_ascii_digit d then seconds_after (Some (more seconds d)) ds else None
 
 -- the seconds that digits tell behind n
-abbrev told : ℕ → List ℕ → Option ℕ
-told n ds = if list_all is_ascii_digit ds then Some (min (digits_value_after 10 n ds) most_seconds) else None
+abbrev reported : ℕ → List ℕ → Option ℕ
+reported n ds = if list_all is_ascii_digit ds then Some (min (digits_value_after 10 n ds) most_seconds) else None
 
-capped-digit : (n : ℕ) (s : Option ℕ) (d : ℕ) (ds : List ℕ) (b : Bool) → is_ascii_digit d ≡ b → seconds_after (Some (more s d)) ds ≡ told (n * 10 + digit_value d) ds → seconds_after s (d ∷ ds) ≡ told n (d ∷ ds)
+capped-digit : (n : ℕ) (s : Option ℕ) (d : ℕ) (ds : List ℕ) (b : Bool) → is_ascii_digit d ≡ b → seconds_after (Some (more s d)) ds ≡ reported (n * 10 + digit_value d) ds → seconds_after s (d ∷ ds) ≡ reported n (d ∷ ds)
 capped-digit n s d ds true digit later = rw digit later
 capped-digit n s d ds false digit later = rw digit refl
 
-capped : (n k : ℕ) (ds : List ℕ) → k ≡ min n most_seconds → seconds_after (Some k) ds ≡ told n ds
+capped : (n k : ℕ) (ds : List ℕ) → k ≡ min n most_seconds → seconds_after (Some k) ds ≡ reported n ds
 capped n k [] is = ap Some is
 capped n k (d ∷ ds) is =
     capped-digit n (Some k) d ds (is_ascii_digit d) refl (capped (n * 10 + digit_value d) (more (Some k) d) ds (omega (arith, is)))

@@ -1,3 +1,3 @@
 pub mod External
 pub mod NotModified
-pub mod Telling
+pub mod ShownActs

@@ -36,18 +36,18 @@ is_not_modified request status fields =
 
 -- THE ANSWER (RFC 9110 section 15.4.5)
 
-abbrev pub told_names : List (List ℕ)
-told_names =
+abbrev pub names_of_304 : List (List ℕ)
+names_of_304 =
     codes "age" ∷ codes "cache-control" ∷ codes "content-location" ∷ codes "date" ∷ codes "etag"
     ∷ codes "expires" ∷ codes "vary" ∷ []
 
 -- a field that a 304 tells
-abbrev pub is_told : List ℕ × List ℕ → Bool
-is_told field = list_any (bytes_eq field.0) told_names
+abbrev pub is_reported : List ℕ × List ℕ → Bool
+is_reported field = list_any (bytes_eq field.0) names_of_304
 
 -- the fields of a head that a 304 tells
-abbrev pub told_fields : List (List ℕ × List ℕ) → List (List ℕ × List ℕ)
-told_fields fields = filter is_told fields
+abbrev pub fields_of_304 : List (List ℕ × List ℕ) → List (List ℕ × List ℕ)
+fields_of_304 fields = filter is_reported fields
 
 -- the request without the condition
 abbrev pub unconditioned : Request → Request

@@ -4,8 +4,8 @@
 
 mod external;
 mod not_modified;
-mod telling;
+mod shown_acts;
 
 pub use external::is_external;
 pub use not_modified::is_not_modified;
-pub use telling::{is_denied, leaves_in, tell_all, unconditioned};
+pub use shown_acts::{is_denied, leaves_in, report_all, unconditioned};

@@ -11,7 +11,7 @@ use Rattle.hc_model.specs.{Beginnings.{ascend_from, is_kind_right, has_right_hea
 use Rattle.hc_contents.specs.declared.contents.Content as coded
 use Rattle.hc_contents.specs.{declared.unfit.Unfit.{Unfit}, Fit.{is_fit, count_good, has_good_numbers, unfit_of}, PlainContents.{plain_item}}
 use Rattle.hc_contents.specs.declared.unfit.Unfit.TheVariants as unfit
-use Rattle.hc_contents.proofs.Knowing.{take_told}
+use Rattle.hc_contents.proofs.Knowing.{take_reported}
 
 -- ONE
 
@@ -28,16 +28,16 @@ good_is limits contents earlier item later =
 
 -- what a test of the rest told, and one of its key
 pub good_by : (limits : Limits) (contents : Contents) (earlier : List Content) (item : Content) (later : List Content) (fit target : Bool) → fit ≡ is_fit limits contents earlier item later → fit ≡ true → target ≡ is_target item.key → target ≡ is_good limits contents earlier item later
-good_by limits contents earlier item later fit target tells on key =
-    key ∙ (and_true (is_target item.key) ∙ ap (λ b. is_target item.key && b) (sym on ∙ tells)) ∙ sym (good_is limits contents earlier item later)
+good_by limits contents earlier item later fit target reports on key =
+    key ∙ (and_true (is_target item.key) ∙ ap (λ b. is_target item.key && b) (sym on ∙ reports)) ∙ sym (good_is limits contents earlier item later)
   where
     and_true : (b : Bool) → b ≡ (b && true)
     and_true true = refl
     and_true false = refl
 
 pub bad_by : (limits : Limits) (contents : Contents) (earlier : List Content) (item : Content) (later : List Content) (fit : Bool) → fit ≡ is_fit limits contents earlier item later → fit ≡ false → false ≡ is_good limits contents earlier item later
-bad_by limits contents earlier item later fit tells off =
-    and_false (is_target item.key) ∙ ap (λ b. is_target item.key && b) (sym off ∙ tells) ∙ sym (good_is limits contents earlier item later)
+bad_by limits contents earlier item later fit reports off =
+    and_false (is_target item.key) ∙ ap (λ b. is_target item.key && b) (sym off ∙ reports) ∙ sym (good_is limits contents earlier item later)
   where
     and_false : (b : Bool) → false ≡ (b && false)
     and_false true = refl
@@ -45,21 +45,21 @@ bad_by limits contents earlier item later fit tells off =
 
 -- COUNTING
 
-drop_told : (items : List coded.Content) (i : ℕ) (item : coded.Content) → i < length items → item ≡ get_or items i item → drop i (map plain_item items) ≡ plain_item item ∷ drop (suc i) (map plain_item items)
-drop_told [] i item lt is = absurd (let none : i < 0 = lt in omega arith)
-drop_told (x ∷ xs) zero item lt is = ap (λ (y : coded.Content). plain_item y ∷ map plain_item xs) (sym is)
-drop_told (x ∷ xs) (suc i) item lt is = drop_told xs i item (omega arith) is
+drop_reported : (items : List coded.Content) (i : ℕ) (item : coded.Content) → i < length items → item ≡ get_or items i item → drop i (map plain_item items) ≡ plain_item item ∷ drop (suc i) (map plain_item items)
+drop_reported [] i item lt is = absurd (let none : i < 0 = lt in omega arith)
+drop_reported (x ∷ xs) zero item lt is = ap (λ (y : coded.Content). plain_item y ∷ map plain_item xs) (sym is)
+drop_reported (x ∷ xs) (suc i) item lt is = drop_reported xs i item (omega arith) is
 
 module _ (limits : Limits) (contents : Contents) (items : List coded.Content) where
-  abbrev told : List Content
-  told = map plain_item items
+  abbrev reported : List Content
+  reported = map plain_item items
 
   abbrev before : ℕ → List Content
-  before i = reverse (take i told)
+  before i = reverse (take i reported)
 
   -- so many are good, and those behind them that are
   pub record IsCounted (i : ℕ) : Type 0 where
-    pub count : count_good limits contents [] told ≡ i + count_good limits contents (before i) (drop i told)
+    pub count : count_good limits contents [] reported ≡ i + count_good limits contents (before i) (drop i reported)
 
   pub none_counted : IsCounted 0
   none_counted = record { count = omega arith }
@@ -68,25 +68,25 @@ module _ (limits : Limits) (contents : Contents) (items : List coded.Content) wh
     next : i + 1 ≡ suc i
     next = omega arith
 
-    here : count_good limits contents [] told ≡ i + (cond (is_good limits contents (before i) (plain_item item) (drop (i + 1) told)) (1 + count_good limits contents (plain_item item ∷ before i) (drop (i + 1) told)) 0)
-    here = c.count ∙ (ap (λ ys. i + count_good limits contents (before i) ys) (drop_told items i item lt is) ∙ ap (λ n. i + (cond (is_good limits contents (before i) (plain_item item) (drop n told)) (1 + count_good limits contents (plain_item item ∷ before i) (drop n told)) 0)) (sym next))
+    here : count_good limits contents [] reported ≡ i + (cond (is_good limits contents (before i) (plain_item item) (drop (i + 1) reported)) (1 + count_good limits contents (plain_item item ∷ before i) (drop (i + 1) reported)) 0)
+    here = c.count ∙ (ap (λ ys. i + count_good limits contents (before i) ys) (drop_reported items i item lt is) ∙ ap (λ n. i + (cond (is_good limits contents (before i) (plain_item item) (drop n reported)) (1 + count_good limits contents (plain_item item ∷ before i) (drop n reported)) 0)) (sym next))
 
     -- it is the first that isn't
-    pub stops : is_good limits contents (before i) (plain_item item) (drop (i + 1) told) ≡ false → i ≡ count_good limits contents [] told
-    stops off = let all : count_good limits contents [] told ≡ i + 0 = here ∙ ap (λ (b : Bool). i + (cond b (1 + count_good limits contents (plain_item item ∷ before i) (drop (i + 1) told)) 0)) off in omega arith
+    pub stops : is_good limits contents (before i) (plain_item item) (drop (i + 1) reported) ≡ false → i ≡ count_good limits contents [] reported
+    stops off = let all : count_good limits contents [] reported ≡ i + 0 = here ∙ ap (λ (b : Bool). i + (cond b (1 + count_good limits contents (plain_item item ∷ before i) (drop (i + 1) reported)) 0)) off in omega arith
 
     pub more_before : plain_item item ∷ before i ≡ before (i + 1)
-    more_before = sym (ap before next ∙ (ap reverse (take_told items i item lt is) ∙ reverse-append (take i told) (plain_item item ∷ [])))
+    more_before = sym (ap before next ∙ (ap reverse (take_reported items i item lt is) ∙ reverse-append (take i reported) (plain_item item ∷ [])))
 
     -- with what a test of it told
-    pub stopped : (result : Bool) → result ≡ false → result ≡ is_good limits contents (before i) (plain_item item) (drop (i + 1) told) → i ≡ count_good limits contents [] told
-    stopped result off tells = stops (sym tells ∙ off)
+    pub stopped : (result : Bool) → result ≡ false → result ≡ is_good limits contents (before i) (plain_item item) (drop (i + 1) reported) → i ≡ count_good limits contents [] reported
+    stopped result off reports = stops (sym reports ∙ off)
 
     -- it is good too
-    pub goes_on : is_good limits contents (before i) (plain_item item) (drop (i + 1) told) ≡ true → IsCounted (i + 1)
+    pub goes_on : is_good limits contents (before i) (plain_item item) (drop (i + 1) reported) ≡ true → IsCounted (i + 1)
     goes_on on =
-        let all : count_good limits contents [] told ≡ i + (1 + count_good limits contents (plain_item item ∷ before i) (drop (i + 1) told)) = here ∙ ap (λ (b : Bool). i + (cond b (1 + count_good limits contents (plain_item item ∷ before i) (drop (i + 1) told)) 0)) on in
-        let same : count_good limits contents (plain_item item ∷ before i) (drop (i + 1) told) ≡ count_good limits contents (before (i + 1)) (drop (i + 1) told) = ap (λ xs. count_good limits contents xs (drop (i + 1) told)) more_before in
+        let all : count_good limits contents [] reported ≡ i + (1 + count_good limits contents (plain_item item ∷ before i) (drop (i + 1) reported)) = here ∙ ap (λ (b : Bool). i + (cond b (1 + count_good limits contents (plain_item item ∷ before i) (drop (i + 1) reported)) 0)) on in
+        let same : count_good limits contents (plain_item item ∷ before i) (drop (i + 1) reported) ≡ count_good limits contents (before (i + 1)) (drop (i + 1) reported) = ap (λ xs. count_good limits contents xs (drop (i + 1) reported)) more_before in
         record { count = omega arith }
 
 -- ALL

@@ -14,8 +14,8 @@ is_from i None = false
 is_from i (Some last) = nat_le i last
 
 -- which numbers are representations' of those from a place on
-abbrev pub TellsLast : (ℕ → Option ℕ) → List Content → Type 0
-TellsLast last items =
+abbrev pub KnowsLast : (ℕ → Option ℕ) → List Content → Type 0
+KnowsLast last items =
     (x i : ℕ) → i ≤ length items → is_from i (last x)
     ≡ list_any (λ (other : Content). other.r == x) (drop i items)
 
@@ -24,7 +24,7 @@ pub record Knows (s : Seen) (earlier items : List Content) : Type 0 where
   pub keys : (key : List ℕ) → contains_by (λ stored. bytes_eq key stored.items) s.keys
       ≡ list_any (λ (other : Content). bytes_eq other.key key) earlier
   pub said : (x : ℕ) → contains nat_eq s.said x ≡ list_any (says x) earlier
-  pub last : TellsLast (get nat_eq s.last) items
+  pub last : KnowsLast (get nat_eq s.last) items
 
 -- the number of a run's exchange is below the end, wasn't said, and is this one's or isn't that of one behind
 abbrev pub is_own_in : Seen → ℕ → ℕ → ℕ → Run → Bool

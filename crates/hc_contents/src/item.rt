@@ -85,10 +85,10 @@ fn kind_of(extent: Extent, total: u64) -> Kind
     ensures { (runs : List Run) → extent.end ≡ last_end runs → extent.bytes ≡ bytes_in runs
         → result ≡ kind_of_runs runs total }
 {
-    let is_front = extent.end == extent.bytes;
-    if is_front && extent.bytes == total {
+    let is_prefix = extent.end == extent.bytes;
+    if is_prefix && extent.bytes == total {
         Kind::Whole
-    } else if is_front && extent.bytes > 0 {
+    } else if is_prefix && extent.bytes > 0 {
         Kind::Truncated
     } else {
         Kind::Ranges

@@ -7,7 +7,7 @@ ghost use Rattle.hc_sparse.specs.declared.run.Run.{Run};
 ghost use Rattle.hc_model.specs.Beginnings.{has_own_numbers};
 ghost use Rattle.hc_model.specs.Entries as model;
 ghost use Rattle.hc_contents.specs.Fit.{is_apart};
-ghost use Rattle.hc_contents.specs.Known.{TellsLast, is_from};
+ghost use Rattle.hc_contents.specs.Known.{KnowsLast, is_from};
 ghost use Rattle.hc_contents.specs.PlainContents.{plain_item};
 
 use crate::contents::Content;
@@ -111,7 +111,7 @@ impl Seen {
 
 /// Where each number stands as that of a representation for the last time.
 fn last_places(items: &[Content], alloc: Global) -> Result<HashMap<u64, usize>, NoMemory>
-    ensures { IfOk result (λ last. TellsLast (get nat_eq last) (map plain_item items.now)) }
+    ensures { IfOk result (λ last. KnowsLast (get nat_eq last) (map plain_item items.now)) }
 {
     let mut last = HashMap::new(alloc);
     for (i, item) in items.iter().enumerate() {

@@ -20,8 +20,8 @@ pub may_by : (limits : Limits) (contents : Contents) → unfit_of limits content
 may_by limits contents fit = sym (begins_by limits contents None (sym fit))
 
 -- stored heads tell lengths that heads can tell
-pub short_told : (contents : coded_all.Contents) → AreShort (plain_contents contents)
-short_told contents r n item found total = by_items contents.items found
+pub short_reported : (contents : coded_all.Contents) → AreShort (plain_contents contents)
+short_reported contents r n item found total = by_items contents.items found
   where
     by_items : (items : List coded.Content) → find (λ (o : Content). o.r == r) (map plain_item items) ≡ Some item → n < 2 ^ 62
     by_items [] found = none_some item found
@@ -34,7 +34,7 @@ pub stands_begun_with : {B : Type 0} {g : Ghosts B} (s : Cache B g) (contents : 
 unfolding tables
 stands_begun_with s contents moment may rows = record {
   begins = may;
-  short = short_told contents;
+  short = short_reported contents;
   run = tt;
   moment = moment;
   rows = rows;
@@ -42,7 +42,7 @@ stands_begun_with s contents moment may rows = record {
 
 pub good_begun_with : {B : Type 0} {g : Ghosts B} (r : Rows B g) (contents : coded_all.Contents) → may_begin (shelf_of r.entries).limits (plain_contents contents) ≡ true → RowsStand (shelf_of r.entries).limits r (first_tables (plain_contents contents)) → StandsAt r 0 contents.now
 unfolding tables
-good_begun_with r contents may rows = (record { contents = plain_contents contents; h = []; begins = may; short = short_told contents; within_limits = tt; starts = tt; run = tt; received = none_received 0; rows = rows }, refl)
+good_begun_with r contents may rows = (record { contents = plain_contents contents; h = []; begins = may; short = short_reported contents; within_limits = tt; starts = tt; run = tt; received = none_received 0; rows = rows }, refl)
 
 pub next_begun_with : {B : Type 0} {g : Ghosts B} (r : Rows B g) (contents : coded_all.Contents) → may_begin (shelf_of r.entries).limits (plain_contents contents) ≡ true → RowsStand (shelf_of r.entries).limits r (first_tables (plain_contents contents)) → next_of r.exchanges ≤ 2 ^ 60 + 0
 next_begun_with r contents may rows = let fits = next_fits (shelf_of r.entries).limits (plain_contents contents) may in let next = rows.next in omega (arith, fits, next)

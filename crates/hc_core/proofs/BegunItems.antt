@@ -256,10 +256,10 @@ module _ {B : Type 0} {g : Ghosts B} (r : Rows B g) (contents : Contents) where
   pub all_kept : (u : Rows B g) (i : ℕ) → length contents.items ≤ i → AreKept r u contents i → RowsStand (shelf_of u.entries).limits u (first_tables contents)
   all_kept u i le k = subst (λ (zs : List Content). RowsStand (shelf_of u.entries).limits u (first_tables (with_items zs contents))) (take_all i contents.items le) k.stands
 
-told_at : (items : List coded.Content) (i : ℕ) (item : coded.Content) → i < length items → item ≡ get_or items i item → plain_item item ≡ get_or (map plain_item items) i (plain_item item)
-told_at [] i item lt is = absurd (let none : i < 0 = lt in omega arith)
-told_at (x ∷ xs) zero item lt is = ap plain_item is
-told_at (x ∷ xs) (suc i) item lt is = told_at xs i item (omega arith) is
+reported_at : (items : List coded.Content) (i : ℕ) (item : coded.Content) → i < length items → item ≡ get_or items i item → plain_item item ≡ get_or (map plain_item items) i (plain_item item)
+reported_at [] i item lt is = absurd (let none : i < 0 = lt in omega arith)
+reported_at (x ∷ xs) zero item lt is = ap plain_item is
+reported_at (x ∷ xs) (suc i) item lt is = reported_at xs i item (omega arith) is
 
 pub good_of : (limits : Limits) (contents : Contents) → may_begin limits contents ≡ true → are_good limits contents [] contents.items ≡ true
 unfolding may_begin
@@ -280,7 +280,7 @@ module _ {B : Type 0} {g : Ghosts B} (a r : Rows B g) (contents : coded_all.Cont
   place = longer contents.items i lt
 
   abbrev at : plain_item item ≡ get_or (map plain_item contents.items) i (plain_item item)
-  at = told_at contents.items i item lt is
+  at = reported_at contents.items i item lt is
 
   abbrev good : are_good (shelf_of a.entries).limits (plain_contents contents) [] (map plain_item contents.items) ≡ true
   good = good_of (shelf_of a.entries).limits (plain_contents contents) may

@@ -15,7 +15,7 @@ use Rattle.hc_entry.specs.{Kept.{with_current, nothing}, Keys.{kept_of}}
 use Rattle.hc_exch.specs.{Exchanges.{table_of, next_of}, Known.{unknown}, declared.row.Open.{Open}}
 use Rattle.hc_effects.proofs.Vocabulary.{ascend_from, is_kind_right, current, is_usable, Content, Contents, kind_of, bound, Tables, Representation, first_tables, representation_of_content, numbers, last_end}
 use Rattle.hc_effects.proofs.Tests.{none_some}
-use Rattle.hc_state.specs.{declared.{rows.Rows.{Rows}}, Kept.{KeepsConsumer, KeepsExchange, KeepsRunning}, Lines.{KeepsKey}, Stands.{RowsStand}, Stored.{IsEntry, KeepsEntry, is_usable_row}}
+use Rattle.hc_state.specs.{declared.rows.Rows.{Rows}, Kept.{KeepsConsumer, KeepsExchange, KeepsRunning}, Lines.{KeepsKey}, Stands.{RowsStand}, Stored.{IsEntry, KeepsEntry, is_usable_row}}
 use Rattle.hc_txn.specs.declared.transaction.Transaction.{Transaction as Consumer}
 use Rattle.hc_state.specs.Stored as stored
 use Rattle.hc_core.proofs.BegunRuns.{runs_cells, runs_reach, runs_rest, kind_begun, whole_begun}
@@ -112,7 +112,7 @@ module _ {B : Type 0} {g : Ghosts B} (r u : Rows B g) (contents : Contents) (ite
     used = λ gone. false_true gone;
     key = ap (λ (k : Kept). k.key) rest;
     head = ap (λ (k : Kept). record k.head { kind = kind.Growing; total = item.head.total }) rest;
-    length = stored.told (ap (λ (k : Kept). k.head.total) rest);
+    length = stored.reported (ap (λ (k : Kept). k.head.total) rest);
     kind = λ fresh. ap (λ (k : Kept). k.head.kind) rest ∙ sym (kind_begun item ascends right (with_items more contents) item.r);
     whole = λ n is total. whole_begun item ascends right n (sym (ap (λ (k : Kept). k.head.kind) rest) ∙ is) (sym (ap (λ (k : Kept). k.head.total) rest) ∙ total);
     cells = λ p. runs_cells 0 0 p item.runs (entries.kept_at_beginning item.key item.head) ascends ∙ or_none (cells_of item.runs p);

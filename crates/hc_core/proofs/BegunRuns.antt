@@ -10,7 +10,7 @@ use Rattle.hc_sparse.specs.{Cells.{Cells, Covers, size_below}, Runs.{cells_of, e
 use Rattle.hc_sparse.proofs.CellLemmas.{inside-cases, inside-before}
 use Rattle.hc_record.specs.declared.kind.Kind.{Kind, TheVariants.{the_data as kind}}
 use Rattle.hc_stored.specs.{Begun.{with_runs}, Kept.{Kept, kept_with_bytes}}
-use Rattle.hc_effects.proofs.Vocabulary.{ascend_from, kind_of_runs, same_kind, is_kind_right, runs_from, Content, Contents, covers, kind_of, is_front, last_end, bytes_in, representation_of_content}
+use Rattle.hc_effects.proofs.Vocabulary.{ascend_from, kind_of_runs, same_kind, is_kind_right, runs_from, Content, Contents, covers, kind_of, is_prefix, last_end, bytes_in, representation_of_content}
 use Rattle.hc_model.specs.Kinds as kinds
 use Rattle.hc_model.specs.Tables as tables
 use Rattle.hc_laws.proofs.{Begins.{ends_all}, KindsLeft.{kind_by, kind_right, count_is, last_is}, Positions.{bytes_below, before_run}}
@@ -79,9 +79,9 @@ module _ (item : Content) (ascends : ascend_from 0 0 item.runs ≡ true) where
   abbrev reach : ℕ
   reach = last_end item.runs
 
-  told_by : (o : Option ℕ) → is_kind_right item o ≡ true → kind_by (kinds.covers_all (representation_of_content item) o) (is_front (representation_of_content item)) ≡ item.head.kind
-  told_by None right = false_true right
-  told_by (Some total) right =
+  reported_by : (o : Option ℕ) → is_kind_right item o ≡ true → kind_by (kinds.covers_all (representation_of_content item) o) (is_prefix (representation_of_content item)) ≡ item.head.kind
+  reported_by None right = false_true right
+  reported_by (Some total) right =
       let test : nat_le reach total ≡ true = and_left _ _ right in
       let within : reach ≤ total = grind (arith, nat_tests) in
       let ends = ends_all item.runs in
@@ -95,9 +95,9 @@ module _ (item : Content) (ascends : ascend_from 0 0 item.runs ≡ true) where
     -- a good item is of the kind that it tells
     pub kind_begun : (contents : Contents) (r : ℕ) → kind_of (tables.first_tables contents) r (representation_of_content item) ≡ item.head.kind
     unfolding kind_of
-    kind_begun contents r = told_by item.head.total right
+    kind_begun contents r = reported_by item.head.total right
 
     -- what is called whole is
     pub whole_begun : (n : ℕ) → item.head.kind ≡ kind.Whole → item.head.total ≡ Some n → Covers cells 0 n
     whole_begun n is total =
-        covers_all cells reach 0 n (whole_by (covers cells reach 0 n) (is_front (representation_of_content item)) (told_by (Some n) (ap (is_kind_right item) (sym total) ∙ right) ∙ is))
+        covers_all cells reach 0 n (whole_by (covers cells reach 0 n) (is_prefix (representation_of_content item)) (reported_by (Some n) (ap (is_kind_right item) (sym total) ∙ right) ∙ is))

@@ -14,8 +14,8 @@ module _ {B : Type 0} {g : Ghosts B} (s : Cache B g) (key : List ℕ) (contents 
   abbrev t : Tables
   t = tables contents h
 
-  pub turn_told : turn_of (line_of s.rows.keys key) ≡ turn t key
-  turn_told = turn_of_is t key (kept_of s.rows.keys key) (runs_are_sound (shelf_of s.rows.entries).limits contents h stands.begins stands.run).numbered.lists (stands.rows.keys key)
+  pub turn_reported : turn_of (line_of s.rows.keys key) ≡ turn t key
+  turn_reported = turn_of_is t key (kept_of s.rows.keys key) (runs_are_sound (shelf_of s.rows.entries).limits contents h stands.begins stands.run).numbered.lists (stands.rows.keys key)
 
   module _ (q : ℕ) (at : (kept_of s.rows.keys key).current ≡ Some q) where
     is_current : current t key ≡ Some q
@@ -28,8 +28,8 @@ module _ {B : Type 0} {g : Ghosts B} (s : Cache B g) (key : List ℕ) (contents 
     pub never_unkept : option_map view_of ((shelf_of s.rows.entries).kept q) ≡ None → ⊥
     never_unkept none = none_some (view_of now.e) (sym none ∙ ap (option_map view_of) now.kept)
 
-    pub kind_told : (view : EntryView) → option_map view_of ((shelf_of s.rows.entries).kept q) ≡ Some view → Some view.kind ≡ kind_for t key
-    kind_told view is =
+    pub kind_reported : (view : EntryView) → option_map view_of ((shelf_of s.rows.entries).kept q) ≡ Some view → Some view.kind ≡ kind_for t key
+    kind_reported view is =
         let seen : view_of now.e ≡ view = some_is (view_of now.e) view (sym (ap (option_map view_of) now.kept) ∙ is) in
         ap (λ (z : EntryView). Some z.kind) (sym seen)
         ∙ (ap Some (now.is.kind now.stays)

@@ -13,6 +13,6 @@ pub mod Stepping
 pub mod BegunRows
 pub mod BegunItems
 pub mod BegunCache
-pub mod ContentsTold
+pub mod ContentsReported
 pub mod Likewise
 pub mod LeastLive

@@ -18,7 +18,7 @@ use Rattle.hc_model.specs.Contents.{is_idle}
 use Rattle.hc_model.specs.Rows as rows
 use Rattle.hc_effects.proofs.{Basics.{number_is}, Closed.{among_filter, among_append_left, reversed as among_reverse, among_append_right}, CurrentKeeps.{current_is}, KeysKeep.{current_row}, PollKeeps.{current_stays}, Sums.{filter_among}, Tests.{none_some}}
 use Rattle.hc_laws.proofs.{RunsFrom.{end_is}, SoundRuns.{carried, measures_in_runs}}
-use Rattle.hc_state.specs.{declared.{rows.Rows.{Rows}}, Kept.{KeepsConsumer, KeepsExchange, KeepsRunning}, Lines.{KeepsKey, has_turn, is_away, is_passed}, Stands.{RowsStand}, Stored.{IsEntry, KeepsEntry, TellsLength, TellsWriter, is_first, is_over, is_usable_row}}
+use Rattle.hc_state.specs.{declared.rows.Rows.{Rows}, Kept.{KeepsConsumer, KeepsExchange, KeepsRunning}, Lines.{KeepsKey, has_turn, is_away, is_passed}, Stands.{RowsStand}, Stored.{IsEntry, KeepsEntry, KnowsLength, KnowsWriter, is_first, is_over, is_usable_row}}
 use Rattle.hc_txn.specs.declared.transaction.Transaction.{Transaction as Consumer}
 use Rattle.hc_state.specs.Stored as stored
 use Rattle.hc_core.proofs.{BegunRuns.{kind_begun}, HeadsGrow.{HeadsGrow, heads_grow}, NobodyLive.{nobody, nobody_says, unbound, none_bound, shut, none_held}, RunsBack.{cells_back}, Standing.{law_of_runs}, BegunItems.{good_of}}
@@ -173,7 +173,7 @@ module _ {B : Type 0} {g : Ghosts B} (r : Rows B g) (limits : Limits) (t : Table
     head_is : sealed_head kinds.Growing v.head.total v.head ≡ v.head
     head_is = λ i. record v.head { kind = (sym (grow q v row)) i }
 
-    writer_is : (o : Option ℕ) → v.writer ≡ o → (k : Option ℕ) → k ≡ None → TellsWriter t.exchange k v.writer
+    writer_is : (o : Option ℕ) → v.writer ≡ o → (k : Option ℕ) → k ≡ None → KnowsWriter t.exchange k v.writer
     writer_is None is k off = stored.as_written (off ∙ sym is)
     writer_is (Some x) is k off = stored.forgotten x off is (over_by (t.exchange x) (law.owned.writers q x v row is) (shut t law none x))
       where
@@ -181,8 +181,8 @@ module _ {B : Type 0} {g : Ghosts B} (r : Rows B g) (limits : Limits) (t : Table
         over_by None on off = false_true on
         over_by (Some w) on off = ap not off
 
-    forgets : (k : Option ℕ) → TellsWriter s.exchange k None → k ≡ None
-    forgets k told = grind (arith, nat_tests)
+    forgets : (k : Option ℕ) → KnowsWriter s.exchange k None → k ≡ None
+    forgets k reported = grind (arith, nat_tests)
 
     entry_is : (k : Kept) → IsEntry s q k (representation_of_content item) → IsEntry t q k v
     entry_is k e =
@@ -191,7 +191,7 @@ module _ {B : Type 0} {g : Ghosts B} (r : Rows B g) (limits : Limits) (t : Table
           used = λ is. false_true (sym fresh ∙ is);
           key = e.key;
           head = e.head ∙ head_is;
-          length = stored.told (by_length e.length);
+          length = stored.reported (by_length e.length);
           kind = λ _. e.kind refl ∙ kind_begun item good.0 good.1 (contents_of t) q;
           whole = λ n whole total p low high. ap (λ z. is_some z) (sym (cells_are p)) ∙ e.whole n whole total p low high;
           cells = λ p. e.cells p ∙ cells_are p;
@@ -204,9 +204,9 @@ module _ {B : Type 0} {g : Ghosts B} (r : Rows B g) (limits : Limits) (t : Table
           is_gone = e.is_gone ∙ sym fresh;
         }
       where
-        by_length : TellsLength k (representation_of_content item) → k.head.total ≡ v.head.total
-        by_length (stored.told is) = is
-        by_length (stored.untold u) = false_true u.gone
+        by_length : KnowsLength k (representation_of_content item) → k.head.total ≡ v.head.total
+        by_length (stored.reported is) = is
+        by_length (stored.unreported u) = false_true u.gone
 
   abbrev kept_at : ℕ → Option Kept
   kept_at = (shelf_of r.entries).kept

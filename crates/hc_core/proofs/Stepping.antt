@@ -134,14 +134,14 @@ pub record OneMore {B : Type 0} {g : Ghosts B} (r u : Rows B g) (contents : Cont
   pub rows : RowsStand (shelf_of u.entries).limits u (tables contents (record { now = now; event = ev; acts = acts } ∷ h))
 
 -- its acts are those that were appended
-pub record Told {B : Type 0} {g : Ghosts B} (r u : Rows B g) (contents : Contents) (h : History) (before out : List Act) (now : ℕ) (ev : Event) : Type 0 where
-  pub told : out ≡ before ++ acts_in before out
+pub record Reported {B : Type 0} {g : Ghosts B} (r u : Rows B g) (contents : Contents) (h : History) (before out : List Act) (now : ℕ) (ev : Event) : Type 0 where
+  pub reported : out ≡ before ++ acts_in before out
   pub more : OneMore r u contents h (acts_in before out) now ev
 
-told_by : {B : Type 0} {g : Ghosts B} (r u : Rows B g) (contents : Contents) (h : History) (before out acts : List Act) (now : ℕ) (ev : Event) → out ≡ before ++ acts → OneMore r u contents h acts now ev → Told r u contents h before out now ev
-told_by r u contents h before out acts now ev told more =
-    let same : acts_in before out ≡ acts = ap (drop (length before)) told ∙ drop-append_seam before acts in
-    record { told = told ∙ ap (λ (z : List Act). before ++ z) (sym same); more = subst (λ (z : List Act). OneMore r u contents h z now ev) (sym same) more }
+reported_by : {B : Type 0} {g : Ghosts B} (r u : Rows B g) (contents : Contents) (h : History) (before out acts : List Act) (now : ℕ) (ev : Event) → out ≡ before ++ acts → OneMore r u contents h acts now ev → Reported r u contents h before out now ev
+reported_by r u contents h before out acts now ev reported more =
+    let same : acts_in before out ≡ acts = ap (drop (length before)) reported ∙ drop-append_seam before acts in
+    record { reported = reported ∙ ap (λ (z : List Act). before ++ z) (sym same); more = subst (λ (z : List Act). OneMore r u contents h z now ev) (sym same) more }
 
 -- a failure that the acts tell was counted
 one_counted : (faults after : ℕ) (flaw : Flaw) (b : Bool) → is_fault flaw ≡ b → (is_fault flaw ≡ true → faults < after) → faults ≤ after → faults + (if b then 1 else 0) ≤ after
@@ -173,14 +173,14 @@ module _ {B : Type 0} {g : Ghosts B} (r u : Rows B g) (now : ℕ) (ev : Event) (
       rows = subst (λ l. RowsStand l u (tables contents (with_acts acts ∷ h))) (sym bounded) (subst (RowsStand (shelf_of r.entries).limits u) is stands);
     }
 
-    by_refusal : (o : Option Refusal) → refusal_of (gate_of r ev) ev ≡ o → Told r u contents h before out now ev
+    by_refusal : (o : Option Refusal) → refusal_of (gate_of r ev) ev ≡ o → Reported r u contents h before out now ev
     by_refusal None is =
         let free : denial t ev ≡ None = sym (denies_as r t ev rows) ∙ is in
         let done = answered is (shelf_of r.entries).limits t facts rows free in
         let acts = accepted_acts (shelf_of r.entries).limits t now ev done.flaw in
         let e : Entry = with_acts acts in
         let counts = one_counted (shelf_of r.entries).faults (shelf_of u.entries).faults done.flaw (is_fault done.flaw) refl done.caused never in
-        told_by r u contents h before out acts now ev done.acts
+        reported_by r u contents h before out acts now ev done.acts
         (stands_with acts (after_accepted t e) (next_tables contents h e (undenied (shelf_of r.entries).limits t now ev done.flaw)) refl
         (record {
           later = in_time;
@@ -191,17 +191,17 @@ module _ {B : Type 0} {g : Ghosts B} (r u : Rows B g) (now : ℕ) (ev : Event) (
         let some : denial t ev ≡ Some why = sym (denies_as r t ev rows) ∙ is in
         let acts = act.Denied why ∷ [] in
         let e : Entry = with_acts acts in
-        told_by r u contents h before out acts now ev (denied why is).1
+        reported_by r u contents h before out acts now ev (denied why is).1
         (stands_with acts (after_denied t e) (denied_tables contents h e refl) refl
         (record { later = in_time; acts = sym (answer_denied (shelf_of r.entries).limits t now ev NoFlaw why some); flaw = may_stand_denied (shelf_of r.entries).limits t e refl })
         (omega (arith, never))
         (ap (λ (z : Rows B g). (shelf_of z.entries).limits) (denied why is).0)
         (subst (λ z. RowsStand (shelf_of r.entries).limits z (after_denied t e)) (sym (denied why is).0) (stands_denied r t e rows)))
 
-    pub one_more : Told r u contents h before out now ev
+    pub one_more : Reported r u contents h before out now ev
     one_more = by_refusal (refusal_of (gate_of r ev) ev) refl
 
-  abbrev some_more : (last : ℕ) → last ≤ now → (some : StandsUntil r bytes last) → Told r u some.0.contents some.0.h before out now ev
+  abbrev some_more : (last : ℕ) → last ≤ now → (some : StandsUntil r bytes last) → Reported r u some.0.contents some.0.h before out now ev
   some_more last later (s, until) = one_more s.contents s.h s.begins s.run (sized_of_some r bytes small s) s.rows (omega (arith, later, until))
 
   pub some_after : IsEventWithinLimits ev → (last : ℕ) → last ≤ now → StandsUntil r bytes last → StandsAt u (bytes + received_in ev) now
@@ -231,8 +231,8 @@ module _ {B : Type 0} {g : Ghosts B} (r u : Rows B g) (now : ℕ) (ev : Event) (
   pub bounded_after : (last : ℕ) → last ≤ now → ∥ StandsUntil r bytes last ∥₁ → (shelf_of u.entries).limits ≡ (shelf_of r.entries).limits
   bounded_after last later some = ∥∥₁_elim some (limits_set (shelf_of u.entries).limits (shelf_of r.entries).limits) (λ s. (some_more last later s).more.bounded)
 
-  pub told_after : (last : ℕ) → last ≤ now → ∥ StandsUntil r bytes last ∥₁ → out ≡ before ++ acts_in before out
-  told_after last later some = ∥∥₁_elim some (acts_set out (before ++ acts_in before out)) (λ s. (some_more last later s).told)
+  pub reported_after : (last : ℕ) → last ≤ now → ∥ StandsUntil r bytes last ∥₁ → out ≡ before ++ acts_in before out
+  reported_after last later some = ∥∥₁_elim some (acts_set out (before ++ acts_in before out)) (λ s. (some_more last later s).reported)
 
   pub counted_after : (last : ℕ) → last ≤ now → ∥ StandsUntil r bytes last ∥₁ → (shelf_of r.entries).faults + failures_in (acts_in before out) ≤ (shelf_of u.entries).faults
   counted_after last later some = ∥∥₁_elim some le_prop (λ s. (some_more last later s).more.counted)
@@ -257,7 +257,7 @@ module _ {B : Type 0} {g : Ghosts B} (s u : Cache B g) (now : ℕ) (ev : Event) 
   pub steps_on : ∥ StandsUntil s.rows s.received s.last_moment ∥₁ → u.steps ≡ s.steps + 1 → Steps s u before out now ev
   steps_on some one = record {
     acts = acts_in before out;
-    told = told_after s.rows u.rows now ev before out denied answered never s.received small s.last_moment later some;
+    reported = reported_after s.rows u.rows now ev before out denied answered never s.received small s.last_moment later some;
     answered = record {
       limits = bounded_after s.rows u.rows now ev before out denied answered never s.received small s.last_moment later some;
       stands = stands_on some;

@@ -78,7 +78,7 @@ pub record Answers {B : Type 0} {g : Ghosts B} (s u : Cache B g) (now : ℕ) (ev
 -- The event was answered by the acts that were appended.
 pub record Steps {B : Type 0} {g : Ghosts B} (s u : Cache B g) (before out : List Act) (now : ℕ) (event : Event) : Type 0 where
   pub acts : List Act
-  pub told : out ≡ before ++ acts
+  pub reported : out ≡ before ++ acts
   pub answered : Answers s u now event acts
 
 -- WHAT IS PROMISED OVER ALL INTERLEAVINGS

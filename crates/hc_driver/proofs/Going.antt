@@ -7,11 +7,11 @@
 use Rattle.std.{proofs.{Common.{◌≡◌, ℕ, suc, ◌+◌, ◌<◌, ◌≤◌, List, [], ◌∷◌, ◌++◌, length, take, drop, get_or, Option, Result, Ok, Err, ◌⊎◌, Bool, true, false, refl, sym, ap, subst, ◌∙◌, inl, inr, arith, append_assoc, length-append}, lemmas.List.{append-nil, take-append-drop, take_more, length-take}, Math.Seq.{drop-cons}}, specs.Result.{IsErrAnd}}
 use Rattle.hc_text.proofs.Basics.{nothing_first}
 use Rattle.hc_event.specs.{declared.event.Event.{Event}, Counting.{received_in}}
-use Rattle.hc_io.specs.{Sink.{Takes, TakesFront}, declared.sink.SinkError.{SinkError}}
+use Rattle.hc_io.specs.{Sink.{Takes, TakesPrefix}, declared.sink.SinkError.{SinkError}}
 use Rattle.hc_io.specs.declared.sink.SinkError.TheVariants as sink
 use Rattle.hc_io.proofs.Takings.{takes_more, takes_none}
 use Rattle.hc_sched.specs.{declared.schedule.Timed.{Timed}, Laws.{AreTimed}}
-use Rattle.hc_driver.specs.{Counting.{size_of, last_moment}, Courses.{History, events_in, text_of, text_before, last_text, Leads, nothing, more, Lacks, TakesThenFront, Goes, wholly, up_to_end, up_to_last, up_to_want}, Endings.{How, Wholly, UpToEnd, UpToLast, UpToWant}, declared.stop.Stop.{Stop}, Pieces.{Some, Wants, Comes}, Stops.{of_sink}}
+use Rattle.hc_driver.specs.{Counting.{size_of, last_moment}, Courses.{History, events_in, text_of, text_before, last_text, Leads, nothing, more, Lacks, TakesThenPrefix, Goes, wholly, up_to_end, up_to_last, up_to_want}, Endings.{How, Wholly, UpToEnd, UpToLast, UpToWant}, declared.stop.Stop.{Stop}, Pieces.{Some, Wants, Comes}, Stops.{of_sink}}
 use Rattle.hc_driver.specs.declared.stop.Stop.TheVariants as stop
 use Rattle.hc_driver.proofs.{Sizes.{size_of-append}, Timings.{last-append}}
 
@@ -46,12 +46,12 @@ text-append h [] = sym (append-nil (text_of h))
 text-append h (e ∷ g) = ap (λ (l : List ℕ). l ++ e.text) (text-append h g) ∙ append_assoc (text_of h) (text_of g) e.text
 
 -- what was all taken was taken up to the last
-all_but_last : (h : History) (a b : Option (List ℕ)) → Takes a b (text_of h) → TakesThenFront a b (text_before h) (last_text h)
+all_but_last : (h : History) (a b : Option (List ℕ)) → Takes a b (text_of h) → TakesThenPrefix a b (text_before h) (last_text h)
 all_but_last [] a b taken = record { part = []; rest = []; whole = refl; takes = taken }
 all_but_last (e ∷ h) a b taken = record { part = e.text; rest = []; whole = append-nil e.text; takes = taken }
 
 -- all that was answered before goes in front
-ahead : (f g : History) (a b c : Option (List ℕ)) → Takes a b (text_of f) → TakesThenFront b c (text_before g) (last_text g) → TakesThenFront a c (text_before (g ++ f)) (last_text (g ++ f))
+ahead : (f g : History) (a b c : Option (List ℕ)) → Takes a b (text_of f) → TakesThenPrefix b c (text_before g) (last_text g) → TakesThenPrefix a c (text_before (g ++ f)) (last_text (g ++ f))
 ahead f [] a b c taken up =
     let none : up.part ≡ [] = nothing_first up.part up.rest up.whole in
     let same : Takes b c [] = subst (λ (l : List ℕ). Takes b c l) none up.takes in
@@ -76,12 +76,12 @@ pub record Counts : Type 0 where
   pub moment : ℕ
   pub faults : ℕ
 
-module _ {A : Type 0} (tells : A → ℕ → ℕ → Event → List ℕ → A → Type 0) (over : A → Bool) (spent : A → A → Type 0) where
-  leads-append : (n m : ℕ) (s t u : A) (h g : History) → m ≡ n + length h → Leads tells over n s h t → Leads tells over m t g u → Leads tells over n s (g ++ h) u
+module _ {A : Type 0} (reports : A → ℕ → ℕ → Event → List ℕ → A → Type 0) (over : A → Bool) (spent : A → A → Type 0) where
+  leads-append : (n m : ℕ) (s t u : A) (h g : History) → m ≡ n + length h → Leads reports over n s h t → Leads reports over m t g u → Leads reports over n s (g ++ h) u
   leads-append n m s t u h _ is first nothing = first
-  leads-append n m s t u h _ is first (more g e v w rest is_open told) =
+  leads-append n m s t u h _ is first (more g e v w rest is_open reported) =
       let number : m + length g + 1 ≡ n + length (g ++ h) + 1 = let len = length-append g h in omega arith in
-      more (g ++ h) e v u (leads-append n m s t v h g is first rest) is_open (subst (λ (k : ℕ). tells v k e.timed.now e.timed.event e.text u) number told)
+      more (g ++ h) e v u (leads-append n m s t v h g is first rest) is_open (subst (λ (k : ℕ). reports v k e.timed.now e.timed.event e.text u) number reported)
 
   events-join : (h g : History) (xs ys : List Timed) → events_in h ≡ xs → events_in g ≡ ys → events_in (g ++ h) ≡ xs ++ ys
   events-join h g xs ys h_are g_are = events_in-append h g ∙ (ap (λ (l : List Timed). l ++ events_in g) h_are ∙ ap (λ (l : List Timed). xs ++ l) g_are)
@@ -93,12 +93,12 @@ module _ {A : Type 0} (tells : A → ℕ → ℕ → Event → List ℕ → A �
   number-is : (n m : ℕ) (h : History) (xs : List Timed) → events_in h ≡ xs → m ≡ n + length xs → m ≡ n + length h
   number-is n m h xs are is = is ∙ ap (λ (k : ℕ). n + k) (sym (ap length are) ∙ length-events_in h)
 
-  pub goes_none : (n : ℕ) (s : A) (out : Option (List ℕ)) → over s ≡ false → Goes tells over spent n s s out out Wholly []
+  pub goes_none : (n : ℕ) (s : A) (out : Option (List ℕ)) → over s ≡ false → Goes reports over spent n s s out out Wholly []
   goes_none n s out is_open = wholly [] refl nothing is_open (takes_none out)
 
   -- all of some events, and then some more so far
-  pub goes_more : (n m : ℕ) (s t u : A) (a b c : Option (List ℕ)) (how : How) (xs ys : List Timed) → Goes tells over spent n s t a b Wholly xs → m ≡ n + length xs
-      → Goes tells over spent m t u b c how ys → Goes tells over spent n s u a c how (xs ++ ys)
+  pub goes_more : (n m : ℕ) (s t u : A) (a b c : Option (List ℕ)) (how : How) (xs ys : List Timed) → Goes reports over spent n s t a b Wholly xs → m ≡ n + length xs
+      → Goes reports over spent m t u b c how ys → Goes reports over spent n s u a c how (xs ++ ys)
   goes_more n m s t u a b c _ xs ys (wholly f f_are f_leads f_open f_taken) is (wholly g g_are g_leads g_open g_taken) =
       wholly (g ++ f) (events-join f g xs ys f_are g_are) (leads-append n m s t u f g (number-is n m f xs f_are is) f_leads g_leads) g_open (texts-join f g a b c f_taken g_taken)
   goes_more n m s t u a b c _ xs ys (wholly f f_are f_leads f_open f_taken) is (up_to_end g g_are g_leads ended g_taken) =
@@ -109,25 +109,25 @@ module _ {A : Type 0} (tells : A → ℕ → ℕ → Event → List ℕ → A �
       up_to_want (g ++ f) last (events-join f g xs ys f_are g_are) (leads-append n m s t last f g (number-is n m f xs f_are is) f_leads g_leads) g_open (texts-join f g a b c f_taken g_taken) led
 
   -- what went wholly went up to the last
-  pub wholly_last : (n : ℕ) (s u : A) (a b : Option (List ℕ)) (xs : List Timed) → Goes tells over spent n s u a b Wholly xs → Goes tells over spent n s u a b UpToLast xs
+  pub wholly_last : (n : ℕ) (s u : A) (a b : Option (List ℕ)) (xs : List Timed) → Goes reports over spent n s u a b Wholly xs → Goes reports over spent n s u a b UpToLast xs
   wholly_last n s u a b xs (wholly h are leads is_open taken) = up_to_last h are leads (all_but_last h a b taken)
 
   -- what went wholly, and its next answer was refused memory
-  wholly_want : (n : ℕ) (s t u : A) (a b : Option (List ℕ)) (xs : List Timed) → Goes tells over spent n s t a b Wholly xs → spent t u → Goes tells over spent n s u a b UpToWant xs
+  wholly_want : (n : ℕ) (s t u : A) (a b : Option (List ℕ)) (xs : List Timed) → Goes reports over spent n s t a b Wholly xs → spent t u → Goes reports over spent n s u a b UpToWant xs
   wholly_want n s t u a b xs (wholly h are leads is_open taken) led = up_to_want h t are leads is_open taken led
 
   -- ONE EVENT
 
   -- it was answered by this text
-  one : (n number : ℕ) (s u : A) (timed : Timed) (text : List ℕ) → over s ≡ false → tells s number timed.now timed.event text u → number ≡ n + 1
-      → Leads tells over n s ((record { timed = timed; text = text }) ∷ []) u
-  one n number s u timed text is_open told is =
+  one : (n number : ℕ) (s u : A) (timed : Timed) (text : List ℕ) → over s ≡ false → reports s number timed.now timed.event text u → number ≡ n + 1
+      → Leads reports over n s ((record { timed = timed; text = text }) ∷ []) u
+  one n number s u timed text is_open reported is =
       let here : number ≡ n + 0 + 1 = omega (arith, is) in
-      more [] (record { timed = timed; text = text }) s u nothing is_open (subst (λ (k : ℕ). tells s k timed.now timed.event text u) here told)
+      more [] (record { timed = timed; text = text }) s u nothing is_open (subst (λ (k : ℕ). reports s k timed.now timed.event text u) here reported)
 
   -- the first i events went wholly, and the rest may be answered
   pub record IsWritten (s u : A) (before now : Counts) (events : List Timed) (i : ℕ) (out out' : Option (List ℕ)) : Type 0 where
-    pub goes : Goes tells over spent before.number s u out out' Wholly (take i events)
+    pub goes : Goes reports over spent before.number s u out out' Wholly (take i events)
     pub numbered : now.number ≡ before.number + i
     pub counted : now.steps ≡ before.steps + i
     pub size : now.steps + now.received ≡ before.steps + before.received + size_of (take i events)
@@ -168,23 +168,23 @@ module _ {A : Type 0} (tells : A → ℕ → ℕ → Event → List ℕ → A �
   -- one event more went wholly
   pub written_more : (s t u : A) (before now next : Counts) (events : List Timed) (i : ℕ) (a b c : Option (List ℕ)) (timed : Timed) (number : ℕ) (text : List ℕ)
       → IsWritten s t before now events i a b → i < length events → timed ≡ get_or events i timed
-      → tells t number timed.now timed.event text u → over u ≡ false → Takes b c text
+      → reports t number timed.now timed.event text u → over u ≡ false → Takes b c text
       → number ≡ now.number + 1 → next.number ≡ number → next.steps ≡ now.steps + 1 → next.received ≡ now.received + received_in timed.event → next.moment ≡ timed.now → next.faults ≡ now.faults
       → IsWritten s u before next events (i + 1) a c
-  written_more s t u before now next events i a b c timed number text w lt is told is_open takes one_more kept steps received moment faults =
-      let now_wholly : Goes tells over spent now.number t u b c Wholly (timed ∷ []) =
-      wholly ((record { timed = timed; text = text }) ∷ []) refl (one now.number number t u timed text w.is_open told one_more) is_open takes in
-      let is_front = front events i timed lt is in
+  written_more s t u before now next events i a b c timed number text w lt is reported is_open takes one_more kept steps received moment faults =
+      let now_wholly : Goes reports over spent now.number t u b c Wholly (timed ∷ []) =
+      wholly ((record { timed = timed; text = text }) ∷ []) refl (one now.number number t u timed text w.is_open reported one_more) is_open takes in
+      let is_prefix = front events i timed lt is in
       let size = size_of-append (take i events) (timed ∷ []) in
       let w_size = w.size in let w_numbered = w.numbered in let w_counted = w.counted in
-      let more_size : size_of (take (i + 1) events) ≡ size_of (take i events ++ timed ∷ []) = ap size_of is_front in
+      let more_size : size_of (take (i + 1) events) ≡ size_of (take i events ++ timed ∷ []) = ap size_of is_prefix in
       record {
-        goes = subst (λ (l : List Timed). Goes tells over spent before.number s u a c Wholly l) (sym is_front)
+        goes = subst (λ (l : List Timed). Goes reports over spent before.number s u a c Wholly l) (sym is_prefix)
             (goes_more before.number now.number s t u a b c Wholly (take i events) (timed ∷ []) w.goes (number-taken s t before now events i a b w lt) now_wholly);
         numbered = omega arith;
         counted = omega arith;
         size = omega arith;
-        moment_is = moment ∙ (sym (last-append before.moment (take i events) (timed ∷ [])) ∙ ap (last_moment before.moment) (sym is_front));
+        moment_is = moment ∙ (sym (last-append before.moment (take i events) (timed ∷ [])) ∙ ap (last_moment before.moment) (sym is_prefix));
         timed = rw moment ((may_step s t before now events i a b timed w lt is).3);
         is_open = is_open;
         calm = faults ∙ w.calm;
@@ -195,7 +195,7 @@ module _ {A : Type 0} (tells : A → ℕ → ℕ → Event → List ℕ → A �
   -- the next event went so far
   written_some : (s t u : A) (before now : Counts) (events : List Timed) (i : ℕ) (a b c : Option (List ℕ)) (how : How) (timed : Timed)
       → IsWritten s t before now events i a b → i < length events → timed ≡ get_or events i timed
-      → Goes tells over spent now.number t u b c how (timed ∷ []) → Some (Goes tells over spent before.number s u a c) how events
+      → Goes reports over spent now.number t u b c how (timed ∷ []) → Some (Goes reports over spent before.number s u a c) how events
   written_some s t u before now events i a b c how timed w lt is went = record {
     first = take i events ++ timed ∷ [];
     rest = drop (i + 1) events;
@@ -205,24 +205,24 @@ module _ {A : Type 0} (tells : A → ℕ → ℕ → Event → List ℕ → A �
 
   pub written_end : (s t u : A) (before now : Counts) (number : ℕ) (events : List Timed) (i : ℕ) (a b c : Option (List ℕ)) (timed : Timed) (text : List ℕ)
       → IsWritten s t before now events i a b → i < length events → timed ≡ get_or events i timed
-      → tells t number timed.now timed.event text u → over u ≡ true → Takes b c text → number ≡ now.number + 1 → Some (Goes tells over spent before.number s u a c) UpToEnd events
-  written_end s t u before now number events i a b c timed text w lt is told ended takes numbered =
+      → reports t number timed.now timed.event text u → over u ≡ true → Takes b c text → number ≡ now.number + 1 → Some (Goes reports over spent before.number s u a c) UpToEnd events
+  written_end s t u before now number events i a b c timed text w lt is reported ended takes numbered =
       written_some s t u before now events i a b c UpToEnd timed w lt is
-      (up_to_end ((record { timed = timed; text = text }) ∷ []) refl (one now.number number t u timed text w.is_open told numbered) ended takes)
+      (up_to_end ((record { timed = timed; text = text }) ∷ []) refl (one now.number number t u timed text w.is_open reported numbered) ended takes)
 
   pub written_last : (s t u : A) (before now : Counts) (number : ℕ) (events : List Timed) (i : ℕ) (a b c : Option (List ℕ)) (timed : Timed) (text : List ℕ)
       → IsWritten s t before now events i a b → i < length events → timed ≡ get_or events i timed
-      → tells t number timed.now timed.event text u → TakesFront b c text → number ≡ now.number + 1 → Some (Goes tells over spent before.number s u a c) UpToLast events
-  written_last s t u before now number events i a b c timed text w lt is told takes numbered =
+      → reports t number timed.now timed.event text u → TakesPrefix b c text → number ≡ now.number + 1 → Some (Goes reports over spent before.number s u a c) UpToLast events
+  written_last s t u before now number events i a b c timed text w lt is reported takes numbered =
       written_some s t u before now events i a b c UpToLast timed w lt is
-      (up_to_last ((record { timed = timed; text = text }) ∷ []) refl (one now.number number t u timed text w.is_open told numbered)
+      (up_to_last ((record { timed = timed; text = text }) ∷ []) refl (one now.number number t u timed text w.is_open reported numbered)
       (record { part = takes.front; rest = takes.rest; whole = takes.whole; takes = takes.takes }))
 
   -- the answer to the next event, or its text, is refused memory
   pub written_lacking : (s t u : A) (before now : Counts) (number : ℕ) (events : List Timed) (i : ℕ) (a b : Option (List ℕ)) (timed : Timed)
       → IsWritten s t before now events i a b → i < length events → timed ≡ get_or events i timed → number ≡ now.number + 1
-      → Lacks tells spent t number timed.now timed.event u
-      → Some (Goes tells over spent before.number s u a b) UpToLast events ⊎ Wants (Goes tells over spent before.number s u a b) events
+      → Lacks reports spent t number timed.now timed.event u
+      → Some (Goes reports over spent before.number s u a b) UpToLast events ⊎ Wants (Goes reports over spent before.number s u a b) events
   written_lacking s t u before now number events i a b timed w lt is numbered (inl led) = inr (record {
     first = take i events;
     rest = drop (i + 1) events;
@@ -230,18 +230,18 @@ module _ {A : Type 0} (tells : A → ℕ → ℕ → Event → List ℕ → A �
     whole = around events i timed lt is;
     went = wholly_want before.number s t u a b (take i events) w.goes led;
   })
-  written_lacking s t u before now number events i a b timed w lt is numbered (inr told) =
-      let none : TakesFront b b told.0 = record { front = []; rest = told.0; whole = refl; takes = takes_none b } in
-      inl (written_last s t u before now number events i a b b timed told.0 w lt is told.1 none numbered)
+  written_lacking s t u before now number events i a b timed w lt is numbered (inr reported) =
+      let none : TakesPrefix b b reported.0 = record { front = []; rest = reported.0; whole = refl; takes = takes_none b } in
+      inl (written_last s t u before now number events i a b b timed reported.0 w lt is reported.1 none numbered)
 
   -- as what is refused is called
   pub comes_memory : (n : ℕ) (s u : A) (a b : Option (List ℕ)) (events : List Timed) (result : Result (Unit {0}) Stop) → IsErrAnd result (λ (st : Stop). st ≡ stop.NoMemory)
-      → Some (Goes tells over spent n s u a b) UpToLast events ⊎ Wants (Goes tells over spent n s u a b) events → Comes (Goes tells over spent n s u a b) events result
+      → Some (Goes reports over spent n s u a b) UpToLast events ⊎ Wants (Goes reports over spent n s u a b) events → Comes (Goes reports over spent n s u a b) events result
   comes_memory n s u a b events (Ok x) is lacks = absurd is
-  comes_memory n s u a b events (Err st) is lacks = subst (λ (l : Stop). Comes (Goes tells over spent n s u a b) events (Err l)) (sym is) lacks
+  comes_memory n s u a b events (Err st) is lacks = subst (λ (l : Stop). Comes (Goes reports over spent n s u a b) events (Err l)) (sym is) lacks
 
   pub comes_sink : (n : ℕ) (s u : A) (a b : Option (List ℕ)) (events : List Timed) (e : SinkError) (result : Result (Unit {0}) Stop) → IsErrAnd result (λ (st : Stop). st ≡ of_sink e)
-      → Some (Goes tells over spent n s u a b) UpToLast events → Comes (Goes tells over spent n s u a b) events result
+      → Some (Goes reports over spent n s u a b) UpToLast events → Comes (Goes reports over spent n s u a b) events result
   comes_sink n s u a b events e (Ok x) is last = absurd is
-  comes_sink n s u a b events sink.SinkFailed (Err st) is last = subst (λ (l : Stop). Comes (Goes tells over spent n s u a b) events (Err l)) (sym is) last
-  comes_sink n s u a b events sink.NoMemory (Err st) is last = subst (λ (l : Stop). Comes (Goes tells over spent n s u a b) events (Err l)) (sym is) (inl last)
+  comes_sink n s u a b events sink.SinkFailed (Err st) is last = subst (λ (l : Stop). Comes (Goes reports over spent n s u a b) events (Err l)) (sym is) last
+  comes_sink n s u a b events sink.NoMemory (Err st) is last = subst (λ (l : Stop). Comes (Goes reports over spent n s u a b) events (Err l)) (sym is) (inl last)

@@ -3,4 +3,4 @@ pub mod Timings
 pub mod Going
 pub mod Runs
 pub mod Spelled
-pub mod Reported
+pub mod ReportSteps

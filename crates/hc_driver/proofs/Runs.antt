@@ -9,8 +9,7 @@ use Rattle.std.{proofs.{Common.{◌≡◌, ◌⊎◌, ℕ, ◌+◌, ◌*◌, ◌
 use Rattle.hc_event.specs.declared.event.Event.{Event}
 use Rattle.hc_io.specs.Source.{Gives, GivesAll, IsAtEnd}
 use Rattle.hc_io.proofs.Givings.{gives_none, gives_more}
-use Rattle.hc_sched.specs.{declared.{place.Place.{Place}, schedule.{Refused.{Refused}, Timed.{Timed}, FeedError.{FeedError}}}, Reading.{Progress, Reads, Stopped, after, events_in}, Feeding.{lines_in, is_between, Feeds, ending}, Laws.{AreTimed, refusal_at}, Schedule.{IsSmall}}
-use Rattle.hc_sched.specs.Reading.{beginning, refusal_of}
+use Rattle.hc_sched.specs.{declared.{place.Place.{Place}, schedule.{Refused.{Refused}, Timed.{Timed}, FeedError.{FeedError}}}, Reading.{Progress, Reads, Stopped, after, events_in, beginning, refusal_of}, Feeding.{lines_in, is_between, Feeds, ending}, Laws.{AreTimed, refusal_at}, Schedule.{IsSmall}}
 use Rattle.hc_sched.specs.declared.schedule.Ended.TheVariants as ended
 use Rattle.hc_sched.specs.declared.schedule.FeedError.TheVariants as error
 use Rattle.hc_sched.proofs.{FeedLemmas.{after-append, after-stopped, events_in-append}, OneReading.{brings_timed, is_read, is_spelled}}
@@ -31,12 +30,12 @@ pub record Extent : Type 0 where
   pub given : ℕ
 
 -- what was read so far went wholly
-pub record IsOn {A : Type 0} (tells : A → ℕ → ℕ → Event → List ℕ → A → Type 0) (over : A → Bool) (spent : A → A → Type 0) (s u : A) (moment given : ℕ) (now : Extent) (feed : Progress) (left left' out out' : Option (List ℕ)) : Type 0 where
+pub record IsOn {A : Type 0} (reports : A → ℕ → ℕ → Event → List ℕ → A → Type 0) (over : A → Bool) (spent : A → A → Type 0) (s u : A) (moment given : ℕ) (now : Extent) (feed : Progress) (left left' out out' : Option (List ℕ)) : Type 0 where
   pub text : List ℕ
   pub gives : Gives left left' text
   pub leads : after (beginning moment) text ≡ feed
   pub reading : IsReading feed
-  pub goes : Goes tells over spent 0 s u out out' Wholly (events_from moment text)
+  pub goes : Goes reports over spent 0 s u out out' Wholly (events_from moment text)
   pub count : now.given ≡ given + length text
   pub lines : lines_in feed ≤ length text
   pub numbered : now.number ≡ now.steps
@@ -68,15 +67,15 @@ front_small xs ys all e = let parts = size_of-append xs ys in let same : size_of
 pub front_few : (xs ys all : List Timed) → xs ++ ys ≡ all → length xs ≤ length all
 front_few xs ys all e = let parts = length-append xs ys in let same : length (xs ++ ys) ≡ length all = ap length e in omega arith
 
-module _ {A : Type 0} (tells : A → ℕ → ℕ → Event → List ℕ → A → Type 0) (over : A → Bool) (spent : A → A → Type 0) where
+module _ {A : Type 0} (reports : A → ℕ → ℕ → Event → List ℕ → A → Type 0) (over : A → Bool) (spent : A → A → Type 0) where
   pub on_start : (s : A) (moment : ℕ) (now : Extent) (left out : Option (List ℕ)) → now.number ≡ 0 → now.steps + now.received ≡ 0 → now.moment ≤ moment → over s ≡ false
-      → IsOn tells over spent s s moment now.given now (beginning moment) left left out out
+      → IsOn reports over spent s s moment now.given now (beginning moment) left left out out
   on_start s moment now left out number none le is_open = record {
     text = [];
     gives = gives_none left;
     leads = refl;
     reading = (_, _, refl);
-    goes = goes_none tells over spent 0 s out is_open;
+    goes = goes_none reports over spent 0 s out is_open;
     count = omega arith;
     lines = omega arith;
     numbered = omega (arith, number, none);
@@ -91,7 +90,7 @@ module _ {A : Type 0} (tells : A → ℕ → ℕ → Event → List ℕ → A �
 
   -- the events of the next piece may be stepped, and are no more than fit
   pub next_timed : (s u : A) (moment given : ℕ) (now : Extent) (feed : Progress) (left left' out out' : Option (List ℕ)) (piece : List ℕ) → IsSmall moment
-      → IsOn tells over spent s u moment given now feed left left' out out' → AreTimed now.moment (events_in feed piece)
+      → IsOn reports over spent s u moment given now feed left left' out out' → AreTimed now.moment (events_in feed piece)
   next_timed s u moment given now feed left left' out out' piece small on =
       let all = brings_timed moment (on.text ++ piece) small in
       let parts : events_from moment (on.text ++ piece) ≡ events_from moment on.text ++ events_in feed piece = brought-append moment on.text piece ∙ ap (λ (p : Progress). events_from moment on.text ++ events_in p piece) on.leads in
@@ -99,7 +98,7 @@ module _ {A : Type 0} (tells : A → ℕ → ℕ → Event → List ℕ → A �
       timed_from (last_moment moment (events_from moment on.text)) now.moment (events_in feed piece) on.moment_is back
 
   pub next_small : (s u : A) (moment given : ℕ) (now : Extent) (feed : Progress) (left left' out out' : Option (List ℕ)) (piece : List ℕ)
-      → (on : IsOn tells over spent s u moment given now feed left left' out out') → now.steps + now.received + size_of (events_in feed piece) ≤ length on.text + length piece
+      → (on : IsOn reports over spent s u moment given now feed left left' out out') → now.steps + now.received + size_of (events_in feed piece) ≤ length on.text + length piece
   next_small s u moment given now feed left left' out out' piece on =
       let parts : events_from moment (on.text ++ piece) ≡ events_from moment on.text ++ events_in feed piece = brought-append moment on.text piece ∙ ap (λ (p : Progress). events_from moment on.text ++ events_in p piece) on.leads in
       let small = brought_small moment (on.text ++ piece) in
@@ -110,7 +109,7 @@ module _ {A : Type 0} (tells : A → ℕ → ℕ → Event → List ℕ → A �
 
   -- each has two bytes
   pub next_few : (s u : A) (moment given : ℕ) (now : Extent) (feed : Progress) (left left' out out' : Option (List ℕ)) (piece : List ℕ)
-      → (on : IsOn tells over spent s u moment given now feed left left' out out') → 2 * (now.steps + length (events_in feed piece)) ≤ length on.text + length piece
+      → (on : IsOn reports over spent s u moment given now feed left left' out out') → 2 * (now.steps + length (events_in feed piece)) ≤ length on.text + length piece
   next_few s u moment given now feed left left' out out' piece on =
       let parts : events_from moment (on.text ++ piece) ≡ events_from moment on.text ++ events_in feed piece = brought-append moment on.text piece ∙ ap (λ (p : Progress). events_from moment on.text ++ events_in p piece) on.leads in
       let few = brought_few moment (on.text ++ piece) in
@@ -122,13 +121,13 @@ module _ {A : Type 0} (tells : A → ℕ → ℕ → Event → List ℕ → A �
   -- ONE PIECE
 
   pub comes_err : (n : ℕ) (s u : A) (a b : Option (List ℕ)) (xs : List Timed) (st : Stop) (result : Result (Unit {0}) Stop) → result ≡ Err st
-      → Comes (Goes tells over spent n s u a b) xs result → Comes (Goes tells over spent n s u a b) xs (Err st)
-  comes_err n s u a b xs st result was comes = subst (λ (l : Result (Unit {0}) Stop). Comes (Goes tells over spent n s u a b) xs l) was comes
+      → Comes (Goes reports over spent n s u a b) xs result → Comes (Goes reports over spent n s u a b) xs (Err st)
+  comes_err n s u a b xs st result was comes = subst (λ (l : Result (Unit {0}) Stop). Comes (Goes reports over spent n s u a b) xs l) was comes
 
   -- the events that were fed stopped it
   module _ (n : ℕ) (s u : A) (a b : Option (List ℕ)) (before : Progress) (piece : List ℕ) (now : Progress) (xs ys : List Timed) (whole : xs ++ ys ≡ events_in before piece) where
     abbrev Went : How → List Timed → Type 0
-    Went = Goes tells over spent n s u a b
+    Went = Goes reports over spent n s u a b
 
     some_fed : (how : How) → pieces.Some Went how xs → pieces.Some Went how (events_in before piece)
     some_fed how it = record {
@@ -161,31 +160,31 @@ module _ {A : Type 0} (tells : A → ℕ → ℕ → Event → List ℕ → A �
 
   -- the text is refused, or there was not enough memory to feed it
   pub passes_fed : (n : ℕ) (s u : A) (a b : Option (List ℕ)) (before : Progress) (piece : List ℕ) (now : Progress) (xs : List Timed) (e : FeedError) (fed : Result (Unit {0}) FeedError) (result : Result (Unit {0}) Stop)
-      → IsErrAnd result (λ (st : Stop). st ≡ of_feed e) → fed ≡ Err e → Feeds before piece fed now [] xs → Goes tells over spent n s u a b Wholly xs
-      → Passes (Goes tells over spent n s u a b) before piece now result
+      → IsErrAnd result (λ (st : Stop). st ≡ of_feed e) → fed ≡ Err e → Feeds before piece fed now [] xs → Goes reports over spent n s u a b Wholly xs
+      → Passes (Goes reports over spent n s u a b) before piece now result
   passes_fed n s u a b before piece now xs e fed (Ok x) is was h goes = absurd is
   passes_fed n s u a b before piece now xs (error.Refused r) fed (Err st) is was h goes =
       let f = subst (λ (l : Result (Unit {0}) FeedError). Feeds before piece l now [] xs) was h in
-      subst (λ (l : Stop). Passes (Goes tells over spent n s u a b) before piece now (Err l)) (sym is) (f.leads, subst (λ (l : List Timed). Goes tells over spent n s u a b Wholly l) f.adds goes)
+      subst (λ (l : Stop). Passes (Goes reports over spent n s u a b) before piece now (Err l)) (sym is) (f.leads, subst (λ (l : List Timed). Goes reports over spent n s u a b Wholly l) f.adds goes)
   passes_fed n s u a b before piece now xs error.NoMemory fed (Err st) is was h goes =
       let f = subst (λ (l : Result (Unit {0}) FeedError). Feeds before piece l now [] xs) was h in
-      let some : pieces.Some (Goes tells over spent n s u a b) UpToLast (events_in before piece) =
+      let some : pieces.Some (Goes reports over spent n s u a b) UpToLast (events_in before piece) =
       record {
         first = xs;
         rest = f.rest;
         whole = ap (λ (l : List Timed). l ++ f.rest) f.adds ∙ f.whole;
-        went = wholly_last tells over spent n s u a b xs goes;
+        went = wholly_last reports over spent n s u a b xs goes;
       } in
-      subst (λ (l : Stop). Passes (Goes tells over spent n s u a b) before piece now (Err l)) (sym is) (inl some)
+      subst (λ (l : Stop). Passes (Goes reports over spent n s u a b) before piece now (Err l)) (sym is) (inl some)
 
   -- the next piece
   pub on_more : (s t u : A) (moment given : ℕ) (now next : Extent) (feed feed' : Progress) (piece : List ℕ) (left mid new a b c : Option (List ℕ))
-      → IsOn tells over spent s t moment given now feed left mid a b → Gives mid new piece
-      → Passes (Goes tells over spent now.number t u b c) feed piece feed' (Ok tt) → IsReading feed'
+      → IsOn reports over spent s t moment given now feed left mid a b → Gives mid new piece
+      → Passes (Goes reports over spent now.number t u b c) feed piece feed' (Ok tt) → IsReading feed'
       → next.given ≡ now.given + length piece → lines_in feed' ≤ lines_in feed + length piece
       → next.number ≡ now.number + length (events_in feed piece) → next.steps ≡ now.steps + length (events_in feed piece)
       → next.steps + next.received ≡ now.steps + now.received + size_of (events_in feed piece) → next.moment ≡ last_moment now.moment (events_in feed piece) → over u ≡ false
-      → IsOn tells over spent s u moment given next feed' left new a c
+      → IsOn reports over spent s u moment given next feed' left new a c
   on_more s t u moment given now next feed feed' piece left mid new a b c on gives goes reading count lines number steps size last is_open =
       let parts : events_from moment (on.text ++ piece) ≡ events_from moment on.text ++ events_in feed piece = brought-append moment on.text piece ∙ ap (λ (p : Progress). events_from moment on.text ++ events_in p piece) on.leads in
       let len = length-append on.text piece in
@@ -200,8 +199,8 @@ module _ {A : Type 0} (tells : A → ℕ → ℕ → Event → List ℕ → A �
         gives = gives_more left mid new on.text piece on.gives gives;
         leads = after-append (beginning moment) on.text piece ∙ (ap (λ (p : Progress). after p piece) on.leads ∙ goes.0);
         reading = reading;
-        goes = subst (λ (l : List Timed). Goes tells over spent 0 s u a c Wholly l) (sym parts)
-            (goes_more tells over spent 0 now.number s t u a b c Wholly (events_from moment on.text) (events_in feed piece) on.goes on.number_is goes.1);
+        goes = subst (λ (l : List Timed). Goes reports over spent 0 s u a c Wholly l) (sym parts)
+            (goes_more reports over spent 0 now.number s t u a b c Wholly (events_from moment on.text) (events_in feed piece) on.goes on.number_is goes.1);
         count = omega arith;
         lines = omega arith;
         numbered = omega arith;
@@ -213,7 +212,7 @@ module _ {A : Type 0} (tells : A → ℕ → ℕ → Event → List ℕ → A �
 
   -- how many were answered, and how many bytes their pieces had
   pub few_on : (s u : A) (moment given : ℕ) (now : Extent) (feed : Progress) (left left' out out' : Option (List ℕ)) → now.given ≤ 2 ^ 60
-      → IsOn tells over spent s u moment given now feed left left' out out' → (now.steps ≤ 2 ^ 59) × (now.received ≤ 2 ^ 60)
+      → IsOn reports over spent s u moment given now feed left left' out out' → (now.steps ≤ 2 ^ 59) × (now.received ≤ 2 ^ 60)
   few_on s u moment given now feed left left' out out' all on =
       let few = brought_few moment on.text in
       let small = brought_small moment on.text in
@@ -232,7 +231,7 @@ module _ {A : Type 0} (tells : A → ℕ → ℕ → Event → List ℕ → A �
   rests left mid new text f g = subst (λ (l : List ℕ). Gives left new l) (append-nil text) (gives_more left mid new text [] f g)
 
   -- no line of what was read so far is refused
-  unrefused : (s u : A) (moment given : ℕ) (now : Extent) (feed : Progress) (left mid a b : Option (List ℕ)) → (on : IsOn tells over spent s u moment given now feed left mid a b) → IsUnrefused moment on.text
+  unrefused : (s u : A) (moment given : ℕ) (now : Extent) (feed : Progress) (left mid a b : Option (List ℕ)) → (on : IsOn reports over spent s u moment given now feed left mid a b) → IsUnrefused moment on.text
   unrefused s u moment given now feed left mid a b on = subst IsReading (sym on.leads) on.reading
 
   refusal_here : (feed : Progress) → IsReading feed → (result : Result (Unit {0}) FeedError) → result ≡ ending feed → IsAs feed result
@@ -249,7 +248,7 @@ module _ {A : Type 0} (tells : A → ℕ → ℕ → Event → List ℕ → A �
 
   -- all was read
   pub read_out : (s u : A) (moment given : ℕ) (now : Extent) (feed : Progress) (left mid new a b : Option (List ℕ))
-      → IsOn tells over spent s u moment given now feed left mid a b → Gives mid new [] → IsAtEnd new → IsReadOut (Goes tells over spent 0 s u a b) moment left new feed
+      → IsOn reports over spent s u moment given now feed left mid a b → Gives mid new [] → IsAtEnd new → IsReadOut (Goes reports over spent 0 s u a b) moment left new feed
   read_out s u moment given now feed left mid new a b on gives end = record {
     text = on.text;
     gives = gives_all left new on.text (rests left mid new on.text on.gives gives) end;
@@ -259,23 +258,23 @@ module _ {A : Type 0} (tells : A → ℕ → ℕ → Event → List ℕ → A �
   }
 
   -- and how it ends is by what the feed answers
-  module _ (s u : A) (moment : ℕ) (feed : Progress) (left new a b : Option (List ℕ)) (result : Result (Unit {0}) FeedError) (out : IsReadOut (Goes tells over spent 0 s u a b) moment left new feed) (is : result ≡ ending feed) where
+  module _ (s u : A) (moment : ℕ) (feed : Progress) (left new a b : Option (List ℕ)) (result : Result (Unit {0}) FeedError) (out : IsReadOut (Goes reports over spent 0 s u a b) moment left new feed) (is : result ≡ ending feed) where
     refusal_read : IsAs feed result
     refusal_read = refusal_here feed (subst IsReading out.leads out.unrefused) result is
 
-    pub ends_done : result ≡ Ok tt → Ends (Goes tells over spent 0 s u a b) moment left new ended.Done
+    pub ends_done : result ≡ Ok tt → Ends (Goes reports over spent 0 s u a b) moment left new ended.Done
     ends_done ok =
         let none : refusal_at feed ≡ None = subst (λ (l : Result (Unit {0}) FeedError). IsAs feed l) ok refusal_read in
         let spelled = is_spelled moment out.text (refusal-is moment out.text feed out.leads ∙ none) in
         let same = (is_read moment out.text spelled.0 spelled.1).1 in
         endings.done out.text spelled.0 out.gives spelled.1
-        (subst (λ (l : List Timed). Goes tells over spent 0 s u a b Wholly l) same out.went)
+        (subst (λ (l : List Timed). Goes reports over spent 0 s u a b Wholly l) same out.went)
 
-    pub ends_cut_short : (e : FeedError) (stopped : Result (Unit {0}) Stop) → result ≡ Err e → IsErrAnd stopped (λ (st : Stop). st ≡ of_feed e) → Ends (Goes tells over spent 0 s u a b) moment left new (ended_as stopped)
+    pub ends_cut_short : (e : FeedError) (stopped : Result (Unit {0}) Stop) → result ≡ Err e → IsErrAnd stopped (λ (st : Stop). st ≡ of_feed e) → Ends (Goes reports over spent 0 s u a b) moment left new (ended_as stopped)
     ends_cut_short e (Ok x) err stops = absurd stops
     ends_cut_short (error.Refused r) (Err st) err stops =
         let some : refusal_at feed ≡ Some r = subst (λ (l : Result (Unit {0}) FeedError). IsAs feed l) err refusal_read in
-        subst (λ (l : Stop). Ends (Goes tells over spent 0 s u a b) moment left new (ended_by l)) (sym stops)
+        subst (λ (l : Stop). Ends (Goes reports over spent 0 s u a b) moment left new (ended_by l)) (sym stops)
         (endings.refused ToEnd out.text r out.gives (endings.at_end out.unrefused (refusal-is moment out.text feed out.leads ∙ some)) out.went)
     ends_cut_short error.NoMemory (Err st) err stops = absurd (subst (λ (l : Result (Unit {0}) FeedError). IsAs feed l) err refusal_read)
 
@@ -283,12 +282,12 @@ module _ {A : Type 0} (tells : A → ℕ → ℕ → Event → List ℕ → A �
   stays moment text r leads more = ap refusal_at (after-append (beginning moment) text more ∙ (ap (λ (p : Progress). after p more) leads ∙ after-stopped r more))
 
   -- a piece stops it
-  module _ (s t u : A) (moment given : ℕ) (now : Extent) (feed feed' : Progress) (piece : List ℕ) (left mid new a b c : Option (List ℕ)) (on : IsOn tells over spent s t moment given now feed left mid a b) (gives : Gives mid new piece) (short : length piece ≤ 16384) where
+  module _ (s t u : A) (moment given : ℕ) (now : Extent) (feed feed' : Progress) (piece : List ℕ) (left mid new a b c : Option (List ℕ)) (on : IsOn reports over spent s t moment given now feed left mid a b) (gives : Gives mid new piece) (short : length piece ≤ 16384) where
     abbrev Here : How → List Timed → Type 0
-    Here = Goes tells over spent now.number t u b c
+    Here = Goes reports over spent now.number t u b c
 
     abbrev Whole : How → List Timed → Type 0
-    Whole = Goes tells over spent 0 s u a c
+    Whole = Goes reports over spent 0 s u a c
 
     abbrev earlier : List Timed
     earlier = events_from moment on.text
@@ -300,7 +299,7 @@ module _ {A : Type 0} (tells : A → ℕ → ℕ → Event → List ℕ → A �
     parts = brought-append moment on.text piece ∙ ap (λ (p : Progress). earlier ++ events_in p piece) on.leads
 
     joined : (how : How) (events : List Timed) → Here how events → Whole how (earlier ++ events)
-    joined how events went = goes_more tells over spent 0 now.number s t u a b c how earlier events on.goes on.number_is went
+    joined how events went = goes_more reports over spent 0 now.number s t u a b c how earlier events on.goes on.number_is went
 
     -- all that was read before the piece is among what went
     at_once : (first rest : List Timed) → first ++ rest ≡ events_in feed piece → IsSteppedAtOnce moment (on.text ++ piece) (earlier ++ first) rest
@@ -347,34 +346,34 @@ module _ {A : Type 0} (tells : A → ℕ → ℕ → Event → List ℕ → A �
 
   -- what was read stopped it
   pub breaks_source : {T : Type 0} (s u : A) (moment given : ℕ) (now : Extent) (feed : Progress) (left mid new a b : Option (List ℕ)) (stopped : Result T Stop)
-      → IsOn tells over spent s u moment given now feed left mid a b → new ≡ mid → IsErrAnd stopped (λ (st : Stop). st ≡ stop.SourceFailed) → IfErr stopped (Breaks (Goes tells over spent 0 s u a b) moment left new)
+      → IsOn reports over spent s u moment given now feed left mid a b → new ≡ mid → IsErrAnd stopped (λ (st : Stop). st ≡ stop.SourceFailed) → IfErr stopped (Breaks (Goes reports over spent 0 s u a b) moment left new)
   breaks_source s u moment given now feed left mid new a b stopped on same stops =
-      names stop.SourceFailed stopped (Breaks (Goes tells over spent 0 s u a b) moment left new) stops
+      names stop.SourceFailed stopped (Breaks (Goes reports over spent 0 s u a b) moment left new) stops
       (breaks.unreadable on.text (rw same on.gives) (unrefused s u moment given now feed left mid a b on) on.goes)
 
   pub breaks_as : {T : Type 0} (s t u : A) (moment given : ℕ) (now : Extent) (feed feed' : Progress) (piece : List ℕ) (left mid new a b c : Option (List ℕ)) (st : Stop) (result : Result (Unit {0}) Stop) (stopped : Result T Stop)
-      → IsOn tells over spent s t moment given now feed left mid a b → Gives mid new piece → length piece ≤ 16384
-      → Passes (Goes tells over spent now.number t u b c) feed piece feed' result → result ≡ Err st → IsErrAnd stopped (λ (e : Stop). e ≡ st)
-      → IfErr stopped (Breaks (Goes tells over spent 0 s u a c) moment left new)
+      → IsOn reports over spent s t moment given now feed left mid a b → Gives mid new piece → length piece ≤ 16384
+      → Passes (Goes reports over spent now.number t u b c) feed piece feed' result → result ≡ Err st → IsErrAnd stopped (λ (e : Stop). e ≡ st)
+      → IfErr stopped (Breaks (Goes reports over spent 0 s u a c) moment left new)
   breaks_as s t u moment given now feed feed' piece left mid new a b c st result stopped on gives short goes was stops =
-      names st stopped (Breaks (Goes tells over spent 0 s u a c) moment left new) stops
-      (breaks_at s t u moment given now feed feed' piece left mid new a b c on gives short st (subst (λ (l : Result (Unit {0}) Stop). Passes (Goes tells over spent now.number t u b c) feed piece feed' l) was goes))
+      names st stopped (Breaks (Goes reports over spent 0 s u a c) moment left new) stops
+      (breaks_at s t u moment given now feed feed' piece left mid new a b c on gives short st (subst (λ (l : Result (Unit {0}) Stop). Passes (Goes reports over spent now.number t u b c) feed piece feed' l) was goes))
 
   -- where nothing more is answered, the course is over
-  ended_over : (s u : A) (n : ℕ) (before now : Progress) (piece : List ℕ) (a b : Option (List ℕ)) → Passes (Goes tells over spent n s u a b) before piece now (Err stop.Over) → over u ≡ true
+  ended_over : (s u : A) (n : ℕ) (before now : Progress) (piece : List ℕ) (a b : Option (List ℕ)) → Passes (Goes reports over spent n s u a b) before piece now (Err stop.Over) → over u ≡ true
   ended_over s u n before now piece a b some = by_way some.first some.went
     where
-      by_way : (events : List Timed) → Goes tells over spent n s u a b UpToEnd events → over u ≡ true
+      by_way : (events : List Timed) → Goes reports over spent n s u a b UpToEnd events → over u ≡ true
       by_way events (courses.up_to_end h are leads is_over taken) = is_over
 
   pub over_as : {T : Type 0} (s u : A) (n : ℕ) (before now : Progress) (piece : List ℕ) (a b : Option (List ℕ)) (st : Stop) (result : Result (Unit {0}) Stop) (stopped : Result T Stop)
-      → Passes (Goes tells over spent n s u a b) before piece now result → result ≡ Err st → IsErrAnd stopped (λ (e : Stop). e ≡ st) → stopped ≡ Err stop.Over → over u ≡ true
+      → Passes (Goes reports over spent n s u a b) before piece now result → result ≡ Err st → IsErrAnd stopped (λ (e : Stop). e ≡ st) → stopped ≡ Err stop.Over → over u ≡ true
   over_as s u n before now piece a b st result (Ok x) goes was stops is = absurd stops
   over_as s u n before now piece a b st result (Err e) goes was stops is =
       let same : e ≡ stop.Over = ap stop_of is in
       ended_over s u n before now piece a b
-      (subst (λ (l : Stop). Passes (Goes tells over spent n s u a b) before piece now (Err l)) (sym stops ∙ same)
-      (subst (λ (l : Result (Unit {0}) Stop). Passes (Goes tells over spent n s u a b) before piece now l) was goes))
+      (subst (λ (l : Stop). Passes (Goes reports over spent n s u a b) before piece now (Err l)) (sym stops ∙ same)
+      (subst (λ (l : Result (Unit {0}) Stop). Passes (Goes reports over spent n s u a b) before piece now l) was goes))
 
 -- HOW A WHOLE SCHEDULE ENDS
 

@@ -3,8 +3,7 @@ use Rattle.std.specs.Prelude.{◌≡◌, ℕ, List, ◌∷◌, Option}
 use Rattle.hc_io.specs.Source.{Gives, GivesAll}
 use Rattle.hc_sched.specs.declared.schedule.Refused.{Refused}
 use Rattle.hc_sched.specs.declared.schedule.Timed.{Timed}
-use Rattle.hc_sched.specs.Reading.{beginning}
-use Rattle.hc_sched.specs.Reading.{Progress, after}
+use Rattle.hc_sched.specs.Reading.{beginning, Progress, after}
 use Rattle.hc_driver.specs.declared.stop.Stop.{Stop}
 use Rattle.hc_driver.specs.declared.stop.Stop.TheVariants as stop
 use Rattle.hc_driver.specs.Endings.{How, Wholly, UpToEnd, UpToLast, UpToWant, IsUnrefused, IsRefusedAtOnce, IsSteppedAtOnce, events_from}

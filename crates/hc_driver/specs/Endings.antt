@@ -6,9 +6,7 @@ use Rattle.hc_sched.specs.declared.schedule.Ended.{Ended}
 use Rattle.hc_sched.specs.declared.schedule.Ended.TheVariants as ended
 use Rattle.hc_sched.specs.declared.schedule.Refused.{Refused}
 use Rattle.hc_sched.specs.declared.schedule.Timed.{Timed}
-use Rattle.hc_sched.specs.Reading.{Progress, Reads, after, events_in}
-use Rattle.hc_sched.specs.Reading.{beginning}
-use Rattle.hc_sched.specs.Reading.{refusal_of}
+use Rattle.hc_sched.specs.Reading.{Progress, Reads, after, events_in, beginning, refusal_of}
 use Rattle.hc_sched.specs.Schedule.{Item, Spells, events_of}
 
 -- HOW FAR A TEXT WAS READ

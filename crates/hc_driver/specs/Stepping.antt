@@ -5,7 +5,7 @@ use Rattle.hc_event.specs.declared.act.Act.{Act}
 use Rattle.hc_io.specs.Sink.{Takes}
 use Rattle.hc_sched.specs.declared.schedule.Timed.{Timed}
 use Rattle.hc_sched.specs.Report.{entry_text}
-use Rattle.hc_driver.specs.Courses.{TakesThenFront}
+use Rattle.hc_driver.specs.Courses.{TakesThenPrefix}
 use Rattle.hc_driver.specs.Endings.{How, Wholly, UpToLast, UpToWant}
 
 -- an event with its moment, and how it was answered
@@ -40,7 +40,7 @@ last_entry [] = []
 last_entry (e ∷ h) = entry_text (length h + 1) e.acts
 
 -- Some acts answered the event, and the text is their entry.
-pub record Tells {A : Type 0} (answers : A → ℕ → Event → List Act → A → Type 0) (s : A) (number now : ℕ) (event : Event) (text : List ℕ) (u : A) : Type 0 where
+pub record Reports {A : Type 0} (answers : A → ℕ → Event → List Act → A → Type 0) (s : A) (number now : ℕ) (event : Event) (text : List ℕ) (u : A) : Type 0 where
   pub acts : List Act
   pub answered : answers s now event acts u
   pub text_is : text ≡ entry_text number acts
@@ -62,6 +62,6 @@ pub data Steps {A : Type 0} (answers : A → ℕ → Event → List Act → A �
   wholly : {events : List Timed} (h : History) → events_in h ≡ events → Leads answers s h u →
       Takes out out' (report_of h) → Steps answers spent s u out out' Wholly events
   up_to_last : {events : List Timed} (h : History) → events_in h ≡ events → Leads answers s h u →
-      TakesThenFront out out' (report_before h) (last_entry h) → Steps answers spent s u out out' UpToLast events
+      TakesThenPrefix out out' (report_before h) (last_entry h) → Steps answers spent s u out out' UpToLast events
   up_to_want : {events : List Timed} (h : History) (last : A) → events_in h ≡ events → Leads answers s h last →
       Takes out out' (report_of h) → spent last u → Steps answers spent s u out out' UpToWant events

@@ -1,6 +1,6 @@
 //! How the events of a schedule are answered.
 ghost use Rattle.std.specs.Prelude.{◌≡◌, ◌+◌, ◌<◌, ◌≤◌, ◌^◌, false, length, OnOk, OnErr, IsErrOf};
-ghost use Rattle.hc_io.specs.Sink.{Takes, TakesFront, HasSinkCause};
+ghost use Rattle.hc_io.specs.Sink.{Takes, TakesPrefix, HasSinkCause};
 ghost use Rattle.hc_sched.specs.Feeding.{lines_in};
 ghost use Rattle.hc_sched.specs.Reading.{events_in};
 ghost use Rattle.hc_sched.specs.Laws.{AreTimed};
@@ -63,7 +63,7 @@ impl Answering {
         requires numbered { self.old.number ≤ C.steps on.old }
         requires reading { IsReading feed.old }
         requires open { C.over on.old ≡ false }
-        ensures goes { Passes (Goes C.tells C.over C.spent self.old.number on.old on.new
+        ensures goes { Passes (Goes C.reports C.over C.spent self.old.number on.old on.new
             (K.taken sink.old) (K.taken sink.new)) feed.old piece.now feed.new result }
         ensures reads { OnOk result (IsReading feed.new) }
         ensures lines { lines_in feed.new ≤ lines_in feed.old + length piece.now }
@@ -97,7 +97,7 @@ impl Answering {
         requires count { C.steps on.old + length events.now ≤ 2 ^ 59 }
         requires numbered { self.old.number ≤ C.steps on.old }
         requires open { C.over on.old ≡ false }
-        ensures comes { Comes (Goes C.tells C.over C.spent self.old.number on.old on.new
+        ensures comes { Comes (Goes C.reports C.over C.spent self.old.number on.old on.new
             (K.taken sink.old) (K.taken sink.new)) events.now result }
         ensures number { OnOk result (self.new.number ≡ self.old.number + length events.now) }
         ensures steps { OnOk result (C.steps on.new ≡ C.steps on.old + length events.now) }
@@ -127,15 +127,15 @@ impl Answering {
         requires little { C.received on.old < 2 ^ 60 }
         requires numbered { self.old.number ≤ C.steps on.old }
         requires open { C.over on.old ≡ false }
-        ensures told { OnOk result
-            (C.tells on.old self.new.number now event.now self.new.text.items on.new) }
+        ensures reported { OnOk result
+            (C.reports on.old self.new.number now event.now self.new.text.items on.new) }
         ensures number { OnOk result (self.new.number ≡ self.old.number + 1) }
         ensures moment { OnOk result (C.moment on.new ≡ now) }
         ensures steps { OnOk result (C.steps on.new ≡ C.steps on.old + 1) }
         ensures received { OnOk result
             (C.received on.new ≡ C.received on.old + received_in event.now) }
         ensures lacks { OnErr result
-            (Lacks C.tells C.spent on.old (self.old.number + 1) now event.now on.new) }
+            (Lacks C.reports C.spent on.old (self.old.number + 1) now event.now on.new) }
     {
         let number = self.number + 1;
         self.text.clear();
@@ -148,7 +148,7 @@ impl Answering {
     fn write<K: Sink>(&mut self, sink: &mut K) -> Result<(), SinkError>
         ensures ok { OnOk result
             (Takes (K.taken sink.old) (K.taken sink.new) self.old.text.items) }
-        ensures front { TakesFront (K.taken sink.old) (K.taken sink.new) self.old.text.items }
+        ensures front { TakesPrefix (K.taken sink.old) (K.taken sink.new) self.old.text.items }
         ensures number { self.new.number ≡ self.old.number }
         ensures cause { HasSinkCause (K.faults sink.old) (K.faults sink.new) result }
         ensures calm { OnOk result (K.faults sink.new ≡ K.faults sink.old) }

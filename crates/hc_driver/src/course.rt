@@ -25,7 +25,7 @@ pub trait Course {
 
     /// The event of this number was answered at a moment by this text, and led from the one to the
     /// other.
-    ghost tells: { Self → ℕ → ℕ → Event → List ℕ → Self → Type 0 };
+    ghost reports: { Self → ℕ → ℕ → Event → List ℕ → Self → Type 0 };
 
     /// An answer for which memory was refused led from the one to the other.
     ghost spent: { Self → Self → Type 0 };
@@ -49,13 +49,13 @@ pub trait Course {
         requires small { received self.old + received_in event.now < 2 ^ 61 }
         requires open { over self.old ≡ false }
         requires empty { text.old.items ≡ [] }
-        ensures told { OnOk result
-            (tells self.old number now event.now text.new.items self.new) }
+        ensures reported { OnOk result
+            (reports self.old number now event.now text.new.items self.new) }
         ensures moment { OnOk result (moment self.new ≡ now) }
         ensures steps { OnOk result (steps self.new ≡ steps self.old + 1) }
         ensures received { OnOk result
             (received self.new ≡ received self.old + received_in event.now) }
-        ensures lacks { OnErr result (Lacks tells spent self.old number now event.now self.new) };
+        ensures lacks { OnErr result (Lacks reports spent self.old number now event.now self.new) };
 
     /// Whether it answers nothing more.
     fn is_over(&self) -> bool

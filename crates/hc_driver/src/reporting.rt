@@ -6,7 +6,7 @@ use hc_text::NoMemory;
 
 /// An event is answered by its entry in the report.
 impl<T: Stepper> Course for T {
-    ghost use Rattle.hc_driver.specs.Stepping.{Tells, never};
+    ghost use Rattle.hc_driver.specs.Stepping.{Reports, never};
 
     ghost moment = { T.moment };
 
@@ -16,7 +16,7 @@ impl<T: Stepper> Course for T {
 
     ghost over = { never };
 
-    ghost tells = { Tells T.answers };
+    ghost reports = { Reports T.answers };
 
     ghost spent = { T.spent };
 

@@ -76,7 +76,7 @@ pub fn go_through<C: Course, S: Source, K: Sink>(
     requires later { C.moment on.old ≤ moment }
     requires new { C.steps on.old + C.received on.old ≡ 0 }
     requires open { C.over on.old ≡ false }
-    ensures ends { Ends (Goes C.tells C.over C.spent 0 on.old on.new
+    ensures ends { Ends (Goes C.reports C.over C.spent 0 on.old on.new
         (K.taken sink.old) (K.taken sink.new))
         moment (S.left source.old) (S.left source.new) result }
     ensures source { result ≡ ended.SourceFailed
@@ -108,7 +108,7 @@ fn run<C: Course, S: Source, K: Sink>(
     requires later { C.moment on.old ≤ moment }
     requires new { C.steps on.old + C.received on.old ≡ 0 }
     requires open { C.over on.old ≡ false }
-    ensures ends { Ends (Goes C.tells C.over C.spent 0 on.old on.new
+    ensures ends { Ends (Goes C.reports C.over C.spent 0 on.old on.new
         (K.taken sink.old) (K.taken sink.new))
         moment (S.left source.old) (S.left source.new) (ended_as result) }
     ensures source { IsErrOf result Stop.SourceFailed
@@ -146,10 +146,10 @@ pub fn go_through_prefix<C: Course, S: Source, K: Sink>(
     requires later { C.moment on.old ≤ moment }
     requires new { C.steps on.old + C.received on.old ≡ 0 }
     requires open { C.over on.old ≡ false }
-    ensures read { IfOk result (IsReadOut (Goes C.tells C.over C.spent 0 on.old on.new
+    ensures read { IfOk result (IsReadOut (Goes C.reports C.over C.spent 0 on.old on.new
         (K.taken sink.old) (K.taken sink.new))
         moment (S.left source.old) (S.left source.new)) }
-    ensures breaks { IfErr result (Breaks (Goes C.tells C.over C.spent 0 on.old on.new
+    ensures breaks { IfErr result (Breaks (Goes C.reports C.over C.spent 0 on.old on.new
         (K.taken sink.old) (K.taken sink.new))
         moment (S.left source.old) (S.left source.new)) }
 

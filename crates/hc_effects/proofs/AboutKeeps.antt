@@ -9,7 +9,7 @@ use Rattle.hc_text.proofs.Basics.{not_some as none_some, same_some as same_row}
 use Rattle.hc_effects.proofs.Vocabulary.{Response, BoundBy, consumer_heard, Entry, is_open, family, entry_of, IsAwaiting, Awaits, own_open, if_open, Tables, Exchange, Consumer, may_stand, IsBound, IsAbout, after_accepted, event, place}
 use Rattle.hc_model.specs.Owners as owners
 use Rattle.hc_model.specs.Sound as sound
-use Rattle.hc_effects.proofs.{Basics.{false_true}, ExchangeFrom.{ExchangeFrom, IsSame, IsHeaded, exchange_from}, FirstKeeps.{is_new}, HeadedAs.{HeadedAs, headed_as, heard_at}, OpensFrom.{hole_is}, OwnFrom.{OwnFrom, IsRow, IsLeft, own_from}, OwnersKeep.{new_number, one_kept, left_writing}, ReadingKeeps.{reader_stays, head_some, unpolled, left_body}, WaitingKeeps.{waiting_kept}, Step.{Step}}
+use Rattle.hc_effects.proofs.{Basics.{false_true}, ExchangeFrom.{ExchangeFrom, IsSame, IsHeaded, exchange_from}, FirstKeeps.{is_new}, HeadedAs.{HeadedAs, headed_as, heard_at}, OpensFrom.{hole_is}, OwnFrom.{OwnFrom, IsRow, IsLeft, own_from}, OwnersKeep.{new_number, one_kept, left_group}, ReadingKeeps.{reader_stays, head_some, unpolled, left_body}, WaitingKeeps.{waiting_kept}, Step.{Step}}
 use Rattle.hc_effects.proofs.BoundFrom as from
 use Rattle.hc_effects.proofs.ExchangeFrom as exchange
 use Rattle.hc_effects.proofs.HeadedAs as head
@@ -95,13 +95,13 @@ module _ (step : Step) where
           by_heard (inr got) = by_head k w got.response got.at is_row (headed_as step c x k u w is.w got.response got.at rows mine is_row is.row same is.opened)
 
       left_about : (k : Consumer) → IsRow t e c x k u → (l : IsLeft t e c x (consumer_heard t e c ev k).place) → ExchangeFrom t e x is.w → IsAbout now_on r x
-      left_about k rows l (exchange.new p none opens here made) = absurd (none_some _ (sym none ∙ (left_writing step c x _ l).exchange_row))
+      left_about k rows l (exchange.new p none opens here made) = absurd (none_some _ (sym none ∙ (left_group step c x _ l).exchange_row))
       left_about k rows l (exchange.was w is_row same) =
-          let writing = left_writing step c x _ l in
+          let writer_group = left_group step c x _ l in
           let at : u.place ≡ place.Bound l.r l.lo l.hi l.how = heard_at step c x k u (λ d want polls. unpolled step d want polls (left_body step c x _ l)) rows ∙ l.at in
           let p = from.place_inj l.r l.lo l.hi l.how r lo hi how (sym at ∙ stands) in
-          let one : writing.w ≡ w = same_row (t.exchange x) writing.w w writing.exchange_row is_row in
-          by_heard writing.headed one (ap (family x) (sym one) ∙ (writing.family_is ∙ p.number)) (ap (λ n. is_some (t.representation n)) (sym p.number) ∙ ap is_some writing.row) same.heard_or
+          let one : writer_group.w ≡ w = same_row (t.exchange x) writer_group.w w writer_group.exchange_row is_row in
+          by_heard writer_group.headed one (ap (family x) (sym one) ∙ (writer_group.family_is ∙ p.number)) (ap (λ n. is_some (t.representation n)) (sym p.number) ∙ ap is_some writer_group.row) same.heard_or
         where
           by_heard : {q : Exchange} → is_some q.head ≡ true → q ≡ w → family x w ≡ r → is_some (t.representation r) ≡ true → ((is.w.head ≡ w.head) × (is.w.joined ≡ w.joined)) ⊎ IsHeaded t e x w is.w → IsAbout now_on r x
           by_heard had one fam is_there (inl all) = still w all.1 fam is_there

@@ -14,13 +14,13 @@ use Rattle.hc_effects.proofs.{PieceKeeps.{eq_cases}, PollKeys.{IsNear, near_poll
 
 -- the acts of an accepted event, by its kind
 pub data IsAnswer (limits : Limits) (t : Tables) (now : ℕ) (ev : Event) (flaw : Flaw) : List Act → Type 0 where
-  told : answer_acts t now ev flaw ≡ [] → IsAnswer limits t now ev flaw (map act.Evicted (evicted limits t now ev) ++ (loss_acts flaw ++ close_acts t now ev flaw))
+  reported : answer_acts t now ev flaw ≡ [] → IsAnswer limits t now ev flaw (map act.Evicted (evicted limits t now ev) ++ (loss_acts flaw ++ close_acts t now ev flaw))
   asked : IsAnswer limits t now ev flaw (answer_acts t now ev flaw ++ (close_acts t now ev flaw ++ loss_acts flaw))
 
 pub answer_is : (limits : Limits) (t : Tables) (now : ℕ) (ev : Event) (flaw : Flaw) → IsAnswer limits t now ev flaw (accepted_acts limits t now ev flaw)
 answer_is limits t now (event.Poll c want) flaw = asked
 answer_is limits t now (event.Cancel c) flaw = asked
-answer_is limits t now _ flaw = told refl
+answer_is limits t now _ flaw = reported refl
 
 -- what is said to the consumer of a poll: nothing, its move, or that a read failed
 pub data IsSaid (t : Tables) (now : ℕ) (ev : Event) (flaw : Flaw) : List Act → Type 0 where

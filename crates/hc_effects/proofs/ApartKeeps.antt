@@ -7,7 +7,7 @@
 use Rattle.std.{proofs.{Common.{◌≡◌, inl, inr, ℕ, Bool, true, false, Option, Some, None, refl, ap, sym, ◌∙◌, subst, arith}, lemmas.Bool.Decides.{nat_tests}}, specs.Prelude.{is_some, ◌&&◌, ◌||◌, not}}
 use Rattle.hc_text.proofs.Basics.{both_true as both, and_left, and_right, not_some as none_some, not_true, same_some as same_row, some_inj}
 use Rattle.hc_effects.proofs.Vocabulary.{brings_part, Response, HeadCase, has_loss, loses_in, case_at, head_view, is_founding, is_joining, consumer_heard, by_head, becomes_shared, is_resumed, is_number, row_of, Entry, family, is_open, entry_of, is_written, is_open_writer, resumes, writer_at, Tables, Exchange, Representation, Consumer, may_stand, after_accepted, event, case}
-use Rattle.hc_effects.proofs.{Basics.{false_true, or_false, number_is}, ExchangeFrom.{ExchangeFrom, exchange_from}, FirstKeeps.{case_of_head, is_new}, FoundBy.{CaseBy}, LossStands.{no_loss}, OwnFrom.{OwnFrom, own_from}, OwnersKeep.{is_opened, left_writing, new_number}, RepFrom.{RepFrom, rep_from, IsKept, IsResumed}, Step.{Step}}
+use Rattle.hc_effects.proofs.{Basics.{false_true, or_false, number_is}, ExchangeFrom.{ExchangeFrom, exchange_from}, FirstKeeps.{case_of_head, is_new}, FoundBy.{CaseBy}, LossStands.{no_loss}, OwnFrom.{OwnFrom, own_from}, OwnersKeep.{is_opened, left_group, new_number}, RepFrom.{RepFrom, rep_from, IsKept, IsResumed}, Step.{Step}}
 use Rattle.hc_effects.proofs.ExchangeFrom as exchange
 use Rattle.hc_effects.proofs.FoundBy as cases
 use Rattle.hc_effects.proofs.OwnFrom as own
@@ -60,7 +60,7 @@ module _ (step : Step) (stand : may_stand step.limits step.tables (entry_of step
       none_some_exchange : t.exchange x ≡ None → is_some (t.exchange x) ≡ true → ⊥
       none_some_exchange none there = false_true (sym (ap (λ (q : Option Exchange). is_some q) none) ∙ there)
   from_was r c x v u row on writer kept (own.left k is l) =
-      let a = left_writing step c x _ l in
+      let a = left_group step c x _ l in
       let grows = (s.rows r v row).growing x on writer in
       let g = grows.1 in
       let one : a.w ≡ grows.0 = same_row (t.exchange x) a.w grows.0 a.exchange_row g.row in
@@ -76,7 +76,7 @@ module _ (step : Step) (stand : may_stand step.limits step.tables (entry_of step
       absurd (let polls = (is_opened step p opens) in let no : event.Head x response ≡ event.Poll p.c polls.want = sym here ∙ polls.at in cc)
   own_before x c response w u here row bare (own.left k is l) =
       absurd (
-      let a = left_writing step c x _ l in
+      let a = left_group step c x _ l in
       let one : a.w ≡ w = same_row (t.exchange x) a.w w a.exchange_row row in
       false_true (sym (ap (λ (q : Option Response). is_some q) (ap (λ (z : Exchange). z.head) one ∙ bare)) ∙ a.headed))
 

@@ -2,7 +2,7 @@
 --
 -- Each event is looked at: a head for it would be one for which it waits, so none of them is for it (`heard_same`). It
 -- doesn't start over, since it waits for no head (`waits_not`) and is sent back by none (`back_by`). Of the acts none
--- tells it to wait for others (`told_not`), and an opening or a showing leaves who is bound where it is (`shows_on`).
+-- tells it to wait for others (`reported_not`), and an opening or a showing leaves who is bound where it is (`shows_on`).
 -- `bound_stays` joins these, unless it is cancelled or leaves.
 use Rattle.std.{proofs.{Common.{◌≡◌, inl, inr, ℕ, Bool, true, false, Option, Some, None, refl, ap, sym, ◌∙◌, arith}, lemmas.Bool.Decides.{nat_tests}}, specs.Prelude.{if◌then◌else◌, is_none, ◌&&◌, ◌==◌, not, nat_eq}}
 use Rattle.hc_text.proofs.Basics.{and_left, and_right, bool_cases, not_some as none_some, same_some as same_row}
@@ -87,9 +87,9 @@ module _ (step : Step) where
 
     -- THE ACTS
 
-    told_not : (z : Wait) → IsForOthers z → wait_in c e.acts ≡ Some z → ⊥
-    told_not z others told =
-        let by_poll = waiting_by limits t now flaw s ev goes c z told in
+    reported_not : (z : Wait) → IsForOthers z → wait_in c e.acts ≡ Some z → ⊥
+    reported_not z others reported =
+        let by_poll = waiting_by limits t now flaw s ev goes c z reported in
         let one : by_poll.k ≡ k = same_row (t.consumer c) by_poll.k k by_poll.poll.row row in
         let free = (waited_as t now c by_poll.k z others by_poll.want s by_poll.poll.row by_poll.move).free in
         none_some r (sym free ∙ (ap (λ (q : Consumer). bound_to q.place) one ∙ ap bound_to at))
@@ -117,7 +117,7 @@ module _ (step : Step) where
         let on_row = is_kept t e c k row in
         let same : consumer_heard t e c ev k ≡ k = heard_same ev refl uncancelled in
         let made : due_after t e c k (consumer_acted t e c (consumer_heard t e c ev k)) ≡ on_row.u = sym (settled t e c k (consumer_acted t e c (consumer_heard t e c ev k)) stays_on) ∙ on_row.is in
-        let waits : (waiting t e c k).place ≡ place.Bound r lo hi how = waits_where t k (wait_in c e.acts) told_not ∙ at in
+        let waits : (waiting t e c k).place ≡ place.Bound r lo hi how = waits_where t k (wait_in c e.acts) reported_not ∙ at in
         let shown : shown_place c (showing_in e.acts) (by_opening t c (opening_in e.acts) (waiting t e c k)).place ≡ place.Bound r lo hi how = shows_on _ (showing_in e.acts) (opens_on (waiting t e c k) (opening_in e.acts) waits) in
         let acted : (consumer_acted t e c k).place ≡ place.Bound r lo hi how = stays_put _ (leaves_in c e.acts) stays ∙ shown in
         record {

@@ -6,7 +6,7 @@
 -- beginning and a denied entry are short.
 use Rattle.std.{proofs.{Common.{◌≡◌, ◌⊎◌, inl, inr, ℕ, ◌+◌, ◌≤◌, List, [], ◌∷◌, length, Bool, true, false, Option, Some, None, refl, ap, sym, ◌∙◌, subst, arith, length-append}, lemmas.Bool.Decides.{nat_tests}}, specs.{Str.{str_to_ascii_lowercase}, Prelude.{bytes_eq, codes, take, drop, IfSome, unwrap_or, if◌then◌else◌}, Option.{option_map}}}
 use Rattle.hc_text.proofs.Basics.{not_some as none_some, or_off_right as or_false, same_some as same_row, some_inj}
-use Rattle.hc_range.specs.{Spans.{resolved_span, IsInOrder}, declared.range.{Asked.{Asked, TheVariants.{From, Last}}, Span.{Span}}}
+use Rattle.hc_range.specs.{Spans.{resolved_span, IsInOrder}, declared.range.{RangeSpec.{RangeSpec, TheVariants.{From, Last}}, Span.{Span}}}
 use Rattle.hc_effects.proofs.Vocabulary.{opening_in, given_in, shows_in, Event, Request, Response, HeadCase, asked_in, spec_in, positions_from, positions_by, from_to, number_of, split_at, hyphen, range_of, ranges_read, ranges_in, wanted_of, wanted_part, is_disabled, BoundBy, Showing, showing_in, case_at, consumer_heard, consumer_acted, consumer_made, consumer_after, by_opening, waiting, denial, Entry, Contents, promised_bytes, promise_of, entry_of, Gives, move_of, reads, lo_of, hi_of, Tables, Exchange, Consumer, starts_over, first_tables, after_accepted, after_denied, event, wanted, place}
 use Rattle.hc_rules.specs.Refusals as refusals
 use Rattle.hc_effects.proofs.{BoundFrom.{BoundFrom, IsRow, IsFounded, IsInterval, IsShown, bound_from}, BoundKeeps.{shown_place_is}, ConsumerFilters.{acted, given_by}, ExchangeFrom.{ExchangeFrom, IsHeaded, exchange_from}, Fills.{Brings, brings, length_same}, FirstKeeps.{is_new}, Forward.{is_kept}, GivenNext.{given_next}, Givers.{gives_of, some_want}, MoveBy.{move_by}, PollActs.{ToOne, to_one}, Said.{IsShowing, showing_by}, ShownFrom.{ShownAs, shown_from}, ShownStays.{IsFallback, StaysOrIdle, shown_stays}, TurnPlaces.{is_after}, Step.{Step}}
@@ -20,42 +20,42 @@ use Rattle.hc_effects.proofs.ShownStays as stands
 
 -- INTERVALS
 
-from_order : (a b : Option ℕ) (asked : Asked) → from_to a b ≡ Some asked → IsInOrder asked
+from_order : (a b : Option ℕ) (asked : RangeSpec) → from_to a b ≡ Some asked → IsInOrder asked
 from_order a b asked is = grind (arith, nat_tests)
 
-map_order : (o : Option ℕ) (f : ℕ → Asked) (asked : Asked) → ((n : ℕ) → IsInOrder (f n)) → option_map f o ≡ Some asked → IsInOrder asked
+map_order : (o : Option ℕ) (f : ℕ → RangeSpec) (asked : RangeSpec) → ((n : ℕ) → IsInOrder (f n)) → option_map f o ≡ Some asked → IsInOrder asked
 map_order None f asked all is = absurd (none_some asked is)
 map_order (Some n) f asked all is = subst IsInOrder (some_inj (f n) asked is) (all n)
 
-positions_order : (first last : List ℕ) (asked : Asked) → positions_by first last ≡ Some asked → IsInOrder asked
+positions_order : (first last : List ℕ) (asked : RangeSpec) → positions_by first last ≡ Some asked → IsInOrder asked
 positions_order [] last asked is = map_order (number_of last) Last asked (λ n. tt) is
 positions_order (b ∷ first) [] asked is = map_order (number_of (b ∷ first)) From asked (λ n. tt) is
 positions_order (b ∷ first) (d ∷ last) asked is = from_order (number_of (b ∷ first)) (number_of (d ∷ last)) asked is
 
-split_order : (o : Option (List ℕ × List ℕ)) (asked : Asked) → positions_from o ≡ Some asked → IsInOrder asked
+split_order : (o : Option (List ℕ × List ℕ)) (asked : RangeSpec) → positions_from o ≡ Some asked → IsInOrder asked
 split_order None asked is = absurd (none_some asked is)
 split_order (Some (first, last)) asked is = positions_order first last asked is
 
-if_order : (b : Bool) (o : Option Asked) (asked : Asked) → ((z : Asked) → o ≡ Some z → IsInOrder z) → (if b then o else None) ≡ Some asked → IsInOrder asked
+if_order : (b : Bool) (o : Option RangeSpec) (asked : RangeSpec) → ((z : RangeSpec) → o ≡ Some z → IsInOrder z) → (if b then o else None) ≡ Some asked → IsInOrder asked
 if_order true o asked all is = all asked is
 if_order false o asked all is = absurd (none_some asked is)
 
-asked_order : (text : List ℕ) (asked : Asked) → asked_in text ≡ Some asked → IsInOrder asked
+asked_order : (text : List ℕ) (asked : RangeSpec) → asked_in text ≡ Some asked → IsInOrder asked
 unfolding asked_in
 asked_order text asked is =
     if_order (bytes_eq (str_to_ascii_lowercase (take 6 text)) (codes "bytes=")) (spec_in (drop 6 text)) asked (λ z it. split_order (split_at hyphen (drop 6 text)) z it) is
 
-values_order : (values : List (List ℕ)) (asked : Asked) → unwrap_or (ranges_read values) None ≡ Some asked → IsInOrder asked
+values_order : (values : List (List ℕ)) (asked : RangeSpec) → unwrap_or (ranges_read values) None ≡ Some asked → IsInOrder asked
 values_order [] asked is = absurd (none_some asked is)
 values_order (value ∷ []) asked is = by_read (asked_in value) refl is
   where
-    by_read : (o : Option Asked) → asked_in value ≡ o → unwrap_or (option_map Some o) None ≡ Some asked → IsInOrder asked
+    by_read : (o : Option RangeSpec) → asked_in value ≡ o → unwrap_or (option_map Some o) None ≡ Some asked → IsInOrder asked
     by_read None read h = absurd (none_some asked h)
     by_read (Some z) read h = asked_order value asked (read ∙ h)
 values_order (value ∷ other ∷ values) asked is = absurd (none_some asked is)
 
 -- a range that is read is in order
-pub range_order : (request : Request) (asked : Asked) → range_of request ≡ Some asked → IsInOrder asked
+pub range_order : (request : Request) (asked : RangeSpec) → range_of request ≡ Some asked → IsInOrder asked
 unfolding range_of
 range_order request asked is = by_test (is_disabled request) is
   where
@@ -63,7 +63,7 @@ range_order request asked is = by_test (is_disabled request) is
     by_test true h = absurd (none_some asked h)
     by_test false h = values_order (ranges_in request.fields) asked h
 
-resolved_proper : (asked : Asked) (total : ℕ) (span : Span) → IsInOrder asked → resolved_span asked total ≡ Some span → span.lo ≤ span.hi
+resolved_proper : (asked : RangeSpec) (total : ℕ) (span : Span) → IsInOrder asked → resolved_span asked total ≡ Some span → span.lo ≤ span.hi
 resolved_proper asked total span order is = grind (arith, nat_tests)
 
 part_proper : (o : Option Span) (span : Span) → ((z : Span) → o ≡ Some z → z.lo ≤ z.hi) → wanted_part o ≡ wanted.Interval span → span.lo ≤ span.hi
@@ -73,7 +73,7 @@ part_proper (Some z) span proper is = let same : z ≡ span = cc in subst (λ (q
 whole_span : (n : ℕ) (span : Span) → wanted.Interval (record { lo = 0; hi = n }) ≡ wanted.Interval span → span.lo ≤ span.hi
 whole_span n span is = let same : record { lo = 0; hi = n } ≡ span = cc in subst (λ (q : Span). q.lo ≤ q.hi) same (omega arith)
 
-pub wanted_proper : (range : Option Asked) (o : Option ℕ) (span : Span) → ((asked : Asked) → range ≡ Some asked → IsInOrder asked) → wanted_of range o ≡ wanted.Interval span → span.lo ≤ span.hi
+pub wanted_proper : (range : Option RangeSpec) (o : Option ℕ) (span : Span) → ((asked : RangeSpec) → range ≡ Some asked → IsInOrder asked) → wanted_of range o ≡ wanted.Interval span → span.lo ≤ span.hi
 wanted_proper range None span order is = absurd (let no : wanted.TotalUnknown ≡ wanted.Interval span = is in cc)
 wanted_proper None (Some n) span order is = whole_span n span is
 wanted_proper (Some asked) (Some n) span order is = part_proper (resolved_span asked n) span (λ z found. resolved_proper asked n z (order asked refl) found) is

@@ -12,8 +12,8 @@ use Rattle.hc_effects.proofs.Vocabulary.{brings_whole, act, Event, Limits, closi
 use Rattle.hc_event.specs.declared.event.Event.TheVariants as event
 use Rattle.hc_rules.specs.Refusals as refusals
 use Rattle.hc_rules.proofs.RangeReads.{bytes_eq-same, same_bytes}
-use Rattle.hc_effects.proofs.{Basics.{false_true, number_is}, ConsumerEffects.{some_all}, DoomFrames.{sent_as, awaited_apart}, FewClosings.{nothing_lost}, KeyNames.{current_key}, SameTables.{is_in, in_one, back_from_any, all_closed_is}, Standing.{after_heard}, Dues.{undue_of, stop_none}, ToldFrames.{dooms, says_little, exchange_other, goes_as, closes_as, far, representation_by, representation_none, beside_same, starts_is, told_by, told_plainly}, Untouched.{loss_spared, spared_bodiless, consumer_absent}}
-use Rattle.hc_effects.proofs.ToldFrames as told
+use Rattle.hc_effects.proofs.{Basics.{false_true, number_is}, ConsumerEffects.{some_all}, DoomFrames.{sent_as, awaited_apart}, FewClosings.{nothing_lost}, KeyNames.{current_key}, SameTables.{is_in, in_one, back_from_any, all_closed_is}, Standing.{after_heard}, Dues.{undue_of, stop_none}, ReportedFrames.{dooms, says_little, exchange_other, goes_as, closes_as, far, representation_by, representation_none, beside_same, starts_is, reported_by, reported_plainly}, Untouched.{loss_spared, spared_bodiless, consumer_absent}}
+use Rattle.hc_effects.proofs.ReportedFrames as reported
 
 module _ (limits : Limits) (t : Tables) (law : Lawful t) (now : ℕ) (key : Key) where
   abbrev ev : Event
@@ -23,7 +23,7 @@ module _ (limits : Limits) (t : Tables) (law : Lawful t) (now : ℕ) (key : Key)
   xs = awaited_and t key None
 
   abbrev it : Entry
-  it = told.e t now ev (dooms key) NoFlaw xs
+  it = reported.e t now ev (dooms key) NoFlaw xs
 
   abbrev b : Entry
   b = record { now = now; event = ev; acts = [] }
@@ -121,11 +121,11 @@ module _ (limits : Limits) (t : Tables) (law : Lawful t) (now : ℕ) (key : Key)
 
   tables_are : after_accepted t it ≡ with_event now ev (let_some_go now (current t key) (all_closed xs (woken now key t)))
   tables_are =
-      told_by t now ev (dooms key) NoFlaw xs rs (λ y. if is_in xs y then option_map over (t.exchange y) else t.exchange y) t.representation (woken now key t).consumer
+      reported_by t now ev (dooms key) NoFlaw xs rs (λ y. if is_in xs y then option_map over (t.exchange y) else t.exchange y) t.representation (woken now key t).consumer
       (λ y. exchange_other t now ev (dooms key) NoFlaw xs y (λ x is. absurd (none_some x is)))
       rows consumers
       ∙ (ap (λ (u : Tables). with_event now ev (let_all_go now rs u)) (sym (all_closed_is xs (woken now key t)))
       ∙ ap (with_event now ev) (some_all now (current t key) (all_closed xs (woken now key t))))
 
   pub doom_does : Does limits t now ev NoFlaw (map act.Close (awaited_and t key None)) (with_event now ev (let_some_go now (current t key) (all_closed (awaited_and t key None) (woken now key t))))
-  doom_does = told_plainly t now ev (dooms key) NoFlaw xs limits law never_denied (let_some_go now (current t key) (all_closed xs (woken now key t))) closing_is tables_are refl
+  doom_does = reported_plainly t now ev (dooms key) NoFlaw xs limits law never_denied (let_some_go now (current t key) (all_closed xs (woken now key t))) closing_is tables_are refl

@@ -1,6 +1,6 @@
 -- What becomes due for whom: nothing where a writing goes on, and nothing for who isn't told so.
 use Rattle.std.{proofs.{lemmas.Bool.Decides.{nat_tests}, Common.{arith, ◌≡◌, ℕ, true, false, Option, Some, None, refl, ap, ◌∙◌}}, specs.Option.{option_or}}
-use Rattle.hc_effects.proofs.Vocabulary.{Cause, is_same_number, Place, BoundBy, due_after, Entry, exchange_in, becomes_due, cause_of_stop, cause_of_loss, cause_by_loss, cause_of_head, stop_cause, source, reads, Tables, Representation, Consumer, loses_writing, place}
+use Rattle.hc_effects.proofs.Vocabulary.{Cause, is_same_number, Place, BoundBy, due_after, Entry, exchange_in, becomes_due, cause_of_stop, cause_of_loss, cause_by_loss, cause_of_head, stop_cause, source, reads, Tables, Representation, Consumer, loses_group, place}
 
 -- the parts of what becomes due
 pub record IsUndue (t : Tables) (e : Entry) (c : ℕ) (k : Consumer) : Type 0 where
@@ -26,7 +26,7 @@ stop_none t e k none = grind (arith, nat_tests)
 pub other_stop : (t : Tables) (e : Entry) (k : Consumer) → is_same_number (source t k) (exchange_in e.event) ≡ false → cause_of_stop t e k ≡ None
 other_stop t e k off = rw off refl
 
-pub loss_at : (t : Tables) (e : Entry) (c r lo : ℕ) (hi : Option ℕ) (how : BoundBy) (k : Consumer) (v : Representation) → k.place ≡ place.Bound r lo hi how → t.representation r ≡ Some v → loses_writing t e r v ≡ false → cause_of_loss t e c k.place ≡ None
+pub loss_at : (t : Tables) (e : Entry) (c r lo : ℕ) (hi : Option ℕ) (how : BoundBy) (k : Consumer) (v : Representation) → k.place ≡ place.Bound r lo hi how → t.representation r ≡ Some v → loses_group t e r v ≡ false → cause_of_loss t e c k.place ≡ None
 loss_at t e c r lo hi how k v at row kept = ap (cause_of_loss t e c) at ∙ (ap (cause_by_loss t e c r) row ∙ rw kept refl)
 
 pub loss_free : (t : Tables) (e : Entry) (c : ℕ) (p : Place) → ((r lo : ℕ) (hi : Option ℕ) (how : BoundBy) → p ≡ place.Bound r lo hi how → ⊥) → cause_of_loss t e c p ≡ None

@@ -6,7 +6,7 @@
 -- (`shown_by`), which has the most work. `measures_kept` adds the other measures.
 use Rattle.std.{proofs.{lemmas.Bool.Decides.{nat_tests}, Common.{◌≡◌, ℕ, ◌≤◌, true, false, Option, Some, refl, ap, sym, ◌∙◌, subst, arith}}, specs.Prelude.{is_some}}
 use Rattle.hc_text.proofs.Basics.{not_some as none_some, same_some as same_row, some_inj}
-use Rattle.hc_range.specs.declared.range.{Asked.{Asked}, Span.{Span}}
+use Rattle.hc_range.specs.declared.range.{RangeSpec.{RangeSpec}, Span.{Span}}
 use Rattle.hc_effects.proofs.Vocabulary.{brings_part, brings_whole, opening_in, Response, HeadCase, range_of, wanted_of, BoundBy, Showing, showing_in, case_at, consumer_heard, by_opening, waiting, Entry, promise_in, founded_total, entry_of, Measures, move_of, reads, Tables, Exchange, Representation, Consumer, after_accepted, event, case, wanted, place}
 use Rattle.hc_model.specs.Measures.{EndsWithin}
 use Rattle.hc_model.specs.Sound as sound
@@ -27,10 +27,10 @@ pub record IsSpanOf (o : Option ℕ) (hi : ℕ) : Type 0 where
 pub interval_inj : (a b : Span) → wanted.Interval a ≡ wanted.Interval b → a ≡ b
 interval_inj a b is = cc
 
-pub wanted_within : (range : Option Asked) (o : Option ℕ) (span : Span) → wanted_of range o ≡ wanted.Interval span → IsSpanOf o span.hi
+pub wanted_within : (range : Option RangeSpec) (o : Option ℕ) (span : Span) → wanted_of range o ≡ wanted.Interval span → IsSpanOf o span.hi
 wanted_within range o span is = grind (arith, nat_tests)
 
-interval_within : (range : Option Asked) (o : Option ℕ) (lo hi : ℕ) → IsInterval (wanted_of range o) lo (Some hi) → IsSpanOf o hi
+interval_within : (range : Option RangeSpec) (o : Option ℕ) (lo hi : ℕ) → IsInterval (wanted_of range o) lo (Some hi) → IsSpanOf o hi
 interval_within range o lo hi i = grind (arith, nat_tests)
 
 module _ (step : Step) (m : Measures step.tables) where
@@ -74,8 +74,8 @@ module _ (step : Step) (m : Measures step.tables) where
     founds_by x response w k here row of_r is (rep.founded answer z none also row_too on made) =
         let w_is : w ≡ z = same_row (t.exchange r) w z (sym (ap t.exchange of_r) ∙ row) row_too in
         let answer_is : response ≡ answer = head_inj x r response answer (sym here ∙ also) in
-        let told : founded_total w response ≡ v.head.total = ap (λ (q : Exchange). founded_total q response) w_is ∙ (ap (founded_total z) answer_is ∙ ap (λ (q : Representation). q.head.total) made) in
-        within_as v hi (founded_total w response) (founded_by x response w k (case_at t e) here row refl is) told
+        let reported : founded_total w response ≡ v.head.total = ap (λ (q : Exchange). founded_total q response) w_is ∙ (ap (founded_total z) answer_is ∙ ap (λ (q : Representation). q.head.total) made) in
+        within_as v hi (founded_total w response) (founded_by x response w k (case_at t e) here row refl is) reported
       where
         head_inj : (a b : ℕ) (p q : Response) → event.Head a p ≡ event.Head b q → p ≡ q
         head_inj a b p q is = cc

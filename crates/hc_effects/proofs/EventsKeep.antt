@@ -39,8 +39,8 @@ pub no_head : (o : Option Response) → is_some o ≡ false → o ≡ None
 no_head o h = grind (arith, nat_tests)
 
 module _ (limits : Limits) (t : Tables) (now : ℕ) (flaw : Flaw) (s : Sound t) where
-  pub told : (event : Event) → opening_in (map act.Evicted (evicted limits t now event) ++ (loss_acts flaw ++ map act.Close (closing t (record { now = now; event = event; acts = loss_acts flaw })))) ≡ None
-  told event =
+  pub reported : (event : Event) → opening_in (map act.Evicted (evicted limits t now event) ++ (loss_acts flaw ++ map act.Close (closing t (record { now = now; event = event; acts = loss_acts flaw })))) ≡ None
+  reported event =
       let xs = closing t (record { now = now; event = event; acts = loss_acts flaw }) in
       evicts_open_none (evicted limits t now event) (loss_acts flaw ++ map act.Close xs) (losses_then flaw xs)
 
@@ -51,7 +51,7 @@ module _ (limits : Limits) (t : Tables) (now : ℕ) (flaw : Flaw) (s : Sound t) 
   piece_is x bytes None row goes = absurd (never _ goes)
   piece_is x bytes (Some w) row goes =
       let got : IsTaken w (length bytes) = taken (length bytes) w goes in
-      let piece : IsPiece t now x bytes (accepted_acts limits t now (event.Piece x bytes) flaw) w = record { row = row; was_open = got.is_open; headed = got.headed; opens_none = told (event.Piece x bytes) } in
+      let piece : IsPiece t now x bytes (accepted_acts limits t now (event.Piece x bytes) flaw) w = record { row = row; was_open = got.is_open; headed = got.headed; opens_none = reported (event.Piece x bytes) } in
       record { waits = piece_waits t now x bytes _ w s piece; one_about = piece_one_about t now x bytes _ w s piece }
 
   pub head_taken : (w : Exchange) → head_refusal (as_open (Some w)) ≡ None → (w.is_open ≡ true) × (w.head ≡ None)
@@ -61,7 +61,7 @@ module _ (limits : Limits) (t : Tables) (now : ℕ) (flaw : Flaw) (s : Sound t) 
   head_is x response None row goes = absurd (never _ goes)
   head_is x response (Some w) row goes =
       let got = head_taken w goes in
-      let head : IsHead t now x response (accepted_acts limits t now (event.Head x response) flaw) w = record { row = row; was_open = got.0; headless = got.1; opens_none = told (event.Head x response) } in
+      let head : IsHead t now x response (accepted_acts limits t now (event.Head x response) flaw) w = record { row = row; was_open = got.0; headless = got.1; opens_none = reported (event.Head x response) } in
       record { waits = head_waits t now x response _ w s head; one_about = head_one_about t now x response _ w s head }
 
   poll_is : (c want : ℕ) (o : Option Consumer) → t.consumer c ≡ o → is_live o ≡ true → KeepsDeliveries (after_accepted t (owed_entry limits t now (event.Poll c want) flaw))
@@ -78,7 +78,7 @@ module _ (limits : Limits) (t : Tables) (now : ℕ) (flaw : Flaw) (s : Sound t) 
   events_keep (event.Head x response) goes = head_is x response (t.exchange x) refl goes
   events_keep (event.Piece x bytes) goes = piece_is x bytes (t.exchange x) refl goes
   events_keep (event.Cancel c) goes = quiet_keeps t _ s refl (cancels c)
-  events_keep ev goes = quiet_keeps t _ s refl (told ev)
+  events_keep ev goes = quiet_keeps t _ s refl (reported ev)
 
 pub deliveries_are_kept : DeliveriesAreKept
 deliveries_are_kept limits t now flaw s event goes = events_keep limits t now flaw s event goes

@@ -129,8 +129,8 @@ module _ (limits : Limits) (t : Tables) (now : ℕ) (ev : Event) (flaw : Flaw) w
     moves : (c : ℕ) (k : Consumer) → t.consumer c ≡ Some k → starts_over t f c k ≡ false → waits_for_any rs (consumer_acted t f c (consumer_heard t f c ev k)).place ≡ waits_for_any rs k.place
     moves c k row on = ap (waits_for_any rs) (acted_place c (consumer_heard t f c ev k)) ∙ heard_moves ev refl c k row
 
-    told_last : after_accepted t (record { now = now; event = ev; acts = a }) ≡ evict_all rs (after_accepted t f)
-    told_last = tables_last t now ev rs b evicts_none fails_none there moves
+    reported_last : after_accepted t (record { now = now; event = ev; acts = a }) ≡ evict_all rs (after_accepted t f)
+    reported_last = tables_last t now ev rs b evicts_none fails_none there moves
 
   -- WHAT THE STORE MAY FAIL
 
@@ -162,4 +162,4 @@ module _ (limits : Limits) (t : Tables) (now : ℕ) (ev : Event) (flaw : Flaw) w
 pub evictions_come_last : EvictionsComeLast
 evictions_come_last limits t now (event.Poll c want) flaw s o goes = asked_last limits t now (event.Poll c want) flaw refl refl
 evictions_come_last limits t now (event.Cancel c) flaw s o goes = asked_last limits t now (event.Cancel c) flaw refl refl
-evictions_come_last limits t now ev flaw s o goes = record { acts = refl; shown = flaw_last limits t now ev flaw; may = may_last limits t now ev flaw; tables = told_last limits t now ev flaw s o goes }
+evictions_come_last limits t now ev flaw s o goes = record { acts = refl; shown = flaw_last limits t now ev flaw; may = may_last limits t now ev flaw; tables = reported_last limits t now ev flaw s o goes }

@@ -47,7 +47,7 @@ or_some (Some y) x = λ e. cc
 and_false : (b : Bool) → (b && false) ≡ true → ⊥
 and_false b h = grind (arith, nat_tests)
 
--- a shared writing has an exchange
+-- a writer group has an exchange
 pub writer_some : (t : Tables) (v : Representation) → is_written t v ≡ true → v.writer ≢ None
 unfolding is_written
 writer_some t v on none = and_false (not v.is_lost) (rw none at on)

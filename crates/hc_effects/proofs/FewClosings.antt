@@ -2,7 +2,7 @@
 -- room where nothing is written.
 use Rattle.std.{proofs.{lemmas.Bool.Decides.{nat_tests}, Common.{arith, ◌≡◌, ℕ, List, [], ◌∷◌, Bool, false, Option, Some, None, refl, ap, ◌∙◌}}, specs.Prelude.{◌&&◌, ◌||◌, filter, reverse}}
 use mathlib.Core.Path.{fun_ext}
-use Rattle.hc_effects.proofs.Vocabulary.{Event, Limits, Write, case_at, closing, closes_row, must_close, is_refused, is_doomed, has_no_survivor, is_left, leaver, brings_head, doomed_key_of, Entry, entry_without_acts, exchange_heard, family, Tables, Exchange, Representation, evicted, first_idle, room_by, room_for, write_in, brings_body, loses_writing}
+use Rattle.hc_effects.proofs.Vocabulary.{Event, Limits, Write, case_at, closing, closes_row, must_close, is_refused, is_doomed, has_no_survivor, is_left, leaver, brings_head, doomed_key_of, Entry, entry_without_acts, exchange_heard, family, Tables, Exchange, Representation, evicted, first_idle, room_by, room_for, write_in, brings_body, loses_group}
 use Rattle.hc_effects.proofs.Tests.{and_false}
 
 pub record ClosesLittle (t : Tables) (e : Entry) : Type 0 where
@@ -11,7 +11,7 @@ pub record ClosesLittle (t : Tables) (e : Entry) : Type 0 where
   pub survives : (x r : ℕ) → has_no_survivor t e x r (t.representation r) ≡ false
 
 -- so where no writing is lost
-pub nothing_lost : (t : Tables) (e : Entry) → ((r : ℕ) (v : Representation) → t.representation r ≡ Some v → loses_writing t e r v ≡ false) → (x r : ℕ) → has_no_survivor t e x r (t.representation r) ≡ false
+pub nothing_lost : (t : Tables) (e : Entry) → ((r : ℕ) (v : Representation) → t.representation r ≡ Some v → loses_group t e r v ≡ false) → (x r : ℕ) → has_no_survivor t e x r (t.representation r) ≡ false
 nothing_lost t e unlost x r = grind (arith, nat_tests)
 
 -- so at an event that brings neither a head nor a piece, and dooms nothing

@@ -143,7 +143,7 @@ count_said t now ev flaw _ rest (parts.does c want k m at row is near) = count_m
 count_said t now ev flaw _ rest _ = refl
 
 few_acts : (limits : Limits) (t : Tables) (now : ℕ) (ev : Event) (flaw : Flaw) (acts : List Act) → IsAnswer limits t now ev flaw acts → length (evicted limits t now ev) ≤ 2 → count_evicted acts ≤ 2
-few_acts limits t now ev flaw _ (parts.told silent) few =
+few_acts limits t now ev flaw _ (parts.reported silent) few =
     let ys = closing t (record { now = now; event = ev; acts = answer_acts t now ev flaw ++ loss_acts flaw }) in
     let all = count_all (evicted limits t now ev) (loss_acts flaw ++ map act.Close ys) (count_lost flaw (map act.Close ys) ∙ count_closes ys) in
     subst (λ n. n ≤ 2) (sym all) few

@@ -9,8 +9,7 @@ use Rattle.hc_text.proofs.Basics.{bool_cases, never_true as not_true}
 use Rattle.hc_fields.specs.{FieldList.{values_of, has_name, field_list_with, without, size_of}, FirstValues.{has_field}}
 use Rattle.hc_fields.proofs.Edits.{values_of-put_other, values_of-without_same, values_of-without_other}
 use Rattle.hc_rules.proofs.RangeReads.{same_bytes, bytes_eq-same}
-use Rattle.hc_validate.specs.Updates.{fixed_names, is_fixed, changeable_fields, is_renewed, with_all, left_by, fields_with, is_within_limits, updated_fields}
-use Rattle.hc_validate.specs.Updates.{FieldPairs}
+use Rattle.hc_validate.specs.Updates.{fixed_names, is_fixed, changeable_fields, is_renewed, with_all, left_by, fields_with, is_within_limits, updated_fields, FieldPairs}
 use Rattle.hc_validate.proofs.Settings.{length-without, size_of-without}
 use Rattle.hc_effects.proofs.Vocabulary.{kept_fields}
 use Rattle.hc_effects.proofs.Basics.{false_true}

@@ -4,18 +4,17 @@
 -- into one form, for what is founded and for what is lost at once (`founds_does`, `lost_does`), with what goes
 -- (`replaces`). Then what is told of it: whether it is a part (`status_is`), what its consumer wants of that
 -- (`part_wanted`), and that this one was shown no head yet (`founder_unshown`).
-use Rattle.std.{proofs.lemmas.Bool.Decides.{nat_tests}, proofs.Common.{◌<◌, ◌≡◌, ◌≢◌, ℕ, ◌+◌, ◌-◌, ◌≤◌, List, [], ◌∷◌, ◌++◌, Bool, true, false, Option, Some, None, refl, ap, sym, ◌∙◌, subst, arith}, specs.Prelude.{nat_eq, ◌||◌, bytes_eq, codes, is_some, map, if◌then◌else◌}}
+use Rattle.std.{proofs.{lemmas.Bool.Decides.{nat_tests}, Common.{◌<◌, ◌≡◌, ◌≢◌, ℕ, ◌+◌, ◌-◌, ◌≤◌, List, [], ◌∷◌, ◌++◌, Bool, true, false, Option, Some, None, refl, ap, sym, ◌∙◌, subst, arith}}, specs.Prelude.{nat_eq, ◌||◌, bytes_eq, codes, is_some, map, if◌then◌else◌}}
 use Rattle.hc_text.proofs.Basics.{and_left, and_right, not_some as none_some}
-use Rattle.hc_range.specs.{declared.range.{Asked.{Asked}, Span.{Span}, ContentRange.{ContentRange}}, Spans.{resolved_span}}
+use Rattle.hc_range.specs.{declared.range.{RangeSpec.{RangeSpec}, Span.{Span}, ContentRange.{ContentRange}}, Spans.{resolved_span}}
 use Rattle.hc_effects.proofs.Vocabulary.{brings_part, range, act, event, case, route, wanted, by, LostKind, Event, Request, Response, HeadCase, Limits, head_case, is_storable, fits_to_found, fits_part, begins_at, length_of, content_length_of, part_length, promise_of, agrees, is_head, route_of, content_range_of, is_get, range_of, wanted_of, strong_of, head_view, is_founding, fits_asker, was_shown, bound_by_total, current, is_number, denial, Does, with_event, let_all_go, let_some_go, with_consumer, with_answer, with_founding, just_founded, entry_without_acts, promise_in, NoFlaw, Loses, goes_by_case, founded_total, total_of_part, Lawful, IsAwaiting, Tables, Exchange, Consumer, with_item_first, evicted}
 use Rattle.hc_rules.specs.declared.length.Length.TheVariants as says
-use Rattle.hc_rules.proofs.RangeReads.{same_bytes}
+use Rattle.hc_rules.proofs.{RangeReads.{same_bytes}, Statuses.{whole_is_no_part, part_succeeds, part_not_204}}
 use Rattle.hc_fields.specs.FirstValues.{elements_in}
 use Rattle.hc_event.specs.declared.place.Place.TheVariants as place
 use Rattle.hc_model.specs.Owners as owners
-use Rattle.hc_effects.proofs.{Basics.{false_true}, FoundBy.{CaseBy, case_by}, FoundCases.{whole_lost, range_lost, replaced_lost, range_storable}, FoundEffects.{adds_one, founds_whole, founds_range, first_replaced, passes_by_lost, first_replaced_lost}, HeadFacts.{waiter}, SameTables.{is_in, in_one}, ToldNumbers.{range_early}}
+use Rattle.hc_effects.proofs.{Basics.{false_true}, FoundBy.{CaseBy, case_by}, FoundCases.{whole_lost, range_lost, replaced_lost, range_storable}, FoundEffects.{adds_one, founds_whole, founds_range, first_replaced, passes_by_lost, first_replaced_lost}, HeadFacts.{waiter}, SameTables.{is_in, in_one}, ReportedNumbers.{range_early}}
 use Rattle.hc_effects.proofs.FoundBy as cases
-use Rattle.hc_rules.proofs.Statuses.{whole_is_no_part, part_succeeds, part_not_204}
 
 pub data Founds : HeadCase → Type 0 where
   whole : Founds case.FoundsWhole
@@ -46,7 +45,7 @@ founder x response w _ k = record k { place = place.Bound x 0 (promise_in w resp
 -- WHAT IT TELLS
 
 -- what a part that fits is part of is known, and so what is wanted of it
-pub fits_wanted : (asked : Option Asked) (response : Response) → fits_to_found asked response ≡ true → (span : Span) × (wanted_of asked (total_of_part (content_range_of response.fields)) ≡ wanted.Interval span)
+pub fits_wanted : (asked : Option RangeSpec) (response : Response) → fits_to_found asked response ≡ true → (span : Span) × (wanted_of asked (total_of_part (content_range_of response.fields)) ≡ wanted.Interval span)
 fits_wanted None response fits = absurd (false_true fits)
 fits_wanted (Some asked) response fits = by_range (content_range_of response.fields) (and_right (is_some (strong_of response.fields)) (fits_part asked (content_range_of response.fields)) fits)
   where

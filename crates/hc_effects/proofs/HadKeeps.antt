@@ -6,7 +6,7 @@
 -- (`none_left`). `was_headed` joins those that had a head.
 use Rattle.std.{proofs.{Common.{◌≡◌, ◌⊎◌, inl, inr, ℕ, List, [], ◌∷◌, Bool, true, false, cond, Option, Some, None, refl, ap, sym, ◌∙◌, subst, arith}, lemmas.Bool.Decides.{nat_tests}}, specs.{Prelude.{is_some, is_none, map, filter}, Option.{option_or}}}
 use Rattle.hc_text.proofs.Basics.{both_true as and_both, and_left, and_right, bool_cases, not_some as none_some, never_true as not_so, or_left, or_right, same_some as same_row, some_inj}
-use Rattle.hc_effects.proofs.Vocabulary.{Opening, opening_in, leaves_in, Event, Response, Member, least, lesser, route_of, stands_at, BoundBy, loses_in, has_loss, is_joining, is_left, is_left_by, has_no_survivor, leaver, leaver_by, consumer_heard, consumer_acted, by_opening, own_after, left_to, waiting, due_after, back_in_line, is_number, Entry, aim_from, exchange_in, is_open, family, becomes_due, cause_of_stop, cause_of_loss, cause_by_loss, cause_of_head, stop_cause, entry_of, Measures, IsAwaiting, move_of, is_written, bound, bound_to, own_open, reads, source, shared_exchange, Tables, Exchange, Representation, Consumer, Among, IsBound, IsAbout, IsHad, IsExclusiveWriter, IsFirst, starts_over, after_accepted, brings_body, came_alone, loses_writing, survivor, member, may_write, event, route, place}
+use Rattle.hc_effects.proofs.Vocabulary.{Opening, opening_in, leaves_in, Event, Response, Member, least, lesser, route_of, stands_at, BoundBy, loses_in, has_loss, is_joining, is_left, is_left_by, has_no_survivor, leaver, leaver_by, consumer_heard, consumer_acted, by_opening, own_after, left_to, waiting, due_after, back_in_line, is_number, Entry, aim_from, exchange_in, is_open, family, becomes_due, cause_of_stop, cause_of_loss, cause_by_loss, cause_of_head, stop_cause, entry_of, Measures, IsAwaiting, move_of, is_written, bound, bound_to, own_open, reads, source, shared_exchange, Tables, Exchange, Representation, Consumer, Among, IsBound, IsAbout, IsHad, IsExclusiveWriter, IsFirst, starts_over, after_accepted, brings_body, came_alone, loses_group, survivor, member, may_write, event, route, place}
 use Rattle.hc_model.specs.Owners as owners
 use Rattle.hc_model.specs.Sound as sound
 use Rattle.hc_effects.proofs.{AboutKeeps.{own_open_of, own_open_is}, ApartKeeps.{written_by, is_on}, Basics.{false_true, some_none, number_is, number_yes}, BoundStays.{Stays, bound_stays}, Closed.{before}, Dues.{undue_of, stop_none, loss_at, due_none}, ExchangeFrom.{IsSame}, FirstKeeps.{came_kept, case_is, is_new}, HasBound.{not_must, reader_of}, HeadKeeps.{is_join}, Losses.{exclusive_is}, LossBy.{IsReal, sealed_loss, seals_one, fresh}, OpensFrom.{opens_hole, hole_is}, OwnersKeep.{is_opened}, ExclusiveWriters.{writer_some, bound_some}, RepFrom.{RepFrom, rep_from, IsKept, IsResumed}, Said.{IsOpening, opening_by, leaving_by}, SaidActs.{leaves_leaver}, ServedKeeps.{lost_alone, kept_alone, over}, Stops.{writer_about}, WaitingKeeps.{stands, stays_on, unmet}, Waiters.{IsWaiter, waiter_of, unwritten, head_is_own, waits_undue}, WriterEnds.{loses_same}, StaysOn.{unopened}, Step.{Step}}
@@ -62,7 +62,7 @@ module _ (step : Step) (m : Measures step.tables) (real : IsReal step.limits ste
 
   -- THE PEN GOES WITH AN OPEN EXCHANGE
 
-  unlosing : (r : ℕ) (v : Representation) → is_written t v ≡ false → loses_writing t e r v ≡ false
+  unlosing : (r : ℕ) (v : Representation) → is_written t v ≡ false → loses_group t e r v ≡ false
   unlosing r v off = not_so _ (λ h. false_true (sym off ∙ and_right _ _ h))
 
   module _ (r c x lo : ℕ) (hi : Option ℕ) (how : BoundBy) (k u : Consumer) (v p : Representation) (row : t.consumer c ≡ Some k) (at : k.place ≡ place.Bound r lo hi how) (there : t.representation r ≡ Some v) (kept : IsKept t e r v p) (own : own_open t k ≡ Some x) (none_due : k.due ≡ None) (off : is_written t v ≡ false) (exclusive_writer : IsExclusiveWriter t r v c) (after_row : now_on.consumer c ≡ Some u) (stands : u.place ≡ place.Bound r lo hi how) where
@@ -163,7 +163,7 @@ module _ (step : Step) (m : Measures step.tables) (real : IsReal step.limits ste
     own_stays : stays.u.own ≡ Some x
     own_stays =
         let mine : (by_opening t c (opening_in e.acts) (waiting t e c k)).own ≡ Some x = ap (λ (q : Consumer). q.own) (opening_same (waiting t e c k) (opening_in e.acts) refl) ∙ (own_open_of t k x own).own in
-        let quiet : loses_writing t e r v ≡ false = unlosing r v (own_unwritten r c x k v own_reader row there own) in
+        let quiet : loses_group t e r v ≡ false = unlosing r v (own_unwritten r c x k v own_reader row there own) in
         let left : own_after t e c k.place (Some x) ≡ Some x = ap (λ a. own_after t e c a (Some x)) at ∙ (ap (λ a. left_to t e c r a (Some x)) there ∙ rw quiet refl) in
         sym (ap (λ (q : Consumer). q.own) stays.is) ∙ (ap (λ (h : Consumer). own_after t e c h.place (by_opening t c (opening_in e.acts) (waiting t e c h)).own) stays.heard_is ∙ (ap (own_after t e c k.place) mine ∙ left))
 
@@ -236,7 +236,7 @@ module _ (step : Step) (m : Measures step.tables) (real : IsReal step.limits ste
     family_is : family x w ≡ r
     family_is = grind (arith, nat_tests)
 
-    losing_b : loses_in r e.acts ≡ true → brings_body ev ≡ true → loses_writing t b r v ≡ true
+    losing_b : loses_in r e.acts ≡ true → brings_body ev ≡ true → loses_group t b r v ≡ true
     losing_b loses brings = and_both _ _ (and_both _ _ brings (loses_same step m real r ∙ loses)) on
 
     none_left : loses_in r e.acts ≡ true → brings_body ev ≡ true → survivor t r v ≡ None → ⊥
@@ -256,7 +256,7 @@ module _ (step : Step) (m : Measures step.tables) (real : IsReal step.limits ste
     survived c lo hi how k row at is loses brings =
         let waiterless = member.no_waiter step c r lo hi how k v row at there on in
         let st = bound_stays step c r lo hi how k row at waiterless (λ here. false_true (sym (ap brings_body here) ∙ brings)) (not_so (leaves_in c e.acts) (λ leaves. let got = leaving_by limits t now flaw s ev goes c leaves in unpolled brings c got.want got.poll.at)) in
-        let losing : loses_writing t e r v ≡ true = and_both _ _ (and_both _ _ brings loses) on in
+        let losing : loses_group t e r v ≡ true = and_both _ _ (and_both _ _ brings loses) on in
         let mine : is_number (survivor t r v) c ≡ true = number_yes (survivor t r v) c is in
         let left : (n : Option ℕ) → own_after t e c k.place n ≡ Some x = (λ n. ap (λ a. own_after t e c a n) at ∙ (ap (λ a. left_to t e c r a n) there ∙ (rw (losing, mine) writer))) in
         let own : st.u.own ≡ Some x = sym (ap (λ (q : Consumer). q.own) st.is) ∙ (ap (λ (h : Consumer). own_after t e c h.place (by_opening t c (opening_in e.acts) (waiting t e c h)).own) st.heard_is ∙ left (by_opening t c (opening_in e.acts) (waiting t e c k)).own) in

@@ -6,9 +6,9 @@
 -- `after_head` joins the rows into tables; the effects of each case are read off it.
 use Rattle.std.{proofs.{lemmas.Bool.Decides.{nat_tests}, Common.{arith, ◌≡◌, inl, inr, ℕ, List, ◌++◌, Bool, true, false, Option, Some, None, refl, ap, sym, ◌∙◌, subst}}, specs.{Prelude.{◌&&◌, ◌||◌, ◌==◌, not, nat_eq, if◌then◌else◌, map, option_map}, Option.{option_or}}}
 use Rattle.hc_text.proofs.Basics.{eqb-same, not_some as none_some, or_left, or_false as or_off, or_right, and_off as then_false}
-use Rattle.hc_effects.proofs.Vocabulary.{brings_whole, opening_in, asks_in, closes_in, evicts_in, Act, Cause, Response, HeadCase, Place, loses_in, has_loss, misreads_in, loss_acts, case_at, is_founding, is_joining, is_updating, consumer_after, consumer_heard, consumer_settled, consumer_acted, place_by_case, becomes_shared, back_in_line, is_current, is_number, doomed_key_of, doomed_by_case, is_key, with_event, as_gone, let_all_go, over, all_closed, with_consumer, with_answer, exchange_with_head, with_refreshed_head, just_founded, lost_to, Entry, exchange_after, joined_at, becomes_due, cause_by_case, Flaw, becomes_gone, goes_by_case, ends_early, ends_founding, Lawful, IsAwaiting, reads, is_written, representation_after, updates, representation_heard, representation_acted, with_renewed_head, resumes, Tables, Exchange, Representation, Consumer, starts_over, sends_back, waits_at, after_accepted, with_item_first, founds, binds, to_front, opened_after, openings_after, loses_writing, goes_on_with, act}
+use Rattle.hc_effects.proofs.Vocabulary.{brings_whole, opening_in, asks_in, closes_in, evicts_in, Act, Cause, Response, HeadCase, Place, loses_in, has_loss, misreads_in, loss_acts, case_at, is_founding, is_joining, is_updating, consumer_after, consumer_heard, consumer_settled, consumer_acted, place_by_case, becomes_shared, back_in_line, is_current, is_number, doomed_key_of, doomed_by_case, is_key, with_event, as_gone, let_all_go, over, all_closed, with_consumer, with_answer, exchange_with_head, with_refreshed_head, just_founded, lost_to, Entry, exchange_after, joined_at, becomes_due, cause_by_case, Flaw, becomes_gone, goes_by_case, ends_early, ends_founding, Lawful, IsAwaiting, reads, is_written, representation_after, updates, representation_heard, representation_acted, with_renewed_head, resumes, Tables, Exchange, Representation, Consumer, starts_over, sends_back, waits_at, after_accepted, with_item_first, founds, binds, to_front, opened_after, openings_after, loses_group, goes_on_with, act}
 use Rattle.hc_event.specs.declared.event.Event.TheVariants as event
-use Rattle.hc_effects.proofs.{ActParts.{IsFarFrom, closes_evicted, closes_lost, asks_evicted, asks_lost, asks_closes, loses_evicted, loses_before, evicts_lost, evicts_closes, far_evicted, far_loss, far_closed}, ConsumerEffects.{waits_as}, Dues.{stop_none}, LeaveFrames.{closes_are}, PieceKeeps.{eq_cases}, PieceServes.{quiet_acts, acted_quiet}, SaidActs.{told_loss}, SameTables.{same_tables, is_in, waits_for_any, back_from_any, without, all_go_is, shut, all_closed_is}, Untouched.{IsSpared, own_stays, loss_spared, exchange_absent, representation_frame, representation_absent, consumer_apart, consumer_absent, IsApart, apart_from, goes_from}, EvictedRows.{evicts_are}}
+use Rattle.hc_effects.proofs.{ActParts.{IsFarFrom, closes_evicted, closes_lost, asks_evicted, asks_lost, asks_closes, loses_evicted, loses_before, evicts_lost, evicts_closes, far_evicted, far_loss, far_closed}, ConsumerEffects.{waits_as}, Dues.{stop_none}, LeaveFrames.{closes_are}, PieceKeeps.{eq_cases}, PieceServes.{quiet_acts, acted_quiet}, SaidActs.{reported_loss}, SameTables.{same_tables, is_in, waits_for_any, back_from_any, without, all_go_is, shut, all_closed_is}, Untouched.{IsSpared, own_stays, loss_spared, exchange_absent, representation_frame, representation_absent, consumer_apart, consumer_absent, IsApart, apart_from, goes_from}, EvictedRows.{evicts_are}}
 
 two_off : (a b : Bool) → (a || false || false || b) ≡ (a || b)
 two_off a b = grind (arith, nat_tests)
@@ -38,11 +38,11 @@ module _ (t : Tables) (now x : ℕ) (response : Response) (es : List ℕ) (flaw 
   loses_as r = loses_evicted r es (loss_acts flaw ++ map act.Close xs) ∙ loses_before r flaw xs
 
   -- what reads no writing that is lost is spared
-  pub spared_as : (r : ℕ) (v : Representation) → (loses_in r (loss_acts flaw) && is_written t v) ≡ false → loses_writing t e r v ≡ false
+  pub spared_as : (r : ℕ) (v : Representation) → (loses_in r (loss_acts flaw) && is_written t v) ≡ false → loses_group t e r v ≡ false
   spared_as r v off = ap (λ b. b && is_written t v) (loses_as r) ∙ off
 
   pub has_as : has_loss acts ≡ has_loss (loss_acts flaw)
-  has_as = told_loss es xs flaw
+  has_as = reported_loss es xs flaw
 
   evicts_as : (r : ℕ) → evicts_in r acts ≡ is_in es r
   evicts_as r = evicts_are r es (loss_acts flaw ++ map act.Close xs) (evicts_lost r flaw (map act.Close xs) ∙ evicts_closes r xs)

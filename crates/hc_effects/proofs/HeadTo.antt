@@ -3,14 +3,14 @@
 -- Its consumer waits for it, is bound, and so for a hole of what it reads (`way`). As it stays bound and nothing
 -- becomes due, its case has no cause and doesn't send it back (`no_cause`, `stays_back`), and it founds nothing
 -- (`founded_not`). Of all cases only those that join are left (`by_case`). So its head tells a part that fills the hole
--- (`joined`, `told_is`), and its front isn't past where that begins (`front_within`).
+-- (`joined`, `reported_is`), and its front isn't past where that begins (`front_within`).
 use Rattle.std.{proofs.{Common.{◌≡◌, ℕ, ◌≤◌, List, [], length, Bool, true, false, Option, Some, None, refl, ap, sym, ◌∙◌, subst, arith}, lemmas.Bool.Decides.{nat_tests}}, specs.Prelude.{if◌then◌else◌, is_some, ◌&&◌, ◌||◌, nat_eq}}
 use Rattle.hc_text.proofs.Basics.{same_some as same_row}
 use Rattle.hc_effects.proofs.Vocabulary.{cause, event, case, route, place, by, Need, Request, HeadCase, Length, head_case, length_of, base_of, route_of, BoundBy, has_loss, case_at, head_view, is_joining, consumer_heard, consumer_acted, by_head, place_by_case, doomed_key_of, is_key, Entry, promise_in, base, front, exchange_at, is_for, length_by, cause_of_head, cause_by_case, entry_of, IsAwaiting, reads, hole_start, Tables, Exchange, Representation, Consumer, starts_over, waits_at, sends_back, loses_what_it_waits_for, after_accepted}
 use Rattle.hc_model.specs.Sound as sound
-use Rattle.hc_effects.proofs.{Basics.{false_true, some_none}, BoundFrom.{IsRow, place_inj}, Dues.{due_before, undue_parts}, ExchangeFrom.{IsSame, IsHeaded}, FirstKeeps.{IsNew, case_is, is_new}, FoundBy.{CaseBy, case_by}, HeadKeeps.{IsJoin, is_join}, PartTold.{IsTold, part_told}, ToBeShown.{heard_place}, Waiters.{IsWaiter, waiter_of}, Step.{Step}}
+use Rattle.hc_effects.proofs.{Basics.{false_true, some_none}, BoundFrom.{IsRow, place_inj}, Dues.{due_before, undue_parts}, ExchangeFrom.{IsSame, IsHeaded}, FirstKeeps.{IsNew, case_is, is_new}, FoundBy.{CaseBy, case_by}, HeadKeeps.{IsJoin, is_join}, PartReported.{IsReceived, part_reported}, ToBeShown.{heard_place}, Waiters.{IsWaiter, waiter_of}, Step.{Step}}
 use Rattle.hc_effects.proofs.FoundBy as cases
-use Rattle.hc_effects.proofs.PartTold as told
+use Rattle.hc_effects.proofs.PartReported as reported
 
 module _ (step : Step) where
   open step use {limits, tables as t, now, flaw, sound as s, owners as o, event as ev, accepted as goes}
@@ -119,18 +119,18 @@ module _ (step : Step) where
     pub length_is : length_by z z.head ≡ length_of w.need w.request got.response
     length_is = ap (length_by z) got.head_is ∙ (ap (λ (n : Need). length_of n z.request got.response) same.need_is ∙ ap (λ (q : Request). length_of w.need q got.response) same.request_is)
 
-    pub told_is : IsTold joined.fills.from joined.fills.last (length_of w.need w.request got.response)
-    told_is = part_told w.need w.request got.response joined.fills.from joined.fills.last joined.fills.total (λ past. direct_hole (sym past ∙ way.0)) joined.fills.status joined.fills.part joined.good
+    pub reported_is : IsReceived joined.fills.from joined.fills.last (length_of w.need w.request got.response)
+    reported_is = part_reported w.need w.request got.response joined.fills.from joined.fills.last joined.fills.total (λ past. direct_hole (sym past ∙ way.0)) joined.fills.status joined.fills.part joined.good
 
-    base_by : (l : Length) → IsTold joined.fills.from joined.fills.last l → base_of l ≤ joined.fills.from
-    base_by l (told.none is) = let first : base_of l ≡ 0 = ap base_of is in omega arith
-    base_by l (told.part is) = let first : base_of l ≡ joined.fills.from = ap base_of is in omega arith
+    base_by : (l : Length) → IsReceived joined.fills.from joined.fills.last l → base_of l ≤ joined.fills.from
+    base_by l (reported.none is) = let first : base_of l ≡ 0 = ap base_of is in omega arith
+    base_by l (reported.part is) = let first : base_of l ≡ joined.fills.from = ap base_of is in omega arith
 
     -- and brings nothing before its hole
     pub front_within : front z ≤ hole_start w.need
     front_within =
         let first : base z ≡ base_of (length_of w.need w.request got.response) = ap base_of length_is in
-        let le : base_of (length_of w.need w.request got.response) ≤ joined.fills.from = base_by _ told_is in
+        let le : base_of (length_of w.need w.request got.response) ≤ joined.fills.from = base_by _ reported_is in
         let empty : z.body ≡ [] = got.body_is ∙ (s.waits.headless x w exchange_row new.bare).0 in
         let none_yet : length z.body ≡ 0 = ap (λ (b : List ℕ). length b) empty in
         let start : hole_start w.need ≡ joined.fills.from = ap hole_start joined.fills.need_is in

@@ -7,7 +7,7 @@
 use Rattle.std.{proofs.{Common.{◌≡◌, ◌≢◌, ℕ, ◌+◌, ◌-◌, ◌<◌, ◌≤◌, Bool, true, false, cond, List, Option, Some, None, refl, sym, ◌∙◌, subst, arith}, lemmas.Bool.Decides.{nat_tests}}, specs.Prelude.{codes}}
 use Rattle.hc_text.proofs.Basics.{either}
 use Rattle.hc_effects.proofs.Vocabulary.{brings_part, range, need, route, case, Response, Request, Need, Route, HeadCase, HeadView, Length, head_case, case_on, direct_case, turn_case, first_case, later_case, length_of, content_length_of, part_length, has_no_body, route_of, content_range_of, Representation, is_joining, joins_row, joins_by}
-use Rattle.hc_rules.specs.declared.length.Length.TheVariants as told
+use Rattle.hc_rules.specs.declared.length.Length.TheVariants as reported
 use Rattle.hc_rules.proofs.JoinLaws.{joins-right}
 use Rattle.hc_fields.specs.FirstValues.{elements_in}
 
@@ -75,7 +75,7 @@ filling_by from to v response None total tag known h = absurd (let never : false
 filling_by from to v response (Some opaque) None tag known h = absurd (let never : false ≡ true = h in cc)
 filling_by from to v response (Some opaque) (Some total) tag known h =
     let (last, j) = (joins-right (false, opaque) total (record { lo = from; hi = to }) response).0 h in
-    record { from = from; to = to; need_is = refl; v = v; row = refl; last = last; tagged = λ none. (let never : Some opaque ≡ None = sym tag ∙ none in cc); total = total; known = known; part = j.told; within = j.within; status = j.status }
+    record { from = from; to = to; need_is = refl; v = v; row = refl; last = last; tagged = λ none. (let never : Some opaque ≡ None = sym tag ∙ none in cc); total = total; known = known; part = j.reported; within = j.within; status = j.status }
 
 pub filling : (n : Need) (o : Option Representation) (response : Response) → joins_row n o response ≡ true → IsFilling n o response
 filling (need.Hole from to) None response h = absurd (let never : false ≡ true = h in cc)
@@ -84,9 +84,9 @@ filling _ o response h = absurd (let never : false ≡ true = h in cc)
 
 -- where the length of a joining head lies: within the hole, or nowhere
 pub data LiesIn (from to : ℕ) : Length → Type 0 where
-  bad : LiesIn from to told.Bad
-  empty : LiesIn from to (told.Promised 0)
-  within : (n : ℕ) → ((p : ℕ) → from ≤ p → p < from + n → p < to) → LiesIn from to (told.Part from n)
+  bad : LiesIn from to reported.Bad
+  empty : LiesIn from to (reported.Promised 0)
+  within : (n : ℕ) → ((p : ℕ) → from ≤ p → p < from + n → p < to) → LiesIn from to (reported.Part from n)
 
 lies_part : (from to last total : ℕ) (said : Length) → last < to → LiesIn from to (part_length said (Some (range.Part from last (Some total))))
 lies_part from to last total said below =
@@ -100,7 +100,7 @@ unfolding length_of
 lies_hole from to last total request response status part below =
     let said = content_length_of (elements_in (codes "content-length") response.fields) in
     let here : LiesIn from to (part_length said (content_range_of response.fields)) = rw part (lies_part from to last total said below) in
-    mix (LiesIn from to) (has_no_body request response.status) (told.Promised 0) _ empty (first_side from to (brings_part response.status) _ _ status here)
+    mix (LiesIn from to) (has_no_body request response.status) (reported.Promised 0) _ empty (first_side from to (brings_part response.status) _ _ status here)
 
 -- the head that joins is a part for a hole
 pub lies : (n : Need) (o : Option Representation) (request : Request) (response : Response) (f : IsFilling n o response) → LiesIn f.from f.to (length_of n request response)

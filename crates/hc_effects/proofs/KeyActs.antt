@@ -6,8 +6,8 @@
 -- is of the key of the event. A representation of another key is not written, so not lost, and is not read by the poll,
 -- so not misread.
 use Rattle.std.{proofs.{lemmas.Bool.Decides.{nat_tests}, Common.{arith, ◌≡◌, ◌⊎◌, inl, inr, ℕ, List, [], ◌∷◌, ◌++◌, Bool, true, false, Option, Some, None, refl, ap, sym, ◌∙◌, subst}}, specs.{Prelude.{◌||◌, ◌==◌, nat_eq, if◌then◌else◌, map, filter, reverse, take, zero, suc}, Option.{option_or, option_map}}}
-use Rattle.hc_text.proofs.Basics.{and_left, and_right as and_then, bool_cases, eq_tells as eq_is, not_some as none_some, never_true as not_true, or_cases, some_inj}
-use Rattle.hc_effects.proofs.Vocabulary.{Opening, opening_in, asks_in, closes_in, evicts_in, Act, Cause, Need, Event, Response, Limits, Room, loses_in, misreads_in, leaver_in, without_losses, accepted_acts, answer_acts, loss_acts, case_at, is_founding, is_joining, must_close, closes_row, closing, brings_head, is_doomed, has_no_survivor, is_left, is_left_by, leaver_by, is_number, bypass_key, bypassed_by, bypassed_for, Entry, entry_without_acts, family, Flaw, Misreads, flaw_in, key_of, key_of_exchange, is_of_key, ExchangeKeys, ConsumerKeys, Move, Fails, acts_of, source, Tables, Exchange, Representation, Consumer, may_be, may_misread, evicted, first_idle, idle, is_idle, room_for, brings_body, loses_writing, written_representation, written_in, head_writes, may_validate, piece_writes, unless_lost, sealed_representation, seals_at, sealed_by, stops, first_found, lossless, act, need, room}
+use Rattle.hc_text.proofs.Basics.{and_left, and_right as and_then, bool_cases, eq_reports as eq_is, not_some as none_some, never_true as not_true, or_cases, some_inj}
+use Rattle.hc_effects.proofs.Vocabulary.{Opening, opening_in, asks_in, closes_in, evicts_in, Act, Cause, Need, Event, Response, Limits, Room, loses_in, misreads_in, leaver_in, without_losses, accepted_acts, answer_acts, loss_acts, case_at, is_founding, is_joining, must_close, closes_row, closing, brings_head, is_doomed, has_no_survivor, is_left, is_left_by, leaver_by, is_number, bypass_key, bypassed_by, bypassed_for, Entry, entry_without_acts, family, Flaw, Misreads, flaw_in, key_of, key_of_exchange, is_of_key, ExchangeKeys, ConsumerKeys, Move, Fails, acts_of, source, Tables, Exchange, Representation, Consumer, may_be, may_misread, evicted, first_idle, idle, is_idle, room_for, brings_body, loses_group, written_representation, written_in, head_writes, may_validate, piece_writes, unless_lost, sealed_representation, seals_at, sealed_by, stops, first_found, lossless, act, need, room}
 use Rattle.hc_event.specs.declared.act.Cause.TheVariants as cause
 use Rattle.hc_event.specs.declared.event.Event.TheVariants as event
 use Rattle.hc_model.specs.Runs.{is_near}
@@ -143,7 +143,7 @@ module _ (limits : Limits) (t : Tables) (e : Entry) (flaw : Flaw) (exchanges : E
     asks_said _ rest _ = refl
 
     asks_by : (acts : List Act) → answered acts → asks_in x acts ≡ false
-    asks_by _ (parts.told silent) = (asks_evicted x 0 (evicted limits t e.now e.event) _).asks ∙ ((asks_lost x 0 flaw _).asks ∙ (asks_closes x 0 closings).asks)
+    asks_by _ (parts.reported silent) = (asks_evicted x 0 (evicted limits t e.now e.event) _).asks ∙ ((asks_lost x 0 flaw _).asks ∙ (asks_closes x 0 closings).asks)
     asks_by _ parts.asked = asks_said asked_of _ said_here ∙ ((asks_closed x 0 closings _).asks ∙ (asks_loss x 0 flaw).asks)
 
     -- an exchange of another key isn't asked
@@ -203,7 +203,7 @@ module _ (limits : Limits) (t : Tables) (e : Entry) (flaw : Flaw) (exchanges : E
     not_lost r (Some v) there h =
         let both = and_left _ _ h in
         let writes : v.writer ≡ Some x = number_is v.writer x (and_left _ _ both) in
-        let losing = and_left _ _ (and_then (is_number v.writer x) (loses_writing t seen r v) both) in
+        let losing = and_left _ _ (and_then (is_number v.writer x) (loses_group t seen r v) both) in
         let now_lost : loses_in r (loss_acts flaw) ≡ true = sym (said_closes x r t e.now e.event flaw asked_of (loss_acts flaw) said_here).loses ∙ and_then _ _ losing in
         not_it (body_lost r v there (and_left _ _ losing) now_lost ∙ ap Some (writer_key t r x w v exchanges there writes row))
 
@@ -249,7 +249,7 @@ module _ (limits : Limits) (t : Tables) (e : Entry) (flaw : Flaw) (exchanges : E
     closes_closing = closes_filter x (λ y. closes_row t seen y (t.exchange y)) (reverse t.openings) fails_row
 
     closes_by : (acts : List Act) → answered acts → closes_in x acts ≡ false
-    closes_by _ (parts.told silent) = closes_evicted x (evicted limits t e.now e.event) _ ∙ (closes_lost x flaw _ ∙ closes_closing)
+    closes_by _ (parts.reported silent) = closes_evicted x (evicted limits t e.now e.event) _ ∙ (closes_lost x flaw _ ∙ closes_closing)
     closes_by _ parts.asked = (said_closes x 0 t e.now e.event flaw asked_of _ said_here).closes ∙ (closes_before x closings flaw ∙ closes_closing)
 
     -- nor is it closed
@@ -293,7 +293,7 @@ module _ (limits : Limits) (t : Tables) (e : Entry) (flaw : Flaw) (exchanges : E
     written_key h = written_by e.event refl h
 
     loses_by : (acts : List Act) → answered acts → loses_in r acts ≡ loses_in r (loss_acts flaw)
-    loses_by _ (parts.told silent) = loses_evicted r (evicted limits t e.now e.event) _ ∙ loses_before r flaw closings
+    loses_by _ (parts.reported silent) = loses_evicted r (evicted limits t e.now e.event) _ ∙ loses_before r flaw closings
     loses_by _ parts.asked = (said_closes 0 r t e.now e.event flaw asked_of _ said_here).loses ∙ loses_closed r closings (loss_acts flaw)
 
     -- a representation of another key isn't lost
@@ -319,7 +319,7 @@ module _ (limits : Limits) (t : Tables) (e : Entry) (flaw : Flaw) (exchanges : E
     misread_said _ rest (parts.misreads c want q at reads) none is h = misread_key c want at (sym is ∙ misread_cause r c (cause.StoreRead q) rest none h)
 
     misread_by : (acts : List Act) → answered acts → flaw_in acts ≡ flaw → misreads_in r acts ≡ true → key_of t e.event ≡ Some v.key
-    misread_by _ (parts.told silent) is h =
+    misread_by _ (parts.reported silent) is h =
         absurd (let never : false ≡ true = sym ((asks_evicted 0 r (evicted limits t e.now e.event) _).misreads ∙ ((asks_lost 0 r flaw _).misreads ∙ (asks_closes 0 r closings).misreads)) ∙ h in cc)
     misread_by _ parts.asked is h =
         misread_said asked_of _ said_here ((asks_closed 0 r closings _).misreads ∙ (asks_loss 0 r flaw).misreads) is h
@@ -336,7 +336,7 @@ module _ (limits : Limits) (t : Tables) (e : Entry) (flaw : Flaw) (exchanges : E
   opens_said _ rest o _ none h = absurd (none_some o (sym none ∙ h))
 
   opens_by : (acts : List Act) (o : Opening) → answered acts → opening_in acts ≡ Some o → key_of t e.event ≡ Some o.request.key
-  opens_by _ o (parts.told silent) h =
+  opens_by _ o (parts.reported silent) h =
       absurd (none_some o (sym ((asks_evicted 0 0 (evicted limits t e.now e.event) _).opens ∙ ((asks_lost 0 0 flaw _).opens ∙ (asks_closes 0 0 closings).opens)) ∙ h))
   opens_by _ o parts.asked h = opens_said asked_of _ o said_here ((asks_closed 0 0 closings _).opens ∙ (asks_loss 0 0 flaw).opens) h
 
@@ -369,13 +369,13 @@ module _ (limits : Limits) (t : Tables) (e : Entry) (flaw : Flaw) (exchanges : E
       ]
 
       by_answer : (acts : List Act) → answered acts → IsFarFrom c acts
-      by_answer _ (parts.told silent) = far_evicted c (evicted limits t e.now e.event) _ (far_loss c flaw _ (far_closed c closings))
+      by_answer _ (parts.reported silent) = far_evicted c (evicted limits t e.now e.event) _ (far_loss c flaw _ (far_closed c closings))
       by_answer _ parts.asked = far_said c t e.now e.event flaw asked_of _ apart said_here (far_closing c closings _ (far_lost_only c flaw))
 
   -- EVICTED
 
   evicts_by : (r : ℕ) (acts : List Act) → answered acts → evicts_in r acts ≡ true → HasRow t r
-  evicts_by r _ (parts.told silent) h =
+  evicts_by r _ (parts.reported silent) h =
       evicts_all r (evicted limits t e.now e.event) _ (HasRow t) (evicted_rows limits t e.now e.event) (evicts_lost r flaw _ ∙ evicts_closes r closings) h
   evicts_by r _ parts.asked h =
       absurd (let never : false ≡ true = sym ((said_closes 0 r t e.now e.event flaw asked_of _ said_here).evicts ∙ evicts_closed r closings flaw) ∙ h in cc)

@@ -5,8 +5,8 @@
 -- its key (`current_key`). A consumer reads from its own exchange or a writing's, so that is of its key (`source_key`),
 -- and so is what is near (`near_key`). Laws of keys use these.
 use Rattle.std.{proofs.{lemmas.Bool.Decides.{nat_tests}, Common.{arith, ◌≡◌, inl, inr, ℕ, List, Bool, true, false, Option, Some, None, refl, ap, sym, ◌∙◌}}, specs.{Prelude.{bytes_eq, ◌&&◌, ◌||◌, if◌then◌else◌, unwrap_or}, Option.{option_or}}}
-use Rattle.hc_text.proofs.Basics.{and_none as with_false, and_true as with_true, and_left, bool_cases, eq_tells as eq_is, never_true as not_so, or_cases, same_some as same_row}
-use Rattle.hc_effects.proofs.Vocabulary.{Event, Place, BoundBy, current, is_usable, is_current, is_number, doomed_key_of, is_key, Entry, family, HasRow, key_of, is_of_key, ExchangeKeys, ConsumerKeys, own_open, shared_exchange, writing_in, is_written, source, is_bound, is_bound_place, Tables, Exchange, Representation, Consumer}
+use Rattle.hc_text.proofs.Basics.{and_none as with_false, and_true as with_true, and_left, bool_cases, eq_reports as eq_is, never_true as not_so, or_cases, same_some as same_row}
+use Rattle.hc_effects.proofs.Vocabulary.{Event, Place, BoundBy, current, is_usable, is_current, is_number, doomed_key_of, is_key, Entry, family, HasRow, key_of, is_of_key, ExchangeKeys, ConsumerKeys, own_open, shared_exchange, group_in, is_written, source, is_bound, is_bound_place, Tables, Exchange, Representation, Consumer}
 use Rattle.hc_rules.proofs.RangeReads.{bytes_eq-same, same_bytes}
 use Rattle.hc_event.specs.declared.place.Place.TheVariants as place
 use Rattle.hc_model.specs.Sound as sound
@@ -98,7 +98,7 @@ module _ (t : Tables) (c : ℕ) (k : Consumer) (exchanges : ExchangeKeys t) (con
       by_test v true h = h
       by_test v false h = absurd (let never : None ≡ Some x = h in cc)
 
-      by_row : (o : Option Representation) → t.representation r ≡ o → writing_in t o ≡ Some x → w.request.key ≡ k.request.key
+      by_row : (o : Option Representation) → t.representation r ≡ o → group_in t o ≡ Some x → w.request.key ≡ k.request.key
       by_row None there h = absurd (let never : None ≡ Some x = h in cc)
       by_row (Some v) there h =
           let writes : v.writer ≡ Some x = by_test v (is_written t v) h in

@@ -5,8 +5,8 @@
 -- due to the consumer: its source is of its own key, and what it reads is not lost. What is left is that room is made:
 -- a representation goes by that alone, and who waits for it starts over.
 use Rattle.std.{proofs.{lemmas.Bool.Decides.{nat_tests}, Common.{arith, ◌≡◌, inl, inr, ℕ, List, Bool, true, false, Option, Some, None, refl, ap, sym, ◌∙◌, subst, ◌⊎◌}}, specs.{Prelude.{◌&&◌, ◌||◌, ◌==◌, nat_eq, not, if◌then◌else◌, is_none}, Option.{option_map}}}
-use Rattle.hc_text.proofs.Basics.{and_left, and_right as and_then, bool_cases, eq_tells as eq_is, not_some as none_some, never_true as not_true, or_cases, both_false as or_none}
-use Rattle.hc_effects.proofs.Vocabulary.{asks_in, closes_in, evicts_in, Event, Response, HeadCase, is_same_number, Place, BoundBy, loses_in, misreads_in, case_at, consumer_after, consumer_settled, consumer_acted, consumer_heard, by_head, by_fault, due_after, back_in_line, is_current, doomed_key_of, bypass_key, is_key, Entry, exchange_after, exchange_heard, exchange_acted, family, exchange_in, exchange_at, is_for, becomes_due, cause_of_stop, cause_of_head, becomes_gone, goes_itself, goes_by_head, goes_by_exchange, goes_by_case, is_current_of, ends_early, ends_founding, stops_early, is_keepable, goes_in, key_of, key_of_exchange, ExchangeKeys, ConsumerKeys, source, representation_after, representation_heard, representation_acted, representation_after_head, updates, representation_after_piece, Tables, Exchange, Representation, Consumer, starts_over, sends_back, loses_what_it_waits_for, waits_at, loses_writing, event}
+use Rattle.hc_text.proofs.Basics.{and_left, and_right as and_then, bool_cases, eq_reports as eq_is, not_some as none_some, never_true as not_true, or_cases, both_false as or_none}
+use Rattle.hc_effects.proofs.Vocabulary.{asks_in, closes_in, evicts_in, Event, Response, HeadCase, is_same_number, Place, BoundBy, loses_in, misreads_in, case_at, consumer_after, consumer_settled, consumer_acted, consumer_heard, by_head, by_fault, due_after, back_in_line, is_current, doomed_key_of, bypass_key, is_key, Entry, exchange_after, exchange_heard, exchange_acted, family, exchange_in, exchange_at, is_for, becomes_due, cause_of_stop, cause_of_head, becomes_gone, goes_itself, goes_by_head, goes_by_exchange, goes_by_case, is_current_of, ends_early, ends_founding, stops_early, is_keepable, goes_in, key_of, key_of_exchange, ExchangeKeys, ConsumerKeys, source, representation_after, representation_heard, representation_acted, representation_after_head, updates, representation_after_piece, Tables, Exchange, Representation, Consumer, starts_over, sends_back, loses_what_it_waits_for, waits_at, loses_group, event}
 use Rattle.hc_event.specs.declared.place.Place.TheVariants as place
 use Rattle.hc_model.specs.Keys.{loses}
 use Rattle.hc_effects.proofs.{ActParts.{IsFarFrom}, Basics.{number_is}, KeyNames.{aims_key, opener_key, of_row, key_is, IsOther, not_other, doomed_key, family_key, current_key, source_key, bound_key}, PieceKeeps.{eq_cases}, Untouched.{acted_stays, due_stays, loss_spared}}
@@ -176,7 +176,7 @@ module _ (t : Tables) (e : Entry) (exchanges : ExchangeKeys t) (consumers : Cons
     heard_consumer _ at = refl
 
     -- what is lost is of another key
-    not_losing : (r lo : ℕ) (hi : Option ℕ) (how : BoundBy) (v : Representation) → k.place ≡ place.Bound r lo hi how → t.representation r ≡ Some v → loses_writing t e r v ≡ false
+    not_losing : (r lo : ℕ) (hi : Option ℕ) (how : BoundBy) (v : Representation) → k.place ≡ place.Bound r lo hi how → t.representation r ≡ Some v → loses_group t e r v ≡ false
     not_losing r lo hi how v at there = not_true _ (λ h.
         let same = bound_key t c k exchanges consumers is_row r lo hi how v at there in
         let none = far.loses r v there (subst (IsOther t e.event) (sym same) other) in

@@ -5,7 +5,7 @@
 -- is current for a key has a row of that key (`current_row`). So an exchange after an entry was there, or is such a new
 -- one (`exchange_was`). The law of one key is kept by these.
 use Rattle.std.{proofs.{lemmas.Bool.Decides.{nat_tests}, Common.{arith, ◌≡◌, ◌⊎◌, inl, inr, ℕ, List, ◌++◌, Bool, true, false, Option, Some, None, refl, ap, sym, ◌∙◌, subst}}, specs.{Prelude.{◌&&◌, ◌==◌, if◌then◌else◌}, Option.{option_map}}}
-use Rattle.hc_text.proofs.Basics.{and_left, and_right as and_then, bool_cases, eq_itself as eq-refl, eq_tells as eq_is, not_some as none_some, some_inj}
+use Rattle.hc_text.proofs.Basics.{and_left, and_right as and_then, bool_cases, eq_itself as eq-refl, eq_reports as eq_is, not_some as none_some, some_inj}
 use Rattle.hc_effects.proofs.Vocabulary.{family, Opening, opening_in, Act, Event, Request, Response, Limits, accepted_acts, answer_acts, loss_acts, case_at, is_founding, is_joining, closing, current, is_usable, Entry, exchange_after, exchange_heard, exchange_acted, exchange_made, exchange_opened, Flaw, HasRow, Move, acts_of, representation_after, representation_heard, representation_acted, founded_at, new_representation, representation_after_head, with_renewed_head, updates, resumes, representation_after_piece, with_total_if_none, length_in, writer_at, Tables, Exchange, Representation, Consumer, after_accepted, evicted}
 use Rattle.hc_event.specs.declared.event.Event.TheVariants as event
 use Rattle.hc_rules.proofs.RangeReads.{same_bytes}
@@ -44,7 +44,7 @@ opened_said t now ev flaw _ rest o (parts.does c want k m at row does near) none
 opened_said t now ev flaw _ rest o _ none h = absurd (none_some o (sym none ∙ h))
 
 opened_by : (limits : Limits) (t : Tables) (now : ℕ) (ev : Event) (flaw : Flaw) (acts : List Act) (o : Opening) → IsAnswer limits t now ev flaw acts → opening_in acts ≡ Some o → IsOpening t ev o
-opened_by limits t now ev flaw _ o (parts.told silent) h =
+opened_by limits t now ev flaw _ o (parts.reported silent) h =
     let seen : Entry = record { now = now; event = ev; acts = answer_acts t now ev flaw ++ loss_acts flaw } in
     absurd (none_some o (sym ((asks_evicted 0 0 (evicted limits t now ev) _).opens ∙ ((asks_lost 0 0 flaw _).opens ∙ (asks_closes 0 0 (closing t seen)).opens)) ∙ h))
 opened_by limits t now ev flaw _ o parts.asked h =

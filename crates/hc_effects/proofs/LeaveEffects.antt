@@ -2,7 +2,7 @@
 use Rattle.std.{proofs.Common.{◌≡◌, ℕ, List, [], ◌++◌, false, Option, Some, None, refl, ap, sym, ◌∙◌}, specs.Prelude.{map, nat_eq}}
 use Rattle.hc_effects.proofs.Vocabulary.{Act, Cause, Event, Limits, Place, answer_acts, Does, with_event, with_consumer, let_some_go, let_all_go, as_over, left_by, going_with, with_leave, Entry, NoFlaw, becomes_gone, Lawful, Ends, Fails, acts_of, move_of, poll_move, Tables, Representation, Consumer, loses_what_it_waits_for, after_accepted, with_item_first, act, place}
 use Rattle.hc_event.specs.declared.event.Event.TheVariants as event
-use Rattle.hc_effects.proofs.{ActParts.{IsFarFrom}, Basics.{append_none}, ConsumerEffects.{waits_as, representations, some_all}, FailsTold.{fails_told}, LeaveFrames.{IsFront, e, nothing, far, acts_left, loses_as, goes_by, leaves}, LeftBy.{left_passed}, OfConsumers.{BringsNothing}, PollEffects.{loses_none}, SameTables.{is_in, in_one, waits_for_any, all_closed_is}}
+use Rattle.hc_effects.proofs.{ActParts.{IsFarFrom}, Basics.{append_none}, ConsumerEffects.{waits_as, representations, some_all}, FailsReported.{fails_reported}, LeaveFrames.{IsPrefix, e, nothing, far, acts_left, loses_as, goes_by, leaves}, LeftBy.{left_passed}, OfConsumers.{BringsNothing}, PollEffects.{loses_none}, SameTables.{is_in, in_one, waits_for_any, all_closed_is}}
 use Rattle.hc_effects.proofs.LeaveFrames as front_of
 
 module _ (t : Tables) (law : Lawful t) (c : ℕ) (k : Consumer) (row : t.consumer c ≡ Some k) where
@@ -12,7 +12,7 @@ module _ (t : Tables) (law : Lawful t) (c : ℕ) (k : Consumer) (row : t.consume
   unwaiting _ at = refl
 
 module _ (limits : Limits) (t : Tables) (law : Lawful t) (now c : ℕ) (k : Consumer) (row : t.consumer c ≡ Some k) where
-  module _ (ev : Event) (front : List Act) (is : IsFront c ev None front) (says : answer_acts t now ev NoFlaw ≡ front) where
+  module _ (ev : Event) (front : List Act) (is : IsPrefix c ev None front) (says : answer_acts t now ev NoFlaw ≡ front) where
     abbrev it : Entry
     it = e limits t law now c k row ev NoFlaw None front is
 
@@ -55,7 +55,7 @@ module _ (limits : Limits) (t : Tables) (law : Lawful t) (now c : ℕ) (k : Cons
 
   -- who is told a failure
   pub fails : (want : ℕ) (why : Cause) → move_of t now want c k ≡ Fails why → Does limits t now (event.Poll c want) NoFlaw (acts_of c (Fails why) ++ map act.Close (with_item_first (left_by t c k) [])) (with_event now (event.Poll c want) (let_some_go now (going_with t (left_by t c k)) (with_leave c k t)))
-  fails want why is = leave_does (event.Poll c want) (acts_of c (Fails why)) (front_of.fails want why (fails_told t now want c k why law.sound law.places row is)) (ap (λ (o : Option Consumer). acts_of c (poll_move t now want c o)) row ∙ ap (acts_of c) is)
+  fails want why is = leave_does (event.Poll c want) (acts_of c (Fails why)) (front_of.fails want why (fails_reported t now want c k why law.sound law.places row is)) (ap (λ (o : Option Consumer). acts_of c (poll_move t now want c o)) row ∙ ap (acts_of c) is)
 
   -- who is cancelled
   pub cancels : Does limits t now (event.Cancel c) NoFlaw (map act.Close (with_item_first (left_by t c k) [])) (with_event now (event.Cancel c) (let_some_go now (going_with t (left_by t c k)) (with_leave c k t)))

@@ -1,6 +1,6 @@
 -- What each leave closes, and what goes with it: that of who ends, fails or is cancelled.
 --
--- `IsFront` is what is said to who leaves, by which event, so all leaves are proved at once. Then come the closings and
+-- `IsPrefix` is what is said to who leaves, by which event, so all leaves are proved at once. Then come the closings and
 -- a loss. What goes does so by a loss, by a failed read, or with the exchange that founded it, where it can't be
 -- completed later (`goes_by`, `ends_as`). Who leaves is over and doesn't start over (`itself`); to others nothing is
 -- said (`far`). `leaves` joins this into the tables.
@@ -15,15 +15,15 @@ use Rattle.hc_effects.proofs.OfConsumers as event_of
 -- WHAT IS SAID TO WHO LEAVES
 
 -- at this event, and the representation of which a read failed
-pub data IsFront (c : ℕ) : Event → Option ℕ → List Act → Type 0 where
-  ends : (want : ℕ) → IsFront c (event.Poll c want) None (act.Ended c ∷ [])
-  fails : (want : ℕ) (why : Cause) → is_failed_read (Some why) ≡ false → IsFront c (event.Poll c want) None (act.Failed c why ∷ [])
-  misreads : (want r : ℕ) → IsFront c (event.Poll c want) (Some r) (act.Failed c (cause.StoreRead r) ∷ [])
-  cancels : IsFront c (event.Cancel c) None []
+pub data IsPrefix (c : ℕ) : Event → Option ℕ → List Act → Type 0 where
+  ends : (want : ℕ) → IsPrefix c (event.Poll c want) None (act.Ended c ∷ [])
+  fails : (want : ℕ) (why : Cause) → is_failed_read (Some why) ≡ false → IsPrefix c (event.Poll c want) None (act.Failed c why ∷ [])
+  misreads : (want r : ℕ) → IsPrefix c (event.Poll c want) (Some r) (act.Failed c (cause.StoreRead r) ∷ [])
+  cancels : IsPrefix c (event.Cancel c) None []
 
-pub of_front : (c : ℕ) (ev : Event) (o : Option ℕ) (front : List Act) → IsFront c ev o front → IsOf c ev
+pub of_front : (c : ℕ) (ev : Event) (o : Option ℕ) (front : List Act) → IsPrefix c ev o front → IsOf c ev
 of_front c _ _ _ (ends want) = event_of.polls want
-of_front c _ _ _ (fails want why told) = event_of.polls want
+of_front c _ _ _ (fails want why reported) = event_of.polls want
 of_front c _ _ _ (misreads want r) = event_of.polls want
 of_front c _ _ _ cancels = event_of.cancels
 
@@ -40,17 +40,17 @@ record Fronts (c : ℕ) (ev : Event) (o : Option ℕ) (front rest : List Act) : 
   shows : showing_in (front ++ rest) ≡ showing_in rest
 
 not_misread : (why : Cause) (r : ℕ) (rest : List Act) → is_failed_read (Some why) ≡ false → misreads_in r rest ≡ false → misreads_in r (act.Failed 0 why ∷ rest) ≡ false
-not_misread why r rest told none = grind (arith, nat_tests)
+not_misread why r rest reported none = grind (arith, nat_tests)
 
-fronts : (c : ℕ) (ev : Event) (o : Option ℕ) (front rest : List Act) → IsFront c ev o front → Fronts c ev o front rest
+fronts : (c : ℕ) (ev : Event) (o : Option ℕ) (front rest : List Act) → IsPrefix c ev o front → Fronts c ev o front rest
 fronts c _ _ _ rest (ends want) = record { asked = refl; far = λ d other far. record { waits = far.waits; leaves = rw other far.leaves; fails = far.fails; shows = far.shows; given = far.given; opens = far.opens; showing = far.showing }; closes = λ x. refl; asks = λ x. refl; loses = λ r. refl; evicts = λ r. refl; misreads = λ r none. none; opens = refl; shows = refl }
-fronts c _ _ _ rest (fails want why told) = record { asked = refl; far = λ d other far. record { waits = far.waits; leaves = rw other far.leaves; fails = rw other far.fails; shows = far.shows; given = far.given; opens = far.opens; showing = far.showing }; closes = λ x. refl; asks = λ x. refl; loses = λ r. refl; evicts = λ r. refl; misreads = λ r none. not_misread why r rest told none; opens = refl; shows = refl }
+fronts c _ _ _ rest (fails want why reported) = record { asked = refl; far = λ d other far. record { waits = far.waits; leaves = rw other far.leaves; fails = rw other far.fails; shows = far.shows; given = far.given; opens = far.opens; showing = far.showing }; closes = λ x. refl; asks = λ x. refl; loses = λ r. refl; evicts = λ r. refl; misreads = λ r none. not_misread why r rest reported none; opens = refl; shows = refl }
 fronts c _ _ _ rest (misreads want q) = record { asked = refl; far = λ d other far. record { waits = far.waits; leaves = rw other far.leaves; fails = rw other far.fails; shows = far.shows; given = far.given; opens = far.opens; showing = far.showing }; closes = λ x. refl; asks = λ x. refl; loses = λ r. refl; evicts = λ r. refl; misreads = λ r none. or_rest (q == r) (misreads_in r rest) none; opens = refl; shows = refl }
 fronts c _ _ _ rest cancels = record { asked = refl; far = λ d other far. far; closes = λ x. refl; asks = λ x. refl; loses = λ r. refl; evicts = λ r. refl; misreads = λ r none. none; opens = refl; shows = refl }
 
-leaver_is : (c : ℕ) (ev : Event) (o : Option ℕ) (front : List Act) (flaw : Flaw) → IsFront c ev o front → leaver_by ev (front ++ loss_acts flaw) ≡ Some c
+leaver_is : (c : ℕ) (ev : Event) (o : Option ℕ) (front : List Act) (flaw : Flaw) → IsPrefix c ev o front → leaver_by ev (front ++ loss_acts flaw) ≡ Some c
 leaver_is c _ _ _ flaw (ends want) = refl
-leaver_is c _ _ _ flaw (fails want why told) = refl
+leaver_is c _ _ _ flaw (fails want why reported) = refl
 leaver_is c _ _ _ flaw (misreads want r) = refl
 leaver_is c _ _ _ flaw cancels = refl
 
@@ -75,26 +75,26 @@ silent c [] _ = record { opens = refl; showing = refl; waits = refl; leaves = re
 silent c (x ∷ xs) flaw = let s = silent c xs flaw in record { opens = s.opens; showing = s.showing; waits = s.waits; leaves = s.leaves; shows = s.shows; gives = s.gives }
 
 -- who leaves is over
-over_by : (t : Tables) (now c : ℕ) (k : Consumer) (ev : Event) (o : Option ℕ) (front rest : List Act) → IsFront c ev o front → IsSilent c rest
+over_by : (t : Tables) (now c : ℕ) (k : Consumer) (ev : Event) (o : Option ℕ) (front rest : List Act) → IsPrefix c ev o front → IsSilent c rest
     → consumer_acted t (record { now = now; event = ev; acts = front ++ rest }) c (consumer_heard t (record { now = now; event = ev; acts = front ++ rest }) c ev k) ≡ record k { place = place.Over }
 over_by t now c k _ _ _ rest (ends want) s = rw (s.opens, s.waits, s.shows, s.gives, eqb-same c, plus_none k.given, own_stays t (record { now = now; event = event.Poll c want; acts = act.Ended c ∷ rest }) c k.place k.own (spared_bodiless t (record { now = now; event = event.Poll c want; acts = act.Ended c ∷ rest }) k.place refl)) refl
-over_by t now c k _ _ _ rest (fails want why told) s = rw (s.opens, s.waits, s.shows, s.gives, eqb-same c, plus_none k.given, own_stays t (record { now = now; event = event.Poll c want; acts = act.Failed c why ∷ rest }) c k.place k.own (spared_bodiless t (record { now = now; event = event.Poll c want; acts = act.Failed c why ∷ rest }) k.place refl)) refl
+over_by t now c k _ _ _ rest (fails want why reported) s = rw (s.opens, s.waits, s.shows, s.gives, eqb-same c, plus_none k.given, own_stays t (record { now = now; event = event.Poll c want; acts = act.Failed c why ∷ rest }) c k.place k.own (spared_bodiless t (record { now = now; event = event.Poll c want; acts = act.Failed c why ∷ rest }) k.place refl)) refl
 over_by t now c k _ _ _ rest (misreads want r) s = rw (s.opens, s.waits, s.shows, s.gives, eqb-same c, plus_none k.given, own_stays t (record { now = now; event = event.Poll c want; acts = act.Failed c (cause.StoreRead r) ∷ rest }) c k.place k.own (spared_bodiless t (record { now = now; event = event.Poll c want; acts = act.Failed c (cause.StoreRead r) ∷ rest }) k.place refl)) refl
 over_by t now c k _ _ _ rest cancels s = rw (eqb-same c, s.opens, s.waits, s.leaves, s.showing, s.shows, s.gives, plus_none k.given) refl
 
-no_start : (c : ℕ) (ev : Event) (o : Option ℕ) (front : List Act) → IsFront c ev o front → (cs : List ℕ) → starts_after ev cs ≡ cs
+no_start : (c : ℕ) (ev : Event) (o : Option ℕ) (front : List Act) → IsPrefix c ev o front → (cs : List ℕ) → starts_after ev cs ≡ cs
 no_start c _ _ _ (ends want) cs = refl
-no_start c _ _ _ (fails want why told) cs = refl
+no_start c _ _ _ (fails want why reported) cs = refl
 no_start c _ _ _ (misreads want r) cs = refl
 no_start c _ _ _ cancels cs = refl
 
-no_last : (c : ℕ) (ev : Event) (o : Option ℕ) (front : List Act) → IsFront c ev o front → (n : ℕ) → last_start_after ev n ≡ n
+no_last : (c : ℕ) (ev : Event) (o : Option ℕ) (front : List Act) → IsPrefix c ev o front → (n : ℕ) → last_start_after ev n ≡ n
 no_last c _ _ _ (ends want) n = refl
-no_last c _ _ _ (fails want why told) n = refl
+no_last c _ _ _ (fails want why reported) n = refl
 no_last c _ _ _ (misreads want r) n = refl
 no_last c _ _ _ cancels n = refl
 
-module _ (limits : Limits) (t : Tables) (law : Lawful t) (now c : ℕ) (k : Consumer) (row : t.consumer c ≡ Some k) (ev : Event) (flaw : Flaw) (o : Option ℕ) (front : List Act) (is : IsFront c ev o front) where
+module _ (limits : Limits) (t : Tables) (law : Lawful t) (now c : ℕ) (k : Consumer) (row : t.consumer c ≡ Some k) (ev : Event) (flaw : Flaw) (o : Option ℕ) (front : List Act) (is : IsPrefix c ev o front) where
   -- what is closed
   abbrev pub xs : List ℕ
   xs = with_item_first (left_by t c k) []

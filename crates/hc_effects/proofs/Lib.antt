@@ -63,7 +63,7 @@ pub mod TurnMoves
 pub mod TurnPlaces
 pub mod FewGiveWay
 pub mod Dues
-pub mod PartTold
+pub mod PartReported
 pub mod Fills
 pub mod MeasuresKeep
 pub mod EndsKeep
@@ -73,7 +73,7 @@ pub mod GivenNext
 pub mod PollActs
 pub mod Givers
 pub mod FieldsKeep
-pub mod ToldNumbers
+pub mod ReportedNumbers
 pub mod Tests
 pub mod Untouched
 pub mod SameTables
@@ -82,7 +82,7 @@ pub mod FoundCases
 pub mod FoundOrder
 pub mod DoomFrames
 pub mod LostFrames
-pub mod FailsTold
+pub mod FailsReported
 pub mod LeftBy
 pub mod GivingWay
 pub mod Alike
@@ -100,7 +100,7 @@ pub mod PastKeeps
 pub mod ReadingKeeps
 pub mod AboutKeeps
 pub mod LossBy
-pub mod WritingStops
+pub mod GroupStops
 pub mod WriterEnds
 pub mod ServedKeeps
 pub mod OfEntries
@@ -144,7 +144,7 @@ pub mod WrittenEffects
 pub mod LettingGo
 pub mod EvictsLast
 pub mod IdleNow
-pub mod ToldFrames
+pub mod ReportedFrames
 pub mod PieceEffects
 pub mod SharedLossEffects
 pub mod StopFrames

@@ -1,4 +1,4 @@
--- What it comes to that a shared writing is lost: one reader goes on, to the others a failure is due, or it is closed.
+-- What it comes to that a writer group is lost: one reader goes on, to the others a failure is due, or it is closed.
 --
 -- A writing has an open exchange with its head (`writer_of`). Whoever is bound to it goes on with that exchange, if it
 -- is the survivor, and else has the failure due; nothing else changes of it (`member_as`). Where nobody survives just
@@ -6,7 +6,7 @@
 -- `closed_row`). A 304 whose update is refused is proved by these.
 use Rattle.std.{proofs.{lemmas.Bool.Decides.{nat_tests}, Common.{arith, ◌≡◌, inl, inr, ℕ, Bool, true, false, Option, Some, None, refl, ap, sym, ◌∙◌}}, specs.{Prelude.{nat_eq, if◌then◌else◌, is_none, is_some}, Option.{option_or}}}
 use Rattle.hc_text.proofs.Basics.{and_right, eqb-same, or_none as or_nothing, same_some as same_row, some_inj}
-use Rattle.hc_effects.proofs.Vocabulary.{Cause, BoundBy, fails_in, has_no_survivor, consumer_after, consumer_acted, consumer_settled, own_after, is_number, doomed_key_of, left_with, Entry, family, is_open, becomes_due, Lawful, is_written, reads, Tables, Exchange, Representation, Consumer, starts_over, loses_writing, survivor, goes_on_with, cause, place}
+use Rattle.hc_effects.proofs.Vocabulary.{Cause, BoundBy, fails_in, has_no_survivor, consumer_after, consumer_acted, consumer_settled, own_after, is_number, doomed_key_of, left_with, Entry, family, is_open, becomes_due, Lawful, is_written, reads, Tables, Exchange, Representation, Consumer, starts_over, loses_group, survivor, goes_on_with, cause, place}
 use Rattle.hc_effects.proofs.{ExclusiveWriters.{writer_some}, PieceKeeps.{eq_cases}, PieceServes.{IsQuietActs, acted_quiet}, Stops.{writer_open}, Untouched.{IsApart, starts_as}}
 
 -- the exchange of a writing
@@ -29,7 +29,7 @@ writer_of t law r v there on = by_writer v.writer refl
         let g = grows.1 in
         record { y = y; w = grows.0; writer = writer; row = g.row; is_open = sym (ap is_open g.row) ∙ writer_open t v y on writer; headed = g.headed; of_r = g.family_is }
 
-module _ (t : Tables) (e : Entry) (law : Lawful t) (r : ℕ) (v : Representation) (there : t.representation r ≡ Some v) (losing : loses_writing t e r v ≡ true) where
+module _ (t : Tables) (e : Entry) (law : Lawful t) (r : ℕ) (v : Representation) (there : t.representation r ≡ Some v) (losing : loses_group t e r v ≡ true) where
   -- it is written
   pub written_now : is_written t v ≡ true
   written_now = and_right _ (is_written t v) losing
@@ -86,7 +86,7 @@ module _ (t : Tables) (e : Entry) (law : Lawful t) (r : ℕ) (v : Representation
   pub closed_apart : (y : ℕ) (u : Representation) → closed_with ≡ Some y → t.representation y ≡ Some u → r ≡ y
   closed_apart y u at here = grind (arith, nat_tests)
 
-  module _ (only : (q : ℕ) (u : Representation) → nat_eq r q ≡ false → t.representation q ≡ Some u → loses_writing t e q u ≡ false) where
+  module _ (only : (q : ℕ) (u : Representation) → nat_eq r q ≡ false → t.representation q ≡ Some u → loses_group t e q u ≡ false) where
     -- just the exchange of the writing closes by that, where nobody goes on
     pub no_survivor_as : (y : ℕ) (u : Exchange) → t.exchange y ≡ Some u → has_no_survivor t e y (family y u) (t.representation (family y u)) ≡ is_number closed_with y
     no_survivor_as y u here = elim (eq_cases writer_now.y y) [

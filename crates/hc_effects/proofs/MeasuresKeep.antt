@@ -7,12 +7,12 @@
 use Rattle.std.{proofs.{Common.{◌≡◌, ◌⊎◌, inl, inr, ℕ, ◌+◌, ◌<◌, ◌≤◌, List, [], length, true, false, Option, Some, None, refl, ap, sym, ◌∙◌, subst, arith, max, length-append}, lemmas.Bool.Decides.{nat_tests}}, specs.{Prelude.{if◌then◌else◌, is_some, unwrap_or}, Option.{option_or}}}
 use Rattle.hc_text.proofs.Basics.{and_right, bool_cases, not_some as none_some, same_some as same_row}
 use Rattle.hc_sparse.specs.Cells.{cells_with}
-use Rattle.hc_range.specs.declared.range.{Asked.{Asked}, ContentRange.{ContentRange}}
+use Rattle.hc_range.specs.declared.range.{RangeSpec.{RangeSpec}, ContentRange.{ContentRange}}
 use Rattle.hc_effects.proofs.Vocabulary.{brings_part, brings_whole, range, event, route, Response, HeadCase, Length, head_case, fits_to_found, fits_part, length_of, base_of, promise_of, is_bad, route_of, content_range_of, piece_refusal, end_refusal, range_of, has_loss, case_at, head_view, is_founding, is_joining, fits_asker, denial, as_open, Entry, base, promised_bytes, front, family, length_by, founded_total, entry_of, Measures, IsMeasured, new_representation, length_in, Tables, Exchange, Representation, Consumer, IsAbout, after_accepted}
 use Rattle.hc_rules.specs.Refusals as refusals
 use Rattle.hc_model.specs.Measures as measures
 use Rattle.hc_model.specs.Sound as sound
-use Rattle.hc_effects.proofs.{Basics.{false_true}, ExchangeFrom.{ExchangeFrom, IsSame, IsHeaded, exchange_from}, Fills.{Fills, fills, Brings, brings, length_same}, FirstKeeps.{case_is, is_new}, FoundBy.{FoundingBy, founding_by}, HeadKeeps.{is_join}, Once.{taken, IsTaken}, PartTold.{part_within, whole_base, IsWithin}, RepFrom.{RepFrom, rep_from, IsKept, IsEnded}, Step.{Step}}
+use Rattle.hc_effects.proofs.{Basics.{false_true}, ExchangeFrom.{ExchangeFrom, IsSame, IsHeaded, exchange_from}, Fills.{Fills, fills, Brings, brings, length_same}, FirstKeeps.{case_is, is_new}, FoundBy.{FoundingBy, founding_by}, HeadKeeps.{is_join}, Once.{taken, IsTaken}, PartReported.{part_within, whole_base, IsWithin}, RepFrom.{RepFrom, rep_from, IsKept, IsEnded}, Step.{Step}}
 use Rattle.hc_effects.proofs.ExchangeFrom as exchange
 use Rattle.hc_effects.proofs.Fills as fills_by
 use Rattle.hc_effects.proofs.FoundBy as cases
@@ -24,12 +24,12 @@ pub record IsPart (response : Response) : Type 0 where
   pub first : ℕ
   pub last : ℕ
   pub total : ℕ
-  pub told : content_range_of response.fields ≡ Some (range.Part first last (Some total))
+  pub reported : content_range_of response.fields ≡ Some (range.Part first last (Some total))
 
-part_by : (asked : Asked) (response : Response) (o : Option ContentRange) → content_range_of response.fields ≡ o → fits_part asked o ≡ true → IsPart response
+part_by : (asked : RangeSpec) (response : Response) (o : Option ContentRange) → content_range_of response.fields ≡ o → fits_part asked o ≡ true → IsPart response
 part_by asked response o is h = grind (arith, nat_tests)
 
-fits_by : (o : Option Asked) (response : Response) → fits_to_found o response ≡ true → IsPart response
+fits_by : (o : Option RangeSpec) (response : Response) → fits_to_found o response ≡ true → IsPart response
 fits_by None response h = absurd (false_true h)
 fits_by (Some asked) response h = part_by asked response (content_range_of response.fields) refl (and_right _ _ h)
 
@@ -149,29 +149,29 @@ module _ (step : Step) (m : Measures step.tables) where
     still_measured = by_before (m.brings x w v row (same.was_open on) headed (ap t.representation of_q ∙ kept.row))
       where
         by_before : IsMeasured w v → IsMeasured z u
-        by_before (measures.told n total promise known ends) =
+        by_before (measures.reported n total promise known ends) =
             let first : base z ≡ base w = keeps.base_is in
-            measures.told n total (keeps.promise_is ∙ promise) (total_same ∙ known) (omega arith)
-        by_before (measures.untold none unknown first alone was) =
-            measures.untold (keeps.promise_is ∙ none) (total_same ∙ unknown) (keeps.base_is ∙ first) (keeps.joined_is ∙ alone) (reaches first was (brings t e x w z row after_row) (fills t e q v u kept))
+            measures.reported n total (keeps.promise_is ∙ promise) (total_same ∙ known) (omega arith)
+        by_before (measures.unreported none unknown first alone was) =
+            measures.unreported (keeps.promise_is ∙ none) (total_same ∙ unknown) (keeps.base_is ∙ first) (keeps.joined_is ∙ alone) (reaches first was (brings t e x w z row after_row) (fills t e q v u kept))
 
   -- A HEAD THAT COMES
 
   module _ (x : ℕ) (w z : Exchange) (row : t.exchange x ≡ Some w) (same : IsSame t e x w z) (got : IsHeaded t e x w z) where
-    abbrev told_length : Length
-    told_length = length_of w.need w.request got.response
+    abbrev reported_length : Length
+    reported_length = length_of w.need w.request got.response
 
     bare : w.head ≡ None
     bare = (is_new limits t now flaw s ev goes x got.response w got.at row).bare
 
-    length_is : length_by z z.head ≡ told_length
+    length_is : length_by z z.head ≡ reported_length
     length_is = ap (length_by z) got.head_is ∙ (ap (λ n. length_of n z.request got.response) same.need_is ∙ ap (λ q. length_of w.need q got.response) same.request_is)
 
-    measured_within : (total : ℕ) (u : Representation) → IsWithin total told_length → u.head.total ≡ Some total → IsMeasured z u
+    measured_within : (total : ℕ) (u : Representation) → IsWithin total reported_length → u.head.total ≡ Some total → IsMeasured z u
     measured_within total u is known =
-        let first : base z ≡ base_of told_length = ap base_of length_is in
-        let ends : base_of told_length + is.n ≤ total = is.ends in
-        measures.told is.n total (ap promise_of length_is ∙ is.promise) known (omega arith)
+        let first : base z ≡ base_of reported_length = ap base_of length_is in
+        let ends : base_of reported_length + is.n ≤ total = is.ends in
+        measures.reported is.n total (ap promise_of length_is ∙ is.promise) known (omega arith)
 
     -- JOINED
 
@@ -203,19 +203,19 @@ module _ (step : Step) (m : Measures step.tables) where
     whole unjoined status =
         let off : brings_part got.response.status ≡ false = whole_is_no_part got.response.status status in
         let first : base z ≡ 0 = ap base_of length_is ∙ whole_base w.need w.request got.response off in
-        let known : founded_total w got.response ≡ promise_of told_length = rw off refl in
-        by_promise (promise_of told_length) refl first known
+        let known : founded_total w got.response ≡ promise_of reported_length = rw off refl in
+        by_promise (promise_of reported_length) refl first known
       where
-        by_promise : (p : Option ℕ) → promise_of told_length ≡ p → base z ≡ 0 → founded_total w got.response ≡ promise_of told_length → IsMeasured z founded_now
-        by_promise None is first known = measures.untold (ap promise_of length_is ∙ is) (known ∙ is) first (got.joined_is ∙ (rw unjoined (s.waits.headless x w row bare).1)) (ap (λ (b : List ℕ). length b) body_none)
-        by_promise (Some n) is first known = measures.told n n (ap promise_of length_is ∙ is) (known ∙ is) (omega arith)
+        by_promise : (p : Option ℕ) → promise_of reported_length ≡ p → base z ≡ 0 → founded_total w got.response ≡ promise_of reported_length → IsMeasured z founded_now
+        by_promise None is first known = measures.unreported (ap promise_of length_is ∙ is) (known ∙ is) first (got.joined_is ∙ (rw unjoined (s.waits.headless x w row bare).1)) (ap (λ (b : List ℕ). length b) body_none)
+        by_promise (Some n) is first known = measures.reported n n (ap promise_of length_is ∙ is) (known ∙ is) (omega arith)
 
-    part : (route_of w.need ≡ route.Direct → ⊥) → brings_part got.response.status ≡ true → fits_asker (t.consumer w.c) got.response ≡ true → is_bad told_length ≡ false → IsMeasured z founded_now
+    part : (route_of w.need ≡ route.Direct → ⊥) → brings_part got.response.status ≡ true → fits_asker (t.consumer w.c) got.response ≡ true → is_bad reported_length ≡ false → IsMeasured z founded_now
     part past status fits good =
         let p = asker_by (t.consumer w.c) got.response fits in
         let on : brings_part got.response.status ≡ true = status in
-        let known : founded_total w got.response ≡ Some p.total = rw (on, p.told) refl in
-        measured_within p.total founded_now (part_within w.need w.request got.response p.first p.last p.total past status p.told good) known
+        let known : founded_total w got.response ≡ Some p.total = rw (on, p.reported) refl in
+        measured_within p.total founded_now (part_within w.need w.request got.response p.first p.last p.total past status p.reported good) known
 
     by_case : (g : HeadCase) → FoundingBy (head_view t (has_loss e.acts) w got.response) g → case_at t e ≡ Some g → IsMeasured z founded_now
     by_case _ (cases.whole way h l) is = whole (ap is_joining is) h
@@ -323,12 +323,12 @@ module _ (step : Step) (m : Measures step.tables) where
       ended_by is z before it3 filled = grind (arith, nat_tests)
 
       by_ended : IsEnded t e r v u.head.total → (q : Option ℕ) → v.head.total ≡ q → u.reach ≤ total
-      by_ended is (Some before) told_is = by_fills (told_is ∙ (sym (ap (λ q. option_or q (Some (length_in (t.exchange r)))) told_is) ∙ (sym is.total_is ∙ known))) (fills t e r v u kept)
-      by_ended is None told_is =
+      by_ended is (Some before) reported_is = by_fills (reported_is ∙ (sym (ap (λ q. option_or q (Some (length_in (t.exchange r)))) reported_is) ∙ (sym is.total_is ∙ known))) (fills t e r v u kept)
+      by_ended is None reported_is =
           let z = ender r is.at in
           let alone : z.w.joined ≡ None = o.founders r z.w v z.row kept.row in
           let fam : family r z.w ≡ r = ap (λ (n : Option ℕ). unwrap_or n r) alone in
-          ended_by is z told_is (m.brings r z.w v z.row z.ending.is_open z.ending.headed (ap t.representation fam ∙ kept.row)) (fills t e r v u kept)
+          ended_by is z reported_is (m.brings r z.w v z.row z.ending.is_open z.ending.headed (ap t.representation fam ∙ kept.row)) (fills t e r v u kept)
 
       by_total : (u.head.total ≡ v.head.total) ⊎ IsEnded t e r v u.head.total → u.reach ≤ total
       by_total (inl same) = by_fills (sym same ∙ known) (fills t e r v u kept)

@@ -2,7 +2,7 @@
 use Rattle.std.{proofs.{lemmas.Bool.Decides.{nat_tests}, Common.{arith, ◌≡◌, ℕ, List, [], ◌∷◌, ◌++◌, false, Option, Some, refl, ap, sym, ◌∙◌}}, specs.Prelude.{◌||◌, ◌==◌, nat_eq, map}}
 use Rattle.hc_effects.proofs.Vocabulary.{Act, Event, Limits, Place, is_number, Does, with_event, with_consumer, let_go, let_some_go, let_all_go, as_over, left_by, going_with, with_leave, Entry, Flaw, Misreads, becomes_gone, Lawful, Tables, Representation, Consumer, loses_what_it_waits_for, after_accepted, with_item_first, act, cause}
 use Rattle.hc_event.specs.declared.event.Event.TheVariants as event
-use Rattle.hc_effects.proofs.{ActParts.{IsFarFrom}, Basics.{append_none}, ConsumerEffects.{representations, two_all}, LeaveFrames.{IsFront, e, nothing, far, acts_left, loses_as, goes_by, leaves}, OfConsumers.{BringsNothing}, SameTables.{is_in, all_closed_is}}
+use Rattle.hc_effects.proofs.{ActParts.{IsFarFrom}, Basics.{append_none}, ConsumerEffects.{representations, two_all}, LeaveFrames.{IsPrefix, e, nothing, far, acts_left, loses_as, goes_by, leaves}, OfConsumers.{BringsNothing}, SameTables.{is_in, all_closed_is}}
 use Rattle.hc_effects.proofs.LeaveFrames as front_of
 
 module _ (limits : Limits) (t : Tables) (law : Lawful t) (now c want : ℕ) (k : Consumer) (row : t.consumer c ≡ Some k) (r : ℕ) where
@@ -15,7 +15,7 @@ module _ (limits : Limits) (t : Tables) (law : Lawful t) (now c want : ℕ) (k :
   abbrev front : List Act
   front = act.Failed c (cause.StoreRead r) ∷ []
 
-  is : IsFront c ev (Some r) front
+  is : IsPrefix c ev (Some r) front
   is = front_of.misreads want r
 
   abbrev it : Entry

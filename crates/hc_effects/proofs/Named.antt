@@ -34,8 +34,8 @@ pub live_by : (late live zero : Bool) → (if late then Some refusal.NoConsumer 
 live_by late live zero h = grind (arith, nat_tests)
 
 -- nothing is said to a consumer but by a poll
-pub far_told : (limits : Limits) (t : Tables) (now c : ℕ) (flaw : Flaw) (event : Event) → IsFar c (map act.Evicted (evicted limits t now event) ++ (loss_acts flaw ++ map act.Close (closing t (record { now = now; event = event; acts = loss_acts flaw }))))
-far_told limits t now c flaw event = far_quiet c _ (quiet_acts (evicted limits t now event) (closing t (record { now = now; event = event; acts = loss_acts flaw })) flaw)
+pub far_reported : (limits : Limits) (t : Tables) (now c : ℕ) (flaw : Flaw) (event : Event) → IsFar c (map act.Evicted (evicted limits t now event) ++ (loss_acts flaw ++ map act.Close (closing t (record { now = now; event = event; acts = loss_acts flaw }))))
+far_reported limits t now c flaw event = far_quiet c _ (quiet_acts (evicted limits t now event) (closing t (record { now = now; event = event; acts = loss_acts flaw })) flaw)
 
 module _ (limits : Limits) (t : Tables) (now c : ℕ) (flaw : Flaw) (none : t.consumer c ≡ None) where
   not_it : (d want : ℕ) → poll_refusal (gate t (event.Poll d want)) d want ≡ None → nat_eq d c ≡ false
@@ -48,4 +48,4 @@ module _ (limits : Limits) (t : Tables) (now c : ℕ) (flaw : Flaw) (none : t.co
       far_poll t now want c d flaw _ (not_it d want h)
       (far_closes c (closing t (record { now = now; event = event.Poll d want; acts = poll_acts t now want d flaw ++ loss_acts flaw })) (loss_acts flaw) (far_lost c flaw))
   far (event.Cancel d) h = far_closes c (closing t (record { now = now; event = event.Cancel d; acts = loss_acts flaw })) (loss_acts flaw) (far_lost c flaw)
-  far ev h = far_told limits t now c flaw ev
+  far ev h = far_reported limits t now c flaw ev

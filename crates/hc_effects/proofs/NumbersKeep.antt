@@ -9,7 +9,7 @@ use Rattle.hc_effects.proofs.Vocabulary.{Opening, opening_in, Event, Request, Li
 use Rattle.hc_event.specs.declared.event.Event.TheVariants as event
 use Rattle.hc_rules.specs.Refusals as refusals
 use Rattle.hc_model.specs.Laws.{NumbersAreKept}
-use Rattle.hc_effects.proofs.{EventsKeep.{told, cancels, poll_live}, PieceKeeps.{eq_cases}, PollKeeps.{poll_opens_next}}
+use Rattle.hc_effects.proofs.{EventsKeep.{reported, cancels, poll_live}, PieceKeeps.{eq_cases}, PollKeeps.{poll_opens_next}}
 
 -- WHAT IS OPENED HAS THE NEXT NUMBER
 
@@ -25,7 +25,7 @@ module _ (limits : Limits) (t : Tables) (now : ℕ) (flaw : Flaw) (s : Sound t) 
   unfolding refusals.refusal_of
   opens_next (event.Poll c want) o h is = by_poll c want (t.consumer c) o refl (poll_live limits t now flaw s c want h) is
   opens_next (event.Cancel c) o h is = absurd (never_opens _ o (cancels limits t now flaw s c) is)
-  opens_next ev o h is = absurd (never_opens _ o (told limits t now flaw s ev) is)
+  opens_next ev o h is = absurd (never_opens _ o (reported limits t now flaw s ev) is)
 
 -- CONSUMERS
 

@@ -7,7 +7,7 @@
 use Rattle.std.{proofs.{lemmas.Bool.Decides.{nat_tests}, Common.{◌≡◌, ◌≢◌, inl, inr, ℕ, ◌+◌, ◌<◌, List, [], ◌∷◌, Bool, true, false, Option, Some, None, refl, ap, ap₂, sym, ◌∙◌, subst, arith}}, specs.{Prelude.{◌&&◌, ◌||◌, not, nat_eq, if◌then◌else◌, filter, reverse, is_some}, Option.{option_or}}}
 use mathlib.Core.Path.{fun_ext}
 use Rattle.hc_text.proofs.Basics.{and_true, not_some as none_some, or_none as or_nothing, or_false as or_off, some_inj, and_off as then_false}
-use Rattle.hc_effects.proofs.Vocabulary.{opening_in, asks_in, closes_in, evicts_in, Act, Cause, Event, Request, is_same_number, Place, loses_in, misreads_in, fails_in, showing_in, case_at, case_of, is_founding, closing, closes_row, is_left, is_left_by, leaver, is_last_reader, consumer_after, consumer_heard, consumer_made, consumer_acted, consumer_settled, back_in_line, is_current, is_number, doomed_key_of, bypass_key, is_key, left_by, Entry, exchange_after, exchange_heard, exchange_acted, exchange_in, exchange_at, is_open, becomes_due, cause_of_head, becomes_gone, ends_early, stops_early, is_keepable, Descends, AreOnce, InOrder, Owners, reads, own_open, shared_exchange, writing_in, is_written, source, representation_heard, founded_at, Tables, Exchange, Representation, Consumer, Sound, Among, IsBound, starts_over, loses_what_it_waits_for, with_item_first, founds, binds, binds_by_opening, binds_by_showing, to_front, brings_body, place}
+use Rattle.hc_effects.proofs.Vocabulary.{opening_in, asks_in, closes_in, evicts_in, Act, Cause, Event, Request, is_same_number, Place, loses_in, misreads_in, fails_in, showing_in, case_at, case_of, is_founding, closing, closes_row, is_left, is_left_by, leaver, is_last_reader, consumer_after, consumer_heard, consumer_made, consumer_acted, consumer_settled, back_in_line, is_current, is_number, doomed_key_of, bypass_key, is_key, left_by, Entry, exchange_after, exchange_heard, exchange_acted, exchange_in, exchange_at, is_open, becomes_due, cause_of_head, becomes_gone, ends_early, stops_early, is_keepable, Descends, AreOnce, InOrder, Owners, reads, own_open, shared_exchange, group_in, is_written, source, representation_heard, founded_at, Tables, Exchange, Representation, Consumer, Sound, Among, IsBound, starts_over, loses_what_it_waits_for, with_item_first, founds, binds, binds_by_opening, binds_by_showing, to_front, brings_body, place}
 use Rattle.hc_event.specs.declared.event.Event.TheVariants as event
 use Rattle.hc_model.specs.Sound.{is_bound}
 use Rattle.hc_effects.proofs.{AboutKeeps.{own_open_of}, ActParts.{IsFarFrom}, ApartKeeps.{is_on}, Basics.{number_is}, Closed.{reversed}, Dues.{undue_of, other_stop}, FewClosings.{ClosesLittle, filter_none, must_as, quiet_closes}, KeyActs.{test_some}, PieceKeeps.{eq_cases}, Stops.{writer_about}, Sums.{reverse_once}, Untouched.{exchange_stays, exchange_absent, binds_nobody, loss_spared, spared_bodiless, consumer_frame, starts_as, goes_from}}
@@ -89,14 +89,14 @@ module _ (t : Tables) (s : Sound t) (o : Owners t) (c : ℕ) (k : Consumer) (row
   own_opened : (x : ℕ) → own_open t k ≡ Some x → is_open (t.exchange x) ≡ true
   own_opened x is = let own = own_open_of t k x is in ap is_open own.row ∙ own.opened
 
-  writing_some : (r x : ℕ) (z : Option Representation) → t.representation r ≡ z → writing_in t z ≡ Some x → (v : Representation) × (t.representation r ≡ Some v) × (is_written t v ≡ true) × (v.writer ≡ Some x)
-  writing_some r x None row is = absurd (none_some x is)
-  writing_some r x (Some v) row is = let both = test_some (is_written t v) v.writer x is in (v, row, both.0, both.1)
+  group_some : (r x : ℕ) (z : Option Representation) → t.representation r ≡ z → group_in t z ≡ Some x → (v : Representation) × (t.representation r ≡ Some v) × (is_written t v ≡ true) × (v.writer ≡ Some x)
+  group_some r x None row is = absurd (none_some x is)
+  group_some r x (Some v) row is = let both = test_some (is_written t v) v.writer x is in (v, row, both.0, both.1)
 
   -- the exchange of a writing that is read is open, and isn't the own one of who reads it
   shared_by : (x : ℕ) (p : Place) → k.place ≡ p → shared_exchange t p ≡ Some x → (is_open (t.exchange x) ≡ true) × ((y : ℕ) → own_open t k ≡ Some y → ⊥)
   shared_by x (place.Bound r lo hi how) at is =
-      let all = writing_some r x (t.representation r) refl is in
+      let all = group_some r x (t.representation r) refl is in
       let reader : IsBound t r c k = is_bound lo hi how row at in (
         (is_on t all.0 x all.2 all.3).open_now,
         λ y own.

@@ -6,7 +6,7 @@
 -- loss that may be needs a write (`loses_not`).
 use Rattle.std.{proofs.Common.{◌≡◌, inl, inr, ℕ, List, [], ◌∷◌, ◌++◌, Bool, true, false, cond, Option, Some, None, refl, ap, sym, ◌∙◌, subst}, specs.{Prelude.{map, ◌&&◌}, Option.{option_or}}}
 use Rattle.hc_text.proofs.Basics.{and_left, and_right, not_some as none_some, never_true as not_so, or_cases}
-use Rattle.hc_effects.proofs.Vocabulary.{Opening, opening_in, leaves_in, closes_in, evicts_in, is_denied, Event, Act, LostKind, Limits, showing_in, loses_in, misreads_in, leaver_in, without_losses, poll_acts, loss_acts, case_at, case_of, closing, must_close, is_refused, is_doomed, brings_head, has_no_survivor, is_left, leaver, is_number, doomed_key_of, is_key, Entry, family, Flaw, NoFlaw, Loses, Misreads, flaw_in, entry_of, Opens, acts_of, poll_move, Tables, Exchange, Representation, may_stand, may_be, Sound, loses_writing, written_representation, seals_at, first_found, lossless, sealed_by, event, act}
+use Rattle.hc_effects.proofs.Vocabulary.{Opening, opening_in, leaves_in, closes_in, evicts_in, is_denied, Event, Act, LostKind, Limits, showing_in, loses_in, misreads_in, leaver_in, without_losses, poll_acts, loss_acts, case_at, case_of, closing, must_close, is_refused, is_doomed, brings_head, has_no_survivor, is_left, leaver, is_number, doomed_key_of, is_key, Entry, family, Flaw, NoFlaw, Loses, Misreads, flaw_in, entry_of, Opens, acts_of, poll_move, Tables, Exchange, Representation, may_stand, may_be, Sound, loses_group, written_representation, seals_at, first_found, lossless, sealed_by, event, act}
 use Rattle.hc_effects.proofs.{Basics.{false_true}, Closed.{before}, PollKeeps.{closes_open_none}, SaidActs.{closes_leave}, Unclosed.{had_to, had_row}, KeyActs.{closes_lossless}, ActParts.{evicts_closed, leaver_lost}}
 
 -- ACTS BEHIND AN OPENING
@@ -94,7 +94,7 @@ module _ (limits : Limits) (t : Tables) (now : ℕ) (flaw : Flaw) (s : Sound t) 
 
     lost_none : (x r : ℕ) (z : Option Representation) → has_no_survivor t b x r z ≡ true → ⊥
     lost_none x r None h = false_true h
-    lost_none x r (Some v) h = let losing : loses_writing t b r v ≡ true = and_right (is_number v.writer x) _ (and_left _ _ h) in false_true losing
+    lost_none x r (Some v) h = let losing : loses_group t b r v ≡ true = and_right (is_number v.writer x) _ (and_left _ _ h) in false_true losing
 
     must_not : (x : ℕ) (w : Exchange) → must_close t b x w ≡ true → ⊥
     must_not x w must = elim (or_cases _ (is_left t x (leaver b)) must) [

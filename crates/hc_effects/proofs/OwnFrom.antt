@@ -7,7 +7,7 @@
 use Rattle.std.{proofs.{Common.{◌≡◌, ◌⊎◌, inl, inr, ℕ, Bool, true, false, Option, Some, None, refl, ap, ◌∙◌, arith}, lemmas.Bool.Decides.{nat_tests}}, specs.Prelude.{◌==◌, ◌&&◌}}
 use Rattle.hc_text.proofs.Basics.{and_right as right, and_left, not_some as none_some, bool_cases, some_inj}
 use Rattle.hc_effects.proofs.{Basics.{number_is}, PieceKeeps.{eq_cases}}
-use Rattle.hc_effects.proofs.Vocabulary.{Opening, opening_in, Event, Place, BoundBy, consumer_heard, by_head, by_fault, by_opening, own_after, left_to, waiting, consumer_acted, consumer_settled, consumer_made, consumer_after, due_after, is_number, Entry, Tables, Exchange, Representation, Consumer, starts_over, loses_writing, survivor, event, place}
+use Rattle.hc_effects.proofs.Vocabulary.{Opening, opening_in, Event, Place, BoundBy, consumer_heard, by_head, by_fault, by_opening, own_after, left_to, waiting, consumer_acted, consumer_settled, consumer_made, consumer_after, due_after, is_number, Entry, Tables, Exchange, Representation, Consumer, starts_over, loses_group, survivor, event, place}
 
 module _ (t : Tables) (e : Entry) (c x : ℕ) where
   pub heard_own : (ev : Event) (k : Consumer) → (consumer_heard t e c ev k).own ≡ Some x → k.own ≡ Some x
@@ -34,13 +34,13 @@ module _ (t : Tables) (e : Entry) (c x : ℕ) where
     pub v : Representation
     pub at : p ≡ place.Bound r lo hi how
     pub row : t.representation r ≡ Some v
-    pub loses : loses_writing t e r v ≡ true
+    pub loses : loses_group t e r v ≡ true
     pub survives : survivor t r v ≡ Some c
     pub writer_is : v.writer ≡ Some x
 
   left_by : (r lo : ℕ) (hi : Option ℕ) (how : BoundBy) (o : Option Representation) (own : Option ℕ) (p : Place) → p ≡ place.Bound r lo hi how → t.representation r ≡ o → left_to t e c r o own ≡ Some x → (own ≡ Some x) ⊎ IsLeft p
   left_by r lo hi how None own p at row is = inl is
-  left_by r lo hi how (Some v) own p at row is = elim (bool_cases (loses_writing t e r v && is_number (survivor t r v) c)) [
+  left_by r lo hi how (Some v) own p at row is = elim (bool_cases (loses_group t e r v && is_number (survivor t r v) c)) [
     | inr off ↦ inl (rw off at is)
     | inl on ↦ inr (record {
       r = r;
@@ -50,8 +50,8 @@ module _ (t : Tables) (e : Entry) (c x : ℕ) where
       v = v;
       at = at;
       row = row;
-      loses = and_left (loses_writing t e r v) _ on;
-      survives = number_is (survivor t r v) c (right (loses_writing t e r v) _ on);
+      loses = and_left (loses_group t e r v) _ on;
+      survives = number_is (survivor t r v) c (right (loses_group t e r v) _ on);
       writer_is = rw on at is;
     })
   ]

@@ -1,12 +1,12 @@
 -- Whose an exchange is stays told: what is opened is of its consumer's key, and an own one is of one consumer alone.
 --
 -- An exchange was there, or is opened by its consumer's move, which tells whose it is (`is_opened`, `openers_kept`). An
--- own exchange was kept, is opened now, or was that of a writing that is lost (`left_writing`). A new number is that of
+-- own exchange was kept, is opened now, or was that of a writing that is lost (`left_group`). A new number is that of
 -- no exchange (`new_number`), and a writing is left to one alone (`both_left`). So of each pair of these ways both are
 -- one consumer (`one_from`). `first_kept` and `writers_kept` go alike.
 use Rattle.std.{proofs.{lemmas.Bool.Decides.{nat_tests}, Common.{◌≡◌, ℕ, ◌+◌, true, false, Option, Some, None, refl, ap, sym, ◌∙◌, subst, arith}}, specs.Prelude.{is_some}}
 use Rattle.hc_text.proofs.Basics.{not_some as none_some, and_left, and_right, same_some as same_row}
-use Rattle.hc_effects.proofs.Vocabulary.{Opening, opening_in, Request, is_bypassing, Place, loses_in, Entry, exchange_opened, family, entry_of, IsFor, is_written, Tables, Exchange, Representation, Consumer, after_accepted, loses_writing, survivor, event, place, by}
+use Rattle.hc_effects.proofs.Vocabulary.{Opening, opening_in, Request, is_bypassing, Place, loses_in, Entry, exchange_opened, family, entry_of, IsFor, is_written, Tables, Exchange, Representation, Consumer, after_accepted, loses_group, survivor, event, place, by}
 use Rattle.hc_model.specs.Owners.{IsOpener}
 use Rattle.hc_effects.proofs.{BoundFrom.{BoundFrom, bound_from}, ExchangeFrom.{ExchangeFrom, exchange_from}, Forward.{is_on, is_kept, opened_on}, NumbersKeep.{opens_next}, OpenedAs.{OpenedAs, opened_as}, OwnFrom.{OwnFrom, own_from, IsLeft}, RepFrom.{RepFrom, rep_from}, Said.{opening_by}, Step.{Step}}
 use Rattle.hc_effects.proofs.BoundFrom as bound
@@ -73,7 +73,7 @@ module _ (step : Step) where
       s.numbered.lists.new_exchanges x (omega arith)
 
   -- the writing that is lost
-  pub record IsWriting (x r : ℕ) (v : Representation) : Type 0 where
+  pub record IsOpenGroup (x r : ℕ) (v : Representation) : Type 0 where
     pub row : t.representation r ≡ Some v
     pub written : is_written t v ≡ true
     pub loses : loses_in r e.acts ≡ true
@@ -82,9 +82,9 @@ module _ (step : Step) where
     pub family_is : family x w ≡ r
     pub headed : is_some w.head ≡ true
 
-  pub left_writing : (c x : ℕ) (p : Place) (l : IsLeft t e c x p) → IsWriting x l.r l.v
-  left_writing c x p l =
-      let losing : loses_writing t e l.r l.v ≡ true = l.loses in
+  pub left_group : (c x : ℕ) (p : Place) (l : IsLeft t e c x p) → IsOpenGroup x l.r l.v
+  left_group c x p l =
+      let losing : loses_group t e l.r l.v ≡ true = l.loses in
       let on : is_written t l.v ≡ true = and_right _ _ losing in
       let grows = (s.rows l.r l.v l.row).growing x on l.writer_is in
       let g = grows.1 in
@@ -96,7 +96,7 @@ module _ (step : Step) where
   there_from : (c x : ℕ) (u : Consumer) → OwnFrom t e c x u → is_some (now_on.exchange x) ≡ true
   there_from c x u (own.kept k row before heard) = there_by x (o.there c x k row.row before)
   there_from c x u (own.opened k p row is here this) = ap is_some (opened_on t e x p (t.exchange x) (new_number p x is this) is this)
-  there_from c x u (own.left k row l) = there_by x (ap is_some (left_writing c x _ l).exchange_row)
+  there_from c x u (own.left k row l) = there_by x (ap is_some (left_group c x _ l).exchange_row)
 
   pub there_kept : (c x : ℕ) (u : Consumer) → now_on.consumer c ≡ Some u → u.own ≡ Some x → is_some (now_on.exchange x) ≡ true
   there_kept c x u row is = there_from c x u (own_from t e c x (t.consumer c) u refl row is)
@@ -107,15 +107,15 @@ module _ (step : Step) where
   kept_new c x k p row is opens here = let never : false ≡ true = sym (ap is_some (new_number p x opens here)) ∙ o.there c x k row is in cc
 
   left_new : (c x : ℕ) (q : Place) (l : IsLeft t e c x q) (p : Opening) → opening_in e.acts ≡ Some p → p.x ≡ x → ⊥
-  left_new c x q l p opens here = none_some (left_writing c x q l).w (sym (new_number p x opens here) ∙ (left_writing c x q l).exchange_row)
+  left_new c x q l p opens here = none_some (left_group c x q l).w (sym (new_number p x opens here) ∙ (left_group c x q l).exchange_row)
 
   kept_left : (c d x : ℕ) (k : Consumer) (q : Place) (l : IsLeft t e d x q) → t.consumer c ≡ Some k → k.own ≡ Some x → ⊥
-  kept_left c d x k q l row is = o.apart l.r x c l.v k l.row (left_writing d x q l).written l.writer_is row is
+  kept_left c d x k q l row is = o.apart l.r x c l.v k l.row (left_group d x q l).written l.writer_is row is
 
   both_left : (c d x : ℕ) (p q : Place) (l : IsLeft t e c x p) (m : IsLeft t e d x q) → c ≡ d
   both_left c d x p q l m =
-      let a = left_writing c x p l in
-      let b = left_writing d x q m in
+      let a = left_group c x p l in
+      let b = left_group d x q m in
       let one : a.w ≡ b.w = same_row (t.exchange x) a.w b.w a.exchange_row b.exchange_row in
       let same : l.r ≡ m.r = sym a.family_is ∙ (ap (family x) one ∙ b.family_is) in
       let row : l.v ≡ m.v = same_row (t.representation m.r) l.v m.v (sym (ap t.representation same) ∙ l.row) m.row in

@@ -6,7 +6,7 @@
 -- past the store (`stood_past`). `unfounded_kept` joins these.
 use Rattle.std.{proofs.{Common.{◌≡◌, inl, inr, ℕ, ◌+◌, Bool, true, false, Option, Some, None, refl, ap, sym, ◌∙◌, subst, arith}, lemmas.Bool.Decides.{nat_tests}}, specs.Prelude.{is_some}}
 use Rattle.hc_text.proofs.Basics.{and_right, not_some as none_some, same_some as same_row}
-use Rattle.hc_range.specs.{declared.range.{ContentRange.{ContentRange}, Span.{Span}, Asked.{Asked}}, Spans.{resolved_span}}
+use Rattle.hc_range.specs.{declared.range.{ContentRange.{ContentRange}, Span.{Span}, RangeSpec.{RangeSpec}}, Spans.{resolved_span}}
 use Rattle.hc_effects.proofs.Vocabulary.{brings_part, range, event, route, wanted, by, place, Response, HeadCase, head_case, fits_to_found, fits_part, begins_at, route_of, content_range_of, range_of, wanted_of, wanted_part, BoundBy, has_loss, case_at, head_view, is_founding, fits_asker, consumer_heard, by_head, place_by_case, bound_to_wanted, denial, Entry, founded_total, entry_of, IsAwaiting, IsPast, Tables, Exchange, Representation, Consumer, may_stand, after_accepted}
 use Rattle.hc_rules.specs.Refusals as refusals
 use Rattle.hc_model.specs.Owners as owners
@@ -21,22 +21,22 @@ pub bound_direct : (r lo : ℕ) (hi : Option ℕ) (how : BoundBy) (y : ℕ) → 
 bound_direct r lo hi how y is = cc
 
 -- a part that founds is one of an interval that is wanted
-part_wanted : (asked : Asked) (first last total : ℕ) (q : Option Span) → resolved_span asked total ≡ q → begins_at q first last ≡ true → (z : Span) × (wanted_of (Some asked) (Some total) ≡ wanted.Interval z)
+part_wanted : (asked : RangeSpec) (first last total : ℕ) (q : Option Span) → resolved_span asked total ≡ q → begins_at q first last ≡ true → (z : Span) × (wanted_of (Some asked) (Some total) ≡ wanted.Interval z)
 part_wanted asked first last total None is h = absurd (false_true h)
 part_wanted asked first last total (Some span) is h = (span, ap wanted_part is)
 
-part_range : (asked : Asked) (q : Option ContentRange) → fits_part asked q ≡ true → (z : Span) × (wanted_of (Some asked) (Rattle.hc_model.specs.Heads.total_of_part q) ≡ wanted.Interval z)
+part_range : (asked : RangeSpec) (q : Option ContentRange) → fits_part asked q ≡ true → (z : Span) × (wanted_of (Some asked) (Rattle.hc_model.specs.Heads.total_of_part q) ≡ wanted.Interval z)
 part_range asked None h = absurd (false_true h)
 part_range asked (Some (range.Unsatisfied total)) h = absurd (false_true h)
 part_range asked (Some (range.Part first last None)) h = absurd (false_true h)
 part_range asked (Some (range.Part first last (Some total))) h = part_wanted asked first last total (resolved_span asked total) refl h
 
-fits_wanted : (w : Exchange) (response : Response) (q : Option Asked) → brings_part response.status ≡ true → fits_to_found q response ≡ true → (z : Span) × (wanted_of q (founded_total w response) ≡ wanted.Interval z)
+fits_wanted : (w : Exchange) (response : Response) (q : Option RangeSpec) → brings_part response.status ≡ true → fits_to_found q response ≡ true → (z : Span) × (wanted_of q (founded_total w response) ≡ wanted.Interval z)
 fits_wanted w response None status h = absurd (false_true h)
 fits_wanted w response (Some asked) status h =
     let got = part_range asked (content_range_of response.fields) (and_right _ _ h) in
-    let told : founded_total w response ≡ Rattle.hc_model.specs.Heads.total_of_part (content_range_of response.fields) = rw status refl in
-    (got.0, ap (wanted_of (Some asked)) told ∙ got.1)
+    let reported : founded_total w response ≡ Rattle.hc_model.specs.Heads.total_of_part (content_range_of response.fields) = rw status refl in
+    (got.0, ap (wanted_of (Some asked)) reported ∙ got.1)
 
 -- IT IS APART
 

@@ -8,7 +8,7 @@ use Rattle.std.{proofs.{lemmas.Bool.Decides.{nat_tests}, Common.{arith, ◌≡�
 use Rattle.hc_text.proofs.Basics.{eqb-same, not_some as none_some, and_off as then_false}
 use Rattle.hc_effects.proofs.Vocabulary.{brings_whole, act, LostKind, Event, Limits, Place, loses_in, loss_acts, closing, is_current, denial, Does, with_event, with_exchange, with_representation, let_go, let_all_go, as_gone, over, lost_to, Entry, entry_without_acts, exchange_after, with_piece, family, front, Flaw, NoFlaw, Loses, beside, becomes_gone, ends_early, ends_founding, is_keepable, Lawful, is_written, representation_after, representation_heard, representation_after_piece, with_stored_bytes, Tables, Exchange, Representation, Consumer, after_accepted, evicted, write_in, exclusive, goes_on_with}
 use Rattle.hc_event.specs.declared.event.Event.TheVariants as event
-use Rattle.hc_effects.proofs.{Basics.{false_true, append_none}, Dues.{undue_of, stop_none}, FewClosings.{ClosesLittle, nothing_lost, closes_nothing}, Frames.{undoomed}, PieceKeeps.{eq_cases}, SameTables.{is_in, back_from_any}, ToldFrames.{pieces, says_little, e, exchange_one, goes_as, loses_as, closes_as, representation_by, representation_none, lost_by, beside_same, consumer_by, told_by, told_does, told_plainly}, Untouched.{IsSpared, loss_spared}, ActParts.{leaver_lost}}
+use Rattle.hc_effects.proofs.{Basics.{false_true, append_none}, Dues.{undue_of, stop_none}, FewClosings.{ClosesLittle, nothing_lost, closes_nothing}, Frames.{undoomed}, PieceKeeps.{eq_cases}, SameTables.{is_in, back_from_any}, ReportedFrames.{pieces, says_little, e, exchange_one, goes_as, loses_as, closes_as, representation_by, representation_none, lost_by, beside_same, consumer_by, reported_by, reported_does, reported_plainly}, Untouched.{IsSpared, loss_spared}, ActParts.{leaver_lost}}
 
 module _ (limits : Limits) (t : Tables) (law : Lawful t) (now x : ℕ) (bytes : List ℕ) (w : Exchange) (row : t.exchange x ≡ Some w) where
   abbrev ev : Event
@@ -91,7 +91,7 @@ module _ (limits : Limits) (t : Tables) (law : Lawful t) (now x : ℕ) (bytes : 
     pub piece_tables : (rs : List ℕ) (vs : ℕ → Option Representation) → ((r : ℕ) → loses_in r (loss_acts flaw) ≡ is_in rs r) → ((r : ℕ) → representation_after t (it flaw []) r (t.representation r) ≡ (if is_in rs r then option_map as_gone (vs r) else vs r))
         → after_accepted t (it flaw []) ≡ with_event now ev (let_all_go now rs (record (with_exchange x (Some (with_piece bytes w)) t) { representation = vs }))
     piece_tables rs vs same rows =
-        told_by t now ev (pieces x bytes) flaw [] rs (with_exchange x (Some (with_piece bytes w)) t).exchange vs t.consumer
+        reported_by t now ev (pieces x bytes) flaw [] rs (with_exchange x (Some (with_piece bytes w)) t).exchange vs t.consumer
         (piece_brings flaw [])
         rows
         (λ c. consumer_by t now ev (pieces x bytes) flaw [] law rs (λ r v there. goes r v there ∙ same r) (undoomed t (it flaw []) refl) c (λ k here. refl) ∙ ap (option_map (back_from_any now rs)) (all_stay c))
@@ -120,7 +120,7 @@ module _ (limits : Limits) (t : Tables) (law : Lawful t) (now x : ℕ) (bytes : 
     -- past the store just its exchange has it
     pub past : t.representation (family x w) ≡ None → Does limits t now ev NoFlaw [] (with_event now ev (with_exchange x (Some (with_piece bytes w)) t))
     past none =
-        told_plainly t now ev (pieces x bytes) NoFlaw [] limits law taken (with_exchange x (Some (with_piece bytes w)) t) (closes_none NoFlaw unlost)
+        reported_plainly t now ev (pieces x bytes) NoFlaw [] limits law taken (with_exchange x (Some (with_piece bytes w)) t) (closes_none NoFlaw unlost)
         (piece_tables NoFlaw unlost [] t.representation (λ r. refl) rows) unwritten
       where
         unlost : (r : ℕ) (v : Representation) → t.representation r ≡ Some v → (false && is_written t v) ≡ false
@@ -156,12 +156,12 @@ module _ (limits : Limits) (t : Tables) (law : Lawful t) (now x : ℕ) (bytes : 
       pub stored : v.is_lost ≡ false → Does limits t now ev NoFlaw (map act.Evicted es) (with_event now ev (let_all_go now es (with_representation r (Some (with_stored_bytes true (front w) x bytes v)) (with_exchange x (Some (with_piece bytes w)) t))))
       stored kept =
           subst (λ acts. Does limits t now ev NoFlaw acts (with_event now ev (let_all_go now es (with_representation r (Some (with_stored_bytes true (front w) x bytes v)) (with_exchange x (Some (with_piece bytes w)) t))))) (append_none (map act.Evicted es))
-          (told_does t now ev (pieces x bytes) NoFlaw [] limits law taken (with_representation r (Some (with_stored_bytes true (front w) x bytes v)) (with_exchange x (Some (with_piece bytes w)) t)) (closes_none NoFlaw (λ q u at. refl)) (brought true (ap not kept)))
+          (reported_does t now ev (pieces x bytes) NoFlaw [] limits law taken (with_representation r (Some (with_stored_bytes true (front w) x bytes v)) (with_exchange x (Some (with_piece bytes w)) t)) (closes_none NoFlaw (λ q u at. refl)) (brought true (ap not kept)))
 
       -- of what was lost before nothing is stored
       pub unstored : v.is_lost ≡ true → Does limits t now ev NoFlaw [] (with_event now ev (with_representation r (Some (with_stored_bytes false (front w) x bytes v)) (with_exchange x (Some (with_piece bytes w)) t)))
       unstored was =
-          told_plainly t now ev (pieces x bytes) NoFlaw [] limits law taken (with_representation r (Some (with_stored_bytes false (front w) x bytes v)) (with_exchange x (Some (with_piece bytes w)) t)) (closes_none NoFlaw (λ q u at. refl)) (brought false (ap not was)) unwritten
+          reported_plainly t now ev (pieces x bytes) NoFlaw [] limits law taken (with_representation r (Some (with_stored_bytes false (front w) x bytes v)) (with_exchange x (Some (with_piece bytes w)) t)) (closes_none NoFlaw (λ q u at. refl)) (brought false (ap not was)) unwritten
         where
           unwritten : write_in t (entry_without_acts now ev) ev ≡ None
           unwritten = rw (row, of_r, there, was) refl
@@ -190,7 +190,7 @@ module _ (limits : Limits) (t : Tables) (law : Lawful t) (now x : ℕ) (bytes : 
               (with_event now ev (let_all_go now es (let_go now r (with_representation r (Some (lost_to (exclusive t r v) (with_stored_bytes false (front w) x bytes v))) (with_exchange x (Some (with_piece bytes w)) t)))))
           loses_alone =
               let loses : loses_in r (it flaw []).acts ≡ true = rw (eqb-same r) refl in
-              told_does t now ev (pieces x bytes) flaw [] limits law taken (let_go now r (with_representation r (Some (lost_to (exclusive t r v) (with_stored_bytes false (front w) x bytes v))) (with_exchange x (Some (with_piece bytes w)) t))) (closes_none flaw unlost)
+              reported_does t now ev (pieces x bytes) flaw [] limits law taken (let_go now r (with_representation r (Some (lost_to (exclusive t r v) (with_stored_bytes false (front w) x bytes v))) (with_exchange x (Some (with_piece bytes w)) t))) (closes_none flaw unlost)
               (piece_tables flaw unlost (r ∷ []) (λ q. if r == q then Some (lost_to (exclusive t r v) (with_stored_bytes false (front w) x bytes v)) else t.representation q) same_lost
               (rows_by flaw [] (r ∷ []) r v (lost_to (exclusive t r v) (with_stored_bytes false (front w) x bytes v)) of_r there (λ q u at. goes flaw unlost q u at) (λ q apart. rw apart refl)
               (lost_row [] (exclusive t r v) (rw (loses, alone) refl) (goes flaw unlost r v there ∙ loses) ∙ rw (eqb-same r) refl)))

@@ -6,18 +6,18 @@ use Rattle.hc_effects.proofs.Vocabulary.{Need, Why, Wanted, Plan, Candidate, Pla
 use Rattle.hc_effects.proofs.Joining.{mix}
 
 -- what is current is read whole, as it is written
-pub record JoinsWriting (v : PlanView) : Type 0 where
+pub record JoinsGroup (v : PlanView) : Type 0 where
   pub s : Candidate
   pub current : v.current ≡ Some s
   pub unranged : is_none v.class.range ≡ true
-  pub writing : s.writing ≡ true
+  pub writer_group : s.writer_group ≡ true
 
 -- an interval is wanted of what is current, which nobody writes, alone or for several, and is stored but for this hole
 pub record IsAlone (v : PlanView) (span : Span) (hole : Option Span) : Type 0 where
   pub s : Candidate
   pub current : v.current ≡ Some s
   pub wanted_is : s.span ≡ wanted.Interval span
-  pub unwritten : s.writing ≡ false
+  pub unwritten : s.writer_group ≡ false
   pub hole_is : s.hole ≡ hole
   pub nobody : s.exclusive ≡ None
 
@@ -27,7 +27,7 @@ pub data PlanBy (v : PlanView) : Plan → Type 0 where
   misses : PlanBy v plan.Miss
   passes_by : (n : Need) → route_of n ≡ route.Direct → PlanBy v (plan.Direct n)
   fetches : (n : Need) → route_of n ≡ route.Turn → (n ≡ need.Validate → v.class.bypassing ≡ false) → (n ≡ need.Bypass → v.class.bypassing ≡ true) → v.class.disabled ≡ false → PlanBy v (plan.Fetch n)
-  joins : (why : Why) → v.class.disabled ≡ false → JoinsWriting v → PlanBy v (plan.Bind why None)
+  joins : (why : Why) → v.class.disabled ≡ false → JoinsGroup v → PlanBy v (plan.Bind why None)
   reads : (why : Why) (span : Span) → v.class.disabled ≡ false → IsAlone v span None → PlanBy v (plan.Bind why (Some span))
   fills : (span hole : Span) → v.class.disabled ≡ false → (a : IsAlone v span (Some hole)) → a.s.least_bound ≡ None → PlanBy v (plan.FirstHole span hole)
 
@@ -44,25 +44,25 @@ vary_bypass : need.Vary ≡ need.Bypass → ⊥
 vary_bypass is = cc
 
 module _ (v : PlanView) (cached : v.class.disabled ≡ false) (plain : v.class.bypassing ≡ false) (s : Candidate) (current : v.current ≡ Some s) where
-  bound_by : (span hole : Span) (o : Option ℕ) → s.span ≡ wanted.Interval span → s.writing ≡ false → s.exclusive ≡ None → s.hole ≡ Some hole → s.least_bound ≡ o → PlanBy v (by_bound v span hole o)
+  bound_by : (span hole : Span) (o : Option ℕ) → s.span ≡ wanted.Interval span → s.writer_group ≡ false → s.exclusive ≡ None → s.hole ≡ Some hole → s.least_bound ≡ o → PlanBy v (by_bound v span hole o)
   bound_by span hole None at off free found nobody = fills span hole cached (record { s = s; current = current; wanted_is = at; unwritten = off; hole_is = found; nobody = free }) nobody
   bound_by span hole (Some d) at off free found nobody = busy d v.kept plain
 
-  hole_by : (why : Why) (span : Span) (o : Option Span) → s.span ≡ wanted.Interval span → s.writing ≡ false → s.exclusive ≡ None → s.hole ≡ o → PlanBy v (by_hole v s why span o)
+  hole_by : (why : Why) (span : Span) (o : Option Span) → s.span ≡ wanted.Interval span → s.writer_group ≡ false → s.exclusive ≡ None → s.hole ≡ o → PlanBy v (by_hole v s why span o)
   hole_by why span None at off free found = reads why span cached (record { s = s; current = current; wanted_is = at; unwritten = off; hole_is = found; nobody = free })
   hole_by why span (Some hole) at off free found = bound_by span hole s.least_bound at off free found refl
 
-  exclusive_by : (why : Why) (span : Span) (o : Option ℕ) → s.span ≡ wanted.Interval span → s.writing ≡ false → s.exclusive ≡ o → PlanBy v (by_exclusive v s why span o)
+  exclusive_by : (why : Why) (span : Span) (o : Option ℕ) → s.span ≡ wanted.Interval span → s.writer_group ≡ false → s.exclusive ≡ o → PlanBy v (by_exclusive v s why span o)
   exclusive_by why span None at off free = hole_by why span s.hole at off free refl
   exclusive_by why span (Some d) at off taken = busy d v.kept plain
 
   wanted_by : (why : Why) (w : Wanted) → s.span ≡ w → PlanBy v (by_wanted v s why w)
   wanted_by why wanted.TotalUnknown at = busy _ _ plain
   wanted_by why wanted.Unsatisfiable at = passes_by need.Unsatisfied refl
-  wanted_by why (wanted.Interval span) at = either (PlanBy v) s.writing _ _ (λ on. busy _ _ plain) (λ off. exclusive_by why span s.exclusive at off refl)
+  wanted_by why (wanted.Interval span) at = either (PlanBy v) s.writer_group _ _ (λ on. busy _ _ plain) (λ off. exclusive_by why span s.exclusive at off refl)
 
   on_by : (why : Why) → PlanBy v (plan_on v s why)
-  on_by why = either (PlanBy v) (is_none v.class.range && s.writing) _ _ (λ h. joins why cached (record { s = s; current = current; unranged = and_left (is_none v.class.range) s.writing h; writing = and_right (is_none v.class.range) s.writing h })) (λ h. wanted_by why s.span refl)
+  on_by why = either (PlanBy v) (is_none v.class.range && s.writer_group) _ _ (λ h. joins why cached (record { s = s; current = current; unranged = and_left (is_none v.class.range) s.writer_group h; writer_group = and_right (is_none v.class.range) s.writer_group h })) (λ h. wanted_by why s.span refl)
 
   why_then : (o : Option Why) → PlanBy v (by_why v s o)
   why_then None = fetches need.Validate refl (λ is. plain) (λ is. absurd (validate_bypass is)) cached

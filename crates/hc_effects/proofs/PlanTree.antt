@@ -43,7 +43,7 @@ module _ (v : PlanView) (s : Candidate) (current : v.current ≡ Some s) where
   fine_wanted : (why : Why) (w : Wanted) → s.span ≡ w → Fine v (by_wanted v s why w)
   fine_wanted why wanted.TotalUnknown at = waits_busy _ _
   fine_wanted why wanted.Unsatisfiable at = passes_by need.Unsatisfied (λ from to e. cc)
-  fine_wanted why (wanted.Interval span) at = mix (Fine v) s.writing _ _ (waits_busy _ _) (fine_exclusive why span s.exclusive at)
+  fine_wanted why (wanted.Interval span) at = mix (Fine v) s.writer_group _ _ (waits_busy _ _) (fine_exclusive why span s.exclusive at)
 
   fine_why : (o : Option Why) → Fine v (by_why v s o)
   fine_why None = fetches need.Validate (λ from to e. cc)

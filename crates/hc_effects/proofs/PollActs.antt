@@ -3,7 +3,7 @@ use Rattle.std.{proofs.{Common.{◌≡◌, inl, inr, ℕ, List, [], ◌∷◌, �
 use Rattle.hc_sparse.specs.declared.run.Run.{Run}
 use Rattle.hc_effects.proofs.Vocabulary.{given_in, shows_in, Event, Response, Act, Why, Limits, showing_in, accepted_acts, poll_acts, loss_acts, closing, Flaw, Misreads, shown_in, Move, Shows, Gives, acts_of, poll_move, move_of, Tables, Consumer, act}
 use Rattle.hc_event.specs.declared.event.Event.TheVariants as event
-use Rattle.hc_effects.proofs.{Basics.{append_none}, Named.{IsFar, far_told, far_poll, far_closes, far_lost}, PieceKeeps.{eq_cases}, ShownOnce.{unshown_of}}
+use Rattle.hc_effects.proofs.{Basics.{append_none}, Named.{IsFar, far_reported, far_poll, far_closes, far_lost}, PieceKeeps.{eq_cases}, ShownOnce.{unshown_of}}
 
 module _ (t : Tables) (now c : ℕ) where
   pub data ToOne (ev : Event) (acts : List Act) : Type 0 where
@@ -49,4 +49,4 @@ module _ (t : Tables) (now c : ℕ) where
           subst (λ n. ToOne (event.Poll d want) (poll_acts t now want n flaw ++ rest)) (sym here.1) (by_flaw (event.Poll d want) rest f want flaw (ap (λ n. event.Poll n want) here.1))
     ]
     to_one (event.Cancel d) = far_one (event.Cancel d) _ (far_closes c (closing t (record { now = now; event = event.Cancel d; acts = loss_acts flaw })) (loss_acts flaw) (far_lost c flaw))
-    to_one ev = far_one ev _ (far_told limits t now c flaw ev)
+    to_one ev = far_one ev _ (far_reported limits t now c flaw ev)

@@ -119,9 +119,9 @@ module _ (step : Step) where
     shown_here p at it2 free none = grind (arith, nat_tests)
 
     module _ (reading : IsReading x k.place) where
-      told_not : (q : Wait) → IsForOthers q → wait_in c e.acts ≡ Some q → ⊥
-      told_not q others told =
-          let by_poll = waiting_by limits t now flaw s ev goes c q told in
+      reported_not : (q : Wait) → IsForOthers q → wait_in c e.acts ≡ Some q → ⊥
+      reported_not q others reported =
+          let by_poll = waiting_by limits t now flaw s ev goes c q reported in
           let one : by_poll.k ≡ k = same_row (t.consumer c) by_poll.k k by_poll.poll.row row.row in
           let waits : WaitsAs q (move_of t now by_poll.want c k) = subst (λ (p : Consumer). WaitsAs q (move_of t now by_poll.want c p)) one by_poll.move in
           let why = waited_as t now c k q others by_poll.want s row.row waits in
@@ -132,7 +132,7 @@ module _ (step : Step) where
 
       pub reader_stays : u.place ≡ k.place
       reader_stays =
-          let placed : (consumer_acted t e c k).place ≡ k.place = plain_place t e c k (leaves_in c e.acts) (showing_in e.acts) (opening_in e.acts) (wait_in c e.acts) stays_in (unopened t e c (waiting t e c k) (opening_in e.acts) no_opening) (waits_where t k (wait_in c e.acts) told_not) (shows_on (showing_in e.acts)) in
+          let placed : (consumer_acted t e c k).place ≡ k.place = plain_place t e c k (leaves_in c e.acts) (showing_in e.acts) (opening_in e.acts) (wait_in c e.acts) stays_in (unopened t e c (waiting t e c k) (opening_in e.acts) no_opening) (waits_where t k (wait_in c e.acts) reported_not) (shows_on (showing_in e.acts)) in
           sym (ap (λ (q : Consumer). q.place) row.is) ∙ (ap (λ (h : Consumer). (consumer_acted t e c h).place) (heard_same ev refl) ∙ placed)
 
   -- AFTER AN ENTRY

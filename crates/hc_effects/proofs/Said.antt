@@ -129,8 +129,8 @@ pub record LeavesBy (t : Tables) (ev : Event) (c : ℕ) : Type 0 where
 
 module _ (limits : Limits) (t : Tables) (now : ℕ) (flaw : Flaw) (s : Sound t) where
   -- of an event that isn't a poll nothing is said to any consumer
-  told_quiet : (ev : Event) → IsQuietActs (map act.Evicted (evicted limits t now ev) ++ (loss_acts flaw ++ map act.Close (closing t (record { now = now; event = ev; acts = loss_acts flaw }))))
-  told_quiet ev = quiet_acts (evicted limits t now ev) (closing t (record { now = now; event = ev; acts = loss_acts flaw })) flaw
+  reported_quiet : (ev : Event) → IsQuietActs (map act.Evicted (evicted limits t now ev) ++ (loss_acts flaw ++ map act.Close (closing t (record { now = now; event = ev; acts = loss_acts flaw }))))
+  reported_quiet ev = quiet_acts (evicted limits t now ev) (closing t (record { now = now; event = ev; acts = loss_acts flaw })) flaw
 
   pub data IsSaid (ev : Event) (acts : List Act) : Type 0 where
     quiet : IsQuietActs acts → IsSaid ev acts
@@ -153,7 +153,7 @@ module _ (limits : Limits) (t : Tables) (now : ℕ) (flaw : Flaw) (s : Sound t) 
   unfolding refusals.refusal_of
   is_said (event.Poll c want) goes = by_row c want (t.consumer c) refl (poll_live limits t now flaw s c want goes)
   is_said (event.Cancel c) goes = quiet (closes_quiet (closing t (record { now = now; event = event.Cancel c; acts = loss_acts flaw })) (loss_acts flaw) (lost_quiet flaw))
-  is_said ev goes = quiet (told_quiet ev)
+  is_said ev goes = quiet (reported_quiet ev)
 
   opens_by : (ev : Event) (acts : List Act) (o : Opening) → IsSaid ev acts → opening_in acts ≡ Some o → OpensBy t now ev o
   opens_by ev acts o (quiet q) is = absurd (none_some o (rw q.opens at is))

@@ -39,15 +39,15 @@ evicted_lose [] rest = refl
 evicted_lose (r ∷ rs) rest = evicted_lose rs rest
 
 -- beside what makes room and what is closed
-pub told_loss : (rs xs : List ℕ) (flaw : Flaw) → has_loss (map act.Evicted rs ++ (loss_acts flaw ++ map act.Close xs)) ≡ has_loss (loss_acts flaw)
-told_loss rs xs flaw =
+pub reported_loss : (rs xs : List ℕ) (flaw : Flaw) → has_loss (map act.Evicted rs ++ (loss_acts flaw ++ map act.Close xs)) ≡ has_loss (loss_acts flaw)
+reported_loss rs xs flaw =
     evicted_lose rs (loss_acts flaw ++ map act.Close xs)
     ∙ (loss_append (loss_acts flaw) (map act.Close xs)
     ∙ (ap (λ b. has_loss (loss_acts flaw) || b) (all_lose xs) ∙ or_false (has_loss (loss_acts flaw))))
 
 module _ (limits : Limits) (t : Tables) (now : ℕ) (flaw : Flaw) (s : Sound t) where
-  told_loses : (ev : Event) → has_loss (map act.Evicted (evicted limits t now ev) ++ (loss_acts flaw ++ map act.Close (closing t (record { now = now; event = ev; acts = loss_acts flaw })))) ≡ has_loss (loss_acts flaw)
-  told_loses ev = told_loss (evicted limits t now ev) (closing t (record { now = now; event = ev; acts = loss_acts flaw })) flaw
+  reported_loses : (ev : Event) → has_loss (map act.Evicted (evicted limits t now ev) ++ (loss_acts flaw ++ map act.Close (closing t (record { now = now; event = ev; acts = loss_acts flaw })))) ≡ has_loss (loss_acts flaw)
+  reported_loses ev = reported_loss (evicted limits t now ev) (closing t (record { now = now; event = ev; acts = loss_acts flaw })) flaw
 
   -- the closings see what is lost
   pub loss_is : (ev : Event) → has_loss (accepted_acts limits t now ev flaw) ≡ has_loss (before limits t now flaw s ev).acts
@@ -57,7 +57,7 @@ module _ (limits : Limits) (t : Tables) (now : ℕ) (flaw : Flaw) (s : Sound t) 
       ∙ (ap (λ b. has_loss (poll_acts t now want c flaw) || b) (closes_lose xs (loss_acts flaw))
       ∙ sym (loss_append (poll_acts t now want c flaw) (loss_acts flaw)))
   loss_is (event.Cancel c) = closes_lose (closing t (before limits t now flaw s (event.Cancel c))) (loss_acts flaw)
-  loss_is ev = told_loses ev
+  loss_is ev = reported_loses ev
 
   -- WHO LEAVES
 
@@ -105,10 +105,10 @@ module _ (limits : Limits) (t : Tables) (now : ℕ) (flaw : Flaw) (s : Sound t) 
   poll_leaver c d want (Misreads r) f g xs h = one_leaves c d xs f h
   poll_leaver c d want _ f g xs h = move_leaver c d (poll_move t now want c (t.consumer c)) f g xs h
 
-  told_leaves : (ev : Event) (d : ℕ) → leaves_in d (map act.Evicted (evicted limits t now ev) ++ (loss_acts flaw ++ map act.Close (closing t (record { now = now; event = ev; acts = loss_acts flaw })))) ≡ false
-  told_leaves ev d = (quiet_acts (evicted limits t now ev) (closing t (record { now = now; event = ev; acts = loss_acts flaw })) flaw).leaves d
+  reported_leaves : (ev : Event) (d : ℕ) → leaves_in d (map act.Evicted (evicted limits t now ev) ++ (loss_acts flaw ++ map act.Close (closing t (record { now = now; event = ev; acts = loss_acts flaw })))) ≡ false
+  reported_leaves ev d = (quiet_acts (evicted limits t now ev) (closing t (record { now = now; event = ev; acts = loss_acts flaw })) flaw).leaves d
 
   pub leaves_leaver : (ev : Event) (d : ℕ) → leaves_in d (accepted_acts limits t now ev flaw) ≡ true → leaver_by ev (before limits t now flaw s ev).acts ≡ Some d
   leaves_leaver (event.Poll c want) d h = poll_leaver c d want flaw flaw flaw (closing t (before limits t now flaw s (event.Poll c want))) h
   leaves_leaver (event.Cancel c) d h = absurd (false_true (sym (closes_leave d (closing t (before limits t now flaw s (event.Cancel c))) flaw) ∙ h))
-  leaves_leaver ev d h = absurd (false_true (sym (told_leaves ev d) ∙ h))
+  leaves_leaver ev d h = absurd (false_true (sym (reported_leaves ev d) ∙ h))

@@ -3,11 +3,11 @@ use Rattle.std.{proofs.{lemmas.Bool.Decides.{nat_tests}, Common.{arith, ◌≡�
 use Rattle.hc_text.proofs.Basics.{eqb-same}
 use Rattle.hc_effects.proofs.Vocabulary.{Act, Cause, LostKind, Event, Limits, loses_in, answer_acts, is_number, Does, with_event, with_consumer, with_representation, let_go, as_gone, as_over, left_by, is_unkeepable, going_with, with_leave, lost_to, Entry, family, Flaw, Loses, becomes_gone, Lawful, Ends, Fails, acts_of, move_of, poll_move, representation_after, representation_acted, Tables, Exchange, Representation, Consumer, loses_what_it_waits_for, after_accepted, with_item_first, exclusive, act}
 use Rattle.hc_event.specs.declared.event.Event.TheVariants as event
-use Rattle.hc_effects.proofs.{Basics.{number_is}, FailsTold.{fails_told}, KeyActs.{test_some}, LeaveFrames.{IsFront, e, nothing, far, acts_left, loses_as, goes_by, leaves}, OfConsumers.{BringsNothing}, PieceKeeps.{eq_cases}, SameTables.{is_in, all_closed_is}, Untouched.{representation_frame, representation_absent}}
+use Rattle.hc_effects.proofs.{Basics.{number_is}, FailsReported.{fails_reported}, KeyActs.{test_some}, LeaveFrames.{IsPrefix, e, nothing, far, acts_left, loses_as, goes_by, leaves}, OfConsumers.{BringsNothing}, PieceKeeps.{eq_cases}, SameTables.{is_in, all_closed_is}, Untouched.{representation_frame, representation_absent}}
 use Rattle.hc_effects.proofs.LeaveFrames as front_of
 
 module _ (limits : Limits) (t : Tables) (law : Lawful t) (now c : ℕ) (k : Consumer) (row : t.consumer c ≡ Some k) (x : ℕ) (w : Exchange) (r : ℕ) (v : Representation) (kind : LostKind) (left : left_by t c k ≡ Some x) (is_row : t.exchange x ≡ Some w) (of_family : family x w ≡ r) (there : t.representation r ≡ Some v) (kept : v.is_lost ≡ false) where
-  module _ (ev : Event) (front : List Act) (is : IsFront c ev None front) (says : answer_acts t now ev (Loses r kind) ≡ front) where
+  module _ (ev : Event) (front : List Act) (is : IsPrefix c ev None front) (says : answer_acts t now ev (Loses r kind) ≡ front) where
     abbrev flaw : Flaw
     flaw = Loses r kind
 
@@ -82,7 +82,7 @@ module _ (limits : Limits) (t : Tables) (law : Lawful t) (now c : ℕ) (k : Cons
 
   pub seal_fails : (want : ℕ) (why : Cause) → move_of t now want c k ≡ Fails why → Does limits t now (event.Poll c want) (Loses r kind) (acts_of c (Fails why) ++ (map act.Close (x ∷ []) ++ (act.Lost r kind ∷ [])))
       (with_event now (event.Poll c want) (let_go now r (with_representation r (Some (lost_to (exclusive t r v) v)) (with_leave c k t))))
-  seal_fails want why is = seal_does (event.Poll c want) (acts_of c (Fails why)) (front_of.fails want why (fails_told t now want c k why law.sound law.places row is)) (ap (λ (o : Option Consumer). acts_of c (poll_move t now want c o)) row ∙ ap (acts_of c) is)
+  seal_fails want why is = seal_does (event.Poll c want) (acts_of c (Fails why)) (front_of.fails want why (fails_reported t now want c k why law.sound law.places row is)) (ap (λ (o : Option Consumer). acts_of c (poll_move t now want c o)) row ∙ ap (acts_of c) is)
 
   pub seal_cancels : Does limits t now (event.Cancel c) (Loses r kind) (act.Close x ∷ act.Lost r kind ∷ [])
       (with_event now (event.Cancel c) (let_go now r (with_representation r (Some (lost_to (exclusive t r v) v)) (with_leave c k t))))

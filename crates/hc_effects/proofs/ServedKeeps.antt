@@ -8,9 +8,9 @@ use Rattle.std.{proofs.{Common.{◌≡◌, ◌⊎◌, inl, inr, ℕ, ◌+◌, �
 use Rattle.hc_text.proofs.Basics.{never_true, or_cases, and_none as and_off, eq_is, both_true as and_both, and_left, and_right, bool_cases, not_some as none_some, same_some as same_row, some_inj}
 use Rattle.hc_sparse.specs.Cells.{Cells, Covers, cells_with}
 use Rattle.hc_range.specs.declared.range.Span.{Span}
-use Rattle.hc_effects.proofs.Vocabulary.{brings_part, brings_whole, Opening, opening_in, leaves_in, closes_in, given_in, Event, Response, HeadCase, BoundBy, Showing, showing_in, loses_in, has_loss, case_at, head_view, must_close, is_refused, brings_head, is_doomed, has_no_survivor, is_left, leaver, leaver_by, consumer_heard, consumer_acted, by_opening, waiting, is_number, doomed_key_of, doomed_in, doomed_by_head, doomed_by_case, is_key, Entry, exchange_heard, promise_in, is_open, is_reached, family, becomes_due, cause_by_loss, first_hole, covers, entry_of, Measures, is_written, bound, hi_of, offset, reads, new_representation, writer_at, Tables, Exchange, Representation, Consumer, IsBound, IsServed, IsExclusiveWriter, IsFirst, IsGrowing, after_accepted, brings_body, came_alone, loses_writing, survivor, goes_on_with, status_in, stops, event, case, place, by}
+use Rattle.hc_effects.proofs.Vocabulary.{brings_part, brings_whole, Opening, opening_in, leaves_in, closes_in, given_in, Event, Response, HeadCase, BoundBy, Showing, showing_in, loses_in, has_loss, case_at, head_view, must_close, is_refused, brings_head, is_doomed, has_no_survivor, is_left, leaver, leaver_by, consumer_heard, consumer_acted, by_opening, waiting, is_number, doomed_key_of, doomed_in, doomed_by_head, doomed_by_case, is_key, Entry, exchange_heard, promise_in, is_open, is_reached, family, becomes_due, cause_by_loss, first_hole, covers, entry_of, Measures, is_written, bound, hi_of, offset, reads, new_representation, writer_at, Tables, Exchange, Representation, Consumer, IsBound, IsServed, IsExclusiveWriter, IsFirst, IsGrowing, after_accepted, brings_body, came_alone, loses_group, survivor, goes_on_with, status_in, stops, event, case, place, by}
 use Rattle.hc_model.specs.Sound as sound
-use Rattle.hc_effects.proofs.{ApartKeeps.{written_by, is_on}, Basics.{false_true, number_is}, BoundFrom.{BoundFrom, IsRow, IsFounded, IsFirstHole, IsShown, bound_from}, BoundKeeps.{planned_at}, Closed.{before}, ConsumerFilters.{acted}, Dues.{due_before, undue_parts}, EndsKeep.{known_kept, measures_kept}, Fills.{Fills, fills}, FirstKeeps.{IsNew, came_kept, case_of_head, case_is, is_new, open_free, whole_brings, replaced_brings}, FoundBy.{CaseBy}, Forward.{after_is}, HoleLemmas.{covers_all}, LossBy.{IsReal, IsSealing, sealed_loss, seals_one, fresh}, LossServes.{survives}, Losses.{HasRest, goes_on_or_rests}, OwnersKeep.{is_opened}, ExclusiveWriters.{writer_some, none_about}, PollKeeps.{current_stays}, RepFrom.{RepFrom, rep_from, IsKept, IsResumed}, Said.{ShowsBy, leaving_by, showing_by}, SaidActs.{leaver_leaves}, ShownFrom.{ShownAs, IsPlanned}, Stops.{writer_about}, Unclosed.{had_to}, Waiters.{waiter_of, doomed_same, case_same}, WriterEnds.{all_stored}, WritingStops.{IsAll}, Step.{Step}}
+use Rattle.hc_effects.proofs.{ApartKeeps.{written_by, is_on}, Basics.{false_true, number_is}, BoundFrom.{BoundFrom, IsRow, IsFounded, IsFirstHole, IsShown, bound_from}, BoundKeeps.{planned_at}, Closed.{before}, ConsumerFilters.{acted}, Dues.{due_before, undue_parts}, EndsKeep.{known_kept, measures_kept}, Fills.{Fills, fills}, FirstKeeps.{IsNew, came_kept, case_of_head, case_is, is_new, open_free, whole_brings, replaced_brings}, FoundBy.{CaseBy}, Forward.{after_is}, HoleLemmas.{covers_all}, LossBy.{IsReal, IsSealing, sealed_loss, seals_one, fresh}, LossServes.{survives}, Losses.{HasRest, goes_on_or_rests}, OwnersKeep.{is_opened}, ExclusiveWriters.{writer_some, none_about}, PollKeeps.{current_stays}, RepFrom.{RepFrom, rep_from, IsKept, IsResumed}, Said.{ShowsBy, leaving_by, showing_by}, SaidActs.{leaver_leaves}, ShownFrom.{ShownAs, IsPlanned}, Stops.{writer_about}, Unclosed.{had_to}, Waiters.{waiter_of, doomed_same, case_same}, WriterEnds.{all_stored}, GroupStops.{IsAll}, Step.{Step}}
 use Rattle.hc_effects.proofs.BoundFrom as from
 use Rattle.hc_effects.proofs.Fills as fills_by
 use Rattle.hc_effects.proofs.FoundBy as cases
@@ -157,9 +157,9 @@ module _ (step : Step) (m : Measures step.tables) (real : IsReal step.limits ste
       shared_lost : is_written t v ≡ true → (x : ℕ) → v.writer ≡ Some x → loses_in r e.acts ≡ true → Served
       shared_lost on x writer loses = elim (bool_cases (brings_body ev)) [
         | inl brings ↦
-            let losing : loses_writing t e r v ≡ true = and_both _ _ (and_both _ _ brings loses) on in
+            let losing : loses_group t e r v ≡ true = and_both _ _ (and_both _ _ brings loses) on in
             let loss : cause_by_loss t e c r (Some v) ≡ None = sym (ap (Rattle.hc_model.specs.Failures.cause_of_loss t e c) at ∙ ap (cause_by_loss t e c r) there) ∙ (undue_parts t e c k undue).loss in
-            let is : survivor t r v ≡ Some c = number_is (survivor t r v) c (survives (loses_writing t e r v) (is_number (survivor t r v) c) _ losing loss) in
+            let is : survivor t r v ≡ Some c = number_is (survivor t r v) c (survives (loses_group t e r v) (is_number (survivor t r v) c) _ losing loss) in
             let all = lost_alone r v p there kept loses in
             alone_now all.0 (all.1 ∙ (rw losing is))
         | inr other ↦
@@ -204,7 +204,7 @@ module _ (step : Step) (m : Measures step.tables) (real : IsReal step.limits ste
       alone_or_rest : is_written t v ≡ false → loses_in r e.acts ≡ true → Served
       alone_or_rest off loses =
           let all = lost_alone r v p there kept loses in
-          let unlosing : loses_writing t e r v ≡ false = (rw off (and_off (brings_body ev && loses_in r e.acts))) in
+          let unlosing : loses_group t e r v ≡ false = (rw off (and_off (brings_body ev && loses_in r e.acts))) in
           elim (goes_on_or_rests t r c v k s there reader none_due off (fresh step m real r v there loses)) [
             | inl is ↦ alone_now all.0 (all.1 ∙ (rw unlosing is))
             | inr rest ↦ still_reads rest.hi rest.end rest.covered
@@ -332,9 +332,9 @@ module _ (step : Step) (m : Measures step.tables) (real : IsReal step.limits ste
             by_writer q kept one (inl same) = same ∙ (ap (λ (a : Representation). a.writer) one ∙ writer)
             by_writer q kept one (inr R) = absurd (let no : event.Head R.x R.response ≡ event.Poll z.c shows.want = sym R.at ∙ shows.poll.at in cc)
 
-        by_writing : (v : Representation) → t.representation r ≡ Some v → is_written t v ≡ true → (x : Option ℕ) → v.writer ≡ x → RepFrom t e r p → Served
-        by_writing v there on None writer from_it = absurd (writer_some t v on writer)
-        by_writing v there on (Some x) writer from_it = joins_on v there on x writer from_it
+        by_writer_group : (v : Representation) → t.representation r ≡ Some v → is_written t v ≡ true → (x : Option ℕ) → v.writer ≡ x → RepFrom t e r p → Served
+        by_writer_group v there on None writer from_it = absurd (writer_some t v on writer)
+        by_writer_group v there on (Some x) writer from_it = joins_on v there on x writer from_it
 
         covered_by : (v : Representation) (span : Span) → first_hole v.stored v.reach span ≡ None → Covers v.stored span.lo span.hi
         covered_by v span none = covers_all v.stored v.reach span.lo span.hi (by_test (covers v.stored v.reach span.lo span.hi) refl)
@@ -354,7 +354,7 @@ module _ (step : Step) (m : Measures step.tables) (real : IsReal step.limits ste
             reads_to span.hi span.lo (end_is p.head.total refl ∙ ap (λ a. option_or a p.head.total) (sym all.to ∙ to)) (stored_covers r span.lo span.hi q p kept all_q) (omega arith)
 
         by_plan : ShownAs t now z.c k z.r z.lo z.hi → RepFrom t e r p → Served
-        by_plan (shown_as.joins v current_is there on from_is to) from_it = by_writing v (sym (ap t.representation all.of_r) ∙ there) on v.writer refl from_it
+        by_plan (shown_as.joins v current_is there on from_is to) from_it = by_writer_group v (sym (ap t.representation all.of_r) ∙ there) on v.writer refl from_it
         by_plan (shown_as.stored v span current_is there off wanted_is none from_is to) from_it = rest_by v span (sym (ap t.representation all.of_r) ∙ there) (covered_by v span none) from_is to from_it
 
     -- BY FOUNDING

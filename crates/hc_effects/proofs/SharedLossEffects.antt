@@ -7,11 +7,11 @@
 use Rattle.std.{proofs.{lemmas.Bool.Decides.{nat_tests}, Common.{arith, ◌≡◌, inl, inr, ℕ, ◌+◌, List, [], ◌∷◌, ◌++◌, Bool, true, false, Option, Some, None, refl, ap, sym, ◌∙◌, subst}}, specs.{Prelude.{◌&&◌, ◌||◌, ◌==◌, not, nat_eq, length, is_some, is_none, if◌then◌else◌, map, filter, reverse, option_map}, Option.{option_or}}}
 use mathlib.Core.Path.{fun_ext}
 use Rattle.hc_text.proofs.Basics.{both_true as and_both, eqb-same, not_some as none_some, or_none as or_nothing, same_some as same_row, some_inj, and_off as then_false}
-use Rattle.hc_effects.proofs.Vocabulary.{act, cause, place, Cause, LostKind, piece_refusal, Limits, Place, BoundBy, loses_in, loss_acts, closing, closes_row, has_no_survivor, own_after, left_to, is_number, denial, as_open, Does, with_event, with_exchange, with_representation, left_with, if_bound, writing_lost, let_go, let_all_go, over, all_closed, lost_to, unless_reached, Entry, with_piece, family, front, becomes_due, cause_of_loss, cause_by_loss, Flaw, Loses, beside, becomes_gone, Lawful, is_bound_place, is_written, reads, with_stored_bytes, Tables, Exchange, Representation, Consumer, with_item_first, evicted, survivor, loses_writing}
+use Rattle.hc_effects.proofs.Vocabulary.{act, cause, place, Cause, LostKind, piece_refusal, Limits, Place, BoundBy, loses_in, loss_acts, closing, closes_row, has_no_survivor, own_after, left_to, is_number, denial, as_open, Does, with_event, with_exchange, with_representation, left_with, if_bound, group_lost, let_go, let_all_go, over, all_closed, lost_to, unless_reached, Entry, with_piece, family, front, becomes_due, cause_of_loss, cause_by_loss, Flaw, Loses, beside, becomes_gone, Lawful, is_bound_place, is_written, reads, with_stored_bytes, Tables, Exchange, Representation, Consumer, with_item_first, evicted, survivor, loses_group}
 use Rattle.hc_event.specs.declared.event.Event.TheVariants as event
 use Rattle.hc_rules.specs.Refusals as refusals
 use Rattle.hc_model.specs.Sound as sound
-use Rattle.hc_effects.proofs.{ApartKeeps.{is_on}, Basics.{false_true, number_yes}, Closed.{reversed}, Dues.{stop_none}, FewClosings.{ClosesLittle, closes_nothing}, Frames.{undoomed}, OfConsumers.{one_of, descends_once}, Once.{IsTaken, taken}, ExclusiveWriters.{writer_some}, PieceEffects.{it, piece_goes, piece_brings, rows_by, lost_row}, PieceKeeps.{eq_cases}, SameTables.{is_in, back_from_any, all_closed_is}, Stops.{writer_about}, Sums.{reverse_once}, Tests.{and_false}, ToldFrames.{pieces, says_little, beside_same, consumer_by, told_by, told_does}, Untouched.{IsSpared, loss_spared}, ActParts.{leaver_lost}}
+use Rattle.hc_effects.proofs.{ApartKeeps.{is_on}, Basics.{false_true, number_yes}, Closed.{reversed}, Dues.{stop_none}, FewClosings.{ClosesLittle, closes_nothing}, Frames.{undoomed}, OfConsumers.{one_of, descends_once}, Once.{IsTaken, taken}, ExclusiveWriters.{writer_some}, PieceEffects.{it, piece_goes, piece_brings, rows_by, lost_row}, PieceKeeps.{eq_cases}, SameTables.{is_in, back_from_any, all_closed_is}, Stops.{writer_about}, Sums.{reverse_once}, Tests.{and_false}, ReportedFrames.{pieces, says_little, beside_same, consumer_by, reported_by, reported_does}, Untouched.{IsSpared, loss_spared}, ActParts.{leaver_lost}}
 
 module _ (limits : Limits) (t : Tables) (law : Lawful t) (now x : ℕ) (bytes : List ℕ) (w : Exchange) (row : t.exchange x ≡ Some w) (accepts : denial t (event.Piece x bytes) ≡ None) (r : ℕ) (v : Representation) (of_r : family x w ≡ r) (there : t.representation r ≡ Some v) (kind : LostKind) (on : is_written t v ≡ true) where
   abbrev ev : Rattle.hc_event.specs.declared.event.Event.Event
@@ -47,7 +47,7 @@ module _ (limits : Limits) (t : Tables) (law : Lawful t) (now x : ℕ) (bytes : 
   kept : v.is_lost ≡ false
   kept = (is_on t v x on writer_is).kept
 
-  loses_it : (acts : List _) → loses_writing t (record { now = now; event = ev; acts = act.Lost r kind ∷ acts }) r v ≡ true
+  loses_it : (acts : List _) → loses_group t (record { now = now; event = ev; acts = act.Lost r kind ∷ acts }) r v ≡ true
   loses_it acts = rw (eqb-same r, on) refl
 
   -- CONSUMERS
@@ -56,7 +56,7 @@ module _ (limits : Limits) (t : Tables) (law : Lawful t) (now x : ℕ) (bytes : 
   made_by o c z = option_map (if_bound r (left_with r o (Some x) c)) z
 
   abbrev after_by : Option ℕ → Tables → Tables
-  after_by o u = with_representation r (Some (lost_to o (with_stored_bytes false (front w) x bytes v))) (writing_lost r o (Some x) u)
+  after_by o u = with_representation r (Some (lost_to o (with_stored_bytes false (front w) x bytes v))) (group_lost r o (Some x) u)
 
   module _ (xs : List ℕ) where
     -- nothing else becomes due than by the loss
@@ -70,7 +70,7 @@ module _ (limits : Limits) (t : Tables) (law : Lawful t) (now x : ℕ) (bytes : 
     abbrev made : ℕ → Option Consumer → Option Consumer
     made c z = made_by detached_reader c z
 
-    loses_other : (q : ℕ) (u : Representation) → nat_eq r q ≡ false → loses_writing t (e xs) q u ≡ false
+    loses_other : (q : ℕ) (u : Representation) → nat_eq r q ≡ false → loses_group t (e xs) q u ≡ false
     loses_other q u apart = rw apart (by_list xs)
       where
         by_list : (ys : List ℕ) → (loses_in q (map act.Close ys) && is_written t u) ≡ false
@@ -145,8 +145,8 @@ module _ (limits : Limits) (t : Tables) (law : Lawful t) (now x : ℕ) (bytes : 
 
       pub loses_shared : Does limits t now ev flaw (map act.Evicted es ++ (act.Lost r kind ∷ map act.Close xs)) (with_event now ev (let_all_go now es (let_go now r (after_by detached_reader (all_closed xs (with_exchange x (Some (with_piece bytes w)) t))))))
       loses_shared =
-          told_does t now ev (pieces x bytes) flaw xs limits law accepts (let_go now r (after_by detached_reader (all_closed xs (with_exchange x (Some (with_piece bytes w)) t)))) closes
-          (told_by t now ev (pieces x bytes) flaw xs (r ∷ []) (λ y. if is_in xs y then option_map over (if x == y then Some (with_piece bytes w) else t.exchange y) else (if x == y then Some (with_piece bytes w) else t.exchange y))
+          reported_does t now ev (pieces x bytes) flaw xs limits law accepts (let_go now r (after_by detached_reader (all_closed xs (with_exchange x (Some (with_piece bytes w)) t)))) closes
+          (reported_by t now ev (pieces x bytes) flaw xs (r ∷ []) (λ y. if is_in xs y then option_map over (if x == y then Some (with_piece bytes w) else t.exchange y) else (if x == y then Some (with_piece bytes w) else t.exchange y))
           (λ q. if r == q then Some (lost_to detached_reader (with_stored_bytes false (front w) x bytes v)) else t.representation q) (λ c. made c (t.consumer c))
           (piece_brings limits t law now x bytes w row flaw xs)
           (rows_by limits t law now x bytes w row flaw xs (r ∷ []) r v (lost_to detached_reader (with_stored_bytes false (front w) x bytes v)) of_r there goes (λ q apart. rw apart refl)
@@ -169,7 +169,7 @@ module _ (limits : Limits) (t : Tables) (law : Lawful t) (now x : ℕ) (bytes : 
 
     -- it has the exchange for its own, and the others fail
     pub goes_on : Does limits t now ev flaw (map act.Evicted (evicted limits t now ev) ++ (act.Lost r kind ∷ []))
-        (with_event now ev (let_all_go now (evicted limits t now ev) (let_go now r (with_representation r (Some (lost_to (Some d) (with_stored_bytes false (front w) x bytes v))) (writing_lost r (Some d) (Some x) (with_exchange x (Some (with_piece bytes w)) t))))))
+        (with_event now ev (let_all_go now (evicted limits t now ev) (let_go now r (with_representation r (Some (lost_to (Some d) (with_stored_bytes false (front w) x bytes v))) (group_lost r (Some d) (Some x) (with_exchange x (Some (with_piece bytes w)) t))))))
     goes_on =
         subst (λ (o : Option ℕ). Does limits t now ev flaw (map act.Evicted (evicted limits t now ev) ++ (act.Lost r kind ∷ [])) (with_event now ev (let_all_go now (evicted limits t now ev) (let_go now r (after_by o (with_exchange x (Some (with_piece bytes w)) t)))))) survives
         (loses_shared [] (closes_nothing t (record { now = now; event = ev; acts = loss_acts flaw }) little (leaver_lost flaw)) (λ q shut. absurd (false_true shut)))
@@ -208,10 +208,10 @@ module _ (limits : Limits) (t : Tables) (law : Lawful t) (now x : ℕ) (bytes : 
         some_writes : (q : ℕ) (z : Option Representation) → t.representation q ≡ z → nat_eq x y ≡ false → has_no_survivor t b y q z ≡ false
         some_writes q None is other = refl
         some_writes q (Some u) is other = elim (eq_cases r q) [
-          | inr apart ↦ and_false _ (is_none (survivor t q u)) (then_false (is_number u.writer y) (loses_writing t (e []) q u) (loses_other [] q u apart.0))
+          | inr apart ↦ and_false _ (is_none (survivor t q u)) (then_false (is_number u.writer y) (loses_group t (e []) q u) (loses_other [] q u apart.0))
           | inl same ↦
               let writes : is_number u.writer y ≡ false = ap (λ (p : Representation). is_number p.writer y) (same_row (t.representation q) u v is (sym (ap t.representation same.1) ∙ there)) ∙ (ap (λ o. is_number o y) writer_is ∙ other) in
-              and_false _ (is_none (survivor t q u)) (and_false (is_number u.writer y) (loses_writing t b q u) writes)
+              and_false _ (is_none (survivor t q u)) (and_false (is_number u.writer y) (loses_group t b q u) writes)
         ]
 
         by_row : (z : Option Exchange) → nat_eq x y ≡ false → closes_row t b y z ≡ is_number left y
@@ -237,7 +237,7 @@ module _ (limits : Limits) (t : Tables) (law : Lawful t) (now x : ℕ) (bytes : 
 
     -- all fail, and the exchange is closed that this piece leaves open
     pub all_fail : Does limits t now ev flaw (map act.Evicted (evicted limits t now ev) ++ (act.Lost r kind ∷ map act.Close (unless_reached x bytes w)))
-        (with_event now ev (let_all_go now (evicted limits t now ev) (let_go now r (with_representation r (Some (lost_to None (with_stored_bytes false (front w) x bytes v))) (writing_lost r None (Some x) (all_closed (unless_reached x bytes w) (with_exchange x (Some (with_piece bytes w)) t)))))))
+        (with_event now ev (let_all_go now (evicted limits t now ev) (let_go now r (with_representation r (Some (lost_to None (with_stored_bytes false (front w) x bytes v))) (group_lost r None (Some x) (all_closed (unless_reached x bytes w) (with_exchange x (Some (with_piece bytes w)) t)))))))
     all_fail =
         subst (λ (o : Option ℕ). Does limits t now ev flaw (map act.Evicted (evicted limits t now ev) ++ (act.Lost r kind ∷ map act.Close (unless_reached x bytes w))) (with_event now ev (let_all_go now (evicted limits t now ev) (let_go now r (after_by o (all_closed (unless_reached x bytes w) (with_exchange x (Some (with_piece bytes w)) t))))))) nobody
         (loses_shared (unless_reached x bytes w) closing_is only_it)

@@ -24,7 +24,7 @@ pub record IsCandidate (t : Tables) (k : Consumer) (s : Candidate) : Type 0 wher
   pub row : t.representation r ≡ Some v
   pub span_is : s.span ≡ wanted_of (range_of k.request) v.head.total
   pub hole_is : s.hole ≡ hole_of v s.span
-  pub writing_is : s.writing ≡ is_written t v
+  pub writer_group_is : s.writer_group ≡ is_written t v
   pub least_is : s.least_bound ≡ least (bound t r)
   pub exclusive_is : s.exclusive ≡ exclusive t r v
 
@@ -40,7 +40,7 @@ module _ (t : Tables) (now c : ℕ) (k : Consumer) where
         row = row;
         span_is = sym (ap (λ (z : Candidate). z.span) same);
         hole_is = sym (ap (λ (z : Candidate). z.hole) same) ∙ ap (λ (z : Candidate). hole_of v z.span) same;
-        writing_is = sym (ap (λ (z : Candidate). z.writing) same);
+        writer_group_is = sym (ap (λ (z : Candidate). z.writer_group) same);
         least_is = sym (ap (λ (z : Candidate). z.least_bound) same);
         exclusive_is = sym (ap (λ (z : Candidate). z.exclusive) same);
       }
@@ -83,7 +83,7 @@ module _ (t : Tables) (now c : ℕ) (k : Consumer) where
     stored_shows q y ranged a b None is = absurd (nothing_shows is)
     stored_shows q y ranged a b (Some v) is = record { number = cc; from = cc; to = cc }
 
-    joined : (y : Why) (s : plans.JoinsWriting (plan_view t now c k)) (o : Option ℕ) → current t k.request.key ≡ o → binds_current t k y None o ≡ show → ShownAs r lo hi × IsFreeOf r
+    joined : (y : Why) (s : plans.JoinsGroup (plan_view t now c k)) (o : Option ℕ) → current t k.request.key ≡ o → binds_current t k y None o ≡ show → ShownAs r lo hi × IsFreeOf r
     joined y j None at is = absurd (nothing_shows is)
     joined y j (Some q) at is =
         let a = candidate_is j.s j.current in
@@ -92,7 +92,7 @@ module _ (t : Tables) (now c : ℕ) (k : Consumer) where
         let same : a.r ≡ r = sym one ∙ shown.number in
         let row : t.representation r ≡ Some a.v = ap t.representation (sym same) ∙ a.row in
         let total : total_in (t.representation q) ≡ a.v.head.total = ap total_in (ap t.representation one ∙ a.row) in
-        let on : is_written t a.v ≡ true = sym a.writing_is ∙ j.writing in (
+        let on : is_written t a.v ≡ true = sym a.writer_group_is ∙ j.writer_group in (
           joins a.v (at ∙ ap Some shown.number) row on (sym shown.from) (sym shown.to ∙ total),
           λ v there off. absurd (false_true (sym off ∙ (ap (is_written t) (same_row (t.representation r) v a.v there row) ∙ on))),
         )
@@ -106,7 +106,7 @@ module _ (t : Tables) (now c : ℕ) (k : Consumer) where
         let same : a.r ≡ r = sym one ∙ shown.number in
         let row : t.representation r ≡ Some a.v = ap t.representation (sym same) ∙ a.row in
         let hole : first_hole a.v.stored a.v.reach span ≡ None = sym (ap (hole_of a.v) j.wanted_is) ∙ (sym a.hole_is ∙ j.hole_is) in (
-          stored a.v span (at ∙ ap Some shown.number) row (sym a.writing_is ∙ j.unwritten) (sym a.span_is ∙ j.wanted_is) hole (sym shown.from) (sym shown.to),
+          stored a.v span (at ∙ ap Some shown.number) row (sym a.writer_group_is ∙ j.unwritten) (sym a.span_is ∙ j.wanted_is) hole (sym shown.from) (sym shown.to),
           λ v there off. ap (exclusive t r) (same_row (t.representation r) v a.v there row) ∙ (ap (λ n. exclusive t n a.v) (sym same) ∙ (sym a.exclusive_is ∙ j.nobody)),
         )
 

@@ -9,7 +9,7 @@ use Rattle.hc_text.proofs.Basics.{cond_true, same_some as same_row}
 use Rattle.hc_range.specs.declared.range.Span.{Span}
 use Rattle.hc_effects.proofs.Vocabulary.{given_in, Event, Act, Plan, ReadStep, read_step, Place, Move, Shows, Gives, acts_of, gives, plan_move, poll_move, move_of, by_place, shows_head, shows_at, waits_for_head, or_else, Tables, Consumer, step_move, later_hole, read_view, Limits, accepted_acts, poll_acts, loss_acts, closing, Flaw, Misreads, Shown, first, shown_in, own_open, if_headless, act, place}
 use Rattle.hc_event.specs.declared.event.Event.TheVariants as event
-use Rattle.hc_effects.proofs.{Named.{IsFar, far_told, far_poll, far_closes, far_lost}, PieceKeeps.{eq_cases}, ReadFilters.{shows_are}, MoveWords.{at_as, hole_as, move_as, step_as, waits_as}}
+use Rattle.hc_effects.proofs.{Named.{IsFar, far_reported, far_poll, far_closes, far_lost}, PieceKeeps.{eq_cases}, ReadFilters.{shows_are}, MoveWords.{at_as, hole_as, move_as, step_as, waits_as}}
 
 -- A MOVE THAT SHOWS, AND ONE THAT GIVES
 
@@ -116,4 +116,4 @@ module _ (limits : Limits) (t : Tables) (now c : ℕ) (flaw : Flaw) where
         subst (λ n. IsShownWell t c (poll_acts t now want n flaw ++ rest)) (sym here.1) (well_poll t now want c flaw rest (unshown_of c rest f) f.gives)
   ]
   by_event (event.Cancel d) = well_far t c _ (far_closes c (closing t (record { now = now; event = event.Cancel d; acts = loss_acts flaw })) (loss_acts flaw) (far_lost c flaw))
-  by_event ev = well_far t c _ (far_told limits t now c flaw ev)
+  by_event ev = well_far t c _ (far_reported limits t now c flaw ev)

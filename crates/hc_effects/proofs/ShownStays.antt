@@ -169,7 +169,7 @@ module _ (step : Step) where
 
   -- WHO IS SHOWN ONE
 
-  module _ (c want : ℕ) (k : Consumer) (row : t.consumer c ≡ Some k) (at : ev ≡ event.Poll c want) (r : ℕ) (why : Why) (head : Response) (lo : ℕ) (hi : Option ℕ) (move_is : move_of t now want c k ≡ Shows r why head lo hi) (told : showing_in e.acts ≡ Some (record { c = c; r = r; lo = lo; hi = hi })) where
+  module _ (c want : ℕ) (k : Consumer) (row : t.consumer c ≡ Some k) (at : ev ≡ event.Poll c want) (r : ℕ) (why : Why) (head : Response) (lo : ℕ) (hi : Option ℕ) (move_is : move_of t now want c k ≡ Shows r why head lo hi) (reported : showing_in e.acts ≡ Some (record { c = c; r = r; lo = lo; hi = hi })) where
     one_move : (d n : ℕ) (q : Consumer) → ev ≡ event.Poll d n → t.consumer d ≡ Some q → (c ≡ d) × (move_of t now n d q ≡ Shows r why head lo hi)
     one_move d n q is there = grind (arith, nat_tests)
 
@@ -205,7 +205,7 @@ module _ (step : Step) where
         let no_opening : opening_in e.acts ≡ None = opens_none (opening_in e.acts) refl in
         let waits : waiting_place t (consumer_heard t e c ev k) (wait_in c e.acts) ≡ k.place = ap (waiting_place t (consumer_heard t e c ev k)) no_wait ∙ ap (λ (q : Consumer). q.place) heard in
         let opened_as : (by_opening t c (opening_in e.acts) (waiting t e c (consumer_heard t e c ev k))).place ≡ k.place = ap (λ z. (by_opening t c z (waiting t e c (consumer_heard t e c ev k))).place) no_opening ∙ waits in
-        left_lands (leaves_in c e.acts) _ (rw told (shown_lands _ opened_as))
+        left_lands (leaves_in c e.acts) _ (rw reported (shown_lands _ opened_as))
 
     settled_lands : (over : Bool) (q : Consumer) → lands q.place → lands (cond over (back_in_line e.now q) (due_after t e c k q)).place
     settled_lands true q st = back tt

@@ -22,19 +22,19 @@ module _ (limits : Limits) (t : Tables) (now : ℕ) (ev : Event) (flaw : Flaw) (
   abbrev closings : List ℕ
   closings = closing t (record { now = now; event = ev; acts = answer_acts t now ev flaw ++ loss_acts flaw })
 
-  far_told : IsFarFrom c (loss_acts flaw ++ close_acts t now ev flaw)
-  far_told = far_loss c flaw _ (far_closed c closings)
+  far_reported : IsFarFrom c (loss_acts flaw ++ close_acts t now ev flaw)
+  far_reported = far_loss c flaw _ (far_closed c closings)
 
   far_asked : IsFarFrom c (answer_acts t now ev flaw ++ (close_acts t now ev flaw ++ loss_acts flaw))
   far_asked = far_said c t now ev flaw (answer_acts t now ev flaw) _ apart (said_is t now ev flaw) (far_closing c closings _ (far_lost_only c flaw))
 
   far_answer : (acts : List Act) → IsAnswer limits t now ev flaw acts → IsFarFrom c acts
-  far_answer _ (parts.told silent) = far_evicted c (evicted limits t now ev) _ far_told
+  far_answer _ (parts.reported silent) = far_evicted c (evicted limits t now ev) _ far_reported
   far_answer _ parts.asked = far_asked
 
   far_if : (b : Bool) → IsFarFrom c (if b then answer_acts t now ev flaw ++ (close_acts t now ev flaw ++ loss_acts flaw) else loss_acts flaw ++ close_acts t now ev flaw)
   far_if true = far_asked
-  far_if false = far_told
+  far_if false = far_reported
 
   pub far_by : (e : Entry) → IsEntry limits t now ev flaw e → IsFarFrom c e.acts
   far_by _ frames.whole = far_answer (accepted_acts limits t now ev flaw) (answer_is limits t now ev flaw)

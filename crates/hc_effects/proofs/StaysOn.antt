@@ -38,6 +38,6 @@ module _ (t : Tables) (e : Entry) (c : ℕ) where
 
 -- who isn't told to wait for others waits where it stands
 pub waits_where : (t : Tables) (k : Consumer) (z : Option Wait) → ((w : Wait) → IsForOthers w → z ≡ Some w → ⊥) → waiting_place t k z ≡ k.place
-waits_where t k (Some (wait.Turn d)) told_not = absurd (told_not (wait.Turn d) (waited.turn d) refl)
-waits_where t k (Some (wait.Busy d)) told_not = absurd (told_not (wait.Busy d) (waited.busy d) refl)
-waits_where t k _ told_not = refl
+waits_where t k (Some (wait.Turn d)) reported_not = absurd (reported_not (wait.Turn d) (waited.turn d) refl)
+waits_where t k (Some (wait.Busy d)) reported_not = absurd (reported_not (wait.Busy d) (waited.busy d) refl)
+waits_where t k _ reported_not = refl

@@ -9,7 +9,7 @@ use Rattle.hc_text.proofs.Basics.{eqb-same, same_some as same_row}
 use Rattle.hc_effects.proofs.Vocabulary.{cause, event, Event, Response, Limits, consumer_after, consumer_heard, consumer_acted, consumer_settled, by_fault, is_number, denial, Does, with_event, with_consumer, with_exchange, with_due, put_down, over, at_end, going_with, Entry, family, promised_bytes, short_of, NoFlaw, beside, becomes_gone, Lawful, Awaits, IsAwaiting, reads, representation_after, Tables, Exchange, Representation, Consumer, starts_over}
 use Rattle.hc_event.specs.declared.place.Place.TheVariants as place
 use Rattle.hc_model.specs.Owners as owners
-use Rattle.hc_effects.proofs.{Basics.{true_false, false_true}, Frames.{undoomed}, PieceKeeps.{eq_cases}, PollEffects.{none_waits}, SameTables.{is_in, waits_for_any, back_from_any}, Standing.{acted}, StopFrames.{Stops, end_stops, fault_stops, end_of, fault_of, reads_own, it, goes_with, row_by, unhit, fails, stop_does, others_by}, ToldFrames.{far, starts_is}}
+use Rattle.hc_effects.proofs.{Basics.{true_false, false_true}, Frames.{undoomed}, PieceKeeps.{eq_cases}, PollEffects.{none_waits}, SameTables.{is_in, waits_for_any, back_from_any}, Standing.{acted}, StopFrames.{Stops, end_stops, fault_stops, end_of, fault_of, reads_own, it, goes_with, row_by, unhit, fails, stop_does, others_by}, ReportedFrames.{far, starts_is}}
 
 -- a fault says nothing to who isn't put down by it
 pub fault_unheard : (c x : ℕ) (w : Exchange) (k : Consumer) (z : Option Exchange) → z ≡ Some w → (w.c == c && is_none w.head && not k.shown) ≡ false → by_fault c x z k ≡ k
@@ -133,14 +133,14 @@ module _ (limits : Limits) (t : Tables) (law : Lawful t) (now x : ℕ) (w : Exch
 
       starts : starts_over t entry w.c k ≡ false
       starts =
-          starts_is t now (event.Fault x) s.is_told NoFlaw [] law [] (nothing_goes limits t law now x w row on (event.Fault x) s unfounded_bare) w.c k here
+          starts_is t now (event.Fault x) s.is_reported NoFlaw [] law [] (nothing_goes limits t law now x w row on (event.Fault x) s unfounded_bare) w.c k here
           ∙ rw (undoomed t entry refl) (none_waits k.place)
 
       becomes : consumer_after t entry w.c (Some k) ≡ Some (put_down (cause.Net x) k)
       unfolding consumer_after
       becomes =
           ap (λ h. Some (consumer_settled t entry w.c k (consumer_acted t entry w.c h))) heard
-          ∙ (ap (λ q. Some (consumer_settled t entry w.c k q)) (acted t entry w.c (record k { place = place.Down (cause.Net x) }) (far t now (event.Fault x) s.is_told NoFlaw [] w.c))
+          ∙ (ap (λ q. Some (consumer_settled t entry w.c k q)) (acted t entry w.c (record k { place = place.Down (cause.Net x) }) (far t now (event.Fault x) s.is_reported NoFlaw [] w.c))
           ∙ rw starts refl)
 
       -- who was shown nothing is put down

@@ -6,12 +6,12 @@
 -- (`row_by`). Who reads from it fails, and nobody else (`unhit`). `stop_does` joins this into the tables.
 use Rattle.std.{proofs.{lemmas.Bool.Decides.{nat_tests}, Common.{arith, ◌≡◌, inl, inr, ℕ, List, [], ◌++◌, Bool, true, false, Option, Some, None, refl, ap, sym, ◌∙◌}}, specs.{Prelude.{◌&&◌, ◌||◌, ◌==◌, not, nat_eq, length, is_some, if◌then◌else◌, option_map}, Option.{option_or}}}
 use Rattle.hc_text.proofs.Basics.{bool_cases, eqb-same, not_some as none_some, or_none as or_nothing, same_some as same_row, and_off as then_false}
-use Rattle.hc_effects.proofs.Vocabulary.{brings_whole, Act, Cause, Event, is_same_number, Limits, Place, loses_in, loss_acts, closing, leaver, consumer_after, consumer_heard, own_after, is_current, is_number, denial, doomed_key_of, Does, with_event, with_exchange, failing, let_all_go, as_gone, over, at_end, going_with, Entry, entry_without_acts, exchange_heard, family, exchange_in, becomes_due, cause_of_stop, cause_of_head, stop_cause, short_cause, Flaw, beside, becomes_gone, ends_early, ends_founding, stops_early, is_short, is_keepable, Lawful, is_bound_place, is_written, own_open, shared_exchange, source, writing_in, reads, representation_after, representation_heard, with_total_if_none, length_in, Tables, Exchange, Representation, Consumer, write_in, brings_body, cause, place}
+use Rattle.hc_effects.proofs.Vocabulary.{brings_whole, Act, Cause, Event, is_same_number, Limits, Place, loses_in, loss_acts, closing, leaver, consumer_after, consumer_heard, own_after, is_current, is_number, denial, doomed_key_of, Does, with_event, with_exchange, failing, let_all_go, as_gone, over, at_end, going_with, Entry, entry_without_acts, exchange_heard, family, exchange_in, becomes_due, cause_of_stop, cause_of_head, stop_cause, short_cause, Flaw, beside, becomes_gone, ends_early, ends_founding, stops_early, is_short, is_keepable, Lawful, is_bound_place, is_written, own_open, shared_exchange, source, group_in, reads, representation_after, representation_heard, with_total_if_none, length_in, Tables, Exchange, Representation, Consumer, write_in, brings_body, cause, place}
 use Rattle.hc_event.specs.declared.event.Event.TheVariants as event
 use Rattle.hc_rules.specs.Refusals as refusals
 use Rattle.hc_model.specs.Sound as sound
-use Rattle.hc_effects.proofs.{AboutKeeps.{own_open_of, own_open_is}, Basics.{false_true, number_is}, FewClosings.{closes_nothing, quiet_closes}, Frames.{undoomed, may_doom}, KeyActs.{test_some}, PieceKeeps.{eq_cases}, SameTables.{is_in, back_from_any}, Stops.{source_is}, Tests.{and_false}, ToldFrames.{IsTold, says_little, exchange_one, goes_as, closes_as, representation_by, representation_none, beside_same, consumer_by, told_by, told_plainly}, Untouched.{IsSpared, own_stays, loss_spared, spared_bodiless}}
-use Rattle.hc_effects.proofs.ToldFrames as told
+use Rattle.hc_effects.proofs.{AboutKeeps.{own_open_of, own_open_is}, Basics.{false_true, number_is}, FewClosings.{closes_nothing, quiet_closes}, Frames.{undoomed, may_doom}, KeyActs.{test_some}, PieceKeeps.{eq_cases}, SameTables.{is_in, back_from_any}, Stops.{source_is}, Tests.{and_false}, ReportedFrames.{IsReceived, says_little, exchange_one, goes_as, closes_as, representation_by, representation_none, beside_same, consumer_by, reported_by, reported_plainly}, Untouched.{IsSpared, own_stays, loss_spared, spared_bodiless}}
+use Rattle.hc_effects.proofs.ReportedFrames as reported
 
 -- WHAT STOPS
 
@@ -22,7 +22,7 @@ pub data IsStop (x : ℕ) : Event → Type 0 where
 
 -- what becomes of it, why that is less than it should be, what becomes of what it founded, and whether that ends early
 pub record Stops (t : Tables) (now x : ℕ) (w : Exchange) (ev : Event) : Type 0 where
-  pub is_told : IsTold ev
+  pub is_reported : IsReceived ev
   pub names : exchange_in ev ≡ Some x
   pub bodiless : brings_body ev ≡ false
   pub calm : may_doom ev ≡ false
@@ -40,7 +40,7 @@ pub record Stops (t : Tables) (now x : ℕ) (w : Exchange) (ev : Event) : Type 0
 
 abbrev pub end_stops : (t : Tables) (now x : ℕ) (w : Exchange) → t.exchange x ≡ Some w → Stops t now x w (event.End x)
 end_stops t now x w row = record {
-  is_told = told.ends x;
+  is_reported = reported.ends x;
   names = refl;
   bodiless = refl;
   calm = refl;
@@ -62,7 +62,7 @@ end_stops t now x w row = record {
 
 abbrev pub fault_stops : (t : Tables) (now x : ℕ) (w : Exchange) → Stops t now x w (event.Fault x)
 fault_stops t now x w = record {
-  is_told = told.faults x;
+  is_reported = reported.faults x;
   names = refl;
   bodiless = refl;
   calm = refl;
@@ -117,7 +117,7 @@ module _ (t : Tables) (law : Lawful t) (x : ℕ) (w : Exchange) (row : t.exchang
     pub written : is_written t v ≡ true
     pub writer : v.writer ≡ Some x
 
-  shared_row : (k : Consumer) (q : ℕ) (z : Option Representation) → t.representation q ≡ z → is_bound_place q k.place ≡ true → writing_in t z ≡ Some x → IsShared k
+  shared_row : (k : Consumer) (q : ℕ) (z : Option Representation) → t.representation q ≡ z → is_bound_place q k.place ≡ true → group_in t z ≡ Some x → IsShared k
   shared_row k q None there bound_it is = absurd (none_some x is)
   shared_row k q (Some v) there bound_it is = let both = test_some (is_written t v) v.writer x is in record { q = q; v = v; bound_it = bound_it; there = there; written = both.0; writer = both.1 }
 
@@ -183,7 +183,7 @@ module _ (t : Tables) (law : Lawful t) (x : ℕ) (w : Exchange) (row : t.exchang
 
 module _ (limits : Limits) (t : Tables) (law : Lawful t) (now x : ℕ) (w : Exchange) (row : t.exchange x ≡ Some w) (on : w.is_open ≡ true) (ev : Event) (s : Stops t now x w ev) (flaw : Flaw) where
   abbrev pub it : Entry
-  it = told.e t now ev s.is_told flaw []
+  it = reported.e t now ev s.is_reported flaw []
 
   abbrev b : Entry
   b = record { now = now; event = ev; acts = loss_acts flaw }
@@ -195,7 +195,7 @@ module _ (limits : Limits) (t : Tables) (law : Lawful t) (now x : ℕ) (w : Exch
   leaves_none = grind (arith, nat_tests)
 
   closes_none : closing t b ≡ []
-  closes_none = closes_nothing t b (quiet_closes t b ((says_little t now ev s.is_told).caseless (loss_acts flaw)) (doomless (loss_acts flaw)) s.bodiless) leaves_none
+  closes_none = closes_nothing t b (quiet_closes t b ((says_little t now ev s.is_reported).caseless (loss_acts flaw)) (doomless (loss_acts flaw)) s.bodiless) leaves_none
 
   -- what goes: what is lost, and what it founded, where that is early and can't be completed
   abbrev pub going : Option ℕ
@@ -203,7 +203,7 @@ module _ (limits : Limits) (t : Tables) (law : Lawful t) (now x : ℕ) (w : Exch
 
   pub goes_with : (q : ℕ) (v : Representation) → t.representation q ≡ Some v → becomes_gone t it q v ≡ (loses_in q (loss_acts flaw) || is_number going q)
   goes_with q v there =
-      goes_as t now ev s.is_told flaw [] q v
+      goes_as t now ev s.is_reported flaw [] q v
       ∙ rw (doomless it.acts) (drop (is_current t v.key q) (loses_in q (loss_acts flaw)) (ends_early t it q v && not (is_keepable v)) ∙ ap (λ a. loses_in q (loss_acts flaw) || a) (early_by (t.exchange q) refl))
     where
       drop : (a c d : Bool) → ((a && false) || c || d) ≡ (c || d)
@@ -252,12 +252,12 @@ module _ (limits : Limits) (t : Tables) (law : Lawful t) (now x : ℕ) (w : Exch
 
   -- what isn't lost
   pub row_by : (q : ℕ) (g : Bool) (z : Option Representation) → t.representation q ≡ z → loses_in q (loss_acts flaw) ≡ false → ((v : Representation) → z ≡ Some v → becomes_gone t it q v ≡ g) → representation_after t it q z ≡ (if g then option_map as_gone (longer_row q z) else longer_row q z)
-  row_by q g None there kept goes = representation_none t now ev s.is_told flaw [] q g ∙ ap (λ o. if g then option_map as_gone o else o) (none_longer (x == q))
+  row_by q g None there kept goes = representation_none t now ev s.is_reported flaw [] q g ∙ ap (λ o. if g then option_map as_gone o else o) (none_longer (x == q))
     where
       none_longer : (a : Bool) → None ≡ (if a then option_map s.longer None else None)
       none_longer true = refl
       none_longer false = refl
-  row_by q g (Some v) there kept goes = representation_by t now ev s.is_told flaw [] q v (representation_heard t it q ev v) g refl kept (goes v refl) ∙ ap (λ o. if g then option_map as_gone o else o) (heard_is q v)
+  row_by q g (Some v) there kept goes = representation_by t now ev s.is_reported flaw [] q v (representation_heard t it q ev v) g refl kept (goes v refl) ∙ ap (λ o. if g then option_map as_gone o else o) (heard_is q v)
 
   -- CONSUMERS
 
@@ -270,7 +270,7 @@ module _ (limits : Limits) (t : Tables) (law : Lawful t) (now x : ℕ) (w : Exch
       rw (loss_spared t it c k.place (spared k.place), s.headless c it.acts) (or_nothing (cause_of_stop t it k) ∙ (ap (λ o. if is_same_number (source t k) o then stop_cause t ev else None) s.names ∙ ap (λ o. if is_same_number (source t k) (Some x) then o else None) s.why_is))
 
   pub unhit : (c : ℕ) (k : Consumer) → t.consumer c ≡ Some k → is_same_number (source t k) (Some x) ≡ false → beside t it c k ≡ k
-  unhit c k here off = beside_same t now ev s.is_told flaw [] c k (due_by c k ∙ ap (λ a. if a then s.why else None) off) (spared k.place) (law.owned.idle_due c k here)
+  unhit c k here off = beside_same t now ev s.is_reported flaw [] c k (due_by c k ∙ ap (λ a. if a then s.why else None) off) (spared k.place) (law.owned.idle_due c k here)
 
   -- who reads from it fails by it, and nobody else
   module _ (hit : ℕ → Bool) (hits : (c : ℕ) (k : Consumer) → t.consumer c ≡ Some k → is_same_number (source t k) (Some x) ≡ hit c) (reading : (c : ℕ) (k : Consumer) → t.consumer c ≡ Some k → hit c ≡ true → reads k.place ≡ true) where
@@ -299,13 +299,13 @@ module _ (limits : Limits) (t : Tables) (law : Lawful t) (now x : ℕ) (w : Exch
       → ((c : ℕ) → consumer_after t it c (t.consumer c) ≡ option_map (back_from_any now rs) (ks c))
       → Does limits t now ev flaw (loss_acts flaw ++ []) (with_event now ev (let_all_go now rs (record (with_exchange x (Some s.u) t) { representation = vs; consumer = ks })))
   stop_does accepts rs vs ks rows consumers =
-      told_plainly t now ev s.is_told flaw [] limits law accepts (let_all_go now rs (record (with_exchange x (Some s.u) t) { representation = vs; consumer = ks })) closes_none
-      (told_by t now ev s.is_told flaw [] rs (with_exchange x (Some s.u) t).exchange vs ks
-      (exchange_one t now ev s.is_told flaw [] x w s.u s.names row (s.heard it.acts))
+      reported_plainly t now ev s.is_reported flaw [] limits law accepts (let_all_go now rs (record (with_exchange x (Some s.u) t) { representation = vs; consumer = ks })) closes_none
+      (reported_by t now ev s.is_reported flaw [] rs (with_exchange x (Some s.u) t).exchange vs ks
+      (exchange_one t now ev s.is_reported flaw [] x w s.u s.names row (s.heard it.acts))
       rows consumers)
       s.unwritten
 
   -- where everybody hears nothing
   pub others_by : (rs : List ℕ) → ((q : ℕ) (v : Representation) → t.representation q ≡ Some v → becomes_gone t it q v ≡ is_in rs q) → (ks : ℕ → Option Consumer) → (c : ℕ) → ((k : Consumer) → t.consumer c ≡ Some k → consumer_heard t it c ev k ≡ k) → option_map (beside t it c) (t.consumer c) ≡ ks c
       → consumer_after t it c (t.consumer c) ≡ option_map (back_from_any now rs) (ks c)
-  others_by rs goes ks c quiet same = consumer_by t now ev s.is_told flaw [] law rs goes (doomless it.acts) c quiet ∙ ap (option_map (back_from_any now rs)) same
+  others_by rs goes ks c quiet same = consumer_by t now ev s.is_reported flaw [] law rs goes (doomless it.acts) c quiet ∙ ap (option_map (back_from_any now rs)) same

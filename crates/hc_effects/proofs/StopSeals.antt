@@ -7,7 +7,7 @@
 use Rattle.std.{proofs.{lemmas.Bool.Decides.{nat_tests}, Common.{arith, ◌≡◌, inl, inr, ℕ, [], ◌∷◌, Bool, true, false, Option, Some, None, refl, ap, sym, ◌∙◌, subst}}, specs.Prelude.{◌||◌, ◌==◌, nat_eq, length, is_some, if◌then◌else◌, option_map}}
 use Rattle.hc_text.proofs.Basics.{eqb-same}
 use Rattle.hc_effects.proofs.Vocabulary.{act, cause, event, Cause, LostKind, Event, is_same_number, Limits, consumer_heard, by_fault, is_number, denial, Does, with_event, with_exchange, with_due, with_dues, with_length, with_loss, if_bound, failing, let_go, let_some_go, as_gone, over, at_end, lost_to, going_with, family, promised_bytes, short_of, Flaw, NoFlaw, Loses, becomes_gone, is_short, Lawful, is_bound, is_written, reads, source, representation_after, representation_heard, Tables, Exchange, Representation, Consumer, with_item_first, exclusive}
-use Rattle.hc_effects.proofs.{ConsumerEffects.{some_all}, PieceKeeps.{eq_cases}, SameTables.{is_in, in_one}, StopFrames.{Stops, IsEnding, end_stops, fault_stops, end_of, fault_of, reads_own, reads_shared, it, going, goes_with, longer_row, heard_is, row_by, fails, stop_does, others_by}, ToldFrames.{lost_by}}
+use Rattle.hc_effects.proofs.{ConsumerEffects.{some_all}, PieceKeeps.{eq_cases}, SameTables.{is_in, in_one}, StopFrames.{Stops, IsEnding, end_stops, fault_stops, end_of, fault_of, reads_own, reads_shared, it, going, goes_with, longer_row, heard_is, row_by, fails, stop_does, others_by}, ReportedFrames.{lost_by}}
 
 module _ (limits : Limits) (t : Tables) (law : Lawful t) (now x : ℕ) (w : Exchange) (row : t.exchange x ≡ Some w) (r : ℕ) (v : Representation) (of_r : family x w ≡ r) (there : t.representation r ≡ Some v) where
   -- WHO READS FROM IT
@@ -55,7 +55,7 @@ module _ (limits : Limits) (t : Tables) (law : Lawful t) (now x : ℕ) (w : Exch
 
       row_lost : representation_after t (it limits t law now x w row on ev s flaw) r (Some v) ≡ option_map as_gone (option_map (lost_to (exclusive t r v)) (longer_row limits t law now x w row on ev s NoFlaw r (Some v)))
       row_lost =
-          lost_by t now ev s.is_told flaw [] r v (representation_heard t (it limits t law now x w row on ev s flaw) r ev v) (exclusive t r v) refl (rw (eqb-same r) refl) kept (goes_lost r v there ∙ rw (eqb-same r) refl) (rw s.bodiless refl)
+          lost_by t now ev s.is_reported flaw [] r v (representation_heard t (it limits t law now x w row on ev s flaw) r ev v) (exclusive t r v) refl (rw (eqb-same r) refl) kept (goes_lost r v there ∙ rw (eqb-same r) refl) (rw s.bodiless refl)
           ∙ ap (λ o. option_map as_gone (option_map (lost_to (exclusive t r v)) o)) (heard_is limits t law now x w row on ev s flaw r v)
 
       rows_lost : (q : ℕ) → representation_after t (it limits t law now x w row on ev s flaw) q (t.representation q) ≡ (if is_in (r ∷ []) q then option_map as_gone (lost_at q) else lost_at q)

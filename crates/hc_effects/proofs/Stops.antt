@@ -1,6 +1,6 @@
--- Where a shared writing stops: its members get a failure, or all that is left for them is stored.
+-- Where a writer group stops: its members get a failure, or all that is left for them is stored.
 use Rattle.std.{proofs.Common.{◌≡◌, inl, inr, ℕ, ◌+◌, ◌<◌, List, ◌++◌, length, true, false, Option, Some, None, refl, ap, sym, ◌∙◌, arith, length-append}, specs.{Prelude.{is_some}, Option.{option_or}}}
-use Rattle.hc_text.proofs.Basics.{and_right, eq_tells as eq_of, some_inj, lt_or as split}
+use Rattle.hc_text.proofs.Basics.{and_right, eq_reports as eq_of, some_inj, lt_or as split}
 use Rattle.hc_effects.proofs.Vocabulary.{base, promised_bytes, front, is_open, is_reached, is_written, is_open_writer, own_open, source, shared_exchange, Tables, Exchange, Representation, Consumer, Sound, IsAbout, IsBound, IsGrowing, end_from}
 use Rattle.hc_sparse.specs.Cells.{Covers, cells_with}
 use Rattle.hc_sparse.proofs.CellLemmas.{inside-yes, inside-before}

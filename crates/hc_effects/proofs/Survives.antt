@@ -1,4 +1,4 @@
--- Who survives the loss of a shared writing goes on alone, from where its exchange goes on; nothing past that came.
+-- Who survives the loss of a writer group goes on alone, from where its exchange goes on; nothing past that came.
 --
 -- The survivor is one whose position is where what is stored ends (`survivor_offset`). It goes on reading, and the
 -- exchange of the writing is left to it, which has its head and feeds what it reads. While the writing was on its front
@@ -8,7 +8,7 @@ use Rattle.std.{proofs.{Common.{◌≡◌, ◌⊎◌, inl, inr, ℕ, ◌+◌, �
 use Rattle.hc_text.proofs.Basics.{both_true as and_both, and_left, and_right, bool_cases, not_some as none_some, never_true as not_so, same_some as same_row}
 use Rattle.hc_sparse.specs.Cells.{Cells, Covers, cells_with}
 use Rattle.hc_sparse.proofs.CellLemmas.{inside-past, inside-yes}
-use Rattle.hc_effects.proofs.Vocabulary.{leaves_in, given_in, opening_in, Response, Member, least, lesser, stands_at, BoundBy, loses_in, by_opening, own_after, left_to, waiting, is_number, Entry, base, front, is_open, flaw_in, entry_of, Measures, is_written, bound, offset, lo_of, Tables, Exchange, Representation, Consumer, IsBound, IsAlone, IsGrowing, after_accepted, brings_body, loses_writing, survivor, member, offset_in, event, place}
+use Rattle.hc_effects.proofs.Vocabulary.{leaves_in, given_in, opening_in, Response, Member, least, lesser, stands_at, BoundBy, loses_in, by_opening, own_after, left_to, waiting, is_number, Entry, base, front, is_open, flaw_in, entry_of, Measures, is_written, bound, offset, lo_of, Tables, Exchange, Representation, Consumer, IsBound, IsAlone, IsGrowing, after_accepted, brings_body, loses_group, survivor, member, offset_in, event, place}
 use Rattle.hc_model.specs.Laws.{SurvivorsGoOn}
 use Rattle.hc_model.specs.Sound as sound
 use Rattle.hc_effects.proofs.{Basics.{false_true, number_yes}, BoundStays.{bound_stays}, ConsumerFilters.{acted}, ExchangeFrom.{IsSame, IsHeaded}, Fills.{Fills, fills, Brings, brings}, FirstKeeps.{is_new}, ApartKeeps.{is_on}, HadKeeps.{survivor_bound}, LossBy.{IsReal, fresh}, MeasuresKeep.{IsHeld, held, one_piece}, ExclusiveWriters.{writer_some}, OfEntries.{of_real}, HasBound.{reader_of}, RepFrom.{RepFrom, rep_from, IsKept}, Said.{leaving_by}, Step.{Step, step_of}}
@@ -51,18 +51,18 @@ module _ (step : Step) (m : Measures step.tables) (real : IsReal step.limits ste
   now_on = after_accepted t e
 
   module _ (r c x lo : ℕ) (hi : Option ℕ) (how : BoundBy) (k u : Consumer) (v p : Representation) (row : t.consumer c ≡ Some k) (at : k.place ≡ place.Bound r lo hi how) (there : t.representation r ≡ Some v) (kept : IsKept t e r v p) (on : is_written t v ≡ true) (writer : v.writer ≡ Some x) (survives : survivor t r v ≡ Some c) (loses : loses_in r e.acts ≡ true) (brings_one : brings_body ev ≡ true) (after_row : now_on.consumer c ≡ Some u) where
-    losing : loses_writing t e r v ≡ true
+    losing : loses_group t e r v ≡ true
     losing = and_both _ _ (and_both _ _ brings_one loses) on
 
     unpolled : (d want : ℕ) → ev ≡ event.Poll d want → ⊥
     unpolled d want polls = false_true (sym (ap brings_body polls) ∙ brings_one)
 
     -- what its exchange has brought is there, and what isn't stored came from it
-    record IsFront (z : Exchange) : Type 0 where
+    record IsPrefix (z : Exchange) : Type 0 where
       covered : (n : ℕ) → v.reach ≤ n → Covers p.body n (front z)
       ahead : (q : ℕ) → front z ≤ q → p.stored q ≡ p.body q
 
-    fronts : (w z : Exchange) → IsGrowing t r v x w → IsSame t e x w z → w.is_open ≡ true → IsHeld step m x w z → Brings t e x w z → Fills t e r v p → IsFront z
+    fronts : (w z : Exchange) → IsGrowing t r v x w → IsSame t e x w z → w.is_open ≡ true → IsHeld step m x w z → Brings t e x w z → Fills t e r v p → IsPrefix z
     fronts w z g same opened keeps (fills_by.still none body_is) (fills_by.still none_of same_body stored_is reach_is) =
         let first : base z ≡ base w = keeps.base_is in
         let count : length z.body ≡ length w.body = ap (λ (b : List ℕ). length b) body_is in
@@ -127,7 +127,7 @@ module _ (step : Step) (m : Measures step.tables) (real : IsReal step.limits ste
         still_headed w z g (inl still) = ap (λ (a : Option Response). is_some a) still.0 ∙ g.headed
         still_headed w z g (inr got) = ap (λ (a : Option Response). is_some a) got.head_is
 
-        by_heard : (w z : Exchange) → IsGrowing t r v x w → now_on.exchange x ≡ Some z → IsSame t e x w z → ((z.head ≡ w.head) × (z.joined ≡ w.joined)) ⊎ IsHeaded t e x w z → IsFront z
+        by_heard : (w z : Exchange) → IsGrowing t r v x w → now_on.exchange x ≡ Some z → IsSame t e x w z → ((z.head ≡ w.head) × (z.joined ≡ w.joined)) ⊎ IsHeaded t e x w z → IsPrefix z
         by_heard w z g after_x same (inl still) = fronts w z g same (sym (ap is_open g.row) ∙ (is_on t v x on writer).open_now) (held step m x w z same still.0 still.1) (brings t e x w z g.row after_x) (fills t e r v p kept)
         by_heard w z g after_x same (inr got) =
             let none = (is_new limits t now flaw s ev goes x got.response w got.at g.row).bare in
@@ -137,13 +137,13 @@ module _ (step : Step) (m : Measures step.tables) (real : IsReal step.limits ste
   by_reader : (r c x : ℕ) (k u : Consumer) (v p : Representation) → IsBound t r c k → t.representation r ≡ Some v → IsKept t e r v p → is_written t v ≡ true → v.writer ≡ Some x → survivor t r v ≡ Some c → loses_in r e.acts ≡ true → brings_body ev ≡ true → now_on.consumer c ≡ Some u → GoesOn now_on p u (Some x)
   by_reader r c x k u v p (sound.is_bound lo hi how row at) there kept on writer is loses brings_one after_row = survivor_alone r c x lo hi how k u v p row at there kept on writer is loses brings_one after_row
 
-  by_writer : (r c : ℕ) (z : Option ℕ) (u : Consumer) (v p : Representation) → t.representation r ≡ Some v → IsKept t e r v p → loses_writing t e r v ≡ true → v.writer ≡ z → survivor t r v ≡ Some c → now_on.consumer c ≡ Some u → GoesOn now_on p u z
+  by_writer : (r c : ℕ) (z : Option ℕ) (u : Consumer) (v p : Representation) → t.representation r ≡ Some v → IsKept t e r v p → loses_group t e r v ≡ true → v.writer ≡ z → survivor t r v ≡ Some c → now_on.consumer c ≡ Some u → GoesOn now_on p u z
   by_writer r c None u v p there kept losing writer is after_row = absurd (writer_some t v (and_right _ _ losing) writer)
   by_writer r c (Some x) u v p there kept losing writer is after_row =
       let reader = reader_of t r c (survivor_bound t r c v is) in
       by_reader r c x reader.0 u v p reader.1 there kept (and_right _ _ losing) writer is (and_right _ _ (and_left _ _ losing)) (and_left _ _ (and_left _ _ losing)) after_row
 
-  pub goes_on : (r c : ℕ) (v p : Representation) (u : Consumer) → t.representation r ≡ Some v → loses_writing t e r v ≡ true → survivor t r v ≡ Some c → now_on.representation r ≡ Some p → now_on.consumer c ≡ Some u → GoesOn now_on p u v.writer
+  pub goes_on : (r c : ℕ) (v p : Representation) (u : Consumer) → t.representation r ≡ Some v → loses_group t e r v ≡ true → survivor t r v ≡ Some c → now_on.representation r ≡ Some p → now_on.consumer c ≡ Some u → GoesOn now_on p u v.writer
   goes_on r c v p u there losing is after after_row = by_rep (rep_from t e r (t.representation r) p refl after)
     where
       by_rep : RepFrom t e r p → GoesOn now_on p u v.writer
@@ -155,5 +155,5 @@ module _ (step : Step) (m : Measures step.tables) (real : IsReal step.limits ste
 -- Who survives goes on alone.
 pub survivors_go_on : SurvivorsGoOn
 survivors_go_on limits t e s o m owed not_denied r c v p u there losing is after after_row =
-    of_real limits t e (λ z. loses_writing t z r v ≡ true → (after_accepted t z).representation r ≡ Some p → (after_accepted t z).consumer c ≡ Some u → IsAlone (after_accepted t z) p u) owed not_denied
+    of_real limits t e (λ z. loses_group t z r v ≡ true → (after_accepted t z).representation r ≡ Some p → (after_accepted t z).consumer c ≡ Some u → IsAlone (after_accepted t z) p u) owed not_denied
     (λ going real losing_now after_now row_now. (goes_on (step_of limits t e.now (flaw_in e.acts) s o e.event going) m real r c v p u there losing_now is after_now row_now).is) losing after after_row

@@ -5,7 +5,7 @@
 -- come what it is told to wait for (`waits_from`), what is opened for it, and what it is shown (`shown_from`).
 -- `acted_from` joins these, and `is_after` adds who starts over.
 use Rattle.std.{proofs.{lemmas.Bool.Decides.{nat_tests}, Common.{arith, ◌≡◌, ℕ, Bool, true, false, Option, Some, None, refl, ap, sym, ◌∙◌, subst}}, specs.Prelude.{◌&&◌, ◌||◌, ◌==◌, not, is_none, if◌then◌else◌}}
-use Rattle.hc_text.proofs.Basics.{eq_tells as eq_is, some_inj}
+use Rattle.hc_text.proofs.Basics.{eq_reports as eq_is, some_inj}
 use Rattle.hc_effects.proofs.Vocabulary.{Opening, opening_in, leaves_in, shows_in, Wait, Event, Response, Request, HeadCase, Route, Wanted, route_of, wanted_of, range_of, Place, wait_in, Showing, showing_in, case_at, bound_to_wanted, place_by_case, passed_on, by_head, by_fault, by_opening, consumer_after, consumer_acted, consumer_heard, waiting, waiting_place, passed_by, kept_by, opened_place, place_for_hole, unless_bound, shown_place, due_after, back_in_line, current, row_of, Entry, founded_total, reads, bound_to, Tables, Exchange, Representation, Consumer, starts_over, wait, event, case, route, wanted, by}
 use Rattle.hc_event.specs.declared.place.Place.TheVariants as place
 use Rattle.hc_model.specs.ConsumerRows.{with_opening}

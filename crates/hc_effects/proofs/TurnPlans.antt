@@ -5,7 +5,7 @@
 -- answers the request too (`by_vary`). Who isn't let through has the turn (`turn_by`), and who was let through and goes
 -- back kept no 304 (`kept_none`). `plan_is` joins these.
 use Rattle.std.{proofs.{lemmas.Bool.Decides.{nat_tests}, Common.{arith, ◌≡◌, ℕ, Bool, true, false, Option, Some, None, refl, ap, sym, ◌∙◌}}, specs.Prelude.{◌&&◌, ◌||◌, ◌==◌, not, is_none, if◌then◌else◌}}
-use Rattle.hc_text.proofs.Basics.{and_left, and_right as and_then, eq_tells as eq_is, not_true as not_same}
+use Rattle.hc_text.proofs.Basics.{and_left, and_right as and_then, eq_reports as eq_is, not_true as not_same}
 use Rattle.hc_effects.proofs.Vocabulary.{Need, Why, Candidate, Plan, PlanView, Wanted, route_of, plan_of, bare_plan, queues, is_back, by_current, by_why, why_by, by_wanted, by_exclusive, by_hole, by_bound, in_time, from_store, need, route, plan, wanted}
 use Rattle.hc_range.specs.declared.range.Span.{Span}
 use Rattle.hc_rules.specs.Plans.{allowed_by}
@@ -72,7 +72,7 @@ module _ (v : PlanView) (through : v.passed ≡ true → (v.class.bypassing ≡ 
       by_wanted_is : (why : Why) (w : Wanted) → s.span ≡ w → Planned v (by_wanted v s why w)
       by_wanted_is why wanted.TotalUnknown at = busy _ _ queueing plain varied
       by_wanted_is why wanted.Unsatisfiable at = past need.Unsatisfied refl queueing.asks
-      by_wanted_is why (wanted.Interval span) at = mix (Planned v) s.writing _ _ (busy _ _ queueing plain varied) (by_exclusive_is why span s.exclusive at)
+      by_wanted_is why (wanted.Interval span) at = mix (Planned v) s.writer_group _ _ (busy _ _ queueing plain varied) (by_exclusive_is why span s.exclusive at)
 
       validates : why_by v.kept s.allowed ≡ None → v.turn ≡ v.c
       validates none = grind (arith, nat_tests)

@@ -52,13 +52,13 @@ in_poll t now want c x (Misreads r) rest h = h
 in_poll t now want c x _ rest h = in_move x c (poll_move t now want c (t.consumer c)) rest h
 
 module _ (limits : Limits) (t : Tables) (now : ℕ) (flaw : Flaw) (s : Sound t) where
-  told : (ev : Event) (x : ℕ) → closes_in x (map act.Evicted (evicted limits t now ev) ++ (loss_acts flaw ++ map act.Close (closing t (record { now = now; event = ev; acts = loss_acts flaw })))) ≡ true → Among x (closing t (record { now = now; event = ev; acts = loss_acts flaw }))
-  told ev x h = in_all x (closing t (record { now = now; event = ev; acts = loss_acts flaw })) (in_lost x flaw _ (in_evicted x (evicted limits t now ev) _ h))
+  reported : (ev : Event) (x : ℕ) → closes_in x (map act.Evicted (evicted limits t now ev) ++ (loss_acts flaw ++ map act.Close (closing t (record { now = now; event = ev; acts = loss_acts flaw })))) ≡ true → Among x (closing t (record { now = now; event = ev; acts = loss_acts flaw }))
+  reported ev x h = in_all x (closing t (record { now = now; event = ev; acts = loss_acts flaw })) (in_lost x flaw _ (in_evicted x (evicted limits t now ev) _ h))
 
   closed_by : (ev : Event) (x : ℕ) → closes_in x (accepted_acts limits t now ev flaw) ≡ true → Among x (closing t (before limits t now flaw s ev))
   closed_by (event.Poll c want) x h = in_closes x (closing t (before limits t now flaw s (event.Poll c want))) (loss_acts flaw) (in_poll t now want c x flaw _ h) (lost_closes x flaw)
   closed_by (event.Cancel c) x h = in_closes x (closing t (before limits t now flaw s (event.Cancel c))) (loss_acts flaw) h (lost_closes x flaw)
-  closed_by ev x h = told ev x h
+  closed_by ev x h = reported ev x h
 
   -- what is closed had to be
   pub had_to : (ev : Event) (x : ℕ) (w : Exchange) → t.exchange x ≡ Some w → closes_in x (accepted_acts limits t now ev flaw) ≡ true → must_close t (before limits t now flaw s ev) x w ≡ true

@@ -6,7 +6,7 @@
 -- (`undue_apart`). `consumer_apart` joins these. The effects of all events are built on this file.
 use Rattle.std.{proofs.{lemmas.Bool.Decides.{nat_tests}, Common.{arith, ◌≡◌, ℕ, ◌+◌, List, length, Bool, true, false, Option, Some, None, refl, ap, ◌∙◌}}, specs.Prelude.{◌&&◌, ◌||◌, not, nat_eq, if◌then◌else◌}}
 use Rattle.hc_text.proofs.Basics.{plus_none}
-use Rattle.hc_effects.proofs.Vocabulary.{Opening, opening_in, asks_in, closes_in, leaves_in, shows_in, given_in, Act, Event, Place, BoundBy, loses_in, fails_in, Showing, showing_in, case_at, case_of, is_founding, consumer_after, consumer_settled, consumer_acted, consumer_heard, consumer_made, by_opening, waiting, waiting_place, shown_place, own_after, due_after, back_in_line, doomed_key_of, is_key, as_gone, Entry, exchange_after, exchange_heard, exchange_acted, family, exchange_in, exchange_at, is_for, becomes_due, cause_of_stop, cause_of_loss, cause_of_head, becomes_gone, goes_in, reads, is_written, representation_after, representation_heard, founded_at, updates, Tables, Exchange, Representation, Consumer, starts_over, sends_back, waits_at, loses_what_it_waits_for, binds, loses_writing, brings_body}
+use Rattle.hc_effects.proofs.Vocabulary.{Opening, opening_in, asks_in, closes_in, leaves_in, shows_in, given_in, Act, Event, Place, BoundBy, loses_in, fails_in, Showing, showing_in, case_at, case_of, is_founding, consumer_after, consumer_settled, consumer_acted, consumer_heard, consumer_made, by_opening, waiting, waiting_place, shown_place, own_after, due_after, back_in_line, doomed_key_of, is_key, as_gone, Entry, exchange_after, exchange_heard, exchange_acted, family, exchange_in, exchange_at, is_for, becomes_due, cause_of_stop, cause_of_loss, cause_of_head, becomes_gone, goes_in, reads, is_written, representation_after, representation_heard, founded_at, updates, Tables, Exchange, Representation, Consumer, starts_over, sends_back, waits_at, loses_what_it_waits_for, binds, loses_group, brings_body}
 use Rattle.hc_event.specs.declared.event.Event.TheVariants as event
 use Rattle.hc_event.specs.declared.place.Place.TheVariants as place
 use Rattle.hc_effects.proofs.{ActParts.{IsFarFrom}, Dues.{undue_of, stop_none}, Tests.{and_false}}
@@ -61,7 +61,7 @@ representation_absent t e r none = none
 
 -- no writing that it reads with others is lost
 abbrev pub IsSpared : Tables → Entry → Place → Type 0
-IsSpared t e p = (r lo : ℕ) (hi : Option ℕ) (how : BoundBy) (v : Representation) → p ≡ place.Bound r lo hi how → t.representation r ≡ Some v → loses_writing t e r v ≡ false
+IsSpared t e p = (r lo : ℕ) (hi : Option ℕ) (how : BoundBy) (v : Representation) → p ≡ place.Bound r lo hi how → t.representation r ≡ Some v → loses_group t e r v ≡ false
 
 pub spared_bodiless : (t : Tables) (e : Entry) (p : Place) → brings_body e.event ≡ false → IsSpared t e p
 spared_bodiless t e p bodiless = λ r lo hi how v at row. and_false (brings_body e.event && loses_in r e.acts) (is_written t v) (and_false (brings_body e.event) (loses_in r e.acts) bodiless)

@@ -35,7 +35,7 @@ unfoldable pub use Rattle.hc_model.specs.Currents.{current}
 pub use Rattle.hc_model.specs.Denials.{as_open, denial, gate, is_live, is_live_place, live}
 pub use Rattle.hc_model.specs.Dooms.{bypass_key, bypassed_by, bypassed_for, changes, doomed_by_case, doomed_by_head, doomed_in, is_key}
 unfoldable pub use Rattle.hc_model.specs.Dooms.{doomed_key_of}
-pub use Rattle.hc_model.specs.Effects.{Does, all_closed, as_gone, as_over, at_end, awaited_and, back_from, exchange_with_head, failing, going_with, if_bound, is_awaited, is_unkeepable, just_founded, just_opened, left_by, left_with, let_all_go, let_go, let_some_go, lost_to, over, put_down, sent_back, tables_after_close, to_bring, unless_ended, unless_reached, unless_survived, used_last, with_answer, with_ask, with_consumer, with_due, with_dues, with_event, with_exchange, with_founding, with_leave, with_length, with_loss, with_opening, with_refreshed_head, with_representation, with_start, woken, writing_lost}
+pub use Rattle.hc_model.specs.Effects.{Does, all_closed, as_gone, as_over, at_end, awaited_and, back_from, exchange_with_head, failing, going_with, if_bound, is_awaited, is_unkeepable, just_founded, just_opened, left_by, left_with, let_all_go, let_go, let_some_go, lost_to, over, put_down, sent_back, tables_after_close, to_bring, unless_ended, unless_reached, unless_survived, used_last, with_answer, with_ask, with_consumer, with_due, with_dues, with_event, with_exchange, with_founding, with_leave, with_length, with_loss, with_opening, with_refreshed_head, with_representation, with_start, woken, group_lost}
 pub use Rattle.hc_model.specs.Endings.{Endings, Unended}
 pub use Rattle.hc_model.specs.Entries.{Content, Contents, Entry, History, entry_without_acts, no_contents}
 pub use Rattle.hc_model.specs.Evictions.{evict, evict_all, outlasts, outlasts_row, unevicting, unless_it}
@@ -54,7 +54,7 @@ pub use Rattle.hc_model.specs.Heads.{founded_total, kept_fields, total_of_part, 
 pub use Rattle.hc_model.specs.Histories.{Shown, each, each_after, first, given_of, if_accepted, joined_of, opened_in, opening_of, request_in, request_of, shown_in, shown_of}
 pub use Rattle.hc_model.specs.Holes.{absent_from, covers, first_hole, first_place, hole_at, next_from, stretch_to}
 pub use Rattle.hc_model.specs.Keys.{ConsumerKeys, ExchangeKeys, HasRow, IsOfOneKey, entry_of, is_of_key, key_of, key_of_exchange}
-pub use Rattle.hc_model.specs.Kinds.{brings_to, covers_all, is_complete, is_front, is_growing, kind_at, kind_for}
+pub use Rattle.hc_model.specs.Kinds.{brings_to, covers_all, is_complete, is_prefix, is_growing, kind_at, kind_for}
 unfoldable pub use Rattle.hc_model.specs.Kinds.{kind_of}
 pub use Rattle.hc_model.specs.Lawful.{Lawful}
 pub use Rattle.hc_model.specs.Laws.{AfterDenials, AreNumbered, DeliversOnce, HasOneTurn, HasPassed, IsAwaited, IsBarred, IsBoundBehindDooms, IsInLimits, IsSmallPiece, IsStart, OfHistories, OfRuns, OfRunsIn, StandsFor, Turns, WaitsEnd, WaitsForNobody, count_evicted, item_of}
@@ -63,7 +63,7 @@ pub use Rattle.hc_model.specs.Lines.{holder, holds_place, holds_turn, is_in_line
 unfoldable pub use Rattle.hc_model.specs.Lines.{line, turn}
 pub use Rattle.hc_model.specs.Live.{most_live, open_now}
 pub use Rattle.hc_model.specs.Losses.{Brings, HoldsOwn, cell_from}
-pub use Rattle.hc_model.specs.Measures.{IsMeasured, Measures, told, untold}
+pub use Rattle.hc_model.specs.Measures.{IsMeasured, Measures, reported, unreported}
 pub use Rattle.hc_model.specs.Moves.{Asks, Ends, Fails, Gives, Move, Nothing, Opens, Shows, acts_of, gives, hole_request, opens_hole, shows_stored, span_to, waits_for}
 pub use Rattle.hc_model.specs.Numbers.{AreShort, Numbers}
 pub use Rattle.hc_model.specs.Orders.{AreOnce, Descends, InOrder}
@@ -74,7 +74,7 @@ pub use Rattle.hc_model.specs.Passed.{Passed}
 pub use Rattle.hc_model.specs.Places.{IsAway, Places, Queues, ReadsPast, is_failed_read}
 pub use Rattle.hc_model.specs.Planning.{binds_current, candidate, candidate_at, conditional_on, current_row, has_passed, hole_of, is_ranged, origin_request, plan_move, plan_view, planned_move}
 pub use Rattle.hc_model.specs.Polls.{by_place, has_joined, if_headless, move_of, or_else, poll_move, shows_answer, shows_at, shows_bound, shows_direct, shows_head, waits_for_head}
-pub use Rattle.hc_model.specs.Reading.{base_in, bound_to, end_in, end_of_direct, hi_of, if_open, is_bound, is_bound_place, is_open_writer, lo_of, offset, own_open, reads, shared_exchange, source, writing_in}
+pub use Rattle.hc_model.specs.Reading.{base_in, bound_to, end_in, end_of_direct, hi_of, if_open, is_bound, is_bound_place, is_open_writer, lo_of, offset, own_open, reads, shared_exchange, source, group_in}
 unfoldable pub use Rattle.hc_model.specs.Reading.{bound, is_written}
 pub use Rattle.hc_model.specs.Reads.{Delivers, Holds, IsEnd, ReadsAct, ReadsActs, Says, answer_cell, body_of, cell_by, direct_cell, end_by, end_of}
 pub use Rattle.hc_model.specs.RepresentationRows.{asks_whole, founded_at, hole_start, is_last_part, length_in, new_representation, representation_acted, representation_after_head, representation_after_piece, representation_heard, resumes, updates, with_renewed_head, with_stored_bytes, with_total_if_none, writer_at}
@@ -90,12 +90,12 @@ pub use Rattle.hc_model.specs.Steps.{bound_row, held_at, held_of_exchange, held_
 pub use Rattle.hc_model.specs.StoredHeads.{AreWithinLimits, IsHeadWithinLimits, IsOfOne, StoredHeads, Tags}
 pub use Rattle.hc_model.specs.Tables.{after_accepted, after_denied, binds, binds_by_opening, binds_by_showing, bytes_in, first_tables, founds, is_hole, last_end, last_start_after, numbers, opened_after, openings_after, received_in, representation_of_content, starts_after, to_front, with_item_first}
 unfoldable pub use Rattle.hc_model.specs.Tables.{after, tables}
-pub use Rattle.hc_model.specs.Tellings.{IsOneTo, TellsBy, TellsOne, tellings, told_to}
+pub use Rattle.hc_model.specs.ConsumerActs.{IsOneTo, AnswersBy, AnswersOne, consumer_acts, recipient}
 pub use Rattle.hc_model.specs.Weights.{evicted, first_idle, is_idle, is_replacing, moves_on, piece_write, room_by, stays_bound, stays_current, weight, weight_in, weights, write_in, write_of_piece}
 unfoldable pub use Rattle.hc_model.specs.Weights.{idle, room_for}
 pub use Rattle.hc_model.specs.Whose.{IsOwner, IsSomebodys, Whose, may_own}
 pub use Rattle.hc_model.specs.WithinLimits.{HasFieldsWithinLimits, HasTarget, KeysAreTargets, RequestsAreForTargets}
-pub use Rattle.hc_model.specs.Writers.{bound_as, bound_kind, brings_body, came_alone, goes_on_with, has_more, lacks_some, loses_writing, may_write, member, offset_in, status_in, survivor}
+pub use Rattle.hc_model.specs.Writers.{bound_as, bound_kind, brings_body, came_alone, goes_on_with, has_more, lacks_some, loses_group, may_write, member, offset_in, status_in, survivor}
 unfoldable pub use Rattle.hc_model.specs.Writers.{exclusive}
 pub use Rattle.hc_model.specs.Writes.{first_found, head_writes, is_sealed, lossless, may_validate, piece_writes, sealed_by, sealed_representation, seals_at, stops, unless_lost, written_in}
 unfoldable pub use Rattle.hc_model.specs.Writes.{written_representation}
@@ -103,7 +103,7 @@ pub use Rattle.hc_rules.specs.Admissions.{is_of, is_same_kind}
 pub use Rattle.hc_rules.specs.HeadCases.{begins_at, case_on, direct_case, first_case, fits_part, fits_to_found, is_conditional, later_case, turn_case}
 unfoldable pub use Rattle.hc_rules.specs.HeadCases.{head_case, is_storable}
 pub use Rattle.hc_rules.specs.Admissions.{least, lesser}
-pub use Rattle.hc_rules.specs.Lengths.{agrees, all_tell, base_of, content_length_of, has_no_body, is_bad, is_head, is_same_number, part_length, promise_of, tells_part}
+pub use Rattle.hc_rules.specs.Lengths.{agrees, all_spell, base_of, content_length_of, has_no_body, is_bad, is_head, is_same_number, part_length, promise_of, gives_part}
 unfoldable pub use Rattle.hc_rules.specs.Lengths.{length_of}
 pub use Rattle.hc_rules.specs.Needs.{route_of}
 pub use Rattle.hc_rules.specs.Plans.{bare_plan, by_bound, by_current, by_exclusive, by_hole, by_wanted, by_why, from_store, in_time, is_back, plan_on, queues, why_by}

@@ -6,7 +6,7 @@
 -- of what it is about makes its consumer start over. Many files use this.
 use Rattle.std.{proofs.{Common.{◌≡◌, ◌⊎◌, inl, inr, ℕ, Bool, true, false, Option, Some, None, refl, ap, sym, ◌∙◌, subst, arith}, lemmas.Bool.Decides.{nat_tests}}, specs.{Prelude.{if◌then◌else◌, is_some, is_none, ◌&&◌, ◌==◌, not, nat_eq, unwrap_or}, Option.{option_and_then}}}
 use Rattle.hc_text.proofs.Basics.{both_true as and_both, and_left, and_right, bool_cases, not_some as none_some, never_true as not_so, or_cases, or_left, same_some as same_row, some_inj}
-use Rattle.hc_effects.proofs.Vocabulary.{Opening, opening_in, leaves_in, closes_in, Event, Response, Place, BoundBy, case_at, case_of, must_close, is_refused, brings_head, is_doomed, awaits, has_no_survivor, is_left, is_left_by, is_last_reader, leaver, leaver_by, consumer_heard, by_head, by_fault, by_opening, own_after, left_to, waiting, is_number, denial, doomed_key_of, doomed_in, doomed_by_head, doomed_by_case, is_key, Entry, family, exchange_in, is_headless, is_open, entry_of, IsAwaiting, own_open, if_open, is_written, shared_exchange, writing_in, Tables, Exchange, Representation, Consumer, IsAbout, IsExclusiveWriter, starts_over, waits_at, awaited_exchange, loses_writing, survivor, event, place}
+use Rattle.hc_effects.proofs.Vocabulary.{Opening, opening_in, leaves_in, closes_in, Event, Response, Place, BoundBy, case_at, case_of, must_close, is_refused, brings_head, is_doomed, awaits, has_no_survivor, is_left, is_left_by, is_last_reader, leaver, leaver_by, consumer_heard, by_head, by_fault, by_opening, own_after, left_to, waiting, is_number, denial, doomed_key_of, doomed_in, doomed_by_head, doomed_by_case, is_key, Entry, family, exchange_in, is_headless, is_open, entry_of, IsAwaiting, own_open, if_open, is_written, shared_exchange, group_in, Tables, Exchange, Representation, Consumer, IsAbout, IsExclusiveWriter, starts_over, waits_at, awaited_exchange, loses_group, survivor, event, place}
 use Rattle.hc_model.specs.Owners as owners
 use Rattle.hc_model.specs.Sound as sound
 use Rattle.hc_effects.proofs.{Basics.{false_true, number_is}, BoundFrom.{place_inj}, Closed.{before}, FirstKeeps.{is_new}, MoveBy.{IsHeard}, OpensFrom.{hole_is}, OwnersKeep.{is_opened}, PieceKeeps.{eq_cases}, ExclusiveWriters.{row_of, writer_some}, SaidActs.{loss_is, leaver_leaves}, Stops.{writer_about}, Unclosed.{had_to}, StaysOn.{unopened}, Step.{Step}}
@@ -73,7 +73,7 @@ module _ (step : Step) where
     left_number d q its theirs = grind (arith, nat_tests)
 
     -- it is the exchange of no writing
-    not_writer : (r : ℕ) (z : Option Representation) → t.representation r ≡ z → writing_in t z ≡ Some y → ⊥
+    not_writer : (r : ℕ) (z : Option Representation) → t.representation r ≡ z → group_in t z ≡ Some y → ⊥
     not_writer r z there h = grind (arith, nat_tests)
 
     not_shared : (p : Place) → shared_exchange t p ≡ Some y → ⊥
@@ -147,9 +147,9 @@ module _ (step : Step) where
 
     left_by : (r lo : ℕ) (hi : Option ℕ) (how : BoundBy) (z : Option Representation) → k.place ≡ place.Bound r lo hi how → t.representation r ≡ z → left_to t e c r z (Some y) ≡ Some y
     left_by r lo hi how None at row = refl
-    left_by r lo hi how (Some v) at row = elim (bool_cases (loses_writing t e r v && is_number (survivor t r v) c)) [
+    left_by r lo hi how (Some v) at row = elim (bool_cases (loses_group t e r v && is_number (survivor t r v) c)) [
       | inr off ↦ rw off refl
-      | inl on ↦ absurd (let losing : loses_writing t e r v ≡ true = and_left (loses_writing t e r v) (is_number (survivor t r v) c) on in unwritten r lo hi how v v.writer at row (and_right _ _ losing) refl)
+      | inl on ↦ absurd (let losing : loses_group t e r v ≡ true = and_left (loses_group t e r v) (is_number (survivor t r v) c) on in unwritten r lo hi how v v.writer at row (and_right _ _ losing) refl)
     ]
 
     pub own_stays : (p : Place) → k.place ≡ p → own_after t e c p (Some y) ≡ Some y

@@ -2,7 +2,7 @@
 --
 -- Since its exchange needn't be closed, its consumer doesn't leave (`left_by`, `stays_in`), nor does it start over: a
 -- doom of its key would close the exchange (`doomed_must`, `stays_on`). No act moves it: it is told no wait for others,
--- and shown nothing where it reads nothing (`told_not`, `shows_on`). So it stands as it stood (`stands`). An exchange
+-- and shown nothing where it reads nothing (`reported_not`, `shows_on`). So it stands as it stood (`stands`). An exchange
 -- without a head was so (`was_waiting`), or is new (`new_waiting`).
 use Rattle.std.{proofs.{Common.{◌≡◌, inl, inr, ℕ, List, Bool, true, false, Option, Some, None, refl, ap, sym, ◌∙◌, subst, arith}, lemmas.Bool.Decides.{nat_tests}}, specs.Prelude.{nat_eq}}
 use Rattle.hc_text.proofs.Basics.{both_true as and_both, bool_cases, not_some as none_some, never_true as not_so, or_left, or_right, same_some as same_row, some_inj}
@@ -90,8 +90,8 @@ module _ (step : Step) where
 
     -- WHAT THE ACTS SAY TO IT
 
-    told_not : (z : Wait) → IsForOthers z → wait_in c e.acts ≡ Some z → ⊥
-    told_not z others at =
+    reported_not : (z : Wait) → IsForOthers z → wait_in c e.acts ≡ Some z → ⊥
+    reported_not z others at =
         let by_poll = waiting_by limits t now flaw s ev goes c z at in
         let one : by_poll.k ≡ k = same_row (t.consumer c) by_poll.k k by_poll.poll.row is.row in
         let waits : WaitsAs z (move_of t now by_poll.want c k) = subst (λ (q : Consumer). WaitsAs z (move_of t now by_poll.want c q)) one by_poll.move in
@@ -130,7 +130,7 @@ module _ (step : Step) where
         let same : consumer_heard t e c ev k ≡ k = heard_same step c y k w is ev refl other not_cancelled in
         let q = consumer_acted t e c (consumer_heard t e c ev k) in
         let made : due_after t e c k q ≡ on.u = sym (settled t e c k q stays_on) ∙ on.is in
-        let placed : (consumer_acted t e c k).place ≡ k.place = plain_place t e c k (leaves_in c e.acts) (showing_in e.acts) (opening_in e.acts) (wait_in c e.acts) stays_in (opening_stays step c y k w is (waiting t e c k) (opening_in e.acts) refl) (waits_where t k (wait_in c e.acts) told_not) (shows_on (showing_in e.acts) refl) in
+        let placed : (consumer_acted t e c k).place ≡ k.place = plain_place t e c k (leaves_in c e.acts) (showing_in e.acts) (opening_in e.acts) (wait_in c e.acts) stays_in (opening_stays step c y k w is (waiting t e c k) (opening_in e.acts) refl) (waits_where t k (wait_in c e.acts) reported_not) (shows_on (showing_in e.acts) refl) in
         record {
           u = on.u;
           row = on.row;

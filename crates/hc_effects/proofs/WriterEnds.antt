@@ -1,4 +1,4 @@
--- Where a shared writing ends while somebody reads it to whom nothing becomes due, all of it is stored.
+-- Where a writer group ends while somebody reads it to whom nothing becomes due, all of it is stored.
 --
 -- Its reader doesn't leave (`leaver_not`), and what is written isn't lost, as that reader has nothing due
 -- (`losing_not`). So the exchange needn't be closed: its last reader doesn't leave, no head of it comes, and no doom is
@@ -6,9 +6,9 @@
 -- failure would be due (`enough`, `ends_with_all`). Hence `all_stored`.
 use Rattle.std.{proofs.{Common.{◌≡◌, ◌⊎◌, inl, inr, ℕ, ◌≤◌, List, [], ◌∷◌, length, Bool, true, false, Option, Some, None, refl, ap, sym, ◌∙◌, arith}, lemmas.Bool.Decides.{nat_tests}}, specs.{Prelude.{if◌then◌else◌, is_some, is_none, ◌==◌, ◌&&◌, nat_eq, nat_lt}, List.{list_all}, Option.{option_and_then}}}
 use Rattle.hc_text.proofs.Basics.{and_left, and_right, bool_cases, not_some as none_some, or_cases, same_some as same_row, some_inj}
-use Rattle.hc_effects.proofs.Vocabulary.{leaves_in, closes_in, Event, Response, is_same_number, Place, BoundBy, loses_in, answer_acts, loss_acts, must_close, is_refused, brings_head, is_doomed, has_no_survivor, is_left, is_left_by, is_last_reader, leaver, leaver_by, case_at, consumer_heard, is_number, Entry, exchange_in, is_open, family, promised_bytes, becomes_due, stop_cause, short_cause, short_of, entry_of, Measures, is_written, bound, is_bound, own_open, if_open, shared_exchange, writing_in, source, Tables, Exchange, Representation, Consumer, Among, IsBound, IsGrowing, after_accepted, brings_body, loses_writing, event, cause, place}
+use Rattle.hc_effects.proofs.Vocabulary.{leaves_in, closes_in, Event, Response, is_same_number, Place, BoundBy, loses_in, answer_acts, loss_acts, must_close, is_refused, brings_head, is_doomed, has_no_survivor, is_left, is_left_by, is_last_reader, leaver, leaver_by, case_at, consumer_heard, is_number, Entry, exchange_in, is_open, family, promised_bytes, becomes_due, stop_cause, short_cause, short_of, entry_of, Measures, is_written, bound, is_bound, own_open, if_open, shared_exchange, group_in, source, Tables, Exchange, Representation, Consumer, Among, IsBound, IsGrowing, after_accepted, brings_body, loses_group, event, cause, place}
 use Rattle.hc_model.specs.Sound as sound
-use Rattle.hc_effects.proofs.{ActParts.{said_is, said_closes}, ApartKeeps.{is_on}, Basics.{false_true, some_none, number_is}, BoundFrom.{IsRow}, Closed.{before, among_filter}, Dues.{undue_parts}, LossBy.{IsReal, loses_flaw}, RepFrom.{IsKept}, SaidActs.{leaver_leaves}, Stops.{source_is}, ToBeShown.{heard_place}, Unclosed.{had_to}, WritingStops.{IsAll, refused_not, ends_all}, Step.{Step}}
+use Rattle.hc_effects.proofs.{ActParts.{said_is, said_closes}, ApartKeeps.{is_on}, Basics.{false_true, some_none, number_is}, BoundFrom.{IsRow}, Closed.{before, among_filter}, Dues.{undue_parts}, LossBy.{IsReal, loses_flaw}, RepFrom.{IsKept}, SaidActs.{leaver_leaves}, Stops.{source_is}, ToBeShown.{heard_place}, Unclosed.{had_to}, GroupStops.{IsAll, refused_not, ends_all}, Step.{Step}}
 
 pub none_of : (q : Option Response) → is_none q ≡ true → is_some q ≡ true → ⊥
 none_of None none some = false_true some
@@ -60,7 +60,7 @@ module _ (step : Step) (m : Measures step.tables) (real : IsReal step.limits ste
       doomed_not : is_doomed t b x w ≡ true → ⊥
       doomed_not h = none_of w.head (and_right w.is_open _ (and_right _ _ (and_left _ _ h))) g.headed
 
-      losing_not : loses_writing t b r v ≡ true → ⊥
+      losing_not : loses_group t b r v ≡ true → ⊥
       losing_not h = by_calm calm
         where
           by_calm : (loses_in r e.acts ≡ false) ⊎ (brings_body ev ≡ false) → ⊥
@@ -76,7 +76,7 @@ module _ (step : Step) (m : Measures step.tables) (real : IsReal step.limits ste
       own_is l q z row mine h = grind (arith, nat_tests)
 
       -- a writing of this exchange is of r
-      writes_r : (q : ℕ) (z : Option Representation) → t.representation q ≡ z → writing_in t z ≡ Some x → q ≡ r
+      writes_r : (q : ℕ) (z : Option Representation) → t.representation q ≡ z → group_in t z ≡ Some x → q ≡ r
       writes_r q None row h = absurd (none_some x h)
       writes_r q (Some a) row h = elim (bool_cases (is_written t a)) [
         | inr off ↦ absurd (none_some x (rw off at h))

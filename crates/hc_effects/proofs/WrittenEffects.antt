@@ -7,7 +7,7 @@
 use Rattle.std.{proofs.{lemmas.Bool.Decides.{nat_tests}, Common.{arith, ◌≡◌, inl, inr, ℕ, ◌+◌, List, [], ◌∷◌, ◌++◌, Bool, true, false, Option, Some, None, refl, ap, sym, ◌∙◌, subst}}, specs.{Prelude.{◌&&◌, ◌==◌, not, nat_eq, if◌then◌else◌, is_some, option_map, map, filter, reverse}, Option.{option_or}}}
 use mathlib.Core.Path.{fun_ext}
 use Rattle.hc_text.proofs.Basics.{and_left, bool_cases, eqb-same, not_some as none_some, never_true as not_so, not_true, or_false as or_off, same_some as same_row}
-use Rattle.hc_effects.proofs.Vocabulary.{act, cause, case, route, place, LostKind, Event, Response, HeadView, Limits, head_case, route_of, Place, BoundBy, accepted_acts, loss_acts, case_at, head_view, is_joining, closing, closes_row, must_close, consumer_after, back_in_line, is_number, denial, doomed_key_of, Does, with_event, as_gone, let_go, all_closed, with_consumer, with_representation, with_answer, lost_to, left_with, if_bound, writing_lost, unless_survived, Entry, exchange_heard, Flaw, Loses, becomes_gone, Lawful, IsAwaiting, is_written, is_bound_place, representation_after, Tables, Exchange, Representation, Consumer, IsBound, after_accepted, loses_writing, survivor}
+use Rattle.hc_effects.proofs.Vocabulary.{act, cause, case, route, place, LostKind, Event, Response, HeadView, Limits, head_case, route_of, Place, BoundBy, accepted_acts, loss_acts, case_at, head_view, is_joining, closing, closes_row, must_close, consumer_after, back_in_line, is_number, denial, doomed_key_of, Does, with_event, as_gone, let_go, all_closed, with_consumer, with_representation, with_answer, lost_to, left_with, if_bound, group_lost, unless_survived, Entry, exchange_heard, Flaw, Loses, becomes_gone, Lawful, IsAwaiting, is_written, is_bound_place, representation_after, Tables, Exchange, Representation, Consumer, IsBound, after_accepted, loses_group, survivor}
 use Rattle.hc_event.specs.declared.event.Event.TheVariants as event
 use Rattle.hc_model.specs.Owners as owners
 use Rattle.hc_model.specs.Sound as sound
@@ -53,13 +53,13 @@ module _ (limits : Limits) (t : Tables) (law : Lawful t) (now x : ℕ) (response
   unfolding is_written
   kept = not_true v.is_lost (and_left (not v.is_lost) _ on)
 
-  losing_it : loses_writing t it r v ≡ true
+  losing_it : loses_group t it r v ≡ true
   losing_it = rw (loses_as t now x response [] flaw xs r, eqb-same r, on) refl
 
-  losing_b : loses_writing t b r v ≡ true
+  losing_b : loses_group t b r v ≡ true
   losing_b = rw (eqb-same r, on) refl
 
-  only_b : (q : ℕ) (u : Representation) → nat_eq r q ≡ false → t.representation q ≡ Some u → loses_writing t b q u ≡ false
+  only_b : (q : ℕ) (u : Representation) → nat_eq r q ≡ false → t.representation q ≡ Some u → loses_group t b q u ≡ false
   only_b q u other here = rw other refl
 
   -- WHAT IS CLOSED
@@ -168,12 +168,12 @@ module _ (limits : Limits) (t : Tables) (law : Lawful t) (now x : ℕ) (response
 
   -- one of those who read it goes on, and its consumer stands in the line again
   pub validated_lost_written : Does limits t now ev flaw (act.Lost r kind ∷ map act.Close xs)
-      (with_event now ev (let_go now r (with_consumer w.c (Some (back_in_line now k)) (all_closed xs (with_answer now x response w.joined w (writing_lost r (survivor t r v) v.writer (with_representation r (Some (lost_to (survivor t r v) v)) t)))))))
+      (with_event now ev (let_go now r (with_consumer w.c (Some (back_in_line now k)) (all_closed xs (with_answer now x response w.joined w (group_lost r (survivor t r v) v.writer (with_representation r (Some (lost_to (survivor t r v) v)) t)))))))
   validated_lost_written = record {
     acts_are = acts_are;
     tables_are =
         ap (λ acts. after_accepted t (record { now = now; event = ev; acts = acts })) acts_are
-        ∙ after_head t now x response [] flaw xs w row case.NotValidated is_it rs t.founded t.used (with_representation r (Some (lost_to (survivor t r v) v)) t).representation (writing_lost r (survivor t r v) v.writer t).consumer w.joined (back_in_line now k) (record {
+        ∙ after_head t now x response [] flaw xs w row case.NotValidated is_it rs t.founded t.used (with_representation r (Some (lost_to (survivor t r v) v)) t).representation (group_lost r (survivor t r v) v.writer t).consumer w.joined (back_in_line now k) (record {
           joins = ap (λ o. if is_joining o then w.aim else w.joined) is_it;
           founded = refl;
           used = refl;

@@ -5,11 +5,9 @@
 -- line has all of them, in order (`back-all`). In the second only those come back that passed; who is away stays away,
 -- and the turn is held as before (`ArePassedBackBelow`). An empty place changes nothing in the first (`back-empty`).
 use Rattle.std.{proofs.{Common.{◌≡◌, ℕ, ◌+◌, ◌<◌, List, [], Bool, true, false, not, eqb, Option, Some, None, refl, sym, ap, ◌∙◌, inl, inr, arith}, lemmas.Bool.{cases_Bool, cases_eq, eqb-true, eqb-false}}, specs.Prelude.{◌||◌}}
-use Rattle.hc_text.proofs.Basics.{turned-false}
-use Rattle.hc_text.specs.Sorted.{is_sorted, is_at as numbered, without}
-use Rattle.hc_text.proofs.SortedLemmas.{has-with, has-without, is_sorted-with, is_sorted-filter}
+use Rattle.hc_text.proofs.{Basics.{turned-false}, SortedLemmas.{has-with, has-without, is_sorted-with, is_sorted-filter}}
+use Rattle.hc_text.specs.Sorted.{is_sorted, is_at as numbered, without, itself, is_among}
 use Rattle.hc_entry.specs.Lines.{Line, is_in, holder_without, come_back, all_back, passed_back, stands, consumer_at, union_of, IsOrderly, AllArePlacedBelow}
-use Rattle.hc_text.specs.Sorted.{itself, is_among}
 use Rattle.hc_entry.proofs.{SeatLemmas.{same_members}, OrderLemmas.{gone, stays-out, no-members, is_sorted-all, is_sorted-passed, among-all, among-merged, orderly-back}}
 
 -- Those with a place below i are in line again.

@@ -1,10 +1,9 @@
 -- Consumers that go from list to list.
 use Rattle.std.{proofs.{Common.{◌≡◌, ℕ, List, [], ◌∷◌, true, false, eqb, Option, Some, None, refl, sym, ap, ◌∙◌, inl, inr}, lemmas.Bool.{cases_Bool, eqb-false, eq-eqb, ne_eqb}}, specs.{Prelude.{min}, Option.{option_or}}}
-use Rattle.hc_text.specs.Sorted.{is_sorted, with_item, without}
+use Rattle.hc_text.specs.Sorted.{is_sorted, with_item, without, itself, is_among}
 use Rattle.hc_text.proofs.SortedLemmas.{has-with, has-without}
 use Rattle.hc_rules.specs.Admissions.{least}
 use Rattle.hc_entry.specs.{Users.{first_of}, Lines.{stands, holder_without, Line, holder_or, turn_with}}
-use Rattle.hc_text.specs.Sorted.{itself, is_among}
 use Rattle.hc_entry.proofs.UserLemmas.{least-ascending}
 
 left-other : (c d : ℕ) (cs : List ℕ) → eqb c d ≡ false → is_among d (without itself c cs) ≡ is_among d cs

@@ -5,11 +5,9 @@
 -- `orderly-away`). Of two lists that are merged, the members are those of both (`among-merged`). They share nobody, so
 -- the merged list ascends (`is_sorted-merged`). `orderly-all` and `orderly-passed-back` stand on that.
 use Rattle.std.{proofs.{Common.{◌≡◌, ℕ, suc, ◌+◌, List, [], ◌∷◌, length, Bool, true, false, not, eqb, Option, Some, None, refl, sym, ap, ◌∙◌, inl, inr, arith}, lemmas.Bool.{cases_Bool, eqb-true, eq-eqb, ne_eqb}}, specs.Prelude.{◌||◌, nat_le}}
-use Rattle.hc_text.proofs.Basics.{turned-false as flip}
-use Rattle.hc_text.specs.Sorted.{is_sorted, is_at as numbered, with_item, without}
-use Rattle.hc_text.proofs.SortedLemmas.{is_sorted-above, has-above, has-with, has-without, is_sorted-with, is_sorted-filter}
+use Rattle.hc_text.proofs.{Basics.{turned-false as flip}, SortedLemmas.{is_sorted-above, has-above, has-with, has-without, is_sorted-with, is_sorted-filter}}
+use Rattle.hc_text.specs.Sorted.{is_sorted, is_at as numbered, with_item, without, itself, is_among}
 use Rattle.hc_entry.specs.Lines.{Line, is_in, is_empty, union_of, all_back, passed_back, apart, line_with, line_after_pass, gone_away, come_back, held_by, turn_of, stands, IsOrderly}
-use Rattle.hc_text.specs.Sorted.{itself, is_among}
 use Rattle.hc_entry.proofs.{LineLemmas.{stands-left, stands-with, stands-held}, SeatLemmas.{first_in}}
 
 neither : (a b : Bool) → a || b ≡ false → (a ≡ false) × (b ≡ false)

@@ -5,12 +5,10 @@
 -- seats name one another, and a place plays where its consumer is in line. The work is to keep that where one moves
 -- (`seated-moved`), leaves (`seated-left`) or enters. The turn of the tournament is the least in line (`turn-least`).
 use Rattle.std.{proofs.{Common.{◌≡◌, ℕ, zero, suc, ◌<◌, ◌≤◌, ◌⊎◌, List, [], ◌∷◌, length, map, set, Bool, true, false, not, eqb, Option, Some, None, refl, sym, ap, ◌∙◌, inl, inr, arith, get_or-set_same, get_or-set_other, length-set}, lemmas.{Bool.{cases_Bool, cases_eq, cases_lt, eqb-true, eqb-false, eq-eqb, ne_eqb}, List.{get_or_past}}}, specs.{Prelude.{◌||◌, is_some, if◌then◌else◌, nat_eq}, Map.{keys_of}, List.{AllByRecursion, IsDistinct}}}
-use Rattle.hc_text.proofs.Basics.{same_consumer}
-use Rattle.hc_text.specs.Sorted.{above, is_sorted, is_at as numbered, with_item, without}
-use Rattle.hc_text.proofs.SortedLemmas.{is_sorted-above, has-above, has-with, has-without, is_sorted-with, is_sorted-filter, without-none}
+use Rattle.hc_text.proofs.{Basics.{same_consumer}, SortedLemmas.{is_sorted-above, has-above, has-with, has-without, is_sorted-with, is_sorted-filter, without-none}}
+use Rattle.hc_text.specs.Sorted.{above, is_sorted, is_at as numbered, with_item, without, itself, is_among}
 use Rattle.hc_rules.specs.Admissions.{least}
-use Rattle.hc_entry.specs.{declared.seat.{Seat.{Seat}, Stand.{Stand}}, Users.{first_of}, Tournaments.{at, IsLeastAt}, Seats.{is_same_stand, called_at, seat_of, standing, called_from, seat_in_line, moved_to, IsSeated}, Lines.{Line, holder_without, stands, left_by}}
-use Rattle.hc_text.specs.Sorted.{itself, is_among}
+use Rattle.hc_entry.specs.{declared.seat.{Seated.{Seated}, Stand.{Stand}}, Users.{first_of}, Tournaments.{at, IsLeastAt}, Seats.{is_same_stand, called_at, seat_of, standing, called_from, seat_in_line, moved_to, IsSeated}, Lines.{Line, holder_without, stands, left_by}}
 use Rattle.hc_entry.specs.declared.seat.Stand.TheVariants as stand
 use Rattle.hc_entry.proofs.{UserLemmas.{least-ascending}, LineLemmas.{stands-left, stands-with}}
 
@@ -63,15 +61,15 @@ same_members (x ∷ xs) (y ∷ ys) up rise same =
     ap (λ (k : ℕ). k ∷ xs) e ∙ ap (λ (l : List ℕ). y ∷ l) tail
 
 -- who stands somewhere is who is seated so
-abbrev pub stands_at : Stand → Option Seat → Bool
+abbrev pub stands_at : Stand → Option Seated → Bool
 stands_at s None = false
 stands_at s (Some seat) = is_same_stand seat.stand s
 
-absent-key : (k : ℕ) (es : List (ℕ × Seat)) → AllByRecursion (λ (q : ℕ). eqb k q ≡ false) (keys_of es) → seat_of es k ≡ None
+absent-key : (k : ℕ) (es : List (ℕ × Seated)) → AllByRecursion (λ (q : ℕ). eqb k q ≡ false) (keys_of es) → seat_of es k ≡ None
 absent-key k [] none = refl
 absent-key k (e ∷ es) none = rw none.0 (absent-key k es none.1)
 
-pub among-standing : (s : Stand) (d : ℕ) (es : List (ℕ × Seat)) → IsDistinct nat_eq (keys_of es) → is_among d (standing s es) ≡ stands_at s (seat_of es d)
+pub among-standing : (s : Stand) (d : ℕ) (es : List (ℕ × Seated)) → IsDistinct nat_eq (keys_of es) → is_among d (standing s es) ≡ stands_at s (seat_of es d)
 unfolding IsDistinct
 among-standing s d [] apart = refl
 among-standing s d (e ∷ es) apart =
@@ -93,7 +91,7 @@ among-standing s d (e ∷ es) apart =
           ]
     ]
 
-pub standing-is_sorted : (s : Stand) (es : List (ℕ × Seat)) → IsDistinct nat_eq (keys_of es) → is_sorted itself (standing s es) ≡ true
+pub standing-is_sorted : (s : Stand) (es : List (ℕ × Seated)) → IsDistinct nat_eq (keys_of es) → is_sorted itself (standing s es) ≡ true
 unfolding IsDistinct
 standing-is_sorted s [] apart = refl
 standing-is_sorted s (e ∷ es) apart = elim (cases_Bool (is_same_stand e.1.stand s)) [
@@ -104,10 +102,10 @@ standing-is_sorted s (e ∷ es) apart = elim (cases_Bool (is_same_stand e.1.stan
 ]
 
 -- who is in the line has a seat
-pub seat-in : (c : ℕ) (es : List (ℕ × Seat)) → IsDistinct nat_eq (keys_of es)
+pub seat-in : (c : ℕ) (es : List (ℕ × Seated)) → IsDistinct nat_eq (keys_of es)
     → is_some (seat_of es c) ≡ is_among c (standing stand.InLine es) || is_among c (standing stand.Passed es) || is_among c (standing stand.Away es)
 seat-in c es up = rw (among-standing stand.InLine c es up, among-standing stand.Passed c es up, among-standing stand.Away c es up) (somewhere (seat_of es c)) where
-  somewhere : (o : Option Seat) → is_some o ≡ stands_at stand.InLine o || stands_at stand.Passed o || stands_at stand.Away o
+  somewhere : (o : Option Seated) → is_some o ≡ stands_at stand.InLine o || stands_at stand.Passed o || stands_at stand.Away o
   somewhere None = refl
   somewhere (Some seat) = each seat.stand where
     each : (s : Stand) → true ≡ is_same_stand s stand.InLine || is_same_stand s stand.Passed || is_same_stand s stand.Away
@@ -116,11 +114,11 @@ seat-in c es up = rw (among-standing stand.InLine c es up, among-standing stand.
     each stand.Away = refl
 
 -- One consumer's seat changes.
-pub record Reseats (c : ℕ) (w : Option Seat) (old new : List (ℕ × Seat)) : Type 0 where
+pub record Reseats (c : ℕ) (w : Option Seated) (old new : List (ℕ × Seated)) : Type 0 where
   pub changes : (q : ℕ) → seat_of new q ≡ (if nat_eq c q then w else seat_of old q)
   pub distinct : IsDistinct nat_eq (keys_of new)
 
-module _ (c : ℕ) (w : Option Seat) (old new : List (ℕ × Seat)) (change : Reseats c w old new) where
+module _ (c : ℕ) (w : Option Seated) (old new : List (ℕ × Seated)) (change : Reseats c w old new) where
   pub here : seat_of new c ≡ w
   here = change.changes c ∙ rw (eq-eqb c c refl) refl
 
@@ -159,23 +157,23 @@ module _ (c : ℕ) (w : Option Seat) (old new : List (ℕ × Seat)) (change : Re
               ∙ (sym (among-standing s d old up) ∙ sym (rw (has-without itself d c (standing s old), off) refl))
         ])
 
-pub some-seat : (o : Option Seat) → is_some o ≡ true → (seat : Seat) × (o ≡ Some seat)
+pub some-seat : (o : Option Seated) → is_some o ≡ true → (seat : Seated) × (o ≡ Some seat)
 some-seat None is = absurd (cc)
 some-seat (Some seat) is = (seat, refl)
 
-same_seat : (o : Option Seat) (a b : Seat) → o ≡ Some a → o ≡ Some b → a ≡ b
+same_seat : (o : Option Seated) (a b : Seated) → o ≡ Some a → o ≡ Some b → a ≡ b
 same_seat o a b is has = cc
 
-module _ (es : List (ℕ × Seat)) (places playing : List (Option ℕ)) (h : Option ℕ) (was : IsSeated es places playing h) where
+module _ (es : List (ℕ × Seated)) (places playing : List (Option ℕ)) (h : Option ℕ) (was : IsSeated es places playing h) where
   -- a consumer has one place
-  pub one_place : (c : ℕ) (seat : Seat) (k : ℕ) → seat_of es c ≡ Some seat → at places k ≡ Some c → k ≡ seat.place
+  pub one_place : (c : ℕ) (seat : Seated) (k : ℕ) → seat_of es c ≡ Some seat → at places k ≡ Some c → k ≡ seat.place
   one_place c seat k is has =
       let (other, there, e) = was.seated k c has in
       let same = same_seat (seat_of es c) other seat there is in
-      sym e ∙ ap (λ (x : Seat). x.place) same
+      sym e ∙ ap (λ (x : Seated). x.place) same
 
   -- its place is one of the tournament's
-  pub place-room : (c : ℕ) (seat : Seat) → seat_of es c ≡ Some seat → seat.place < length playing
+  pub place-room : (c : ℕ) (seat : Seated) → seat_of es c ≡ Some seat → seat.place < length playing
   place-room c seat is = was.room seat.place c (was.placed c seat is)
 
   -- the consumer of a place has a seat
@@ -183,38 +181,38 @@ module _ (es : List (ℕ × Seat)) (places playing : List (Option ℕ)) (h : Opt
   place-seat k c has = let (seat, is, e) = was.seated k c has in rw is refl
 
   -- a change of one consumer leaves the others' places in the tournament
-  called-other : (new : List (ℕ × Seat)) (c : ℕ) (w : Option Seat) (change : Reseats c w es new) (o : Option ℕ) → (o ≡ Some c → ⊥) → seat_in_line new o ≡ seat_in_line es o
+  called-other : (new : List (ℕ × Seated)) (c : ℕ) (w : Option Seated) (change : Reseats c w es new) (o : Option ℕ) → (o ≡ Some c → ⊥) → seat_in_line new o ≡ seat_in_line es o
   called-other new c w change None off = refl
   called-other new c w change (Some d) off =
       let other : eqb c d ≡ false = ne_eqb c d (λ e. off (ap Some (sym e))) in
       ap (called_from d) (elsewhere c w es new change d other)
 
-  holds-new : (new : List (ℕ × Seat)) (c : ℕ) (w : Option Seat) (change : Reseats c w es new) → stands (holder_without c h) (standing stand.InLine new) ≡ true
+  holds-new : (new : List (ℕ × Seated)) (c : ℕ) (w : Option Seated) (change : Reseats c w es new) → stands (holder_without c h) (standing stand.InLine new) ≡ true
   holds-new new c w change = elim (cases_Bool (stands_at stand.InLine w)) [
     | inl on ↦ rw (standing-comes c w es new change was.distinct stand.InLine on) (stands-with c (holder_without c h) (without itself c (standing stand.InLine es)) (stands-left c h (standing stand.InLine es) was.holds))
     | inr off ↦ rw (standing-leaves c w es new change was.distinct stand.InLine off) (stands-left c h (standing stand.InLine es) was.holds)
   ]
 
   -- a consumer stands elsewhere
-  module _ (c : ℕ) (seat : Seat) (is : seat_of es c ≡ Some seat) (s : Stand) (p : ℕ) (e : seat.place ≡ p)
-      (new : List (ℕ × Seat)) (change : Reseats c (Some (record { place = p; stand = s })) es new) where
-    moved : Seat
+  module _ (c : ℕ) (seat : Seated) (is : seat_of es c ≡ Some seat) (s : Stand) (p : ℕ) (e : seat.place ≡ p)
+      (new : List (ℕ × Seated)) (change : Reseats c (Some (record { place = p; stand = s })) es new) where
+    moved : Seated
     moved = record { place = p; stand = s }
 
     at_place : at places p ≡ Some c
     at_place = ap (at places) (sym e) ∙ was.placed c seat is
 
-    moved-placed : (d : ℕ) (x : Seat) → seat_of new d ≡ Some x → at places x.place ≡ Some d
+    moved-placed : (d : ℕ) (x : Seated) → seat_of new d ≡ Some x → at places x.place ≡ Some d
     moved-placed d x has = elim (cases_Bool (eqb c d)) [
       | inl on ↦
           let same = eqb-true c d on in
           let there : seat_of new d ≡ Some (record { place = p; stand = s }) = ap (seat_of new) (sym same) ∙ here c (Some (record { place = p; stand = s })) es new change in
           let eq = same_seat (seat_of new d) x (record { place = p; stand = s }) has there in
-          ap (λ (y : Seat). at places y.place) eq ∙ (at_place ∙ ap Some same)
+          ap (λ (y : Seated). at places y.place) eq ∙ (at_place ∙ ap Some same)
       | inr off ↦ was.placed d x (sym (elsewhere c (Some (record { place = p; stand = s })) es new change d off) ∙ has)
     ]
 
-    moved-seated : (k d : ℕ) → at places k ≡ Some d → (x : Seat) × (seat_of new d ≡ Some x) × (x.place ≡ k)
+    moved-seated : (k d : ℕ) → at places k ≡ Some d → (x : Seated) × (seat_of new d ≡ Some x) × (x.place ≡ k)
     moved-seated k d has = elim (cases_Bool (eqb c d)) [
       | inl on ↦
           let same = eqb-true c d on in
@@ -248,7 +246,7 @@ module _ (es : List (ℕ × Seat)) (places playing : List (Option ℕ)) (h : Opt
     }
 
   -- a consumer leaves
-  module _ (c : ℕ) (seat : Seat) (is : seat_of es c ≡ Some seat) (new : List (ℕ × Seat)) (change : Reseats c None es new) where
+  module _ (c : ℕ) (seat : Seated) (is : seat_of es c ≡ Some seat) (new : List (ℕ × Seated)) (change : Reseats c None es new) where
     left-at : (k d : ℕ) → at (set places seat.place None) k ≡ Some d → (at places k ≡ Some d) × (k ≡ seat.place → ⊥)
     left-at k d has = elim (cases_eq k seat.place) [
       | inl on ↦
@@ -341,7 +339,7 @@ module _ (es : List (ℕ × Seat)) (places playing : List (Option ℕ)) (h : Opt
           rw off (ap (λ (l : List (Option ℕ)). Some d ∷ l) (cleared os p has (λ k at_k. let h = only (suc k) at_k in omega arith)))
 
   -- one more is in line, at a place that nobody had
-  module _ (c p : ℕ) (absent : seat_of es c ≡ None) (new : List (ℕ × Seat)) (change : Reseats c (Some (record { place = p; stand = stand.InLine })) es new) where
+  module _ (c p : ℕ) (absent : seat_of es c ≡ None) (new : List (ℕ × Seated)) (change : Reseats c (Some (record { place = p; stand = stand.InLine })) es new) where
     absent-among : (s : Stand) → is_among c (standing s es) ≡ false
     absent-among s = among-standing s c es was.distinct ∙ ap (stands_at s) absent
 
@@ -389,7 +387,7 @@ module _ (es : List (ℕ × Seat)) (places playing : List (Option ℕ)) (h : Opt
               let e = eqb-true c d on in
               let mine : seat_of new d ≡ Some (record { place = p; stand = stand.InLine }) = ap (seat_of new) (sym e) ∙ here c (Some (record { place = p; stand = stand.InLine })) es new change in
               let eq = same_seat (seat_of new d) x (record { place = p; stand = stand.InLine }) has mine in
-              ap (λ (y : Seat). at places' y.place) eq ∙ (there ∙ ap Some e)
+              ap (λ (y : Seated). at places' y.place) eq ∙ (there ∙ ap Some e)
           | inr off ↦
               let before = was.placed d x (sym (elsewhere c (Some (record { place = p; stand = stand.InLine })) es new change d off) ∙ has) in
               others x.place (not_at x.place d before) ∙ before
@@ -422,13 +420,13 @@ module _ (es : List (ℕ × Seat)) (places playing : List (Option ℕ)) (h : Opt
 
     in_line : (d : ℕ) → is_among d (standing stand.InLine es) ≡ true → (k : ℕ) × (at playing k ≡ Some d)
     in_line d is = seen (seat_of es d) refl (sym (among-standing stand.InLine d es was.distinct) ∙ is) where
-      seen : (o : Option Seat) → seat_of es d ≡ o → stands_at stand.InLine o ≡ true → (k : ℕ) × (at playing k ≡ Some d)
+      seen : (o : Option Seated) → seat_of es d ≡ o → stands_at stand.InLine o ≡ true → (k : ℕ) × (at playing k ≡ Some d)
       seen None has none = absurd (cc)
       seen (Some x) has on = (x.place, was.plays x.place ∙ (ap (seat_in_line es) (was.placed d x has) ∙ (ap (called_from d) has ∙ rw on refl)))
 
     plays : (k d : ℕ) → at playing k ≡ Some d → is_among d (standing stand.InLine es) ≡ true
     plays k d is = seen (at places k) (sym (was.plays k) ∙ is) where
-      seated_so : (c : ℕ) (o : Option Seat) → seat_of es c ≡ o → called_from c o ≡ Some d → is_among d (standing stand.InLine es) ≡ true
+      seated_so : (c : ℕ) (o : Option Seated) → seat_of es c ≡ o → called_from c o ≡ Some d → is_among d (standing stand.InLine es) ≡ true
       seated_so c None has none = absurd (cc)
       seated_so c (Some x) has some = elim (cases_Bool (is_same_stand x.stand stand.InLine)) [
         | inl on ↦
@@ -457,7 +455,7 @@ module _ (es : List (ℕ × Seat)) (places playing : List (Option ℕ)) (h : Opt
         least ∙ ap Some (sym e)
 
 -- what a contract sees of a line
-abbrev pub line_of : List (ℕ × Seat) → List (Option ℕ) → Option ℕ → Line
+abbrev pub line_of : List (ℕ × Seated) → List (Option ℕ) → Option ℕ → Line
 line_of es places h = record {
   in_line = standing stand.InLine es;
   passed = standing stand.Passed es;
@@ -466,16 +464,16 @@ line_of es places h = record {
   places = places;
 }
 
-module _ (es : List (ℕ × Seat)) (places : List (Option ℕ)) (h : Option ℕ) (up : IsDistinct nat_eq (keys_of es)) (c p : ℕ) (new : List (ℕ × Seat)) (h' : Option ℕ) (holder : h' ≡ holder_without c h) where
+module _ (es : List (ℕ × Seated)) (places : List (Option ℕ)) (h : Option ℕ) (up : IsDistinct nat_eq (keys_of es)) (c p : ℕ) (new : List (ℕ × Seated)) (h' : Option ℕ) (holder : h' ≡ holder_without c h) where
   pub line-moved : (s : Stand) → Reseats c (Some (record { place = p; stand = s })) es new → line_of new places h' ≡ moved_to s c (line_of es places h)
   line-moved stand.InLine change =
-      let w : Option Seat = Some (record { place = p; stand = stand.InLine }) in
+      let w : Option Seated = Some (record { place = p; stand = stand.InLine }) in
       rw (standing-comes c w es new change up stand.InLine refl, standing-leaves c w es new change up stand.Passed refl, standing-leaves c w es new change up stand.Away refl, holder) refl
   line-moved stand.Passed change =
-      let w : Option Seat = Some (record { place = p; stand = stand.Passed }) in
+      let w : Option Seated = Some (record { place = p; stand = stand.Passed }) in
       rw (standing-leaves c w es new change up stand.InLine refl, standing-comes c w es new change up stand.Passed refl, standing-leaves c w es new change up stand.Away refl, holder) refl
   line-moved stand.Away change =
-      let w : Option Seat = Some (record { place = p; stand = stand.Away }) in
+      let w : Option Seated = Some (record { place = p; stand = stand.Away }) in
       rw (standing-leaves c w es new change up stand.InLine refl, standing-leaves c w es new change up stand.Passed refl, standing-comes c w es new change up stand.Away refl, holder) refl
 
   pub line-left : (places' : List (Option ℕ)) → places' ≡ map (holder_without c) places → Reseats c None es new → line_of new places' h' ≡ left_by c (line_of es places h)
@@ -483,9 +481,9 @@ module _ (es : List (ℕ × Seat)) (places : List (Option ℕ)) (h : Option ℕ)
       rw (standing-leaves c None es new change up stand.InLine refl, standing-leaves c None es new change up stand.Passed refl, standing-leaves c None es new change up stand.Away refl, holder, left) refl
 
 -- who isn't in the line has no seat
-pub no-seat : (c : ℕ) (es : List (ℕ × Seat)) → IsDistinct nat_eq (keys_of es)
+pub no-seat : (c : ℕ) (es : List (ℕ × Seated)) → IsDistinct nat_eq (keys_of es)
     → is_among c (standing stand.InLine es) || is_among c (standing stand.Passed es) || is_among c (standing stand.Away es) ≡ false → seat_of es c ≡ None
 no-seat c es up out = none (seat_of es c) (seat-in c es up ∙ out) where
-  none : (o : Option Seat) → is_some o ≡ false → o ≡ None
+  none : (o : Option Seated) → is_some o ≡ false → o ≡ None
   none None is = refl
   none (Some seat) is = absurd (cc)

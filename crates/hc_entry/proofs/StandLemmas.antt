@@ -1,21 +1,20 @@
 -- Who stands where in a line, and at which seat.
 use Rattle.std.{proofs.{Common.{◌≡◌, ℕ, suc, ◌+◌, ◌<◌, List, [], ◌∷◌, length, Bool, true, false, eqb, Option, Some, None, refl, sym, ap, ◌∙◌, inl, inr, arith}, lemmas.{Bool.{cases_lt, eq-eqb, ne_eqb}, List.{get_or_past}}}, specs.{Prelude.{nat_eq, if◌then◌else◌}, Map.{keys_of}, List.{IsDistinct}}}
-use Rattle.hc_text.specs.Sorted.{with_item}
-use Rattle.hc_entry.specs.{declared.seat.{Seat.{Seat}, Stand.{Stand}}, Tournaments.{at}, Seats.{is_same_stand, seat_of, standing, stand_in, IsSeated}, Lines.{is_empty, stands, IsOrderly}}
-use Rattle.hc_text.specs.Sorted.{itself, is_among}
+use Rattle.hc_text.specs.Sorted.{with_item, itself, is_among}
+use Rattle.hc_entry.specs.{declared.seat.{Seated.{Seated}, Stand.{Stand}}, Tournaments.{at}, Seats.{is_same_stand, seat_of, standing, stand_in, IsSeated}, Lines.{is_empty, stands, IsOrderly}}
 use Rattle.hc_entry.specs.declared.seat.Stand.TheVariants as stand
 use Rattle.hc_entry.proofs.{SeatLemmas.{among-standing, standing-is_sorted, stands_at, line_of}, OrderLemmas.{length-with}}
 
-abbrev pub stand_of : Option Seat → Option Stand
+abbrev pub stand_of : Option Seated → Option Stand
 stand_of None = None
 stand_of (Some seat) = Some seat.stand
 
 -- one stands where its seat says
-pub stand-seat : (c : ℕ) (es : List (ℕ × Seat)) (places : List (Option ℕ)) (h : Option ℕ) → IsDistinct nat_eq (keys_of es)
+pub stand-seat : (c : ℕ) (es : List (ℕ × Seated)) (places : List (Option ℕ)) (h : Option ℕ) → IsDistinct nat_eq (keys_of es)
     → stand_in c (line_of es places h) ≡ stand_of (seat_of es c)
 stand-seat c es places h up =
     rw (among-standing stand.InLine c es up, among-standing stand.Passed c es up, among-standing stand.Away c es up) (by_seat (seat_of es c)) where
-      by_seat : (o : Option Seat) → (if stands_at stand.InLine o then Some stand.InLine else if stands_at stand.Passed o then Some stand.Passed
+      by_seat : (o : Option Seated) → (if stands_at stand.InLine o then Some stand.InLine else if stands_at stand.Passed o then Some stand.Passed
           else if stands_at stand.Away o then Some stand.Away else None) ≡ stand_of o
       by_seat None = refl
       by_seat (Some seat) = each seat.stand where
@@ -26,7 +25,7 @@ stand-seat c es places h up =
         each stand.Away = refl
 
 -- there are as many consumers as seats that are taken
-pub count-standing : (es : List (ℕ × Seat)) → length (standing stand.InLine es) + length (standing stand.Passed es) + length (standing stand.Away es) ≡ length es
+pub count-standing : (es : List (ℕ × Seated)) → length (standing stand.InLine es) + length (standing stand.Passed es) + length (standing stand.Away es) ≡ length es
 count-standing [] = refl
 count-standing (e ∷ es) = each e.1.stand (count-standing es) where
   each : (s : Stand) → length (standing stand.InLine es) + length (standing stand.Passed es) + length (standing stand.Away es) ≡ length es
@@ -37,15 +36,15 @@ count-standing (e ∷ es) = each e.1.stand (count-standing es) where
   each stand.Passed tail = let h = length-with e.0 (standing stand.Passed es) in omega arith
   each stand.Away tail = let h = length-with e.0 (standing stand.Away es) in omega arith
 
-pub empty-seats : (es : List (ℕ × Seat)) (places : List (Option ℕ)) (h : Option ℕ) → eqb (length es) 0 ≡ is_empty (line_of es places h)
+pub empty-seats : (es : List (ℕ × Seated)) (places : List (Option ℕ)) (h : Option ℕ) → eqb (length es) 0 ≡ is_empty (line_of es places h)
 empty-seats es places h = ap (λ (n : ℕ). eqb n 0) (sym (count-standing es))
 
 -- nobody holds the turn of a line without seats
-pub free-seats : (es : List (ℕ × Seat)) (h : Option ℕ) → es ≡ [] → stands h (standing stand.InLine es) ≡ true → h ≡ None
+pub free-seats : (es : List (ℕ × Seated)) (h : Option ℕ) → es ≡ [] → stands h (standing stand.InLine es) ≡ true → h ≡ None
 free-seats es None none in_line = refl
-free-seats es (Some d) none in_line = let out = ap (λ (x : List (ℕ × Seat)). is_among d (standing stand.InLine x)) none in absurd (cc)
+free-seats es (Some d) none in_line = let out = ap (λ (x : List (ℕ × Seated)). is_among d (standing stand.InLine x)) none in absurd (cc)
 
-pub no-entries : (es : List (ℕ × Seat)) → length es ≡ 0 → es ≡ []
+pub no-entries : (es : List (ℕ × Seated)) → length es ≡ 0 → es ≡ []
 no-entries [] e = refl
 no-entries (x ∷ xs) e = absurd (omega arith)
 
@@ -60,7 +59,7 @@ place-within xs i d has = elim (cases_lt i (length xs)) [
 ]
 
 -- the lists of a seated line rise, and nobody stands in two of them
-pub orderly-seated : (es : List (ℕ × Seat)) (places playing : List (Option ℕ)) (h : Option ℕ) → IsSeated es places playing h → IsOrderly (line_of es places h)
+pub orderly-seated : (es : List (ℕ × Seated)) (places playing : List (Option ℕ)) (h : Option ℕ) → IsSeated es places playing h → IsOrderly (line_of es places h)
 orderly-seated es places playing h was = record {
   in_line = standing-is_sorted stand.InLine es was.distinct;
   passed = standing-is_sorted stand.Passed es was.distinct;
@@ -72,7 +71,7 @@ orderly-seated es places playing h was = record {
 } where
   apart : (s t : Stand) → ((x : Stand) → is_same_stand x s ≡ true → is_same_stand x t ≡ false) → (c : ℕ) → is_among c (standing s es) ≡ true → is_among c (standing t es) ≡ false
   apart s t off c is = among-standing t c es was.distinct ∙ other (seat_of es c) (sym (among-standing s c es was.distinct) ∙ is) where
-    other : (o : Option Seat) → stands_at s o ≡ true → stands_at t o ≡ false
+    other : (o : Option Seated) → stands_at s o ≡ true → stands_at t o ≡ false
     other None none = refl
     other (Some seat) on = off seat.stand on
 

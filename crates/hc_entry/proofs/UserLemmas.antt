@@ -6,12 +6,10 @@
 -- what is admitted is as the others are, or alone (`are_all-admitted`, `alone-admitted`).
 use Rattle.std.{proofs.{Common.{◌≡◌, ◌⊎◌, ℕ, ◌≤◌, List, [], ◌∷◌, length, map, Bool, true, false, eqb, leb, ltb, Option, Some, None, refl, sym, ap, ◌∙◌, inl, inr, arith}, lemmas.Bool.{cases_Bool, and_parts, ltb-true, eqb-true}}, specs.{Prelude.{◌&&◌, ◌||◌, filter, min, IfSome}, List.{list_any}}}
 use Rattle.hc_text.proofs.Basics.{and_false}
-use Rattle.hc_text.specs.Sorted.{above, is_sorted, has, with_item, without, with_replacement}
-use Rattle.hc_rules.specs.{declared.admission.{Bound.{Bound}, BoundKind.{BoundKind}}, Admissions.{is_same_kind, is_of, numbers, least_of, least_bound, admission_of}}
-use Rattle.hc_rules.specs.Admissions.{lesser, least}
+use Rattle.hc_text.specs.Sorted.{above, is_sorted, has, with_item, without, with_replacement, itself}
+use Rattle.hc_rules.specs.{declared.admission.{Bound.{Bound}, BoundKind.{BoundKind}}, Admissions.{is_same_kind, is_of, numbers, least_of, least_bound, admission_of, lesser, least}}
 use Rattle.hc_rules.specs.declared.admission.BoundKind.TheVariants as kind
 use Rattle.hc_entry.specs.Users.{consumer_of, bound_as, without_sharing, are_all, first_of, admission_by, kind_by, Users, is_bound_as, users_without_writer, rebound}
-use Rattle.hc_text.specs.Sorted.{itself}
 
 spread : (a s h : Bool) → (a && s) || (s && h) ≡ s && (a || h)
 spread true true h = refl

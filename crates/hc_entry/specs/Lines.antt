@@ -1,8 +1,7 @@
 -- The line of a key: who waits for the turn, who passed, and who is away.
 use Rattle.std.specs.Prelude.{◌≡◌, ℕ, ◌<◌, ◌==◌, ◌||◌, Bool, true, false, List, [], ◌∷◌, length, ◌+◌, map, if◌then◌else◌, Option, Some, None, slice_index_or}
-use Rattle.hc_text.specs.Sorted.{is_sorted, has, with_item, without, is_among}
+use Rattle.hc_text.specs.Sorted.{is_sorted, has, with_item, without, is_among, itself}
 use Rattle.hc_rules.specs.Admissions.{least, lesser}
-use Rattle.hc_text.specs.Sorted.{itself}
 
 -- The consumers in line, the passed and the away ones, each by number, the one in line that holds the turn, if one does,
 -- and the consumer of each place, if it has one.

@@ -2,14 +2,12 @@
 use Rattle.std.specs.Prelude.{◌≡◌, ℕ, ◌<◌, Bool, true, false, List, [], ◌∷◌, length, if◌then◌else◌, Option, Some, None, nat_eq}
 use Rattle.std.specs.Map.{lookup, keys_of}
 use Rattle.std.specs.List.{IsDistinct}
-use Rattle.hc_text.specs.Sorted.{with_item}
-use Rattle.hc_text.specs.Sorted.{itself}
-use Rattle.hc_entry.specs.declared.seat.Seat.{Seat}
+use Rattle.hc_text.specs.Sorted.{with_item, itself, is_among}
+use Rattle.hc_entry.specs.declared.seat.Seated.{Seated}
 use Rattle.hc_entry.specs.declared.seat.Stand.{Stand}
 use Rattle.hc_entry.specs.declared.seat.Stand.TheVariants as stand
 use Rattle.hc_entry.specs.Tournaments.{at}
 use Rattle.hc_entry.specs.Lines.{Line, stands, line_after_pass, gone_away, come_back}
-use Rattle.hc_text.specs.Sorted.{is_among}
 
 abbrev pub is_same_stand : Stand → Stand → Bool
 is_same_stand stand.InLine stand.InLine = true
@@ -35,28 +33,28 @@ stand_in c l =
     else if is_among c l.away then Some stand.Away
     else None
 
-abbrev pub seat_of : List (ℕ × Seat) → ℕ → Option Seat
+abbrev pub seat_of : List (ℕ × Seated) → ℕ → Option Seated
 seat_of seats c = lookup (nat_eq c) seats
 
 -- those who stand there, by number
-abbrev pub standing : Stand → List (ℕ × Seat) → List ℕ
+abbrev pub standing : Stand → List (ℕ × Seated) → List ℕ
 standing s [] = []
 standing s (e ∷ es) = if is_same_stand e.1.stand s then with_item itself e.0 (standing s es) else standing s es
 
-abbrev pub called_from : ℕ → Option Seat → Option ℕ
+abbrev pub called_from : ℕ → Option Seated → Option ℕ
 called_from c None = None
 called_from c (Some seat) = called_at seat.stand c
 
 -- who is in line at a place
-abbrev pub seat_in_line : List (ℕ × Seat) → Option ℕ → Option ℕ
+abbrev pub seat_in_line : List (ℕ × Seated) → Option ℕ → Option ℕ
 seat_in_line seats None = None
 seat_in_line seats (Some c) = called_from c (seat_of seats c)
 
 -- Each consumer has one place, each place in use one consumer; those in line play, and who holds the turn is in line.
-pub record IsSeated (seats : List (ℕ × Seat)) (places playing : List (Option ℕ)) (holder : Option ℕ) : Type 0 where
+pub record IsSeated (seats : List (ℕ × Seated)) (places playing : List (Option ℕ)) (holder : Option ℕ) : Type 0 where
   pub distinct : IsDistinct nat_eq (keys_of seats)
-  pub placed : (c : ℕ) (seat : Seat) → seat_of seats c ≡ Some seat → at places seat.place ≡ Some c
-  pub seated : (k c : ℕ) → at places k ≡ Some c → (seat : Seat) × (seat_of seats c ≡ Some seat) × (seat.place ≡ k)
+  pub placed : (c : ℕ) (seat : Seated) → seat_of seats c ≡ Some seat → at places seat.place ≡ Some c
+  pub seated : (k c : ℕ) → at places k ≡ Some c → (seat : Seated) × (seat_of seats c ≡ Some seat) × (seat.place ≡ k)
   pub plays : (k : ℕ) → at playing k ≡ seat_in_line seats (at places k)
   pub room : (k c : ℕ) → at places k ≡ Some c → k < length playing
   pub holds : stands holder (standing stand.InLine seats) ≡ true

@@ -74,7 +74,7 @@ users_without_writer c u = if is_bound_as kind.Exclusive c u then rebound kind.R
 abbrev pub without_sharing : Bound → Bound
 without_sharing b = if is_same_kind b.kind kind.Shared then bound_as kind.Reader b.c else b
 
--- members of the shared writing become readers
+-- members of the writer group become readers
 abbrev pub all_unshared : Users → Users
 all_unshared u = record u { bound = map without_sharing u.bound }
 

@@ -9,8 +9,8 @@ use hc_text::{NoMemory, has_item, put_reserved, take_out};
 use std::alloc::Global;
 use std::marker::Model;
 
-/// The consumers that are bound to one representation: its exclusive writer, members of its shared
-/// writing, or readers of what is stored.
+/// The consumers that are bound to one representation: its exclusive writer, members of its writer
+/// group, or readers of what is stored.
 #[derive(Drop)]
 pub struct ActiveEntry {
     r: u64,
@@ -108,8 +108,8 @@ impl ActiveEntry {
         first_of(self.consumers.as_slice())
     }
 
-    /// Whether the shared writing is on.
-    pub fn is_writing(&self) -> bool
+    /// Whether the writer group is on.
+    pub fn is_group(&self) -> bool
         ensures { result ≡ is_some (least_of way.Shared self.now.bound) }
     {
         is_shared(self.kind) && first_of(self.consumers.as_slice()).is_some()
@@ -163,7 +163,7 @@ impl ActiveEntry {
         self.kind = kind;
     }
 
-    /// The consumer founds a shared writing, of which it is the first member.
+    /// The consumer founds a writer group, of which it is the first member.
     pub fn found_shared(&mut self, c: u64)
         requires room { 1 ≤ self.old.spare }
         requires nobody { self.old.bound ≡ [] }
@@ -190,7 +190,7 @@ impl ActiveEntry {
         }
     }
 
-    /// The shared writing is over: its members read from now on.
+    /// The writer group is over: its members read from now on.
     pub fn end_shared(&mut self)
         ensures { self.new ≡ all_unshared self.old }
     {

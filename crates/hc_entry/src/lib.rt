@@ -11,5 +11,5 @@ mod tournament;
 pub use active::ActiveEntry;
 pub use hc_rules::{Admission, Plan};
 pub use keys::KeyTable;
-pub use line::{KeyLine, Place};
+pub use line::{KeyLine, Seat};
 pub use seat::Stand;

@@ -7,7 +7,7 @@ ghost use Rattle.hc_entry.specs.Seats.{seat_of, stand_in, moved_to};
 ghost use Rattle.hc_entry.specs.Lines.{nobody, is_in, is_empty, line_with, line_after_pass, gone_away, come_back, all_back, passed_back, held_by, left_by, turn_of, turn_with, holder_without, consumer_at, Enters, AllArePlacedBelow, IsItsPlace};
 ghost use Rattle.hc_text.specs.Sorted.{is_among};
 
-use crate::seat::{Seat, Stand};
+use crate::seat::{Seated, Stand};
 use crate::tournament::Tournament;
 use hc_text::NoMemory;
 use slab::Slab;
@@ -17,7 +17,7 @@ use std::marker::Model;
 
 /// The place of a consumer in a line. It stays while the consumer goes from list to list.
 #[derive(Clone, Copy, Debug, PartialEq, Eq)]
-pub struct Place {
+pub struct Seat {
     /// The key of its node.
     pub key: usize,
 }
@@ -25,7 +25,7 @@ pub struct Place {
 /// The consumers of a key that wait: in line for the turn, passed, or away.
 #[derive(Drop)]
 pub struct KeyLine {
-    seats: HashMap<u64, Seat>,
+    seats: HashMap<u64, Seated>,
     /// The consumer of each place.
     places: Slab<u64>,
     /// Those in line, each at its place.
@@ -104,7 +104,7 @@ impl KeyLine {
     }
 
     /// The consumer is in line, at the place that is answered. All others keep theirs.
-    pub fn enter(&mut self, c: u64) -> Result<Place, NoMemory>
+    pub fn enter(&mut self, c: u64) -> Result<Seat, NoMemory>
         requires { is_in c self.old ≡ false }
         ensures ok { IfOk result (λ place. Enters c place.key self.old self.new) }
         ensures err { OnErr result (self.new ≡ self.old) }
@@ -112,14 +112,14 @@ impl KeyLine {
         self.places.reserve(1)?;
         self.in_line.grow(self.places.capacity())?;
         let place = self.places.vacant_key();
-        let seat = Seat {
+        let seat = Seated {
             place,
             stand: Stand::InLine,
         };
         self.seats.insert(c, seat)?;
         self.places.insert_reserved(c);
         self.in_line.set(place, Some(c));
-        Ok(Place { key: place })
+        Ok(Seat { key: place })
     }
 
     /// The turn: the holder, or else the least in line.
@@ -234,7 +234,7 @@ impl KeyLine {
     }
 
     /// The consumer of the place stands in it no more.
-    pub fn leave_at(&mut self, place: Place)
+    pub fn leave_at(&mut self, place: Seat)
         requires { is_some (consumer_at self.old place.key) ≡ true }
         ensures { IfSome (consumer_at self.old place.key) (λ c. self.new ≡ left_by c self.old) }
     {
@@ -246,7 +246,7 @@ impl KeyLine {
 }
 
 /// The consumer stands there from now on. Its place, which stays, is answered.
-fn reseat(seats: &mut HashMap<u64, Seat>, c: u64, stand: Stand) -> usize
+fn reseat(seats: &mut HashMap<u64, Seated>, c: u64, stand: Stand) -> usize
     requires { is_some (seat_of seats.old.entries c) ≡ true }
     ensures place { IfSome (seat_of seats.old.entries c) (λ seat. seat.place ≡ result) }
     ensures seats { (q : ℕ) → seat_of seats.new.entries q

@@ -35,7 +35,7 @@ impl Stand {
 
 /// What a line keeps of a consumer.
 #[derive(Clone, Copy, Debug, PartialEq, Eq)]
-pub(crate) struct Seat {
+pub(crate) struct Seated {
     /// Its place, which stays.
     pub(crate) place: usize,
     pub(crate) stand: Stand,

@@ -2,13 +2,13 @@
 use Rattle.std.{proofs.{Common.{◌≡◌, ℕ, ◌+◌, ◌<◌, suc, Bool, true, false, cond, eqb, List, [], ◌∷◌, ◌++◌, length, get_or, take, refl, sym, ap, ◌∙◌, inl, inr, arith}, lemmas.{Bool.{cases_Bool, and_parts, and_from, cond-true, cond-false, both_ways, true≢false, false≢true}, List.{length-append, append_assoc, get_or_at}}}, specs.List.{prefix_len, list_all}}
 use Rattle.hc_etag.specs.Etags.{quote, is_etagc, IsOpaque, tag_text}
 
-pub IsOpaque-front : (text : List ℕ) → IsOpaque (take (prefix_len is_etagc text) text)
-IsOpaque-front [] = refl
-IsOpaque-front (b ∷ text) =
+pub IsOpaque-leading : (text : List ℕ) → IsOpaque (take (prefix_len is_etagc text) text)
+IsOpaque-leading [] = refl
+IsOpaque-leading (b ∷ text) =
     elim (cases_Bool (is_etagc b)) [
       | inl allowed ↦
           let more : prefix_len is_etagc (b ∷ text) ≡ suc (prefix_len is_etagc text) = cond-true (is_etagc b) (1 + prefix_len is_etagc text) 0 allowed ∙ omega arith in
-          ap (λ (n : ℕ). list_all is_etagc (take n (b ∷ text))) more ∙ and_from (is_etagc b) (list_all is_etagc (take (prefix_len is_etagc text) text)) allowed (IsOpaque-front text)
+          ap (λ (n : ℕ). list_all is_etagc (take n (b ∷ text))) more ∙ and_from (is_etagc b) (list_all is_etagc (take (prefix_len is_etagc text) text)) allowed (IsOpaque-leading text)
       | inr barred ↦ ap (λ (n : ℕ). list_all is_etagc (take n (b ∷ text))) (cond-false (is_etagc b) (1 + prefix_len is_etagc text) 0 barred)
     ]
 

@@ -1,7 +1,7 @@
 //! Entity tags (RFC 9110 section 8.8.3): their text, their comparison, and lists of them.
 #![tactic(auto)]
 
-mod front;
+mod leading;
 mod list;
 mod read;
 mod tag;

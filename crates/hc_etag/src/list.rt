@@ -4,7 +4,7 @@ ghost use Rattle.hc_etag.specs.Etags.{HasTag};
 ghost use Rattle.hc_etag.specs.TagListTexts.{list_in, plain_list};
 ghost use Rattle.hc_etag.specs.TagLists.{AreTagsOf, HasAll, HoldsOnly, IsNoList, SpellsList, SpellsNone};
 
-use crate::front::front_tag;
+use crate::leading::leading_tag;
 use crate::tag::Tag;
 use hc_text::{NoMemory, is_blank};
 use std::alloc::Global;
@@ -105,12 +105,12 @@ fn read_tags(alloc: Global, text: &[u8]) -> Result<Option<Vec<Tag>>, NoMemory>
             if !may_come {
                 return Ok(None);
             }
-            let Some(front) = front_tag(rest) else {
+            let Some(leading) = leading_tag(rest) else {
                 return Ok(None);
             };
-            tags.push(front.tag(alloc)?)?;
+            tags.push(leading.tag(alloc)?)?;
             may_come = false;
-            rest = front.rest;
+            rest = leading.rest;
         }
     }
     Ok(Some(tags))

@@ -3,7 +3,7 @@ ghost use Rattle.std.specs.Prelude.{◌≡◌, ◌++◌, OnOk, OnErr, IfOk, IfSo
 ghost use Rattle.hc_etag.specs.Etags.{IsNoTag, IsTag, tag_text};
 ghost use Rattle.hc_etag.specs.Tags.{IsOnlyTagOf, IsTagOf};
 
-use crate::front::front_tag;
+use crate::leading::leading_tag;
 use crate::tag::Tag;
 use hc_text::NoMemory;
 use std::alloc::Global;
@@ -17,13 +17,13 @@ pub fn read_tag(alloc: Global, text: &[u8]) -> Result<Option<Tag>, NoMemory>
     ensures none { IfOk result (λ read. IfNone read (IsNoTag text.now)) }
     ensures err { OnErr result (IsTag text.now) }
 {
-    let Some(front) = front_tag(text) else {
+    let Some(leading) = leading_tag(text) else {
         return Ok(None);
     };
-    if !front.rest.is_empty() {
+    if !leading.rest.is_empty() {
         return Ok(None);
     }
-    Ok(Some(front.tag(alloc)?))
+    Ok(Some(leading.tag(alloc)?))
 }
 
 /// Appends the text of the tag, or nothing.

@@ -5,7 +5,7 @@ ghost use Rattle.hc_etag.specs.Etags.{is_etagc};
 ghost use Rattle.hc_etag.specs.PlainTags.{plain_tag};
 ghost use Rattle.hc_etag.specs.TagTexts.{is_quoted, strong_in, tag_in};
 
-use crate::front::is_etagc;
+use crate::leading::is_etagc;
 
 /// What a strong entity tag has between its quotes (RFC 9110 section 8.8.3). None exactly where the
 /// text is no strong tag.

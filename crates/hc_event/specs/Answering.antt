@@ -6,5 +6,5 @@ use Rattle.hc_event.specs.declared.act.Act.{Act}
 -- the event was answered by the acts that were appended
 pub record Appends {A : Type 0} (answers : A → ℕ → Event → List Act → A → Type 0) (s u : A) (now : ℕ) (event : Event) (before after : List Act) : Type 0 where
   pub acts : List Act
-  pub told : after ≡ before ++ acts
+  pub reported : after ≡ before ++ acts
   pub answered : answers s now event acts u

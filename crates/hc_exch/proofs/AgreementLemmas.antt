@@ -1,9 +1,8 @@
 -- The lists of wanted exchanges, as an exchange changes.
 use Rattle.std.{proofs.{Common.{◌≡◌, ◌≢◌, ℕ, List, true, false, not, eqb, Option, Some, None, refl, sym, ap, ◌∙◌, inl, inr}, lemmas.Bool.{cases_Bool, eq-eqb, ne_eqb, eqb-true, eqb-false}}, specs.Prelude.{is_some}}
-use Rattle.hc_text.specs.Sorted.{with_item, without}
+use Rattle.hc_text.specs.Sorted.{with_item, without, itself, is_among}
 use Rattle.hc_text.proofs.SortedLemmas.{has-with, has-without}
 use Rattle.hc_exch.specs.{declared.row.Open.{Open}, Wishes.{Wished, asks, rests, leaves, wants_more}, Known.{Known, Table, unknown, is_wanted, is_idle, Changes}, Agreement.{Agrees, AgreesBut}}
-use Rattle.hc_text.specs.Sorted.{itself, is_among}
 
 with-other : (x y : ℕ) (xs : List ℕ) → y ≢ x → is_among y (with_item itself x xs) ≡ is_among y xs
 with-other x y xs ne = has-with itself y x xs ∙ rw (ne_eqb x y (λ e. ne (sym e))) refl

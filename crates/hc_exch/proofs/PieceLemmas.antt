@@ -1,7 +1,7 @@
 -- Bytes in a queue of pieces.
 use Rattle.std.{proofs.{Common.{◌≡◌, ℕ, zero, suc, ◌+◌, ◌-◌, ◌<◌, ◌≤◌, List, [], ◌∷◌, ◌++◌, length, take, drop, refl, sym, ap, ◌∙◌, inl, inr, arith, append_assoc, length-append, length-drop}, lemmas.{List.{drop-append-le, take-append-le, append-nil}, Bool.{cases_lt}}, Math.Seq.{take-length}}, specs.Prelude.{min}}
 use Rattle.hc_text.proofs.Basics.{drop-whole}
-use Rattle.hc_exch.specs.Pieces.{bytes_of_pieces, first_length, IsCounted, TakesFront}
+use Rattle.hc_exch.specs.Pieces.{bytes_of_pieces, first_length, IsCounted, TakesPrefix}
 
 drop-none : (n : ℕ) → drop n (let e : List ℕ = [] in e) ≡ []
 drop-none zero = refl
@@ -81,7 +81,7 @@ length-view pieces read left h = let all = h.all in let len = length-drop read (
 
 -- what is counted after so many bytes were taken
 pub IsCounted-take : (pieces now : List (List ℕ)) (read left count next : ℕ) (taken : List ℕ) → IsCounted pieces read left → count ≤ left
-    → TakesFront count (drop read (bytes_of_pieces pieces)) now taken next → IsCounted now next (left - count)
+    → TakesPrefix count (drop read (bytes_of_pieces pieces)) now taken next → IsCounted now next (left - count)
 IsCounted-take pieces now read left count next taken h few took =
     let before = length-view pieces read left h in
     let after : length (drop next (bytes_of_pieces now)) ≡ length (drop count (drop read (bytes_of_pieces pieces))) = ap length took.rest in

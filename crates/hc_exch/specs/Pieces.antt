@@ -16,7 +16,7 @@ pub record IsCounted (pieces : List (List ℕ)) (read left : ℕ) : Type 0 where
   pub front : read ≤ first_length pieces
 
 -- The first of these bytes are taken, and the others are left in the pieces, of whose first so many are read.
-pub record TakesFront (count : ℕ) (all : List ℕ) (pieces : List (List ℕ)) (taken : List ℕ) (read : ℕ) : Type 0 where
+pub record TakesPrefix (count : ℕ) (all : List ℕ) (pieces : List (List ℕ)) (taken : List ℕ) (read : ℕ) : Type 0 where
   pub bytes : taken ≡ take count all
   pub rest : drop read (bytes_of_pieces pieces) ≡ drop count all
   pub front : read ≤ first_length pieces

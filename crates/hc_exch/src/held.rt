@@ -1,8 +1,7 @@
 //! Bytes that came and were not given yet.
-ghost use Rattle.std.specs.Prelude.{◌≡◌, ◌==◌, ◌++◌, ◌+◌, ◌≤◌, ◌<◌, ◌^◌, [], length, take, drop, IfOk, OnOk, OnErr};
-ghost use Rattle.std.specs.Prelude.{vec_len, vec_capacity};
+ghost use Rattle.std.specs.Prelude.{◌≡◌, ◌==◌, ◌++◌, ◌+◌, ◌≤◌, ◌<◌, ◌^◌, [], length, take, drop, IfOk, OnOk, OnErr, vec_len, vec_capacity};
 ghost use Rattle.std.specs.VecDeque.{deque_len};
-ghost use Rattle.hc_exch.specs.Pieces.{bytes_of_pieces, first_length, TakesFront};
+ghost use Rattle.hc_exch.specs.Pieces.{bytes_of_pieces, first_length, TakesPrefix};
 
 use hc_text::{Bytes, NoMemory};
 use std::alloc::Global;
@@ -20,8 +19,7 @@ pub(crate) struct Held {
 }
 
 impl Model for Held {
-    ghost use Rattle.std.specs.Prelude.{List, ℕ, drop};
-    ghost use Rattle.std.specs.Prelude.{vec_len, vec_capacity};
+    ghost use Rattle.std.specs.Prelude.{List, ℕ, drop, vec_len, vec_capacity};
     ghost use Rattle.std.specs.VecDeque.{deque_len};
     ghost use Rattle.hc_exch.specs.Pieces.{bytes_of_pieces, IsCounted};
 
@@ -72,7 +70,7 @@ impl Held {
         ensures err { OnErr result (self.new ≡ self.old) }
     {
         let count = want.min(self.len);
-        let (bytes, read) = take_front(&mut self.pieces, self.read, count)?;
+        let (bytes, read) = take_prefix(&mut self.pieces, self.read, count)?;
         self.read = read;
         self.len -= count;
         Ok(bytes)
@@ -91,7 +89,7 @@ fn first_len(pieces: &VecDeque<Bytes>) -> usize
 
 /// So many bytes behind those of the first piece that are read; and how many of the piece that is
 /// then the first are read. A piece of just these bytes is moved, and else they are copied.
-fn take_front(
+fn take_prefix(
     pieces: &mut VecDeque<Bytes>,
     read: usize,
     count: usize,
@@ -99,7 +97,7 @@ fn take_front(
     requires front { read ≤ first_length pieces.old.items }
     requires there { count + read ≤ length (bytes_of_pieces pieces.old.items) }
     ensures ok { IfOk result
-        (λ r. TakesFront count (drop read (bytes_of_pieces pieces.old.items))
+        (λ r. TakesPrefix count (drop read (bytes_of_pieces pieces.old.items))
         pieces.new.items r.0 r.1) }
     ensures err { OnErr result (pieces.new.items ≡ pieces.old.items) }
 {

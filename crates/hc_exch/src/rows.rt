@@ -1,10 +1,9 @@
 //! Rows by the numbers of their exchanges: one changes, and the others stay.
-ghost use Rattle.std.specs.Prelude.{◌≡◌, ℕ, ◌+◌, ◌<◌, ◌≤◌, ◌^◌, Some, None, is_some, true, length, IfOk, OnOk, OnErr, take};
+ghost use Rattle.std.specs.Prelude.{◌≡◌, ℕ, ◌+◌, ◌<◌, ◌≤◌, ◌^◌, Some, None, is_some, true, length, IfOk, OnOk, OnErr, take, ◌≢◌, nat_eq};
 ghost use Rattle.std.specs.Option.{option_copied};
 ghost use Rattle.hc_rules.specs.declared.length.Length.{Length};
 ghost use Rattle.hc_exch.specs.Known.{Changes, with_asking, turned_into, without_exchange, with_good_head, with_piece, without_first, forgotten, CountsTo};
 ghost use Rattle.hc_exch.specs.Rows.{running_in, held_in, rows_of, begins, keeps};
-ghost use Rattle.std.specs.Prelude.{◌≢◌, nat_eq};
 ghost use Rattle.std.specs.HashMap.{get};
 
 use crate::held::Held;

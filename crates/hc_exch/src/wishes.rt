@@ -1,8 +1,7 @@
 //! Which open exchanges are wanted: each is found at once, and they are listed without the others.
 ghost use Rattle.std.specs.Prelude.{◌≡◌, true, false, OnOk, OnErr};
 ghost use Rattle.hc_exch.specs.Wishes.{nobody, wants_more, asks, rests, leaves};
-ghost use Rattle.hc_text.specs.Sorted.{is_among, itself};
-ghost use Rattle.hc_text.specs.Sorted.{is_sorted};
+ghost use Rattle.hc_text.specs.Sorted.{is_among, itself, is_sorted};
 
 use hc_text::{NoMemory, has_item, leave_out, put_reserved, take_out};
 use std::alloc::Global;

@@ -12,11 +12,11 @@ use Rattle.hc_io.specs.{Sink.{Takes}, Source.{Gives}}
 use Rattle.hc_sched.specs.{declared.schedule.{Ended.{Ended}, Timed.{Timed}}, Schedule.{events_of}}
 use Rattle.hc_sched.specs.declared.schedule.Ended.TheVariants as course
 use Rattle.hc_driver.specs.Courses as courses
-use Rattle.hc_driver.specs.{Courses.{Goes, TakesThenFront, text_of, text_before, last_text}, Endings.{How, Wholly, UpToEnd, UpToLast, UpToWant, Ends, IsSteppedAtOnce, events_from}}
+use Rattle.hc_driver.specs.{Courses.{Goes, TakesThenPrefix, text_of, text_before, last_text}, Endings.{How, Wholly, UpToEnd, UpToLast, UpToWant, Ends, IsSteppedAtOnce, events_from}}
 use Rattle.hc_driver.specs.Endings as endings
 use Rattle.hc_effects.proofs.Basics.{true_false}
 use Rattle.hc_core.specs.Steps.{limits_in}
-use Rattle.hc_fetch.specs.{declared.{ended.FetchEnded.{FetchEnded}, fetching.Fetching.{Fetching}, plan.FetchPlan.{FetchPlan}}, Bounds.{IsPlan}, Deciding.{by_failure, by_head, by_heads, by_other, fits, decided_by, is_undecided}, Endings.{events_in, IsFetched, WritesAll, WritesSome, IsWholeBody, Fetches, ended_as}, Fetches.{ended_with, is_done_by}, Gathering.{written_of, written_before, written_last}, Heads.{Head, heads_in, first_in, first_head}, Steps.{StandsForFetch, Tells}}
+use Rattle.hc_fetch.specs.{declared.{ended.FetchEnded.{FetchEnded}, fetching.Fetching.{Fetching}, plan.FetchPlan.{FetchPlan}}, Bounds.{IsPlan}, Deciding.{by_failure, by_head, by_heads, by_other, fits, decided_by, is_undecided}, Endings.{events_in, IsFetched, WritesAll, WritesSome, IsWholeBody, Fetches, ended_as}, Fetches.{ended_with, is_done_by}, Gathering.{written_of, written_before, written_last}, Heads.{Head, heads_in, first_in, first_head}, Steps.{StandsForFetch, Reports}}
 use Rattle.hc_fetch.specs.declared.ended.FetchEnded.TheVariants as ended
 use Rattle.hc_fetch.specs.Endings as fetches
 use Rattle.hc_laws.proofs.FromNothing.{begins_well}
@@ -81,7 +81,7 @@ whole_body limits plan f is_plan is_fetched undecided q is = tt
 
 -- WHAT THE SINK TOOK
 
-front_of : (out out' : Option (List ℕ)) (f : History) → written_before f ++ written_last f ≡ written_of f → Takes out out' (written_of f) → TakesThenFront out out' (written_before f) (written_last f)
+front_of : (out out' : Option (List ℕ)) (f : History) → written_before f ++ written_last f ≡ written_of f → Takes out out' (written_of f) → TakesThenPrefix out out' (written_before f) (written_last f)
 front_of out out' f joined takes = record {
   part = written_last f;
   rest = [];
@@ -89,7 +89,7 @@ front_of out out' f joined takes = record {
   takes = subst (Takes out out') (sym joined) takes;
 }
 
-all_taken : (out out' : Option (List ℕ)) (h : courses.History) (text : List ℕ) → text_of h ≡ text → text_before h ≡ text → TakesThenFront out out' (text_before h) (last_text h) → Takes out out' text
+all_taken : (out out' : Option (List ℕ)) (h : courses.History) (text : List ℕ) → text_of h ≡ text → text_before h ≡ text → TakesThenPrefix out out' (text_before h) (last_text h) → Takes out out' text
 all_taken out out' h text is before took =
     let none : last_text h ≡ [] = empty (text_before h) (last_text h) (sym (last_joined h) ∙ (is ∙ sym before)) in
     let part : took.part ≡ [] = nothing_more took.part took.rest (took.whole ∙ none) in
@@ -134,7 +134,7 @@ unspent s u = Unit {0}
 
 module _ (limits : Limits) (plan : FetchPlan) (is_plan : IsPlan plan) (s u : Fetching) (new : StandsForFetch s []) (plan_is : s.plan ≡ plan) (limits_is : limits_in s.cache ≡ limits) (left left' out out' : Option (List ℕ)) where
   abbrev pub Went : How → List Timed → Type 0
-  Went = Goes Tells over unspent 0 s u out out'
+  Went = Goes Reports over unspent 0 s u out out'
 
   -- the fetch is open behind all these events
   record IsOpenBehind (v : Fetching) (events : List Timed) : Type 0 where
@@ -200,20 +200,20 @@ module _ (limits : Limits) (plan : FetchPlan) (is_plan : IsPlan plan) (s u : Fet
 
   -- IT IS CUT OFF
 
-  some_written : (v : Fetching) (events : List Timed) (h : courses.History) → courses.events_in h ≡ events → IsAt limits plan v h → TakesThenFront out out' (text_before h) (last_text h) → WritesSome limits plan events out out'
+  some_written : (v : Fetching) (events : List Timed) (h : courses.History) → courses.events_in h ≡ events → IsAt limits plan v h → TakesThenPrefix out out' (text_before h) (last_text h) → WritesSome limits plan events out out'
   some_written v events h are (at_open f is_fetched events_are text_is before_is stand v_plan v_limits) took = record {
     f = f;
     is_fetched = is_fetched;
     undecided_before = was_undecided plan f (subst (λ (p : FetchPlan). is_undecided p f ≡ true) v_plan stand.so_far.undecided);
     events_are = fetches.all (events_are ∙ are);
-    taken = subst (λ (l : List ℕ). TakesThenFront out out' l (written_last f)) before_is (subst (TakesThenFront out out' (text_before h)) (last_is h f text_is before_is) took);
+    taken = subst (λ (l : List ℕ). TakesThenPrefix out out' l (written_last f)) before_is (subst (TakesThenPrefix out out' (text_before h)) (last_is h f text_is before_is) took);
   }
   some_written v events h are (at_decision e f by is_fetched events_are text_is before_is undecided decides decided) took = record {
     f = e ∷ f;
     is_fetched = is_fetched;
     undecided_before = undecided;
     events_are = fetches.all (events_are ∙ are);
-    taken = subst (λ (l : List ℕ). TakesThenFront out out' l (written_last (e ∷ f))) before_is (subst (TakesThenFront out out' (text_before h)) (last_is h (e ∷ f) text_is before_is) took);
+    taken = subst (λ (l : List ℕ). TakesThenPrefix out out' l (written_last (e ∷ f))) before_is (subst (TakesThenPrefix out out' (text_before h)) (last_is h (e ∷ f) text_is before_is) took);
   }
   some_written v events h are (at_foreign f next is_fetched undecided joined events_are text_is before_is foreign decided) took = record {
     f = f;

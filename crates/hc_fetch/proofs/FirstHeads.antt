@@ -1,7 +1,7 @@
 -- The first consumer is alone before its first head, and what that tells.
 --
 -- At the beginning it starts alone (`begun`), and each event of the input keeps it so (`lone_before`). The head that it
--- is shown first is that of a poll (`shower`), so what is known of what is shown first holds of it (`first_told`). A
+-- is shown first is that of a poll (`shower`), so what is known of what is shown first holds of it (`first_reported`). A
 -- poll shows a head to its own consumer alone, by its move (`shower_of`); what other acts tell is no head.
 use Rattle.std.{proofs.Common.{◌≡◌, inl, inr, ℕ, List, [], ◌∷◌, ◌++◌, Bool, true, false, Option, Some, None, refl, ap, sym, ◌∙◌, subst}, specs.{Prelude.{◌==◌, ◌&&◌, is_none, if◌then◌else◌}, Option.{option_or}}}
 use Rattle.hc_text.proofs.Basics.{bool_cases, not_some as none_some, some_inj}
@@ -221,8 +221,8 @@ module _ (limits : Limits) (p : FetchPlan) (plan_is : IsPlan p) (h : History) (e
   taken true denied = absurd (nil_cons _ m.rest (sym (denied_shows 1 e.acts denied) ∙ m.shown))
   taken false denied = refl
 
-  pub first_told : FirstShown t head.r m.lo m.hi head.status head.fields
-  first_told =
+  pub first_reported : FirstShown t head.r m.lo m.hi head.status head.fields
+  first_reported =
       let accepted = taken (is_denied e.acts) refl in
       let c = carried limits no_contents h may run.0 in
       let owed : IsTaken limits t e = record { owed = run.1; not_denied = accepted } in

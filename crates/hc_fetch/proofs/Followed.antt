@@ -7,12 +7,12 @@ use Rattle.std.{proofs.Common.{◌≡◌, ℕ, ◌+◌, List, [], ◌∷◌, ◌
 use Rattle.hc_text.proofs.Basics.{drop-whole as drop_front}
 use Rattle.hc_sched.specs.declared.schedule.Timed.{Timed}
 use Rattle.hc_driver.specs.Courses as courses
-use Rattle.hc_driver.specs.Courses.{Told, Leads, text_of, text_before, last_text}
+use Rattle.hc_driver.specs.Courses.{AnsweredBy, Leads, text_of, text_before, last_text}
 use Rattle.hc_effects.proofs.Vocabulary.{Limits, Entry, History, no_contents, IsRun}
 use Rattle.hc_effects.proofs.Basics.{true_false}
 use Rattle.hc_laws.proofs.{FromNothing.{begins_well}, ReadWhole.{runs_read_whole}}
 use Rattle.hc_core.specs.Steps.{limits_in}
-use Rattle.hc_fetch.specs.{declared.{ended.FetchEnded.{FetchEnded}, fetching.Fetching.{Fetching}, plan.FetchPlan.{FetchPlan}}, Deciding.{is_foreign, has_foreign, decided_by, is_undecided, is_undecided_before}, Endings.{IsFetched, events_in, failures}, Fetches.{cache_history}, Gathering.{written_of, written_before, written_last}, Steps.{HasHeard, StandsForFetch, Answers, Tells}}
+use Rattle.hc_fetch.specs.{declared.{ended.FetchEnded.{FetchEnded}, fetching.Fetching.{Fetching}, plan.FetchPlan.{FetchPlan}}, Deciding.{is_foreign, has_foreign, decided_by, is_undecided, is_undecided_before}, Endings.{IsFetched, events_in, failures}, Fetches.{cache_history}, Gathering.{written_of, written_before, written_last}, Steps.{HasHeard, StandsForFetch, Answers, Reports}}
 use Rattle.hc_fetch.specs.declared.ended.FetchEnded.TheVariants as ended
 use Rattle.hc_fetch.specs.Steps as steps
 use Rattle.hc_fetch.proofs.{Bodies.{writes_the_body}, Shows.{was_undecided}}
@@ -67,11 +67,11 @@ module _ (limits : Limits) (plan : FetchPlan) where
       fetched limits plan f run before heard.sound heard.own
 
   module _ (t u : Fetching) (timed : Timed) (text : List ℕ) (h : courses.History) where
-    abbrev told : Told
-    told = record { timed = timed; text = text }
+    abbrev reported : AnsweredBy
+    reported = record { timed = timed; text = text }
 
     by_decision : (f : History) → StandsForFetch t f → events_in f ≡ courses.events_in h → text_of h ≡ written_of f → t.plan ≡ plan → limits_in t.cache ≡ limits
-        → (a : Answers t timed.now timed.event text u) → (q : Option FetchEnded) → u.decided ≡ q → IsAt limits plan u (told ∷ h)
+        → (a : Answers t timed.now timed.event text u) → (q : Option FetchEnded) → u.decided ≡ q → IsAt limits plan u (reported ∷ h)
     by_decision f stand are text_is plan_is limits_is a None open_is =
         let e : Entry = record { now = timed.now; event = timed.event; acts = a.acts } in
         let hears = a.hears f stand in
@@ -89,17 +89,17 @@ module _ (limits : Limits) (plan : FetchPlan) where
         (ap (λ (l : List ℕ). l ++ text) text_is ∙ hears.writes) text_is undecided
         (subst (λ (p : FetchPlan). decided_by p f a.acts ≡ Some by) plan_is (sym hears.decided ∙ decided_is)) decided_is
 
-    one_more : (number : ℕ) → IsAt limits plan t h → over t ≡ false → Tells t number timed.now timed.event text u → IsAt limits plan u (told ∷ h)
+    one_more : (number : ℕ) → IsAt limits plan t h → over t ≡ false → Reports t number timed.now timed.event text u → IsAt limits plan u (reported ∷ h)
     one_more number (at_open f is_fetched are text_is before_is stand plan_is limits_is) is_open (steps.foreign foreign none decided) =
         let same : t.count ≡ length f = stand.count in
         at_foreign f timed is_fetched (subst (λ (p : FetchPlan). is_undecided p f ≡ true) plan_is stand.so_far.undecided) (all_joined h f text_is before_is) (ap (λ (l : List Timed). l ++ timed ∷ []) are)
         (ap (λ (l : List ℕ). text_of h ++ l) none ∙ (Rattle.std.proofs.lemmas.List.append-nil (text_of h) ∙ text_is)) text_is foreign
         (decided ∙ ap (λ (n : ℕ). Some (ended.Foreign (n + 1))) same)
     one_more number (at_open f is_fetched are text_is before_is stand plan_is limits_is) is_open (steps.answered heard a) = by_decision f stand are text_is plan_is limits_is a u.decided refl
-    one_more number (at_decision e f by is_fetched are text_is before_is undecided decides decided) is_open tells = absurd (true_false (sym (ap is_some decided) ∙ is_open))
-    one_more number (at_foreign f next is_fetched undecided joined are text_is before_is foreign decided) is_open tells = absurd (true_false (sym (ap is_some decided) ∙ is_open))
+    one_more number (at_decision e f by is_fetched are text_is before_is undecided decides decided) is_open reports = absurd (true_false (sym (ap is_some decided) ∙ is_open))
+    one_more number (at_foreign f next is_fetched undecided joined are text_is before_is foreign decided) is_open reports = absurd (true_false (sym (ap is_some decided) ∙ is_open))
 
-  pub followed : (s u : Fetching) (h : courses.History) → StandsForFetch s [] → s.plan ≡ plan → limits_in s.cache ≡ limits → Leads Tells over 0 s h u → IsAt limits plan u h
+  pub followed : (s u : Fetching) (h : courses.History) → StandsForFetch s [] → s.plan ≡ plan → limits_in s.cache ≡ limits → Leads Reports over 0 s h u → IsAt limits plan u h
   followed s u _ new plan_is limits_is courses.nothing = at_open [] (open_of s [] new.so_far.heard plan_is limits_is refl) refl none_written refl new plan_is limits_is
-  followed s u _ new plan_is limits_is (courses.more h e t v leads is_open tells) =
-      one_more t u e.timed e.text h (0 + length h + 1) (followed s t h new plan_is limits_is leads) is_open tells
+  followed s u _ new plan_is limits_is (courses.more h e t v leads is_open reports) =
+      one_more t u e.timed e.text h (0 + length h + 1) (followed s t h new plan_is limits_is leads) is_open reports

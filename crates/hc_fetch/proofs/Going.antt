@@ -4,7 +4,7 @@
 -- the run with one event more, and with the starts behind it. So what is given agrees with what was gathered (`fit`),
 -- and all of it is heard (`hears_more`). The others start in the code just where the run has their starts
 -- (`starts_as`). What stands in the fields around the event, as the count, is no part of what was heard (`SameHeard`):
--- so the step tells it of the whole fetch (`tells_so`).
+-- so the step tells it of the whole fetch (`reports_so`).
 use Rattle.std.{proofs.Common.{◌≡◌, ℕ, ◌+◌, ◌<◌, ◌≤◌, ◌^◌, List, [], ◌∷◌, ◌++◌, length, Bool, true, false, Option, Some, None, refl, ap, sym, ◌∙◌, subst, arith}, specs.{Prelude.{if◌then◌else◌, is_some, is_none, ◌&&◌, ◌||◌}, Option.{option_or}}}
 use Rattle.hc_text.proofs.Basics.{both_true as and_both, not_some as none_some}
 use Rattle.hc_sparse.specs.Cells.{nothing}
@@ -253,9 +253,9 @@ open_as s t f same h = record {
   ended = same.ended ∙ h.ended;
 }
 
-pub tells_so : (s t u w : Fetching) (now : ℕ) (event : Event) (text : List ℕ) (decides : Option FetchEnded) → SameHeard s t → t.count ≡ s.count + 1 → IsAnswered t u now event text decides
+pub reports_so : (s t u w : Fetching) (now : ℕ) (event : Event) (text : List ℕ) (decides : Option FetchEnded) → SameHeard s t → t.count ≡ s.count + 1 → IsAnswered t u now event text decides
     → SameHeard u w → w.count ≡ u.count → w.decided ≡ decides → Answers s now event text w
-tells_so s t u w now event text decides before counted a after count_is decided_is = record {
+reports_so s t u w now event text decides before counted a after count_is decided_is = record {
   acts = a.acts;
   plan = after.plan ∙ (a.plan ∙ before.plan);
   limits = (let later : limits_in w.cache ≡ limits_in u.cache = rw after.cache refl in let earlier : limits_in t.cache ≡ limits_in s.cache = rw before.cache refl in later ∙ (a.limits ∙ earlier));

@@ -7,7 +7,7 @@
 use Rattle.std.{proofs.Common.{◌≡◌, inl, inr, ℕ, ◌-◌, ◌<◌, ◌^◌, List, [], ◌∷◌, ◌++◌, Bool, true, false, Option, Some, None, refl, ap, sym, ◌∙◌, arith}, specs.{Prelude.{◌==◌, ◌&&◌, ◌||◌, not, codes, nat_lt, filter, find, unwrap_or, if◌then◌else◌}, Option.{option_or}, Fmt.{decimal}}}
 use Rattle.hc_text.proofs.{Basics.{bool_cases}, NumberLemmas.{IsNumber-decimal}}
 use Rattle.hc_effects.proofs.Vocabulary.{need, wanted, plan as plans, Wanted, Plan, PlanView, least, lesser, plan_of, bare_plan, in_time, from_store, queues, is_back, asked_in, class_of, is_disabled, is_only, is_bypassing, range_of, wanted_of, current, line, holder, turn_with, is_in_line, holds_turn, plan_view, planned_move, Tables, Consumer}
-use Rattle.hc_range.specs.declared.range.{Asked.{Asked, TheVariants.{FromTo}}, Span.{Span}}
+use Rattle.hc_range.specs.declared.range.{RangeSpec.{RangeSpec, TheVariants.{FromTo}}, Span.{Span}}
 use Rattle.hc_rules.proofs.RangeReads.{asked_in-spelled}
 use Rattle.hc_model.specs.Moves.{opens}
 use Rattle.hc_fetch.specs.{declared.plan.FetchPlan.{FetchPlan}, Bounds.{IsPlan}, Plans.{first_fields, fields_for, request_of}}
@@ -130,7 +130,7 @@ span_lo (wanted.Interval span) = span.lo
 span_lo _ = 0
 
 -- none, or one from the first position on
-pub data IsFirstRange : Option Asked → Type 0 where
+pub data IsFirstRange : Option RangeSpec → Type 0 where
   asks_all : IsFirstRange None
   asks_to : (last : ℕ) → IsFirstRange (Some (FromTo 0 last))
 
@@ -144,7 +144,7 @@ module _ (p : FetchPlan) (is : IsPlan p) where
   first_range = range_by (p.parts == 1)
 
 -- what is wanted begins at the first position
-pub wanted_first : (o : Option Asked) (total : Option ℕ) (span : Span) → IsFirstRange o → wanted_of o total ≡ wanted.Interval span → span.lo ≡ 0
+pub wanted_first : (o : Option RangeSpec) (total : Option ℕ) (span : Span) → IsFirstRange o → wanted_of o total ≡ wanted.Interval span → span.lo ≡ 0
 wanted_first _ None span asks_all is = absurd (let no : wanted.TotalUnknown ≡ wanted.Interval span = is in cc)
 wanted_first _ None span (asks_to last) is = absurd (let no : wanted.TotalUnknown ≡ wanted.Interval span = is in cc)
 wanted_first _ (Some total) span asks_all is = sym (ap span_lo is)

@@ -8,10 +8,10 @@ use Rattle.std.{proofs.Common.{◌≡◌, ◌⊎◌, inl, inr, ℕ, ◌+◌, ◌
 use Rattle.hc_text.proofs.Basics.{and_left, and_right, bool_cases, either, not_some as none_some, or_cases, some_inj}
 use Rattle.hc_effects.proofs.Vocabulary.{brings_part, brings_whole, Opening, opening_in, leaves_in, shows_in, Cause, Need, Wait, Why, Event, Request, Response, BoundBy, Place, content_range_of, HeadCase, HeadView, Wanted, Limits, head_case, turn_case, case_on, fits_to_found, fits_part, length_of, is_bad, route_of, is_disabled, is_only, is_bypassing, range_of, wanted_of, Showing, showing_in, wait_in, has_loss, Aims, case_at, case_of, head_view, is_founding, fits_asker, bound_to_wanted, place_by_case, consumer_heard, by_head, by_fault, waiting_place, waiting, opened_place, unless_bound, by_opening, shown_place, consumer_acted, consumer_settled, consumer_made, consumer_after, current, denial, doomed_key_of, doomed_in, is_key, Entry, is_headless, exchange_at, is_for, flaw_in, founded_total, total_of_part, Move, Nothing, Opens, Shows, Fails, shows_stored, IsPast, IsAwaiting, Passed, move_of, shows_head, shows_at, shows_bound, shows_direct, shows_answer, has_joined, or_else, waits_for_head, if_headless, by_place, own_open, bound_to, Tables, Exchange, Representation, Consumer, new_representation, length_in, starts_over, waits_at, sends_back, loses_what_it_waits_for, after_accepted, after_denied, cause, need, wait, event, place, range, case, wanted}
 use Rattle.hc_event.specs.declared.place.BoundBy.TheVariants as by
-use Rattle.hc_range.specs.declared.range.{Asked.{Asked}, ContentRange.{ContentRange}}
+use Rattle.hc_range.specs.declared.range.{RangeSpec.{RangeSpec}, ContentRange.{ContentRange}}
 use Rattle.hc_model.specs.Moves as moves
 use Rattle.hc_model.specs.Owners as owners
-use Rattle.hc_effects.proofs.{BoundFrom.{place_inj}, Basics.{some_none, false_true, true_false, some_row}, ExchangeFrom.{IsHeaded, ExchangeFrom, exchange_from}, FirstKeeps.{case_is, is_new}, MoveBy.{MoveBy, IsHeard, move_by}, Owed.{acts_are, goes}, RepFrom.{RepFrom, rep_from}, Said.{shows_it, IsOpening, WaitsAs, opening_by, waiting_by}, ShownOnce.{is_showing}, Standing.{current_stays}, ToldNumbers.{founded_early}, TurnPlaces.{is_after}}
+use Rattle.hc_effects.proofs.{BoundFrom.{place_inj}, Basics.{some_none, false_true, true_false, some_row}, ExchangeFrom.{IsHeaded, ExchangeFrom, exchange_from}, FirstKeeps.{case_is, is_new}, MoveBy.{MoveBy, IsHeard, move_by}, Owed.{acts_are, goes}, RepFrom.{RepFrom, rep_from}, Said.{shows_it, IsOpening, WaitsAs, opening_by, waiting_by}, ShownOnce.{is_showing}, Standing.{current_stays}, ReportedNumbers.{founded_early}, TurnPlaces.{is_after}}
 use Rattle.hc_effects.proofs.ExchangeFrom as exchange
 use Rattle.hc_effects.proofs.MoveBy as by_move
 use Rattle.hc_effects.proofs.RepFrom as rep
@@ -563,22 +563,22 @@ module _ (limits : Limits) (p : FetchPlan) (plan_is : IsPlan p) (t : Tables) (e 
       by_past (owners.answered w there some) = absurd (none_some w (sym none ∙ there))
       by_past (owners.waits w own there on bare) = absurd (none_some w (sym none ∙ there))
 
-  good_new : (x y : ℕ) (told response : Response) (w u : Exchange) → e.event ≡ event.Head y told → t.exchange y ≡ Some w → is_bad (length_of w.need w.request told) ≡ false → y ≡ x → ExchangeFrom t e x u → u.head ≡ Some response
+  good_new : (x y : ℕ) (reported response : Response) (w u : Exchange) → e.event ≡ event.Head y reported → t.exchange y ≡ Some w → is_bad (length_of w.need w.request reported) ≡ false → y ≡ x → ExchangeFrom t e x u → u.head ≡ Some response
       → is_bad (length_of u.need u.request response) ≡ false
-  good_new x y told response w u at there good here (exchange.was z row_x alike) head = by_head_of alike.heard_or
+  good_new x y reported response w u at there good here (exchange.was z row_x alike) head = by_head_of alike.heard_or
     where
       z_is : z ≡ w
       z_is = some_inj z w (sym row_x ∙ (ap t.exchange (sym here) ∙ there))
 
       by_head_of : ((u.head ≡ z.head) × (u.joined ≡ z.joined)) ⊎ IsHeaded t e x z u → is_bad (length_of u.need u.request response) ≡ false
       by_head_of (inl stays) =
-          let new = is_new limits t e.now (flaw_in e.acts) c.is_sound e.event going y told w at there in
+          let new = is_new limits t e.now (flaw_in e.acts) c.is_sound e.event going y reported w at there in
           absurd (none_some response (sym new.bare ∙ (ap (λ (q : Exchange). q.head) (sym z_is) ∙ (sym stays.0 ∙ head))))
       by_head_of (inr headed) =
-          let one : told ≡ headed.response = head_inj y x told headed.response (sym at ∙ headed.at) in
+          let one : reported ≡ headed.response = head_inj y x reported headed.response (sym at ∙ headed.at) in
           let two : headed.response ≡ response = some_inj headed.response response (sym headed.head_is ∙ head) in
           rw (alike.need_is, alike.request_is, z_is) (subst (λ (q : Response). is_bad (length_of w.need w.request q) ≡ false) (one ∙ two) good)
-  good_new x y told response w u at there good here (exchange.new o none opens is made) head = absurd (none_some w (sym none ∙ (ap t.exchange (sym here) ∙ there)))
+  good_new x y reported response w u at there good here (exchange.new o none opens is made) head = absurd (none_some w (sym none ∙ (ap t.exchange (sym here) ∙ there)))
 
   direct_same : (y x : ℕ) → place.Direct y ≡ place.Direct x → y ≡ x
   direct_same y x is = cc
@@ -587,13 +587,13 @@ module _ (limits : Limits) (p : FetchPlan) (plan_is : IsPlan p) (t : Tables) (e 
   first_by q (as_before is still) r lo hi how stands = l.first k r lo hi how row (sym is ∙ stands)
   first_by q (turns was still apart first) r lo hi how stands = first r lo hi how stands
   first_by q (reads_now isnt apart first) r lo hi how stands = first r lo hi how stands
-  first_by q (goes_past y told w at there good is) r lo hi how stands = absurd (bound_apart r lo hi how y (sym stands ∙ is))
+  first_by q (goes_past y reported w at there good is) r lo hi how stands = absurd (bound_apart r lo hi how y (sym stands ∙ is))
 
   good_by : (x : ℕ) (q : Place) (u : Exchange) (response : Response) → PlaceAfter q → q ≡ place.Direct x → ExchangeFrom t e x u → u.head ≡ Some response → is_bad (length_of u.need u.request response) ≡ false
   good_by x q u response (as_before is still) stands from head = good_was x u response (sym is ∙ stands) from head
   good_by x q u response (turns was still apart first) stands from head = absurd (apart x stands)
   good_by x q u response (reads_now isnt apart first) stands from head = absurd (apart x stands)
-  good_by x q u response (goes_past y told w at there good is) stands from head = good_new x y told response w u at there good (direct_same y x (sym is ∙ stands)) from head
+  good_by x q u response (goes_past y reported w at there good is) stands from head = good_new x y reported response w u at there good (direct_same y x (sym is ∙ stands)) from head
 
 -- AFTER AN ENTRY
 
@@ -648,20 +648,20 @@ module _ (limits : Limits) (p : FetchPlan) (plan_is : IsPlan p) (t : Tables) (e 
       by_total (inr over) = over.total_is ∙ ap (λ (q : Option ℕ). option_or q (Some (length_in (t.exchange r)))) part.total
 
   -- a part is founded for a range, and tells the length of the whole
-  total_told : (o : Option Asked) (response : Response) (w : Exchange) → brings_part response.status ≡ true → fits_to_found o response ≡ true → (n : ℕ) × (founded_total w response ≡ Some n)
-  total_told None response w status fits = absurd (false_true fits)
-  total_told (Some asked) response w status fits = by_range (content_range_of response.fields) refl (and_right _ _ fits)
+  total_reported : (o : Option RangeSpec) (response : Response) (w : Exchange) → brings_part response.status ≡ true → fits_to_found o response ≡ true → (n : ℕ) × (founded_total w response ≡ Some n)
+  total_reported None response w status fits = absurd (false_true fits)
+  total_reported (Some asked) response w status fits = by_range (content_range_of response.fields) refl (and_right _ _ fits)
     where
-      told : (q : Option ContentRange) → content_range_of response.fields ≡ q → founded_total w response ≡ total_of_part q
-      told q is = rw (status, is) refl
+      reported : (q : Option ContentRange) → content_range_of response.fields ≡ q → founded_total w response ≡ total_of_part q
+      reported q is = rw (status, is) refl
 
       by_range : (q : Option ContentRange) → content_range_of response.fields ≡ q → fits_part asked q ≡ true → (n : ℕ) × (founded_total w response ≡ Some n)
       by_range None is h = absurd (false_true h)
       by_range (Some (range.Unsatisfied total)) is h = absurd (false_true h)
       by_range (Some (range.Part from to None)) is h = absurd (false_true h)
-      by_range (Some (range.Part from to (Some total))) is h = (total, told (Some (range.Part from to (Some total))) is)
+      by_range (Some (range.Part from to (Some total))) is h = (total, reported (Some (range.Part from to (Some total))) is)
 
-  fits_some : (o : Option Asked) (response : Response) → fits_to_found o response ≡ true → is_some o ≡ true
+  fits_some : (o : Option RangeSpec) (response : Response) → fits_to_found o response ≡ true → is_some o ≡ true
   fits_some None response fits = absurd (false_true fits)
   fits_some (Some asked) response fits = refl
 
@@ -671,10 +671,10 @@ module _ (limits : Limits) (p : FetchPlan) (plan_is : IsPlan p) (t : Tables) (e 
   part_founded r response w at there status on _ (server_error good) is = absurd (false_true (sym (ap is_founding is) ∙ on))
   part_founded r response w at there status on _ (passes_by good) is = absurd (false_true (sym (ap is_founding is) ∙ on))
   part_founded r response w at there status on _ (founds_whole other) is = absurd (whole_or_part response.status other status)
-  part_founded r response w at there status on _ (founds_part good told fits) is =
+  part_founded r response w at there status on _ (founds_part good reported fits) is =
       let op = c.is_owned.opener r w there in
       let fit : fits_to_found (range_of op.k.request) response ≡ true = sym (ap (λ (o : Option Consumer). fits_asker o response) op.row) ∙ fits in
-      let length = total_told (range_of op.k.request) response w status fit in
+      let length = total_reported (range_of op.k.request) response w status fit in
       record {
         n = length.0;
         total = length.1;

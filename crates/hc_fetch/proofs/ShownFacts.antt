@@ -11,15 +11,13 @@ use Rattle.hc_range.specs.{declared.range.{ContentRange.{ContentRange}, Span.{Sp
 use Rattle.hc_effects.proofs.Vocabulary.{brings_part, range, by, place, route, Why, Response, Place, length_of, base_of, promise_of, route_of, content_range_of, content_range_in, total_in, base, Move, Shows, shows_stored, span_to, Parts, Places, is_ranged, shows_at, shows_direct, shows_answer, hi_of, end_in, end_of_direct, end_by, Tables, Exchange, Representation, Consumer}
 use Rattle.hc_range.proofs.RangeLemmas.{content_range_text_spells}
 use Rattle.hc_event.specs.declared.act.Why.TheVariants as why_is
-use Rattle.hc_rules.proofs.RangeReads.{content_range_in-spelled}
-use Rattle.hc_validate.specs.Showing.{with_age, with_range, part_of, shown_as, shown_response}
-use Rattle.hc_validate.specs.Updates.{FieldPairs, with_one}
+use Rattle.hc_rules.proofs.{RangeReads.{content_range_in-spelled}, Statuses.{ok_no_part, partial_brings}}
+use Rattle.hc_validate.specs.{Showing.{with_age, with_range, part_of, shown_as, shown_response}, Updates.{FieldPairs, with_one}}
 use Rattle.hc_model.specs.Sound as sound
-use Rattle.hc_effects.proofs.{Basics.{false_true, some_row}, PartTold.{part_within, whole_base}}
+use Rattle.hc_effects.proofs.{Basics.{false_true, some_row}, PartReported.{part_within, whole_base}}
 use Rattle.hc_laws.proofs.SoundRuns.{IsCarried}
 use Rattle.hc_fetch.specs.{declared.plan.FetchPlan.{FetchPlan}, Heads.{Head, total_of, total_by}}
 use Rattle.hc_fetch.proofs.{Ends.{KnownEnd, KnownHead}, LoneRuns.{IsLone}}
-use Rattle.hc_rules.proofs.Statuses.{ok_no_part, partial_brings}
 
 -- A FIELD THAT STANDS ONCE
 
@@ -47,26 +45,26 @@ only_one name value fs = ap (λ (l : FieldPairs). only_of (map (λ (f : List ℕ
 
 -- WHAT A HEAD TELLS
 
-pub record TellsPart (status : ℕ) (fields : List (List ℕ × List ℕ)) (total : ℕ) : Type 0 where
+pub record ReportsPart (status : ℕ) (fields : List (List ℕ × List ℕ)) (total : ℕ) : Type 0 where
   pub status_is : status ≡ 206
   pub last : ℕ
-  pub told : content_range_of fields ≡ Some (range.Part 0 last (Some total))
+  pub reported : content_range_of fields ≡ Some (range.Part 0 last (Some total))
 
-told_by : (status : ℕ) (fields : List (List ℕ × List ℕ)) (total : ℕ) (o : Option ContentRange) → status ≡ 206 → content_range_of fields ≡ o → total_by o ≡ Some total → TellsPart status fields total
-told_by status fields total None at is h = absurd (none_some total h)
-told_by status fields total (Some (range.Unsatisfied n)) at is h = absurd (none_some total h)
-told_by status fields total (Some (range.Part first last n)) at is h = elim (bool_cases (first == 0)) [
+reported_by : (status : ℕ) (fields : List (List ℕ × List ℕ)) (total : ℕ) (o : Option ContentRange) → status ≡ 206 → content_range_of fields ≡ o → total_by o ≡ Some total → ReportsPart status fields total
+reported_by status fields total None at is h = absurd (none_some total h)
+reported_by status fields total (Some (range.Unsatisfied n)) at is h = absurd (none_some total h)
+reported_by status fields total (Some (range.Part first last n)) at is h = elim (bool_cases (first == 0)) [
   | inr off ↦ absurd (none_some total (rw off at h))
   | inl on ↦
       let zero : first ≡ 0 = (let test : nat_eq first 0 ≡ true = on in grind (arith, nat_tests)) in
       let all : n ≡ Some total = rw on at h in
-      record { status_is = at; last = last; told = is ∙ rw (zero, all) refl }
+      record { status_is = at; last = last; reported = is ∙ rw (zero, all) refl }
 ]
 
-pub tells_part : (head : Head) (total : ℕ) → total_of head ≡ Some total → TellsPart head.status head.fields total
-tells_part head total is = elim (bool_cases (head.status == 206)) [
+pub gives_part : (head : Head) (total : ℕ) → total_of head ≡ Some total → ReportsPart head.status head.fields total
+gives_part head total is = elim (bool_cases (head.status == 206)) [
   | inr off ↦ absurd (none_some total (rw off at is))
-  | inl on ↦ told_by head.status head.fields total (content_range_of head.fields) (let test : nat_eq head.status 206 ≡ true = on in grind (arith, nat_tests)) refl (rw on at is)
+  | inl on ↦ reported_by head.status head.fields total (content_range_of head.fields) (let test : nat_eq head.status 206 ≡ true = on in grind (arith, nat_tests)) refl (rw on at is)
 ]
 
 -- WHAT IS SHOWN
@@ -74,7 +72,7 @@ tells_part head total is = elim (bool_cases (head.status == 206)) [
 -- of what is shown first
 pub record FirstShown (t : Tables) (r lo : ℕ) (hi : Option ℕ) (status : ℕ) (fields : List (List ℕ × List ℕ)) : Type 0 where
   pub known : KnownHead t r
-  pub part : (total : ℕ) → TellsPart status fields total → (n : ℕ) × KnownEnd t r n × (n ≤ total)
+  pub part : (total : ℕ) → ReportsPart status fields total → (n : ℕ) × KnownEnd t r n × (n ≤ total)
   pub whole : status ≡ 200 → (lo ≡ 0) × ((n : ℕ) → hi ≡ Some n → KnownEnd t r n)
 
 record ShowsAs (a : ℕ) (b : Response) (d : ℕ) (f : Option ℕ) (r : ℕ) (head : Response) (lo : ℕ) (hi : Option ℕ) : Type 0 where
@@ -101,7 +99,7 @@ module _ (p : FetchPlan) (t : Tables) (c : IsCarried t) (b : Places t) (parts : 
       let same = shows_inj x (why_is.Fetched x) response (base w) (hi_of t (place.Direct x)) r why head lo hi is in
       subst (λ z. FirstShown t z lo hi head.status head.fields) same.number (record {
         known = λ none. record { w = w; row = there; headed = ap (λ (o : Option Response). is_some o) headed };
-        part = λ total tells. part_of_it total (subst (λ (z : Response). TellsPart z.status z.fields total) (sym same.answer) tells);
+        part = λ total reports. part_of_it total (subst (λ (z : Response). ReportsPart z.status z.fields total) (sym same.answer) reports);
         whole = λ status. (sym same.from ∙ first (ap (λ (z : Response). z.status) same.answer ∙ status), λ n to. ends n (same.to ∙ to));
       })
     where
@@ -116,14 +114,14 @@ module _ (p : FetchPlan) (t : Tables) (c : IsCarried t) (b : Places t) (parts : 
           let off = ok_no_part response.status status in
           ap (λ (o : Option Response). base_of (Rattle.hc_model.specs.Exchanges.length_by w o)) headed ∙ whole_base w.need w.request response off
 
-      part_of_it : (total : ℕ) → TellsPart response.status response.fields total → (n : ℕ) × KnownEnd t x n × (n ≤ total)
-      part_of_it total tells =
+      part_of_it : (total : ℕ) → ReportsPart response.status response.fields total → (n : ℕ) × KnownEnd t x n × (n ≤ total)
+      part_of_it total reports =
           let good = l.good x k w response row at there headed in
-          let within = part_within w.need w.request response 0 tells.last total miss (partial_brings response.status tells.status_is) tells.told good in
-          let told : end_in (t.exchange x) ≡ Some (base w + within.n) = ap end_in there ∙ ap (λ q. end_of_direct q w) (ap (λ (o : Option Response). promise_of (Rattle.hc_model.specs.Exchanges.length_by w o)) headed ∙ within.promise) in
+          let within = part_within w.need w.request response 0 reports.last total miss (partial_brings response.status reports.status_is) reports.reported good in
+          let reported : end_in (t.exchange x) ≡ Some (base w + within.n) = ap end_in there ∙ ap (λ q. end_of_direct q w) (ap (λ (o : Option Response). promise_of (Rattle.hc_model.specs.Exchanges.length_by w o)) headed ∙ within.promise) in
           let first_is : base w ≡ base_of (length_of w.need w.request response) = ap (λ (o : Option Response). base_of (Rattle.hc_model.specs.Exchanges.length_by w o)) headed in
           let ends_by = within.ends in
-          (base w + within.n, ends (base w + within.n) told, omega arith)
+          (base w + within.n, ends (base w + within.n) reported, omega arith)
 
   direct_shown : (x : ℕ) → k.place ≡ place.Direct x → shows_at t k (place.Direct x) ≡ Some show → FirstShown t r lo hi head.status head.fields
   direct_shown x at is =
@@ -155,12 +153,12 @@ module _ (p : FetchPlan) (t : Tables) (c : IsCarried t) (b : Places t) (parts : 
     begins = l.first k q a d by.Founding row at
 
     -- a part is shown of what was founded with one
-    shown_part : (rg : Bool) (h n : Option ℕ) → ranged ≡ rg → top ≡ h → v.head.total ≡ n → (total : ℕ) → TellsPart (shown_as (part_of rg (span_to a h) n) n (with_age (why_is.Fetched q) v.head.fields)).status (shown_as (part_of rg (span_to a h) n) n (with_age (why_is.Fetched q) v.head.fields)).fields total
+    shown_part : (rg : Bool) (h n : Option ℕ) → ranged ≡ rg → top ≡ h → v.head.total ≡ n → (total : ℕ) → ReportsPart (shown_as (part_of rg (span_to a h) n) n (with_age (why_is.Fetched q) v.head.fields)).status (shown_as (part_of rg (span_to a h) n) n (with_age (why_is.Fetched q) v.head.fields)).fields total
         → (m : ℕ) × KnownEnd t q m × (m ≤ total)
-    shown_part false h n is up known total tells = absurd (whole_not_part 200 refl tells.status_is)
-    shown_part true None n is up known total tells = absurd (whole_not_part 200 refl tells.status_is)
-    shown_part true (Some h) None is up known total tells = absurd (whole_not_part 200 refl tells.status_is)
-    shown_part true (Some h) (Some n) is up known total tells =
+    shown_part false h n is up known total reports = absurd (whole_not_part 200 refl reports.status_is)
+    shown_part true None n is up known total reports = absurd (whole_not_part 200 refl reports.status_is)
+    shown_part true (Some h) None is up known total reports = absurd (whole_not_part 200 refl reports.status_is)
+    shown_part true (Some h) (Some n) is up known total reports =
         let status : brings_part v.head.status ≡ true = and_right (is_ranged k) _ is in
         let own : is_ranged k ≡ true = and_left (is_ranged k) _ is in
         let at_hi = bound_at d refl status in
@@ -177,8 +175,8 @@ module _ (p : FetchPlan) (t : Tables) (c : IsCarried t) (b : Places t) (parts : 
         let within : IsWithin span n = record { not_empty = some; within = omega arith; small = omega arith } in
         let reads : content_range_of (with_range span n (with_age (why_is.Fetched q) v.head.fields)) ≡ Some (range.Part a (h - 1) (Some n)) =
         ap (option_and_then content_range_in) (only_one (codes "content-range") (content_range_text span n) (with_one (codes "content-length") (decimal (h - a)) (with_age (why_is.Fetched q) v.head.fields))) ∙ content_range_in-spelled (content_range_text span n) (range.Part a (h - 1) (Some n)) (content_range_text_spells span n within) in
-        let two : Some (range.Part a (h - 1) (Some n)) ≡ Some (range.Part 0 tells.last (Some total)) = sym reads ∙ tells.told in
-        let last : n ≡ total = part_total a (h - 1) 0 tells.last n total two in
+        let two : Some (range.Part a (h - 1) (Some n)) ≡ Some (range.Part 0 reports.last (Some total)) = sym reads ∙ reports.reported in
+        let last : n ≡ total = part_total a (h - 1) 0 reports.last n total two in
         (n, total_ends n known, omega arith)
       where
         bound_at : (o : Option ℕ) → d ≡ o → brings_part v.head.status ≡ true → (m : ℕ) × (d ≡ Some m)
@@ -212,7 +210,7 @@ module _ (p : FetchPlan) (t : Tables) (c : IsCarried t) (b : Places t) (parts : 
         let same = shows_inj q (why_is.Fetched q) shown a top r why head lo hi made in
         subst (λ z. FirstShown t z lo hi head.status head.fields) same.number (record {
           known = λ none. absurd (none_some v (sym none ∙ there));
-          part = λ total tells. shown_part ranged top v.head.total refl refl refl total (subst (λ (z : Response). TellsPart z.status z.fields total) (sym same.answer) tells);
+          part = λ total reports. shown_part ranged top v.head.total refl refl refl total (subst (λ (z : Response). ReportsPart z.status z.fields total) (sym same.answer) reports);
           whole = λ status. (sym same.from ∙ begins, λ n to. shown_whole d refl (ap (λ (z : Response). z.status) same.answer ∙ status) n (same.to ∙ to));
         })
       where

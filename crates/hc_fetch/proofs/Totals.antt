@@ -2,7 +2,7 @@
 use Rattle.std.{proofs.{Common.{◌≡◌, ℕ, ◌<◌, ◌^◌, ◌==◌, List, Bool, true, false, Option, Some, None, refl, ap, sym, ◌∙◌, arith}, lemmas.Bool.Decides.{nat_tests}}, specs.Prelude.{if◌then◌else◌, nat_lt}}
 use Rattle.hc_range.specs.declared.range.ContentRange.{ContentRange, TheVariants.{Part, Unsatisfied}}
 use Rattle.hc_effects.proofs.Vocabulary.{content_range_of}
-use Rattle.hc_effects.proofs.ToldNumbers.{range_early}
+use Rattle.hc_effects.proofs.ReportedNumbers.{range_early}
 use Rattle.hc_fetch.specs.{declared.{ended.FetchEnded.{FetchEnded}, first.First.{First}}, Bounds.{is_short}, Firsts.{total_in, total_to_start}, Heads.{Head, total_of, total_by}}
 use Rattle.hc_fetch.proofs.Going.{none_to_start}
 

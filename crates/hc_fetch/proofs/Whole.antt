@@ -13,7 +13,7 @@ use Rattle.hc_effects.proofs.{Basics.{append_none, false_true, or_false}, Runs.{
 use Rattle.hc_laws.proofs.{OneHead.{one_head_is_shown}, ReadEnds.{ends_well}, ReadJoined.{one_inj}}
 use Rattle.hc_fetch.specs.declared.ended.FetchEnded.TheVariants as ended
 use Rattle.hc_fetch.specs.{declared.plan.FetchPlan.{FetchPlan}, Bounds.{IsPlan}, Deciding.{has_foreign, is_foreign}, Fetches.{started, starts_behind, cache_history, ends_in, has_ended, is_all, is_done_by, ended_with}, Gathering.{gathered, given_end, bytes_on, byte_before, written_of}, Heads.{Head, heads_in, first_in, first_head, total_of}, Laws.{IsFetchRun, WritesAllOfIt}}
-use Rattle.hc_fetch.proofs.{Bodies.{run_before, earlier, writes_the_body}, Ends.{KnownEnd, KnownHead, before_end, end_kept, head_kept}, FirstHeads.{among, first_told, lone_before, none_first, none_shown}, GivenFirst.{given_covered, shown_step, started_gives, over}, Shows.{started_shows}, ShownFacts.{TellsPart, tells_part, FirstShown}}
+use Rattle.hc_fetch.proofs.{Bodies.{run_before, earlier, writes_the_body}, Ends.{KnownEnd, KnownHead, before_end, end_kept, head_kept}, FirstHeads.{among, first_reported, lone_before, none_first, none_shown}, GivenFirst.{given_covered, shown_step, started_gives, over}, Shows.{started_shows}, ShownFacts.{ReportsPart, gives_part, FirstShown}}
 
 -- LISTS OF ACTS
 
@@ -142,16 +142,16 @@ unended_before limits plan (e ∷ f) q none is =
     elim (bool_cases (ends_in 1 e.acts)) [
       | inr off ↦ unended_before limits plan f (earlier limits plan e f q) parts.0 (rw off at is)
       | inl on ↦
-          let told = ends_well limits no_contents (before limits plan e f q) e q.begins (run_on limits plan e f q) 1 (ends_says 1 e.acts on) in
+          let reported = ends_well limits no_contents (before limits plan e f q) e q.begins (run_on limits plan e f q) 1 (ends_says 1 e.acts on) in
           let was : shown_of 1 (before limits plan e f q) ≡ [] = started_shows plan e.now 1 (cache_history plan f) ∙ unshown_before limits plan f parts.0 in
-          nil_cons told.0 [] (sym was ∙ (sym (append_none (shown_of 1 (before limits plan e f q))) ∙ told.1))
+          nil_cons reported.0 [] (sym was ∙ (sym (append_none (shown_of 1 (before limits plan e f q))) ∙ reported.1))
     ]
 
 -- WHAT IS KNOWN
 
 pub record FirstKnown (plan : FetchPlan) (f : History) (head : Head) : Type 0 where
   pub known : KnownHead (tables no_contents (cache_history plan f)) head.r
-  pub part : (total : ℕ) → TellsPart head.status head.fields total → (n : ℕ) × KnownEnd (tables no_contents (cache_history plan f)) head.r n × (n ≤ total)
+  pub part : (total : ℕ) → ReportsPart head.status head.fields total → (n : ℕ) × KnownEnd (tables no_contents (cache_history plan f)) head.r n × (n ≤ total)
   pub s : Shown
   pub shown : shown_of 1 (cache_history plan f) ≡ s ∷ []
   pub of : s.r ≡ head.r
@@ -163,20 +163,20 @@ module _ (limits : Limits) (plan : FetchPlan) (e : Entry) (f : History) (q : IsF
   was : shown_of 1 (started plan e.now (cache_history plan f)) ≡ k.s ∷ []
   was = started_shows plan e.now 1 (cache_history plan f) ∙ k.shown
 
-  told_here : head.status ≡ 200 → ends_in 1 e.acts ≡ true → (n : ℕ) × KnownEnd (tables no_contents (cache_history plan (e ∷ f))) head.r n × ((p : ℕ) → p < n → is_some (gathered (e ∷ f) p) ≡ true)
-  told_here status on =
-      let told = ends_well limits no_contents (before limits plan e f q) e q.begins (run_on limits plan e f q) 1 (ends_says 1 e.acts on) in
-      let one : told.0 ≡ k.s = one_inj told.0 k.s (sym told.1 ∙ (append_none (shown_of 1 (before limits plan e f q)) ∙ was)) in
+  reported_here : head.status ≡ 200 → ends_in 1 e.acts ≡ true → (n : ℕ) × KnownEnd (tables no_contents (cache_history plan (e ∷ f))) head.r n × ((p : ℕ) → p < n → is_some (gathered (e ∷ f) p) ≡ true)
+  reported_here status on =
+      let reported = ends_well limits no_contents (before limits plan e f q) e q.begins (run_on limits plan e f q) 1 (ends_says 1 e.acts on) in
+      let one : reported.0 ≡ k.s = one_inj reported.0 k.s (sym reported.1 ∙ (append_none (shown_of 1 (before limits plan e f q)) ∙ was)) in
       let given : given_of 1 (before limits plan e f q) ≡ given_of 1 (cache_history plan f) = started_gives plan e.now 1 (cache_history plan f) in
       let first = (k.whole status).0 in
-      let count : told.0.lo + length (given_of 1 (before limits plan e f q) ++ []) ≡ length (given_of 1 (cache_history plan f)) =
-      (let l0 : told.0.lo ≡ 0 = ap (λ (z : Shown). z.lo) one ∙ first in
+      let count : reported.0.lo + length (given_of 1 (before limits plan e f q) ++ []) ≡ length (given_of 1 (cache_history plan f)) =
+      (let l0 : reported.0.lo ≡ 0 = ap (λ (z : Shown). z.lo) one ∙ first in
       let l1 : length (given_of 1 (before limits plan e f q) ++ []) ≡ length (given_of 1 (cache_history plan f)) = ap length (append_none (given_of 1 (before limits plan e f q)) ∙ given) in
       omega (arith, l0, l1)) in
       let is_end : IsEnd (tables no_contents (before limits plan e f q)) head.r k.s.hi (length (given_of 1 (cache_history plan f))) =
       subst (λ m. IsEnd (tables no_contents (before limits plan e f q)) head.r k.s.hi m) count
-      (subst (λ r. IsEnd (tables no_contents (before limits plan e f q)) r k.s.hi (told.0.lo + length (given_of 1 (before limits plan e f q) ++ []))) (ap (λ (z : Shown). z.r) one ∙ k.of)
-      (subst (λ (z : Option ℕ). IsEnd (tables no_contents (before limits plan e f q)) told.0.r z (told.0.lo + length (given_of 1 (before limits plan e f q) ++ []))) (ap (λ (z : Shown). z.hi) one) told.2)) in
+      (subst (λ r. IsEnd (tables no_contents (before limits plan e f q)) r k.s.hi (reported.0.lo + length (given_of 1 (before limits plan e f q) ++ []))) (ap (λ (z : Shown). z.r) one ∙ k.of)
+      (subst (λ (z : Option ℕ). IsEnd (tables no_contents (before limits plan e f q)) reported.0.r z (reported.0.lo + length (given_of 1 (before limits plan e f q) ++ []))) (ap (λ (z : Shown). z.hi) one) reported.2)) in
       (length (given_of 1 (cache_history plan f)), by_hi k.s.hi refl is_end, λ p lt. more_gathered e.acts (gathered f) p (covered p (omega arith) (omega arith)))
     where
       by_hi : (o : Option ℕ) → k.s.hi ≡ o → IsEnd (tables no_contents (before limits plan e f q)) head.r o (length (given_of 1 (cache_history plan f))) → KnownEnd (tables no_contents (cache_history plan (e ∷ f))) head.r (length (given_of 1 (cache_history plan f)))
@@ -188,7 +188,7 @@ module _ (limits : Limits) (plan : FetchPlan) (e : Entry) (f : History) (q : IsF
 
   ended_on : head.status ≡ 200 → has_ended 1 (e ∷ f) ≡ true → (n : ℕ) × KnownEnd (tables no_contents (cache_history plan (e ∷ f))) head.r n × ((p : ℕ) → p < n → is_some (gathered (e ∷ f) p) ≡ true)
   ended_on status is = elim (bool_cases (ends_in 1 e.acts)) [
-    | inl on ↦ told_here status on
+    | inl on ↦ reported_here status on
     | inr off ↦ let old = k.ends status (rw off at is) in (old.0, end_on limits plan e f q head.r old.0 old.1, λ p lt. more_gathered e.acts (gathered f) p (old.2 p lt))
   ]
 
@@ -201,7 +201,7 @@ module _ (limits : Limits) (plan : FetchPlan) (e : Entry) (f : History) (q : IsF
   pub still_known : FirstKnown plan (e ∷ f) head
   still_known = record {
     known = head_behind limits plan e f q head.r (head_on limits plan e f q head.r k.known);
-    part = λ total tells. let old = k.part total tells in (old.0, end_on limits plan e f q head.r old.0 old.1, old.2);
+    part = λ total reports. let old = k.part total reports in (old.0, end_on limits plan e f q head.r old.0 old.1, old.2);
     s = k.s;
     shown = shown_step plan 1 e f ∙ (ap (λ l. l ++ shown_in 1 e.acts) was ∙ ap (λ l. k.s ∷ l) (none_more (shown_in 1 e.acts) refl));
     of = k.of;
@@ -212,7 +212,7 @@ module _ (limits : Limits) (plan : FetchPlan) (e : Entry) (f : History) (q : IsF
 -- what the first head tells is known
 module _ (limits : Limits) (plan : FetchPlan) (plan_is : IsPlan plan) (e : Entry) (f : History) (q : IsFetchRun limits plan (e ∷ f)) (own : has_foreign f ≡ false) (none : first_head f ≡ None) (head : Head) (is : first_in (heads_in e.acts) ≡ Some head) where
   facts : FirstShown (tables no_contents (started plan e.now (cache_history plan f))) head.r (among e.acts head is).lo (among e.acts head is).hi head.status head.fields
-  facts = first_told limits plan plan_is (before limits plan e f q) e q.begins (run_on limits plan e f q) (lone_before limits plan plan_is f (earlier limits plan e f q) own none e.now) head (among e.acts head is)
+  facts = first_reported limits plan plan_is (before limits plan e f q) e q.begins (run_on limits plan e f q) (lone_before limits plan plan_is f (earlier limits plan e f q) own none e.now) head (among e.acts head is)
 
   none_before : shown_of 1 (started plan e.now (cache_history plan f)) ≡ []
   none_before = started_shows plan e.now 1 (cache_history plan f) ∙ unshown_before limits plan f none
@@ -226,18 +226,18 @@ module _ (limits : Limits) (plan : FetchPlan) (plan_is : IsPlan plan) (e : Entry
   not_ended over = elim (bool_cases (ends_in 1 e.acts)) [
     | inr off ↦ unended_before limits plan f (earlier limits plan e f q) none (rw off at over)
     | inl on ↦
-        let told = ends_well limits no_contents (before limits plan e f q) e q.begins (run_on limits plan e f q) 1 (ends_says 1 e.acts on) in
-        nil_cons told.0 [] (sym none_before ∙ (sym (append_none (shown_of 1 (before limits plan e f q))) ∙ told.1))
+        let reported = ends_well limits no_contents (before limits plan e f q) e q.begins (run_on limits plan e f q) 1 (ends_says 1 e.acts on) in
+        nil_cons reported.0 [] (sym none_before ∙ (sym (append_none (shown_of 1 (before limits plan e f q))) ∙ reported.1))
   ]
 
   pub now_known : FirstKnown plan (e ∷ f) head
   now_known = record {
     known = head_behind limits plan e f q head.r facts.known;
-    part = λ total tells. let told = facts.part total tells in (told.0, end_behind limits plan e f q head.r told.0 told.1, told.2);
+    part = λ total reports. let reported = facts.part total reports in (reported.0, end_behind limits plan e f q head.r reported.0 reported.1, reported.2);
     s = record { r = head.r; why = (among e.acts head is).why; lo = (among e.acts head is).lo; hi = (among e.acts head is).hi };
     shown = shown_step plan 1 e f ∙ (ap (λ l. l ++ shown_in 1 e.acts) none_before ∙ one_here);
     of = refl;
-    whole = λ status. let told = facts.whole status in (told.0, λ n hi. end_behind limits plan e f q head.r n (told.1 n hi));
+    whole = λ status. let reported = facts.whole status in (reported.0, λ n hi. end_behind limits plan e f q head.r n (reported.1 n hi));
     ends = λ status over. absurd (not_ended over);
   }
 
@@ -278,10 +278,10 @@ module _ (limits : Limits) (plan : FetchPlan) (f : History) (q : IsFetchRun limi
 
 module _ (limits : Limits) (plan : FetchPlan) (plan_is : IsPlan plan) (f : History) (total : ℕ) (q : IsFetchRun limits plan f) (own : has_foreign f ≡ false) (head : Head) (is : first_head f ≡ Some head) where
   by_part : (o : Option ℕ) → total_of head ≡ o → is_all o (length (written_of f)) ≡ true → length (written_of f) ≡ total → end_of (tables no_contents (cache_history plan f)) head.r ≡ Some total
-  by_part None told all count = absurd (false_true all)
-  by_part (Some t) told all count =
+  by_part None reported all count = absurd (false_true all)
+  by_part (Some t) reported all count =
       let same : length (written_of f) ≡ t = (let test : Rattle.std.specs.Prelude.nat_eq (length (written_of f)) t ≡ true = all in grind (arith, Rattle.std.proofs.lemmas.Bool.Decides.nat_tests)) in
-      let part = (first_known limits plan plan_is f q own head is).part t (tells_part head t told) in
+      let part = (first_known limits plan plan_is f q own head is).part t (gives_part head t reported) in
       let most = no_longer limits plan f q head is part.0 part.1 in
       let less = part.2 in
       let n_is : part.0 ≡ total = omega (arith, same, count, most, less) in
@@ -289,11 +289,11 @@ module _ (limits : Limits) (plan : FetchPlan) (plan_is : IsPlan plan) (f : Histo
 
   by_whole : head.status ≡ 200 → has_ended 1 f ≡ true → length (written_of f) ≡ total → end_of (tables no_contents (cache_history plan f)) head.r ≡ Some total
   by_whole status over count =
-      let told = (first_known limits plan plan_is f q own head is).ends status over in
-      let most = no_longer limits plan f q head is told.0 told.1 in
-      let least = no_shorter limits plan f q head is told.0 told.1 told.2 in
-      let n_is : told.0 ≡ total = omega (arith, count, most, least) in
-      told.1.ends ∙ ap Some n_is
+      let reported = (first_known limits plan plan_is f q own head is).ends status over in
+      let most = no_longer limits plan f q head is reported.0 reported.1 in
+      let least = no_shorter limits plan f q head is reported.0 reported.1 reported.2 in
+      let n_is : reported.0 ≡ total = omega (arith, count, most, least) in
+      reported.1.ends ∙ ap Some n_is
 
   by_done : is_done_by (Some head) f (length (written_of f)) ≡ true → length (written_of f) ≡ total → end_of (tables no_contents (cache_history plan f)) head.r ≡ Some total
   by_done done count = elim (bool_cases (head.status == 200)) [

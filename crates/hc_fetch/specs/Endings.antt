@@ -7,7 +7,7 @@ use Rattle.hc_sched.specs.declared.schedule.Ended.TheVariants as course
 use Rattle.hc_sched.specs.declared.schedule.Refused.{Refused}
 use Rattle.hc_sched.specs.declared.schedule.Timed.{Timed}
 use Rattle.hc_sched.specs.Schedule.{Item, Spells, events_of}
-use Rattle.hc_driver.specs.Courses.{TakesThenFront}
+use Rattle.hc_driver.specs.Courses.{TakesThenPrefix}
 use Rattle.hc_driver.specs.Endings.{Reach, IsRead, IsUnrefused, IsRefusedIn, IsSteppedAtOnce, events_from}
 use Rattle.hc_rules.specs.declared.room.Limits.{Limits}
 use Rattle.hc_model.specs.Entries.{Entry, History, no_contents}
@@ -63,7 +63,7 @@ pub record WritesSome (limits : Limits) (plan : FetchPlan) (events : List Timed)
   pub is_fetched : IsFetched limits plan f
   pub undecided_before : is_undecided_before plan f ≡ true
   pub events_are : AreEvents f events
-  pub taken : TakesThenFront out out' (written_before f) (written_last f)
+  pub taken : TakesThenPrefix out out' (written_before f) (written_last f)
 
 -- at Done all of the body was written
 abbrev pub IsWholeBody : FetchPlan → History → FetchEnded → Type 0

@@ -81,7 +81,7 @@ pub record Answers (s : Fetching) (now : ℕ) (event : Event) (text : List ℕ) 
       Hears s u (record { now = now; event = event; acts = acts }) f text
 
 -- A foreign event decides and isn't stepped; each other one is answered.
-pub data Tells (s : Fetching) (number now : ℕ) (event : Event) (text : List ℕ) (u : Fetching) : Type 0 where
+pub data Reports (s : Fetching) (number now : ℕ) (event : Event) (text : List ℕ) (u : Fetching) : Type 0 where
   foreign : is_foreign event ≡ true → text ≡ [] → u.decided ≡ Some (ended.Foreign (s.count + 1)) →
-      Tells s number now event text u
-  answered : is_foreign event ≡ false → Answers s now event text u → Tells s number now event text u
+      Reports s number now event text u
+  answered : is_foreign event ≡ false → Answers s now event text u → Reports s number now event text u

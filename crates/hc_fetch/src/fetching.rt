@@ -276,7 +276,7 @@ impl Fetching {
 impl Course for Fetching {
     ghost use Rattle.std.specs.Prelude.{is_some};
     ghost use Rattle.hc_core.specs.Steps.{bytes_received};
-    ghost use Rattle.hc_fetch.specs.Steps.{Tells};
+    ghost use Rattle.hc_fetch.specs.Steps.{Reports};
 
     ghost moment = { λ s. s.moment };
 
@@ -286,7 +286,7 @@ impl Course for Fetching {
 
     ghost over = { λ s. is_some s.decided };
 
-    ghost tells = { Tells };
+    ghost reports = { Reports };
 
     ghost spent = { λ _ _. Unit {0} };
 

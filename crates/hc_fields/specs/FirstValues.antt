@@ -1,7 +1,6 @@
 -- The values of a name: the first, the only one, and the elements of all.
 use Rattle.std.specs.Prelude.{ℕ, nat_lt, Bool, List, [], ◌∷◌, length, Option, Some, None, slice_get}
 use Rattle.hc_fields.specs.FieldList.{values_of}
-use Rattle.std.specs.Prelude.{ℕ, List}
 use Rattle.std.specs.List.{flat_map}
 use Rattle.hc_text.specs.Elements.{elements}
 

@@ -1,10 +1,9 @@
 -- How old a stored head is (RFC 9111 section 4.2.3), in seconds.
-use Rattle.std.specs.Prelude.{ℕ, ◌+◌, ◌-◌, max, List, codes}
+use Rattle.std.specs.Prelude.{ℕ, ◌+◌, ◌-◌, max, List, codes, Option}
 use Rattle.std.specs.Option.{option_and_then, unwrap_or}
 use Rattle.hc_cachectl.specs.Seconds.{plain_seconds}
 use Rattle.hc_fields.specs.FirstValues.{first_value}
 use Rattle.hc_record.specs.Head.{Head}
-use Rattle.std.specs.Prelude.{ℕ, List, Option, codes}
 use Rattle.httpdate.specs.Date.{parse_secs}
 
 -- Dates of a stored head (RFC 9110 section 5.6.7).

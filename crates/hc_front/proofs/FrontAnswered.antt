@@ -13,32 +13,32 @@ use Rattle.hc_model.specs.Flaws.{flaw_by}
 use Rattle.hc_laws.proofs.LawfulRuns.{lawful_in_runs}
 use Rattle.hc_core.specs.Steps as core
 use Rattle.hc_core.specs.Steps.{StandsFor, Answers}
-use Rattle.hc_front.specs.{declared.{front.Front.{Front}, watches.{Watched.{Watched}, Watches.{Watches}}}, Watching.{watched_in, newly, settled, ChangesAt}, Fronts.{Fronted, Heard, is_watched, is_ending, handed, told, core_entry, front_after}, FrontHistories.{FrontHistory, fronted, core_of}, Steps.{FrontStands, FrontAnswers, limits_in}}
-use Rattle.hc_condition.specs.{NotModified.{is_not_modified, told_fields, unconditioned}, Telling.{act_told, is_satisfying}}
+use Rattle.hc_front.specs.{declared.{front.Front.{Front}, watches.{Watched.{Watched}, Watches.{Watches}}}, Watching.{watched_in, newly, settled, ChangesAt}, Fronts.{Fronted, FrontEntry, is_watched, is_ending, handed, reported, core_entry, front_after}, FrontHistories.{FrontHistory, fronted, core_of}, Steps.{FrontStands, FrontAnswers, limits_in}}
+use Rattle.hc_condition.specs.{NotModified.{is_not_modified, fields_of_304, unconditioned}, ShownActs.{act_shown, is_satisfying}}
 use Rattle.hc_front.proofs.Watchings.{core_is, watched_live, one_and_others, others_keep, cancels_own, cancels_others, handed_as_it_is, handed_without, unwatched_start, denied_start, start_others, starts_watched, poll_others, poll_none, poll_ends, poll_leaves, poll_satisfies, poll_goes_on}
 
 -- WHAT THE ACTS TELL OF THE STORE
 
-flaw_told : (request : Request) (a : Act) (acts others : List Act) → flaw_in acts ≡ flaw_in others → flaw_in (act_told request a ∷ acts) ≡ flaw_in (a ∷ others)
-flaw_told request (act.Shown c r why status fields lo hi) acts others same = by_test (is_not_modified request status fields)
+flaw_reported : (request : Request) (a : Act) (acts others : List Act) → flaw_in acts ≡ flaw_in others → flaw_in (act_shown request a ∷ acts) ≡ flaw_in (a ∷ others)
+flaw_reported request (act.Shown c r why status fields lo hi) acts others same = by_test (is_not_modified request status fields)
   where
-    by_test : (b : Bool) → flaw_in ((if b then act.Shown c r why 304 (told_fields fields) 0 (Some 0) else act.Shown c r why status fields lo hi) ∷ acts) ≡ flaw_in others
+    by_test : (b : Bool) → flaw_in ((if b then act.Shown c r why 304 (fields_of_304 fields) 0 (Some 0) else act.Shown c r why status fields lo hi) ∷ acts) ≡ flaw_in others
     by_test true = same
     by_test false = same
-flaw_told request (act.Failed c why) acts others same = ap (flaw_by why) same
-flaw_told request (act.Lost r kind) acts others same = refl
-flaw_told request (act.Opened x c need other) acts others same = same
-flaw_told request (act.Ask x) acts others same = same
-flaw_told request (act.Close x) acts others same = same
-flaw_told request (act.Given c x at bytes) acts others same = same
-flaw_told request (act.Ended c) acts others same = same
-flaw_told request (act.Pending c wait) acts others same = same
-flaw_told request (act.Evicted r) acts others same = same
-flaw_told request (act.Denied refusal) acts others same = same
+flaw_reported request (act.Failed c why) acts others same = ap (flaw_by why) same
+flaw_reported request (act.Lost r kind) acts others same = refl
+flaw_reported request (act.Opened x c need other) acts others same = same
+flaw_reported request (act.Ask x) acts others same = same
+flaw_reported request (act.Close x) acts others same = same
+flaw_reported request (act.Given c x at bytes) acts others same = same
+flaw_reported request (act.Ended c) acts others same = same
+flaw_reported request (act.Pending c wait) acts others same = same
+flaw_reported request (act.Evicted r) acts others same = same
+flaw_reported request (act.Denied refusal) acts others same = same
 
-flaws_told : (request : Request) (acts : List Act) → flaw_in (map (act_told request) acts) ≡ flaw_in acts
-flaws_told request [] = refl
-flaws_told request (a ∷ acts) = flaw_told request a (map (act_told request) acts) acts (flaws_told request acts)
+flaws_reported : (request : Request) (acts : List Act) → flaw_in (map (act_shown request) acts) ≡ flaw_in acts
+flaws_reported request [] = refl
+flaws_reported request (a ∷ acts) = flaw_reported request a (map (act_shown request) acts) acts (flaws_reported request acts)
 
 -- an end behind them tells nothing of it
 flaw_ended : (c : ℕ) (acts : List Act) → flaw_in (acts ++ act.Ended c ∷ []) ≡ flaw_in acts
@@ -58,8 +58,8 @@ flaw_ended c (act.Denied refusal ∷ acts) = flaw_ended c acts
 abbrev failing : Flaw → ℕ
 failing flaw = if is_fault flaw then 1 else 0
 
-pub failures_told : (request : Request) (acts : List Act) → failures_in (map (act_told request) acts) ≡ failures_in acts
-failures_told request acts = ap failing (flaws_told request acts)
+pub failures_reported : (request : Request) (acts : List Act) → failures_in (map (act_shown request) acts) ≡ failures_in acts
+failures_reported request acts = ap failing (flaws_reported request acts)
 
 pub failures_ended : (c : ℕ) (acts : List Act) → failures_in (acts ++ act.Ended c ∷ []) ≡ failures_in acts
 failures_ended c acts = ap failing (flaw_ended c acts)
@@ -71,7 +71,7 @@ module _ {B : Type 0} {g : Ghosts B} where
   law_of s contents f stands = subst Lawful (sym (core_is contents f)) (lawful_in_runs (core.limits_in s.cache) contents (core_of contents f) stands.cache.begins stands.cache.run)
 
   module _ (s u : Front B g) (now : ℕ) (ev asked : Event) (heard : List Act) (answered : Answers s.cache u.cache now asked heard) where
-    abbrev e : Heard
+    abbrev e : FrontEntry
     e = record { now = now; event = ev; acts = heard }
 
     -- this is what is handed on
@@ -96,13 +96,13 @@ module _ {B : Type 0} {g : Ghosts B} where
       unfolding fronted
       stands_on kept = record { cache = cache_stands; watched = kept }
 
-    pub answers : (acts : List Act) → IsHanded → ((contents : Contents) (f : FrontHistory) → FrontStands s contents f → acts ≡ told (fronted contents f) ev heard) → AreKept
+    pub answers : (acts : List Act) → IsHanded → ((contents : Contents) (f : FrontHistory) → FrontStands s contents f → acts ≡ reported (fronted contents f) ev heard) → AreKept
         → failures_in acts ≡ failures_in heard → FrontAnswers s u now ev acts
     unfolding IsHanded AreKept
-    answers acts hand tells kept same = record {
+    answers acts hand reports kept same = record {
       heard = heard;
       limits = answered.limits;
-      told_are = tells;
+      reported_are = reports;
       stands = λ contents f stands. stands_on contents f stands (hand contents f stands) (kept contents f stands (is_owed contents f stands (hand contents f stands)));
       counted = (let counted = answered.counted in omega (arith, counted, same));
       number = answered.number;
@@ -128,7 +128,7 @@ module _ {B : Type 0} {g : Ghosts B} where
     passes ev answered same no_start no_poll no_cancel =
         answers s u now ev ev heard answered heard
         (λ contents f stands. as_it_is (fronted contents f) ev refl)
-        (λ contents f stands. as_told (fronted contents f) ev refl)
+        (λ contents f stands. as_reported (fronted contents f) ev refl)
         (λ contents f stands is c. stays_kept s u same contents f stands c ∙ others_keep (limits_in u) (fronted contents f) (law_of s contents f stands) (watched_live contents f) now ev heard is no_start no_poll no_cancel c)
         refl
       where
@@ -142,15 +142,15 @@ module _ {B : Type 0} {g : Ghosts B} where
         as_it_is t (event.Fault x) at = ap (handed t) at ∙ sym at
         as_it_is t (event.Doom key) at = ap (handed t) at ∙ sym at
 
-        as_told : (t : Fronted) (z : Event) → ev ≡ z → heard ≡ told t ev heard
-        as_told t (event.Start d request) at = absurd (no_start d request at)
-        as_told t (event.Poll d want) at = absurd (no_poll d want at)
-        as_told t (event.Cancel d) at = sym (ap (λ (y : Event). told t y heard) at)
-        as_told t (event.Head x response) at = sym (ap (λ (y : Event). told t y heard) at)
-        as_told t (event.Piece x bytes) at = sym (ap (λ (y : Event). told t y heard) at)
-        as_told t (event.End x) at = sym (ap (λ (y : Event). told t y heard) at)
-        as_told t (event.Fault x) at = sym (ap (λ (y : Event). told t y heard) at)
-        as_told t (event.Doom key) at = sym (ap (λ (y : Event). told t y heard) at)
+        as_reported : (t : Fronted) (z : Event) → ev ≡ z → heard ≡ reported t ev heard
+        as_reported t (event.Start d request) at = absurd (no_start d request at)
+        as_reported t (event.Poll d want) at = absurd (no_poll d want at)
+        as_reported t (event.Cancel d) at = sym (ap (λ (y : Event). reported t y heard) at)
+        as_reported t (event.Head x response) at = sym (ap (λ (y : Event). reported t y heard) at)
+        as_reported t (event.Piece x bytes) at = sym (ap (λ (y : Event). reported t y heard) at)
+        as_reported t (event.End x) at = sym (ap (λ (y : Event). reported t y heard) at)
+        as_reported t (event.Fault x) at = sym (ap (λ (y : Event). reported t y heard) at)
+        as_reported t (event.Doom key) at = sym (ap (λ (y : Event). reported t y heard) at)
 
     -- who is cancelled
     pub cancels : (d : ℕ) → Answers s.cache u.cache now (event.Cancel d) heard → ChangesAt d None s.watches u.watches → FrontAnswers s u now (event.Cancel d) heard
@@ -261,10 +261,10 @@ module _ {B : Type 0} {g : Ghosts B} where
             poll_goes_on (limits_in u) (fronted contents f) (law_of s contents f stands) (watched_live contents f) now d want heard is w (row contents f stands) (ending_is false other contents f stands) leaves_so shown_so
 
         pub polls_on : ChangesAt d (settled (leaves_in d heard) (list_any (is_satisfying w.request) heard) (Some w)) s.watches u.watches
-            → FrontAnswers s u now (event.Poll d want) (map (act_told w.request) heard)
+            → FrontAnswers s u now (event.Poll d want) (map (act_shown w.request) heard)
         unfolding IsHanded AreKept
         polls_on changes =
-            answers s u now (event.Poll d want) (event.Poll d want) heard answered (map (act_told w.request) heard)
+            answers s u now (event.Poll d want) (event.Poll d want) heard answered (map (act_shown w.request) heard)
             (λ contents f stands. rw (ending_is false other contents f stands) refl)
             (λ contents f stands. rw (ending_is false other contents f stands, row contents f stands) refl)
             (λ contents f stands is.
@@ -272,4 +272,4 @@ module _ {B : Type 0} {g : Ghosts B} where
             changes_kept s u d (settled (leaves_in d heard) (list_any (is_satisfying w.request) heard) (Some w)) changes (front_after (fronted contents f) (record { now = now; event = event.Poll d want; acts = heard })).watched contents f stands
             (own_row contents f stands is (leaves_in d heard) (list_any (is_satisfying w.request) heard) refl refl)
             (poll_others (limits_in u) (fronted contents f) law (watched_live contents f) now d want heard is))
-            (failures_told w.request heard)
+            (failures_reported w.request heard)

@@ -6,7 +6,7 @@ use Rattle.std.{proofs.Common.{◌≡◌, ℕ, Bool, true, false, List, [], ◌�
 use Rattle.hc_effects.proofs.Vocabulary.{is_denied, Act, Event, Request, is_live, Entry, History, Contents, Tables, Consumer, after}
 use Rattle.hc_event.specs.declared.event.Event.TheVariants as event
 use Rattle.hc_replay.specs.Histories.{run_of}
-use Rattle.hc_front.specs.{declared.watches.Watched.{Watched}, Fronts.{Fronted, Heard, is_watched, is_ending, handed, told, watched_by, while_live, core_entry, front_after}, FrontHistories.{FrontHistory, fronted, told_of}, Laws.{starts_external, HasNoneExternal, IsPlainElse}, Watching.{newly}}
+use Rattle.hc_front.specs.{declared.watches.Watched.{Watched}, Fronts.{Fronted, FrontEntry, is_watched, is_ending, handed, reported, watched_by, while_live, core_entry, front_after}, FrontHistories.{FrontHistory, fronted, answered_of}, Laws.{starts_external, HasNoneExternal, IsPlainElse}, Watching.{newly}}
 use Rattle.hc_condition.specs.External.{is_external}
 
 -- only what is external is watched
@@ -63,25 +63,25 @@ handed_on t (event.End x) none off = refl
 handed_on t (event.Fault x) none off = refl
 handed_on t (event.Doom key) none off = refl
 
-told_on : (t : Fronted) (ev : Event) (acts : List Act) → ((c : ℕ) → t.watched c ≡ None) → told t ev acts ≡ acts
+reported_on : (t : Fronted) (ev : Event) (acts : List Act) → ((c : ℕ) → t.watched c ≡ None) → reported t ev acts ≡ acts
 unfolding is_ending
-told_on t (event.Poll d want) acts none = rw (none d) refl
-told_on t (event.Start d request) acts none = refl
-told_on t (event.Cancel d) acts none = refl
-told_on t (event.Head x response) acts none = refl
-told_on t (event.Piece x bytes) acts none = refl
-told_on t (event.End x) acts none = refl
-told_on t (event.Fault x) acts none = refl
-told_on t (event.Doom key) acts none = refl
+reported_on t (event.Poll d want) acts none = rw (none d) refl
+reported_on t (event.Start d request) acts none = refl
+reported_on t (event.Cancel d) acts none = refl
+reported_on t (event.Head x response) acts none = refl
+reported_on t (event.Piece x bytes) acts none = refl
+reported_on t (event.End x) acts none = refl
+reported_on t (event.Fault x) acts none = refl
+reported_on t (event.Doom key) acts none = refl
 
-entry_on : (t : Fronted) (e : Heard) → ((c : ℕ) → t.watched c ≡ None) → starts_external e.event ≡ false → record { now = e.now; event = e.event; acts = told t e.event e.acts } ≡ core_entry t e
+entry_on : (t : Fronted) (e : FrontEntry) → ((c : ℕ) → t.watched c ≡ None) → starts_external e.event ≡ false → record { now = e.now; event = e.event; acts = reported t e.event e.acts } ≡ core_entry t e
 entry_on t e none off =
     let F : List Act → Entry = λ acts. record { now = e.now; event = e.event; acts = acts } in
     let G : Event → Entry = λ ev. record { now = e.now; event = ev; acts = e.acts } in
-    ap F (told_on t e.event e.acts none) ∙ ap G (sym (handed_on t e.event none off))
+    ap F (reported_on t e.event e.acts none) ∙ ap G (sym (handed_on t e.event none off))
 
 pub plain_else : IsPlainElse
 plain_else contents [] none = refl
 plain_else contents (e ∷ f) none =
-    ap (λ (x : Entry). x ∷ run_of (told_of contents f)) (entry_on (fronted contents f) e (nobody_watched contents f none.0) none.1)
+    ap (λ (x : Entry). x ∷ run_of (answered_of contents f)) (entry_on (fronted contents f) e (nobody_watched contents f none.0) none.1)
     ∙ ap (λ (h : History). core_entry (fronted contents f) e ∷ h) (plain_else contents f none.0)

@@ -2,7 +2,7 @@
 --
 -- Each way is one of FrontAnswered, with the acts that the cache appended as what was heard. What the cache says of the
 -- key of a request is what the definitions ask (`watched_none`, `watched_some`). `has_passed`, `has_watched` and
--- `has_told` are such ways; `started_at`, `polled_at` and `told_at` are the same for the code.
+-- `has_reported` are such ways; `started_at`, `polled_at` and `reported_at` are the same for the code.
 use Rattle.std.{proofs.{Common.{◌≡◌, ℕ, ◌+◌, ◌-◌, ◌≤◌, Bool, true, false, List, [], ◌∷◌, ◌++◌, length, take, drop, map, Option, Some, None, refl, sym, ap, ◌∙◌, subst, arith}, lemmas.List.{append_assoc, length-append}, Math.Seq.{take-append_seam, drop-append_seam, take-length}}, specs.{Prelude.{◌&&◌, not, codes, is_some, is_none, option_map, Result, Ok, Err, OnOk, OnErr, IfOk}, List.{list_any}}}
 use Rattle.hc_fields.specs.FieldList.{without}
 use Rattle.hc_validate.proofs.Settings.{length-without, size_of-without}
@@ -13,8 +13,8 @@ use Rattle.hc_record.specs.declared.kind.Kind.{Kind}
 use Rattle.hc_effects.proofs.PollKeeps.{find_passes}
 use Rattle.hc_core.specs.Steps as core
 use Rattle.hc_core.specs.Steps.{StandsFor}
-use Rattle.hc_condition.specs.{External.{is_external}, NotModified.{unconditioned}, Telling.{act_told, is_leaving, is_satisfying}}
-use Rattle.hc_condition.proofs.Told.{any_leaves}
+use Rattle.hc_condition.specs.{External.{is_external}, NotModified.{unconditioned}, ShownActs.{act_shown, is_leaving, is_satisfying}}
+use Rattle.hc_condition.proofs.Reported.{any_leaves}
 use Rattle.hc_front.specs.{declared.{front.Front.{Front}, watches.Watched.{Watched}}, Fronts.{is_watched, is_ending}, FrontHistories.{FrontHistory, fronted, core_of}, Steps.{FrontStands, FrontAnswers, HasStepped, last_moment, bytes_received}, Watching.{watched_in, newly, settled, ChangesAt}}
 use Rattle.hc_front.proofs.{FrontAnswered.{passes, cancels, starts_unwatched, starts_denied, starts_on, polls_unwatched, polls_end, polls_on}, Watchings.{core_is}}
 
@@ -34,27 +34,27 @@ if_ok_by (Err e) p f = tt
 
 -- what is cut off again
 pub truncated : (before acts out cut l : List Act) → l ≡ before → out ≡ before ++ acts → cut ≡ take (length l) out → cut ≡ before
-truncated before acts out cut l same told is =
-    is ∙ ap (λ (m : List Act). take (length m) out) same ∙ ap (take (length before)) told ∙ take-append_seam before acts
+truncated before acts out cut l same reported is =
+    is ∙ ap (λ (m : List Act). take (length m) out) same ∙ ap (take (length before)) reported ∙ take-append_seam before acts
 
 -- what was appended
 pub behind : (before acts out l m : List Act) → l ≡ before → m ≡ out → out ≡ before ++ acts → drop (length l) m ≡ acts
-behind before acts out l m same all told =
-    ap (λ (k : List Act). drop (length k) m) same ∙ ap (drop (length before)) (all ∙ told) ∙ drop-append_seam before acts
+behind before acts out l m same all reported =
+    ap (λ (k : List Act). drop (length k) m) same ∙ ap (drop (length before)) (all ∙ reported) ∙ drop-append_seam before acts
 
 -- the same, as a slice up to the end
 pub behind_all : (before acts out l m : List Act) → l ≡ before → m ≡ out → out ≡ before ++ acts → take (length m - length l) (drop (length l) m) ≡ acts
-behind_all before acts out l m same all told =
-    let rest = behind before acts out l m same all told in
-    let whole = ap length (all ∙ told) in
+behind_all before acts out l m same all reported =
+    let rest = behind before acts out l m same all reported in
+    let whole = ap length (all ∙ reported) in
     let parts = length-append before acts in
     let first = ap length same in
     let count : length m - length l ≡ length acts = omega (arith, whole, parts, first) in
     ap (take (length m - length l)) rest ∙ ap (λ (n : ℕ). take n acts) count ∙ take-length acts
 
 pub none_more : (before acts out l : List Act) → l ≡ before → out ≡ before ++ acts → length l ≤ length out
-none_more before acts out l same told =
-    let whole = ap length told in
+none_more before acts out l same reported =
+    let whole = ap length reported in
     let parts = length-append before acts in
     let first = ap length same in
     omega (arith, whole, parts, first)
@@ -130,7 +130,7 @@ module _ {B : Type 0} {g : Ghosts B} (s u : Front B g) (now : ℕ) (before out :
   module _ (ev : Event) (moment : last_moment u ≡ now) (received : bytes_received u ≡ bytes_received s + received_in ev) (ready : core.has_failed u.cache ≡ false) where
     -- by the acts of the cache, whatever it was asked
     stepped : (asked : Event) (q : core.Steps s.cache u.cache before out now asked) → FrontAnswers s u now ev q.acts → HasStepped s u before out now ev
-    stepped asked q a = record { steps = record { acts = q.acts; told = q.told; answered = a }; moment = moment; received = received; ready = ready }
+    stepped asked q a = record { steps = record { acts = q.acts; reported = q.reported; answered = a }; moment = moment; received = received; ready = ready }
 
     pub has_passed : core.Steps s.cache u.cache before out now ev → u.watches ≡ s.watches → ((c : ℕ) (request : Request) → ev ≡ event.Start c request → ⊥) → ((c want : ℕ) → ev ≡ event.Poll c want → ⊥) → ((c : ℕ) → ev ≡ event.Cancel c → ⊥)
         → HasStepped s u before out now ev
@@ -152,7 +152,7 @@ module _ {B : Type 0} {g : Ghosts B} (s u : Front B g) (now : ℕ) (before out :
       pub has_watched : (between : List Act) (q : core.Steps s.cache u.cache before between now (event.Start d (unconditioned request))) → out ≡ between → ChangesAt d (Some (newly request)) s.watches u.watches → is_denied q.acts ≡ false
           → ((contents : Contents) (h : History) → StandsFor s.cache contents h → is_watched (tables contents h) request ≡ true) → HasStepped s u before out now (event.Start d request)
       has_watched between q same changes accepted on = record {
-        steps = record { acts = q.acts; told = same ∙ q.told; answered = starts_on s u now q.acts d request q.answered changes accepted (front_so request true on) };
+        steps = record { acts = q.acts; reported = same ∙ q.reported; answered = starts_on s u now q.acts d request q.answered changes accepted (front_so request true on) };
         moment = moment;
         received = received;
         ready = ready;
@@ -168,7 +168,7 @@ module _ {B : Type 0} {g : Ghosts B} (s u : Front B g) (now : ℕ) (before out :
       has_ended between q pushed ending changes = record {
         steps = record {
           acts = q.acts ++ act.Ended d ∷ [];
-          told = pushed ∙ ap (λ (l : List Act). l ++ act.Ended d ∷ []) q.told ∙ append_assoc before q.acts (act.Ended d ∷ []);
+          reported = pushed ∙ ap (λ (l : List Act). l ++ act.Ended d ∷ []) q.reported ∙ append_assoc before q.acts (act.Ended d ∷ []);
           answered = polls_end s u now q.acts d want ending q.answered changes;
         };
         moment = moment;
@@ -177,13 +177,13 @@ module _ {B : Type 0} {g : Ghosts B} (s u : Front B g) (now : ℕ) (before out :
       }
 
       -- by what was heard apart, and told
-      pub has_told : (w : Watched) (heard : List Act) → core.Steps s.cache u.cache [] heard now (event.Poll d want) → out ≡ before ++ map (act_told w.request) heard → watched_in s.watches d ≡ Some w → is_ending (watched_in s.watches d) want ≡ false
+      pub has_reported : (w : Watched) (heard : List Act) → core.Steps s.cache u.cache [] heard now (event.Poll d want) → out ≡ before ++ map (act_shown w.request) heard → watched_in s.watches d ≡ Some w → is_ending (watched_in s.watches d) want ≡ false
           → ChangesAt d (settled (leaves_in d heard) (list_any (is_satisfying w.request) heard) (Some w)) s.watches u.watches → HasStepped s u before out now (event.Poll d want)
-      has_told w heard q told kept other changes = record {
+      has_reported w heard q reported kept other changes = record {
         steps = record {
-          acts = map (act_told w.request) heard;
-          told = told;
-          answered = polls_on s u now heard d want w kept other (subst (core.Answers s.cache u.cache now (event.Poll d want)) (sym q.told) q.answered) changes;
+          acts = map (act_shown w.request) heard;
+          reported = reported;
+          answered = polls_on s u now heard d want w kept other (subst (core.Answers s.cache u.cache now (event.Poll d want)) (sym q.reported) q.answered) changes;
         };
         moment = moment;
         received = received;
@@ -210,23 +210,23 @@ module _ {B : Type 0} {g : Ghosts B} (s u : Front B g) (now : ℕ) (before out :
       subst (λ (z : Event). core.Steps s.cache u.cache before out now z → last_moment u ≡ now → core.has_failed u.cache ≡ false → bytes_received u ≡ bytes_received s + received_in z → u.watches ≡ s.watches → watched_in s.watches d ≡ None → HasStepped s u before out now z) (sym at)
       (λ q moment ready received same none. has_polled moment ready received d want q same none)
 
-  pub told_at : (ev : Event) (d want : ℕ) → ev ≡ event.Poll d want → (heard : List Act) → core.Steps s.cache u.cache [] heard now ev → last_moment u ≡ now → core.has_failed u.cache ≡ false → bytes_received u ≡ bytes_received s + received_in ev
-      → (w : Watched) → out ≡ before ++ map (act_told w.request) heard → watched_in s.watches d ≡ Some w → is_ending (watched_in s.watches d) want ≡ false
+  pub reported_at : (ev : Event) (d want : ℕ) → ev ≡ event.Poll d want → (heard : List Act) → core.Steps s.cache u.cache [] heard now ev → last_moment u ≡ now → core.has_failed u.cache ≡ false → bytes_received u ≡ bytes_received s + received_in ev
+      → (w : Watched) → out ≡ before ++ map (act_shown w.request) heard → watched_in s.watches d ≡ Some w → is_ending (watched_in s.watches d) want ≡ false
       → ChangesAt d (settled (leaves_in d heard) (list_any (is_satisfying w.request) heard) (Some w)) s.watches u.watches → HasStepped s u before out now ev
-  told_at ev d want at heard =
+  reported_at ev d want at heard =
       subst (λ (z : Event). core.Steps s.cache u.cache [] heard now z → last_moment u ≡ now → core.has_failed u.cache ≡ false → bytes_received u ≡ bytes_received s + received_in z
-      → (w : Watched) → out ≡ before ++ map (act_told w.request) heard → watched_in s.watches d ≡ Some w → is_ending (watched_in s.watches d) want ≡ false
+      → (w : Watched) → out ≡ before ++ map (act_shown w.request) heard → watched_in s.watches d ≡ Some w → is_ending (watched_in s.watches d) want ≡ false
       → ChangesAt d (settled (leaves_in d heard) (list_any (is_satisfying w.request) heard) (Some w)) s.watches u.watches → HasStepped s u before out now z) (sym at)
-      (λ q moment ready received w told kept other changes. has_told moment ready received d want w heard q told kept other changes)
+      (λ q moment ready received w reported kept other changes. has_reported moment ready received d want w heard q reported kept other changes)
 
   -- the same, by what the code found in what it heard
   pub settled_at : (ev : Event) (d want : ℕ) → ev ≡ event.Poll d want → (heard : List Act) → core.Steps s.cache u.cache [] heard now ev → last_moment u ≡ now → core.has_failed u.cache ≡ false → bytes_received u ≡ bytes_received s + received_in ev
-      → (w : Watched) → out ≡ before ++ map (act_told w.request) heard → watched_in s.watches d ≡ Some w → is_ending (watched_in s.watches d) want ≡ false
+      → (w : Watched) → out ≡ before ++ map (act_shown w.request) heard → watched_in s.watches d ≡ Some w → is_ending (watched_in s.watches d) want ≡ false
       → (leaves shown : Bool) (l : List Act) → l ≡ heard → leaves ≡ list_any (is_leaving d) l → shown ≡ list_any (is_satisfying w.request) heard
       → ChangesAt d (settled leaves shown (watched_in s.watches d)) s.watches u.watches → HasStepped s u before out now ev
-  settled_at ev d want at heard q moment ready received w told kept other leaves shown l list_is leaves_is shown_is changes =
+  settled_at ev d want at heard q moment ready received w reported kept other leaves shown l list_is leaves_is shown_is changes =
       let so : leaves ≡ leaves_in d heard = leaves_is ∙ ap (list_any (is_leaving d)) list_is ∙ any_leaves d heard in
-      told_at ev d want at heard q moment ready received w told kept other
+      reported_at ev d want at heard q moment ready received w reported kept other
       (subst (λ (b : Bool). ChangesAt d (settled b (list_any (is_satisfying w.request) heard) (Some w)) s.watches u.watches) so
       (subst (λ (b : Bool). ChangesAt d (settled leaves b (Some w)) s.watches u.watches) shown_is
       (subst (λ (o : Option Watched). ChangesAt d (settled leaves shown o) s.watches u.watches) kept changes)))

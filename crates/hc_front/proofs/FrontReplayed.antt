@@ -9,10 +9,10 @@ use Rattle.hc_effects.proofs.Vocabulary.{Act, Event, Limits, Contents, IsRun}
 use Rattle.hc_sched.specs.declared.schedule.{Ended.{Ended}, Timed.{Timed}}
 use Rattle.hc_driver.specs.{Endings.{How, Ends}, Stepping.{events_in, Leads, nothing, more, Steps}}
 use Rattle.hc_driver.specs.Stepping as steps
-use Rattle.hc_driver.proofs.Reported.{ends_so}
+use Rattle.hc_driver.proofs.ReportSteps.{ends_so}
 use Rattle.hc_laws.proofs.ReadWhole.{runs_read_whole}
 use Rattle.hc_replay.specs.Histories.{failures}
-use Rattle.hc_front.specs.{declared.front.Front.{Front}, Fronts.{Heard}, FrontHistories.{FrontHistory, fronted, core_of, told_of, front_entry}, Replays.{GoesOn, IsReplayed, ReplaysFront}, Steps.{FrontStands, FrontAnswers, has_failed, limits_in, faults_in, steps as steps_in}}
+use Rattle.hc_front.specs.{declared.front.Front.{Front}, Fronts.{FrontEntry}, FrontHistories.{FrontHistory, fronted, core_of, answered_of, front_entry}, Replays.{GoesOn, IsReplayed, ReplaysFront}, Steps.{FrontStands, FrontAnswers, has_failed, limits_in, faults_in, steps as steps_in}}
 use Rattle.hc_front.specs.Replays as replays
 
 module _ {B : Type 0} {g : Ghosts B} where
@@ -26,7 +26,7 @@ module _ {B : Type 0} {g : Ghosts B} where
 
   -- what was heard stands behind what the front stood for, and h is what it told
   record IsLed (s u : Front B g) (h : steps.History) (heard : FrontHistory) (contents : Contents) (before : FrontHistory) : Type 0 where
-    pub told : told_of contents (heard ++ before) ≡ h ++ told_of contents before
+    pub reported : answered_of contents (heard ++ before) ≡ h ++ answered_of contents before
     pub stands : FrontStands u contents (heard ++ before)
 
   record Led (s u : Front B g) (h : steps.History) : Type 0 where
@@ -38,12 +38,12 @@ module _ {B : Type 0} {g : Ghosts B} where
 
   -- by one step more
   module _ (s t u : Front B g) (h : steps.History) (e : steps.Entry) (q : Led s t h) (a : FrontAnswers t u e.timed.now e.timed.event e.acts) where
-    abbrev last : Heard
+    abbrev last : FrontEntry
     last = record { now = e.timed.now; event = e.timed.event; acts = a.heard }
 
-    entry_told : (contents : Contents) (f : FrontHistory) → FrontStands t contents f → front_entry (fronted contents f) last ≡ e
-    entry_told contents f stands =
-        ap (λ (acts : List Act). record { timed = record { now = e.timed.now; event = e.timed.event }; acts = acts }) (sym (a.told_are contents f stands))
+    entry_reported : (contents : Contents) (f : FrontHistory) → FrontStands t contents f → front_entry (fronted contents f) last ≡ e
+    entry_reported contents f stands =
+        ap (λ (acts : List Act). record { timed = record { now = e.timed.now; event = e.timed.event }; acts = acts }) (sym (a.reported_are contents f stands))
 
     one_more : Led s u (e ∷ h)
     one_more = record {
@@ -54,7 +54,7 @@ module _ {B : Type 0} {g : Ghosts B} where
       each = λ contents before stands.
           let led = q.each contents before stands in
           record {
-            told = ap (λ (x : steps.Entry). x ∷ told_of contents (q.heard ++ before)) (entry_told contents (q.heard ++ before) led.stands) ∙ ap (λ (l : steps.History). e ∷ l) led.told;
+            reported = ap (λ (x : steps.Entry). x ∷ answered_of contents (q.heard ++ before)) (entry_reported contents (q.heard ++ before) led.stands) ∙ ap (λ (l : steps.History). e ∷ l) led.reported;
             stands = a.stands contents (q.heard ++ before) led.stands;
           };
     }
@@ -65,7 +65,7 @@ module _ {B : Type 0} {g : Ghosts B} where
     limits = refl;
     counted = omega arith;
     number = omega arith;
-    each = λ contents before stands. record { told = refl; stands = stands };
+    each = λ contents before stands. record { reported = refl; stands = stands };
   }
   led s _ _ (more h e t u leads answered) = one_more s t u h e (led s t h leads) answered
 
@@ -77,7 +77,7 @@ module _ {B : Type 0} {g : Ghosts B} where
           run = subst (λ (l : Limits). IsRun l contents (core_of contents (q.heard ++ before))) q.limits led.stands.cache.run;
           reads = runs_read_whole (limits_in u) contents (core_of contents (q.heard ++ before)) led.stands.cache.begins led.stands.cache.run;
         };
-        told = led.told;
+        reported = led.reported;
         stands = led.stands;
       }
 

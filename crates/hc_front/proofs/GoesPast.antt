@@ -13,7 +13,7 @@ use Rattle.hc_effects.proofs.Owed.{goes}
 use Rattle.hc_laws.proofs.{Faultless.{faultless_are_owed}, LawfulRuns.{lawful_in_runs}}
 use Rattle.hc_effects.proofs.PollEffects as polls
 use Rattle.hc_condition.specs.External.{none_match_of, are_tags, is_date_or_absent, is_about_copy, asks_more, is_external}
-use Rattle.hc_front.specs.{Fronts.{Fronted, Heard, is_ending, handed, told, core_entry}, FrontHistories.{fronted, core_of}, Laws.{ConditionsGoOn}}
+use Rattle.hc_front.specs.{Fronts.{Fronted, FrontEntry, is_ending, handed, reported, core_entry}, FrontHistories.{fronted, core_of}, Laws.{ConditionsGoOn}}
 use Rattle.hc_front.proofs.Watchings.{core_is}
 
 -- IT GOES PAST THE CACHE
@@ -79,14 +79,14 @@ handed_on : (t : Fronted) (c want : ℕ) → t.watched c ≡ None → handed t (
 unfolding is_ending
 handed_on t c want none = rw none refl
 
-told_on : (t : Fronted) (c want : ℕ) (acts : List Act) → t.watched c ≡ None → told t (event.Poll c want) acts ≡ acts
+reported_on : (t : Fronted) (c want : ℕ) (acts : List Act) → t.watched c ≡ None → reported t (event.Poll c want) acts ≡ acts
 unfolding is_ending
-told_on t c want acts none = rw none refl
+reported_on t c want acts none = rw none refl
 
-module _ (limits : Limits) (t : Fronted) (law : Lawful t.core) (e : Heard) (is : IsOwed limits t.core (core_entry t e)) (c want since : ℕ) (request : Request) where
+module _ (limits : Limits) (t : Fronted) (law : Lawful t.core) (e : FrontEntry) (is : IsOwed limits t.core (core_entry t e)) (c want since : ℕ) (request : Request) where
   goes_on : t.watched c ≡ None → t.core.consumer c ≡ Some (new_consumer since request) → is_external request ≡ true → is_only request ≡ false
       → e.event ≡ event.Poll c want → is_denied e.acts ≡ false → failures_in e.acts ≡ 0
-      → told t e.event e.acts ≡ acts_of c (Opens (t.core.opened + 1) need.Disabled request)
+      → reported t e.event e.acts ≡ acts_of c (Opens (t.core.opened + 1) need.Disabled request)
   goes_on none row on off at accepted sound =
       let acts = acts_of c (Opens (t.core.opened + 1) need.Disabled request) in
       let hand : handed t e.event ≡ event.Poll c want = ap (handed t) at ∙ handed_on t c want none in
@@ -95,7 +95,7 @@ module _ (limits : Limits) (t : Fronted) (law : Lawful t.core) (e : Heard) (is :
       let all : e.acts ≡ acts = answered limits t.core (core_entry t e) acts is accepted sound
       (ap (size_flaw limits t.core e.now) hand ∙ no_size limits t.core e.now c want)
       (ap (λ (z : Event). accepted_acts limits t.core e.now z NoFlaw) hand ∙ are) in
-      ap (λ (z : Event). told t z e.acts) at ∙ (told_on t c want e.acts none ∙ all)
+      ap (λ (z : Event). reported t z e.acts) at ∙ (reported_on t c want e.acts none ∙ all)
 
 pub conditions_on : ConditionsGoOn
 conditions_on limits contents f e may run c want since request =

@@ -1,6 +1,6 @@
 -- Who is told that its copy holds is given nothing, before and later.
 --
--- What the front tells of bytes is what the cache gives (`given_told`). A consumer becomes satisfied by a poll of its
+-- What the front tells of bytes is what the cache gives (`given_reported`). A consumer becomes satisfied by a poll of its
 -- own that shows it a head. By that poll it is given nothing (`shows_alone`), and before its one head nothing was: a
 -- law of hc_model. From then on its polls that want bytes are cancels, and those that want none are denied (`quiet`).
 -- So it stays satisfied until it is over, and is over then (`stays`).
@@ -14,17 +14,17 @@ use Rattle.hc_effects.proofs.{ActParts.{far_closing, far_lost_only}, Basics.{som
 use Rattle.hc_laws.proofs.{OneHead.{one_head_is_shown}, TurnFacts.{far_from}, LawfulRuns.{lawful_in_runs}, LiveAfter.{consumer_behind, dead_stays}}
 use Rattle.hc_effects.proofs.Owed as owed_by
 use Rattle.hc_replay.specs.Histories.{run_of}
-use Rattle.hc_condition.specs.{NotModified.{is_not_modified, told_fields, unconditioned}, Telling.{act_told, is_satisfying}}
-use Rattle.hc_front.specs.{declared.watches.Watched.{Watched}, Fronts.{Fronted, Heard, is_watched, is_ending, handed, told, told_by, watched_polled, watched_by, while_live, core_entry, front_after}, FrontHistories.{FrontHistory, fronted, core_of, told_of}, Laws.{SatisfiedGetNothing}, Watching.{newly}}
+use Rattle.hc_condition.specs.{NotModified.{is_not_modified, fields_of_304, unconditioned}, ShownActs.{act_shown, is_satisfying}}
+use Rattle.hc_front.specs.{declared.watches.Watched.{Watched}, Fronts.{Fronted, FrontEntry, is_watched, is_ending, handed, reported, answered_by, watched_polled, watched_by, while_live, core_entry, front_after}, FrontHistories.{FrontHistory, fronted, core_of, answered_of}, Laws.{SatisfiedGetNothing}, Watching.{newly}}
 use Rattle.hc_front.proofs.Watchings.{core_is, watched_live, is_new}
 use Rattle.hc_core.proofs.NobodyLive.{over_by as over_is}
 
 -- WHAT THE FRONT TELLS OF BYTES
 
-gives_as : (c : ℕ) (request : Request) (a : Act) (acts others : List Act) → given_in c acts ≡ given_in c others → given_in c (act_told request a ∷ acts) ≡ given_in c (a ∷ others)
+gives_as : (c : ℕ) (request : Request) (a : Act) (acts others : List Act) → given_in c acts ≡ given_in c others → given_in c (act_shown request a ∷ acts) ≡ given_in c (a ∷ others)
 gives_as c request (act.Shown d r why status fields lo hi) acts others same = by_test (is_not_modified request status fields)
   where
-    by_test : (b : Bool) → given_in c ((if b then act.Shown d r why 304 (told_fields fields) 0 (Some 0) else act.Shown d r why status fields lo hi) ∷ acts) ≡ given_in c others
+    by_test : (b : Bool) → given_in c ((if b then act.Shown d r why 304 (fields_of_304 fields) 0 (Some 0) else act.Shown d r why status fields lo hi) ∷ acts) ≡ given_in c others
     by_test true = same
     by_test false = same
 gives_as c request (act.Given d x at bytes) acts others same = ap (λ (l : List ℕ). if nat_eq d c then bytes ++ l else l) same
@@ -38,9 +38,9 @@ gives_as c request (act.Pending d wait) acts others same = same
 gives_as c request (act.Evicted r) acts others same = same
 gives_as c request (act.Denied refusal) acts others same = same
 
-gives_all : (c : ℕ) (request : Request) (acts : List Act) → given_in c (map (act_told request) acts) ≡ given_in c acts
+gives_all : (c : ℕ) (request : Request) (acts : List Act) → given_in c (map (act_shown request) acts) ≡ given_in c acts
 gives_all c request [] = refl
-gives_all c request (a ∷ acts) = gives_as c request a (map (act_told request) acts) acts (gives_all c request acts)
+gives_all c request (a ∷ acts) = gives_as c request a (map (act_shown request) acts) acts (gives_all c request acts)
 
 -- an end behind them gives nothing
 gives_ended : (c d : ℕ) (acts : List Act) → given_in c (acts ++ act.Ended d ∷ []) ≡ given_in c acts
@@ -57,29 +57,29 @@ gives_ended c d (act.Pending e wait ∷ acts) = gives_ended c d acts
 gives_ended c d (act.Evicted r ∷ acts) = gives_ended c d acts
 gives_ended c d (act.Denied refusal ∷ acts) = gives_ended c d acts
 
-gives_by : (c : ℕ) (o : Option Watched) (acts : List Act) → given_in c (told_by o acts) ≡ given_in c acts
+gives_by : (c : ℕ) (o : Option Watched) (acts : List Act) → given_in c (answered_by o acts) ≡ given_in c acts
 gives_by c None acts = refl
 gives_by c (Some w) acts = gives_all c w.request acts
 
-gives_told : (c : ℕ) (t : Fronted) (ev : Event) (acts : List Act) → given_in c (told t ev acts) ≡ given_in c acts
-gives_told c t (event.Poll d want) acts = by_test (is_ending (t.watched d) want)
+gives_reported : (c : ℕ) (t : Fronted) (ev : Event) (acts : List Act) → given_in c (reported t ev acts) ≡ given_in c acts
+gives_reported c t (event.Poll d want) acts = by_test (is_ending (t.watched d) want)
   where
-    by_test : (b : Bool) → given_in c (if b then acts ++ act.Ended d ∷ [] else told_by (t.watched d) acts) ≡ given_in c acts
+    by_test : (b : Bool) → given_in c (if b then acts ++ act.Ended d ∷ [] else answered_by (t.watched d) acts) ≡ given_in c acts
     by_test true = gives_ended c d acts
     by_test false = gives_by c (t.watched d) acts
-gives_told c t (event.Start d request) acts = refl
-gives_told c t (event.Cancel d) acts = refl
-gives_told c t (event.Head x response) acts = refl
-gives_told c t (event.Piece x bytes) acts = refl
-gives_told c t (event.End x) acts = refl
-gives_told c t (event.Fault x) acts = refl
-gives_told c t (event.Doom key) acts = refl
+gives_reported c t (event.Start d request) acts = refl
+gives_reported c t (event.Cancel d) acts = refl
+gives_reported c t (event.Head x response) acts = refl
+gives_reported c t (event.Piece x bytes) acts = refl
+gives_reported c t (event.End x) acts = refl
+gives_reported c t (event.Fault x) acts = refl
+gives_reported c t (event.Doom key) acts = refl
 
-given_told : (c : ℕ) (contents : Contents) (f : FrontHistory) → given_of c (run_of (told_of contents f)) ≡ given_of c (core_of contents f)
-given_told c contents [] = refl
-given_told c contents (e ∷ f) =
-    ap (λ (l : List ℕ). l ++ given_in c (told (fronted contents f) e.event e.acts)) (given_told c contents f)
-    ∙ ap (λ (l : List ℕ). given_of c (core_of contents f) ++ l) (gives_told c (fronted contents f) e.event e.acts)
+given_reported : (c : ℕ) (contents : Contents) (f : FrontHistory) → given_of c (run_of (answered_of contents f)) ≡ given_of c (core_of contents f)
+given_reported c contents [] = refl
+given_reported c contents (e ∷ f) =
+    ap (λ (l : List ℕ). l ++ given_in c (reported (fronted contents f) e.event e.acts)) (given_reported c contents f)
+    ∙ ap (λ (l : List ℕ). given_of c (core_of contents f) ++ l) (gives_reported c (fronted contents f) e.event e.acts)
 
 -- WHAT AN ENTRY GIVES
 
@@ -180,7 +180,7 @@ wanted_by (event.Poll c want) = want
 wanted_by _ = 0
 
 module _ (limits : Limits) (t : Fronted) (law : Lawful t.core) (alive : (c : ℕ) (w : Watched) → t.watched c ≡ Some w → is_live (t.core.consumer c) ≡ true)
-    (e : Heard) (is : IsOwed limits t.core (core_entry t e)) where
+    (e : FrontEntry) (is : IsOwed limits t.core (core_entry t e)) where
   none_wanted : (n : ℕ) → nat_lt 0 n ≡ false → n ≡ 0
   none_wanted n off = grind (arith, nat_tests)
 
@@ -336,7 +336,7 @@ module _ (limits : Limits) (contents : Contents) (may : may_begin limits content
   law_of : (f : FrontHistory) → IsRun limits contents (core_of contents f) → Lawful (fronted contents f).core
   law_of f run = subst Lawful (sym (core_is contents f)) (lawful_in_runs limits contents (core_of contents f) may run)
 
-  owed_of : (e : Heard) (f : FrontHistory) → IsRun limits contents (core_of contents (e ∷ f)) → IsOwed limits (fronted contents f).core (core_entry (fronted contents f) e)
+  owed_of : (e : FrontEntry) (f : FrontHistory) → IsRun limits contents (core_of contents (e ∷ f)) → IsOwed limits (fronted contents f).core (core_entry (fronted contents f) e)
   owed_of e f run = subst (λ (t : Tables). IsOwed limits t (core_entry (fronted contents f) e)) (sym (core_is contents f)) run.1
 
   -- what was given stays all
@@ -356,11 +356,11 @@ module _ (limits : Limits) (contents : Contents) (may : may_begin limits content
   -- HOW IT BECAME SO
 
   -- it was satisfied before, or its own poll showed it a head
-  data Since (e : Heard) (t : Fronted) (c : ℕ) : Type 0 where
+  data Since (e : FrontEntry) (t : Fronted) (c : ℕ) : Type 0 where
     was : (u : Watched) → t.watched c ≡ Some u → u.satisfied ≡ true → Since e t c
     shown : (want : ℕ) (request : Request) → handed t e.event ≡ event.Poll c want → list_any (is_satisfying request) e.acts ≡ true → Since e t c
 
-  module _ (e : Heard) (t : Fronted) (c : ℕ) (w : Watched) (on : w.satisfied ≡ true) where
+  module _ (e : FrontEntry) (t : Fronted) (c : ℕ) (w : Watched) (on : w.satisfied ≡ true) where
     as_was : t.watched c ≡ Some w → Since e t c
     as_was kept = was w kept on
 
@@ -410,7 +410,7 @@ module _ (limits : Limits) (contents : Contents) (may : may_begin limits content
         by_test true g = g
         by_test false g = absurd (let no : None ≡ Some w = g in cc)
 
-  by_since : (e : Heard) (f : FrontHistory) (c : ℕ) → IsRun limits contents (core_of contents (e ∷ f)) → ((u : Watched) → (fronted contents f).watched c ≡ Some u → u.satisfied ≡ true → given_of c (core_of contents f) ≡ [])
+  by_since : (e : FrontEntry) (f : FrontHistory) (c : ℕ) → IsRun limits contents (core_of contents (e ∷ f)) → ((u : Watched) → (fronted contents f).watched c ≡ Some u → u.satisfied ≡ true → given_of c (core_of contents f) ≡ [])
       → Since e (fronted contents f) c → given_of c (core_of contents (e ∷ f)) ≡ []
   by_since e f c run before (was u there so) =
       ap (λ (l : List ℕ). l ++ given_in c e.acts) (before u there so)
@@ -428,7 +428,7 @@ module _ (limits : Limits) (contents : Contents) (may : may_begin limits content
 
 pub satisfied_nothing : SatisfiedGetNothing
 satisfied_nothing limits contents later f may run c w kept on =
-    given_told c contents (later ++ f)
+    given_reported c contents (later ++ f)
     ∙ (none_later limits contents may later f c run (satisfied w kept on) (none_before limits contents may f c w (run_before later run) kept on)).0
   where
     run_before : (l : FrontHistory) → IsRun limits contents (core_of contents (l ++ f)) → IsRun limits contents (core_of contents f)

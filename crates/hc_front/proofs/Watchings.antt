@@ -11,9 +11,9 @@ use Rattle.hc_event.specs.declared.act.Refusal.TheVariants as refusal
 use Rattle.hc_event.specs.declared.event.Event.TheVariants as event
 use Rattle.hc_rules.specs.Refusals as refusals
 use Rattle.hc_effects.proofs.{Basics.{some_none}, Owed.{goes}}
-use Rattle.hc_laws.proofs.{StaysLive.{stays_live}, WhoLeaves.{leaver_polls, cancelled_over, told_over}}
-use Rattle.hc_front.specs.{declared.watches.Watched.{Watched}, Watching.{newly, satisfied_now}, Fronts.{Fronted, Heard, is_watched, is_ending, handed, watched_polled, watched_by, while_live, core_entry, front_after}, FrontHistories.{FrontHistory, fronted, core_of}}
-use Rattle.hc_condition.specs.{NotModified.{unconditioned}, Telling.{is_satisfying}}
+use Rattle.hc_laws.proofs.{StaysLive.{stays_live}, WhoLeaves.{leaver_polls, cancelled_over, reported_over}}
+use Rattle.hc_front.specs.{declared.watches.Watched.{Watched}, Watching.{newly, satisfied_now}, Fronts.{Fronted, FrontEntry, is_watched, is_ending, handed, watched_polled, watched_by, while_live, core_entry, front_after}, FrontHistories.{FrontHistory, fronted, core_of}}
+use Rattle.hc_condition.specs.{NotModified.{unconditioned}, ShownActs.{is_satisfying}}
 
 -- THE TABLES OF THE CACHE
 
@@ -84,7 +84,7 @@ is_new t law d request on =
 
 module _ (limits : Limits) (t : Fronted) (law : Lawful t.core) (alive : (c : ℕ) (w : Watched) → t.watched c ≡ Some w → is_live (t.core.consumer c) ≡ true)
     (now : ℕ) (ev : Event) (heard : List Act) where
-  abbrev e : Heard
+  abbrev e : FrontEntry
   e = record { now = now; event = ev; acts = heard }
 
   abbrev entry : Entry
@@ -145,7 +145,7 @@ module _ (limits : Limits) (t : Fronted) (law : Lawful t.core) (alive : (c : ℕ
 
 module _ (limits : Limits) (t : Fronted) (law : Lawful t.core) (alive : (c : ℕ) (w : Watched) → t.watched c ≡ Some w → is_live (t.core.consumer c) ≡ true)
     (now d : ℕ) (request : Request) (heard : List Act) where
-  abbrev started : Heard
+  abbrev started : FrontEntry
   started = record { now = now; event = event.Start d request; acts = heard }
 
   pub handed_as_it_is : is_watched t.core request ≡ false → handed t (event.Start d request) ≡ event.Start d request
@@ -221,7 +221,7 @@ module _ (limits : Limits) (t : Fronted) (law : Lawful t.core) (alive : (c : ℕ
 
 module _ (limits : Limits) (t : Fronted) (law : Lawful t.core) (alive : (c : ℕ) (w : Watched) → t.watched c ≡ Some w → is_live (t.core.consumer c) ≡ true)
     (now d want : ℕ) (heard : List Act) where
-  abbrev polled : Heard
+  abbrev polled : FrontEntry
   polled = record { now = now; event = event.Poll d want; acts = heard }
 
   pub handed_poll : is_ending (t.watched d) want ≡ false → handed t (event.Poll d want) ≡ event.Poll d want
@@ -261,7 +261,7 @@ module _ (limits : Limits) (t : Fronted) (law : Lawful t.core) (alive : (c : ℕ
 
     -- it was told its end or a failure
     pub poll_leaves : leaves_in d heard ≡ true → None ≡ (front_after t polled).watched d
-    poll_leaves on = gone limits t law alive now (event.Poll d want) heard is d (told_over limits t.core _ law is d on)
+    poll_leaves on = gone limits t law alive now (event.Poll d want) heard is d (reported_over limits t.core _ law is d on)
 
     poll_live : (w : Watched) → t.watched d ≡ Some w → is_ending (t.watched d) want ≡ false → leaves_in d heard ≡ false → is_live ((after t.core (core_entry t polled)).consumer d) ≡ true
     poll_live w kept off stay =

@@ -2,11 +2,11 @@
 use Rattle.std.specs.Prelude.{List, [], ◌∷◌}
 use Rattle.hc_driver.specs.Stepping as steps
 use Rattle.hc_model.specs.Entries.{History, Contents}
-use Rattle.hc_front.specs.Fronts.{Fronted, Heard, front_begun, front_after, core_entry, told}
+use Rattle.hc_front.specs.Fronts.{Fronted, FrontEntry, front_begun, front_after, core_entry, reported}
 
 -- the newest first
 abbrev pub FrontHistory : Type 0
-FrontHistory = List Heard
+FrontHistory = List FrontEntry
 
 -- what the past says
 unfoldable pub fronted : Contents → FrontHistory → Fronted
@@ -19,13 +19,13 @@ core_of contents [] = []
 core_of contents (e ∷ f) = core_entry (fronted contents f) e ∷ core_of contents f
 
 -- an event as it came, and what the front told
-abbrev pub front_entry : Fronted → Heard → steps.Entry
+abbrev pub front_entry : Fronted → FrontEntry → steps.Entry
 front_entry t e = record {
   timed = record { now = e.now; event = e.event };
-  acts = told t e.event e.acts;
+  acts = reported t e.event e.acts;
 }
 
 -- the history of the front
-abbrev pub told_of : Contents → FrontHistory → steps.History
-told_of contents [] = []
-told_of contents (e ∷ f) = front_entry (fronted contents f) e ∷ told_of contents f
+abbrev pub answered_of : Contents → FrontHistory → steps.History
+answered_of contents [] = []
+answered_of contents (e ∷ f) = front_entry (fronted contents f) e ∷ answered_of contents f

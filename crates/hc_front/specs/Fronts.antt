@@ -15,7 +15,7 @@ use Rattle.hc_model.specs.Tables.{first_tables, after}
 use Rattle.hc_front.specs.declared.watches.Watched.{Watched}
 use Rattle.hc_condition.specs.External.{is_external}
 use Rattle.hc_condition.specs.NotModified.{unconditioned}
-use Rattle.hc_condition.specs.Telling.{act_told, is_satisfying}
+use Rattle.hc_condition.specs.ShownActs.{act_shown, is_satisfying}
 use Rattle.hc_front.specs.Watching.{newly}
 
 -- What the past says: the tables of the cache; and of each consumer under watch its own request, and whether it was told
@@ -25,7 +25,7 @@ pub record Fronted : Type 0 where
   pub watched : ℕ → Option Watched
 
 -- an event that comes to the front, and how the cache answered what was handed on
-pub record Heard : Type 0 where
+pub record FrontEntry : Type 0 where
   pub now : ℕ
   pub event : Event
   pub acts : List Act
@@ -52,16 +52,16 @@ handed t other = other
 
 -- WHAT IS TOLD
 
-abbrev pub told_by : Option Watched → List Act → List Act
-told_by None acts = acts
-told_by (Some w) acts = map (act_told w.request) acts
+abbrev pub answered_by : Option Watched → List Act → List Act
+answered_by None acts = acts
+answered_by (Some w) acts = map (act_shown w.request) acts
 
 -- what the front answers
-abbrev pub told : Fronted → Event → List Act → List Act
-told t (event.Poll c want) acts =
+abbrev pub reported : Fronted → Event → List Act → List Act
+reported t (event.Poll c want) acts =
     if is_ending (t.watched c) want then acts ++ act.Ended c ∷ []
-    else told_by (t.watched c) acts
-told t other acts = acts
+    else answered_by (t.watched c) acts
+reported t other acts = acts
 
 -- WHAT IS KEPT
 
@@ -83,11 +83,11 @@ abbrev pub while_live : Option Consumer → Option Watched → Option Watched
 while_live consumer watched = if is_live consumer then watched else None
 
 -- the entry of the cache
-abbrev pub core_entry : Fronted → Heard → Entry
+abbrev pub core_entry : Fronted → FrontEntry → Entry
 core_entry t e = record { now = e.now; event = handed t e.event; acts = e.acts }
 
 -- what the past says behind an event
-unfoldable pub front_after : Fronted → Heard → Fronted
+unfoldable pub front_after : Fronted → FrontEntry → Fronted
 front_after t e =
     let core = after t.core (core_entry t e) in
     record {

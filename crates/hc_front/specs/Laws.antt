@@ -18,8 +18,8 @@ use Rattle.hc_model.specs.Runs.{IsRun}
 use Rattle.hc_replay.specs.Histories.{run_of}
 use Rattle.hc_front.specs.declared.watches.Watched.{Watched}
 use Rattle.hc_condition.specs.External.{is_external}
-use Rattle.hc_front.specs.Fronts.{Heard, told}
-use Rattle.hc_front.specs.FrontHistories.{FrontHistory, fronted, core_of, told_of}
+use Rattle.hc_front.specs.Fronts.{FrontEntry, reported}
+use Rattle.hc_front.specs.FrontHistories.{FrontHistory, fronted, core_of, answered_of}
 
 -- WHO IS TOLD THAT ITS COPY HOLDS
 
@@ -29,7 +29,7 @@ SatisfiedGetNothing =
     (limits : Limits) (contents : Contents) (later f : FrontHistory) →
     may_begin limits contents ≡ true → IsRun limits contents (core_of contents (later ++ f)) →
     (c : ℕ) (w : Watched) → (fronted contents f).watched c ≡ Some w → w.satisfied ≡ true →
-    given_of c (run_of (told_of contents (later ++ f))) ≡ []
+    given_of c (run_of (answered_of contents (later ++ f))) ≡ []
 
 -- WHO ISN'T UNDER WATCH
 
@@ -37,14 +37,14 @@ SatisfiedGetNothing =
 -- first of its polls that is accepted sends that request to the origin as it is, unless a read fails.
 abbrev pub ConditionsGoOn : Type 0
 ConditionsGoOn =
-    (limits : Limits) (contents : Contents) (f : FrontHistory) (e : Heard) →
+    (limits : Limits) (contents : Contents) (f : FrontHistory) (e : FrontEntry) →
     may_begin limits contents ≡ true → IsRun limits contents (core_of contents (e ∷ f)) →
     (c want since : ℕ) (request : Request) → (fronted contents f).watched c ≡ None →
     (fronted contents f).core.consumer c ≡ Some (new_consumer since request) →
     is_external request ≡ true → is_only request ≡ false → e.event ≡ event.Poll c want →
     is_denied e.acts ≡ false → failures_in e.acts ≡ 0 →
     let x = (fronted contents f).core.opened + 1 in
-    told (fronted contents f) e.event e.acts
+    reported (fronted contents f) e.event e.acts
     ≡ act.Opened x c need.Disabled request ∷ act.Pending c (wait.Head x) ∷ []
 
 -- WHERE NOBODY ASKS SO
@@ -63,4 +63,4 @@ HasNoneExternal (e ∷ f) = HasNoneExternal f × (starts_external e.event ≡ fa
 abbrev pub IsPlainElse : Type 0
 IsPlainElse =
     (contents : Contents) (f : FrontHistory) → HasNoneExternal f →
-    run_of (told_of contents f) ≡ core_of contents f
+    run_of (answered_of contents f) ≡ core_of contents f

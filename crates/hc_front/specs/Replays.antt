@@ -4,7 +4,7 @@ use Rattle.std.specs.Prelude.{◌≡◌, ℕ, ◌+◌, ◌≤◌, List, ◌++◌
 use Rattle.hc_store.specs.declared.backend.Backend.{Ghosts}
 use Rattle.hc_io.specs.Sink.{Takes}
 use Rattle.hc_sched.specs.declared.schedule.Timed.{Timed}
-use Rattle.hc_driver.specs.Courses.{TakesThenFront}
+use Rattle.hc_driver.specs.Courses.{TakesThenPrefix}
 use Rattle.hc_driver.specs.Endings.{How, Wholly, UpToLast, UpToWant}
 use Rattle.hc_driver.specs.Stepping as steps
 use Rattle.hc_driver.specs.Stepping.{events_in, report_of, report_before, last_entry}
@@ -12,15 +12,14 @@ use Rattle.hc_model.specs.Entries.{Contents}
 use Rattle.hc_replay.specs.Histories.{failures}
 use Rattle.hc_replay.specs.WholeRuns.{IsWholeRun}
 use Rattle.hc_front.specs.declared.front.Front.{Front}
-use Rattle.hc_front.specs.FrontHistories.{FrontHistory, core_of, told_of}
-use Rattle.hc_front.specs.Steps.{FrontStands, has_failed, limits_in, faults_in}
-use Rattle.hc_front.specs.Steps.{steps as steps_in}
+use Rattle.hc_front.specs.FrontHistories.{FrontHistory, core_of, answered_of}
+use Rattle.hc_front.specs.Steps.{FrontStands, has_failed, limits_in, faults_in, steps as steps_in}
 
 -- What was heard goes on with a front history that the front stood for, and the front stands for that now. The history of
 -- the cache is a run in which each consumer reads one answer whole, and h is what the front told.
 pub record GoesOn {B : Type 0} {g : Ghosts B} (s u : Front B g) (h : steps.History) (heard : FrontHistory) (contents : Contents) (before : FrontHistory) : Type 0 where
   pub whole : IsWholeRun (limits_in s) contents (core_of contents (heard ++ before))
-  pub told : told_of contents (heard ++ before) ≡ h ++ told_of contents before
+  pub reported : answered_of contents (heard ++ before) ≡ h ++ answered_of contents before
   pub stands : FrontStands u contents (heard ++ before)
 
 -- These events were stepped, and go on with each front history that the front stood for. They tell the store's failures
@@ -38,7 +37,7 @@ pub data ReplaysFront {B : Type 0} {g : Ghosts B} (s u : Front B g) (out out' : 
   wholly : {events : List Timed} (h : steps.History) → IsReplayed s u events h → Takes out out' (report_of h) →
       ReplaysFront s u out out' Wholly events
   up_to_last : {events : List Timed} (h : steps.History) → IsReplayed s u events h →
-      TakesThenFront out out' (report_before h) (last_entry h) → ReplaysFront s u out out' UpToLast events
+      TakesThenPrefix out out' (report_before h) (last_entry h) → ReplaysFront s u out out' UpToLast events
   -- each later step will be refused memory, too
   up_to_want : {events : List Timed} (h : steps.History) (last : Front B g) → IsReplayed s last events h →
       Takes out out' (report_of h) → has_failed u ≡ true → ReplaysFront s u out out' UpToWant events

@@ -11,7 +11,7 @@ use Rattle.hc_core.specs.Steps as core
 use Rattle.hc_core.specs.Steps.{StandsFor}
 use Rattle.hc_front.specs.declared.front.Front.{Front}
 use Rattle.hc_front.specs.Watching.{watched_in}
-use Rattle.hc_front.specs.Fronts.{told}
+use Rattle.hc_front.specs.Fronts.{reported}
 use Rattle.hc_front.specs.FrontHistories.{FrontHistory, fronted, core_of}
 
 -- WHAT A FRONT HAS
@@ -47,8 +47,8 @@ pub record FrontStands {B : Type 0} {g : Ghosts B} (s : Front B g) (contents : C
 pub record FrontAnswers {B : Type 0} {g : Ghosts B} (s u : Front B g) (now : ℕ) (event : Event) (acts : List Act) : Type 0 where
   pub heard : List Act
   pub limits : limits_in u ≡ limits_in s
-  pub told_are : (contents : Contents) (f : FrontHistory) → FrontStands s contents f →
-      acts ≡ told (fronted contents f) event heard
+  pub reported_are : (contents : Contents) (f : FrontHistory) → FrontStands s contents f →
+      acts ≡ reported (fronted contents f) event heard
   pub stands : (contents : Contents) (f : FrontHistory) → FrontStands s contents f →
       FrontStands u contents (record { now = now; event = event; acts = heard } ∷ f)
   pub counted : faults_in s + failures_in acts ≤ faults_in u
@@ -57,7 +57,7 @@ pub record FrontAnswers {B : Type 0} {g : Ghosts B} (s u : Front B g) (now : ℕ
 -- The event was answered by the acts that were appended.
 pub record FrontSteps {B : Type 0} {g : Ghosts B} (s u : Front B g) (before out : List Act) (now : ℕ) (event : Event) : Type 0 where
   pub acts : List Act
-  pub told : out ≡ before ++ acts
+  pub reported : out ≡ before ++ acts
   pub answered : FrontAnswers s u now event acts
 
 -- The same, with what is counted: by a step that wasn't refused memory.

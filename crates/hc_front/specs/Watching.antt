@@ -21,7 +21,7 @@ satisfied_now (Some w) = Some (record w { satisfied = true })
 
 -- of who was polled and is under watch: whether it leaves, and whether it was told that its copy holds
 abbrev pub settled : Bool → Bool → Option Watched → Option Watched
-settled true told before = None
+settled true reported before = None
 settled false true before = satisfied_now before
 settled false false before = before
 

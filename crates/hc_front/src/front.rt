@@ -13,7 +13,7 @@ ghost use Rattle.hc_front.specs.Watching.{watched_in, newly, ChangesAt};
 ghost use Rattle.hc_front.specs.Steps.{FrontStands, FrontSteps, HasStepped, last_moment, steps, bytes_received, faults_in, limits_in, has_failed};
 
 use crate::watches::Watches;
-use hc_condition::{is_denied, is_external, leaves_in, tell_all, unconditioned};
+use hc_condition::{is_denied, is_external, leaves_in, report_all, unconditioned};
 use hc_core::Cache;
 use hc_event::{Act, Acts, Event, Request};
 use hc_store::Backend;
@@ -216,8 +216,8 @@ impl<B: Backend> Front<B> {
         self.heard.clear();
         self.cache.step(now, event, &mut self.heard)?;
         let leaves = leaves_in(c, self.heard.list());
-        let told = tell_all(self.alloc, &watched.request, &mut self.heard, out)?;
-        self.watches.settle(c, leaves, told);
+        let reported = report_all(self.alloc, &watched.request, &mut self.heard, out)?;
+        self.watches.settle(c, leaves, reported);
         Ok(())
     }
 
@@ -237,11 +237,11 @@ impl<B: Backend> Front<B> {
         let start = out.list().len();
         self.cache.step(now, &Event::Cancel { c }, out)?;
         self.watches.forget(c);
-        let told = out.push(Act::Ended { c });
-        if told.is_err() {
+        let reported = out.push(Act::Ended { c });
+        if reported.is_err() {
             out.truncate(start);
         }
-        told
+        reported
     }
 }
 

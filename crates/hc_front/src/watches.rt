@@ -71,10 +71,10 @@ impl Watches {
     }
 
     /// A consumer under watch was polled: it leaves, or was told that its copy holds, or neither.
-    pub(crate) fn settle(&mut self, c: u64, leaves: bool, told: bool)
-        ensures { ChangesAt c (settled leaves told (watched_in self.old c)) self.old self.new }
+    pub(crate) fn settle(&mut self, c: u64, leaves: bool, reported: bool)
+        ensures { ChangesAt c (settled leaves reported (watched_in self.old c)) self.old self.new }
     {
-        match (leaves, told) {
+        match (leaves, reported) {
             (true, _) => self.forget(c),
             (false, true) => self.satisfy(c),
             (false, false) => {}

@@ -8,10 +8,9 @@ use Rattle.std.{proofs.{Common.{◌≡◌, ℕ, ◌+◌, ◌-◌, ◌/◌, ◌^�
 use Rattle.hc_text.proofs.Basics.{and_right as both, some_same as some_is}
 use Rattle.hc_event.specs.declared.event.Request.{Request}
 use Rattle.hc_fields.specs.FieldList.{IsWithinLimits, size_of}
-use Rattle.hc_range.specs.{declared.range.{Asked.{Asked}, Span.{Span}}, Spans.{resolved_span, content_range_text}}
-use Rattle.hc_range.specs.declared.range.Asked.TheVariants as asked
-use Rattle.hc_validate.specs.{Showing.{with_length}, declared.origin.Answer.{Answer}, Origin.{IsOriginAnswer, IsAnswerOf, answer_by, cut_by, common, size_asked, size_at, size_in, path_of, part, whole, unsatisfied_answer, may_cut}}
-use Rattle.hc_validate.specs.Updates.{FieldPairs, with_one}
+use Rattle.hc_range.specs.{declared.range.{RangeSpec.{RangeSpec}, Span.{Span}}, Spans.{resolved_span, content_range_text}}
+use Rattle.hc_range.specs.declared.range.RangeSpec.TheVariants as asked
+use Rattle.hc_validate.specs.{Showing.{with_length}, declared.origin.Answer.{Answer}, Origin.{IsOriginAnswer, IsAnswerOf, answer_by, cut_by, common, size_asked, size_at, size_in, path_of, part, whole, unsatisfied_answer, may_cut}, Updates.{FieldPairs, with_one}}
 use Rattle.hc_validate.proofs.{Common.{size-common}, Numbers.{short-decimal}, Settings.{length-with_one, size_of-with_one}}
 use Rattle.hc_generate.specs.{Draws.{draw_below, state_after_draw}, Requests.{drawn_request, range_from}}
 use Rattle.hc_generate.specs.Requests as made
@@ -87,7 +86,7 @@ module _ (n : ℕ) (fits : n ≤ 1048576) where
   last_in m true = within_limits_part (record { lo = n - m; hi = n }) (omega arith) (omega arith)
   last_in m false = within_limits_unsatisfied
 
-  within_limits_cut : (asked : Asked) → IsWithinLimits (cut_by n (resolved_span asked n)).response.fields
+  within_limits_cut : (asked : RangeSpec) → IsWithinLimits (cut_by n (resolved_span asked n)).response.fields
   within_limits_cut (asked.From first) = first_in first n (nat_lt first n) refl (omega arith)
   within_limits_cut (asked.FromTo first last) = first_in first (min (last + 1) n) (nat_lt first n) refl (omega arith)
   within_limits_cut (asked.Last m) = last_in m (nat_lt 0 m && nat_lt 0 n)
@@ -95,7 +94,7 @@ module _ (n : ℕ) (fits : n ≤ 1048576) where
   within_limits_whole : IsWithinLimits (whole n).response.fields
   within_limits_whole = within_limits (whole n).response.fields 4 140 (with_length_small n n_fits) (omega arith) (omega arith)
 
-  within_limits_by : (listed cut : Bool) (o : Option Asked) → IsWithinLimits (answer_by n listed cut o).response.fields
+  within_limits_by : (listed cut : Bool) (o : Option RangeSpec) → IsWithinLimits (answer_by n listed cut o).response.fields
   within_limits_by true cut o = within_limits_common
   within_limits_by false true (Some asked) = within_limits_cut asked
   within_limits_by false true None = within_limits_whole

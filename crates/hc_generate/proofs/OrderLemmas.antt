@@ -1,10 +1,8 @@
 -- Numbers stay in order.
 use Rattle.std.{proofs.{Common.{◌≡◌, ℕ, ◌+◌, ◌≤◌, List, [], ◌∷◌, Bool, true, false, eqb, refl, ap, ◌∙◌, sym, inl, inr, arith}, lemmas.Bool.{cases_Bool, eqb-true, eq-eqb, or_right}}, specs.Prelude.{filter, Some, is_some}}
-use Rattle.hc_text.proofs.Basics.{or_cases as or_parts}
-use Rattle.hc_text.specs.Sorted.{has, is_at, item_with, with_item, without}
-use Rattle.hc_text.proofs.SortedLemmas.{has-with, has-without, has-found}
+use Rattle.hc_text.proofs.{Basics.{or_cases as or_parts}, SortedLemmas.{has-with, has-without, has-found}}
+use Rattle.hc_text.specs.Sorted.{has, is_at, item_with, with_item, without, itself}
 use Rattle.hc_generate.specs.{declared.exchange.Exchange.{Exchange}, Sending.{number_of}}
-use Rattle.hc_text.specs.Sorted.{itself}
 
 -- those that are live are at most `last`
 abbrev pub AreStarted : ℕ → List ℕ → Type 0

@@ -3,7 +3,7 @@ use Rattle.std.specs.Prelude.{◌≡◌, ℕ, ◌+◌, ◌≤◌, nat_lt, List, 
 use Rattle.hc_event.specs.declared.event.Event.{Event}
 use Rattle.hc_event.specs.declared.event.Event.TheVariants as event
 use Rattle.hc_event.specs.WithinLimits.{IsEventWithinLimits}
-use Rattle.hc_text.specs.Sorted.{with_item, without, item_with}
+use Rattle.hc_text.specs.Sorted.{with_item, without, item_with, itself}
 use Rattle.hc_generate.specs.declared.action.Action.{Action}
 use Rattle.hc_generate.specs.declared.action.Action.TheVariants as action
 use Rattle.hc_generate.specs.declared.exchange.Brought.{Brought}
@@ -14,7 +14,6 @@ use Rattle.hc_generate.specs.Draws.{state_after_draw, draw_below, choice_of}
 use Rattle.hc_generate.specs.Requests.{drawn_request, past_request, key_of}
 use Rattle.hc_generate.specs.Sending.{Brings, number_of, owed_then}
 use Rattle.hc_generate.specs.States.{State}
-use Rattle.hc_text.specs.Sorted.{itself}
 
 -- what a round does, and the state with which it does
 pub data Move : Type 0 where

@@ -1,9 +1,8 @@
 //! What acts say of exchanges and consumers.
 ghost use Rattle.std.specs.Prelude.{◌≡◌, true, IfOk};
 ghost use Rattle.std.specs.List.{list_any};
-ghost use Rattle.hc_text.specs.Sorted.{is_sorted};
+ghost use Rattle.hc_text.specs.Sorted.{is_sorted, itself};
 ghost use Rattle.hc_generate.specs.Sending.{number_of};
-ghost use Rattle.hc_text.specs.Sorted.{itself};
 ghost use Rattle.hc_generate.specs.Hearing.{begun_in, closes, leaves, still_live, still_open};
 
 use crate::exchange::{Exchange, Owed};

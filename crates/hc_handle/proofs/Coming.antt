@@ -1,11 +1,10 @@
 -- What comes of an event, by its code.
 use Rattle.std.proofs.Common.{◌≡◌, ℕ, Option, Some, None, Result, Ok, Err, refl, sym, ap, subst, ◌∙◌, arith}
-use Rattle.hc_binary.specs.{Events.{Made, Makes}, Refusals.{code_of}, declared.refused.Refused.{Refused}}
-use Rattle.hc_binary.specs.declared.refused.Refused.TheVariants as refused
-use Rattle.hc_handle.specs.declared.session.Session.{Session}
-use Rattle.hc_handle.specs.{Sessions.{IsAnswered, IsOwed, HasAnswered, refused_at}, Calls.{Comes, answer_code, owed_in}}
+use Rattle.hc_binary.specs.{Events.{Made, Makes}, Refusals.{code_of}, declared.refused.CallRefusal.{CallRefusal}}
+use Rattle.hc_binary.specs.declared.refused.CallRefusal.TheVariants as refused
+use Rattle.hc_handle.specs.{declared.session.Session.{Session}, Sessions.{IsAnswered, IsOwed, HasAnswered, refused_at}, Calls.{Comes, answer_code, owed_in}}
 
-pub code_some : (e : Refused) → code_of e ≡ 0 → ⊥
+pub code_some : (e : CallRefusal) → code_of e ≡ 0 → ⊥
 code_some refused.NoHandle is = omega (arith, is)
 code_some refused.NoMemory is = omega (arith, is)
 code_some refused.Exhausted is = omega (arith, is)
@@ -21,7 +20,7 @@ code_some refused.Full is = omega (arith, is)
 code_some refused.Late is = omega (arith, is)
 code_some refused.BadText is = omega (arith, is)
 
-pub code_two : (e : Refused) → code_of e ≡ 2 → e ≡ refused.NoMemory
+pub code_two : (e : CallRefusal) → code_of e ≡ 2 → e ≡ refused.NoMemory
 code_two refused.NoHandle is = absurd (omega (arith, is))
 code_two refused.NoMemory is = refl
 code_two refused.Exhausted is = absurd (omega (arith, is))
@@ -37,12 +36,12 @@ code_two refused.Full is = absurd (omega (arith, is))
 code_two refused.Late is = absurd (omega (arith, is))
 code_two refused.BadText is = absurd (omega (arith, is))
 
-owed_of : (why : Option Refused) (made given : Made) (e : Refused) → Makes made given → (e ≡ refused.NoMemory → ⊥) → IsOwed why given e → code_of e ≡ owed_in why made
+owed_of : (why : Option CallRefusal) (made given : Made) (e : CallRefusal) → Makes made given → (e ≡ refused.NoMemory → ⊥) → IsOwed why given e → code_of e ≡ owed_in why made
 owed_of (Some why) made given e makes other is = ap code_of is
 owed_of None made (Err w) e makes other is = ap code_of is ∙ ap (owed_in None) (sym (makes (λ memory. other (is ∙ memory))))
 owed_of None made (Ok event) e makes other is = absurd (other is)
 
-pub comes_some : (s u : Session) (now : ℕ) (made given : Made) (result : Result (Unit {0}) Refused) → Makes made given → IsAnswered s u now given result → Comes (Some s) (Some u) now made (answer_code result)
+pub comes_some : (s u : Session) (now : ℕ) (made given : Made) (result : Result (Unit {0}) CallRefusal) → Makes made given → IsAnswered s u now given result → Comes (Some s) (Some u) now made (answer_code result)
 comes_some s u now made (Ok event) (Ok done) makes h = record {
   done = λ zero. subst (λ (m : Made). HasAnswered s u now m) (sym makes) h.1;
   owed = λ other. rw (h.0, makes) refl;

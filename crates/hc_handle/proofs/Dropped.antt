@@ -16,11 +16,9 @@ use borrow.Fn.Impl.{via_longer, method_Known}
 use borrow.Fn.Kinds.{ended_of, stays, r_unit}
 use borrow.Fn.Run.{Over}
 use borrow.Fn.World.{World}
-use Rattle.hc_handle.proofs.Steps.{R, E}
+use Rattle.hc_handle.proofs.{Steps.{R, E}, hc_handle++session++Session+Destruct.drop.{Symbol.{code, name, as_method}, Met.{met}}}
 use Rattle.hc_handle.proofs.hc_handle++session++Session+Destruct.drop.Kinds as K
 use Rattle.hc_handle.proofs.hc_handle++session++Session+Destruct.drop.Reads as D
-use Rattle.hc_handle.proofs.hc_handle++session++Session+Destruct.drop.Symbol.{code, name, as_method}
-use Rattle.hc_handle.proofs.hc_handle++session++Session+Destruct.drop.Met.{met}
 
 abbrev pub drops : Dict
 drops = impl ("hc_handle::hc_handle++session++Session+Destruct::drop" ∷ []) tnil dnil

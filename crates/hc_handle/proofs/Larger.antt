@@ -1,6 +1,5 @@
 -- With what a cache may begin, a larger one may.
-use Rattle.std.proofs.{Common.{◌≡◌, ℕ, ◌≤◌, List, [], ◌∷◌, true, arith}, lemmas.Bool.{and_parts, and_from, Decides.{nat_tests}}}
-use Rattle.std.specs.Prelude.{nat_le}
+use Rattle.std.{proofs.{Common.{◌≡◌, ℕ, ◌≤◌, List, [], ◌∷◌, true, arith}, lemmas.Bool.{and_parts, and_from, Decides.{nat_tests}}}, specs.Prelude.{nat_le}}
 use Rattle.hc_model.specs.{Beginnings.{is_good, are_good, weights_of, may_begin}, Entries.{Content, Contents}, Tables.{bytes_in}}
 use Rattle.hc_rules.specs.declared.room.Limits.{Limits}
 

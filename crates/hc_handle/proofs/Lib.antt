@@ -1,4 +1,4 @@
-pub mod Told
+pub mod Reported
 pub mod Dropped
 pub mod Steps
 pub mod Coming

@@ -4,22 +4,22 @@ use Rattle.std.specs.List.{slice_get}
 use Rattle.hc_binary.specs.Events.{Made}
 use Rattle.hc_binary.specs.Refusals.{code_of}
 use Rattle.hc_binary.specs.declared.act.ActNumbers.{ActNumbers}
-use Rattle.hc_binary.specs.declared.refused.Refused.{Refused}
+use Rattle.hc_binary.specs.declared.refused.CallRefusal.{CallRefusal}
 use Rattle.hc_event.specs.Acts.{act_list}
 use Rattle.hc_rules.specs.declared.room.Limits.{Limits}
 use Rattle.hc_handle.specs.declared.session.Session.{Session}
 use Rattle.hc_handle.specs.Images.{Stays}
-use Rattle.hc_handle.specs.Sessions.{Begins, BeginsWith, IsUnopened, HasAnswered, HasImage, IsNext, IsSilent, refused_at, bytes_told, moment_told, live_told}
+use Rattle.hc_handle.specs.Sessions.{Begins, BeginsWith, IsUnopened, HasAnswered, HasImage, IsNext, IsSilent, refused_at, bytes_reported, moment_reported, live_reported}
 
 -- CODES
 
 -- 0, or the number of a refusal
-abbrev pub answer_code : {A : Type 0} → Result A Refused → ℕ
+abbrev pub answer_code : {A : Type 0} → Result A CallRefusal → ℕ
 answer_code (Ok a) = 0
 answer_code (Err e) = code_of e
 
 -- what is answered where memory suffices: by why no event is, and by what was made
-abbrev pub owed_in : Option Refused → Made → ℕ
+abbrev pub owed_in : Option CallRefusal → Made → ℕ
 owed_in (Some why) made = code_of why
 owed_in None (Err why) = code_of why
 owed_in None (Ok event) = 0
@@ -59,7 +59,7 @@ IsOpened limits image None = ⊥
 
 -- why it isn't, by the code
 pub record IsClosed (limits : Limits) (image : List ℕ) (code : ℕ) : Type 0 where
-  pub why : Refused
+  pub why : CallRefusal
   pub code_is : code ≡ code_of why
   pub cause : IsUnopened limits image why
 
@@ -72,25 +72,25 @@ HasNext _ _ numbers = ⊥
 -- all were told, or there is no cache
 abbrev pub NoNext : Option Session → Type 0
 NoNext None = Unit {0}
-NoNext (Some s) = slice_get (act_list s.acts) s.told ≡ None
+NoNext (Some s) = slice_get (act_list s.acts) s.reported ≡ None
 
 -- the bytes of the act that was told last
 abbrev pub bytes_in_handle : Option Session → List ℕ
 bytes_in_handle None = []
-bytes_in_handle (Some s) = bytes_told s
+bytes_in_handle (Some s) = bytes_reported s
 
 -- THE IMAGE
 
 -- how many bytes an image has, or 0
-abbrev pub length_told : Result ℕ Refused → ℕ
-length_told (Ok len) = len
-length_told (Err e) = 0
+abbrev pub length_reported : Result ℕ CallRefusal → ℕ
+length_reported (Ok len) = len
+length_reported (Err e) = 0
 
 pub record IsPictured (s : Session) (room : List ℕ) (len code : ℕ) : Type 0 where
-  pub result : Result ℕ Refused
+  pub result : Result ℕ CallRefusal
   pub has : HasImage s room result
   pub code_is : code ≡ answer_code result
-  pub length_is : len ≡ length_told result
+  pub length_is : len ≡ length_reported result
 
 abbrev pub ArePictured : Option Session → List ℕ → ℕ → ℕ → Type 0
 ArePictured None room len code = (code ≡ 1) × (len ≡ 0)
@@ -101,14 +101,14 @@ abbrev pub AllStay : Option Session → Option Session → Type 0
 AllStay None u = u ≡ None
 AllStay (Some s) None = ⊥
 AllStay (Some s) (Some u) =
-    Stays s.cache u.cache × (u.spent ≡ s.spent) × (act_list u.acts ≡ act_list s.acts) × (u.told ≡ s.told)
+    Stays s.cache u.cache × (u.spent ≡ s.spent) × (act_list u.acts ≡ act_list s.acts) × (u.reported ≡ s.reported)
 
 -- VIEWS
 
 abbrev pub moment_in : Option Session → ℕ
 moment_in None = 0
-moment_in (Some s) = moment_told s
+moment_in (Some s) = moment_reported s
 
 abbrev pub live_in_handle : Option Session → ℕ
 live_in_handle None = 0
-live_in_handle (Some s) = live_told s
+live_in_handle (Some s) = live_reported s

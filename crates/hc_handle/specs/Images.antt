@@ -1,7 +1,7 @@
 -- Images, and caches that begin with what they have.
 use Rattle.std.specs.Prelude.{◌≡◌, ◌↔◌, ℕ, ◌+◌, ◌≤◌, ◌^◌, List, [], true, false, Some}
-use Rattle.hc_binary.specs.declared.refused.Refused.{Refused}
-use Rattle.hc_binary.specs.declared.refused.Refused.TheVariants as refused
+use Rattle.hc_binary.specs.declared.refused.CallRefusal.{CallRefusal}
+use Rattle.hc_binary.specs.declared.refused.CallRefusal.TheVariants as refused
 use Rattle.hc_contents.specs.Fit.{unfit_of}
 use Rattle.hc_contents.specs.declared.unfit.Unfit.TheVariants as unfit
 use Rattle.hc_core.specs.declared.begin.ContentsError.{ContentsError}
@@ -25,7 +25,7 @@ abbrev pub IsRead : List ℕ → Contents → Type 0
 IsRead text contents = SpellsImage text contents
 
 -- it is none, or memory was refused
-abbrev pub IsUnread : List ℕ → Refused → Type 0
+abbrev pub IsUnread : List ℕ → CallRefusal → Type 0
 IsUnread text refused.NoMemory = Unit {0}
 IsUnread text refused.BadImage = (contents : Contents) → ¬ SpellsImage text contents
 IsUnread text _ = ⊥
@@ -40,14 +40,14 @@ pub record Begun {B : Type 0} {g : Ghosts B} (limits : Limits) (contents : Conte
   pub ready : has_failed s ≡ false
   pub unused : core.steps s + core.bytes_received s ≡ 0
 
-abbrev pub refused_by : ContentsError → Refused
+abbrev pub refused_by : ContentsError → CallRefusal
 refused_by (error.BadContent i) = refused.BadContent
 refused_by error.Full = refused.Full
 refused_by error.Fault = refused.NoMemory
 refused_by error.NoMemory = refused.NoMemory
 
 -- or the contents are refused, or memory was
-abbrev pub IsUnbegun : Limits → Contents → Refused → Type 0
+abbrev pub IsUnbegun : Limits → Contents → CallRefusal → Type 0
 IsUnbegun limits contents refused.NoMemory = Unit {0}
 IsUnbegun limits contents refused.BadContent = (i : ℕ) × (unfit_of limits contents ≡ Some (unfit.BadContent i))
 IsUnbegun limits contents refused.Full = unfit_of limits contents ≡ Some unfit.Full

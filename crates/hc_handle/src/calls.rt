@@ -1,6 +1,6 @@
-//! What a program may call, as functions over a handle. Codes of answers are those of `Refused`, and 0.
+//! What a program may call, as functions over a handle. Codes of answers are those of `CallRefusal`, and 0.
 ghost use Rattle.std.specs.Prelude.{◌≡◌, ◌≢◌, None, Some, IfOk};
-ghost use Rattle.hc_binary.specs.Copies.{HoldsFront};
+ghost use Rattle.hc_binary.specs.Copies.{HoldsPrefix};
 ghost use Rattle.hc_binary.specs.Events.{Made, Makes, numbered, start_made, poll_made, head_made, piece_made, doom_made};
 ghost use Rattle.hc_event.specs.WithinLimits.{IsEventWithinLimits};
 ghost use Rattle.hc_event.specs.declared.event.Event.TheVariants as event;
@@ -8,13 +8,13 @@ ghost use Rattle.hc_handle.specs.Calls.{answer_code, Comes, IsBegun, IsOpened, I
 
 use crate::handle::Handle;
 use crate::session::Session;
-use hc_binary::{ActNumbers, Asked, Refused};
+use hc_binary::{ActNumbers, Asked, CallRefusal};
 use hc_event::Event;
 use hc_rules::Limits;
 use std::alloc::Global;
 
 /// The code of an answer.
-fn code_of(answered: Result<(), Refused>) -> u32
+fn code_of(answered: Result<(), CallRefusal>) -> u32
     ensures { result ≡ answer_code answered }
 {
     match answered {
@@ -71,7 +71,7 @@ pub fn free(alloc: Global, handle: &mut Handle)
 }
 
 /// Hands in an event, if it is one.
-fn hand_in(alloc: Global, handle: &mut Handle, now: u64, given: Result<Event, Refused>) -> u32
+fn hand_in(alloc: Global, handle: &mut Handle, now: u64, given: Result<Event, CallRefusal>) -> u32
     requires { IfOk given (λ e. IsEventWithinLimits e) }
     ensures { (made : Made) → Makes made given
         → Comes handle.old.pointer.session handle.new.pointer.session now made result }
@@ -156,7 +156,7 @@ pub fn fault(alloc: Global, handle: &mut Handle, now: u64, x: u64) -> u32
 
 /// Tells the next act of the last event in numbers. 1 where there was one, and else 0.
 pub fn next_act(alloc: Global, handle: &mut Handle, act: &mut ActNumbers) -> u32
-    ensures told { result ≡ 1
+    ensures next { result ≡ 1
         → HasNext handle.old.pointer.session handle.new.pointer.session act.new }
     ensures none { result ≢ 1 → (result ≡ 0) × NoNext handle.old.pointer.session
         × (handle.new.pointer.session ≡ handle.old.pointer.session) × (act.new ≡ act.old) }
@@ -177,13 +177,13 @@ pub fn next_act(alloc: Global, handle: &mut Handle, act: &mut ActNumbers) -> u32
 
 /// Copies the first of the bytes of the act that was told last, as many as fit, and says how many.
 pub fn act_bytes(alloc: Global, handle: &mut Handle, into: &mut [u8]) -> usize
-    ensures front { HoldsFront into.new result (bytes_in_handle handle.old.pointer.session) }
+    ensures front { HoldsPrefix into.new result (bytes_in_handle handle.old.pointer.session) }
     ensures same { handle.new.pointer.session ≡ handle.old.pointer.session }
 {
     let Some(session) = handle.take(alloc) else {
         return hc_binary::put(b"", into, 0);
     };
-    let n = session.copy_told(into);
+    let n = session.copy_reported(into);
     *handle = Handle::of(session);
     n
 }

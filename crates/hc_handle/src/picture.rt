@@ -5,26 +5,26 @@ ghost use Rattle.hc_core.specs.Steps.{live_in, last_moment, steps, bytes_receive
 ghost use Rattle.hc_contents.specs.PlainContents.{plain_contents};
 ghost use Rattle.hc_handle.specs.Images.{IsRead, IsUnread, Begun, IsUnbegun, refused_by, IsImageOf, Stays};
 
-use hc_binary::Refused;
+use hc_binary::CallRefusal;
 use hc_contents::Contents;
 use hc_core::{Cache, ContentsError};
-use hc_image::{images_tell_contents_apart, read_image, write_image};
+use hc_image::{images_spell_contents_apart, read_image, write_image};
 use hc_rules::Limits;
 use hc_store::{Memory, StoreError};
 use hc_text::NoMemory;
 use std::alloc::Global;
 
 /// What an image has, if the text is one and nothing more.
-pub(crate) fn read_whole(alloc: Global, text: &[u8]) -> Result<Contents, Refused>
+pub(crate) fn read_whole(alloc: Global, text: &[u8]) -> Result<Contents, CallRefusal>
     ensures read { IfOk result (λ contents. IsRead text.now (plain_contents contents)) }
     ensures unread { IfErr result (IsUnread text.now) }
 {
-    images_tell_contents_apart();
+    images_spell_contents_apart();
     let Some(image) = read_image(alloc, text)? else {
-        return Err(Refused::BadImage);
+        return Err(CallRefusal::BadImage);
     };
     if image.used != text.len() {
-        return Err(Refused::BadImage);
+        return Err(CallRefusal::BadImage);
     }
     Ok(image.contents)
 }
@@ -34,7 +34,7 @@ pub(crate) fn begin_with(
     alloc: Global,
     limits: Limits,
     contents: &Contents,
-) -> Result<Cache<Memory>, Refused>
+) -> Result<Cache<Memory>, CallRefusal>
     ensures begun { IfOk result (Begun limits (plain_contents contents.entry.now)) }
     ensures unbegun { IfErr result (IsUnbegun limits (plain_contents contents.entry.now)) }
 {
@@ -45,14 +45,14 @@ pub(crate) fn begin_with(
 }
 
 /// Why no cache begins. A store in memory doesn't fail.
-fn refused_as(why: ContentsError) -> Refused
+fn refused_as(why: ContentsError) -> CallRefusal
     requires { why ≢ error.Fault }
     ensures { result ≡ refused_by why }
 {
     match why {
-        ContentsError::BadContent { .. } => Refused::BadContent,
-        ContentsError::Full => Refused::Full,
-        ContentsError::NoMemory => Refused::NoMemory,
+        ContentsError::BadContent { .. } => CallRefusal::BadContent,
+        ContentsError::Full => CallRefusal::Full,
+        ContentsError::NoMemory => CallRefusal::NoMemory,
         ContentsError::Fault => unreachable!(),
     }
 }

@@ -5,7 +5,7 @@ ghost use Rattle.hc_core.specs.Steps.{has_failed};
 ghost use Rattle.hc_event.specs.Acts.{act_list};
 
 use crate::picture::{begin_with, image_of, read_whole};
-use hc_binary::{ActNumbers, Refused, copy_act, numbers_of, put};
+use hc_binary::{ActNumbers, CallRefusal, copy_act, numbers_of, put};
 use hc_core::Cache;
 use hc_event::{Acts, Event};
 use hc_rules::Limits;
@@ -30,34 +30,34 @@ pub struct Session {
     /// Those of the last event.
     pub(crate) acts: Acts,
     /// How many of them were told.
-    pub(crate) told: usize,
+    pub(crate) reported: usize,
     ghost tied: { spent ≡ false → has_failed cache ≡ false } by { Prim.hlevel props },
     ghost silent: { spent ≡ true → act_list acts ≡ [] } by { Prim.hlevel props },
-    ghost untold: { spent ≡ true → told ≡ 0 } by { Prim.hlevel props },
+    ghost unreported: { spent ≡ true → reported ≡ 0 } by { Prim.hlevel props },
 }
 
 impl Session {
-    ghost use Rattle.hc_handle.specs.Sessions.{Begins, BeginsWith, IsUnopened, refused_at, IsAnswered, Answered, IsNext, IsSilent, bytes_told, IsCopied, moment_told, live_told};
+    ghost use Rattle.hc_handle.specs.Sessions.{Begins, BeginsWith, IsUnopened, refused_at, IsAnswered, Answered, IsNext, IsSilent, bytes_reported, IsCopied, moment_reported, live_reported};
     ghost use Rattle.hc_event.specs.WithinLimits.{IsEventWithinLimits};
-    ghost use Rattle.hc_binary.specs.Copies.{HoldsFront};
-    ghost use Rattle.hc_binary.specs.declared.refused.Refused.TheVariants as refused;
+    ghost use Rattle.hc_binary.specs.Copies.{HoldsPrefix};
+    ghost use Rattle.hc_binary.specs.declared.refused.CallRefusal.TheVariants as refused;
 
     /// A cache that begins with nothing, and may hold so much.
-    pub(crate) fn new(alloc: Global, limits: Limits) -> Result<Session, Refused>
+    pub(crate) fn new(alloc: Global, limits: Limits) -> Result<Session, CallRefusal>
         ensures begins { IfOk result (Begins limits) }
-        ensures memory { IfErr result (λ e. e ≡ Refused.NoMemory) }
+        ensures memory { IfErr result (λ e. e ≡ CallRefusal.NoMemory) }
     {
         let cache = Cache::new(Memory::new(alloc, limits), limits, alloc)?;
         Ok(Session {
             spent: false,
             cache,
             acts: Acts::new(alloc),
-            told: 0,
+            reported: 0,
         })
     }
 
     /// A cache that begins with what an image has, and may hold so much.
-    pub(crate) fn open(alloc: Global, limits: Limits, image: &[u8]) -> Result<Session, Refused>
+    pub(crate) fn open(alloc: Global, limits: Limits, image: &[u8]) -> Result<Session, CallRefusal>
         ensures begins { IfOk result (BeginsWith limits image.now) }
         ensures refused { IfErr result (IsUnopened limits image.now) }
     {
@@ -67,23 +67,23 @@ impl Session {
             spent: false,
             cache,
             acts: Acts::new(alloc),
-            told: 0,
+            reported: 0,
         })
     }
 
     /// Why no event is answered at this moment, if none is.
-    fn refusal(&self, now: u64) -> Option<Refused>
+    fn refusal(&self, now: u64) -> Option<CallRefusal>
         ensures value { result ≡ refused_at self.now now }
-        ensures spent { result ≡ Some Refused.NoMemory → IsSilent self.now }
+        ensures spent { result ≡ Some CallRefusal.NoMemory → IsSilent self.now }
     {
         if self.spent {
-            return Some(Refused::NoMemory);
+            return Some(CallRefusal::NoMemory);
         }
         if self.cache.steps() >= MOST_STEPS || self.cache.received() >= MOST_BYTES {
-            return Some(Refused::Exhausted);
+            return Some(CallRefusal::Exhausted);
         }
         if now < self.cache.last_moment() || now >= LAST_MOMENT {
-            return Some(Refused::BadMoment);
+            return Some(CallRefusal::BadMoment);
         }
         None
     }
@@ -94,11 +94,11 @@ impl Session {
     {
         self.spent = true;
         self.acts.clear();
-        self.told = 0;
+        self.reported = 0;
     }
 
     /// Answers an event, if it is one.
-    pub(crate) fn answer(&mut self, now: u64, given: Result<Event, Refused>) -> Result<(), Refused>
+    pub(crate) fn answer(&mut self, now: u64, given: Result<Event, CallRefusal>) -> Result<(), CallRefusal>
         requires { IfOk given (λ e. IsEventWithinLimits e) }
         ensures { IsAnswered self.old self.new now given result }
     {
@@ -108,7 +108,7 @@ impl Session {
         match given {
             Ok(event) => self.step(now, &event),
             Err(why) => {
-                if why == Refused::NoMemory {
+                if why == CallRefusal::NoMemory {
                     self.spend();
                 }
                 Err(why)
@@ -117,15 +117,15 @@ impl Session {
     }
 
     /// Steps the cache by an event.
-    fn step(&mut self, now: u64, event: &Event) -> Result<(), Refused>
+    fn step(&mut self, now: u64, event: &Event) -> Result<(), CallRefusal>
         requires admitted { refused_at self.old now ≡ None }
         requires within_limits { IsEventWithinLimits event.now }
         ensures answered { OnOk result (Answered self.old self.new now event.now) }
-        ensures memory { IfErr result (λ e. e ≡ Refused.NoMemory) }
+        ensures memory { IfErr result (λ e. e ≡ CallRefusal.NoMemory) }
         ensures spent { OnErr result (IsSilent self.new) }
     {
         self.acts.clear();
-        self.told = 0;
+        self.reported = 0;
         self.spent = true;
         self.cache.step(now, event, &mut self.acts)?;
         self.spent = false;
@@ -136,34 +136,34 @@ impl Session {
     pub(crate) fn next_act(&mut self) -> Option<ActNumbers>
         ensures { IsNext self.old self.new result }
     {
-        let act = self.acts.list().get(self.told)?;
+        let act = self.acts.list().get(self.reported)?;
         let numbers = numbers_of(act);
-        self.told += 1;
+        self.reported += 1;
         Some(numbers)
     }
 
     /// Copies the first of the bytes of the act that was told last, as many as fit.
-    pub(crate) fn copy_told(&self, into: &mut [u8]) -> usize
-        ensures { HoldsFront into.new result (bytes_told self.now) }
+    pub(crate) fn copy_reported(&self, into: &mut [u8]) -> usize
+        ensures { HoldsPrefix into.new result (bytes_reported self.now) }
     {
-        if self.told == 0 {
+        if self.reported == 0 {
             return 0;
         }
-        match self.acts.list().get(self.told - 1) {
+        match self.acts.list().get(self.reported - 1) {
             Some(act) => copy_act(act, into),
             None => 0,
         }
     }
 
     /// Copies the first bytes of the image of what the cache has, as many as fit, and says how many it has in all.
-    pub(crate) fn copy_image(&mut self, alloc: Global, into: &mut [u8]) -> Result<usize, Refused>
+    pub(crate) fn copy_image(&mut self, alloc: Global, into: &mut [u8]) -> Result<usize, CallRefusal>
         ensures { IsCopied self.old self.new into.new result }
     {
         if self.spent {
-            return Err(Refused::NoMemory);
+            return Err(CallRefusal::NoMemory);
         }
         if self.cache.live() > 0 {
-            return Err(Refused::Live);
+            return Err(CallRefusal::Live);
         }
         let image = image_of(alloc, &mut self.cache)?;
         put(&image, into, 0);
@@ -172,7 +172,7 @@ impl Session {
 
     /// The moment of the last event, or of the image; 0 where memory was refused.
     pub(crate) fn moment(&self) -> u64
-        ensures { result ≡ moment_told self.now }
+        ensures { result ≡ moment_reported self.now }
     {
         if self.spent {
             return 0;
@@ -182,7 +182,7 @@ impl Session {
 
     /// How many consumers are live; 0 where memory was refused.
     pub(crate) fn live(&self) -> u64
-        ensures { result ≡ live_told self.now }
+        ensures { result ≡ live_reported self.now }
     {
         if self.spent {
             return 0;

@@ -14,11 +14,11 @@ any_cons test headers i d total lt all = ap (list_any test) (sym (fields_from he
 
 pub any_next : (test : List ℕ × List ℕ → Bool) (headers : List Header) (i : ℕ) (d : Header) (is total : Bool) → i < length headers → is ≡ test (field_in (get_or headers i d)) → is ≡ false
     → list_any test (fields_in (drop i headers)) ≡ total → list_any test (fields_in (drop (i + 1) headers)) ≡ total
-any_next test headers i d is total lt told miss all = rw (sym told ∙ miss) at (any_cons test headers i d total lt all)
+any_next test headers i d is total lt reported miss all = rw (sym reported ∙ miss) at (any_cons test headers i d total lt all)
 
 pub any_here : (test : List ℕ × List ℕ → Bool) (headers : List Header) (i : ℕ) (d : Header) (is total : Bool) → i < length headers → is ≡ test (field_in (get_or headers i d)) → is ≡ true
     → list_any test (fields_in (drop i headers)) ≡ total → true ≡ total
-any_here test headers i d is total lt told hit all = rw (sym told ∙ hit) at (any_cons test headers i d total lt all)
+any_here test headers i d is total lt reported hit all = rw (sym reported ∙ hit) at (any_cons test headers i d total lt all)
 
 -- no value is long where the fields are within limits
 pub within_limits_at : (headers : List Header) (i : ℕ) (d : Header) → i < length headers → is_within_limits (fields_in headers) ≡ true → length (get_or headers i d).value.now ≤ 8192

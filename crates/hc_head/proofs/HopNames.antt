@@ -11,4 +11,4 @@ other_length name word h =
     (λ e. h (sym (length-lowercase name) ∙ ap length ((bytes_eq-Decides (lowercase name) word).0 e)))
 
 pub hop_of_16 : (name : List ℕ) (is : Bool) → length name ≡ 16 → is ≡ bytes_eq (lowercase name) (codes "proxy-connection") → is ≡ is_hop_name (lowercase name)
-hop_of_16 name is long told = search (arith, other_length)
+hop_of_16 name is long reported = search (arith, other_length)

@@ -134,7 +134,7 @@ granted_spelled text request long (inl x) =
 refused_shown : (e : MsgError) (response : Response) (framing : Framing) → Shows response framing ≡ Refuses e → ⊥
 refused_shown e response framing h = cc
 
-pub record IsShown (told : Bool) (status : ℕ) (fields : List (List ℕ × List ℕ)) (response : Response) (framing : Framing) : Type 0 where
+pub record IsShown (reported : Bool) (status : ℕ) (fields : List (List ℕ × List ℕ)) (response : Response) (framing : Framing) : Type 0 where
   pub short_values : is_within_limits fields ≡ true
   pub low : 200 ≤ status
   pub high : status ≤ 599
@@ -147,9 +147,9 @@ framed status fields response framing found h = grind (arith, nat_tests)
 skipped_shown : (response : Response) (framing : Framing) → Shows response framing ≡ Skips → ⊥
 skipped_shown response framing h = cc
 
-shown_by : (told : Bool) (status : ℕ) (fields : List (List ℕ × List ℕ)) (response : Response) (framing : Framing) → Shows response framing ≡ heard_of told status fields → IsShown told status fields response framing
+shown_by : (reported : Bool) (status : ℕ) (fields : List (List ℕ × List ℕ)) (response : Response) (framing : Framing) → Shows response framing ≡ heard_of reported status fields → IsShown reported status fields response framing
 unfolding heard_of
-shown_by told status fields response framing h = search arith
+shown_by reported status fields response framing h = search arith
 
 pub shown_spelled : (no_body : Bool) (text : List ℕ) (response : Response) (framing : Framing) → length text ≤ 32768 → IsHeardIn no_body text (Shows response framing) → IsSpelledResponse response
 shown_spelled no_body text response framing long (inr x) = absurd (refused_shown BadHead response framing x.1)

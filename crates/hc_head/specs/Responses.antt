@@ -20,7 +20,7 @@ is_chunked _ = false
 
 -- an answer to HEAD, and one with status 204 or 304, has no body
 abbrev pub has_no_body : Bool → ℕ → Bool
-has_no_body told status = told || status == 204 || status == 304
+has_no_body reported status = reported || status == 204 || status == 304
 
 -- as long as Content-Length says, where it says one number (RFC 9110 section 8.6); else up to the close
 abbrev pub by_length : Option ℕ → Framing
@@ -29,8 +29,8 @@ by_length (Some n) = Counted n
 
 -- how the body is framed, None where Transfer-Encoding can't be read
 abbrev pub framing_of : Bool → ℕ → List (List ℕ × List ℕ) → Option Framing
-framing_of told status fields =
-    if has_no_body told status then Some Bodiless
+framing_of reported status fields =
+    if has_no_body reported status then Some Bodiless
     else if is_there (codes "transfer-encoding") fields then
     (if is_chunked (elements_in (codes "transfer-encoding") fields) then Some Chunked else None)
     else Some (by_length (promise_of (content_length_of (elements_in (codes "content-length") fields))))
@@ -43,13 +43,13 @@ left_out (Counted n) = Nothing
 left_out ToClose = Nothing
 
 -- What the head of an answer comes to.
-pub data Heard : Type 0 where
+pub data HeadOutcome : Type 0 where
   -- an interim answer, which is passed over
-  Skips : Heard
-  Shows : (response : Response) (framing : Framing) → Heard
-  Refuses : (e : MsgError) → Heard
+  Skips : HeadOutcome
+  Shows : (response : Response) (framing : Framing) → HeadOutcome
+  Refuses : (e : MsgError) → HeadOutcome
 
-abbrev pub with_framing : ℕ → List (List ℕ × List ℕ) → Option Framing → Heard
+abbrev pub with_framing : ℕ → List (List ℕ × List ℕ) → Option Framing → HeadOutcome
 with_framing status fields None = Refuses BadLength
 with_framing status fields (Some framing) =
     Shows (record { status = status; fields = kept_of (left_out framing) fields }) framing
@@ -59,12 +59,12 @@ abbrev pub is_interim : ℕ → Bool
 is_interim status = nat_le 100 status && nat_lt status 200 && not (status == 101)
 
 -- by the status and the fields of the head
-unfoldable pub heard_of : Bool → ℕ → List (List ℕ × List ℕ) → Heard
-heard_of told status fields =
+unfoldable pub heard_of : Bool → ℕ → List (List ℕ × List ℕ) → HeadOutcome
+heard_of reported status fields =
     if not (is_within_limits fields) then Refuses BadHead
     else if is_interim status then Skips
     else if nat_lt status 200 || nat_le 600 status then Refuses BadHead
-    else with_framing status fields (framing_of told status fields)
+    else with_framing status fields (framing_of reported status fields)
 
 -- the text is a head of at most 64 fields
 pub record IsResponse (text : List ℕ) (head : ResponseHead) : Type 0 where
@@ -72,8 +72,8 @@ pub record IsResponse (text : List ℕ) (head : ResponseHead) : Type 0 where
   pub few : length head.fields ≤ 64
 
 -- what the text of a whole head comes to
-abbrev pub IsHeardIn : Bool → List ℕ → Heard → Type 0
-IsHeardIn told text heard =
+abbrev pub IsHeardIn : Bool → List ℕ → HeadOutcome → Type 0
+IsHeardIn reported text heard =
     ((head : ResponseHead) × IsResponse text head
-    × (heard ≡ heard_of told (status_code head) (fields_of head.fields)))
+    × (heard ≡ heard_of reported (status_code head) (fields_of head.fields)))
     ⊎ (((head : ResponseHead) → ¬ (IsResponse text head)) × (heard ≡ Refuses BadHead))

@@ -158,7 +158,7 @@ fn has_others(headers: &[Header<'_>]) -> bool
 /// 7.6.1).
 #[tactic(auto, using(crate::proofs::Options::no_option))]
 fn is_hop(headers: &[Header<'_>], others: bool, name: &[u8]) -> bool
-    requires told { others ≡ has_others (fields_in headers.now) }
+    requires reported { others ≡ has_others (fields_in headers.now) }
     requires present { is_there (lowercase name.now) (fields_in headers.now) ≡ true }
     ensures { result ≡ is_hop (fields_in headers.now) (lowercase name.now) }
 {
@@ -180,7 +180,7 @@ impl Leaving {
 
 /// Whether the field, one of these, is passed on.
 fn is_kept(leaving: Leaving, headers: &[Header<'_>], others: bool, header: &Header<'_>) -> bool
-    requires told { others ≡ has_others (fields_in headers.now) }
+    requires reported { others ≡ has_others (fields_in headers.now) }
     requires present { is_there (lowercase header.now.name.now) (fields_in headers.now) ≡ true }
     ensures { result ≡ is_kept leaving (fields_in headers.now) (field_in header.now) }
 {
@@ -216,7 +216,7 @@ fn pass_on(
     header: &Header<'_>,
     fields: &mut Fields,
 ) -> Result<(), NoMemory>
-    requires told { others ≡ has_others (fields_in headers.now) }
+    requires reported { others ≡ has_others (fields_in headers.now) }
     requires present { is_there (lowercase header.now.name.now) (fields_in headers.now) ≡ true }
     requires good { IsGood header.now }
     requires short { length header.now.value.now ≤ 8192 }

@@ -6,7 +6,7 @@ ghost use Rattle.hc_head.specs.Spellings.{GrantsAreSpelled, ShownAreSpelled};
 ///
 /// A request has a method and a target as an event has them. An answer has a status of 200 to 599.
 /// The fields are sorted, at most 64, of at most 32,768 bytes.
-pub fn what_is_told_has_a_spelling()
+pub fn what_is_reported_has_a_spelling()
     ensures requests { GrantsAreSpelled }
     ensures answers { ShownAreSpelled }
 {}

@@ -15,9 +15,9 @@ mod start;
 
 pub use framing::Framing;
 pub use head::find_end;
-pub use laws::{heads_are_read_by_equations, what_is_told_has_a_spelling};
+pub use laws::{heads_are_read_by_equations, what_is_reported_has_a_spelling};
 pub use message::{MsgError, WireRequest};
 pub use request::call_of;
-pub use response::{Reply, reply_of};
+pub use response::{ParsedHead, reply_of};
 pub use scan::{Scan, Sought, line_end};
 pub use start::Start;

@@ -16,7 +16,7 @@ use std::alloc::Global;
 
 /// What the head of an answer comes to.
 #[derive(Drop)]
-pub enum Reply {
+pub enum ParsedHead {
     /// An interim answer, which is passed over.
     Skips,
     Shows(Response, Framing),
@@ -69,7 +69,7 @@ fn heard_of(
     status: u16,
     headers: &[Header<'_>],
     bytes: usize,
-) -> Result<Reply, MsgError>
+) -> Result<ParsedHead, MsgError>
     requires good { AreGood headers.now }
     requires few { length headers.now ≤ 64 }
     requires small { size_of (fields_in headers.now) ≤ 32768 }
@@ -79,7 +79,7 @@ fn heard_of(
         return Err(MsgError::BadHead);
     }
     if is_interim(status) {
-        return Ok(Reply::Skips);
+        return Ok(ParsedHead::Skips);
     }
     if status < 200 || 600 <= status {
         return Err(MsgError::BadHead);
@@ -88,11 +88,11 @@ fn heard_of(
         return Err(MsgError::BadLength);
     };
     let fields = kept_of(alloc, framing.left_out(), headers, bytes)?;
-    Ok(Reply::Shows(Response { status, fields }, framing))
+    Ok(ParsedHead::Shows(Response { status, fields }, framing))
 }
 
 /// What the text says, which ends with the empty line of a head.
-pub fn reply_of(alloc: Global, no_body: bool, text: &[u8]) -> Result<Reply, MsgError>
+pub fn reply_of(alloc: Global, no_body: bool, text: &[u8]) -> Result<ParsedHead, MsgError>
     requires { length text.now ≤ 32768 }
     ensures { RepliesTo no_body text.now result }
 {

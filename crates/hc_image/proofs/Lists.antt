@@ -79,25 +79,25 @@ one_more_item items item count q rest new text are spells next =
 
 -- WRITTEN
 
-runs_told : (runs : List Run) (i : ℕ) (run : Run) → i < length runs → run ≡ get_or runs i run → runs_text (take (suc i) runs) ≡ runs_text (take i runs) ++ run_text run
-runs_told [] i run lt is = absurd (let none : i < 0 = lt in omega arith)
-runs_told (r ∷ runs) zero run lt is = append-nil (run_text r) ∙ ap run_text (sym is)
-runs_told (r ∷ runs) (suc i) run lt is =
-    ap (λ (l : List ℕ). run_text r ++ l) (runs_told runs i run (omega arith) is) ∙ sym (append_assoc (run_text r) (runs_text (take i runs)) (run_text run))
+runs_reported : (runs : List Run) (i : ℕ) (run : Run) → i < length runs → run ≡ get_or runs i run → runs_text (take (suc i) runs) ≡ runs_text (take i runs) ++ run_text run
+runs_reported [] i run lt is = absurd (let none : i < 0 = lt in omega arith)
+runs_reported (r ∷ runs) zero run lt is = append-nil (run_text r) ∙ ap run_text (sym is)
+runs_reported (r ∷ runs) (suc i) run lt is =
+    ap (λ (l : List ℕ). run_text r ++ l) (runs_reported runs i run (omega arith) is) ∙ sym (append_assoc (run_text r) (runs_text (take i runs)) (run_text run))
 
 pub runs_next : (old now new : List ℕ) (runs : List Run) (i : ℕ) (run : Run) → i < length runs → run ≡ get_or runs i run → now ≡ old ++ runs_text (take i runs) → new ≡ now ++ run_text run → new ≡ old ++ runs_text (take (i + 1) runs)
 runs_next old now new runs i run lt is before more =
     let next : i + 1 ≡ suc i = omega arith in
-    rw next (more ∙ (ap (λ (l : List ℕ). l ++ run_text run) before ∙ (append_assoc old (runs_text (take i runs)) (run_text run) ∙ ap (λ (l : List ℕ). old ++ l) (sym (runs_told runs i run lt is)))))
+    rw next (more ∙ (ap (λ (l : List ℕ). l ++ run_text run) before ∙ (append_assoc old (runs_text (take i runs)) (run_text run) ∙ ap (λ (l : List ℕ). old ++ l) (sym (runs_reported runs i run lt is)))))
 
-items_told : (items : List coded.Content) (i : ℕ) (item : coded.Content) → i < length items → item ≡ get_or items i item → items_text (map plain_item (take (suc i) items)) ≡ items_text (map plain_item (take i items)) ++ item_text (plain_item item)
-items_told [] i item lt is = absurd (let none : i < 0 = lt in omega arith)
-items_told (j ∷ items) zero item lt is =
+items_reported : (items : List coded.Content) (i : ℕ) (item : coded.Content) → i < length items → item ≡ get_or items i item → items_text (map plain_item (take (suc i) items)) ≡ items_text (map plain_item (take i items)) ++ item_text (plain_item item)
+items_reported [] i item lt is = absurd (let none : i < 0 = lt in omega arith)
+items_reported (j ∷ items) zero item lt is =
     append-nil (item_text (plain_item j)) ∙ ap (λ (k : coded.Content). item_text (plain_item k)) (sym is)
-items_told (j ∷ items) (suc i) item lt is =
-    ap (λ (l : List ℕ). item_text (plain_item j) ++ l) (items_told items i item (omega arith) is) ∙ sym (append_assoc (item_text (plain_item j)) (items_text (map plain_item (take i items))) (item_text (plain_item item)))
+items_reported (j ∷ items) (suc i) item lt is =
+    ap (λ (l : List ℕ). item_text (plain_item j) ++ l) (items_reported items i item (omega arith) is) ∙ sym (append_assoc (item_text (plain_item j)) (items_text (map plain_item (take i items))) (item_text (plain_item item)))
 
 pub items_next : (old now new : List ℕ) (items : List coded.Content) (i : ℕ) (item : coded.Content) → i < length items → item ≡ get_or items i item → now ≡ old ++ items_text (map plain_item (take i items)) → new ≡ now ++ item_text (plain_item item) → new ≡ old ++ items_text (map plain_item (take (i + 1) items))
 items_next old now new items i item lt is before more =
     let next : i + 1 ≡ suc i = omega arith in
-    rw next (more ∙ (ap (λ (l : List ℕ). l ++ item_text (plain_item item)) before ∙ (append_assoc old (items_text (map plain_item (take i items))) (item_text (plain_item item)) ∙ ap (λ (l : List ℕ). old ++ l) (sym (items_told items i item lt is)))))
+    rw next (more ∙ (ap (λ (l : List ℕ). l ++ item_text (plain_item item)) before ∙ (append_assoc old (items_text (map plain_item (take i items))) (item_text (plain_item item)) ∙ ap (λ (l : List ℕ). old ++ l) (sym (items_reported items i item lt is)))))

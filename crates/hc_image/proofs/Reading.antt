@@ -75,9 +75,9 @@ module _ (first : FirstLines) (items : List coded.Content) (part mid rest text l
         spells = rw (← front) spelled;
       }
 
-  pub back : (told : Contents) (other after : List ℕ) → SpellsImage other told → other ++ after ≡ text → IsReadBack told other read
-  back told other after spells_other same =
-      let once = image_once image other (plain_contents read_contents) told rest after spelled spells_other (whole_is ∙ sym same) in
+  pub back : (reported : Contents) (other after : List ℕ) → SpellsImage other reported → other ++ after ≡ text → IsReadBack reported other read
+  back reported other after spells_other same =
+      let once = image_once image other (plain_contents read_contents) reported rest after spelled spells_other (whole_is ∙ sym same) in
       let all = lengths in
       record {
         contents = once.0;

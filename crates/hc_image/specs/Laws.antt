@@ -5,8 +5,8 @@ use Rattle.hc_image.specs.Images.{HasImage, image_of}
 use Rattle.hc_image.specs.Spelled.{SpellsImage}
 
 -- one text spells one contents
-abbrev pub TellContentsApart : Type 0
-TellContentsApart =
+abbrev pub SpellContentsApart : Type 0
+SpellContentsApart =
     (image : List ℕ) (a b : Contents) → SpellsImage image a → SpellsImage image b → a ≡ b
 
 -- no image is a first part of another

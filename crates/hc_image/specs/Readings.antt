@@ -24,8 +24,8 @@ BeginsWithNone text =
     (contents : Contents) (image rest : List ℕ) → SpellsImage image contents → image ++ rest ≢ text
 
 -- these contents and this length
-pub record IsReadBack (told : Contents) (image : List ℕ) (read : ImageRead) : Type 0 where
-  pub contents : plain_contents read.contents ≡ told
+pub record IsReadBack (reported : Contents) (image : List ℕ) (read : ImageRead) : Type 0 where
+  pub contents : plain_contents read.contents ≡ reported
   pub used : read.used ≡ length image
 
 -- the text begins with the lines that each image begins with; before them no memory is asked for

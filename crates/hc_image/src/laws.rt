@@ -3,7 +3,7 @@ ghost use Rattle.std.specs.Prelude.{◌≡◌, true};
 ghost use Rattle.hc_model.specs.Beginnings.{may_begin};
 ghost use Rattle.hc_contents.specs.PlainContents.{plain_contents};
 ghost use Rattle.hc_image.specs.Images.{HasImage, image_of};
-ghost use Rattle.hc_image.specs.Laws.{TellContentsApart, AreNoParts, AreWritten};
+ghost use Rattle.hc_image.specs.Laws.{SpellContentsApart, AreNoParts, AreWritten};
 ghost use Rattle.hc_image.specs.Spelled.{SpellsImage};
 
 use hc_contents::Contents;
@@ -11,8 +11,8 @@ use hc_rules::Limits;
 
 /// A text is the image of one contents at most, no image is a first part of another, and what has an
 /// image has the one that is written.
-pub fn images_tell_contents_apart()
-    ensures apart { TellContentsApart }
+pub fn images_spell_contents_apart()
+    ensures apart { SpellContentsApart }
     ensures no_parts { AreNoParts }
     ensures written { AreWritten }
 {}

@@ -9,6 +9,6 @@ mod record;
 mod runs;
 mod write;
 
-pub use laws::{contents_have_images, images_tell_contents_apart};
+pub use laws::{contents_have_images, images_spell_contents_apart};
 pub use read::{ImageRead, read_image};
 pub use write::write_image;

@@ -15,7 +15,7 @@ Takes None new bytes = new ≡ None
 Takes (Some old) new bytes = new ≡ Some (old ++ bytes)
 
 -- Some first of the bytes went in.
-pub record TakesFront (old new : Option (List ℕ)) (bytes : List ℕ) : Type 0 where
+pub record TakesPrefix (old new : Option (List ℕ)) (bytes : List ℕ) : Type 0 where
   pub front : List ℕ
   pub rest : List ℕ
   pub whole : front ++ rest ≡ bytes

@@ -17,7 +17,7 @@ GivesAll None new bytes = new ≡ None
 GivesAll (Some old) new bytes = (bytes ≡ old) × (new ≡ Some [])
 
 -- Some first of the bytes left were given.
-pub record GivesFront (old new : Option (List ℕ)) : Type 0 where
+pub record GivesPrefix (old new : Option (List ℕ)) : Type 0 where
   pub front : List ℕ
   pub gives : Gives old new front
 

@@ -5,7 +5,7 @@ ghost use Rattle.hc_io.specs.Sink.{Takes, HasSinkCause};
 ghost use Rattle.hc_io.specs.Source.{Gives, IsAtEnd, HasSourceCause};
 ghost use Rattle.hc_io.specs.Memory.{FailsNext, after_call, new_script};
 
-use crate::copies::copy_front;
+use crate::copies::copy_prefix;
 use crate::script::Failures;
 use crate::sink::{Sink, SinkError};
 use crate::source::{Source, SourceFailed};
@@ -91,7 +91,7 @@ impl Source for MemorySource {
         }
         self.failures.count_call();
         let end = self.at + self.step.min(self.bytes.len() - self.at);
-        let n = copy_front(&self.bytes[self.at..end], into);
+        let n = copy_prefix(&self.bytes[self.at..end], into);
         self.at += n;
         Ok(n)
     }

@@ -4,7 +4,7 @@ ghost use Rattle.std.specs.Result.{result_unwrap_or};
 ghost use Rattle.hc_io.specs.Sink.{Takes, HasSinkCause};
 ghost use Rattle.hc_io.specs.Source.{Gives, IsAtEnd, HasSourceCause};
 
-use crate::copies::copy_front;
+use crate::copies::copy_prefix;
 use crate::sink::{Sink, SinkError};
 use crate::source::{Source, SourceFailed};
 use std::alloc::Global;
@@ -60,7 +60,7 @@ impl Source for PlainSource {
         // It gives as many bytes as there are and as the slice has.
         ensures amount { result ≡ Ok (min (length self.old.left) (length into.old)) }
     {
-        let n = copy_front(&self.bytes[self.at..], into);
+        let n = copy_prefix(&self.bytes[self.at..], into);
         self.at += n;
         Ok(n)
     }

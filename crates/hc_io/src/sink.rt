@@ -1,6 +1,6 @@
 //! Where bytes go.
 ghost use Rattle.std.specs.Prelude.{◌≡◌, ◌<◌, ◌≤◌, ℕ, List, Option, length, take, IfOk, OnOk, OnErr, IsErrOf};
-ghost use Rattle.hc_io.specs.Sink.{Takes, TakesFront, HasSinkCause};
+ghost use Rattle.hc_io.specs.Sink.{Takes, TakesPrefix, HasSinkCause};
 
 use hc_text::NoMemory;
 use std::alloc::AllocError;
@@ -60,7 +60,7 @@ pub trait Sink {
 /// Writes all of the bytes, in as many calls as it takes. After an error some first of them went in.
 pub fn write_all<K: Sink>(sink: &mut K, bytes: &[u8]) -> Result<(), SinkError>
     ensures ok { OnOk result (Takes (K.taken sink.old) (K.taken sink.new) bytes.now) }
-    ensures front { TakesFront (K.taken sink.old) (K.taken sink.new) bytes.now }
+    ensures front { TakesPrefix (K.taken sink.old) (K.taken sink.new) bytes.now }
 
     // SinkFailed comes only where a fault was counted, and nothing else does.
     ensures cause { HasSinkCause (K.faults sink.old) (K.faults sink.new) result }

@@ -1,7 +1,7 @@
 //! Where bytes come from.
 ghost use Rattle.std.specs.Prelude.{◌≡◌, ◌+◌, ◌-◌, ◌<◌, ◌≤◌, ◌^◌, ℕ, List, Option, length, take, drop, vec_len, IfOk, OnOk, OnErr, OnSome, IsErrOf, IsErr, Ok};
 ghost use Rattle.std.specs.Result.{result_unwrap_or};
-ghost use Rattle.hc_io.specs.Source.{Gives, GivesAll, GivesFront, IsAtEnd, HasSourceCause, HasReadCause};
+ghost use Rattle.hc_io.specs.Source.{Gives, GivesAll, GivesPrefix, IsAtEnd, HasSourceCause, HasReadCause};
 
 use hc_text::NoMemory;
 use std::alloc::{AllocError, Global};
@@ -89,7 +89,7 @@ const READ_SIZE: usize = 65_536;
 pub fn read_all<S: Source>(alloc: Global, source: &mut S) -> Result<Vec<u8>, ReadError>
     ensures ok { IfOk result (λ bytes.
         GivesAll (S.left source.old) (S.left source.new) bytes.items) }
-    ensures front { GivesFront (S.left source.old) (S.left source.new) }
+    ensures front { GivesPrefix (S.left source.old) (S.left source.new) }
 
     ensures small { IfOk result (λ bytes. vec_len bytes ≤ 2 ^ 60) }
     ensures count { IfOk result (λ bytes. S.given source.new ≡ S.given source.old + vec_len bytes) }

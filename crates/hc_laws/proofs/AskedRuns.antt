@@ -6,13 +6,13 @@
 -- a piece ask nothing.
 use Rattle.std.{proofs.Common.{◌≡◌, inl, inr, ℕ, [], ◌∷◌, ◌++◌, Bool, true, false, Option, Some, None, refl, ap, sym, ◌∙◌, subst}, specs.{Prelude.{is_some, if◌then◌else◌, ◌==◌, ◌||◌}, Option.{option_or}}}
 use Rattle.hc_text.proofs.Basics.{bool_cases, not_some as none_some, same_some as same_row, some_inj}
-use Rattle.hc_effects.proofs.Vocabulary.{Opening, opening_in, asks_in, Event, Response, head_refusal, Limits, Place, accepted_acts, answer_acts, loss_acts, closing, denial, as_open, is_live, Entry, exchange_after, exchange_acted, exchange_heard, exchange_made, exchange_opened, with_head, with_piece, exchange_in, is_headless, flaw_in, entry_of, OfRuns, OfHistories, Turns, Move, Asks, acts_of, Owners, poll_move, is_written, own_open, shared_exchange, writing_in, source, Tables, Exchange, Representation, Consumer, Sound, tables, after_accepted, brings_body, wait, place}
+use Rattle.hc_effects.proofs.Vocabulary.{Opening, opening_in, asks_in, Event, Response, head_refusal, Limits, Place, accepted_acts, answer_acts, loss_acts, closing, denial, as_open, is_live, Entry, exchange_after, exchange_acted, exchange_heard, exchange_made, exchange_opened, with_head, with_piece, exchange_in, is_headless, flaw_in, entry_of, OfRuns, OfHistories, Turns, Move, Asks, acts_of, Owners, poll_move, is_written, own_open, shared_exchange, group_in, source, Tables, Exchange, Representation, Consumer, Sound, tables, after_accepted, brings_body, wait, place}
 use Rattle.hc_event.specs.declared.event.Event.TheVariants as event
 use Rattle.hc_rules.specs.Refusals as refusals
 use Rattle.hc_model.specs.Asking.{AsksAnew}
 use Rattle.hc_model.specs.Moves as moves
 use Rattle.hc_effects.proofs.{AboutKeeps.{own_open_of}, ActParts.{asks_closed, asks_loss}, Basics.{false_true, some_none}, EventsKeep.{poll_live}, Owed.{goes}, PieceKeeps.{eq_cases}, PollKeys.{IsNear, near_polled}}
-use Rattle.hc_laws.proofs.{Barred.{next_tables}, InRuns.{IsTurned, turned_in_runs}, RunFacts.{in_runs_with}, SoundRuns.{carried}, TurnFacts.{moves_on, misreads, acts_is, IsTaken, AtPoll, at_poll, told_quiet, is_asking, behind, seen}, TurnStays.{head_opens, head_none, polls_head}}
+use Rattle.hc_laws.proofs.{Barred.{next_tables}, InRuns.{IsTurned, turned_in_runs}, RunFacts.{in_runs_with}, SoundRuns.{carried}, TurnFacts.{moves_on, misreads, acts_is, IsTaken, AtPoll, at_poll, reported_quiet, is_asking, behind, seen}, TurnStays.{head_opens, head_none, polls_head}}
 use Rattle.hc_effects.proofs.PollKeys as near
 
 -- what has no head wasn't asked
@@ -60,15 +60,15 @@ module _ (t : Tables) (s : Sound t) (o : Owners t) (turns : Turns t) (now c want
       let g = (s.rows r v there).growing x on writer in
       false_true (sym (ap (λ (z : Option Response). is_some z) bare) ∙ (ap (λ (z : Exchange). is_some z.head) (same_row (t.exchange x) w g.0 w_row g.1.row) ∙ g.1.headed))
 
-  writing_not : (r : ℕ) (q : Option Representation) → t.representation r ≡ q → writing_in t q ≡ Some x → ⊥
-  writing_not r None there is = none_some x is
-  writing_not r (Some v) there is = elim (bool_cases (is_written t v)) [
+  group_not : (r : ℕ) (q : Option Representation) → t.representation r ≡ q → group_in t q ≡ Some x → ⊥
+  group_not r None there is = none_some x is
+  group_not r (Some v) there is = elim (bool_cases (is_written t v)) [
     | inl on ↦ shared_not v r there on (rw on at is)
     | inr off ↦ none_some x (rw off at is)
   ]
 
   member_not : (p : Place) → shared_exchange t p ≡ Some x → ⊥
-  member_not (place.Bound r lo hi how) is = writing_not r (t.representation r) refl is
+  member_not (place.Bound r lo hi how) is = group_not r (t.representation r) refl is
   member_not _ is = none_some x is
 
   -- its own consumer is told to wait for the head
@@ -123,7 +123,7 @@ module _ (limits : Limits) (t : Tables) (e : Entry) (taken : IsTaken limits t e)
     unasked (event.Cancel c) at =
         ap (asks_in x) (acts_is limits t e taken ∙ ap (λ z. accepted_acts limits t e.now z (flaw_in e.acts)) at)
         ∙ ((asks_closed x 0 (closing t (record { now = e.now; event = event.Cancel c; acts = loss_acts (flaw_in e.acts) })) _).asks ∙ (asks_loss x 0 (flaw_in e.acts)).asks)
-    unasked v at = (told_quiet limits t e taken x 0 (ap (λ z. answer_acts t e.now z (flaw_in e.acts)) at) (ap is_asking at)).asks
+    unasked v at = (reported_quiet limits t e taken x 0 (ap (λ z. answer_acts t e.now z (flaw_in e.acts)) at) (ap is_asking at)).asks
 
   made_unasked : (x : ℕ) (q : Option Opening) (z : Exchange) → exchange_made t e x q ≡ Some z → z.asked ≡ false
   made_unasked x None z is = absurd (none_some z is)
@@ -162,8 +162,8 @@ module _ (limits : Limits) (t : Tables) (e : Entry) (taken : IsTaken limits t e)
   heard_anew x w _ at row brings is = absurd (false_true brings)
 
   quiet_at : (x : ℕ) (ev : Event) → e.event ≡ ev → brings_body ev ≡ true → asks_in x e.acts ≡ false
-  quiet_at x (event.Head y response) at brings = (told_quiet limits t e taken x 0 (ap (λ z. answer_acts t e.now z (flaw_in e.acts)) at) (ap is_asking at)).asks
-  quiet_at x (event.Piece y bytes) at brings = (told_quiet limits t e taken x 0 (ap (λ z. answer_acts t e.now z (flaw_in e.acts)) at) (ap is_asking at)).asks
+  quiet_at x (event.Head y response) at brings = (reported_quiet limits t e taken x 0 (ap (λ z. answer_acts t e.now z (flaw_in e.acts)) at) (ap is_asking at)).asks
+  quiet_at x (event.Piece y bytes) at brings = (reported_quiet limits t e taken x 0 (ap (λ z. answer_acts t e.now z (flaw_in e.acts)) at) (ap is_asking at)).asks
   quiet_at x _ at brings = absurd (false_true brings)
 
   anew_by : (x : ℕ) (q : Option Exchange) (z : Exchange) → brings_body e.event ≡ true → exchange_in e.event ≡ Some x → t.exchange x ≡ q → exchange_after t e x q ≡ Some z → z.asked ≡ false

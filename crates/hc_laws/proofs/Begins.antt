@@ -5,7 +5,7 @@
 -- stores is all that came of it, and ends where its runs end (`ends_all`, `sound_row`). So most fields of `begun_sound`
 -- speak of rows that aren't there.
 use Rattle.std.{proofs.{lemmas.Bool.Decides.{nat_tests}, Common.{◌≡◌, inl, inr, ℕ, ◌-◌, ◌<◌, ◌≤◌, List, [], ◌∷◌, length, true, Option, Some, None, refl, ap, sym, ◌∙◌, arith}}, specs.Prelude.{is_some, find, map, option_map, nat_eq}}
-use Rattle.hc_text.proofs.Basics.{eq_tells, bool_cases, not_some as none_some}
+use Rattle.hc_text.proofs.Basics.{eq_reports, bool_cases, not_some as none_some}
 use Rattle.hc_sparse.specs.{Cells.{EndsBy}, Runs.{cells_of, end_of}, declared.run.Run.{Run}}
 use Rattle.hc_sparse.proofs.CellLemmas.{inside-past}
 use Rattle.hc_effects.proofs.Vocabulary.{Content, Contents, IsStart, item_of, is_written, Representation, Among, IsAbout, IsFirst, IsSoundRepresentation, first_tables, representation_of_content, last_end, numbers}
@@ -34,7 +34,7 @@ ends_all (run ∷ runs) p le =
 found_among : (items : List Content) (r : ℕ) (item : Content) → find (λ (i : Content). nat_eq i.r r) items ≡ Some item → Among r (map (λ (i : Content). i.r) items)
 found_among [] r item is = absurd (let never : None ≡ Some item = is in cc)
 found_among (i ∷ items) r item is = elim (bool_cases (nat_eq i.r r)) [
-  | inl here ↦ inl (eq_tells i.r r here)
+  | inl here ↦ inl (eq_reports i.r r here)
   | inr other ↦ inr (found_among items r item (rw other at is))
 ]
 

@@ -9,7 +9,7 @@ use Rattle.hc_effects.proofs.Joining.{mix}
 pub data BusyBy (v : PlanView) (d : ℕ) : Type 0 where
   least : (s : Candidate) → v.current ≡ Some s → s.least_bound ≡ Some d → BusyBy v d
   writer : (s : Candidate) → v.current ≡ Some s → s.exclusive ≡ Some d → BusyBy v d
-  nobody : (s : Candidate) → v.current ≡ Some s → s.least_bound ≡ None → (s.span ≡ wanted.TotalUnknown) ⊎ (s.writing ≡ true) → BusyBy v d
+  nobody : (s : Candidate) → v.current ≡ Some s → s.least_bound ≡ None → (s.span ≡ wanted.TotalUnknown) ⊎ (s.writer_group ≡ true) → BusyBy v d
 
 module _ (v : PlanView) where
   abbrev Fine : Plan → Type 0
@@ -19,7 +19,7 @@ module _ (v : PlanView) where
   busy_inj a b e f is = cc
 
   module _ (s : Candidate) (current : v.current ≡ Some s) where
-    busy_least : (o : Option ℕ) → s.least_bound ≡ o → (s.span ≡ wanted.TotalUnknown) ⊎ (s.writing ≡ true) → Fine (plan.Busy (unwrap_or o 0) v.kept)
+    busy_least : (o : Option ℕ) → s.least_bound ≡ o → (s.span ≡ wanted.TotalUnknown) ⊎ (s.writer_group ≡ true) → Fine (plan.Busy (unwrap_or o 0) v.kept)
     busy_least None none why = λ d kept is. nobody s current none why
     busy_least (Some a) some why = λ d kept is. least s current (some ∙ ap Some (busy_inj a d v.kept kept is))
 
@@ -38,10 +38,10 @@ module _ (v : PlanView) where
     wanted_fine : (why : Why) (w : Wanted) → s.span ≡ w → Fine (by_wanted v s why w)
     wanted_fine why wanted.TotalUnknown at = busy_least s.least_bound refl (inl at)
     wanted_fine why wanted.Unsatisfiable at = λ d kept is. absurd (let never : plan.Direct _ ≡ plan.Busy d kept = is in cc)
-    wanted_fine why (wanted.Interval span) at = either Fine s.writing _ _ (λ on. busy_least s.least_bound refl (inr on)) (λ off. exclusive_fine why span s.exclusive refl)
+    wanted_fine why (wanted.Interval span) at = either Fine s.writer_group _ _ (λ on. busy_least s.least_bound refl (inr on)) (λ off. exclusive_fine why span s.exclusive refl)
 
     on_fine : (why : Why) → Fine (plan_on v s why)
-    on_fine why = mix Fine (is_none v.class.range && s.writing) _ _ (λ d kept is. absurd (let never : plan.Bind why None ≡ plan.Busy d kept = is in cc)) (wanted_fine why s.span refl)
+    on_fine why = mix Fine (is_none v.class.range && s.writer_group) _ _ (λ d kept is. absurd (let never : plan.Bind why None ≡ plan.Busy d kept = is in cc)) (wanted_fine why s.span refl)
 
     why_fine : (o : Option Why) → Fine (by_why v s o)
     why_fine None = λ d kept is. absurd (let never : plan.Fetch _ ≡ plan.Busy d kept = is in cc)

@@ -7,7 +7,7 @@
 use Rattle.std.{proofs.Common.{◌≡◌, ◌⊎◌, inl, inr, ℕ, ◌+◌, ◌≤◌, true, false, Option, Some, None, refl, ap, sym, ◌∙◌, subst, arith}, specs.Prelude.{is_some, nat_eq}}
 use Rattle.hc_text.proofs.Basics.{and_left, not_some as none_some, same_some as same_row, some_inj}
 use Rattle.hc_sparse.specs.Cells.{Covers}
-use Rattle.hc_effects.proofs.Vocabulary.{Opening, opening_in, Response, route_of, BoundBy, Showing, showing_in, case_at, consumer_heard, consumer_acted, by_opening, waiting, due_after, Entry, exchange_opened, front, entry_of, Measures, bound_to, offset, lo_of, reads, hole_start, Tables, Exchange, Representation, Consumer, IsBound, IsExclusiveWriter, after_accepted, brings_body, came_alone, loses_writing, survivor, event, route, place, by}
+use Rattle.hc_effects.proofs.Vocabulary.{Opening, opening_in, Response, route_of, BoundBy, Showing, showing_in, case_at, consumer_heard, consumer_acted, by_opening, waiting, due_after, Entry, exchange_opened, front, entry_of, Measures, bound_to, offset, lo_of, reads, hole_start, Tables, Exchange, Representation, Consumer, IsBound, IsExclusiveWriter, after_accepted, brings_body, came_alone, loses_group, survivor, event, route, place, by}
 use Rattle.hc_model.specs.Sound as sound
 use Rattle.hc_effects.proofs.{Forward.{opened_on, is_on}, Basics.{false_true, some_row}, Beside.{IsBeside, goes_on_at}, BoundFrom.{BoundFrom, IsRow, IsFounded, IsFirstHole, IsShown, bound_from, place_inj}, BoundKeeps.{planned_at}, Covers.{own_covers, grown, offset_more, later_start, headed_at}, ExchangeFrom.{IsSame, IsHeaded}, FirstKeeps.{is_new}, LossBy.{IsReal}, OwnFrom.{OwnFrom, IsLeft, own_from, after_by}, OwnersKeep.{is_opened, new_number}, PieceKeeps.{eq_cases}, PollKeeps.{current_stays}, RepFrom.{RepFrom, rep_from, IsKept}, Said.{ShowsBy, showing_by}, ShownFrom.{stored, joins, ShownAs, IsPlanned}, Survives.{goes_on}, ToBeShown.{heard_place}, Waiters.{IsWaiter, waiter_of}, Step.{Step}}
 use Rattle.hc_effects.proofs.BoundFrom as from
@@ -24,8 +24,8 @@ module _ (step : Step) (m : Measures step.tables) (i : IsBeside step.tables) (re
   abbrev now_on : Tables
   now_on = after_accepted t e
 
-  brings_writing : (r : ℕ) (v : Representation) → loses_writing t e r v ≡ true → brings_body ev ≡ true
-  brings_writing r v h = and_left _ _ (and_left _ _ h)
+  brings_group : (r : ℕ) (v : Representation) → loses_group t e r v ≡ true → brings_body ev ≡ true
+  brings_group r v h = and_left _ _ (and_left _ _ h)
 
   -- who isn't bound to what is there and isn't gone doesn't go on with it
   pub not_alone : (r c : ℕ) (v p : Representation) (k : Consumer) → t.consumer c ≡ Some k → bound_to k.place ≡ None → t.representation r ≡ Some v → v.is_gone ≡ false → brings_body ev ≡ false → IsKept t e r v p → p.is_lost ≡ true → p.alone ≡ Some c → ⊥
@@ -38,7 +38,7 @@ module _ (step : Step) (m : Measures step.tables) (i : IsBeside step.tables) (re
       by_exclusive_writer (first fresh quiet is) = false_true (sym (kept.lost_is ∙ rw (quiet, fresh) refl) ∙ lost)
       by_exclusive_writer (alone was quiet is) = false_true (sym not_gone ∙ (s.rows r v there).store.lost_is_gone was)
       by_exclusive_writer (wrote fresh loses x) = bound_not x.k x.reader
-      by_exclusive_writer (survives losing is) = false_true (sym quiet_event ∙ brings_writing r v losing)
+      by_exclusive_writer (survives losing is) = false_true (sym quiet_event ∙ brings_group r v losing)
 
   -- what is opened for it is its own
   pub own_opened : (c x : ℕ) (k u : Consumer) (q : Opening) → due_after t e c k (consumer_acted t e c (consumer_heard t e c ev k)) ≡ u → opening_in e.acts ≡ Some q → q.c ≡ c → u.own ≡ Some x → q.x ≡ x
@@ -54,7 +54,7 @@ module _ (step : Step) (m : Measures step.tables) (i : IsBeside step.tables) (re
 
       by_after : (a : Option ℕ) → a ≡ Some q.x → (a ≡ Some x) ⊎ IsLeft t e c x (consumer_heard t e c ev k).place → q.x ≡ x
       by_after a is (inl same) = some_inj q.x x (sym is ∙ same)
-      by_after a is (inr left) = let by_poll = is_opened step q opens in absurd (false_true (sym (ap brings_body by_poll.at) ∙ brings_writing left.r left.v left.loses))
+      by_after a is (inr left) = let by_poll = is_opened step q opens in absurd (false_true (sym (ap brings_body by_poll.at) ∙ brings_group left.r left.v left.loses))
 
   -- an exchange that was opened
   pub opened_row : (x : ℕ) (q : Opening) (z : Exchange) → opening_in e.acts ≡ Some q → q.x ≡ x → now_on.exchange x ≡ Some z → exchange_opened t e q ≡ z
@@ -72,7 +72,7 @@ module _ (step : Step) (m : Measures step.tables) (i : IsBeside step.tables) (re
 
     -- IT WAS BOUND
 
-    survived : (v : Representation) → t.representation r ≡ Some v → loses_writing t e r v ≡ true → survivor t r v ≡ Some c → IsCovered
+    survived : (v : Representation) → t.representation r ≡ Some v → loses_group t e r v ≡ true → survivor t r v ≡ Some c → IsCovered
     survived v there losing is =
         let g = goes_on step m real r c v p u there losing is after after_row in
         let one : g.is.w ≡ z = same_row (now_on.exchange x) g.is.w z (sym (ap now_on.exchange (some_inj g.is.x x (sym g.is.own ∙ owned))) ∙ g.is.row) after_x in
@@ -103,10 +103,10 @@ module _ (step : Step) (m : Measures step.tables) (i : IsBeside step.tables) (re
 
       left_own : IsLeft t e c x (consumer_heard t e c ev k).place → IsCovered
       left_own l =
-          let placed : u.place ≡ (consumer_heard t e c ev k).place = heard_place step c r lo hi how k u (λ d want polls. false_true (sym (ap brings_body polls) ∙ brings_writing l.r l.v l.loses)) row in
+          let placed : u.place ≡ (consumer_heard t e c ev k).place = heard_place step c r lo hi how k u (λ d want polls. false_true (sym (ap brings_body polls) ∙ brings_group l.r l.v l.loses)) row in
           let number : l.r ≡ r = (place_inj l.r l.lo l.hi l.how r lo hi how (sym l.at ∙ (sym placed ∙ stands))).number in
           let row_r : t.representation r ≡ Some l.v = sym (ap t.representation number) ∙ l.row in
-          survived l.v row_r (subst (λ n. loses_writing t e n l.v ≡ true) number l.loses) (subst (λ n. survivor t n l.v ≡ Some c) number l.survives)
+          survived l.v row_r (subst (λ n. loses_group t e n l.v ≡ true) number l.loses) (subst (λ n. survivor t n l.v ≡ Some c) number l.survives)
 
       was_bound : OwnFrom t e c x u → IsCovered
       was_bound (own.kept q q_row mine heard_mine) = kept_own (ap (λ (a : Consumer). a.own) (sym (one_k q q_row.row)) ∙ mine)

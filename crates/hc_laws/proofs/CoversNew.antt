@@ -7,9 +7,9 @@
 use Rattle.std.{proofs.{Common.{◌≡◌, ℕ, ◌-◌, ◌≤◌, [], Bool, true, false, Option, Some, None, refl, ap, sym, ◌∙◌, subst, arith, min}, lemmas.Bool.Decides.{nat_tests}}, specs.Prelude.{is_some, is_none}}
 use Rattle.hc_text.proofs.Basics.{and_right, not_some as none_some, same_some as same_row, some_inj}
 use Rattle.hc_sparse.specs.Cells.{Covers}
-use Rattle.hc_range.specs.{declared.range.{Asked.{Asked}, ContentRange.{ContentRange}, Span.{Span}}, Spans.{resolved_span}}
+use Rattle.hc_range.specs.{declared.range.{RangeSpec.{RangeSpec}, ContentRange.{ContentRange}, Span.{Span}}, Spans.{resolved_span}}
 use Rattle.hc_effects.proofs.Vocabulary.{brings_part, brings_whole, range, need, event, case, route, wanted, Opening, opening_in, Need, Request, Response, HeadCase, Length, fits_to_found, fits_part, begins_at, length_of, base_of, promise_of, route_of, content_range_of, range_of, wanted_of, wanted_part, BoundBy, has_loss, case_at, head_view, fits_asker, consumer_heard, waiting, current, Entry, base, front, length_by, founded_total, first_hole, absent_from, entry_of, bound_to, hole_start, Tables, Exchange, Representation, Consumer, after_accepted}
-use Rattle.hc_effects.proofs.{Basics.{false_true}, BoundFrom.{IsRow, IsInterval, IsFounded, IsFirstHole}, ExchangeFrom.{IsSame, IsHeaded}, FirstKeeps.{case_of_head, whole_brings, replaced_brings, is_new, is_opener}, FoundBy.{founds_range, CaseBy}, HoleLemmas.{first_before, first_from, some_of}, HolesOpened.{first_hole_is}, OwnersKeep.{is_opened}, PartTold.{IsTold, part_told, whole_base}, PollKeeps.{current_stays}, EndsKeep.{interval_inj}, Step.{Step}}
+use Rattle.hc_effects.proofs.{Basics.{false_true}, BoundFrom.{IsRow, IsInterval, IsFounded, IsFirstHole}, ExchangeFrom.{IsSame, IsHeaded}, FirstKeeps.{case_of_head, whole_brings, replaced_brings, is_new, is_opener}, FoundBy.{founds_range, CaseBy}, HoleLemmas.{first_before, first_from, some_of}, HolesOpened.{first_hole_is}, OwnersKeep.{is_opened}, PartReported.{IsReceived, part_reported, whole_base}, PollKeeps.{current_stays}, EndsKeep.{interval_inj}, Step.{Step}}
 use Rattle.hc_effects.proofs.BoundFrom as from
 use Rattle.hc_effects.proofs.OpenedAs as opened
 use Rattle.hc_rules.proofs.Statuses.{whole_is_no_part}
@@ -23,25 +23,25 @@ pub record IsPartFrom (response : Response) (lo : ℕ) : Type 0 where
   pub first : ℕ
   pub last : ℕ
   pub total : ℕ
-  pub told : content_range_of response.fields ≡ Some (range.Part first last (Some total))
+  pub reported : content_range_of response.fields ≡ Some (range.Part first last (Some total))
   pub starts : first ≡ lo
 
 begins_by : (first last : ℕ) (span : Span) (q : Option Span) → begins_at q first last ≡ true → wanted_part q ≡ wanted.Interval span → first ≡ span.lo
 begins_by first last span q h is = grind (arith, nat_tests)
 
 module _ (k : Consumer) (w : Exchange) (response : Response) (lo : ℕ) (hi : Option ℕ) (status : brings_part response.status ≡ true) (i : IsInterval (wanted_of (range_of k.request) (founded_total w response)) lo hi) where
-  part_by : (asked : Asked) (z : Option ContentRange) → range_of k.request ≡ Some asked → content_range_of response.fields ≡ z → fits_part asked z ≡ true → IsPartFrom response lo
+  part_by : (asked : RangeSpec) (z : Option ContentRange) → range_of k.request ≡ Some asked → content_range_of response.fields ≡ z → fits_part asked z ≡ true → IsPartFrom response lo
   part_by asked (Some (range.Part first last (Some total))) is at h =
-      let told : founded_total w response ≡ Some total = rw (status, at) refl in
-      let wants : wanted_part (resolved_span asked total) ≡ wanted.Interval i.span = sym (ap (λ q. wanted_of q (founded_total w response)) is ∙ ap (wanted_of (Some asked)) told) ∙ i.wanted_is in
-      record { first = first; last = last; total = total; told = at; starts = begins_by first last i.span (resolved_span asked total) h wants ∙ i.from }
+      let reported : founded_total w response ≡ Some total = rw (status, at) refl in
+      let wants : wanted_part (resolved_span asked total) ≡ wanted.Interval i.span = sym (ap (λ q. wanted_of q (founded_total w response)) is ∙ ap (wanted_of (Some asked)) reported) ∙ i.wanted_is in
+      record { first = first; last = last; total = total; reported = at; starts = begins_by first last i.span (resolved_span asked total) h wants ∙ i.from }
   part_by asked _ is at h = absurd (false_true h)
 
-  fits_by : (z : Option Asked) → range_of k.request ≡ z → fits_to_found z response ≡ true → IsPartFrom response lo
+  fits_by : (z : Option RangeSpec) → range_of k.request ≡ z → fits_to_found z response ≡ true → IsPartFrom response lo
   fits_by None is h = absurd (false_true h)
   fits_by (Some asked) is h = part_by asked (content_range_of response.fields) is refl (and_right _ _ h)
 
-base_by : (first last : ℕ) (l : Length) → IsTold first last l → base_of l ≤ first
+base_by : (first last : ℕ) (l : Length) → IsReceived first last l → base_of l ≤ first
 base_by first last l it3 = grind (arith, nat_tests)
 
 module _ (step : Step) where
@@ -62,8 +62,8 @@ module _ (step : Step) where
     from_base : base_of (length_of w.need w.request response) ≤ lo → front z ≤ lo
     from_base le =
         let answer : got.response ≡ response = head_inj x x got.response response (sym got.at ∙ here) in
-        let told_is : length_by z z.head ≡ length_of w.need w.request response = ap (length_by z) got.head_is ∙ (ap (λ (n : Need). length_of n z.request got.response) same.need_is ∙ (ap (λ (q : Request). length_of w.need q got.response) same.request_is ∙ ap (length_of w.need w.request) answer)) in
-        let first : base z ≡ base_of (length_of w.need w.request response) = ap base_of told_is in
+        let reported_is : length_by z z.head ≡ length_of w.need w.request response = ap (length_by z) got.head_is ∙ (ap (λ (n : Need). length_of n z.request got.response) same.need_is ∙ (ap (λ (q : Request). length_of w.need q got.response) same.request_is ∙ ap (length_of w.need w.request) answer)) in
+        let first : base z ≡ base_of (length_of w.need w.request response) = ap base_of reported_is in
         let empty : z.body ≡ [] = got.body_is ∙ (s.waits.headless x w exchange_row (is_new limits t now flaw s ev goes x response w here exchange_row).bare).0 in
         grind (arith, nat_tests)
 
@@ -73,7 +73,7 @@ module _ (step : Step) where
     part : CaseBy view case.FoundsRange → IsInterval (wanted_of (range_of k.request) (founded_total w response)) lo hi → front z ≤ lo
     part (founds_range way status fits kept good) i =
         let p = fits_by k w response lo hi status i (range_of k.request) refl (sym (ap (λ q. fits_asker q response) (ap t.consumer mine ∙ row)) ∙ fits) in
-        let le : base_of (length_of w.need w.request response) ≤ p.first = base_by p.first p.last _ (part_told w.need w.request response p.first p.last p.total (λ past. let no : route.Turn ≡ route.Direct = sym way ∙ past in cc) status p.told good) in
+        let le : base_of (length_of w.need w.request response) ≤ p.first = base_by p.first p.last _ (part_reported w.need w.request response p.first p.last p.total (λ past. let no : route.Turn ≡ route.Direct = sym way ∙ past in cc) status p.reported good) in
         from_base (omega arith)
 
     by_founded : (g : Option HeadCase) → case_at t e ≡ g → IsFounded t e c r lo hi how x response w k g → front z ≤ lo
@@ -82,13 +82,13 @@ module _ (step : Step) where
     by_founded _ is (from.part i) = part (case_of_head t e x response w case.FoundsRange here exchange_row is) i
 
     -- and no later, where it is open then
-    from_part : (first last : ℕ) (l : Length) → first ≡ lo → (promise_of l ≡ Some 0 → ⊥) → IsTold first last l → lo ≤ base_of l
+    from_part : (first last : ℕ) (l : Length) → first ≡ lo → (promise_of l ≡ Some 0 → ⊥) → IsReceived first last l → lo ≤ base_of l
     from_part first last l starts unmet it5 = grind (arith, nat_tests)
 
     part_from : (promise_of (length_of w.need w.request response) ≡ Some 0 → ⊥) → CaseBy view case.FoundsRange → IsInterval (wanted_of (range_of k.request) (founded_total w response)) lo hi → lo ≤ front z
     part_from unmet (founds_range way status fits kept good) i =
         let p = fits_by k w response lo hi status i (range_of k.request) refl (sym (ap (λ q. fits_asker q response) (ap t.consumer mine ∙ row)) ∙ fits) in
-        let le : lo ≤ base_of (length_of w.need w.request response) = from_part p.first p.last _ p.starts unmet (part_told w.need w.request response p.first p.last p.total (λ past. let no : route.Turn ≡ route.Direct = sym way ∙ past in cc) status p.told good) in
+        let le : lo ≤ base_of (length_of w.need w.request response) = from_part p.first p.last _ p.starts unmet (part_reported w.need w.request response p.first p.last p.total (λ past. let no : route.Turn ≡ route.Direct = sym way ∙ past in cc) status p.reported good) in
         grind (arith, nat_tests)
 
     begins_by_case : (promise_of (length_of w.need w.request response) ≡ Some 0 → ⊥) → (g : Option HeadCase) → case_at t e ≡ g → IsFounded t e c r lo hi how x response w k g → lo ≤ front z

@@ -1,8 +1,8 @@
 -- Whoever is bound before and after an entry and is the exclusive writer after it was so before, survives the loss of a
--- shared writing, or wrote alone what is lost.
+-- writer group, or wrote alone what is lost.
 use Rattle.std.{proofs.Common.{◌≡◌, ◌⊎◌, inl, inr, ℕ, true, false, Option, Some, ap, sym, ◌∙◌, subst}, specs.Prelude.{is_some}}
 use Rattle.hc_text.proofs.Basics.{bool_cases, same_some as same_row}
-use Rattle.hc_effects.proofs.Vocabulary.{BoundBy, loses_in, Entry, entry_of, Measures, Tables, Representation, Consumer, IsFirst, IsExclusiveWriter, after_accepted, came_alone, loses_writing, survivor, goes_on_with, place}
+use Rattle.hc_effects.proofs.Vocabulary.{BoundBy, loses_in, Entry, entry_of, Measures, Tables, Representation, Consumer, IsFirst, IsExclusiveWriter, after_accepted, came_alone, loses_group, survivor, goes_on_with, place}
 use Rattle.hc_model.specs.Sound as sound
 use Rattle.hc_effects.proofs.{Basics.{or_false}, Exclusives.{IsExclusive, exclusive_parts}, FirstKeeps.{came_kept}, LossBy.{IsReal, fresh}, RepFrom.{IsKept}, ServedKeeps.{lost_alone, kept_alone}, Step.{Step}}
 
@@ -19,13 +19,13 @@ module _ (step : Step) (m : Measures step.tables) (real : IsReal step.limits ste
     first : v.is_lost ≡ false → loses_in r e.acts ≡ false → IsFirst t r c → ExclusiveWriterFrom r c v
     alone : v.is_lost ≡ true → loses_in r e.acts ≡ false → v.alone ≡ Some c → ExclusiveWriterFrom r c v
     wrote : v.is_lost ≡ false → loses_in r e.acts ≡ true → IsExclusive t r c v → ExclusiveWriterFrom r c v
-    survives : loses_writing t e r v ≡ true → survivor t r v ≡ Some c → ExclusiveWriterFrom r c v
+    survives : loses_group t e r v ≡ true → survivor t r v ≡ Some c → ExclusiveWriterFrom r c v
 
   -- who goes on with what is lost now
   pub loss_from : (r c : ℕ) (v p : Representation) → t.representation r ≡ Some v → IsKept t e r v p → loses_in r e.acts ≡ true → p.alone ≡ Some c → ExclusiveWriterFrom r c v
   loss_from r c v p there kept loses is =
       let goes_on : goes_on_with t e r v ≡ Some c = sym (lost_alone step m real r v p there kept loses).1 ∙ is in
-      elim (bool_cases (loses_writing t e r v)) [
+      elim (bool_cases (loses_group t e r v)) [
         | inl losing ↦ survives losing (rw losing at goes_on)
         | inr off ↦ wrote (fresh step m real r v there loses) loses (exclusive_parts t r c v (rw off at goes_on))
       ]
@@ -45,7 +45,7 @@ module _ (step : Step) (m : Measures step.tables) (real : IsReal step.limits ste
       first parts.1 parts.0 (sound.first k lo hi how row at (sym (came_kept limits t now flaw s ev goes r lo hi how (ap is_some there)) ∙ came_now))
 
   -- but for who survives, it was the exclusive writer
-  pub had_exclusive_writer : (r c : ℕ) (v : Representation) → ExclusiveWriterFrom r c v → IsExclusiveWriter t r v c ⊎ ((loses_writing t e r v ≡ true) × (survivor t r v ≡ Some c))
+  pub had_exclusive_writer : (r c : ℕ) (v : Representation) → ExclusiveWriterFrom r c v → IsExclusiveWriter t r v c ⊎ ((loses_group t e r v ≡ true) × (survivor t r v ≡ Some c))
   had_exclusive_writer r c v (first fresh_was quiet is) = inl (sound.first fresh_was is)
   had_exclusive_writer r c v (alone lost quiet is) = inl (sound.alone lost is)
   had_exclusive_writer r c v (wrote fresh_was loses x) = inl (sound.first fresh_was x.first)

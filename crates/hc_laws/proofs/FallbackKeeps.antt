@@ -88,7 +88,7 @@ module _ (step : Step) where
     pub hi : Option ℕ
     pub at : ev ≡ event.Poll c want
     pub move_is : move_of t now want c k ≡ Shows r why head lo hi
-    pub told : shown_in c e.acts ≡ record { r = r; why = why; lo = lo; hi = hi } ∷ []
+    pub reported : shown_in c e.acts ≡ record { r = r; why = why; lo = lo; hi = hi } ∷ []
     pub lands : Lands k.place u.place r lo hi
 
   pub landing_by : (c : ℕ) (k u : Consumer) → t.consumer c ≡ Some k → now_on.consumer c ≡ Some u → shows_in c e.acts ≡ true → ToOne t now c ev e.acts → IsLanding c k u
@@ -105,7 +105,7 @@ module _ (step : Step) where
         hi = hi;
         at = at;
         move_is = move_is;
-        told = shows;
+        reported = shows;
         lands = shown_at step c want k row at r why head lo hi move_is showing u after;
       }
 

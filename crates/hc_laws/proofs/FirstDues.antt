@@ -6,7 +6,7 @@
 -- either. `beside` joins these.
 use Rattle.std.{proofs.Common.{◌≡◌, inl, inr, ℕ, Bool, true, false, cond, Option, Some, None, refl, ap, sym, ◌∙◌}, specs.{Prelude.{if◌then◌else◌, ◌&&◌}, Option.{option_or}}}
 use Rattle.hc_text.proofs.Basics.{and_left, and_right, not_some as none_some, never_true as not_so, same_some as same_row, some_inj}
-use Rattle.hc_effects.proofs.Vocabulary.{Event, Response, Cause, is_same_number, Place, loses_in, case_at, consumer_heard, consumer_acted, consumer_made, consumer_after, back_in_line, Entry, exchange_in, is_for, is_open, becomes_due, cause_of_stop, cause_of_loss, cause_by_loss, cause_of_head, cause_by_case, stop_cause, entry_of, is_written, own_open, source, shared_exchange, writing_in, reads, Tables, Exchange, Representation, Consumer, IsBound, IsFirst, IsExclusiveWriter, starts_over, after_accepted, loses_writing, brings_body, event, place}
+use Rattle.hc_effects.proofs.Vocabulary.{Event, Response, Cause, is_same_number, Place, loses_in, case_at, consumer_heard, consumer_acted, consumer_made, consumer_after, back_in_line, Entry, exchange_in, is_for, is_open, becomes_due, cause_of_stop, cause_of_loss, cause_by_loss, cause_of_head, cause_by_case, stop_cause, entry_of, is_written, own_open, source, shared_exchange, group_in, reads, Tables, Exchange, Representation, Consumer, IsBound, IsFirst, IsExclusiveWriter, starts_over, after_accepted, loses_group, brings_body, event, place}
 use Rattle.hc_model.specs.Sound as sound
 use Rattle.hc_effects.proofs.{Basics.{false_true, or_false}, Dues.{IsUndue, undue_parts, undue_of, stop_none, loss_at}, FirstKeeps.{is_new}, PieceKeeps.{eq_cases}, ExclusiveWriters.{writer_some}, RepFrom.{was, founded, RepFrom, rep_from}, Stops.{source_is}, Waiters.{waiter_of, own_open_is}, Step.{Step}}
 
@@ -50,7 +50,7 @@ module _ (step : Step) where
     head = ap (cause_of_head t e c) here;
   }
     where
-      off : (r : ℕ) (v : Representation) → loses_writing t e r v ≡ false
+      off : (r : ℕ) (v : Representation) → loses_group t e r v ≡ false
       off r v = ap (λ z. brings_body z && loses_in r e.acts && is_written t v) here
 
       by_row : (r : ℕ) (z : Option Representation) → cause_by_loss t e c r z ≡ None
@@ -123,7 +123,7 @@ module _ (step : Step) where
     source_same z (Some x) own on writer = source_is t r d x v u s there reader_d on writer ∙ sym (source_is t r c x v k s there reader_c on writer)
 
     shared_off : IsBound t r d u → is_written t v ≡ false → shared_exchange t u.place ≡ None
-    shared_off (sound.is_bound lo hi how row at) off = ap (shared_exchange t) at ∙ (ap (writing_in t) there ∙ rw off refl)
+    shared_off (sound.is_bound lo hi how row at) off = ap (shared_exchange t) at ∙ (ap (group_in t) there ∙ rw off refl)
 
     stop_by : (z : Option ℕ) (b : Bool) → own_open t u ≡ z → is_written t v ≡ b → cause_of_stop t e u ≡ None
     stop_by (Some x) b own on = absurd (no_own x own)

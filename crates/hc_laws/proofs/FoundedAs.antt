@@ -1,5 +1,5 @@
 -- What a head founds is written for several, has no byte, or is a part.
-use Rattle.std.{proofs.{Common.{◌≡◌, inl, inr, ℕ, true, false, Option, Some, None, refl, ap, sym, ◌∙◌, arith}}}
+use Rattle.std.proofs.Common.{◌≡◌, inl, inr, ℕ, true, false, Option, Some, None, refl, ap, sym, ◌∙◌, arith}
 use Rattle.hc_text.proofs.Basics.{bool_cases, or_left}
 use Rattle.hc_effects.proofs.Vocabulary.{brings_part, brings_whole, Response, HeadCase, head_case, has_loss, case_at, head_view, is_founding, fits_asker, is_refused, place_by_case, doomed_by_case, Entry, promise_in, is_open, founded_total, entry_of, Measures, is_written, new_representation, writer_at, Tables, Exchange, Representation, after_accepted, event, case, by, place}
 use Rattle.hc_effects.proofs.{ApartKeeps.{written_by}, FirstKeeps.{case_is, is_new}, FoundBy.{FoundingBy, founding_by}, HasBound.{head_stands}, LossBy.{IsReal}, MeasuresKeep.{asker_by}, ServedKeeps.{none_promised}, Waiters.{waiter_of}, Step.{Step}}
@@ -47,7 +47,7 @@ module _ (step : Step) (m : Measures step.tables) (real : IsReal step.limits ste
     by_case _ (cases.replaced way h l) is = whole case.FirstReplaced is h (refl, refl) (promise_in w response, refl)
     by_case _ (cases.part way h fits l g) is =
         let asked = asker_by (t.consumer w.c) response fits in
-        part asked.total h (total_is ∙ rw (h, asked.told) refl) fits
+        part asked.total h (total_is ∙ rw (h, asked.reported) refl) fits
 
     pub founded_as : FoundedAs
     founded_as =

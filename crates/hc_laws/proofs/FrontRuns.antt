@@ -10,12 +10,12 @@ use Rattle.hc_effects.proofs.Vocabulary.{Opening, opening_in, Response, Limits, 
 use Rattle.hc_model.specs.Fronts.{Fronts}
 use Rattle.hc_model.specs.Owners as owners
 use Rattle.hc_model.specs.Sound as sound
-use Rattle.hc_effects.proofs.{Forward.{is_on, IsOn}, AboutKeeps.{own_open_is}, Basics.{false_true, some_row}, Beside.{IsBeside}, BoundFrom.{BoundFrom, IsRow, IsFounded, IsFirstHole, IsShown, bound_from, place_inj}, BoundKeeps.{planned_at, opens_none}, Covers.{headed_at, bare_at, none_before}, ExchangeFrom.{IsSame, IsHeaded}, Fills.{Brings, brings, length_same}, FirstKeeps.{is_new, is_opener}, HeadTo.{told_is, joined, length_is}, HeadedAs.{unmet}, LossBy.{IsReal}, OwnFrom.{OwnFrom, IsLeft, own_from}, OwnersKeep.{is_opened, new_number}, Said.{ShowsBy, showing_by}, ShownFrom.{IsPlanned}, Survives.{survivor_offset}, ToBeShown.{heard_place}, Waiters.{IsWaiter, waiter_of}, Step.{Step, step_of}}
+use Rattle.hc_effects.proofs.{Forward.{is_on, IsOn}, AboutKeeps.{own_open_is}, Basics.{false_true, some_row}, Beside.{IsBeside}, BoundFrom.{BoundFrom, IsRow, IsFounded, IsFirstHole, IsShown, bound_from, place_inj}, BoundKeeps.{planned_at, opens_none}, Covers.{headed_at, bare_at, none_before}, ExchangeFrom.{IsSame, IsHeaded}, Fills.{Brings, brings, length_same}, FirstKeeps.{is_new, is_opener}, HeadTo.{reported_is, joined, length_is}, HeadedAs.{unmet}, LossBy.{IsReal}, OwnFrom.{OwnFrom, IsLeft, own_from}, OwnersKeep.{is_opened, new_number}, Said.{ShowsBy, showing_by}, ShownFrom.{IsPlanned}, Survives.{survivor_offset}, ToBeShown.{heard_place}, Waiters.{IsWaiter, waiter_of}, Step.{Step, step_of}}
 use Rattle.hc_effects.proofs.BoundFrom as from
 use Rattle.hc_laws.proofs.{CoversKept.{own_opened, opened_row}, CoversNew.{founds_from, hole_begins}, OpensLater.{opens_later}, RunFacts.{in_runs}}
 use Rattle.hc_effects.proofs.Fills as fills_by
 use Rattle.hc_effects.proofs.OwnFrom as own
-use Rattle.hc_effects.proofs.PartTold as told
+use Rattle.hc_effects.proofs.PartReported as reported
 
 poll_head : (x c want : ℕ) (response : Response) → event.Head x response ≡ event.Poll c want → ⊥
 poll_head x c want response is = cc
@@ -70,13 +70,13 @@ module _ (step : Step) (m : Measures step.tables) (i : IsBeside step.tables) (f 
           let join = joined step r c x lo hi how k u w z row at stands none mine w_row same got in
           let start : hole_start w.need ≡ join.fills.from = ap hole_start join.fills.need_is in
           let first : base z ≡ base_of (Rattle.hc_rules.specs.Lengths.length_of w.need w.request got.response) = ap base_of (length_is step r c x lo hi how k u w z row at stands none mine w_row same got) in
-          let begins = by_told join.fills.from join.fills.last (Rattle.hc_rules.specs.Lengths.length_of w.need w.request got.response) (unmet step x w z got.response got.at w_row after_x same opened) (told_is step r c x lo hi how k u w z row at stands none mine w_row same got) in
+          let begins = by_reported join.fills.from join.fills.last (Rattle.hc_rules.specs.Lengths.length_of w.need w.request got.response) (unmet step x w z got.response got.at w_row after_x same opened) (reported_is step r c x lo hi how k u w z row at stands none mine w_row same got) in
           let before = was in
           omega (arith, before, was_at, now_at, start, first, begins)
         where
-          by_told : (from last : ℕ) (l : Rattle.hc_rules.specs.declared.length.Length.Length) → (Rattle.hc_rules.specs.Lengths.promise_of l ≡ Some 0 → ⊥) → told.IsTold from last l → from ≤ base_of l
-          by_told from last l unmet_it (told.none is) = absurd (unmet_it (ap Rattle.hc_rules.specs.Lengths.promise_of is))
-          by_told from last l unmet_it (told.part is) = let first : base_of l ≡ from = ap base_of is in omega (arith, first)
+          by_reported : (from last : ℕ) (l : Rattle.hc_rules.specs.declared.length.Length.Length) → (Rattle.hc_rules.specs.Lengths.promise_of l ≡ Some 0 → ⊥) → reported.IsReceived from last l → from ≤ base_of l
+          by_reported from last l unmet_it (reported.none is) = absurd (unmet_it (ap Rattle.hc_rules.specs.Lengths.promise_of is))
+          by_reported from last l unmet_it (reported.part is) = let first : base_of l ≡ from = ap base_of is in omega (arith, first)
 
       kept_own : Begins
       kept_own = by_heard same.heard_or

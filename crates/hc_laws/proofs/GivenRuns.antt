@@ -5,7 +5,7 @@ use Rattle.hc_sparse.specs.Cells.{Cell, Covers}
 use Rattle.hc_effects.proofs.Vocabulary.{place, BoundBy, total_in, given_of, OfRuns, IsRun, may_begin, History, Contents, Limits, Measures, lo_of, reads, Holds, Tables, Representation, Consumer, Sound, tables}
 use Rattle.hc_model.specs.Given.{Given, IsWithin}
 use Rattle.hc_effects.proofs.{Basics.{false_true, some_row}, Bounded.{IsBounded}, GivenNext.{read_of}}
-use Rattle.hc_laws.proofs.{ReadAs.{IsRead}, ReadEnds.{bounded}, ReadJoined.{joined_in_runs, is_told}, ReadNext.{shown_one}, SoundRuns.{carried}}
+use Rattle.hc_laws.proofs.{ReadAs.{IsRead}, ReadEnds.{bounded}, ReadJoined.{joined_in_runs, is_reported}, ReadNext.{shown_one}, SoundRuns.{carried}}
 
 -- what was given of the body that was shown
 pub record AreCovered (t : Tables) : Type 0 where
@@ -28,7 +28,7 @@ module _ (limits : Limits) (contents : Contents) (h : History) (may : may_begin 
       let read : IsRead after_h k z.0 = joined.read c k z.0 row z.1 (ap reads at) in
       let of_r : z.0.r ≡ r = some_inj z.0.r r (sym read.number ∙ ap read_of at) in
       let from : z.0.lo ≡ lo = sym read.from ∙ ap (lo_of after_h) at in
-      let count = (is_told limits contents h run).count c k row in
+      let count = (is_reported limits contents h run).count c k row in
       let holds = joined.held c z.0 z.1 in
       subst (λ n. Covers v.body lo (lo + n)) (sym count) (held_there after_h r lo (given_of c h) v there (subst (λ n. Holds after_h r n (given_of c h)) from (subst (λ n. Holds after_h n z.0.lo (given_of c h)) of_r holds)))
 

@@ -2,19 +2,19 @@
 --
 -- A writing was on before the entry, is resumed by a head that joins, or is founded (`growing_by`). One that was on
 -- grows with what its exchange brings (`grown`). What is founded begins with nothing (`now_founded`). The most work is
--- a resumed one (`resumes_told`): all before the part is stored, so it begins at the reach (`reach_is`), and it is the
+-- a resumed one (`resumes_reported`): all before the part is stored, so it begins at the reach (`reach_is`), and it is the
 -- last one, so it ends by the total. `growing_kept` joins the three.
 use Rattle.std.{proofs.{Common.{◌≡◌, ◌⊎◌, inl, inr, ℕ, zero, suc, ◌+◌, ◌-◌, ◌<◌, ◌≤◌, List, length, Bool, true, false, Option, Some, None, refl, ap, sym, ◌∙◌, subst, arith, min, length-append}, lemmas.Bool.Decides.{nat_tests}}, specs.Prelude.{if◌then◌else◌, is_some, is_none, ◌&&◌, ◌||◌, not, nat_eq, nat_le, unwrap_or}}
 use Rattle.hc_text.proofs.Basics.{both_false, and_left, and_right, bool_cases, not_some as none_some, same_some as same_row, some_inj}
 use Rattle.hc_sparse.specs.Cells.{cells_with, Cells, Covers}
 use Rattle.hc_sparse.proofs.CellLemmas.{inside-cases}
 use Rattle.hc_effects.proofs.Vocabulary.{brings_part, range, event, route, Response, Need, Length, length_of, base_of, promise_of, route_of, has_loss, loses_in, case_at, is_joining, row_of, Entry, exchange_heard, exchange_acted, promise_in, base, promised_bytes, front, length_by, is_open, is_reached, covers, absent_from, entry_of, Measures, is_written, new_representation, resumes, hole_start, is_last_part, writer_at, Tables, Exchange, Representation, may_stand, IsGrowing, InHole, end_from, after_accepted}
-use Rattle.hc_rules.specs.declared.length.Length.TheVariants as told
-use Rattle.hc_effects.proofs.{ApartKeeps.{IsOn, is_on, was_written}, Basics.{false_true, number_is}, ExchangeFrom.{IsSame, IsHeaded}, Fills.{Fills, fills, Brings, brings}, FirstKeeps.{case_is, is_new}, Forward.{after_is}, HeadKeeps.{IsJoin, is_join}, HoleLemmas.{covers_all, first_to}, MeasuresKeep.{held, IsHeld, total_same, one_piece}, PartTold.{part_told, whole_base, IsTold, part_order}, RepFrom.{was, founded, IsEnded, RepFrom, rep_from, IsKept, IsResumed}, Step.{Step}}
+use Rattle.hc_rules.specs.declared.length.Length.TheVariants as reported
+use Rattle.hc_effects.proofs.{ApartKeeps.{IsOn, is_on, was_written}, Basics.{false_true, number_is}, ExchangeFrom.{IsSame, IsHeaded}, Fills.{Fills, fills, Brings, brings}, FirstKeeps.{case_is, is_new}, Forward.{after_is}, HeadKeeps.{IsJoin, is_join}, HoleLemmas.{covers_all, first_to}, MeasuresKeep.{held, IsHeld, total_same, one_piece}, PartReported.{part_reported, whole_base, IsReceived, part_order}, RepFrom.{was, founded, IsEnded, RepFrom, rep_from, IsKept, IsResumed}, Step.{Step}}
 use Rattle.hc_effects.proofs.Fills as fills_by
 use Rattle.hc_effects.proofs.Forward as forward
 use Rattle.hc_laws.proofs.Founders.{founders_kept}
-use Rattle.hc_effects.proofs.PartTold as tells
+use Rattle.hc_effects.proofs.PartReported as reports
 
 -- what covers from the first position on isn't past the reach
 covers_reach : (f : Cells) (reach hi : ℕ) → covers f reach 0 hi ≡ true → hi ≤ reach
@@ -98,13 +98,13 @@ module _ (step : Step) (m : Measures step.tables) where
   -- A HEAD THAT BEGINS ONE
 
   module _ (x : ℕ) (w z : Exchange) (row : t.exchange x ≡ Some w) (same : IsSame t e x w z) (on : z.is_open ≡ true) (after_row : now_on.exchange x ≡ Some z) (got : IsHeaded t e x w z) where
-    abbrev told_length : Length
-    told_length = length_of w.need w.request got.response
+    abbrev reported_length : Length
+    reported_length = length_of w.need w.request got.response
 
     bare : w.head ≡ None
     bare = (is_new limits t now flaw s ev goes x got.response w got.at row).bare
 
-    length_is : length_by z z.head ≡ told_length
+    length_is : length_by z z.head ≡ reported_length
     length_is = ap (length_by z) got.head_is ∙ (ap (λ n. length_of n z.request got.response) same.need_is ∙ ap (λ q. length_of w.need q got.response) same.request_is)
 
     self_test : nat_eq x x ≡ true
@@ -114,7 +114,7 @@ module _ (step : Step) (m : Measures step.tables) where
     body_none = ap (λ (b : List ℕ). length b) (got.body_is ∙ (s.waits.headless x w row bare).0)
 
     -- it has a body
-    unreached : promise_of told_length ≡ Some 0 → ⊥
+    unreached : promise_of reported_length ≡ Some 0 → ⊥
     unreached none =
         let is : exchange_acted x e.acts (exchange_heard t e x ev w) ≡ z = some_inj _ z (sym (after_is t e x w (t.exchange x) row) ∙ after_row) in
         let heard_open : (exchange_heard t e x ev w).is_open ≡ true = and_right _ _ (ap (λ (q : Exchange). q.is_open) is ∙ on) in
@@ -168,10 +168,10 @@ module _ (step : Step) (m : Measures step.tables) where
       total_kept (inl is) = is
       total_kept (inr ends) = absurd (let no : event.Head x got.response ≡ event.End r = sym got.at ∙ ends.at in cc)
 
-      resumes_told : IsTold j.fills.from j.fills.last told_length → IsGrowing now_on r u x z
-      resumes_told (tells.none is) = absurd (unreached (ap promise_of is))
-      resumes_told (tells.part is) =
-          let l : length_by z z.head ≡ told.Part j.fills.from (j.fills.last + 1 - j.fills.from) = length_is ∙ is in
+      resumes_reported : IsReceived j.fills.from j.fills.last reported_length → IsGrowing now_on r u x z
+      resumes_reported (reports.none is) = absurd (unreached (ap promise_of is))
+      resumes_reported (reports.part is) =
+          let l : length_by z z.head ≡ reported.Part j.fills.from (j.fills.last + 1 - j.fills.from) = length_is ∙ is in
           let base_is : base z ≡ j.fills.from = ap base_of l in
           let promise_is : promised_bytes z ≡ Some (j.fills.last + 1 - j.fills.from) = ap promise_of l in
           let order = part_order got.response.fields j.fills.from j.fills.last j.fills.total j.fills.part in
@@ -195,7 +195,7 @@ module _ (step : Step) (m : Measures step.tables) where
       now_resumed : IsGrowing now_on r u x z
       now_resumed =
           let past : route_of w.need ≡ route.Direct → ⊥ = (λ way. let no : route.Hole ≡ route.Direct = sym (ap route_of j.fills.need_is) ∙ way in cc) in
-          resumes_told (part_told w.need w.request got.response j.fills.from j.fills.last j.fills.total past j.fills.status j.fills.part j.good)
+          resumes_reported (part_reported w.need w.request got.response j.fills.from j.fills.last j.fills.total past j.fills.status j.fills.part j.good)
 
     -- FOUNDED
 

@@ -59,8 +59,8 @@ module _ (t : Tables) (s : Sound t) where
             opened = sym (ap is_open all.1.row) ∙ (is_on t v x written writer).open_now
 
             by_measure : IsMeasured all.0 v → IsComing t r v
-            by_measure (measures.told n total promise known ends) = absurd (none_some total (sym none ∙ known))
-            by_measure (measures.untold bare unknown_too first alone was) =
+            by_measure (measures.reported n total promise known ends) = absurd (none_some total (sym none ∙ known))
+            by_measure (measures.unreported bare unknown_too first alone was) =
                 let mine : x ≡ r = sym (ap (λ (q : Option ℕ). unwrap_or q x) alone) ∙ all.1.family_is in
                 let own : Grows t x r = record { w = all.0; row = all.1.row; is_open = opened; headed = all.1.headed; of_r = all.1.family_is } in
                 record { written = written; writer = writer ∙ ap Some mine; status = status; grows = subst (λ n. Grows t n r) mine own }

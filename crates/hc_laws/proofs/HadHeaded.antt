@@ -6,8 +6,8 @@
 -- came alone (`whole_had`, `part_had`). `had_kept` joins these.
 use Rattle.std.{proofs.{Common.{◌≡◌, ◌⊎◌, inl, inr, ℕ, List, [], ◌∷◌, Bool, true, false, Option, Some, None, refl, ap, sym, ◌∙◌, subst, arith}, lemmas.Bool.Decides.{nat_tests}}, specs.Prelude.{if◌then◌else◌, is_some, ◌&&◌, ◌||◌, not, nat_eq, unwrap_or}}
 use Rattle.hc_text.proofs.Basics.{both_false, both_true as and_both, and_left, and_right, bool_cases, not_some as none_some, never_true as not_so, not_true, or_left, or_right, same_some as same_row}
-use Rattle.hc_range.specs.{declared.range.{Asked.{Asked}, ContentRange.{ContentRange}, Span.{Span}}, Spans.{resolved_span}}
-use Rattle.hc_effects.proofs.Vocabulary.{brings_part, brings_whole, range, act, event, case, route, wanted, place, by, Opening, opening_in, Act, Response, HeadCase, head_case, fits_to_found, fits_part, begins_at, route_of, content_range_of, range_of, wanted_of, wanted_part, BoundBy, loses_in, has_loss, case_at, head_view, is_founding, is_joining, is_updating, fits_asker, consumer_heard, consumer_acted, by_head, by_opening, own_after, left_to, waiting, due_after, place_by_case, becomes_shared, is_resumed, bound_to_wanted, is_number, row_of, Entry, is_for, is_open, family, cause_of_head, cause_by_case, founded_total, entry_of, Measures, is_written, reads, representation_heard, new_representation, resumes, updates, with_renewed_head, representation_after_head, Tables, Exchange, Representation, Consumer, IsAbout, IsHad, starts_over, after_accepted, came_alone, status_in, loses_writing}
+use Rattle.hc_range.specs.{declared.range.{RangeSpec.{RangeSpec}, ContentRange.{ContentRange}, Span.{Span}}, Spans.{resolved_span}}
+use Rattle.hc_effects.proofs.Vocabulary.{brings_part, brings_whole, range, act, event, case, route, wanted, place, by, Opening, opening_in, Act, Response, HeadCase, head_case, fits_to_found, fits_part, begins_at, route_of, content_range_of, range_of, wanted_of, wanted_part, BoundBy, loses_in, has_loss, case_at, head_view, is_founding, is_joining, is_updating, fits_asker, consumer_heard, consumer_acted, by_head, by_opening, own_after, left_to, waiting, due_after, place_by_case, becomes_shared, is_resumed, bound_to_wanted, is_number, row_of, Entry, is_for, is_open, family, cause_of_head, cause_by_case, founded_total, entry_of, Measures, is_written, reads, representation_heard, new_representation, resumes, updates, with_renewed_head, representation_after_head, Tables, Exchange, Representation, Consumer, IsAbout, IsHad, starts_over, after_accepted, came_alone, status_in, loses_group}
 use Rattle.hc_model.specs.ConsumerRows.{with_head}
 use Rattle.hc_model.specs.Sound as sound
 use Rattle.hc_effects.proofs.{Forward.{is_kept}, AboutKeeps.{own_open_is}, ApartKeeps.{written_by}, Basics.{false_true, or_false}, Dues.{due_none}, ExchangeFrom.{ExchangeFrom, IsSame, IsHeaded, exchange_from}, FirstKeeps.{case_is, is_new}, FoundBy.{FoundingBy, founding_by}, HadKeeps.{own_had, settled, bare_had, was_headed}, HasBound.{head_stands, stays_on, joins_place, awaiting_bound}, HeadKeeps.{is_join}, LossBy.{IsReal}, MeasuresKeep.{founder_not}, OwnersKeep.{is_opened}, RepFrom.{was, founded, RepFrom, rep_from, IsKept}, Waiters.{IsWaiter, waiter_of, unwritten, waits_undue}, Step.{Step}}
@@ -33,14 +33,14 @@ some_span : (x : Option Span) (first last : ℕ) → begins_at x first last ≡ 
 some_span None first last h = absurd (false_true h)
 some_span (Some span) first last h = (span, refl)
 
-part_by : (k : Consumer) (w : Exchange) (response : Response) (asked : Asked) (z : Option ContentRange) → range_of k.request ≡ Some asked → brings_part response.status ≡ true → content_range_of response.fields ≡ z → fits_part asked z ≡ true → IsWantedPart k w response
+part_by : (k : Consumer) (w : Exchange) (response : Response) (asked : RangeSpec) (z : Option ContentRange) → range_of k.request ≡ Some asked → brings_part response.status ≡ true → content_range_of response.fields ≡ z → fits_part asked z ≡ true → IsWantedPart k w response
 part_by k w response asked (Some (range.Part first last (Some total))) is status at h =
     let span = some_span (resolved_span asked total) first last h in
-    let told : founded_total w response ≡ Some total = rw (status, at) refl in
-    record { span = span.0; wanted_is = ap (λ q. wanted_of q (founded_total w response)) is ∙ (ap (wanted_of (Some asked)) told ∙ ap wanted_part span.1) }
+    let reported : founded_total w response ≡ Some total = rw (status, at) refl in
+    record { span = span.0; wanted_is = ap (λ q. wanted_of q (founded_total w response)) is ∙ (ap (wanted_of (Some asked)) reported ∙ ap wanted_part span.1) }
 part_by k w response asked _ is status at h = absurd (false_true h)
 
-fits_by : (k : Consumer) (w : Exchange) (response : Response) (z : Option Asked) → range_of k.request ≡ z → brings_part response.status ≡ true → fits_to_found z response ≡ true → IsWantedPart k w response
+fits_by : (k : Consumer) (w : Exchange) (response : Response) (z : Option RangeSpec) → range_of k.request ≡ z → brings_part response.status ≡ true → fits_to_found z response ≡ true → IsWantedPart k w response
 fits_by k w response None is status h = absurd (false_true h)
 fits_by k w response (Some asked) is status h = part_by k w response asked (content_range_of response.fields) is status refl (and_right _ _ h)
 
@@ -154,7 +154,7 @@ module _ (step : Step) (m : Measures step.tables) (real : IsReal step.limits ste
           let off : is_written t v ≡ false = not_so _ (λ written. unwritten step w.c x k w waiter r stood.0 stood.1 stood.2 v v.writer at kept.row written refl) in
           let exclusive_writers = waits_undue step r w.c x stood.0 stood.1 stood.2 v k w waiter at kept.row in
           let placed : place_by_case x got.response w k (case_at t e) ≡ place.Bound r stood.0 stood.1 stood.2 = joins_place step real.stand x got.response w k (case_at t e) joins ∙ at in
-          let unlosing : loses_writing t e r v ≡ false = not_so _ (λ h. false_true (sym off ∙ and_right _ _ h)) in
+          let unlosing : loses_group t e r v ≡ false = not_so _ (λ h. false_true (sym off ∙ and_right _ _ h)) in
           let stays : own_after t e w.c (place_by_case x got.response w k (case_at t e)) (Some x) ≡ Some x = ap (λ a. own_after t e w.c a (Some x)) placed ∙ (ap (λ a. left_to t e w.c r a (Some x)) kept.row ∙ rw unlosing refl) in
           own_had step m real r w.c x stood.0 stood.1 stood.2 k (u join_binds unshared) v p waiter.row at kept.row kept (own_open_is t k x (record { own = waiter.own; w = w; row = is_row; opened = waiter.was_open })) exclusive_writers.0 off exclusive_writers.1 (u_row join_binds unshared) (u_place join_binds unshared ∙ placed) w z same after_x on (u_is join_binds unshared) (own_if join_binds unshared stays) (no_head join_binds unshared)
 

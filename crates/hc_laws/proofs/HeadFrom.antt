@@ -8,7 +8,7 @@ module _ (t : Tables) (e : Entry) (r : ℕ) (v : Representation) where
   pub data HeadFrom (u : Representation) : Type 0 where
     still : u.head ≡ v.head → HeadFrom u
     updated : (x : ℕ) (response : Response) (w : Exchange) → e.event ≡ event.Head x response → t.exchange x ≡ Some w → u.head ≡ updated_head e.now response w v.head → HeadFrom u
-    told : (n : ℕ) → u.head ≡ record v.head { total = option_or v.head.total (Some n) } → HeadFrom u
+    reported : (n : ℕ) → u.head ≡ record v.head { total = option_or v.head.total (Some n) } → HeadFrom u
 
   headed_from : (x : ℕ) (response : Response) (o : Option Exchange) → e.event ≡ event.Head x response → t.exchange x ≡ o → HeadFrom (representation_after_head t e r x response o v)
   headed_from x response None here row = still refl
@@ -27,7 +27,7 @@ module _ (t : Tables) (e : Entry) (r : ℕ) (v : Representation) where
       by_test false = still refl
 
   ended_from : (n : ℕ) (b : Bool) → HeadFrom (if b then with_total_if_none n v else v)
-  ended_from n true = told n refl
+  ended_from n true = reported n refl
   ended_from n false = still refl
 
   heard_from : (ev : Event) → e.event ≡ ev → HeadFrom (representation_heard t e r ev v)
@@ -39,7 +39,7 @@ module _ (t : Tables) (e : Entry) (r : ℕ) (v : Representation) where
   acted_from : (z : Representation) → HeadFrom z → HeadFrom (representation_acted t e r v z)
   acted_from z (still same) = still same
   acted_from z (updated x response w here row is) = updated x response w here row is
-  acted_from z (told n is) = told n is
+  acted_from z (reported n is) = reported n is
 
   pub head_from : (u : Representation) → IsKept t e r v u → HeadFrom u
   head_from u kept = subst HeadFrom kept.is (acted_from _ (heard_from e.event refl))
@@ -51,4 +51,4 @@ module _ (t : Tables) (e : Entry) (r : ℕ) (v : Representation) where
       by_from : HeadFrom u → u.head.joining ≡ v.head.joining
       by_from (still same) = ap (λ (h : Rattle.hc_record.specs.Head.Head). h.joining) same
       by_from (updated x response w here row is) = ap (λ (h : Rattle.hc_record.specs.Head.Head). h.joining) is
-      by_from (told n is) = ap (λ (h : Rattle.hc_record.specs.Head.Head). h.joining) is
+      by_from (reported n is) = ap (λ (h : Rattle.hc_record.specs.Head.Head). h.joining) is

@@ -5,8 +5,8 @@
 -- was opened about, or what is current for its key (`shown_is`). The acts have the most work (`acted_keyed`).
 -- `keys_are_kept` adds the exchanges; at the beginning there are neither (`keys_begin`).
 use Rattle.std.{proofs.Common.{◌≡◌, ◌⊎◌, inl, inr, ℕ, List, [], ◌∷◌, ◌++◌, Bool, true, false, Option, Some, None, refl, ap, sym, ◌∙◌, subst, arith}, specs.{Prelude.{◌&&◌, ◌==◌, not, if◌then◌else◌, map, find, is_none}, Option.{option_or, option_map}}}
-use Rattle.hc_text.proofs.Basics.{eq_itself as eq-refl, eq_tells as eq_is, not_some as none_some, same_some as same_row, some_inj}
-use Rattle.hc_effects.proofs.Vocabulary.{brings_part, Opening, opening_in, leaves_in, Act, Cause, Wait, Event, Request, Response, HeadCase, Route, Wanted, Limits, route_of, wanted_of, range_of, BoundBy, Place, wait_in, Showing, showing_in, accepted_acts, answer_acts, loss_acts, case_at, is_founding, closing, bound_to_wanted, place_by_case, passed_on, by_head, by_fault, by_opening, becomes_shared, consumer_after, consumer_settled, consumer_acted, consumer_heard, consumer_made, waiting, waiting_place, passed_by, kept_by, opened_place, place_for_hole, unless_bound, shown_place, own_after, left_to, due_after, back_in_line, new_consumer, current, row_of, is_number, denial, Entry, Content, aim_of, aim_from, becomes_due, Flaw, NoFlaw, Loses, founded_total, HasRow, IsOfOneKey, ExchangeKeys, ConsumerKeys, entry_of, Move, acts_of, reads, bound_to, representation_after, founded_at, new_representation, Tables, Exchange, Representation, Consumer, Sound, IsBound, starts_over, after_accepted, representation_of_content, evicted, loses_writing, survivor, act, wait, case, route, wanted, by}
+use Rattle.hc_text.proofs.Basics.{eq_itself as eq-refl, eq_reports as eq_is, not_some as none_some, same_some as same_row, some_inj}
+use Rattle.hc_effects.proofs.Vocabulary.{brings_part, Opening, opening_in, leaves_in, Act, Cause, Wait, Event, Request, Response, HeadCase, Route, Wanted, Limits, route_of, wanted_of, range_of, BoundBy, Place, wait_in, Showing, showing_in, accepted_acts, answer_acts, loss_acts, case_at, is_founding, closing, bound_to_wanted, place_by_case, passed_on, by_head, by_fault, by_opening, becomes_shared, consumer_after, consumer_settled, consumer_acted, consumer_heard, consumer_made, waiting, waiting_place, passed_by, kept_by, opened_place, place_for_hole, unless_bound, shown_place, own_after, left_to, due_after, back_in_line, new_consumer, current, row_of, is_number, denial, Entry, Content, aim_of, aim_from, becomes_due, Flaw, NoFlaw, Loses, founded_total, HasRow, IsOfOneKey, ExchangeKeys, ConsumerKeys, entry_of, Move, acts_of, reads, bound_to, representation_after, founded_at, new_representation, Tables, Exchange, Representation, Consumer, Sound, IsBound, starts_over, after_accepted, representation_of_content, evicted, loses_group, survivor, act, wait, case, route, wanted, by}
 use Rattle.hc_event.specs.declared.event.Event.TheVariants as event
 use Rattle.hc_event.specs.declared.place.Place.TheVariants as place
 use Rattle.hc_model.specs.{Sound.{is_bound}, ConsumerRows.{with_opening}, Keys.{KeysAreKept, KeysBegin}}
@@ -60,7 +60,7 @@ shown_said t now ev flaw _ rest s (parts.does c want k m at row does near) mute 
 shown_said t now ev flaw _ rest s _ mute h = absurd (none_some s (sym mute.shows ∙ h))
 
 shown_by : (limits : Limits) (t : Tables) (now : ℕ) (ev : Event) (flaw : Flaw) (acts : List Act) (s : Showing) → IsAnswer limits t now ev flaw acts → showing_in acts ≡ Some s → IsShowing t ev s acts
-shown_by limits t now ev flaw _ s (parts.told silent) h =
+shown_by limits t now ev flaw _ s (parts.reported silent) h =
     let seen : Entry = record { now = now; event = ev; acts = answer_acts t now ev flaw ++ loss_acts flaw } in
     absurd (none_some s (sym (mute_evicted (evicted limits t now ev) _ (mute_loss flaw _ (mute_closes (closing t seen)))).shows ∙ h))
 shown_by limits t now ev flaw _ s parts.asked h =
@@ -234,7 +234,7 @@ module _ (limits : Limits) (t : Tables) (now : ℕ) (flaw : Flaw) (s : Sound t) 
 
     left_keyed : (r : ℕ) (own : Option ℕ) (o : Option Representation) → P r → t.representation r ≡ o → OwnIs Q own → OwnIs Q (left_to t e c r o own)
     left_keyed r own None has there is = is
-    left_keyed r own (Some v) has there is = own_if Q (loses_writing t e r v && is_number (survivor t r v) c) v.writer own (writes v.writer refl) is
+    left_keyed r own (Some v) has there is = own_if Q (loses_group t e r v && is_number (survivor t r v) c) v.writer own (writes v.writer refl) is
       where
         writes : (o : Option ℕ) → v.writer ≡ o → OwnIs Q o
         writes None is = tt

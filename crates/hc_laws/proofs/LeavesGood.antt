@@ -8,7 +8,7 @@ use Rattle.std.{proofs.{Common.{◌≡◌, ◌≢◌, inl, inr, ℕ, ◌+◌, �
 use Rattle.hc_text.proofs.Basics.{or_right, both_true as and_both, and_left, and_right, bool_cases, not_some as none_some, some_inj}
 use Rattle.hc_record.specs.declared.kind.Kind.TheVariants as kind
 use Rattle.hc_rules.proofs.RangeReads.{same_bytes}
-use Rattle.hc_effects.proofs.Vocabulary.{brings_part, weight_of, Limits, may_begin, are_good, is_good, is_given_out, has_own_numbers, is_own_run, says, is_kind_right, same_kind, kind_of_runs, ascend_from, needs_tag, is_whole, has_right_head, weights_of, runs_from, content_of, content_at, idle_now, contents_of, is_current, Content, Contents, family, covers, kind_of, brings_to, is_complete, covers_all, is_front, IsInLimits, AreOnce, HasByte, Origins, bound, is_written, Tables, Exchange, Representation, Sizes, Sound, Among, IsStored, StoredHeads, AreWithinLimits, IsOfOne, Tags, tables, bytes_in, last_end, KeysAreTargets}
+use Rattle.hc_effects.proofs.Vocabulary.{brings_part, weight_of, Limits, may_begin, are_good, is_good, is_given_out, has_own_numbers, is_own_run, says, is_kind_right, same_kind, kind_of_runs, ascend_from, needs_tag, is_whole, has_right_head, weights_of, runs_from, content_of, content_at, idle_now, contents_of, is_current, Content, Contents, family, covers, kind_of, brings_to, is_complete, covers_all, is_prefix, IsInLimits, AreOnce, HasByte, Origins, bound, is_written, Tables, Exchange, Representation, Sizes, Sound, Among, IsStored, StoredHeads, AreWithinLimits, IsOfOne, Tags, tables, bytes_in, last_end, KeysAreTargets}
 use Rattle.hc_sparse.specs.{Cells.{Covers}, declared.run.Run.{Run}}
 use Rattle.hc_model.specs.{Sound.{headed}, Contents.{is_idle}, Laws.{LeavesInRuns}}
 use Rattle.hc_model.specs.Origins as origins
@@ -136,8 +136,8 @@ module _ (limits : Limits) (t : Tables) (g : IsSettled limits t) where
     kind_is : kind_of t r v ≡ kind_by (covers v.stored v.reach 0 length_is) (nat_lt 0 v.size && covers v.stored v.reach 0 v.size)
     unfolding kind_of
     kind_is =
-        ap (λ b. if b then kind.Growing else kind_by (is_complete v) (is_front v)) (not_growing t.openings)
-        ∙ ap (λ b. kind_by b (is_front v)) (ap (covers_all v) known.1)
+        ap (λ b. if b then kind.Growing else kind_by (is_complete v) (is_prefix v)) (not_growing t.openings)
+        ∙ ap (λ b. kind_by b (is_prefix v)) (ap (covers_all v) known.1)
 
     kind_ok : is_kind_right item item.head.total ≡ true
     kind_ok = by_total item.head.total known.1

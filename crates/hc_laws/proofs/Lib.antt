@@ -31,7 +31,7 @@ pub mod Positions
 pub mod HeadFrom
 pub mod RunsFrom
 pub mod KindsLeft
-pub mod PlacesTold
+pub mod PlacesReported
 pub mod RunsWithinLimits
 pub mod Undenied
 pub mod OwnersKept
@@ -58,7 +58,7 @@ pub mod AtHoles
 pub mod GivesStored
 pub mod OpenKeys
 pub mod Faultless
-pub mod Told
+pub mod WhoIsAnswered
 pub mod AskedRuns
 pub mod Lasting
 pub mod FoundedAs

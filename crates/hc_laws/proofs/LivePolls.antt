@@ -8,7 +8,7 @@ use Rattle.std.{proofs.{Common.{◌≡◌, ℕ, ◌+◌, ◌-◌, ◌<◌, List,
 use Rattle.hc_text.proofs.Basics.{and_right, bool_cases, either, not_some as none_some, never_true as not_so, same_some as same_row}
 use Rattle.hc_range.specs.declared.range.Span.{Span}
 use Rattle.hc_sparse.specs.{Cells.{Cells, Cell}, Runs.{end_of}, Stretch.{stretch, stretch_of}, declared.run.Run.{Run}}
-use Rattle.hc_effects.proofs.Vocabulary.{Cause, Why, Request, Candidate, Plan, ReadStep, ReadView, plan_of, read_step, is_at_end, stored_or, held_or, fails_or, waits_or, Place, BoundBy, MoveEnds, current, is_number, row_of, is_live_place, Endings, Unended, base, front, is_open, is_headless, is_wanted, stretch_to, Move, gives, waits_for, opens_hole, Places, ReadsPast, plan_view, plan_move, binds_current, current_row, shows_at, shows_bound, shows_direct, move_of, bound_to, offset, lo_of, hi_of, own_open, source, shared_exchange, writing_in, is_written, is_open_writer, base_in, Tables, Exchange, Representation, Consumer, Sound, IsBound, IsServed, bound_row, stored_ahead, stored_from, run_held_for, held_at, held_of_exchange, run_of, read_view, later_hole, step_move, reading, most, came_alone, place}
+use Rattle.hc_effects.proofs.Vocabulary.{Cause, Why, Request, Candidate, Plan, ReadStep, ReadView, plan_of, read_step, is_at_end, stored_or, held_or, fails_or, waits_or, Place, BoundBy, MoveEnds, current, is_number, row_of, is_live_place, Endings, Unended, base, front, is_open, is_headless, is_wanted, stretch_to, Move, gives, waits_for, opens_hole, Places, ReadsPast, plan_view, plan_move, binds_current, current_row, shows_at, shows_bound, shows_direct, move_of, bound_to, offset, lo_of, hi_of, own_open, source, shared_exchange, group_in, is_written, is_open_writer, base_in, Tables, Exchange, Representation, Consumer, Sound, IsBound, IsServed, bound_row, stored_ahead, stored_from, run_held_for, held_at, held_of_exchange, run_of, read_view, later_hole, step_move, reading, most, came_alone, place}
 use Rattle.hc_rules.specs.Readings as readings
 use Rattle.hc_model.specs.Sound as sound
 use Rattle.hc_effects.proofs.{AboutKeeps.{own_open_of, own_open_is}, Basics.{false_true, some_none, some_row}, GivenNext.{some_ahead}, MoveBy.{MoveBy, move_by}, ExclusiveWriters.{shares_source}, PlanBy.{PlanBy, plan_by}, ShownFrom.{candidate_is}}
@@ -66,7 +66,7 @@ module _ (t : Tables) (s : Sound t) (places : Places t) (endings : Endings t) (u
   unfolding is_written
   writer_opened x v on writer = sym (ap (is_open_writer t) writer) ∙ and_right _ _ on
 
-  shared_opened : (x : ℕ) (o : Option Representation) → writing_in t o ≡ Some x → is_open (t.exchange x) ≡ true
+  shared_opened : (x : ℕ) (o : Option Representation) → group_in t o ≡ Some x → is_open (t.exchange x) ≡ true
   shared_opened x o is = grind (arith, nat_tests, none_some, bool_cases, writer_opened)
 
   shared_by : (x : ℕ) (p : Place) → shared_exchange t p ≡ Some x → is_open (t.exchange x) ≡ true

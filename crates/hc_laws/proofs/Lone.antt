@@ -1,6 +1,6 @@
 -- Others are bound beside who came alone only where it has no open exchange of its own and no hole: at each entry.
 --
--- Where both were bound before, the first rested already (`by_rest`), or a writing that was on is over (`by_writing`).
+-- Where both were bound before, the first rested already (`by_rest`), or a writing that was on is over (`by_writer_group`).
 -- It opens nothing then (`unowned_now`), and no writing is left to it (`left_not`). Where the other is shown what is
 -- current now, nobody writes that alone, so the first rests (`shown_lone`, `resting_is`). No other way leads beside
 -- somebody: what is founded is new (`unfounded`). `by_ways` joins them.
@@ -104,9 +104,9 @@ module _ (step : Step) (m : Measures step.tables) (was : AreLone step.tables) (r
           by_own (Some y) is = let i = own_open_of now_on k y is in absurd (by_from y i.w i.opened i.row (own_from t e c y (t.consumer c) k refl after_row i.own))
 
       -- its writing is over
-      by_writing : is_written t v ≡ true → (z : Option ℕ) → v.writer ≡ z → IsResting now_on p k
-      by_writing on None writer = absurd (writer_some t v on writer)
-      by_writing on (Some x) writer = record { unowned = unowned_now had_none no_hole; rest = by_open (is_open (now_on.exchange x)) refl }
+      by_writer_group : is_written t v ≡ true → (z : Option ℕ) → v.writer ≡ z → IsResting now_on p k
+      by_writer_group on None writer = absurd (writer_some t v on writer)
+      by_writer_group on (Some x) writer = record { unowned = unowned_now had_none no_hole; rest = by_open (is_open (now_on.exchange x)) refl }
         where
           had_none : (y : ℕ) → own_open t a ≡ Some y → ⊥
           had_none y owned =
@@ -140,7 +140,7 @@ module _ (step : Step) (m : Measures step.tables) (was : AreLone step.tables) (r
               false_true (sym (ap is_some (ap (λ (z : Representation). z.stored (offset t a)) (sym one) ∙ hole.missing)) ∙ i.rest.covered (offset t a) (omega arith) (omega arith))
 
       stays_lone : (is_written t v ≡ false → IsResting t v a) → IsResting now_on p k
-      stays_lone rests = elim (bool_cases (is_written t v)) [ inl on ↦ by_writing on v.writer refl | inr off ↦ by_rest (rests off) ]
+      stays_lone rests = elim (bool_cases (is_written t v)) [ inl on ↦ by_writer_group on v.writer refl | inr off ↦ by_rest (rests off) ]
 
       -- IN EACH WAY THE OTHER IS BOUND
 

@@ -10,7 +10,7 @@ use Rattle.hc_effects.proofs.Vocabulary.{Event, base_of, Limits, BoundBy, may_be
 use Rattle.hc_model.specs.Numbers.{NumbersInRuns, most, too_long}
 use Rattle.hc_model.specs.Sound as sound
 use Rattle.hc_laws.proofs.{Barred.{next_tables}, MeasuresBegin.{measures_begin, known_item}, PlaceRuns.{places_in_runs}, RunFacts.{along}, ReadEnds.{bounded, no_base}, SoundRuns.{carried}}
-use Rattle.hc_effects.proofs.{Basics.{false_true, some_row}, Bounded.{IsBounded}, Fills.{Fills, fills, Brings, brings, length_same}, Forward.{is_on}, RepFrom.{RepFrom, rep_from}, ToldNumbers.{promise_early, founded_early}}
+use Rattle.hc_effects.proofs.{Basics.{false_true, some_row}, Bounded.{IsBounded}, Fills.{Fills, fills, Brings, brings, length_same}, Forward.{is_on}, RepFrom.{RepFrom, rep_from}, ReportedNumbers.{promise_early, founded_early}}
 use Rattle.hc_effects.proofs.ExchangeFrom as exchange
 use Rattle.hc_effects.proofs.Fills as fills_by
 use Rattle.hc_effects.proofs.RepFrom as rep

@@ -10,7 +10,7 @@ use Rattle.hc_effects.proofs.Vocabulary.{Act, Refusal, Event, Response, head_ref
 use Rattle.hc_event.specs.declared.act.Refusal.TheVariants as refusal
 use Rattle.hc_event.specs.declared.event.Event.TheVariants as event
 use Rattle.hc_rules.specs.Refusals as refusals
-use Rattle.hc_effects.proofs.{Basics.{false_true, number_yes}, FailsTold.{fails_told}, FoundCases.{no_loss}, EvictsLast.{flaw_same}}
+use Rattle.hc_effects.proofs.{Basics.{false_true, number_yes}, FailsReported.{fails_reported}, FoundCases.{no_loss}, EvictsLast.{flaw_same}}
 use Rattle.hc_laws.proofs.ExchangeFilters.{headless}
 
 -- THE FLAW THAT ACTS SHOW
@@ -44,7 +44,7 @@ module _ (limits : Limits) (t : Tables) (now : ℕ) (s : Sound t) (places : Plac
   -- a poll fails nobody for a failed read
   reads_well : (want c : ℕ) (o : Option Consumer) → t.consumer c ≡ o → (r : ℕ) → poll_move t now want c o ≡ Fails (cause.StoreRead r) → ⊥
   reads_well want c None row r is = let never : Nothing ≡ Fails (cause.StoreRead r) = is in cc
-  reads_well want c (Some k) row r is = let never : true ≡ false = fails_told t now want c k (cause.StoreRead r) s places row is in cc
+  reads_well want c (Some k) row r is = let never : true ≡ false = fails_reported t now want c k (cause.StoreRead r) s places row is in cc
 
   outside_flaw : (ev : Event) → flaw_in (map act.Evicted (evicted limits t now ev) ++ (loss_acts (sizes ev) ++ close_acts t now ev (sizes ev))) ≡ sizes ev
   outside_flaw ev = grind (arith, nat_tests, flaw_same, evicted, lost_flaw, sizes, closing, room_flaw)

@@ -1,7 +1,7 @@
--- Who has no own exchange after an entry had none before, or its own one becomes that of a shared writing.
+-- Who has no own exchange after an entry had none before, or its own one becomes that of a writer group.
 use Rattle.std.{proofs.Common.{◌≡◌, ◌⊎◌, inl, inr, ℕ, Bool, true, false, Option, Some, None, refl, ap, ◌∙◌}, specs.Prelude.{if◌then◌else◌, is_none, ◌==◌, ◌&&◌, not}}
 use Rattle.hc_text.proofs.Basics.{and_left, and_right, bool_cases}
-use Rattle.hc_effects.proofs.Vocabulary.{Opening, opening_in, Event, Response, Place, case_at, consumer_heard, by_head, by_fault, becomes_shared, by_opening, own_after, left_to, waiting, consumer_acted, due_after, is_number, Entry, Tables, Exchange, Representation, Consumer, loses_writing, survivor, event, place}
+use Rattle.hc_effects.proofs.Vocabulary.{Opening, opening_in, Event, Response, Place, case_at, consumer_heard, by_head, by_fault, becomes_shared, by_opening, own_after, left_to, waiting, consumer_acted, due_after, is_number, Entry, Tables, Exchange, Representation, Consumer, loses_group, survivor, event, place}
 use Rattle.hc_effects.proofs.{Basics.{some_none}, PieceKeeps.{eq_cases}, ExclusiveWriters.{writer_some}}
 
 module _ (t : Tables) (e : Entry) (c : ℕ) where
@@ -54,7 +54,7 @@ module _ (t : Tables) (e : Entry) (c : ℕ) where
 
   left_none : (r : ℕ) (o : Option Representation) (own : Option ℕ) → left_to t e c r o own ≡ None → own ≡ None
   left_none r None own is = is
-  left_none r (Some v) own is = elim (bool_cases (loses_writing t e r v && is_number (survivor t r v) c)) [
+  left_none r (Some v) own is = elim (bool_cases (loses_group t e r v && is_number (survivor t r v) c)) [
     | inr off ↦ rw off at is
     | inl on ↦ absurd (writer_some t v (and_right _ _ (and_left _ _ on)) (rw on at is))
   ]

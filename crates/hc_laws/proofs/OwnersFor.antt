@@ -6,7 +6,7 @@
 -- and `owners_for` carries this.
 use Rattle.std.{proofs.Common.{◌≡◌, inl, inr, ℕ, true, Option, Some, refl, ap, sym, ◌∙◌, subst}, specs.Prelude.{is_some, unwrap_or, ◌&&◌}}
 use Rattle.hc_text.proofs.Basics.{and_left, and_right, bool_cases, not_some as none_some, same_some as same_row}
-use Rattle.hc_effects.proofs.Vocabulary.{Opening, opening_in, Response, Limits, loses_in, Entry, family, entry_of, OfRunsIn, Measures, is_written, Tables, Exchange, Representation, Consumer, after_accepted, after_denied, IsOwner, loses_writing, brings_body, event}
+use Rattle.hc_effects.proofs.Vocabulary.{Opening, opening_in, Response, Limits, loses_in, Entry, family, entry_of, OfRunsIn, Measures, is_written, Tables, Exchange, Representation, Consumer, after_accepted, after_denied, IsOwner, loses_group, brings_body, event}
 use Rattle.hc_model.specs.Whose as whose
 use Rattle.hc_effects.proofs.{Basics.{false_true, some_row}, ExchangeFrom.{ExchangeFrom, exchange_from, IsSame}, FirstKeeps.{is_new}, LossBy.{IsReal, fresh}, OwnFrom.{OwnFrom, own_from, IsLeft}, OwnersKeep.{new_number}, RepFrom.{RepFrom, rep_from, IsKept}, ServedKeeps.{lost_alone, kept_alone}, Step.{Step, step_of}}
 use Rattle.hc_effects.proofs.ExchangeFrom as exchange
@@ -76,7 +76,7 @@ module _ (step : Step) (m : Measures step.tables) (was : AreFor step.limits step
 
       left_alone : (q : Representation) → IsKept t e i.r i.v q → q.alone ≡ Some c
       left_alone q kept =
-          let losing : loses_writing t e i.r i.v ≡ true = i.loses in
+          let losing : loses_group t e i.r i.v ≡ true = i.loses in
           (lost_alone step m real i.r i.v q i.row kept loses).1 ∙ rw losing i.survives
 
       left_owner : IsOwner now_on x z c

@@ -4,7 +4,7 @@
 -- isn't empty (`interval_some`, `first_by`). What is founded has the status and the length that its head tells
 -- (`founded_row`), and keeps them (`kept_row`). So who founds by a part reads a part that isn't empty (`part_by`), and
 -- else all of it (`whole_by`). `parts_kept` joins these, and `parts_in_runs` is the law.
-use Rattle.std.{proofs.{Common.{◌≡◌, inl, inr, ℕ, ◌<◌, Bool, true, false, Option, Some, None, refl, ap, sym, ◌∙◌, arith}}, specs.{Prelude.{is_some}, Option.{option_or}}}
+use Rattle.std.{proofs.Common.{◌≡◌, inl, inr, ℕ, ◌<◌, Bool, true, false, Option, Some, None, refl, ap, sym, ◌∙◌, arith}, specs.{Prelude.{is_some}, Option.{option_or}}}
 use Rattle.hc_text.proofs.Basics.{not_some as none_some, same_some as same_row, some_inj}
 use Rattle.hc_effects.proofs.Vocabulary.{brings_part, brings_whole, Event, Request, Response, HeadCase, Limits, range_of, wanted_of, BoundBy, has_loss, case_at, head_view, consumer_heard, waiting, denial, Entry, promise_in, Flaw, founded_total, entry_of, OfRuns, OfRunsIn, Parts, is_ranged, length_in, Tables, Exchange, Representation, Consumer, Sound, after_accepted, event, case, by, place}
 use Rattle.hc_model.specs.Sound as sound

@@ -9,7 +9,7 @@ use Rattle.hc_text.proofs.Basics.{never_true, not_some as none_some, same_some a
 use Rattle.hc_effects.proofs.Vocabulary.{Response, route_of, Place, Endings, Entry, Contents, is_open, entry_of, OfRuns, Turns, Owners, IsAwaiting, IsPast, IsReading, Places, IsAway, ReadsPast, own_open, reads, hi_of, end_in, Tables, Exchange, Consumer, Sound, tables, first_tables, after_denied, route, place, by}
 use Rattle.hc_model.specs.Owners as owners
 use Rattle.hc_model.specs.Places.{IsIdle, AwaitsTurn, IsUnheard}
-use Rattle.hc_laws.proofs.{InRuns.{turned_in_runs}, PlacesKept.{AreOwn, IsOwnTurn, own_kept, turn_direct, bound_turn}, PlacesRead.{AreRead, read_kept}, PlacesEnded.{AreEnded, ended_kept}, PlacesGiven.{ArePast, past_kept}, PlacesShown.{AreReaders, IsReader, readers_kept}, PlacesStand.{Stands, AreStanding, standing_kept}, PlacesTold.{AreTold, told_kept, told_denied, down_told}, ReadEnds.{bounded}, ReadJoined.{fallback}, RunFacts.{in_runs_with}, SoundRuns.{carried}, TurnFacts.{IsTaken}, Unreached.{unreached}}
+use Rattle.hc_laws.proofs.{InRuns.{turned_in_runs}, PlacesKept.{AreOwn, IsOwnTurn, own_kept, turn_direct, bound_turn}, PlacesRead.{AreRead, read_kept}, PlacesEnded.{AreEnded, ended_kept}, PlacesGiven.{ArePast, past_kept}, PlacesShown.{AreReaders, IsReader, readers_kept}, PlacesStand.{Stands, AreStanding, standing_kept}, PlacesReported.{AreReported, reported_kept, reported_denied, down_reported}, ReadEnds.{bounded}, ReadJoined.{fallback}, RunFacts.{in_runs_with}, SoundRuns.{carried}, TurnFacts.{IsTaken}, Unreached.{unreached}}
 use Rattle.hc_effects.proofs.{Basics.{false_true}, Beside.{IsBeside, is_cached_place}, Bounded.{IsBounded}, ShownStays.{IsFallback}, PastApart.{bound_direct}, Step.{step_of}}
 
 -- OVER A RUN
@@ -19,7 +19,7 @@ pub record IsKnown (t : Tables) : Type 0 where
   pub reads : AreRead t
   pub readers : AreReaders t
   pub past : ArePast t
-  pub told : AreTold t
+  pub reported : AreReported t
   pub ended : AreEnded t
   pub standing : AreStanding t
 
@@ -31,7 +31,7 @@ known_begun contents = record {
   past = record { given = λ c x k w row at exchange_row. absurd (none_some k row); undue = λ c x k w row at exchange_row on. absurd (none_some k row) };
   ended = record { past = λ c x k w row. absurd (none_some k row) };
   standing = record { stands = λ c k row. absurd (none_some k row) };
-  told = record { due = λ c k row. absurd (none_some k row); down = λ c k row. absurd (none_some k row); received = λ x w row. absurd (none_some w row) };
+  reported = record { due = λ c k row. absurd (none_some k row); down = λ c k row. absurd (none_some k row); received = λ x w row. absurd (none_some w row) };
 }
 
 known_denied : (t : Tables) (e : Entry) → IsKnown t → IsKnown (after_denied t e)
@@ -43,7 +43,7 @@ known_denied t e known = record {
   reads = record { read = λ x w row on headed none. let r = known.reads.read x w row on headed none in record { k = r.k; row = r.row; place_is = r.place_is } };
   readers = record { shown = known.readers.shown };
   past = record { given = known.past.given; undue = known.past.undue };
-  told = told_denied t e known.told;
+  reported = reported_denied t e known.reported;
   ended = record { past = known.ended.past };
   standing = record { stands = known.standing.stands };
 }
@@ -70,7 +70,7 @@ known_in_runs = in_runs_with (λ limits t. IsKnown t) (λ limits t. IsBefore t) 
       reads = read_kept (step_of limits t now flaw c.is_sound c.is_owned ev s.going) b.fallback known.owned s.sound_then known.reads;
       readers = readers_kept (step_of limits t now flaw c.is_sound c.is_owned ev s.going) b.fallback known.owned b.turns known.readers taken;
       past = past_kept (step_of limits t now flaw c.is_sound c.is_owned ev s.going) b.fallback b.bounded known.owned known.past s.real.stand owned;
-      told = told_kept t (entry_of limits t now ev flaw) known.told;
+      reported = reported_kept t (entry_of limits t now ev flaw) known.reported;
       ended = ended_kept (step_of limits t now flaw c.is_sound c.is_owned ev s.going) c.is_measured b.fallback b.bounded known.owned known.ended owned;
       standing = standing_kept (step_of limits t now flaw c.is_sound c.is_owned ev s.going) b.fallback known.owned b.turns known.readers known.standing taken;
     })
@@ -208,9 +208,9 @@ module _ (t : Tables) (s : Sound t) (o : Owners t) (a : IsFallback t) (b : IsBou
     down_asks = λ c why k row at. stands_at c k row (place.Down why) at;
     first_asks = λ c r lo y hi k row at. stands_at c k row (place.Bound r lo hi (by.FirstHole y)) at;
     line_unowned = λ c k row at. stands_at c k row place.Line at;
-    told = known.told.due;
-    down_told = λ c why k row at. down_told t known.told c why k row at;
-    received = known.told.received;
+    reported = known.reported.due;
+    down_reported = λ c why k row at. down_reported t known.reported c why k row at;
+    received = known.reported.received;
     read = known.reads.read;
     promised_most = λ x n w row is. b.promise x n w row is;
     ended = a.ended;

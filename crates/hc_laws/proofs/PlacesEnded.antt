@@ -20,22 +20,22 @@ pub record AreEnded (t : Tables) : Type 0 where
   pub past : (c x : ℕ) (k : Consumer) (w : Exchange) → t.consumer c ≡ Some k → k.place ≡ place.Direct x → t.exchange x ≡ Some w → w.is_open ≡ false → k.due ≡ None → IsAllCome w
 
 -- as many bytes as were promised
-told_come : (w : Exchange) (n : ℕ) → promised_bytes w ≡ Some n → n ≡ length w.body → IsAllCome w
-told_come w n promise count = ap (λ q. end_of_direct q w) promise ∙ ap (λ m. Some (base w + m)) count
+reported_come : (w : Exchange) (n : ℕ) → promised_bytes w ≡ Some n → n ≡ length w.body → IsAllCome w
+reported_come w n promise count = ap (λ q. end_of_direct q w) promise ∙ ap (λ m. Some (base w + m)) count
 
 reached_come : (w : Exchange) → is_reached (promised_bytes w) (length w.body) ≡ true → IsAllCome w
 reached_come w reached = by_promise (promised_bytes w) refl
   where
     by_promise : (q : Option ℕ) → promised_bytes w ≡ q → IsAllCome w
     by_promise None is = absurd (false_true (sym (ap (λ q. is_reached q (length w.body)) is) ∙ reached))
-    by_promise (Some n) is = told_come w n is (grind (arith, nat_tests))
+    by_promise (Some n) is = reported_come w n is (grind (arith, nat_tests))
 
 -- or up to a clean end, where none were
 ended_come : (w : Exchange) → w.is_ended ≡ true → ((n : ℕ) → promised_bytes w ≡ Some n → n ≡ length w.body) → IsAllCome w
 ended_come w ended enough = by_promise (promised_bytes w) refl
   where
     by_promise : (q : Option ℕ) → promised_bytes w ≡ q → IsAllCome w
-    by_promise (Some n) is = told_come w n is (enough n is)
+    by_promise (Some n) is = reported_come w n is (enough n is)
     by_promise None is =
         let first : base w ≡ 0 = no_base _ is in
         ap (λ q. end_of_direct q w) is ∙ (ap (λ b. if b then Some (length w.body) else None) ended ∙ ap Some (omega arith))

@@ -7,7 +7,7 @@
 use Rattle.std.{proofs.{Common.{◌≡◌, inl, inr, ℕ, ◌+◌, ◌-◌, ◌<◌, ◌≤◌, List, length, length-append, Bool, true, false, Option, Some, None, refl, ap, sym, ◌∙◌, subst, arith}, lemmas.Bool.Decides.{nat_tests}}, specs.{Prelude.{if◌then◌else◌, is_some, ◌&&◌, nat_le, nat_lt}, Option.{option_or}}}
 use Rattle.hc_text.proofs.Basics.{and_right, bool_cases, not_some as none_some, never_true as not_so, same_some as same_row, some_inj}
 use Rattle.hc_sparse.specs.{Cells.{Cell}, declared.run.Run.{Run}}
-use Rattle.hc_effects.proofs.Vocabulary.{Opening, opening_in, given_in, leaves_in, Cause, Event, Response, is_same_number, Place, BoundBy, Showing, showing_in, case_at, consumer_heard, consumer_acted, by_head, by_opening, shown_place, waiting, due_after, Entry, base, front, exchange_in, is_for, cause_of_loss, cause_of_head, cause_by_case, stop_cause, entry_of, Gives, IsAwaiting, move_of, bound_to, reads, base_in, lo_of, own_open, source, shared_exchange, answer_cell, direct_cell, cell_by, body_of, Tables, Exchange, Representation, Consumer, may_stand, starts_over, after_accepted, loses_writing, event, place, by}
+use Rattle.hc_effects.proofs.Vocabulary.{Opening, opening_in, given_in, leaves_in, Cause, Event, Response, is_same_number, Place, BoundBy, Showing, showing_in, case_at, consumer_heard, consumer_acted, by_head, by_opening, shown_place, waiting, due_after, Entry, base, front, exchange_in, is_for, cause_of_loss, cause_of_head, cause_by_case, stop_cause, entry_of, Gives, IsAwaiting, move_of, bound_to, reads, base_in, lo_of, own_open, source, shared_exchange, answer_cell, direct_cell, cell_by, body_of, Tables, Exchange, Representation, Consumer, may_stand, starts_over, after_accepted, loses_group, event, place, by}
 use Rattle.hc_model.specs.Owners as owners
 use Rattle.hc_model.specs.Sound as sound
 use Rattle.hc_effects.proofs.{ShownOnce.{by_event}, Basics.{false_true}, Bounded.{IsBounded}, ConsumerFilters.{acted, given_by}, Dues.{undue_of, loss_at, due_none}, ExchangeFrom.{ExchangeFrom, exchange_from, IsSame}, Fills.{Brings, brings}, FirstKeeps.{is_new, is_opener}, Forward.{is_kept}, GivenNext.{read_of, given_next}, Givers.{some_want, gives_of}, MoveBy.{move_by}, OwnersKeep.{is_opened, new_number}, PastKeeps.{IsFrom, PlaceFrom, direct_from}, PieceKeeps.{eq_cases}, PollActs.{ToOne, to_one}, ShownStays.{IsFallback, StaysOrIdle, shown_stays, unless_same}, ToBeShown.{heard_place}, Waiters.{unwritten, IsWaiter, waiter_as, waits_undue}, PastApart.{bound_direct}, Step.{Step}}
@@ -183,7 +183,7 @@ module _ (step : Step) (a : IsFallback step.tables) (b : IsBounded step.tables) 
       hole_before r lo hi how v at (Some x) there = record {
         own = v.own;
         due = (waits_undue step r c y lo hi how x k w v at there).0;
-        loss = loss_at t e c r lo hi how k x at there (not_so (loses_writing t e r x) (λ losing. unwritten step c y k w v r lo hi how x x.writer at there (and_right _ _ losing) refl));
+        loss = loss_at t e c r lo hi how k x at there (not_so (loses_group t e r x) (λ losing. unwritten step c y k w v r lo hi how x x.writer at there (and_right _ _ losing) refl));
       }
 
       head_before : (v : IsWaiter t c y k w) → IsAwaiting y w k.place → IsBefore

@@ -6,7 +6,7 @@
 -- `own_kept` joins both.
 use Rattle.std.{proofs.Common.{◌≡◌, ◌⊎◌, inl, inr, ℕ, List, length, Bool, true, false, cond, Option, Some, None, refl, ap, sym, ◌∙◌, subst}, specs.{Prelude.{if◌then◌else◌, is_some, is_none, ◌==◌, ◌&&◌, not}, Option.{option_and_then}}}
 use Rattle.hc_text.proofs.Basics.{never_true, both_true as and_both, bool_cases, not_some as none_some, same_some as same_row, some_inj}
-use Rattle.hc_effects.proofs.Vocabulary.{Opening, opening_in, Cause, Event, Request, Response, HeadCase, head_case, Wanted, route_of, piece_refusal, range_of, wanted_of, Place, BoundBy, has_loss, loses_in, case_at, head_view, is_joining, is_refused, consumer_after, consumer_made, new_consumer, consumer_heard, consumer_acted, consumer_settled, by_head, by_fault, by_opening, becomes_shared, own_after, left_to, waiting, due_after, place_by_case, passed_on, bound_to_wanted, denial, as_open, Entry, exchange_at, exchange_in, is_for, is_headless, exchange_opened, cause_by_case, founded_total, entry_of, IsAwaiting, IsPast, IsReading, if_headless, shows_at, shows_direct, bound_to, is_written, own_open, Tables, Exchange, Representation, Consumer, starts_over, sends_back, after_accepted, brings_body, loses_writing, event, route, wanted, place, by}
+use Rattle.hc_effects.proofs.Vocabulary.{Opening, opening_in, Cause, Event, Request, Response, HeadCase, head_case, Wanted, route_of, piece_refusal, range_of, wanted_of, Place, BoundBy, has_loss, loses_in, case_at, head_view, is_joining, is_refused, consumer_after, consumer_made, new_consumer, consumer_heard, consumer_acted, consumer_settled, by_head, by_fault, by_opening, becomes_shared, own_after, left_to, waiting, due_after, place_by_case, passed_on, bound_to_wanted, denial, as_open, Entry, exchange_at, exchange_in, is_for, is_headless, exchange_opened, cause_by_case, founded_total, entry_of, IsAwaiting, IsPast, IsReading, if_headless, shows_at, shows_direct, bound_to, is_written, own_open, Tables, Exchange, Representation, Consumer, starts_over, sends_back, after_accepted, brings_body, loses_group, event, route, wanted, place, by}
 use Rattle.hc_rules.specs.Refusals as refusals
 use Rattle.hc_model.specs.Owners as owners
 use Rattle.hc_effects.proofs.{Basics.{false_true, or_false, some_none, some_row}, BoundFrom.{IsRow}, ExchangeFrom.{IsHeaded}, FirstKeeps.{is_new, case_is}, Forward.{is_on, is_kept, opened_on, is_untouched}, FoundBy.{CaseBy, case_by}, MoveBy.{IsHeard}, Once.{taken, never}, OwnersKeep.{is_opened, new_number}, PastKeeps.{PlaceFrom, direct_from}, PieceKeeps.{eq_cases}, ShownStays.{IsFallback}, ToBeShown.{heard_place}, TurnPlaces.{ComesFrom, StaysOrPlain, is_after}, Waiters.{no_opening, IsWaiter, waiter_of, waiter_as, unclosed}, PastApart.{bound_direct}, Step.{Step}}
@@ -115,7 +115,7 @@ module _ (step : Step) (a : IsFallback step.tables) (g : AreOwn step.tables) whe
   pub own_poll : (d want : ℕ) → ev ≡ event.Poll d want → (c : ℕ) (p : Place) (own : Option ℕ) → own_after t e c p own ≡ own
   own_poll d want here c (place.Bound r lo hi how) own = by_row (t.representation r)
     where
-      off : (v : Representation) → loses_writing t e r v ≡ false
+      off : (v : Representation) → loses_group t e r v ≡ false
       off v = ap (λ z. brings_body z && loses_in r e.acts && is_written t v) here
 
       by_row : (z : Option Representation) → left_to t e c r z own ≡ own

@@ -1,7 +1,7 @@
 -- Who was shown a head reads, or is over, at each entry.
 --
 -- Who was shown a head before stays: the head of its exchange leaves it where it is (`head_same`), it doesn't start
--- over (`not_over`), and no wait for others is told (`told_not`). So event and acts leave it where it reads
+-- over (`not_over`), and no wait for others is told (`reported_not`). So event and acts leave it where it reads
 -- (`heard_reader`, `opens_reader`, `shows_reader`). Who is shown one now has just polled, and is put where it reads
 -- (`landed`). `readers_kept` joins both.
 use Rattle.std.{proofs.Common.{◌≡◌, inl, inr, ℕ, ◌++◌, Bool, true, false, Option, Some, None, refl, ap, sym, ◌∙◌, subst}, specs.Prelude.{if◌then◌else◌, is_none, is_some, ◌==◌, ◌&&◌, not}}
@@ -147,16 +147,16 @@ module _ (step : Step) (a : IsFallback step.tables) (g : AreOwn step.tables) (tu
     ]
     heard_reader _ here = reader
 
-    told_not : (q : Wait) → IsForOthers q → wait_in c e.acts ≡ Some q → ⊥
-    told_not q others told =
-        let by_poll = waiting_by limits t now flaw s ev goes c q told in
+    reported_not : (q : Wait) → IsForOthers q → wait_in c e.acts ≡ Some q → ⊥
+    reported_not q others reported =
+        let by_poll = waiting_by limits t now flaw s ev goes c q reported in
         let one : by_poll.k ≡ k = same_row (t.consumer c) by_poll.k k by_poll.poll.row row in
         false_true (sym (waited_as t now c k q others by_poll.want s row (subst (λ (p : Consumer). WaitsAs q (move_of t now by_poll.want c p)) one by_poll.move)).unshown ∙ shown)
 
     waits_reader : (h : Consumer) (q : Option Wait) → wait_in c e.acts ≡ q → IsReader h.place → IsReader (waiting_place t h q)
-    waits_reader h (Some (wait.Turn d)) told on = absurd (told_not (wait.Turn d) (turn d) told)
-    waits_reader h (Some (wait.Busy d)) told on = absurd (told_not (wait.Busy d) (busy d) told)
-    waits_reader h _ told on = on
+    waits_reader h (Some (wait.Turn d)) reported on = absurd (reported_not (wait.Turn d) (turn d) reported)
+    waits_reader h (Some (wait.Busy d)) reported on = absurd (reported_not (wait.Busy d) (busy d) reported)
+    waits_reader h _ reported on = on
 
     abbrev stood : Consumer
     stood = waiting t e c (consumer_heard t e c ev k)

@@ -61,13 +61,13 @@ abbrev is_busy : Move → Bool
 is_busy (moves.Waits (wait.Busy d)) = true
 is_busy _ = false
 
-turn_told : (t : Tables) (c d : ℕ) (k : Consumer) (m : Move) → Does t c k m → m ≡ moves.Waits (wait.Turn d) → IsNew k × KeptNone k.place
-turn_told t c d k _ (waits_turn z is_new other back) is = (is_new, back)
-turn_told t c d k _ _ is = absurd (false_true (ap is_turn is))
+turn_reported : (t : Tables) (c d : ℕ) (k : Consumer) (m : Move) → Does t c k m → m ≡ moves.Waits (wait.Turn d) → IsNew k × KeptNone k.place
+turn_reported t c d k _ (waits_turn z is_new other back) is = (is_new, back)
+turn_reported t c d k _ _ is = absurd (false_true (ap is_turn is))
 
-busy_told : (t : Tables) (c d : ℕ) (k : Consumer) (m : Move) → Does t c k m → m ≡ moves.Waits (wait.Busy d) → IsNew k × ((r : ℕ) × (current t k.request.key ≡ Some r))
-busy_told t c d k _ (passes z r is_new queues may) is = (is_new, (r, may.current))
-busy_told t c d k _ _ is = absurd (false_true (ap is_busy is))
+busy_reported : (t : Tables) (c d : ℕ) (k : Consumer) (m : Move) → Does t c k m → m ≡ moves.Waits (wait.Busy d) → IsNew k × ((r : ℕ) × (current t k.request.key ≡ Some r))
+busy_reported t c d k _ (passes z r is_new queues may) is = (is_new, (r, may.current))
+busy_reported t c d k _ _ is = absurd (false_true (ap is_busy is))
 
 turn_waits : (d : ℕ) (m : Move) → WaitsAs (wait.Turn d) m → m ≡ moves.Waits (wait.Turn d)
 turn_waits d _ said.waits = refl
@@ -222,9 +222,9 @@ module _ (step : Step) (a : IsFallback step.tables) (g : AreOwn step.tables) (tu
         by_place (place.Direct x) at none plans = absurd (past_not step a g x k at w.none w.heard (o.past c x k row at w.unshown))
         by_place _ at none plans = absurd plans
 
-    module _ (z : Wait) (told : wait_in c e.acts ≡ Some z) where
+    module _ (z : Wait) (reported : wait_in c e.acts ≡ Some z) where
       abbrev at_it : Rattle.hc_effects.proofs.Said.WaitsBy t now ev c z
-      at_it = waiting_by limits t now flaw s ev goes c z told
+      at_it = waiting_by limits t now flaw s ev goes c z reported
 
       waits_as : WaitsAs z (move_of t now at_it.want c k)
       waits_as = subst (λ (q : Consumer). WaitsAs z (move_of t now at_it.want c q)) (same_row (t.consumer c) at_it.k k at_it.poll.row row) at_it.move
@@ -244,13 +244,13 @@ module _ (step : Step) (a : IsFallback step.tables) (g : AreOwn step.tables) (tu
         by_kept (Some x) h = kept_own x k.place h st
 
     waits_stands : (z : Option Wait) → wait_in c e.acts ≡ z → On (waiting_place t k z) k.own
-    waits_stands (Some (wait.Turn d)) told =
-        let both = turn_told t c d k _ (does_so (wait.Turn d) told) (turn_waits d _ (waits_as (wait.Turn d) told)) in
-        unowned both.0 (wait.Turn d) (waited_as t now c k (wait.Turn d) (turn d) _ s row (waits_as (wait.Turn d) told)) both.1
-    waits_stands (Some (wait.Busy d)) told =
-        let both = busy_told t c d k _ (does_so (wait.Busy d) told) (busy_waits d _ (waits_as (wait.Busy d) told)) in
-        passed_stands (kept_by k.place) both.1.0 both.1.1 refl (unowned both.0 (wait.Busy d) (waited_as t now c k (wait.Busy d) (busy d) _ s row (waits_as (wait.Busy d) told)))
-    waits_stands _ told = st
+    waits_stands (Some (wait.Turn d)) reported =
+        let both = turn_reported t c d k _ (does_so (wait.Turn d) reported) (turn_waits d _ (waits_as (wait.Turn d) reported)) in
+        unowned both.0 (wait.Turn d) (waited_as t now c k (wait.Turn d) (turn d) _ s row (waits_as (wait.Turn d) reported)) both.1
+    waits_stands (Some (wait.Busy d)) reported =
+        let both = busy_reported t c d k _ (does_so (wait.Busy d) reported) (busy_waits d _ (waits_as (wait.Busy d) reported)) in
+        passed_stands (kept_by k.place) both.1.0 both.1.1 refl (unowned both.0 (wait.Busy d) (waited_as t now c k (wait.Busy d) (busy d) _ s row (waits_as (wait.Busy d) reported)))
+    waits_stands _ reported = st
 
     module _ (d want : ℕ) (here : ev ≡ event.Poll d want) where
       heard_is : consumer_heard t e c ev k ≡ k

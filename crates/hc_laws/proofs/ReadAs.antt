@@ -83,15 +83,15 @@ module _ (limits : Limits) (t : Tables) (now : ℕ) (flaw : Flaw) (s : Sound t) 
     not_bare : h.w.head ≡ None → ⊥
     not_bare bare = false_true (sym (ap (λ (q : Option Response). is_some q) bare) ∙ h.headed)
 
-    told_same : (z : Exchange) → IsSame t e y h.w z → length_by z z.head ≡ length_by h.w h.w.head
-    told_same z same = by_heard same.heard_or
+    reported_same : (z : Exchange) → IsSame t e y h.w z → length_by z z.head ≡ length_by h.w h.w.head
+    reported_same z same = by_heard same.heard_or
       where
         by_heard : ((z.head ≡ h.w.head) × (z.joined ≡ h.w.joined)) ⊎ IsHeaded t e y h.w z → length_by z z.head ≡ length_by h.w h.w.head
         by_heard (inl still) = length_same h.w z same.need_is same.request_is still.0
         by_heard (inr got) = absurd (not_bare (is_new limits t now flaw s ev goes y got.response h.w got.at h.row).bare)
 
     lo_direct : base_in (now_on.exchange y) ≡ base_in (t.exchange y)
-    lo_direct = let on = is_on t e y h.w h.row in ap base_in on.row ∙ (ap base_of (told_same on.u on.same) ∙ sym (ap base_in h.row))
+    lo_direct = let on = is_on t e y h.w h.row in ap base_in on.row ∙ (ap base_of (reported_same on.u on.same) ∙ sym (ap base_in h.row))
 
     piece_refused : (bytes : List ℕ) → h.w.is_open ≡ false → denial t (event.Piece y bytes) ≡ None → ⊥
     unfolding refusals.refusal_of
@@ -120,8 +120,8 @@ module _ (limits : Limits) (t : Tables) (now : ℕ) (flaw : Flaw) (s : Sound t) 
     hi_direct : (n : ℕ) → end_in (t.exchange y) ≡ Some n → end_in (now_on.exchange y) ≡ Some n
     hi_direct n is =
         let on = is_on t e y h.w h.row in
-        let told = told_same on.u on.same in
-        ap end_in on.row ∙ (ap (λ q. end_of_direct q on.u) (ap promise_of told) ∙ end_by (promised_bytes h.w) on.u n on.row (ap base_of told) (sym (ap end_in h.row) ∙ is))
+        let reported = reported_same on.u on.same in
+        ap end_in on.row ∙ (ap (λ q. end_of_direct q on.u) (ap promise_of reported) ∙ end_by (promised_bytes h.w) on.u n on.row (ap base_of reported) (sym (ap end_in h.row) ∙ is))
 
   pub lo_stays : (p : Place) → HasHead t p → lo_of now_on p ≡ lo_of t p
   lo_stays (place.Direct y) has = lo_direct y (has y refl)

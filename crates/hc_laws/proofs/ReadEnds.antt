@@ -10,7 +10,7 @@ use Rattle.hc_effects.proofs.Vocabulary.{is_denied, Event, Act, Cause, Length, P
 use Rattle.hc_model.specs.Exchanges as exchanges
 use Rattle.hc_model.specs.Reads.{EndsWell}
 use Rattle.hc_effects.proofs.{ActParts.{silent, misreads, does, IsSaid, said_is}, Basics.{append_none}, Bounded.{IsBounded, bounded_begun, bounded_denied, bounded_kept}, MoveBy.{MoveBy, move_by}, Owed.{IsDenied, is_denial, acts_are}, ShownStays.{IsFallback}, Step.{step_of}}
-use Rattle.hc_laws.proofs.{ReadAs.{IsRead}, ReadJoined.{joined_in_runs, is_told, fallback}, ReadNext.{by_said, shown_one}, RunFacts.{in_runs_with}, SoundRuns.{carried}}
+use Rattle.hc_laws.proofs.{ReadAs.{IsRead}, ReadJoined.{joined_in_runs, is_reported, fallback}, ReadNext.{by_said, shown_one}, RunFacts.{in_runs_with}, SoundRuns.{carried}}
 use Rattle.hc_effects.proofs.MoveBy as by_move
 use Rattle.hc_laws.proofs.ReadNext as next
 
@@ -168,9 +168,9 @@ module _ (limits : Limits) (contents : Contents) (h : History) (e : Entry) (may 
       let known = known_end t 0 c 0 g.k (hi_of t g.k.place) (offset t g.k) past in
       let one = shown_one limits contents h run.0 c g.k g.row its.shown in
       let j = joined_in_runs limits contents h may run.0 in
-      let tells = is_told limits contents h run.0 in
+      let reports = is_reported limits contents h run.0 in
       let read = j.read c g.k one.0 g.row one.1 (hi_reads t g.k.place known.0 known.1) in
-      let there = is_end t c g.k all.is_sound all.is_measured (bounded limits contents h may run.0) g.row (λ y at. (fallback limits contents h may run.0).apart.unfounded c y g.k g.row at) one.0 (given_of c h) (tells.count c g.k g.row) (j.held c one.0 one.1) read past in
+      let there = is_end t c g.k all.is_sound all.is_measured (bounded limits contents h may run.0) g.row (λ y at. (fallback limits contents h may run.0).apart.unfounded c y g.k g.row at) one.0 (given_of c h) (reports.count c g.k g.row) (j.held c one.0 one.1) read past in
       (one.0, append_none (shown_of c h) ∙ one.1, subst (λ (xs : List ℕ). IsEnd t one.0.r one.0.hi (one.0.lo + length xs)) (sym (append_none (given_of c h))) there)
 
   denied_not : (acts : List Act) → IsDenied acts → Says (act.Ended c) acts → ⊥

@@ -2,7 +2,7 @@
 --
 -- `IsJoined` is carried over a run: who reads reads what it was shown, and what it was given is held there. What a poll
 -- gives is next of what was shown (`next_of`), and bytes behind bytes are held together (`holds_more`); they stay so as
--- bodies grow (`holds_grow`). What a consumer was shown and given is told by filters (`is_told`). `joined_in_runs` is
+-- bodies grow (`holds_grow`). What a consumer was shown and given is told by filters (`is_reported`). `joined_in_runs` is
 -- the induction, from which `bodies_are_read` is read off.
 use Rattle.std.{proofs.{Common.{◌≡◌, inl, inr, ℕ, zero, suc, ◌+◌, ◌-◌, ◌<◌, ◌≤◌, List, [], ◌∷◌, ◌++◌, length, Bool, true, false, Option, Some, None, refl, ap, sym, ◌∙◌, subst, arith, length-append}, Math.{ListN.{get_or-append}, Seq.{get_or-append_right}}, lemmas.Bool.Decides.{nat_tests}}, specs.{Prelude.{IfSome, slice_index, nat_lt, not}, Option.{option_map_or}}}
 use Rattle.hc_text.proofs.Basics.{nil_cons, not_some as none_some, bool_cases, some_inj}
@@ -66,13 +66,13 @@ pub record IsJoined (t : Tables) (shown : ℕ → List Shown) (given : ℕ → L
   pub held : (c : ℕ) (z : Shown) → shown c ≡ z ∷ [] → Holds t z.r z.lo (given c)
 
 -- what the filters say of a consumer
-pub record IsTold (t : Tables) (shown : ℕ → List Shown) (given : ℕ → List ℕ) : Type 0 where
+pub record IsReceived (t : Tables) (shown : ℕ → List Shown) (given : ℕ → List ℕ) : Type 0 where
   pub absent : (c : ℕ) → t.consumer c ≡ None → shown c ≡ []
   pub unshown : (c : ℕ) (k : Consumer) → t.consumer c ≡ Some k → k.shown ≡ false → shown c ≡ []
   pub ungiven : (c : ℕ) → shown c ≡ [] → given c ≡ []
   pub count : (c : ℕ) (k : Consumer) → t.consumer c ≡ Some k → k.given ≡ length (given c)
 
-module _ (step : Step) (a : IsFallback step.tables) (shown : ℕ → List Shown) (given : ℕ → List ℕ) (told : IsTold step.tables shown given) (joined : IsJoined step.tables shown given) where
+module _ (step : Step) (a : IsFallback step.tables) (shown : ℕ → List Shown) (given : ℕ → List ℕ) (reported : IsReceived step.tables shown given) (joined : IsJoined step.tables shown given) where
   open step use {limits, tables as t, now, flaw, sound as s, owners as o, event as ev, accepted as goes}
 
   abbrev e : Entry
@@ -108,7 +108,7 @@ module _ (step : Step) (a : IsFallback step.tables) (shown : ℕ → List Shown)
 
     was_shown : (k : Consumer) (z : Shown) (b : Bool) → k.shown ≡ b → t.consumer c ≡ Some k → shown c ≡ z ∷ [] → k.shown ≡ true
     was_shown k z true on row was = on
-    was_shown k z false off row was = absurd (nil_cons z [] (sym (told.unshown c k row off) ∙ was))
+    was_shown k z false off row was = absurd (nil_cons z [] (sym (reported.unshown c k row off) ∙ was))
 
     read_by : (k u : Consumer) (z : Shown) → t.consumer c ≡ Some k → now_on.consumer c ≡ Some u → (shown c ++ shown_in c e.acts) ≡ z ∷ [] → reads u.place ≡ true → ToOne t now c ev e.acts → IsRead now_on u z
     read_by k u z row after is on (acts_to.quiet none quiet off) = let was = quiet_shown z quiet is in shown_on k u z row after was (was_shown k z k.shown refl row was) on
@@ -123,12 +123,12 @@ module _ (step : Step) (a : IsFallback step.tables) (shown : ℕ → List Shown)
               absurd (nil_cons _ [] (sym ((Rattle.hc_effects.proofs.ShownOnce.by_event limits t now c flaw ev).again k row already) ∙ some))
           | inr off ↦
               let l = landing_by step c k u row after (Rattle.hc_effects.proofs.Said.shows_it e.acts (record { c = c; r = r; lo = lo; hi = hi }) showing) (acts_to.shows want q r why head lo hi at there move none some showing) in
-              subst (IsRead now_on u) (one_inj _ _ (sym l.told ∙ some) ∙ same) (landed_read step a c k u row off on l)
+              subst (IsRead now_on u) (one_inj _ _ (sym l.reported ∙ some) ∙ same) (landed_read step a c k u row off on l)
         ]
 
     read_row : (q : Option Consumer) (u : Consumer) (z : Shown) → t.consumer c ≡ q → now_on.consumer c ≡ Some u → (shown c ++ shown_in c e.acts) ≡ z ∷ [] → reads u.place ≡ true → ToOne t now c ev e.acts → IsRead now_on u z
     read_row (Some k) u z row after is on one = read_by k u z row after is on one
-    read_row None u z row after is on (acts_to.quiet none quiet off) = absurd (nil_cons z [] (sym (told.absent c row) ∙ quiet_shown z quiet is))
+    read_row None u z row after is on (acts_to.quiet none quiet off) = absurd (nil_cons z [] (sym (reported.absent c row) ∙ quiet_shown z quiet is))
     read_row None u z row after is on (acts_to.gives want q run at there move none quiet off) = absurd (none_some q (sym row ∙ there))
     read_row None u z row after is on (acts_to.shows want q r why head lo hi at there move none some showing) = absurd (none_some q (sym row ∙ there))
 
@@ -159,7 +159,7 @@ module _ (step : Step) (a : IsFallback step.tables) (shown : ℕ → List Shown)
         let on = was_shown k z k.shown refl row was in
         let g = given_next t want c k run s (some_want t c want ev goes at) (λ x stood. a.apart.unfounded c x k row stood) (gives_of t now c want k run (move_of t now want c k) (move_by t now want c k s row) move on) in
         let read = joined.read c k z row was (read_reads k.place g.0 g.1.number) in
-        let count : k.given ≡ length (given c) = told.count c k row in
+        let count : k.given ≡ length (given c) = reported.count c k row in
         record {
           at_is = omega arith;
           some = g.1.some;
@@ -176,7 +176,7 @@ module _ (step : Step) (a : IsFallback step.tables) (shown : ℕ → List Shown)
         subst (Holds now_on z.r z.lo) (sym all) (holds_grow t now_on z.r z.lo (given c) grown (joined.held c z (quiet_shown z quiet is)))
     held_by z is (acts_to.shows want q r why head lo hi at there move none some showing) =
         let parts = front_none (shown c) (record { r = r; why = why; lo = lo; hi = hi }) z (sym (ap (λ xs. shown c ++ xs) some) ∙ is) in
-        subst (Holds now_on z.r z.lo) (sym (ap (λ xs. given c ++ xs) none ∙ (append_none (given c) ∙ told.ungiven c parts.0))) (λ i lt. absurd (let no : i < 0 = lt in omega arith))
+        subst (Holds now_on z.r z.lo) (sym (ap (λ xs. given c ++ xs) none ∙ (append_none (given c) ∙ reported.ungiven c parts.0))) (λ i lt. absurd (let no : i < 0 = lt in omega arith))
     held_by z is (acts_to.gives want k run at there move bytes quiet off) =
         let was = quiet_shown z quiet is in
         let next = next_of want k run z at there move was in
@@ -202,8 +202,8 @@ module _ (limits : Limits) (contents : Contents) (h : History) (run : IsRun limi
       let all = (consumers_are_filtered limits contents h run).shown c in
       no_first (shown_of c h) (sym all ∙ (ap (λ (z : Option Consumer). option_map_or (λ (k : Consumer). not k.shown) z true) row ∙ off))
 
-  pub is_told : IsTold t_run (λ c. shown_of c h) (λ c. given_of c h)
-  is_told = record {
+  pub is_reported : IsReceived t_run (λ c. shown_of c h) (λ c. given_of c h)
+  is_reported = record {
     absent = λ c row. shown_is c None row refl;
     unshown = λ c k row off. shown_is c (Some k) row (ap not off);
     ungiven = λ c none. (one_head_is_shown limits contents h run c).1 none;
@@ -224,7 +224,7 @@ joined_in_runs limits contents h may run =
     along limits contents (λ t h. IsJoined t (λ c. shown_of c h) (λ c. given_of c h)) may
     (record { read = λ c k z row was on. absurd (nil_cons z [] was); held = λ c z was. absurd (nil_cons z [] was) })
     (λ h e run later denied j. denied_joined contents h e denied j)
-    (λ h now flaw ev run s j. joined_on (step_of limits (tables contents h) now flaw s.before.is_sound s.before.is_owned ev s.going) (fallback limits contents h may run) (λ c. shown_of c h) (λ c. given_of c h) (is_told limits contents h run) j)
+    (λ h now flaw ev run s j. joined_on (step_of limits (tables contents h) now flaw s.before.is_sound s.before.is_owned ev s.going) (fallback limits contents h may run) (λ c. shown_of c h) (λ c. given_of c h) (is_reported limits contents h run) j)
     h run
 
 -- What a consumer was given, joined, is of the body that it was shown.

@@ -10,7 +10,7 @@ use Rattle.hc_effects.proofs.Vocabulary.{is_denied, Event, Act, Why, Limits, acc
 use Rattle.hc_model.specs.Reads.{GivesNext}
 use Rattle.hc_effects.proofs.{ActParts.{IsAnswer, IsSaid, answer_is, said_is}, Basics.{append_none}, Owed.{IsDenied, is_denial, acts_are, goes}, ReadFilters.{consumers_are_filtered}, ShownOnce.{is_giving, unshown_gives}, Step.{step_of}}
 use Rattle.hc_effects.proofs.ActParts as parts
-use Rattle.hc_laws.proofs.{OneHead.{one_head_is_shown}, ReadJoined.{next_of, joined_in_runs, is_told, fallback}, SoundRuns.{carried}}
+use Rattle.hc_laws.proofs.{OneHead.{one_head_is_shown}, ReadJoined.{next_of, joined_in_runs, is_reported, fallback}, SoundRuns.{carried}}
 
 -- WHO SAYS IT
 
@@ -23,44 +23,44 @@ says_part a (x ∷ xs) ys (inr later) = elim (says_part a xs ys later) [
 ]
 
 -- what only a reader is told
-pub data IsTold : Act → Type 0 where
-  gives : (c x at : ℕ) (bytes : List ℕ) → IsTold (act.Given c x at bytes)
-  ends : (c : ℕ) → IsTold (act.Ended c)
-  shows : (c r : ℕ) (why : Why) (status : ℕ) (fields : List (List ℕ × List ℕ)) (lo : ℕ) (hi : Option ℕ) → IsTold (act.Shown c r why status fields lo hi)
+pub data IsReceived : Act → Type 0 where
+  gives : (c x at : ℕ) (bytes : List ℕ) → IsReceived (act.Given c x at bytes)
+  ends : (c : ℕ) → IsReceived (act.Ended c)
+  shows : (c r : ℕ) (why : Why) (status : ℕ) (fields : List (List ℕ × List ℕ)) (lo : ℕ) (hi : Option ℕ) → IsReceived (act.Shown c r why status fields lo hi)
 
-close_not : (a : Act) (x : ℕ) → IsTold a → act.Close x ≡ a → ⊥
+close_not : (a : Act) (x : ℕ) → IsReceived a → act.Close x ≡ a → ⊥
 close_not a x it2 is = grind (arith, nat_tests)
 
-evict_not : (a : Act) (r : ℕ) → IsTold a → act.Evicted r ≡ a → ⊥
+evict_not : (a : Act) (r : ℕ) → IsReceived a → act.Evicted r ≡ a → ⊥
 evict_not a r it2 is = grind (arith, nat_tests)
 
-lost_not : (a : Act) (flaw : Flaw) → IsTold a → Says a (loss_acts flaw) → ⊥
-lost_not a flaw told h = grind (arith, nat_tests)
+lost_not : (a : Act) (flaw : Flaw) → IsReceived a → Says a (loss_acts flaw) → ⊥
+lost_not a flaw reported h = grind (arith, nat_tests)
 
-closes_not : (a : Act) (xs : List ℕ) → IsTold a → Says a (map act.Close xs) → ⊥
-closes_not a [] told h = h
-closes_not a (x ∷ xs) told (inl is) = close_not a x told is
-closes_not a (x ∷ xs) told (inr h) = closes_not a xs told h
+closes_not : (a : Act) (xs : List ℕ) → IsReceived a → Says a (map act.Close xs) → ⊥
+closes_not a [] reported h = h
+closes_not a (x ∷ xs) reported (inl is) = close_not a x reported is
+closes_not a (x ∷ xs) reported (inr h) = closes_not a xs reported h
 
-evicts_not : (a : Act) (rs : List ℕ) → IsTold a → Says a (map act.Evicted rs) → ⊥
-evicts_not a [] told h = h
-evicts_not a (r ∷ rs) told (inl is) = evict_not a r told is
-evicts_not a (r ∷ rs) told (inr h) = evicts_not a rs told h
+evicts_not : (a : Act) (rs : List ℕ) → IsReceived a → Says a (map act.Evicted rs) → ⊥
+evicts_not a [] reported h = h
+evicts_not a (r ∷ rs) reported (inl is) = evict_not a r reported is
+evicts_not a (r ∷ rs) reported (inr h) = evicts_not a rs reported h
 
-module _ (limits : Limits) (t : Tables) (now : ℕ) (ev : Event) (flaw : Flaw) (a : Act) (told : IsTold a) where
+module _ (limits : Limits) (t : Tables) (now : ℕ) (ev : Event) (flaw : Flaw) (a : Act) (reported : IsReceived a) where
   by_answer : (acts : List Act) → IsAnswer limits t now ev flaw acts → Says a acts → Says a (answer_acts t now ev flaw)
-  by_answer _ (parts.told none) h = absurd (elim (says_part a (map act.Evicted (evicted limits t now ev)) _ h) [
-    | inl evicts ↦ evicts_not a (evicted limits t now ev) told evicts
+  by_answer _ (parts.reported none) h = absurd (elim (says_part a (map act.Evicted (evicted limits t now ev)) _ h) [
+    | inl evicts ↦ evicts_not a (evicted limits t now ev) reported evicts
     | inr rest ↦ elim (says_part a (loss_acts flaw) _ rest) [
-      | inl loses ↦ lost_not a flaw told loses
-      | inr closes ↦ closes_not a _ told closes
+      | inl loses ↦ lost_not a flaw reported loses
+      | inr closes ↦ closes_not a _ reported closes
     ]
   ])
   by_answer _ (parts.asked) h = elim (says_part a (answer_acts t now ev flaw) _ h) [
     | inl its ↦ its
     | inr rest ↦ absurd (elim (says_part a (close_acts t now ev flaw) _ rest) [
-      | inl closes ↦ closes_not a _ told closes
-      | inr loses ↦ lost_not a flaw told loses
+      | inl closes ↦ closes_not a _ reported closes
+      | inr loses ↦ lost_not a flaw reported loses
     ])
   ]
 
@@ -143,7 +143,7 @@ module _ (limits : Limits) (contents : Contents) (h : History) (e : Entry) (may 
   by_giver accepted_it g =
       let k = carried limits contents h may run.0 in
       let one = shown_one limits contents h run.0 c g.k g.row (shown_giver g g.k.shown refl) in
-      let next = next_of (step_of limits t e.now (flaw_in e.acts) k.is_sound k.is_owned e.event (goes limits t e run.1 accepted_it)) (fallback limits contents h may run.0) (λ d. shown_of d h) (λ d. given_of d h) (is_told limits contents h run.0) (joined_in_runs limits contents h may run.0) c g.want g.k (record { x = x; at = at; bytes = bytes }) one.0 g.is_poll g.row g.move_is one.1 in (
+      let next = next_of (step_of limits t e.now (flaw_in e.acts) k.is_sound k.is_owned e.event (goes limits t e run.1 accepted_it)) (fallback limits contents h may run.0) (λ d. shown_of d h) (λ d. given_of d h) (is_reported limits contents h run.0) (joined_in_runs limits contents h may run.0) c g.want g.k (record { x = x; at = at; bytes = bytes }) one.0 g.is_poll g.row g.move_is one.1 in (
         one.0,
         append_none (shown_of c h) ∙ one.1,
         record {

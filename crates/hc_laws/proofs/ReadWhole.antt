@@ -11,7 +11,7 @@ use Rattle.hc_model.specs.Reads.{ReadsEach, RunsReadWhole}
 use Rattle.hc_effects.proofs.{ActParts.{IsAnswer, IsSaid, answer_is, said_is}, Basics.{false_true, append_none}, Owed.{IsDenied, is_denial, acts_are}, Runs.{by_entries}, ShownOnce.{is_showing, shown_shows}}
 use Rattle.hc_effects.proofs.ActParts as parts
 use Rattle.hc_effects.proofs.Owed as owed_acts
-use Rattle.hc_laws.proofs.{ReadEnds.{ends_well}, ReadJoined.{bodies_are_read, is_told}, ReadNext.{gives_next}, Reasons.{reason_holds}, SoundRuns.{runs_are_sound}, WhyShown.{shown_why}}
+use Rattle.hc_laws.proofs.{ReadEnds.{ends_well}, ReadJoined.{bodies_are_read, is_reported}, ReadNext.{gives_next}, Reasons.{reason_holds}, SoundRuns.{runs_are_sound}, WhyShown.{shown_why}}
 
 -- ACTS THAT NO READER IS TOLD
 
@@ -68,10 +68,10 @@ module _ (limits : Limits) (contents : Contents) (h : History) (e : Entry) (may 
     by_move (Asks x) is says = acts_unread contents h e.now [] (act.Ask x ∷ act.Pending c (wait.Body x) ∷ rest) (tt, (tt, quiet))
     by_move (Opens x n request) is says = acts_unread contents h e.now [] (act.Opened x c n request ∷ act.Pending c (wait.Head x) ∷ rest) (tt, (tt, quiet))
     by_move (Shows r why head lo hi) is says =
-        let told = is_told limits contents h run.0 in
-        let none = told.unshown c k row (unshown_of c want k (Shows r why head lo hi) k.shown refl is refl) in
+        let reported = is_reported limits contents h run.0 in
+        let none = reported.unshown c k row (unshown_of c want k (Shows r why head lo hi) k.shown refl is refl) in
         let reason = reason_holds limits contents h may run.0 e.now c r lo hi why head k row (shown_why t e.now c k r lo hi why head want (runs_are_sound limits contents h may run.0) row is) in
-        ((append_none (shown_of c h) ∙ none, append_none (given_of c h) ∙ (told.ungiven c none), reason), acts_unread contents h e.now _ rest quiet)
+        ((append_none (shown_of c h) ∙ none, append_none (given_of c h) ∙ (reported.ungiven c none), reason), acts_unread contents h e.now _ rest quiet)
     by_move (Gives given) is says = (gives_next limits contents h e may run c given.x given.at given.bytes (says _ (inl refl)), acts_unread contents h e.now _ rest quiet)
     by_move Ends is says = (ends_well limits contents h e may run c (says _ (inl refl)), acts_unread contents h e.now _ rest quiet)
     by_move (Fails why) is says = acts_unread contents h e.now [] (act.Failed c why ∷ rest) (tt, quiet)
@@ -82,7 +82,7 @@ module _ (limits : Limits) (contents : Contents) (h : History) (e : Entry) (may 
   by_said _ rest quiet (parts.misreads c want r here is) says = acts_unread contents h e.now [] (act.Failed c (cause.StoreRead r) ∷ rest) (tt, quiet)
 
   by_answer : (acts : List Act) → IsAnswer limits t e.now e.event flaw acts → ((a : Act) → Says a acts → Says a e.acts) → ReadsActs contents h e.now [] acts
-  by_answer _ (parts.told none) says = acts_unread contents h e.now [] _ (both_unread _ _ (evicts_unread (evicted limits t e.now e.event)) (both_unread _ _ (lost_unread flaw) (closes_unread _)))
+  by_answer _ (parts.reported none) says = acts_unread contents h e.now [] _ (both_unread _ _ (evicts_unread (evicted limits t e.now e.event)) (both_unread _ _ (lost_unread flaw) (closes_unread _)))
   by_answer _ (parts.asked) says = by_said (answer_acts t e.now e.event flaw) (close_acts t e.now e.event flaw ++ loss_acts flaw) (both_unread _ _ (closes_unread _) (lost_unread flaw)) (said_is t e.now e.event flaw) says
 
   denied_reads : (acts : List Act) → IsDenied acts → ReadsActs contents h e.now [] acts

@@ -76,8 +76,8 @@ module _ (step : Step) (turns : Turns step.tables) (selected : ℕ → ℕ → B
 
   -- it kept it where it stands, as what it waits for is current
   stood_busy : (c r x d : ℕ) (k : Consumer) → t.consumer c ≡ Some k → Rattle.hc_model.specs.ActFilters.wait_in c e.acts ≡ Some (wait.Busy d) → Some x ≡ kept_by (consumer_heard t e c ev k).place → current t (consumer_heard t e c ev k).request.key ≡ Some r → k.place ≡ place.Passed r (Some x)
-  stood_busy c r x d k row told kept is =
-      let heard : consumer_heard t e c ev k ≡ k = ap (λ v. consumer_heard t e c v k) (waiting_by limits t now flaw s ev goes c (wait.Busy d) told).poll.at in
+  stood_busy c r x d k row reported kept is =
+      let heard : consumer_heard t e c ev k ≡ k = ap (λ v. consumer_heard t e c v k) (waiting_by limits t now flaw s ev goes c (wait.Busy d) reported).poll.at in
       let had = kept_place k.place x (ap (λ (q : Consumer). kept_by q.place) (sym heard) ∙ sym kept) in
       let waits = turns.passed c had.0 (Some x) k row had.1 in
       had.1 ∙ ap (λ n. place.Passed n (Some x)) (some_inj had.0 r (sym waits.current_is ∙ (sym (ap (λ (q : Consumer). current t q.request.key) heard) ∙ is)))
@@ -85,13 +85,13 @@ module _ (step : Step) (turns : Turns step.tables) (selected : ℕ → ℕ → B
   chosen_by : (c r x : ℕ) (k : Consumer) (row : t.consumer c ≡ Some k) → is_denied e.acts ≡ false → PassedFrom step c r (Some x) k row → (selects_at t e x r || selected x r) ≡ true
   chosen_by c r x k row taken (stood at) = or_right (selects_at t e x r) (selected x r) (g.chosen c r x k row at)
   chosen_by c r x k row taken (validates y response w here there mine is aim kept) = grind (arith, nat_tests)
-  chosen_by c r x k row taken (busies d told kept is) = or_right (selects_at t e x r) (selected x r) (g.chosen c r x k row (stood_busy c r x d k row told kept is))
+  chosen_by c r x k row taken (busies d reported kept is) = or_right (selects_at t e x r) (selected x r) (g.chosen c r x k row (stood_busy c r x d k row reported kept is))
 
   asker_by : (c r x : ℕ) (k : Consumer) (row : t.consumer c ≡ Some k) → PassedFrom step c r (Some x) k row → IsFor now_on x c
   asker_by c r x k row (stood at) = for_on x c (g.asker c r x k row at)
   asker_by c r x k row (validates y response w here there mine is aim kept) =
       for_on x c (record { w = w; row = sym (ap t.exchange (sym (some_inj x y kept))) ∙ there; for_it = mine })
-  asker_by c r x k row (busies d told kept is) = for_on x c (g.asker c r x k row (stood_busy c r x d k row told kept is))
+  asker_by c r x k row (busies d reported kept is) = for_on x c (g.asker c r x k row (stood_busy c r x d k row reported kept is))
 
   keeping_on : is_denied e.acts ≡ false → IsKeeping now_on (λ x r. selects_at t e x r || selected x r)
   keeping_on taken = record {

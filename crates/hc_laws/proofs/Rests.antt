@@ -1,7 +1,7 @@
 -- Who became bound as the only one and has no exchange of its own has all that is left, where nobody writes it.
 --
 -- By how it became bound (`by_way`). Who was bound had the rest already (`unowned_was`), or a writing that was on is
--- over (`by_writing`). Its exchange can't have become that of a writing: it would promise bytes and go on
+-- over (`by_writer_group`). Its exchange can't have become that of a writing: it would promise bytes and go on
 -- (`shared_not`, `promises_some`). Who founds a part or opens a first hole has an exchange (`founded_not`,
 -- `opens_not`). An open exchange about it would be its own (`about_not`). `rested_kept` joins these.
 use Rattle.std.{proofs.{Common.{◌<◌, ◌≡◌, ◌⊎◌, inl, inr, ℕ, ◌+◌, ◌-◌, ◌≤◌, List, Bool, true, false, Option, Some, None, refl, ap, sym, ◌∙◌, subst, arith}, lemmas.{Bool.Decides.{nat_tests}, Slice.Eq.{bytes_eq-Decides}}}, specs.Prelude.{if◌then◌else◌, is_some, nat_eq, bytes_eq, codes, unwrap_or}}
@@ -11,7 +11,7 @@ use Rattle.hc_text.specs.declared.names.MethodName.{MethodName}
 use Rattle.hc_fields.specs.FirstValues.{elements_in}
 use Rattle.hc_rules.specs.declared.length.Length.TheVariants as lengths
 use Rattle.hc_model.specs.Sound as sound
-use Rattle.hc_effects.proofs.{Forward.{IsOn}, AboutKeeps.{own_open_of}, ApartKeeps.{written_by}, Basics.{false_true, true_false, or_false, some_none}, Beside.{IsBeside}, BoundFrom.{BoundFrom, IsRow, IsFounded, bound_from}, Dues.{due_before}, ExchangeFrom.{IsHeaded}, FirstKeeps.{case_of_head, whole_brings, replaced_brings, is_new, came_kept, one_first_kept, founded_came}, HeadKeeps.{IsJoin}, LossBy.{IsReal}, Losses.{HasRest}, PartTold.{part_order}, ExclusiveWriters.{writer_some}, PieceKeeps.{eq_cases}, RepFrom.{was, founded, RepFrom, rep_from, IsKept, IsResumed}, ServedKeeps.{rest_by, still_rests, resumed_not, none_promised}, Waiters.{waiter_of}, WriterEnds.{all_stored}, Step.{Step}}
+use Rattle.hc_effects.proofs.{Forward.{IsOn}, AboutKeeps.{own_open_of}, ApartKeeps.{written_by}, Basics.{false_true, true_false, or_false, some_none}, Beside.{IsBeside}, BoundFrom.{BoundFrom, IsRow, IsFounded, bound_from}, Dues.{due_before}, ExchangeFrom.{IsHeaded}, FirstKeeps.{case_of_head, whole_brings, replaced_brings, is_new, came_kept, one_first_kept, founded_came}, HeadKeeps.{IsJoin}, LossBy.{IsReal}, Losses.{HasRest}, PartReported.{part_order}, ExclusiveWriters.{writer_some}, PieceKeeps.{eq_cases}, RepFrom.{was, founded, RepFrom, rep_from, IsKept, IsResumed}, ServedKeeps.{rest_by, still_rests, resumed_not, none_promised}, Waiters.{waiter_of}, WriterEnds.{all_stored}, Step.{Step}}
 use Rattle.hc_effects.proofs.BoundFrom as from
 use Rattle.hc_laws.proofs.{HadHeaded.{had_kept}, OwnNone.{IsShared, own_none, after_none}}
 use Rattle.hc_laws.proofs.TogetherHeads as together
@@ -89,9 +89,9 @@ module _ (step : Step) (m : Measures step.tables) (i : IsBeside step.tables) (re
       before = due_before t e c k (consumer_acted t e c (consumer_heard t e c ev k)) u row.is (ap reads stands) none
 
       -- its writing is over
-      by_writing : is_written t v ≡ true → (z : Option ℕ) → v.writer ≡ z → Rested
-      by_writing on None writer = absurd (writer_some t v on writer)
-      by_writing on (Some x) writer = elim (bool_cases (is_open (now_on.exchange x))) [
+      by_writer_group : is_written t v ≡ true → (z : Option ℕ) → v.writer ≡ z → Rested
+      by_writer_group on None writer = absurd (writer_some t v on writer)
+      by_writer_group on (Some x) writer = elim (bool_cases (is_open (now_on.exchange x))) [
         | inr off ↦ rest_by step m real r c lo hi how u p after after_row stands (all_stored step m real r c x lo hi how k u v p row at stands there on writer before.1 kept (inl parts.0) off) hi refl
         | inl still ↦ absurd (false_true (sym unwritten ∙ written_by now_on p x fresh_now (by_writer kept.writer_is) still))
       ]
@@ -103,7 +103,7 @@ module _ (step : Step) (m : Measures step.tables) (i : IsBeside step.tables) (re
       -- it had none
       unowned_was : k.own ≡ None → Rested
       unowned_was none_own = elim (bool_cases (is_written t v)) [
-        | inl on ↦ by_writing on v.writer refl
+        | inl on ↦ by_writer_group on v.writer refl
         | inr off ↦
             let came_was : came_alone t (place.Bound r lo hi how) ≡ true = sym (came_kept limits t now flaw s ev goes r lo hi how (ap is_some there)) ∙ came in
             let rest = i.rested r c v k there parts.1 (sound.first k lo hi how row.row at came_was) (sound.is_bound lo hi how row.row at) before.0 none_own off in

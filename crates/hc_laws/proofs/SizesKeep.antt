@@ -5,7 +5,7 @@
 -- are carried with the lists of what fits (`IsSized`). At the beginning each item is small (`small_item`), and its
 -- count is that of its bytes (`counts_of`). `sized_runs` is the law.
 use Rattle.std.{proofs.{Common.{◌≡◌, inl, inr, ℕ, ◌+◌, ◌≤◌, List, [], ◌∷◌, length, Bool, true, false, Option, Some, None, refl, ap, sym, ◌∙◌, subst, arith, max}, lemmas.Bool.Decides.{nat_tests}}, specs.Prelude.{◌||◌, ◌==◌, not, nat_le, find, if◌then◌else◌, option_map}}
-use Rattle.hc_text.proofs.Basics.{and_left, and_right, eq_tells as eq_is, not_some as none_some, some_inj}
+use Rattle.hc_text.proofs.Basics.{and_left, and_right, eq_reports as eq_is, not_some as none_some, some_inj}
 use Rattle.hc_effects.proofs.Vocabulary.{Event, Response, Limits, loses_in, may_begin, are_good, denial, Entry, Content, Contents, front, family, Flaw, entry_of, OfRunsIn, representation_heard, representation_after_head, with_renewed_head, updates, representation_after_piece, with_stored_bytes, Tables, Exchange, Representation, Sizes, Sound, IsStored, first_tables, representation_of_content, bytes_in, after_accepted, after_denied, event}
 use Rattle.hc_sparse.specs.Cells.{AreAbsent, nothing, size_below}
 use Rattle.hc_effects.proofs.{LossBy.{IsReal}, Once.{delivers_once}, PieceKeeps.{eq_cases}, RepFrom.{was, founded, RepFrom, rep_from}, Weighed.{sized}, GivenNext.{stored_ends}, Step.{step_of}}

@@ -12,7 +12,7 @@ use Rattle.hc_record.specs.Head.{Head}
 use Rattle.hc_validate.specs.Updates.{is_within_limits}
 use Rattle.hc_model.specs.StoredHeads.{HeadsAreWithinLimits}
 use Rattle.hc_effects.proofs.{ExchangeFrom.{was, new, ExchangeFrom, exchange_from}, FieldsKeep.{length_kept, range_kept, length_none, range_none, within_limits_founded}, Forward.{after_is}, PieceKeeps.{eq_cases}, RepFrom.{RepFrom, rep_from}}
-use Rattle.hc_laws.proofs.{HeadFrom.{updated, told, still, HeadFrom, head_from}, RunFacts.{in_runs}}
+use Rattle.hc_laws.proofs.{HeadFrom.{updated, reported, still, HeadFrom, head_from}, RunFacts.{in_runs}}
 use Rattle.hc_effects.proofs.RepFrom as rep
 
 -- the moment of its opening stays
@@ -40,7 +40,7 @@ module _ (t : Tables) (e : Entry) (later : t.moment ≤ e.now) (g : StoredHeads 
   dated r v row = grind (arith, nat_tests)
 
   dated_from : (r : ℕ) (v u : Representation) → t.representation r ≡ Some v → HeadFrom t e r v u → IsDated e.now u.head
-  dated_from r v u row it4 = grind (arith, nat_tests, still, dated, told, updated, length_kept, range_kept)
+  dated_from r v u row it4 = grind (arith, nat_tests, still, dated, reported, updated, length_kept, range_kept)
 
   dated_by : (r : ℕ) (u : Representation) → RepFrom t e r u → IsDated e.now u.head
   dated_by r u (rep.was v kept) = dated_from r v u kept.row (head_from t e r v u kept)

@@ -9,7 +9,7 @@ use Rattle.hc_text.proofs.Basics.{and_left, and_right, not_some as none_some, so
 use Rattle.hc_etag.specs.TagTexts.{strong_in}
 use Rattle.hc_effects.proofs.Vocabulary.{brings_part, brings_whole, Event, Response, fits_to_found, range_of, strong_of, Limits, loses_in, has_loss, case_at, is_joining, fits_asker, row_of, denial, Entry, is_open, front, Flaw, is_keepable, entry_of, HasByte, is_written, new_representation, Tables, Exchange, Representation, Consumer, IsGrowing, IsOfOne, Tags, after_accepted, after_denied, event}
 use Rattle.hc_fields.specs.{FieldList.{values_of}, FirstValues.{only_of}}
-use Rattle.hc_range.specs.declared.range.Asked.{Asked}
+use Rattle.hc_range.specs.declared.range.RangeSpec.{RangeSpec}
 use Rattle.hc_record.specs.Head.{joining_of, one_strong_opaque, strong_opaque}
 use Rattle.hc_record.proofs.JoiningLemmas.{strong_opaque-tag}
 use Rattle.hc_etag.proofs.TagReads.{strong_in-some}
@@ -17,7 +17,7 @@ use Rattle.hc_sparse.specs.Cells.{Cells, Covers, cells_with}
 use Rattle.hc_sparse.proofs.CellLemmas.{inside-cases}
 use Rattle.hc_model.specs.Origins as origins
 use Rattle.hc_model.specs.StoredHeads as heads
-use Rattle.hc_effects.proofs.{ApartKeeps.{written_by, is_on}, Basics.{false_true, some_none, number_is}, EndsKeep.{known_kept}, ExchangeFrom.{ExchangeFrom, exchange_from, IsHeaded}, FieldsKeep.{etag_kept}, Fills.{Fills, fills}, FirstKeeps.{case_is}, HeadKeeps.{is_join}, LossBy.{IsReal}, ExclusiveWriters.{writer_some}, RepFrom.{RepFrom, rep_from, IsKept, IsResumed}, WritingStops.{IsAll}, Step.{step_of}}
+use Rattle.hc_effects.proofs.{ApartKeeps.{written_by, is_on}, Basics.{false_true, some_none, number_is}, EndsKeep.{known_kept}, ExchangeFrom.{ExchangeFrom, exchange_from, IsHeaded}, FieldsKeep.{etag_kept}, Fills.{Fills, fills}, FirstKeeps.{case_is}, HeadKeeps.{is_join}, LossBy.{IsReal}, ExclusiveWriters.{writer_some}, RepFrom.{RepFrom, rep_from, IsKept, IsResumed}, GroupStops.{IsAll}, Step.{step_of}}
 use Rattle.hc_laws.proofs.{DeniedKeeps.{written_same}, FoundedAs.{FoundedAs, founded_as}, HeadFrom.{joining_kept}, Lasting.{was_not_gone, not_lost, lasting}, OriginsKeep.{Brought, from_before, was_byte}, SoundRuns.{IsCarried}}
 use Rattle.hc_effects.proofs.ExchangeFrom as exchange
 use Rattle.hc_effects.proofs.Fills as fill
@@ -38,7 +38,7 @@ strong_joins (value ∷ []) h none = by_tag (strong_in value) refl h
         some_none opaque (sym (ap strong_opaque spelled.1 ∙ strong_opaque-tag opaque spelled.0) ∙ none)
 strong_joins _ h none = false_true h
 
-fits_tag : (z : Option Asked) (response : Response) → fits_to_found z response ≡ true → is_some (strong_of response.fields) ≡ true
+fits_tag : (z : Option RangeSpec) (response : Response) → fits_to_found z response ≡ true → is_some (strong_of response.fields) ≡ true
 fits_tag None response h = absurd (false_true h)
 fits_tag (Some asked) response h = and_left _ _ h
 

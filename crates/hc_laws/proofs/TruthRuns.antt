@@ -4,8 +4,8 @@ use Rattle.std.{proofs.{Common.{◌≡◌, inl, inr, ℕ, ◌≤◌, true, Bool,
 use Rattle.hc_text.proofs.Basics.{and_left, and_right as and_then, bool_cases}
 use Rattle.hc_record.specs.declared.kind.Kind.TheVariants as kind
 use Rattle.hc_sparse.specs.Cells.{Cell, Covers, size_below}
-use Rattle.hc_effects.proofs.Vocabulary.{kind_of, is_growing, is_complete, is_front, OfRuns, Representation, IsStored, tables}
-use Rattle.hc_model.specs.Laws.{IsFront, IsTruthful, TruncatedIsFront}
+use Rattle.hc_effects.proofs.Vocabulary.{kind_of, is_growing, is_complete, is_prefix, OfRuns, Representation, IsStored, tables}
+use Rattle.hc_model.specs.Laws.{IsPrefix, IsTruthful, TruncatedIsPrefix}
 use Rattle.hc_effects.proofs.HoleLemmas.{covers_all}
 use Rattle.hc_laws.proofs.{Positions.{no_other_below}, SizesKeep.{sizes_in_runs}, SoundRuns.{runs_are_sound}, Truthful.{whole_is}}
 
@@ -19,7 +19,7 @@ none_by o h = grind (arith, nat_tests)
 behind_reach : (v : Representation) (p : ℕ) → IsStored v → v.reach ≤ p → is_some (v.stored p) ≡ true → ⊥
 behind_reach v p store le there = grind (arith, nat_tests)
 
-front_of : (v : Representation) → IsStored v → v.size ≡ size_below v.stored v.reach → is_front v ≡ true → IsFront v
+front_of : (v : Representation) → IsStored v → v.size ≡ size_below v.stored v.reach → is_prefix v ≡ true → IsPrefix v
 front_of v store count h =
     let all : Covers v.stored 0 v.size = covers_all v.stored v.reach 0 v.size (and_then (nat_lt 0 v.size) _ h) in (
       v.size,
@@ -31,9 +31,9 @@ front_of v store count h =
       ]),
     )
 
-pub truncated_is : TruncatedIsFront
+pub truncated_is : TruncatedIsPrefix
 unfolding kind_of
-truncated_is t s key r v is row count found = front_of v (s.rows r v row).store count (front_by (is_growing t r) (is_complete v) (is_front v) cc)
+truncated_is t s key r v is row count found = front_of v (s.rows r v row).store count (front_by (is_growing t r) (is_complete v) (is_prefix v) cc)
 
 -- Records are truthful in every run.
 pub truth_in_runs : OfRuns IsTruthful

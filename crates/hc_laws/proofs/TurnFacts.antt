@@ -101,7 +101,7 @@ module _ (limits : Limits) (t : Tables) (e : Entry) (taken : IsTaken limits t e)
   -- CLOSED
 
   closes_by : (x : ℕ) (acts : List Act) → answered acts → closes_in x acts ≡ closes_in x (map act.Close closings)
-  closes_by x _ (parts.told silent) = closes_evicted x (evicted limits t e.now e.event) _ ∙ closes_lost x flaw _
+  closes_by x _ (parts.reported silent) = closes_evicted x (evicted limits t e.now e.event) _ ∙ closes_lost x flaw _
   closes_by x _ parts.asked = (said_closes x 0 t e.now e.event flaw asked_of _ said_here).closes ∙ closes_before x closings flaw
 
   pub closes_as : (x : ℕ) → closes_in x e.acts ≡ closes_in x (map act.Close closings)
@@ -123,7 +123,7 @@ module _ (limits : Limits) (t : Tables) (e : Entry) (taken : IsTaken limits t e)
   -- THE CASE OF A HEAD
 
   loss_by : (acts : List Act) → answered acts → has_loss acts ≡ has_loss (loss_acts flaw)
-  loss_by _ (parts.told silent) = evicted_lose (evicted limits t e.now e.event) _ ∙ loss_before flaw closings
+  loss_by _ (parts.reported silent) = evicted_lose (evicted limits t e.now e.event) _ ∙ loss_before flaw closings
   loss_by _ parts.asked = loss_said t e.now e.event flaw asked_of _ said_here ∙ closes_lose closings (loss_acts flaw)
 
   pub loss_as : has_loss e.acts ≡ has_loss (loss_acts flaw)
@@ -150,7 +150,7 @@ module _ (limits : Limits) (t : Tables) (e : Entry) (taken : IsTaken limits t e)
   -- LOST, EVICTED, MISREAD
 
   loses_by : (r : ℕ) (acts : List Act) → answered acts → loses_in r acts ≡ loses_in r (loss_acts flaw)
-  loses_by r _ (parts.told silent) = loses_evicted r (evicted limits t e.now e.event) _ ∙ loses_before r flaw closings
+  loses_by r _ (parts.reported silent) = loses_evicted r (evicted limits t e.now e.event) _ ∙ loses_before r flaw closings
   loses_by r _ parts.asked = (said_closes 0 r t e.now e.event flaw asked_of _ said_here).loses ∙ loses_closed r closings (loss_acts flaw)
 
   pub loses_as : (r : ℕ) → loses_in r e.acts ≡ loses_in r (loss_acts (flaw_in e.acts))
@@ -177,27 +177,27 @@ module _ (limits : Limits) (t : Tables) (e : Entry) (taken : IsTaken limits t e)
       apart d want at = grind (arith, nat_tests)
 
       by_answer : (acts : List Act) → answered acts → IsFarFrom c acts
-      by_answer _ (parts.told silent) = far_evicted c (evicted limits t e.now e.event) _ (far_loss c flaw _ (far_closed c closings))
+      by_answer _ (parts.reported silent) = far_evicted c (evicted limits t e.now e.event) _ (far_loss c flaw _ (far_closed c closings))
       by_answer _ parts.asked = far_said c t e.now e.event flaw asked_of _ apart said_here (far_closing c closings _ (far_lost_only c flaw))
 
   -- A POLL
 
-  told_by : (x r : ℕ) (acts : List Act) → answered acts → answer_acts t e.now e.event flaw ≡ [] → is_asking e.event ≡ false → parts.AsksAs x r acts []
-  told_by x r _ (parts.told silent) none asks =
+  reported_by : (x r : ℕ) (acts : List Act) → answered acts → answer_acts t e.now e.event flaw ≡ [] → is_asking e.event ≡ false → parts.AsksAs x r acts []
+  reported_by x r _ (parts.reported silent) none asks =
       let a = asks_evicted x r (evicted limits t e.now e.event) (loss_acts flaw ++ map act.Close closings) in
       let b = asks_lost x r flaw (map act.Close closings) in
       let d = asks_closes x r closings in
       record { asks = a.asks ∙ (b.asks ∙ d.asks); misreads = a.misreads ∙ (b.misreads ∙ d.misreads); opens = a.opens ∙ (b.opens ∙ d.opens) }
-  told_by x r _ parts.asked none asks =
+  reported_by x r _ parts.asked none asks =
       let a = asks_closed x r closings (loss_acts flaw) in
       grind (arith, nat_tests)
 
   -- an event from outside asks, opens and misreads nothing
-  pub told_quiet : (x r : ℕ) → answer_acts t e.now e.event (flaw_in e.acts) ≡ [] → is_asking e.event ≡ false → parts.AsksAs x r e.acts []
-  told_quiet x r none asks = subst (λ acts. parts.AsksAs x r acts []) (sym acts_is) (told_by x r _ is_answer none asks)
+  pub reported_quiet : (x r : ℕ) → answer_acts t e.now e.event (flaw_in e.acts) ≡ [] → is_asking e.event ≡ false → parts.AsksAs x r e.acts []
+  reported_quiet x r none asks = subst (λ acts. parts.AsksAs x r acts []) (sym acts_is) (reported_by x r _ is_answer none asks)
 
   evicts_by : (r : ℕ) (acts : List Act) → answered acts → evicted limits t e.now e.event ≡ [] → evicts_in r acts ≡ false
-  evicts_by r _ (parts.told silent) none = ap (λ rs. evicts_in r (map act.Evicted rs ++ (loss_acts flaw ++ map act.Close closings))) none ∙ (parts.evicts_lost r flaw _ ∙ parts.evicts_closes r closings)
+  evicts_by r _ (parts.reported silent) none = ap (λ rs. evicts_in r (map act.Evicted rs ++ (loss_acts flaw ++ map act.Close closings))) none ∙ (parts.evicts_lost r flaw _ ∙ parts.evicts_closes r closings)
   evicts_by r _ parts.asked none = (said_closes 0 r t e.now e.event flaw asked_of _ said_here).evicts ∙ evicts_closed r closings flaw
 
   -- where nothing gives way, nothing is evicted

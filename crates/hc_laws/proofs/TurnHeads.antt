@@ -2,13 +2,13 @@
 --
 -- Of the table of cases one test leads to this case (`validated_on`). So the request was conditional and had the turn,
 -- what it is about is still current, and nothing is lost (`valid_is`). Hence no writing goes by it and no exchange
--- needs to be closed (`keeps_writing`, `free`), and as nothing is written nothing is evicted either (`write_none`). So
+-- needs to be closed (`keeps_group`, `free`), and as nothing is written nothing is evicted either (`write_none`). So
 -- nothing goes (`goes_none`). The law of turns needs that.
 use Rattle.std.{proofs.{lemmas.Bool.Decides.{nat_tests}, Common.{arith, ◌≡◌, ℕ, [], Bool, true, false, Option, Some, None, refl, ap, sym, ◌∙◌}}, specs.Prelude.{◌&&◌, ◌||◌, ◌==◌, not, is_some, if◌then◌else◌, nat_le}}
 use Rattle.hc_text.proofs.Basics.{and_left, and_none, and_right as and_then, not_true as not_yes}
 use Rattle.hc_effects.proofs.Vocabulary.{brings_part, brings_whole, opening_in, Response, HeadCase, HeadView, Route, Limits, head_case, case_on, direct_case, first_case, later_case, is_conditional, is_same_number, route_of, has_loss, misreads_in, answer_acts, case_at, case_of, head_view, validates, must_close, is_refused, has_no_survivor, awaits, current, is_current, doomed_key_of, doomed_in, doomed_by_head, doomed_by_case, bypass_key, bypassed_by, Entry, entry_without_acts, exchange_at, flaw_in, becomes_gone, goes_by_head, goes_by_exchange, goes_by_case, ends_early, ends_founding, stops_early, Tables, Exchange, Representation, evicted, first_idle, room_for, room_by, write_in, need, event, case, route}
 use Rattle.hc_effects.proofs.{ActParts.{leaver_lost}, Joining.{mix}, KeyRows.{same_number}}
-use Rattle.hc_laws.proofs.{TurnFacts.{none_goes, loss_seen, is_asking, IsTaken, seen, stays_open, told_quiet, evicts_none, same_case, same_doom}, PassedKeeps.{conditional_need}, HadHeaded.{lossless_none as no_loss}}
+use Rattle.hc_laws.proofs.{TurnFacts.{none_goes, loss_seen, is_asking, IsTaken, seen, stays_open, reported_quiet, evicts_none, same_case, same_doom}, PassedKeeps.{conditional_need}, HadHeaded.{lossless_none as no_loss}}
 
 -- THE CASE
 
@@ -104,18 +104,18 @@ module _ (limits : Limits) (t : Tables) (e : Entry) (taken : IsTaken limits t e)
   silent : answer_acts t e.now e.event (flaw_in e.acts) ≡ []
   silent = ap (λ ev. answer_acts t e.now ev (flaw_in e.acts)) at
 
-  keeps_writing : (y r : ℕ) (o : Option Representation) → has_no_survivor t saw y r o ≡ false
-  keeps_writing y r o = grind (arith, nat_tests, saw, no_loss, saw_lossless, and_none)
+  keeps_group : (y r : ℕ) (o : Option Representation) → has_no_survivor t saw y r o ≡ false
+  keeps_group y r o = grind (arith, nat_tests, saw, no_loss, saw_lossless, and_none)
 
   free : (y : ℕ) (u : Exchange) → must_close t saw y u ≡ false
-  free y u = grind (arith, nat_tests, is_refused, saw, same_case, awaits, same_doom, doom_at, keeps_writing, silent, leaver_lost)
+  free y u = grind (arith, nat_tests, is_refused, saw, same_case, awaits, same_doom, doom_at, keeps_group, silent, leaver_lost)
 
   ends_none : (r : ℕ) (o : Option Exchange) → ends_founding e r o ≡ false
   ends_none r None = refl
   ends_none r (Some u) = ap (λ b. u.is_open && b) (rw (ap (stops_early u r) at) (stays_open limits t e taken r (λ z there. free r z))) ∙ and_none u.is_open
 
   opens_none : opening_in e.acts ≡ None
-  opens_none = (told_quiet limits t e taken 0 0 silent (ap is_asking at)).opens
+  opens_none = (reported_quiet limits t e taken 0 0 silent (ap is_asking at)).opens
 
   write_none : write_in t (entry_without_acts e.now e.event) e.event ≡ None
   write_none = grind (arith, nat_tests)
@@ -130,6 +130,6 @@ module _ (limits : Limits) (t : Tables) (e : Entry) (taken : IsTaken limits t e)
   goes_none r v =
       let head : goes_by_head t e r ≡ false = ap (λ ev. goes_by_exchange t e r (exchange_at t ev)) at ∙ (ap (goes_by_exchange t e r) row ∙ ap (λ c. goes_by_case t e r c w) found) in
       let past : bypass_key e ≡ None = ap bypassed_by opens_none in
-      let reads : misreads_in r e.acts ≡ false = (told_quiet limits t e taken 0 r silent (ap is_asking at)).misreads in
+      let reads : misreads_in r e.acts ≡ false = (reported_quiet limits t e taken 0 r silent (ap is_asking at)).misreads in
       let early : ends_early t e r v ≡ false = ap (λ b. brings_whole v.head.status && b) (ends_none r (t.exchange r)) ∙ and_none (brings_whole v.head.status) in
       rw (doom_at, past, head, no_loss r e.acts lossless, reads, early, evicts_none limits t e taken r evicted_none) (none_goes v (is_current t v.key r))

@@ -6,7 +6,7 @@
 -- leave it, with the new exchange as its own (`opener_after`, `opener_stands`).
 use Rattle.std.{proofs.Common.{◌≡◌, ◌⊎◌, inl, inr, ℕ, ◌+◌, List, [], ◌∷◌, ◌++◌, length, Bool, true, false, Option, Some, None, refl, ap, sym, ◌∙◌, subst}, specs.Prelude.{◌&&◌, ◌||◌, nat_eq, not, is_none, if◌then◌else◌}}
 use Rattle.hc_text.proofs.Basics.{and_left, and_none, eq_itself as eq-refl, not_some as none_some, plus_none, some_inj}
-use Rattle.hc_effects.proofs.Vocabulary.{brings_whole, Opening, opening_in, closes_in, leaves_in, shows_in, given_in, Act, Need, Event, Request, Limits, route_of, is_bypassing, BoundBy, Place, wait_in, fails_in, leaver_in, loses_in, misreads_in, has_loss, without_losses, Showing, showing_in, loss_acts, case_at, case_of, must_close, is_doomed, is_left, leaver, leaver_by, is_refused, brings_head, has_no_survivor, awaits, consumer_after, consumer_settled, consumer_acted, consumer_heard, by_opening, waiting, waiting_place, shown_place, own_after, left_to, due_after, back_in_line, unless_bound, opened_place, is_number, is_current, doomed_key_of, doomed_in, bypass_key, bypassed_by, bypassed_for, is_key, Entry, exchange_at, is_headless, family, Flaw, Loses, flaw_in, becomes_gone, goes_by_head, goes_by_exchange, ends_early, ends_founding, stops_early, goes_in, Turns, StandsFor, turn_with, Move, acts_of, bound_to, is_written, Tables, Exchange, Representation, Consumer, may_be, Sound, starts_over, sends_back, loses_what_it_waits_for, brings_body, loses_writing, survivor, written_representation, written_in, seals_at, stops, first_found, lossless, need, wait, event, route, by}
+use Rattle.hc_effects.proofs.Vocabulary.{brings_whole, Opening, opening_in, closes_in, leaves_in, shows_in, given_in, Act, Need, Event, Request, Limits, route_of, is_bypassing, BoundBy, Place, wait_in, fails_in, leaver_in, loses_in, misreads_in, has_loss, without_losses, Showing, showing_in, loss_acts, case_at, case_of, must_close, is_doomed, is_left, leaver, leaver_by, is_refused, brings_head, has_no_survivor, awaits, consumer_after, consumer_settled, consumer_acted, consumer_heard, by_opening, waiting, waiting_place, shown_place, own_after, left_to, due_after, back_in_line, unless_bound, opened_place, is_number, is_current, doomed_key_of, doomed_in, bypass_key, bypassed_by, bypassed_for, is_key, Entry, exchange_at, is_headless, family, Flaw, Loses, flaw_in, becomes_gone, goes_by_head, goes_by_exchange, ends_early, ends_founding, stops_early, goes_in, Turns, StandsFor, turn_with, Move, acts_of, bound_to, is_written, Tables, Exchange, Representation, Consumer, may_be, Sound, starts_over, sends_back, loses_what_it_waits_for, brings_body, loses_group, survivor, written_representation, written_in, seals_at, stops, first_found, lossless, need, wait, event, route, by}
 use Rattle.hc_event.specs.declared.place.Place.TheVariants as place
 use Rattle.hc_model.specs.ConsumerRows.{with_opening}
 use Rattle.hc_model.specs.Laws as laws
@@ -31,10 +31,10 @@ module _ (limits : Limits) (t : Tables) (e : Entry) (taken : IsTaken limits t e)
   abbrev saw : Entry
   saw = seen limits t e taken
 
-  keeps_writing : (x r : ℕ) (o : Option Representation) → has_no_survivor t saw x r o ≡ false
-  keeps_writing x r None = refl
-  keeps_writing x r (Some v) =
-      let none : loses_writing t saw r v ≡ false = ap (λ b. b && loses_in r saw.acts && is_written t v) (ap brings_body at) in
+  keeps_group : (x r : ℕ) (o : Option Representation) → has_no_survivor t saw x r o ≡ false
+  keeps_group x r None = refl
+  keeps_group x r (Some v) =
+      let none : loses_group t saw r v ≡ false = ap (λ b. b && loses_in r saw.acts && is_written t v) (ap brings_body at) in
       ap (λ b. is_number v.writer x && b && is_none (survivor t r v)) none ∙ ap (λ b. b && is_none (survivor t r v)) (and_none (is_number v.writer x))
 
   doom_seen : doomed_key_of t saw ≡ None
@@ -47,7 +47,7 @@ module _ (limits : Limits) (t : Tables) (e : Entry) (taken : IsTaken limits t e)
   free : (x : ℕ) (w : Exchange) → must_close t saw x w ≡ false
   free x w = all_false (is_refused (case_at t saw) && brings_head x e.event) (is_doomed t saw x w) (has_no_survivor t saw x (family x w) (t.representation (family x w))) (is_left t x (leaver saw))
       (ap (λ ev. is_refused (case_at t saw) && brings_head x ev) at ∙ and_none (is_refused (case_at t saw)))
-      (not_doomed x w) (keeps_writing x (family x w) (t.representation (family x w)))
+      (not_doomed x w) (keeps_group x (family x w) (t.representation (family x w)))
       (ap (is_left t x) (ap (λ ev. leaver_by ev saw.acts) at ∙ nobody))
     where
       all_false : (a b d f : Bool) → a ≡ false → b ≡ false → d ≡ false → f ≡ false → (a || b || d || f) ≡ false
@@ -150,9 +150,9 @@ pub opened_at : (limits : Limits) (t : Tables) (e : Entry) (taken : IsTaken limi
 opened_at limits t e taken s turns o is = by_opening_of (opened_is limits t e.now e.event (flaw_in e.acts) o (sym (ap opening_in (acts_is limits t e taken)) ∙ is))
   where
     by_poll_of : (want : ℕ) (k : Consumer) → e.event ≡ event.Poll o.c want → t.consumer o.c ≡ Some k → o.request.key ≡ k.request.key → AtPoll limits t e taken o.c k → IsOpenedAt limits t e taken o
-    by_poll_of want k at row same (facts.misreads want' r at' all told) =
+    by_poll_of want k at row same (facts.misreads want' r at' all reported) =
         absurd (none_some o (sym (ap opening_in all ∙ opens_behind limits t e taken) ∙ is))
-    by_poll_of want k at row same (facts.moves_on want' m at' m_is does_so all told) =
+    by_poll_of want k at row same (facts.moves_on want' m at' m_is does_so all reported) =
         let it = opened_does o.c m (behind limits t e taken) o (opens_behind limits t e taken) (sym (ap opening_in all) ∙ is) in
         let both = opens_for t o.c k o.x o.need o.request m does_so it in
         record {
@@ -164,7 +164,7 @@ opened_at limits t e taken s turns o is = by_opening_of (opened_is limits t e.no
           next = both.0;
           why = both.1;
           acts = all ∙ ap (λ z. acts_of o.c z ++ behind limits t e taken) it;
-          saw = told ∙ ap (λ z. acts_of o.c z ++ loss_acts (flaw_in e.acts)) it;
+          saw = reported ∙ ap (λ z. acts_of o.c z ++ loss_acts (flaw_in e.acts)) it;
         }
 
     by_opening_of : IsOpening t e.event o → IsOpenedAt limits t e taken o
@@ -241,7 +241,7 @@ module _ (limits : Limits) (t : Tables) (e : Entry) (taken : IsTaken limits t e)
   left_same : (r : ℕ) (own : Option ℕ) (v : Option Representation) → left_to t e c r v own ≡ own
   left_same r own None = refl
   left_same r own (Some v) =
-      let none : loses_writing t e r v ≡ false = ap (λ b. b && loses_in r e.acts && is_written t v) (ap brings_body opened.at) in
+      let none : loses_group t e r v ≡ false = ap (λ b. b && loses_in r e.acts && is_written t v) (ap brings_body opened.at) in
       rw none refl
 
   own_same : (p : Place) (own : Option ℕ) → own_after t e c p own ≡ own

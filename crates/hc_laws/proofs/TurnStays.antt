@@ -5,8 +5,8 @@
 -- (`polls_head`); other acts aren't told to it. The most work is that it doesn't start over (`not_over`): nothing of
 -- what it waits for is doomed or lost (`dooms`, `loses_none`). `after_same` joins this.
 use Rattle.std.{proofs.{lemmas.Bool.Decides.{nat_tests}, Common.{arith, ◌≡◌, inl, inr, ℕ, ◌+◌, List, [], ◌∷◌, ◌++◌, Bool, true, false, cond, Option, Some, None, refl, ap, sym, ◌∙◌, subst}}, specs.{Prelude.{length, ◌&&◌, ◌||◌, ◌==◌, nat_eq, not, is_none, is_some, if◌then◌else◌}, Option.{option_and_then}}}
-use Rattle.hc_text.proofs.Basics.{or_right, or_left, and_left, and_right as and_then, bool_cases, eq_itself as eq-refl, eq_tells as eq_is, never_true as not_true, plus_none, same_some as same_row, some_inj}
-use Rattle.hc_effects.proofs.Vocabulary.{Opening, opening_in, closes_in, leaves_in, shows_in, given_in, Act, Event, Response, head_refusal, fault_refusal, Route, Limits, route_of, BoundBy, Place, has_loss, wait_in, leaver_in, Showing, showing_in, case_at, case_of, must_close, is_doomed, is_left, is_left_by, awaits, leaver, leaver_by, is_refused, brings_head, consumer_after, consumer_settled, consumer_acted, consumer_heard, by_head, by_fault, by_opening, waiting, waiting_place, shown_place, own_after, left_to, due_after, back_in_line, is_number, denial, as_open, doomed_key_of, is_key, Entry, exchange_heard, exchange_acted, promised_bytes, exchange_at, is_for, is_headless, is_open, IsOfOneKey, Turns, StandsFor, IsAwaited, Move, acts_of, poll_move, shows_head, shows_at, shows_direct, shows_answer, if_headless, waits_for_head, or_else, by_place, has_joined, own_open, if_open, is_written, is_open_writer, Tables, Exchange, Representation, Consumer, Sound, IsAbout, starts_over, sends_back, waits_at, awaited_exchange, loses_what_it_waits_for, loses_writing, act, wait, event, by}
+use Rattle.hc_text.proofs.Basics.{or_right, or_left, and_left, and_right as and_then, bool_cases, eq_itself as eq-refl, eq_reports as eq_is, never_true as not_true, plus_none, same_some as same_row, some_inj}
+use Rattle.hc_effects.proofs.Vocabulary.{Opening, opening_in, closes_in, leaves_in, shows_in, given_in, Act, Event, Response, head_refusal, fault_refusal, Route, Limits, route_of, BoundBy, Place, has_loss, wait_in, leaver_in, Showing, showing_in, case_at, case_of, must_close, is_doomed, is_left, is_left_by, awaits, leaver, leaver_by, is_refused, brings_head, consumer_after, consumer_settled, consumer_acted, consumer_heard, by_head, by_fault, by_opening, waiting, waiting_place, shown_place, own_after, left_to, due_after, back_in_line, is_number, denial, as_open, doomed_key_of, is_key, Entry, exchange_heard, exchange_acted, promised_bytes, exchange_at, is_for, is_headless, is_open, IsOfOneKey, Turns, StandsFor, IsAwaited, Move, acts_of, poll_move, shows_head, shows_at, shows_direct, shows_answer, if_headless, waits_for_head, or_else, by_place, has_joined, own_open, if_open, is_written, is_open_writer, Tables, Exchange, Representation, Consumer, Sound, IsAbout, starts_over, sends_back, waits_at, awaited_exchange, loses_what_it_waits_for, loses_group, act, wait, event, by}
 use Rattle.hc_rules.specs.Refusals as refusals
 use Rattle.hc_event.specs.declared.place.Place.TheVariants as place
 use Rattle.hc_model.specs.Laws as laws
@@ -201,20 +201,20 @@ module _ (limits : Limits) (t : Tables) (e : Entry) (taken : IsTaken limits t e)
   written_is v h = h
 
   -- who has a headless exchange shares no writing
-  not_writing : (r lo : ℕ) (hi : Option ℕ) (how : BoundBy) (v : Representation) → k.place ≡ place.Bound r lo hi how → t.representation r ≡ Some v → is_written t v ≡ true → ⊥
-  not_writing r lo hi how v at there on =
+  not_group : (r lo : ℕ) (hi : Option ℕ) (how : BoundBy) (v : Representation) → k.place ≡ place.Bound r lo hi how → t.representation r ≡ Some v → is_written t v ≡ true → ⊥
+  not_group r lo hi how v at there on =
       let parts = writer_some v.writer (and_then (not v.is_lost) (is_open_writer t v.writer) (written_is v on)) in
       let grows = (s.rows r v there).growing parts.0 on parts.1 in
       let w' = grows.0 in
       let g = grows.1 in
-      let writing : IsAbout t r parts.0 = sound.headed w' g.row (sym (ap is_open g.row) ∙ parts.2) g.headed g.family_is (ap is_some there) in
-      let same : parts.0 ≡ x = s.one_about r parts.0 x writing (s.writes.own_about r c x k (sound.is_bound lo hi how it.row at) own_is_open) in
+      let writer_group : IsAbout t r parts.0 = sound.headed w' g.row (sym (ap is_open g.row) ∙ parts.2) g.headed g.family_is (ap is_some there) in
+      let same : parts.0 ≡ x = s.one_about r parts.0 x writer_group (s.writes.own_about r c x k (sound.is_bound lo hi how it.row at) own_is_open) in
       headed_not w headless (ap (λ (z : Exchange). is_some z.head) (same_row (t.exchange x) w w' row (ap t.exchange (sym same) ∙ g.row)) ∙ g.headed)
 
   left_same : (r lo : ℕ) (hi : Option ℕ) (how : BoundBy) (own : Option ℕ) (o : Option Representation) → k.place ≡ place.Bound r lo hi how → t.representation r ≡ o → left_to t e c r o own ≡ own
   left_same r lo hi how own None at there = refl
   left_same r lo hi how own (Some v) at there =
-      let none : loses_writing t e r v ≡ false = not_true _ (λ h. not_writing r lo hi how v at there (and_then _ (is_written t v) h)) in
+      let none : loses_group t e r v ≡ false = not_true _ (λ h. not_group r lo hi how v at there (and_then _ (is_written t v) h)) in
       rw none refl
 
   own_same : (p : Place) (own : Option ℕ) → k.place ≡ p → own_after t e c p own ≡ own

@@ -531,10 +531,10 @@ module _ (limits : Limits) (t : Tables) (e : Entry) (taken : IsTaken limits t e)
           stays_headed y h.0 h.1 h.2
 
   first_place : (c r lo y : ℕ) (hi : Option ℕ) (k z : Consumer) (p : Place) → t.consumer c ≡ Some k → u.consumer c ≡ Some z → z.place ≡ place.Bound r lo hi (by.FirstHole y) → z.shown ≡ true → (shows_in c e.acts || k.shown) ≡ true → ComesFrom t e c k p → p ≡ place.Bound r lo hi (by.FirstHole y) → Headed y
-  first_place c r lo y hi k z _ row after at shown told places.kept is = first_stays c r lo y hi k row is told
-  first_place c r lo y hi k z _ row after at shown told (places.plain p plain) is = absurd (subst IsPlain is plain)
-  first_place c r lo y hi k z _ row after at shown told (places.first_of o q low high opens_it mine way) is = opened_first o r lo y hi z opens_it (ap u.consumer mine ∙ after) at shown way
-  first_place c r lo y hi k z _ row after at shown told _ is = apart is_first (place.Bound r lo hi (by.FirstHole y)) _ refl refl (sym is)
+  first_place c r lo y hi k z _ row after at shown reported places.kept is = first_stays c r lo y hi k row is reported
+  first_place c r lo y hi k z _ row after at shown reported (places.plain p plain) is = absurd (subst IsPlain is plain)
+  first_place c r lo y hi k z _ row after at shown reported (places.first_of o q low high opens_it mine way) is = opened_first o r lo y hi z opens_it (ap u.consumer mine ∙ after) at shown way
+  first_place c r lo y hi k z _ row after at shown reported _ is = apart is_first (place.Bound r lo hi (by.FirstHole y)) _ refl refl (sym is)
 
   first_of : (c r lo y : ℕ) (hi : Option ℕ) (z : Consumer) → u.consumer c ≡ Some z → WasConsumer c z → z.place ≡ place.Bound r lo hi (by.FirstHole y) → z.shown ≡ true → Headed y
   first_of c r lo y hi z row (there k row' after) at shown = first_place c r lo y hi k z z.place row' row at shown (sym after.shown ∙ shown) after.from at

@@ -6,7 +6,7 @@
 -- founds had nothing due too (`founder_undue`). `undue_kept` joins the three.
 use Rattle.std.{proofs.Common.{◌≡◌, inl, inr, ℕ, Bool, true, false, Option, Some, None, refl, ap, sym, ◌∙◌, subst}, specs.Prelude.{if◌then◌else◌, is_some, ◌||◌}}
 use Rattle.hc_text.proofs.Basics.{or_right, or_left, and_left, and_right, not_some as none_some, never_true as not_so, not_true, same_some as same_row, some_inj}
-use Rattle.hc_effects.proofs.Vocabulary.{Opening, opening_in, Event, Response, HeadCase, head_case, is_same_number, route_of, BoundBy, has_loss, loses_in, case_at, head_view, is_founding, is_joining, consumer_heard, consumer_acted, is_number, Entry, exchange_in, is_for, is_open, becomes_due, cause_of_stop, cause_of_loss, cause_of_head, cause_by_case, stop_cause, entry_of, IsAwaiting, is_written, source, reads, Tables, Exchange, Representation, Consumer, may_stand, IsBound, IsFirst, IsExclusiveWriter, after_accepted, loses_writing, event, case, route, place}
+use Rattle.hc_effects.proofs.Vocabulary.{Opening, opening_in, Event, Response, HeadCase, head_case, is_same_number, route_of, BoundBy, has_loss, loses_in, case_at, head_view, is_founding, is_joining, consumer_heard, consumer_acted, is_number, Entry, exchange_in, is_for, is_open, becomes_due, cause_of_stop, cause_of_loss, cause_of_head, cause_by_case, stop_cause, entry_of, IsAwaiting, is_written, source, reads, Tables, Exchange, Representation, Consumer, may_stand, IsBound, IsFirst, IsExclusiveWriter, after_accepted, loses_group, event, case, route, place}
 use Rattle.hc_model.specs.Owners as owners
 use Rattle.hc_model.specs.Sound as sound
 use Rattle.hc_effects.proofs.{ApartKeeps.{IsOn, is_on, was_written}, Basics.{number_is, false_true, or_false}, BoundFrom.{BoundFrom, bound_from}, BoundKeeps.{founding_is}, Dues.{undue_of, stop_none, loss_at, loss_free, due_none}, ExchangeFrom.{ExchangeFrom, exchange_from}, FirstKeeps.{case_is, is_new, open_free}, FoundBy.{case_by, founding_by, founds_way}, MemberStays.{head_not}, OwnersKeep.{is_opened}, PieceKeeps.{eq_cases}, ExclusiveWriters.{writer_some}, RepFrom.{RepFrom, rep_from, IsKept, IsResumed}, Stops.{source_is}, HasBound.{joins_way}, Waiters.{IsWaiter, waiter_of, unwritten, waits_undue}, Step.{Step}}
@@ -36,7 +36,7 @@ module _ (step : Step) (stand : may_stand step.limits step.tables (entry_of step
   head_opens : (x : ℕ) (response : Response) (p : Opening) → ev ≡ event.Head x response → opening_in e.acts ≡ Some p → ⊥
   head_opens x response p here opens = let opened = is_opened step p opens in let no : event.Head x response ≡ event.Poll p.c opened.want = sym here ∙ opened.at in cc
 
-  unlosing : (r : ℕ) (v : Representation) → loses_in r e.acts ≡ false → loses_writing t e r v ≡ false
+  unlosing : (r : ℕ) (v : Representation) → loses_in r e.acts ≡ false → loses_group t e r v ≡ false
   unlosing r v kept = not_so _ (λ h. false_true (sym kept ∙ and_right _ _ (and_left _ _ h)))
 
   -- WHERE A WRITING GOES ON
@@ -128,7 +128,7 @@ module _ (step : Step) (stand : may_stand step.limits step.tables (entry_of step
       by_row : (z : Option Representation) → t.representation r ≡ z → is_some z ≡ true → (k.due ≡ None) × (becomes_due t e c k ≡ None)
       by_row None there some = absurd (false_true some)
       by_row (Some v) there some =
-          let off : loses_writing t e r v ≡ false = not_so _ (λ h. unwritten step c x k w is r lo hi how v v.writer stands there (and_right _ _ h) refl) in
+          let off : loses_group t e r v ≡ false = not_so _ (λ h. unwritten step c x k w is r lo hi how v v.writer stands there (and_right _ _ h) refl) in
           ((waits_undue step r c x lo hi how v k w is stands there).0, head_undue c x response k here (or_left _ _ on) (loss_at t e c r lo hi how k v stands there off))
 
   -- EACH WAY TO BE BOUND

@@ -6,10 +6,10 @@
 -- and gets the exchange of the writing (`survives`). `unended_kept` joins the two.
 use Rattle.std.{proofs.{Common.{◌≡◌, ◌⊎◌, inl, inr, ℕ, List, length, Bool, true, false, Option, Some, None, refl, ap, sym, ◌∙◌, subst, arith}, lemmas.Bool.Decides.{nat_tests}}, specs.{Prelude.{◌&&◌, ◌++◌, is_some, is_none, nat_eq, unwrap_or, if◌then◌else◌}, Option.{option_or}}}
 use Rattle.hc_text.proofs.Basics.{and_left, and_right, not_some as none_some, never_true as not_so, or_cases, same_some as same_row, some_inj}
-use Rattle.hc_effects.proofs.Vocabulary.{Opening, closes_in, opening_in, Event, Response, is_same_number, BoundBy, case_at, must_close, is_refused, brings_head, is_doomed, has_no_survivor, is_left, leaver, leaver_by, consumer_heard, consumer_acted, is_number, Unended, Entry, exchange_acted, exchange_heard, with_piece, exchange_in, family, is_open, is_reached, promised_bytes, becomes_due, stop_cause, entry_of, OfRuns, Measures, IsMeasured, is_written, own_open, shared_exchange, source, reads, Tables, Exchange, Representation, Consumer, IsBound, IsFirst, IsGrowing, after_accepted, brings_body, came_alone, loses_writing, survivor, cause, event, place}
+use Rattle.hc_effects.proofs.Vocabulary.{Opening, closes_in, opening_in, Event, Response, is_same_number, BoundBy, case_at, must_close, is_refused, brings_head, is_doomed, has_no_survivor, is_left, leaver, leaver_by, consumer_heard, consumer_acted, is_number, Unended, Entry, exchange_acted, exchange_heard, with_piece, exchange_in, family, is_open, is_reached, promised_bytes, becomes_due, stop_cause, entry_of, OfRuns, Measures, IsMeasured, is_written, own_open, shared_exchange, source, reads, Tables, Exchange, Representation, Consumer, IsBound, IsFirst, IsGrowing, after_accepted, brings_body, came_alone, loses_group, survivor, cause, event, place}
 use Rattle.hc_model.specs.Measures as measures
 use Rattle.hc_model.specs.Sound as sound
-use Rattle.hc_effects.proofs.{AboutKeeps.{IsOwn, own_open_of, own_open_is}, ApartKeeps.{is_on}, Basics.{false_true}, Beside.{IsBeside}, BoundFrom.{IsRow}, Closed.{before}, Dues.{due_before, undue_parts}, FirstKeeps.{is_new}, Forward.{after_is}, LossBy.{IsReal}, OwnFrom.{OwnFrom, own_from}, ExclusiveWriters.{writer_some}, PieceKeeps.{eq_cases}, RepFrom.{IsKept, IsEnded}, Said.{leaving_by}, SaidActs.{leaver_leaves}, Stops.{source_is}, Survives.{goes_on}, ToBeShown.{heard_place}, Unclosed.{had_to}, Waiters.{unleft, waiter_as}, WritingStops.{ended_total}, WriterEnds.{none_of}, Step.{Step, step_of}}
+use Rattle.hc_effects.proofs.{AboutKeeps.{IsOwn, own_open_of, own_open_is}, ApartKeeps.{is_on}, Basics.{false_true}, Beside.{IsBeside}, BoundFrom.{IsRow}, Closed.{before}, Dues.{due_before, undue_parts}, FirstKeeps.{is_new}, Forward.{after_is}, LossBy.{IsReal}, OwnFrom.{OwnFrom, own_from}, ExclusiveWriters.{writer_some}, PieceKeeps.{eq_cases}, RepFrom.{IsKept, IsEnded}, Said.{leaving_by}, SaidActs.{leaver_leaves}, Stops.{source_is}, Survives.{goes_on}, ToBeShown.{heard_place}, Unclosed.{had_to}, Waiters.{unleft, waiter_as}, GroupStops.{ended_total}, WriterEnds.{none_of}, Step.{Step, step_of}}
 use Rattle.hc_laws.proofs.{GoAlone.{lost_of, was_there, left_loses, unwritten_lost}, OpensLater.{opens_later}, OwnNone.{IsShared, own_none}, ExclusiveWriterFrom.{ExclusiveWriterFrom, alone_from}, RunFacts.{in_runs}}
 use Rattle.hc_effects.proofs.OwnFrom as own
 use Rattle.hc_laws.proofs.ExclusiveWriterFrom as exclusive_writers
@@ -34,8 +34,8 @@ endless : (t : Tables) (m : Measures t) (r x : ℕ) (v : Representation) (w : Ex
 endless t m r x v w there none row on headed of_r = by_measure (m.brings x w v row on headed (ap t.representation of_r ∙ there))
   where
     by_measure : IsMeasured w v → IsEndless t r x w
-    by_measure (measures.told n total promise known ends) = absurd (none_some total (sym none ∙ known))
-    by_measure (measures.untold none_too unknown first alone came) = record {
+    by_measure (measures.reported n total promise known ends) = absurd (none_some total (sym none ∙ known))
+    by_measure (measures.unreported none_too unknown first alone came) = record {
       row = row;
       is_open = on;
       headed = headed;
@@ -201,7 +201,7 @@ module _ (step : Step) (m : Measures step.tables) (i : IsBeside step.tables) (re
 
       -- IT SURVIVES THE LOSS
 
-      module _ (losing : loses_writing t e r v ≡ true) (is : survivor t r v ≡ Some c) (x : ℕ) (writer : v.writer ≡ Some x) where
+      module _ (losing : loses_group t e r v ≡ true) (is : survivor t r v ≡ Some c) (x : ℕ) (writer : v.writer ≡ Some x) where
         on : is_written t v ≡ true
         on = and_right _ _ losing
 
@@ -220,7 +220,7 @@ module _ (step : Step) (m : Measures step.tables) (i : IsBeside step.tables) (re
         unlost : has_no_survivor t b r (family r grows.0) (t.representation (family r grows.0)) ≡ true → ⊥
         unlost h =
             let here : has_no_survivor t b r r (Some v) ≡ true = sym (ap (λ n. has_no_survivor t b r n (t.representation n)) family_r ∙ ap (has_no_survivor t b r r) there) ∙ h in
-            none_some_test (survivor t r v) c is (and_right (is_number v.writer r && loses_writing t b r v) _ here)
+            none_some_test (survivor t r v) c is (and_right (is_number v.writer r && loses_group t b r v) _ here)
 
         -- nobody leaves at what brings a body
         none_leaves : (d : ℕ) → leaver_by ev b.acts ≡ Some d → ⊥
@@ -250,7 +250,7 @@ module _ (step : Step) (m : Measures step.tables) (i : IsBeside step.tables) (re
           let one : q ≡ k = same_row (t.consumer c) q k q_row row.row in
           false_true (s.writes.known_end r c lo None how k row.row at (subst (λ z. came_alone t z ≡ true) (sym q_at ∙ (ap (λ (z : Consumer). z.place) one ∙ at)) alone))
 
-      by_writer : loses_writing t e r v ≡ true → survivor t r v ≡ Some c → (z : Option ℕ) → v.writer ≡ z → own_open now_on u ≡ Some r
+      by_writer : loses_group t e r v ≡ true → survivor t r v ≡ Some c → (z : Option ℕ) → v.writer ≡ z → own_open now_on u ≡ Some r
       by_writer losing is None writer = absurd (writer_some t v (and_right _ _ losing) writer)
       by_writer losing is (Some x) writer = survives losing is x writer
 

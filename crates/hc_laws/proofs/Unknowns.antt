@@ -9,7 +9,7 @@ use Rattle.hc_text.proofs.Basics.{not_some as none_some, some_inj}
 use Rattle.hc_effects.proofs.Vocabulary.{brings_whole, Response, Limits, may_begin, is_kind_right, case_at, is_founding, Entry, Content, Contents, is_open, is_keepable, entry_of, item_of, AfterDenials, Measures, IsMeasured, is_written, covers, new_representation, asks_whole, hole_start, resumes, Tables, Exchange, Representation, IsGrowing, representation_of_content, first_tables, after_accepted, event}
 use Rattle.hc_model.specs.Gone.{refuses_ranges}
 use Rattle.hc_model.specs.Measures as measures
-use Rattle.hc_effects.proofs.{ApartKeeps.{written_by, is_on}, Basics.{false_true, some_none}, LossBy.{IsReal}, ExclusiveWriters.{writer_some}, RepFrom.{RepFrom, rep_from, IsKept, IsResumed, IsEnded}, WritingStops.{IsAll}, Step.{Step}}
+use Rattle.hc_effects.proofs.{ApartKeeps.{written_by, is_on}, Basics.{false_true, some_none}, LossBy.{IsReal}, ExclusiveWriters.{writer_some}, RepFrom.{RepFrom, rep_from, IsKept, IsResumed, IsEnded}, GroupStops.{IsAll}, Step.{Step}}
 use Rattle.hc_laws.proofs.{DeniedKeeps.{written_same}, MeasuresBegin.{known_item}, Lasting.{was_not_gone, not_lost, lasting}, FoundedAs.{part, empty, comes, FoundedAs, founded_as}, UnendedRuns.{or_none}}
 use Rattle.hc_effects.proofs.RepFrom as rep
 
@@ -81,8 +81,8 @@ module _ (step : Step) (m : Measures step.tables) (unknown : Unknown step.tables
       mine = by_measure (m.brings x w v g.row (sym (ap is_open g.row) ∙ (is_on t v x was.written writer).open_now) g.headed (ap t.representation g.family_is ∙ there))
         where
           by_measure : IsMeasured w v → x ≡ r
-          by_measure (measures.told n total promise known ends) = absurd (none_some total (sym none_before ∙ known))
-          by_measure (measures.untold none_too unknown_too first alone was_at) = sym (ap (λ (n : Option ℕ). unwrap_or n x) alone) ∙ g.family_is
+          by_measure (measures.reported n total promise known ends) = absurd (none_some total (sym none_before ∙ known))
+          by_measure (measures.unreported none_too unknown_too first alone was_at) = sym (ap (λ (n : Option ℕ). unwrap_or n x) alone) ∙ g.family_is
 
       still : is_open (now_on.exchange x) ≡ true
       still = by_end (lasting step m r v p there kept not_gone unkeepable was.whole was.written (writer ∙ ap Some mine))

@@ -1,13 +1,11 @@
 -- No update changes what Vary names, so whom a stored head answers.
 use Rattle.std.{proofs.Common.{◌≡◌, ℕ, List, Bool, true, false, Option, Some, None, refl, ap, ◌∙◌}, specs.{Prelude.{◌&&◌, if◌then◌else◌, codes, ◌==◌}, List.{list_all, flat_map}}}
 use Rattle.hc_effects.proofs.Vocabulary.{Event, Request, Entry, family, representation_heard, representation_acted, representation_after_head, with_renewed_head, updates, representation_after_piece, with_total_if_none, length_in, Tables, Exchange, Representation, event}
-use Rattle.hc_fields.specs.{FieldList.{values_of}, Agreement.{agree_on}}
-use Rattle.hc_fields.specs.FirstValues.{elements_in}
+use Rattle.hc_fields.specs.{FieldList.{values_of}, Agreement.{agree_on}, FirstValues.{elements_in}}
 use Rattle.hc_fresh.specs.Vary.{matches_vary, matches_on, is_name}
 use Rattle.http_header.specs.Token.{lowercase}
 use Rattle.hc_text.specs.Elements.{elements}
-use Rattle.hc_validate.specs.Updates.{updated_fields}
-use Rattle.hc_validate.specs.Updates.{FieldPairs}
+use Rattle.hc_validate.specs.Updates.{updated_fields, FieldPairs}
 use Rattle.hc_effects.proofs.FieldsKeep.{values_kept}
 
 abbrev vary : List ℕ

@@ -79,9 +79,9 @@ module _ (t : Tables) (s : Sound t) (unknown : Unknown t) where
         let a = candidate_is t now c k z current_is in
         absurd (is_read k.request.key a.r a.v a.current_is a.row (by_why a why) (none_least (bound t a.r) (sym a.least_is ∙ none)))
       where
-        by_why : (a : IsCandidate t k z) → (z.span ≡ wanted.TotalUnknown) ⊎ (z.writing ≡ true) → (a.v.head.total ≡ None) ⊎ (is_written t a.v ≡ true)
+        by_why : (a : IsCandidate t k z) → (z.span ≡ wanted.TotalUnknown) ⊎ (z.writer_group ≡ true) → (a.v.head.total ≡ None) ⊎ (is_written t a.v ≡ true)
         by_why a (inl span) = inl (unknown_span (range_of k.request) a.v.head.total (sym a.span_is ∙ span))
-        by_why a (inr writing) = inr (sym a.writing_is ∙ writing)
+        by_why a (inr writer_group) = inr (sym a.writer_group_is ∙ writer_group)
 
     busy_reads : (want : ℕ) → t.consumer c ≡ Some k → move_of t now want c k ≡ moves.Waits (wait.Busy d) → Reads
     busy_reads want row is =

@@ -10,7 +10,7 @@ use Rattle.hc_effects.proofs.Vocabulary.{closes_in, is_denied, leaves_in, Act, E
 use Rattle.hc_event.specs.declared.event.Event.TheVariants as event
 use Rattle.hc_rules.specs.Refusals as refusals
 use Rattle.hc_model.specs.Moves as moves
-use Rattle.hc_effects.proofs.{ActParts.{far_closing, far_lost_only}, Basics.{number_is}, EventsKeep.{poll_live}, FailsTold.{fails_told}, LeftBy.{left_passed}, Owed.{goes, acts_are, is_denial, IsDenied}, LeaveFrames.{IsFront, acts_left, goes_by, itself}, KeyActs.{closes_lossless}}
+use Rattle.hc_effects.proofs.{ActParts.{far_closing, far_lost_only}, Basics.{number_is}, EventsKeep.{poll_live}, FailsReported.{fails_reported}, LeftBy.{left_passed}, Owed.{goes, acts_are, is_denial, IsDenied}, LeaveFrames.{IsPrefix, acts_left, goes_by, itself}, KeyActs.{closes_lossless}}
 use Rattle.hc_effects.proofs.Owed as owed_by
 use Rattle.hc_laws.proofs.{TurnOpens.{found_none}, TurnFacts.{far_from, may_be_so}, Accepted.{is_accepted}, LiveAfter.{Starts, was_live}}
 use Rattle.hc_effects.proofs.LeaveFrames as frames
@@ -18,7 +18,7 @@ use Rattle.hc_effects.proofs.LeaveFrames as frames
 -- WHAT IS SAID TO WHO LEAVES
 
 -- it is told a failure, or no read failed
-fails_or : (c : ℕ) (ev : Event) (o : Option ℕ) (front rest : List Act) → IsFront c ev o front → (fails_in c (front ++ rest) ≡ true) ⊎ (o ≡ None)
+fails_or : (c : ℕ) (ev : Event) (o : Option ℕ) (front rest : List Act) → IsPrefix c ev o front → (fails_in c (front ++ rest) ≡ true) ⊎ (o ≡ None)
 fails_or c _ _ _ rest (frames.misreads want r) = inl (rw (same_number c) refl)
 fails_or c _ _ _ rest _ = inr refl
 
@@ -26,22 +26,22 @@ lost_closes : (x : ℕ) (flaw : Flaw) → closes_in x (loss_acts flaw) ≡ false
 lost_closes x NoFlaw = refl
 lost_closes x _ = refl
 
-front_closes : (x c : ℕ) (ev : Event) (o : Option ℕ) (front : List Act) (flaw : Flaw) → IsFront c ev o front → closes_in x (front ++ loss_acts flaw) ≡ false
+front_closes : (x c : ℕ) (ev : Event) (o : Option ℕ) (front : List Act) (flaw : Flaw) → IsPrefix c ev o front → closes_in x (front ++ loss_acts flaw) ≡ false
 front_closes x c _ _ _ flaw (frames.ends want) = lost_closes x flaw
 front_closes x c _ _ _ flaw _ = lost_closes x flaw
 
-front_stops : (x c : ℕ) (ev : Event) (o : Option ℕ) (front : List Act) → IsFront c ev o front → stops x ev ≡ false
+front_stops : (x c : ℕ) (ev : Event) (o : Option ℕ) (front : List Act) → IsPrefix c ev o front → stops x ev ≡ false
 front_stops x c _ _ _ (frames.ends want) = refl
 front_stops x c _ _ _ _ = refl
 
-front_writes : (t : Tables) (it : Entry) (c : ℕ) (ev : Event) (o : Option ℕ) (front : List Act) → IsFront c ev o front → written_in t it ev ≡ first_found (seals_at t it) t.openings
+front_writes : (t : Tables) (it : Entry) (c : ℕ) (ev : Event) (o : Option ℕ) (front : List Act) → IsPrefix c ev o front → written_in t it ev ≡ first_found (seals_at t it) t.openings
 front_writes t it c _ _ _ (frames.ends want) = refl
 front_writes t it c _ _ _ _ = refl
 
 -- A LEAVE
 
 module _ (limits : Limits) (t : Tables) (e : Entry) (law : Lawful t) (is : IsOwed limits t e) where
-  module _ (on : is_denied e.acts ≡ false) (c : ℕ) (k : Consumer) (row : t.consumer c ≡ Some k) (ev : Event) (at : e.event ≡ ev) (o : Option ℕ) (front : List Act) (f : IsFront c ev o front) (says : answer_acts t e.now ev (flaw_in e.acts) ≡ front) where
+  module _ (on : is_denied e.acts ≡ false) (c : ℕ) (k : Consumer) (row : t.consumer c ≡ Some k) (ev : Event) (at : e.event ≡ ev) (o : Option ℕ) (front : List Act) (f : IsPrefix c ev o front) (says : answer_acts t e.now ev (flaw_in e.acts) ≡ front) where
     abbrev flaw : Flaw
     flaw = flaw_in e.acts
 
@@ -158,7 +158,7 @@ module _ (limits : Limits) (t : Tables) (e : Entry) (law : Lawful t) (is : IsOwe
     -- what is said makes it leave
     by_move : (m : Move) → move_of t e.now want c k ≡ m → answer_acts t e.now (event.Poll c want) (flaw_in e.acts) ≡ acts_of c m → is_live ((after t e).consumer c) ≡ false
     by_move moves.Ends is_move says = leaver_over on c k row (event.Poll c want) at None (acts_of c moves.Ends) (frames.ends want) says
-    by_move (moves.Fails why) is_move says = leaver_over on c k row (event.Poll c want) at None (acts_of c (moves.Fails why)) (frames.fails want why (fails_told t e.now want c k why law.sound law.places row is_move)) says
+    by_move (moves.Fails why) is_move says = leaver_over on c k row (event.Poll c want) at None (acts_of c (moves.Fails why)) (frames.fails want why (fails_reported t e.now want c k why law.sound law.places row is_move)) says
     by_move v is_move says = not_said v says quiet
 
     moves_on : (z : Flaw) → flaw_in e.acts ≡ z → answer_acts t e.now (event.Poll c want) z ≡ acts_of c (poll_move t e.now want c (t.consumer c)) → is_live ((after t e).consumer c) ≡ false
@@ -220,13 +220,13 @@ module _ (limits : Limits) (t : Tables) (e : Entry) (law : Lawful t) (is : IsOwe
       ]
 
   -- who is told the end or a failure is over
-  pub told_over : (c : ℕ) → leaves_in c e.acts ≡ true → is_live ((after t e).consumer c) ≡ false
-  told_over c leaves =
+  pub reported_over : (c : ℕ) → leaves_in c e.acts ≡ true → is_live ((after t e).consumer c) ≡ false
+  reported_over c leaves =
       let p = leaver_polls c leaves in
       polls_row c p.want (t.consumer c) refl p.on p.at (polls_live c p.want p.on p.at) leaves
 
   -- and was live
-  pub told_live : (c : ℕ) → leaves_in c e.acts ≡ true → is_live (t.consumer c) ≡ true
-  told_live c leaves =
+  pub reported_live : (c : ℕ) → leaves_in c e.acts ≡ true → is_live (t.consumer c) ≡ true
+  reported_live c leaves =
       let p = leaver_polls c leaves in
       polls_live c p.want p.on p.at

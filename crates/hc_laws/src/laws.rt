@@ -2,7 +2,7 @@
 ghost use Rattle.hc_model.specs.Histories.{RunsAreFiltered};
 ghost use Rattle.hc_model.specs.Reads.{OneHeadIsShown, BodiesAreRead, GivesNext, EndsWell, GivesStored, RunsReadWhole};
 ghost use Rattle.hc_model.specs.Keys.{IsOfOneKey, LawOfOneKey, KeysAreKept, KeysBegin, OpensForKey};
-ghost use Rattle.hc_model.specs.Laws.{SoundDeliversOnce, DeliveriesAreKept, BodiesAreKept, NumbersAreKept, NamesAreKept, OneCurrentIsKept, StoresAreKept, StartsAreSound, WholeIsWhole, AfterEach, AreBound, KnowEnds, OwnedAfterEach, AreToBeShown, OwedAfterEach, OwnersAreKnown, TurnsAreOne, TurnsAreKept, TurnsBegin, HasOneTurn, KeysInRuns, BarrierIsKept, BarrierBegins, DoomsInRuns, OfHistories, IsBoundBehindDooms, TruncatedIsFront, IsTruthful, TurnsGo, ReadersGo, FewGiveWay, AreRead, AreUndue, ReadAbout, MeasuredAfterEach, BeginningsAreMeasured, AreGrowing, KeptByEntries, AreServed, AreHad, SurvivorsGoOn, BeginningsAreStarts, AfterDenials, OfRuns, OfRunsIn, LeavesInRuns, DeliversOnce, BodiesGrowInRuns, StoresGrow, WaitsEnd, FitsInRuns, FewInRuns};
+ghost use Rattle.hc_model.specs.Laws.{SoundDeliversOnce, DeliveriesAreKept, BodiesAreKept, NumbersAreKept, NamesAreKept, OneCurrentIsKept, StoresAreKept, StartsAreSound, WholeIsWhole, AfterEach, AreBound, KnowEnds, OwnedAfterEach, AreToBeShown, OwedAfterEach, OwnersAreKnown, TurnsAreOne, TurnsAreKept, TurnsBegin, HasOneTurn, KeysInRuns, BarrierIsKept, BarrierBegins, DoomsInRuns, OfHistories, IsBoundBehindDooms, TruncatedIsPrefix, IsTruthful, TurnsGo, ReadersGo, FewGiveWay, AreRead, AreUndue, ReadAbout, MeasuredAfterEach, BeginningsAreMeasured, AreGrowing, KeptByEntries, AreServed, AreHad, SurvivorsGoOn, BeginningsAreStarts, AfterDenials, OfRuns, OfRunsIn, LeavesInRuns, DeliversOnce, BodiesGrowInRuns, StoresGrow, WaitsEnd, FitsInRuns, FewInRuns};
 ghost use Rattle.hc_model.specs.Owners.{Owners};
 ghost use Rattle.hc_model.specs.Aims.{Aims, CaseWithoutAim};
 ghost use Rattle.hc_model.specs.Alone.{Alone};
@@ -25,7 +25,7 @@ ghost use Rattle.hc_model.specs.Sizes.{Sizes};
 ghost use Rattle.hc_model.specs.StoredHeads.{StoredHeads, Tags};
 ghost use Rattle.hc_model.specs.Parts.{Parts};
 ghost use Rattle.hc_model.specs.Runs.{FaultlessAreOwed, OwedIsOwed};
-ghost use Rattle.hc_model.specs.Tellings.{TellsWhoPolls};
+ghost use Rattle.hc_model.specs.ConsumerActs.{AnswersWhoPolls};
 ghost use Rattle.hc_model.specs.Passed.{Passed};
 ghost use Rattle.hc_model.specs.Places.{Places};
 ghost use Rattle.hc_model.specs.Whose.{Whose};
@@ -162,7 +162,7 @@ pub fn bodies_stay_measured()
 
 /// While a writing is on, just what its exchange has brought is stored, from the first position on, and it
 /// promises all that is missing: after each accepted event that a store may stand behind.
-pub fn writings_grow()
+pub fn groups_grow()
     ensures { MeasuredAfterEach AreGrowing }
 {}
 
@@ -201,9 +201,9 @@ pub fn dooms_are_a_barrier()
 /// What is called Truncated has some first positions and no other, and what is called Whole every position below
 /// its total: in every run records are truthful. The former holds of sound tables, where as many bytes are stored
 /// as positions.
-pub fn truncated_is_a_front()
+pub fn truncated_is_a_prefix()
     ensures runs { OfRuns IsTruthful }
-    ensures front { TruncatedIsFront }
+    ensures front { TruncatedIsPrefix }
 {}
 
 /// No wait goes in a circle, in any run: who has the turn of its key doesn't wait for it; who is bound, or reads
@@ -380,8 +380,8 @@ pub fn owed_is_owed()
 
 /// A poll tells its consumer one thing at most: a head, bytes, its end, a failure, or what it is to wait for, and
 /// behind that comes nothing. No other event tells a consumer anything. So in every run.
-pub fn who_polls_is_told()
-    ensures { OfHistories TellsWhoPolls }
+pub fn who_polls_is_answered()
+    ensures { OfHistories AnswersWhoPolls }
 {}
 
 /// An exchange isn't asked for bytes behind its head, nor behind a piece of it, before a poll does, in every run.

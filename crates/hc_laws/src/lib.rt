@@ -14,6 +14,6 @@ pub use laws::{
     owners_stay_known, parts_have_bytes, passed_wait_for_current, places_are_known,
     readers_are_bound, readers_are_served, requests_stay_within_limits, runs_are_sound,
     runs_read_whole, some_go_on, stores_begin_again, stores_begin_sound, stores_keep_what_came,
-    survivors_go_on, truncated_is_a_front, what_is_not_spoken_of_stays, who_leaves_goes,
-    who_polls_is_told, whole_is_whole, writers_are_alone, writings_grow,
+    survivors_go_on, truncated_is_a_prefix, what_is_not_spoken_of_stays, who_leaves_goes,
+    who_polls_is_answered, whole_is_whole, writers_are_alone, groups_grow,
 };

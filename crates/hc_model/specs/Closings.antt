@@ -15,7 +15,7 @@ use Rattle.hc_model.specs.Exchanges.{family, is_headless}
 use Rattle.hc_model.specs.Currents.{is_number}
 use Rattle.hc_model.specs.Cases.{case_at}
 use Rattle.hc_model.specs.Reading.{bound, own_open, shared_exchange}
-use Rattle.hc_model.specs.Writers.{loses_writing, survivor}
+use Rattle.hc_model.specs.Writers.{loses_group, survivor}
 use Rattle.hc_model.specs.Dooms.{doomed_key_of, is_key}
 use Rattle.hc_model.specs.StartingOver.{awaited_exchange}
 use Rattle.hc_model.specs.ExchangeRows.{exchange_heard}
@@ -52,7 +52,7 @@ is_doomed t e x w =
 abbrev pub has_no_survivor : Tables → Entry → ℕ → ℕ → Option Representation → Bool
 has_no_survivor t e x r None = false
 has_no_survivor t e x r (Some v) =
-    is_number v.writer x && loses_writing t e r v && is_none (survivor t r v)
+    is_number v.writer x && loses_group t e r v && is_none (survivor t r v)
 
 -- BY WHO LEAVES
 
@@ -68,7 +68,7 @@ abbrev pub is_last_reader : Tables → ℕ → Place → Bool
 is_last_reader t c (place.Bound r lo hi by) = list_all (λ d. d == c) (bound t r)
 is_last_reader t c _ = false
 
--- it was the leaver's own, or that of a shared writing whose last member the leaver was
+-- it was the leaver's own, or that of a writer group whose last member the leaver was
 abbrev pub is_left_by : Tables → ℕ → ℕ → Option Consumer → Bool
 is_left_by t x c None = false
 is_left_by t x c (Some k) =

@@ -27,7 +27,7 @@ use Rattle.hc_model.specs.Rows.{Tables, Exchange, Representation, Consumer}
 use Rattle.hc_model.specs.Currents.{current, row_of, is_number}
 use Rattle.hc_model.specs.Cases.{case_at}
 use Rattle.hc_model.specs.Reading.{bound_to, reads}
-use Rattle.hc_model.specs.Writers.{loses_writing, survivor}
+use Rattle.hc_model.specs.Writers.{loses_group, survivor}
 use Rattle.hc_model.specs.StartingOver.{starts_over}
 use Rattle.hc_model.specs.Failures.{becomes_due}
 use Rattle.hc_model.specs.ExchangeRows.{promise_in}
@@ -168,7 +168,7 @@ shown_place c (Some s) old =
 abbrev pub left_to : Tables → Entry → ℕ → ℕ → Option Representation → Option ℕ → Option ℕ
 left_to t e c r None own = own
 left_to t e c r (Some v) own =
-    if loses_writing t e r v && is_number (survivor t r v) c then v.writer else own
+    if loses_group t e r v && is_number (survivor t r v) c then v.writer else own
 
 -- the exchange of a lost writing is now the survivor's own
 abbrev pub own_after : Tables → Entry → ℕ → Place → Option ℕ → Option ℕ

@@ -248,7 +248,7 @@ awaited_and t key also =
 abbrev pub as_over : Consumer → Consumer
 as_over k = record k { place = place.Over; due = None }
 
--- the exchange that nobody reads any more once c leaves: its own, or that of the shared writing whose last member it is
+-- the exchange that nobody reads any more once c leaves: its own, or that of the writer group whose last member it is
 abbrev pub left_by : Tables → ℕ → Consumer → Option ℕ
 left_by t c k =
     option_or (own_open t k) (if is_last_reader t c k.place then shared_exchange t k.place else None)
@@ -280,9 +280,9 @@ left_with r alone writer d k =
     if is_number alone d then record k { own = writer }
     else record k { due = option_or k.due (Some (cause.StoreWrite r)) }
 
--- the shared writing of r is lost
-abbrev pub writing_lost : ℕ → Option ℕ → Option ℕ → Tables → Tables
-writing_lost r alone writer t = record t {
+-- the writer group of r is lost
+abbrev pub group_lost : ℕ → Option ℕ → Option ℕ → Tables → Tables
+group_lost r alone writer t = record t {
   consumer = λ d. option_map (if_bound r (left_with r alone writer d)) (t.consumer d);
 }
 

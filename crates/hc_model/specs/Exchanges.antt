@@ -4,13 +4,13 @@ use Rattle.hc_event.specs.declared.event.Event.{Event}
 use Rattle.hc_event.specs.declared.event.Event.TheVariants as event
 use Rattle.hc_event.specs.declared.event.Response.{Response}
 use Rattle.hc_rules.specs.declared.length.Length.{Length}
-use Rattle.hc_rules.specs.declared.length.Length.TheVariants as told
+use Rattle.hc_rules.specs.declared.length.Length.TheVariants as reported
 use Rattle.hc_rules.specs.Lengths.{length_of, base_of, promise_of}
 use Rattle.hc_model.specs.Rows.{Tables, Exchange}
 
 -- what a head says to the exchange
 abbrev pub length_by : Exchange → Option Response → Length
-length_by w None = told.Unknown
+length_by w None = reported.Unknown
 length_by w (Some response) = length_of w.need w.request response
 
 -- the position at which its body begins

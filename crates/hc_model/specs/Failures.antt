@@ -16,7 +16,7 @@ use Rattle.hc_model.specs.Exchanges.{promised_bytes, exchange_in, is_for}
 use Rattle.hc_model.specs.Currents.{is_number}
 use Rattle.hc_model.specs.Cases.{case_at}
 use Rattle.hc_model.specs.Reading.{source}
-use Rattle.hc_model.specs.Writers.{loses_writing, survivor}
+use Rattle.hc_model.specs.Writers.{loses_group, survivor}
 
 abbrev pub short_of : ℕ → Exchange → Option ℕ → Option Cause
 short_of x w None = None
@@ -41,7 +41,7 @@ cause_of_stop t e k =
 abbrev pub cause_by_loss : Tables → Entry → ℕ → ℕ → Option Representation → Option Cause
 cause_by_loss t e c r None = None
 cause_by_loss t e c r (Some v) =
-    if loses_writing t e r v && not (is_number (survivor t r v) c)
+    if loses_group t e r v && not (is_number (survivor t r v) c)
     then Some (cause.StoreWrite r) else None
 
 -- for the members of a lost writing, but for who goes on with it

@@ -31,7 +31,7 @@ use Rattle.hc_model.specs.Rows.{Tables, Exchange, Representation, Consumer}
 use Rattle.hc_model.specs.Sound.{Sound}
 use Rattle.hc_model.specs.StartingOver.{starts_over, waits_at}
 use Rattle.hc_model.specs.Tables.{after_accepted, founds}
-use Rattle.hc_model.specs.Writers.{loses_writing}
+use Rattle.hc_model.specs.Writers.{loses_group}
 
 -- THE PARTS OF A REPRESENTATION
 
@@ -214,7 +214,7 @@ StartingOverIsCaused =
 
 abbrev pub loses_row : Tables → Entry → ℕ → Option Representation → Bool
 loses_row t e r None = false
-loses_row t e r (Some v) = loses_writing t e r v
+loses_row t e r (Some v) = loses_group t e r v
 
 -- what is written for it and others is lost
 abbrev pub loses_reading : Tables → Entry → Place → Bool

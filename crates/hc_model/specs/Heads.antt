@@ -11,8 +11,7 @@ use Rattle.hc_record.specs.Head.{Head, joining_of}
 use Rattle.hc_record.specs.declared.kind.Kind.TheVariants as kind
 use Rattle.hc_rules.specs.RangeTexts.{content_range_of}
 use Rattle.hc_rules.specs.Statuses.{brings_part}
-use Rattle.hc_validate.specs.Updates.{FieldPairs}
-use Rattle.hc_validate.specs.Updates.{updated_fields}
+use Rattle.hc_validate.specs.Updates.{FieldPairs, updated_fields}
 use Rattle.hc_model.specs.Rows.{Exchange}
 use Rattle.hc_model.specs.ExchangeRows.{promise_in}
 

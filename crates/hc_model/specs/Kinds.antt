@@ -26,14 +26,14 @@ abbrev pub is_complete : Representation → Bool
 is_complete v = covers_all v v.head.total
 
 -- what is stored is some first bytes
-abbrev pub is_front : Representation → Bool
-is_front v = nat_lt 0 v.size && covers v.stored v.reach 0 v.size
+abbrev pub is_prefix : Representation → Bool
+is_prefix v = nat_lt 0 v.size && covers v.stored v.reach 0 v.size
 
 unfoldable pub kind_of : Tables → ℕ → Representation → Kind
 kind_of t r v =
     if is_growing t r then kind.Growing
     else if is_complete v then kind.Whole
-    else if is_front v then kind.Truncated
+    else if is_prefix v then kind.Truncated
     else kind.Ranges
 
 abbrev pub kind_at : Tables → ℕ → Option Kind

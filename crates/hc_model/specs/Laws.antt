@@ -18,7 +18,6 @@ use Rattle.hc_fresh.specs.Vary.{matches_vary}
 use Rattle.hc_event.specs.declared.place.BoundBy.{BoundBy}
 use Rattle.hc_event.specs.declared.place.BoundBy.TheVariants as by
 use Rattle.hc_event.specs.declared.place.Place.TheVariants as place
-use Rattle.hc_event.specs.declared.place.BoundBy.{BoundBy}
 use Rattle.hc_model.specs.Entries.{Entry, History, Content, Contents, entry_without_acts}
 use Rattle.hc_model.specs.Flaws.{Flaw}
 use Rattle.hc_model.specs.Rows.{Tables, Exchange, Representation, Consumer}
@@ -26,7 +25,7 @@ use Rattle.hc_model.specs.Exchanges.{front, family, is_headless}
 use Rattle.hc_model.specs.Currents.{current}
 use Rattle.hc_model.specs.Cases.{was_shown}
 use Rattle.hc_model.specs.Reading.{is_written, bound, own_open}
-use Rattle.hc_model.specs.Writers.{came_alone, loses_writing, survivor}
+use Rattle.hc_model.specs.Writers.{came_alone, loses_group, survivor}
 use Rattle.hc_model.specs.Dooms.{doomed_key_of, is_key}
 use Rattle.hc_model.specs.Lines.{turn}
 use Rattle.hc_model.specs.Tables.{tables, first_tables, after_accepted, after_denied}
@@ -161,8 +160,8 @@ IsBoundBehindDooms contents (e ∷ h) =
 abbrev pub IsWhole : Representation → Type 0
 IsWhole v = (total : ℕ) × (v.head.total ≡ Some total) × Covers v.stored 0 total
 
-abbrev pub IsFront : Representation → Type 0
-IsFront v =
+abbrev pub IsPrefix : Representation → Type 0
+IsPrefix v =
     (n : ℕ) × (0 < n) × Covers v.stored 0 n × ((p : ℕ) → n ≤ p → v.stored p ≡ None)
 
 -- What is Whole has every position below its total, and what is Truncated some first ones and
@@ -171,7 +170,7 @@ pub record IsTruthful (t : Tables) : Type 0 where
   pub whole : (key : List ℕ) (r : ℕ) (v : Representation) → current t key ≡ Some r →
       t.representation r ≡ Some v → kind_for t key ≡ Some kind.Whole → IsWhole v
   pub truncated : (key : List ℕ) (r : ℕ) (v : Representation) → current t key ≡ Some r →
-      t.representation r ≡ Some v → kind_for t key ≡ Some kind.Truncated → IsFront v
+      t.representation r ≡ Some v → kind_for t key ≡ Some kind.Truncated → IsPrefix v
 
 -- ROOM
 
@@ -463,11 +462,11 @@ FewInRuns = (limits : Limits) (contents : Contents) → EvictsFew limits content
 
 -- What is called truncated has some first positions and no other, where as many bytes are stored as
 -- positions.
-abbrev pub TruncatedIsFront : Type 0
-TruncatedIsFront =
+abbrev pub TruncatedIsPrefix : Type 0
+TruncatedIsPrefix =
     (t : Tables) → Sound t → (key : List ℕ) (r : ℕ) (v : Representation) →
     current t key ≡ Some r → t.representation r ≡ Some v → v.size ≡ size_below v.stored v.reach →
-    kind_for t key ≡ Some kind.Truncated → IsFront v
+    kind_for t key ≡ Some kind.Truncated → IsPrefix v
 
 -- WHO GOES ON
 
@@ -553,7 +552,7 @@ abbrev pub SurvivorsGoOn : Type 0
 SurvivorsGoOn =
     (limits : Limits) (t : Tables) (e : Entry) → Sound t → Owners t → Measures t →
     IsOwed limits t e → is_denied e.acts ≡ false → (r c : ℕ) (v p : Representation) (u : Consumer) →
-    t.representation r ≡ Some v → loses_writing t e r v ≡ true → survivor t r v ≡ Some c →
+    t.representation r ≡ Some v → loses_group t e r v ≡ true → survivor t r v ≡ Some c →
     (after_accepted t e).representation r ≡ Some p → (after_accepted t e).consumer c ≡ Some u →
     IsAlone (after_accepted t e) p u
 

@@ -62,5 +62,5 @@ pub mod Lawful
 pub mod Effects
 pub mod LettingGo
 pub mod Numbers
-pub mod Tellings
+pub mod ConsumerActs
 pub mod Asking

@@ -7,9 +7,9 @@ use Rattle.hc_model.specs.Exchanges.{base, promised_bytes, family}
 
 -- what an open exchange brings of a body: no more than its length, or all of what has no known length
 pub data IsMeasured (w : Exchange) (v : Representation) : Type 0 where
-  told : (n total : ℕ) → promised_bytes w ≡ Some n → v.head.total ≡ Some total → base w + n ≤ total →
+  reported : (n total : ℕ) → promised_bytes w ≡ Some n → v.head.total ≡ Some total → base w + n ≤ total →
       IsMeasured w v
-  untold : promised_bytes w ≡ None → v.head.total ≡ None → base w ≡ 0 → w.joined ≡ None →
+  unreported : promised_bytes w ≡ None → v.head.total ≡ None → base w ≡ 0 → w.joined ≡ None →
       length w.body ≡ v.reach → IsMeasured w v
 
 -- a known end is within a known length

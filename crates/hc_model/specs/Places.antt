@@ -100,8 +100,8 @@ pub record Places (t : Tables) : Type 0 where
   pub line_unowned : (c : ℕ) (k : Consumer) → t.consumer c ≡ Some k → k.place ≡ place.Line →
       k.own ≡ None
   pub ungiven : (c : ℕ) (k : Consumer) → t.consumer c ≡ Some k → k.shown ≡ false → k.given ≡ 0
-  pub told : (c : ℕ) (k : Consumer) → t.consumer c ≡ Some k → is_failed_read k.due ≡ false
-  pub down_told : (c : ℕ) (why : Cause) (k : Consumer) → t.consumer c ≡ Some k →
+  pub reported : (c : ℕ) (k : Consumer) → t.consumer c ≡ Some k → is_failed_read k.due ≡ false
+  pub down_reported : (c : ℕ) (why : Cause) (k : Consumer) → t.consumer c ≡ Some k →
       k.place ≡ place.Down why → is_failed_read (Some why) ≡ false
   pub read : (x : ℕ) (w : Exchange) → t.exchange x ≡ Some w → w.is_open ≡ true →
       is_some w.head ≡ true → t.representation (family x w) ≡ None → IsReadPast t x w

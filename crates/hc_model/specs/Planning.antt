@@ -45,7 +45,7 @@ candidate t now r request v =
       vary = matches_vary v.head request;
       span = span;
       hole = hole_of v span;
-      writing = is_written t v;
+      writer_group = is_written t v;
       exclusive = exclusive t r v;
       least_bound = least (bound t r);
     }

@@ -76,19 +76,19 @@ abbrev pub is_open_writer : Tables → Option ℕ → Bool
 is_open_writer t None = false
 is_open_writer t (Some x) = is_open (t.exchange x)
 
--- the shared writing of a representation is on
+-- the writer group of a representation is on
 unfoldable pub is_written : Tables → Representation → Bool
 is_written t v = not v.is_lost && is_open_writer t v.writer
 
-abbrev pub writing_in : Tables → Option Representation → Option ℕ
-writing_in t None = None
-writing_in t (Some v) = if is_written t v then v.writer else None
+abbrev pub group_in : Tables → Option Representation → Option ℕ
+group_in t None = None
+group_in t (Some v) = if is_written t v then v.writer else None
 
--- the exchange of the shared writing of which a consumer is a member
+-- the exchange of the writer group of which a consumer is a member
 abbrev pub shared_exchange : Tables → Place → Option ℕ
-shared_exchange t (place.Bound r lo hi by) = writing_in t (t.representation r)
+shared_exchange t (place.Bound r lo hi by) = group_in t (t.representation r)
 shared_exchange t _ = None
 
--- the open exchange that a consumer reads from: its own, or that of the shared writing
+-- the open exchange that a consumer reads from: its own, or that of the writer group
 abbrev pub source : Tables → Consumer → Option ℕ
 source t k = option_or (own_open t k) (shared_exchange t k.place)

@@ -25,7 +25,7 @@ use Rattle.hc_model.specs.Heads.{founded_head, updated_head}
 
 -- FOUNDED
 
--- a whole answer begins a shared writing
+-- a whole answer begins a writer group
 abbrev pub writer_at : ℕ → Response → Option ℕ
 writer_at x response = if brings_part response.status then None else Some x
 
@@ -56,7 +56,7 @@ hole_start (need.Hole from to) = from
 hole_start _ = 0
 
 abbrev pub is_last_part : Option ℕ → Option ContentRange → Bool
-is_last_part (Some total) (Some (range.Part first last told)) = last + 1 == total
+is_last_part (Some total) (Some (range.Part first last reported)) = last + 1 == total
 is_last_part _ _ = false
 
 abbrev pub asks_whole : Option Consumer → Bool

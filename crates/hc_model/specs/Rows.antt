@@ -31,7 +31,7 @@ pub record Representation : Type 0 where
   pub stored : Cells  -- what of it came before it was lost
   pub reach : ℕ  -- no byte of it came from this position on
   pub size : ℕ  -- how many of its bytes are stored
-  pub writer : Option ℕ  -- the exchange of its shared writing, the last one
+  pub writer : Option ℕ  -- the exchange of its writer group, the last one
   pub is_lost : Bool
   pub alone : Option ℕ  -- who goes on with it after it was lost
   pub is_gone : Bool

@@ -6,8 +6,7 @@ use Rattle.hc_rules.specs.declared.admission.Bound.{Bound}
 use Rattle.hc_rules.specs.declared.admission.BoundKind.{BoundKind}
 use Rattle.hc_rules.specs.declared.admission.BoundKind.TheVariants as kind
 use Rattle.hc_rules.specs.declared.survivor.Member.{Member}
-use Rattle.hc_rules.specs.Admissions.{least_of}
-use Rattle.hc_rules.specs.Admissions.{survivor_at}
+use Rattle.hc_rules.specs.Admissions.{least_of, survivor_at}
 use Rattle.hc_rules.specs.Statuses.{brings_part}
 use Rattle.hc_event.specs.declared.place.Place.{Place}
 use Rattle.hc_event.specs.declared.place.Place.TheVariants as place
@@ -43,7 +42,7 @@ abbrev pub may_write : Tables → Representation → Option Consumer → Bool
 may_write t v None = false
 may_write t v (Some k) = came_alone t k.place && is_none k.due && has_more t v k
 
--- how a bound consumer is bound: nobody writes alone while the shared writing is on
+-- how a bound consumer is bound: nobody writes alone while the writer group is on
 abbrev pub bound_kind : Tables → Representation → ℕ → BoundKind
 bound_kind t v c =
     if is_written t v then kind.Shared
@@ -68,9 +67,9 @@ brings_body (event.Head x response) = true
 brings_body (event.Piece x bytes) = true
 brings_body _ = false
 
--- at a head or a piece, r is lost while its shared writing is on
-abbrev pub loses_writing : Tables → Entry → ℕ → Representation → Bool
-loses_writing t e r v = brings_body e.event && loses_in r e.acts && is_written t v
+-- at a head or a piece, r is lost while its writer group is on
+abbrev pub loses_group : Tables → Entry → ℕ → Representation → Bool
+loses_group t e r v = brings_body e.event && loses_in r e.acts && is_written t v
 
 abbrev pub offset_in : Tables → Option Consumer → ℕ
 offset_in t None = 0
@@ -85,4 +84,4 @@ survivor t r v = survivor_at v.reach (map (member t) (bound t r))
 
 -- who goes on with r when it is lost
 abbrev pub goes_on_with : Tables → Entry → ℕ → Representation → Option ℕ
-goes_on_with t e r v = if loses_writing t e r v then survivor t r v else exclusive t r v
+goes_on_with t e r v = if loses_group t e r v then survivor t r v else exclusive t r v

@@ -8,7 +8,7 @@ use Rattle.std.{proofs.{lemmas.{Bool.{cases_Bool, and_parts, ne_eqb, le-ltb, Dec
 use Rattle.hc_text.specs.Texts.{lacks}
 use Rattle.hc_head.specs.declared.message.MsgError.TheVariants as error
 use Rattle.hc_head.specs.{declared.scan.Scan.{Scan, TheVariants.{Ended}}, Scans.{scan_byte, scan_all, is_open, IsHeadEnd, IsLineBefore}, Finding.{IsLong}}
-use Rattle.hc_msg.specs.{Reading.{Kind, Requests, Responses, Reading, Heading, Counts, Runs, Sizing, Chunk, Failed, Byte, Step, quiet, fails, counts, chunk, begins_head, move_of, HeadMakes, LineMakes, Makes, Leads, TellsAtLast, Token}, Chunks.{IsLongLine}}
+use Rattle.hc_msg.specs.{Reading.{Kind, Requests, Responses, Reading, Heading, Counts, Runs, Sizing, Chunk, Failed, Byte, Step, quiet, fails, counts, chunk, begins_head, move_of, HeadMakes, LineMakes, Makes, Leads, ReportsAtLast, Token}, Chunks.{IsLongLine}}
 use Rattle.hc_head.proofs.{ScanLemmas.{not_equal}, Starts.{begins_front}}
 use Rattle.hc_msg.proofs.Leading.{leads_on, leads_byte, stays_failed}
 
@@ -93,12 +93,12 @@ heading_ends kind scan text piece n step h short begins makes =
     rw c.cut (leads_on (Heading kind scan text) c.front (10 ∷ []) [] step.tokens c.mid step.next c.passes c.ends)
 
 -- a head that is told is told at its last byte
-pub heading_tells : (kind : Kind) (scan : Scan) (text piece : List ℕ) (n : ℕ) (token : Token) (t : Reading) → IsHeadEnd scan piece n → length text + n ≤ 32768
+pub heading_reports : (kind : Kind) (scan : Scan) (text piece : List ℕ) (n : ℕ) (token : Token) (t : Reading) → IsHeadEnd scan piece n → length text + n ≤ 32768
     → begins_head kind (text ++ take n piece) ≡ true → HeadMakes kind (text ++ take n piece) (record { tokens = token ∷ []; next = t })
-    → TellsAtLast (Heading kind scan text) (take n piece) token t
-heading_tells kind scan text piece n token t h short begins makes =
+    → ReportsAtLast (Heading kind scan text) (take n piece) token t
+heading_reports kind scan text piece n token t h short begins makes =
     let c = heading_cut kind scan text piece n (record { tokens = token ∷ []; next = t }) h short begins makes in
-    record { before = c.front; last = 10; mid = c.mid; whole = sym c.cut; passes = c.passes; tells = c.ends }
+    record { before = c.front; last = 10; mid = c.mid; whole = sym c.cut; passes = c.passes; reports = c.ends }
 
 pub heading_long : (kind : Kind) (scan : Scan) (text piece : List ℕ) (h : IsLong (length text) scan piece) → begins_head kind (text ++ h.front) ≡ true
     → Leads (Heading kind scan text) piece [] (Failed error.HeadTooLong)

@@ -8,9 +8,9 @@ use Rattle.std.{proofs.{lemmas.{Bool.Decides.{nat_tests}, List.{append-nil, take
 use Rattle.hc_head.specs.{declared.{message.{MsgError.{MsgError}, WireRequest.{WireRequest}}, scan.{Scan.{Scan}, Sought.{Sought}}, start.Start.{Start, TheVariants.{Before}}}, Scans.{scan_all, is_open, IsHeadEnd, StaysOpen}, Starts.{begins_request, goes_on_from}, Finding.{IsLong, Finds}, Requests.{Asked, Grants, IsAskedBy}, Calls.{Gives}}
 use Rattle.hc_head.specs.declared.message.MsgError.TheVariants as error
 use Rattle.hc_head.specs.declared.scan.Sought.TheVariants as sought
-use Rattle.hc_msg.specs.{Reading.{Requests, Heading, Failed, Asks, heading, after_asked, Leads, TellsAtLast}, Asking.{Called, GoesOn, head_count}}
+use Rattle.hc_msg.specs.{Reading.{Requests, Heading, Failed, Asks, heading, after_asked, Leads, ReportsAtLast}, Asking.{Called, GoesOn, head_count}}
 use Rattle.hc_head.proofs.ScanLemmas.{scan_all-append}
-use Rattle.hc_msg.proofs.{Leading.{leads_on, stays_failed}, Bytes.{open_before, heading_on, heading_ends, heading_tells, heading_long, heading_refused}}
+use Rattle.hc_msg.proofs.{Leading.{leads_on, stays_failed}, Bytes.{open_before, heading_on, heading_ends, heading_reports, heading_long, heading_refused}}
 
 -- a whole head
 asked_leads : (scan : Scan) (held rest : List ℕ) (n : ℕ) (asked : Asked) → IsHeadEnd scan rest n → length held + n ≤ 32768
@@ -19,17 +19,17 @@ asked_leads : (scan : Scan) (held rest : List ℕ) (n : ℕ) (asked : Asked) →
 asked_leads scan held rest n asked ends short begins comes = heading_ends Requests scan held rest n (after_asked asked) ends short begins (asked, comes, refl)
 
 granted : (scan : Scan) (held rest : List ℕ) (n : ℕ) (request : WireRequest) (asked : Asked) → IsHeadEnd scan rest n → length held + n ≤ 32768
-    → begins_request (held ++ take n rest) ≡ true → Gives (Ok request) asked → IsAskedBy (held ++ take n rest) asked → TellsAtLast (Heading Requests scan held) (take n rest) (Asks request) (heading Requests)
+    → begins_request (held ++ take n rest) ≡ true → Gives (Ok request) asked → IsAskedBy (held ++ take n rest) asked → ReportsAtLast (Heading Requests scan held) (take n rest) (Asks request) (heading Requests)
 granted scan held rest n request asked ends short begins gives comes =
     let grants : IsAskedBy (held ++ take n rest) (Grants request) = subst (IsAskedBy (held ++ take n rest)) gives comes in
-    heading_tells Requests scan held rest n (Asks request) (heading Requests) ends short begins (Grants request, grants, refl)
+    heading_reports Requests scan held rest n (Asks request) (heading Requests) ends short begins (Grants request, grants, refl)
 
-pub call_tells : (scan : Scan) (held rest : List ℕ) (n : ℕ) (request : WireRequest) (result : Result WireRequest MsgError) → IsHeadEnd scan rest n → length held + n ≤ 32768
-    → begins_request (held ++ take n rest) ≡ true → Called (held ++ take n rest) result → result ≡ Ok request → TellsAtLast (Heading Requests scan held) (take n rest) (Asks request) (heading Requests)
-call_tells scan held rest n request result ends short begins (inl failed) is =
+pub call_reports : (scan : Scan) (held rest : List ℕ) (n : ℕ) (request : WireRequest) (result : Result WireRequest MsgError) → IsHeadEnd scan rest n → length held + n ≤ 32768
+    → begins_request (held ++ take n rest) ≡ true → Called (held ++ take n rest) result → result ≡ Ok request → ReportsAtLast (Heading Requests scan held) (take n rest) (Asks request) (heading Requests)
+call_reports scan held rest n request result ends short begins (inl failed) is =
     let never : Ok request ≡ Err error.NoMemory = sym is ∙ failed in
     cc
-call_tells scan held rest n request result ends short begins (inr tokens) is =
+call_reports scan held rest n request result ends short begins (inr tokens) is =
     granted scan held rest n request tokens.asked ends short begins (subst (λ (r : Result WireRequest MsgError). Gives r tokens.asked) is tokens.gives) tokens.comes
 
 denied : (scan : Scan) (held rest : List ℕ) (n : ℕ) (e : MsgError) (asked : Asked) → IsHeadEnd scan rest n → length held + n ≤ 32768

@@ -1,14 +1,14 @@
 -- What the readers take is what stands next.
 --
 -- A byte has one step, and the equations name it (`makes_is`), so bytes that tell nothing are passed (`passes_next`).
--- Left is a head that is told at its last byte (`tells_next`), bytes of a body that stand together (`brings_next`), an
+-- Left is a head that is told at its last byte (`reports_next`), bytes of a body that stand together (`brings_next`), an
 -- end or an error. A byte that tells nothing isn't one of a body; and where a token is no byte, the last byte of its
 -- head isn't one either. `takes_next` joins the cases for an answer, and `takes_next_request` for a request.
 use Rattle.std.{proofs.{Common.{◌≡◌, ℕ, ◌-◌, ◌<◌, true, List, [], ◌∷◌, ◌++◌, length, take, drop, refl, sym, ap, subst, ◌∙◌, inl, inr, arith, append_assoc, length-take, lt-ltb}, lemmas.List.{append-nil, drop_all, take-append-drop, drop-drop}}, specs.Prelude.{◌⊎◌, nat_lt, min, Option, Some, None, Result, Ok, Err}}
 use Rattle.hc_head.specs.{declared.message.{MsgError.{MsgError}, WireRequest.{WireRequest}}, Decoding.{asked_in, heard_in}}
 use Rattle.hc_head.specs.declared.message.MsgError.TheVariants as error
 use Rattle.hc_head.proofs.Decoding.{asked_in_is, heard_in_is}
-use Rattle.hc_msg.specs.{declared.{message.{Taken.{Taken}, WirePart.{WirePart}}, call.Call.{Call}}, Sizes.{size_in}, Reading.{Reading, Requests, Responses, Heading, Counts, Runs, Sizing, Chunk, ChunkEnd, ChunkReturn, Trailing, Whole, Done, Failed, Token, Asks, Answers, Byte, Step, Move, Goes, EndsHead, EndsLine, Stays, counts, chunk, move_of, Makes, Leads, TellsAtLast}, Taking.{stretch, goes_on, byte_tokens, GivesBytes, IsSpent, Completes, Takes}, Asking.{asking, asking_by, CompletesRequest, TakesRequest}, Inputs.{Next, Waits, Tells, Brings, Ends, Fails, step_of, stopped, body_behind, told_or, next_in, IsNextError, IsNextPart, TakesNext, IsNextRequest, TakesNextRequest}}
+use Rattle.hc_msg.specs.{declared.{message.{Taken.{Taken}, WirePart.{WirePart}}, call.Call.{Call}}, Sizes.{size_in}, Reading.{Reading, Requests, Responses, Heading, Counts, Runs, Sizing, Chunk, ChunkEnd, ChunkReturn, Trailing, Whole, Done, Failed, Token, Asks, Answers, Byte, Step, Move, Goes, EndsHead, EndsLine, Stays, counts, chunk, move_of, Makes, Leads, ReportsAtLast}, Taking.{stretch, goes_on, byte_tokens, GivesBytes, IsSpent, Completes, Takes}, Asking.{asking, asking_by, CompletesRequest, TakesRequest}, Inputs.{Next, Waits, Reports, Brings, Ends, Fails, step_of, stopped, body_behind, reported_or, next_in, IsNextError, IsNextPart, TakesNext, IsNextRequest, TakesNextRequest}}
 use Rattle.hc_msg.specs.declared.message.WirePart.TheVariants as part
 use Rattle.hc_msg.proofs.{Leading.{makes_one, leads_one}, Sizes.{size_in_is}, Bytes.{counts_some, counts_on, chunk_on, runs_on}}
 
@@ -22,11 +22,11 @@ makes_is (EndsLine text) step h = makes_one (EndsLine text) step _ h (size_in te
 makes_is Stays step h = absurd h
 
 -- what a step that tells nothing leaves, and what one that tells something names
-silent : (made step : Step) (input : List ℕ) (go_on : Reading → Next) → step ≡ made → step.tokens ≡ [] → told_or made.tokens made.next input go_on ≡ go_on step.next
+silent : (made step : Step) (input : List ℕ) (go_on : Reading → Next) → step ≡ made → step.tokens ≡ [] → reported_or made.tokens made.next input go_on ≡ go_on step.next
 silent made step input go_on same none = rw (← same, none) refl
 
-telling : (made step : Step) (token : Token) (input : List ℕ) (go_on : Reading → Next) → step ≡ made → step.tokens ≡ token ∷ [] → told_or made.tokens made.next input go_on ≡ Tells token step.next input
-telling made step token input go_on same one = rw (← same, one) refl
+reporting : (made step : Step) (token : Token) (input : List ℕ) (go_on : Reading → Next) → step ≡ made → step.tokens ≡ token ∷ [] → reported_or made.tokens made.next input go_on ≡ Reports token step.next input
+reporting made step token input go_on same one = rw (← same, one) refl
 
 -- a byte of a body is told
 no_byte : (made step : Step) (b : ℕ) (rest : List Token) → step ≡ made → made.tokens ≡ Byte b ∷ [] → step.tokens ++ rest ≡ [] → ⊥
@@ -96,27 +96,27 @@ all_next most s t piece h = ap (next_in most s) (sym (append-nil piece)) ∙ pas
 -- A HEAD
 
 last_next : (most : ℕ) (s : Reading) (b : ℕ) (input : List ℕ) (token : Token) (step : Step) (rest : List Token) → ((c : ℕ) → token ≡ Byte c → ⊥) → Makes (move_of s b) step
-    → rest ≡ [] → token ∷ [] ≡ step.tokens ++ rest → next_in most s (b ∷ input) ≡ Tells token step.next input
+    → rest ≡ [] → token ∷ [] ≡ step.tokens ++ rest → next_in most s (b ∷ input) ≡ Reports token step.next input
 unfolding next_in move_of
 last_next most s b input token step rest other h none one = by s h where
   only : step.tokens ≡ token ∷ []
   only = sym (append-nil step.tokens) ∙ ap (λ (l : List Token). step.tokens ++ l) (sym none) ∙ sym one
 
-  by : (s : Reading) → Makes (move_of s b) step → next_in most s (b ∷ input) ≡ Tells token step.next input
+  by : (s : Reading) → Makes (move_of s b) step → next_in most s (b ∷ input) ≡ Reports token step.next input
   by (Counts left) h = absurd (other_byte _ step b token rest other h refl one)
   by Runs h = absurd (other_byte _ step b token rest other h refl one)
   by (Chunk left) h = absurd (other_byte _ step b token rest other h refl one)
-  by ChunkEnd h = telling _ step token input (λ t. next_in most t input) (makes_is (move_of ChunkEnd b) step h) only
-  by ChunkReturn h = telling _ step token input (λ t. next_in most t input) (makes_is (move_of ChunkReturn b) step h) only
+  by ChunkEnd h = reporting _ step token input (λ t. next_in most t input) (makes_is (move_of ChunkEnd b) step h) only
+  by ChunkReturn h = reporting _ step token input (λ t. next_in most t input) (makes_is (move_of ChunkReturn b) step h) only
   by Whole h = absurd h
   by Done h = absurd h
   by (Failed e) h = let never : [] ≡ token ∷ [] = ap (λ (m : Step). m.tokens) (sym h) ∙ only in absurd cc
-  by v h = telling _ step token input (λ t. next_in most t input) (makes_is (move_of v b) step h) only
+  by v h = reporting _ step token input (λ t. next_in most t input) (makes_is (move_of v b) step h) only
 
-pub tells_next : (most : ℕ) (s : Reading) (text rest : List ℕ) (token : Token) (t : Reading) → ((c : ℕ) → token ≡ Byte c → ⊥) → TellsAtLast s text token t → next_in most s (text ++ rest) ≡ Tells token t rest
-tells_next most s text rest token t other h =
-    rw (← h.whole, append_assoc, passes_next most s h.mid h.before (h.last ∷ rest) h.passes, h.tells.3.1)
-    (last_next most h.mid h.last rest token h.tells.0 h.tells.1 other h.tells.2 h.tells.3.0 h.tells.4)
+pub reports_next : (most : ℕ) (s : Reading) (text rest : List ℕ) (token : Token) (t : Reading) → ((c : ℕ) → token ≡ Byte c → ⊥) → ReportsAtLast s text token t → next_in most s (text ++ rest) ≡ Reports token t rest
+reports_next most s text rest token t other h =
+    rw (← h.whole, append_assoc, passes_next most s h.mid h.before (h.last ∷ rest) h.passes, h.reports.3.1)
+    (last_next most h.mid h.last rest token h.reports.0 h.reports.1 other h.reports.2 h.reports.3.0 h.reports.4)
 
 -- BYTES OF A BODY
 
@@ -178,7 +178,7 @@ spent_next most s piece used t leads (inr done) = rw (done.0, done.2) (done_next
 completes_next : (most : ℕ) (s : Reading) (piece : List ℕ) (used : ℕ) (got : Option WirePart) (t : Reading) → Completes s piece most used got t → IsNextPart (next_in most s piece) piece used got t
 completes_next most s piece used None t h = spent_next most s piece used t h.0 h.1
 completes_next most s piece used (Some (part.Head response)) t h =
-    ap (next_in most s) (sym (take-append-drop used piece)) ∙ tells_next most s (take used piece) (drop used piece) (Answers response) t (λ c same. cc) h
+    ap (next_in most s) (sym (take-append-drop used piece)) ∙ reports_next most s (take used piece) (drop used piece) (Answers response) t (λ c same. cc) h
 completes_next most s piece used (Some (part.Piece bytes)) t h = brings_next most s piece used bytes t h
 completes_next most s piece used (Some part.End) t h = front_next most s Whole piece used h.0 ∙ whole_next most (drop used piece)
 
@@ -189,7 +189,7 @@ takes_next most s piece (Err e) t h = error_next most s piece e h
 asks_next : (most : ℕ) (s : Reading) (piece : List ℕ) (used : ℕ) (got : Option WireRequest) (t : Reading) → goes_on t ≡ true → CompletesRequest s piece used got t → IsNextRequest (next_in most s piece) piece used got t
 asks_next most s piece used None t on h = all_next most s t piece h.1 ∙ open_next most t on
 asks_next most s piece used (Some request) t on h =
-    ap (next_in most s) (sym (take-append-drop used piece)) ∙ tells_next most s (take used piece) (drop used piece) (Asks request) t (λ c same. cc) h
+    ap (next_in most s) (sym (take-append-drop used piece)) ∙ reports_next most s (take used piece) (drop used piece) (Asks request) t (λ c same. cc) h
 
 pub takes_next_request : (s : Reading) (piece : List ℕ) (result : Result (Taken WireRequest) MsgError) (t : Reading) → goes_on t ≡ true → TakesRequest s piece result t → TakesNextRequest 1 s piece result t
 takes_next_request s piece (Ok taken) t on h = asks_next 1 s piece taken.used taken.got t on h.1

@@ -3,13 +3,13 @@
 -- Each byte has one step, since a head, a chunk line and what they say have one answer (`makes_one`). So by induction
 -- over the bytes what they lead to is one (`leads_one`). Bytes that are put together lead where the second lead from
 -- the first (`leads_on`), and what both lead to may be taken apart (`leads_apart`). An error stays. A token that is
--- told at the last byte is told alone, behind bytes that tell nothing (`tells_on`).
+-- told at the last byte is told alone, behind bytes that tell nothing (`reports_on`).
 use Rattle.std.proofs.{lemmas.{Bool.Decides.{nat_tests}, List.{append-nil}}, Common.{arith, ◌≡◌, ℕ, Bool, List, [], ◌∷◌, ◌++◌, Option, Some, None, refl, sym, ap, subst, ◌∙◌, append_assoc}}
 use Rattle.httparse.specs.Grammar.{ChunkLine, chunk_size}
 use Rattle.httparse.proofs.ChunkLemmas.{chunk_line_unique}
 use Rattle.hc_head.specs.declared.message.MsgError.{MsgError}
 use Rattle.hc_head.proofs.{Calls.{asked_one}, Replies.{heard_one}}
-use Rattle.hc_msg.specs.{Chunks.{LineSays}, Reading.{Kind, Requests, Responses, Reading, Failed, Token, Step, Move, fails, after_asked, after_heard, move_of, AsksFor, AnswersWith, HeadMakes, Makes, Leads, TellsAtLast}}
+use Rattle.hc_msg.specs.{Chunks.{LineSays}, Reading.{Kind, Requests, Responses, Reading, Failed, Token, Step, Move, fails, after_asked, after_heard, move_of, AsksFor, AnswersWith, HeadMakes, Makes, Leads, ReportsAtLast}}
 
 asks_one : (text : List ℕ) (a b : Step) → AsksFor text a → AsksFor text b → a ≡ b
 asks_one text a b x y = x.2 ∙ ap after_asked (asked_one text x.0 y.0 x.1 y.1) ∙ sym y.2
@@ -34,11 +34,11 @@ makes_one move a b x y = search (arith, head_one, size_one)
 
 -- one reading
 pub record IsOne (tokens more : List Token) (t u : Reading) : Type 0 where
-  pub tells : tokens ≡ more
+  pub reports : tokens ≡ more
   pub next : t ≡ u
 
 pub leads_one : (s : Reading) (text : List ℕ) (tokens more : List Token) (t u : Reading) → Leads s text tokens t → Leads s text more u → IsOne tokens more t u
-leads_one s [] tokens more t u x y = record { tells = x.0 ∙ sym y.0; next = x.1 ∙ sym y.1 }
+leads_one s [] tokens more t u x y = record { reports = x.0 ∙ sym y.0; next = x.1 ∙ sym y.1 }
 leads_one s (b ∷ text) tokens more t u x y =
     let same : x.0 ≡ y.0 = makes_one (move_of s b) x.0 y.0 x.2 y.2 in
     let moved : Leads x.0.next text y.1 u = subst (λ (step : Step). Leads step.next text y.1 u) (sym same) y.3 in
@@ -90,16 +90,16 @@ stays_failed e [] = (refl, refl)
 stays_failed e (b ∷ text) = (fails e, [], refl, stays_failed e text, refl)
 
 -- what is told at the last byte
-pub tells_leads : (s : Reading) (text : List ℕ) (token : Token) (t : Reading) → TellsAtLast s text token t → Leads s text (token ∷ []) t
-tells_leads s text token t h =
-    subst (λ (l : List ℕ). Leads s l (token ∷ []) t) h.whole (leads_on s h.before (h.last ∷ []) [] (token ∷ []) h.mid t h.passes h.tells)
+pub reports_leads : (s : Reading) (text : List ℕ) (token : Token) (t : Reading) → ReportsAtLast s text token t → Leads s text (token ∷ []) t
+reports_leads s text token t h =
+    subst (λ (l : List ℕ). Leads s l (token ∷ []) t) h.whole (leads_on s h.before (h.last ∷ []) [] (token ∷ []) h.mid t h.passes h.reports)
 
-pub tells_on : (s mid t : Reading) (xs ys : List ℕ) (token : Token) → Leads s xs [] mid → TellsAtLast mid ys token t → TellsAtLast s (xs ++ ys) token t
-tells_on s mid t xs ys token on h = record {
+pub reports_on : (s mid t : Reading) (xs ys : List ℕ) (token : Token) → Leads s xs [] mid → ReportsAtLast mid ys token t → ReportsAtLast s (xs ++ ys) token t
+reports_on s mid t xs ys token on h = record {
   before = xs ++ h.before;
   last = h.last;
   mid = h.mid;
   whole = append_assoc xs h.before (h.last ∷ []) ∙ ap (λ (l : List ℕ). xs ++ l) h.whole;
   passes = leads_on s xs h.before [] [] mid h.mid on h.passes;
-  tells = h.tells;
+  reports = h.reports;
 }

@@ -7,16 +7,16 @@
 use Rattle.std.{proofs.{lemmas.{Bool.Decides.{nat_tests}, List.{take_all, take-append-drop}}, Common.{◌≡◌, ℕ, ◌+◌, ◌-◌, ◌<◌, ◌≤◌, ◌==◌, Bool, true, List, [], ◌∷◌, ◌++◌, length, take, drop, get_or, refl, sym, ap, subst, ◌∙◌, inl, inr, arith, length-take, length-drop, take-add}}, specs.Prelude.{◌⊎◌, min, OnOk, Option, Some, None, Result, Ok, Err}}
 use Rattle.hc_msg.specs.{declared.{answer.{Moved.{Moved}, State.{State}}, trailer.Trailer.{Trailer}, message.WirePart.{WirePart}}, Chunks.{LineSays, IsLongLine, trail}, Reading.{Reading, Responses, Heading, Failed, Counts, Runs, Sizing, Chunk, ChunkEnd, ChunkReturn, Trailing, counts, chunk, reading_of_chunk, after_line, Answers, after_heard, body, quiet, fails, Makes, move_of, Leads}, Taking.{reading_by, Moves, Takes, Completes, Replied, Enters, IsPieceOf, Expects, TrailMoves}}
 use Rattle.hc_msg.specs.declared.answer.Moved.TheVariants as moved
-use Rattle.hc_head.specs.{declared.{message.MsgError.{MsgError}, response.Reply.{Reply}, scan.Scan.{Scan}}, Scans.{is_open, IsHeadEnd, StaysOpen, IsLineBefore}, Finding.{IsLong}, Responses.{Heard, Shows, IsHeardIn}, Replies.{Hears}}
+use Rattle.hc_head.specs.{declared.{message.MsgError.{MsgError}, response.ParsedHead.{ParsedHead}, scan.Scan.{Scan}}, Scans.{is_open, IsHeadEnd, StaysOpen, IsLineBefore}, Finding.{IsLong}, Responses.{HeadOutcome, Shows, IsHeardIn}, Replies.{Hears}}
 use Rattle.hc_head.specs.declared.message.MsgError.TheVariants as error
 use Rattle.hc_msg.specs.declared.message.WirePart.TheVariants as part
-use Rattle.hc_head.specs.declared.response.Reply.TheVariants as reply
+use Rattle.hc_head.specs.declared.response.ParsedHead.TheVariants as reply
 use Rattle.hc_text.specs.Texts.{lacks}
 use Rattle.hc_msg.specs.declared.answer.State.TheVariants as state
-use Rattle.hc_msg.proofs.{Leading.{leads_on, leads_byte, stays_failed, tells_on}, Bytes.{heading_on, heading_ends, heading_tells, heading_long, line_on, line_ends, line_long, counts_on, counts_some, chunk_on, runs_on}}
+use Rattle.hc_msg.proofs.{Leading.{leads_on, leads_byte, stays_failed, reports_on}, Bytes.{heading_on, heading_ends, heading_reports, heading_long, line_on, line_ends, line_long, counts_on, counts_some, chunk_on, runs_on}}
 
 -- a whole head
-heard_leads : (nb : Bool) (scan : Scan) (held rest : List ℕ) (n : ℕ) (heard : Heard) → IsHeadEnd scan rest n → length held + n ≤ 32768
+heard_leads : (nb : Bool) (scan : Scan) (held rest : List ℕ) (n : ℕ) (heard : HeadOutcome) → IsHeadEnd scan rest n → length held + n ≤ 32768
     → IsHeardIn nb (held ++ take n rest) heard
     → Leads (Heading (Responses nb) scan held) (take n rest) (after_heard nb heard).tokens (after_heard nb heard).next
 heard_leads nb scan held rest n heard ends short comes = heading_ends (Responses nb) scan held rest n (after_heard nb heard) ends short refl (heard, comes, refl)
@@ -24,7 +24,7 @@ heard_leads nb scan held rest n heard ends short comes = heading_ends (Responses
 no_error : {A : Type 0} (e : MsgError) (value : A) → Ok value ≡ Err e → ⊥
 no_error e value same = cc
 
-shown_moves : (nb : Bool) (scan : Scan) (held rest : List ℕ) (n most : ℕ) (rep : Reply) (made : Moved) (t : Reading) (heard : Heard) → IsHeadEnd scan rest n → length held + n ≤ 32768 → n ≤ length rest
+shown_moves : (nb : Bool) (scan : Scan) (held rest : List ℕ) (n most : ℕ) (rep : ParsedHead) (made : Moved) (t : Reading) (heard : HeadOutcome) → IsHeadEnd scan rest n → length held + n ≤ 32768 → n ≤ length rest
     → Hears (Ok rep) heard → IsHeardIn nb (held ++ take n rest) heard → Enters nb rep n made t
     → Moves (Heading (Responses nb) scan held) rest most (Ok made) t
 shown_moves nb scan held rest n most reply.Skips made t heard ends short within hears comes enters =
@@ -32,16 +32,16 @@ shown_moves nb scan held rest n most reply.Skips made t heard ends short within 
     rw (enters.0, enters.1) (omega (arith, ends.len), within, rw hears at leads)
 shown_moves nb scan held rest n most (reply.Shows response framing) made t heard ends short within hears comes enters =
     let shows = rw hears at comes in
-    let shown = heading_tells (Responses nb) scan held rest n (Answers response) (body framing) ends short refl (Shows response framing, shows, refl) in
+    let shown = heading_reports (Responses nb) scan held rest n (Answers response) (body framing) ends short refl (Shows response framing, shows, refl) in
     rw (enters.0, enters.1) (within, shown)
 
-pub head_moves : (nb : Bool) (scan : Scan) (held rest : List ℕ) (n most : ℕ) (rep : Reply) (result : Result Reply MsgError) (made : Moved) (t : Reading) → IsHeadEnd scan rest n → length held + n ≤ 32768 → n ≤ length rest
+pub head_moves : (nb : Bool) (scan : Scan) (held rest : List ℕ) (n most : ℕ) (rep : ParsedHead) (result : Result ParsedHead MsgError) (made : Moved) (t : Reading) → IsHeadEnd scan rest n → length held + n ≤ 32768 → n ≤ length rest
     → Replied nb (held ++ take n rest) result → result ≡ Ok rep → Enters nb rep n made t → Moves (Heading (Responses nb) scan held) rest most (Ok made) t
 head_moves nb scan held rest n most rep result made t ends short within (inl failed) is enters = absurd (no_error error.NoMemory rep (sym is ∙ failed))
 head_moves nb scan held rest n most rep result made t ends short within (inr tokens) is enters =
-    shown_moves nb scan held rest n most rep made t tokens.heard ends short within (subst (λ (r : Result Reply MsgError). Hears r tokens.heard) is tokens.hears) tokens.comes enters
+    shown_moves nb scan held rest n most rep made t tokens.heard ends short within (subst (λ (r : Result ParsedHead MsgError). Hears r tokens.heard) is tokens.hears) tokens.comes enters
 
-refused_fails : (nb : Bool) (scan : Scan) (held rest : List ℕ) (n most : ℕ) (e : MsgError) (t : Reading) (heard : Heard) → IsHeadEnd scan rest n → length held + n ≤ 32768
+refused_fails : (nb : Bool) (scan : Scan) (held rest : List ℕ) (n most : ℕ) (e : MsgError) (t : Reading) (heard : HeadOutcome) → IsHeadEnd scan rest n → length held + n ≤ 32768
     → Hears (Err e) heard → IsHeardIn nb (held ++ take n rest) heard → Moves (Heading (Responses nb) scan held) rest most (Err e) t
 refused_fails nb scan held rest n most e t heard ends short (inr memory) comes = inl memory
 refused_fails nb scan held rest n most e t heard ends short (inl refused) comes =
@@ -51,14 +51,14 @@ refused_fails nb scan held rest n most e t heard ends short (inl refused) comes 
     inr (subst (λ (l : List ℕ). Leads s l [] (Failed e)) (take-append-drop n rest)
     (leads_on s (take n rest) (drop n rest) [] [] (Failed e) (Failed e) failed (stays_failed e (drop n rest))))
 
-pub head_fails : (nb : Bool) (scan : Scan) (held rest : List ℕ) (n most : ℕ) (e f : MsgError) (result : Result Reply MsgError) (t : Reading) → IsHeadEnd scan rest n → length held + n ≤ 32768
+pub head_fails : (nb : Bool) (scan : Scan) (held rest : List ℕ) (n most : ℕ) (e f : MsgError) (result : Result ParsedHead MsgError) (t : Reading) → IsHeadEnd scan rest n → length held + n ≤ 32768
     → Replied nb (held ++ take n rest) result → result ≡ Err e → f ≡ e → Moves (Heading (Responses nb) scan held) rest most (Err f) t
 head_fails nb scan held rest n most e f result t ends short (inl failed) is same =
     let memory : e ≡ error.NoMemory = cc in
     inl (same ∙ memory)
 head_fails nb scan held rest n most e f result t ends short (inr tokens) is same =
     rw same
-    (refused_fails nb scan held rest n most e t tokens.heard ends short (subst (λ (r : Result Reply MsgError). Hears r tokens.heard) is tokens.hears) tokens.comes)
+    (refused_fails nb scan held rest n most e t tokens.heard ends short (subst (λ (r : Result ParsedHead MsgError). Hears r tokens.heard) is tokens.hears) tokens.comes)
 
 pub head_long : (nb : Bool) (scan : Scan) (held rest : List ℕ) (most : ℕ) (e : MsgError) (t : Reading) → e ≡ error.HeadTooLong → IsLong (length held) scan rest
     → Moves (Heading (Responses nb) scan held) rest most (Err e) t
@@ -167,7 +167,7 @@ pub gives_on : (s mid t : Reading) (piece : List ℕ) (used n most : ℕ) (p : W
     → Moves mid (drop used piece) most (Ok (moved.Gives n p)) t → (used + n ≤ length piece) × Completes s piece most (used + n) (Some p) t
 gives_on s mid t piece used n most (part.Head response) within before moves = (
   omega (arith, moves.0, length-drop used piece),
-  rw (further piece used n) (tells_on s mid t (take used piece) (take n (drop used piece)) (Answers response) before moves.1),
+  rw (further piece used n) (reports_on s mid t (take used piece) (take n (drop used piece)) (Answers response) before moves.1),
 )
 gives_on s mid t piece used n most (part.Piece bytes) within before moves =
     let len : length (take n (drop used piece)) ≡ n = length-take n (drop used piece) ∙ omega (arith, moves.0) in

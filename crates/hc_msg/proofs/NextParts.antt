@@ -4,11 +4,11 @@
 -- where it tells nothing the rest of the input says what stands next (`passes_stands`), and where it tells something
 -- that stands next. Within a body the bytes that stand together lead on by the laws of bodies.
 use Rattle.std.{proofs.{lemmas.{Bool.{cases_Bool, ltb-true, Decides.{nat_tests}}, List.{take-append-drop}}, Common.{◌≡◌, ℕ, ◌+◌, ◌-◌, ◌<◌, ◌≤◌, ◌==◌, Bool, true, false, List, [], ◌∷◌, ◌++◌, length, take, drop, refl, sym, ap, subst, ◌∙◌, inl, inr, arith, length-take}}, specs.Prelude.{not, nat_lt, min, if◌then◌else◌, Option}}
-use Rattle.hc_head.specs.{declared.framing.Framing.{Framing}, Decoding.{asked_in, heard_in}, Requests.{Asked}, Responses.{Heard, Shows}, Scans.{scan_byte, is_open}}
+use Rattle.hc_head.specs.{declared.framing.Framing.{Framing}, Decoding.{asked_in, heard_in}, Requests.{Asked}, Responses.{HeadOutcome, Shows}, Scans.{scan_byte, is_open}}
 use Rattle.hc_head.specs.declared.framing.Framing.TheVariants as framing
 use Rattle.hc_head.proofs.Decoding.{asked_in_is, heard_in_is}
-use Rattle.hc_msg.specs.{declared.trailer.Trails.{Trails, TheVariants.{On}}, Chunks.{trail}, Sizes.{size_in}, Reading.{Kind, Requests, Responses, Reading, Heading, Counts, Runs, Sizing, Chunk, ChunkEnd, ChunkReturn, Trailing, Whole, Done, Failed, Token, Byte, Step, Move, Goes, EndsHead, EndsLine, Stays, quiet, counts, chunk, body, after_asked, after_heard, after_line, after_trail, begins_head, move_of, Makes, Leads}, Taking.{stretch, goes_on, byte_tokens}, Inputs.{Next, Waits, Tells, Brings, Ends, Fails, step_of, body_behind, brought, told_or, next_in}, NextParts.{StandsNext}}
-use Rattle.hc_msg.proofs.{Leading.{leads_on, leads_byte, stays_failed, tells_on}, Sizes.{size_in_is}, Bytes.{counts_some, counts_on, chunk_on, runs_on}}
+use Rattle.hc_msg.specs.{declared.trailer.Trails.{Trails, TheVariants.{On}}, Chunks.{trail}, Sizes.{size_in}, Reading.{Kind, Requests, Responses, Reading, Heading, Counts, Runs, Sizing, Chunk, ChunkEnd, ChunkReturn, Trailing, Whole, Done, Failed, Token, Byte, Step, Move, Goes, EndsHead, EndsLine, Stays, quiet, counts, chunk, body, after_asked, after_heard, after_line, after_trail, begins_head, move_of, Makes, Leads}, Taking.{stretch, goes_on, byte_tokens}, Inputs.{Next, Waits, Reports, Brings, Ends, Fails, step_of, body_behind, brought, reported_or, next_in}, NextParts.{StandsNext}}
+use Rattle.hc_msg.proofs.{Leading.{leads_on, leads_byte, stays_failed, reports_on}, Sizes.{size_in_is}, Bytes.{counts_some, counts_on, chunk_on, runs_on}}
 
 -- STEPS
 
@@ -56,7 +56,7 @@ body_before _ = tt
 asked_fair : (asked : Asked) → IsFair (after_asked asked)
 asked_fair asked = grind (arith, nat_tests)
 
-heard_fair : (nb : Bool) (heard : Heard) → IsFair (after_heard nb heard)
+heard_fair : (nb : Bool) (heard : HeadOutcome) → IsFair (after_heard nb heard)
 heard_fair nb (Shows response f) = record { short = tt; before = body_before f }
 heard_fair nb _ = record { short = tt; before = tt }
 
@@ -107,10 +107,10 @@ move_fair _ b on = let never : false ≡ true = on in absurd cc
 passes_stands : (most : ℕ) (s : Reading) (b : ℕ) (input : List ℕ) (t : Reading) (n : Next) → Leads s (b ∷ []) [] t → IsBefore t → StandsNext most t input n → StandsNext most s (b ∷ input) n
 passes_stands most s b input t (Waits u) on before (inl h) = inl (leads_on s (b ∷ []) input [] [] t u on h.0, h.1)
 passes_stands most s b input t (Waits u) on before (inr h) = absurd (subst IsBefore h.0 before)
-passes_stands most s b input t (Tells token u rest) on before h = record {
+passes_stands most s b input t (Reports token u rest) on before h = record {
   front = b ∷ h.front;
   whole = ap (λ (l : List ℕ). b ∷ l) h.whole;
-  tells = tells_on s t u (b ∷ []) h.front token on h.tells;
+  reports = reports_on s t u (b ∷ []) h.front token on h.reports;
 }
 passes_stands most s b input t (Brings bytes u rest) on before h = record {
   front = b ∷ h.front;
@@ -129,18 +129,18 @@ passes_stands most s b input t Ends on before h = record {
 passes_stands most s b input t (Fails e) on before h = leads_on s (b ∷ []) input [] [] t (Failed e) on h
 
 step_stands : (most : ℕ) (s : Reading) (b : ℕ) (input : List ℕ) (tokens : List Token) (t : Reading) → Makes (move_of s b) (record { tokens = tokens; next = t }) → IsShort tokens → IsBefore t
-    → StandsNext most t input (next_in most t input) → StandsNext most s (b ∷ input) (told_or tokens t input (λ r. next_in most r input))
+    → StandsNext most t input (next_in most t input) → StandsNext most s (b ∷ input) (reported_or tokens t input (λ r. next_in most r input))
 step_stands most s b input [] t makes short before h =
     passes_stands most s b input t (next_in most t input) (leads_byte s b (record { tokens = []; next = t }) makes) before h
 step_stands most s b input (token ∷ []) t makes short before h = record {
   front = b ∷ [];
   whole = refl;
-  tells = record { before = []; last = b; mid = s; whole = refl; passes = (refl, refl); tells = leads_byte s b (record { tokens = token ∷ []; next = t }) makes };
+  reports = record { before = []; last = b; mid = s; whole = refl; passes = (refl, refl); reports = leads_byte s b (record { tokens = token ∷ []; next = t }) makes };
 }
 step_stands most s b input (token ∷ next ∷ more) t makes short before h = absurd short
 
 made_stands : (most : ℕ) (s : Reading) (b : ℕ) (input : List ℕ) → goes_on s ≡ true → ((t : Reading) → StandsNext most t input (next_in most t input))
-    → StandsNext most s (b ∷ input) (told_or (step_of (move_of s b)).tokens (step_of (move_of s b)).next input (λ r. next_in most r input))
+    → StandsNext most s (b ∷ input) (reported_or (step_of (move_of s b)).tokens (step_of (move_of s b)).next input (λ r. next_in most r input))
 made_stands most s b input on h =
     let fair = move_fair s b on in
     step_stands most s b input (step_of (move_of s b)).tokens (step_of (move_of s b)).next (makes_step (move_of s b) fair.goes) fair.fair.short fair.fair.before (h (step_of (move_of s b)).next)

@@ -5,11 +5,11 @@
 -- at most 32,768 bytes, and what such a text asks or answers has a spelling (`asked_spelled`). By induction it holds of
 -- all tokens (`tokens_spelled`), and so of what a reader gives.
 use Rattle.std.{proofs.{lemmas.{Bool.{cases_Bool, ltb-true, Decides.{nat_tests}}, List.Elements.{All-cons, All-head, All-append}}, Common.{◌≡◌, ℕ, ◌≤◌, ◌==◌, Bool, List, [], ◌∷◌, ◌++◌, length, sym, subst, inl, inr, arith, length-append}}, specs.Prelude.{nat_lt, All, IfSome, if◌then◌else◌, Option, Some, None, Result, Ok, Err}}
-use Rattle.hc_head.specs.{declared.{message.{MsgError.{MsgError}, WireRequest.{WireRequest}}, scan.Scan.{Scan}}, Scans.{scan_byte, is_open}, Requests.{Asked, Grants, Denies, IsAskedBy}, Responses.{Heard, Shows, IsHeardIn}}
+use Rattle.hc_head.specs.{declared.{message.{MsgError.{MsgError}, WireRequest.{WireRequest}}, scan.Scan.{Scan}}, Scans.{scan_byte, is_open}, Requests.{Asked, Grants, Denies, IsAskedBy}, Responses.{HeadOutcome, Shows, IsHeardIn}}
 use Rattle.hc_head.proofs.Spellings.{granted_spelled, shown_spelled}
 use Rattle.hc_msg.specs.{declared.{message.{Taken.{Taken}, WirePart.{WirePart}}, trailer.Trails.{Trails, TheVariants.{On}}}, Chunks.{trail}, Reading.{Kind, Requests, Responses, Reading, Heading, Sizing, ChunkEnd, ChunkReturn, Trailing, Whole, Done, Failed, Token, Asks, Answers, Byte, Step, Goes, after_asked, after_heard, after_line, after_trail, begins_head, move_of, HeadMakes, Makes, Leads}, Asking.{TakesRequest, CompletesRequest}, Taking.{Takes, Completes}, Spelled.{IsSpelled, IsSpelledPart, GivesSpelled}}
 use Rattle.hc_msg.specs.declared.message.WirePart.TheVariants as part
-use Rattle.hc_msg.proofs.Leading.{tells_leads}
+use Rattle.hc_msg.proofs.Leading.{reports_leads}
 
 none_spelled : All IsSpelled []
 none_spelled = λ k d lt. absurd (omega arith)
@@ -19,7 +19,7 @@ asked_spelled : (text : List ℕ) (asked : Asked) → length text ≤ 32768 → 
 asked_spelled text (Grants request) short h = All-cons IsSpelled (Asks request) [] (granted_spelled text request short h) none_spelled
 asked_spelled text (Denies e) short h = none_spelled
 
-heard_spelled : (no_body : Bool) (text : List ℕ) (heard : Heard) → length text ≤ 32768 → IsHeardIn no_body text heard → All IsSpelled (after_heard no_body heard).tokens
+heard_spelled : (no_body : Bool) (text : List ℕ) (heard : HeadOutcome) → length text ≤ 32768 → IsHeardIn no_body text heard → All IsSpelled (after_heard no_body heard).tokens
 heard_spelled no_body text (Shows response framing) short h = All-cons IsSpelled (Answers response) [] (shown_spelled no_body text response framing short h) none_spelled
 heard_spelled no_body text _ short h = none_spelled
 
@@ -86,12 +86,12 @@ request_spelled s piece (Err e) t h = tt
 request_spelled s piece (Ok taken) t h = given taken.got h.1 where
   given : (got : Option WireRequest) → CompletesRequest s piece taken.used got t → IfSome got (λ request. IsSpelled (Asks request))
   given None h = tt
-  given (Some request) h = All-head IsSpelled (Asks request) [] (tokens_spelled s _ (Asks request ∷ []) t (tells_leads s _ (Asks request) t h))
+  given (Some request) h = All-head IsSpelled (Asks request) [] (tokens_spelled s _ (Asks request ∷ []) t (reports_leads s _ (Asks request) t h))
 
 pub part_spelled : (s : Reading) (piece : List ℕ) (most : ℕ) (result : Result (Taken WirePart) MsgError) (t : Reading) → Takes s piece most result t → GivesSpelled (IsSpelledPart most) result
 part_spelled s piece most (Err e) t h = tt
 part_spelled s piece most (Ok taken) t h = given taken.got h.1 where
   given : (got : Option WirePart) → Completes s piece most taken.used got t → IfSome got (IsSpelledPart most)
-  given (Some (part.Head response)) h = All-head IsSpelled (Answers response) [] (tokens_spelled s _ (Answers response ∷ []) t (tells_leads s _ (Answers response) t h))
+  given (Some (part.Head response)) h = All-head IsSpelled (Answers response) [] (tokens_spelled s _ (Answers response ∷ []) t (reports_leads s _ (Answers response) t h))
   given (Some (part.Piece bytes)) h = (h.some, omega (arith, h.longest))
   given _ h = tt

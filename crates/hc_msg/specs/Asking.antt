@@ -10,7 +10,7 @@ use Rattle.hc_head.specs.declared.scan.Sought.TheVariants as sought
 use Rattle.hc_head.specs.declared.start.Start.{Start}
 use Rattle.hc_head.specs.Scans.{is_open}
 use Rattle.hc_head.specs.Starts.{begins_request, goes_on_from}
-use Rattle.hc_msg.specs.Reading.{Reading, Heading, Requests, Failed, Asks, Leads, TellsAtLast}
+use Rattle.hc_msg.specs.Reading.{Reading, Heading, Requests, Failed, Asks, Leads, ReportsAtLast}
 use Rattle.hc_head.specs.Calls.{CallsFor}
 
 abbrev pub asking : Call → Reading
@@ -43,7 +43,7 @@ Called text result = (result ≡ Err error.NoMemory) ⊎ CallsFor text result
 -- the first bytes of a piece end a request, or all of them were used
 abbrev pub CompletesRequest : Reading → List ℕ → ℕ → Option WireRequest → Reading → Type 0
 CompletesRequest s piece used None t = (used ≡ length piece) × Leads s piece [] t
-CompletesRequest s piece used (Some request) t = TellsAtLast s (take used piece) (Asks request) t
+CompletesRequest s piece used (Some request) t = ReportsAtLast s (take used piece) (Asks request) t
 
 -- what a piece comes to
 abbrev pub TakesRequest

@@ -26,7 +26,7 @@ pub data Next : Type 0 where
   -- it has no whole part, and was read to its end
   Waits : (reading : Reading) → Next
   -- a whole head
-  Tells : (token : Token) (reading : Reading) (rest : List ℕ) → Next
+  Reports : (token : Token) (reading : Reading) (rest : List ℕ) → Next
   -- bytes of a body that stand together
   Brings : (bytes : List ℕ) (reading : Reading) (rest : List ℕ) → Next
   -- the message is whole
@@ -53,9 +53,9 @@ abbrev pub is_in_body : Reading → Bool
 is_in_body s = nat_lt 0 (stretch s 1)
 
 -- a head that is told comes next, else what follows
-abbrev pub told_or : List Token → Reading → List ℕ → (Reading → Next) → Next
-told_or [] s rest go_on = go_on s
-told_or (token ∷ more) s rest go_on = Tells token s rest
+abbrev pub reported_or : List Token → Reading → List ℕ → (Reading → Next) → Next
+reported_or [] s rest go_on = go_on s
+reported_or (token ∷ more) s rest go_on = Reports token s rest
 
 -- what stands next, from where the reading stands, and of a body at most so many bytes
 unfoldable pub next_in : ℕ → Reading → List ℕ → Next
@@ -64,7 +64,7 @@ next_in most s (b ∷ input) =
     if not (goes_on s) then stopped s
     else if is_in_body s then brought s (min most (stretch s (length input + 1))) (b ∷ input)
     else let step = step_of (move_of s b) in
-    told_or step.tokens step.next input (λ t. next_in most t input)
+    reported_or step.tokens step.next input (λ t. next_in most t input)
 
 -- WHAT THE READERS TAKE
 
@@ -76,7 +76,7 @@ IsNextError next e = (e ≡ error.NoMemory) ⊎ (next ≡ Fails e)
 abbrev pub IsNextPart : Next → List ℕ → ℕ → Option WirePart → Reading → Type 0
 IsNextPart next piece used None t = next ≡ Waits t
 IsNextPart next piece used (Some (part.Head response)) t =
-    next ≡ Tells (Answers response) t (drop used piece)
+    next ≡ Reports (Answers response) t (drop used piece)
 IsNextPart next piece used (Some (part.Piece bytes)) t = next ≡ Brings bytes t (drop used piece)
 IsNextPart next piece used (Some part.End) t = next ≡ Ends
 
@@ -90,7 +90,7 @@ TakesNext most s piece (Err e) t = IsNextError (next_in most s piece) e
 -- a request is what stands next, and so many bytes of the piece are used with it
 abbrev pub IsNextRequest : Next → List ℕ → ℕ → Option WireRequest → Reading → Type 0
 IsNextRequest next piece used None t = next ≡ Waits t
-IsNextRequest next piece used (Some request) t = next ≡ Tells (Asks request) t (drop used piece)
+IsNextRequest next piece used (Some request) t = next ≡ Reports (Asks request) t (drop used piece)
 
 -- what is taken of requests is what stands next
 abbrev pub TakesNextRequest
@@ -103,7 +103,7 @@ TakesNextRequest most s piece (Err e) t = IsNextError (next_in most s piece) e
 
 abbrev pub look_of : Next → Look
 look_of (Waits reading) = look.Waits
-look_of (Tells token reading rest) = look.Part
+look_of (Reports token reading rest) = look.Part
 look_of (Brings bytes reading rest) = look.Part
 look_of Ends = look.Part
 look_of (Fails e) = look.Fails

@@ -1,7 +1,7 @@
 -- What stands next in an input, in terms of where its bytes lead.
 use Rattle.std.specs.Prelude.{◌≡◌, ◌⊎◌, ℕ, true, List, [], ◌++◌, length, min}
-use Rattle.hc_msg.specs.Inputs.{Next, Waits, Tells, Brings, Ends, Fails, next_in}
-use Rattle.hc_msg.specs.Reading.{Reading, Whole, Done, Failed, Token, Leads, TellsAtLast}
+use Rattle.hc_msg.specs.Inputs.{Next, Waits, Reports, Brings, Ends, Fails, next_in}
+use Rattle.hc_msg.specs.Reading.{Reading, Whole, Done, Failed, Token, Leads, ReportsAtLast}
 use Rattle.hc_msg.specs.Taking.{stretch, goes_on, byte_tokens}
 
 -- all was read and told nothing, and more is waited for; or it stands behind the end
@@ -9,11 +9,11 @@ abbrev pub IsReadOn : Reading → List ℕ → Reading → Type 0
 IsReadOn s input t = (Leads s input [] t × (goes_on t ≡ true)) ⊎ ((s ≡ Done) × (t ≡ Done))
 
 -- the first bytes tell this with the last of them
-pub record IsToldFirst (s : Reading) (input : List ℕ) (token : Token) (t : Reading) (rest : List ℕ)
+pub record IsReportedFirst (s : Reading) (input : List ℕ) (token : Token) (t : Reading) (rest : List ℕ)
     : Type 0 where
   pub front : List ℕ
   pub whole : front ++ rest ≡ input
-  pub tells : TellsAtLast s front token t
+  pub reports : ReportsAtLast s front token t
 
 -- behind bytes that tell nothing, the longest run of body bytes that stand together, of at most so many
 pub record IsBroughtFirst
@@ -34,7 +34,7 @@ pub record IsEndedFirst (s : Reading) (input : List ℕ) : Type 0 where
 
 abbrev pub StandsNext : ℕ → Reading → List ℕ → Next → Type 0
 StandsNext most s input (Waits t) = IsReadOn s input t
-StandsNext most s input (Tells token t rest) = IsToldFirst s input token t rest
+StandsNext most s input (Reports token t rest) = IsReportedFirst s input token t rest
 StandsNext most s input (Brings bytes t rest) = IsBroughtFirst most s input bytes t rest
 StandsNext most s input Ends = IsEndedFirst s input
 StandsNext most s input (Fails e) = Leads s input [] (Failed e)

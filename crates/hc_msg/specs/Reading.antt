@@ -13,7 +13,7 @@ use Rattle.hc_msg.specs.declared.trailer.Trailer.TheVariants as trailer
 use Rattle.hc_head.specs.Scans.{scan_byte, is_open}
 use Rattle.hc_head.specs.Starts.{begins_request}
 use Rattle.hc_head.specs.Requests.{Asked, Grants, Denies, IsAskedBy}
-use Rattle.hc_head.specs.Responses.{Heard, Skips, Shows, Refuses, IsHeardIn}
+use Rattle.hc_head.specs.Responses.{HeadOutcome, Skips, Shows, Refuses, IsHeardIn}
 use Rattle.hc_msg.specs.declared.trailer.Trails.{Trails}
 use Rattle.hc_msg.specs.declared.trailer.Trails.TheVariants.{On, Ends, TooLong}
 use Rattle.hc_msg.specs.Chunks.{LineSays, trail}
@@ -94,7 +94,7 @@ abbrev pub after_asked : Asked → Step
 after_asked (Grants request) = record { tokens = Asks request ∷ []; next = heading Requests }
 after_asked (Denies e) = fails e
 
-abbrev pub after_heard : Bool → Heard → Step
+abbrev pub after_heard : Bool → HeadOutcome → Step
 after_heard no_body Skips = quiet (heading (Responses no_body))
 after_heard no_body (Shows response f) = record { tokens = Answers response ∷ []; next = body f }
 after_heard no_body (Refuses e) = fails e
@@ -150,7 +150,7 @@ AsksFor text step = (asked : Asked) × IsAskedBy text asked × (step ≡ after_a
 -- what a whole head of an answer comes to
 abbrev pub AnswersWith : Bool → List ℕ → Step → Type 0
 AnswersWith no_body text step =
-    (heard : Heard) × IsHeardIn no_body text heard × (step ≡ after_heard no_body heard)
+    (heard : HeadOutcome) × IsHeardIn no_body text heard × (step ≡ after_heard no_body heard)
 
 abbrev pub HeadMakes : Kind → List ℕ → Step → Type 0
 HeadMakes Requests text step = AsksFor text step
@@ -174,10 +174,10 @@ Leads s (b ∷ text) tokens t =
     × (tokens ≡ step.tokens ++ rest)
 
 -- the last of the bytes tells this, and none before it tells anything
-pub record TellsAtLast (s : Reading) (text : List ℕ) (token : Token) (t : Reading) : Type 0 where
+pub record ReportsAtLast (s : Reading) (text : List ℕ) (token : Token) (t : Reading) : Type 0 where
   pub before : List ℕ
   pub last : ℕ
   pub mid : Reading
   pub whole : before ++ last ∷ [] ≡ text
   pub passes : Leads s before [] mid
-  pub tells : Leads mid (last ∷ []) (token ∷ []) t
+  pub reports : Leads mid (last ∷ []) (token ∷ []) t

@@ -10,14 +10,14 @@ use Rattle.hc_head.specs.declared.message.MsgError.TheVariants as error
 use Rattle.hc_msg.specs.declared.message.Taken.{Taken}
 use Rattle.hc_msg.specs.declared.message.WirePart.{WirePart}
 use Rattle.hc_msg.specs.declared.message.WirePart.TheVariants as part
-use Rattle.hc_head.specs.declared.response.Reply.{Reply}
-use Rattle.hc_head.specs.declared.response.Reply.TheVariants as reply
+use Rattle.hc_head.specs.declared.response.ParsedHead.{ParsedHead}
+use Rattle.hc_head.specs.declared.response.ParsedHead.TheVariants as reply
 use Rattle.hc_text.specs.declared.memory.NoMemory.{NoMemory}
 use Rattle.hc_msg.specs.declared.trailer.Trails.{Trails}
 use Rattle.hc_msg.specs.Chunks.{LineSays}
 use Rattle.hc_head.specs.Replies.{RepliesTo}
 use Rattle.hc_head.specs.Scans.{is_open}
-use Rattle.hc_msg.specs.Reading.{Reading, Heading, Responses, Counts, Runs, Sizing, Chunk, ChunkEnd, ChunkReturn, Trailing, Whole, Done, Failed, Token, Answers, Byte, Leads, TellsAtLast, heading, body, quiet, fails, after_trail}
+use Rattle.hc_msg.specs.Reading.{Reading, Heading, Responses, Counts, Runs, Sizing, Chunk, ChunkEnd, ChunkReturn, Trailing, Whole, Done, Failed, Token, Answers, Byte, Leads, ReportsAtLast, heading, body, quiet, fails, after_trail}
 
 -- where the reading of an answer stands, of which these bytes are held
 abbrev pub reading_by : Bool → State → List ℕ → Reading
@@ -64,11 +64,11 @@ abbrev pub IsKept : Answer → Type 0
 IsKept a = IsKeptAt a.state a.held.items
 
 -- the text was heard, or memory was refused
-abbrev pub Replied : Bool → List ℕ → Result Reply MsgError → Type 0
+abbrev pub Replied : Bool → List ℕ → Result ParsedHead MsgError → Type 0
 Replied no_body text result = (result ≡ Err error.NoMemory) ⊎ RepliesTo no_body text result
 
 -- what a head that is read leads to
-abbrev pub Enters : Bool → Reply → ℕ → Moved → Reading → Type 0
+abbrev pub Enters : Bool → ParsedHead → ℕ → Moved → Reading → Type 0
 Enters no_body reply.Skips n made t = (made ≡ moved.Passes n) × (t ≡ heading (Responses no_body))
 Enters no_body (reply.Shows response framing) n made t =
     (made ≡ moved.Gives n (part.Head response)) × (t ≡ body framing)
@@ -119,7 +119,7 @@ byte_tokens bytes = map Byte bytes
 -- the first n bytes give the part
 abbrev pub GivesPart : Reading → List ℕ → ℕ → ℕ → WirePart → Reading → Type 0
 GivesPart s piece most n (part.Head response) t =
-    TellsAtLast s (take n piece) (Answers response) t
+    ReportsAtLast s (take n piece) (Answers response) t
 GivesPart s piece most n (part.Piece bytes) t =
     (bytes ≡ take n piece) × (0 < n) × (n ≡ min most (stretch s (length piece)))
     × Leads s (take n piece) (byte_tokens (take n piece)) t
@@ -153,7 +153,7 @@ pub record GivesBytes (s : Reading) (piece : List ℕ) (most used : ℕ) (bytes 
 abbrev pub Completes : Reading → List ℕ → ℕ → ℕ → Option WirePart → Reading → Type 0
 Completes s piece most used None t = Leads s (take used piece) [] t × IsSpent s (length piece) used t
 Completes s piece most used (Some (part.Head response)) t =
-    TellsAtLast s (take used piece) (Answers response) t
+    ReportsAtLast s (take used piece) (Answers response) t
 Completes s piece most used (Some (part.Piece bytes)) t = GivesBytes s piece most used bytes t
 Completes s piece most used (Some part.End) t = Leads s (take used piece) [] Whole × (t ≡ Done)
 

@@ -8,7 +8,7 @@ ghost use Rattle.hc_msg.specs.Taking.{reading_by, reading_of, IsSoundAt, IsSound
 use crate::line::{find_line, size_of};
 use crate::message::{Taken, WirePart};
 use crate::trailer::{Trailer, Trails};
-use hc_head::{Framing, MsgError, Reply, Scan, Sought, find_end, reply_of};
+use hc_head::{Framing, MsgError, ParsedHead, Scan, Sought, find_end, reply_of};
 use hc_text::{Bytes, NoMemory};
 use std::alloc::Global;
 
@@ -153,7 +153,7 @@ impl Answer {
     }
 
     /// What the head says that ends with these bytes.
-    fn whole_head(&mut self, end: &[u8]) -> Result<Reply, MsgError>
+    fn whole_head(&mut self, end: &[u8]) -> Result<ParsedHead, MsgError>
         requires { length self.old.held.items + length end.now ≤ 32768 }
         ensures replied { Replied self.old.no_body (self.old.held.items ++ end.now) result }
         ensures empty { OnOk result (self.new.held.items ≡ []) }
@@ -170,17 +170,17 @@ impl Answer {
     }
 
     /// The answer goes on behind a head of which so many bytes were used now.
-    fn enter(&mut self, reply: Reply, n: usize) -> Moved
+    fn enter(&mut self, reply: ParsedHead, n: usize) -> Moved
         requires { self.old.held.items ≡ [] }
         ensures enters { Enters self.old.no_body reply n result (reading_of self.new) }
         ensures sound { IsSound self.new }
     {
         match reply {
-            Reply::Skips => {
+            ParsedHead::Skips => {
                 self.state = State::Heading(Scan::Before);
                 Moved::Passes(n)
             }
-            Reply::Shows(response, framing) => {
+            ParsedHead::Shows(response, framing) => {
                 self.state = State::body(framing);
                 Moved::Gives(n, WirePart::Head(response))
             }

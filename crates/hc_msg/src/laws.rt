@@ -16,7 +16,7 @@ pub fn bytes_are_read_one_way()
 {}
 
 /// The requests and the heads of answers that bytes tell have a spelling in a schedule.
-pub fn what_bytes_tell_has_a_spelling()
+pub fn what_bytes_report_has_a_spelling()
     ensures { TokensAreSpelled }
 {}
 

@@ -15,7 +15,7 @@ mod write;
 
 pub use hc_head::{MsgError, WireRequest};
 pub use laws::{
-    bytes_are_read_one_way, chunk_lines_are_read_by_equations, what_bytes_tell_has_a_spelling,
+    bytes_are_read_one_way, chunk_lines_are_read_by_equations, what_bytes_report_has_a_spelling,
     what_stands_next_is_read,
 };
 pub use message::{Look, Taken, WirePart};

@@ -10,19 +10,18 @@ use Rattle.hc_exch.specs.Known as known
 use Rattle.hc_model.specs.Effects as effects
 use Rattle.hc_model.specs.Owners as owners
 use Rattle.hc_model.specs.Rows as rows
-use Rattle.hc_state.specs.{declared.{rows.Rows.{Rows}}, Changes.{ChangesAt}, Kept.{answer_for, answer_at}, Leaving.{LeavesPlace}, Stands.{RowsStand}, Stopped.{NobodyAwaits, Waited}}
-use Rattle.hc_txn.specs.declared.transaction.Transaction.{Transaction as Consumer}
-use Rattle.hc_txn.specs.Transactions.{put_down}
+use Rattle.hc_state.specs.{declared.rows.Rows.{Rows}, Changes.{ChangesAt}, Kept.{answer_for, answer_at}, Leaving.{LeavesPlace}, Stands.{RowsStand}, Stopped.{NobodyAwaits, Waited}}
+use Rattle.hc_txn.specs.{declared.transaction.Transaction.{Transaction as Consumer}, Transactions.{put_down}}
 use Rattle.hc_state.proofs.{Closing.{stands_unstored}, Dropping.{stands_down, moved_to}}
 
 -- the rows once it is closed, told in two ways
 abbrev mapped_over : Tables → ℕ → ℕ → Option Exchange
 mapped_over t x y = if x == y then option_map over (t.exchange y) else t.exchange y
 
-abbrev told_over : Tables → ℕ → Exchange → ℕ → Option Exchange
-told_over t x w y = if x == y then Some (over w) else t.exchange y
+abbrev reported_over : Tables → ℕ → Exchange → ℕ → Option Exchange
+reported_over t x w y = if x == y then Some (over w) else t.exchange y
 
-over_rows : (t : Tables) (x : ℕ) (w : Exchange) → t.exchange x ≡ Some w → mapped_over t x ≡ told_over t x w
+over_rows : (t : Tables) (x : ℕ) (w : Exchange) → t.exchange x ≡ Some w → mapped_over t x ≡ reported_over t x w
 over_rows t x w row = fun_ext (λ y. elim (same_or x y) [
   | inl e ↦
       let on : nat_eq x y ≡ true = ap (nat_eq x) (sym e) ∙ eqb-same x in

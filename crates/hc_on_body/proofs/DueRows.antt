@@ -1,6 +1,6 @@
 -- A failure becomes due to some consumers: what is kept represents the tables in which it is.
 --
--- Nothing else of them changes, so whatever doesn't look at what is due is told as before (`told_same`). That is who is
+-- Nothing else of them changes, so whatever doesn't look at what is due is told as before (`reported_same`). That is who is
 -- live or bound, what keys say, and what is held. Each consumer is kept with the failure, unless one was due already,
 -- as in the tables (`kept_due`). `stands_due` joins this. What may be let go or closed stays so (`may_due`,
 -- `awaits_due`). `StopHandler` uses these for the readers of an exchange that stops.
@@ -13,9 +13,8 @@ use Rattle.hc_stored.specs.Entries.{shelf_of}
 use Rattle.hc_entry.specs.Keys.{kept_of}
 use Rattle.hc_exch.specs.Exchanges.{table_of, next_of}
 use Rattle.hc_model.specs.Rows as rows
-use Rattle.hc_state.specs.{declared.{rows.Rows.{Rows}}, Changes.{ChangesAmong}, Kept.{IsKept, KeepsConsumer, held_for, held_of, held_alone, unread, unstored_bytes}, Lines.{has_turn, is_passed, is_away, is_away_at}, Stands.{RowsStand}, Stopped.{with_consumers, NobodyAwaits, due_for}, Stored.{is_first}}
-use Rattle.hc_txn.specs.declared.transaction.Transaction.{Transaction as Consumer}
-use Rattle.hc_txn.specs.Transactions.{with_due}
+use Rattle.hc_state.specs.{declared.rows.Rows.{Rows}, Changes.{ChangesAmong}, Kept.{IsKept, KeepsConsumer, held_for, held_of, held_alone, unread, unstored_bytes}, Lines.{has_turn, is_passed, is_away, is_away_at}, Stands.{RowsStand}, Stopped.{with_consumers, NobodyAwaits, due_for}, Stored.{is_first}}
+use Rattle.hc_txn.specs.{declared.transaction.Transaction.{Transaction as Consumer}, Transactions.{with_due}}
 use Rattle.hc_state.proofs.{FallbackSteps.{live_same}, Fallbacks.{unstored_moved}, OneOfEach.{entries_same}, Ties.{consumer_same, exchange_same, key_same, kept_same}}
 
 module _ (t : Tables) (among : ℕ → Bool) (why : Cause) where
@@ -23,8 +22,8 @@ module _ (t : Tables) (among : ℕ → Bool) (why : Cause) where
   s = with_consumers (due_for t among why) t
 
   -- what doesn't look at what is due is told as before
-  pub told_same : {A : Type 0} (f : Option rows.Consumer → A) → ((k : rows.Consumer) → f (Some (failing (Some why) k)) ≡ f (Some k)) → (d : ℕ) → f (s.consumer d) ≡ f (t.consumer d)
-  told_same f same d = by_test (among d) (t.consumer d)
+  pub reported_same : {A : Type 0} (f : Option rows.Consumer → A) → ((k : rows.Consumer) → f (Some (failing (Some why) k)) ≡ f (Some k)) → (d : ℕ) → f (s.consumer d) ≡ f (t.consumer d)
+  reported_same f same d = by_test (among d) (t.consumer d)
     where
       by_test : (b : Bool) (o : Option rows.Consumer) → f (if b then option_map (failing (Some why)) o else o) ≡ f o
       by_test true None = refl
@@ -59,7 +58,7 @@ module _ (t : Tables) (among : ℕ → Bool) (why : Cause) where
   may_due may = record {
     one_current = may.one_current;
     founded = may.founded;
-    started = λ d some. may.started d (sym (told_same (λ o. is_some o) (λ k. refl) d) ∙ some);
+    started = λ d some. may.started d (sym (reported_same (λ o. is_some o) (λ k. refl) d) ∙ some);
     waits = λ d r kept u is at.
         let was = stood d u is in
         let w = may.waits d r kept was.k was.row (sym was.place_is ∙ at) in
@@ -105,10 +104,10 @@ module _ (t : Tables) (among : ℕ → Bool) (why : Cause) where
     where
       alone_due : (v : Representation) (c : Option ℕ) → held_alone s y w v c ≡ held_alone t y w v c
       alone_due v None = refl
-      alone_due v (Some c) = told_same (unstored_bytes s y w v) (λ k. refl) c ∙ unstored_moved t s y w v (t.consumer c)
+      alone_due v (Some c) = reported_same (unstored_bytes s y w v) (λ k. refl) c ∙ unstored_moved t s y w v (t.consumer c)
 
       by_row : (z : Option Representation) → held_of s y w z ≡ held_of t y w z
-      by_row None = told_same (unread y w) (λ k. refl) w.c
+      by_row None = reported_same (unread y w) (λ k. refl) w.c
       by_row (Some v) = alone_due v v.alone
 
 -- ALL OF IT
@@ -122,9 +121,9 @@ stands_due r u t among why stands last exchanges same_keys same_entries changes 
       limits = rw same_entries stands.limits;
       last_start = last ∙ stands.last_start;
       next = ap (λ e. next_of e) exchanges ∙ stands.next;
-      count = changes.len ∙ (stands.count ∙ sym (live_same t z refl (told_same t among why is_live (λ k. refl))));
+      count = changes.len ∙ (stands.count ∙ sym (live_same t z refl (reported_same t among why is_live (λ k. refl))));
       consumers = λ d. subst (λ o. KeepsConsumer z o (z.consumer d)) (sym (changes.places d)) (consumer_due t among why (among d) (get nat_eq r.consumers d) (t.consumer d) (stands.consumers d));
       exchanges = λ y. rw exchanges (exchange_same t z y (table_of r.exchanges y) (record { row = refl; brings = λ w at. refl; held = held_due t among why y (t.exchange y) }) (stands.exchanges y));
-      keys = λ key. rw same_keys (key_same t z key (kept_of r.keys key) (record { current = refl; in_line = told_same t among why (is_in_line key) (λ k. refl); passed = told_same t among why (is_passed key) (λ k. refl); away = λ d. told_same t among why (is_away z key) (λ k. refl) d ∙ away_as t among why key (t.consumer d); turn = told_same t among why (has_turn key) (λ k. refl) }) (stands.keys key));
-      entries = rw same_entries (entries_same t z (shelf_of r.entries) (λ q. refl) refl refl (λ q. told_same t among why (is_bound q) (λ k. refl)) (λ q. told_same t among why (is_first t q) (λ k. refl)) (λ q. refl) (λ y on. on) stands.entries);
+      keys = λ key. rw same_keys (key_same t z key (kept_of r.keys key) (record { current = refl; in_line = reported_same t among why (is_in_line key) (λ k. refl); passed = reported_same t among why (is_passed key) (λ k. refl); away = λ d. reported_same t among why (is_away z key) (λ k. refl) d ∙ away_as t among why key (t.consumer d); turn = reported_same t among why (has_turn key) (λ k. refl) }) (stands.keys key));
+      entries = rw same_entries (entries_same t z (shelf_of r.entries) (λ q. refl) refl refl (λ q. reported_same t among why (is_bound q) (λ k. refl)) (λ q. reported_same t among why (is_first t q) (λ k. refl)) (λ q. refl) (λ y on. on) stands.entries);
     }

@@ -1,7 +1,7 @@
 -- An exchange ended cleanly, where it promised a length: what is kept represents that as for one that is closed.
 --
 -- The tables differ in how it ended, which what is kept doesn't tell. So whatever doesn't look at that is told alike
--- (`told_alike`): head, base, what is held, and keys. Where its body ends has the work: an exchange that is closed has
+-- (`reported_alike`): head, base, what is held, and keys. Where its body ends has the work: an exchange that is closed has
 -- the promised end, and one that ended what came. Since it promised a length, both are told by that (`end_alike`).
 -- `stands_ended` joins these for `ShortAnswers`; `WholeEnds` uses its parts.
 use Rattle.std.{proofs.{Common.{◌≡◌, ℕ, ◌+◌, ◌-◌, List, [], length, Bool, true, false, Option, Some, None, refl, ap, sym, ◌∙◌, arith}, lemmas.Bool.Decides.{nat_tests}}, specs.{Prelude.{nat_eq, bytes_eq, drop, ◌==◌, ◌&&◌, if◌then◌else◌}, HashMap.{get}}}
@@ -36,8 +36,8 @@ module _ (t : Tables) (f : ℕ → Option Exchange) (x : ℕ) (w : Exchange) whe
   z = with_end x w f t
 
   -- what doesn't look at how it ended is told as before
-  pub told_alike : {A : Type 0} (h : Option Exchange → A) → h (Some (at_end w)) ≡ h (Some (over w)) → (y : ℕ) → h (z.exchange y) ≡ h (a.exchange y)
-  told_alike h ends_as y = by_test (nat_eq x y)
+  pub reported_alike : {A : Type 0} (h : Option Exchange → A) → h (Some (at_end w)) ≡ h (Some (over w)) → (y : ℕ) → h (z.exchange y) ≡ h (a.exchange y)
+  reported_alike h ends_as y = by_test (nat_eq x y)
     where
       by_test : (b : Bool) → h (if b then Some (at_end w) else f y) ≡ h (if b then Some (over w) else f y)
       by_test true = ends_as
@@ -72,7 +72,7 @@ module _ (t : Tables) (f : ℕ → Option Exchange) (x : ℕ) (w : Exchange) whe
   held_same y (Some u) = held_alike a z (λ d. same refl) y u refl
 
   pub held_end : (y : ℕ) → held_for z y (z.exchange y) ≡ held_for a y (a.exchange y)
-  held_end y = told_alike (held_for z y) (held_same y (Some (at_end w)) ∙ (of_end y (t.representation (family y w)) ∙ sym (held_same y (Some (over w))))) y ∙ held_same y (a.exchange y)
+  held_end y = reported_alike (held_for z y) (held_same y (Some (at_end w)) ∙ (of_end y (t.representation (family y w)) ∙ sym (held_same y (Some (over w))))) y ∙ held_same y (a.exchange y)
 
   pub runs_end : (y : ℕ) (b : Bool) (o : Option Open) → KeepsRunning a y o (if b then Some (over w) else f y) → KeepsRunning z y o (if b then Some (at_end w) else f y)
   runs_end y true None kept = refl
@@ -86,7 +86,7 @@ module _ (t : Tables) (f : ℕ → Option Exchange) (x : ℕ) (w : Exchange) whe
   away_end key (Some k) = ap (λ b. bytes_eq k.request.key key && b) (by_place k.place)
     where
       by_place : (p : Place) → is_away_at z p ≡ is_away_at a p
-      by_place (place.Bound r lo hi (by.FirstHole y)) = told_alike is_headless refl y
+      by_place (place.Bound r lo hi (by.FirstHole y)) = reported_alike is_headless refl y
       by_place _ = refl
 
 -- ALL OF IT
@@ -102,8 +102,8 @@ module _ {B : Type 0} {g : Ghosts B} {limits : Limits} (u : Rows B g) (t : Table
         last_start = stands.last_start;
         next = stands.next;
         count = stands.count;
-        consumers = λ d. consumer_alike before after (record { head = told_alike t f x w head_in refl; begins = told_alike t f x w base_in (base_alike t f x w); ends = told_alike t f x w end_in (end_alike t f x w p promises); length = λ q. refl }) (get nat_eq u.consumers d) (t.consumer d) (stands.consumers d);
+        consumers = λ d. consumer_alike before after (record { head = reported_alike t f x w head_in refl; begins = reported_alike t f x w base_in (base_alike t f x w); ends = reported_alike t f x w end_in (end_alike t f x w p promises); length = λ q. refl }) (get nat_eq u.consumers d) (t.consumer d) (stands.consumers d);
         exchanges = λ y. record { running = runs_end t f x w y (nat_eq x y) (table_of u.exchanges y).running (stands.exchanges y).running; held = (stands.exchanges y).held ∙ sym (held_end t f x w y) };
         keys = λ key. key_same before after key (kept_of u.keys key) (record { current = refl; in_line = λ d. refl; passed = λ d. refl; away = λ d. away_end t f x w key (t.consumer d); turn = λ d. refl }) (stands.keys key);
-        entries = entries_same before after (shelf_of u.entries) (λ q. refl) refl refl (λ q d. refl) (λ q d. refl) (λ q. growing_same before after q refl (λ y. told_alike t f x w (brings_to q y) refl y)) (λ y on. told_alike t f x w is_over refl y ∙ on) stands.entries;
+        entries = entries_same before after (shelf_of u.entries) (λ q. refl) refl refl (λ q d. refl) (λ q d. refl) (λ q. growing_same before after q refl (λ y. reported_alike t f x w (brings_to q y) refl y)) (λ y on. reported_alike t f x w is_over refl y ∙ on) stands.entries;
       }

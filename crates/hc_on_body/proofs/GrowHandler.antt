@@ -105,10 +105,10 @@ module _ {B : Type 0} {g : Ghosts B} {limits : Limits} (r put : Rows B g) (t : T
 
   answered_lost : (u : Rows B g) (s : Tables) (out : List Act) (xs : List ℕ) → Does limits t now ev (Loses q kind) (map act.Evicted es ++ (act.Lost q kind ∷ map act.Close xs)) s → out ≡ mid ++ (act.Lost q kind ∷ map act.Close xs)
       → (shelf_of put.entries).faults ≤ (shelf_of u.entries).faults → RowsStand limits u s → Answered limits (shelf_of r.entries).faults u t before out now ev
-  answered_lost u s out xs does told failed stood = record {
+  answered_lost u s out xs does reported failed stood = record {
     flaw = Loses q kind;
     acts =
-        told ∙ (ap (λ (z : List Act). z ++ (act.Lost q kind ∷ map act.Close xs)) refuses.gives.acts
+        reported ∙ (ap (λ (z : List Act). z ++ (act.Lost q kind ∷ map act.Close xs)) refuses.gives.acts
         ∙ (append_assoc before (map act.Evicted es) (act.Lost q kind ∷ map act.Close xs)
         ∙ ap (λ z. before ++ z) (sym does.acts_are)));
     shown = ap flaw_in does.acts_are ∙ flaw_closes q kind xs es;
@@ -186,8 +186,8 @@ module _ {B : Type 0} {g : Ghosts B} {limits : Limits} (r put : Rows B g) (t : T
 
       pub own_answered : (u : Rows B g) (out : List Act) → (MayLoseOwn left now q x w v alone → RowsStand limits put left → RowsStand limits u (brought_lost now q x w bytes (as_gone (lost_to alone v)) (own_loss now q v alone left)))
           → out ≡ mid ++ (act.Lost q kind ∷ []) → (shelf_of put.entries).faults ≤ (shelf_of u.entries).faults → Answered limits (shelf_of r.entries).faults u t before out now ev
-      own_answered u out loses told failed =
-          answered_lost u _ out [] (loses_alone limits t facts.law now x bytes w it.row goes q v it.of_q there kind it.fresh off) told failed
+      own_answered u out loses reported failed =
+          answered_lost u _ out [] (loses_alone limits t facts.law now x bytes w it.row goes q v it.of_q there kind it.fresh off) reported failed
           (subst (RowsStand limits u) (sym (own_tables now q x bytes w v es t apart (exclusive t q v)))
           (subst (λ (a : Option ℕ). RowsStand limits u (brought_lost now q x w bytes (as_gone (lost_to a v)) (own_loss now q v a left))) alone_is (loses may_own refuses.gives.rows)))
 
@@ -280,16 +280,16 @@ module _ {B : Type 0} {g : Ghosts B} {limits : Limits} (r put : Rows B g) (t : T
         lost : LosesPiece limits u left mid out now q x bytes w v kind
         lost = loses may_piece refuses.gives.rows
 
-        told_as : (o : Option ℕ) → survivor left q v ≡ o → out ≡ mid ++ (act.Lost q kind ∷ map act.Close (closes_with o x bytes w))
-        told_as o is = lost.acts ∙ ap (λ (z : Option ℕ). mid ++ (act.Lost q kind ∷ map act.Close (closes_with z x bytes w))) is
+        reported_as : (o : Option ℕ) → survivor left q v ≡ o → out ≡ mid ++ (act.Lost q kind ∷ map act.Close (closes_with o x bytes w))
+        reported_as o is = lost.acts ∙ ap (λ (z : Option ℕ). mid ++ (act.Lost q kind ∷ map act.Close (closes_with z x bytes w))) is
 
         rows_as : (o : Option ℕ) → survivor left q v ≡ o → RowsStand limits u (all_closed (closes_with o x bytes w) (brought_lost now q x w bytes (as_gone (lost_to o v)) (shared_loss now q x v o left)))
         rows_as o is = subst (λ (z : Option ℕ). RowsStand limits u (all_closed (closes_with z x bytes w) (brought_lost now q x w bytes (as_gone (lost_to z v)) (shared_loss now q x v z left)))) is lost.rows
 
         by_detached_reader : (o : Option ℕ) → survivor t q v ≡ o → Answered limits (shelf_of r.entries).faults u t before out now ev
         by_detached_reader (Some d) is =
-            answered_lost u _ out [] (shared_does.goes_on limits t facts.law now x bytes w it.row goes q v it.of_q there kind on d is) (told_as (Some d) (detached_reader_same ∙ is)) failed
+            answered_lost u _ out [] (shared_does.goes_on limits t facts.law now x bytes w it.row goes q v it.of_q there kind on d is) (reported_as (Some d) (detached_reader_same ∙ is)) failed
             (subst (RowsStand limits u) (sym (open_tables now q x bytes w v es t apart (Some d))) (rows_as (Some d) (detached_reader_same ∙ is)))
         by_detached_reader None is =
-            answered_lost u _ out (unless_reached x bytes w) (shared_does.all_fail limits t facts.law now x bytes w it.row goes q v it.of_q there kind on is) (told_as None (detached_reader_same ∙ is)) failed
+            answered_lost u _ out (unless_reached x bytes w) (shared_does.all_fail limits t facts.law now x bytes w it.row goes q v it.of_q there kind on is) (reported_as None (detached_reader_same ∙ is)) failed
             (subst (RowsStand limits u) (sym (fails_tables now q x bytes w v es t apart None (with_piece bytes w).is_open)) (rows_as None (detached_reader_same ∙ is)))

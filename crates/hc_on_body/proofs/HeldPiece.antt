@@ -15,7 +15,7 @@ use Rattle.hc_exch.specs.Exchanges.{table_of}
 use Rattle.hc_exch.specs.Known as known
 use Rattle.hc_effects.proofs.HoleLemmas.{first_from, first_to, first_before, first_passes}
 use Rattle.hc_state.proofs.{Ties.{overs_open, writer_then, OversStay}, Fallbacks.{unstored_moved}, OneOfEach.{first_by}}
-use Rattle.hc_state.specs.{declared.rows.Rows.{Rows}, Kept.{first_lacking, unstored_bytes, held_alone, held_of, held_for}, Refused.{GoesOn, MayHold}, Stands.{RowsStand}, Stored.{IsEntry, TellsLength, told, untold, KeepsEntry}}
+use Rattle.hc_state.specs.{declared.rows.Rows.{Rows}, Kept.{first_lacking, unstored_bytes, held_alone, held_of, held_for}, Refused.{GoesOn, MayHold}, Stands.{RowsStand}, Stored.{IsEntry, KnowsLength, reported, unreported, KeepsEntry}}
 use Rattle.hc_on_leave.proofs.{PieceHandler.{Runs, runs_of}, PieceRows.{s, IsLike, like_same, stands_pieced}}
 
 -- WHAT IS HELD, WITH MORE BYTES
@@ -131,9 +131,9 @@ module _ {B : Type 0} {g : Ghosts B} {limits : Limits} (r u : Rows B g) (t : Tab
       there_still true cell o some_there = refl
       there_still false cell o some_there = some_there
 
-      by_length : TellsLength e v → TellsLength e v2
-      by_length (told same) = told same
-      by_length (untold n) = untold (record { gone = n.gone; untold = n.untold; total = n.total; known = n.known; came = λ p low high. there_still (inside (front w) (length bytes) p) _ (v.body p) (n.came p low high); first = n.first })
+      by_length : KnowsLength e v → KnowsLength e v2
+      by_length (reported same) = reported same
+      by_length (unreported n) = unreported (record { gone = n.gone; unreported = n.unreported; total = n.total; known = n.known; came = λ p low high. there_still (inside (front w) (length bytes) p) _ (v.body p) (n.came p low high); first = n.first })
 
   its : KeepsEntry after (family x w) ((shelf_of u.entries).kept (family x w)) (vs (family x w))
   unfolding bound

@@ -78,19 +78,19 @@ module _ {B : Type 0} {g : Ghosts B} {limits : Limits} (mid u : Rows B g) (t : T
   closes o = closes_with o x bytes w
 
   loses_by : (u2 : Rows B g) (before out : List Act) (ys : List ℕ) → closes detached_reader ≡ ys → out ≡ before ++ (act.Lost r kind ∷ map act.Close ys) → RowsStand limits u2 (all_closed ys (then_tables detached_reader)) → LosesPiece limits u2 t before out now r x bytes w v kind
-  loses_by u2 before out ys same told stood =
+  loses_by u2 before out ys same reported stood =
       let is : closes (survivor t r v) ≡ ys = ap closes (sym detached_reader_is) ∙ same in
       record {
-        acts = told ∙ ap (λ (zs : List ℕ). before ++ (act.Lost r kind ∷ map act.Close zs)) (sym is);
+        acts = reported ∙ ap (λ (zs : List ℕ). before ++ (act.Lost r kind ∷ map act.Close zs)) (sym is);
         rows = subst (λ (zs : List ℕ). RowsStand limits u2 (all_closed zs (then_tables (survivor t r v)))) (sym is) (subst (λ (o : Option ℕ). RowsStand limits u2 (all_closed ys (then_tables o))) detached_reader_is stood);
       }
 
   -- somebody goes on, or nothing more comes
   pub stays_so : (before out : List Act) → (is_none detached_reader ≡ false) ⊎ ((is_none detached_reader ≡ true) × (is_last_of (table_of mid.exchanges x).running (length bytes) ≡ true)) → out ≡ before ++ (act.Lost r kind ∷ []) → LosesPiece limits u t before out now r x bytes w v kind
-  stays_so before out why told = loses_by u before out [] (elim why [
+  stays_so before out why reported = loses_by u before out [] (elim why [
     | inl off ↦ rw off refl
     | inr both ↦ let shut : (with_piece bytes w).is_open ≡ false = by_not (with_piece bytes w).is_open (sym open_is ∙ both.1) in rw (both.0, shut) refl
-  ]) told comes
+  ]) reported comes
     where
       by_not : (a : Bool) → not a ≡ true → a ≡ false
       by_not true on = sym on
@@ -120,9 +120,9 @@ module _ {B : Type 0} {g : Ghosts B} {limits : Limits} (mid u : Rows B g) (t : T
     closed_too = stands_unstored u u2 (then_tables detached_reader) x comes unawaited apart rest.last_start same_too rest.keys rest.entries shut
 
     pub closes_it : (before middle out : List Act) → middle ≡ before ++ (act.Lost r kind ∷ []) → out ≡ middle ++ (act.Close x ∷ []) → LosesPiece limits u2 t before out now r x bytes w v kind
-    closes_it before middle out told closing =
+    closes_it before middle out reported closing =
         let goes : (with_piece bytes w).is_open ≡ true = by_not (with_piece bytes w).is_open (sym open_is ∙ more) in
-        loses_by u2 before out (x ∷ []) (rw (none, goes) refl) (act_and before middle out (act.Lost r kind) (act.Close x ∷ []) told closing) closed_too
+        loses_by u2 before out (x ∷ []) (rw (none, goes) refl) (act_and before middle out (act.Lost r kind) (act.Close x ∷ []) reported closing) closed_too
       where
         by_not : (a : Bool) → not a ≡ false → a ≡ true
         by_not true off = refl

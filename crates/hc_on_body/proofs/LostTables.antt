@@ -7,7 +7,7 @@
 use Rattle.std.{proofs.Common.{◌≡◌, inl, inr, ℕ, List, [], ◌∷◌, Bool, true, false, Option, Some, None, refl, ap, ap₂, sym, ◌∙◌}, specs.Prelude.{◌==◌, option_map, if◌then◌else◌}}
 use mathlib.Core.Path.{fun_ext}
 use Rattle.hc_text.proofs.Basics.{eqb-other, eqb-same, same_or}
-use Rattle.hc_effects.proofs.Vocabulary.{event, place, Place, is_number, all_closed, back_from, with_event, as_gone, if_bound, left_with, let_all_go, let_go, lost_to, with_exchange, with_representation, writing_lost, with_piece, front, with_stored_bytes, Tables, Exchange, Representation}
+use Rattle.hc_effects.proofs.Vocabulary.{event, place, Place, is_number, all_closed, back_from, with_event, as_gone, if_bound, left_with, let_all_go, let_go, lost_to, with_exchange, with_representation, group_lost, with_piece, front, with_stored_bytes, Tables, Exchange, Representation}
 use Rattle.hc_model.specs.Rows as rows
 use Rattle.hc_effects.proofs.SameTables.{all_go_is, back_from_any, is_in}
 use Rattle.hc_state.specs.{DetachedReaders.{shared_loss}, Refused.{brought_lost, own_loss}}
@@ -97,25 +97,25 @@ module _ (now r x : ℕ) (bytes : List ℕ) (w : Exchange) (v : Representation) 
   consumers_then d = left_then now r es detached_reader (Some x) d (t.consumer d)
 
   -- the exchange stays open, or was closed before
-  pub open_tables : with_event now (event.Piece x bytes) (let_all_go now es (let_go now r (with_representation r (Some filled_lost) (writing_lost r detached_reader (Some x) brought))))
+  pub open_tables : with_event now (event.Piece x bytes) (let_all_go now es (let_go now r (with_representation r (Some filled_lost) (group_lost r detached_reader (Some x) brought))))
       ≡ brought_lost now r x w bytes (as_gone (lost_to detached_reader v)) (shared_loss now r x v detached_reader (let_all_go now es t))
   open_tables =
-      ap (with_event now (event.Piece x bytes)) (all_go_is now es (let_go now r (with_representation r (Some filled_lost) (writing_lost r detached_reader (Some x) brought))))
+      ap (with_event now (event.Piece x bytes)) (all_go_is now es (let_go now r (with_representation r (Some filled_lost) (group_lost r detached_reader (Some x) brought))))
       ∙ ap₂ (λ (f : ℕ → Option Representation) (h : ℕ → Option rows.Consumer). with_event now (event.Piece x bytes) (record brought { representation = f; consumer = h }))
       (fun_ext rows_then) (fun_ext consumers_then)
       ∙ sym (ap (λ (z : Tables). brought_lost now r x w bytes (as_gone (lost_to detached_reader v)) (shared_loss now r x v detached_reader z)) (all_go_is now es t))
 
   -- it is closed
-  shut_tables : with_event now (event.Piece x bytes) (let_all_go now es (let_go now r (with_representation r (Some filled_lost) (writing_lost r detached_reader (Some x) (all_closed (x ∷ []) brought)))))
+  shut_tables : with_event now (event.Piece x bytes) (let_all_go now es (let_go now r (with_representation r (Some filled_lost) (group_lost r detached_reader (Some x) (all_closed (x ∷ []) brought)))))
       ≡ all_closed (x ∷ []) (brought_lost now r x w bytes (as_gone (lost_to detached_reader v)) (shared_loss now r x v detached_reader (let_all_go now es t)))
   shut_tables =
-      ap (with_event now (event.Piece x bytes)) (all_go_is now es (let_go now r (with_representation r (Some filled_lost) (writing_lost r detached_reader (Some x) (all_closed (x ∷ []) brought)))))
+      ap (with_event now (event.Piece x bytes)) (all_go_is now es (let_go now r (with_representation r (Some filled_lost) (group_lost r detached_reader (Some x) (all_closed (x ∷ []) brought)))))
       ∙ ap₂ (λ (f : ℕ → Option Representation) (h : ℕ → Option rows.Consumer). with_event now (event.Piece x bytes) (record (all_closed (x ∷ []) brought) { representation = f; consumer = h }))
       (fun_ext rows_then) (fun_ext consumers_then)
       ∙ sym (ap (λ (z : Tables). all_closed (x ∷ []) (brought_lost now r x w bytes (as_gone (lost_to detached_reader v)) (shared_loss now r x v detached_reader z))) (all_go_is now es t))
 
   -- it is, where the piece leaves it open
-  pub fails_tables : (b : Bool) → with_event now (event.Piece x bytes) (let_all_go now es (let_go now r (with_representation r (Some filled_lost) (writing_lost r detached_reader (Some x) (all_closed (if b then x ∷ [] else []) brought)))))
+  pub fails_tables : (b : Bool) → with_event now (event.Piece x bytes) (let_all_go now es (let_go now r (with_representation r (Some filled_lost) (group_lost r detached_reader (Some x) (all_closed (if b then x ∷ [] else []) brought)))))
       ≡ all_closed (if b then x ∷ [] else []) (brought_lost now r x w bytes (as_gone (lost_to detached_reader v)) (shared_loss now r x v detached_reader (let_all_go now es t)))
   fails_tables true = shut_tables
   fails_tables false = open_tables

@@ -12,7 +12,7 @@ use Rattle.hc_store.specs.declared.backend.Backend.{Ghosts}
 use Rattle.hc_exch.specs.{declared.row.{ExchangeView.{ExchangeView}, Open.{Open}}, Exchanges.{table_of}, Known.{view_of}}
 use Rattle.hc_model.specs.Owners as owners
 use Rattle.hc_model.specs.Rows as rows
-use Rattle.hc_state.specs.{declared.{rows.Rows.{Rows}}, Kept.{KeepsRunning, KeepsConsumer}, Stands.{RowsStand}, Stopped.{IsBroken, Waited}, Stops.{is_shown}}
+use Rattle.hc_state.specs.{declared.rows.Rows.{Rows}, Kept.{KeepsRunning, KeepsConsumer}, Stands.{RowsStand}, Stopped.{IsBroken, Waited}, Stops.{is_shown}}
 use Rattle.hc_txn.specs.declared.transaction.Transaction.{Transaction as Consumer}
 
 pub record Viewed (t : Tables) (x : ℕ) (view : ExchangeView) : Type 0 where

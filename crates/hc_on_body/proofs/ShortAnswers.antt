@@ -8,7 +8,7 @@ use Rattle.std.{proofs.{Common.{◌≡◌, ◌≢◌, inl, inr, ℕ, ◌<◌, �
 use mathlib.Core.Path.{fun_ext}
 use Rattle.hc_text.proofs.Basics.{eqb-other, eqb-same, false_true, same_or, same_some as same_row}
 use Rattle.hc_store.specs.declared.backend.Backend.{Ghosts}
-use Rattle.hc_effects.proofs.Vocabulary.{Act, Cause, Limits, denial, Does, with_event, tables_after_close, at_end, with_due, with_dues, with_exchange, with_length, with_loss, with_representation, let_go, let_some_go, lost_to, going_with, family, promised_bytes, is_reached, short_of, NoFlaw, Loses, is_short, is_below, stops_early, IsMeasured, told, untold, is_bound, with_total_if_none, Tables, Exchange, Representation, written_representation, exclusive, act, cause, kind, event}
+use Rattle.hc_effects.proofs.Vocabulary.{Act, Cause, Limits, denial, Does, with_event, tables_after_close, at_end, with_due, with_dues, with_exchange, with_length, with_loss, with_representation, let_go, let_some_go, lost_to, going_with, family, promised_bytes, is_reached, short_of, NoFlaw, Loses, is_short, is_below, stops_early, IsMeasured, reported, unreported, is_bound, with_total_if_none, Tables, Exchange, Representation, written_representation, exclusive, act, cause, kind, event}
 use Rattle.hc_model.specs.Rows as rows
 use Rattle.hc_effects.proofs.StopEffects as past_effects
 use Rattle.hc_effects.proofs.{StopFrames.{end_of}, Tests.{none_some}}
@@ -71,8 +71,8 @@ module _ {B : Type 0} {g : Ghosts B} (limits : Limits) (faults : ℕ) (u : Rows 
       by_measure (facts.measures.brings x w v broken.row broken.is_open (end_of t x w broken.row accepts).headed (ap t.representation own ∙ there))
     where
       by_measure : IsMeasured w v → is_some v.head.total ≡ true
-      by_measure (told n total is known within) = ap (λ o. is_some o) known
-      by_measure (untold none unknown base unjoined all) = none_some p (sym none ∙ promises)
+      by_measure (reported n total is known within) = ap (λ o. is_some o) known
+      by_measure (unreported none unknown base unjoined all) = none_some p (sym none ∙ promises)
 
   early : (y : ℕ) (z : Exchange) → stops_early z y (event.End x) ≡ true → nat_eq x y ≡ true
   early y z on = by_tests (nat_eq x y) (is_short z) on

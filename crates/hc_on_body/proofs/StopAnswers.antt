@@ -45,8 +45,8 @@ pub own_tables : (t : Tables) (x c : ℕ) (w : Exchange) (why : Cause) → t.exc
 own_tables t x c w why row = closed_is (with_consumers (due_for t (λ d. c == d) why) t) x w row
 
 -- a loss, told in two ways
-abbrev told_lost : Tables → ℕ → Representation → Option ℕ → ℕ → Option Representation
-told_lost t r v alone q = if r == q then Some (lost_to alone v) else t.representation q
+abbrev reported_lost : Tables → ℕ → Representation → Option ℕ → ℕ → Option Representation
+reported_lost t r v alone q = if r == q then Some (lost_to alone v) else t.representation q
 
 abbrev mapped_lost : Tables → ℕ → Option ℕ → ℕ → Option Representation
 mapped_lost t r alone q = if r == q then option_map (lost_to alone) (t.representation q) else t.representation q
@@ -54,7 +54,7 @@ mapped_lost t r alone q = if r == q then option_map (lost_to alone) (t.represent
 pub loss_is : (t : Tables) (r : ℕ) (v : Representation) (alone : Option ℕ) → t.representation r ≡ Some v → with_representation r (Some (lost_to alone v)) t ≡ with_loss r alone t
 loss_is t r v alone there = ap (λ (f : ℕ → Option Representation). record t { representation = f }) rows_are
   where
-    rows_are : told_lost t r v alone ≡ mapped_lost t r alone
+    rows_are : reported_lost t r v alone ≡ mapped_lost t r alone
     rows_are = fun_ext (λ q. elim (same_or r q) [
       | inl e ↦
           let on : nat_eq r q ≡ true = ap (nat_eq r) (sym e) ∙ eqb-same r in

@@ -7,21 +7,20 @@
 use Rattle.std.{proofs.{Common.{◌≡◌, ◌≢◌, ℕ, ◌+◌, ◌-◌, ◌<◌, ◌≤◌, ◌^◌, List, [], length, Bool, true, false, Option, Some, None, refl, ap, sym, ◌∙◌, subst, arith}, lemmas.{Bool.Decides.{nat_tests}, List.{drop_all}}}, specs.{Prelude.{is_some, nat_eq, nat_le, drop, unwrap_or, option_map, ◌&&◌, ◌==◌, if◌then◌else◌}, HashMap.{get}}}
 use Rattle.hc_text.proofs.Basics.{eqb-same, false_true, same_some as same_row, and_off as then_false}
 use Rattle.hc_store.specs.declared.backend.Backend.{Ghosts}
-use Rattle.hc_effects.proofs.Vocabulary.{Act, Cause, Response, Limits, BoundBy, is_number, base, front, family, is_headless, Lawful, own_open, is_bound, is_bound_place, is_written, writing_in, offset, Tables, Exchange, Representation, IsBound, IsAbout, IsHad, IsExclusiveWriter, IsOwner, exclusive, place}
+use Rattle.hc_effects.proofs.Vocabulary.{Act, Cause, Response, Limits, BoundBy, is_number, base, front, family, is_headless, Lawful, own_open, is_bound, is_bound_place, is_written, group_in, offset, Tables, Exchange, Representation, IsBound, IsAbout, IsHad, IsExclusiveWriter, IsOwner, exclusive, place}
 use Rattle.hc_sparse.specs.Cells.{Cell, Covers, EndsBy}
-use Rattle.hc_text.specs.Sorted.{has}
+use Rattle.hc_text.specs.Sorted.{has, itself}
 use Rattle.hc_stored.specs.{Entries.{shelf_of}, Kept.{Kept}, Views.{bound_in}}
-use Rattle.hc_text.specs.Sorted.{itself}
 use Rattle.hc_exch.specs.Exchanges.{table_of}
 use Rattle.hc_model.specs.Rows as rows
 use Rattle.hc_model.specs.Sound as sound
 use Rattle.hc_model.specs.Whose as whose
 use Rattle.hc_effects.proofs.{AboutKeeps.{own_open_of}, Exclusives.{exclusive_parts}, HoleLemmas.{covers_yes}, LettingGo.{may_let_go}, Stops.{writer_about}, Tests.{none_some}}
-use Rattle.hc_state.specs.{declared.{rows.Rows.{Rows}, stop.Readers.{Readers, TheVariants.{the_data as readers}}}, Changes.{Numbered, ChangesAmong}, Facts.{Facts}, Kept.{held_alone, unstored_bytes, first_lacking}, Leaving.{writing_of}, Stands.{RowsStand, KeepsRest}, Stopped.{with_consumers, due_for, NobodyAwaits, MayStop, IsBroken, HasStopped, BrokeOff}, Stops.{readers_of, readers_by, reads_from, goes_on, opener_of, alone_in}, Stored.{KeepsEntry}}
+use Rattle.hc_state.specs.{declared.{rows.Rows.{Rows}, stop.Readers.{Readers, TheVariants.{the_data as readers}}}, Changes.{Numbered, ChangesAmong}, Facts.{Facts}, Kept.{held_alone, unstored_bytes, first_lacking}, Leaving.{writer_group_of}, Stands.{RowsStand, KeepsRest}, Stopped.{with_consumers, due_for, NobodyAwaits, MayStop, IsBroken, HasStopped, BrokeOff}, Stops.{readers_of, readers_by, reads_from, goes_on, opener_of, alone_in}, Stored.{KeepsEntry}}
 use Rattle.hc_txn.specs.Transactions.{with_due}
 use Rattle.hc_state.specs.Stopped as stopped
-use Rattle.hc_state.proofs.{Fallbacks.{unstored_moved}, LeftAlone.{unwritten_none}, LeftRows.{writing_as}, Stopping.{runs, head_there, brought_some, brought_none}}
-use Rattle.hc_on_body.proofs.DueRows.{told_same, may_due, awaits_due, stands_due}
+use Rattle.hc_state.proofs.{Fallbacks.{unstored_moved}, LeftAlone.{unwritten_none}, LeftRows.{group_as}, Stopping.{runs, head_there, brought_some, brought_none}}
+use Rattle.hc_on_body.proofs.DueRows.{reported_same, may_due, awaits_due, stands_due}
 
 -- the same ones, told otherwise
 pub among_as : {A : Type 0} (old new : Numbered A) (f h : ℕ → Bool) (change : A → A) → ((d : ℕ) → f d ≡ h d) → ChangesAmong old new f change → ChangesAmong old new h change
@@ -55,8 +54,8 @@ module _ {B : Type 0} {g : Ghosts B} {limits : Limits} (r : Rows B g) (t : Table
     about : IsAbout t q x
     about = sound.headed w row opened headed refl (ap (λ z. is_some z) there)
 
-    writing_is : writing_of (table_of r.exchanges) ((shelf_of r.entries).kept q) ≡ (if is_written t v then v.writer else None)
-    writing_is = writing_as r t stands law q ∙ ap (writing_in t) there
+    writer_group_is : writer_group_of (table_of r.exchanges) ((shelf_of r.entries).kept q) ≡ (if is_written t v then v.writer else None)
+    writer_group_is = group_as r t stands law q ∙ ap (group_in t) there
 
     kept_alone : alone_in ((shelf_of r.entries).kept q) ≡ v.alone
     kept_alone = by_kept ((shelf_of r.entries).kept q) (subst (KeepsEntry t q ((shelf_of r.entries).kept q)) there (stands.entries.each q))
@@ -76,18 +75,18 @@ module _ {B : Type 0} {g : Ghosts B} {limits : Limits} (r : Rows B g) (t : Table
         by_owner nobody (whose.alone u rep is) = none_some c (sym nobody ∙ (ap (λ (z : Representation). z.alone) (same_row (t.representation q) v u there rep) ∙ is))
     owner_is c k at owns (sound.alone lost is) = ap (λ o. unwrap_or o w.c) is
 
-    by_had : (b : Bool) → is_number (writing_of (table_of r.exchanges) ((shelf_of r.entries).kept q)) x ≡ b → IsHad t q v x → ReadBy t x w (if b then readers.All q else readers.One (unwrap_or (alone_in ((shelf_of r.entries).kept q)) (opener_of (table_of r.exchanges x).running)))
+    by_had : (b : Bool) → is_number (writer_group_of (table_of r.exchanges) ((shelf_of r.entries).kept q)) x ≡ b → IsHad t q v x → ReadBy t x w (if b then readers.All q else readers.One (unwrap_or (alone_in ((shelf_of r.entries).kept q)) (opener_of (table_of r.exchanges x).running)))
     by_had true on had = by_written (is_written t v) refl
       where
         by_written : (z : Bool) → is_written t v ≡ z → ReadBy t x w (readers.All q)
-        by_written false off = false_true (sym (ap (λ o. is_number o x) (writing_is ∙ ap (λ z. if z then v.writer else None) off)) ∙ on)
-        by_written true writes = shared v there writes (number_some v.writer (sym (ap (λ o. is_number o x) (writing_is ∙ ap (λ z. if z then v.writer else None) writes)) ∙ on)) refl
+        by_written false off = false_true (sym (ap (λ o. is_number o x) (writer_group_is ∙ ap (λ z. if z then v.writer else None) off)) ∙ on)
+        by_written true writes = shared v there writes (number_some v.writer (sym (ap (λ o. is_number o x) (writer_group_is ∙ ap (λ z. if z then v.writer else None) writes)) ∙ on)) refl
           where
             number_some : (o : Option ℕ) → is_number o x ≡ true → o ≡ Some x
             number_some None h = false_true h
             number_some (Some n) h = ap Some (let same : n ≡ x = grind (arith, nat_tests, h) in same)
     by_had false off (sound.shared writes writer) =
-        false_true (sym off ∙ (ap (λ o. is_number o x) (writing_is ∙ (ap (λ z. if z then v.writer else None) writes ∙ writer)) ∙ eqb-same x))
+        false_true (sym off ∙ (ap (λ o. is_number o x) (writer_group_is ∙ (ap (λ z. if z then v.writer else None) writes ∙ writer)) ∙ eqb-same x))
     by_had false off (sound.own c k (sound.is_bound lo hi way at place_is) owns undue exclusive_writer) =
         own c k v there (sound.is_bound lo hi way at place_is) owns undue exclusive_writer
         (ap (λ n. readers.One n) (ap (λ o. unwrap_or o (opener_of (table_of r.exchanges x).running)) kept_alone ∙ (ap (unwrap_or v.alone) opener_is ∙ owner_is c k at (own_open_of t k x owns).own exclusive_writer)))
@@ -101,7 +100,7 @@ module _ {B : Type 0} {g : Ghosts B} {limits : Limits} (r : Rows B g) (t : Table
           (past none (ap (λ n. readers.One n) opener_is))
       by_row (Some v) there =
           subst (λ o. ReadBy t x w (readers_by x (table_of r.exchanges) (shelf_of r.entries) (opener_of (table_of r.exchanges x).running) o)) (sym (brought_some r t facts t.consumer stands x w row opened v there))
-          (by_had v there (is_number (writing_of (table_of r.exchanges) ((shelf_of r.entries).kept q)) x) refl (law.sound.writes.had q x v there (about v there)))
+          (by_had v there (is_number (writer_group_of (table_of r.exchanges) ((shelf_of r.entries).kept q)) x) refl (law.sound.writes.had q x v there (about v there)))
 
   -- whoever is bound is told in both
   pub users_are : (v : Representation) → t.representation q ≡ Some v → (d : ℕ) → has itself d (bound_in ((shelf_of r.entries).kept q)) ≡ is_bound q (t.consumer d)
@@ -130,7 +129,7 @@ module _ (limits : Limits) (t : Tables) (facts : Facts limits t) (x : ℕ) (w : 
           let was = facts.turns.first_hole d r lo x hi u is at (broken.shown bare u (ap t.consumer one ∙ is)) in
           ap (λ (z : Exchange). is_headless (Some z)) (sym (same_row (t.exchange x) was.0 w was.1 broken.row)) ∙ was.2
 
-  -- where the shared writing is on nobody writes alone
+  -- where the writer group is on nobody writes alone
   pub none_alone : (r : ℕ) (v : Representation) → is_written t v ≡ true → None ≡ exclusive t r v
   none_alone r v written = by_one (exclusive t r v) refl
     where
@@ -240,7 +239,7 @@ module _ (limits : Limits) (t : Tables) (facts : Facts limits t) (x : ℕ) (w : 
         stored = λ u headed rep kept y z there_y of_y.
             let same : u ≡ v = same_row (t.representation (family x w)) u v rep there in
             subst (λ (p : Representation). held_alone s y z p (Some c) ≡ []) (sym same)
-            (told_same t among why (unstored_bytes s y z v) (λ a. refl) c ∙ (unstored_moved t s y z v (t.consumer c) ∙ (ap (unstored_bytes t y z v) at ∙ number_only y (nat_eq x y) refl z there_y (ap (λ (p : Representation). p.is_lost) (sym same) ∙ kept) headed)));
+            (reported_same t among why (unstored_bytes s y z v) (λ a. refl) c ∙ (unstored_moved t s y z v (t.consumer c) ∙ (ap (unstored_bytes t y z v) at ∙ number_only y (nat_eq x y) refl z there_y (ap (λ (p : Representation). p.is_lost) (sym same) ∙ kept) headed)));
       }
 
 -- IT BREAKS OFF

@@ -8,13 +8,12 @@ use Rattle.std.{proofs.{Common.{◌≡◌, ◌≢◌, inl, inr, ℕ, ◌<◌, �
 use mathlib.Core.Path.{fun_ext}
 use Rattle.hc_text.proofs.Basics.{any_none, eqb-other, eqb-same, false_true, same_or, same_some as same_row, some_inj as some_is, and_off as then_false}
 use Rattle.hc_store.specs.declared.backend.Backend.{Ghosts}
-use Rattle.hc_effects.proofs.Vocabulary.{Act, Cause, Response, Limits, denial, Does, with_event, at_end, failing, if_bound, with_due, with_dues, with_exchange, with_length, with_loss, with_representation, let_go, let_some_go, as_gone, lost_to, going_with, Entry, base, front, family, promised_bytes, is_headless, short_of, NoFlaw, Loses, is_short, stops_early, Grows, IsComing, is_growing, brings_to, Lawful, IsMeasured, told, untold, bound, is_bound, is_bound_place, with_total_if_none, Tables, Exchange, Representation, IsAbout, written_representation, exclusive, status_in, act, kind, place}
+use Rattle.hc_effects.proofs.Vocabulary.{Act, Cause, Response, Limits, denial, Does, with_event, at_end, failing, if_bound, with_due, with_dues, with_exchange, with_length, with_loss, with_representation, let_go, let_some_go, as_gone, lost_to, going_with, Entry, base, front, family, promised_bytes, is_headless, short_of, NoFlaw, Loses, is_short, stops_early, Grows, IsComing, is_growing, brings_to, Lawful, IsMeasured, reported, unreported, bound, is_bound, is_bound_place, with_total_if_none, Tables, Exchange, Representation, IsAbout, written_representation, exclusive, status_in, act, kind, place}
 use Rattle.hc_event.specs.declared.event.Event.TheVariants as event
 use Rattle.hc_record.specs.declared.kind.Kind.TheVariants as kinds
-use Rattle.hc_text.specs.Sorted.{has}
+use Rattle.hc_text.specs.Sorted.{has, itself}
 use Rattle.hc_sparse.specs.Cells.{Cell, Covers, EndsBy}
 use Rattle.hc_stored.specs.{Entries.{shelf_of}, Kept.{Kept}, Views.{bound_in}}
-use Rattle.hc_text.specs.Sorted.{itself}
 use Rattle.hc_stored.specs.Kept as entry
 use Rattle.hc_exch.specs.Exchanges as exch
 use Rattle.hc_exch.specs.Exchanges.{table_of}
@@ -95,7 +94,7 @@ lost_whole t now x n w v alone there nobody = ap (λ (f : ℕ → Option Represe
 -- THE ANSWER
 
 -- past the store
-module _ (limits : Limits) (t : Tables) (facts : Facts limits t) (now x : ℕ) (w : Exchange) (row : t.exchange x ≡ Some w) (tells_none : promised_bytes w ≡ None) (accepts : denial t (event.End x) ≡ None) where
+module _ (limits : Limits) (t : Tables) (facts : Facts limits t) (now x : ℕ) (w : Exchange) (row : t.exchange x ≡ Some w) (reports_none : promised_bytes w ≡ None) (accepts : denial t (event.End x) ≡ None) where
   abbrev law : Lawful t
   law = facts.law
 
@@ -106,10 +105,10 @@ module _ (limits : Limits) (t : Tables) (facts : Facts limits t) (now x : ℕ) (
   headed = (end_of t x w row accepts).headed
 
   no_cause : short_of x w (promised_bytes w) ≡ None
-  no_cause = ap (short_of x w) tells_none
+  no_cause = ap (short_of x w) reports_none
 
   not_short : is_short w ≡ false
-  not_short = ap (Rattle.hc_model.specs.Gone.is_below (length w.body)) tells_none
+  not_short = ap (Rattle.hc_model.specs.Gone.is_below (length w.body)) reports_none
 
   pub awaits_none : NobodyAwaits t x
   awaits_none d r lo hi u is at = ap is_headless row ∙ by_head w.head headed refl
@@ -126,13 +125,13 @@ module _ (limits : Limits) (t : Tables) (facts : Facts limits t) (now x : ℕ) (
       does_answered limits faults u t (with_event now (event.End x) z) before before [] now (event.End x)
       (subst (λ (s : Tables). Does limits t now (event.End x) NoFlaw [] (with_event now (event.End x) s)) (ap (λ o. with_due w.c o z) no_cause ∙ nothing_due z w.c) (past_effects.ends_past limits t law now x w row none accepts))
       refl refl (sym (append-nil before))
-      (stands_counted u z now (event.End x) refl (stands_past r u t law x w row opened headed none tells_none n all stands awaits_none last keys entries becomes c its knows))
+      (stands_counted u z now (event.End x) refl (stands_past r u t law x w row opened headed none reports_none n all stands awaits_none last keys entries becomes c its knows))
 
   -- OF WHAT IS STORED
 
   module _ (v : Representation) (there : t.representation (family x w) ≡ Some v) where
     record Whole : Type 0 where
-      untold : v.head.total ≡ None
+      unreported : v.head.total ≡ None
       begins : base w ≡ 0
       own : family x w ≡ x
       all : length w.body ≡ v.reach
@@ -141,8 +140,8 @@ module _ (limits : Limits) (t : Tables) (facts : Facts limits t) (now x : ℕ) (
     measured = by_measure (facts.measures.brings x w v row opened headed there)
       where
         by_measure : IsMeasured w v → Whole
-        by_measure (told n total is known within) = none_some n (sym tells_none ∙ is)
-        by_measure (untold none unknown base unjoined reach) = record { untold = unknown; begins = base; own = rw unjoined refl; all = reach }
+        by_measure (reported n total is known within) = none_some n (sym reports_none ∙ is)
+        by_measure (unreported none unknown base unjoined reach) = record { unreported = unknown; begins = base; own = rw unjoined refl; all = reach }
 
     pub own_family : family x w ≡ x
     own_family = measured.own
@@ -192,11 +191,11 @@ module _ (limits : Limits) (t : Tables) (facts : Facts limits t) (now x : ℕ) (
             (seal_effects.ends_own limits t law now x w row (family x w) p refl rep c k at owns accepts)
 
     none_first : NobodyFirst t x
-    none_first = nobody_first t x v law.sound facts.measures here measured.untold
+    none_first = nobody_first t x v law.sound facts.measures here measured.unreported
 
     -- and where its seal fails: it is written for several
     coming : v.is_gone ≡ false → IsComing t x v
-    coming stays = law.growing.unknown x v here stays measured.untold
+    coming stays = law.growing.unknown x v here stays measured.unreported
 
     kept : v.is_gone ≡ false → v.is_lost ≡ false
     kept stays = by_test v.is_lost refl
@@ -247,7 +246,7 @@ module _ (limits : Limits) (t : Tables) (facts : Facts limits t) (now x : ℕ) (
       pub whole_answered : SealedWhole limits faults r mid t before out now x v n → Answered limits faults u t before out now (event.End x)
       unfolding bound written_representation
       whole_answered (stopped.gone is_gone same unchanged) =
-          quietly_ends same (gone_stays t v (subst (λ z. RowsStand limits z t) (sym unchanged) stands) row here measured.untold is_gone refl used unread awaits_none none_first)
+          quietly_ends same (gone_stays t v (subst (λ z. RowsStand limits z t) (sym unchanged) stands) row here measured.unreported is_gone refl used unread awaits_none none_first)
       whole_answered (stopped.sealed stays same rest seals) = quietly_ends same (by_kept ((shelf_of r.entries).kept x) refl (subst (KeepsEntry t x ((shelf_of r.entries).kept x)) here (stands.entries.each x)))
         where
           after : Tables
@@ -279,19 +278,19 @@ module _ (limits : Limits) (t : Tables) (facts : Facts limits t) (now x : ℕ) (
               let users_so : (d : ℕ) → has itself d (bound_in ((shelf_of mid.entries).kept x)) ≡ is_bound x (t.consumer d) = λ d. ap (λ z. has itself d (bound_in z)) seals_it ∙ is.bound d in
               let here_now : after.representation x ≡ Some (with_total_if_none n v) = rw (eqb-same x, here) refl in
               let each_now : KeepsEntry after x ((shelf_of u.entries).kept x) (after.representation x) =
-              rw (entries, seals_it, here_now) (sealed_longer t x n (Some (at_end w)) v here measured.untold refl stopped_growing all_stored ends e is) in
+              rw (entries, seals_it, here_now) (sealed_longer t x n (Some (at_end w)) v here measured.unreported refl stopped_growing all_stored ends e is) in
               let becomes_r : exch.Becomes known.without_exchange x r.exchanges u.exchanges = subst (λ z. exch.Becomes known.without_exchange x z u.exchanges) rest.exchanges becomes in
               let knows_r : ChangesAmong r.consumers u.consumers (λ d. has itself d (bound_in ((shelf_of mid.entries).kept x))) (changes.with_end n) = subst (λ z. ChangesAmong z u.consumers (λ d. has itself d (bound_in ((shelf_of mid.entries).kept x))) (changes.with_end n)) rest.consumers knows in
               let bounded : (shelf_of u.entries).limits ≡ (shelf_of r.entries).limits = ap (λ z. (shelf_of z).limits) entries ∙ seals.limits in
-              stands_whole r u t x w n v row here measured.own measured.untold stands unread awaits_none (last ∙ rest.last_start) (keys ∙ rest.keys) becomes_r (λ d. has itself d (bound_in ((shelf_of mid.entries).kept x))) users_so knows_r bounded
-              (entries_whole r u t x w n v row here measured.own measured.untold stands unread awaits_none (last ∙ rest.last_start) (keys ∙ rest.keys) becomes_r (λ d. has itself d (bound_in ((shelf_of mid.entries).kept x))) users_so knows_r bounded
+              stands_whole r u t x w n v row here measured.own measured.unreported stands unread awaits_none (last ∙ rest.last_start) (keys ∙ rest.keys) becomes_r (λ d. has itself d (bound_in ((shelf_of mid.entries).kept x))) users_so knows_r bounded
+              (entries_whole r u t x w n v row here measured.own measured.unreported stands unread awaits_none (last ∙ rest.last_start) (keys ∙ rest.keys) becomes_r (λ d. has itself d (bound_in ((shelf_of mid.entries).kept x))) users_so knows_r bounded
               (shelf_of u.entries) (ap (λ z. (shelf_of z).order) entries ∙ seals.order) (λ q ne. ap (λ z. (shelf_of z).kept q) entries ∙ (seals.kept q ∙ rw (eqb-other x q ne) refl)) each_now)
-      whole_answered (stopped.lost stays told_so failed rows) =
+      whole_answered (stopped.lost stays reported_so failed rows) =
           lossy_answered limits faults u t (with_event now (event.End x) model) before out (act.Lost x kind.Fault ∷ []) now (event.End x) x (loses stays)
           (ap (λ (acts : List Act). written_representation t (record { now = now; event = event.End x; acts = acts })) (loses stays).acts_are ∙ written_is)
-          (rw (here, kept stays) refl) refl (subst (λ z. faults < (shelf_of z).faults) (sym entries) failed) told_so
+          (rw (here, kept stays) refl) refl (subst (λ z. faults < (shelf_of z).faults) (sym entries) failed) reported_so
           (stands_counted u model now (event.End x) refl (subst (RowsStand limits u) (lost_whole t now x n w v (exclusive t x v) here (none_alone limits t facts x w broken x v (coming stays).written))
-          (gone_stays after (as_gone (lost_to None v)) rows row gone_here measured.untold refl refl used_then (unread_go now x before_it x unread) (unawaited_go now x before_it x awaits_none) (nobody_first_go now x x before_it none_first_before))))
+          (gone_stays after (as_gone (lost_to None v)) rows row gone_here measured.unreported refl refl used_then (unread_go now x before_it x unread) (unawaited_go now x before_it x awaits_none) (nobody_first_go now x x before_it none_first_before))))
         where
           before_it : Tables
           before_it = with_representation x (Some (lost_to None v)) t

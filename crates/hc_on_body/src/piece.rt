@@ -33,7 +33,7 @@ use hc_on_leave::evict::make_room;
 use hc_on_leave::lose::{lose_shared, lost_kind};
 use hc_on_leave::seal::lose_to;
 use hc_on_leave::writers::exclusive;
-use hc_on_leave::writing::writing;
+use hc_on_leave::writer_group::writer_group;
 use hc_record::Kind;
 use hc_rules::Write;
 use hc_state::Rows;
@@ -84,11 +84,11 @@ fn grow<B: Backend>(
     ensures faults { (shelf_of rows.old.entries).faults ≤ (shelf_of rows.new.entries).faults }
     ensures front { take (length (act_list out.old)) (act_list out.new) ≡ act_list out.old }
 {
-    let writing = writing(rows, r).is_some();
+    let writer_group = writer_group(rows, r).is_some();
     let alone = exclusive(rows, r);
     match store_piece(rows, now, x, r, bytes, out)? {
         None => Ok(()),
-        Some(kind) if writing => lose_shared_piece(rows, now, x, r, bytes, kind, out),
+        Some(kind) if writer_group => lose_shared_piece(rows, now, x, r, bytes, kind, out),
         Some(kind) => lose_own_piece(rows, now, x, r, alone, bytes, kind, out),
     }
 }

@@ -18,7 +18,7 @@ ghost use Rattle.hc_state.specs.Changes.{ChangesAmong};
 ghost use Rattle.hc_txn.specs.Transactions.{with_due};
 ghost use Rattle.hc_state.specs.Facts.{Facts};
 ghost use Rattle.hc_state.specs.Stands.{Answered, Answers, KeepsRest, RowsStand, Stands, open_at};
-ghost use Rattle.hc_state.specs.Stopped.{BrokeOff, IsBroken, Waited, SealedWhole, TellsNoLength};
+ghost use Rattle.hc_state.specs.Stopped.{BrokeOff, IsBroken, Waited, SealedWhole, ReportsNoLength};
 ghost use Rattle.hc_state.specs.Stops.{readers_of, reads_from, goes_on, is_shown};
 ghost use Rattle.hc_on_leave.specs.Leaves.{MayLeave};
 
@@ -26,7 +26,7 @@ use hc_event::{Acts, Cause, LostKind};
 use hc_on_leave::evict::is_current;
 use hc_on_leave::gone::leave_place;
 use hc_on_leave::seal::{brought, lose_to, stop_bringing};
-use hc_on_leave::writing::writing;
+use hc_on_leave::writer_group::writer_group;
 use hc_record::Kind;
 use hc_state::{Readers, Rows, fail_with, know_end, know_ends, make_all_due, make_due};
 use hc_store::Backend;
@@ -70,7 +70,7 @@ fn end_whole<B: Backend>(rows: &mut Rows<B>, now: u64, x: u64, out: &mut Acts)
     requires running { is_open x (table_of rows.old.exchanges) ≡ true }
     requires room { 1 ≤ spare out.old }
     ensures answers { (limits : Limits) (t : Tables) → Facts limits t → RowsStand limits rows.old t
-        → denial t (End x) ≡ None → TellsNoLength t x
+        → denial t (End x) ≡ None → ReportsNoLength t x
         → Answered limits (shelf_of rows.old.entries).faults rows.new t
         (act_list out.old) (act_list out.new) now (End x) }
     ensures faults { (shelf_of rows.old.entries).faults ≤ (shelf_of rows.new.entries).faults }
@@ -163,7 +163,7 @@ fn readers<B: Backend>(rows: &Rows<B>, x: u64) -> Readers
     let Some(r) = brought(rows, x) else {
         return Readers::One(c);
     };
-    if writing(rows, r) == Some(x) {
+    if writer_group(rows, r) == Some(x) {
         return Readers::All(r);
     }
     match rows.entries.entry(r) {

@@ -1,11 +1,9 @@
 -- Lists that rise: with one more at the end, and one that falls the other way round.
 use Rattle.std.{proofs.{Common.{◌≡◌, inl, inr, ℕ, ◌<◌, ◌≤◌, List, [], ◌∷◌, ◌++◌, Bool, true, false, eqb, refl, ap, sym, ◌∙◌, arith}, lemmas.{Bool.Decides.{nat_tests}, List.{reverse-append}}}, specs.Prelude.{reverse, nat_lt, ◌||◌}}
-use Rattle.hc_text.proofs.Basics.{bool_cases, eq_by, false_true, or_cases as in_either}
-use Rattle.hc_text.specs.Sorted.{is_among, itself}
+use Rattle.hc_text.proofs.{Basics.{bool_cases, eq_by, false_true, or_cases as in_either}, SortedLemmas.{has-above}}
+use Rattle.hc_text.specs.Sorted.{is_among, itself, above, is_sorted}
 use Rattle.hc_entry.proofs.SeatLemmas.{first_in}
 use Rattle.hc_effects.proofs.Vocabulary.{Descends}
-use Rattle.hc_text.specs.Sorted.{above, is_sorted}
-use Rattle.hc_text.proofs.SortedLemmas.{has-above}
 
 -- MEMBERS
 

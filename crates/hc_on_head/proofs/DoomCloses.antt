@@ -5,21 +5,19 @@
 -- lists with the same members are equal (`closes_are`). No more close than consumers are kept: each waits for one at
 -- most, and that of the refused one for none (`few_close`). `doom` takes its room by that.
 use Rattle.std.{proofs.{lemmas.Bool.Decides.{nat_tests}, Common.{◌≡◌, ◌≢◌, inl, inr, ℕ, ◌+◌, ◌<◌, ◌≤◌, List, [], ◌∷◌, length, Bool, true, false, Option, Some, None, refl, ap, sym, ◌∙◌, subst, arith}}, specs.{Prelude.{filter, reverse, is_some, is_none, bytes_eq, option_and_then, nat_eq, ◌==◌, ◌&&◌, ◌||◌, if◌then◌else◌}, HashMap.{get, hash_map_len}}}
-use Rattle.hc_text.proofs.Basics.{and_both as both_parts, or_cases as either_part, eqb-other, eqb-same, false_true, none_by, none_of, same_or, same_some as same_row, some_inj as some_is}
+use Rattle.hc_text.proofs.{Basics.{and_both as both_parts, or_cases as either_part, eqb-other, eqb-same, false_true, none_by, none_of, same_or, same_some as same_row, some_inj as some_is}, SortedLemmas.{is_sorted-filter, is_sorted-above}}
 use Rattle.hc_effects.proofs.Vocabulary.{Limits, Request, route_of, Place, awaits, is_number, is_live, is_awaited, awaited_and, is_headless, Lawful, IsAwaiting, Awaits, Tables, Exchange, awaited_exchange, waits_at, with_item_first, route, place, by}
 use Rattle.hc_effects.proofs.{Tests.{none_some}, Basics.{number_yes, number_is}}
 use Rattle.hc_store.specs.declared.backend.Backend.{Ghosts}
 use Rattle.hc_entry.specs.{Keys.{line_of}, Lines.{is_in}}
-use Rattle.hc_text.specs.Sorted.{is_among, itself}
+use Rattle.hc_text.specs.Sorted.{is_among, itself, is_sorted}
 use Rattle.hc_entry.proofs.SeatLemmas.{same_members, first_in}
 use Rattle.hc_exch.specs.{declared.row.Open.{Open}, Exchanges.{table_of}, Known.{is_open}}
-use Rattle.hc_text.specs.Sorted.{is_sorted}
-use Rattle.hc_text.proofs.SortedLemmas.{is_sorted-filter, is_sorted-above}
 use Rattle.hc_rules.proofs.RangeReads.{same_bytes, bytes_eq-same}
 use Rattle.hc_model.specs.Exchanges as exchanges
 use Rattle.hc_model.specs.Owners as owners
 use Rattle.hc_model.specs.Rows as rows
-use Rattle.hc_state.specs.{declared.{rows.Rows.{Rows}}, Dooms.{IsAwaited, IsToClose, IsUnheard}, Kept.{KeepsConsumer, KeepsRunning}, Stands.{RowsStand}}
+use Rattle.hc_state.specs.{declared.rows.Rows.{Rows}, Dooms.{IsAwaited, IsToClose, IsUnheard}, Kept.{KeepsConsumer, KeepsRunning}, Stands.{RowsStand}}
 use Rattle.hc_txn.specs.declared.transaction.Transaction.{Transaction as Consumer}
 use Rattle.hc_on_head.proofs.{AscendingLists.{above_first, among_later, among_cases, is_first, is_later, among-reverse, reverse_ascends}, Woken.{stands_for, Stood, nobody, back, beside, stays, stood, Waits, waits_of, waiting_lives}}
 use Rattle.hc_state.proofs.{Ties.{kept_row}, TurnTies.{among_in, filter_in}}

@@ -10,13 +10,12 @@ use Rattle.hc_store.specs.declared.backend.Backend.{Ghosts}
 use Rattle.hc_effects.proofs.Vocabulary.{Act, lesser, awaited_exchange, act}
 use Rattle.hc_effects.proofs.Tests.{none_some}
 use Rattle.hc_entry.specs.{declared.keys.KeyTable.{KeyTable}, Keys.{line_of, seated_at, AllAreSeatedBelow}, Lines.{is_in}}
-use Rattle.hc_text.specs.Sorted.{is_among, itself}
+use Rattle.hc_text.specs.Sorted.{is_among, itself, is_sorted}
 use Rattle.hc_entry.proofs.SeatLemmas.{first_in}
 use Rattle.hc_exch.specs.{declared.exchanges.Exchanges.{Exchanges}, Exchanges.{table_of, next_of}}
 use Rattle.hc_exch.specs.Exchanges as exch
 use Rattle.hc_exch.specs.Known as known
-use Rattle.hc_text.specs.Sorted.{is_sorted}
-use Rattle.hc_state.specs.{declared.{rows.Rows.{Rows}}, Dooms.{awaited_by, IsAwaited, IsToClose, IsNext, AreAtMost, nearer, Closes}}
+use Rattle.hc_state.specs.{declared.rows.Rows.{Rows}, Dooms.{awaited_by, IsAwaited, IsToClose, IsNext, AreAtMost, nearer, Closes}}
 use Rattle.hc_txn.specs.declared.transaction.Transaction.{Transaction as Consumer}
 use Rattle.hc_on_head.proofs.AscendingLists.{among-append, among_cases, is_first, is_later, ascends_last}
 

@@ -14,9 +14,8 @@ use Rattle.hc_exch.specs.Known.{Known, without_exchange}
 use Rattle.hc_model.specs.Rows as rows
 use Rattle.hc_effects.proofs.SameTables as tables
 use Rattle.hc_effects.proofs.{SameTables.{shut}, Basics.{number_is}}
-use Rattle.hc_state.specs.{declared.{rows.Rows.{Rows}}, Changes.{ChangesAmong}, Kept.{IsKept, KeepsConsumer, KeepsExchange, KeepsRunning, head_in, answer_at, held_for, held_of, held_alone, unread, unstored_bytes}, Stands.{RowsStand}}
-use Rattle.hc_txn.specs.declared.transaction.Transaction.{Transaction as Consumer}
-use Rattle.hc_txn.specs.Transactions.{once_over}
+use Rattle.hc_state.specs.{declared.rows.Rows.{Rows}, Changes.{ChangesAmong}, Kept.{IsKept, KeepsConsumer, KeepsExchange, KeepsRunning, head_in, answer_at, held_for, held_of, held_alone, unread, unstored_bytes}, Stands.{RowsStand}}
+use Rattle.hc_txn.specs.{declared.transaction.Transaction.{Transaction as Consumer}, Transactions.{once_over}}
 use Rattle.hc_state.proofs.{Fallbacks.{unstored_moved}, Closing.{base_over, of_over, promise_over}, Ties.{kept_none, exchange_same}}
 use Rattle.hc_on_head.proofs.{DoomCloses.{headless_row}, Woken.{bytes-flip, stands_for, Stood, nobody, back, beside, stays, stood, starts_over, stays_so, waiting_lives}}
 

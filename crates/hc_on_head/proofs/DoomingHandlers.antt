@@ -16,12 +16,11 @@ use Rattle.hc_model.specs.Owners as owners
 use Rattle.hc_model.specs.Rows as rows
 use Rattle.hc_effects.proofs.{Basics.{same_functions}, SameTables.{without, shut, back_from_any, waits_for_any, some_go_is, all_closed_is}, UnsafeEffects.{dooms_taken, dooms_bad}, Tests.{and_false, none_some}}
 use Rattle.hc_effects.proofs.SameTables as tables
-use Rattle.hc_state.specs.{declared.{rows.Rows.{Rows}}, Changes.{ChangesAt}, Dooms.{IsUnheard, IsDoomed}, Facts.{Facts}, Heads.{AwaitsHead, IsPastStore, IsReadAlone}, Kept.{IsKept, KeepsConsumer, KeepsExchange, KeepsRunning, answer_for, unread, held_for}, Lines.{KeepsKey, has_turn, is_away, is_away_at, is_passed}, Stands.{Answered, RowsStand, Stands}, Stored.{KeepsEntries, is_over}}
-use Rattle.hc_txn.specs.declared.transaction.Transaction.{Transaction as Consumer}
-use Rattle.hc_txn.specs.Transactions.{standing_at}
+use Rattle.hc_state.specs.{declared.rows.Rows.{Rows}, Changes.{ChangesAt}, Dooms.{IsUnheard, IsDoomed}, Facts.{Facts}, Heads.{AwaitsHead, IsPastStore, IsReadAlone}, Kept.{IsKept, KeepsConsumer, KeepsExchange, KeepsRunning, answer_for, unread, held_for}, Lines.{KeepsKey, has_turn, is_away, is_away_at, is_passed}, Stands.{Answered, RowsStand, Stands}, Stored.{KeepsEntries, is_over}}
+use Rattle.hc_txn.specs.{declared.transaction.Transaction.{Transaction as Consumer}, Transactions.{standing_at}}
 use Rattle.hc_on_leave.proofs.{AnswerHandler.{reader_kept, opened_as}, HeardExchange.{drop_none, held_empty}, HeardRows.{Asker, headless_of, kept_as, runs_as}, LeaveHandlers.{flawless}, OneConsumer.{HoldsAsMuch, held_same}, RefuseHandler.{length_as}, UnstoredHandlers.{read_then, unwritten}}
 use Rattle.hc_state.proofs.{Answering.{does_answered}, Fallbacks.{same, held_alike}, FallbackSteps.{live_same}, ConsumerSteps.{SaysOfIt, key_with, key_stays}, Counting.{stands_counted}, KeySteps.{not_lined}, Maps.{merely_true, merely_false}, OneOfEach.{stands_then, entries_same, growing_same}, QueueHandler.{becomes_by}, Ties.{key_same, overs_but}, Unbinding.{entries_unbound}}
-use Rattle.hc_on_head.proofs.{DoomCloses.{among_is}, DoomTies.{in_is}, HeadTold.{heard_as, past_of_runs}}
+use Rattle.hc_on_head.proofs.{DoomCloses.{among_is}, DoomTies.{in_is}, HeadReported.{heard_as, past_of_runs}}
 
 -- WHOEVER READS A CLOSED EXCHANGE PAST THE STORE IS TO FAIL
 
@@ -363,7 +362,7 @@ accepted_row r m x w stands row opened bare = grind (arith, nat_tests)
 module _ {B : Type 0} {g : Ghosts B} (r mid : Rows B g) (now x : ℕ) (key : List ℕ) (response : Response) (before out : List Act) (unheard : IsUnheard (table_of r.exchanges) key x) (some_past : ∥ Stands r ∥₁)
     (dooms : (limits : Limits) (t : Tables) → Lawful t → RowsStand limits r t → IsDoomed limits mid t before out now key None) where
   -- the tables once it is doomed, and its exchange
-  record Heard : Type 0 where
+  record Arrival : Type 0 where
     limits : Limits
     m : Tables
     w : Exchange
@@ -373,7 +372,7 @@ module _ {B : Type 0} {g : Ghosts B} (r mid : Rows B g) (now x : ℕ) (key : Lis
     headless : w.head ≡ None
     length : length_by (table_of r.exchanges x).running response ≡ length_of w.need w.request response
 
-  heard_then : Stands r → Heard
+  heard_then : Stands r → Arrival
   heard_then p =
       let (t, facts, stands) = past_of_runs r p in
       let h = heard_as r t facts stands x unheard.o unheard.running unheard.headless in

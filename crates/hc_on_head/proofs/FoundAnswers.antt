@@ -17,8 +17,8 @@ use Rattle.hc_model.specs.Rows as rows
 use Rattle.hc_effects.proofs.{FoundDoes.{Founds, founds_of}, Tests.{none_some}, EventsKeep.{no_head as head_none}}
 use Rattle.hc_state.specs.{declared.{rows.Rows.{Rows}, founded.Founding.{Founding}}, Facts.{Facts}, Founding.{BeginsFounding, IsFounding}, Heads.{AwaitsHead, IsAskedBy, IsReadAlone, StandsApart, goes_with}, Kept.{IsRunning}, Renewals.{IsUnrenewed}, Room.{HasActs, LeavesActs, GivesWay, loss_by, room_for_write}, Stands.{Answered, RowsStand, Stands}, Stored.{KeepsEntry}}
 use Rattle.hc_txn.specs.declared.transaction.Transaction.{Transaction as Consumer}
-use Rattle.hc_on_leave.proofs.{AnswerHandler.{reader_kept}, FoundHandler.{fallback, first, second, es, m, may_fallback, may_first, make_second, one_way, m_unfounded, m_asker, read_alone, founds_answered, lost_answered, full_told}, HeardRows.{Asker, Headless, asker, headless_of, heard_row, runs_as}}
-use Rattle.hc_on_head.proofs.HeadTold.{past_of_runs}
+use Rattle.hc_on_leave.proofs.{AnswerHandler.{reader_kept}, FoundHandler.{fallback, first, second, es, m, may_fallback, may_first, make_second, one_way, m_unfounded, m_asker, read_alone, founds_answered, lost_answered, full_reported}, HeardRows.{Asker, Headless, asker, headless_of, heard_row, runs_as}}
+use Rattle.hc_on_head.proofs.HeadReported.{past_of_runs}
 use Rattle.hc_state.proofs.{Maps.{known_of, merely_below, merely_false}, ReaderSteps.{stands_read}, Rooms.{room_is}}
 
 class_range : (request : Request) → (class_of request).range ≡ range_of request
@@ -29,18 +29,18 @@ abbrev pub err_of : StoreError → Result (Unit {0}) StoreError
 err_of error = Err error
 
 -- what is founded has the key of what was asked for
-pub key_told : {B : Type 0} {b : Ghosts B} (r : Rows B b) (now x c : ℕ) (g : HeadCase) (response : Response) (f : Founding) → IsSomeAnd (get nat_eq r.consumers c) (λ k. (o : Open) → (table_of r.exchanges x).running ≡ Some o → IsFounding o k g now response f)
+pub key_reported : {B : Type 0} {b : Ghosts B} (r : Rows B b) (now x c : ℕ) (g : HeadCase) (response : Response) (f : Founding) → IsSomeAnd (get nat_eq r.consumers c) (λ k. (o : Open) → (table_of r.exchanges x).running ≡ Some o → IsFounding o k g now response f)
     → (o : Open) → (table_of r.exchanges x).running ≡ Some o → f.key ≡ o.request.key
-key_told r now x c g response f = by_row (get nat_eq r.consumers c)
+key_reported r now x c g response f = by_row (get nat_eq r.consumers c)
   where
     by_row : (row : Option Consumer) → IsSomeAnd row (λ k. (o : Open) → (table_of r.exchanges x).running ≡ Some o → IsFounding o k g now response f) → (o : Open) → (table_of r.exchanges x).running ≡ Some o → f.key ≡ o.request.key
     by_row None founding o there = absurd founding
     by_row (Some k) founding o there = (founding o there).key
 
-module _ {B : Type 0} {b : Ghosts B} (r r1 r2 r3 : Rows B b) (now x c : ℕ) (gone told : Option ℕ) (key : List ℕ) (accepted : head_refusal (option_map open_view (table_of r.exchanges x).running) ≡ None) (asks : IsAskedBy c (table_of r.exchanges x).running)
-    (key_is : (o : Open) → (table_of r.exchanges x).running ≡ Some o → key ≡ o.request.key) (told_is : told ≡ (kept_of r.keys key).current)
+module _ {B : Type 0} {b : Ghosts B} (r r1 r2 r3 : Rows B b) (now x c : ℕ) (gone reported : Option ℕ) (key : List ℕ) (accepted : head_refusal (option_map open_view (table_of r.exchanges x).running) ≡ None) (asks : IsAskedBy c (table_of r.exchanges x).running)
+    (key_is : (o : Open) → (table_of r.exchanges x).running ≡ Some o → key ≡ o.request.key) (reported_is : reported ≡ (kept_of r.keys key).current)
     (falls_back : (limits : Limits) (t : Tables) (y : ℕ) (w : Exchange) (k : rows.Consumer) → Facts limits t → AwaitsHead t y w k → w.c ≡ c → StandsApart y (place.Direct x) → RowsStand limits r t → RowsStand limits r1 (with_consumer c (Some (record k { place = place.Direct x })) t))
-    (goes_first : (limits : Limits) (t : Tables) → MayLetGo t → RowsStand limits r1 t → RowsStand limits r2 (let_some_go now gone t)) (goes_second : (limits : Limits) (t : Tables) → MayLetGo t → RowsStand limits r2 t → RowsStand limits r3 (let_some_go now told t)) where
+    (goes_first : (limits : Limits) (t : Tables) → MayLetGo t → RowsStand limits r1 t → RowsStand limits r2 (let_some_go now gone t)) (goes_second : (limits : Limits) (t : Tables) → MayLetGo t → RowsStand limits r2 t → RowsStand limits r3 (let_some_go now reported t)) where
   pub h : Headless (table_of r.exchanges x).running
   h = headless_of (table_of r.exchanges x).running accepted
 
@@ -54,15 +54,15 @@ module _ {B : Type 0} {b : Ghosts B} (r r1 r2 r3 : Rows B b) (now x c : ℕ) (go
     for_it : w.c ≡ c
     for_it = sym runs.c ∙ asks h.o h.there
 
-    told_now : told ≡ current t w.request.key
-    told_now = told_is ∙ ((stands.keys key).current ∙ ap (current t) (key_is h.o h.there ∙ ap (λ (q : Request). q.key) runs.request))
+    reported_now : reported ≡ current t w.request.key
+    reported_now = reported_is ∙ ((stands.keys key).current ∙ ap (current t) (key_is h.o h.there ∙ ap (λ (q : Request). q.key) runs.request))
 
     abbrev pub left : Tables
     left = second limits t facts now x w a.v a.awaits gone
 
     pub stood : RowsStand limits r3 left
     stood =
-        subst (λ (o : Option ℕ). RowsStand limits r3 (let_some_go now o (first limits t facts now x w a.v a.awaits gone))) told_now
+        subst (λ (o : Option ℕ). RowsStand limits r3 (let_some_go now o (first limits t facts now x w a.v a.awaits gone))) reported_now
         (goes_second _ (first limits t facts now x w a.v a.awaits gone) (may_first limits t facts now x w a.v a.awaits gone)
         (goes_first _ (fallback limits t facts now x w a.v a.awaits gone) (may_fallback limits t facts now x w a.v a.awaits gone)
         (subst (λ (d : ℕ). RowsStand limits r1 (with_consumer d (Some (record a.v { place = place.Direct x })) t)) (sym for_it) (falls_back _ t x w a.v facts a.awaits for_it refl stands))))
@@ -125,8 +125,8 @@ module _ {B : Type 0} {b : Ghosts B} (r r1 r2 r3 : Rows B b) (now x c : ℕ) (go
       -- where the store took it
       pub taken : (z : Rows B b) (n : ℕ) → IsSomeAnd (get nat_eq r.consumers c) (λ k. (o : Open) → (table_of r.exchanges x).running ≡ Some o → IsFounding o k g now response f) → BeginsFounding u z x c f response
           → (result : Result (Unit {0}) StoreError) (v : Unit {0}) → result ≡ Ok v → IsWithin (shelf_of u.entries).limits 0 ((shelf_of u.entries).used + 32768) result → Answered limits n z t before mid now (event.Head x response)
-      taken z n founding begins result v is_ok told =
-          let within : IsWithin {T = Unit {0}} (shelf_of u.entries).limits 0 ((shelf_of u.entries).used + 32768) (Ok v) = subst (IsWithin (shelf_of u.entries).limits 0 ((shelf_of u.entries).used + 32768)) is_ok told in
+      taken z n founding begins result v is_ok reported =
+          let within : IsWithin {T = Unit {0}} (shelf_of u.entries).limits 0 ((shelf_of u.entries).used + 32768) (Ok v) = subst (IsWithin (shelf_of u.entries).limits 0 ((shelf_of u.entries).used + 32768)) is_ok reported in
           let asked_at : get nat_eq r.consumers c ≡ Some its.k = ap (get nat_eq r.consumers) (sym (for_it t facts stands w row)) ∙ its.there in
           let made_it = known_of (get nat_eq r.consumers c) its.k (λ k. (o : Open) → (table_of r.exchanges x).running ≡ Some o → IsFounding o k g now response f) asked_at founding h.o h.there in
           let reader = reader_kept u roomy w.c x (record its.v { place = place.Direct x }) (gives t facts stands w row).rows (m_asker limits t facts now x w its.v its.awaits gone) refl in
@@ -144,7 +144,7 @@ module _ {B : Type 0} {b : Ghosts B} (r r1 r2 r3 : Rows B b) (now x c : ℕ) (go
           let one : kinds.Full ≡ kind = some_is kinds.Full kind lost in
           let past = (within.full refl).1 in
           subst (λ (e : LostKind). may_lose (room_for limits t now (event.Head x response)) e ≡ true) one
-          (full_told limits t facts now x response goes w its.v its.awaits g founds is gone same u 0 before mid (gives t facts stands w row)
+          (full_reported limits t facts now x response goes w its.v its.awaits g founds is gone same u 0 before mid (gives t facts stands w row)
           (subst (λ (l : Limits). l.max_total < (shelf_of u.entries).used + 32768) (gives t facts stands w row).rows.limits past))
       may_by errors.NoMemory kind lost within = none_some kind lost
 
@@ -164,8 +164,8 @@ module _ {B : Type 0} {b : Ghosts B} (r r1 r2 r3 : Rows B b) (now x c : ℕ) (go
           → (shelf_of u.entries).faults ≡ (shelf_of r.entries).faults → (shelf_of z.entries).faults ≡ (shelf_of y.entries).faults
           → ((limits : Limits) (s : Tables) (e : Exchange) (k : rows.Consumer) → IsReadAlone s x e k → e.c ≡ c → RowsStand limits y s → RowsStand limits z (with_answer now x response e.joined e s)) → out ≡ mid ++ (act.Lost x kind ∷ [])
           → Answered limits (shelf_of r.entries).faults z t before out now (event.Head x response)
-      refused y z error kind out lost result is_err unless told caused was after past acts =
-          let within : IsWithin {T = Unit {0}} (shelf_of u.entries).limits 0 ((shelf_of u.entries).used + 32768) (Err error) = subst (IsWithin (shelf_of u.entries).limits 0 ((shelf_of u.entries).used + 32768)) is_err told in
+      refused y z error kind out lost result is_err unless reported caused was after past acts =
+          let within : IsWithin {T = Unit {0}} (shelf_of u.entries).limits 0 ((shelf_of u.entries).used + 32768) (Err error) = subst (IsWithin (shelf_of u.entries).limits 0 ((shelf_of u.entries).used + 32768)) is_err reported in
           let cause : HasCause {T = Unit {0}} (shelf_of u.entries).faults (shelf_of y.entries).faults (Err error) = subst (HasCause (shelf_of u.entries).faults (shelf_of y.entries).faults) is_err caused in
           let stays = unless (λ same. lost_apart error kind lost same) in
           let rest = stays.rest in

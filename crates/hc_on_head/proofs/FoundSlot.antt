@@ -2,7 +2,7 @@
 use Rattle.std.{proofs.{lemmas.Bool.Decides.{nat_tests}, Common.{arith, ◌≡◌, inl, inr, ℕ, ◌<◌, ◌^◌, true, false, Option, Some, None, refl, ap, sym, ◌∙◌, subst}}, specs.Prelude.{option_map, ◌==◌, if◌then◌else◌}}
 use Rattle.hc_text.proofs.Basics.{eqb-other, eqb-same, same_or}
 use Rattle.hc_effects.proofs.Vocabulary.{brings_part, Need, Request, Response, Length, is_bad, length_of, promise_of, content_range_of, just_opened, total_of_part}
-use Rattle.hc_effects.proofs.ToldNumbers.{founded_early}
+use Rattle.hc_effects.proofs.ReportedNumbers.{founded_early}
 use Rattle.hc_entry.specs.{declared.keys.KeyTable.{KeyTable}, Kept.{with_current}}
 use Rattle.hc_entry.specs.Keys as keys
 use Rattle.hc_exch.specs.{declared.{exchanges.Exchanges.{Exchanges}, role.Role.{Role, TheVariants.{the_data as role}}, row.{Open.{Open}, Opening.{Opening}}}, Exchanges.{table_of, Becomes}, Known.{Known, with_good_head, turned_into, length_by, begins_with}, Openings.{opened_with}}

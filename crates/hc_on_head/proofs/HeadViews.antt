@@ -8,7 +8,7 @@ use Rattle.std.{proofs.{Common.{◌≡◌, ◌≤◌, ◌<◌, ℕ, List, [], Bo
 use Rattle.hc_text.proofs.Basics.{eqb-same, false_true, some_inj as some_is}
 use Rattle.hc_effects.proofs.Vocabulary.{Limits, Need, Request, Response, RequestClass, HeadCase, HeadView, head_case, is_conditional, is_storable, fits_to_found, length_of, is_bad, content_range_in, content_range_of, class_of, range_of, Route, route_of, BoundBy, joins_by, joins_row, fits_asker, was_shown, head_view, row_of, IsAwaiting, bound, is_bound, InHole, Tables, Exchange, Representation, range, case, route, place, need}
 use Rattle.hc_store.specs.declared.backend.Backend.{Ghosts}
-use Rattle.hc_range.specs.{declared.range.{Asked.{Asked, TheVariants.{FromTo}}, Span.{Span}}, Spans.{IsInOrder}}
+use Rattle.hc_range.specs.{declared.range.{RangeSpec.{RangeSpec, TheVariants.{FromTo}}, Span.{Span}}, Spans.{IsInOrder}}
 use Rattle.hc_sparse.specs.Cells.{Covers}
 use Rattle.hc_fields.specs.{FieldList.{values_of}, FirstValues.{only_of}}
 use Rattle.hc_etag.specs.{declared.tag.Tag.{Tag}, Tags.{value_of}}
@@ -20,7 +20,7 @@ use Rattle.hc_stored.specs.{declared.view.EntryView.{EntryView}, Entries.{shelf_
 use Rattle.hc_model.specs.Owners as owners
 use Rattle.hc_model.specs.Rows as rows
 use Rattle.hc_effects.proofs.{Bounded.{range_order}, Joining.{filling}, ExclusiveWriters.{filter_some}, Tests.{none_some}}
-use Rattle.hc_state.specs.{declared.{rows.Rows.{Rows}}, Facts.{Facts}, Heads.{aim_in, kept_at, joins_kept, heard_view}, Kept.{IsRunning, KeepsConsumer, role_awaited}, Stands.{RowsStand}, Stored.{KeepsEntry, IsEntry, TellsLength, told, untold}}
+use Rattle.hc_state.specs.{declared.rows.Rows.{Rows}, Facts.{Facts}, Heads.{aim_in, kept_at, joins_kept, heard_view}, Kept.{IsRunning, KeepsConsumer, role_awaited}, Stands.{RowsStand}, Stored.{KeepsEntry, IsEntry, KnowsLength, reported, unreported}}
 use Rattle.hc_txn.specs.declared.transaction.Transaction.{Transaction as Consumer}
 use Rattle.hc_on_leave.proofs.{HeadCases.{case_same}, HeardRows.{Asker, runs_as}}
 use Rattle.hc_state.proofs.{Maps.{merely_true}, Ties.{kept_row}}
@@ -32,11 +32,11 @@ merely_at_most n m some h =
     let test : nat_le n m ≡ true = merely_true (nat_le n m) some (λ p. (let le : n ≤ m = h p in grind (arith, nat_tests, le))) in
     grind (arith, nat_tests, test)
 
-pub merely_ordered : {P : Type 0} (o : Option Asked) → ∥ P ∥₁ → (P → IfSome o IsInOrder) → IfSome o IsInOrder
+pub merely_ordered : {P : Type 0} (o : Option RangeSpec) → ∥ P ∥₁ → (P → IfSome o IsInOrder) → IfSome o IsInOrder
 merely_ordered (Some (FromTo first last)) some h = merely_at_most first last some h
 merely_ordered _ some h = tt
 
-request_ordered : (request : Request) (o : Option Asked) → range_of request ≡ o → IfSome o IsInOrder
+request_ordered : (request : Request) (o : Option RangeSpec) → range_of request ≡ o → IfSome o IsInOrder
 request_ordered request None is = tt
 request_ordered request (Some asked) is = range_order request asked is
 
@@ -49,9 +49,9 @@ range_ordered r t c k at stands =
 
 -- THE HOLE
 
-pub joins_told : (tag : Bool × List ℕ) (total : ℕ) (hole : Span) (response : Response) → hole_answer tag total hole response ≡ answer.Joins → joins tag total hole response ≡ true
+pub joins_reported : (tag : Bool × List ℕ) (total : ℕ) (hole : Span) (response : Response) → hole_answer tag total hole response ≡ answer.Joins → joins tag total hole response ≡ true
 unfolding hole_answer
-joins_told tag total hole response is = grind (arith, nat_tests)
+joins_reported tag total hole response is = grind (arith, nat_tests)
 
 pub joins_not : (tag : Bool × List ℕ) (total : ℕ) (hole : Span) (response : Response) → (hole_answer tag total hole response ≡ answer.Joins → ⊥) → joins tag total hole response ≡ false
 unfolding hole_answer
@@ -109,10 +109,10 @@ joins_same t r from to e v response is absent = by_length is.length
     joining : e.head.joining ≡ v.head.joining
     joining = ap (λ (h : Head). h.joining) is.head
 
-    by_length : TellsLength e v → joins_kept (need.Hole from to) (Some e) response ≡ joins_row (need.Hole from to) (Some v) response
-    by_length (told same) = ap₂ (λ (t : Option (List ℕ)) (n : Option ℕ). joins_by t n hole response) joining same
-    by_length (untold u) =
-        ap (λ (n : Option ℕ). joins_by e.head.joining n hole response) u.untold
+    by_length : KnowsLength e v → joins_kept (need.Hole from to) (Some e) response ≡ joins_row (need.Hole from to) (Some v) response
+    by_length (reported same) = ap₂ (λ (t : Option (List ℕ)) (n : Option ℕ). joins_by t n hole response) joining same
+    by_length (unreported u) =
+        ap (λ (n : Option ℕ). joins_by e.head.joining n hole response) u.unreported
         ∙ (no_total e.head.joining ∙ sym (no_hole_left from to u.total v response u.known u.came absent))
       where
         no_total : (t : Option (List ℕ)) → joins_by t None hole response ≡ false

@@ -11,8 +11,8 @@ use Rattle.hc_effects.proofs.Tests.{none_some}
 use Rattle.hc_record.specs.{Head.{Head, sealed_head}, declared.kind.Kind.TheVariants.{the_data as kinds}}
 use Rattle.hc_stored.specs.{Kept.{Kept}, Shelf.{Shelf}}
 use Rattle.hc_model.specs.Rows as rows
-use Rattle.hc_state.specs.Stored.{IsEntry, TellsLength, told, untold, KeepsEntry, KeepsEntries, is_first, is_usable_row, TellsWriter}
-use Rattle.hc_on_head.proofs.JoinRows.{IsJoinable, s, z, told_consumer, told_representation, exchange_here, exchange_other, representation_here, representation_other}
+use Rattle.hc_state.specs.Stored.{IsEntry, KnowsLength, reported, unreported, KeepsEntry, KeepsEntries, is_first, is_usable_row, KnowsWriter}
+use Rattle.hc_on_head.proofs.JoinRows.{IsJoinable, s, z, reported_consumer, reported_representation, exchange_here, exchange_other, representation_here, representation_other}
 use Rattle.hc_state.proofs.{OneOfEach.{bound_same, first_by, growing_same, kind_same}, Ties.{entry_same, OversStay, overs_open, writer_then}}
 use Rattle.hc_on_leave.proofs.FoundRows.{any_some}
 use Rattle.hc_sparse.specs.Cells.{Covers}
@@ -28,7 +28,7 @@ module _ (t : Tables) (now x q : ℕ) (response : Response) (w : Exchange) (v : 
   overs = overs_open t.exchange m.exchange x w j.row j.is_open (exchange_other t now x q response w v p j h total wr own apart)
 
   users : (n d : ℕ) → is_bound n (m.consumer d) ≡ is_bound n (t.consumer d)
-  users n = told_consumer t now x q response w v p j h total wr own apart (is_bound n) refl
+  users n = reported_consumer t now x q response w v p j h total wr own apart (is_bound n) refl
 
   firsts : (n d : ℕ) → is_first m n (m.consumer d) ≡ is_first t n (t.consumer d)
   firsts n d = grind (arith, nat_tests)
@@ -54,9 +54,9 @@ module _ (t : Tables) (now x q : ℕ) (response : Response) (w : Exchange) (v : 
       rw grows refl
 
   -- where its head tells that
-  pub entry_growing : (e : Kept) (k : Head) (writer : Option ℕ) → IsEntry t q e p → is_reached (promise_in w response) 0 ≡ false → sealed_head kinds.Growing h.total k ≡ h → k.total ≡ e.head.total → k.kind ≡ kinds.Growing → TellsWriter t.exchange writer wr → IsEntry m q (record e { head = k; writer = writer }) now_row
+  pub entry_growing : (e : Kept) (k : Head) (writer : Option ℕ) → IsEntry t q e p → is_reached (promise_in w response) 0 ≡ false → sealed_head kinds.Growing h.total k ≡ h → k.total ≡ e.head.total → k.kind ≡ kinds.Growing → KnowsWriter t.exchange writer wr → IsEntry m q (record e { head = k; writer = writer }) now_row
   unfolding bound
-  entry_growing e k writer is on sealed told_as kind_is by =
+  entry_growing e k writer is on sealed reported_as kind_is by =
       let whole : (n : ℕ) → k.kind ≡ kinds.Whole → k.total ≡ Some n → Covers p.stored 0 n = λ n whole known. cc in
       assumption (
         is,
@@ -70,9 +70,9 @@ module _ (t : Tables) (now x q : ℕ) (response : Response) (w : Exchange) (v : 
         (λ (d : ℕ). is.first d ∙ sym (firsts q d)),
       )
     where
-      by_length : TellsLength e p → TellsLength (record e { head = k; writer = writer }) now_row
-      by_length (told same) = told (told_as ∙ (same ∙ sym total))
-      by_length (untold u) = untold (record { gone = u.gone; untold = told_as ∙ u.untold; total = u.total; known = total ∙ u.known; came = u.came; first = u.first })
+      by_length : KnowsLength e p → KnowsLength (record e { head = k; writer = writer }) now_row
+      by_length (reported same) = reported (reported_as ∙ (same ∙ sym total))
+      by_length (unreported u) = unreported (record { gone = u.gone; unreported = reported_as ∙ u.unreported; total = u.total; known = total ∙ u.known; came = u.came; first = u.first })
 
   -- what is gone tells as before
   pub entry_gone : (e : Kept) → IsEntry t q e p → p.is_gone ≡ true → h ≡ p.head → wr ≡ p.writer → IsEntry m q e now_row
@@ -84,15 +84,15 @@ module _ (t : Tables) (now x q : ℕ) (response : Response) (w : Exchange) (v : 
         ap (λ (n : Head). sealed_head kinds.Growing n.total e.head) same ∙ (is.head ∙ sym same),
         by_length is.length,
         kind,
-        writer_then overs (subst (TellsWriter t.exchange e.writer) (sym by) is.writer),
+        writer_then overs (subst (KnowsWriter t.exchange e.writer) (sym by) is.writer),
         (λ (gone : p.is_gone ≡ true) (none : bound m q ≡ []). is.used gone (sym (lists q) ∙ none)),
         (λ (d : ℕ). is.bound d ∙ sym (users q d)),
         (λ (d : ℕ). is.first d ∙ sym (firsts q d)),
       )
     where
-      by_length : TellsLength e p → TellsLength e now_row
-      by_length (told known) = told (known ∙ sym total)
-      by_length (untold u) = untold (record { gone = u.gone; untold = u.untold; total = u.total; known = total ∙ u.known; came = u.came; first = u.first })
+      by_length : KnowsLength e p → KnowsLength e now_row
+      by_length (reported known) = reported (known ∙ sym total)
+      by_length (unreported u) = unreported (record { gone = u.gone; unreported = u.unreported; total = u.total; known = total ∙ u.known; came = u.came; first = u.first })
 
   -- all of them
   pub entries_joined : (a b : Shelf) (e : Kept) → KeepsEntries t a → b.order ≡ a.order → ((n : ℕ) → q ≢ n → b.kept n ≡ a.kept n) → b.kept q ≡ Some e → IsEntry m q e now_row → KeepsEntries m b
@@ -101,5 +101,5 @@ module _ (t : Tables) (now x q : ℕ) (response : Response) (w : Exchange) (v : 
       | inl same ↦ subst (λ (k : ℕ). KeepsEntry m k (b.kept k) (m.representation k)) same (subst (λ (o : Option Kept). KeepsEntry m q o (m.representation q)) (sym at) (subst (KeepsEntry m q (Some e)) (sym (representation_here t now x q response w v p j h total wr own apart)) is))
       | inr ne ↦ subst (λ (o : Option Kept). KeepsEntry m n o (m.representation n)) (sym (others n ne)) (others_then a n ne (kept.each n))
     ];
-    order = order ∙ (kept.order ∙ sym (filters_same (λ n. is_usable_row (t.representation n)) (λ n. is_usable_row (m.representation n)) (told_representation t now x q response w v p j h total wr own apart is_usable_row refl) t.used));
+    order = order ∙ (kept.order ∙ sym (filters_same (λ n. is_usable_row (t.representation n)) (λ n. is_usable_row (m.representation n)) (reported_representation t now x q response w v p j h total wr own apart is_usable_row refl) t.used));
   }

@@ -18,12 +18,11 @@ use Rattle.hc_exch.specs.Exchanges as exch
 use Rattle.hc_model.specs.Rows as rows
 use Rattle.hc_effects.proofs.{FirstKeeps.{case_is}, FoundBy.{case_by}, ExclusiveWriters.{filter_some}, LossStands.{joins_again, not_founding}, Basics.{some_row}}
 use Rattle.hc_effects.proofs.UpdateEffects as does
-use Rattle.hc_state.specs.{declared.{rows.Rows.{Rows}}, Changes.{BecomesAt, ChangesAt, Numbered}, Facts.{Facts}, Heads.{IsAskedBy}, Joining.{Brings, bringing, IsAbout, IsGrowing, Shares, growing, joins_hole}, Kept.{IsKept, KeepsConsumer}, Leaving.{LeavesKey}, Renewals.{renewed_head}, Stands.{Answered, RowsStand, open_at}, Stopped.{HoldsNothing}, Stored.{IsEntry, KeepsEntry, as_written}}
-use Rattle.hc_txn.specs.declared.transaction.Transaction.{Transaction as Consumer}
-use Rattle.hc_txn.specs.Transactions.{without_own}
+use Rattle.hc_state.specs.{declared.rows.Rows.{Rows}, Changes.{BecomesAt, ChangesAt, Numbered}, Facts.{Facts}, Heads.{IsAskedBy}, Joining.{Brings, bringing, IsAbout, IsGrowing, Shares, growing, joins_hole}, Kept.{IsKept, KeepsConsumer}, Leaving.{LeavesKey}, Renewals.{renewed_head}, Stands.{Answered, RowsStand, open_at}, Stopped.{HoldsNothing}, Stored.{IsEntry, KeepsEntry, as_written}}
+use Rattle.hc_txn.specs.{declared.transaction.Transaction.{Transaction as Consumer}, Transactions.{without_own}}
 use Rattle.hc_state.proofs.{Answering.{does_answered, lossy_answered}, Counting.{stands_counted}, CurrentTies.{entry_row}, Maps.{known_of}, QueueHandler.{becomes_by}}
 use Rattle.hc_on_leave.proofs.{HeardRows.{Asker, asked_by, asker_of, headless_of, kept_as, runs_as}, LoseAlone.{holds_none}, UnstoredHandlers.{unwritten}}
-use Rattle.hc_on_head.proofs.{JoinEntries.{entries_joined, entry_gone, entry_growing}, JoinRows.{IsJoinable, stands_joined}, JoinTold.{Joins, first, later, goes_on, hole_aim, joinable_as, joinable_lost, joins_lost_too, joins_of, need_is, told_of, view_joins}}
+use Rattle.hc_on_head.proofs.{JoinEntries.{entries_joined, entry_gone, entry_growing}, JoinRows.{IsJoinable, stands_joined}, JoinReported.{Joins, first, later, goes_on, hole_aim, joinable_as, joinable_lost, joins_lost_too, joins_of, need_is, reported_of, view_joins}}
 
 -- ROWS THAT STAY
 
@@ -75,8 +74,8 @@ module _ {B : Type 0} {g : Ghosts B} {limits : Limits} (r u : Rows B g) (m : Tab
   abbrev news : Head
   news = renewed_head w.opened now response.fields (growing e.head)
 
-  told_so : sealed_head kinds.Growing h.total news ≡ h
-  told_so = ap (λ (n : Head). record n { requested = w.opened; answered = now; fields = updated_fields n.fields response.fields }) is.head
+  reported_so : sealed_head kinds.Growing h.total news ≡ h
+  reported_so = ap (λ (n : Head). record n { requested = w.opened; answered = now; fields = updated_fields n.fields response.fields }) is.head
 
   moment_is : o.moment ≡ w.opened
   moment_is = (runs_as r m x o w stands running j.row).moment
@@ -110,7 +109,7 @@ module _ {B : Type 0} {g : Ghosts B} {limits : Limits} (r u : Rows B g) (m : Tab
         (subst (λ (n : Option ℕ). BecomesAt r.consumers brought.consumers w.c (Some (record k { own = n }))) its.own (stays_at r.consumers brought.consumers w.c k (brings.consumers ∙ grows.rest.consumers) there))
         its_line its_exchange
         (entries_joined m now x q response w v p j h refl refl p.writer v.own own_apart (shelf_of r.entries) (shelf_of brought.entries) (with_head news e) stands.entries its_shelf.order others_then kept_then
-        (entry_growing m now x q response w v p j h refl refl p.writer v.own own_apart e news e.writer is on told_so refl refl is.writer))
+        (entry_growing m now x q response w v p j h refl refl p.writer v.own own_apart e news e.writer is on reported_so refl refl is.writer))
 
     -- others may
     pub stands_shared : Shares brought u c x q → RowsStand limits u (with_consumer w.c (Some (record v { own = None })) (with_answer now x response (Some q) w (with_representation q (Some (record p { head = h; writer = Some x })) m)))
@@ -123,7 +122,7 @@ module _ {B : Type 0} {g : Ghosts B} {limits : Limits} (r u : Rows B g) (m : Tab
         (entries_joined m now x q response w v p j h refl refl (Some x) None (λ y ne. refl) (shelf_of r.entries) (shelf_of u.entries) (written_by x (with_head news e)) stands.entries (shares.entries.order ∙ its_shelf.order)
         (λ n ne. shares.entries.kept n ∙ (rw (eqb-other q n ne) (others_then n ne)))
         (shares.entries.kept q ∙ rw (eqb-same q) (ap (option_map (written_by x)) kept_then))
-        (entry_growing m now x q response w v p j h refl refl (Some x) None (λ y ne. refl) e news (Some x) is on told_so refl refl (as_written refl)))
+        (entry_growing m now x q response w v p j h refl refl (Some x) None (λ y ne. refl) e news (Some x) is on reported_so refl refl (as_written refl)))
 
 -- IT IS ANSWERED
 
@@ -183,9 +182,9 @@ module _ {B : Type 0} {g : Ghosts B} {limits : Limits} (r u : Rows B g) (t : Tab
   holds_alone kept c for_it = subst (λ (o : Option ℕ). HoldsNothing t q p o) (alone kept ∙ ap Some for_it) (holds_none limits t facts q p there kept)
 
   pub lost_answered : p.is_lost ≡ false → (c : ℕ) → w.c ≡ c → (faults : ℕ) (out : List Act) → out ≡ before ++ (act.Lost q kind.Fault ∷ []) → faults < (shelf_of u.entries).faults → RowsStand limits u (with_answer now x response (Some q) w (let_go now q (with_representation q (Some (lost_to (Some c) p)) t))) → Answered limits faults u t before out now ev
-  lost_answered kept c for_it faults out told failed stood =
+  lost_answered kept c for_it faults out reported failed stood =
       lossy_answered limits faults u t (with_event now ev (let_go now q (with_answer now x response (Some q) w (with_representation q (Some (lost_to (exclusive t q p) p)) t)))) before out (act.Lost q kind.Fault ∷ []) now ev q
-      (does.joins_lost limits t facts.law now x response goes w a.awaits.row a.v a.awaits.asker q p aim there case (as_model how) kind.Fault kept (joins_lost_too (head_view t false w response) case how is)) writes_it (ap is_kept there ∙ ap not kept) refl failed told
+      (does.joins_lost limits t facts.law now x response goes w a.awaits.row a.v a.awaits.asker q p aim there case (as_model how) kind.Fault kept (joins_lost_too (head_view t false w response) case how is)) writes_it (ap is_kept there ∙ ap not kept) refl failed reported
       (stands_counted u _ now ev refl (subst (λ (o : Option ℕ). RowsStand limits u (let_go now q (with_answer now x response (Some q) w (with_representation q (Some (lost_to o p)) t)))) (sym (alone kept ∙ ap Some for_it)) stood))
 
 -- BY WHAT THE CODE LOOKED UP
@@ -204,7 +203,7 @@ pub record IsJoin {B : Type 0} {g : Ghosts B} (r : Rows B g) (t : Tables) (x c q
   pub is : IsEntry t q e p
   pub can : IsJoinable t x q w a.v p
   pub on : is_reached (promise_in w response) 0 ≡ false
-  pub told : e.head.total ≡ p.head.total
+  pub reported : e.head.total ≡ p.head.total
   pub hole : (from : ℕ) × (to : ℕ) × (w.need ≡ need.Hole from to)
 
 pub join_of : {B : Type 0} {g : Ghosts B} {limits : Limits} (r : Rows B g) (t : Tables) (facts : Facts limits t) (stands : RowsStand limits r t) (now x c q : ℕ) (response : Response) (w : Exchange) (row : t.exchange x ≡ Some w) (k : HeadCase) → joins_hole k ≡ true → denial t (event.Head x response) ≡ None → head_case (head_view t false w response) ≡ k
@@ -229,7 +228,7 @@ join_of r t facts stands now x c q response w row k joins goes is accepted asks 
       is = p.2;
       can = joinable_as r t facts x response w a view q aim p.0 p.1;
       on = goes_on r t facts x response w a view;
-      told = told_of r t facts x response w a view q aim e.0 p.0 p.1 p.2;
+      reported = reported_of r t facts x response w a view q aim e.0 p.0 p.1 p.2;
       hole = need_is r t facts x response w a view;
     }
 

@@ -9,12 +9,12 @@ use Rattle.hc_text.proofs.Basics.{eqb-same, false_true, some_inj as some_is}
 use Rattle.hc_effects.proofs.Vocabulary.{Limits, Response, RequestClass, content_range_of, class_of, covers, asks_whole, hole_start, is_last_part, resumes, Tables, Exchange, Representation, need}
 use Rattle.hc_store.specs.declared.backend.Backend.{Ghosts}
 use Rattle.hc_sparse.specs.Cells.{Covers, size}
-use Rattle.hc_range.specs.declared.range.Asked.{Asked}
+use Rattle.hc_range.specs.declared.range.RangeSpec.{RangeSpec}
 use Rattle.hc_stored.specs.{Entries.{shelf_of}, Kept.{Kept}, declared.view.EntryView.{EntryView}, Shelf.{cells_in}, Views.{view_of}}
 use Rattle.hc_exch.specs.{declared.row.{Open.{Open}, Opening.{Opening}}, Exchanges.{table_of}, Known.{begins_with}, Openings.{opened_with}}
 use Rattle.hc_model.specs.Rows as rows
 use Rattle.hc_effects.proofs.{Tests.{none_some}, HoleLemmas.{covers_all}}
-use Rattle.hc_state.specs.{declared.{rows.Rows.{Rows}}, Facts.{Facts}, Joining.{LacksOnly}, Kept.{KeepsConsumer, KeepsRunning}, Stands.{RowsStand}, Stored.{IsEntry}}
+use Rattle.hc_state.specs.{declared.rows.Rows.{Rows}, Facts.{Facts}, Joining.{LacksOnly}, Kept.{KeepsConsumer, KeepsRunning}, Stands.{RowsStand}, Stored.{IsEntry}}
 use Rattle.hc_txn.specs.declared.transaction.Transaction.{Transaction as Consumer}
 use Rattle.hc_on_leave.proofs.{AnswerHandler.{opened_as}, StoreHandler.{stored_size}}
 use Rattle.hc_state.proofs.{CurrentTies.{covers_as, entry_at, stored_ends}, Ties.{kept_row}}
@@ -26,11 +26,11 @@ whole_as k v is = ap (λ (z : RequestClass). is_none z.range) is
 
 -- what is told of it tells that
 pub lacks_is : (o : Option Kept) (view : EntryView) (from : ℕ) (response : Response) (b : Bool) → option_map view_of o ≡ Some view → view.size ≡ from → is_last_part view.total (content_range_of response.fields) ≡ true → (IsTrue b ↔ Covers (λ n. cells_in o n) 0 from) → IsTrue b ↔ LacksOnly from response o
-lacks_is None view from response b viewed size_is last tells = none_some view viewed
-lacks_is (Some k) view from response b viewed size_is last tells =
+lacks_is None view from response b viewed size_is last reports = none_some view viewed
+lacks_is (Some k) view from response b viewed size_is last reports =
     let one : view_of k ≡ view = some_is (view_of k) view viewed in
     let known : is_last_part k.head.total (content_range_of response.fields) ≡ true = ap (λ (z : EntryView). is_last_part z.total (content_range_of response.fields)) one ∙ last in
-    ((λ on. (known, ((ap (λ (z : EntryView). z.size) one ∙ size_is), tells.0 on))), (λ lacks. tells.1 lacks.1.1))
+    ((λ on. (known, ((ap (λ (z : EntryView). z.size) one ∙ size_is), reports.0 on))), (λ lacks. reports.1 lacks.1.1))
 
 -- THE HOLE
 
@@ -45,7 +45,7 @@ module _ {B : Type 0} {g : Ghosts B} {limits : Limits} (r : Rows B g) (t : Table
   is_start a b is = (let same : need.Hole a b ≡ need.Hole from to = sym is ∙ need_is in cc)
 
 module _ {B : Type 0} {g : Ghosts B} {limits : Limits} (r : Rows B g) (t : Tables) (facts : Facts limits t) (stands : RowsStand limits r t) (q c from to : ℕ) (response : Response) (w : Exchange) (p : Representation) (k : Consumer) (e : Kept)
-    (hole : w.need ≡ need.Hole from to) (for_it : w.c ≡ c) (there : get nat_eq r.consumers c ≡ Some k) (row : t.representation q ≡ Some p) (stays : p.is_lost ≡ false) (kept : (shelf_of r.entries).kept q ≡ Some e) (told : e.head.total ≡ p.head.total) where
+    (hole : w.need ≡ need.Hole from to) (for_it : w.c ≡ c) (there : get nat_eq r.consumers c ≡ Some k) (row : t.representation q ≡ Some p) (stays : p.is_lost ≡ false) (kept : (shelf_of r.entries).kept q ≡ Some e) (reported : e.head.total ≡ p.head.total) where
   is : IsEntry t q e p
   is = entry_at r t stands q e kept p row
 
@@ -56,7 +56,7 @@ module _ {B : Type 0} {g : Ghosts B} {limits : Limits} (r : Rows B g) (t : Table
   size_is = stored_size r t facts q p e t row is.used is
 
   resumes_is : resumes t response w p ≡ (is_none k.class.range && is_last_part e.head.total (content_range_of response.fields) && covers p.stored p.reach 0 from && (size e.cells == from))
-  resumes_is = rw (asks, told, (ap hole_start hole), size_is) refl
+  resumes_is = rw (asks, reported, (ap hole_start hole), size_is) refl
 
   -- it asks for a part
   pub resumes_not : is_some k.class.range ≡ true → false ≡ resumes t response w p
@@ -64,17 +64,17 @@ module _ {B : Type 0} {g : Ghosts B} {limits : Limits} (r : Rows B g) (t : Table
 
   -- it asks for the whole
   pub resumes_as : is_some k.class.range ≡ false → (b : Bool) → (IsTrue b ↔ LacksOnly from response ((shelf_of r.entries).kept q)) → b ≡ resumes t response w p
-  resumes_as none b tells = by_test b refl ∙ sym resumes_is
+  resumes_as none b reports = by_test b refl ∙ sym resumes_is
     where
       whole : is_none k.class.range ≡ true
       whole = by_range k.class.range none
         where
-          by_range : (o : Option Asked) → is_some o ≡ false → is_none o ≡ true
+          by_range : (o : Option RangeSpec) → is_some o ≡ false → is_none o ≡ true
           by_range None off = refl
           by_range (Some asked) off = false_true (sym off)
 
       both : IsTrue b ↔ LacksOnly from response (Some e)
-      both = subst (λ (o : Option Kept). IsTrue b ↔ LacksOnly from response o) kept tells
+      both = subst (λ (o : Option Kept). IsTrue b ↔ LacksOnly from response o) kept reports
 
       covered : (a : Bool) → (IsTrue a ↔ Covers e.cells 0 from) → a ≡ covers p.stored p.reach 0 from
       covered a says = covers_as t q e p is (stored_ends t facts.law q p row stays) a 0 from says

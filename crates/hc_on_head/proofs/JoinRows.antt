@@ -16,7 +16,7 @@ use Rattle.hc_entry.specs.Kept as keyed
 use Rattle.hc_exch.specs.{declared.{role.Role.TheVariants.{the_data as role}, row.Open.{Open}}, Exchanges.{table_of}, Known.{Known, is_all, length_by}}
 use Rattle.hc_exch.specs.Exchanges as exch
 use Rattle.hc_model.specs.Rows as rows
-use Rattle.hc_state.specs.{declared.{rows.Rows.{Rows}}, Changes.{BecomesAt}, Joining.{bringing}, Kept.{IsKept, IsRunning, KeepsConsumer, KeepsExchange, KeepsRunning, first_lacking, held_for, held_of, held_alone, unread, unstored_bytes, role_of}, Leaving.{LeavesKey}, Lines.{KeepsKey, has_turn, is_passed, is_away, is_away_at}, Stands.{RowsStand}, Stored.{KeepsEntries}}
+use Rattle.hc_state.specs.{declared.rows.Rows.{Rows}, Changes.{BecomesAt}, Joining.{bringing}, Kept.{IsKept, IsRunning, KeepsConsumer, KeepsExchange, KeepsRunning, first_lacking, held_for, held_of, held_alone, unread, unstored_bytes, role_of}, Leaving.{LeavesKey}, Lines.{KeepsKey, has_turn, is_passed, is_away, is_away_at}, Stands.{RowsStand}, Stored.{KeepsEntries}}
 use Rattle.hc_txn.specs.declared.transaction.Transaction.{Transaction as Consumer}
 use Rattle.hc_on_leave.proofs.{AnswerHandler.{all_reached, known_here, known_other}, HeardExchange.{drop_none, held_empty}, HeardRows.{kept_as, runs_as}}
 use Rattle.hc_state.proofs.{FallbackSteps.{live_same, length_same}, Fallbacks.{unstored_moved}, KeySteps.{not_lined}, Ties.{consumer_same, exchange_same, key_same, kept_same}}
@@ -75,17 +75,17 @@ module _ (t : Tables) (now x q : ℕ) (response : Response) (w : Exchange) (v : 
   consumer_other d ne = rw (eqb-other w.c d ne) refl
 
   -- what doesn't look at its exchange is told as before
-  pub told_consumer : {A : Type 0} (f : Option rows.Consumer → A) → f (Some vn) ≡ f (Some v) → (d : ℕ) → f (s.consumer d) ≡ f (t.consumer d)
-  told_consumer f same d = grind (arith, nat_tests)
+  pub reported_consumer : {A : Type 0} (f : Option rows.Consumer → A) → f (Some vn) ≡ f (Some v) → (d : ℕ) → f (s.consumer d) ≡ f (t.consumer d)
+  reported_consumer f same d = grind (arith, nat_tests)
 
   -- what looks neither at its head nor at who writes it is told as before
-  pub told_representation : {A : Type 0} (f : Option Representation → A) → f (Some z) ≡ f (Some p) → (n : ℕ) → f (s.representation n) ≡ f (t.representation n)
-  told_representation f same n = grind (arith, nat_tests)
+  pub reported_representation : {A : Type 0} (f : Option Representation → A) → f (Some z) ≡ f (Some p) → (n : ℕ) → f (s.representation n) ≡ f (t.representation n)
+  reported_representation f same n = grind (arith, nat_tests)
 
   -- CONSUMERS
 
   lengths : (n lo : ℕ) (hi : Option ℕ) (how : BoundBy) → total_in (s.representation n) ≡ total_in (t.representation n)
-  lengths n lo hi how = told_representation total_in total n
+  lengths n lo hi how = reported_representation total_in total n
 
   consumer_then : (d : ℕ) (o : Option Consumer) → w.c ≢ d → KeepsConsumer t o (t.consumer d) → KeepsConsumer s o (s.consumer d)
   consumer_then d o ne kept =
@@ -155,13 +155,13 @@ module _ (t : Tables) (now x q : ℕ) (response : Response) (w : Exchange) (v : 
     }
 
   exchange_stays : (y : ℕ) (a : Known) → x ≢ y → KeepsExchange t y a → KeepsExchange s y a
-  exchange_stays y a ne kept = exchange_same t s y a (record { row = exchange_other y ne; brings = λ b row. told_representation (λ o. is_some o) refl (family y b); held = held_else y ne (t.exchange y) }) kept
+  exchange_stays y a ne kept = exchange_same t s y a (record { row = exchange_other y ne; brings = λ b row. reported_representation (λ o. is_some o) refl (family y b); held = held_else y ne (t.exchange y) }) kept
 
   -- KEYS
 
   current_same : h.fields ≡ h.fields → (key : List ℕ) → current s key ≡ current t key
   unfolding current
-  current_same any key = finds_same (λ n. is_usable key (t.representation n)) (λ n. is_usable key (s.representation n)) (told_representation (is_usable key) refl) t.founded
+  current_same any key = finds_same (λ n. is_usable key (t.representation n)) (λ n. is_usable key (s.representation n)) (reported_representation (is_usable key) refl) t.founded
 
   -- it waits for its head no more
   here_then : is_away_at s v.place ≡ false
@@ -233,7 +233,7 @@ module _ (t : Tables) (now x q : ℕ) (response : Response) (w : Exchange) (v : 
       limits = bounded;
       last_start = last ∙ stands.last_start;
       next = brings.next ∙ stands.next;
-      count = length_same r u t w.c v (record k { own = own }) stands j.asker lives becomes ∙ (stands.count ∙ sym (live_same t s refl (told_consumer is_live refl)));
+      count = length_same r u t w.c v (record k { own = own }) stands j.asker lives becomes ∙ (stands.count ∙ sym (live_same t s refl (reported_consumer is_live refl)));
       consumers = consumers_then;
       exchanges = exchanges_then;
       keys = λ key. key_then key (kept_of u.keys key) (keys_left t w.c v j.asker r.keys u.keys stands.keys (subst (λ (n : List ℕ). LeavesKey w.c n r.keys u.keys) (ap (λ (n : _). n.key) is.request) line) key);

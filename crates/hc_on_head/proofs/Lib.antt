@@ -1,6 +1,6 @@
 pub mod HeadViews
 pub mod PassHandler
-pub mod HeadTold
+pub mod HeadReported
 pub mod LoseAsked
 pub mod AscendingLists
 pub mod DoomLoops
@@ -18,6 +18,6 @@ pub mod JoinKeys
 pub mod JoinRows
 pub mod JoinEntries
 pub mod JoinHeads
-pub mod JoinTold
+pub mod JoinReported
 pub mod JoinHandler
 pub mod JoinResumes

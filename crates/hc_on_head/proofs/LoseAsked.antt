@@ -15,10 +15,10 @@ use Rattle.hc_exch.specs.{Exchanges.{table_of}, Known.{Table, is_open}}
 use Rattle.hc_exch.specs.Known as known
 use Rattle.hc_model.specs.Laws as laws
 use Rattle.hc_model.specs.Rows as rows
-use Rattle.hc_state.specs.{declared.rows.Rows.{Rows}, Handlers.{IsInKey}, Facts.{Facts}, Heads.{AwaitsHead, IsAskedBy}, Leaving.{if_running, writing_of}, Lines.{is_passed, is_away, is_away_at}, Stands.{RowsStand, Stands, open_at}, Stored.{KeepsEntry, is_usable_kept}}
+use Rattle.hc_state.specs.{declared.rows.Rows.{Rows}, Handlers.{IsInKey}, Facts.{Facts}, Heads.{AwaitsHead, IsAskedBy}, Leaving.{if_running, writer_group_of}, Lines.{is_passed, is_away, is_away_at}, Stands.{RowsStand, Stands, open_at}, Stored.{KeepsEntry, is_usable_kept}}
 use Rattle.hc_on_leave.proofs.{AnswerHandler.{known_other}, HeardRows.{Asker, asker, asked_by, headless_of, heard_row}, LoseTurn.{grows}}
 use Rattle.hc_state.proofs.{CurrentTies.{entry_row}, KeySteps.{not_lined}, Maps.{known_of, merely_true}}
-use Rattle.hc_on_head.proofs.HeadTold.{past_of_runs}
+use Rattle.hc_on_head.proofs.HeadReported.{past_of_runs}
 
 -- WHO WAITS FOR ITS KEY
 
@@ -54,8 +54,8 @@ module _ {B : Type 0} {g : Ghosts B} {limits : Limits} (r : Rows B g) (t : Table
 running_some : (table : Table) (o : Option ℕ) (y : ℕ) → if_running table o ≡ Some y → is_open y table ≡ true
 running_some table o y is = grind (arith, nat_tests)
 
-pub writing_open : (table : Table) (o : Option Kept) (y : ℕ) → writing_of table o ≡ Some y → is_open y table ≡ true
-writing_open table o y is = grind (arith, nat_tests)
+pub group_open : (table : Table) (o : Option Kept) (y : ℕ) → writer_group_of table o ≡ Some y → is_open y table ≡ true
+group_open table o y is = grind (arith, nat_tests)
 
 -- ONCE IT STANDS IN LINE AGAIN
 
@@ -97,13 +97,13 @@ module _ {B : Type 0} {g : Ghosts B} (r first second : Rows B g) (now x c q : �
       by_kept t v p None at there stays keeps = (let dropped = subst (λ (o : Option Kept). KeepsEntry (with_consumer c (Some (back_in_line now v)) t) q o (Some p)) at keeps in false_true (sym stays ∙ dropped.gone))
 
   -- what writes it for several is open still
-  pub open_still : (y : ℕ) → writing_of (table_of r.exchanges) ((shelf_of r.entries).kept q) ≡ Some y → is_open y (table_of second.exchanges) ≡ true
-  open_still y writing = merely_true (is_open y (table_of second.exchanges)) some (λ p.
+  pub open_still : (y : ℕ) → writer_group_of (table_of r.exchanges) ((shelf_of r.entries).kept q) ≡ Some y → is_open y (table_of second.exchanges) ≡ true
+  open_still y writer_group = merely_true (is_open y (table_of second.exchanges)) some (λ p.
       let s = past_of_runs r p in
       let n = now_of s.0 s.1 s.2 in
       let u = usable_there ((shelf_of r.entries).kept q) usable in
       let e = entry_row r s.0 s.2 q u.0 u.1 in
-      let z = grows r s.0 s.1 s.2 q e.0 e.1 y writing in
+      let z = grows r s.0 s.1 s.2 q e.0 e.1 y writer_group in
       let apart : y ≢ x = λ same. (let one : n.w ≡ z.0 = same_row (s.0.exchange x) n.w z.0 n.row (ap s.0.exchange (sym same) ∙ z.1.row) in false_true (sym (ap (λ (k : Exchange). is_some k.head) (sym one) ∙ ap (λ h. is_some h) n.a.awaits.headless) ∙ z.1.headed)) in
       ap (λ (k : known.Known). is_some k.running) (known_other known.without_exchange x y first.exchanges second.exchanges becomes apart)
-      ∙ (ap (λ z. is_open y (table_of z)) same_exchanges ∙ writing_open (table_of r.exchanges) ((shelf_of r.entries).kept q) y writing))
+      ∙ (ap (λ z. is_open y (table_of z)) same_exchanges ∙ group_open (table_of r.exchanges) ((shelf_of r.entries).kept q) y writer_group))

@@ -8,9 +8,8 @@ use Rattle.hc_entry.specs.Keys as keys
 use Rattle.hc_entry.specs.{Keys.{kept_of}, Kept.{on_line}, Lines.{line_after_pass}}
 use Rattle.hc_rules.proofs.RangeReads.{bytes_eq-same}
 use Rattle.hc_model.specs.Rows as rows
-use Rattle.hc_state.specs.{declared.{rows.Rows.{Rows}}, Changes.{ChangesAt}, Heads.{AwaitsHead}, Kept.{IsKept, answer_for}, Leaving.{UnbindsAt}, Stands.{RowsStand}}
-use Rattle.hc_txn.specs.declared.transaction.Transaction.{Transaction as Consumer}
-use Rattle.hc_txn.specs.Transactions.{standing_at}
+use Rattle.hc_state.specs.{declared.rows.Rows.{Rows}, Changes.{ChangesAt}, Heads.{AwaitsHead}, Kept.{IsKept, answer_for}, Leaving.{UnbindsAt}, Stands.{RowsStand}}
+use Rattle.hc_txn.specs.{declared.transaction.Transaction.{Transaction as Consumer}, Transactions.{standing_at}}
 use Rattle.hc_state.proofs.{ConsumerSteps.{keys_with}, KeySteps.{not_lined, passes_key, says_elsewhere}, QueueHandler.{becomes_by}, Unbinding.{entries_unbound}}
 use Rattle.hc_on_leave.proofs.{HeardRows.{kept_as}, OneConsumer.{HoldsAsMuch, stands_moved}}
 

@@ -1,7 +1,7 @@
 -- The head of a representation is renewed: what is kept represents the tables then.
 --
 -- An update changes fields and moments of a head, and no length, status or key. So what looks at none of these is told
--- as before (`told_same`): consumers, what is held, what is current, and other entries. Its own entry has the same
+-- as before (`reported_same`): consumers, what is held, what is current, and other entries. Its own entry has the same
 -- fields and moments, since the code updates it by the same rule from the same opening (`entry_renewed`).
 -- `stands_renewed` joins these; `TurnHandler` uses it for a 304 that selects.
 use Rattle.std.{proofs.{Common.{◌≡◌, ◌≢◌, inl, inr, ℕ, List, Option, Some, None, refl, ap, sym, ◌∙◌, subst, arith}, lemmas.Bool.Decides.{nat_tests}}, specs.{Prelude.{is_some, nat_eq, option_map}, HashMap.{get, hash_map_len}}}
@@ -14,7 +14,7 @@ use Rattle.hc_stored.specs.{Entries.{shelf_of}, Kept.{Kept, with_head}, Shelf.{S
 use Rattle.hc_stored.specs.Shelf as shelf
 use Rattle.hc_entry.specs.Keys.{kept_of}
 use Rattle.hc_exch.specs.Exchanges.{table_of, next_of}
-use Rattle.hc_state.specs.{declared.rows.Rows.{Rows}, Kept.{held_alone, held_of, held_for}, Renewals.{KeepsBeside, renewed_head}, Stands.{RowsStand}, Stored.{IsEntry, TellsLength, told, untold, KeepsEntry, KeepsEntries, is_usable_row}}
+use Rattle.hc_state.specs.{declared.rows.Rows.{Rows}, Kept.{held_alone, held_of, held_for}, Renewals.{KeepsBeside, renewed_head}, Stands.{RowsStand}, Stored.{IsEntry, KnowsLength, reported, unreported, KeepsEntry, KeepsEntries, is_usable_row}}
 use Rattle.hc_state.proofs.{Fallbacks.{unstored_moved}, OneOfEach.{first_by}, Ties.{consumer_same, exchange_same, entry_same, key_same}}
 
 module _ (t : Tables) (now : ℕ) (response : Response) (w : Exchange) (r : ℕ) (v : Representation) (row : t.representation r ≡ Some v) where
@@ -31,8 +31,8 @@ module _ (t : Tables) (now : ℕ) (response : Response) (w : Exchange) (r : ℕ)
   others q ne = rw (eqb-other r q ne) refl
 
   -- what an update leaves is told as before
-  told_same : {A : Type 0} (f : Option Representation → A) → f (Some z) ≡ f (Some v) → (q : ℕ) → f (s.representation q) ≡ f (t.representation q)
-  told_same f leaves q = grind (arith, nat_tests)
+  reported_same : {A : Type 0} (f : Option Representation → A) → f (Some z) ≡ f (Some v) → (q : ℕ) → f (s.representation q) ≡ f (t.representation q)
+  reported_same f leaves q = grind (arith, nat_tests)
 
   -- WHAT IS HELD
 
@@ -49,7 +49,7 @@ module _ (t : Tables) (now : ℕ) (response : Response) (w : Exchange) (r : ℕ)
 
   current_same : (key : List ℕ) → current s key ≡ current t key
   unfolding current
-  current_same key = finds_same (λ q. is_usable key (t.representation q)) (λ q. is_usable key (s.representation q)) (told_same (is_usable key) refl) t.founded
+  current_same key = finds_same (λ q. is_usable key (t.representation q)) (λ q. is_usable key (s.representation q)) (reported_same (is_usable key) refl) t.founded
 
   -- REPRESENTATIONS
 
@@ -65,21 +65,21 @@ module _ (t : Tables) (now : ℕ) (response : Response) (w : Exchange) (r : ℕ)
         is,
         ap renewed is.head,
         by_length is.length,
-        (λ (c : ℕ). is.first c ∙ sym (first_by t s (told_same status_in refl) r (t.consumer c))),
+        (λ (c : ℕ). is.first c ∙ sym (first_by t s (reported_same status_in refl) r (t.consumer c))),
       )
     where
-      by_length : TellsLength e v → TellsLength (with_head (renewed_head w.opened now response.fields e.head) e) z
-      by_length (told same) = told same
-      by_length (untold u) = untold (record { gone = u.gone; untold = u.untold; total = u.total; known = u.known; came = u.came; first = u.first })
+      by_length : KnowsLength e v → KnowsLength (with_head (renewed_head w.opened now response.fields e.head) e) z
+      by_length (reported same) = reported same
+      by_length (unreported u) = unreported (record { gone = u.gone; unreported = u.unreported; total = u.total; known = u.known; came = u.came; first = u.first })
 
   entries_renewed : (a b : Shelf) (e : Kept) → a.kept r ≡ Some e → KeepsEntries t a → shelf.Becomes (option_map (with_head (renewed_head w.opened now response.fields e.head))) same_order r a b → KeepsEntries s b
   unfolding bound kind_of
   entries_renewed a b e at kept becomes = record {
     each = λ q. elim (same_or r q) [
       | inl same_q ↦ subst (λ n. KeepsEntry s n (b.kept n) (s.representation n)) same_q its
-      | inr ne ↦ rw (becomes.kept q, eqb-other r q ne) (entry_same t s q (a.kept q) (t.representation q) refl (record { users = λ d. refl; first = λ d. first_by t s (told_same status_in refl) q (t.consumer d); list = refl; kind = λ p there. refl; overs = λ y on. on }) (kept.each q))
+      | inr ne ↦ rw (becomes.kept q, eqb-other r q ne) (entry_same t s q (a.kept q) (t.representation q) refl (record { users = λ d. refl; first = λ d. first_by t s (reported_same status_in refl) q (t.consumer d); list = refl; kind = λ p there. refl; overs = λ y on. on }) (kept.each q))
     ];
-    order = becomes.order ∙ (kept.order ∙ sym (filters_same (λ q. is_usable_row (t.representation q)) (λ q. is_usable_row (s.representation q)) (told_same is_usable_row refl) t.used));
+    order = becomes.order ∙ (kept.order ∙ sym (filters_same (λ q. is_usable_row (t.representation q)) (λ q. is_usable_row (s.representation q)) (reported_same is_usable_row refl) t.used));
   }
     where
       its : KeepsEntry s r (b.kept r) (s.representation r)
@@ -102,8 +102,8 @@ stands_renewed r u t now response w q v e row stands rest at becomes =
       last_start = rest.last_start ∙ stands.last_start;
       next = ap (λ z. next_of z) exchanges ∙ stands.next;
       count = ap (λ z. hash_map_len z) consumers ∙ stands.count;
-      consumers = λ d. rw consumers (consumer_same t m (get nat_eq r.consumers d) (t.consumer d) (λ k is. record { past = λ x stood. refl; length = λ n lo hi how stood. told_same t now response w q v row total_in refl n }) (stands.consumers d));
-      exchanges = λ y. rw exchanges (exchange_same t m y (table_of r.exchanges y) (record { row = refl; brings = λ e is. told_same t now response w q v row (λ o. is_some o) refl (family y e); held = held_renewed t now response w q v row y (t.exchange y) }) (stands.exchanges y));
+      consumers = λ d. rw consumers (consumer_same t m (get nat_eq r.consumers d) (t.consumer d) (λ k is. record { past = λ x stood. refl; length = λ n lo hi how stood. reported_same t now response w q v row total_in refl n }) (stands.consumers d));
+      exchanges = λ y. rw exchanges (exchange_same t m y (table_of r.exchanges y) (record { row = refl; brings = λ e is. reported_same t now response w q v row (λ o. is_some o) refl (family y e); held = held_renewed t now response w q v row y (t.exchange y) }) (stands.exchanges y));
       keys = λ key. rw same_keys (key_same t m key (kept_of r.keys key) (record { current = current_same t now response w q v row key; in_line = λ d. refl; passed = λ d. refl; away = λ d. refl; turn = λ d. refl }) (stands.keys key));
       entries = entries_renewed t now response w q v row (shelf_of r.entries) (shelf_of u.entries) e at stands.entries becomes;
     }

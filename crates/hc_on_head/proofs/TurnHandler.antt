@@ -1,7 +1,7 @@
 -- A 304 that may be about what is stored: it is answered.
 --
 -- A 304 has no body, so its exchange is over with it, and by its case the consumer has the turn (`at_turn`). Where what
--- it is about is still current, the entry tells whether it is selected (`tells_selected`). If so, the head is renewed
+-- it is about is still current, the entry tells whether it is selected (`reports_selected`). If so, the head is renewed
 -- and the consumer let through (`validated_answered`). If not, the rows stay, and it is answered as other heads are
 -- (`answered_on`). `validate` joins these; where the store fails, `LoseTurn` has it.
 use Rattle.std.{proofs.{Common.{◌≡◌, inl, inr, ℕ, ◌≤◌, List, [], ◌∷◌, ◌++◌, Bool, true, false, Option, Some, None, Result, Ok, refl, ap, ap₂, sym, ◌∙◌, subst, arith}, Math.Logic.{∥∥₁_map}, lemmas.Bool.Decides.{nat_tests}}, specs.{Prelude.{is_some, IfOk, IsSomeAnd, nat_eq, map, option_map, not, ◌||◌, if◌then◌else◌}, HashMap.{get}}}
@@ -21,9 +21,9 @@ use Rattle.hc_model.specs.Rows as rows
 use Rattle.hc_effects.proofs.{KeysKeep.{current_row}, PollKeeps.{current_stays}, UpdateEffects.{validated}, Tests.{and_false, none_some}}
 use Rattle.hc_state.specs.{declared.rows.Rows.{Rows}, Handlers.{IsInKey}, Facts.{Facts}, Heads.{AwaitsHead, IsAskedBy, IsUnread, unless_over}, Renewals.{KeepsBeside, IsSelected, renewed_head}, Stands.{Answered, KeepsRest, RowsStand, Stands}, Stored.{KeepsEntry, IsEntry, is_usable_kept}}
 use Rattle.hc_state.proofs.{Answering.{does_answered}, Counting.{stands_counted}, Maps.{merely_true}, ReaderSteps.{answered_since, stands_read}}
-use Rattle.hc_on_head.specs.{declared.heard.Heard.{Heard}, Comings.{MayCome}}
+use Rattle.hc_on_head.specs.{declared.arrival.Arrival.{Arrival}, Comings.{MayCome}}
 use Rattle.hc_on_leave.proofs.{HeadCases.{it_is, case_selected, case_unselected}, HeardRows.{Asker, headless_of, runs_as}, RefuseHandler.{stands_refused, closes_as}, UnstoredHandlers.{beside, unread_then, unwritten}}
-use Rattle.hc_on_head.proofs.{HeadTold.{past_of_runs}, RenewedHandler.{stands_renewed}}
+use Rattle.hc_on_head.proofs.{HeadReported.{past_of_runs}, RenewedHandler.{stands_renewed}}
 
 -- WHERE WHAT IS STORED STAYS
 
@@ -107,11 +107,11 @@ module _ {B : Type 0} {g : Ghosts B} {limits : Limits} (r mid thr u : Rows B g) 
 
   pub validated_answered : selects v.head response ≡ true → RowsStand limits thr moved → out ≡ before ++ map act.Close (unless_over x (length_by (table_of thr.exchanges x).running response)) → KeepsRest thr u → u.consumers ≡ thr.consumers → exch.Becomes without_exchange x thr.exchanges u.exchanges
       → Answered limits (shelf_of r.entries).faults u t before out now ev
-  validated_answered on stood told rest consumers becomes =
+  validated_answered on stood reported rest consumers becomes =
       let is = case_selected (head_view t false w response) unselected (rw (cur, aim, eqb-same q, row) on) refl in
-      let tells = told ∙ (ap (λ (ys : List ℕ). before ++ map act.Close ys) (closes_as thr moved x w response stood aw.row aw.is_open ∙ ended)) in
+      let reports = reported ∙ (ap (λ (ys : List ℕ). before ++ map act.Close ys) (closes_as thr moved x w response stood aw.row aw.is_open ∙ ended)) in
       does_answered limits (shelf_of r.entries).faults u t (with_event now ev (with_consumer w.c (Some z) (with_answer now x response w.joined w m))) before out [] now ev
-      (validated limits t facts.law now x response goes w aw.row a.v aw.asker q v aim row is) (unwritten t now x response w case.Validated aw.row is refl) refl tells
+      (validated limits t facts.law now x response goes w aw.row a.v aw.asker q v aim row is) (unwritten t now x response w case.Validated aw.row is refl) refl reports
       (stands_counted u _ now ev refl (subst (λ (ys : List ℕ). RowsStand limits u (all_closed ys (with_answer now x response w.joined w moved))) ended (stands_refused thr u moved now x response w stood unread rest consumers becomes)))
 
   -- IT DOESN'T
@@ -154,7 +154,7 @@ usable_still r key q some_past is = merely_true (is_usable_kept ((shelf_of r.ent
 -- the exchange's key, as the code has it
 pub key_heard : {B : Type 0} {g : Ghosts B} (r : Rows B g) (x : ℕ) (aim : Option ℕ) (found : Option ℕ) → head_refusal (option_map open_view (table_of r.exchanges x).running) ≡ None
     → ((o : Open) → (table_of r.exchanges x).running ≡ Some o → found ≡ (if is_same_number (kept_of r.keys o.request.key).current aim then aim else None)) → (o : Open) × ((table_of r.exchanges x).running ≡ Some o) × (found ≡ (if is_same_number (kept_of r.keys o.request.key).current aim then aim else None))
-key_heard r x aim found accepted tells = let h = headless_of (table_of r.exchanges x).running accepted in (h.o, h.there, tells h.o h.there)
+key_heard r x aim found accepted reports = let h = headless_of (table_of r.exchanges x).running accepted in (h.o, h.there, reports h.o h.there)
 
 -- where it isn't current any more, nothing is selected
 pub unstill_as : {B : Type 0} {g : Ghosts B} {limits : Limits} (r : Rows B g) (t : Tables) (x : ℕ) (o : Open) (w : Exchange) (aim : Option ℕ) (response : Response) → RowsStand limits r t → (table_of r.exchanges x).running ≡ Some o → t.exchange x ≡ Some w → aim ≡ w.aim
@@ -174,7 +174,7 @@ module _ {B : Type 0} {g : Ghosts B} (r mid : Rows B g) (rest : KeepsBeside r mi
   asked_on c x asked = (let exchanges = rest.exchanges in rw exchanges asked)
 
   -- what is heard then
-  pub heard_on : (heard : Heard) → shelf.Stays (shelf_of r.entries) (shelf_of mid.entries) → MayCome r heard → MayCome mid heard
+  pub heard_on : (heard : Arrival) → shelf.Stays (shelf_of r.entries) (shelf_of mid.entries) → MayCome r heard → MayCome mid heard
   heard_on heard same comes = record {
     stands = ∥∥₁_map comes.stands (λ p. past_unrenewed r mid rest same p);
     accepted = accepted_on heard.x comes.accepted;
@@ -204,15 +204,15 @@ pub record IsCurrentStill {B : Type 0} {g : Ghosts B} (r : Rows B g) (t : Tables
 
 pub current_still : {B : Type 0} {g : Ghosts B} {limits : Limits} (r : Rows B g) (t : Tables) (x : ℕ) (o : Open) (w : Exchange) (aim : Option ℕ) (q : ℕ) → RowsStand limits r t → (table_of r.exchanges x).running ≡ Some o → t.exchange x ≡ Some w → aim ≡ w.aim
     → Some q ≡ (if is_same_number (kept_of r.keys o.request.key).current aim then aim else None) → IsCurrentStill r t w q
-current_still r t x o w aim q stands there row about tells =
+current_still r t x o w aim q stands there row about reports =
     let runs = runs_as r t x o w stands there row in
-    let found = still (kept_of r.keys o.request.key).current aim q tells in
+    let found = still (kept_of r.keys o.request.key).current aim q reports in
     let s = still_kept r t o.request.key q stands found.0 in
     record { cur = ap (λ (n : Request). current t n.key) (sym runs.request) ∙ s.cur; named = sym about ∙ found.1; v = s.v; row = s.row; e = s.e; kept = s.kept; is = s.is }
 
 module _ {B : Type 0} {g : Ghosts B} {limits : Limits} (r mid : Rows B g) (t : Tables) (x now : ℕ) (o : Open) (w : Exchange) (q : ℕ) (response : Response) (stands : RowsStand limits r t) (there : (table_of r.exchanges x).running ≡ Some o) (row : t.exchange x ≡ Some w) (s : IsCurrentStill r t w q) where
-  pub tells_selected : (b : Bool) → IsSelected r mid x now q response b → b ≡ selects s.v.head response
-  tells_selected b sel = sel.tells s.e s.kept ∙ selects_same t q s.e s.v response s.is
+  pub reports_selected : (b : Bool) → IsSelected r mid x now q response b → b ≡ selects s.v.head response
+  reports_selected b sel = sel.reports s.e s.kept ∙ selects_same t q s.e s.v response s.is
 
   pub stands_selected : IsSelected r mid x now q response true → RowsStand limits mid (with_representation q (Some (with_refreshed_head now response w s.v)) t)
   stands_selected sel =

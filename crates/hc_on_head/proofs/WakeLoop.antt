@@ -14,9 +14,8 @@ use Rattle.hc_effects.proofs.Vocabulary.{place, back_in_line, is_live, with_cons
 use Rattle.hc_effects.proofs.Tests.{none_some}
 use Rattle.hc_model.specs.Rows as rows
 use Rattle.hc_model.specs.Sound as sound
-use Rattle.hc_state.specs.{declared.{rows.Rows.{Rows}}, Changes.{ChangesAt, ChangesAmong}, Dooms.{KeepsLine, KeepsSomeLine, IsUser, Unbinds}, Kept.{KeepsConsumer}, Leaving.{IsUserAt, UnbindsAt}, Lines.{KeepsKey}, Stored.{KeepsEntries, is_first}}
-use Rattle.hc_txn.specs.declared.transaction.Transaction.{Transaction as Consumer}
-use Rattle.hc_txn.specs.Transactions.{once_over}
+use Rattle.hc_state.specs.{declared.rows.Rows.{Rows}, Changes.{ChangesAt, ChangesAmong}, Dooms.{KeepsLine, KeepsSomeLine, IsUser, Unbinds}, Kept.{KeepsConsumer}, Leaving.{IsUserAt, UnbindsAt}, Lines.{KeepsKey}, Stored.{KeepsEntries, is_first}}
+use Rattle.hc_txn.specs.{declared.transaction.Transaction.{Transaction as Consumer}, Transactions.{once_over}}
 use Rattle.hc_state.proofs.{Dropping.{merely_user, unbinds_limits}, OneOfEach.{entries_same}, Ties.{kept_row}, Unbinding.{entries_unbound, user_kept}}
 use Rattle.hc_on_leave.proofs.SeatLoops.{AreChangedBelow, none_changed, nobody_more, one_more, all_changed, last_or}
 use Rattle.hc_on_head.proofs.Woken.{stands_for, Stood, nobody, back, beside, stays, stood, Waits, waits_of, starts_over, stays_so, waiting_lives}

@@ -18,10 +18,10 @@ use Rattle.hc_state.specs.Founding.{MayFound}
 use Rattle.hc_state.specs.Heads.{IsAskedBy, IsPastStore, IsTimely, is_bad_case, is_past_case, starts_anew}
 use Rattle.hc_state.specs.Joining.{IsAbout, IsAboutKept, joins_hole}
 use Rattle.hc_state.specs.Stands.{Stands, open_at}
-use Rattle.hc_on_head.specs.declared.heard.Heard.{Heard}
+use Rattle.hc_on_head.specs.declared.arrival.Arrival.{Arrival}
 
 -- the rows represent tables, and the exchange is open without a head, for this consumer, which is live
-pub record MayCome {B : Type 0} {g : Ghosts B} (r : Rows B g) (h : Heard) : Type 0 where
+pub record MayCome {B : Type 0} {g : Ghosts B} (r : Rows B g) (h : Arrival) : Type 0 where
   pub stands : ∥ Stands r ∥₁
   pub accepted : head_refusal (open_at r h.x) ≡ None
   pub asker : IsAskedBy h.c (table_of r.exchanges h.x).running
@@ -29,7 +29,7 @@ pub record MayCome {B : Type 0} {g : Ghosts B} (r : Rows B g) (h : Heard) : Type
 
 -- The head is of this case, and isn't a 304 to a conditional request: what that says of the head, of who waits for it,
 -- and of what is stored.
-pub record FitsCase {B : Type 0} {g : Ghosts B} (r : Rows B g) (h : Heard) (k : HeadCase) (response : Response) : Type 0 where
+pub record FitsCase {B : Type 0} {g : Ghosts B} (r : Rows B g) (h : Arrival) (k : HeadCase) (response : Response) : Type 0 where
   pub good : is_bad_case k ≡ false →
       is_bad (length_by (table_of r.exchanges h.x).running response) ≡ false
   pub waits : starts_anew k ≡ true →
@@ -41,7 +41,7 @@ pub record FitsCase {B : Type 0} {g : Ghosts B} (r : Rows B g) (h : Heard) (k : 
   pub validated : k ≡ case.NotValidated → ⊥
 
 -- the head came past the store, and is good unless its case says otherwise
-pub record IsPast {B : Type 0} {g : Ghosts B} (r : Rows B g) (h : Heard) (k : HeadCase) (response : Response) : Type 0 where
+pub record IsPast {B : Type 0} {g : Ghosts B} (r : Rows B g) (h : Arrival) (k : HeadCase) (response : Response) : Type 0 where
   pub opened : IsPastStore (table_of r.exchanges h.x).running
   pub case_is : is_past_case k ≡ true
   pub good : is_bad_case k ≡ false →
@@ -53,12 +53,12 @@ pub record FoundsBy (k : HeadCase) (response : Response) : Type 0 where
   pub may : MayFound response
 
 -- the exchange, where it is open, was opened about q, which is kept
-pub record AsksAbout {B : Type 0} {g : Ghosts B} (r : Rows B g) (h : Heard) (q : ℕ) : Type 0 where
+pub record AsksAbout {B : Type 0} {g : Ghosts B} (r : Rows B g) (h : Arrival) (q : ℕ) : Type 0 where
   pub about : IsAbout q (table_of r.exchanges h.x).running
   pub there : is_kept (shelf_of r.entries) q ≡ true
 
 -- q is kept, and the exchange is open, and was opened by this moment: its head may renew that of q
-pub record MayRenew {B : Type 0} {g : Ghosts B} (r : Rows B g) (h : Heard) (q : ℕ) : Type 0 where
+pub record MayRenew {B : Type 0} {g : Ghosts B} (r : Rows B g) (h : Arrival) (q : ℕ) : Type 0 where
   pub there : is_kept (shelf_of r.entries) q ≡ true
   pub running : is_open h.x (table_of r.exchanges) ≡ true
   pub timely : IsTimely h.now (table_of r.exchanges h.x).running

@@ -9,20 +9,20 @@ ghost use Rattle.hc_state.specs.Stored.{is_usable_kept};
 ghost use Rattle.hc_on_head.specs.Comings.{MayCome};
 
 use crate::asker::send_back;
-use crate::heard::Heard;
+use crate::arrival::Arrival;
 use crate::unstored::refuse;
 use hc_event::{Acts, LostKind, Response};
-use hc_on_leave::lose::lose_writing;
+use hc_on_leave::lose::lose_group;
 use hc_on_leave::seal::lose_to;
 use hc_on_leave::writers::exclusive;
-use hc_on_leave::writing::writing;
+use hc_on_leave::writer_group::writer_group;
 use hc_state::Rows;
 use hc_store::Backend;
 
 /// What a 304 may be about can't be read or updated: it is lost, and whoever asked starts over.
 pub fn lose_asked<B: Backend>(
     rows: &mut Rows<B>,
-    heard: Heard,
+    heard: Arrival,
     response: &Response,
     r: u64,
     out: &mut Acts,
@@ -36,12 +36,12 @@ pub fn lose_asked<B: Backend>(
         (act_list out.new) faults heard.now heard.x r response.now }
     ensures faults { (shelf_of rows.new.entries).faults ≡ (shelf_of rows.old.entries).faults }
 {
-    let writing = writing(rows, r);
+    let writer_group = writer_group(rows, r);
     let alone = exclusive(rows, r);
     send_back(rows, heard.now, heard.c);
     refuse(rows, heard.x, response, out);
-    match writing {
-        Some(x) => lose_writing(rows, heard.now, r, x, LostKind::Fault, out),
+    match writer_group {
+        Some(x) => lose_group(rows, heard.now, r, x, LostKind::Fault, out),
         None => lose_to(rows, heard.now, r, alone, LostKind::Fault, out),
     }
 }

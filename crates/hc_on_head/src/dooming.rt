@@ -7,7 +7,7 @@ ghost use Rattle.hc_state.specs.Stands.{AnswersDooming};
 ghost use Rattle.hc_on_head.specs.Comings.{MayCome, IsPast};
 
 use crate::doom::doom;
-use crate::heard::Heard;
+use crate::arrival::Arrival;
 use crate::unstored::have_answer;
 use hc_event::{Acts, Cause, Place, Response};
 use hc_rules::HeadCase;
@@ -20,7 +20,7 @@ use hc_text::NoMemory;
 pub(crate) fn take_dooming<B: Backend>(
     rows: &mut Rows<B>,
     case: HeadCase,
-    heard: Heard,
+    heard: Arrival,
     response: &Response,
     out: &mut Acts,
 ) -> Result<(), NoMemory>

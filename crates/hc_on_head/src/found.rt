@@ -20,7 +20,7 @@ ghost use Rattle.hc_on_head.specs.Comings.{FoundsBy, MayCome};
 ghost use Rattle.hc_state.specs.Frames.{KeepsFaults};
 
 use crate::asker::fall_back;
-use crate::heard::Heard;
+use crate::arrival::Arrival;
 use crate::unstored::have_answer;
 use hc_event::{Act, Acts, Place, Response};
 use hc_exch::Role;
@@ -39,7 +39,7 @@ use hc_text::NoMemory;
 pub(crate) fn found<B: Backend>(
     rows: &mut Rows<B>,
     case: HeadCase,
-    heard: Heard,
+    heard: Arrival,
     response: &Response,
     goes: Option<u64>,
     out: &mut Acts,
@@ -59,14 +59,14 @@ pub(crate) fn found<B: Backend>(
     fall_back(rows, heard.c, Place::Direct(heard.x));
     let_some_go(rows, heard.now, goes);
     let_some_go(rows, heard.now, current);
-    let told = out.list().len();
+    let reported = out.list().len();
     make_room(rows, heard.now, Write::Slot, out);
     let Err(error) = found_with(rows, heard, response, founding) else {
         return Ok(());
     };
     let (Ok(kind), Ok(answer)) = (lost_kind(error), response.copy()) else {
         // Where memory is wanted, what made room isn't told.
-        out.truncate(told);
+        out.truncate(reported);
         return Err(NoMemory);
     };
     have_answer(rows, heard, response, answer);
@@ -78,7 +78,7 @@ pub(crate) fn found<B: Backend>(
 fn founding<B: Backend>(
     rows: &Rows<B>,
     case: HeadCase,
-    heard: Heard,
+    heard: Arrival,
     response: &Response,
 ) -> Result<Founding, NoMemory>
     requires comes { MayCome rows.now heard }
@@ -104,7 +104,7 @@ fn founding<B: Backend>(
 /// The head of what is founded.
 fn head_founded<B: Backend>(
     rows: &Rows<B>,
-    heard: Heard,
+    heard: Arrival,
     response: &Response,
 ) -> Result<StoredHead, NoMemory>
     requires running { is_open heard.x (table_of rows.now.exchanges) ≡ true }
@@ -163,7 +163,7 @@ fn part_founded<B: Backend>(
 /// brings it, and the consumer reads it.
 fn found_with<B: Backend>(
     rows: &mut Rows<B>,
-    heard: Heard,
+    heard: Arrival,
     response: &Response,
     founding: Founding,
 ) -> Result<(), StoreError>

@@ -20,7 +20,7 @@ ghost use Rattle.hc_state.specs.Frames.{KeepsFaults};
 
 use crate::dooming::take_dooming;
 use crate::found::found;
-use crate::heard::Heard;
+use crate::arrival::Arrival;
 use crate::join::join;
 use crate::turn::validate;
 use crate::unstored::{answer_past, close_hole, go_past, put_down, start_anew};
@@ -54,7 +54,7 @@ pub fn take_head<B: Backend>(
     ensures kept { OnErr result (act_list out.new ≡ act_list out.old) }
 {
     let view = rows.exchanges.view(x).unwrap();
-    let heard = Heard { now, x, c: view.c };
+    let heard = Arrival { now, x, c: view.c };
     let aim = aim_of(view.role);
     let case = case_of(rows, heard, response, aim);
     if dooms(rows, case, x, response) {
@@ -72,7 +72,7 @@ pub fn take_head<B: Backend>(
 fn take_case<B: Backend>(
     rows: &mut Rows<B>,
     case: HeadCase,
-    heard: Heard,
+    heard: Arrival,
     response: &Response,
     goes: Option<u64>,
     out: &mut Acts,
@@ -122,7 +122,7 @@ fn take_case<B: Backend>(
 /// The case of the head, but that a 304 isn't said to select what is stored.
 fn case_of<B: Backend>(
     rows: &Rows<B>,
-    heard: Heard,
+    heard: Arrival,
     response: &Response,
     aim: Option<u64>,
 ) -> HeadCase

@@ -18,7 +18,7 @@ ghost use Rattle.hc_on_head.specs.Comings.{AsksAbout, MayCome, MayRenew};
 ghost use Rattle.hc_state.specs.Frames.{KeepsFaults};
 ghost use Rattle.hc_on_head.specs.Frames.{FailsUnrenewed};
 
-use crate::heard::Heard;
+use crate::arrival::Arrival;
 use crate::turn::renew;
 use hc_event::{Acts, LostKind, Need, Response};
 use hc_exch::Role;
@@ -36,7 +36,7 @@ use hc_text::NoMemory;
 /// on alone.
 pub(crate) fn join<B: Backend>(
     rows: &mut Rows<B>,
-    heard: Heard,
+    heard: Arrival,
     response: &Response,
     r: u64,
     out: &mut Acts,
@@ -88,7 +88,7 @@ fn is_lost<B: Backend>(rows: &Rows<B>, r: u64) -> bool
 /// The stored head is renewed by the one that came, and says that more comes.
 fn renew_growing<B: Backend>(
     rows: &mut Rows<B>,
-    heard: Heard,
+    heard: Arrival,
     response: &Response,
     r: u64,
 ) -> Result<(), StoreError>
@@ -103,7 +103,7 @@ fn renew_growing<B: Backend>(
 
 /// The exchange brings the representation from now on, and whoever waited for its head waits for
 /// its key no more.
-fn bring<B: Backend>(rows: &mut Rows<B>, heard: Heard, response: &Response, r: u64)
+fn bring<B: Backend>(rows: &mut Rows<B>, heard: Arrival, response: &Response, r: u64)
     requires live { is_some (get nat_eq rows.old.consumers heard.c) ≡ true }
     requires accepted { head_refusal (open_at rows.old heard.x) ≡ None }
     requires good { is_bad (length_by (table_of rows.old.exchanges heard.x).running
@@ -117,7 +117,7 @@ fn bring<B: Backend>(rows: &mut Rows<B>, heard: Heard, response: &Response, r: u
 }
 
 /// The exchange writes the representation for several from now on.
-fn share<B: Backend>(rows: &mut Rows<B>, heard: Heard, r: u64) -> Result<(), NoMemory>
+fn share<B: Backend>(rows: &mut Rows<B>, heard: Arrival, r: u64) -> Result<(), NoMemory>
     requires there { is_kept (shelf_of rows.old.entries) r ≡ true }
     ensures shares { OnOk result (Shares rows.old rows.new heard.c heard.x r) }
     ensures faults { (shelf_of rows.new.entries).faults ≡ (shelf_of rows.old.entries).faults }
@@ -129,7 +129,7 @@ fn share<B: Backend>(rows: &mut Rows<B>, heard: Heard, r: u64) -> Result<(), NoM
 
 /// The exchange brings all that is missing, for a consumer that asks for the whole: others may
 /// read it too.
-fn resumes<B: Backend>(rows: &Rows<B>, heard: Heard, response: &Response, r: u64) -> bool
+fn resumes<B: Backend>(rows: &Rows<B>, heard: Arrival, response: &Response, r: u64) -> bool
     requires there { is_kept (shelf_of rows.now.entries) r ≡ true }
     requires live { is_some (get nat_eq rows.now.consumers heard.c) ≡ true }
     requires running { is_open heard.x (table_of rows.now.exchanges) ≡ true }

@@ -7,7 +7,7 @@ pub mod doom;
 mod dooming;
 mod found;
 pub mod head;
-mod heard;
+mod arrival;
 mod join;
 mod turn;
 mod unstored;

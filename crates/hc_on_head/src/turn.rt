@@ -19,7 +19,7 @@ ghost use Rattle.hc_on_head.specs.Frames.{FailsUnrenewed};
 
 use crate::asked::lose_asked;
 use crate::asker::let_through;
-use crate::heard::Heard;
+use crate::arrival::Arrival;
 use crate::unstored::{refuse, start_anew};
 use hc_event::{Acts, Response};
 use hc_record::StoredHead;
@@ -33,7 +33,7 @@ use hc_validate::selects;
 /// more, and whoever asked starts over.
 pub(crate) fn validate<B: Backend>(
     rows: &mut Rows<B>,
-    heard: Heard,
+    heard: Arrival,
     response: &Response,
     aim: Option<u64>,
     out: &mut Acts,
@@ -89,7 +89,7 @@ fn still_current<B: Backend>(rows: &Rows<B>, x: u64, aim: Option<u64>) -> Option
 /// Whether the 304 selects what is stored, which it then updates.
 fn select<B: Backend>(
     rows: &mut Rows<B>,
-    heard: Heard,
+    heard: Arrival,
     response: &Response,
     r: u64,
 ) -> Result<bool, StoreError>
@@ -108,7 +108,7 @@ fn select<B: Backend>(
 /// What is stored has this head, renewed by the one that came.
 pub(crate) fn renew<B: Backend>(
     rows: &mut Rows<B>,
-    heard: Heard,
+    heard: Arrival,
     response: &Response,
     r: u64,
     head: StoredHead,

@@ -20,7 +20,7 @@ ghost use Rattle.hc_on_head.specs.Comings.{MayCome};
 ghost use Rattle.hc_on_head.specs.Frames.{ChangesExchanges};
 
 use crate::asker::{fall_back, send_back};
-use crate::heard::Heard;
+use crate::arrival::Arrival;
 use hc_event::{Act, Acts, Cause, Place, Response};
 use hc_exch::Role;
 use hc_on_leave::acts::put;
@@ -31,7 +31,7 @@ use hc_store::Backend;
 use hc_text::NoMemory;
 
 /// A bad head: whoever waits for it is to fail.
-pub fn put_down<B: Backend>(rows: &mut Rows<B>, heard: Heard, response: &Response, out: &mut Acts)
+pub fn put_down<B: Backend>(rows: &mut Rows<B>, heard: Arrival, response: &Response, out: &mut Acts)
     requires comes { MayCome rows.old heard }
     requires room { 1 ≤ spare out.old }
     ensures answers { (g : HeadCase) → puts_down g ≡ true → AnswersCase rows.old rows.new
@@ -45,7 +45,7 @@ pub fn put_down<B: Backend>(rows: &mut Rows<B>, heard: Heard, response: &Respons
 /// An answer that isn't stored goes on past the store. With it this isn't used any more.
 pub fn go_past<B: Backend>(
     rows: &mut Rows<B>,
-    heard: Heard,
+    heard: Arrival,
     response: &Response,
     goes: Option<u64>,
 ) -> Result<(), NoMemory>
@@ -67,7 +67,7 @@ pub fn go_past<B: Backend>(
 /// the head starts over.
 pub fn start_anew<B: Backend>(
     rows: &mut Rows<B>,
-    heard: Heard,
+    heard: Arrival,
     response: &Response,
     goes: Option<u64>,
     out: &mut Acts,
@@ -88,7 +88,7 @@ pub fn start_anew<B: Backend>(
 /// What was shown can't be completed, for this cause. With it this isn't used any more.
 pub fn close_hole<B: Backend>(
     rows: &mut Rows<B>,
-    heard: Heard,
+    heard: Arrival,
     response: &Response,
     cause: Cause,
     goes: Option<u64>,
@@ -109,7 +109,7 @@ pub fn close_hole<B: Backend>(
 /// Whoever reads the exchange past the store has its answer.
 pub fn answer_past<B: Backend>(
     rows: &mut Rows<B>,
-    heard: Heard,
+    heard: Arrival,
     response: &Response,
 ) -> Result<(), NoMemory>
     requires accepted { head_refusal (open_at rows.old heard.x) ≡ None }
@@ -129,7 +129,7 @@ pub fn answer_past<B: Backend>(
 /// Whoever reads the exchange past the store has this copy of its answer.
 pub fn have_answer<B: Backend>(
     rows: &mut Rows<B>,
-    heard: Heard,
+    heard: Arrival,
     response: &Response,
     answer: Response,
 )

@@ -14,10 +14,9 @@ use Rattle.hc_exch.specs.{declared.{role.Role.TheVariants.{the_data as role}, ro
 use Rattle.hc_exch.specs.Exchanges as exch
 use Rattle.hc_model.specs.Effects as effects
 use Rattle.hc_model.specs.Rows as rows
-use Rattle.hc_state.specs.{declared.{rows.Rows.{Rows}}, Changes.{Numbered, ChangesAt}, Heads.{IsReadAlone, EndsInRange, answered_by, end_of_answer, end_from}, Kept.{IsKept, IsRunning, KeepsConsumer, KeepsExchange, KeepsRunning, answer_for, held_for, role_of}, Stands.{RowsStand}}
-use Rattle.hc_txn.specs.declared.transaction.Transaction.{Transaction as Consumer}
-use Rattle.hc_txn.specs.Transactions.{with_answer}
-use Rattle.hc_effects.proofs.{ToldNumbers.{EndsEarly}, Tests.{none_some}}
+use Rattle.hc_state.specs.{declared.rows.Rows.{Rows}, Changes.{Numbered, ChangesAt}, Heads.{IsReadAlone, EndsInRange, answered_by, end_of_answer, end_from}, Kept.{IsKept, IsRunning, KeepsConsumer, KeepsExchange, KeepsRunning, answer_for, held_for, role_of}, Stands.{RowsStand}}
+use Rattle.hc_txn.specs.{declared.transaction.Transaction.{Transaction as Consumer}, Transactions.{with_answer}}
+use Rattle.hc_effects.proofs.{ReportedNumbers.{EndsEarly}, Tests.{none_some}}
 use Rattle.hc_on_leave.proofs.{HeardExchange.{held_empty, held_else, here, others, key_heard, entries_heard}, HeardRows.{headless_of, runs_as, kept_as}}
 use Rattle.hc_state.proofs.{OneOfEach.{stands_then}, QueueHandler.{becomes_by}}
 
@@ -33,7 +32,7 @@ pub known_other : (f : Known → Known) (x y : ℕ) (a b : Exchanges) → exch.B
 known_other f x y a b becomes ne = becomes.table y ∙ rw (eqb-other x y (λ e. ne (sym e))) refl
 
 module _ {B : Type 0} {g : Ghosts B} {limits : Limits} (r u : Rows B g) (t : Tables) (now x : ℕ) (response copied : Response) (w : Exchange) (v : rows.Consumer) (k : Consumer) (o : Open) (l : Length) (mid : Exchanges) (stands : RowsStand limits r t) (alone : IsReadAlone t x w v)
-    (there : get nat_eq r.consumers w.c ≡ Some k) (running : (table_of r.exchanges x).running ≡ Some o) (told : l ≡ length_of w.need w.request response) (copies : copied ≡ response)
+    (there : get nat_eq r.consumers w.c ≡ Some k) (running : (table_of r.exchanges x).running ≡ Some o) (reported : l ≡ length_of w.need w.request response) (copies : copied ≡ response)
     (last : u.last_start ≡ r.last_start) (same_keys : u.keys ≡ r.keys) (same_entries : u.entries ≡ r.entries)
     (turned : exch.Becomes (turned_into role.Direct) x r.exchanges mid) (headed : exch.Becomes (with_good_head l) x mid u.exchanges) (changes : ChangesAt r.consumers u.consumers w.c (answered_by copied l)) where
   abbrev z : Exchange
@@ -57,7 +56,7 @@ module _ {B : Type 0} {g : Ghosts B} {limits : Limits} (r u : Rows B g) (t : Tab
   answer_is = rw (alone.unshown, alone.at, eqb-same x) refl
 
   begins : lo_of s v.place ≡ base_of l
-  begins = rw (alone.at, eqb-same x, told) refl
+  begins = rw (alone.at, eqb-same x, reported) refl
 
   ends : hi_of s v.place ≡ end_of_answer l
   ends = grind (arith, nat_tests)
@@ -80,14 +79,14 @@ module _ {B : Type 0} {g : Ghosts B} {limits : Limits} (r u : Rows B g) (t : Tab
   held_same b over = grind (arith, nat_tests)
 
   reached_is : is_all (promise_of l) 0 ≡ is_reached (promise_of (length_of w.need w.request response)) 0
-  reached_is = all_reached (promise_of l) 0 ∙ ap (λ (q : Length). is_reached (promise_of q) 0) told
+  reached_is = all_reached (promise_of l) 0 ∙ ap (λ (q : Length). is_reached (promise_of q) 0) reported
 
   runs_then : (b : Bool) → is_reached (promise_of (length_of w.need w.request response)) 0 ≡ b → KeepsRunning s x (cond b None (Some opened)) (Some z)
   runs_then true over = rw over refl
   runs_then false over =
       let is_open : z.is_open ≡ true = rw over alone.bare.is_open in
       let role : role.Direct ≡ role_of s x z = rw (alone.bare.unjoined, alone.bare.unfounded) refl in
-      assumption (runs, is_open, role, ap base_of told, ap promise_of told)
+      assumption (runs, is_open, role, ap base_of reported, ap promise_of reported)
 
   exchange_kept : KeepsExchange s x (table_of u.exchanges x)
   exchange_kept = record {
@@ -138,23 +137,23 @@ pub stands_answered_as : {B : Type 0} {g : Ghosts B} {limits : Limits} (r u : Ro
     → is_bad (length_by (table_of r.exchanges x).running response) ≡ false → copied ≡ response → u.last_start ≡ r.last_start → u.keys ≡ r.keys → u.entries ≡ r.entries
     → exch.Becomes (turned_into role.Direct) x r.exchanges mid → (is_bad (length_by (table_of mid x).running response) ≡ false → exch.Becomes (with_good_head (length_by (table_of mid x).running response)) x mid u.exchanges)
     → ChangesAt r.consumers u.consumers c (answered_by copied l) → RowsStand limits u (effects.with_answer now x response w.joined w t)
-stands_answered_as r u t now x c response copied w v op l mid stands alone for_it accepted opens told good copies last same_keys same_entries turned headed changes =
+stands_answered_as r u t now x c response copied w v op l mid stands alone for_it accepted opens reported good copies last same_keys same_entries turned headed changes =
     let h = headless_of (table_of r.exchanges x).running accepted in
     let o = h.o in
     let runs = runs_as r t x o w stands h.there alone.bare.row in
     let same = opened_as op (table_of r.exchanges x).running o opens h.there in
     let k = reader_kept r t w.c x v stands alone.asker alone.at in
-    let told_by : l ≡ length_of o.need o.request response = told ∙ (ap (λ n. length_of n op.request.now response) same.0 ∙ ap (λ q. length_of o.need q response) same.1) in
+    let reported_by : l ≡ length_of o.need o.request response = reported ∙ (ap (λ n. length_of n op.request.now response) same.0 ∙ ap (λ q. length_of o.need q response) same.1) in
     let by_role : Option Open → Length = λ z. length_by (option_map (λ (q : Open). record q { role = role.Direct }) z) response in
     let mid_is : length_by (table_of mid x).running response ≡ length_by (table_of r.exchanges x).running response =
     ap (λ (z : Known). length_by z.running response) (known_here (turned_into role.Direct) x r.exchanges mid turned)
     ∙ (ap by_role h.there ∙ sym (ap (λ (z : Option Open). length_by z response) h.there)) in
     let here_is : length_by (table_of r.exchanges x).running response ≡ length_of o.need o.request response = ap (λ (z : Option Open). length_by z response) h.there in
     stands_answered r u t now x response copied w v k.0 o l mid stands alone k.1 h.there
-    (told_by ∙ (ap (λ n. length_of n o.request response) runs.need ∙ ap (λ q. length_of w.need q response) runs.request)) copies last same_keys same_entries turned
-    (subst (λ (q : Length). exch.Becomes (with_good_head q) x mid u.exchanges) (mid_is ∙ (here_is ∙ sym told_by)) (headed (ap is_bad mid_is ∙ good)))
+    (reported_by ∙ (ap (λ n. length_of n o.request response) runs.need ∙ ap (λ q. length_of w.need q response) runs.request)) copies last same_keys same_entries turned
+    (subst (λ (q : Length). exch.Becomes (with_good_head q) x mid u.exchanges) (mid_is ∙ (here_is ∙ sym reported_by)) (headed (ap is_bad mid_is ∙ good)))
     (subst (λ (d : ℕ). ChangesAt r.consumers u.consumers d (answered_by copied l)) (sym for_it) changes)
 
-pub changes_as_told : (m n : Numbered Consumer) (c : ℕ) (answer : Response) (l : Length) (lo : ℕ) (hi : Option ℕ) → lo ≡ base_of l → hi ≡ end_of_answer l → ChangesAt m n c (with_answer answer lo hi) → ChangesAt m n c (answered_by answer l)
-changes_as_told m n c answer l lo hi begins ends changes =
+pub changes_as_reported : (m n : Numbered Consumer) (c : ℕ) (answer : Response) (l : Length) (lo : ℕ) (hi : Option ℕ) → lo ≡ base_of l → hi ≡ end_of_answer l → ChangesAt m n c (with_answer answer lo hi) → ChangesAt m n c (answered_by answer l)
+changes_as_reported m n c answer l lo hi begins ends changes =
     subst (λ (b : ℕ). ChangesAt m n c (with_answer answer b (end_of_answer l))) begins (subst (λ (e : Option ℕ). ChangesAt m n c (with_answer answer lo e)) ends changes)

@@ -14,9 +14,8 @@ use Rattle.hc_entry.specs.Keys as keys
 use Rattle.hc_entry.specs.{Keys.{kept_of}, Kept.{on_line}, Lines.{come_back}}
 use Rattle.hc_model.specs.Owners as owners
 use Rattle.hc_model.specs.Rows as rows
-use Rattle.hc_state.specs.{declared.{rows.Rows.{Rows}}, Changes.{ChangesAt}, Heads.{AwaitsHead, StandsApart}, Kept.{IsKept, answer_for, unread, unstored_bytes}, Leaving.{LeavesKey, UnbindsAt}, Lines.{is_away_at}, Stands.{RowsStand}}
-use Rattle.hc_txn.specs.declared.transaction.Transaction.{Transaction as Consumer}
-use Rattle.hc_txn.specs.Transactions.{standing_at, once_over}
+use Rattle.hc_state.specs.{declared.rows.Rows.{Rows}, Changes.{ChangesAt}, Heads.{AwaitsHead, StandsApart}, Kept.{IsKept, answer_for, unread, unstored_bytes}, Leaving.{LeavesKey, UnbindsAt}, Lines.{is_away_at}, Stands.{RowsStand}}
+use Rattle.hc_txn.specs.{declared.transaction.Transaction.{Transaction as Consumer}, Transactions.{standing_at, once_over}}
 use Rattle.hc_state.proofs.{Apart.{keys_apart, entries_apart}, ConsumerSteps.{keys_with}, Dropping.{unbinds_limits}, KeySteps.{not_lined, lined, comes_back, says_elsewhere}, QueueHandler.{becomes_by}}
 use Rattle.hc_on_leave.proofs.{HeardRows.{live_at, waits_as, kept_as}, OneConsumer.{HoldsAsMuch, stands_moved}, HeardExchange.{drop_none}}
 

@@ -6,9 +6,8 @@ use Rattle.hc_store.specs.declared.backend.Backend.{Ghosts}
 use Rattle.hc_stored.specs.Entries.{shelf_of}
 use Rattle.hc_entry.specs.Keys.{kept_of}
 use Rattle.hc_model.specs.Rows as rows
-use Rattle.hc_state.specs.{declared.{rows.Rows.{Rows}}, Changes.{ChangesAt}, Kept.{IsKept}, Lines.{KeepsKey}, Stands.{RowsStand}, Stored.{is_first}}
-use Rattle.hc_txn.specs.declared.transaction.Transaction.{Transaction as Consumer}
-use Rattle.hc_txn.specs.Transactions.{with_due}
+use Rattle.hc_state.specs.{declared.rows.Rows.{Rows}, Changes.{ChangesAt}, Kept.{IsKept}, Lines.{KeepsKey}, Stands.{RowsStand}, Stored.{is_first}}
+use Rattle.hc_txn.specs.{declared.transaction.Transaction.{Transaction as Consumer}, Transactions.{with_due}}
 use Rattle.hc_state.proofs.{ConsumerSteps.{key_with, key_stays}, OneOfEach.{entries_same}, QueueHandler.{becomes_by}}
 use Rattle.hc_on_leave.proofs.OneConsumer.{stands_moved}
 

@@ -378,7 +378,7 @@ module _ (limits : Limits) (t : Tables) (facts : Facts limits t) (now x : ℕ) (
           }
 
     -- and the store refuses it
-    module _ (u : Rows B b) (kind : LostKind) (out : List Act) (rows_then : RowsStand limits u (with_answer now x response w.joined w roomy)) (told : out ≡ mid ++ (act.Lost x kind ∷ [])) (may : may_lose (room_for limits t now ev) kind ≡ true) (caused : is_fault (Loses x kind) ≡ true → faults < (shelf_of u.entries).faults) where
+    module _ (u : Rows B b) (kind : LostKind) (out : List Act) (rows_then : RowsStand limits u (with_answer now x response w.joined w roomy)) (reported : out ≡ mid ++ (act.Lost x kind ∷ [])) (may : may_lose (room_for limits t now ev) kind ≡ true) (caused : is_fault (Loses x kind) ≡ true → faults < (shelf_of u.entries).faults) where
       lost_tables : let_all_go now (evicted limits t now ev) (let_some_go now (current t w.request.key) (let_some_go now (replaces w g) (with_consumer w.c (Some fallback_row) (with_answer now x response w.joined w t)))) ≡ with_answer now x response w.joined w roomy
       lost_tables = grind (arith, nat_tests, last_first, past_last, all_left, m_is)
 
@@ -392,7 +392,7 @@ module _ (limits : Limits) (t : Tables) (facts : Facts limits t) (now x : ℕ) (
           let none = unfounded limits t facts now x w v awaits as_gone in
           record {
             flaw = Loses x kind;
-            acts = told ∙ (ap (λ ys. ys ++ (act.Lost x kind ∷ [])) gives.acts
+            acts = reported ∙ (ap (λ ys. ys ++ (act.Lost x kind ∷ [])) gives.acts
                 ∙ (append_assoc before (map act.Evicted (es limits t facts now x w v awaits as_gone)) (act.Lost x kind ∷ [])
                 ∙ ap (λ ys. before ++ ys) (ap (λ rs. map act.Evicted rs ++ (act.Lost x kind ∷ [])) (sym evicts_left) ∙ sym done.acts_are)));
             shown = ap flaw_in done.acts_are ∙ evicts_lossy (evicted limits t now ev) x kind;
@@ -402,5 +402,5 @@ module _ (limits : Limits) (t : Tables) (facts : Facts limits t) (now x : ℕ) (
           }
 
     -- it is full where the store says so
-    pub full_told : limits.max_total < (shelf_of a.entries).used + 32768 → may_lose (room_for limits t now ev) kinds.Full ≡ true
-    full_told past = ap (λ (e : Room). may_lose e kinds.Full) (room_is_left ∙ slot_none limits now left (make_second limits t facts now x w v awaits as_gone) (subst (λ n. limits.max_total < n + 32768) used_left past))
+    pub full_reported : limits.max_total < (shelf_of a.entries).used + 32768 → may_lose (room_for limits t now ev) kinds.Full ≡ true
+    full_reported past = ap (λ (e : Room). may_lose e kinds.Full) (room_is_left ∙ slot_none limits now left (make_second limits t facts now x w v awaits as_gone) (subst (λ n. limits.max_total < n + 32768) used_left past))

@@ -10,19 +10,17 @@ use Rattle.hc_effects.proofs.Vocabulary.{brings_part, Limits, Need, Request, Res
 use Rattle.hc_effects.proofs.Tests.{and_false}
 use Rattle.hc_store.specs.declared.backend.Backend.{Ghosts}
 use Rattle.hc_sparse.specs.Cells.{Covers, nothing}
-use Rattle.hc_text.specs.Sorted.{has}
+use Rattle.hc_text.specs.Sorted.{has, itself}
 use Rattle.hc_record.specs.{Head.{Head, sealed_head}, Plain.{plain}, declared.kind.Kind.TheVariants.{the_data as kinds}}
 use Rattle.hc_rules.proofs.RangeReads.{bytes_eq-same, same_bytes}
 use Rattle.hc_stored.specs.{Entries.{shelf_of}, Kept.{Kept, alone_if, founded_kept}}
-use Rattle.hc_text.specs.Sorted.{itself}
 use Rattle.hc_entry.specs.{Keys.{kept_of}, Kept.{with_current}}
 use Rattle.hc_entry.specs.Kept as keyed
 use Rattle.hc_exch.specs.{declared.{role.Role.TheVariants.{the_data as role}, row.Open.{Open}}, Exchanges.{table_of}, Known.{Known, is_all, length_by}}
 use Rattle.hc_model.specs.{Heads.{founded_head}, Effects.{with_answer}}
 use Rattle.hc_model.specs.Rows as rows
-use Rattle.hc_state.specs.{declared.{rows.Rows.{Rows}, founded.Founding.{Founding}}, Changes.{BecomesAt}, Founding.{BeginsFounding, brings_body, head_by, total_by, kind_begun, writer_by}, Heads.{IsReadAlone}, Kept.{IsKept, IsRunning, KeepsConsumer, KeepsExchange, KeepsRunning, answer_for, held_alone, held_for, held_of, unread, unstored_bytes, role_of}, Lines.{KeepsKey, has_turn, is_away, is_passed}, Stands.{RowsStand}, Stored.{IsEntry, KeepsEntry, KeepsEntries, is_first, is_usable_row, as_written, TellsLength, TellsWriter}}
-use Rattle.hc_txn.specs.declared.transaction.Transaction.{Transaction as Consumer}
-use Rattle.hc_txn.specs.Transactions.{founding as founds_with}
+use Rattle.hc_state.specs.{declared.{rows.Rows.{Rows}, founded.Founding.{Founding}}, Changes.{BecomesAt}, Founding.{BeginsFounding, brings_body, head_by, total_by, kind_begun, writer_by}, Heads.{IsReadAlone}, Kept.{IsKept, IsRunning, KeepsConsumer, KeepsExchange, KeepsRunning, answer_for, held_alone, held_for, held_of, unread, unstored_bytes, role_of}, Lines.{KeepsKey, has_turn, is_away, is_passed}, Stands.{RowsStand}, Stored.{IsEntry, KeepsEntry, KeepsEntries, is_first, is_usable_row, as_written, KnowsLength, KnowsWriter}}
+use Rattle.hc_txn.specs.{declared.transaction.Transaction.{Transaction as Consumer}, Transactions.{founding as founds_with}}
 use Rattle.hc_state.specs.Stored as stored
 use Rattle.hc_on_leave.proofs.{AnswerHandler.{all_reached}, HeardExchange.{entries_heard, key_heard, held_empty}, HeardRows.{runs_as, kept_as}}
 use Rattle.hc_state.proofs.{Fallbacks.{unstored_moved}, FallbackSteps.{live_same}, KeySteps.{IsUnsaid, apart_unsaid}, OneOfEach.{bound_same, kind_same}, QueueHandler.{becomes_by}, Ties.{consumer_same, entry_same, exchange_same}}
@@ -55,7 +53,7 @@ filters_but f h x (n ∷ ns) off same = by_number (same_or n x) (filters_but f h
     by_number (inr ne) rest = rw (eqb-other n x ne) (by_test ne (f n) refl rest)
 
 module _ {B : Type 0} {g : Ghosts B} {limits : Limits} (a u : Rows B g) (m : Tables) (now x : ℕ) (response : Response) (w : Exchange) (past : rows.Consumer) (k : Consumer) (o : Open) (f : Founding) (l : Length)
-    (stands : RowsStand limits a m) (alone : IsReadAlone m x w past) (fresh : IsUnfounded m x) (there : get nat_eq a.consumers w.c ≡ Some k) (running : (table_of a.exchanges x).running ≡ Some o) (told : l ≡ length_of w.need w.request response)
+    (stands : RowsStand limits a m) (alone : IsReadAlone m x w past) (fresh : IsUnfounded m x) (there : get nat_eq a.consumers w.c ≡ Some k) (running : (table_of a.exchanges x).running ≡ Some o) (reported : l ≡ length_of w.need w.request response)
     (key_is : f.key ≡ o.request.key) (head_is : plain f.head ≡ head_by o now response) (shares : f.shared ≡ not (brings_part response.status)) (ends : option_or f.hi (founded_total w response) ≡ f.hi) (empties : promise_in w response ≡ Some 0 → founded_total w response ≡ Some 0)
     (begins : BeginsFounding a u x w.c f response) (length_is : length_by (table_of a.exchanges x).running response ≡ l) (limits_are : (shelf_of a.entries).limits ≡ limits) where
   abbrev z : Exchange
@@ -146,7 +144,7 @@ module _ {B : Type 0} {g : Ghosts B} {limits : Limits} (a u : Rows B g) (m : Tab
   -- THE EXCHANGE
 
   reached_is : is_all (promise_of l) 0 ≡ is_reached (promise_in w response) 0
-  reached_is = all_reached (promise_of l) 0 ∙ ap (λ (n : Length). is_reached (promise_of n) 0) told
+  reached_is = all_reached (promise_of l) 0 ∙ ap (λ (n : Length). is_reached (promise_of n) 0) reported
 
   abbrev opened : Open
   opened = record o { role = role.Body x; headed = true; base = base_of l; promised = promise_of l }
@@ -165,7 +163,7 @@ module _ {B : Type 0} {g : Ghosts B} {limits : Limits} (a u : Rows B g) (m : Tab
   runs_then false over =
       let is_open : z.is_open ≡ true = rw over alone.bare.is_open in
       let role : role.Body x ≡ role_of s x z = rw (alone.bare.unjoined, eqb-same x) refl in
-      assumption (runs, is_open, role, ap base_of told, ap promise_of told)
+      assumption (runs, is_open, role, ap base_of reported, ap promise_of reported)
 
   held_none : held_for s x (Some z) ≡ []
   held_none = rw (alone.bare.unjoined, eqb-same x) refl
@@ -319,8 +317,8 @@ module _ {B : Type 0} {g : Ghosts B} {limits : Limits} (a u : Rows B g) (m : Tab
   kind_is : (plain f.head).kind ≡ kind_begun (promise_in w response)
   kind_is = ap (λ (h : Head). h.kind) head_is ∙ ap₂ (λ (n : Need) (e : Request). kind_begun (promise_of (length_of n e response))) runs.need runs.request
 
-  total_told : (plain f.head).total ≡ v.head.total
-  total_told = ap (λ (h : Head). h.total) head_is ∙ total_is
+  total_reported : (plain f.head).total ≡ v.head.total
+  total_reported = ap (λ (h : Head). h.total) head_is ∙ total_is
 
   grows : is_growing s x ≡ not (is_reached (promise_in w response) 0)
   grows = by_test (is_reached (promise_in w response) 0) refl
@@ -375,7 +373,7 @@ module _ {B : Type 0} {g : Ghosts B} {limits : Limits} (a u : Rows B g) (m : Tab
   whole_then n whole total = by_promise (promise_in w response) refl
     where
       none_in : founded_total w response ≡ Some 0 → Covers nothing 0 n
-      none_in all p low high = (let same : n ≡ 0 = some_is n 0 (sym total ∙ (total_told ∙ all)) in absurd (omega (arith, same, high)))
+      none_in all p low high = (let same : n ≡ 0 = some_is n 0 (sym total ∙ (total_reported ∙ all)) in absurd (omega (arith, same, high)))
 
       by_promise : (p : Option ℕ) → promise_in w response ≡ p → Covers nothing 0 n
       by_promise None is = absurd (let never : kinds.Growing ≡ kinds.Whole = sym (kind_is ∙ ap kind_begun is) ∙ whole in cc)
@@ -426,8 +424,8 @@ module _ {B : Type 0} {g : Ghosts B} {limits : Limits} (a u : Rows B g) (m : Tab
   began_kept =
       let used : false ≡ true → bound s x ≢ [] = λ gone. false_true gone in
       let key : began.key ≡ v.key = key_is ∙ ap (λ (e : Request). e.key) runs.request in
-      let length : TellsLength began v = stored.told total_told in
-      let writer : TellsWriter s.exchange began.writer v.writer = as_written began_writer in
+      let length : KnowsLength began v = stored.reported total_reported in
+      let writer : KnowsWriter s.exchange began.writer v.writer = as_written began_writer in
       assumption (used, key, head_sealed, length, kind_then, whole_then, began_bound, began_first, writer)
 
   entries_kept : KeepsEntries s (shelf_of u.entries)

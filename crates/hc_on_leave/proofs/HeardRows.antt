@@ -13,7 +13,7 @@ use Rattle.hc_exch.specs.{declared.row.Open.{Open}, Exchanges.{table_of}, Known.
 use Rattle.hc_model.specs.Owners as owners
 use Rattle.hc_model.specs.Rows as rows
 use Rattle.hc_effects.proofs.{FirstKeeps.{is_new}, Tests.{none_some}, EventsKeep.{no_head}}
-use Rattle.hc_state.specs.{declared.{rows.Rows.{Rows}}, Facts.{Facts}, Heads.{AwaitsHead, IsAskedBy}, Kept.{IsKept, IsRunning, KeepsConsumer, KeepsRunning}, Stands.{RowsStand}}
+use Rattle.hc_state.specs.{declared.rows.Rows.{Rows}, Facts.{Facts}, Heads.{AwaitsHead, IsAskedBy}, Kept.{IsKept, IsRunning, KeepsConsumer, KeepsRunning}, Stands.{RowsStand}}
 use Rattle.hc_txn.specs.declared.transaction.Transaction.{Transaction as Consumer}
 
 -- WHAT ISN'T DENIED

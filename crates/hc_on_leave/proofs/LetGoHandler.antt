@@ -9,20 +9,18 @@ use Rattle.hc_text.proofs.Basics.{eqb-same, false_true, mapped, some_inj as some
 use Rattle.hc_effects.proofs.Vocabulary.{Limits, Place, back_in_line, current, is_usable, total_in, is_live, as_gone, let_go, unless_it, family, MayLetGo, is_in_line, holds_turn, Queues, has_passed, Tables, Exchange, Representation, status_in, bound, kind_of, place}
 use Rattle.hc_store.specs.declared.backend.Backend.{Ghosts}
 use Rattle.hc_stored.specs.{Entries.{shelf_of}, Kept.{Kept, is_nobody}, Views.{key_in}, Shelf.{taken_out}}
-use Rattle.hc_text.specs.Sorted.{itself}
+use Rattle.hc_text.specs.Sorted.{itself, is_among, without}
 use Rattle.hc_stored.specs.Kept as kept
 use Rattle.hc_stored.specs.Shelf as shelves
 use Rattle.hc_entry.specs.{declared.keys.KeyTable.{KeyTable}, Keys.{kept_of, line_of}, Kept.{on_line, with_current}, Lines.{is_in, passed_back}}
-use Rattle.hc_text.specs.Sorted.{is_among}
 use Rattle.hc_entry.specs.Keys as keys
 use Rattle.hc_entry.proofs.OrderLemmas.{among-merged}
 use Rattle.hc_exch.specs.Exchanges.{table_of, next_of}
-use Rattle.hc_text.specs.Sorted.{without}
 use Rattle.hc_rules.proofs.RangeReads.{same_bytes, bytes_eq-same}
 use Rattle.hc_model.specs.Effects.{waits_for}
 use Rattle.hc_model.specs.Rows as rows
 use Rattle.hc_effects.proofs.{CurrentKeeps.{usable_row}, IdleNow.{filter_both}, LettingGo.{current_let_go, bound_let_go, live_let_go, current_may, let_go_nothing}, PollKeeps.{find_passes}}
-use Rattle.hc_state.specs.{declared.{rows.Rows.{Rows}}, Changes.{ChangesAmong, over_if_passed}, Kept.{KeepsConsumer, KeepsExchange, held_for}, Lines.{KeepsKey, has_turn, is_passed, is_away}, Stands.{RowsStand}, Stored.{IsEntry, TellsLength, told, untold, KeepsEntry, KeepsEntries, is_first, is_usable_row, is_usable_kept}}
+use Rattle.hc_state.specs.{declared.rows.Rows.{Rows}, Changes.{ChangesAmong, over_if_passed}, Kept.{KeepsConsumer, KeepsExchange, held_for}, Lines.{KeepsKey, has_turn, is_passed, is_away}, Stands.{RowsStand}, Stored.{IsEntry, KnowsLength, reported, unreported, KeepsEntry, KeepsEntries, is_first, is_usable_row, is_usable_kept}}
 use Rattle.hc_txn.specs.declared.transaction.Transaction.{Transaction as Consumer}
 use Rattle.hc_state.proofs.{Fallbacks.{IsAlike, same, fallback, held_gone, users_alike}, BoundLists.{bound_none, bound_some}, OneOfEach.{first_by, kind_same}, Ties.{consumer_same, key_same, entry_same, exchange_same, SaysSame, UsesSame}}
 
@@ -274,9 +272,9 @@ module _ {B : Type 0} {g : Ghosts B} {limits : Limits} (r u : Rows B g) (t : Tab
   uses : (q : ℕ) → UsesSame t s q
   uses q = record { users = λ d. users_alike t s alike q d; first = firsts q; list = bound_let_go now n t may.one_current q; kind = λ w is. kind_same t s q w refl; overs = λ y on. on }
 
-  still_told : TellsLength k v → TellsLength (record k { is_gone = true }) (as_gone v)
-  still_told (told is) = told is
-  still_told (untold is) = untold (record { gone = refl; untold = is.untold; total = is.total; known = is.known; came = is.came; first = is.first })
+  still_reported : KnowsLength k v → KnowsLength (record k { is_gone = true }) (as_gone v)
+  still_reported (reported is) = reported is
+  still_reported (unreported is) = unreported (record { gone = refl; unreported = is.unreported; total = is.total; known = is.known; came = is.came; first = is.first })
 
   gone_here : (b : Bool) → is_nobody k.bound ≡ b → KeepsEntry s n (if b then None else Some (record k { is_gone = true })) (Some (as_gone v))
   gone_here true none = record { gone = refl; unused = bound_let_go now n t may.one_current n ∙ bound_none t n k v entry none }
@@ -287,7 +285,7 @@ module _ {B : Type 0} {g : Ghosts B} {limits : Limits} (r u : Rows B g) (t : Tab
       assumption (
         entry,
         used,
-        still_told entry.length,
+        still_reported entry.length,
         kind,
         (λ (c : ℕ). entry.bound c ∙ sym (users_alike t s alike n c)),
         (λ (c : ℕ). entry.first c ∙ sym (firsts n c)),

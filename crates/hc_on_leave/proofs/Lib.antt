@@ -27,7 +27,7 @@ pub mod PieceKinds
 pub mod StoreHandler
 pub mod LoseParts
 pub mod LoseDetachedReaders
-pub mod TellOffsets
+pub mod ReportOffsets
 pub mod LeftGroup
 pub mod LoseAlone
 pub mod LoseTurn

@@ -4,24 +4,21 @@
 -- and stands where the tables say (`placed_as`), so both name the least of the same consumers (`named`, `members_in`,
 -- `survivor_is`). Since it stands at the end, no byte of its exchange is left that isn't stored for it (`nothing_held`).
 -- `loses_shared` joins these with `stands_parted` of `LoseParts` and the loss of the entry, for `lose_shared`.
-use Rattle.std.{proofs.{Common.{◌≡◌, ℕ, ◌+◌, ◌-◌, ◌≤◌, ◌^◌, List, [], ◌∷◌, drop, min, Bool, true, false, Option, Some, None, refl, ap, ap₂, sym, ◌∙◌, subst, arith}, lemmas.{Bool.{Decides.{nat_tests}}, List.{drop_all}}}, specs.{Prelude.{is_some, is_none, nat_eq, filter, map, option_map, not, IfSome, ◌&&◌, ◌||◌, ◌==◌, if◌then◌else◌}, Option.{option_and_then}, HashMap.{get}}}
+use Rattle.std.{proofs.{Common.{◌≡◌, ℕ, ◌+◌, ◌-◌, ◌≤◌, ◌^◌, List, [], ◌∷◌, drop, min, Bool, true, false, Option, Some, None, refl, ap, ap₂, sym, ◌∙◌, subst, arith}, lemmas.{Bool.Decides.{nat_tests}, List.{drop_all}}}, specs.{Prelude.{is_some, is_none, nat_eq, filter, map, option_map, not, IfSome, ◌&&◌, ◌||◌, ◌==◌, if◌then◌else◌}, Option.{option_and_then}, HashMap.{get}}}
 use Rattle.hc_text.proofs.Basics.{eqb-same, false_true, or_right, same_some as same_row, some_inj as some_is, and_off as then_false}
-use Rattle.hc_effects.proofs.Vocabulary.{Limits, Member, Place, is_number, is_live_place, if_bound, left_with, let_go, writing_lost, base, front, family, MayLetGo, bound, is_bound, is_bound_place, offset, lo_of, Tables, Exchange, Representation, survivor, member, offset_in, cause, place}
-use Rattle.hc_effects.proofs.Tests.{none_some}
+use Rattle.hc_effects.proofs.Vocabulary.{Limits, Member, Place, is_number, is_live_place, if_bound, left_with, let_go, group_lost, base, front, family, MayLetGo, bound, is_bound, is_bound_place, offset, lo_of, Tables, Exchange, Representation, survivor, member, offset_in, cause, place}
+use Rattle.hc_effects.proofs.{Tests.{none_some}, HoleLemmas.{first_from}}
 use Rattle.hc_store.specs.declared.backend.Backend.{Ghosts}
 use Rattle.hc_stored.specs.{declared.entries.Entries.{Entries}, Entries.{shelf_of}, Grouped.{group_of}, Groups.{HasMembers, IsGroupOf, exchange_of}, Kept.{Kept, kept_as_lost}, Shelf.{is_kept}, Views.{bound_in}}
-use Rattle.hc_text.specs.Sorted.{itself}
+use Rattle.hc_text.specs.Sorted.{itself, is_among, has}
 use Rattle.hc_stored.specs.Shelf as shelf
-use Rattle.hc_text.specs.Sorted.{is_among}
-use Rattle.hc_text.specs.Sorted.{has}
 use Rattle.hc_rules.specs.Admissions as members
 use Rattle.hc_model.specs.Rows as rows
-use Rattle.hc_writers.specs.Writing.{Writing, consumer_of}
-use Rattle.hc_writers.specs.Writing as writing
-use Rattle.hc_effects.proofs.HoleLemmas.{first_from}
-use Rattle.hc_state.specs.{declared.{rows.Rows.{Rows}}, Changes.{Numbered}, DetachedReaders.{ChangesEach, MayLoseShared, LosesShared, after_parting}, Kept.{KeepsConsumer, unstored_bytes, held_alone, first_lacking}, Stands.{RowsStand}, Stopped.{HoldsNothing}, Stored.{IsEntry, KeepsEntry, TellsWriter, as_written, forgotten, is_over}}
+use Rattle.hc_writers.specs.Group.{Group, consumer_of}
+use Rattle.hc_writers.specs.Group as writer_group
+use Rattle.hc_state.specs.{declared.rows.Rows.{Rows}, Changes.{Numbered}, DetachedReaders.{ChangesEach, MayLoseShared, LosesShared, after_parting}, Kept.{KeepsConsumer, unstored_bytes, held_alone, first_lacking}, Stands.{RowsStand}, Stopped.{HoldsNothing}, Stored.{IsEntry, KeepsEntry, KnowsWriter, as_written, forgotten, is_over}}
 use Rattle.hc_txn.specs.declared.transaction.Transaction.{Transaction as Consumer}
-use Rattle.hc_on_leave.specs.Telling.{placed, placed_among, told_among}
+use Rattle.hc_on_leave.specs.Reporting.{placed, placed_among, reported_among}
 use Rattle.hc_on_leave.proofs.LoseParts as parts
 use Rattle.hc_state.proofs.{Losing.{may_lost, stands_lost}, ReaderSteps.{stands_read}, TurnTies.{least_alike, least_some, filter_in, among_in}}
 
@@ -99,17 +96,17 @@ survivor_among t q c v is = sym (members_in t v.reach c (bound t q)) ∙ (least_
 -- THE HEIR
 
 -- who is told keeps its number
-pub told_number : (consumers : Numbered Consumer) (cs : List ℕ) (m : Member) → (placed_among consumers cs m).c ≡ m.c
-told_number consumers cs m = by_test (has itself m.c cs) (get nat_eq consumers m.c)
+pub reported_number : (consumers : Numbered Consumer) (cs : List ℕ) (m : Member) → (placed_among consumers cs m).c ≡ m.c
+reported_number consumers cs m = by_test (has itself m.c cs) (get nat_eq consumers m.c)
   where
     by_test : (b : Bool) (o : Option Consumer) → (if b then placed m o else m).c ≡ m.c
     by_test true None = refl
     by_test true (Some k) = refl
     by_test false o = refl
 
-pub told_numbers : (consumers : Numbered Consumer) (cs : List ℕ) (ms : List Member) → map consumer_of (map (placed_among consumers cs) ms) ≡ map consumer_of ms
-told_numbers consumers cs [] = refl
-told_numbers consumers cs (m ∷ ms) = ap₂ (λ (n : ℕ) (ns : List ℕ). n ∷ ns) (told_number consumers cs m) (told_numbers consumers cs ms)
+pub reported_numbers : (consumers : Numbered Consumer) (cs : List ℕ) (ms : List Member) → map consumer_of (map (placed_among consumers cs) ms) ≡ map consumer_of ms
+reported_numbers consumers cs [] = refl
+reported_numbers consumers cs (m ∷ ms) = ap₂ (λ (n : ℕ) (ns : List ℕ). n ∷ ns) (reported_number consumers cs m) (reported_numbers consumers cs ms)
 
 module _ {B : Type 0} {g : Ghosts B} {limits : Limits} (r : Rows B g) (t : Tables) (stands : RowsStand limits r t) (may : MayLetGo t) (q : ℕ) (v : Representation) (row : t.representation q ≡ Some v) (kept : v.is_lost ≡ false) (e : Kept) (there : (shelf_of r.entries).kept q ≡ Some e) where
   is : IsEntry t q e v
@@ -137,15 +134,15 @@ module _ {B : Type 0} {g : Ghosts B} {limits : Limits} (r : Rows B g) (t : Table
   placed_as within m (Some c) (Some k) keeps on = least_of (c.lo + c.given) (offset t k) v.reach (ap₂ (λ (a b : ℕ). a + b) keeps.begins keeps.given) within
 
   -- whom the group answers is the survivor
-  pub survivor_is : (w : Writing) → HasMembers e.bound e.reach (told_among r.consumers e.bound w) → e.reach ≤ 2 ^ 62 → writing.survivor (told_among r.consumers e.bound w) ≡ survivor t q v
+  pub survivor_is : (w : Group) → HasMembers e.bound e.reach (reported_among r.consumers e.bound w) → e.reach ≤ 2 ^ 62 → writer_group.survivor (reported_among r.consumers e.bound w) ≡ survivor t q v
   survivor_is w group within =
       let reach : e.reach ≡ v.reach = is.reach kept in
       let end : w.end ≡ v.reach = group.end ∙ reach in
       let below : v.reach ≤ 2 ^ 62 = subst (λ (n : ℕ). n ≤ 2 ^ 62) reach within in
-      let numbers : map consumer_of w.members ≡ e.bound = sym (told_numbers r.consumers e.bound w.members) ∙ group.members in
+      let numbers : map consumer_of w.members ≡ e.bound = sym (reported_numbers r.consumers e.bound w.members) ∙ group.members in
       least_alike (map consumer_of (filter (members.stands_at w.end) (map (placed_among r.consumers e.bound) w.members))) (map consumer_of (filter (members.stands_at v.reach) (map (member t) (bound t q)))) (λ c.
       ap (λ (n : ℕ). is_among c (map consumer_of (filter (members.stands_at n) (map (placed_among r.consumers e.bound) w.members)))) end
-      ∙ (named (placed_among r.consumers e.bound) stood v.reach e.bound (told_number r.consumers e.bound) (here below) c w.members (λ n on. sym (ap (is_among n) numbers) ∙ on)
+      ∙ (named (placed_among r.consumers e.bound) stood v.reach e.bound (reported_number r.consumers e.bound) (here below) c w.members (λ n on. sym (ap (is_among n) numbers) ∙ on)
       ∙ (ap (λ (ns : List ℕ). stood c && is_among c ns) numbers
       ∙ (ap (λ (b : Bool). stood c && b) (is.bound c ∙ sym (bound_among t q c may))
       ∙ sym (members_in t v.reach c (bound t q))))))
@@ -157,7 +154,7 @@ module _ {B : Type 0} {g : Ghosts B} {limits : Limits} (r : Rows B g) (t : Table
 
 module _ (t : Tables) (q x : ℕ) (v : Representation) (loses : MayLoseShared t q x v) where
   abbrev z : Tables
-  z = writing_lost q (survivor t q v) (Some x) t
+  z = group_lost q (survivor t q v) (Some x) t
 
   eq_true : (a b : ℕ) → (a == b) ≡ true → a ≡ b
   eq_true a b on = grind (arith, nat_tests, on)
@@ -217,9 +214,9 @@ module _ (t : Tables) (q x : ℕ) (v : Representation) (loses : MayLoseShared t 
 -- ALL OF IT
 
 -- what is kept names the exchange that writes it
-writer_kept : (t : Tables) (x : ℕ) (w : Exchange) (mine told : Option ℕ) → TellsWriter t.exchange mine told → told ≡ Some x → t.exchange x ≡ Some w → w.is_open ≡ true → mine ≡ Some x
-writer_kept t x w mine told (as_written same) named row opened = same ∙ named
-writer_kept t x w mine told (forgotten y none at over) named row opened =
+writer_kept : (t : Tables) (x : ℕ) (w : Exchange) (mine reported : Option ℕ) → KnowsWriter t.exchange mine reported → reported ≡ Some x → t.exchange x ≡ Some w → w.is_open ≡ true → mine ≡ Some x
+writer_kept t x w mine reported (as_written same) named row opened = same ∙ named
+writer_kept t x w mine reported (forgotten y none at over) named row opened =
     let one : y ≡ x = some_is y x (sym at ∙ named) in
     let open_still : is_over (t.exchange y) ≡ not w.is_open = ap is_over (ap t.exchange one ∙ row) in
     false_true (ap not (sym opened) ∙ (sym open_still ∙ over))
@@ -228,19 +225,19 @@ bound_lost : (o : Option ℕ) (k : Option Kept) → bound_in (option_map (kept_a
 bound_lost o None = refl
 bound_lost o (Some k) = refl
 
-pub loses_shared : {B : Type 0} {g : Ghosts B} {limits : Limits} (r u : Rows B g) (told lost : Entries B g) (consumers : Numbered Consumer) (t : Tables) (now q x : ℕ) (v : Representation) (o : Option ℕ) → MayLoseShared t q x v → RowsStand limits r t → is_kept (shelf_of r.entries) q ≡ true
-    → shelf.Stays (shelf_of r.entries) (shelf_of told) → group_of told q ≡ option_map (told_among r.consumers (bound_in ((shelf_of r.entries).kept q))) (group_of r.entries q) → IfSome ((shelf_of told).kept q) (IsGroupOf (group_of told q))
-    → o ≡ option_and_then writing.survivor (group_of told q) → shelf.Becomes (option_map (kept_as_lost o)) shelf.same_order q (shelf_of told) (shelf_of lost)
+pub loses_shared : {B : Type 0} {g : Ghosts B} {limits : Limits} (r u : Rows B g) (reported lost : Entries B g) (consumers : Numbered Consumer) (t : Tables) (now q x : ℕ) (v : Representation) (o : Option ℕ) → MayLoseShared t q x v → RowsStand limits r t → is_kept (shelf_of r.entries) q ≡ true
+    → shelf.Stays (shelf_of r.entries) (shelf_of reported) → group_of reported q ≡ option_map (reported_among r.consumers (bound_in ((shelf_of r.entries).kept q))) (group_of r.entries q) → IfSome ((shelf_of reported).kept q) (IsGroupOf (group_of reported q))
+    → o ≡ option_and_then writer_group.survivor (group_of reported q) → shelf.Becomes (option_map (kept_as_lost o)) shelf.same_order q (shelf_of reported) (shelf_of lost)
     → ChangesEach r.consumers consumers (λ d. has itself d (bound_in ((shelf_of lost).kept q))) (after_parting o x (cause.StoreWrite q))
     → ((limits : Limits) (s : Tables) → MayLetGo s → RowsStand limits (record r { entries = lost; consumers = consumers }) s → RowsStand limits u (let_go now q s))
     → LosesShared limits u t now q x v o
-loses_shared {B} {g} {limits} r u told lost consumers t now q x v o may stands there stays group grouped answer changed changes goes = by_kept ((shelf_of r.entries).kept q) refl there
+loses_shared {B} {g} {limits} r u reported lost consumers t now q x v o may stands there stays group grouped answer changed changes goes = by_kept ((shelf_of r.entries).kept q) refl there
   where
     asked : Rows B g
-    asked = record r { entries = told }
+    asked = record r { entries = reported }
 
     parted : Rows B g
-    parted = record r { entries = told; consumers = consumers }
+    parted = record r { entries = reported; consumers = consumers }
 
     over : Rows B g
     over = record r { entries = lost; consumers = consumers }
@@ -251,15 +248,15 @@ loses_shared {B} {g} {limits} r u told lost consumers t now q x v o may stands t
     by_kept : (k : Option Kept) → (shelf_of r.entries).kept q ≡ k → is_some k ≡ true → LosesShared limits u t now q x v o
     by_kept None at on = false_true on
     by_kept (Some e) at on =
-        let now_at : (shelf_of told).kept q ≡ Some e = stays.kept q ∙ at in
+        let now_at : (shelf_of reported).kept q ≡ Some e = stays.kept q ∙ at in
         let entry : IsEntry t q e v = subst (λ k. KeepsEntry t q k (Some v)) at (subst (KeepsEntry t q ((shelf_of r.entries).kept q)) may.there (stands.entries.each q)) in
-        let of_group : IsGroupOf (group_of told q) e = subst (λ k. IfSome k (IsGroupOf (group_of told q))) now_at grouped in
+        let of_group : IsGroupOf (group_of reported q) e = subst (λ k. IfSome k (IsGroupOf (group_of reported q))) now_at grouped in
         let same : o ≡ survivor t q v = by_group e at entry of_group (group_of r.entries q) refl in
-        let z : Tables = writing_lost q o (Some x) t in
-        let lost_as : (shelf_of lost).kept q ≡ option_map (kept_as_lost o) ((shelf_of told).kept q) = changed.kept q ∙ rw (eqb-same q) refl in
-        let bound_as : bound_in ((shelf_of lost).kept q) ≡ e.bound = ap bound_in lost_as ∙ (bound_lost o ((shelf_of told).kept q) ∙ ap bound_in now_at) in
+        let z : Tables = group_lost q o (Some x) t in
+        let lost_as : (shelf_of lost).kept q ≡ option_map (kept_as_lost o) ((shelf_of reported).kept q) = changed.kept q ∙ rw (eqb-same q) refl in
+        let bound_as : bound_in ((shelf_of lost).kept q) ≡ e.bound = ap bound_in lost_as ∙ (bound_lost o ((shelf_of reported).kept q) ∙ ap bound_in now_at) in
         let alike : (d : ℕ) → has itself d (bound_in ((shelf_of lost).kept q)) ≡ is_bound q (t.consumer d) = λ d. ap (has itself d) bound_as ∙ entry.bound d in
-        let nothing : HoldsNothing z q v o = subst (λ (n : Option ℕ). HoldsNothing (writing_lost q n (Some x) t) q v n) (sym same) (nothing_held t q x v may) in
+        let nothing : HoldsNothing z q v o = subst (λ (n : Option ℕ). HoldsNothing (group_lost q n (Some x) t) q v n) (sym same) (nothing_held t q x v may) in
         record {
           detached_reader_is = same;
           rows = goes _ _ (may_lost z q v o may.there (parts.may_part t q x o may.may))
@@ -268,13 +265,13 @@ loses_shared {B} {g} {limits} r u told lost consumers t now q x v o may stands t
               may.nobody nothing refl refl refl refl changed (ap (λ k. is_some k) now_at));
         }
       where
-        by_group : (e : Kept) → (shelf_of r.entries).kept q ≡ Some e → IsEntry t q e v → IsGroupOf (group_of told q) e → (w : Option Writing) → group_of r.entries q ≡ w → o ≡ survivor t q v
+        by_group : (e : Kept) → (shelf_of r.entries).kept q ≡ Some e → IsEntry t q e v → IsGroupOf (group_of reported q) e → (w : Option Group) → group_of r.entries q ≡ w → o ≡ survivor t q v
         by_group e at entry of_group w was =
-            let mine : exchange_of (group_of told q) ≡ Some x = of_group.exchange ∙ writer_kept t x may.w e.writer v.writer entry.writer may.writes may.row may.opened in
-            by_told w (group ∙ ap₂ (λ (k : Option Kept) (n : Option Writing). option_map (told_among r.consumers (bound_in k)) n) at was) mine
+            let mine : exchange_of (group_of reported q) ≡ Some x = of_group.exchange ∙ writer_kept t x may.w e.writer v.writer entry.writer may.writes may.row may.opened in
+            by_reported w (group ∙ ap₂ (λ (k : Option Kept) (n : Option Group). option_map (reported_among r.consumers (bound_in k)) n) at was) mine
           where
-            by_told : (n : Option Writing) → group_of told q ≡ option_map (told_among r.consumers e.bound) n → exchange_of (group_of told q) ≡ Some x → o ≡ survivor t q v
-            by_told None told_as has_one = none_some x (sym (ap exchange_of told_as) ∙ has_one)
-            by_told (Some n) told_as has_one =
-                let members_are : HasMembers e.bound e.reach (told_among r.consumers e.bound n) = subst (λ (h : Option Writing). IfSome h (HasMembers e.bound e.reach)) told_as (of_group.members (entry.is_lost ∙ may.kept)) in
-                answer ∙ (ap (option_and_then writing.survivor) told_as ∙ survivor_is r t stands may.may q v may.there may.kept e at n members_are of_group.within)
+            by_reported : (n : Option Group) → group_of reported q ≡ option_map (reported_among r.consumers e.bound) n → exchange_of (group_of reported q) ≡ Some x → o ≡ survivor t q v
+            by_reported None reported_as has_one = none_some x (sym (ap exchange_of reported_as) ∙ has_one)
+            by_reported (Some n) reported_as has_one =
+                let members_are : HasMembers e.bound e.reach (reported_among r.consumers e.bound n) = subst (λ (h : Option Group). IfSome h (HasMembers e.bound e.reach)) reported_as (of_group.members (entry.is_lost ∙ may.kept)) in
+                answer ∙ (ap (option_and_then writer_group.survivor) reported_as ∙ survivor_is r t stands may.may q v may.there may.kept e at n members_are of_group.within)

@@ -7,7 +7,7 @@
 use Rattle.std.{proofs.{lemmas.{Bool.Decides.{nat_tests}, List.{append-nil}}, Common.{arith, ◌≡◌, ◌≢◌, inl, inr, ℕ, ◌<◌, List, [], ◌∷◌, ◌++◌, Bool, true, false, Option, Some, None, refl, ap, ap₂, sym, ◌∙◌, subst}}, specs.Prelude.{is_some, is_none, nat_eq, map, option_map, not, ◌&&◌, ◌||◌, ◌==◌, if◌then◌else◌}}
 use mathlib.Core.Path.{fun_ext}
 use Rattle.hc_text.proofs.Basics.{eqb-other, eqb-same, false_true, same_or, same_some as same_row, and_off as then_false}
-use Rattle.hc_effects.proofs.Vocabulary.{Limits, Act, LostKind, Event, Response, head_case, length_of, is_head, is_same_number, Place, has_loss, head_view, is_founding, is_joining, case_at, back_in_line, current, denial, with_event, all_closed, with_answer, with_consumer, with_representation, writing_lost, let_go, lost_to, unless_ended, unless_survived, back_from, promise_in, family, is_reached, is_headless, Loses, entry_of, brings_to, MayLetGo, IsAwaiting, bound, is_bound, is_bound_place, is_written, writing_in, Tables, Exchange, Representation, is_kept, IsGrowing, exclusive, survivor, offset_in, written_representation, head_writes, may_validate, lossless, act, kind, event, case, route, place, by}
+use Rattle.hc_effects.proofs.Vocabulary.{Limits, Act, LostKind, Event, Response, head_case, length_of, is_head, is_same_number, Place, has_loss, head_view, is_founding, is_joining, case_at, back_in_line, current, denial, with_event, all_closed, with_answer, with_consumer, with_representation, group_lost, let_go, lost_to, unless_ended, unless_survived, back_from, promise_in, family, is_reached, is_headless, Loses, entry_of, brings_to, MayLetGo, IsAwaiting, bound, is_bound, is_bound_place, is_written, group_in, Tables, Exchange, Representation, is_kept, IsGrowing, exclusive, survivor, offset_in, written_representation, head_writes, may_validate, lossless, act, kind, event, case, route, place, by}
 use Rattle.hc_store.specs.declared.backend.Backend.{Ghosts}
 use Rattle.hc_stored.specs.Entries.{shelf_of}
 use Rattle.hc_exch.specs.{Exchanges.{table_of}, Known.{length_by, is_open, without_exchange}}
@@ -17,8 +17,8 @@ use Rattle.hc_model.specs.Rows as rows
 use Rattle.hc_model.specs.Exchanges as exchanges
 use Rattle.hc_model.specs.Reading.{is_open_writer}
 use Rattle.hc_effects.proofs.{FirstKeeps.{case_is}, FoundBy.{unchanged_founds}, KeysKeep.{current_row}, LettingGo.{may_let_go}, ExclusiveWriters.{writer_some}, PollKeeps.{current_stays}, UpdateEffects.{validated_lost}, WrittenEffects.{validated_lost_written}, Tests.{none_some}}
-use Rattle.hc_state.specs.{declared.rows.Rows.{Rows}, Facts.{Facts}, Heads.{IsUnread, unless_over}, DetachedReaders.{MayLoseShared, LosesWriting, shared_loss}, Kept.{unstored_bytes}, Leaving.{writing_of}, Stands.{Answered, KeepsRest, RowsStand}, Stopped.{HoldsNothing, NobodyAwaits}}
-use Rattle.hc_state.proofs.{Answering.{lossy_answered}, Fallbacks.{unstored_moved}, Closing.{stands_unstored}, Counting.{stands_counted}, CurrentTies.{stays_stored}, LeftRows.{writing_as}, Maps.{act_and}, TurnTies.{least_alike}}
+use Rattle.hc_state.specs.{declared.rows.Rows.{Rows}, Facts.{Facts}, Heads.{IsUnread, unless_over}, DetachedReaders.{MayLoseShared, LosesGroup, shared_loss}, Kept.{unstored_bytes}, Leaving.{writer_group_of}, Stands.{Answered, KeepsRest, RowsStand}, Stopped.{HoldsNothing, NobodyAwaits}}
+use Rattle.hc_state.proofs.{Answering.{lossy_answered}, Fallbacks.{unstored_moved}, Closing.{stands_unstored}, Counting.{stands_counted}, CurrentTies.{stays_stored}, LeftRows.{group_as}, Maps.{act_and}, TurnTies.{least_alike}}
 use Rattle.hc_on_leave.proofs.{HeadCases.{it_is, parts, case_lost_too}, HeardRows.{Asker}, LoseAlone.{holds_none}, LoseDetachedReaders.{bound_among, members_in}, RefuseHandler.{stands_refused, closes_as}, UnstoredHandlers.{beside, unread_then, may_moved, may_heard}}
 
 -- A WRITING IS LOST
@@ -44,49 +44,49 @@ closes_loss mid u t now r x v detached_reader may stands last consumers same_key
       | inr ne ↦ then_false may.w.is_open (nat_eq (family x may.w) q) (ap (λ (n : ℕ). nat_eq n q) may.of_r ∙ eqb-other r q ne)
     ]
 
-module _ {B : Type 0} {g : Ghosts B} (u : Rows B g) (t : Tables) (before mid out : List Act) (now r x : ℕ) (v : Representation) (why : LostKind) (detached_reader : Option ℕ) (is : detached_reader ≡ survivor t r v) (told : mid ≡ before ++ (act.Lost r why ∷ [])) where
+module _ {B : Type 0} {g : Ghosts B} (u : Rows B g) (t : Tables) (before mid out : List Act) (now r x : ℕ) (v : Representation) (why : LostKind) (detached_reader : Option ℕ) (is : detached_reader ≡ survivor t r v) (reported : mid ≡ before ++ (act.Lost r why ∷ [])) where
   -- somebody goes on
-  pub loses_on : {limits : Limits} → is_none detached_reader ≡ false → out ≡ mid → RowsStand limits u (shared_loss now r x v detached_reader t) → LosesWriting limits u t before out now r x v why
+  pub loses_on : {limits : Limits} → is_none detached_reader ≡ false → out ≡ mid → RowsStand limits u (shared_loss now r x v detached_reader t) → LosesGroup limits u t before out now r x v why
   loses_on {limits = limits} some same stood = by_detached_reader detached_reader some is
     where
-      by_detached_reader : (o : Option ℕ) → is_none o ≡ false → o ≡ survivor t r v → LosesWriting limits u t before out now r x v why
+      by_detached_reader : (o : Option ℕ) → is_none o ≡ false → o ≡ survivor t r v → LosesGroup limits u t before out now r x v why
       by_detached_reader None off one = false_true (sym off)
       by_detached_reader (Some d) off one =
           let closes : unless_survived (survivor t r v) (Some x) ≡ [] = ap (λ (o : Option ℕ). unless_survived o (Some x)) (sym one) in
           record {
-            acts = same ∙ (told ∙ ap (λ (ys : List ℕ). before ++ (act.Lost r why ∷ map act.Close ys)) (sym closes));
+            acts = same ∙ (reported ∙ ap (λ (ys : List ℕ). before ++ (act.Lost r why ∷ map act.Close ys)) (sym closes));
             rows = subst (λ (ys : List ℕ). RowsStand limits u (all_closed ys (shared_loss now r x v (survivor t r v) t))) (sym closes) (subst (λ (o : Option ℕ). RowsStand limits u (shared_loss now r x v o t)) is stood);
           }
 
   -- nobody does
-  pub loses_out : {limits : Limits} → is_none detached_reader ≡ true → out ≡ mid ++ (act.Close x ∷ []) → RowsStand limits u (all_closed (x ∷ []) (shared_loss now r x v detached_reader t)) → LosesWriting limits u t before out now r x v why
+  pub loses_out : {limits : Limits} → is_none detached_reader ≡ true → out ≡ mid ++ (act.Close x ∷ []) → RowsStand limits u (all_closed (x ∷ []) (shared_loss now r x v detached_reader t)) → LosesGroup limits u t before out now r x v why
   loses_out {limits = limits} none closed stood = by_detached_reader detached_reader none is
     where
-      by_detached_reader : (o : Option ℕ) → is_none o ≡ true → o ≡ survivor t r v → LosesWriting limits u t before out now r x v why
+      by_detached_reader : (o : Option ℕ) → is_none o ≡ true → o ≡ survivor t r v → LosesGroup limits u t before out now r x v why
       by_detached_reader (Some d) on one = false_true on
       by_detached_reader None on one =
           let closes : unless_survived (survivor t r v) (Some x) ≡ x ∷ [] = ap (λ (o : Option ℕ). unless_survived o (Some x)) (sym one) in
           record {
-            acts = act_and before mid out (act.Lost r why) (act.Close x ∷ []) told closed ∙ ap (λ (ys : List ℕ). before ++ (act.Lost r why ∷ map act.Close ys)) (sym closes);
+            acts = act_and before mid out (act.Lost r why) (act.Close x ∷ []) reported closed ∙ ap (λ (ys : List ℕ). before ++ (act.Lost r why ∷ map act.Close ys)) (sym closes);
             rows = subst (λ (ys : List ℕ). RowsStand limits u (all_closed ys (shared_loss now r x v (survivor t r v) t))) (sym closes) (subst (λ (o : Option ℕ). RowsStand limits u (all_closed (x ∷ []) (shared_loss now r x v o t))) is stood);
           }
 
 -- WHO WRITES FOR SEVERAL
 
 module _ {B : Type 0} {g : Ghosts B} {limits : Limits} (r : Rows B g) (t : Tables) (facts : Facts limits t) (stands : RowsStand limits r t) (q : ℕ) (v : Representation) (there : t.representation q ≡ Some v) where
-  writing_is : writing_of (table_of r.exchanges) ((shelf_of r.entries).kept q) ≡ (if is_written t v then v.writer else None)
-  writing_is = writing_as r t stands facts.law q ∙ ap (writing_in t) there
+  writer_group_is : writer_group_of (table_of r.exchanges) ((shelf_of r.entries).kept q) ≡ (if is_written t v then v.writer else None)
+  writer_group_is = group_as r t stands facts.law q ∙ ap (group_in t) there
 
   -- an exchange does
-  pub writes_it : (y : ℕ) → writing_of (table_of r.exchanges) ((shelf_of r.entries).kept q) ≡ Some y → (is_written t v ≡ true) × (v.writer ≡ Some y)
-  writes_it y at = grind (arith, nat_tests, writing_is, none_some)
+  pub writes_it : (y : ℕ) → writer_group_of (table_of r.exchanges) ((shelf_of r.entries).kept q) ≡ Some y → (is_written t v ≡ true) × (v.writer ≡ Some y)
+  writes_it y at = grind (arith, nat_tests, writer_group_is, none_some)
 
-  pub grows : (y : ℕ) → writing_of (table_of r.exchanges) ((shelf_of r.entries).kept q) ≡ Some y → (z : Exchange) × IsGrowing t q v y z
+  pub grows : (y : ℕ) → writer_group_of (table_of r.exchanges) ((shelf_of r.entries).kept q) ≡ Some y → (z : Exchange) × IsGrowing t q v y z
   grows y at = (let on = writes_it y at in (facts.law.sound.rows q v there).growing y on.0 on.1)
 
   -- none does
-  pub unwritten : writing_of (table_of r.exchanges) ((shelf_of r.entries).kept q) ≡ None → is_written t v ≡ false
-  unwritten none = grind (arith, nat_tests, writer_some, writing_is)
+  pub unwritten : writer_group_of (table_of r.exchanges) ((shelf_of r.entries).kept q) ≡ None → is_written t v ≡ false
+  unwritten none = grind (arith, nat_tests, writer_some, writer_group_is)
 
 -- WHO GOES ON IN OTHER TABLES
 
@@ -179,7 +179,7 @@ module _ {B : Type 0} {g : Ghosts B} {limits : Limits} (r second : Rows B g) (t 
 
   -- nothing is told of it
   pub quiet : (first : Rows B g) (before mid : List Act) → RowsStand limits first moved → mid ≡ before ++ map act.Close (unless_over x (length_by (table_of first.exchanges x).running response)) → mid ≡ before
-  quiet first before mid stood told = told ∙ (ap (λ (ys : List ℕ). before ++ map act.Close ys) (closes_as first moved x w response stood row a.awaits.is_open ∙ ended) ∙ append-nil before)
+  quiet first before mid stood reported = reported ∙ (ap (λ (ys : List ℕ). before ++ map act.Close ys) (closes_as first moved x w response stood row a.awaits.is_open ∙ ended) ∙ append-nil before)
 
   pub may_heard_now : MayLetGo heard
   may_heard_now = may_heard moved x _ (may_moved t w.c a.v back a.awaits.asker (λ n how h. (let never : place.Line ≡ place.Passed n how = h in absurd (cc))) (may_let_go t facts.law))
@@ -207,23 +207,23 @@ module _ {B : Type 0} {g : Ghosts B} {limits : Limits} (r second : Rows B g) (t 
   pub alone_answered : (u : Rows B g) (faults : ℕ) (before out : List Act) (alone : Option ℕ) → alone ≡ exclusive t q v → is_written t v ≡ false → RowsStand limits second heard → out ≡ before ++ (act.Lost q kind.Fault ∷ [])
       → ((limits : Limits) (s : Tables) (p : Representation) → MayLetGo s → s.representation q ≡ Some p → p.alone ≡ None → HoldsNothing s q p alone → RowsStand limits second s → RowsStand limits u (let_go now q (with_representation q (Some (lost_to alone p)) s)))
       → faults < (shelf_of u.entries).faults → Answered limits faults u t before out now ev
-  alone_answered u faults before out alone writer off stood told loses failed =
+  alone_answered u faults before out alone writer off stood reported loses failed =
       let lost = loses _ heard v may_heard_now there nobody (holds_then alone (subst (λ (o : Option ℕ). HoldsNothing t q v o) (sym writer) (holds_none limits t facts q v there kept))) stood in
       lossy_answered limits faults u t (with_event now ev (let_go now q (with_consumer w.c (Some back) (with_answer now x response w.joined w (with_representation q (Some (lost_to (exclusive t q v) v)) t))))) before out (act.Lost q kind.Fault ∷ []) now ev q
-      (validated_lost limits t facts.law now x response goes w row a.v a.awaits.asker q v aim there kind.Fault kept off is_lost_case) writes_there kept_now refl failed told
+      (validated_lost limits t facts.law now x response goes w row a.v a.awaits.asker q v aim there kind.Fault kept off is_lost_case) writes_there kept_now refl failed reported
       (stands_counted u _ now ev refl (subst (λ (o : Option ℕ). RowsStand limits u (let_go now q (with_representation q (Some (lost_to o v)) heard))) writer lost))
 
   -- IT IS
 
-  module _ (y : ℕ) (writing : writing_of (table_of r.exchanges) ((shelf_of r.entries).kept q) ≡ Some y) where
+  module _ (y : ℕ) (writer_group : writer_group_of (table_of r.exchanges) ((shelf_of r.entries).kept q) ≡ Some y) where
     on : is_written t v ≡ true
-    on = (writes_it r t facts stands q v there y writing).0
+    on = (writes_it r t facts stands q v there y writer_group).0
 
     writer : v.writer ≡ Some y
-    writer = (writes_it r t facts stands q v there y writing).1
+    writer = (writes_it r t facts stands q v there y writer_group).1
 
     grown : (z : Exchange) × IsGrowing t q v y z
-    grown = grows r t facts stands q v there y writing
+    grown = grows r t facts stands q v there y writer_group
 
     opened : grown.0.is_open ≡ true
     unfolding is_written
@@ -282,7 +282,7 @@ module _ {B : Type 0} {g : Ghosts B} {limits : Limits} (r second : Rows B g) (t 
 
     -- the tables, told otherwise
     abbrev lost_as : Option ℕ → List ℕ → Tables
-    lost_as o ys = let_go now q (with_consumer w.c (Some back) (all_closed ys (with_answer now x response w.joined w (writing_lost q o (Some y) (with_representation q (Some (lost_to o v)) t)))))
+    lost_as o ys = let_go now q (with_consumer w.c (Some back) (all_closed ys (with_answer now x response w.joined w (group_lost q o (Some y) (with_representation q (Some (lost_to o v)) t)))))
 
     consumers_as : (o : Option ℕ) → (shared_loss now q y v o heard).consumer ≡ (lost_as o []).consumer
     consumers_as o = fun_ext (λ d. ap (option_map (back_from now q)) (elim (same_or w.c d) [
@@ -294,13 +294,13 @@ module _ {B : Type 0} {g : Ghosts B} {limits : Limits} (r second : Rows B g) (t 
     tables_as None = ap (λ (f : ℕ → Option rows.Consumer). record (lost_as None (y ∷ [])) { consumer = f }) (consumers_as None)
     tables_as (Some d) = ap (λ (f : ℕ → Option rows.Consumer). record (lost_as (Some d) []) { consumer = f }) (consumers_as (Some d))
 
-    pub written_answered : (u : Rows B g) (faults : ℕ) (before mid out : List Act) → mid ≡ before → LosesWriting limits u heard mid out now q y v kind.Fault → faults < (shelf_of u.entries).faults → Answered limits faults u t before out now ev
+    pub written_answered : (u : Rows B g) (faults : ℕ) (before mid out : List Act) → mid ≡ before → LosesGroup limits u heard mid out now q y v kind.Fault → faults < (shelf_of u.entries).faults → Answered limits faults u t before out now ev
     written_answered u faults before mid out same loses failed =
         let done = validated_lost_written limits t facts.law now x response goes w row a.v a.awaits.asker q v aim there kind.Fault on is_lost_case in
         let acts_are : out ≡ before ++ (act.Lost q kind.Fault ∷ map act.Close (unless_survived (survivor t q v) v.writer)) =
         loses.acts ∙ ap₂ (λ (b : List Act) (ys : List ℕ). b ++ (act.Lost q kind.Fault ∷ map act.Close ys)) same (ap₂ unless_survived detached_reader_same (sym writer)) in
         let stood : RowsStand limits u (lost_as (survivor t q v) (unless_survived (survivor t q v) (Some y))) =
         subst (RowsStand limits u) (tables_as (survivor t q v)) (subst (λ (o : Option ℕ). RowsStand limits u (all_closed (unless_survived o (Some y)) (shared_loss now q y v o heard))) detached_reader_same loses.rows) in
-        lossy_answered limits faults u t (with_event now ev (let_go now q (with_consumer w.c (Some back) (all_closed (unless_survived (survivor t q v) v.writer) (with_answer now x response w.joined w (writing_lost q (survivor t q v) v.writer (with_representation q (Some (lost_to (survivor t q v) v)) t))))))) before out
+        lossy_answered limits faults u t (with_event now ev (let_go now q (with_consumer w.c (Some back) (all_closed (unless_survived (survivor t q v) v.writer) (with_answer now x response w.joined w (group_lost q (survivor t q v) v.writer (with_representation q (Some (lost_to (survivor t q v) v)) t))))))) before out
         (act.Lost q kind.Fault ∷ map act.Close (unless_survived (survivor t q v) v.writer)) now ev q done writes_there kept_now refl failed acts_are
-        (stands_counted u _ now ev refl (subst (λ (o : Option ℕ). RowsStand limits u (let_go now q (with_consumer w.c (Some back) (all_closed (unless_survived (survivor t q v) o) (with_answer now x response w.joined w (writing_lost q (survivor t q v) o (with_representation q (Some (lost_to (survivor t q v) v)) t))))))) (sym writer) stood))
+        (stands_counted u _ now ev refl (subst (λ (o : Option ℕ). RowsStand limits u (let_go now q (with_consumer w.c (Some back) (all_closed (unless_survived (survivor t q v) o) (with_answer now x response w.joined w (group_lost q (survivor t q v) o (with_representation q (Some (lost_to (survivor t q v) v)) t))))))) (sym writer) stood))

@@ -141,8 +141,8 @@ module _ (limits : Limits) (t : Tables) (law : Lawful t) (now c want q : ℕ) (v
       }
 
   module _ {B : Type 0} {g : Ghosts B} (u : Rows B g) (faults : ℕ) (before out : List Act) (failed : faults < (shelf_of u.entries).faults) where
-    told : (z : Tables) (acts : List Act) → Does limits t now ev (Misreads q) (failed_act ∷ acts) (with_event now ev z) → out ≡ before ++ (failed_act ∷ acts) → RowsStand limits u z → Answered limits faults u t before out now ev
-    told z acts does out_is stands = record {
+    reported : (z : Tables) (acts : List Act) → Does limits t now ev (Misreads q) (failed_act ∷ acts) (with_event now ev z) → out ≡ before ++ (failed_act ∷ acts) → RowsStand limits u z → Answered limits faults u t before out now ev
+    reported z acts does out_is stands = record {
       flaw = Misreads q;
       acts = out_is ∙ ap (λ y. before ++ y) (sym does.acts_are);
       shown = ap flaw_in does.acts_are;
@@ -153,14 +153,14 @@ module _ (limits : Limits) (t : Tables) (law : Lawful t) (now c want q : ℕ) (v
 
     -- it leaves nothing
     pub misread_alone : left_by t c v ≡ None → out ≡ before ++ (act.Failed c (cause.StoreRead q) ∷ []) → RowsStand limits u (let_go now q quit) → Answered limits faults u t before out now (event.Poll c want)
-    misread_alone none out_is stands = told (let_go now q quit) [] (does_misread None none) out_is stands
+    misread_alone none out_is stands = reported (let_go now q quit) [] (does_misread None none) out_is stands
 
     -- it leaves an exchange
     pub misread_closing : (r : Rows B g) (x : ℕ) (mid : List Act) → left_by t c v ≡ Some x → mid ≡ before ++ (act.Failed c (cause.StoreRead q) ∷ []) → out ≡ mid ++ (act.Close x ∷ []) → KeepsRest r u → u.consumers ≡ r.consumers
         → exch.Becomes known.without_exchange x r.exchanges u.exchanges → RowsStand limits r (let_go now q quit) → Answered limits faults u t before out now (event.Poll c want)
     misread_closing r x mid leaves first second rest consumers becomes stands =
         let how = how_left t c x v leaves in
-        told (tables_after_close x (let_go now q quit)) (act.Close x ∷ [])
+        reported (tables_after_close x (let_go now q quit)) (act.Close x ∷ [])
         (let does = does_misread (Some x) leaves in record { acts_are = does.acts_are; tables_are = does.tables_are ∙ ap (with_event now ev) (same_closed x how (going_with t (Some x)) refl) })
         (act_and before mid out failed_act (act.Close x ∷ []) first second)
         (stands_unstored r u (let_go now q quit) x stands (unawaited_go now q quit x (left_unawaited t law c v row x how)) (apart x how) rest.last_start consumers rest.keys rest.entries becomes)

@@ -30,9 +30,9 @@ module _ {B : Type 0} {g : Ghosts B} (limits : Limits) (faults : ℕ) (u : Rows 
       }
 
   pub fault_answered : current t v.request.key ≡ Some r → faults < (shelf_of u.entries).faults → out ≡ before ++ acts → RowsStand limits u s → Answered limits faults u t before out now (event.Poll c want)
-  fault_answered now_is failed told stands = record {
+  fault_answered now_is failed reported stands = record {
     flaw = Misreads r;
-    acts = told ∙ ap (λ z. before ++ z) (sym does_fail.acts_are);
+    acts = reported ∙ ap (λ z. before ++ z) (sym does_fail.acts_are);
     shown = ap flaw_in does_fail.acts_are;
     may = rw row (or_last (is_bound r (Some v)) (is_number (current t v.request.key) r) (ap (λ (o : Option ℕ). is_number o r) now_is ∙ eqb-same r));
     caused = λ on. failed;

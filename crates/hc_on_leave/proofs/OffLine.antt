@@ -9,7 +9,7 @@ use Rattle.hc_store.specs.declared.backend.Backend.{Ghosts}
 use Rattle.hc_rules.specs.declared.room.Limits.{Limits}
 use Rattle.hc_model.specs.{Lines.{is_in_line, stands_in_line}, Planning.{has_passed}, Rows.{Tables}}
 use Rattle.hc_model.specs.Rows as rows
-use Rattle.hc_state.specs.{declared.{rows.Rows.{Rows}}, Kept.{KeepsConsumer}, Lines.{is_passed, is_away, is_away_at}, Stands.{RowsStand}}
+use Rattle.hc_state.specs.{declared.rows.Rows.{Rows}, Kept.{KeepsConsumer}, Lines.{is_passed, is_away, is_away_at}, Stands.{RowsStand}}
 use Rattle.hc_txn.specs.declared.transaction.Transaction.{Transaction as Consumer}
 use Rattle.hc_state.proofs.{KeySteps.{not_lined}, Ties.{kept_row}}
 use Rattle.hc_on_leave.specs.Leaves.{may_wait}

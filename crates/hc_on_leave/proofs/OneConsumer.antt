@@ -7,7 +7,7 @@ use Rattle.hc_stored.specs.Entries.{shelf_of}
 use Rattle.hc_entry.specs.Keys.{kept_of}
 use Rattle.hc_exch.specs.Exchanges.{table_of}
 use Rattle.hc_model.specs.Rows as rows
-use Rattle.hc_state.specs.{declared.{rows.Rows.{Rows}}, Changes.{BecomesAt}, Kept.{KeepsConsumer, unread, unstored_bytes, held_alone, held_of, held_for}, Lines.{KeepsKey}, Stands.{RowsStand}, Stored.{KeepsEntries}}
+use Rattle.hc_state.specs.{declared.rows.Rows.{Rows}, Changes.{BecomesAt}, Kept.{KeepsConsumer, unread, unstored_bytes, held_alone, held_of, held_for}, Lines.{KeepsKey}, Stands.{RowsStand}, Stored.{KeepsEntries}}
 use Rattle.hc_txn.specs.declared.transaction.Transaction.{Transaction as Consumer}
 use Rattle.hc_state.proofs.{Fallbacks.{unstored_moved}, FallbackSteps.{length_same, live_same}, ConsumerSteps.{all_kept_with}, Ties.{exchange_same}}
 

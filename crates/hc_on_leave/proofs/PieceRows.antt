@@ -55,8 +55,8 @@ module _ (t : Tables) (now x : ℕ) (w : Exchange) (bytes : List ℕ) (vs : ℕ 
     others y ne = rw (eqb-other x y ne) refl
 
     -- what is told of it before and after is told of all
-    told : {A : Type 0} (f : Option Exchange → A) → f (Some z) ≡ f (Some w) → (y : ℕ) → f (s.exchange y) ≡ f (t.exchange y)
-    told f alike y = grind (arith, nat_tests)
+    reported : {A : Type 0} (f : Option Exchange → A) → f (Some z) ≡ f (Some w) → (y : ℕ) → f (s.exchange y) ≡ f (t.exchange y)
+    reported f alike y = grind (arith, nat_tests)
 
     -- CONSUMERS
 
@@ -65,9 +65,9 @@ module _ (t : Tables) (now x : ℕ) (w : Exchange) (bytes : List ℕ) (vs : ℕ 
 
     sees : w.is_ended ≡ false → ((q : ℕ) → IsLike (t.representation q) (vs q)) → SeesAlike t s
     sees unended like = record {
-      head = told head_in refl;
-      begins = told base_in refl;
-      ends = told end_in (ends_so unended (promised_bytes w));
+      head = reported head_in refl;
+      begins = reported base_in refl;
+      ends = reported end_in (ends_so unended (promised_bytes w));
       length = λ q. (like q).total;
     }
 

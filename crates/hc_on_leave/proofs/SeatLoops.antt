@@ -2,7 +2,7 @@
 use Rattle.std.{proofs.Common.{◌≡◌, ◌≢◌, ◌⊎◌, inl, inr, ℕ, ◌+◌, ◌<◌, ◌≤◌, List, Bool, true, false, cond, Some, None, refl, ap, sym, ◌∙◌, subst, arith}, specs.{Prelude.{nat_eq, option_map}, HashMap.{get, hash_map_len}}}
 use Rattle.hc_text.proofs.Basics.{eqb-other, eqb-same, false_true, same_or, some_inj as some_is}
 use Rattle.hc_entry.specs.{declared.keys.KeyTable.{KeyTable}, Keys.{line_of, seated_at, AllAreSeatedBelow, IsItsSeat}, Lines.{is_in}}
-use Rattle.hc_state.specs.{Changes.{Numbered, ChangesAt, ChangesAmong}}
+use Rattle.hc_state.specs.Changes.{Numbered, ChangesAt, ChangesAmong}
 use Rattle.hc_txn.specs.declared.transaction.Transaction.{Transaction as Consumer}
 use Rattle.hc_effects.proofs.Tests.{none_some}
 

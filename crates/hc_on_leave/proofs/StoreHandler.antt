@@ -21,7 +21,7 @@ use Rattle.hc_model.specs.LettingGo as going
 use Rattle.hc_model.specs.Sound as sound
 use Rattle.hc_effects.proofs.{HoleLemmas.{none_of}, Once.{IsTaken, delivers_once}, SameTables.{is_in, without, all_go_is}, WeightsLeft.{fits_after}, Tests.{none_some}}
 use Rattle.hc_state.specs.{declared.rows.Rows.{Rows}, Facts.{Facts}, Pieces.{unless_lost, stored_at, stored_by, larger_view, IsLastKind, PutsPiece}, Room.{GivesWay}, Stands.{Answered, Answers, RowsStand, Stands, open_at}, Stops.{brought_by, IsViewOf}, Stored.{IsEntry, KeepsEntry}, Refused.{Refuses}}
-use Rattle.hc_on_leave.proofs.{PieceHandler.{Brought, brought_of, Runs, runs_of, brings_it, not_too_long}, PieceRoom.{may_make_room, room_same, gives_same, spared, room_there}, Gates.{denies_as}, PieceKinds.{outside_behind}, PieceRows.{IsLike, like_same, last_is}, StoredPiece.{written_alike, tells, stored_stands, stored_answered}, FoundHandler.{bound_without, make_gone}, RefusedPiece.{Refused, too_large, not_large}, Sets.{acts_set}}
+use Rattle.hc_on_leave.proofs.{PieceHandler.{Brought, brought_of, Runs, runs_of, brings_it, not_too_long}, PieceRoom.{may_make_room, room_same, gives_same, spared, room_there}, Gates.{denies_as}, PieceKinds.{outside_behind}, PieceRows.{IsLike, like_same, last_is}, StoredPiece.{written_alike, reports, stored_stands, stored_answered}, FoundHandler.{bound_without, make_gone}, RefusedPiece.{Refused, too_large, not_large}, Sets.{acts_set}}
 use Rattle.hc_state.proofs.{Maps.{merely_true, merely_false}, Rooms.{used_is}, ReaderSteps.{stands_read}}
 use Rattle.hc_text.proofs.Basics.{some_inj as some_is}
 use Rattle.hc_on_leave.proofs.RefusedPiece as refusals_of
@@ -167,9 +167,9 @@ module _ {B : Type 0} {g : Ghosts B} {limits : Limits} (r mid put u : Rows B g) 
   abbrev v2 : Representation
   v2 = with_stored_bytes true (front w) x bytes v
 
-  told : IsViewOf v2 (cells_with (runs.o.base + runs.o.delivered) x bytes second.k.cells) (larger_view (length bytes) (view_of second.k))
-  told = record {
-    total = tells mid u limits t facts now x bytes goes w v it.row it.taken.is_open it.taken.headed it.taken.some it.taken.fits it.there it.fresh es kept_apart second.k second.is.length;
+  reported : IsViewOf v2 (cells_with (runs.o.base + runs.o.delivered) x bytes second.k.cells) (larger_view (length bytes) (view_of second.k))
+  reported = record {
+    total = reports mid u limits t facts now x bytes goes w v it.row it.taken.is_open it.taken.headed it.taken.some it.taken.fits it.there it.fresh es kept_apart second.k second.is.length;
     size = ap (λ n. n + length bytes) (stored_size r t facts (family x w) v second.k (without now es t) it.there (λ gone. some_bound) second.is);
     stored = λ p. ap (λ n. cells_with n x bytes second.k.cells p) at_front ∙ written_alike second.k.cells v.stored (front w) x bytes p (second.is.cells p);
     ends = λ p past. ends_then v.stored v.reach (front w) x bytes p (λ n le. none_by (v.stored n) (v.body n) ((facts.law.sound.rows (family x w) v it.there).store.some_stored n) ((facts.law.sound.rows (family x w) v it.there).store.ends n le)) past;
@@ -194,7 +194,7 @@ module _ {B : Type 0} {g : Ghosts B} {limits : Limits} (r mid put u : Rows B g) 
     puts_here = subst (λ n. PutsPiece mid put x n runs.o bytes) (sym it.of_q) puts
 
     kind_is : IsLastKind (not (with_piece bytes w).is_open) v2 puts_here.last
-    kind_is = last_then puts_here.last (puts_here.kind second.k v2 second.kept told)
+    kind_is = last_then puts_here.last (puts_here.kind second.k v2 second.kept reported)
 
     fills : shelf.Becomes (option_map (entry.kept_with_bytes (front w) x bytes puts_here.last)) same_order (family x w) (shelf_of mid.entries) (shelf_of u.entries)
     fills = subst (λ e. shelf.Becomes (option_map (entry.kept_with_bytes (front w) x bytes puts_here.last)) same_order (family x w) (shelf_of mid.entries) (shelf_of e)) (sym u_entries)

@@ -10,7 +10,7 @@ use Rattle.hc_text.proofs.Basics.{eqb-other, eqb-same, false_true, any_none as n
 use Rattle.hc_store.specs.{declared.backend.Backend.{Ghosts}, Heads.{with_kind}}
 use Rattle.hc_sparse.specs.Cells.{Cell, Cells, Covers, inside, cells_with}
 use Rattle.hc_record.specs.{Head.{Head, sealed_head}, declared.kind.Kind.{Kind, TheVariants.{the_data as kinds}}}
-use Rattle.hc_effects.proofs.Vocabulary.{Act, Response, overlong, Limits, denial, with_event, let_all_go, with_exchange, with_representation, as_gone, with_piece, family, front, promised_bytes, NoFlaw, flaw_in, Grows, IsMeasured, kind_of, is_growing, brings_to, is_complete, is_front, bound, with_stored_bytes, Tables, Exchange, Representation, has_room, room_for, evicted, act, event}
+use Rattle.hc_effects.proofs.Vocabulary.{Act, Response, overlong, Limits, denial, with_event, let_all_go, with_exchange, with_representation, as_gone, with_piece, family, front, promised_bytes, NoFlaw, flaw_in, Grows, IsMeasured, kind_of, is_growing, brings_to, is_complete, is_prefix, bound, with_stored_bytes, Tables, Exchange, Representation, has_room, room_for, evicted, act, event}
 use Rattle.hc_stored.specs.{Entries.{shelf_of}, Kept.{Kept, kept_with_bytes}, Shelf.{same_order}}
 use Rattle.hc_stored.specs.Shelf as shelf
 use Rattle.hc_exch.specs.Exchanges as exch
@@ -22,7 +22,7 @@ use Rattle.hc_model.specs.Sound as sound
 use Rattle.hc_effects.proofs.{HoleLemmas.{covers_all}, Once.{delivers_once}, SameTables.{is_in, without, all_go_is}, Tests.{none_some}}
 use Rattle.hc_effects.proofs.PieceEffects as does
 use Rattle.hc_state.proofs.{Ties.{overs_open, writer_then, OversStay}, Fallbacks.{unstored_moved}, OneOfEach.{first_by}}
-use Rattle.hc_state.specs.{declared.rows.Rows.{Rows}, Facts.{Facts}, Kept.{held_alone, held_of, held_for}, Pieces.{IsLastKind, more, ends}, Stands.{Answered, RowsStand}, Stops.{kind_left}, Stored.{IsEntry, TellsLength, told, untold, KeepsEntry}}
+use Rattle.hc_state.specs.{declared.rows.Rows.{Rows}, Facts.{Facts}, Kept.{held_alone, held_of, held_for}, Pieces.{IsLastKind, more, ends}, Stands.{Answered, RowsStand}, Stops.{kind_left}, Stored.{IsEntry, KnowsLength, reported, unreported, KeepsEntry}}
 use Rattle.hc_on_leave.proofs.{PieceHandler.{Runs, runs_of, open_unended, not_overlong}, PieceRows.{s, IsLike, like_same, grows_on, stands_pieced}}
 
 still_there : (a : Bool) (cell : Cell) (o : Option Cell) → is_some o ≡ true → is_some (if a then Some cell else o) ≡ true
@@ -120,20 +120,20 @@ module _ {B : Type 0} {g : Ghosts B} (mid u : Rows B g) (limits : Limits) (t : T
   -- WHAT IS KEPT OF IT
 
   -- its length is told, since not all of it came
-  pub tells : (k : Kept) → TellsLength k v → k.head.total ≡ v.head.total
-  tells k (told same) = same
-  tells k (untold n) = by_measure (facts.measures.brings x w v row opened headed there)
+  pub reports : (k : Kept) → KnowsLength k v → k.head.total ≡ v.head.total
+  reports k (reported same) = same
+  reports k (unreported n) = by_measure (facts.measures.brings x w v row opened headed there)
     where
       absent : v.body (front w) ≡ None
       absent = delivers_once t facts.law.sound x bytes w v goes row there (front w) (omega arith) (omega (arith, some))
 
       by_measure : IsMeasured w v → k.head.total ≡ v.head.total
-      by_measure (measures.told most total is known within) =
+      by_measure (measures.reported most total is known within) =
           let less : length w.body + length bytes ≤ most = not_overlong (promised_bytes w) (length w.body + length bytes) most fits is in
           let one : total ≡ n.total = some_is total n.total (sym known ∙ n.known) in
           let came = n.came (front w) (omega arith) (omega (arith, less, one, within, some)) in
           false_true (sym (ap (λ (o : Option Cell). is_some o) absent) ∙ came)
-      by_measure (measures.untold is unknown start alone reach) = none_some n.total (sym unknown ∙ n.known)
+      by_measure (measures.unreported is unknown start alone reach) = none_some n.total (sym unknown ∙ n.known)
 
   module _ (last : Option Kind) (kind_is : IsLastKind (not (with_piece bytes w).is_open) v2 last) where
     kind_then : (k : Kept) → IsEntry m (family x w) k v → v.is_gone ≡ false → (with_kind last k.head).kind ≡ kind_of after (family x w) v2
@@ -167,7 +167,7 @@ module _ {B : Type 0} {g : Ghosts B} (mid u : Rows B g) (limits : Limits) (t : T
     whole_then k is n whole total = by_last kind_is
       where
         known : v2.head.total ≡ Some n
-        known = sym (tells k is.length) ∙ (sym (total_alike last k.head) ∙ total)
+        known = sym (reports k is.length) ∙ (sym (total_alike last k.head) ∙ total)
 
         by_last : IsLastKind (not (with_piece bytes w).is_open) v2 last → Covers v2.stored 0 n
         by_last (more still_comes none) = covers_then 0 n (is.whole n (sym (ap (λ l. (with_kind l k.head).kind) none) ∙ whole) (sym (total_alike last k.head) ∙ total))
@@ -181,8 +181,8 @@ module _ {B : Type 0} {g : Ghosts B} (mid u : Rows B g) (limits : Limits) (t : T
         let first = λ (d : ℕ). first_by m after (λ n. (like n).status) (family x w) (m.consumer d) in
         let over : OversStay m.exchange after.exchange =
         overs_open m.exchange after.exchange x w row opened (λ y ne. rw (eqb-other x y ne) refl) in
-        let total_then : TellsLength (kept_with_bytes (front w) x bytes last k) v2 =
-        told (total_alike last k.head ∙ tells k is.length) in
+        let total_then : KnowsLength (kept_with_bytes (front w) x bytes last k) v2 =
+        reported (total_alike last k.head ∙ reports k is.length) in
         assumption (
           is,
           sealed_alike last v.head.total k.head ∙ is.head,
@@ -263,11 +263,11 @@ module _ {B : Type 0} {g : Ghosts B} (mid u : Rows B g) (limits : Limits) (t : T
   evicts_quietly (q ∷ qs) = evicts_quietly qs
 
   pub stored_answered : (faults : ℕ) (before out : List Act) → evicted limits t now (event.Piece x bytes) ≡ es → has_room (room_for limits t now (event.Piece x bytes)) ≡ true → out ≡ before ++ map act.Evicted es → RowsStand limits u after → Answered limits faults u t before out now (event.Piece x bytes)
-  stored_answered faults before out gives room tells_them stands =
+  stored_answered faults before out gives room reports_them stands =
       let done = does.stored limits t facts.law now x bytes w row goes (family x w) v refl there fresh in
       record {
         flaw = NoFlaw;
-        acts = tells_them ∙ ap (λ ys. before ++ ys) (ap (map act.Evicted) (sym gives) ∙ sym done.acts_are);
+        acts = reports_them ∙ ap (λ ys. before ++ ys) (ap (map act.Evicted) (sym gives) ∙ sym done.acts_are);
         shown = ap flaw_in done.acts_are ∙ evicts_quietly (evicted limits t now (event.Piece x bytes));
         may = room;
         caused = λ is. false_true is;

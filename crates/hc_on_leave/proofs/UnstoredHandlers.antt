@@ -192,8 +192,8 @@ later_founds : (k : HeadCase) → Later k → is_founding (Some k) ≡ false
 later_founds _ later_bad = refl
 later_founds _ later_changed = refl
 
-later_told : {h : HeadView} → CaseBy h case.LaterBad → h.bad ≡ true
-later_told (cases.later_bad way shown bad) = bad
+later_reported : {h : HeadView} → CaseBy h case.LaterBad → h.bad ≡ true
+later_reported (cases.later_bad way shown bad) = bad
 
 -- it is bound, and was shown a head
 record Reader (v : rows.Consumer) : Type 0 where
@@ -220,7 +220,7 @@ first_over t facts x c q lo hi v w awaits shown at =
     grind (arith, nat_tests)
 
 module _ {B : Type 0} {g : Ghosts B} {limits : Limits} (r mid u : Rows B g) (t : Tables) (facts : Facts limits t) (now x : ℕ) (response : Response) (goes : denial t (event.Head x response) ≡ None) (w : Exchange) (v : rows.Consumer) (awaits : AwaitsHead t x w v) (before out : List Act)
-    (told : out ≡ before ++ map act.Close (unless_over x (length_by (table_of mid.exchanges x).running response))) (rest : KeepsRest mid u) (consumers : u.consumers ≡ mid.consumers) (becomes : exch.Becomes without_exchange x mid.exchanges u.exchanges) where
+    (reported : out ≡ before ++ map act.Close (unless_over x (length_by (table_of mid.exchanges x).running response))) (rest : KeepsRest mid u) (consumers : u.consumers ≡ mid.consumers) (becomes : exch.Becomes without_exchange x mid.exchanges u.exchanges) where
   abbrev ev : Event
   ev = event.Head x response
 
@@ -241,7 +241,7 @@ module _ {B : Type 0} {g : Ghosts B} {limits : Limits} (r mid u : Rows B g) (t :
     refused = stands_refused mid u (moved z) now x response w stands (unused z unfirst apart) rest consumers becomes
 
     acts_are : out ≡ before ++ map act.Close (unless_ended x response w)
-    acts_are = told ∙ ap (λ (ys : List ℕ). before ++ map act.Close ys) (closes_as mid (moved z) x w response stands awaits.row awaits.is_open)
+    acts_are = reported ∙ ap (λ (ys : List ℕ). before ++ map act.Close ys) (closes_as mid (moved z) x w response stands awaits.row awaits.is_open)
 
   abbrev Is : HeadCase → Type 0
   Is k = head_case (head_view t false w response) ≡ k
@@ -252,10 +252,10 @@ module _ {B : Type 0} {g : Ghosts B} {limits : Limits} (r mid u : Rows B g) (t :
   abbrev down : rows.Consumer
   down = record v { place = place.Down (cause.BadHead x) }
 
-  bad_told : (k : HeadCase) → Bad k → CaseBy (head_view t false w response) k → is_bad (length_of w.need w.request response) ≡ true
-  bad_told _ direct (cases.direct_bad way bad) = bad
-  bad_told _ turn (cases.turn_bad way bad) = bad
-  bad_told _ first (cases.first_bad way shown bad) = bad
+  bad_reported : (k : HeadCase) → Bad k → CaseBy (head_view t false w response) k → is_bad (length_of w.need w.request response) ≡ true
+  bad_reported _ direct (cases.direct_bad way bad) = bad
+  bad_reported _ turn (cases.turn_bad way bad) = bad
+  bad_reported _ first (cases.first_bad way shown bad) = bad
 
   put_down_does : (k : HeadCase) → Bad k → Is k → doomed_by_case (Some k) w response ≡ None → Does limits t now ev NoFlaw (act.Close x ∷ []) (with_event now ev (with_consumer w.c (Some down) (tables_after_close x (heard t))))
   put_down_does _ direct is doomless = does.direct_bad limits t facts.law now x response goes w awaits.row v awaits.asker is (no_doom (changes w response) w doomless)
@@ -265,7 +265,7 @@ module _ {B : Type 0} {g : Ghosts B} {limits : Limits} (r mid u : Rows B g) (t :
   pub put_down_answered : (k : HeadCase) → puts_down k ≡ true → Is k → doomed_by_case (Some k) w response ≡ None → RowsStand limits mid (moved down) → Answered limits (shelf_of r.entries).faults u t before out now ev
   put_down_answered k on is doomless stands =
       let b = bad_of k on in
-      let open_still : is_reached (promise_in w response) 0 ≡ false = stays_open w response (bad_told k b (by_case k is)) in
+      let open_still : is_reached (promise_in w response) 0 ≡ false = stays_open w response (bad_reported k b (by_case k is)) in
       let ended : unless_ended x response w ≡ x ∷ [] = rw open_still refl in
       let down_first : (q lo : ℕ) (hi : Option ℕ) → place.Down (cause.BadHead x) ≡ place.Bound q lo hi (by.FirstHole x) → ⊥ = λ q lo hi h. absurd (cc) in
       let down_apart : place.Down (cause.BadHead x) ≡ place.Direct x → ⊥ = λ h. absurd (cc) in
@@ -335,7 +335,7 @@ module _ {B : Type 0} {g : Ghosts B} {limits : Limits} (r mid u : Rows B g) (t :
   late why = record v { due = Some why }
 
   late_does : (k : HeadCase) → Later k → Is k → ShutDoes k (late (broken_by x k))
-  late_does _ later_bad is = ended_does (x ∷ []) None (late (cause.BadHead x)) (rw (stays_open w response (later_told (by_case case.LaterBad is))) refl) (does.later_bad limits t facts.law now x response goes w awaits.row v awaits.asker is)
+  late_does _ later_bad is = ended_does (x ∷ []) None (late (cause.BadHead x)) (rw (stays_open w response (later_reported (by_case case.LaterBad is))) refl) (does.later_bad limits t facts.law now x response goes w awaits.row v awaits.asker is)
   late_does _ later_changed is = does.later_changed limits t facts.law now x response goes w awaits.row v awaits.asker is
 
   pub late_answered : (f : Rows B g) (gone : Option ℕ) (k : HeadCase) → StandsFor x v (route_of w.need) → breaks_off k ≡ true → Is k → gone ≡ goes_with t w response k → RowsStand limits mid (moved (late (broken_by x k))) → ((m : Tables) → MayLetGo m → RowsStand limits u m → RowsStand limits f (let_some_go now gone m)) → Answered limits (shelf_of r.entries).faults f t before out now ev

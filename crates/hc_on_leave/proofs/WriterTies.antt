@@ -14,17 +14,17 @@ use Rattle.hc_exch.specs.{Exchanges.{table_of}, Known.{Table}}
 use Rattle.hc_model.specs.Rows as rows
 use Rattle.hc_model.specs.Sound as sound
 use Rattle.hc_effects.proofs.Exclusives.{exclusive_parts}
-use Rattle.hc_state.specs.{declared.{rows.Rows.{Rows}}, Facts.{Facts}, Kept.{IsKept, KeepsConsumer}, Leaving.{if_running, writing_by, writing_of}, Stands.{RowsStand}, Stored.{IsEntry, is_first}}
+use Rattle.hc_state.specs.{declared.rows.Rows.{Rows}, Facts.{Facts}, Kept.{IsKept, KeepsConsumer}, Leaving.{if_running, group_by, writer_group_of}, Stands.{RowsStand}, Stored.{IsEntry, is_first}}
 use Rattle.hc_txn.specs.declared.transaction.Transaction.{Transaction as Consumer}
-use Rattle.hc_state.proofs.{CurrentTies.{stored_ends, covers_as, kept_entry, viewed_entry}, LeftRows.{running_as, writing_as}}
+use Rattle.hc_state.proofs.{CurrentTies.{stored_ends, covers_as, kept_entry, viewed_entry}, LeftRows.{running_as, group_as}}
 
 -- WHAT IS TOLD
 
--- by what is told of q, the exchange of its shared writing is that of what is kept
-pub written_by : (table : Table) (o : Option Kept) (told : EntryView) → option_map view_of o ≡ Some told → writing_by table told ≡ writing_of table o
-written_by table o told is =
-    let (e, kept, seen) = viewed_entry o told is in
-    ap (writing_by table) (sym seen) ∙ ap (writing_of table) (sym kept)
+-- by what is told of q, the exchange of its writer group is that of what is kept
+pub written_by : (table : Table) (o : Option Kept) (reported : EntryView) → option_map view_of o ≡ Some reported → group_by table reported ≡ writer_group_of table o
+written_by table o reported is =
+    let (e, kept, seen) = viewed_entry o reported is in
+    ap (group_by table) (sym seen) ∙ ap (writer_group_of table) (sym kept)
 
 -- HAS MORE
 
@@ -45,9 +45,9 @@ module _ {B : Type 0} {g : Ghosts B} {limits : Limits} (r : Rows B g) (t : Table
 
   pub more_ahead : (law : Facts limits t) (q : ℕ) → t.representation q ≡ Some p → p.is_lost ≡ false → is_kept (shelf_of r.entries) q ≡ true → is_some (if_running (table_of r.exchanges) k.own) ≡ false → (hi : ℕ) → k.hi ≡ Some hi
       → (b : Bool) → (IsTrue b ↔ Covers (cells_at (shelf_of r.entries) q) (k.lo + k.given) hi) → not b ≡ has_more t p v
-  more_ahead facts q here stays there off hi at b tells =
+  more_ahead facts q here stays there off hi at b reports =
       let entry = kept_entry r t stands q p here there in
-      let covered = covers_as t q entry.0 p entry.2 (stored_ends t facts.law q p here stays) b (k.lo + k.given) hi (subst (λ (o : Option Kept). IsTrue b ↔ Covers (λ n. cells_in o n) (k.lo + k.given) hi) entry.1 tells) in
+      let covered = covers_as t q entry.0 p entry.2 (stored_ends t facts.law q p here stays) b (k.lo + k.given) hi (subst (λ (o : Option Kept). IsTrue b ↔ Covers (λ n. cells_in o n) (k.lo + k.given) hi) entry.1 reports) in
       ap not covered ∙ (ap (λ (n : ℕ). lacks_some p n (Some hi)) offset_as ∙ rw (sym (ap (λ (o : Option ℕ). is_some o) own_as) ∙ off, sym kept.ends ∙ at) refl)
 
 -- THE EXCLUSIVE WRITER
@@ -57,13 +57,13 @@ module _ {B : Type 0} {g : Ghosts B} {limits : Limits} (r : Rows B g) (t : Table
   none_by o at off = grind (arith, nat_tests)
 
   -- nobody writes alone what is written for several
-  pub exclusive_written : is_some (writing_of (table_of r.exchanges) ((shelf_of r.entries).kept q)) ≡ true → None ≡ exclusive t q p
+  pub exclusive_written : is_some (writer_group_of (table_of r.exchanges) ((shelf_of r.entries).kept q)) ≡ true → None ≡ exclusive t q p
   exclusive_written on = none_by (exclusive t q p) refl (λ c at. (
       let parts = exclusive_parts t q c p at in
-      let off : writing_of (table_of r.exchanges) ((shelf_of r.entries).kept q) ≡ None = writing_as r t stands facts.law q ∙ rw (here, parts.unwritten) refl in
+      let off : writer_group_of (table_of r.exchanges) ((shelf_of r.entries).kept q) ≡ None = group_as r t stands facts.law q ∙ rw (here, parts.unwritten) refl in
       (let never : false ≡ true = rw off at on in cc)))
 
-  written_off : is_some (writing_of (table_of r.exchanges) ((shelf_of r.entries).kept q)) ≡ false → is_written t p ≡ false
+  written_off : is_some (writer_group_of (table_of r.exchanges) ((shelf_of r.entries).kept q)) ≡ false → is_written t p ≡ false
   unfolding is_written
   written_off off = by_test (is_written t p) refl
     where
@@ -78,7 +78,7 @@ module _ {B : Type 0} {g : Ghosts B} {limits : Limits} (r : Rows B g) (t : Table
       by_test : (b : Bool) → is_written t p ≡ b → b ≡ false
       by_test false is = refl
       by_test true is =
-          let same : writing_of (table_of r.exchanges) ((shelf_of r.entries).kept q) ≡ p.writer = writing_as r t stands facts.law q ∙ rw (here, is) refl in
+          let same : writer_group_of (table_of r.exchanges) ((shelf_of r.entries).kept q) ≡ p.writer = group_as r t stands facts.law q ∙ rw (here, is) refl in
           false_true (sym off ∙ (ap (λ (o : Option ℕ). is_some o) same ∙ by_writer p.writer refl is))
 
   module _ (e : Kept) (is : IsEntry t q e p) where
@@ -120,7 +120,7 @@ module _ {B : Type 0} {g : Ghosts B} {limits : Limits} (r : Rows B g) (t : Table
     is_the_first c a = sound.first a.v a.lo a.hi a.by a.row a.at a.came
 
     -- who came alone, has nothing due and more to come, writes alone
-    pub exclusive_some : (c : ℕ) (a : IsAlone c) → p.is_lost ≡ false → is_some (writing_of (table_of r.exchanges) ((shelf_of r.entries).kept q)) ≡ false → a.v.due ≡ None → has_more t p a.v ≡ true → Some c ≡ exclusive t q p
+    pub exclusive_some : (c : ℕ) (a : IsAlone c) → p.is_lost ≡ false → is_some (writer_group_of (table_of r.exchanges) ((shelf_of r.entries).kept q)) ≡ false → a.v.due ≡ None → has_more t p a.v ≡ true → Some c ≡ exclusive t q p
     exclusive_some c a stays off undue more = sym ((facts.law.alone.writes q c p a.v here stays (written_off off) (is_the_first c a) a.row undue).1 more)
 
     -- else nobody does

@@ -12,15 +12,15 @@ use Rattle.hc_stored.specs.Groups.{IsGroupOf, left_answer}
 use Rattle.hc_stored.specs.Kept.{Kept}
 use Rattle.hc_stored.specs.Shelf.{Shelf}
 use Rattle.hc_stored.specs.Views.{view_of}
-use Rattle.hc_state.specs.Leaving.{writing_of}
+use Rattle.hc_state.specs.Leaving.{writer_group_of}
 use Rattle.hc_state.specs.Stops.{may_complete}
 use Rattle.hc_writers.specs.declared.writers.Left.{Left}
 use Rattle.hc_writers.specs.declared.writers.Left.TheVariants as left
 
--- the exchange of the shared writing of what whoever stands there is bound to, as long as that is on
-abbrev pub writing_at : Table → Shelf → Place → Option ℕ
-writing_at table s (place.Bound r lo hi by) = writing_of table (s.kept r)
-writing_at table s _ = None
+-- the exchange of the writer group of what whoever stands there is bound to, as long as that is on
+abbrev pub writer_group_at : Table → Shelf → Place → Option ℕ
+writer_group_at table s (place.Bound r lo hi by) = writer_group_of table (s.kept r)
+writer_group_at table s _ = None
 
 -- ONCE IT HAS LEFT
 

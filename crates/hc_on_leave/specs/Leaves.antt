@@ -11,7 +11,7 @@ use Rattle.hc_exch.specs.Known.{is_open}
 use Rattle.hc_state.specs.declared.rows.Rows.{Rows}
 use Rattle.hc_state.specs.Changes.{KeepsLive}
 use Rattle.hc_state.specs.Stands.{Stands}
-use Rattle.hc_state.specs.Stored.{TellsShort}
+use Rattle.hc_state.specs.Stored.{KnowsShort}
 
 -- the rows represent tables, and c is live
 pub record MayLeave {B : Type 0} {g : Ghosts B} (r : Rows B g) (c : ℕ) : Type 0 where
@@ -21,7 +21,7 @@ pub record MayLeave {B : Type 0} {g : Ghosts B} (r : Rows B g) (c : ℕ) : Type 
 -- x is open, and each length that is told is short enough for a store
 pub record MayClose {B : Type 0} {g : Ghosts B} (r : Rows B g) (x : ℕ) : Type 0 where
   pub running : is_open x (table_of r.exchanges) ≡ true
-  pub short : TellsShort (shelf_of r.entries)
+  pub short : KnowsShort (shelf_of r.entries)
 
 -- who is live, who started last, the exchanges and the count of failures stay
 pub record KeepsAround {B : Type 0} {g : Ghosts B} (r u : Rows B g) : Type 0 where

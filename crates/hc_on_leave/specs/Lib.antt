@@ -1,3 +1,3 @@
 pub mod Leaves
 pub mod Groups
-pub mod Telling
+pub mod Reporting

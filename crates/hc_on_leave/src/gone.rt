@@ -13,10 +13,10 @@ ghost use Rattle.hc_rules.specs.declared.room.Limits.{Limits};
 ghost use Rattle.hc_state.specs.Leaving.{LeavesKey, Forgets, IsUserAt, UnbindsAt, LeavesPlace, left_of};
 ghost use Rattle.hc_state.specs.Stands.{RowsStand};
 ghost use Rattle.hc_on_leave.specs.Leaves.{MayLeave, may_wait};
-ghost use Rattle.hc_on_leave.specs.Groups.{LeavesGroup, is_keepable_at, writing_at, unless_others};
+ghost use Rattle.hc_on_leave.specs.Groups.{LeavesGroup, is_keepable_at, writer_group_at, unless_others};
 
 use crate::seal::is_keepable;
-use crate::writing::{if_running, writing};
+use crate::writer_group::{if_running, writer_group};
 use hc_entry::KeyTable;
 use hc_event::{BoundBy, Place};
 use hc_exch::Exchanges;
@@ -26,8 +26,8 @@ use hc_stored::Entries;
 use hc_text::Key;
 use hc_writers::Left;
 
-/// A consumer is gone. The exchange that nobody reads any more then: its own, or that of the shared
-/// writing that it read along as the last one.
+/// A consumer is gone. The exchange that nobody reads any more then: its own, or that of the writer
+/// group that it read along as the last one.
 pub(crate) fn remove_consumer<B: Backend>(rows: &mut Rows<B>, c: u64) -> Option<u64>
     requires may { MayLeave rows.old c }
     ensures left { IsSomeAnd (get nat_eq rows.old.consumers c)
@@ -39,19 +39,19 @@ pub(crate) fn remove_consumer<B: Backend>(rows: &mut Rows<B>, c: u64) -> Option<
 {
     let consumer = rows.consumers.get(&c).unwrap();
     let own = if_running(rows, consumer.own);
-    let shared = writing_at(rows, consumer.place);
+    let shared = writer_group_at(rows, consumer.place);
     let left = leave_place(rows, c);
     rows.consumers.remove(&c);
     left_over(own, shared, left)
 }
 
-/// The exchange of the shared writing of what a consumer that stands there is bound to, as long as
+/// The exchange of the writer group of what a consumer that stands there is bound to, as long as
 /// that is on.
-fn writing_at<B: Backend>(rows: &Rows<B>, place: Place) -> Option<u64>
-    ensures { result ≡ writing_at (table_of rows.now.exchanges) (shelf_of rows.now.entries) place }
+fn writer_group_at<B: Backend>(rows: &Rows<B>, place: Place) -> Option<u64>
+    ensures { result ≡ writer_group_at (table_of rows.now.exchanges) (shelf_of rows.now.entries) place }
 {
     match place {
-        Place::Bound { r, .. } => writing(rows, r),
+        Place::Bound { r, .. } => writer_group(rows, r),
         _ => None,
     }
 }

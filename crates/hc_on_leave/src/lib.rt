@@ -10,4 +10,4 @@ pub mod lose;
 pub mod misread;
 pub mod seal;
 pub mod writers;
-pub mod writing;
+pub mod writer_group;

@@ -8,13 +8,13 @@ ghost use Rattle.hc_exch.specs.Exchanges.{table_of};
 ghost use Rattle.hc_exch.specs.Known.{is_open};
 ghost use Rattle.hc_model.specs.Rows.{Tables, Representation};
 ghost use Rattle.hc_rules.specs.declared.room.Limits.{Limits};
-ghost use Rattle.hc_state.specs.DetachedReaders.{MayLoseShared, LosesShared, LosesWriting};
+ghost use Rattle.hc_state.specs.DetachedReaders.{MayLoseShared, LosesShared, LosesGroup};
 ghost use Rattle.hc_state.specs.Stands.{RowsStand};
 ghost use Rattle.hc_event.specs.declared.act.LostKind.{LostKind};
 ghost use Rattle.hc_store.specs.declared.error.StoreError.TheVariants as errors;
 ghost use Rattle.hc_state.specs.Room.{loss_by};
 ghost use Rattle.hc_on_leave.specs.Leaves.{KeepsAround};
-ghost use Rattle.hc_on_leave.specs.Telling.{told_among};
+ghost use Rattle.hc_on_leave.specs.Reporting.{reported_among};
 ghost use Rattle.hc_stored.specs.Grouped.{group_of};
 ghost use Rattle.hc_stored.specs.Views.{bound_in};
 
@@ -48,7 +48,7 @@ pub fn lose_shared<B: Backend>(
     ensures room { spare out.new + 1 ≡ spare out.old }
     ensures around { KeepsAround rows.old rows.new }
 {
-    tell_offsets(&mut rows.entries, &rows.consumers, r);
+    report_offsets(&mut rows.entries, &rows.consumers, r);
     let survivor = rows.entries.lose_shared(r);
     let cause = Cause::StoreWrite(r);
     part(
@@ -64,7 +64,7 @@ pub fn lose_shared<B: Backend>(
 }
 
 /// The same, and the exchange is closed where nobody goes on with it.
-pub fn lose_writing<B: Backend>(
+pub fn lose_group<B: Backend>(
     rows: &mut Rows<B>,
     now: u64,
     r: u64,
@@ -77,7 +77,7 @@ pub fn lose_writing<B: Backend>(
     requires room { 2 ≤ spare out.old }
     ensures lost { (limits : Limits) (t : Tables) (v : Representation) → MayLoseShared t r x v
         → RowsStand limits rows.old t
-        → LosesWriting limits rows.new t (act_list out.old) (act_list out.new) now r x v kind }
+        → LosesGroup limits rows.new t (act_list out.old) (act_list out.new) now r x v kind }
     ensures faults { (shelf_of rows.new.entries).faults ≡ (shelf_of rows.old.entries).faults }
 {
     if lose_shared(rows, now, r, x, kind, out).is_none() {
@@ -86,18 +86,18 @@ pub fn lose_writing<B: Backend>(
 }
 
 /// The writer group of the representation is told where each of its members stands.
-fn tell_offsets<B: Backend>(entries: &mut Entries<B>, consumers: &HashMap<u64, Transaction>, r: u64)
+fn report_offsets<B: Backend>(entries: &mut Entries<B>, consumers: &HashMap<u64, Transaction>, r: u64)
     ensures stays { Stays (shelf_of entries.old) (shelf_of entries.new) }
     ensures faults { (shelf_of entries.new).faults ≡ (shelf_of entries.old).faults }
-    ensures told { group_of entries.new r ≡ option_map
-        (told_among consumers.now (bound_in ((shelf_of entries.old).kept r)))
+    ensures reported { group_of entries.new r ≡ option_map
+        (reported_among consumers.now (bound_in ((shelf_of entries.old).kept r)))
         (group_of entries.old r) }
 {
     for i in 0..entries.bound(r).len() {
         let c = entries.bound(r)[i];
         if let Some(consumer) = consumers.get(&c) {
             let offset = consumer.lo.saturating_add(consumer.given);
-            entries.tell(r, c, offset);
+            entries.note(r, c, offset);
         }
     }
 }

@@ -7,13 +7,13 @@ ghost use Rattle.hc_exch.specs.Known.{is_open};
 ghost use Rattle.hc_stored.specs.Shelf.{is_kept, cells_at};
 ghost use Rattle.hc_event.specs.declared.act.Act.TheVariants as act;
 ghost use Rattle.hc_model.specs.Effects.{with_representation, let_go, lost_to};
-ghost use Rattle.hc_model.specs.Kinds.{is_complete, is_front};
+ghost use Rattle.hc_model.specs.Kinds.{is_complete, is_prefix};
 ghost use Rattle.hc_model.specs.LettingGo.{MayLetGo};
 ghost use Rattle.hc_model.specs.Rows.{Tables, Consumer, Representation};
 ghost use Rattle.hc_rules.specs.declared.room.Limits.{Limits};
 ghost use Rattle.hc_state.specs.Changes.{KeepsLive};
 ghost use Rattle.hc_state.specs.Facts.{Facts};
-ghost use Rattle.hc_state.specs.declared.stop.Stop.TheVariants as stop;
+ghost use Rattle.hc_state.specs.declared.stop.Disposition.TheVariants as stop;
 ghost use Rattle.hc_state.specs.Stopped.{with_consumers, HoldsNothing, MayStop, HasStopped};
 ghost use Rattle.hc_state.specs.Stops.{stop_of, brought_by, may_complete, IsViewOf, kind_left};
 ghost use Rattle.hc_state.specs.Stands.{RowsStand};
@@ -25,27 +25,27 @@ use hc_event::{Act, Acts, LostKind};
 use hc_exch::Role;
 use hc_record::Kind;
 use hc_rules::brings_whole;
-use hc_state::{Rows, Stop};
+use hc_state::{Rows, Disposition};
 use hc_store::Backend;
 use hc_stored::EntryView;
 
 /// What becomes of what the exchange brought when that is closed.
-pub(crate) fn stop_of<B: Backend>(rows: &Rows<B>, x: u64) -> Stop
+pub(crate) fn stop_of<B: Backend>(rows: &Rows<B>, x: u64) -> Disposition
     ensures { result ≡ stop_of x (table_of rows.now.exchanges x).running
         (shelf_of rows.now.entries) }
 {
     let Some(r) = brought(rows, x) else {
-        return Stop::Nothing;
+        return Disposition::Nothing;
     };
     let Some(entry) = rows.entries.entry(r) else {
-        return Stop::Nothing;
+        return Disposition::Nothing;
     };
     if entry.is_gone {
-        Stop::Nothing
+        Disposition::Nothing
     } else if x == r && brings_whole(entry.status) && !is_keepable(&entry) {
-        Stop::LetGo(r)
+        Disposition::LetGo(r)
     } else {
-        Stop::Seal(r)
+        Disposition::Seal(r)
     }
 }
 
@@ -77,12 +77,12 @@ pub fn stop_bringing<B: Backend>(
     ensures faults { (shelf_of rows.old.entries).faults ≤ (shelf_of rows.new.entries).faults }
 {
     match stop_of(rows, x) {
-        Stop::Nothing => rows.exchanges.close(x),
-        Stop::LetGo(r) => {
+        Disposition::Nothing => rows.exchanges.close(x),
+        Disposition::LetGo(r) => {
             let_go(rows, now, r);
             rows.exchanges.close(x);
         }
-        Stop::Seal(r) => seal_stopped(rows, now, x, r, alone, out),
+        Disposition::Seal(r) => seal_stopped(rows, now, x, r, alone, out),
     }
 }
 
@@ -125,7 +125,7 @@ fn kind_without<B: Backend>(rows: &Rows<B>, r: u64, entry: &EntryView) -> Kind
 {
     if is_complete(rows, r, entry) {
         Kind::Whole
-    } else if is_front(rows, r, entry) {
+    } else if is_prefix(rows, r, entry) {
         Kind::Truncated
     } else {
         Kind::Ranges
@@ -147,10 +147,10 @@ fn is_complete<B: Backend>(rows: &Rows<B>, r: u64, entry: &EntryView) -> bool
 
 /// What is stored of it is some first bytes.
 #[tactic(auto, using(hc_state::proofs::StoredKinds::front_as, hc_state::proofs::StoredKinds::no_front_as))]
-fn is_front<B: Backend>(rows: &Rows<B>, r: u64, entry: &EntryView) -> bool
+fn is_prefix<B: Backend>(rows: &Rows<B>, r: u64, entry: &EntryView) -> bool
     requires there { is_kept (shelf_of rows.now.entries) r ≡ true }
     ensures { (v : Representation) → IsViewOf v (cells_at (shelf_of rows.now.entries) r) entry.now
-        → result ≡ is_front v }
+        → result ≡ is_prefix v }
 {
     if entry.size > 0 {
         rows.entries.covers(r, 0, entry.size)

@@ -6,7 +6,7 @@ ghost use Rattle.hc_stored.specs.Views.{view_of};
 ghost use Rattle.hc_state.specs.Candidates.{ExclusiveIs, HasMoreIs};
 ghost use Rattle.hc_state.specs.Stands.{Stands};
 
-use crate::writing::{if_running, writing_in};
+use crate::writer_group::{if_running, group_in};
 use hc_state::{Rows, Transaction};
 use hc_store::Backend;
 use hc_stored::EntryView;
@@ -25,7 +25,7 @@ pub fn exclusive_in<B: Backend>(rows: &Rows<B>, r: u64, entry: &EntryView) -> Op
     requires entry { option_map view_of ((shelf_of rows.now.entries).kept r) ≡ Some entry.now }
     ensures { ExclusiveIs rows.now r result }
 {
-    if writing_in(rows, entry).is_some() {
+    if group_in(rows, entry).is_some() {
         return None;
     }
     let c = entry.first?;

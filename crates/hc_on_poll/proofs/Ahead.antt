@@ -16,7 +16,7 @@ use Rattle.hc_on_poll.proofs.ReadLemmas.{some_more}
 -- what is read from the store, and how the tables see that
 pub record IsAhead (f : Cells) (reach o want : ℕ) (hi : Option ℕ) (run : Run) : Type 0 where
   pub m : Run
-  pub told : stretch_to f reach o want ≡ Some m
+  pub reported : stretch_to f reach o want ≡ Some m
   pub upto : cut_at hi (end_of m) ≡ end_of run
   pub cut : cut_at hi (end_of run) ≡ end_of run
   pub given : stretch_to f reach o (end_of run - o) ≡ Some run
@@ -169,7 +169,7 @@ module _ (f : Cells) (reach o want : ℕ) (hi : Option ℕ) (ends : EndsBy reach
     ahead z is =
         subst (λ (y : Run). IsAhead f reach o want hi y) (some_is run z (sym read.1 ∙ is)) (record {
           m = m;
-          told = seen.1;
+          reported = seen.1;
           upto = ap (cut_at hi) (ap (λ (z : ℕ). z + n) is_m.from) ∙ (before_end hi refl ∙ sym end_run);
           cut = ap (cut_at hi) end_run ∙ (cut_here hi refl ∙ sym end_run);
           given = stretch-only f o (min (end_of run - o) (reach - o)) run exactly;

@@ -14,7 +14,7 @@ use Rattle.hc_entry.specs.Keys.{kept_of}
 use Rattle.hc_exch.specs.{Exchanges.{table_of}, Known.{Known, with_asking}, declared.row.Open.{Open}}
 use Rattle.hc_exch.specs.Exchanges as exch
 use Rattle.hc_model.specs.Rows as rows
-use Rattle.hc_state.specs.{Stored.{is_over}, declared.{rows.Rows.{Rows}}, Handlers.{asked_in}, Kept.{IsKept, KeepsConsumer, KeepsExchange, KeepsRunning, head_in, answer_at, held_for, held_of, held_alone, unstored_bytes}, Lines.{KeepsKey, is_away, is_away_at}, Stands.{RowsStand}}
+use Rattle.hc_state.specs.{Stored.{is_over}, declared.rows.Rows.{Rows}, Handlers.{asked_in}, Kept.{IsKept, KeepsConsumer, KeepsExchange, KeepsRunning, head_in, answer_at, held_for, held_of, held_alone, unstored_bytes}, Lines.{KeepsKey, is_away, is_away_at}, Stands.{RowsStand}}
 use Rattle.hc_txn.specs.declared.transaction.Transaction.{Transaction as Consumer}
 use Rattle.hc_state.proofs.{Fallbacks.{same, held_alike}, OneOfEach.{entries_same, growing_same}, ReaderSteps.{entries_read}, Ties.{exchange_same, key_same}}
 

@@ -3,7 +3,7 @@
 -- It read nothing, and is bound and shown a head now: its row is rebuilt (`bound_kept`), and in its key it waits no
 -- more. By `BoundHandler` nothing is held otherwise, and the entry has one user more. All else stays by `stands_then`,
 -- since no exchange changes (`stands_bound`). What is shown is the part that the plan says of the stored length, which
--- is that of the tables (`shows_told`, `part_ends`, `current_total`). `bind` uses `bind_answered`.
+-- is that of the tables (`shows_reported`, `part_ends`, `current_total`). `bind` uses `bind_answered`.
 use Rattle.std.{proofs.Common.{◌≡◌, ◌≢◌, ℕ, ◌+◌, List, ◌∷◌, [], ◌++◌, Bool, true, Option, Some, None, refl, ap, sym, ◌∙◌, subst, arith, inl, inr}, specs.{Prelude.{nat_eq, is_some, option_map}, HashMap.{get}, Option.{option_or}}}
 use Rattle.hc_store.specs.declared.backend.Backend.{Ghosts}
 use Rattle.hc_entry.specs.Keys.{kept_of}
@@ -16,10 +16,9 @@ use Rattle.hc_validate.specs.Showing.{shown_response}
 use Rattle.hc_exch.specs.Exchanges.{table_of, next_of}
 use Rattle.hc_model.specs.Rows as rows
 use Rattle.hc_effects.proofs.ShowEffects.{shows_new}
-use Rattle.hc_state.specs.{declared.{rows.Rows.{Rows}}, Handlers.{IsLeft, LeavesLine}, Changes.{Numbered, ChangesAt}, Kept.{IsKept, KeepsConsumer, KeepsExchange, held_for}, Lines.{KeepsKey}, Plans.{is_idle_at, begin_of, end_of, shows_part, HasCurrent}, Stands.{Answered, RowsStand}, Stored.{KeepsEntries}}
-use Rattle.hc_txn.specs.declared.transaction.Transaction.{Transaction as Consumer}
-use Rattle.hc_txn.specs.Transactions.{bound_shown}
-use Rattle.hc_state.proofs.{Answering.{does_answered}, Fallbacks.{answer_fallback}, FallbackSteps.{length_same, live_same}, Counting.{stands_counted}, CurrentTies.{now_kept, total_told}, KeySteps.{apart_unsaid}, Maps.{known_of}, OneOfEach.{stands_then}, QueueHandler.{becomes_by}, Ties.{exchange_same, key_same}}
+use Rattle.hc_state.specs.{declared.rows.Rows.{Rows}, Handlers.{IsLeft, LeavesLine}, Changes.{Numbered, ChangesAt}, Kept.{IsKept, KeepsConsumer, KeepsExchange, held_for}, Lines.{KeepsKey}, Plans.{is_idle_at, begin_of, end_of, shows_part, HasCurrent}, Stands.{Answered, RowsStand}, Stored.{KeepsEntries}}
+use Rattle.hc_txn.specs.{declared.transaction.Transaction.{Transaction as Consumer}, Transactions.{bound_shown}}
+use Rattle.hc_state.proofs.{Answering.{does_answered}, Fallbacks.{answer_fallback}, FallbackSteps.{length_same, live_same}, Counting.{stands_counted}, CurrentTies.{now_kept, total_reported}, KeySteps.{apart_unsaid}, Maps.{known_of}, OneOfEach.{stands_then}, QueueHandler.{becomes_by}, Ties.{exchange_same, key_same}}
 use Rattle.hc_on_poll.proofs.{BoundHandler.{held_bound, entry_with, entries_bound}, OpenHandler.{unread_yet}, PassesHandler.{current_as}, PastHandler.{idle_reads, idle_lives, keys_past}}
 use Rattle.hc_text.proofs.Basics.{eqb-other, eqb-same, same_or, some_inj as some_is}
 
@@ -103,15 +102,15 @@ module _ {B : Type 0} {g : Ghosts B} {limits : Limits} (r mid : Rows B g) (a : E
           held_bound t s law c q lo hi by.Plan v w now.p row here others (idle_reads v.place v_idle) refl (λ n. refl) refl refl now.row now.stays kinds y e
 
   pub bind_answered : (faults now want : ℕ) (why : Why) (head : Response) (before out : List Act) → move_of t now want c v ≡ Shows q why head lo hi → out ≡ before ++ (act.Shown c q why head.status head.fields lo hi ∷ []) → Answered limits faults u t before out now (event.Poll c want)
-  bind_answered faults now want why head before out is told =
+  bind_answered faults now want why head before out is reported =
       does_answered limits faults u t (with_event now (event.Poll c want) s) before out (acts_of c (Shows q why head lo hi)) now (event.Poll c want)
-      (shows_new limits t law now c want v row q why head lo hi is (idle_reads v.place v_idle)) refl refl told (stands_counted u s now (event.Poll c want) refl stands_bound)
+      (shows_new limits t law now c want v row q why head lo hi is (idle_reads v.place v_idle)) refl refl reported (stands_counted u s now (event.Poll c want) refl stands_bound)
 
 -- WHAT IS TOLD OF THE PART
 
 -- what is shown is the part that its plan says
-pub shows_told : (q : ℕ) (head : Head) (why : Why) (span : Option Span) (k : Consumer) (lo : ℕ) (hi : Option ℕ) (ranged : Bool) (response : Response) → lo ≡ begin_of span → hi ≡ end_of span head.total → ranged ≡ is_some k.class.range → response ≡ shown_response head why (span_to lo hi) ranged → shows_part q head why span k ≡ Shows q why response lo hi
-shows_told q head why span k lo hi ranged response from to range told = rw (told, range, from, to) refl
+pub shows_reported : (q : ℕ) (head : Head) (why : Why) (span : Option Span) (k : Consumer) (lo : ℕ) (hi : Option ℕ) (ranged : Bool) (response : Response) → lo ≡ begin_of span → hi ≡ end_of span head.total → ranged ≡ is_some k.class.range → response ≡ shown_response head why (span_to lo hi) ranged → shows_part q head why span k ≡ Shows q why response lo hi
+shows_reported q head why span k lo hi ranged response from to range reported = rw (reported, range, from, to) refl
 
 -- it ends where the span does, or what is stored
 pub part_ends : (row : Option Representation) (head : Head) (span : Option Span) (hi : Option ℕ) → hi ≡ end_of span head.total → head.total ≡ total_in row → hi ≡ option_or hi (total_in row)
@@ -127,4 +126,4 @@ pub current_total : {B : Type 0} {g : Ghosts B} {limits : Limits} (r : Rows B g)
 current_total r t key q head stands at is =
     let now = now_kept r t stands key q at in
     let same = some_is now.e.head head (sym (ap (option_map (λ (e : Kept). e.head)) now.kept) ∙ is) in
-    ap (λ (h : Head). h.total) (sym same) ∙ (total_told t q now.e now.p now.is now.stays ∙ sym (ap total_in now.row))
+    ap (λ (h : Head). h.total) (sym same) ∙ (total_reported t q now.e now.p now.is now.stays ∙ sym (ap total_in now.row))

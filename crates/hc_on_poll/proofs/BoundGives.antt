@@ -16,9 +16,8 @@ use Rattle.hc_exch.specs.{Exchanges.{table_of, next_of}, Known.{Known, with_aski
 use Rattle.hc_model.specs.Moves as moves
 use Rattle.hc_model.specs.Rows as rows
 use Rattle.hc_effects.proofs.{AskEffects.{asks}, GiveEffects.{gives_bytes}, WaitEffects.{waits_on}}
-use Rattle.hc_state.specs.{declared.{rows.Rows.{Rows}}, Handlers.{asks_or_waits, asked_in, given_acts}, Changes.{ChangesAt}, Facts.{Facts}, Kept.{KeepsExchange, KeepsRunning, held_for, held_of, held_alone, unread, unstored_bytes, first_lacking}, Stands.{RowsStand, Answered}}
-use Rattle.hc_txn.specs.declared.transaction.Transaction.{Transaction as Consumer}
-use Rattle.hc_txn.specs.Transactions.{once_given}
+use Rattle.hc_state.specs.{declared.rows.Rows.{Rows}, Handlers.{asks_or_waits, asked_in, given_acts}, Changes.{ChangesAt}, Facts.{Facts}, Kept.{KeepsExchange, KeepsRunning, held_for, held_of, held_alone, unread, unstored_bytes, first_lacking}, Stands.{RowsStand, Answered}}
+use Rattle.hc_txn.specs.{declared.transaction.Transaction.{Transaction as Consumer}, Transactions.{once_given}}
 use Rattle.hc_state.proofs.{Answering.{does_answered}, Counting.{stands_counted}, QueueHandler.{becomes_by}, ReaderSteps.{held_same, exchange_reading, stands_reading}, Ties.{runs_same}}
 use Rattle.hc_on_poll.proofs.{Asking.{stands_asked, stands_asked_already}, BoundViews.{Holds, absent_here, offset_is, unstored_own, unread_bound}, ShowStored.{IsBoundRow}, ReadPast.{itself}}
 use Rattle.hc_partial.proofs.HoleLemmas.{present-none}

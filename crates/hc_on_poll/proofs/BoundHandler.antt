@@ -5,17 +5,15 @@
 -- alone, where nobody did (`entry_first`). It is the last one used then, so the order has the work: filtering and
 -- moving to the front may be swapped (`entries_bound`). `BindHandler` and `FirstHandler` use these.
 use Rattle.std.{proofs.Common.{◌≡◌, ◌≢◌, inl, inr, ℕ, List, [], ◌∷◌, Bool, true, false, Option, Some, None, refl, ap, sym, ◌∙◌, subst}, specs.Prelude.{filter, not, option_map, ◌==◌, ◌&&◌}}
-use Rattle.hc_text.proofs.Basics.{eqb-other, eqb-same, false_true, same_or, same_some as same_row, and_off as then_false}
-use Rattle.hc_text.specs.Sorted.{has, with_item, without}
-use Rattle.hc_text.proofs.SortedLemmas.{has-with}
+use Rattle.hc_text.proofs.{Basics.{eqb-other, eqb-same, false_true, same_or, same_some as same_row, and_off as then_false}, SortedLemmas.{has-with}}
+use Rattle.hc_text.specs.Sorted.{has, with_item, without, itself}
 use Rattle.hc_stored.specs.{Kept.{Kept, with_user, with_first}, Shelf.{Shelf, Becomes, moved_first}}
-use Rattle.hc_text.specs.Sorted.{itself}
 use Rattle.hc_effects.proofs.Vocabulary.{Place, BoundBy, is_number, family, kind_of, Lawful, reads, is_bound, is_bound_place, Tables, Exchange, Representation, came_alone, place, by, bound}
 use Rattle.hc_effects.proofs.Tests.{and_false, none_some}
 use Rattle.hc_model.specs.Rows as rows
-use Rattle.hc_state.specs.{Kept.{held_for, held_of, held_alone, unread, unstored_bytes}, Stored.{IsEntry, KeepsEntry, KeepsEntries, is_first, is_usable_row, TellsLength}}
+use Rattle.hc_state.specs.{Kept.{held_for, held_of, held_alone, unread, unstored_bytes}, Stored.{IsEntry, KeepsEntry, KeepsEntries, is_first, is_usable_row, KnowsLength}}
 use Rattle.hc_state.specs.Stored as stored
-use Rattle.hc_state.proofs.{Fallbacks.{unread_fallback, unstored_fallback, unstored_moved}, FallbackSteps.{first_fallback}, CurrentTies.{stays_stored, total_told}, OneOfEach.{first_row, bound_same}, Ties.{entry_same, OversStay, writer_then}}
+use Rattle.hc_state.proofs.{Fallbacks.{unread_fallback, unstored_fallback, unstored_moved}, FallbackSteps.{first_fallback}, CurrentTies.{stays_stored, total_reported}, OneOfEach.{first_row, bound_same}, Ties.{entry_same, OversStay, writer_then}}
 
 -- LISTS
 
@@ -108,7 +106,7 @@ module _ (t s : Tables) (law : Lawful t) (c q lo : ℕ) (hi : Option ℕ) (how :
         IsEntry s q (record (with_user c e) { first = first }) p
     entry_by overs first firsts =
         let used : p.is_gone ≡ true → bound s q ≢ [] = λ gone. false_true (sym stays ∙ gone) in
-        let length : TellsLength (record (with_user c e) { first = first }) p = stored.told (total_told t q e p is stays) in
+        let length : KnowsLength (record (with_user c e) { first = first }) p = stored.reported (total_reported t q e p is stays) in
         assumption (
           is,
           used,

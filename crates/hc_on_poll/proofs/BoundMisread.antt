@@ -6,7 +6,7 @@ use Rattle.hc_effects.proofs.Vocabulary.{Act, Event, Limits, BoundBy, is_bound_p
 use Rattle.hc_event.specs.declared.event.Event.TheVariants as event
 use Rattle.hc_stored.specs.{declared.entries.Entries.{Entries}, Entries.{shelf_of}, Kept.{Kept}, Shelf.{Shelf, Stays, cells_at, cells_in}}
 use Rattle.hc_sparse.specs.{Stretch.{stretch}, declared.run.Run.{Run}}
-use Rattle.hc_state.specs.{Handlers.{most}, declared.{rows.Rows.{Rows}}, Facts.{Facts}, Reads.{AnswersMisread, IsBoundBy, IsRunAhead, ReadsStore, bound, run_ahead}, Stands.{RowsStand, Answered, Answers}}
+use Rattle.hc_state.specs.{Handlers.{most}, declared.rows.Rows.{Rows}, Facts.{Facts}, Reads.{AnswersMisread, IsBoundBy, IsRunAhead, ReadsStore, bound, run_ahead}, Stands.{RowsStand, Answered, Answers}}
 use Rattle.hc_txn.specs.declared.transaction.Transaction.{Transaction as Consumer}
 use Rattle.hc_on_poll.specs.{Readers.{reader_of}, declared.read.Reader.{Reader}}
 use Rattle.hc_on_poll.proofs.{PlanHandlers.{read_stands}, ShowStored.{bound_row_of}}

@@ -6,7 +6,7 @@
 -- (`hole_move`). The last module bounds the numbers. `ReadOn` uses these for `read_on`.
 use Rattle.std.{proofs.{Common.{◌≡◌, ◌⊎◌, inl, inr, ℕ, ◌+◌, ◌-◌, ◌<◌, ◌≤◌, ◌^◌, min, Bool, true, false, Option, Some, None, refl, ap, ap₂, sym, ◌∙◌, subst, arith}, lemmas.{Bool.Decides.{nat_tests}, List.{length-drop, length-take}}}, specs.{Prelude.{List, length, take, unwrap_or, is_some, is_none, nat_eq, nat_lt, option_and_then, option_map, ◌==◌, ◌&&◌, if◌then◌else◌}, Option.{option_or}}}
 use Rattle.hc_text.proofs.Basics.{eqb-same, false_true, none_of, same_or, same_some as same_row, some_inj as some_is}
-use Rattle.hc_effects.proofs.Vocabulary.{Limits, Cause, Request, ReadStep, ReadView, read_step, is_at_end, cut_at, stored_or, held_or, fails_or, waits_or, hole_end, BoundBy, Place, is_number, total_in, base, is_headless, is_open, stretch_to, Move, Opens, Gives, Ends, Fails, gives, waits_for, opens_hole, hole_request, planned_move, move_of, shows_head, shows_at, if_headless, waits_for_head, by_place, or_else, own_open, shared_exchange, source, offset, hi_of, lo_of, if_open, is_written, writing_in, Numbers, Tables, Exchange, Representation, IsBound, IsFirst, IsExclusiveWriter, IsServed, came_alone, reading, step_move, later_hole, run_held_for, stored_ahead, next_stored, run_of, need, wait, place}
+use Rattle.hc_effects.proofs.Vocabulary.{Limits, Cause, Request, ReadStep, ReadView, read_step, is_at_end, cut_at, stored_or, held_or, fails_or, waits_or, hole_end, BoundBy, Place, is_number, total_in, base, is_headless, is_open, stretch_to, Move, Opens, Gives, Ends, Fails, gives, waits_for, opens_hole, hole_request, planned_move, move_of, shows_head, shows_at, if_headless, waits_for_head, by_place, or_else, own_open, shared_exchange, source, offset, hi_of, lo_of, if_open, is_written, group_in, Numbers, Tables, Exchange, Representation, IsBound, IsFirst, IsExclusiveWriter, IsServed, came_alone, reading, step_move, later_hole, run_held_for, stored_ahead, next_stored, run_of, need, wait, place}
 use Rattle.hc_store.specs.declared.backend.Backend.{Ghosts}
 use Rattle.hc_range.specs.{Spans.{IsWithin}, declared.range.Span.{Span}}
 use Rattle.hc_record.specs.Head.{Head}
@@ -22,7 +22,7 @@ use Rattle.hc_model.specs.Rows as rows
 use Rattle.hc_model.specs.Sound as sound
 use Rattle.hc_effects.proofs.{ExclusiveWriters.{writer_some}, Tests.{none_some}}
 use Rattle.hc_model.specs.Steps as steps
-use Rattle.hc_state.specs.{declared.{rows.Rows.{Rows}}, Handlers.{most, asks_or_waits, asked_in}, Facts.{Facts}, Kept.{KeepsRunning}, Leaving.{if_running, writing_of}, Reads.{goes_alone, held_own, bound_view, headless_own, is_headless_open, WaitsForNoHead, IsRunAhead, ReadViewIs}, Stands.{RowsStand}, Stored.{IsEntry, TellsLength, told, untold}}
+use Rattle.hc_state.specs.{declared.rows.Rows.{Rows}, Handlers.{most, asks_or_waits, asked_in}, Facts.{Facts}, Kept.{KeepsRunning}, Leaving.{if_running, writer_group_of}, Reads.{goes_alone, held_own, bound_view, headless_own, is_headless_open, WaitsForNoHead, IsRunAhead, ReadViewIs}, Stands.{RowsStand}, Stored.{IsEntry, KnowsLength, reported, unreported}}
 use Rattle.hc_txn.specs.declared.transaction.Transaction.{Transaction as Consumer}
 use Rattle.hc_on_poll.proofs.{Ahead.{IsAhead, ahead, none_ahead}, BoundViews.{Holds, next_as, offset_is, entry_there, entry_is, cells_are, ends_by, bound_at, ahead_is, next_ahead, source_is, held_is, held_same, holds_something, lost_run}, ReadLemmas.{third_is, some_more}, ShowStored.{IsBoundRow, headless_as}}
 use Rattle.hc_on_poll.proofs.ReadLemmas as lemmas
@@ -203,15 +203,15 @@ module _ {B : Type 0} {g : Ghosts B} {limits : Limits} (r : Rows B g) (t : Table
       f = rd.p.stored
 
       abbrev from : Option ℕ
-      from = option_or (if_running table k.own) (writing_of table ((shelf_of r.entries).kept q))
+      from = option_or (if_running table k.own) (writer_group_of table ((shelf_of r.entries).kept q))
 
       abbrev is_held : Bool
       is_held = goes_alone c ((shelf_of r.entries).kept q) && nat_lt 0 (held_own table k.own)
 
-      abbrev hole_told : Span
-      hole_told = record { lo = o; hi = hole_end k.hi o (next_stored t rd.v) }
+      abbrev hole_reported : Span
+      hole_reported = record { lo = o; hi = hole_end k.hi o (next_stored t rd.v) }
 
-      model_step : read_step (steps.read_view t want c rd.v) ≡ by_parts (is_at_end k.hi o) k.hi (option_map end_of (stored_ahead t rd.v want)) (is_some (run_held_for t c rd.v want)) k.due from hole_told
+      model_step : read_step (steps.read_view t want c rd.v) ≡ by_parts (is_at_end k.hi o) k.hi (option_map end_of (stored_ahead t rd.v want)) (is_some (run_held_for t c rd.v want)) k.due from hole_reported
       model_step = step_parts (steps.read_view t want c rd.v) ∙ view_same _ _ _ _ (option_map end_of (stored_ahead t rd.v want)) (is_some (run_held_for t c rd.v want)) _ _ _ _ _ _ (sym (offset_is r t facts stands c q how k rd)) (sym rd.kept.ends) (sym rd.kept.due) (source_is r t facts stands c q how k rd) refl
 
       -- what was read of the store, where it isn't at the end
@@ -239,7 +239,7 @@ module _ {B : Type 0} {g : Ghosts B} {limits : Limits} (r : Rows B g) (t : Table
               by_run None none on = absurd (let absent : f o ≡ None = (stretch-absent f o count).0 (sym (read_run off) ∙ none) in false_true (sym (ap (λ (z : Option Cell). is_some z) absent) ∙ on))
               by_run (Some z) is on =
                   let a = ahead f rd.p.reach o want k.hi (ends_by r t facts stands c q how k rd) wants off on z (sym (read_run off) ∙ is) in
-                  let seen : stored_ahead t rd.v want ≡ Some a.m = ahead_is r t facts stands c q how k rd want ∙ a.told in
+                  let seen : stored_ahead t rd.v want ≡ Some a.m = ahead_is r t facts stands c q how k rd want ∙ a.reported in
                   sees_stored k.hi (stored_ahead t rd.v want) run a.m z (is_some (run_held_for t c rd.v want)) is_held seen is (a.upto ∙ sym a.cut)
 
           by_end : (b : Bool) → is_at_end k.hi o ≡ b → SeesAhead k.hi b (option_map end_of (stored_ahead t rd.v want)) (option_map end_of run) (is_some (run_held_for t c rd.v want)) is_held
@@ -247,14 +247,14 @@ module _ {B : Type 0} {g : Ghosts B} {limits : Limits} (r : Rows B g) (t : Table
           by_end false is = by_cell is (f o) refl
 
       -- what it does is the step of its parts
-      reads_parts : move_of t now want c rd.v ≡ step_move t want c rd.v (by_parts (is_at_end k.hi o) k.hi (option_map end_of run) is_held k.due from hole_told)
+      reads_parts : move_of t now want c rd.v ≡ step_move t want c rd.v (by_parts (is_at_end k.hi o) k.hi (option_map end_of run) is_held k.due from hole_reported)
       reads_parts =
-          reads_on ∙ ap (step_move t want c rd.v) (model_step ∙ same_step k.hi (is_at_end k.hi o) (option_map end_of (stored_ahead t rd.v want)) (option_map end_of run) (is_some (run_held_for t c rd.v want)) is_held k.due from hole_told sees)
+          reads_on ∙ ap (step_move t want c rd.v) (model_step ∙ same_step k.hi (is_at_end k.hi o) (option_map end_of (stored_ahead t rd.v want)) (option_map end_of run) (is_some (run_held_for t c rd.v want)) is_held k.due from hole_reported sees)
 
       -- EACH STEP
 
       pub ends_move : is_at_end k.hi o ≡ true → move_of t now want c rd.v ≡ Ends
-      ends_move on = reads_parts ∙ ap (λ (b : Bool). step_move t want c rd.v (by_parts b k.hi (option_map end_of run) is_held k.due from hole_told)) on
+      ends_move on = reads_parts ∙ ap (λ (b : Bool). step_move t want c rd.v (by_parts b k.hi (option_map end_of run) is_held k.due from hole_reported)) on
 
       -- what is stored ahead of it is read
       pub record Reads (z : Run) : Type 0 where
@@ -273,8 +273,8 @@ module _ {B : Type 0} {g : Ghosts B} {limits : Limits} (r : Rows B g) (t : Table
       stored_move off z is =
           let stretched : stretch f o count ≡ Some z = sym (read_run off) ∙ is in
           let a = ahead f rd.p.reach o want k.hi (ends_by r t facts stands c q how k rd) wants off (there_of z stretched) z stretched in
-          let upto : by_parts (is_at_end k.hi o) k.hi (option_map end_of run) is_held k.due from hole_told ≡ step.Stored (cut_at k.hi (end_of z)) =
-          ap (λ (b : Bool). by_parts b k.hi (option_map end_of run) is_held k.due from hole_told) off ∙ ap (λ (y : Option Run). by_parts false k.hi (option_map end_of y) is_held k.due from hole_told) is in
+          let upto : by_parts (is_at_end k.hi o) k.hi (option_map end_of run) is_held k.due from hole_reported ≡ step.Stored (cut_at k.hi (end_of z)) =
+          ap (λ (b : Bool). by_parts b k.hi (option_map end_of run) is_held k.due from hole_reported) off ∙ ap (λ (y : Option Run). by_parts false k.hi (option_map end_of y) is_held k.due from hole_reported) is in
           let less : cut_at k.hi (end_of z) - offset t rd.v ≡ end_of z - o = ap₂ (λ (m i : ℕ). m - i) a.cut (sym (offset_is r t facts stands c q how k rd)) in
           let given : stored_ahead t rd.v (cut_at k.hi (end_of z) - offset t rd.v) ≡ Some z = ap (stored_ahead t rd.v) less ∙ (ahead_is r t facts stands c q how k rd (end_of z - o) ∙ a.given) in
           record { read_is = is; ahead_of = a; move_is = (reads_parts ∙ ap (step_move t want c rd.v) upto) ∙ ap gives given }
@@ -363,9 +363,9 @@ module _ {B : Type 0} {g : Ghosts B} {limits : Limits} (r : Rows B g) (t : Table
             by_test true on same = ap (λ (n : ℕ). known.is_open n table) (sym (some_is y x same)) ∙ on
             by_test false off same = none_some x same
 
-        writing_open : (e : Option entry.Kept) (x : ℕ) → writing_of table e ≡ Some x → known.is_open x table ≡ true
-        writing_open None x is = none_some x is
-        writing_open (Some e) x is = by_lost e.is_lost is
+        group_open : (e : Option entry.Kept) (x : ℕ) → writer_group_of table e ≡ Some x → known.is_open x table ≡ true
+        group_open None x is = none_some x is
+        group_open (Some e) x is = by_lost e.is_lost is
           where
             by_lost : (b : Bool) → (if b then None else if_running table e.writer) ≡ Some x → known.is_open x table ≡ true
             by_lost true is = none_some x is
@@ -374,8 +374,8 @@ module _ {B : Type 0} {g : Ghosts B} {limits : Limits} (r : Rows B g) (t : Table
         source_open : (x : ℕ) → from ≡ Some x → known.is_open x table ≡ true
         source_open x is = by_own (if_running table k.own) refl is
           where
-            by_own : (own : Option ℕ) → if_running table k.own ≡ own → option_or own (writing_of table ((shelf_of r.entries).kept q)) ≡ Some x → known.is_open x table ≡ true
-            by_own None none is = writing_open ((shelf_of r.entries).kept q) x is
+            by_own : (own : Option ℕ) → if_running table k.own ≡ own → option_or own (writer_group_of table ((shelf_of r.entries).kept q)) ≡ Some x → known.is_open x table ≡ true
+            by_own None none is = group_open ((shelf_of r.entries).kept q) x is
             by_own (Some y) some is = open_of k.own x (some ∙ is)
 
         asked_same : (x : ℕ) (on : Option Open) (row : Option Exchange) → is_some on ≡ true → KeepsRunning t x on row → waits_for x row ≡ asks_or_waits (asked_in on) x
@@ -424,7 +424,7 @@ module _ {B : Type 0} {g : Ghosts B} {limits : Limits} (r : Rows B g) (t : Table
           not_written : is_written t rd.p ≡ true → ⊥
           not_written on =
               let none : shared_exchange t rd.v.place ≡ None = (parts_none (own_open t rd.v) (shared_exchange t rd.v.place) no_source).1 in
-              let writer : rd.p.writer ≡ None = sym (ap (λ (b : Bool). if b then rd.p.writer else None) on) ∙ (sym (ap (writing_in t) rd.there) ∙ (sym (ap (shared_exchange t) rd.at) ∙ none)) in
+              let writer : rd.p.writer ≡ None = sym (ap (λ (b : Bool). if b then rd.p.writer else None) on) ∙ (sym (ap (group_in t) rd.there) ∙ (sym (ap (shared_exchange t) rd.at) ∙ none)) in
               writer_some t rd.p on writer
 
           not_covered : (n : ℕ) → hi_of t rd.v.place ≡ Some n → Covers f (offset t rd.v) n → ⊥
@@ -518,8 +518,8 @@ module _ {B : Type 0} {g : Ghosts B} {limits : Limits} (r : Rows B g) (t : Table
               (stretch-absent rd.p.body o (min want (rd.p.reach - o))).0 run_is_none
 
           -- it is told
-          told_length : e.head.total ≡ rd.p.head.total
-          told_length = by_length in_entry.length
+          reported_length : e.head.total ≡ rd.p.head.total
+          reported_length = by_length in_entry.length
             where
               by_along : (n : ℕ) → rd.p.head.total ≡ Some n → Covers rd.p.body 0 n → IsAlong → ⊥
               by_along n known came (first fresh is_first) =
@@ -533,12 +533,12 @@ module _ {B : Type 0} {g : Ghosts B} {limits : Limits} (r : Rows B g) (t : Table
                   let same : length_is.0 ≡ n = some_is length_is.0 n (sym length_is.1 ∙ known) in
                   false_true (sym (ap (λ (z : Option Cell). is_some z) (none_held lost is_alone)) ∙ came o (omega arith) (omega (arith, lt, le, same)))
 
-              by_length : TellsLength e rd.p → e.head.total ≡ rd.p.head.total
-              by_length (told same) = same
-              by_length (untold u) = absurd (by_along u.total u.known u.came along)
+              by_length : KnowsLength e rd.p → e.head.total ≡ rd.p.head.total
+              by_length (reported same) = same
+              by_length (unreported u) = absurd (by_along u.total u.known u.came along)
 
           total_known : e.head.total ≡ Some length_is.0
-          total_known = told_length ∙ length_is.1
+          total_known = reported_length ∙ length_is.1
 
           -- the hole ends where something is, or the reader does
           more_ahead : (z : Option ℕ) → IsNext (cells_at (shelf_of r.entries) q) o z → (o < hole_end (Some h) o z) × (hole_end (Some h) o z ≤ h)
@@ -576,7 +576,7 @@ module _ {B : Type 0} {g : Ghosts B} {limits : Limits} (r : Rows B g) (t : Table
               requests =
                   ap (λ (z : Head). hole_request z rd.v.request other (unwrap_or rd.p.head.total 0)) (sym in_entry.head)
                   ∙ (ap (λ (z : Request). hole_request e.head z other (unwrap_or rd.p.head.total 0)) (sym rd.kept.request)
-                  ∙ ap (λ (z : Option ℕ). hole_request e.head k.request other (unwrap_or z 0)) (sym told_length))
+                  ∙ ap (λ (z : Option ℕ). hole_request e.head k.request other (unwrap_or z 0)) (sym reported_length))
 
           pub hole_move : FillsHole other
           hole_move = record {

@@ -16,9 +16,9 @@ use Rattle.hc_model.specs.Origins as origins
 use Rattle.hc_model.specs.Rows as rows
 use Rattle.hc_model.specs.Sound as sound
 use Rattle.hc_effects.proofs.{Basics.{same_functions, some_row, number_is as is_it}, HoleLemmas.{first_from, first_before, first_passes}, Tests.{none_some}}
-use Rattle.hc_state.specs.{declared.{rows.Rows.{Rows}}, Facts.{Facts}, Kept.{held_for, held_of, held_alone, unread, unstored_bytes, first_lacking}, Leaving.{if_running, writing_of}, Reads.{goes_alone, held_own}, Stands.{RowsStand}, Stored.{IsEntry}}
+use Rattle.hc_state.specs.{declared.rows.Rows.{Rows}, Facts.{Facts}, Kept.{held_for, held_of, held_alone, unread, unstored_bytes, first_lacking}, Leaving.{if_running, writer_group_of}, Reads.{goes_alone, held_own}, Stands.{RowsStand}, Stored.{IsEntry}}
 use Rattle.hc_txn.specs.declared.transaction.Transaction.{Transaction as Consumer}
-use Rattle.hc_state.proofs.LeftRows.{running_as, writing_as}
+use Rattle.hc_state.proofs.LeftRows.{running_as, group_as}
 use Rattle.hc_on_poll.proofs.{ReadLemmas.{run_some}, ShowStored.{IsBoundRow, bound_entry, bound_kept}}
 
 -- THE NEXT BYTE
@@ -218,8 +218,8 @@ module _ {B : Type 0} {g : Ghosts B} {limits : Limits} (r : Rows B g) (t : Table
   pub held_is : (n : ℕ) → run_held_for t c rd.v n ≡ held_of_lost c o n (Some rd.p)
   held_is n = ap (held_at t c (offset t rd.v) n) rd.at ∙ (ap (held_of_lost c (offset t rd.v) n) rd.there ∙ ap (λ (m : ℕ). held_of_lost c m n (Some rd.p)) (sym offset_is))
 
-  pub source_is : source t rd.v ≡ option_or (if_running (table_of r.exchanges) k.own) (writing_of (table_of r.exchanges) ((shelf_of r.entries).kept q))
-  source_is = ap₂ option_or (sym (running_as r t stands k.own ∙ ap (option_and_then (if_open t)) rd.kept.own)) (ap (shared_exchange t) rd.at ∙ sym (writing_as r t stands facts.law q))
+  pub source_is : source t rd.v ≡ option_or (if_running (table_of r.exchanges) k.own) (writer_group_of (table_of r.exchanges) ((shelf_of r.entries).kept q))
+  source_is = ap₂ option_or (sym (running_as r t stands k.own ∙ ap (option_and_then (if_open t)) rd.kept.own)) (ap (shared_exchange t) rd.at ∙ sym (group_as r t stands facts.law q))
 
   -- WHO HOLDS SOMETHING
 

@@ -6,24 +6,22 @@
 -- `seen_as` joins them for `candidate`; ages stay in range (`age_small`).
 use Rattle.std.{proofs.{Common.{◌≡◌, ℕ, ◌<◌, ◌≤◌, ◌^◌, List, [], ◌∷◌, Bool, true, false, min, Option, Some, None, refl, ap, sym, ◌∙◌, arith}, lemmas.Bool.Decides.{nat_tests}}, specs.{Prelude.{is_some, option_map, codes, nat_lt, not, slice_get, ◌&&◌, if◌then◌else◌}, Option.{option_and_then, unwrap_or}, Str.Parse.{digits_value}, Char.{is_ascii_digit}, List.{list_all}}}
 use Rattle.hc_text.proofs.Basics.{and_both as and_parts, some_inj as some_is}
-use Rattle.hc_effects.proofs.Vocabulary.{Limits, Request, Candidate, RequestClass, least, lesser, class_of, range_of, wanted_of, is_open, Lawful, candidate, hole_of, bound, is_bound, is_written, writing_in, Tables, Representation, exclusive}
+use Rattle.hc_effects.proofs.Vocabulary.{Limits, Request, Candidate, RequestClass, least, lesser, class_of, range_of, wanted_of, is_open, Lawful, candidate, hole_of, bound, is_bound, is_written, group_in, Tables, Representation, exclusive}
 use Rattle.hc_cachectl.specs.{Directives.{of_request, of_response}, Seconds.{plain_seconds, most_seconds}}
 use Rattle.hc_fields.specs.FirstValues.{first_value}
 use Rattle.hc_record.specs.{Head.{Head, sealed_head}, declared.{head.StoredHead.{StoredHead}, kind.Kind.{Kind, TheVariants.{the_data as kinds}}}, Plain.{plain}}
-use Rattle.hc_range.specs.{declared.range.Asked.{Asked}, Spans.{IsInOrder}}
+use Rattle.hc_range.specs.{declared.range.RangeSpec.{RangeSpec}, Spans.{IsInOrder}}
 use Rattle.hc_sparse.specs.Cells.{EndsBy}
-use Rattle.hc_text.specs.Sorted.{above, is_sorted}
+use Rattle.hc_text.specs.Sorted.{above, is_sorted, is_among, itself}
 use Rattle.hc_store.specs.{declared.backend.Backend.{Ghosts}, Slots.{Held}}
-use Rattle.hc_text.specs.Sorted.{is_among}
 use Rattle.hc_exch.specs.Exchanges.{table_of}
 use Rattle.hc_stored.specs.{declared.{entries.Entries.{Entries}, view.EntryView.{EntryView}}, Entries.{shelf_of}, Kept.{Kept}, Rows.{Row, rows_of, kept_by, kept_of}, Shelf.{cells_at, cells_in}, Views.{facts_in, view_of, bound_in}}
-use Rattle.hc_text.specs.Sorted.{itself}
 use Rattle.hc_fresh.specs.{declared.facts.HeadFacts.{HeadFacts}, Allowed.{allowed_by}, Lifetimes.{lifetime}, Vary.{matches_vary}, Ages.{age, age_value, corrected_initial_age}, Facts.{head_facts, allowed}}
 use Rattle.hc_model.specs.Rows as rows
 use Rattle.hc_effects.proofs.{Bounded.{range_order}, Tests.{none_some}}
-use Rattle.hc_state.specs.{declared.{rows.Rows.{Rows}}, Candidates.{hole_in, AllowedIs}, Facts.{Facts}, Kept.{IsKept}, Leaving.{writing_of}, Stands.{RowsStand}, Stored.{IsEntry}}
+use Rattle.hc_state.specs.{declared.rows.Rows.{Rows}, Candidates.{hole_in, AllowedIs}, Facts.{Facts}, Kept.{IsKept}, Leaving.{writer_group_of}, Stands.{RowsStand}, Stored.{IsEntry}}
 use Rattle.hc_txn.specs.declared.transaction.Transaction.{Transaction as Consumer}
-use Rattle.hc_state.proofs.{CurrentTies.{stored_ends, stays_stored, total_told, entry_at}, LeftRows.{writing_as}, TurnTies.{least_alike, filter_in, among_in}}
+use Rattle.hc_state.proofs.{CurrentTies.{stored_ends, stays_stored, total_reported, entry_at}, LeftRows.{group_as}, TurnTies.{least_alike, filter_in, among_in}}
 use Rattle.hc_on_poll.proofs.HoleTies.{hole_as}
 
 -- AGES
@@ -67,7 +65,7 @@ pub head_at_is : (o : Option Kept) (e : Kept) (head : StoredHead) → o ≡ Some
 head_at_is o e head at is = some_is e.head (plain head) (sym (ap (option_map (λ (k : Kept). k.head)) at) ∙ is)
 
 -- the range that is kept of a request is in order
-pub in_order : (t : Tables) (k : Consumer) (v : rows.Consumer) → IsKept t k v → (asked : Asked) → k.class.range ≡ Some asked → IsInOrder asked
+pub in_order : (t : Tables) (k : Consumer) (v : rows.Consumer) → IsKept t k v → (asked : RangeSpec) → k.class.range ≡ Some asked → IsInOrder asked
 in_order t k v kept asked is = range_order v.request asked (sym (ap (λ (z : RequestClass). z.range) kept.class_is ∙ range_of_class v.request) ∙ is)
 
 -- WHO IS BOUND FIRST
@@ -154,13 +152,13 @@ module _ {B : Type 0} {g : Ghosts B} {limits : Limits} (r : Rows B g) (t : Table
   stored = stored_ends t facts.law q p here (stays_stored t facts.law q p here stays)
 
   pub seen_as : (seen : Candidate) (view : EntryView) (head : StoredHead) → AllowedIs k.request now seen.allowed e → view_of e ≡ view → e.head ≡ plain head → seen.vary ≡ matches_vary (plain head) k.request → seen.span ≡ wanted_of k.class.range view.total
-      → seen.hole ≡ hole_in (cells_at (shelf_of r.entries) q) seen.span → seen.writing ≡ is_some (writing_of (table_of r.exchanges) ((shelf_of r.entries).kept q)) → seen.exclusive ≡ exclusive t q p → seen.least_bound ≡ slice_get (bound_in ((shelf_of r.entries).kept q)) 0
+      → seen.hole ≡ hole_in (cells_at (shelf_of r.entries) q) seen.span → seen.writer_group ≡ is_some (writer_group_of (table_of r.exchanges) ((shelf_of r.entries).kept q)) → seen.exclusive ≡ exclusive t q p → seen.least_bound ≡ slice_get (bound_in ((shelf_of r.entries).kept q)) 0
       → seen ≡ candidate t now q v.request p
   seen_as seen view head allows viewed head_is varies wants hole_is writes alone least_is =
       let span : seen.span ≡ wanted_of (range_of v.request) p.head.total =
       wants ∙ (ap (λ (z : RequestClass). wanted_of z.range view.total) is_kept.class_is
-      ∙ (ap (λ (o : Option Asked). wanted_of o view.total) (range_of_class v.request)
-      ∙ ap (wanted_of (range_of v.request)) (ap (λ (z : EntryView). z.total) (sym viewed) ∙ total_told t q e p is stays))) in
+      ∙ (ap (λ (o : Option RangeSpec). wanted_of o view.total) (range_of_class v.request)
+      ∙ ap (wanted_of (range_of v.request)) (ap (λ (z : EntryView). z.total) (sym viewed) ∙ total_reported t q e p is stays))) in
       let allowed_is : seen.allowed ≡ allowed p.head v.request now =
       allows ∙ (ap (λ (z : Request). allowed e.head z now) is_kept.request
       ∙ (sym (allowed_kind e.head kinds.Growing p.head.total v.request now) ∙ ap (λ (h : Head). allowed h v.request now) is.head)) in
@@ -170,8 +168,8 @@ module _ {B : Type 0} {g : Ghosts B} {limits : Limits} (r : Rows B g) (t : Table
       let hole : seen.hole ≡ hole_of p (wanted_of (range_of v.request) p.head.total) =
       hole_is ∙ (ap (λ (o : Option Kept). hole_in (λ n. cells_in o n) seen.span) kept
       ∙ (hole_as p e.cells stored is.cells seen.span ∙ ap (hole_of p) span)) in
-      let writing : seen.writing ≡ is_written t p =
-      writes ∙ (ap (λ (o : Option ℕ). is_some o) (writing_as r t stands facts.law q ∙ ap (writing_in t) here) ∙ written_as t p) in
+      let writer_group : seen.writer_group ≡ is_written t p =
+      writes ∙ (ap (λ (o : Option ℕ). is_some o) (group_as r t stands facts.law q ∙ ap (group_in t) here) ∙ written_as t p) in
       let least : seen.least_bound ≡ least (bound t q) =
       least_is ∙ (ap (λ (o : Option Kept). slice_get (bound_in o) 0) kept ∙ least_bound_as t facts.law q e p is (bound_ascends r.entries q e kept)) in
-      λ i. record { allowed = allowed_is i; vary = vary_is i; span = span i; hole = hole i; writing = writing i; exclusive = alone i; least_bound = least i }
+      λ i. record { allowed = allowed_is i; vary = vary_is i; span = span i; hole = hole i; writer_group = writer_group i; exclusive = alone i; least_bound = least i }

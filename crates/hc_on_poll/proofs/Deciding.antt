@@ -6,9 +6,8 @@ use Rattle.hc_entry.specs.{Keys.{line_of}, Lines.{turn_with}}
 use Rattle.hc_model.specs.Planning.{has_passed}
 use Rattle.hc_state.specs.{declared.rows.Rows.{Rows}, Plans.{plan_view}}
 use Rattle.hc_state.proofs.Passing.{passed_alike, kept_alike}
-use Rattle.hc_txn.specs.declared.transaction.Transaction.{Transaction}
+use Rattle.hc_txn.specs.{declared.transaction.Transaction.{Transaction}, Views.{plan_view_by}}
 use Rattle.hc_txn.specs.Transactions as txn
-use Rattle.hc_txn.specs.Views.{plan_view_by}
 
 abbrev view_with : ℕ → ℕ → ℕ → Transaction → Option Candidate → Bool → Option ℕ → PlanView
 view_with now c turn k o passed kept =

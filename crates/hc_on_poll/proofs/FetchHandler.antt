@@ -16,9 +16,8 @@ use Rattle.hc_effects.proofs.Vocabulary.{Act, Need, Request, Limits, route_of, i
 use Rattle.hc_exch.specs.{declared.{role.Role.TheVariants.{the_data as role}, exchanges.Exchanges.{Exchanges}}, Exchanges.{table_of, next_of}, Known.{with_new_exchange, Changes}}
 use Rattle.hc_model.specs.Rows as rows
 use Rattle.hc_effects.proofs.{LettingGo.{may_let_go}, TurnEffects.{fetches, bypasses}}
-use Rattle.hc_state.specs.{declared.{rows.Rows.{Rows}}, Changes.{Numbered, ChangesAt}, Facts.{Facts}, Kept.{IsKept, KeepsConsumer}, Lines.{KeepsKey, has_turn, is_passed, is_away}, Plans.{is_idle_at, in_line, tables_in_turn, IsNext, StandsInLine, BeginsTurn}, Stands.{Answered, RowsStand}}
-use Rattle.hc_txn.specs.declared.transaction.Transaction.{Transaction as Consumer}
-use Rattle.hc_txn.specs.Transactions.{lined_up, with_turn}
+use Rattle.hc_state.specs.{declared.rows.Rows.{Rows}, Changes.{Numbered, ChangesAt}, Facts.{Facts}, Kept.{IsKept, KeepsConsumer}, Lines.{KeepsKey, has_turn, is_passed, is_away}, Plans.{is_idle_at, in_line, tables_in_turn, IsNext, StandsInLine, BeginsTurn}, Stands.{Answered, RowsStand}}
+use Rattle.hc_txn.specs.{declared.transaction.Transaction.{Transaction as Consumer}, Transactions.{lined_up, with_turn}}
 use Rattle.hc_state.proofs.{Answering.{does_answered}, ConsumerSteps.{keys_with}, Counting.{stands_counted}, KeySteps.{says_elsewhere, lined, holds_key}, Maps.{becomes_then}, Ties.{key_same, kept_row}, TurnTies.{turn_next}}
 use Rattle.hc_on_leave.proofs.MayGo.{may_opened, may_with}
 use Rattle.hc_on_poll.specs.Keeps.{HasBegun}
@@ -181,9 +180,9 @@ module _ {B : Type 0} {g : Ghosts B} {limits : Limits} (r mid : Rows B g) (e : E
 
 module _ {B : Type 0} {g : Ghosts B} (limits : Limits) (faults : ℕ) (u : Rows B g) (t : Tables) (law : Lawful t) (now c want x : ℕ) (v : rows.Consumer) (row : t.consumer c ≡ Some v) (request : Request) (before out : List Act) where
   pub fetch_answered : (n : Need) → route_of n ≡ route.Turn → n ≢ need.Bypass → move_of t now want c v ≡ Opens x n request → out ≡ before ++ acts_of c (Opens x n request) → RowsStand limits u (tables_in_turn now c x n request v t) → Answered limits faults u t before out now (event.Poll c want)
-  fetch_answered n turns other is told stands =
+  fetch_answered n turns other is reported stands =
       does_answered limits faults u t (with_event now (event.Poll c want) (tables_in_turn now c x n request v t)) before out (acts_of c (Opens x n request)) now (event.Poll c want)
-      (fetches limits t law now c want v row x n request is turns other) refl refl told (stands_counted u (tables_in_turn now c x n request v t) now (event.Poll c want) refl stands)
+      (fetches limits t law now c want v row x n request is turns other) refl refl reported (stands_counted u (tables_in_turn now c x n request v t) now (event.Poll c want) refl stands)
 
   -- then what is current may go
   pub may_go : (n : Need) → MayLetGo (tables_in_turn now c x n request v t)
@@ -192,27 +191,27 @@ module _ {B : Type 0} {g : Ghosts B} (limits : Limits) (faults : ℕ) (u : Rows 
       may_with (with_opening x z t) c v (record v { own = Some x; place = place.Turn x }) row refl (may_opened t x z (may_let_go t law))
 
   pub bypass_answered : move_of t now want c v ≡ Opens x need.Bypass request → out ≡ before ++ acts_of c (Opens x need.Bypass request) → RowsStand limits u (let_some_go now (current t v.request.key) (tables_in_turn now c x need.Bypass request v t)) → Answered limits faults u t before out now (event.Poll c want)
-  bypass_answered is told stands =
+  bypass_answered is reported stands =
       let s : Tables = let_some_go now (current t v.request.key) (tables_in_turn now c x need.Bypass request v t) in
       does_answered limits faults u t (with_event now (event.Poll c want) s) before out (acts_of c (Opens x need.Bypass request)) now (event.Poll c want)
-      (bypasses limits t law now c want v row x request is) refl refl told (stands_counted u s now (event.Poll c want) refl stands)
+      (bypasses limits t law now c want v row x request is) refl refl reported (stands_counted u s now (event.Poll c want) refl stands)
 
 -- what is asked in its turn is answered
 pub asked_answered : {B : Type 0} {g : Ghosts B} {limits : Limits} (r u : Rows B g) (t : Tables) (facts : Facts limits t) (now c want x : ℕ) (v : rows.Consumer) → RowsStand limits r t → t.consumer c ≡ Some v → (n : Need) → route_of n ≡ route.Turn → n ≢ need.Bypass → (request asked : Request) → request ≡ asked
     → move_of t now want c v ≡ Opens (next_of r.exchanges) n asked → HasBegun r u now c n request x → (before out : List Act) → out ≡ before ++ acts_of c (Opens x n request) → Answered limits (shelf_of r.entries).faults u t before out now (event.Poll c want)
-asked_answered {limits = limits} r u t facts now c want x v stands row n turns uses request asked same moves begun before out told =
+asked_answered {limits = limits} r u t facts now c want x v stands row n turns uses request asked same moves begun before out reported =
     let is : move_of t now want c v ≡ Opens x n request = moves ∙ (ap (λ (y : ℕ). Opens y n asked) (sym begun.number) ∙ ap (λ (z : Request). Opens x n z) (sym same)) in
-    fetch_answered limits (shelf_of r.entries).faults u t facts.law now c want x v row request before out n turns uses is told (begun.rows _ t v facts stands row)
+    fetch_answered limits (shelf_of r.entries).faults u t facts.law now c want x v row request before out n turns uses is reported (begun.rows _ t v facts stands row)
 
 -- a consumer bypasses what is stored with its own request, and what was current is let go
 pub bypassed : {B : Type 0} {g : Ghosts B} {limits : Limits} (r mid u : Rows B g) (t : Tables) (facts : Facts limits t) (now c want x : ℕ) (k : Consumer) (v : rows.Consumer) → RowsStand limits r t → get nat_eq r.consumers c ≡ Some k → t.consumer c ≡ Some v → (copied : Request) → copied ≡ k.request → (now_is : Option ℕ) → now_is ≡ (kept_of r.keys copied.key).current
     → move_of t now want c v ≡ Opens (next_of r.exchanges) need.Bypass k.request → x ≡ next_of r.exchanges → BeginsTurn r mid now c need.Bypass copied x → ((limits : Limits) (s : Tables) → MayLetGo s → RowsStand limits mid s → RowsStand limits u (let_some_go now now_is s))
     → (before out : List Act) → out ≡ before ++ acts_of c (Opens x need.Bypass copied) → Answered limits (shelf_of r.entries).faults u t before out now (event.Poll c want)
-bypassed {limits = limits} r mid u t facts now c want x k v stands there row copied copies now_is at moves x_is begun goes before out told =
+bypassed {limits = limits} r mid u t facts now c want x k v stands there row copied copies now_is at moves x_is begun goes before out reported =
     let kept : IsKept t k v = subst (KeepsConsumer t (Some k)) row (subst (λ o. KeepsConsumer t o (t.consumer c)) there (stands.consumers c)) in
     let key_is : copied.key ≡ v.request.key = ap (λ (z : Request). z.key) copies ∙ ap (λ (z : Request). z.key) kept.request in
     let same : now_is ≡ current t v.request.key = at ∙ (ap (λ (key : List ℕ). (kept_of r.keys key).current) key_is ∙ (stands.keys v.request.key).current) in
     let is : move_of t now want c v ≡ Opens x need.Bypass copied = moves ∙ (ap (λ (y : ℕ). Opens y need.Bypass k.request) (sym x_is) ∙ ap (λ (z : Request). Opens x need.Bypass z) (sym copies)) in
-    bypass_answered limits (shelf_of r.entries).faults u t facts.law now c want x v row copied before out is told
+    bypass_answered limits (shelf_of r.entries).faults u t facts.law now c want x v row copied before out is reported
     (subst (λ (o : Option ℕ). RowsStand limits u (let_some_go now o (tables_in_turn now c x need.Bypass copied v t))) same
     (goes _ (tables_in_turn now c x need.Bypass copied v t) (may_go limits 0 u t facts.law now c want x v row copied before out need.Bypass) (begun _ t v facts stands row)))

@@ -8,20 +8,18 @@ use Rattle.std.{proofs.{Common.{◌≡◌, ◌≢◌, inl, inr, ℕ, ◌+◌, Li
 use Rattle.hc_text.proofs.Basics.{eqb-other, eqb-same, false_true, same_or, and_off as then_false}
 use Rattle.hc_store.specs.declared.backend.Backend.{Ghosts}
 use Rattle.hc_effects.proofs.Vocabulary.{Act, Need, Request, RequestClass, Limits, route_of, range_of, wanted_of, Place, current, total_in, is_live, with_event, used_last, with_consumer, with_opening, just_opened, kind_of, Lawful, is_in_line, Opens, acts_of, move_of, bound_to, Tables, Exchange, Representation, event, route, wanted, need, place, by}
-use Rattle.hc_range.specs.declared.range.{Asked.{Asked}, Span.{Span}}
-use Rattle.hc_text.specs.Sorted.{has}
+use Rattle.hc_range.specs.declared.range.{RangeSpec.{RangeSpec}, Span.{Span}}
+use Rattle.hc_text.specs.Sorted.{has, itself}
 use Rattle.hc_rules.proofs.RangeReads.{bytes_eq-same}
 use Rattle.hc_entry.specs.{declared.keys.KeyTable.{KeyTable}, Keys.{kept_of}, Kept.{on_line}, Lines.{gone_away}}
 use Rattle.hc_entry.specs.Keys as keys
 use Rattle.hc_stored.specs.{declared.entries.Entries.{Entries}, Entries.{shelf_of}, Kept.{Kept, with_first}, Shelf.{moved_first}, Views.{admits_first}}
-use Rattle.hc_text.specs.Sorted.{itself}
 use Rattle.hc_stored.specs.Shelf as shelf
 use Rattle.hc_exch.specs.{declared.{exchanges.Exchanges.{Exchanges}, role.Role.TheVariants.{the_data as role}}, Exchanges.{table_of, next_of}, Known.{with_new_exchange, exchange_at_opening, Changes}}
 use Rattle.hc_model.specs.Rows as rows
 use Rattle.hc_effects.proofs.{HoleEffects.{fills_first}, Tests.{and_false}}
-use Rattle.hc_state.specs.{declared.{rows.Rows.{Rows}}, Changes.{Numbered, ChangesAt, BecomesAt}, Kept.{IsKept, IsRunning, KeepsConsumer, KeepsExchange, KeepsRunning, answer_for, held_for}, Lines.{KeepsKey, is_away}, Plans.{is_idle_at, HasCurrent}, Stands.{Answered, RowsStand}}
-use Rattle.hc_txn.specs.declared.transaction.Transaction.{Transaction as Consumer}
-use Rattle.hc_txn.specs.Transactions.{bound_first}
+use Rattle.hc_state.specs.{declared.rows.Rows.{Rows}, Changes.{Numbered, ChangesAt, BecomesAt}, Kept.{IsKept, IsRunning, KeepsConsumer, KeepsExchange, KeepsRunning, answer_for, held_for}, Lines.{KeepsKey, is_away}, Plans.{is_idle_at, HasCurrent}, Stands.{Answered, RowsStand}}
+use Rattle.hc_txn.specs.{declared.transaction.Transaction.{Transaction as Consumer}, Transactions.{bound_first}}
 use Rattle.hc_state.proofs.{Answering.{does_answered}, Fallbacks.{answer_fallback}, FallbackSteps.{length_same, live_same}, ConsumerSteps.{keys_with}, Counting.{stands_counted}, CurrentTies.{IsNow, now_kept}, KeySteps.{not_lined, says_elsewhere, away_key}, OneOfEach.{stands_then}, QueueHandler.{becomes_by}, Ties.{key_same, overs_opened}}
 use Rattle.hc_on_poll.proofs.{BoundHandler.{held_bound, entry_first, entries_bound}, CandidateTies.{range_of_class}, OpenHandler.{unread_yet}, OpenKeys.{key_with_opening}, OpenKinds.{kinds_opened}, PassesHandler.{current_as}, PastHandler.{idle_reads, idle_lives}}
 
@@ -185,10 +183,10 @@ module _ {B : Type 0} {g : Ghosts B} {limits : Limits} (r : Rows B g) (e : Excha
 
   pub filling_answered : (faults want : ℕ) (before out : List Act) (from to : ℕ) → n ≡ need.Hole from to → (total : Option ℕ) → total ≡ total_in (t.representation q) → wanted_of k.class.range total ≡ wanted.Interval span
       → move_of t now want c v ≡ Opens x n request → out ≡ before ++ acts_of c (Opens x n request) → Answered limits faults u t before out now (event.Poll c want)
-  filling_answered faults want before out from to hole total same_total wants is told =
+  filling_answered faults want before out from to hole total same_total wants is reported =
       let same : Opens x n request ≡ Opens x (need.Hole from to) request = ap (λ (y : Need). Opens x y request) hole in
       let range : k.class.range ≡ range_of v.request = ap (λ (y : RequestClass). y.range) kept.class_is ∙ range_of_class v.request in
       let wanted_is : wanted_of (range_of v.request) at.p.head.total ≡ wanted.Interval span =
-      ap (λ (y : Option Asked). wanted_of y at.p.head.total) (sym range) ∙ (ap (wanted_of k.class.range) (sym (same_total ∙ ap total_in at.row)) ∙ wants) in
+      ap (λ (y : Option RangeSpec). wanted_of y at.p.head.total) (sym range) ∙ (ap (wanted_of k.class.range) (sym (same_total ∙ ap total_in at.row)) ∙ wants) in
       does_answered limits faults u t (with_event now (event.Poll c want) s) before out (acts_of c (Opens x n request)) now (event.Poll c want)
-      (rw hole (fills_first limits t law now c want v row x from to request (is ∙ same) (idle_unbound v.place v_idle) q at.p span at_q at.row wanted_is)) refl refl told (stands_counted u s now (event.Poll c want) refl stands_filling)
+      (rw hole (fills_first limits t law now c want v row x from to request (is ∙ same) (idle_unbound v.place v_idle) q at.p span at_q at.row wanted_is)) refl refl reported (stands_counted u s now (event.Poll c want) refl stands_filling)

@@ -18,8 +18,8 @@ within_or (Some n) span within = within
 pub range_fits : (o : Option ℕ) (span : Span) (total : ℕ) (text written empty : List ℕ) → IsSomeAnd o (IsWithin span) → total ≡ unwrap_or o 0 → text ≡ written → written ≡ empty ++ range_text span total → empty ≡ [] → IsRangeText text
 range_fits o span total text written empty fits is read made none =
     let within : IsWithin span total = subst (IsWithin span) (sym is) (within_or o span fits) in
-    let told : text ≡ range_text span total = read ∙ (made ∙ ap (λ (xs : List ℕ). xs ++ range_text span total) none) in
-    subst IsRangeText (sym told) (record { own = own-range span total within; short = short-range span total within })
+    let reported : text ≡ range_text span total = read ∙ (made ∙ ap (λ (xs : List ℕ). xs ++ range_text span total) none) in
+    subst IsRangeText (sym reported) (record { own = own-range span total within; short = short-range span total within })
 
 pub lent_or : (o : Option (Bor (List ℕ))) (other : Bor (List ℕ)) → (unwrap_or o other).now ≡ unwrap_or (option_copied o) other.now
 lent_or None other = refl

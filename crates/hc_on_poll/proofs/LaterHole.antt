@@ -18,9 +18,8 @@ use Rattle.hc_model.specs.Sound as sound
 use Rattle.hc_effects.proofs.{HoleEffects.{fills_later}, OpensFrom.{opens_hole}, ExclusiveWriters.{bound_some}, PollTree.{OpensHole}, Said.{IsOpening}, Tests.{none_some}}
 use Rattle.hc_effects.proofs.PollTree as tree
 use Rattle.hc_effects.proofs.Said as said
-use Rattle.hc_state.specs.{declared.{rows.Rows.{Rows}}, Changes.{ChangesAt, BecomesAt}, Facts.{Facts}, Kept.{IsKept, KeepsConsumer, KeepsExchange, answer_at, KeepsRunning, first_lacking, held_for, held_of, held_alone, unread, unstored_bytes}, Lines.{KeepsKey, has_turn, is_passed, is_away, is_away_at}, Stands.{RowsStand, Answered}, Stored.{KeepsEntries, is_first}}
-use Rattle.hc_txn.specs.declared.transaction.Transaction.{Transaction as Consumer}
-use Rattle.hc_txn.specs.Transactions.{with_own}
+use Rattle.hc_state.specs.{declared.rows.Rows.{Rows}, Changes.{ChangesAt, BecomesAt}, Facts.{Facts}, Kept.{IsKept, KeepsConsumer, KeepsExchange, answer_at, KeepsRunning, first_lacking, held_for, held_of, held_alone, unread, unstored_bytes}, Lines.{KeepsKey, has_turn, is_passed, is_away, is_away_at}, Stands.{RowsStand, Answered}, Stored.{KeepsEntries, is_first}}
+use Rattle.hc_txn.specs.{declared.transaction.Transaction.{Transaction as Consumer}, Transactions.{with_own}}
 use Rattle.hc_state.proofs.{Answering.{does_answered}, FallbackSteps.{length_same, live_same}, Fallbacks.{unstored_moved}, Counting.{stands_counted}, OneOfEach.{stands_then, bound_same, first_row}, QueueHandler.{becomes_by}, Ties.{entry_same, key_same, overs_opened}}
 use Rattle.hc_on_poll.proofs.{BoundViews.{unstored_own, absent_here, lost_run, unread_bound}, OpenHandler.{unread_yet}, OpenKinds.{kinds_opened}, ShowStored.{IsBoundRow}}
 
@@ -271,8 +270,8 @@ module _ {B : Type 0} {g : Ghosts B} {limits : Limits} (r u : Rows B g) (t : Tab
       (rw same_entries entries_then)
 
   pub filled_answered : (before out : List Act) → out ≡ before ++ acts_of c (Opens x n copied) → Answered limits (shelf_of r.entries).faults u t before out now (event.Poll c want)
-  filled_answered before out told =
+  filled_answered before out reported =
       let is : move_of t now want c v ≡ Opens x n request = moves ∙ ap (λ (y : ℕ). Opens y n request) (sym is_next) in
       let v_shown : v.shown ≡ true = sym rd.kept.shown ∙ shown in
       does_answered limits (shelf_of r.entries).faults u t (with_event now (event.Poll c want) s) before out (acts_of c (Opens x n request)) now (event.Poll c want)
-      (fills_later limits t facts.law now c want v rd.row x from to request is q rd.lo rd.hi how rd.at v_shown) refl refl (told ∙ ap (λ (a : Request). before ++ acts_of c (Opens x n a)) copies) (stands_counted u s now (event.Poll c want) refl stands_filled)
+      (fills_later limits t facts.law now c want v rd.row x from to request is q rd.lo rd.hi how rd.at v_shown) refl refl (reported ∙ ap (λ (a : Request). before ++ acts_of c (Opens x n a)) copies) (stands_counted u s now (event.Poll c want) refl stands_filled)

@@ -4,7 +4,7 @@ use Rattle.hc_text.proofs.Basics.{eqb-same, false_true}
 use Rattle.hc_effects.proofs.Vocabulary.{Need, Request, route_of, Place, is_live_place, with_consumer, with_opening, just_opened, reads, lo_of, hi_of, Tables, place}
 use Rattle.hc_exch.specs.{declared.role.Role.{Role}, Known.{exchange_at_opening}}
 use Rattle.hc_model.specs.Rows as rows
-use Rattle.hc_state.specs.{Kept.{IsKept, IsRunning, answer_for, role_awaited}}
+use Rattle.hc_state.specs.Kept.{IsKept, IsRunning, answer_for, role_awaited}
 use Rattle.hc_txn.specs.declared.transaction.Transaction.{Transaction as Consumer}
 use Rattle.hc_state.proofs.Fallbacks.{answer_fallback}
 use Rattle.hc_on_poll.proofs.OpenHandler.{WaitsFor, past, turned}

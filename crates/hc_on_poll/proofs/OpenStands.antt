@@ -7,7 +7,7 @@ use Rattle.hc_stored.specs.Entries.{shelf_of}
 use Rattle.hc_entry.specs.Keys.{kept_of}
 use Rattle.hc_exch.specs.{declared.role.Role.{Role}, Exchanges.{table_of, next_of}, Known.{with_new_exchange, exchange_at_opening, Changes}}
 use Rattle.hc_model.specs.Rows as rows
-use Rattle.hc_state.specs.{declared.{rows.Rows.{Rows}}, Changes.{BecomesAt}, Kept.{KeepsConsumer, KeepsExchange, KeepsRunning, held_for, role_awaited}, Lines.{KeepsKey}, Stands.{RowsStand}}
+use Rattle.hc_state.specs.{declared.rows.Rows.{Rows}, Changes.{BecomesAt}, Kept.{KeepsConsumer, KeepsExchange, KeepsRunning, held_for, role_awaited}, Lines.{KeepsKey}, Stands.{RowsStand}}
 use Rattle.hc_txn.specs.declared.transaction.Transaction.{Transaction as Consumer}
 use Rattle.hc_state.proofs.{FallbackSteps.{length_same, live_same}, OneOfEach.{stands_then}}
 use Rattle.hc_on_poll.proofs.{OpenHandler.{WaitsFor, unread_yet, held_else, none_held, entries_opened}, OpenRows.{runs, opener_kept, live_then}}

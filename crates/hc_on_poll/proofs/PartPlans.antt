@@ -8,22 +8,19 @@ use Rattle.std.{proofs.Common.{◌≡◌, ℕ, ◌+◌, ◌<◌, ◌≤◌, ◌^
 use Rattle.hc_text.proofs.Basics.{eqb-same, false_true, some_inj as some_is}
 use Rattle.hc_effects.proofs.Vocabulary.{Limits, Act, Why, Request, Candidate, Plan, PlanView, RequestClass, least, plan_of, bare_plan, from_store, in_time, class_of, range_of, wanted_of, current, is_number, row_of, first_hole, Opens, opens_hole, span_to, hole_request, candidate, candidate_at, hole_of, bound, is_bound, is_bound_place, Numbers, Tables, Representation, came_alone, need, plan, wanted}
 use Rattle.hc_store.specs.declared.backend.Backend.{Ghosts}
-use Rattle.hc_range.specs.{declared.range.{Asked.{Asked}, Span.{Span}}, Spans.{IsWithin}}
+use Rattle.hc_range.specs.{declared.range.{RangeSpec.{RangeSpec}, Span.{Span}}, Spans.{IsWithin}}
 use Rattle.hc_record.specs.{declared.head.StoredHead.{StoredHead}, Head.{Head}, Plain.{plain}}
-use Rattle.hc_text.specs.Sorted.{has}
-use Rattle.hc_text.specs.Sorted.{is_among}
+use Rattle.hc_text.specs.Sorted.{has, is_among, itself}
 use Rattle.hc_stored.specs.{Entries.{shelf_of}, Shelf.{head_at}, Views.{admits, admits_first}}
-use Rattle.hc_text.specs.Sorted.{itself}
 use Rattle.hc_model.specs.Planning as planning
 use Rattle.hc_model.specs.Rows as rows
 use Rattle.hc_effects.proofs.{EndsKeep.{wanted_within}, WantedSpans.{wanted_some}, PlanBy.{PlanBy, plan_by}, Tests.{and_false}}
 use Rattle.hc_effects.proofs.PlanBy as plans
-use Rattle.hc_state.specs.{declared.{rows.Rows.{Rows}}, Facts.{Facts}, Kept.{IsKept, KeepsConsumer}, Plans.{IsIdle, IsWaiting, HasCurrent, IsPlanOf, IsShownPart, begin_of, end_of, AnswersFirst, AnswersPoll}, Stands.{RowsStand, Stands}, Stored.{is_first}}
-use Rattle.hc_txn.specs.declared.transaction.Transaction.{Transaction as Consumer}
-use Rattle.hc_txn.specs.Transactions.{queues}
+use Rattle.hc_state.specs.{declared.rows.Rows.{Rows}, Facts.{Facts}, Kept.{IsKept, KeepsConsumer}, Plans.{IsIdle, IsWaiting, HasCurrent, IsPlanOf, IsShownPart, begin_of, end_of, AnswersFirst, AnswersPoll}, Stands.{RowsStand, Stands}, Stored.{is_first}}
+use Rattle.hc_txn.specs.{declared.transaction.Transaction.{Transaction as Consumer}, Transactions.{queues}}
 use Rattle.hc_on_poll.specs.Ready.{MayPass}
 use Rattle.hc_on_poll.proofs.{CandidateTies.{head_at_is, in_order, range_of_class}, HoleTies.{hole_inside}, PassesHandler.{current_as}, PlanHandlers.{found, waits_there, current_admits, plan_answers}}
-use Rattle.hc_state.proofs.{CurrentTies.{IsNow, now_kept, stays_stored, stored_ends, total_told}, Maps.{known_of, some_that, merely_true, merely_within}, Ties.{kept_row}, TurnTies.{least_none, among_in, filter_in}, Words.{few_received}}
+use Rattle.hc_state.proofs.{CurrentTies.{IsNow, now_kept, stays_stored, stored_ends, total_reported}, Maps.{known_of, some_that, merely_true, merely_within}, Ties.{kept_row}, TurnTies.{least_none, among_in, filter_in}, Words.{few_received}}
 
 -- who fills a hole may ask the origin
 fills_asks : (view : PlanView) (span hole : Span) → plan_of view ≡ plan.FirstHole span hole → view.class.only ≡ false
@@ -60,7 +57,7 @@ module _ {B : Type 0} {g : Ghosts B} {limits : Limits} (r : Rows B g) (t : Table
   same_head = head_at_is ((shelf_of r.entries).kept q) at.e head at.kept read
 
   pub total_is : head.total ≡ at.p.head.total
-  total_is = sym (ap (λ (h : Head). h.total) same_head) ∙ total_told t q at.e at.p at.is at.stays
+  total_is = sym (ap (λ (h : Head). h.total) same_head) ∙ total_reported t q at.e at.p at.is at.stays
 
   pub fields_are : at.p.head.fields ≡ head.fields
   fields_are = sym (ap (λ (h : Head). h.fields) at.is.head) ∙ ap (λ (h : Head). h.fields) same_head
@@ -148,27 +145,27 @@ module _ {B : Type 0} {g : Ghosts B} {limits : Limits} (r : Rows B g) (t : Table
   -- WHO IS SHOWN A PART
 
   pub part_within : Numbers t → t.received < 2 ^ 62 → (why : Why) (span : Option Span) → plan_of view ≡ plan.Bind why span → is_some k.class.range ≡ true → (part : Span) → span_to (begin_of span) (end_of span head.total) ≡ Some part → IsSomeAnd head.total (IsWithin part)
-  part_within numbers few why span is ranged part told = by_plan (plan_of view) (plan_by view) is
+  part_within numbers few why span is ranged part reported = by_plan (plan_of view) (plan_by view) is
     where
       ranged_too : is_some (range_of v.request) ≡ true
-      ranged_too = ap (λ (z : Option Asked). is_some z) (sym range_is) ∙ ranged
+      ranged_too = ap (λ (z : Option RangeSpec). is_some z) (sym range_is) ∙ ranged
 
       in_part : (a : Span) → wanted_of (range_of v.request) at.p.head.total ≡ wanted.Interval a → Some a ≡ span → IsSomeAnd head.total (IsWithin part)
       in_part a wants one =
           let some : a.lo < a.hi = wanted_some (range_of v.request) at.p.head.total a ranged_too (λ asked found. in_order t k v kept asked (range_is ∙ found)) wants in
-          let same : (record { lo = a.lo; hi = a.hi }) ≡ part = some_is _ part (ap (λ (z : Option Span). span_to (begin_of z) (end_of z head.total)) one ∙ told) in
+          let same : (record { lo = a.lo; hi = a.hi }) ≡ part = some_is _ part (ap (λ (z : Option Span). span_to (begin_of z) (end_of z head.total)) one ∙ reported) in
           subst (λ (z : Span). IsSomeAnd head.total (IsWithin z)) same (within numbers few a a wants some (omega arith))
 
       unranged : is_none (range_of v.request) ≡ true → IsSomeAnd head.total (IsWithin part)
       unranged none = by_range (range_of v.request) none ranged_too
         where
-          by_range : (o : Option Asked) → is_none o ≡ true → is_some o ≡ true → IsSomeAnd head.total (IsWithin part)
+          by_range : (o : Option RangeSpec) → is_none o ≡ true → is_some o ≡ true → IsSomeAnd head.total (IsWithin part)
           by_range None off on = false_true on
           by_range (Some asked) off on = false_true off
 
       by_plan : (p : Plan) → PlanBy view p → p ≡ plan.Bind why span → IsSomeAnd head.total (IsWithin part)
       by_plan _ (plans.reads y a cached alone) same = in_part a (ap (λ (z : Candidate). z.span) (seen_as alone.s alone.current) ∙ alone.wanted_is) (cc)
-      by_plan _ (plans.joins y cached j) same = unranged (ap (λ (z : Option Asked). is_none z) (sym (range_of_class v.request)) ∙ j.unranged)
+      by_plan _ (plans.joins y cached j) same = unranged (ap (λ (z : Option RangeSpec). is_none z) (sym (range_of_class v.request)) ∙ j.unranged)
       by_plan _ _ same = absurd (cc)
 
 -- WHAT THE HANDLERS ASK FOR
@@ -223,7 +220,7 @@ module _ {B : Type 0} {g : Ghosts B} (r : Rows B g) (some : ∥ Stands r ∥₁)
         let fields = fields_are r t facts stands c it v row kept q held_by_it head read now in
         let range = range_is r t facts stands c it v row kept q held_by_it head read now in
         let current_is = current_as r t it v q stands kept held_by_it in
-        let wants = ap (λ (o : Option Asked). wanted_of o head.total) range ∙ (ap (wanted_of (range_of v.request)) total ∙ f.wants) in
+        let wants = ap (λ (o : Option RangeSpec). wanted_of o head.total) range ∙ (ap (wanted_of (range_of v.request)) total ∙ f.wants) in
         let asked : hole_request here.p.head v.request hole (unwrap_or here.p.head.total 0) ≡ hole_request (plain head) it.request hole (unwrap_or head.total 0) =
         hole_alike here.p.head (plain head) v.request hole (unwrap_or here.p.head.total 0) fields
         ∙ (ap (λ (n : Option ℕ). hole_request (plain head) v.request hole (unwrap_or n 0)) (sym total)
@@ -235,8 +232,8 @@ module _ {B : Type 0} {g : Ghosts B} (r : Rows B g) (some : ∥ Stands r ∥₁)
 
   -- a part that it is shown is one
   pub part_there : (why : Why) (span : Option Span) → IsPlanOf r now c (plan.Bind why span) → IsSomeAnd (get nat_eq r.consumers c) (IsShownPart (plain head) span)
-  part_there why span is = some_that (get nat_eq r.consumers c) it (IsShownPart (plain head) span) there_is (λ ranged part told. merely_within head.total part some (λ s.
+  part_there why span is = some_that (get nat_eq r.consumers c) it (IsShownPart (plain head) span) there_is (λ ranged part reported. merely_within head.total part some (λ s.
       let t = s.t in
       let facts = s.facts in
       let (v, row, kept) = its_row t s.rows in
-      part_within r t facts s.rows c it v row kept q held_by_it head read now s.numbers (few_received s.received) why span (is _ t v facts s.rows row) ranged part told))
+      part_within r t facts s.rows c it v row kept q held_by_it head read now s.numbers (few_received s.received) why span (is _ t v facts s.rows row) ranged part reported))

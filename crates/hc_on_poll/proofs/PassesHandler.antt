@@ -14,9 +14,8 @@ use Rattle.hc_rules.proofs.RangeReads.{bytes_eq-same}
 use Rattle.hc_model.specs.Moves as moves
 use Rattle.hc_model.specs.Rows as rows
 use Rattle.hc_effects.proofs.{PollEffects.{same_consumer}, WaitEffects.{waits}, Tests.{and_false}}
-use Rattle.hc_state.specs.{declared.{rows.Rows.{Rows}}, Changes.{ChangesAt}, Kept.{IsKept, KeepsConsumer, answer_for}, Lines.{KeepsKey}, Plans.{is_idle_at, let_through, HasCurrent}, Stands.{Answered, RowsStand}}
-use Rattle.hc_txn.specs.declared.transaction.Transaction.{Transaction as Consumer}
-use Rattle.hc_txn.specs.Transactions.{passed_for}
+use Rattle.hc_state.specs.{declared.rows.Rows.{Rows}, Changes.{ChangesAt}, Kept.{IsKept, KeepsConsumer, answer_for}, Lines.{KeepsKey}, Plans.{is_idle_at, let_through, HasCurrent}, Stands.{Answered, RowsStand}}
+use Rattle.hc_txn.specs.{declared.transaction.Transaction.{Transaction as Consumer}, Transactions.{passed_for}}
 use Rattle.hc_state.proofs.{Answering.{does_answered}, FallbackSteps.{falls_back}, ConsumerSteps.{keys_with}, Counting.{stands_counted}, KeySteps.{says_elsewhere, not_lined, passes_key}, QueueHandler.{becomes_by}}
 
 module _ {B : Type 0} {g : Ghosts B} {limits : Limits} (r u : Rows B g) (t : Tables) (law : Lawful t) (c q : ℕ) (k : Consumer) (v : rows.Consumer) (stands : RowsStand limits r t) (there : get nat_eq r.consumers c ≡ Some k) (row : t.consumer c ≡ Some v) (now_is : current t v.request.key ≡ Some q)
@@ -88,11 +87,11 @@ module _ {B : Type 0} {g : Ghosts B} {limits : Limits} (r u : Rows B g) (t : Tab
 
 module _ {B : Type 0} {g : Ghosts B} (limits : Limits) (faults : ℕ) (u : Rows B g) (t : Tables) (law : Lawful t) (now c want q d : ℕ) (v : rows.Consumer) (row : t.consumer c ≡ Some v) (before out : List Act) where
   pub use_waits : current t v.request.key ≡ Some q → move_of t now want c v ≡ moves.Waits (wait.Busy d) → out ≡ before ++ (act.Pending c (wait.Busy d) ∷ []) → RowsStand limits u (with_consumer c (Some (let_through q v)) t) → Answered limits faults u t before out now (event.Poll c want)
-  use_waits now_is is told stands =
+  use_waits now_is is reported stands =
       let s : Tables = with_consumer c (Some (record v { place = passed_by (kept_by v.place) (current t v.request.key) })) t in
       let same : with_consumer c (Some (let_through q v)) t ≡ s = ap (λ (o : Option ℕ). with_consumer c (Some (record v { place = passed_by (kept_by v.place) o })) t) (sym now_is) in
       does_answered limits faults u t (with_event now (event.Poll c want) s) before out (acts_of c (moves.Waits (wait.Busy d))) now (event.Poll c want)
-      (waits limits t law now c want v row (wait.Busy d) is) refl refl told (stands_counted u s now (event.Poll c want) refl (subst (RowsStand limits u) same stands))
+      (waits limits t law now c want v row (wait.Busy d) is) refl refl reported (stands_counted u s now (event.Poll c want) refl (subst (RowsStand limits u) same stands))
 
 -- what is kept as current is
 pub current_as : {B : Type 0} {g : Ghosts B} {limits : Limits} (r : Rows B g) (t : Tables) (k : Consumer) (v : rows.Consumer) (q : ℕ) → RowsStand limits r t → IsKept t k v → HasCurrent r.keys q k → current t v.request.key ≡ Some q

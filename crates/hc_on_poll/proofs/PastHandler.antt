@@ -13,9 +13,8 @@ use Rattle.hc_effects.proofs.Vocabulary.{Act, Need, Request, RequestClass, Limit
 use Rattle.hc_exch.specs.{declared.{role.Role.TheVariants.{the_data as role}, exchanges.Exchanges.{Exchanges}}, Exchanges.{table_of, next_of}, Known.{with_new_exchange, Changes}}
 use Rattle.hc_model.specs.Rows as rows
 use Rattle.hc_effects.proofs.PastEffects.{passes_by}
-use Rattle.hc_state.specs.{declared.{rows.Rows.{Rows}}, Handlers.{IsLeft, LeftIf, LeavesLine}, Changes.{Numbered, ChangesAt}, Kept.{IsKept, KeepsConsumer}, Lines.{KeepsKey}, Plans.{is_idle_at}, Stands.{Answered, RowsStand}}
-use Rattle.hc_txn.specs.declared.transaction.Transaction.{Transaction as Consumer}
-use Rattle.hc_txn.specs.Transactions.{queues, reading_past}
+use Rattle.hc_state.specs.{declared.rows.Rows.{Rows}, Handlers.{IsLeft, LeftIf, LeavesLine}, Changes.{Numbered, ChangesAt}, Kept.{IsKept, KeepsConsumer}, Lines.{KeepsKey}, Plans.{is_idle_at}, Stands.{Answered, RowsStand}}
+use Rattle.hc_txn.specs.{declared.transaction.Transaction.{Transaction as Consumer}, Transactions.{queues, reading_past}}
 use Rattle.hc_state.proofs.{Answering.{does_answered}, ConsumerSteps.{keys_with, key_with, key_stays}, Counting.{stands_counted}, KeySteps.{IsUnsaid, leaves_key, says_elsewhere, says_none, apart_unsaid, unqueued_unsaid}, Maps.{known_of}, QueueHandler.{becomes_by}}
 use Rattle.hc_on_poll.proofs.{OpenHandler.{past}, OpenKeys.{key_opened}, OpenStands.{stands_opened}}
 
@@ -112,7 +111,7 @@ module _ {B : Type 0} {g : Ghosts B} {limits : Limits} (r mid : Rows B g) (e : E
       (λ key. key_opened t law c x w z (law.sound.numbered.lists.new_exchanges x (let above = x_is in omega (arith, above))) past key (kept_of mid.keys key) (keys_past t law c k v w row kept v_idle (λ other. apart_unsaid t other w refl refl refl) refl r.keys mid.keys stands.keys left key))
 
   pub past_answered : (faults : ℕ) (before out : List Act) → out ≡ before ++ acts_of c (Opens x n copied) → Answered limits faults u t before out now (event.Poll c want)
-  past_answered faults before out told =
+  past_answered faults before out reported =
       let is : move_of t now want c v ≡ Opens x n k.request = moves ∙ ap (λ (y : ℕ). Opens y n k.request) (sym is_next) in
       does_answered limits faults u t (with_event now (event.Poll c want) s) before out (acts_of c (Opens x n k.request)) now (event.Poll c want)
-      (passes_by limits t law now c want v row x n k.request is way) refl refl (told ∙ ap (λ (q : Request). before ++ acts_of c (Opens x n q)) copies) (stands_counted u s now (event.Poll c want) refl stands_past)
+      (passes_by limits t law now c want v row x n k.request is way) refl refl (reported ∙ ap (λ (q : Request). before ++ acts_of c (Opens x n q)) copies) (stands_counted u s now (event.Poll c want) refl stands_past)

@@ -8,11 +8,9 @@ use Rattle.std.{proofs.{Math.Logic.{∥∥₁_map}, Common.{◌≡◌, ◌≢◌
 use Rattle.hc_text.proofs.Basics.{false_true}
 use Rattle.hc_effects.proofs.Vocabulary.{Limits, Act, Need, Why, Response, Request, Route, Candidate, Plan, PlanView, least, lesser, route_of, plan_of, bare_plan, from_store, in_time, by_current, RequestClass, class_of, is_bypassing, is_disabled, is_only, Place, current, row_of, denial, gate, is_live, is_in_line, Move, Opens, Fails, Shows, span_to, plan_move, has_passed, candidate, candidate_at, move_of, is_bound, is_bound_place, Tables, Representation, need, event, route, plan, place, cause, wait}
 use Rattle.hc_store.specs.{declared.{backend.Backend.{Ghosts}, error.StoreError.{StoreError, TheVariants.{the_data as errors}}}, Causes.{HasNoLimit}}
-use Rattle.hc_text.specs.Sorted.{has}
+use Rattle.hc_text.specs.Sorted.{has, itself, is_among}
 use Rattle.hc_stored.specs.{declared.entries.Entries.{Entries}, Entries.{shelf_of}, Kept.{Kept}, Shelf.{is_kept, head_at, Stays}, Views.{admits}}
-use Rattle.hc_text.specs.Sorted.{itself}
 use Rattle.hc_entry.specs.{declared.keys.KeyTable.{KeyTable}, Keys.{kept_of, line_of}, Kept.{line_in}, Lines.{Line, is_in, turn_with}}
-use Rattle.hc_text.specs.Sorted.{is_among}
 use Rattle.hc_range.specs.declared.range.Span.{Span}
 use Rattle.hc_validate.specs.{Showing.{shown_response}, Conditions.{conditional}}
 use Rattle.hc_rules.specs.Plans as rules
@@ -25,13 +23,12 @@ use Rattle.hc_model.specs.Rows as rows
 use Rattle.hc_effects.proofs.{Asked.{Asked, AskedBy, plan_asks}, Joining.{mix}, PlanBy.{PlanBy, plan_by}, TurnMoves.{Does, Queues, does_polled}, Tests.{none_some}, OpenedAs.{bypassing_is as bypassing_as}}
 use Rattle.hc_effects.proofs.PlanBy as plans
 use Rattle.hc_effects.proofs.TurnMoves as does
-use Rattle.hc_state.specs.{declared.{rows.Rows.{Rows}}, Facts.{Facts}, Good.{StandsBy}, Kept.{IsKept, KeepsConsumer}, Lines.{is_passed}, Plans.{plan_view, looks_at_stored, is_idle_at, IsIdle, IsLookedAt, IsNext, IsWaiting, IsKeptPassed, HasCurrent, IsPlanOf, shows_part, AnswersShowing, AnswersOpening, AnswersValidating, AnswersPoll}, Reads.{AnswersMisread}, Stands.{Answered, Answers, AnswersMove, RowsStand, Stands}}
-use Rattle.hc_txn.specs.declared.transaction.Transaction.{Transaction as Consumer}
-use Rattle.hc_txn.specs.Transactions.{queues}
+use Rattle.hc_state.specs.{declared.rows.Rows.{Rows}, Facts.{Facts}, Good.{StandsBy}, Kept.{IsKept, KeepsConsumer}, Lines.{is_passed}, Plans.{plan_view, looks_at_stored, is_idle_at, IsIdle, IsLookedAt, IsNext, IsWaiting, IsKeptPassed, HasCurrent, IsPlanOf, shows_part, AnswersShowing, AnswersOpening, AnswersValidating, AnswersPoll}, Reads.{AnswersMisread}, Stands.{Answered, Answers, AnswersMove, RowsStand, Stands}}
+use Rattle.hc_txn.specs.{declared.transaction.Transaction.{Transaction as Consumer}, Transactions.{queues}}
 use Rattle.hc_state.specs.Reads as reads
 use Rattle.hc_on_poll.specs.Ready.{IsCurrentWith, MayAsk, MayLeaveLine, MayPass, MayQueue}
 use Rattle.hc_on_poll.proofs.{Accepted.{poll_lives}, CandidateTies.{head_at_is}, PassesHandler.{current_as}, PastHandler.{queues_as}, PlanTies.{plans_are, unlooked}, WaitHandlers.{plans_move}}
-use Rattle.hc_state.proofs.{CurrentTies.{now_kept, total_told}, KeySteps.{lined}, Maps.{known_of, some_that, merely_true, merely_number}, ReaderSteps.{stands_read}, Ties.{kept_row}, TurnTies.{turn_with_is}, Words.{there}}
+use Rattle.hc_state.proofs.{CurrentTies.{now_kept, total_reported}, KeySteps.{lined}, Maps.{known_of, some_that, merely_true, merely_number}, ReaderSteps.{stands_read}, Ties.{kept_row}, TurnTies.{turn_with_is}, Words.{there}}
 use Rattle.hc_rules.proofs.RangeReads.{bytes_eq-same}
 
 -- WHO WAITS FOR ITS KEY
@@ -139,9 +136,9 @@ module _ {B : Type 0} {g : Ghosts B} {limits : Limits} (r : Rows B g) (t : Table
       let move = planned now 0 (plan.Fetch n) is in
       let both = by_does now (t.opened + 1) n (planning.origin_request t v n) (move_of t now 0 c v) move turns (does_polled t c v facts.law.sound facts.turns row now 0) in
       let lists = facts.law.sound.numbered.lists in
-      let told = turn_with_is t its (kept_of r.keys its) lists (stands.keys its) c ∙ both.0 in (
+      let reported = turn_with_is t its (kept_of r.keys its) lists (stands.keys its) c ∙ both.0 in (
         queues_as t k v kept ∙ rw (both.1.cached, both.1.asks) refl,
-        ap (λ (key : List ℕ). turn_with c (line_of r.keys key)) same_key ∙ turn_there (line_in (kept_of r.keys its)) told,
+        ap (λ (key : List ℕ). turn_with c (line_of r.keys key)) same_key ∙ turn_there (line_in (kept_of r.keys its)) reported,
       )
 
   -- who waits for another that uses what is current, by its plan, waits with others
@@ -187,9 +184,9 @@ module _ {B : Type 0} {g : Ghosts B} {limits : Limits} (r : Rows B g) (t : Table
   some_plan_is now q seen held sees p here =
       let lists = facts.law.sound.numbered.lists in
       let at : current t its ≡ Some q = current_as r t k v q stands kept held in
-      let told : (planning.plan_view t now c v).current ≡ Some seen =
+      let reported : (planning.plan_view t now c v).current ≡ Some seen =
       ap (option_and_then (candidate_at t now v.request)) at ∙ (ap (option_map (λ (z : Representation). candidate t now q v.request z)) here ∙ ap Some (sym (sees p here))) in
-      sym (plans_are r t now c k v stands lists kept (Some seen) ∙ ap (λ (o : Option Candidate). plan_of (record (planning.plan_view t now c v) { current = o })) (sym told))
+      sym (plans_are r t now c k v stands lists kept (Some seen) ∙ ap (λ (o : Option Candidate). plan_of (record (planning.plan_view t now c v) { current = o })) (sym reported))
 
   -- the plan with what is current, as the code makes it
   pub some_plan_at : (now : ℕ) (view : PlanView) → view ≡ plan_view r now c k → (q : ℕ) (seen : Candidate) → HasCurrent r.keys q k
@@ -379,7 +376,7 @@ module _ {B : Type 0} {g : Ghosts B} (r : Rows B g) (some : ∥ Stands r ∥₁)
         let current_is = current_as r t found.0 v q stands kept (known_of its_row found.0 (HasCurrent r.keys q) found.1 held) in
         let at = now_kept r t stands v.request.key q current_is in
         let same = head_at_is ((shelf_of r.entries).kept q) at.e head at.kept read in
-        let total = sym (total_told t q at.e at.p at.is at.stays) ∙ ap (λ (h : Head). h.total) same in
+        let total = sym (total_reported t q at.e at.p at.is at.stays) ∙ ap (λ (h : Head). h.total) same in
         let fields = sym (ap (λ (h : Head). h.fields) at.is.head) ∙ ap (λ (h : Head). h.fields) same in
         known_of its_row found.0 (AnswersShowing r u before out c q (plain head) why span) found.1 answers now want _ t v facts stands row
         (move ∙ (ap (planning.binds_current t v why span) current_is ∙ binds_shows t v q at.p why (plain head) span found.0 at.row total fields (ranged_as found.0 v t kept))))

@@ -13,7 +13,7 @@ use Rattle.hc_entry.specs.{Keys.{kept_of, line_of}, Lines.{turn_with}}
 use Rattle.hc_model.specs.Lines as lines
 use Rattle.hc_model.specs.Planning as planning
 use Rattle.hc_model.specs.Rows as rows
-use Rattle.hc_state.specs.{declared.{rows.Rows.{Rows}}, Kept.{IsKept}, Plans.{plan_view, looks_at_stored}, Stands.{RowsStand}}
+use Rattle.hc_state.specs.{declared.rows.Rows.{Rows}, Kept.{IsKept}, Plans.{plan_view, looks_at_stored}, Stands.{RowsStand}}
 use Rattle.hc_txn.specs.declared.transaction.Transaction.{Transaction as Consumer}
 use Rattle.hc_state.proofs.TurnTies.{turn_with_is}
 
@@ -43,14 +43,14 @@ module _ (v : PlanView) (a b : ℕ) where
   exclusives_same s why span (Some d) = refl
 
   wants_same : (s : Candidate) (why : Why) (w : Wanted) → by_wanted va s why w ≡ by_wanted vb s why w
-  wants_same s why (wants.Interval span) = elim (cases_Bool s.writing) [
+  wants_same s why (wants.Interval span) = elim (cases_Bool s.writer_group) [
     | inl is ↦ rw is refl
     | inr is ↦ rw is (exclusives_same s why span s.exclusive)
   ]
   wants_same s why _ = refl
 
   reads_same : (s : Candidate) (why : Why) → plan_on va s why ≡ plan_on vb s why
-  reads_same s why = elim (cases_Bool (is_none v.class.range && s.writing)) [
+  reads_same s why = elim (cases_Bool (is_none v.class.range && s.writer_group)) [
     | inl is ↦ rw is refl
     | inr is ↦ rw is (wants_same s why s.span)
   ]

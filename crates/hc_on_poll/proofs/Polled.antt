@@ -4,7 +4,7 @@ use Rattle.hc_store.specs.declared.backend.Backend.{Ghosts}
 use Rattle.hc_effects.proofs.Vocabulary.{Request, Place, is_live_place}
 use Rattle.hc_fields.specs.FieldList.{IsWithinLimits, size_of}
 use Rattle.hc_model.specs.Rows as rows
-use Rattle.hc_state.specs.{declared.{rows.Rows.{Rows}}, Kept.{IsKept, KeepsConsumer}, Plans.{IsRequestWithinLimits}, Stands.{Stands}}
+use Rattle.hc_state.specs.{declared.rows.Rows.{Rows}, Kept.{IsKept, KeepsConsumer}, Plans.{IsRequestWithinLimits}, Stands.{Stands}}
 use Rattle.hc_txn.specs.declared.transaction.Transaction.{Transaction as Consumer}
 use Rattle.hc_state.proofs.{Maps.{merely_true, merely_below, some_that}, Ties.{kept_row}, Words.{there}}
 

@@ -17,9 +17,8 @@ use Rattle.hc_stored.specs.{Entries.{shelf_of}, Shelf.{head_at, is_kept}}
 use Rattle.hc_exch.specs.Exchanges as exch
 use Rattle.hc_exch.specs.Exchanges.{table_of}
 use Rattle.hc_exch.specs.Known as known
-use Rattle.hc_state.specs.{declared.{rows.Rows.{Rows}}, Handlers.{most, given_acts, asks_or_waits, asked_in}, Changes.{ChangesAt}, Facts.{Facts}, Reads.{IsShownAt, WaitsForNoHead, IsRunAhead, IsInLength, ReadViewIs}, Stands.{RowsStand, Stands, Answered}}
-use Rattle.hc_txn.specs.declared.transaction.Transaction.{Transaction as Consumer}
-use Rattle.hc_txn.specs.Transactions.{once_given}
+use Rattle.hc_state.specs.{declared.rows.Rows.{Rows}, Handlers.{most, given_acts, asks_or_waits, asked_in}, Changes.{ChangesAt}, Facts.{Facts}, Reads.{IsShownAt, WaitsForNoHead, IsRunAhead, IsInLength, ReadViewIs}, Stands.{RowsStand, Stands, Answered}}
+use Rattle.hc_txn.specs.{declared.transaction.Transaction.{Transaction as Consumer}, Transactions.{once_given}}
 use Rattle.hc_on_poll.proofs.BoundGives as gives
 use Rattle.hc_on_poll.proofs.BoundReads as bound
 use Rattle.hc_state.proofs.{Maps.{merely_true, merely_below}, Words.{few_received}}
@@ -126,11 +125,11 @@ module _ {B : Type 0} {g : Ghosts B} (r : Rows B g) (c q : ℕ) (k : Consumer) (
           let at_offset : o ≡ k.lo + k.given = o_is ∙ ap (λ (y : ReadView). y.offset) view_is.is in
           let as_many : n ≡ most k.hi (k.lo + k.given) want = n_is ∙ ap (λ (y : ReadView). most y.hi y.offset want) view_is.is in
           let taken : bytes ≡ take (most k.hi (k.lo + k.given) want) (table_of r.exchanges h.x).held = bytes_are ∙ ap₂ (λ (m y : ℕ). take m (table_of r.exchanges y).held) as_many same in
-          let told : out ≡ before ++ given_acts c h.x (k.lo + k.given) (take (most k.hi (k.lo + k.given) want) (table_of r.exchanges h.x).held) =
+          let reported : out ≡ before ++ given_acts c h.x (k.lo + k.given) (take (most k.hi (k.lo + k.given) want) (table_of r.exchanges h.x).held) =
           acts ∙ (ap (λ (y : ℕ). before ++ given_acts c y o bytes) same ∙ (ap (λ (y : ℕ). before ++ given_acts c h.x y bytes) at_offset ∙ ap (λ (ys : List ℕ). before ++ given_acts c h.x (k.lo + k.given) ys) taken)) in
           gives.held_answered r u t facts stands now want c q reads.0.2 k its at before out last same_keys same_entries h (most k.hi (k.lo + k.given) want)
           (subst (λ (y : ℕ). exch.Becomes (known.without_first (most k.hi (k.lo + k.given) want)) y r.exchanges u.exchanges) same (subst (λ (m : ℕ). exch.Becomes (known.without_first m) x r.exchanges u.exchanges) as_many becomes))
-          found.1.move_is told (subst (λ (ys : List ℕ). ChangesAt r.consumers u.consumers c (once_given (length ys))) taken changes)
+          found.1.move_is reported (subst (λ (ys : List ℕ). ChangesAt r.consumers u.consumers c (once_given (length ys))) taken changes)
 
       -- it asks, or waits
       pub asks_for : (x : ℕ) → read_step view ≡ step.Waits x → u.consumers ≡ r.consumers → exch.Becomes known.with_asking x r.exchanges u.exchanges → out ≡ before ++ acts_of c (asks_or_waits (asked_in (table_of r.exchanges x).running) x) → Answered limits (shelf_of r.entries).faults u t before out now (event.Poll c want)

@@ -21,9 +21,8 @@ use Rattle.hc_model.specs.Moves as moves
 use Rattle.hc_model.specs.Rows as rows
 use Rattle.hc_model.specs.Steps as steps
 use Rattle.hc_effects.proofs.{AskEffects.{asks}, GiveEffects.{gives_bytes}, ShowEffects.{shows_reader}, WaitEffects.{waits_on}, Tests.{none_some}}
-use Rattle.hc_state.specs.{declared.{rows.Rows.{Rows}}, Handlers.{IsShown, IsUnshown, past_view, source_in, most, asks_or_waits, asked_in, given_acts}, Changes.{BecomesAt, ChangesAt}, Facts.{Facts}, Kept.{IsKept, KeepsConsumer, KeepsExchange, KeepsRunning, answer_for, held_for, unread, unstored_bytes}, Stands.{RowsStand, Answered}}
-use Rattle.hc_txn.specs.declared.transaction.Transaction.{Transaction as Consumer}
-use Rattle.hc_txn.specs.Transactions.{once_answered, once_given}
+use Rattle.hc_state.specs.{declared.rows.Rows.{Rows}, Handlers.{IsShown, IsUnshown, past_view, source_in, most, asks_or_waits, asked_in, given_acts}, Changes.{BecomesAt, ChangesAt}, Facts.{Facts}, Kept.{IsKept, KeepsConsumer, KeepsExchange, KeepsRunning, answer_for, held_for, unread, unstored_bytes}, Stands.{RowsStand, Answered}}
+use Rattle.hc_txn.specs.{declared.transaction.Transaction.{Transaction as Consumer}, Transactions.{once_answered, once_given}}
 use Rattle.hc_state.proofs.{Answering.{does_answered}, Counting.{stands_counted}, QueueHandler.{becomes_by}, ReaderSteps.{held_same, exchange_reading, stands_reading}, Ties.{kept_row, runs_same}}
 use Rattle.hc_on_poll.proofs.{Asking.{stands_asked, stands_asked_already}, ReadLemmas.{first_is, second_is, third_is, run_some, run_is, some_more}}
 

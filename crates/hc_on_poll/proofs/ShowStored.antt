@@ -1,10 +1,10 @@
 -- The stored head is shown to who is bound: what is shown is what the tables say.
 --
--- Only length and fields of a head are shown (`shown_as_told`). The length has the work. The entry of what is gone may
+-- Only length and fields of a head are shown (`shown_as_reported`). The length has the work. The entry of what is gone may
 -- not tell it, and then it is where the reader stops, as the code takes it (`total_is`). Where a part is shown, it
 -- isn't empty and lies within the length (`part_fits`, `part_known`). Who waits for the head of a first hole waits on
 -- (`first_waits_answered`); all others are shown the head (`stored_answered`).
-use Rattle.std.{proofs.{Common.{◌≡◌, ℕ, ◌<◌, ◌≤◌, ◌^◌, List, [], ◌∷◌, ◌++◌, Bool, true, false, Option, Some, None, refl, ap, ap₂, sym, ◌∙◌, subst, arith}}, specs.{Prelude.{is_some, is_none, nat_eq, option_and_then, option_map, not, ◌&&◌, if◌then◌else◌}, Option.{option_or}, HashMap.{get}}}
+use Rattle.std.{proofs.Common.{◌≡◌, ℕ, ◌<◌, ◌≤◌, ◌^◌, List, [], ◌∷◌, ◌++◌, Bool, true, false, Option, Some, None, refl, ap, ap₂, sym, ◌∙◌, subst, arith}, specs.{Prelude.{is_some, is_none, nat_eq, option_and_then, option_map, not, ◌&&◌, if◌then◌else◌}, Option.{option_or}, HashMap.{get}}}
 use Rattle.hc_text.proofs.Basics.{eqb-same, false_true, some_inj as some_is}
 use Rattle.hc_effects.proofs.Vocabulary.{brings_part, Limits, Act, Why, Response, class_of, RequestClass, BoundBy, is_number, total_in, with_consumer, with_event, is_headless, Lawful, Move, Shows, acts_of, span_to, shows_stored, is_ranged, move_of, shows_head, shows_at, shows_bound, has_joined, if_headless, waits_for_head, by_place, or_else, own_open, hi_of, lo_of, reads, Numbers, Tables, Exchange, Representation, IsToBeShown, status_in, came_alone, act, wait, event, by, place}
 use Rattle.hc_store.specs.declared.backend.Backend.{Ghosts}
@@ -20,9 +20,8 @@ use Rattle.hc_model.specs.Moves as moves
 use Rattle.hc_model.specs.Rows as rows
 use Rattle.hc_model.specs.Sound as sound
 use Rattle.hc_effects.proofs.{ShowEffects.{shows_reader}, Tests.{none_some}, Basics.{some_row}}
-use Rattle.hc_state.specs.{declared.{rows.Rows.{Rows}}, Changes.{ChangesAt}, Facts.{Facts}, Kept.{IsKept, answer_at, KeepsConsumer, KeepsExchange, KeepsRunning, held_for}, Leaving.{IsUserAt}, Reads.{IsUnshownBy, is_headless_open, waits_for_first, may_be_part, is_part, why_shown}, Stands.{RowsStand, Stands, Answered}, Stored.{IsEntry, TellsLength, told, untold, KeepsEntry, is_first}}
-use Rattle.hc_txn.specs.declared.transaction.Transaction.{Transaction as Consumer}
-use Rattle.hc_txn.specs.Transactions.{once_shown}
+use Rattle.hc_state.specs.{declared.rows.Rows.{Rows}, Changes.{ChangesAt}, Facts.{Facts}, Kept.{IsKept, answer_at, KeepsConsumer, KeepsExchange, KeepsRunning, held_for}, Leaving.{IsUserAt}, Reads.{IsUnshownBy, is_headless_open, waits_for_first, may_be_part, is_part, why_shown}, Stands.{RowsStand, Stands, Answered}, Stored.{IsEntry, KnowsLength, reported, unreported, KeepsEntry, is_first}}
+use Rattle.hc_txn.specs.{declared.transaction.Transaction.{Transaction as Consumer}, Transactions.{once_shown}}
 use Rattle.hc_state.proofs.{Answering.{does_answered}, Counting.{stands_counted}, QueueHandler.{becomes_by}, ReaderSteps.{held_same, exchange_reading, stands_reading}, Ties.{kept_row}, Unbinding.{user_kept}, Words.{few_received}}
 use Rattle.hc_on_poll.proofs.{ReadLemmas.{first_is, second_is}, WaitHandlers.{head_waits}}
 
@@ -83,8 +82,8 @@ same_status : (head other : Head) (n : Option ℕ) → sealed_head kinds.Growing
 same_status head other n is = ap (λ (h : Head). h.status) is
 
 -- only its length and its fields are shown
-shown_as_told : (head other : Head) (n : Option ℕ) (reason : Why) (span : Option Span) (ranged : Bool) → sealed_head kinds.Growing other.total head ≡ other → n ≡ other.total → shown_response (record head { total = n }) reason span ranged ≡ shown_response other reason span ranged
-shown_as_told head other n reason span ranged is same =
+shown_as_reported : (head other : Head) (n : Option ℕ) (reason : Why) (span : Option Span) (ranged : Bool) → sealed_head kinds.Growing other.total head ≡ other → n ≡ other.total → shown_response (record head { total = n }) reason span ranged ≡ shown_response other reason span ranged
+shown_as_reported head other n reason span ranged is same =
     ap (λ (m : Option ℕ). shown_response (record head { total = m }) reason span ranged) same ∙ ap (λ (h : Head). shown_response h reason span ranged) is
 
 -- whatever they come from
@@ -133,13 +132,13 @@ module _ (t : Tables) {limits : _} (facts : Facts limits t) (c q : ℕ) (how : B
   total_is : rd.v.shown ≡ false → option_or e.head.total k.hi ≡ rd.p.head.total
   total_is unshown = by_length is.length
     where
-      none_told : (o : Option ℕ) → rd.hi ≡ o → rd.p.head.total ≡ None → k.hi ≡ None
-      none_told None to none = end_is ∙ rw (to, none) refl
-      none_told (Some h) to none = none_some (length_known h to).0 (sym none ∙ (length_known h to).1)
+      none_reported : (o : Option ℕ) → rd.hi ≡ o → rd.p.head.total ≡ None → k.hi ≡ None
+      none_reported None to none = end_is ∙ rw (to, none) refl
+      none_reported (Some h) to none = none_some (length_known h to).0 (sym none ∙ (length_known h to).1)
 
-      by_told : (o : Option ℕ) → rd.p.head.total ≡ o → e.head.total ≡ rd.p.head.total → option_or e.head.total k.hi ≡ rd.p.head.total
-      by_told (Some n) known same = ap (λ (o : Option ℕ). option_or o k.hi) (same ∙ known) ∙ sym known
-      by_told None none same = ap (λ (o : Option ℕ). option_or o k.hi) (same ∙ none) ∙ (none_told rd.hi refl none ∙ sym none)
+      by_reported : (o : Option ℕ) → rd.p.head.total ≡ o → e.head.total ≡ rd.p.head.total → option_or e.head.total k.hi ≡ rd.p.head.total
+      by_reported (Some n) known same = ap (λ (o : Option ℕ). option_or o k.hi) (same ∙ known) ∙ sym known
+      by_reported None none same = ap (λ (o : Option ℕ). option_or o k.hi) (same ∙ none) ∙ (none_reported rd.hi refl none ∙ sym none)
 
       by_founding : (n h : ℕ) (b : Bool) → rd.p.head.total ≡ Some n → e.first ≡ None → how ≡ by.Founding → rd.hi ≡ Some h → brings_part rd.p.head.status ≡ b → Some h ≡ Some n
       by_founding n h true known nobody founding to on = first_kept (came_as by.Founding founding (alone_by_part on)) nobody
@@ -154,9 +153,9 @@ module _ (t : Tables) {limits : _} (facts : Facts limits t) (c q : ℕ) (how : B
       by_end n None known nobody to = known
       by_end n (Some h) known nobody to = by_way n h how known nobody refl to
 
-      by_length : TellsLength e rd.p → option_or e.head.total k.hi ≡ rd.p.head.total
-      by_length (told same) = by_told rd.p.head.total refl same
-      by_length (untold u) = ap (λ (o : Option ℕ). option_or o k.hi) u.untold ∙ (end_is ∙ (by_end u.total rd.hi u.known u.first refl ∙ sym u.known))
+      by_length : KnowsLength e rd.p → option_or e.head.total k.hi ≡ rd.p.head.total
+      by_length (reported same) = by_reported rd.p.head.total refl same
+      by_length (unreported u) = ap (λ (o : Option ℕ). option_or o k.hi) u.unreported ∙ (end_is ∙ (by_end u.total rd.hi u.known u.first refl ∙ sym u.known))
 
   -- WHAT FITS
 
@@ -377,7 +376,7 @@ module _ {B : Type 0} {g : Ghosts B} {limits : Limits} (r : Rows B g) (t : Table
     pub stored_shows : (total : Option ℕ) → total ≡ option_or e.head.total k.hi → move_of t now want c rd.v ≡ Shows q (why_shown q how) (shown_response (record e.head { total = total }) (why_shown q how) (span_to k.lo k.hi) (is_part k.class how e.head.status)) k.lo k.hi
     stored_shows total total_at =
         let ends : k.hi ≡ hi_of t rd.v.place = rd.kept.ends in
-        let head = shown_as_told e.head rd.p.head total (why_shown q how) (span_to k.lo k.hi) (is_part k.class how e.head.status) is.head (total_at ∙ total_is t facts c q how k rd e is unshown) in
+        let head = shown_as_reported e.head rd.p.head total (why_shown q how) (span_to k.lo k.hi) (is_part k.class how e.head.status) is.head (total_at ∙ total_is t facts c q how k rd e is unshown) in
         first_is (shows_head t rd.v) (or_else (waits_for_head (option_and_then (if_headless t) (own_open t rd.v))) (by_place t now want c rd.v rd.v.place)) _
         (shows_as ∙ (shows_it how refl
         ∙ (ap₂ (λ (n : ℕ) (o : Option ℕ). Some (Shows q (why_shown q how) (shown_response rd.p.head (why_shown q how) (span_to n o) (is_part k.class how e.head.status)) n o)) (sym begins_at) (sym ends)

@@ -5,20 +5,18 @@
 -- unless its request bypasses the store or is for stored answers alone (`enters`). `stands_started` joins this;
 -- `not_in_yet` is what the code needs to enter it in the line. `start` uses both.
 use Rattle.std.{proofs.{Common.{◌≡◌, ◌≢◌, inl, inr, ℕ, ◌+◌, ◌<◌, List, [], ◌∷◌, Bool, true, false, cond, eqb, Option, Some, None, refl, ap, sym, ◌∙◌, subst, arith}, lemmas.Bool.Decides.{nat_tests}}, specs.{Prelude.{nat_eq, bytes_eq, filter, not, ◌&&◌, ◌||◌}, HashMap.{get, hash_map_len}}}
-use Rattle.hc_text.proofs.Basics.{eqb-other, eqb-same, same_or, and_off as then_false}
+use Rattle.hc_text.proofs.{Basics.{eqb-other, eqb-same, same_or, and_off as then_false}, SortedLemmas.{has-with}}
 use Rattle.hc_effects.proofs.Vocabulary.{Limits, Request, class_of, is_disabled, is_only, Place, is_in_line, new_consumer, current, is_live, live, with_consumer, with_start, with_event, kind_of, Lawful, bound, is_bound, Tables, Exchange, event, place, by}
 use Rattle.hc_store.specs.declared.backend.Backend.{Ghosts}
 use Rattle.hc_entry.specs.{Keys.{kept_of, line_of}, Kept.{on_line}, Lines.{is_held_by, is_in, line_with}}
 use Rattle.hc_text.specs.Sorted.{is_among, itself}
 use Rattle.hc_entry.specs.Kept as keyed
-use Rattle.hc_text.proofs.SortedLemmas.{has-with}
 use Rattle.hc_rules.proofs.RangeReads.{bytes_eq-same}
 use Rattle.hc_exch.specs.Exchanges.{table_of}
 use Rattle.hc_stored.specs.Entries.{shelf_of}
 use Rattle.hc_model.specs.Rows as rows
-use Rattle.hc_state.specs.{declared.{rows.Rows.{Rows}}, Handlers.{IsEntered}, Changes.{BecomesAt}, Kept.{KeepsConsumer, KeepsExchange, held_for}, Lines.{KeepsKey, has_turn, is_passed, is_away}, Stands.{RowsStand}, Stored.{KeepsEntry, is_first}}
-use Rattle.hc_txn.specs.declared.transaction.Transaction.{Transaction as Consumer}
-use Rattle.hc_txn.specs.Transactions.{begun}
+use Rattle.hc_state.specs.{declared.rows.Rows.{Rows}, Handlers.{IsEntered}, Changes.{BecomesAt}, Kept.{KeepsConsumer, KeepsExchange, held_for}, Lines.{KeepsKey, has_turn, is_passed, is_away}, Stands.{RowsStand}, Stored.{KeepsEntry, is_first}}
+use Rattle.hc_txn.specs.{declared.transaction.Transaction.{Transaction as Consumer}, Transactions.{begun}}
 use Rattle.hc_state.proofs.{Fallbacks.{IsAlike, same, fallback, held_alike, users_alike}, ConsumerSteps.{KeyAfter, SaysOfIt, key_with, key_stays, keys_with, at_it}, Ties.{kept_none, consumer_same, exchange_same, entry_same, key_same}}
 use Rattle.hc_state.proofs.LiveCounts as counts
 

@@ -10,9 +10,8 @@ use Rattle.hc_stored.specs.{declared.view.EntryView.{EntryView}, Entries.{shelf_
 use Rattle.hc_exch.specs.{Exchanges.{table_of}, Known.{Table}}
 use Rattle.hc_model.specs.Currents.{is_number}
 use Rattle.hc_effects.proofs.Tests.{none_some}
-use Rattle.hc_state.specs.{declared.{rows.Rows.{Rows}}, Handlers.{most}, Leaving.{if_running, writing_by}, Reads.{IsRunAhead, IsShownAt, ReadViewIs, WaitsForNoHead, held_own}}
-use Rattle.hc_txn.specs.declared.transaction.Transaction.{Transaction as Consumer}
-use Rattle.hc_txn.specs.Views.{reading_by}
+use Rattle.hc_state.specs.{declared.rows.Rows.{Rows}, Handlers.{most}, Leaving.{if_running, group_by}, Reads.{IsRunAhead, IsShownAt, ReadViewIs, WaitsForNoHead, held_own}}
+use Rattle.hc_txn.specs.{declared.transaction.Transaction.{Transaction as Consumer}, Views.{reading_by}}
 use Rattle.hc_on_poll.specs.{Readers.{NextReadIs, ReadsUnstored, reader_of, unstored_ahead}, declared.read.Reader.{Reader}}
 use Rattle.hc_state.proofs.{Maps.{known_of}, Words.{there}}
 
@@ -30,7 +29,7 @@ pub record IsUnstored {B : Type 0} {g : Ghosts B} (r : Rows B g) (a : Reader) (w
 
 -- what is told of what is stored is told of what is kept
 pub unstored_as : (table : Table) (o : Option Kept) (view : EntryView) (a : Reader) (next : Option ℕ) (held : Bool) (source : Option ℕ) → option_map view_of o ≡ Some view
-    → held ≡ ((view.is_lost && is_number view.alone a.c) && nat_lt 0 (held_own table a.own)) → source ≡ option_or (if_running table a.own) (writing_by table view)
+    → held ≡ ((view.is_lost && is_number view.alone a.c) && nat_lt 0 (held_own table a.own)) → source ≡ option_or (if_running table a.own) (group_by table view)
     → record { stored = None; next_stored = next; held = held; source = source } ≡ unstored_ahead table o next a
 unstored_as table o view a next held source is held_is source_is = by_kept o is
   where
@@ -40,7 +39,7 @@ unstored_as table o view a next held source is held_is source_is = by_kept o is
         let seen : view ≡ view_of e = sym (some_inj (view_of e) view is) in
         ap₂ (λ (b : Bool) (z : Option ℕ). record { stored = None; next_stored = next; held = b; source = z })
         (held_is ∙ ap (λ (z : EntryView). (z.is_lost && is_number z.alone a.c) && nat_lt 0 (held_own table a.own)) seen)
-        (source_is ∙ ap (λ (z : EntryView). option_or (if_running table a.own) (writing_by table z)) seen)
+        (source_is ∙ ap (λ (z : EntryView). option_or (if_running table a.own) (group_by table z)) seen)
 
 -- nothing is ahead of it
 none_read : (f : Cells) (o n : ℕ) → f o ≡ None → None ≡ (if n == 0 then None else stretch f o n)

@@ -30,12 +30,12 @@ turn_move t law now want c x v row at =
 
 module _ {B : Type 0} {g : Ghosts B} (limits : Limits) (faults : ℕ) (u : Rows B g) (t : Tables) (law : Lawful t) (now c want : ℕ) (v : Consumer) (row : t.consumer c ≡ Some v) (before out : List Act) where
   pub turn_waits : (d : ℕ) → move_of t now want c v ≡ moves.Waits (wait.Turn d) → out ≡ before ++ (act.Pending c (wait.Turn d) ∷ []) → RowsStand limits u (with_consumer c (Some (in_line v)) t) → Answered limits faults u t before out now (event.Poll c want)
-  turn_waits d is told stands =
+  turn_waits d is reported stands =
       does_answered limits faults u t (with_event now (event.Poll c want) (with_consumer c (Some (in_line v)) t)) before out (acts_of c (moves.Waits (wait.Turn d))) now (event.Poll c want)
-      (waits limits t law now c want v row (wait.Turn d) is) refl refl told (stands_counted u (with_consumer c (Some (in_line v)) t) now (event.Poll c want) refl stands)
+      (waits limits t law now c want v row (wait.Turn d) is) refl refl reported (stands_counted u (with_consumer c (Some (in_line v)) t) now (event.Poll c want) refl stands)
 
   -- nothing changes
   pub head_waits : (x : ℕ) → move_of t now want c v ≡ moves.Waits (wait.Head x) → out ≡ before ++ (act.Pending c (wait.Head x) ∷ []) → RowsStand limits u t → Answered limits faults u t before out now (event.Poll c want)
-  head_waits x is told stands =
+  head_waits x is reported stands =
       does_answered limits faults u t (with_event now (event.Poll c want) t) before out (acts_of c (moves.Waits (wait.Head x))) now (event.Poll c want)
-      (waits_on limits t law now c want v row (wait.Head x) is refl) refl refl told (stands_counted u t now (event.Poll c want) refl stands)
+      (waits_on limits t law now c want v row (wait.Head x) is refl) refl refl reported (stands_counted u t now (event.Poll c want) refl stands)

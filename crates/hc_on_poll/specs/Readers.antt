@@ -15,7 +15,7 @@ use Rattle.hc_txn.specs.declared.read.Ahead.{Ahead}
 use Rattle.hc_txn.specs.declared.transaction.Transaction.{Transaction as Consumer}
 use Rattle.hc_txn.specs.Views.{reading_by}
 use Rattle.hc_state.specs.declared.rows.Rows.{Rows}
-use Rattle.hc_state.specs.Leaving.{if_running, writing_of}
+use Rattle.hc_state.specs.Leaving.{if_running, writer_group_of}
 use Rattle.hc_state.specs.Reads.{IsShownAt, WaitsForNoHead, goes_alone, held_own}
 use Rattle.hc_on_poll.specs.declared.read.Reader.{Reader}
 
@@ -41,7 +41,7 @@ unstored_ahead table e next a = record {
   stored = None;
   next_stored = next;
   held = goes_alone a.c e && nat_lt 0 (held_own table a.own);
-  source = option_or (if_running table a.own) (writing_of table e);
+  source = option_or (if_running table a.own) (writer_group_of table e);
 }
 
 pub record UnstoredAheadIs {B : Type 0} {g : Ghosts B} (r : Rows B g) (a : Reader) (ahead : Ahead) : Type 0 where

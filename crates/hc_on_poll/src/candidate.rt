@@ -10,7 +10,7 @@ ghost use Rattle.hc_state.specs.Good.{StandsBy};
 ghost use Rattle.hc_on_poll.specs.Ready.{IsCurrentWith};
 
 use hc_on_leave::writers::exclusive_in;
-use hc_on_leave::writing::writing_in;
+use hc_on_leave::writer_group::group_in;
 use hc_record::StoredHead;
 use hc_rules::{Candidate, Plan};
 use hc_state::Rows;
@@ -34,7 +34,7 @@ pub(crate) fn candidate<B: Backend>(
     let entry = rows.entries.entry(r).unwrap();
     let facts = rows.entries.facts(r).unwrap();
     let users = Users {
-        writing: writing_in(rows, &entry).is_some(),
+        writer_group: group_in(rows, &entry).is_some(),
         exclusive: exclusive_in(rows, r, &entry),
         least_bound: rows.entries.bound(r).first().copied(),
     };

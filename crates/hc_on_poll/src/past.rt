@@ -13,7 +13,7 @@ use crate::show::put_shown;
 use crate::wait::wait;
 use hc_event::{Acts, Wait, Why};
 use hc_on_leave::leave::{end_reading, fail};
-use hc_on_leave::writing::if_running;
+use hc_on_leave::writer_group::if_running;
 use hc_rules::{ReadStep, ReadView, read_step};
 use hc_state::{Rows, Transaction, show_answer};
 use hc_store::Backend;

@@ -12,7 +12,7 @@ ghost use Rattle.hc_model.specs.Currents.{is_number};
 ghost use Rattle.hc_model.specs.Moves.{acts_of};
 ghost use Rattle.hc_state.specs.Changes.{ChangesAt};
 ghost use Rattle.hc_txn.specs.Transactions.{once_given};
-ghost use Rattle.hc_state.specs.Leaving.{if_running, writing_by};
+ghost use Rattle.hc_state.specs.Leaving.{if_running, group_by};
 ghost use Rattle.hc_state.specs.Stands.{Answers, KeepsRest};
 ghost use Rattle.hc_state.specs.Handlers.{most, given_acts, asks_or_waits, asked_in};
 ghost use Rattle.hc_state.specs.Reads.{headless_own, held_own};
@@ -27,7 +27,7 @@ use hc_event::{Act, Acts, Cause, Wait};
 use hc_on_leave::acts::put;
 use hc_on_leave::leave::{end_reading, fail};
 use hc_on_leave::misread::misread_by;
-use hc_on_leave::writing::{if_running, writing_in};
+use hc_on_leave::writer_group::{if_running, group_in};
 use hc_rules::ReadStep;
 use hc_state::{Rows, Transaction, count_given};
 use hc_store::Backend;
@@ -194,16 +194,16 @@ fn held_own<B: Backend>(rows: &Rows<B>, own: Option<u64>) -> usize
 }
 
 /// The open exchange that a consumer of the representation reads from: its own, or that of the
-/// shared writing.
+/// writer group.
 fn source<B: Backend>(rows: &Rows<B>, entry: &EntryView, own: Option<u64>) -> Option<u64>
     ensures { result ≡ option_or (if_running (table_of rows.now.exchanges) own)
-        (writing_by (table_of rows.now.exchanges) entry.now) }
+        (group_by (table_of rows.now.exchanges) entry.now) }
 {
     let own = if_running(rows, own);
     if own.is_some() {
         return own;
     }
-    writing_in(rows, entry)
+    group_in(rows, entry)
 }
 
 /// A consumer is given these bytes of an exchange.

@@ -7,7 +7,7 @@ use Rattle.std.{proofs.{Common.{◌≡◌, ℕ, List, [], ◌∷◌, ◌++◌, B
 use Rattle.hc_text.proofs.Basics.{cond_either as or_all, or_false as or_none}
 use Rattle.hc_event.specs.declared.event.Request.{Request}
 use Rattle.hc_wire.specs.{Logs.{Called}, Scripts.{is_got_by}}
-use Rattle.hc_msg.specs.{Inputs.{Next, Waits, Tells, Brings, Ends, Fails, next_in, told_or, is_in_body, step_of}, Reading.{Reading, Heading, Counts, Runs, Sizing, Chunk, ChunkEnd, ChunkReturn, Trailing, Whole, Done, Failed, Token, move_of, heading, Requests}}
+use Rattle.hc_msg.specs.{Inputs.{Next, Waits, Reports, Brings, Ends, Fails, next_in, reported_or, is_in_body, step_of}, Reading.{Reading, Heading, Counts, Runs, Sizing, Chunk, ChunkEnd, ChunkReturn, Trailing, Whole, Done, Failed, Token, move_of, heading, Requests}}
 use Rattle.hc_msg.proofs.Inputs.{failed_next}
 use Rattle.hc_origin.specs.{Coming.{Came, bytes_of, came_of, first_in, has_stopped, is_accept_of, is_accepted, is_cut_off, is_failing, is_refused, is_stop_of, request_from, request_in}, Answering.{IsAnswer}, Going.{with_bytes, with_stop}}
 
@@ -38,15 +38,15 @@ bytes-more k (c ∷ calls) call =
 -- what more bytes make of what stands next
 abbrev On : Next → List ℕ → Next → Type 0
 On (Waits t) ys next = next ≡ next_in 1 t ys
-On (Tells token t rest) ys next = next ≡ Tells token t (rest ++ ys)
+On (Reports token t rest) ys next = next ≡ Reports token t (rest ++ ys)
 On (Brings bytes t rest) ys next = Unit {0}
 On Ends ys next = next ≡ Ends
 On (Fails e) ys next = next ≡ Fails e
 
-told_on : (tokens : List Token) (s : Reading) (xs ys : List ℕ) → On (next_in 1 s xs) ys (next_in 1 s (xs ++ ys))
-    → On (told_or tokens s xs (λ t. next_in 1 t xs)) ys (told_or tokens s (xs ++ ys) (λ t. next_in 1 t (xs ++ ys)))
-told_on [] s xs ys on = on
-told_on (token ∷ more) s xs ys on = refl
+reported_on : (tokens : List Token) (s : Reading) (xs ys : List ℕ) → On (next_in 1 s xs) ys (next_in 1 s (xs ++ ys))
+    → On (reported_or tokens s xs (λ t. next_in 1 t xs)) ys (reported_or tokens s (xs ++ ys) (λ t. next_in 1 t (xs ++ ys)))
+reported_on [] s xs ys on = on
+reported_on (token ∷ more) s xs ys on = refl
 
 whole_next : (ys : List ℕ) → next_in 1 Whole ys ≡ Ends
 unfolding next_in
@@ -72,24 +72,24 @@ next_on Whole [] ys = whole_next ys
 next_on Done [] ys = refl
 next_on (Failed e) [] ys = failed_next 1 e ys
 next_on (Heading kind scan text) (b ∷ xs) ys =
-    let step = step_of (move_of (Heading kind scan text) b) in told_on step.tokens step.next xs ys (next_on step.next xs ys)
+    let step = step_of (move_of (Heading kind scan text) b) in reported_on step.tokens step.next xs ys (next_on step.next xs ys)
 next_on (Counts left) (b ∷ xs) ys = elim (cases_Bool (is_in_body (Counts left))) [
   | inl on ↦ rw on tt
   | inr off ↦ rw off refl
 ]
 next_on Runs (b ∷ xs) ys = tt
 next_on (Sizing text) (b ∷ xs) ys =
-    let step = step_of (move_of (Sizing text) b) in told_on step.tokens step.next xs ys (next_on step.next xs ys)
+    let step = step_of (move_of (Sizing text) b) in reported_on step.tokens step.next xs ys (next_on step.next xs ys)
 next_on (Chunk left) (b ∷ xs) ys = elim (cases_Bool (is_in_body (Chunk left))) [
   | inl on ↦ rw on tt
   | inr off ↦ rw off refl
 ]
 next_on ChunkEnd (b ∷ xs) ys =
-    let step = step_of (move_of ChunkEnd b) in told_on step.tokens step.next xs ys (next_on step.next xs ys)
+    let step = step_of (move_of ChunkEnd b) in reported_on step.tokens step.next xs ys (next_on step.next xs ys)
 next_on ChunkReturn (b ∷ xs) ys =
-    let step = step_of (move_of ChunkReturn b) in told_on step.tokens step.next xs ys (next_on step.next xs ys)
+    let step = step_of (move_of ChunkReturn b) in reported_on step.tokens step.next xs ys (next_on step.next xs ys)
 next_on (Trailing place count) (b ∷ xs) ys =
-    let step = step_of (move_of (Trailing place count) b) in told_on step.tokens step.next xs ys (next_on step.next xs ys)
+    let step = step_of (move_of (Trailing place count) b) in reported_on step.tokens step.next xs ys (next_on step.next xs ys)
 next_on Whole (b ∷ xs) ys = refl
 next_on Done (b ∷ xs) ys = sym (done_next ys)
 next_on (Failed e) (b ∷ xs) ys = refl
@@ -100,7 +100,7 @@ waits-more came s ys is = subst (λ (n : Next). On n ys (first_in (with_bytes ys
 
 request-on : (n next : Next) (ys : List ℕ) (request : Request) → On n ys next → request_from n ≡ Some request → request_from next ≡ Some request
 request-on (Waits t) next ys request on is = absurd (cc)
-request-on (Tells token t rest) next ys request on is = ap request_from on ∙ is
+request-on (Reports token t rest) next ys request on is = ap request_from on ∙ is
 request-on (Brings bytes t rest) next ys request on is = absurd (cc)
 request-on Ends next ys request on is = absurd (cc)
 request-on (Fails e) next ys request on is = absurd (cc)
@@ -125,7 +125,7 @@ waits-on came s is = ap is_failing is
 
 asked-on : (n : Next) (request : Request) → request_from n ≡ Some request → is_failing n ≡ false
 asked-on (Waits t) request is = refl
-asked-on (Tells token t rest) request is = refl
+asked-on (Reports token t rest) request is = refl
 asked-on (Brings bytes t rest) request is = refl
 asked-on Ends request is = refl
 asked-on (Fails e) request is = absurd (cc)
@@ -135,7 +135,7 @@ answer-on came text is = asked-on (first_in came) is.request is.asked
 
 refused-on : (n : Next) → is_failing n ≡ true → request_from n ≡ None
 refused-on (Waits t) is = absurd (cc)
-refused-on (Tells token t rest) is = absurd (cc)
+refused-on (Reports token t rest) is = absurd (cc)
 refused-on (Brings bytes t rest) is = absurd (cc)
 refused-on Ends is = absurd (cc)
 refused-on (Fails e) is = refl

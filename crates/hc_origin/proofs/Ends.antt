@@ -7,26 +7,26 @@ use Rattle.std.{proofs.Common.{◌≡◌, ℕ, ◌+◌, ◌<◌, ◌≤◌, List
 use Rattle.hc_text.proofs.Basics.{asked_none}
 use Rattle.hc_sched.specs.declared.schedule.Ended.{Ended}
 use Rattle.hc_sched.specs.declared.schedule.Ended.TheVariants as ended
-use Rattle.hc_origin.specs.{declared.{origin.Origin.{Origin}, stop.Stop.{Stop}}, Stops.{ended_as}, Coming.{Came, came_of, request_in}, Turns.{Closes, refused, cut_off, answered}, Endings.{Answers, done, unwired, wanting, AnswersAs, IsAnswered, IsFresh, IsLog, WasSent}, Replies.{Unsent, unsent_in}, Keeping.{Follows, IsLacking, PlaceOf, Rests, nothing, told_as}, Going.{GoesTo, IsEnding, IsOver, TurnsTo, asking_in, nobody}}
+use Rattle.hc_origin.specs.{declared.{origin.Origin.{Origin}, stop.Stop.{Stop}}, Stops.{ended_as}, Coming.{Came, came_of, request_in}, Turns.{Closes, refused, cut_off, answered}, Endings.{Answers, done, unwired, wanting, AnswersAs, IsAnswered, IsFresh, IsLog, WasSent}, Replies.{Unsent, unsent_in}, Keeping.{Follows, IsLacking, PlaceOf, Rests, nothing, reported_as}, Going.{GoesTo, IsEnding, IsOver, TurnsTo, asking_in, nobody}}
 use Rattle.hc_origin.specs.declared.stop.Stop.TheVariants as stop
-use Rattle.hc_wire.specs.{Events.{Stage, IsOpen, closed_of, with_stage}, Following.{live_from}, Logs.{Called, Log, Taker, Tells, changed_at, empty_log, is_numbered, shut, with_closed}}
+use Rattle.hc_wire.specs.{Events.{Stage, IsOpen, closed_of, with_stage}, Following.{live_from}, Logs.{Called, Log, Taker, Reports, changed_at, empty_log, is_numbered, shut, with_closed}}
 use Rattle.hc_msg.specs.Reading.{Reading}
 use Rattle.hc_origin.proofs.{Comings.{cut-none, refused-none, waits-none}, Fitting.{all-later, later-shut}, Places.{at_or, keeps-log}, Steps.{follows-closed}, Takers.{apart_sym, find-changed, find-other}, Unsents.{others-with}}
 
 -- THE BEGINNING
 
 -- whether the wire tells its log
-abbrev pub tells_of : Option Log → Bool
-tells_of told = is_some told
+abbrev pub reports_of : Option Log → Bool
+reports_of reported = is_some reported
 
 abbrev pub log_of : Option Log → Log
 log_of None = empty_log
 log_of (Some log) = log
 
-pub fresh-follows : (told : Option Log) (stages : ℕ → Stage) → IfSome told IsFresh → ((k : ℕ) → IsOpen (stages k) → ⊥) → Follows (tells_of told) told stages (log_of told)
-fresh-follows None stages is shut = record { is_told = refl; live = λ k is_open. absurd (shut k is_open); unseen = λ k unseen. refl }
+pub fresh-follows : (reported : Option Log) (stages : ℕ → Stage) → IfSome reported IsFresh → ((k : ℕ) → IsOpen (stages k) → ⊥) → Follows (reports_of reported) reported stages (log_of reported)
+fresh-follows None stages is shut = record { is_reported = refl; live = λ k is_open. absurd (shut k is_open); unseen = λ k unseen. refl }
 fresh-follows (Some log) stages is shut = record {
-  is_told = refl;
+  is_reported = refl;
   live = λ k is_open. absurd (shut k is_open);
   unseen = λ k unseen. subst (λ (cs : List Taker). find (is_numbered k) cs ≡ None) (sym is.untaken) refl;
 }
@@ -45,12 +45,12 @@ empty-rests asking none log uncalled undialled untaken =
       lacking = λ k. tt;
     }))
 
-pub fresh-rests : (told : Option Log) (asking : ℕ → Option Reading) (owed : List Unsent) → IfSome told IsFresh → ((k : ℕ) → asking k ≡ None) → owed ≡ [] → Rests (log_of told) asking owed
+pub fresh-rests : (reported : Option Log) (asking : ℕ → Option Reading) (owed : List Unsent) → IfSome reported IsFresh → ((k : ℕ) → asking k ≡ None) → owed ≡ [] → Rests (log_of reported) asking owed
 fresh-rests None asking owed is none nothing_owed = subst (λ (us : List Unsent). Rests empty_log asking us) (sym nothing_owed) (empty-rests asking none empty_log refl refl refl)
 fresh-rests (Some log) asking owed is none nothing_owed =
     subst (λ (us : List Unsent). Rests log asking us) (sym nothing_owed) (empty-rests asking none log is.uncalled is.undialled is.untaken)
 
-pub fresh-calls : (told : Option Log) → IfSome told IsFresh → length (log_of told).calls ≡ 0
+pub fresh-calls : (reported : Option Log) → IfSome reported IsFresh → length (log_of reported).calls ≡ 0
 fresh-calls None is = refl
 fresh-calls (Some log) is = ap length is.uncalled
 
@@ -119,25 +119,25 @@ ending-closed k log asking new owed left is same stays = record {
 }
 
 -- one more is closed
-pub closes-one : (tells : Bool) (told new : Option Log) (stages next : ℕ → Stage) (first log : Log) (k : ℕ) (asking left_asking : ℕ → Option Reading) (owed left : List Unsent)
-    → Follows tells told stages log → log.calls ≡ first.calls → log.bound ≡ first.bound → IsEnding log asking owed
+pub closes-one : (reports : Bool) (reported new : Option Log) (stages next : ℕ → Stage) (first log : Log) (k : ℕ) (asking left_asking : ℕ → Option Reading) (owed left : List Unsent)
+    → Follows reports reported stages log → log.calls ≡ first.calls → log.bound ≡ first.bound → IsEnding log asking owed
     → ((j : ℕ) → eqb j k ≡ false → left_asking j ≡ asking j) → ((j : ℕ) → eqb j k ≡ false → unsent_in left j ≡ unsent_in owed j)
-    → Tells told new (with_closed k) → ((j : ℕ) → next j ≡ with_stage k (closed_of (stages k)) stages j)
-    → GoesTo tells first new next (λ l. IsEnding l left_asking left)
-closes-one tells told new stages next first log k asking left_asking owed left follows calls bound is same stays more after = record {
+    → Reports reported new (with_closed k) → ((j : ℕ) → next j ≡ with_stage k (closed_of (stages k)) stages j)
+    → GoesTo reports first new next (λ l. IsEnding l left_asking left)
+closes-one reports reported new stages next first log k asking left_asking owed left follows calls bound is same stays more after = record {
   next = with_closed k log;
-  follows = follows-closed tells told new stages next log follows k more after;
+  follows = follows-closed reports reported new stages next log follows k more after;
   calls = calls;
   bound = bound;
   holds = ending-closed k log asking left_asking owed left is same stays;
 }
 
 -- the last of those that lack bytes is
-pub pops-one : (tells : Bool) (told new : Option Log) (stages next : ℕ → Stage) (log : Log) (own : ℕ) (asking : ℕ → Option Reading) (all left : List Unsent) (u : Unsent)
-    → all ≡ left ++ u ∷ [] → own ≡ u.k → Follows tells told stages log → IsEnding log asking all
-    → Tells told new (with_closed own) → ((j : ℕ) → next j ≡ with_stage own (closed_of (stages own)) stages j) → GoesTo tells log new next (λ l. IsEnding l asking left)
-pops-one tells told new stages next log own asking all left u whole same follows is more after =
-    closes-one tells told new stages next log log own asking asking all left follows refl refl is (λ j off. refl)
+pub pops-one : (reports : Bool) (reported new : Option Log) (stages next : ℕ → Stage) (log : Log) (own : ℕ) (asking : ℕ → Option Reading) (all left : List Unsent) (u : Unsent)
+    → all ≡ left ++ u ∷ [] → own ≡ u.k → Follows reports reported stages log → IsEnding log asking all
+    → Reports reported new (with_closed own) → ((j : ℕ) → next j ≡ with_stage own (closed_of (stages own)) stages j) → GoesTo reports log new next (λ l. IsEnding l asking left)
+pops-one reports reported new stages next log own asking all left u whole same follows is more after =
+    closes-one reports reported new stages next log log own asking asking all left follows refl refl is (λ j off. refl)
     (λ j off. sym (ap (λ (us : List Unsent). unsent_in us j) whole ∙ others-with left u j (ap (λ (n : ℕ). eqb n j) (sym same) ∙ apart_sym j own off))) more after
 
 pub ending-nobody : (log : Log) (asking : ℕ → Option Reading) (owed : List Unsent) → IsEnding log asking owed → ((k : ℕ) → asking k ≡ None) → IsEnding log nobody owed
@@ -151,83 +151,83 @@ nobody-left log asking owed is none nothing_owed =
 
 -- the log that the turns began with
 abbrev pub Began : Option Log → Bool → Log → Type 0
-Began None tells log = tells ≡ false
-Began (Some old) tells log = (tells ≡ true) × (log.bound ≡ old.bound)
+Began None reports log = reports ≡ false
+Began (Some old) reports log = (reports ≡ true) × (log.bound ≡ old.bound)
 
-pub began : (told : Option Log) → Began told (tells_of told) (log_of told)
+pub began : (reported : Option Log) → Began reported (reports_of reported) (log_of reported)
 began None = refl
 began (Some log) = (refl, refl)
 
-pub began-on : (told : Option Log) (tells : Bool) (log next : Log) → Began told tells log → next.bound ≡ log.bound → Began told tells next
-began-on None tells log next is bound = is
-began-on (Some old) tells log next is bound = (is.0, bound ∙ is.1)
+pub began-on : (reported : Option Log) (reports : Bool) (log next : Log) → Began reported reports log → next.bound ≡ log.bound → Began reported reports next
+began-on None reports log next is bound = is
+began-on (Some old) reports log next is bound = (is.0, bound ∙ is.1)
 
-pub answers-as : (turns : ℕ) (old told : Option Log) (tells : Bool) (stages : ℕ → Stage) (log : Log) (end : Ended) → Began old tells log → Follows tells told stages log → Answers turns log end
-    → AnswersAs turns old told end
-answers-as turns None told tells stages log end is follows answers = follows.is_told ∙ ap (λ (b : Bool). told_as b log) is
-answers-as turns (Some old) told tells stages log end is follows answers = (log, follows.is_told ∙ ap (λ (b : Bool). told_as b log) is.0, answers, is.1)
+pub answers-as : (turns : ℕ) (old reported : Option Log) (reports : Bool) (stages : ℕ → Stage) (log : Log) (end : Ended) → Began old reports log → Follows reports reported stages log → Answers turns log end
+    → AnswersAs turns old reported end
+answers-as turns None reported reports stages log end is follows answers = follows.is_reported ∙ ap (λ (b : Bool). reported_as b log) is
+answers-as turns (Some old) reported reports stages log end is follows answers = (log, follows.is_reported ∙ ap (λ (b : Bool). reported_as b log) is.0, answers, is.1)
 
 -- So many turns were made.
-pub record IsTurning (old told : Option Log) (stages : ℕ → Stage) (asking : ℕ → Option Reading) (owed : List Unsent) (n : ℕ) : Type 0 where
-  pub tells : Bool
+pub record IsTurning (old reported : Option Log) (stages : ℕ → Stage) (asking : ℕ → Option Reading) (owed : List Unsent) (n : ℕ) : Type 0 where
+  pub reports : Bool
   pub log : Log
-  pub since : Began old tells log
-  pub follows : Follows tells told stages log
+  pub since : Began old reports log
+  pub follows : Follows reports reported stages log
   pub rests : Rests log asking owed
   pub count : length log.calls ≡ n
 
-pub turning-none : (told : Option Log) (stages : ℕ → Stage) (asking : ℕ → Option Reading) (owed : List Unsent) → IfSome told IsFresh → ((k : ℕ) → IsOpen (stages k) → ⊥)
-    → ((k : ℕ) → asking k ≡ None) → owed ≡ [] → IsTurning told told stages asking owed 0
-turning-none told stages asking owed is shut none nothing_owed = record {
-  tells = tells_of told;
-  log = log_of told;
-  since = began told;
-  follows = fresh-follows told stages is shut;
-  rests = fresh-rests told asking owed is none nothing_owed;
-  count = fresh-calls told is;
+pub turning-none : (reported : Option Log) (stages : ℕ → Stage) (asking : ℕ → Option Reading) (owed : List Unsent) → IfSome reported IsFresh → ((k : ℕ) → IsOpen (stages k) → ⊥)
+    → ((k : ℕ) → asking k ≡ None) → owed ≡ [] → IsTurning reported reported stages asking owed 0
+turning-none reported stages asking owed is shut none nothing_owed = record {
+  reports = reports_of reported;
+  log = log_of reported;
+  since = began reported;
+  follows = fresh-follows reported stages is shut;
+  rests = fresh-rests reported asking owed is none nothing_owed;
+  count = fresh-calls reported is;
 }
 
 -- one more
-pub turning-more : (old told new : Option Log) (stages next : ℕ → Stage) (origin after : Origin) (n : ℕ) → (is : IsTurning old told stages (asking_in origin) origin.answering.items n)
-    → TurnsTo is.tells after is.log new next (Ok tt) → IsTurning old new next (asking_in after) after.answering.items (n + 1)
-turning-more old told new stages next origin after n is turns = record {
-  tells = is.tells;
+pub turning-more : (old reported new : Option Log) (stages next : ℕ → Stage) (origin after : Origin) (n : ℕ) → (is : IsTurning old reported stages (asking_in origin) origin.answering.items n)
+    → TurnsTo is.reports after is.log new next (Ok tt) → IsTurning old new next (asking_in after) after.answering.items (n + 1)
+turning-more old reported new stages next origin after n is turns = record {
+  reports = is.reports;
   log = turns.0;
-  since = began-on old is.tells is.log turns.0 is.since turns.2.2;
+  since = began-on old is.reports is.log turns.0 is.since turns.2.2;
   follows = turns.1;
   rests = turns.2.0;
   count = turns.2.1 ∙ ap (λ (m : ℕ). m + 1) is.count;
 }
 
 -- a turn is stopped
-pub turning-stops : (old told new : Option Log) (stages next : ℕ → Stage) (origin after : Origin) (n turns : ℕ) (e : Stop) (P : Stop → Type 0) (result : Result (Unit {0}) Stop)
-    → (is : IsTurning old told stages (asking_in origin) origin.answering.items n) → n < turns → TurnsTo is.tells after is.log new next (Err e)
+pub turning-stops : (old reported new : Option Log) (stages next : ℕ → Stage) (origin after : Origin) (n turns : ℕ) (e : Stop) (P : Stop → Type 0) (result : Result (Unit {0}) Stop)
+    → (is : IsTurning old reported stages (asking_in origin) origin.answering.items n) → n < turns → TurnsTo is.reports after is.log new next (Err e)
     → IsErrAnd result P → AnswersAs turns old new (ended_as result)
-turning-stops old told new stages next origin after n turns e P (Ok made) is lt stops err = absurd err
-turning-stops old told new stages next origin after n turns e P (Err stop.WireFailed) is lt stops err =
+turning-stops old reported new stages next origin after n turns e P (Ok made) is lt stops err = absurd err
+turning-stops old reported new stages next origin after n turns e P (Err stop.WireFailed) is lt stops err =
     let le : length stops.0.calls ≤ turns = let most = stops.2.1 in let count = is.count in omega arith in
-    answers-as turns old new is.tells next stops.0 ended.WireFailed (began-on old is.tells is.log stops.0 is.since stops.2.2) stops.1 (unwired stops.2.0 le)
-turning-stops old told new stages next origin after n turns e P (Err stop.NoMemory) is lt stops err =
+    answers-as turns old new is.reports next stops.0 ended.WireFailed (began-on old is.reports is.log stops.0 is.since stops.2.2) stops.1 (unwired stops.2.0 le)
+turning-stops old reported new stages next origin after n turns e P (Err stop.NoMemory) is lt stops err =
     let le : length stops.0.calls ≤ turns = let most = stops.2.1 in let count = is.count in omega arith in
-    answers-as turns old new is.tells next stops.0 ended.NoMemory (began-on old is.tells is.log stops.0 is.since stops.2.2) stops.1 (wanting stops.2.0 le)
+    answers-as turns old new is.reports next stops.0 ended.NoMemory (began-on old is.reports is.log stops.0 is.since stops.2.2) stops.1 (wanting stops.2.0 le)
 
 -- all were made, and all are closed
-pub turning-ends : (old told new : Option Log) (stages next : ℕ → Stage) (asking : ℕ → Option Reading) (owed : List Unsent) (n turns : ℕ) → (is : IsTurning old told stages asking owed n) → n ≡ turns
-    → ((tells : Bool) (log : Log) → Follows tells told stages log → IsEnding log asking owed → GoesTo tells log new next IsOver) → AnswersAs turns old new ended.Done
-turning-ends old told new stages next asking owed n turns is all closes =
-    let goes = closes is.tells is.log is.follows (rests-ending is.log asking owed is.rests) in
-    answers-as turns old new is.tells next goes.next ended.Done (began-on old is.tells is.log goes.next is.since goes.bound) goes.follows
+pub turning-ends : (old reported new : Option Log) (stages next : ℕ → Stage) (asking : ℕ → Option Reading) (owed : List Unsent) (n turns : ℕ) → (is : IsTurning old reported stages asking owed n) → n ≡ turns
+    → ((reports : Bool) (log : Log) → Follows reports reported stages log → IsEnding log asking owed → GoesTo reports log new next IsOver) → AnswersAs turns old new ended.Done
+turning-ends old reported new stages next asking owed n turns is all closes =
+    let goes = closes is.reports is.log is.follows (rests-ending is.log asking owed is.rests) in
+    answers-as turns old new is.reports next goes.next ended.Done (began-on old is.reports is.log goes.next is.since goes.bound) goes.follows
     (done goes.holds.0 goes.holds.1 (ap length goes.calls ∙ (is.count ∙ all)))
 
 -- nothing was called
-pub turning-not : (told : Option Log) (stages : ℕ → Stage) (turns : ℕ) (P : Stop → Type 0) (result : Result (Unit {0}) Stop) → IfSome told IsFresh → ((k : ℕ) → IsOpen (stages k) → ⊥)
-    → IsErrAnd result P → AnswersAs turns told told (ended_as result)
-turning-not told stages turns P (Ok made) is shut err = absurd err
-turning-not told stages turns P (Err stop.WireFailed) is shut err =
-    let rests = fresh-rests told nobody [] is (λ k. refl) refl in
-    let none = fresh-calls told is in
-    answers-as turns told told (tells_of told) stages (log_of told) ended.WireFailed (began told) (fresh-follows told stages is shut) (unwired (keeps-log (log_of told) nobody [] rests.keeps) (omega arith))
-turning-not told stages turns P (Err stop.NoMemory) is shut err =
-    let rests = fresh-rests told nobody [] is (λ k. refl) refl in
-    let none = fresh-calls told is in
-    answers-as turns told told (tells_of told) stages (log_of told) ended.NoMemory (began told) (fresh-follows told stages is shut) (wanting (keeps-log (log_of told) nobody [] rests.keeps) (omega arith))
+pub turning-not : (reported : Option Log) (stages : ℕ → Stage) (turns : ℕ) (P : Stop → Type 0) (result : Result (Unit {0}) Stop) → IfSome reported IsFresh → ((k : ℕ) → IsOpen (stages k) → ⊥)
+    → IsErrAnd result P → AnswersAs turns reported reported (ended_as result)
+turning-not reported stages turns P (Ok made) is shut err = absurd err
+turning-not reported stages turns P (Err stop.WireFailed) is shut err =
+    let rests = fresh-rests reported nobody [] is (λ k. refl) refl in
+    let none = fresh-calls reported is in
+    answers-as turns reported reported (reports_of reported) stages (log_of reported) ended.WireFailed (began reported) (fresh-follows reported stages is shut) (unwired (keeps-log (log_of reported) nobody [] rests.keeps) (omega arith))
+turning-not reported stages turns P (Err stop.NoMemory) is shut err =
+    let rests = fresh-rests reported nobody [] is (λ k. refl) refl in
+    let none = fresh-calls reported is in
+    answers-as turns reported reported (reports_of reported) stages (log_of reported) ended.NoMemory (began reported) (fresh-follows reported stages is shut) (wanting (keeps-log (log_of reported) nobody [] rests.keeps) (omega arith))

@@ -11,13 +11,13 @@ use Rattle.hc_origin.specs.{declared.origin.Origin.{Origin}, Coming.{Came}, Repl
 use Rattle.hc_origin.proofs.{Comings.{answer-more}, Steps.{answered-kept, read-asks, read-fails, read-on}}
 
 -- the log is the one that was
-pub stays-kept : (tells : Bool) (log : Log) (told : Option Log) (stages : ℕ → Stage) (P : Log → Type 0) → Follows tells told stages log → P log → GoesTo tells log told stages P
-stays-kept tells log told stages P follows is = record { next = log; follows = follows; calls = refl; bound = refl; holds = is }
+pub stays-kept : (reports : Bool) (log : Log) (reported : Option Log) (stages : ℕ → Stage) (P : Log → Type 0) → Follows reports reported stages log → P log → GoesTo reports log reported stages P
+stays-kept reports log reported stages P follows is = record { next = log; follows = follows; calls = refl; bound = refl; holds = is }
 
-pub handles-kept : (tells : Bool) (origin : Origin) (log : Log) (told : Option Log) (stages : ℕ → Stage) (result : Result (Unit {0}) NoMemory) → Follows tells told stages log
-    → OnOk result (AreKept origin log) → HandlesTo tells origin log told stages result
-handles-kept tells origin log told stages (Ok done) follows is = stays-kept tells log told stages (AreKept origin) follows is
-handles-kept tells origin log told stages (Err e) follows is = follows
+pub handles-kept : (reports : Bool) (origin : Origin) (log : Log) (reported : Option Log) (stages : ℕ → Stage) (result : Result (Unit {0}) NoMemory) → Follows reports reported stages log
+    → OnOk result (AreKept origin log) → HandlesTo reports origin log reported stages result
+handles-kept reports origin log reported stages (Ok done) follows is = stays-kept reports log reported stages (AreKept origin) follows is
+handles-kept reports origin log reported stages (Err e) follows is = follows
 
 -- BYTES
 

@@ -4,7 +4,7 @@
 -- took less than it was offered, and is put behind those that were offered theirs. If nothing is left it has taken its
 -- answer, and is closed (`closed-kept`). What the others lack stays (`lacking-other`).
 use Rattle.std.{proofs.{Common.{◌≡◌, ℕ, ◌<◌, List, [], ◌∷◌, ◌++◌, length, Bool, true, false, eqb, Option, Some, None, refl, sym, ap, subst, ◌∙◌, append_assoc}, lemmas.List.{append-nil}}, specs.{Prelude.{find, IfSome}, Option.{option_map}}}
-use Rattle.hc_wire.specs.{Events.{Stage, closed_of, with_stage}, Following.{is_live, live_from}, Logs.{Log, Taker, Tells, changed_at, is_numbered, shut, taking, with_closed, with_sent}}
+use Rattle.hc_wire.specs.{Events.{Stage, closed_of, with_stage}, Following.{is_live, live_from}, Logs.{Log, Taker, Reports, changed_at, is_numbered, shut, taking, with_closed, with_sent}}
 use Rattle.hc_msg.specs.Reading.{Reading}
 use Rattle.hc_origin.specs.{Coming.{Came, came_of, is_accepted}, Answering.{IsAnswer}, Turns.{answered}, Endings.{IsLog}, Replies.{Sends, Unsent, unsent_in}, Keeping.{AreLacking, Follows, IsGone, IsLacking, IsOwing, Keeps, PlaceIn, PlaceOf}, Going.{AreOffered, GoesTo}}
 use Rattle.hc_origin.proofs.{Fitting.{all-later, later-changed, later-shut}, Places.{at_or, keeps-log, place-same}, Steps.{follows-closed, follows-sent}, Takers.{apart-changed, apart_sym, find-changed, find-other}, Unsents.{moved, none-behind, once-moved, once-replaced, once-without, others-with, others-without, own-in, own-with, own-without}}
@@ -110,13 +110,13 @@ closed-kept log asking us vs v keeps none =
 
 -- WHAT AN OFFER COMES TO
 
-module _ (tells : Bool) (told mid : Option Log) (stages next : ℕ → Stage) (log : Log) (asking : ℕ → Option Reading) (us vs : List Unsent) (u v : Unsent)
-    (follows : Follows tells told stages log) (keeps : Keeps log asking (us ++ u ∷ vs)) (number : v.k ≡ u.k) (same : (j : ℕ) → next j ≡ stages j) where
-  pub offers-some : AreLacking log vs → Sends told mid u.k u.bytes v.bytes true → 0 < length v.bytes → GoesTo tells log mid next (AreOffered asking us (vs ++ v ∷ []))
+module _ (reports : Bool) (reported mid : Option Log) (stages next : ℕ → Stage) (log : Log) (asking : ℕ → Option Reading) (us vs : List Unsent) (u v : Unsent)
+    (follows : Follows reports reported stages log) (keeps : Keeps log asking (us ++ u ∷ vs)) (number : v.k ≡ u.k) (same : (j : ℕ) → next j ≡ stages j) where
+  pub offers-some : AreLacking log vs → Sends reported mid u.k u.bytes v.bytes true → 0 < length v.bytes → GoesTo reports log mid next (AreOffered asking us (vs ++ v ∷ []))
   offers-some lacking sends some =
       let kept = sent-kept log asking us vs u v number keeps sends.bytes true sends.whole in record {
         next = with_sent u.k sends.bytes true log;
-        follows = follows-sent tells told mid stages next log follows u.k sends.bytes true sends.tells same;
+        follows = follows-sent reports reported mid stages next log follows u.k sends.bytes true sends.reports same;
         calls = refl;
         bound = refl;
         holds = (
@@ -132,24 +132,24 @@ module _ (tells : Bool) (told mid : Option Log) (stages next : ℕ → Stage) (l
       }
 
   -- the log behind it, whatever comes then
-  pub offers-log : (short : Bool) → Sends told mid u.k u.bytes v.bytes short → GoesTo tells log mid next IsLog
+  pub offers-log : (short : Bool) → Sends reported mid u.k u.bytes v.bytes short → GoesTo reports log mid next IsLog
   offers-log short sends = record {
     next = with_sent u.k sends.bytes short log;
-    follows = follows-sent tells told mid stages next log follows u.k sends.bytes short sends.tells same;
+    follows = follows-sent reports reported mid stages next log follows u.k sends.bytes short sends.reports same;
     calls = refl;
     bound = refl;
     holds = keeps-log _ asking (us ++ v ∷ vs) (sent-kept log asking us vs u v number keeps sends.bytes short sends.whole);
   }
 
-  pub offers-all : (new : Option Log) (last : ℕ → Stage) → AreLacking log vs → Sends told mid u.k u.bytes v.bytes false → v.bytes ≡ []
-      → Tells mid new (with_closed v.k) → ((j : ℕ) → last j ≡ with_stage v.k (closed_of (next v.k)) next j) → GoesTo tells log new last (AreOffered asking us vs)
+  pub offers-all : (new : Option Log) (last : ℕ → Stage) → AreLacking log vs → Sends reported mid u.k u.bytes v.bytes false → v.bytes ≡ []
+      → Reports mid new (with_closed v.k) → ((j : ℕ) → last j ≡ with_stage v.k (closed_of (next v.k)) next j) → GoesTo reports log new last (AreOffered asking us vs)
   offers-all new last lacking sends none more stays =
       let sent = with_sent u.k sends.bytes false log in
       let kept = sent-kept log asking us vs u v number keeps sends.bytes false sends.whole in
       let alone : unsent_in vs v.k ≡ None = none-behind us vs v.k (own-without us vs v kept.once) in
       let alone_u : unsent_in vs u.k ≡ None = subst (λ (n : ℕ). unsent_in vs n ≡ None) number alone in record {
         next = with_closed v.k sent;
-        follows = follows-closed tells mid new next last sent (follows-sent tells told mid stages next log follows u.k sends.bytes false sends.tells same) v.k more stays;
+        follows = follows-closed reports mid new next last sent (follows-sent reports reported mid stages next log follows u.k sends.bytes false sends.reports same) v.k more stays;
         calls = refl;
         bound = refl;
         holds = (
@@ -160,8 +160,8 @@ module _ (tells : Bool) (told mid : Option Log) (stages next : ℕ → Stage) (l
       }
 
   -- the same with its own number
-  pub offers-closed : (new : Option Log) (last : ℕ → Stage) (own : ℕ) → own ≡ v.k → AreLacking log vs → Sends told mid u.k u.bytes v.bytes false → v.bytes ≡ []
-      → Tells mid new (with_closed own) → ((j : ℕ) → last j ≡ with_stage own (closed_of (next own)) next j) → GoesTo tells log new last (AreOffered asking us vs)
+  pub offers-closed : (new : Option Log) (last : ℕ → Stage) (own : ℕ) → own ≡ v.k → AreLacking log vs → Sends reported mid u.k u.bytes v.bytes false → v.bytes ≡ []
+      → Reports mid new (with_closed own) → ((j : ℕ) → last j ≡ with_stage own (closed_of (next own)) next j) → GoesTo reports log new last (AreOffered asking us vs)
   offers-closed new last own is lacking sends none more stays = offers-all new last lacking sends none
-      (subst (λ (n : ℕ). Tells mid new (with_closed n)) is more)
+      (subst (λ (n : ℕ). Reports mid new (with_closed n)) is more)
       (subst (λ (n : ℕ). (j : ℕ) → last j ≡ with_stage n (closed_of (next n)) next j) is stays)

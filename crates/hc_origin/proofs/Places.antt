@@ -110,7 +110,7 @@ unseen-none a came None None (Some bytes) is none = absurd is
 unseen-none a came None (Some reading) u is none = absurd is
 unseen-none a came (Some c) r u is none = absurd (cc)
 
-module _ (tells : Bool) (told : Option Log) (stages : ℕ → Stage) (log : Log) (asking : ℕ → Option Reading) (owed : List Unsent) (follows : Follows tells told stages log) (rests : Rests log asking owed) where
+module _ (reports : Bool) (reported : Option Log) (stages : ℕ → Stage) (log : Log) (asking : ℕ → Option Reading) (owed : List Unsent) (follows : Follows reports reported stages log) (rests : Rests log asking owed) where
   -- a call whose event changes no taker
   same-call : (moment : ℕ) (what : WireEvent) (bytes : List ℕ) → takers_with what log.takers ≡ log.takers
       → AllFit (takers_with what log.takers) [] (with_call true moment what bytes log).calls

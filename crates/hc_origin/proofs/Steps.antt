@@ -6,17 +6,17 @@
 use Rattle.std.{proofs.{Common.{◌≡◌, ℕ, List, [], ◌∷◌, ◌++◌, length, Bool, true, false, eqb, Option, Some, None, refl, sym, ap, subst, ◌∙◌}, lemmas.Bool.{eq-eqb}}, specs.{Prelude.{find, ◌&&◌}, Option.{option_map}}}
 use Rattle.hc_event.specs.declared.event.Request.{Request}
 use Rattle.hc_head.specs.declared.message.{MsgError.{MsgError}, WireRequest.{WireRequest}}
-use Rattle.hc_wire.specs.{declared.event.WireEvent.{WireEvent}, Events.{Stage, Unseen, Open, Closed, Fresh, IsOfOpen, IsOpen, closed_of, ended_of, stages_after, with_stage}, Following.{is_live, live_from}, Logs.{Log, Taker, Tells, changed_at, fresh, is_numbered, over, shut, taking, with_call, with_closed, with_sent}}
+use Rattle.hc_wire.specs.{declared.event.WireEvent.{WireEvent}, Events.{Stage, Unseen, Open, Closed, Fresh, IsOfOpen, IsOpen, closed_of, ended_of, stages_after, with_stage}, Following.{is_live, live_from}, Logs.{Log, Taker, Reports, changed_at, fresh, is_numbered, over, shut, taking, with_call, with_closed, with_sent}}
 use Rattle.hc_wire.specs.declared.event.WireEvent.TheVariants as event
-use Rattle.hc_msg.specs.{Inputs.{Waits, Tells as Told, Fails, next_in}, Reading.{Reading, Requests, Asks as AsksFor, heading}}
-use Rattle.hc_origin.specs.{Coming.{Came, came_of, first_in, is_accepted, is_failing, request_from}, Answering.{IsAnswer, Responds}, Turns.{Closes, refused}, Replies.{Unsent, unsent_in}, Keeping.{Follows, IsAsking, IsGone, IsOwing, Keeps, PlaceIn, PlaceOf, nothing, told_as}, Going.{Asks, Hears, IsUnanswered, Leaves, Welcomes, with_bytes}}
+use Rattle.hc_msg.specs.{Inputs.{Waits, Reports as Reported, Fails, next_in}, Reading.{Reading, Requests, Asks as AsksFor, heading}}
+use Rattle.hc_origin.specs.{Coming.{Came, came_of, first_in, is_accepted, is_failing, request_from}, Answering.{IsAnswer, Responds}, Turns.{Closes, refused}, Replies.{Unsent, unsent_in}, Keeping.{Follows, IsAsking, IsGone, IsOwing, Keeps, PlaceIn, PlaceOf, nothing, reported_as}, Going.{Asks, Hears, IsUnanswered, Leaves, Welcomes, with_bytes}}
 use Rattle.hc_origin.proofs.{Comings.{waits-more}, Fitting.{all-later, later-shut}, Places.{at_or, others-asking, place-same, with-own}, Takers.{apart-changed, apart_sym, find-before, find-changed, find-last, find-other}, Unsents.{once-with, others-with, own-with}}
 
 -- THE LOG
 
-pub told-more : (tells : Bool) (told new : Option Log) (log : Log) (change : Log → Log) → told ≡ told_as tells log → Tells told new change → new ≡ told_as tells (change log)
-told-more true told new log change is more = subst (λ (o : Option Log). Tells o new change) is more
-told-more false told new log change is more = subst (λ (o : Option Log). Tells o new change) is more
+pub reported-more : (reports : Bool) (reported new : Option Log) (log : Log) (change : Log → Log) → reported ≡ reported_as reports log → Reports reported new change → new ≡ reported_as reports (change log)
+reported-more true reported new log change is more = subst (λ (o : Option Log). Reports o new change) is more
+reported-more false reported new log change is more = subst (λ (o : Option Log). Reports o new change) is more
 
 -- by the number in hand, and the others
 stage-at : (j k : ℕ) (s : Stage) (stages : ℕ → Stage) → eqb j k ≡ false → with_stage k s stages j ≡ stages j
@@ -45,18 +45,18 @@ ended_unseen Unseen is = refl
 ended_unseen (Open reads ended) is = absurd (cc)
 ended_unseen Closed is = absurd (cc)
 
-module _ (tells : Bool) (told new : Option Log) (stages next : ℕ → Stage) (log : Log) (follows : Follows tells told stages log) where
+module _ (reports : Bool) (reported new : Option Log) (stages next : ℕ → Stage) (log : Log) (follows : Follows reports reported stages log) where
   -- nothing happens to the connections
-  pub follows-same : (change : Log → Log) → (change log).takers ≡ log.takers → Tells told new change → ((j : ℕ) → next j ≡ stages j) → Follows tells new next (change log)
+  pub follows-same : (change : Log → Log) → (change log).takers ≡ log.takers → Reports reported new change → ((j : ℕ) → next j ≡ stages j) → Follows reports new next (change log)
   follows-same change same more stays = record {
-    is_told = told-more tells told new log change follows.is_told more;
+    is_reported = reported-more reports reported new log change follows.is_reported more;
     live = λ j is. subst (λ (cs : List Taker). is_live cs j ≡ true) (sym same) (follows.live j (subst IsOpen (stays j) is));
     unseen = λ j is. subst (λ (cs : List Taker). find (is_numbered j) cs ≡ None) (sym same) (follows.unseen j (sym (stays j) ∙ is));
   }
 
-  pub follows-closed : (k : ℕ) → Tells told new (with_closed k) → ((j : ℕ) → next j ≡ with_stage k (closed_of (stages k)) stages j) → Follows tells new next (with_closed k log)
+  pub follows-closed : (k : ℕ) → Reports reported new (with_closed k) → ((j : ℕ) → next j ≡ with_stage k (closed_of (stages k)) stages j) → Follows reports new next (with_closed k log)
   follows-closed k more stays = record {
-    is_told = told-more tells told new log (with_closed k) follows.is_told more;
+    is_reported = reported-more reports reported new log (with_closed k) follows.is_reported more;
     live = λ j. at_or k j (λ n. IsOpen (next n) → is_live (changed_at k shut log.takers) n ≡ true)
         (λ is. absurd (never_open (stages k) (subst IsOpen (stays k ∙ stage-own k (closed_of (stages k)) stages) is)))
         (λ off is. ap live_from (find-other k shut (λ c. refl) log.takers j off) ∙ follows.live j (subst IsOpen (stays j ∙ stage-at j k (closed_of (stages k)) stages off) is));
@@ -69,10 +69,10 @@ module _ (tells : Bool) (told new : Option Log) (stages next : ℕ → Stage) (l
   live-taking bytes short n None is = is
   live-taking bytes short n (Some c) is = is
 
-  pub follows-sent : (k : ℕ) (bytes : List ℕ) (short : Bool) → Tells told new (with_sent k bytes short) → ((j : ℕ) → next j ≡ stages j) → Follows tells new next (with_sent k bytes short log)
+  pub follows-sent : (k : ℕ) (bytes : List ℕ) (short : Bool) → Reports reported new (with_sent k bytes short) → ((j : ℕ) → next j ≡ stages j) → Follows reports new next (with_sent k bytes short log)
   follows-sent k bytes short more stays =
       let n = length log.calls in record {
-        is_told = told-more tells told new log (with_sent k bytes short) follows.is_told more;
+        is_reported = reported-more reports reported new log (with_sent k bytes short) follows.is_reported more;
         live = λ j. at_or k j (λ m. IsOpen (next m) → is_live (changed_at k (taking bytes short n) log.takers) m ≡ true)
             (λ is. ap live_from (find-changed k (taking bytes short n) (λ c. refl) log.takers)
             ∙ live-taking bytes short n (find (is_numbered k) log.takers) (follows.live k (subst IsOpen (stays k) is)))
@@ -107,16 +107,16 @@ module _ (tells : Bool) (told new : Option Log) (stages next : ℕ → Stage) (l
       (λ is. find-changed k over (λ c. refl) log.takers ∙ ap (option_map over) (follows.unseen k (ended_unseen (stages k) (sym (stays k ∙ stage-own k (ended_of (stages k)) stages) ∙ is))))
       (λ off is. find-other k over (λ c. refl) log.takers j off ∙ follows.unseen j (sym (stays j ∙ stage-at j k (ended_of (stages k)) stages off) ∙ is))
 
-  pub follows-call : (moment : ℕ) (what : WireEvent) (bytes : List ℕ) → IsOfOpen what stages → Tells told new (with_call true moment what bytes)
-      → ((j : ℕ) → next j ≡ stages_after what stages j) → Follows tells new next (with_call true moment what bytes log)
+  pub follows-call : (moment : ℕ) (what : WireEvent) (bytes : List ℕ) → IsOfOpen what stages → Reports reported new (with_call true moment what bytes)
+      → ((j : ℕ) → next j ≡ stages_after what stages j) → Follows reports new next (with_call true moment what bytes log)
   follows-call moment (event.Accepted k) bytes is more stays = record {
-    is_told = told-more tells told new log (with_call true moment (event.Accepted k) bytes) follows.is_told more;
+    is_reported = reported-more reports reported new log (with_call true moment (event.Accepted k) bytes) follows.is_reported more;
     live = λ j. accept-live k j stays is;
     unseen = λ j. accept-unseen k j stays;
   }
   follows-call moment (event.Got k n) bytes is more stays = follows-same (with_call true moment (event.Got k n) bytes) refl more stays
   follows-call moment (event.Ended k) bytes is more stays = record {
-    is_told = told-more tells told new log (with_call true moment (event.Ended k) bytes) follows.is_told more;
+    is_reported = reported-more reports reported new log (with_call true moment (event.Ended k) bytes) follows.is_reported more;
     live = λ j. end-live k j stays;
     unseen = λ j. end-unseen k j stays;
   }
@@ -187,12 +187,12 @@ module _ (k : ℕ) (bytes : List ℕ) (before : Came) (log : Log) (asking new : 
       (place-same (is_accepted k log.calls) _ _ _ _ _ (Some t) _ None _ refl refl (sym was.1) (sym own) (sym was.2) is)
 
   -- it is whole
-  pub read-asks : (request : WireRequest) (t : Reading) (rest : List ℕ) → next_in 1 s bytes ≡ Told (AsksFor request) t rest → Asks k request.request log new owed
-  read-asks request t rest tells = record {
+  pub read-asks : (request : WireRequest) (t : Reading) (rest : List ℕ) → next_in 1 s bytes ≡ Reported (AsksFor request) t rest → Asks k request.request log new owed
+  read-asks request t rest reports = record {
     others = others-asking k log asking new owed same hears.others;
     c = was.0;
     is = unanswered;
-    asked = ap request_from (first-now ∙ tells);
+    asked = ap request_from (first-now ∙ reports);
   }
 
   -- it is refused

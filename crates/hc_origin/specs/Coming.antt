@@ -5,7 +5,7 @@ use Rattle.hc_wire.specs.declared.event.WireEvent.{WireEvent}
 use Rattle.hc_wire.specs.declared.event.WireEvent.TheVariants as event
 use Rattle.hc_wire.specs.Logs.{Called}
 use Rattle.hc_wire.specs.Scripts.{is_got_by}
-use Rattle.hc_msg.specs.Inputs.{Next, Waits, Tells, Brings, Ends, Fails, next_in}
+use Rattle.hc_msg.specs.Inputs.{Next, Waits, Reports, Brings, Ends, Fails, next_in}
 use Rattle.hc_msg.specs.Reading.{Requests, Token, Asks, Answers, Byte, heading}
 
 -- EVENTS
@@ -53,21 +53,21 @@ came_of k calls = record { bytes = bytes_of k calls; stopped = has_stopped k cal
 
 -- THE FIRST REQUEST
 
-abbrev pub request_told : Token → Option Request
-request_told (Asks request) = Some request.request
-request_told (Answers response) = None
-request_told (Byte b) = None
+abbrev pub request_of_token : Token → Option Request
+request_of_token (Asks request) = Some request.request
+request_of_token (Answers response) = None
+request_of_token (Byte b) = None
 
 abbrev pub request_from : Next → Option Request
 request_from (Waits reading) = None
-request_from (Tells token reading rest) = request_told token
+request_from (Reports token reading rest) = request_of_token token
 request_from (Brings bytes reading rest) = None
 request_from Ends = None
 request_from (Fails e) = None
 
 abbrev pub is_failing : Next → Bool
 is_failing (Waits reading) = false
-is_failing (Tells token reading rest) = false
+is_failing (Reports token reading rest) = false
 is_failing (Brings bytes reading rest) = false
 is_failing Ends = false
 is_failing (Fails e) = true

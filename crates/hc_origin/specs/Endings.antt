@@ -9,18 +9,18 @@ use Rattle.hc_origin.specs.Answering.{IsAnswer}
 use Rattle.hc_origin.specs.Turns.{AllFit}
 
 -- the bytes are the first of a text
-abbrev pub IsFront : List ℕ → List ℕ → Type 0
-IsFront bytes text = (rest : List ℕ) × (bytes ++ rest ≡ text)
+abbrev pub IsPrefix : List ℕ → List ℕ → Type 0
+IsPrefix bytes text = (rest : List ℕ) × (bytes ++ rest ≡ text)
 
 -- they are the first of the answer to the first request
-pub record IsFrontOfAnswer (came : Came) (sent : List ℕ) : Type 0 where
+pub record IsPrefixOfAnswer (came : Came) (sent : List ℕ) : Type 0 where
   pub text : List ℕ
   pub is : IsAnswer came text
-  pub front : IsFront sent text
+  pub front : IsPrefix sent text
 
 -- nothing was sent, or some of the answer
 abbrev pub WasSent : Came → List ℕ → Type 0
-WasSent came sent = (sent ≡ []) ⊎ IsFrontOfAnswer came sent
+WasSent came sent = (sent ≡ []) ⊎ IsPrefixOfAnswer came sent
 
 -- Each call fits those before it, each connection was sent first bytes of its answer alone, and none was dialled.
 pub record IsLog (log : Log) : Type 0 where
@@ -65,5 +65,5 @@ pub record IsFresh (log : Log) : Type 0 where
 
 -- the same of what the wire tells, if it tells anything: what was bound stays
 abbrev pub AnswersAs : ℕ → Option Log → Option Log → Ended → Type 0
-AnswersAs turns None told end = told ≡ None
-AnswersAs turns (Some old) told end = (log : Log) × (told ≡ Some log) × Answers turns log end × (log.bound ≡ old.bound)
+AnswersAs turns None reported end = reported ≡ None
+AnswersAs turns (Some old) reported end = (log : Log) × (reported ≡ Some log) × Answers turns log end × (log.bound ≡ old.bound)

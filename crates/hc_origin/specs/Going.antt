@@ -111,9 +111,9 @@ IsTaken k (Err e) log asking owed = e ≢ error.NoMemory → Leaves k log asking
 -- WHAT A STEP LEADS TO
 
 -- The log went on by no call, and this holds of it.
-pub record GoesTo (tells : Bool) (log : Log) (told : Option Log) (stages : ℕ → Stage) (Holds : Log → Type 0) : Type 0 where
+pub record GoesTo (reports : Bool) (log : Log) (reported : Option Log) (stages : ℕ → Stage) (Holds : Log → Type 0) : Type 0 where
   pub next : Log
-  pub follows : Follows tells told stages next
+  pub follows : Follows reports reported stages next
   pub calls : next.calls ≡ log.calls
   pub bound : next.bound ≡ log.bound
   pub holds : Holds next
@@ -123,8 +123,8 @@ AreKept origin log = Keeps log (asking_in origin) origin.answering.items
 
 -- what an event brought was taken, or memory was refused before the wire was called
 abbrev pub HandlesTo : Bool → Origin → Log → Option Log → (ℕ → Stage) → Result (Unit {0}) NoMemory → Type 0
-HandlesTo tells origin log told stages (Ok done) = GoesTo tells log told stages (AreKept origin)
-HandlesTo tells origin log told stages (Err e) = Follows tells told stages log
+HandlesTo reports origin log reported stages (Ok done) = GoesTo reports log reported stages (AreKept origin)
+HandlesTo reports origin log reported stages (Err e) = Follows reports reported stages log
 
 -- of those that were offered theirs in this turn each lacks some
 abbrev pub AreOffered : (ℕ → Option Reading) → List Unsent → List Unsent → Log → Type 0
@@ -132,15 +132,15 @@ AreOffered asking left offered log = Keeps log asking (left ++ offered) × AreLa
 
 -- one more was offered what it lacked
 abbrev pub OffersTo : Bool → Origin → Log → Option Log → (ℕ → Stage) → Result (Unit {0}) Stop → Type 0
-OffersTo tells origin log told stages (Ok done) =
-    GoesTo tells log told stages (AreOffered (asking_in origin) origin.answering.items origin.offered.items)
-OffersTo tells origin log told stages (Err e) = GoesTo tells log told stages IsLog
+OffersTo reports origin log reported stages (Ok done) =
+    GoesTo reports log reported stages (AreOffered (asking_in origin) origin.answering.items origin.offered.items)
+OffersTo reports origin log reported stages (Err e) = GoesTo reports log reported stages IsLog
 
 -- all were
 abbrev pub SendsTo : Bool → Origin → Log → Option Log → (ℕ → Stage) → Result (Unit {0}) Stop → Type 0
-SendsTo tells origin log told stages (Ok done) =
-    GoesTo tells log told stages (λ next. Rests next (asking_in origin) origin.answering.items)
-SendsTo tells origin log told stages (Err e) = GoesTo tells log told stages IsLog
+SendsTo reports origin log reported stages (Ok done) =
+    GoesTo reports log reported stages (λ next. Rests next (asking_in origin) origin.answering.items)
+SendsTo reports origin log reported stages (Err e) = GoesTo reports log reported stages IsLog
 
 -- behind a turn: its call of `next` was made, or it is stopped
 abbrev pub IsBehind : Origin → Log → Result (Unit {0}) Stop → Log → Type 0
@@ -150,8 +150,8 @@ IsBehind origin log (Err e) next =
     IsLog next × (length next.calls ≤ length log.calls + 1) × (next.bound ≡ log.bound)
 
 abbrev pub TurnsTo : Bool → Origin → Log → Option Log → (ℕ → Stage) → Result (Unit {0}) Stop → Type 0
-TurnsTo tells origin log told stages result =
-    (next : Log) × Follows tells told stages next × IsBehind origin log result next
+TurnsTo reports origin log reported stages result =
+    (next : Log) × Follows reports reported stages next × IsBehind origin log result next
 
 -- THE END
 

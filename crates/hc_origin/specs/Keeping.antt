@@ -12,12 +12,12 @@ use Rattle.hc_origin.specs.Replies.{Unsent, StandOnce, unsent_in}
 
 -- THE LOG
 
-abbrev pub told_as : Bool → Log → Option Log
-told_as tells log = if tells then Some log else None
+abbrev pub reported_as : Bool → Log → Option Log
+reported_as reports log = if reports then Some log else None
 
 -- The log is the one that the wire tells, or any where it tells none. What is open there is open here.
-pub record Follows (tells : Bool) (told : Option Log) (stages : ℕ → Stage) (log : Log) : Type 0 where
-  pub is_told : told ≡ told_as tells log
+pub record Follows (reports : Bool) (reported : Option Log) (stages : ℕ → Stage) (log : Log) : Type 0 where
+  pub is_reported : reported ≡ reported_as reports log
   pub live : (k : ℕ) → IsOpen (stages k) → is_live log.takers k ≡ true
   pub unseen : (k : ℕ) → stages k ≡ Unseen → find (is_numbered k) log.takers ≡ None
 

@@ -1,7 +1,7 @@
 -- What connections are to be sent.
 use Rattle.std.specs.Prelude.{◌≡◌, ℕ, ◌==◌, ◌<◌, Bool, true, false, List, [], ◌∷◌, ◌++◌, length, take, Option, Some, None, Result, Ok, Err, if◌then◌else◌}
 use Rattle.hc_wire.specs.declared.event.WireError.{WireError}
-use Rattle.hc_wire.specs.Logs.{Log, Tells, with_sent}
+use Rattle.hc_wire.specs.Logs.{Log, Reports, with_sent}
 use Rattle.hc_origin.specs.Answering.{bytes_between}
 
 -- A connection, and the bytes of its answer that it hasn't taken.
@@ -22,16 +22,16 @@ StandOnce (u ∷ us) = (unsent_in us u.k ≡ None) × StandOnce us
 -- SENDING
 
 -- Some first of the bytes were sent, and the others are left.
-pub record Sends (told told' : Option Log) (k : ℕ) (before left : List ℕ) (short : Bool) : Type 0 where
+pub record Sends (reported reported' : Option Log) (k : ℕ) (before left : List ℕ) (short : Bool) : Type 0 where
   pub bytes : List ℕ
   pub whole : bytes ++ left ≡ before
-  pub tells : Tells told told' (with_sent k bytes short)
+  pub reports : Reports reported reported' (with_sent k bytes short)
 
 -- all were taken, or some were offered and not taken; or the wire gave up in between
 abbrev pub Offers : Option Log → Option Log → Unsent → Unsent → Result Bool WireError → Type 0
-Offers told told' old new (Ok true) = Sends told told' old.k old.bytes new.bytes false × (new.bytes ≡ [])
-Offers told told' old new (Ok false) = Sends told told' old.k old.bytes new.bytes true × (0 < length new.bytes)
-Offers told told' old new (Err e) = Sends told told' old.k old.bytes new.bytes false
+Offers reported reported' old new (Ok true) = Sends reported reported' old.k old.bytes new.bytes false × (new.bytes ≡ [])
+Offers reported reported' old new (Ok false) = Sends reported reported' old.k old.bytes new.bytes true × (0 < length new.bytes)
+Offers reported reported' old new (Err e) = Sends reported reported' old.k old.bytes new.bytes false
 
 -- These bytes come next, some where any are left.
 pub record IsPiece (bytes piece : List ℕ) : Type 0 where

@@ -51,10 +51,10 @@ impl Origin {
     /// Waits for an event and takes it, and offers every connection what it lacks.
     pub(crate) fn turn<W: Wire>(&mut self, slice: &mut [u8], wire: &mut W) -> Result<(), Stop>
         requires { 0 < length slice.old }
-        ensures turns { (tells : Bool) (log : Log)
-            → Follows tells (W.log wire.old) (W.stages wire.old) log
+        ensures turns { (reports : Bool) (log : Log)
+            → Follows reports (W.log wire.old) (W.stages wire.old) log
             → Rests log (asking_in self.old) self.old.answering.items
-            → TurnsTo tells self.new log (W.log wire.new) (W.stages wire.new) result }
+            → TurnsTo reports self.new log (W.log wire.new) (W.stages wire.new) result }
         ensures len { length slice.new ≡ length slice.old }
         ensures cause { HasStopCause (W.faults wire.old) (W.faults wire.new) result }
     {
@@ -71,11 +71,11 @@ impl Origin {
         wire: &mut W,
     ) -> Result<(), NoMemory>
         requires { FitsIn event (length slice.now) }
-        ensures handles { (tells : Bool) (log : Log)
-            → Follows tells (W.log wire.old) (W.stages wire.old) log
+        ensures handles { (reports : Bool) (log : Log)
+            → Follows reports (W.log wire.old) (W.stages wire.old) log
             → Heard event (got_bytes event slice.now) log (asking_in self.old)
             self.old.answering.items
-            → HandlesTo tells self.new log (W.log wire.new) (W.stages wire.new) result }
+            → HandlesTo reports self.new log (W.log wire.new) (W.stages wire.new) result }
         ensures calm { W.faults wire.new ≡ W.faults wire.old }
     {
         match event {
@@ -98,11 +98,11 @@ impl Origin {
 
     /// Bytes came. Those behind the first request are dropped, and a refused one closes its connection.
     fn read<W: Wire>(&mut self, k: u64, bytes: &[u8], wire: &mut W) -> Result<(), NoMemory>
-        ensures handles { (tells : Bool) (log : Log) (before : Came)
-            → Follows tells (W.log wire.old) (W.stages wire.old) log
+        ensures handles { (reports : Bool) (log : Log) (before : Came)
+            → Follows reports (W.log wire.old) (W.stages wire.old) log
             → Hears k before (with_bytes bytes.now before) log (asking_in self.old)
             self.old.answering.items
-            → HandlesTo tells self.new log (W.log wire.new) (W.stages wire.new) result }
+            → HandlesTo reports self.new log (W.log wire.new) (W.stages wire.new) result }
         ensures calm { W.faults wire.new ≡ W.faults wire.old }
     {
         match read_in(&mut self.asking, k, bytes) {
@@ -118,10 +118,10 @@ impl Origin {
         read: Result<Taken<WireRequest>, MsgError>,
         wire: &mut W,
     ) -> Result<(), NoMemory>
-        ensures handles { (tells : Bool) (log : Log)
-            → Follows tells (W.log wire.old) (W.stages wire.old) log
+        ensures handles { (reports : Bool) (log : Log)
+            → Follows reports (W.log wire.old) (W.stages wire.old) log
             → IsTaken k read log (asking_in self.old) self.old.answering.items
-            → HandlesTo tells self.new log (W.log wire.new) (W.stages wire.new) result }
+            → HandlesTo reports self.new log (W.log wire.new) (W.stages wire.new) result }
         ensures calm { W.faults wire.new ≡ W.faults wire.old }
     {
         match read {
@@ -143,10 +143,10 @@ impl Origin {
 
     /// Its request is refused, or memory was.
     fn refuse<W: Wire>(&mut self, k: u64, e: MsgError, wire: &mut W) -> Result<(), NoMemory>
-        ensures handles { (tells : Bool) (log : Log)
-            → Follows tells (W.log wire.old) (W.stages wire.old) log
+        ensures handles { (reports : Bool) (log : Log)
+            → Follows reports (W.log wire.old) (W.stages wire.old) log
             → (e ≢ MsgError.NoMemory → Leaves k log (asking_in self.old) self.old.answering.items)
-            → HandlesTo tells self.new log (W.log wire.new) (W.stages wire.new) result }
+            → HandlesTo reports self.new log (W.log wire.new) (W.stages wire.new) result }
         ensures calm { W.faults wire.new ≡ W.faults wire.old }
     {
         match e {
@@ -171,10 +171,10 @@ impl Origin {
 
     /// A connection that ends or breaks before its request is whole is closed.
     fn stop<W: Wire>(&mut self, k: u64, wire: &mut W) -> Result<(), NoMemory>
-        ensures handles { (tells : Bool) (log : Log) (before : Came)
-            → Follows tells (W.log wire.old) (W.stages wire.old) log
+        ensures handles { (reports : Bool) (log : Log) (before : Came)
+            → Follows reports (W.log wire.old) (W.stages wire.old) log
             → Hears k before (with_stop before) log (asking_in self.old) self.old.answering.items
-            → HandlesTo tells self.new log (W.log wire.new) (W.stages wire.new) result }
+            → HandlesTo reports self.new log (W.log wire.new) (W.stages wire.new) result }
         ensures calm { W.faults wire.new ≡ W.faults wire.old }
     {
         if self.asking.contains_key(&k) {
@@ -185,10 +185,10 @@ impl Origin {
 
     /// One whose request isn't whole is closed.
     fn close<W: Wire>(&mut self, k: u64, wire: &mut W)
-        ensures goes { (tells : Bool) (log : Log)
-            → Follows tells (W.log wire.old) (W.stages wire.old) log
+        ensures goes { (reports : Bool) (log : Log)
+            → Follows reports (W.log wire.old) (W.stages wire.old) log
             → Leaves k log (asking_in self.old) self.old.answering.items
-            → GoesTo tells log (W.log wire.new) (W.stages wire.new) (AreKept self.new) }
+            → GoesTo reports log (W.log wire.new) (W.stages wire.new) (AreKept self.new) }
         ensures calm { W.faults wire.new ≡ W.faults wire.old }
     {
         self.asking.remove(&k);
@@ -197,10 +197,10 @@ impl Origin {
 
     /// Each is offered what it lacks, and closed once it has taken all.
     fn send_all<W: Wire>(&mut self, wire: &mut W) -> Result<(), Stop>
-        ensures sends { (tells : Bool) (log : Log)
-            → Follows tells (W.log wire.old) (W.stages wire.old) log
+        ensures sends { (reports : Bool) (log : Log)
+            → Follows reports (W.log wire.old) (W.stages wire.old) log
             → AreKept self.old log
-            → SendsTo tells self.new log (W.log wire.new) (W.stages wire.new) result }
+            → SendsTo reports self.new log (W.log wire.new) (W.stages wire.new) result }
         ensures cause { HasStopCause (W.faults wire.old) (W.faults wire.new) result }
     {
         self.offered.clear();
@@ -213,12 +213,12 @@ impl Origin {
 
     /// One is.
     fn offer<W: Wire>(&mut self, mut reply: Reply, wire: &mut W) -> Result<(), Stop>
-        ensures offers { (tells : Bool) (log : Log)
-            → Follows tells (W.log wire.old) (W.stages wire.old) log
+        ensures offers { (reports : Bool) (log : Log)
+            → Follows reports (W.log wire.old) (W.stages wire.old) log
             → Keeps log (asking_in self.old)
             (self.old.answering.items ++ reply ∷ self.old.offered.items)
             → AreLacking log self.old.offered.items
-            → OffersTo tells self.new log (W.log wire.new) (W.stages wire.new) result }
+            → OffersTo reports self.new log (W.log wire.new) (W.stages wire.new) result }
         ensures asking { (k : ℕ) → asking_in self.new k ≡ asking_in self.old k }
         ensures answering { self.new.answering.items ≡ self.old.answering.items }
         ensures cause { HasStopCause (W.faults wire.old) (W.faults wire.new) result }
@@ -234,10 +234,10 @@ impl Origin {
 
     /// All are closed.
     pub(crate) fn close_all<W: Wire>(&mut self, wire: &mut W)
-        ensures goes { (tells : Bool) (log : Log)
-            → Follows tells (W.log wire.old) (W.stages wire.old) log
+        ensures goes { (reports : Bool) (log : Log)
+            → Follows reports (W.log wire.old) (W.stages wire.old) log
             → IsEnding log (asking_in self.old) self.old.answering.items
-            → GoesTo tells log (W.log wire.new) (W.stages wire.new) IsOver }
+            → GoesTo reports log (W.log wire.new) (W.stages wire.new) IsOver }
         ensures calm { W.faults wire.new ≡ W.faults wire.old }
     {
         while let Some((k, _)) = self.asking.pop_first() {
@@ -248,10 +248,10 @@ impl Origin {
 
     /// Those that lack bytes are.
     fn close_answering<W: Wire>(&mut self, wire: &mut W)
-        ensures goes { (tells : Bool) (log : Log)
-            → Follows tells (W.log wire.old) (W.stages wire.old) log
+        ensures goes { (reports : Bool) (log : Log)
+            → Follows reports (W.log wire.old) (W.stages wire.old) log
             → IsEnding log nobody self.old.answering.items
-            → GoesTo tells log (W.log wire.new) (W.stages wire.new) IsOver }
+            → GoesTo reports log (W.log wire.new) (W.stages wire.new) IsOver }
         ensures calm { W.faults wire.new ≡ W.faults wire.old }
     {
         while let Some(reply) = self.answering.pop() {

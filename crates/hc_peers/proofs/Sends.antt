@@ -3,26 +3,26 @@
 -- begins where it ended; one that leaves something is the last. The lemmas at the end put three offers together, as a box
 -- makes them of its three parts.
 use Rattle.std.{proofs.{Common.{◌≡◌, ℕ, ◌+◌, ◌<◌, ◌≤◌, List, [], ◌∷◌, ◌++◌, length, take, drop, false, Option, refl, sym, ap, ◌∙◌, arith, length-append, length-drop}, lemmas.{Bool.Decides.{nat_tests}, List.{drop-append-le, take-append-le}}, Math.Seq.{take-length, take-append-add, drop-append-add}}, specs.Prelude.{nat_lt}}
-use Rattle.hc_wire.specs.Logs.{Log, Tells, with_sent}
-use Rattle.hc_wire.proofs.SentLemmas.{tells-none, tells-both}
+use Rattle.hc_wire.specs.Logs.{Log, Reports, with_sent}
+use Rattle.hc_wire.proofs.SentLemmas.{reports-none, reports-both}
 use Rattle.hc_peers.specs.Offers.{Offers, OffersSome}
 
 -- OFFERS
 
 pub offers-none : (k : ℕ) (old : List ℕ) (l : Option Log) → old ≡ [] → Offers k old old l l
-offers-none k old l none = rw none (record { n = 0; within = omega arith; left = refl; told = tells-none k l })
+offers-none k old l none = rw none (record { n = 0; within = omega arith; left = refl; reported = reports-none k l })
 
 pub some-none : (k : ℕ) (old : List ℕ) (l m : Option Log) → m ≡ l → OffersSome k old l m
-some-none k old l m same = rw same (record { n = 0; short = false; within = omega arith; told = tells-none k l })
+some-none k old l m same = rw same (record { n = 0; short = false; within = omega arith; reported = reports-none k l })
 
 -- all of it was taken
 all-taken : (n : ℕ) (a left : List ℕ) → n ≤ length a → left ≡ drop n a → left ≡ [] → n ≡ length a
 all-taken n a left within is none = let size = length-drop n a in let same : length left ≡ length (drop n a) = ap length is in let zero : length left ≡ 0 = ap length none in omega arith
 
-all-told : (k n : ℕ) (a : List ℕ) (l m : Option Log) → n ≡ length a → Tells l m (with_sent k (take n a) (nat_lt n (length a))) → Tells l m (with_sent k a false)
-all-told k n a l m all told =
+all-reported : (k n : ℕ) (a : List ℕ) (l m : Option Log) → n ≡ length a → Reports l m (with_sent k (take n a) (nat_lt n (length a))) → Reports l m (with_sent k a false)
+all-reported k n a l m all reported =
     let not_less : nat_lt (length a) (length a) ≡ false = grind (arith, nat_tests) in
-    rw (all, take-length a, not_less) at told
+    rw (all, take-length a, not_less) at reported
 
 less-past : (p n q : ℕ) → nat_lt (p + n) (p + q) ≡ nat_lt n q
 less-past p n q = grind (arith, nat_tests)
@@ -40,7 +40,7 @@ module _ (k : ℕ) (a b a' : List ℕ) (l m : Option Log) (first : Offers k a a'
         n = first.n;
         within = let both = length-append a b in omega arith;
         left = ap (λ (x : List ℕ). x ++ b) first.left ∙ sym (drop-append-le first.n a b le);
-        told = rw (length-append a b, take-append-le first.n a b le, short) first.told;
+        reported = rw (length-append a b, take-append-le first.n a b le, short) first.reported;
       }
 
   pub offers-behind : (b' : List ℕ) (n : Option Log) → a' ≡ [] → Offers k b b' m n → Offers k (a ++ b) b' l n
@@ -50,8 +50,8 @@ module _ (k : ℕ) (a b a' : List ℕ) (l m : Option Log) (first : Offers k a a'
         n = length a + second.n;
         within = let both = length-append a b in let w = second.within in omega arith;
         left = second.left ∙ sym (drop-append-add a b second.n);
-        told = rw (length-append a b, take-append-add a b second.n, less-past (length a) second.n (length b))
-            (tells-both k a (take second.n b) (nat_lt second.n (length b)) l m n (all-told k first.n a l m all first.told) second.told);
+        reported = rw (length-append a b, take-append-add a b second.n, less-past (length a) second.n (length b))
+            (reports-both k a (take second.n b) (nat_lt second.n (length b)) l m n (all-reported k first.n a l m all first.reported) second.reported);
       }
 
   pub some-behind : (n : Option Log) → a' ≡ [] → OffersSome k b m n → OffersSome k (a ++ b) l n
@@ -61,7 +61,7 @@ module _ (k : ℕ) (a b a' : List ℕ) (l m : Option Log) (first : Offers k a a'
         n = length a + second.n;
         short = second.short;
         within = let both = length-append a b in let w = second.within in omega arith;
-        told = rw (take-append-add a b second.n) (tells-both k a (take second.n b) second.short l m n (all-told k first.n a l m all first.told) second.told);
+        reported = rw (take-append-add a b second.n) (reports-both k a (take second.n b) second.short l m n (all-reported k first.n a l m all first.reported) second.reported);
       }
 
 pub some-before : (k : ℕ) (a b : List ℕ) (l m : Option Log) → OffersSome k a l m → OffersSome k (a ++ b) l m
@@ -71,7 +71,7 @@ some-before k a b l m first =
       n = first.n;
       short = first.short;
       within = let both = length-append a b in omega arith;
-      told = rw (take-append-le first.n a b le) first.told;
+      reported = rw (take-append-le first.n a b le) first.reported;
     }
 
 -- THREE, ONE BEHIND ANOTHER

@@ -5,12 +5,12 @@ use Rattle.std.specs.BTreeMap as tree
 use Rattle.std.specs.Ordering.{nat_cmp}
 use Rattle.std.specs.BTreeSet as set
 use Rattle.hc_event.specs.declared.act.Act.{Act}
-use Rattle.hc_msg.specs.Inputs.{Next, Waits, Tells, Fails, next_in}
+use Rattle.hc_msg.specs.Inputs.{Next, Waits, Reports, Fails, next_in}
 use Rattle.hc_msg.specs.Reading.{Failed, Asks}
 use Rattle.hc_peers.specs.declared.client.Client.{Client}
 use Rattle.hc_peers.specs.declared.clients.Clients.{Clients}
-use Rattle.hc_peers.specs.declared.clients.Heard.{Heard}
-use Rattle.hc_peers.specs.declared.clients.Heard.TheVariants as heard
+use Rattle.hc_peers.specs.declared.clients.NextRequest.{NextRequest}
+use Rattle.hc_peers.specs.declared.clients.NextRequest.TheVariants as heard
 use Rattle.hc_peers.specs.Peers.{read_to, asks, refused, answered, addressee}
 
 -- WHAT IT HAS
@@ -64,17 +64,17 @@ received bytes client = record client { input = client.input ++ bytes }
 -- what becomes of a client by what stands next, where the next consumer is c
 abbrev pub hearing : ℕ → Next → Client → Client
 hearing c (Waits reading) client = read_to reading [] client
-hearing c (Tells (Asks request) reading rest) client = asks c request (read_to reading rest client)
+hearing c (Reports (Asks request) reading rest) client = asks c request (read_to reading rest client)
 hearing c (Fails e) client = refused e (read_to (Failed e) [] client)
 hearing c _ client = client
 
 -- what is told of it
-abbrev pub told_by : ℕ → Next → Heard
-told_by k (Tells (Asks request) reading rest) = heard.Asks k request.request
-told_by k _ = heard.Nothing
+abbrev pub outcome_of : ℕ → Next → NextRequest
+outcome_of k (Reports (Asks request) reading rest) = heard.Asks k request.request
+outcome_of k _ = heard.Nothing
 
 -- that of the first one was read, which waits for something now or gave all that came
-pub record IsHeard (c : ℕ) (old new : Clients) (result : Heard) : Type 0 where
+pub record IsHeard (c : ℕ) (old new : Clients) (result : NextRequest) : Type 0 where
   pub k : ℕ
   pub rest : List ℕ
   pub client : Client
@@ -82,9 +82,9 @@ pub record IsHeard (c : ℕ) (old new : Clients) (result : Heard) : Type 0 where
   pub row : client_of old k ≡ Some client
   pub others : ready_of new ≡ rest
   pub becomes : Becomes k (Some (hearing c (next_in 1 client.reader client.input) client)) old new
-  pub result_is : result ≡ told_by k (next_in 1 client.reader client.input)
+  pub result_is : result ≡ outcome_of k (next_in 1 client.reader client.input)
 
-pub data HearsNext (c : ℕ) (old new : Clients) (result : Heard) : Type 0 where
+pub data HearsNext (c : ℕ) (old new : Clients) (result : NextRequest) : Type 0 where
   nobody : ready_of old ≡ [] → result ≡ heard.Nobody → Stays old new → HearsNext c old new result
   somebody : IsHeard c old new result → HearsNext c old new result
 

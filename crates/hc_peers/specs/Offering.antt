@@ -2,7 +2,7 @@
 -- and to one to the origin.
 use Rattle.std.specs.Prelude.{◌≡◌, ◌≤◌, ℕ, List, [], length, take, drop, nat_lt, Bool, Option, Some, None, if◌then◌else◌}
 use Rattle.hc_wire.specs.Events.{Stage, with_stage, closed_of, reading_of}
-use Rattle.hc_wire.specs.Logs.{Log, Tells, with_sent, with_closed, with_reading}
+use Rattle.hc_wire.specs.Logs.{Log, Reports, with_sent, with_closed, with_reading}
 use Rattle.hc_peers.specs.declared.client.Client.{Client}
 use Rattle.hc_peers.specs.declared.clients.Clients.{Clients}
 use Rattle.hc_peers.specs.declared.upstream.Upstream.{Upstream}
@@ -19,11 +19,11 @@ abbrev pub sent_of : ℕ → ℕ → List ℕ → Log → Log
 sent_of k n bytes log = with_sent k (take n bytes) (nat_lt n (length bytes)) log
 
 -- it is told to read a connection or not to, where it was told otherwise
-abbrev pub reading_told : ℕ → Bool → Bool → Log → Log
-reading_told k was on log = if is_same was on then log else with_reading k on log
+abbrev pub reading_reported : ℕ → Bool → Bool → Log → Log
+reading_reported k was on log = if is_same was on then log else with_reading k on log
 
-abbrev pub stage_told : ℕ → Bool → Bool → (ℕ → Stage) → ℕ → Stage
-stage_told k was on stages j =
+abbrev pub stage_reported : ℕ → Bool → Bool → (ℕ → Stage) → ℕ → Stage
+stage_reported k was on stages j =
     if is_same was on then stages j else with_stage k (reading_of on (stages k)) stages j
 
 -- A CLIENT
@@ -50,19 +50,19 @@ behind_offer client =
 
 abbrev pub log_behind : ℕ → Client → Log → Log
 log_behind k client log =
-    if is_over client then with_closed k log else reading_told k client.reading (is_idle client) log
+    if is_over client then with_closed k log else reading_reported k client.reading (is_idle client) log
 
 abbrev pub stage_behind : ℕ → Client → (ℕ → Stage) → ℕ → Stage
 stage_behind k client stages j =
     if is_over client then with_stage k (closed_of (stages k)) stages j
-    else stage_told k client.reading (is_idle client) stages j
+    else stage_reported k client.reading (is_idle client) stages j
 
 module _ {W : Type 0} (stages : W → ℕ → Stage) (log : W → Option Log) where
   pub record IsOfferedTo (k : ℕ) (client : Client) (old new : Clients) (wire wire' : W) : Type 0 where
     pub n : ℕ
     pub within : n ≤ length client.unsent
     pub becomes : Becomes k (behind_offer (sent_more n client)) old new
-    pub told : Tells (log wire) (log wire')
+    pub reported : Reports (log wire) (log wire')
         (λ l. log_behind k (sent_more n client) (sent_of k n client.unsent l))
     pub stands : (j : ℕ) → stages wire' j ≡ stage_behind k (sent_more n client) (stages wire) j
 
@@ -82,10 +82,10 @@ module _ {W : Type 0} (stages : W → ℕ → Stage) (log : W → Option Log) wh
     pub within : n ≤ length upstream.unsent
     pub becomes : upstreams.Becomes x
         (Some (record upstream { unsent = drop n upstream.unsent; reading = on })) old new
-    pub told : Tells (log wire) (log wire')
-        (λ l. reading_told upstream.k upstream.reading on (sent_of upstream.k n upstream.unsent l))
+    pub reported : Reports (log wire) (log wire')
+        (λ l. reading_reported upstream.k upstream.reading on (sent_of upstream.k n upstream.unsent l))
     pub stands : (j : ℕ) → stages wire' j
-        ≡ stage_told upstream.k upstream.reading on (stages wire) j
+        ≡ stage_reported upstream.k upstream.reading on (stages wire) j
 
   abbrev pub IsOfferedUpAt : ℕ → Bool → Option Upstream → Upstreams → Upstreams → W → W → Type 0
   IsOfferedUpAt x on None old new wire wire' =

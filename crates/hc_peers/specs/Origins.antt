@@ -4,7 +4,7 @@ use Rattle.hc_head.specs.declared.message.MsgError.{MsgError}
 use Rattle.hc_head.specs.declared.message.MsgError.TheVariants as error
 use Rattle.hc_msg.specs.declared.message.WirePart.{WirePart}
 use Rattle.hc_msg.specs.declared.message.WirePart.TheVariants as part
-use Rattle.hc_msg.specs.Inputs.{Next, Waits, Tells, Brings, Ends, Fails, next_in}
+use Rattle.hc_msg.specs.Inputs.{Next, Waits, Reports, Brings, Ends, Fails, next_in}
 use Rattle.hc_msg.specs.Reading.{Reading, Responses, Done, Failed, Answers, heading}
 use Rattle.hc_msg.specs.Taking.{is_whole, reading_at_end}
 use Rattle.hc_peers.specs.declared.upstream.Upstream.{Upstream}
@@ -51,7 +51,7 @@ left_behind None used input = []
 -- what stands next is read
 abbrev pub IsTaken : Next → Upstream → Upstream → Result (Option WirePart) MsgError → Type 0
 IsTaken (Waits reading) old new result = (result ≡ Ok None) × (new ≡ read_to reading [] old)
-IsTaken (Tells (Answers response) reading rest) old new result =
+IsTaken (Reports (Answers response) reading rest) old new result =
     (result ≡ Ok (Some (part.Head response))) × (new ≡ read_to reading rest old)
 IsTaken (Brings bytes reading rest) old new result =
     (result ≡ Ok (Some (part.Piece bytes))) × (new ≡ read_to reading rest old)

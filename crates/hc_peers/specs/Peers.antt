@@ -5,7 +5,7 @@ use Rattle.hc_event.specs.declared.act.Act.TheVariants as act
 use Rattle.hc_head.specs.declared.message.MsgError.{MsgError}
 use Rattle.hc_head.specs.declared.message.MsgError.TheVariants as error
 use Rattle.hc_head.specs.declared.message.WireRequest.{WireRequest}
-use Rattle.hc_msg.specs.Inputs.{Next, Waits, Tells, Fails, next_in}
+use Rattle.hc_msg.specs.Inputs.{Next, Waits, Reports, Fails, next_in}
 use Rattle.hc_msg.specs.Reading.{Reading, Requests, Failed, Asks, heading}
 use Rattle.hc_peers.specs.declared.client.Client.{Client}
 use Rattle.hc_peers.specs.declared.reply.Form.TheVariants.{Headless}
@@ -71,7 +71,7 @@ refused e client = record client {
 -- it is read, and what stands next is a request, an error or nothing yet
 abbrev pub IsRead : Next → Client → Client → Result (Option WireRequest) MsgError → Type 0
 IsRead (Waits reading) old new result = (result ≡ Ok None) × (new ≡ read_to reading [] old)
-IsRead (Tells (Asks request) reading rest) old new result =
+IsRead (Reports (Asks request) reading rest) old new result =
     (result ≡ Ok (Some request)) × (new ≡ read_to reading rest old)
 IsRead (Fails e) old new result = (result ≡ Err e) × (new ≡ read_to (Failed e) [] old)
 IsRead _ old new result = ⊥

@@ -11,7 +11,7 @@ ghost use Rattle.hc_peers.specs.Agreement.{IsLiveTable, IsReadySet, IsTouchedSet
 ghost use Rattle.hc_peers.specs.Peers.{new_client, is_ready, read_to};
 
 use crate::client::{Client, addressee};
-use crate::tell::tell_reading;
+use crate::note::report_reading;
 use hc_event::{Act, Request};
 use hc_head::MsgError;
 use hc_text::NoMemory;
@@ -39,7 +39,7 @@ pub struct Clients {
 
 /// What came of reading a client's next request.
 #[derive(Drop)]
-pub enum Heard {
+pub enum NextRequest {
     /// No client's is to be read.
     Nobody,
     /// There was no whole request, or it was refused.
@@ -119,33 +119,33 @@ impl Clients {
 
     /// Reads the next request of the first client whose is to be read. If it asks for something, its
     /// live consumer is `c`; if it is refused, it is owed its error answer and the close.
-    pub fn hear_next(&mut self, c: u64) -> Result<Heard, NoMemory>
+    pub fn hear_next(&mut self, c: u64) -> Result<NextRequest, NoMemory>
         requires { (k : ℕ) (client : Client) → client_of self.old k ≡ Some client
             → client.consumer ≢ Some c }
         ensures { IfOk result (HearsNext c self.old self.new) }
     {
         let Some(k) = self.ready.pop_first() else {
-            return Ok(Heard::Nobody);
+            return Ok(NextRequest::Nobody);
         };
         let Some(client) = self.rows.get_mut(&k) else {
             unreachable!()
         };
         match client.read() {
-            Ok(None) => Ok(Heard::Nothing),
+            Ok(None) => Ok(NextRequest::Nothing),
             Ok(Some(wanted)) => {
                 if let Err(refused) = list_live(&mut self.live, &mut self.touched, c, k) {
                     client.input.clear();
                     return Err(refused);
                 }
                 client.ask(c, &wanted);
-                Ok(Heard::Asks(k, wanted.request))
+                Ok(NextRequest::Asks(k, wanted.request))
             }
             Err(e) => match e {
                 MsgError::NoMemory => Err(NoMemory),
                 _ => {
                     self.touched.insert(k)?;
                     client.refuse(e)?;
-                    Ok(Heard::Nothing)
+                    Ok(NextRequest::Nothing)
                 }
             },
         }
@@ -243,7 +243,7 @@ impl Clients {
             return Err(WireError::NoMemory);
         };
         let on = client.is_idle();
-        tell_reading(k, &mut client.reading, on, wire);
+        report_reading(k, &mut client.reading, on, wire);
         if client.is_settled() {
             self.touched.remove(&k);
         }

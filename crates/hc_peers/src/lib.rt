@@ -8,12 +8,12 @@ mod outbox;
 mod queue;
 mod reply;
 mod status;
-mod tell;
+mod note;
 mod upstream;
 mod upstreams;
 
 pub use client::{Client, addressee};
-pub use clients::{Clients, Heard};
+pub use clients::{Clients, NextRequest};
 pub use outbox::Outbox;
 pub use queue::Queue;
 pub use reply::{Form, Reply, is_head};

@@ -10,7 +10,7 @@ ghost use Rattle.hc_peers.specs.Agreement.{IsDialledTable, AreThere, is_at};
 ghost use Rattle.hc_peers.specs.Offers.{OffersSome};
 ghost use Rattle.hc_peers.specs.Origins.{new_upstream, received, at_its_end, finished};
 
-use crate::tell::tell_reading;
+use crate::note::report_reading;
 use crate::upstream::Upstream;
 use hc_head::MsgError;
 use hc_msg::{Look, WirePart};
@@ -273,7 +273,7 @@ impl Upstreams {
             return Ok(());
         };
         upstream.unsent.offer(upstream.k, wire)?;
-        tell_reading(upstream.k, &mut upstream.reading, on, wire);
+        report_reading(upstream.k, &mut upstream.reading, on, wire);
         if upstream.unsent.is_empty() {
             self.touched.remove(&x);
         }

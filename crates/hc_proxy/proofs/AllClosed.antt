@@ -65,7 +65,7 @@ shut_all : (ks : List ℕ) (cs : List Taker) → AreApart cs → list_all (is_am
 shut_all [] cs apart all = none_open cs all
 shut_all (k ∷ ks) cs apart all = shut_all ks (changed_at k shut cs) (apart_stays k shut (λ c. refl) cs apart) (among_next k ks cs apart all) ∙ shut_twice k cs
 
-module _ {B : Type 0} {g : Ghosts B} (f : Frame) (x : loop.Proxy B g) (p : Proxy) (log : Log) (r : Rests f x p log) (told told' : Option Log) (stages stages' : ℕ → Stage) (follows : Follows told stages log) (ks : List ℕ)
+module _ {B : Type 0} {g : Ghosts B} (f : Frame) (x : loop.Proxy B g) (p : Proxy) (log : Log) (r : Rests f x p log) (reported reported' : Option Log) (stages stages' : ℕ → Stage) (follows : Follows reported stages log) (ks : List ℕ)
     (clients : (k : ℕ) → IsSome (client_of x.clients k) → Contains ks k) (origins : (y : ℕ) (u : origin.Upstream) → upstream_of x.upstreams y ≡ Some u → Contains ks u.k) where
   open_among : (c : Taker) → find (is_numbered c.k) log.takers ≡ Some c → is_among ks c ≡ true
   open_among c found = by_live c.live refl
@@ -82,8 +82,8 @@ module _ {B : Type 0} {g : Ghosts B} (f : Frame) (x : loop.Proxy B g) (p : Proxy
       by_live false is = refl
       by_live true is = by_who (r.wire.all c.k (subst IsOpen (sym (taker_stage c.k c log.takers found is)) tt))
 
-  pub closes_all : Closes ks log told' stages stages' → IsClosed log told'
-  closes_all c = by_told c.follows.told_is
+  pub closes_all : Closes ks log reported' stages stages' → IsClosed log reported'
+  closes_all c = by_reported c.follows.reported_is
     where
       takers : c.log'.takers ≡ map shut log.takers
       takers = c.takers ∙ shut_all ks log.takers follows.apart (all_found (is_among ks) log.takers follows.apart open_among)
@@ -95,6 +95,6 @@ module _ {B : Type 0} {g : Ghosts B} (f : Frame) (x : loop.Proxy B g) (p : Proxy
           ∙ (ap (λ z. let m : Log = record l { bound = log.bound; calls = log.calls; dialled = z } in m) dialled
           ∙ ap (λ z. let m : Log = record log { takers = z } in m) ts))
 
-      by_told : (told' ≡ None) ⊎ (told' ≡ Some c.log') → (told' ≡ None) ⊎ (told' ≡ Some (all_closed log))
-      by_told (inl none) = inl none
-      by_told (inr same) = inr (same ∙ ap Some (same_log c.log' c.dials.bound c.dials.calls (c.dials.dialled ∙ append-nil log.dialled) takers))
+      by_reported : (reported' ≡ None) ⊎ (reported' ≡ Some c.log') → (reported' ≡ None) ⊎ (reported' ≡ Some (all_closed log))
+      by_reported (inl none) = inl none
+      by_reported (inr same) = inr (same ∙ ap Some (same_log c.log' c.dials.bound c.dials.calls (c.dials.dialled ∙ append-nil log.dialled) takers))

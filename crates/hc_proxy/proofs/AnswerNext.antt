@@ -7,19 +7,19 @@
 -- none is told alone. The bytes are gone through one by one.
 use Rattle.std.{proofs.{Common.{◌≡◌, ℕ, ◌+◌, ◌-◌, ◌++◌, List, [], ◌∷◌, length, Bool, true, false, Option, Some, None, refl, sym, arith}, lemmas.Bool.Decides.{nat_tests}}, specs.Prelude.{◌==◌, nat_le, nat_lt, min, if◌then◌else◌}}
 use Rattle.hc_text.proofs.Basics.{true_false}
-use Rattle.hc_head.specs.{Decoding.{heard_in}, Responses.{Heard, Skips, Shows, Refuses}, Scans.{scan_byte, is_open}, declared.{framing.Framing.{Framing}, scan.Scan.{Scan}}}
+use Rattle.hc_head.specs.{Decoding.{heard_in}, Responses.{HeadOutcome, Skips, Shows, Refuses}, Scans.{scan_byte, is_open}, declared.{framing.Framing.{Framing}, scan.Scan.{Scan}}}
 use Rattle.hc_head.specs.declared.framing.Framing.TheVariants as framing
 use Rattle.hc_head.specs.declared.message.MsgError.TheVariants as error
-use Rattle.hc_msg.specs.{Chunks.{trailer_place, trail_on, trail}, declared.trailer.Trailer.{Trailer}, Inputs.{Next, Waits, Tells, Brings, Fails, next_in, told_or, step_of}, Reading.{Requests, Responses, Reading, Heading, Counts, Runs, Sizing, Chunk, ChunkEnd, ChunkReturn, Trailing, Whole, Done, Failed, Token, Asks, Answers, Byte, Step, Goes, EndsHead, EndsLine, quiet, fails, counts, chunk, body, after_heard, after_line, after_trail, reading_of_chunk, head_move, line_move, move_of}, Sizes.{size_in}}
+use Rattle.hc_msg.specs.{Chunks.{trailer_place, trail_on, trail}, declared.trailer.Trailer.{Trailer}, Inputs.{Next, Waits, Reports, Brings, Fails, next_in, reported_or, step_of}, Reading.{Requests, Responses, Reading, Heading, Counts, Runs, Sizing, Chunk, ChunkEnd, ChunkReturn, Trailing, Whole, Done, Failed, Token, Asks, Answers, Byte, Step, Goes, EndsHead, EndsLine, quiet, fails, counts, chunk, body, after_heard, after_line, after_trail, reading_of_chunk, head_move, line_move, move_of}, Sizes.{size_in}}
 use Rattle.hc_msg.specs.declared.trailer.Trailer.TheVariants as trailer
 use Rattle.hc_msg.specs.Inputs as inputs
 use Rattle.hc_proxy.specs.Headed.{is_answer}
 
 abbrev pub IsAnswerNext : Next → Type 0
 IsAnswerNext (Waits t) = is_answer t ≡ true
-IsAnswerNext (Tells (Answers response) t rest) = is_answer t ≡ true
-IsAnswerNext (Tells (Asks request) t rest) = ⊥
-IsAnswerNext (Tells (Byte b) t rest) = ⊥
+IsAnswerNext (Reports (Answers response) t rest) = is_answer t ≡ true
+IsAnswerNext (Reports (Asks request) t rest) = ⊥
+IsAnswerNext (Reports (Byte b) t rest) = ⊥
 IsAnswerNext (Brings bytes t rest) = is_answer t ≡ true
 IsAnswerNext inputs.Ends = Unit {0}
 IsAnswerNext (Fails e) = Unit {0}
@@ -63,7 +63,7 @@ body_answer framing.ToClose = refl
 
 -- A BYTE
 
-heard_step : (no_body : Bool) (h : Heard) → IsAnswerStep (after_heard no_body h)
+heard_step : (no_body : Bool) (h : HeadOutcome) → IsAnswerStep (after_heard no_body h)
 heard_step no_body Skips = refl
 heard_step no_body (Shows response f) = body_answer f
 heard_step no_body (Refuses e) = refl
@@ -135,11 +135,11 @@ trailing_step place count b = trail_goes place count b
 
 -- ALL OF THEM
 
-told_answer : (tokens : List Token) (s : Reading) (rest : List ℕ) (go_on : Reading → Next) → IsStep tokens s → (is_answer s ≡ true → IsAnswerNext (go_on s)) → IsAnswerNext (told_or tokens s rest go_on)
-told_answer [] s rest go_on step h = h step
-told_answer (Answers response ∷ more) s rest go_on step h = step
-told_answer (Asks request ∷ more) s rest go_on step h = absurd step
-told_answer (Byte b ∷ more) s rest go_on step h = absurd step
+reported_answer : (tokens : List Token) (s : Reading) (rest : List ℕ) (go_on : Reading → Next) → IsStep tokens s → (is_answer s ≡ true → IsAnswerNext (go_on s)) → IsAnswerNext (reported_or tokens s rest go_on)
+reported_answer [] s rest go_on step h = h step
+reported_answer (Answers response ∷ more) s rest go_on step h = step
+reported_answer (Asks request ∷ more) s rest go_on step h = absurd step
+reported_answer (Byte b ∷ more) s rest go_on step h = absurd step
 
 in_body : (left : ℕ) → nat_lt 0 left ≡ true → nat_lt 0 (min left 1) ≡ true
 in_body left h = grind (arith, nat_tests)
@@ -159,22 +159,22 @@ answer_next most Whole [] h = tt
 answer_next most Done [] h = refl
 answer_next most (Failed e) [] h = tt
 answer_next most (Heading (Responses no_body) scan text) (b ∷ input) h =
-    told_answer (step_of (move_of (Heading (Responses no_body) scan text) b)).tokens (step_of (move_of (Heading (Responses no_body) scan text) b)).next input (λ t. next_in most t input)
+    reported_answer (step_of (move_of (Heading (Responses no_body) scan text) b)).tokens (step_of (move_of (Heading (Responses no_body) scan text) b)).next input (λ t. next_in most t input)
     (heading_step no_body scan text b) (λ on. answer_next most (step_of (move_of (Heading (Responses no_body) scan text) b)).next input on)
 answer_next most (Counts left) (b ∷ input) h = rw (in_body left h) (counts_answer (left - min most (min left (length input + 1))))
 answer_next most Runs (b ∷ input) h = refl
 answer_next most (Sizing text) (b ∷ input) h =
-    told_answer (step_of (move_of (Sizing text) b)).tokens (step_of (move_of (Sizing text) b)).next input (λ t. next_in most t input)
+    reported_answer (step_of (move_of (Sizing text) b)).tokens (step_of (move_of (Sizing text) b)).next input (λ t. next_in most t input)
     (sizing_step text b) (λ on. answer_next most (step_of (move_of (Sizing text) b)).next input on)
 answer_next most (Chunk left) (b ∷ input) h = rw (in_body left h) (chunk_answer (left - min most (min left (length input + 1))))
 answer_next most ChunkEnd (b ∷ input) h =
-    told_answer (step_of (move_of ChunkEnd b)).tokens (step_of (move_of ChunkEnd b)).next input (λ t. next_in most t input)
+    reported_answer (step_of (move_of ChunkEnd b)).tokens (step_of (move_of ChunkEnd b)).next input (λ t. next_in most t input)
     (end_step b) (λ on. answer_next most (step_of (move_of ChunkEnd b)).next input on)
 answer_next most ChunkReturn (b ∷ input) h =
-    told_answer (step_of (move_of ChunkReturn b)).tokens (step_of (move_of ChunkReturn b)).next input (λ t. next_in most t input)
+    reported_answer (step_of (move_of ChunkReturn b)).tokens (step_of (move_of ChunkReturn b)).next input (λ t. next_in most t input)
     (return_step b) (λ on. answer_next most (step_of (move_of ChunkReturn b)).next input on)
 answer_next most (Trailing place count) (b ∷ input) h =
-    told_answer (step_of (move_of (Trailing place count) b)).tokens (step_of (move_of (Trailing place count) b)).next input (λ t. next_in most t input)
+    reported_answer (step_of (move_of (Trailing place count) b)).tokens (step_of (move_of (Trailing place count) b)).next input (λ t. next_in most t input)
     (trailing_step place count b) (λ on. answer_next most (step_of (move_of (Trailing place count) b)).next input on)
 answer_next most Whole (b ∷ input) h = tt
 answer_next most Done (b ∷ input) h = refl

@@ -6,7 +6,7 @@
 use Rattle.std.{proofs.{Common.{◌≡◌, ◌≤◌, ◌⊎◌, inl, inr, ℕ, ◌+◌, List, [], ◌∷◌, ◌++◌, Bool, true, false, Option, Some, None, refl, ap, sym, ◌∙◌, subst, arith}, lemmas.Bool.Decides.{nat_tests}}, specs.Prelude.{◌&&◌, ◌||◌, not, nat_eq, nat_lt, length, is_none, if◌then◌else◌, option_map}}
 use Rattle.hc_effects.proofs.Vocabulary.{Act, Event, is_open, Limits, act, event}
 use Rattle.hc_head.specs.declared.message.WireRequest.{WireRequest}
-use Rattle.hc_msg.specs.{Inputs.{Next, Waits, Tells, Brings, Ends, Fails, next_in}, Reading.{Failed, Token, Asks, Answers, Byte}}
+use Rattle.hc_msg.specs.{Inputs.{Next, Waits, Reports, Brings, Ends, Fails, next_in}, Reading.{Failed, Token, Asks, Answers, Byte}}
 use Rattle.hc_peers.specs.Renderings.{rendering, form_behind, is_last, closes}
 use Rattle.hc_wire.specs.{Logs.{Called}, declared.event.WireEvent.{WireEvent}}
 use Rattle.hc_wire.specs.declared.event.WireEvent.TheVariants as wire
@@ -160,7 +160,7 @@ module _ (limits : Limits) (call : Called) (k : ℕ) where
     -- who is refused was sent all
     hears_by : (n : Next) (p : Proxy) → ((old : Client) → p.client z ≡ Some old → length old.owed ≤ taken_at call z) → Before p (hears limits z n p)
     hears_by (Waits reading) p all = keeps z (read_to reading []) p (λ c. refl)
-    hears_by (Tells token reading rest) p all = both p (with_client z (read_to reading rest) p) (hears limits z (Tells token reading rest) p) (keeps z (read_to reading rest) p (λ c. refl)) (token_by token (with_client z (read_to reading rest) p))
+    hears_by (Reports token reading rest) p all = both p (with_client z (read_to reading rest) p) (hears limits z (Reports token reading rest) p) (keeps z (read_to reading rest) p (λ c. refl)) (token_by token (with_client z (read_to reading rest) p))
     hears_by (Brings bytes reading rest) p all = same p p refl
     hears_by Ends p all = same p p refl
     hears_by (Fails e) p all =

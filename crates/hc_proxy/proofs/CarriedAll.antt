@@ -4,7 +4,7 @@
 -- fails, as many connections were dialled as exchanges were opened at most. Behind the last act, each exchange has its
 -- connection. Those that are closed then are of nobody who is kept, so closing them changes nothing of what is kept.
 use Rattle.std.{proofs.{Common.{◌≡◌, ◌⊎◌, inl, inr, ℕ, List, [], ◌∷◌, ◌++◌, Bool, true, false, Option, Some, None, refl, ap, sym, ◌∙◌, subst, arith, length, append_assoc}, lemmas.{List.{append-nil, Elements.{Contains-append_cases}}, Map.Views.{Contains-from_any, list_any-from_Contains}}, Math.Logic.{∥∥₁_map}}, specs.{Prelude.{nat_eq, Contains, if◌then◌else◌}, List.{list_any}, Cmp.{nat_eq_equiv}}}
-use Rattle.hc_text.proofs.Basics.{eq_tells as same_of}
+use Rattle.hc_text.proofs.Basics.{eq_reports as same_of}
 use Rattle.hc_effects.proofs.Vocabulary.{act_list, Act, Tables}
 use Rattle.hc_store.specs.declared.backend.Backend.{Ghosts}
 use Rattle.hc_wire.specs.{Events.{Stage, Unseen, Open, Closed, IsOpen, closed_of}, Logs.{Log, stage_in, sent_in}}
@@ -32,8 +32,8 @@ dials_both one two a b c first second = record {
 module _ {B : Type 0} {g : Ghosts B} (t : Turn) (p : Proxy) (log : Log) where
   -- ONE MORE
 
-  module _ (a : Act) (acts : List Act) (x x' : loop.Proxy B g) (told told' : Option Log) (before after : ℕ → Stage) (u : IsUnderway t p log (a ∷ acts) x told before) where
-    pub goes_underway : GoesOn (dialling u.more before t) a acts u.p' u.log' x' told' after → IsUnderway t p log acts x' told' after
+  module _ (a : Act) (acts : List Act) (x x' : loop.Proxy B g) (reported reported' : Option Log) (before after : ℕ → Stage) (u : IsUnderway t p log (a ∷ acts) x reported before) where
+    pub goes_underway : GoesOn (dialling u.more before t) a acts u.p' u.log' x' reported' after → IsUnderway t p log acts x' reported' after
     goes_underway go =
         let turns : dialling go.more after (dialling u.more before t) ≡ dialling (u.more ++ go.more) after t = ap (λ (ks : List ℕ). let r : Turn = record t { dialled = ks; stages = after } in r) (append_assoc t.dialled u.more go.more) in
         record {
@@ -41,13 +41,13 @@ module _ {B : Type 0} {g : Ghosts B} (t : Turn) (p : Proxy) (log : Log) where
           more = u.more ++ go.more;
           p' = carried_out a u.p';
           dials = dials_both u.more go.more log u.log' go.log' u.dials go.dials;
-          on_wire = subst (λ (r : Turn). OnWire r go.log' told' after) turns go.on_wire;
+          on_wire = subst (λ (r : Turn). OnWire r go.log' reported' after) turns go.on_wire;
           keeps = subst (λ (r : Turn). KeepsUnderway r acts x' (carried_out a u.p')) turns go.keeps;
           same = u.same;
           tables = same_tables a u.p' ∙ u.tables;
         }
 
-    pub fails_underway : CarriedSome (dialling u.more before t) u.p' u.log' told' after → CarriedSome t p log told' after
+    pub fails_underway : CarriedSome (dialling u.more before t) u.p' u.log' reported' after → CarriedSome t p log reported' after
     fails_underway s = record {
       log' = s.log';
       more = u.more ++ s.more;
@@ -61,7 +61,7 @@ module _ {B : Type 0} {g : Ghosts B} (t : Turn) (p : Proxy) (log : Log) where
 
   -- ALL, AND THE CLOSING
 
-  module _ (x y : loop.Proxy B g) (told told' : Option Log) (before after : ℕ → Stage) (u : IsUnderway t p log [] x told before) (empty : act_list y.acts ≡ []) (shut : y.closed.items ≡ []) (c : Closes x.closed.items u.log' told' before after) where
+  module _ (x y : loop.Proxy B g) (reported reported' : Option Log) (before after : ℕ → Stage) (u : IsUnderway t p log [] x reported before) (empty : act_list y.acts ≡ []) (shut : y.closed.items ≡ []) (c : Closes x.closed.items u.log' reported' before after) where
     abbrev x' : loop.Proxy B g
     x' = record x { acts = y.acts; closed = y.closed }
 
@@ -166,7 +166,7 @@ module _ {B : Type 0} {g : Ghosts B} (t : Turn) (p : Proxy) (log : Log) where
       seen = λ k is. u.keeps.seen k (sym (u.on_wire.stands k) ∙ unseen_before k is);
     }
 
-    pub all_carried : CarriedOut t p log x' told' after
+    pub all_carried : CarriedOut t p log x' reported' after
     all_carried = record {
       log' = c.log';
       more = u.more ++ [];
@@ -194,15 +194,15 @@ module _ {B : Type 0} {g : Ghosts B} (t : Turn) (p : Proxy) (log : Log) where
         by_taken k (inr same) = inr (same ∙ ap length (sym (c.dials.sent k)))
 
 -- the loop, of which the acts and the closed ones alone changed
-pub all_carried_at : {B : Type 0} {g : Ghosts B} (t : Turn) (p : Proxy) (log : Log) (x y : loop.Proxy B g) (told told' : Option Log) (before after : ℕ → Stage)
-    → (u : IsUnderway t p log [] x told before) → record x { acts = y.acts; closed = y.closed } ≡ y → act_list y.acts ≡ [] → y.closed.items ≡ []
-    → Closes x.closed.items u.log' told' before after → CarriedOut t p log y told' after
-all_carried_at {B} {g} t p log x y told told' before after u same empty shut c =
-    subst (λ (z : loop.Proxy B g). CarriedOut t p log z told' after) same (all_carried t p log x y told told' before after u empty shut c)
+pub all_carried_at : {B : Type 0} {g : Ghosts B} (t : Turn) (p : Proxy) (log : Log) (x y : loop.Proxy B g) (reported reported' : Option Log) (before after : ℕ → Stage)
+    → (u : IsUnderway t p log [] x reported before) → record x { acts = y.acts; closed = y.closed } ≡ y → act_list y.acts ≡ [] → y.closed.items ≡ []
+    → Closes x.closed.items u.log' reported' before after → CarriedOut t p log y reported' after
+all_carried_at {B} {g} t p log x y reported reported' before after u same empty shut c =
+    subst (λ (z : loop.Proxy B g). CarriedOut t p log z reported' after) same (all_carried t p log x y reported reported' before after u empty shut c)
 
 -- BEFORE THE FIRST ACT
 
-module _ {B : Type 0} {g : Ghosts B} (t : Turn) (p : Proxy) (log : Log) (told : Option Log) (stages : ℕ → Stage) (x y : loop.Proxy B g) where
+module _ {B : Type 0} {g : Ghosts B} (t : Turn) (p : Proxy) (log : Log) (reported : Option Log) (stages : ℕ → Stage) (x y : loop.Proxy B g) where
   -- before the first act
   begun_keeps : KeepsPolled t x p → KeepsUnderway t (acts_in p.part) (record x { acts = y.acts }) p
   begun_keeps k = record {
@@ -250,25 +250,25 @@ module _ {B : Type 0} {g : Ghosts B} (t : Turn) (p : Proxy) (log : Log) (told : 
     seen = k.keeps.seen;
   }
 
-  pub begins : (acts : List Act) → acts ≡ act_list x.acts → KeepsPolled t x p → OnWire t log told stages → IsUnderway t p log acts (record x { acts = y.acts }) told stages
+  pub begins : (acts : List Act) → acts ≡ act_list x.acts → KeepsPolled t x p → OnWire t log reported stages → IsUnderway t p log acts (record x { acts = y.acts }) reported stages
   unfolding carried
   begins acts these k on =
       let turns : dialling [] stages t ≡ t = sent.both (λ (ks : List ℕ) (f : ℕ → Stage). let u : Turn = record t { dialled = ks; stages = f } in u) (append-nil t.dialled) (fun_ext on.stands) in
       let all : acts_in p.part ≡ acts = sym (these ∙ k.keeps.acts) in
-      subst (λ (left : List Act). IsUnderway t p log left (record x { acts = y.acts }) told stages) all (record {
+      subst (λ (left : List Act). IsUnderway t p log left (record x { acts = y.acts }) reported stages) all (record {
         log' = log;
         more = [];
         p' = p;
         dials = dials_none log;
-        on_wire = subst (λ (u : Turn). OnWire u log told stages) (sym turns) on;
+        on_wire = subst (λ (u : Turn). OnWire u log reported stages) (sym turns) on;
         keeps = subst (λ (u : Turn). KeepsUnderway u (acts_in p.part) (record x { acts = y.acts }) p) (sym turns) (begun_keeps k);
         same = refl;
         tables = refl;
       })
 
 -- the next act, for some tables
-pub next_of_some : {B : Type 0} {g : Ghosts B} (a : Act) (acts : List Act) (fn x : loop.Proxy B g) (told told' : Option Log) (before stages : ℕ → Stage)
-    → ((t : Turn) (p : Proxy) (log : Log) → KeepsPolled t fn p → OnWire t log told before → IsUnderway t p log (a ∷ acts) x told' stages)
-    → ∥ IsPolledOn told before fn ∥₁ → ∥ IsNext a stages x ∥₁
-next_of_some a acts fn x told told' before stages all some =
-    ∥∥₁_map some (λ (n : IsPolledOn told before fn). let u = all n.0 n.1 n.2 n.3 n.4 in (dialling u.more stages n.0, acts, u.p', u.keeps, u.on_wire.stands))
+pub next_of_some : {B : Type 0} {g : Ghosts B} (a : Act) (acts : List Act) (fn x : loop.Proxy B g) (reported reported' : Option Log) (before stages : ℕ → Stage)
+    → ((t : Turn) (p : Proxy) (log : Log) → KeepsPolled t fn p → OnWire t log reported before → IsUnderway t p log (a ∷ acts) x reported' stages)
+    → ∥ IsPolledOn reported before fn ∥₁ → ∥ IsNext a stages x ∥₁
+next_of_some a acts fn x reported reported' before stages all some =
+    ∥∥₁_map some (λ (n : IsPolledOn reported before fn). let u = all n.0 n.1 n.2 n.3 n.4 in (dialling u.more stages n.0, acts, u.p', u.keeps, u.on_wire.stands))

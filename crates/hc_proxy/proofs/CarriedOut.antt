@@ -99,8 +99,8 @@ module _ (a : Act) (p : Proxy) (k c : ℕ) (w : IsHolder p k c) where
   q = with_client k (answered a) p
 
   -- its row behind the act
-  abbrev told : Client → Client
-  told r = record r {
+  abbrev reported : Client → Client
+  reported r = record r {
     owed = r.owed ++ rendering r.reply a;
     before = length r.owed;
     reply = record r.reply { form = form_behind r.reply a };
@@ -108,17 +108,17 @@ module _ (a : Act) (p : Proxy) (k c : ℕ) (w : IsHolder p k c) where
     consumer = if is_last a then None else r.consumer;
   }
 
-  told_is : (r : Client) → r.gone ≡ false → answered a r ≡ told r
-  told_is r here = rw here refl
+  reported_is : (r : Client) → r.gone ≡ false → answered a r ≡ reported r
+  reported_is r here = rw here refl
 
   row_is : (r : Client) → p.client k ≡ Some r → r ≡ w.row
   row_is r at = some_inj r w.row (sym at ∙ w.at)
 
   -- the row of the client was this
-  made : (j : ℕ) (r : Client) → IsChanged k (answered a) p j r → r ≡ told w.row
+  made : (j : ℕ) (r : Client) → IsChanged k (answered a) p j r → r ≡ reported w.row
   made j r z =
       let same : z.old ≡ w.row = row_is z.old (ap p.client (sym z.same) ∙ z.at) in
-      z.is ∙ (ap (answered a) same ∙ told_is w.row w.here)
+      z.is ∙ (ap (answered a) same ∙ reported_is w.row w.here)
 
   none_last : (b : Bool) (o : Option ℕ) (d : ℕ) → (if b then None else o) ≡ Some d → (b ≡ false) × (o ≡ Some d)
   none_last true o d is = absurd (let never : None ≡ Some d = is in cc)
@@ -137,7 +137,7 @@ module _ (a : Act) (p : Proxy) (k c : ℕ) (w : IsHolder p k c) where
   on j d u other = record { row = u.row; at = changed_off k (answered a) p j other ∙ u.at; here = u.here; consumer = u.consumer }
 
   own : is_last a ≡ false → IsHolder q k c
-  own more = record { row = told w.row; at = changed_here k (answered a) p w.row w.at ∙ ap Some (told_is w.row w.here); here = w.here; consumer = rw more w.consumer }
+  own more = record { row = reported w.row; at = changed_here k (answered a) p w.row w.at ∙ ap Some (reported_is w.row w.here); here = w.here; consumer = rw more w.consumer }
 
 -- where acts are still to be carried out behind it
 module _ (a : Act) (acts : List Act) (p : Proxy) (k c : ℕ) (w : IsHolder p k c) (to : sent_to a ≡ Some c) (over : is_last a ≡ true → is_live (p.tables.consumer c) ≡ false) (h : HeldBy (a ∷ acts) p) where

@@ -27,20 +27,20 @@ of_held acts p h = record { held = h.held; started = h.started; live = h.live; a
 
 -- WHERE NOTHING WAS DIALLED
 
-module _ {B : Type 0} {g : Ghosts B} (t : Turn) (x : loop.Proxy B g) (p : Proxy) (a : Act) (acts : List Act) (log : Log) (told : Option Log) (stages : ℕ → Stage) where
-  pub stays_on : OnWire t log told stages → KeepsUnderway t acts x (carried_out a p) → GoesOn t a acts p log x told stages
+module _ {B : Type 0} {g : Ghosts B} (t : Turn) (x : loop.Proxy B g) (p : Proxy) (a : Act) (acts : List Act) (log : Log) (reported : Option Log) (stages : ℕ → Stage) where
+  pub stays_on : OnWire t log reported stages → KeepsUnderway t acts x (carried_out a p) → GoesOn t a acts p log x reported stages
   stays_on on keeps =
       let turns : dialling [] stages t ≡ t = sent.both (λ (ks : List ℕ) (f : ℕ → Stage). let u : Turn = record t { dialled = ks; stages = f } in u) (append-nil t.dialled) (fun_ext on.stands) in
       record {
         log' = log;
         more = [];
         dials = dials_none log;
-        on_wire = subst (λ (u : Turn). OnWire u log told stages) (sym turns) on;
+        on_wire = subst (λ (u : Turn). OnWire u log reported stages) (sym turns) on;
         keeps = subst (λ (u : Turn). KeepsUnderway u acts x (carried_out a p)) (sym turns) keeps;
       }
 
   -- it may fail before it dials
-  pub fails_before : OnWire t log told stages → KeepsUnderway t (a ∷ acts) x p → CarriedSome t p log told stages
+  pub fails_before : OnWire t log reported stages → KeepsUnderway t (a ∷ acts) x p → CarriedSome t p log reported stages
   fails_before on h = record {
     log' = log;
     more = [];
@@ -50,20 +50,20 @@ module _ {B : Type 0} {g : Ghosts B} (t : Turn) (x : loop.Proxy B g) (p : Proxy)
   }
 
 -- or behind that
-pub fails_opening : {B : Type 0} {g : Ghosts B} (t : Turn) (x : loop.Proxy B g) (p : Proxy) (acts : List Act) (y c : ℕ) (need : Need) (request : Request) (log : Log) (told told' : Option Log) (before after : ℕ → Stage)
-    → OnWire t log told before → KeepsUnderway t (act.Opened y c need request ∷ acts) x p → DialsSome told told' before after → CarriedSome t p log told' after
-fails_opening t x p acts y c need request log told told' before after on h (one k d) = record {
+pub fails_opening : {B : Type 0} {g : Ghosts B} (t : Turn) (x : loop.Proxy B g) (p : Proxy) (acts : List Act) (y c : ℕ) (need : Need) (request : Request) (log : Log) (reported reported' : Option Log) (before after : ℕ → Stage)
+    → OnWire t log reported before → KeepsUnderway t (act.Opened y c need request ∷ acts) x p → DialsSome reported reported' before after → CarriedSome t p log reported' after
+fails_opening t x p acts y c need request log reported reported' before after on h (one k d) = record {
   log' = with_dialled k log;
   more = k ∷ [];
-  follows = follows_dialled k log told told' before after on.follows d;
-  dials = dials_one k log told told' before after on.follows d;
+  follows = follows_dialled k log reported reported' before after on.follows d;
+  dials = dials_one k log reported reported' before after on.follows d;
   opened = let size = length-append t.dialled (k ∷ []) in let le = up_grows acts (length t.dialled + 1) p.tables.opened h.upstreams.opens.1 in omega arith;
 }
-fails_opening t x p acts y c need request log told told' before after on h (none same stays) = record {
+fails_opening t x p acts y c need request log reported reported' before after on h (none same stays) = record {
   log' = log;
   more = [];
   follows = record {
-    told_is = rw same on.follows.told_is;
+    reported_is = rw same on.follows.reported_is;
     stands = λ k. stays k ∙ on.follows.stands k;
     apart = on.follows.apart;
   };
@@ -74,37 +74,37 @@ fails_opening t x p acts y c need request log told told' before after on h (none
 module _ {B : Type 0} {g : Ghosts B} (t : Turn) (x : loop.Proxy B g) (p : Proxy) (acts : List Act) where
   -- SENT TO A CONSUMER
 
-  module _ (cl : Clients) (a : Act) (tells : (k : ℕ) → client_of cl k ≡ answered_in a (client_of x.clients k)) (h : KeepsUnderway t (a ∷ acts) x p) where
-    abbrev told : loop.Proxy B g
-    told = record x { clients = cl }
+  module _ (cl : Clients) (a : Act) (reports : (k : ℕ) → client_of cl k ≡ answered_in a (client_of x.clients k)) (h : KeepsUnderway t (a ∷ acts) x p) where
+    abbrev reported : loop.Proxy B g
+    reported = record x { clients = cl }
 
     sent_goes : (c : ℕ) → peers.addressee a ≡ Some c → (k : ℕ) × IsServed t.call p k c → carried_out a p ≡ answers (p.holder c) a p
-        → ((d : ℕ) → sent_to a ≡ Some d → (k : ℕ) × IsHolder p k d) → HasUpstreams t x p acts → ArePlain acts p.tables → AreShut acts p.tables → KeepsUnderway t acts told (carried_out a p)
+        → ((d : ℕ) → sent_to a ≡ Some d → (k : ℕ) × IsHolder p k d) → HasUpstreams t x p acts → ArePlain acts p.tables → AreShut acts p.tables → KeepsUnderway t acts reported (carried_out a p)
     sent_goes c to s out found origins plain shut =
         let is : carried_out a p ≡ with_client s.0 (answered a) p = out ∙ ap (λ (o : Option ℕ). answers o a p) s.1.held in
-        subst (λ (r : Proxy). KeepsUnderway t acts told r) (sym is) (record {
-          cache = cache_with t.frame told p (with_client s.0 (answered a) p).client p.accepted (cache_moves t.frame x told p refl refl refl refl h.cache);
+        subst (λ (r : Proxy). KeepsUnderway t acts reported r) (sym is) (record {
+          cache = cache_with t.frame reported p (with_client s.0 (answered a) p).client p.accepted (cache_moves t.frame x reported p refl refl refl refl h.cache);
           moved = h.moved;
-          clients = sent.clients_go a c to p s.0 s.1.holder (λ j. h.holders.held j c) t x cl tells h.clients;
+          clients = sent.clients_go a c to p s.0 s.1.holder (λ j. h.holders.held j c) t x cl reports h.clients;
           holders = subst (HasHolders acts) is (of_held acts (carried_out a p) (act_keeps a acts p found h.over (held_of (a ∷ acts) p h.holders)));
           over = subst (AreOver acts) is (over_later a acts p h.over);
           served = subst (λ (r : Proxy). AreServed t.call r acts) is h.served.1;
           plain = plain;
           shut = shut;
           undialled = h.undialled;
-          upstreams = sent.origins_go a c to p s.0 s.1.holder (λ j. h.holders.held j c) t x cl tells acts origins;
+          upstreams = sent.origins_go a c to p s.0 s.1.holder (λ j. h.holders.held j c) t x cl reports acts origins;
           heard = h.heard;
-          wire = sent.wire_goes a c to p s.0 s.1.holder (λ j. h.holders.held j c) t x cl tells h.wire;
+          wire = sent.wire_goes a c to p s.0 s.1.holder (λ j. h.holders.held j c) t x cl reports h.wire;
           known = h.known;
           numbers = h.numbers;
           opened = h.opened;
-          seen = sent.seen_goes a c to p s.0 s.1.holder (λ j. h.holders.held j c) t x cl tells h.seen;
+          seen = sent.seen_goes a c to p s.0 s.1.holder (λ j. h.holders.held j c) t x cl reports h.seen;
         })
 
   -- NEITHER SENT NOR CARRIED OUT
 
   same_rows : (cl : Clients) (a : Act) → peers.addressee a ≡ None → ((k : ℕ) → client_of cl k ≡ answered_in a (client_of x.clients k)) → (k : ℕ) → client_of cl k ≡ client_of x.clients k
-  same_rows cl a to tells k = tells k ∙ by_row (client_of x.clients k)
+  same_rows cl a to reports k = reports k ∙ by_row (client_of x.clients k)
     where
       by_row : (o : Option peer.Client) → answered_in a o ≡ o
       by_row None = refl
@@ -143,37 +143,37 @@ module _ {B : Type 0} {g : Ghosts B} (t : Turn) (x : loop.Proxy B g) (p : Proxy)
       })
 
   -- acts that the clients answer
-  abbrev is_told : Act → Bool
-  is_told (act.Opened y c need request) = false
-  is_told (act.Ask y) = false
-  is_told (act.Close y) = false
-  is_told _ = true
+  abbrev is_reported : Act → Bool
+  is_reported (act.Opened y c need request) = false
+  is_reported (act.Ask y) = false
+  is_reported (act.Close y) = false
+  is_reported _ = true
 
-  pub told_of : (a : Act) → ((y c : ℕ) (need : Need) (request : Request) → a ≡ act.Opened y c need request → ⊥) → ((y : ℕ) → a ≡ act.Ask y → ⊥) → ((y : ℕ) → a ≡ act.Close y → ⊥) → is_told a ≡ true
-  told_of (act.Opened y c need request) opens asks closes = absurd (opens y c need request refl)
-  told_of (act.Ask y) opens asks closes = absurd (asks y refl)
-  told_of (act.Close y) opens asks closes = absurd (closes y refl)
-  told_of (act.Shown c r why status fields lo hi) opens asks closes = refl
-  told_of (act.Given c y at bytes) opens asks closes = refl
-  told_of (act.Ended c) opens asks closes = refl
-  told_of (act.Failed c cause) opens asks closes = refl
-  told_of (act.Denied refusal) opens asks closes = refl
-  told_of (act.Pending c wait) opens asks closes = refl
-  told_of (act.Lost r kind) opens asks closes = refl
-  told_of (act.Evicted r) opens asks closes = refl
+  pub received_of : (a : Act) → ((y c : ℕ) (need : Need) (request : Request) → a ≡ act.Opened y c need request → ⊥) → ((y : ℕ) → a ≡ act.Ask y → ⊥) → ((y : ℕ) → a ≡ act.Close y → ⊥) → is_reported a ≡ true
+  received_of (act.Opened y c need request) opens asks closes = absurd (opens y c need request refl)
+  received_of (act.Ask y) opens asks closes = absurd (asks y refl)
+  received_of (act.Close y) opens asks closes = absurd (closes y refl)
+  received_of (act.Shown c r why status fields lo hi) opens asks closes = refl
+  received_of (act.Given c y at bytes) opens asks closes = refl
+  received_of (act.Ended c) opens asks closes = refl
+  received_of (act.Failed c cause) opens asks closes = refl
+  received_of (act.Denied refusal) opens asks closes = refl
+  received_of (act.Pending c wait) opens asks closes = refl
+  received_of (act.Lost r kind) opens asks closes = refl
+  received_of (act.Evicted r) opens asks closes = refl
 
-  pub answer_goes : (cl : Clients) (a : Act) → is_told a ≡ true → ((k : ℕ) → client_of cl k ≡ answered_in a (client_of x.clients k)) → KeepsUnderway t (a ∷ acts) x p → KeepsUnderway t acts (record x { clients = cl }) (carried_out a p)
-  answer_goes cl (act.Shown c r why status fields lo hi) is tells h = sent_goes cl (act.Shown c r why status fields lo hi) tells h c refl (h.served.0 c refl) refl (λ d to. let u = h.served.0 d to in (u.0, u.1.holder)) (record { rows = h.upstreams.rows; numbers = h.upstreams.numbers; over = h.upstreams.over; news = h.upstreams.news; touched = h.upstreams.touched; opens = h.upstreams.opens; names = h.upstreams.names; strangers = h.upstreams.strangers }) h.plain h.shut
-  answer_goes cl (act.Given c y at bytes) is tells h = sent_goes cl (act.Given c y at bytes) tells h c refl (h.served.0 c refl) refl (λ d to. let u = h.served.0 d to in (u.0, u.1.holder)) (record { rows = h.upstreams.rows; numbers = h.upstreams.numbers; over = h.upstreams.over; news = h.upstreams.news; touched = h.upstreams.touched; opens = h.upstreams.opens; names = h.upstreams.names; strangers = h.upstreams.strangers }) h.plain h.shut
-  answer_goes cl (act.Ended c) is tells h = sent_goes cl (act.Ended c) tells h c refl (h.served.0 c refl) refl (λ d to. let u = h.served.0 d to in (u.0, u.1.holder)) (record { rows = h.upstreams.rows; numbers = h.upstreams.numbers; over = h.upstreams.over; news = h.upstreams.news; touched = h.upstreams.touched; opens = h.upstreams.opens; names = h.upstreams.names; strangers = h.upstreams.strangers }) h.plain h.shut
-  answer_goes cl (act.Failed c cause) is tells h = sent_goes cl (act.Failed c cause) tells h c refl (h.served.0 c refl) refl (λ d to. let u = h.served.0 d to in (u.0, u.1.holder)) (record { rows = h.upstreams.rows; numbers = h.upstreams.numbers; over = h.upstreams.over; news = h.upstreams.news; touched = h.upstreams.touched; opens = h.upstreams.opens; names = h.upstreams.names; strangers = h.upstreams.strangers }) h.plain h.shut
-  answer_goes cl (act.Denied refusal) is tells h = unsaid_goes cl (act.Denied refusal) (same_rows cl (act.Denied refusal) refl tells) h refl (λ d to. absurd (let never : None ≡ Some d = to in cc)) (record { rows = h.upstreams.rows; numbers = h.upstreams.numbers; over = h.upstreams.over; news = h.upstreams.news; touched = h.upstreams.touched; opens = h.upstreams.opens; names = h.upstreams.names; strangers = h.upstreams.strangers }) h.plain h.shut
-  answer_goes cl (act.Pending c wait) is tells h = unsaid_goes cl (act.Pending c wait) (same_rows cl (act.Pending c wait) refl tells) h refl (λ d to. absurd (let never : None ≡ Some d = to in cc)) (record { rows = h.upstreams.rows; numbers = h.upstreams.numbers; over = h.upstreams.over; news = h.upstreams.news; touched = h.upstreams.touched; opens = h.upstreams.opens; names = h.upstreams.names; strangers = h.upstreams.strangers }) h.plain h.shut
-  answer_goes cl (act.Lost r kind) is tells h = unsaid_goes cl (act.Lost r kind) (same_rows cl (act.Lost r kind) refl tells) h refl (λ d to. absurd (let never : None ≡ Some d = to in cc)) (record { rows = h.upstreams.rows; numbers = h.upstreams.numbers; over = h.upstreams.over; news = h.upstreams.news; touched = h.upstreams.touched; opens = h.upstreams.opens; names = h.upstreams.names; strangers = h.upstreams.strangers }) h.plain h.shut
-  answer_goes cl (act.Evicted r) is tells h = unsaid_goes cl (act.Evicted r) (same_rows cl (act.Evicted r) refl tells) h refl (λ d to. absurd (let never : None ≡ Some d = to in cc)) (record { rows = h.upstreams.rows; numbers = h.upstreams.numbers; over = h.upstreams.over; news = h.upstreams.news; touched = h.upstreams.touched; opens = h.upstreams.opens; names = h.upstreams.names; strangers = h.upstreams.strangers }) h.plain h.shut
-  answer_goes cl (act.Opened y c need request) is tells h = absurd (let never : false ≡ true = is in cc)
-  answer_goes cl (act.Ask y) is tells h = absurd (let never : false ≡ true = is in cc)
-  answer_goes cl (act.Close y) is tells h = absurd (let never : false ≡ true = is in cc)
+  pub answer_goes : (cl : Clients) (a : Act) → is_reported a ≡ true → ((k : ℕ) → client_of cl k ≡ answered_in a (client_of x.clients k)) → KeepsUnderway t (a ∷ acts) x p → KeepsUnderway t acts (record x { clients = cl }) (carried_out a p)
+  answer_goes cl (act.Shown c r why status fields lo hi) is reports h = sent_goes cl (act.Shown c r why status fields lo hi) reports h c refl (h.served.0 c refl) refl (λ d to. let u = h.served.0 d to in (u.0, u.1.holder)) (record { rows = h.upstreams.rows; numbers = h.upstreams.numbers; over = h.upstreams.over; news = h.upstreams.news; touched = h.upstreams.touched; opens = h.upstreams.opens; names = h.upstreams.names; strangers = h.upstreams.strangers }) h.plain h.shut
+  answer_goes cl (act.Given c y at bytes) is reports h = sent_goes cl (act.Given c y at bytes) reports h c refl (h.served.0 c refl) refl (λ d to. let u = h.served.0 d to in (u.0, u.1.holder)) (record { rows = h.upstreams.rows; numbers = h.upstreams.numbers; over = h.upstreams.over; news = h.upstreams.news; touched = h.upstreams.touched; opens = h.upstreams.opens; names = h.upstreams.names; strangers = h.upstreams.strangers }) h.plain h.shut
+  answer_goes cl (act.Ended c) is reports h = sent_goes cl (act.Ended c) reports h c refl (h.served.0 c refl) refl (λ d to. let u = h.served.0 d to in (u.0, u.1.holder)) (record { rows = h.upstreams.rows; numbers = h.upstreams.numbers; over = h.upstreams.over; news = h.upstreams.news; touched = h.upstreams.touched; opens = h.upstreams.opens; names = h.upstreams.names; strangers = h.upstreams.strangers }) h.plain h.shut
+  answer_goes cl (act.Failed c cause) is reports h = sent_goes cl (act.Failed c cause) reports h c refl (h.served.0 c refl) refl (λ d to. let u = h.served.0 d to in (u.0, u.1.holder)) (record { rows = h.upstreams.rows; numbers = h.upstreams.numbers; over = h.upstreams.over; news = h.upstreams.news; touched = h.upstreams.touched; opens = h.upstreams.opens; names = h.upstreams.names; strangers = h.upstreams.strangers }) h.plain h.shut
+  answer_goes cl (act.Denied refusal) is reports h = unsaid_goes cl (act.Denied refusal) (same_rows cl (act.Denied refusal) refl reports) h refl (λ d to. absurd (let never : None ≡ Some d = to in cc)) (record { rows = h.upstreams.rows; numbers = h.upstreams.numbers; over = h.upstreams.over; news = h.upstreams.news; touched = h.upstreams.touched; opens = h.upstreams.opens; names = h.upstreams.names; strangers = h.upstreams.strangers }) h.plain h.shut
+  answer_goes cl (act.Pending c wait) is reports h = unsaid_goes cl (act.Pending c wait) (same_rows cl (act.Pending c wait) refl reports) h refl (λ d to. absurd (let never : None ≡ Some d = to in cc)) (record { rows = h.upstreams.rows; numbers = h.upstreams.numbers; over = h.upstreams.over; news = h.upstreams.news; touched = h.upstreams.touched; opens = h.upstreams.opens; names = h.upstreams.names; strangers = h.upstreams.strangers }) h.plain h.shut
+  answer_goes cl (act.Lost r kind) is reports h = unsaid_goes cl (act.Lost r kind) (same_rows cl (act.Lost r kind) refl reports) h refl (λ d to. absurd (let never : None ≡ Some d = to in cc)) (record { rows = h.upstreams.rows; numbers = h.upstreams.numbers; over = h.upstreams.over; news = h.upstreams.news; touched = h.upstreams.touched; opens = h.upstreams.opens; names = h.upstreams.names; strangers = h.upstreams.strangers }) h.plain h.shut
+  answer_goes cl (act.Evicted r) is reports h = unsaid_goes cl (act.Evicted r) (same_rows cl (act.Evicted r) refl reports) h refl (λ d to. absurd (let never : None ≡ Some d = to in cc)) (record { rows = h.upstreams.rows; numbers = h.upstreams.numbers; over = h.upstreams.over; news = h.upstreams.news; touched = h.upstreams.touched; opens = h.upstreams.opens; names = h.upstreams.names; strangers = h.upstreams.strangers }) h.plain h.shut
+  answer_goes cl (act.Opened y c need request) is reports h = absurd (let never : false ≡ true = is in cc)
+  answer_goes cl (act.Ask y) is reports h = absurd (let never : false ≡ true = is in cc)
+  answer_goes cl (act.Close y) is reports h = absurd (let never : false ≡ true = is in cc)
 
   -- MORE IS ASKED FOR
 

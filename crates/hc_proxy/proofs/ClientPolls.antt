@@ -12,7 +12,7 @@ use Rattle.hc_head.specs.declared.message.WireRequest.{WireRequest}
 use Rattle.hc_peers.specs.Renderings.{reply_to}
 use Rattle.hc_wire.specs.Logs.{Called}
 use Rattle.hc_proxy.specs.{Asked.{is_at, starts_of, starts_in, AreClients}, Carrying.{acts_in, carried}, Connections.{has_unsent}, Invariants.{addressee}, Polls.{live_consumers, takes_more, may_be_polled, polled, each_polled, polled_all}, Rendered.{is_answer_to, answer_to, rendered, answers_to, consumers_of, error_answer}, Rows.{Client, Proxy}, Steps.{with_entry, stepped}}
-use Rattle.hc_proxy.proofs.{Ascending.{lives_are}, Asked.{alike}, ClientSteps.{other_live, over_here, HasRow, IsRow, Holds, Follows, row_less}, ConsumersOf.{consumers_its}, FoundClients.{sent_told, AreNotTo, quiet_not}, Later.{IsSame, carried_is_same}, OwedActs.{sent_is, told_all, AreIts, AreFor, for_less, owes_past, owes_last, not_true, all_wait, IsKept, all_keep, all_rows}, Owings.{answers_more, is_number, answers_whom, all_alone, answer_alone, all_same, HasError, IsNew, HasLast, Owes, owes_by}, PolledAlone.{AreTo, polls_alone}, SkippedSteps.{among}, Stands.{Stands, StandsOn, law_of, owed_here, goes_on, stands_out}, StaysOver.{HasOver}, Turning.{carried_keeps, open_any}}
+use Rattle.hc_proxy.proofs.{Ascending.{lives_are}, Asked.{alike}, ClientSteps.{other_live, over_here, HasRow, IsRow, Holds, Follows, row_less}, ConsumersOf.{consumers_its}, FoundClients.{sent_reported, AreNotTo, quiet_not}, Later.{IsSame, carried_is_same}, OwedActs.{sent_is, reported_all, AreIts, AreFor, for_less, owes_past, owes_last, not_true, all_wait, IsKept, all_keep, all_rows}, Owings.{answers_more, is_number, answers_whom, all_alone, answer_alone, all_same, HasError, IsNew, HasLast, Owes, owes_by}, PolledAlone.{AreTo, polls_alone}, SkippedSteps.{among}, Stands.{Stands, StandsOn, law_of, owed_here, goes_on, stands_out}, StaysOver.{HasOver}, Turning.{carried_keeps, open_any}}
 
 -- POLLS, of tables before them
 
@@ -36,7 +36,7 @@ module _ (limits : Limits) (call : Called) (k : ℕ) (q : Proxy) where
 
   to_may : (c : ℕ) (acts : List Act) → MayHear c → AreTo c acts → AllMay acts
   to_may c [] may to = tt
-  to_may c (a ∷ acts) may to = (λ d at. subst MayHear (sym (to.0 d (sent_told a d (sent_is a ∙ at)))) may, to_may c acts may to.1)
+  to_may c (a ∷ acts) may to = (λ d at. subst MayHear (sym (to.0 d (sent_reported a d (sent_is a ∙ at)))) may, to_may c acts may to.1)
 
   pub record IsPolled (p : Proxy) : Type 0 where
     pub client : p.client ≡ q.client
@@ -125,14 +125,14 @@ module _ (limits : Limits) (call : Called) (k : ℕ) (q : Proxy) where
     abbrev g : History
     g = all_alone acts h
 
-    none_for : ((d : ℕ) → IsFor client d → ⊥) → Owes g cs asked (told_all q.holder k acts client)
+    none_for : ((d : ℕ) → IsFor client d → ⊥) → Owes g cs asked (reported_all q.holder k acts client)
     none_for never = owes_past q.holder k cs asked its acts h client (for_less q.holder k (IsFor client) (λ d. ⊥) acts never for) o
 
     none_behind : (c : ℕ) → client.consumer ≡ Some c → HasError client → error_answer client.reading ≡ []
     none_behind c at (inl none) = none
     none_behind c at (inr is) = absurd (let never : Some c ≡ None = sym at ∙ is.consumer in cc)
 
-    last_for : client.gone ≡ false → (l : HasLast h cs asked client) → client.consumer ≡ Some l.c → Owes g cs asked (told_all q.holder k acts client)
+    last_for : client.gone ≡ false → (l : HasLast h cs asked client) → client.consumer ≡ Some l.c → Owes g cs asked (reported_all q.holder k acts client)
     last_for here l at =
         let firsts : List ℕ = l.ds ++ l.c ∷ [] in
         let none : error_answer client.reading ≡ [] = none_behind l.c at o.error in
@@ -143,23 +143,23 @@ module _ (limits : Limits) (call : Called) (k : ℕ) (q : Proxy) where
         ∙ (ap (λ (rs : List WireRequest). answers_to rs cs h) l.asked_are
         ∙ (ap (λ (ns : List ℕ). answers_to (l.qs ++ l.r ∷ []) ns h) l.cs_are
         ∙ answers_more l.qs l.ds l.r l.c h l.sizes)))) in
-        subst (λ (ns : List ℕ). Owes g ns asked (told_all q.holder k acts client)) (sym l.cs_are)
-        (subst (λ (rs : List WireRequest). Owes g firsts rs (told_all q.holder k acts client)) (sym l.asked_are)
+        subst (λ (ns : List ℕ). Owes g ns asked (reported_all q.holder k acts client)) (sym l.cs_are)
+        (subst (λ (rs : List WireRequest). Owes g firsts rs (reported_all q.holder k acts client)) (sym l.asked_are)
         (owes_last q.holder k l.ds l.c l.qs l.r l.sizes l.below (subst (AreIts q.holder k) l.cs_are its) acts h client
         (for_less q.holder k (IsFor client) (λ d. d ≡ l.c) acts (λ d is. some_is d l.c (sym is.1 ∙ at)) for) here owed_is l.reply l.waits none))
 
-    pub owes_behind : Owes g cs asked (told_all q.holder k acts client)
+    pub owes_behind : Owes g cs asked (reported_all q.holder k acts client)
     owes_behind = by_gone client.gone refl
       where
-        by_waits : client.gone ≡ false → (l : HasLast h cs asked client) → (client.consumer ≡ None) ⊎ (client.consumer ≡ Some l.c) → Owes g cs asked (told_all q.holder k acts client)
+        by_waits : client.gone ≡ false → (l : HasLast h cs asked client) → (client.consumer ≡ None) ⊎ (client.consumer ≡ Some l.c) → Owes g cs asked (reported_all q.holder k acts client)
         by_waits here l (inl none) = none_for (λ d is. let never : None ≡ Some d = sym none ∙ is.1 in cc)
         by_waits here l (inr at) = last_for here l at
 
-        by_last : client.gone ≡ false → IsNew cs asked client ⊎ HasLast h cs asked client → Owes g cs asked (told_all q.holder k acts client)
+        by_last : client.gone ≡ false → IsNew cs asked client ⊎ HasLast h cs asked client → Owes g cs asked (reported_all q.holder k acts client)
         by_last here (inl n) = none_for (λ d is. let never : None ≡ Some d = sym n.waits ∙ is.1 in cc)
         by_last here (inr l) = by_waits here l l.waits
 
-        by_gone : (b : Bool) → client.gone ≡ b → Owes g cs asked (told_all q.holder k acts client)
+        by_gone : (b : Bool) → client.gone ≡ b → Owes g cs asked (reported_all q.holder k acts client)
         by_gone true gone = none_for (λ d is. let never : true ≡ false = sym gone ∙ is.0 in cc)
         by_gone false here = by_last here o.last
 
@@ -232,7 +232,7 @@ module _ (limits : Limits) (h : History) (k : ℕ) (ds : List ℕ) (calls : List
   abbrev holds : ℕ → Type 0
   holds d = (is_live (p.tables.consumer d) ≡ true) × (q.holder d ≡ Some k)
 
-  row_now : (o : Option Client) → q.client k ≡ o → IsRow limits h k ds calls q o → HasRow limits p.history k ds calls (option_map (told_all q.holder k acts) o) requests cs holds
+  row_now : (o : Option Client) → q.client k ≡ o → IsRow limits h k ds calls q o → HasRow limits p.history k ds calls (option_map (reported_all q.holder k acts) o) requests cs holds
   row_now None at r = record { none = r.none; nobody = r.nobody; unheld = λ d is. r.unheld d (s.less d is.0, is.1) }
   row_now (Some client) at r = record {
     asked = r.asked;
@@ -243,7 +243,7 @@ module _ (limits : Limits) (h : History) (k : ℕ) (ds : List ℕ) (calls : List
   }
     where
       new : Client
-      new = told_all q.holder k acts client
+      new = reported_all q.holder k acts client
 
       kept : IsKept new client
       kept = all_keep q.holder k acts client
@@ -261,9 +261,9 @@ module _ (limits : Limits) (h : History) (k : ℕ) (ds : List ℕ) (calls : List
 
   -- ALL OF IT
 
-  rows_are : p'.client k ≡ option_map (told_all q.holder k acts) (q.client k)
+  rows_are : p'.client k ≡ option_map (reported_all q.holder k acts) (q.client k)
   unfolding carried
-  rows_are = all_rows q.holder k acts p s.holder ∙ ap (λ (g : ℕ → Option Client). option_map (told_all q.holder k acts) (g k)) s.client
+  rows_are = all_rows q.holder k acts p s.holder ∙ ap (λ (g : ℕ → Option Client). option_map (reported_all q.holder k acts) (g k)) s.client
 
   stands_now : Stands limits p'
   stands_now = (carried_keeps (λ x. Unit {0}) (StandsOn limits) (stands_out limits) p (open_any acts) s.stands).stands

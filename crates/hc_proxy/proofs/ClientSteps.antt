@@ -10,8 +10,8 @@ use Rattle.hc_text.proofs.Basics.{some_inj as some_is}
 use Rattle.hc_effects.proofs.Vocabulary.{Event, Request, is_live, Entry, History, owed, Limits, event}
 use Rattle.hc_head.specs.declared.message.WireRequest.{WireRequest}
 use Rattle.hc_laws.proofs.LiveAfter.{Starts, was_live}
-use Rattle.hc_msg.specs.{Inputs.{Next, Waits, Tells, Brings, Ends, Fails, next_in}, NextParts.{StandsNext}, Reading.{Reading, Heading, Requests, Failed, Token, Asks, Answers, Byte}}
-use Rattle.hc_msg.proofs.{Leading.{tells_leads}, NextParts.{stands_next}}
+use Rattle.hc_msg.specs.{Inputs.{Next, Waits, Reports, Brings, Ends, Fails, next_in}, NextParts.{StandsNext}, Reading.{Reading, Heading, Requests, Failed, Token, Asks, Answers, Byte}}
+use Rattle.hc_msg.proofs.{Leading.{reports_leads}, NextParts.{stands_next}}
 use Rattle.hc_wire.specs.Logs.{Called}
 use Rattle.hc_proxy.specs.{Asked.{is_at, started_by, starts_of, count_by, starts_in, AreClients}, Carrying.{acts_in}, Handling.{clients_here}, Rendered.{answer_to, consumer_by, consumers_of, error_answer}, Rows.{Client, Upstream, Proxy, with, with_client}, Starts.{read_to, asks, with_holder, started, refused, hears_request, hears, hears_if, is_ready, each_heard, started_all}, Steps.{with_entry, stepped}, Waiting.{is_poll}}
 use Rattle.hc_proxy.proofs.{Asked.{IsOther, other_starts, other_count, other_next, starts_kept, clients_kept, IsRead, alike, reads_on, read_all, all_read}, ConsumersOf.{other_consumers, consumers_kept, consumers_below}, NextAsks.{IsHead, of_head, IsNextAsked, next_asks, ready_idle}, Owings.{Owes, owes_read, owes_refused, owes_asks}, QuietActs.{AreQuiet, quiet_both, is_quiet_entry}, Stands.{Stands, law_of, owed_here, goes_on}, StaysOver.{HasOver, over_keeps}}
@@ -268,7 +268,7 @@ module _ (limits : Limits) (h : History) (k : ℕ) where
 
       hears_off : (n : Next) (p : Proxy) → S p → S (hears limits z n p)
       hears_off (Waits t) p s = change_off (read_to t []) p s
-      hears_off (Tells token t rest) p s = token_off token (with_client z (read_to t rest) p) (change_off (read_to t rest) p s)
+      hears_off (Reports token t rest) p s = token_off token (with_client z (read_to t rest) p) (change_off (read_to t rest) p s)
       hears_off (Brings bytes t rest) p s = s
       hears_off Ends p s = s
       hears_off (Fails e) p s = change_off (refused e) (with_client z (read_to (Failed e) []) p) (change_off (read_to (Failed e) []) p s)
@@ -283,7 +283,7 @@ module _ (limits : Limits) (h : History) (k : ℕ) where
       put_here change p client at a row = record { all = put_all p.accepted (with_client z change p).client p.upstream p a; row = subst (IsRow ds calls p) (sym (here change p client at)) row }
 
       asks_here : (request : WireRequest) (t : Reading) (rest : List ℕ) (p : Proxy) (client : Client) → p.client k ≡ Some client → client.consumer ≡ None → client.closing ≡ false
-          → StandsNext 1 client.reading client.input (Tells (Asks request) t rest) → IsNextAsked (Tells (Asks request) t rest) → IsRow ds calls p (Some client) → Stays p → S (hears limits z (Tells (Asks request) t rest) p)
+          → StandsNext 1 client.reading client.input (Reports (Asks request) t rest) → IsNextAsked (Reports (Asks request) t rest) → IsRow ds calls p (Some client) → Stays p → S (hears limits z (Reports (Asks request) t rest) p)
       asks_here request t rest p client at idle open_still next asked r a =
           start_on z request.request q (put_all p.accepted q.client p.upstream p a)
           (subst (λ (o : Option Client). HasRow ds calls o (requests ++ (if nat_eq k z then request.request ∷ [] else [])) (cs ++ (if nat_eq k z then c ∷ [] else [])) (HoldsOr p z)) (sym row)
@@ -292,7 +292,7 @@ module _ (limits : Limits) (h : History) (k : ℕ) where
           (record {
             asked = r.asked ++ request ∷ [];
             read = alike k ds calls new (read_to t rest client) (requests ++ request.request ∷ []) (r.asked ++ request ∷ []) refl refl (λ g. g)
-                (reads_on k ds calls client requests r.asked (request ∷ []) next.front rest t next.whole (tells_leads client.reading next.front (Asks request) t next.tells) (of_head t asked) r.read);
+                (reads_on k ds calls client requests r.asked (request ∷ []) next.front rest t next.whole (reports_leads client.reading next.front (Asks request) t next.reports) (of_head t asked) r.read);
             owes = owes_asks h cs r.asked (read_to t rest client) c request open_still (a.fresh c (omega arith)) (consumers_below p.holder k c p.history a.clients (let is : p.starts ≡ starts_in p.history = a.count in omega arith))
                 (owes_read h cs r.asked client t rest open_still (no_error t asked) r.owes);
             live = live_now;
@@ -332,9 +332,9 @@ module _ (limits : Limits) (h : History) (k : ℕ) where
             owes = owes_read h (consumers_of p.holder k p.history) r.asked client t [] open_still (no_error t asked) r.owes;
             live = r.live;
           })
-      hears_here (Tells (Asks request) t rest) p client at idle open_still next asked r s = asks_here request t rest p client at idle open_still next asked r s.all
-      hears_here (Tells (Answers response) t rest) p client at idle open_still next asked r s = absurd asked
-      hears_here (Tells (Byte b) t rest) p client at idle open_still next asked r s = absurd asked
+      hears_here (Reports (Asks request) t rest) p client at idle open_still next asked r s = asks_here request t rest p client at idle open_still next asked r s.all
+      hears_here (Reports (Answers response) t rest) p client at idle open_still next asked r s = absurd asked
+      hears_here (Reports (Byte b) t rest) p client at idle open_still next asked r s = absurd asked
       hears_here (Brings bytes t rest) p client at idle open_still next asked r s = s
       hears_here Ends p client at idle open_still next asked r s = s
       hears_here (Fails e) p client at idle open_still next asked r s =

@@ -4,15 +4,15 @@
 -- and nothing is sent. So what is said of some closes holds of one more, in any order, and of each first part of a
 -- list. `closes_none` and `closes_one` begin and go on; `closes_next` and `closes_all` are the same along a list.
 use Rattle.std.{proofs.{Common.{◌≡◌, ◌⊎◌, ℕ, List, [], ◌∷◌, ◌++◌, Bool, true, false, Option, Some, None, eqb, refl, sym, ap, ◌∙◌, inl, inr, subst, arith, get_or, take, length, ◌+◌, ◌<◌}, lemmas.{Bool.{cases_Bool, eqb-true}, List.{append-nil, take_more}}, Math.Seq.{take-length}}, specs.{Prelude.{nat_eq, ◌||◌, if◌then◌else◌}, List.{list_any}}}
-use Rattle.hc_wire.specs.{Events.{Stage, Unseen, Open, Closed, with_stage, closed_of}, Logs.{Log, Taker, Tells, stage_in, changed_at, shut, with_closed}}
+use Rattle.hc_wire.specs.{Events.{Stage, Unseen, Open, Closed, with_stage, closed_of}, Logs.{Log, Taker, Reports, stage_in, changed_at, shut, with_closed}}
 use Rattle.hc_wire.proofs.LogLemmas.{stages-changed, stage_shut}
 use Rattle.hc_proxy.specs.{Logging.{Follows, Dials}, Underway.{closed_among, shut_each, Closes}}
 use Rattle.hc_proxy.proofs.Takers.{apart_stays, sent_stays}
 
-pub told_on : (told told' : Option Log) (log : Log) (f : Log → Log) → (told ≡ None) ⊎ (told ≡ Some log) → Tells told told' f → (told' ≡ None) ⊎ (told' ≡ Some (f log))
-told_on None told' log f is tells = inl tells
-told_on (Some l) told' log f (inl untold) tells = absurd (let never : Some l ≡ None = untold in cc)
-told_on (Some l) told' log f (inr same) tells = let it : l ≡ log = cc in inr (tells ∙ ap (λ (x : Log). Some (f x)) it)
+pub reported_on : (reported reported' : Option Log) (log : Log) (f : Log → Log) → (reported ≡ None) ⊎ (reported ≡ Some log) → Reports reported reported' f → (reported' ≡ None) ⊎ (reported' ≡ Some (f log))
+reported_on None reported' log f is reports = inl reports
+reported_on (Some l) reported' log f (inl unreported) reports = absurd (let never : Some l ≡ None = unreported in cc)
+reported_on (Some l) reported' log f (inr same) reports = let it : l ≡ log = cc in inr (reports ∙ ap (λ (x : Log). Some (f x)) it)
 
 pub dials_none : (log : Log) → Dials [] log log
 dials_none log = record { calls = refl; bound = refl; dialled = sym (append-nil log.dialled); sent = λ k. refl; new = λ k among. absurd (let lt = among.1 in omega arith); unseen = λ k is. is }
@@ -50,8 +50,8 @@ one_more ks k before j = elim (cases_Bool (eqb j k)) [
     by_any true = refl
     by_any false = refl
 
-pub closes_none : (log : Log) (told : Option Log) (before : ℕ → Stage) → Follows told before log → Closes [] log told before before
-closes_none log told before follows = record { log' = log; follows = follows; dials = dials_none log; stands = λ j. refl; takers = refl }
+pub closes_none : (log : Log) (reported : Option Log) (before : ℕ → Stage) → Follows reported before log → Closes [] log reported before before
+closes_none log reported before follows = record { log' = log; follows = follows; dials = dials_none log; stands = λ j. refl; takers = refl }
 
 closed_unseen : (s : Stage) → closed_of s ≡ Unseen → s ≡ Unseen
 closed_unseen Unseen is = refl
@@ -66,13 +66,13 @@ unseen_shut k cs j is = elim (cases_Bool (eqb j k)) [
 ]
 
 -- one more
-pub closes_one : (ks : List ℕ) (k : ℕ) (log : Log) (told told' : Option Log) (before between after : ℕ → Stage)
-    → Closes ks log told before between → Tells told told' (with_closed k)
-    → ((j : ℕ) → after j ≡ with_stage k (closed_of (between k)) between j) → Closes (ks ++ k ∷ []) log told' before after
-closes_one ks k log told told' before between after c tells stands = record {
+pub closes_one : (ks : List ℕ) (k : ℕ) (log : Log) (reported reported' : Option Log) (before between after : ℕ → Stage)
+    → Closes ks log reported before between → Reports reported reported' (with_closed k)
+    → ((j : ℕ) → after j ≡ with_stage k (closed_of (between k)) between j) → Closes (ks ++ k ∷ []) log reported' before after
+closes_one ks k log reported reported' before between after c reports stands = record {
   log' = with_closed k c.log';
   follows = record {
-    told_is = told_on told told' c.log' (with_closed k) c.follows.told_is tells;
+    reported_is = reported_on reported reported' c.log' (with_closed k) c.follows.reported_is reports;
     stands = λ j. stands j ∙ (rw (c.follows.stands k, c.follows.stands j) (sym (stages-changed k shut (λ d. refl) closed_of refl stage_shut c.log'.takers j)));
     apart = apart_stays k shut (λ d. refl) c.log'.takers c.follows.apart;
   };
@@ -93,15 +93,15 @@ closes_one ks k log told told' before between after c tells stands = record {
     shut_more (j ∷ js) cs = shut_more js (changed_at j shut cs)
 
 -- the next of a list
-pub closes_next : (ks : List ℕ) (i : ℕ) (log : Log) (told told' : Option Log) (before between after : ℕ → Stage)
-    → i < length ks → Closes (take i ks) log told before between → Tells told told' (with_closed (get_or ks i 0))
-    → ((j : ℕ) → after j ≡ with_stage (get_or ks i 0) (closed_of (between (get_or ks i 0))) between j) → Closes (take (i + 1) ks) log told' before after
-closes_next ks i log told told' before between after lt c tells stands =
-    subst (λ (done : List ℕ). Closes done log told' before after) (sym (take_more ks i 0 lt))
-    (closes_one (take i ks) (get_or ks i 0) log told told' before between after c tells stands)
+pub closes_next : (ks : List ℕ) (i : ℕ) (log : Log) (reported reported' : Option Log) (before between after : ℕ → Stage)
+    → i < length ks → Closes (take i ks) log reported before between → Reports reported reported' (with_closed (get_or ks i 0))
+    → ((j : ℕ) → after j ≡ with_stage (get_or ks i 0) (closed_of (between (get_or ks i 0))) between j) → Closes (take (i + 1) ks) log reported' before after
+closes_next ks i log reported reported' before between after lt c reports stands =
+    subst (λ (done : List ℕ). Closes done log reported' before after) (sym (take_more ks i 0 lt))
+    (closes_one (take i ks) (get_or ks i 0) log reported reported' before between after c reports stands)
 
 -- all of them
-pub closes_all : (ks : List ℕ) (i : ℕ) (log : Log) (told : Option Log) (before after : ℕ → Stage)
-    → i ≡ length ks → Closes (take i ks) log told before after → Closes ks log told before after
-closes_all ks i log told before after all c =
-    subst (λ (done : List ℕ). Closes done log told before after) (ap (λ (n : ℕ). take n ks) all ∙ take-length ks) c
+pub closes_all : (ks : List ℕ) (i : ℕ) (log : Log) (reported : Option Log) (before after : ℕ → Stage)
+    → i ≡ length ks → Closes (take i ks) log reported before after → Closes ks log reported before after
+closes_all ks i log reported before after all c =
+    subst (λ (done : List ℕ). Closes done log reported before after) (ap (λ (n : ℕ). take n ks) all ∙ take-length ks) c

@@ -17,7 +17,7 @@ use Rattle.hc_peers.specs.{Origins.{new_upstream}, Renderings.{is_head}, Clients
 use Rattle.hc_peers.specs.declared.upstream.Upstream as origin
 use Rattle.hc_proxy.specs.declared.proxy.Proxy as loop
 use Rattle.hc_proxy.specs.{Carrying.{opened, text_by, sent_request}, Connections.{first_of, connection_of, exchange_of, taken_at}, Headed.{IsReadAs, AreHeaded}, Invariants.{OpensUp, is_due_by, is_part, unread_of, IsHeardOut}, Keeping.{Turn, HasCache, HasUpstreams, IsUpstream, IsUpstreamAt, AtWire}, Logging.{Follows, Dials, AreApart}, Network.{next_of}, Rows.{Upstream, Proxy, with}, Underway.{DialsOne, Opens, KeepsUnderway, OnWire, GoesOn, IsNext, dialling}}
-use Rattle.hc_proxy.proofs.{CarriedOut.{act_keeps}, Closings.{told_on}, MoreConnections.{connection_stays, connection_comes, nobodys_stays, names_more}, Followed.{unseen_none as nobody_yet}, OpensUp.{up_grows as ups}}
+use Rattle.hc_proxy.proofs.{CarriedOut.{act_keeps}, Closings.{reported_on}, MoreConnections.{connection_stays, connection_comes, nobodys_stays, names_more}, Followed.{unseen_none as nobody_yet}, OpensUp.{up_grows as ups}}
 
 -- THE LOG
 
@@ -42,13 +42,13 @@ sent_more : (k j : ℕ) (cs : List Taker) → sent_in (cs ++ fresh k ∷ []) j �
 sent_more k j [] = elim (cases_Bool (eqb k j)) [ inl on ↦ rw on refl | inr off ↦ rw off refl ]
 sent_more k j (c ∷ cs) = elim (cases_Bool (eqb c.k j)) [ inl on ↦ rw on refl | inr off ↦ rw off (sent_more k j cs) ]
 
-module _ (k : ℕ) (log : Log) (told told' : Option Log) (before after : ℕ → Stage) (f : Follows told before log) (d : DialsOne k told told' before after) where
+module _ (k : ℕ) (log : Log) (reported reported' : Option Log) (before after : ℕ → Stage) (f : Follows reported before log) (d : DialsOne k reported reported' before after) where
   fresh_yet : stage_in log.takers k ≡ Unseen
   fresh_yet = sym (f.stands k) ∙ d.new
 
-  pub follows_dialled : Follows told' after (with_dialled k log)
+  pub follows_dialled : Follows reported' after (with_dialled k log)
   follows_dialled = record {
-    told_is = told_on told told' log (with_dialled k) f.told_is d.told_is;
+    reported_is = reported_on reported reported' log (with_dialled k) f.reported_is d.reported_is;
     stands = λ j. d.stands j ∙ (by_test j (nat_eq j k) refl ∙ sym (stages-fresh k log.takers j fresh_yet));
     apart = apart_more k log.takers (nobody_yet k log.takers fresh_yet) f.apart;
   }
@@ -156,16 +156,16 @@ becomes_new y k no_body text request old new head is becomes =
 
 -- WHAT IS KEPT
 
-pub taken_none : (t : Turn) (log : Log) (told : Option Log) (before : ℕ → Stage) (k : ℕ) → OnWire t log told before → before k ≡ Unseen → taken_at t.call k ≡ 0
-taken_none t log told before k on new = by_taken (on.taken k)
+pub taken_none : (t : Turn) (log : Log) (reported : Option Log) (before : ℕ → Stage) (k : ℕ) → OnWire t log reported before → before k ≡ Unseen → taken_at t.call k ≡ 0
+taken_none t log reported before k on new = by_taken (on.taken k)
   where
     by_taken : (t.stages k ≡ Closed) ⊎ (taken_at t.call k ≡ length (sent_in log.takers k)) → taken_at t.call k ≡ 0
     by_taken (inl shut) = absurd (let never : Unseen ≡ Closed = sym new ∙ (on.stands k ∙ shut) in cc)
     by_taken (inr same) = same ∙ ap (λ (o : Option Taker). length (sent_from o)) (nobody_yet k log.takers (sym (on.follows.stands k) ∙ new))
 
 module _ {B : Type 0} {g : Ghosts B} (t : Turn) (x : loop.Proxy B g) (up : Upstreams) (p : Proxy) (acts : List Act) (y c : ℕ) (need : Need) (request : Request)
-    (log : Log) (told told' : Option Log) (before after : ℕ → Stage)
-    (o : Opens y request x.upstreams up told told' before after) (h : KeepsUnderway t (act.Opened y c need request ∷ acts) x p) (on : OnWire t log told before) where
+    (log : Log) (reported reported' : Option Log) (before after : ℕ → Stage)
+    (o : Opens y request x.upstreams up reported reported' before after) (h : KeepsUnderway t (act.Opened y c need request ∷ acts) x p) (on : OnWire t log reported before) where
   abbrev k : ℕ
   k = o.k
 
@@ -222,7 +222,7 @@ module _ {B : Type 0} {g : Ghosts B} (t : Turn) (x : loop.Proxy B g) (up : Upstr
 
   is_new : IsUpstream (taken_at t.call k) new (opened request)
   is_new =
-      let zero_taken = taken_none t log told before k on o.dials.new in
+      let zero_taken = taken_none t log reported before k on o.dials.new in
       record {
         reading = refl;
         input = refl;
@@ -357,13 +357,13 @@ module _ {B : Type 0} {g : Ghosts B} (t : Turn) (x : loop.Proxy B g) (up : Upstr
           let same : opened request ≡ v = some_is (opened request) v (sym (rw is refl) ∙ at) in
           absurd (let never : false ≡ true = ap (λ (w : Upstream). w.ended) same ∙ ended in cc)
 
-  pub opens_goes : GoesOn t (act.Opened y c need request) acts p log x' told' after
+  pub opens_goes : GoesOn t (act.Opened y c need request) acts p log x' reported' after
   opens_goes = record {
     log' = with_dialled k log;
     more = k ∷ [];
-    dials = dials_one k log told told' before after on.follows o.dials;
+    dials = dials_one k log reported reported' before after on.follows o.dials;
     on_wire = record {
-      follows = follows_dialled k log told told' before after on.follows o.dials;
+      follows = follows_dialled k log reported reported' before after on.follows o.dials;
       stands = λ j. refl;
       dialled = ap (λ (ks : List ℕ). ks ++ k ∷ []) on.dialled;
       taken = λ j. by_taken j (on.taken j);

@@ -5,7 +5,7 @@
 -- `written_keeps` is of the record, `cut_sending` of a turn that is cut short while it sends, and `finishes` of one
 -- that is made.
 use Rattle.std.{proofs.Common.{◌≡◌, ◌≤◌, ℕ, List, [], ◌∷◌, ◌++◌, Bool, true, false, Option, None, refl, ap, sym, ◌∙◌, arith, append-nil, length-append}, specs.Prelude.{nat_eq, length, map, reverse, option_map, if◌then◌else◌}}
-use Rattle.hc_io.specs.Sink.{Takes, TakesFront}
+use Rattle.hc_io.specs.Sink.{Takes, TakesPrefix}
 use Rattle.hc_effects.proofs.Vocabulary.{History}
 use Rattle.hc_store.specs.declared.backend.Backend.{Ghosts}
 use Rattle.hc_wire.specs.{Events.{Stage, Unseen}, Logs.{Log, stage_in}}
@@ -101,10 +101,10 @@ module _ {B : Type 0} {g : Ghosts B} (t : Turn) (q : Proxy) (y : loop.Proxy B g)
         known = k.known;
       }
 
-pub written_wire : (t : Turn) (text : List ℕ) (log : Log) (told : Option Log) (stages : ℕ → Stage) → OnWire t log told stages → OnWire (writing t text) log told stages
-written_wire t text log told stages on = record { follows = on.follows; stands = on.stands; dialled = on.dialled; taken = on.taken }
+pub written_wire : (t : Turn) (text : List ℕ) (log : Log) (reported : Option Log) (stages : ℕ → Stage) → OnWire t log reported stages → OnWire (writing t text) log reported stages
+written_wire t text log reported stages on = record { follows = on.follows; stands = on.stands; dialled = on.dialled; taken = on.taken }
 
-pub takes_all : (out out' : Option (List ℕ)) (text : List ℕ) → Takes out out' text → TakesFront out out' text
+pub takes_all : (out out' : Option (List ℕ)) (text : List ℕ) → Takes out out' text → TakesPrefix out out' text
 takes_all out out' text takes = record { front = text; rest = []; whole = append-nil text; takes = takes }
 
 -- nothing is left behind what all of it is
@@ -117,7 +117,7 @@ left_none xs ys is = by_length ys (let size = length-append xs ys in let same : 
 
 -- ALL STEPS
 
-module _ {B : Type 0} {g : Ghosts B} (t : Turn) (q : Proxy) (log : Log) (y : loop.Proxy B g) (k : KeepsPolled t y q) (told : Option Log) (stages : ℕ → Stage) (on : OnWire t log told stages) where
+module _ {B : Type 0} {g : Ghosts B} (t : Turn) (q : Proxy) (log : Log) (y : loop.Proxy B g) (k : KeepsPolled t y q) (reported : Option Log) (stages : ℕ → Stage) (on : OnWire t log reported stages) where
   nobody : (j : ℕ) → stage_in log.takers j ≡ Unseen → (carried q).client j ≡ None
   nobody j is = none_carried j q (k.keeps.seen j (sym (on.stands j) ∙ (on.follows.stands j ∙ is))).0
 
@@ -130,11 +130,11 @@ module _ {B : Type 0} {g : Ghosts B} (t : Turn) (q : Proxy) (log : Log) (y : loo
   -- WHERE IT IS CUT SHORT
 
   module _ (out out' : Option (List ℕ)) where
-    pub cut_writing : TakesFront out out' (text_of y.record) → CutsTurn q log y told out out'
+    pub cut_writing : TakesPrefix out out' (text_of y.record) → CutsTurn q log y reported out out'
     cut_writing takes = record {
       log' = log;
       more = [];
-      told_is = on.follows.told_is;
+      reported_is = on.follows.reported_is;
       takes = takes;
       calls = refl;
       bound = refl;
@@ -143,12 +143,12 @@ module _ {B : Type 0} {g : Ghosts B} (t : Turn) (q : Proxy) (log : Log) (y : loo
       sent = λ sent. sent;
     }
 
-    module _ (takes : Takes out out' (text_of y.record)) (told1 : Option Log) (stages1 : ℕ → Stage) where
-      pub cut_carrying : CarriedSome (writing t (text_of y.record)) q log told1 stages1 → CutsTurn q log y told1 out out'
+    module _ (takes : Takes out out' (text_of y.record)) (reported1 : Option Log) (stages1 : ℕ → Stage) where
+      pub cut_carrying : CarriedSome (writing t (text_of y.record)) q log reported1 stages1 → CutsTurn q log y reported1 out out'
       cut_carrying s = record {
         log' = s.log';
         more = s.more;
-        told_is = s.follows.told_is;
+        reported_is = s.follows.reported_is;
         takes = takes_all out out' (text_of y.record) takes;
         calls = s.dials.calls;
         bound = s.dials.bound;
@@ -157,7 +157,7 @@ module _ {B : Type 0} {g : Ghosts B} (t : Turn) (q : Proxy) (log : Log) (y : loo
         sent = dialled_sent s.more s.log' s.dials s.follows.apart;
       }
 
-      module _ (y2 : loop.Proxy B g) (c : CarriedOut (writing t (text_of y.record)) q log y2 told1 stages1) where
+      module _ (y2 : loop.Proxy B g) (c : CarriedOut (writing t (text_of y.record)) q log y2 reported1 stages1) where
         -- the turn behind the acts
         abbrev pub behind : Turn
         behind = record (writing t (text_of y.record)) { dialled = t.dialled ++ c.more; stages = stages1 }
@@ -170,11 +170,11 @@ module _ {B : Type 0} {g : Ghosts B} (t : Turn) (q : Proxy) (log : Log) (y : loo
         carried_sent : SentOn (carried q) log c.log'
         carried_sent = dialled_sent c.more c.log' c.dials c.on_wire.follows.apart
 
-        pub cut_sending : (told2 : Option Log) → SentSome (carried q) c.log' told2 → CutsTurn q log y told2 out out'
-        cut_sending told2 s = record {
+        pub cut_sending : (reported2 : Option Log) → SentSome (carried q) c.log' reported2 → CutsTurn q log y reported2 out out'
+        cut_sending reported2 s = record {
           log' = s.log';
           more = c.more;
-          told_is = s.told_is;
+          reported_is = s.reported_is;
           takes = takes_all out out' (text_of y.record) takes;
           calls = s.calls ∙ c.dials.calls;
           bound = s.bound ∙ c.dials.bound;
@@ -183,12 +183,12 @@ module _ {B : Type 0} {g : Ghosts B} (t : Turn) (q : Proxy) (log : Log) (y : loo
           sent = λ sent. s.sent (carried_sent sent);
         }
 
-        module _ (y3 : loop.Proxy B g) (told2 : Option Log) (stages2 : ℕ → Stage) (a : SentAll behind (carried q) c.log' y3 told2 stages2) where
-          pub cut_waiting : CutsTurn q log y told2 out out'
+        module _ (y3 : loop.Proxy B g) (reported2 : Option Log) (stages2 : ℕ → Stage) (a : SentAll behind (carried q) c.log' y3 reported2 stages2) where
+          pub cut_waiting : CutsTurn q log y reported2 out out'
           cut_waiting = record {
             log' = a.log';
             more = c.more;
-            told_is = a.follows.told_is;
+            reported_is = a.follows.reported_is;
             takes = takes_all out out' (text_of y.record) takes;
             calls = a.calls ∙ c.dials.calls;
             bound = a.bound ∙ c.dials.bound;
@@ -199,7 +199,7 @@ module _ {B : Type 0} {g : Ghosts B} (t : Turn) (q : Proxy) (log : Log) (y : loo
 
           -- THE TURN IS MADE
 
-          pub finishes : (y4 : loop.Proxy B g) (again : Bool) → Rests behind.frame y4 (carried q) a.log' → again ≡ waits t.frame.limits (carried q) → FinishesTurn t q log y y4 told2 stages2 out out' again
+          pub finishes : (y4 : loop.Proxy B g) (again : Bool) → Rests behind.frame y4 (carried q) a.log' → again ≡ waits t.frame.limits (carried q) → FinishesTurn t q log y y4 reported2 stages2 out out' again
           finishes y4 again rests waits_so = record {
             log' = a.log';
             more = c.more;

@@ -9,7 +9,7 @@ use Rattle.hc_core.specs.Steps.{faults_in, steps, bytes_received}
 use Rattle.hc_effects.proofs.Vocabulary.{Event, Entry, is_open, is_wanted, Exchange, owed, after, event}
 use Rattle.hc_head.specs.declared.message.MsgError.{MsgError}
 use Rattle.hc_effects.proofs.PieceKeeps.{eq_cases}
-use Rattle.hc_msg.specs.{declared.message.{Look.{Look}, WirePart.{WirePart}}, Inputs.{Next, Waits, Tells, Brings, Ends, Fails, look_of}, Reading.{Reading, Heading, Counts, Runs, Sizing, Chunk, ChunkEnd, ChunkReturn, Trailing, Whole, Done, Failed}, Taking.{ending, reading_at_end}}
+use Rattle.hc_msg.specs.{declared.message.{Look.{Look}, WirePart.{WirePart}}, Inputs.{Next, Waits, Reports, Brings, Ends, Fails, look_of}, Reading.{Reading, Heading, Counts, Runs, Sizing, Chunk, ChunkEnd, ChunkReturn, Trailing, Whole, Done, Failed}, Taking.{ending, reading_at_end}}
 use Rattle.hc_msg.specs.declared.message.Look.TheVariants as look
 use Rattle.hc_peers.specs.Origins as origins
 use Rattle.hc_peers.specs.{Upstreams.{upstream_of, has_ended_at, look_at, Becomes, ListsStay}, declared.upstreams.Upstreams.{Upstreams}}
@@ -71,7 +71,7 @@ fails_so z (Ok part) h = true_false h
 fails_so z (Err e) h = refl
 
 looks_part : (n : Next) → look_of n ≡ look.Part → is_part n ≡ true
-looks_part (Tells token reading rest) is = refl
+looks_part (Reports token reading rest) is = refl
 looks_part (Brings bytes reading rest) is = refl
 looks_part Ends is = refl
 looks_part (Waits reading) is = absurd (let never : look.Waits ≡ look.Part = is in cc)
@@ -188,7 +188,7 @@ module _ {B : Type 0} {g : Ghosts B} where
 
         part_closes : (n : Next) → is_part n ≡ true → closes t.frame.limits z n p ≡ p
         part_closes (Waits reading) h = true_false (sym h)
-        part_closes (Tells token reading rest) h = refl
+        part_closes (Reports token reading rest) h = refl
         part_closes (Brings bytes reading rest) h = refl
         part_closes Ends h = refl
         part_closes (Fails e) h = true_false (sym h)

@@ -48,7 +48,7 @@ abbrev reads_of : Stage → Bool
 reads_of (Open reads ended) = reads
 reads_of _ = false
 
-module _ {B : Type 0} {g : Ghosts B} (f : Frame) (x : loop.Proxy B g) (p : Proxy) (log : Log) (r : Rests f x p log) (apart : AreApart log.takers) (call : Called) (told : call.standings ≡ standings_in log) where
+module _ {B : Type 0} {g : Ghosts B} (f : Frame) (x : loop.Proxy B g) (p : Proxy) (log : Log) (r : Rests f x p log) (apart : AreApart log.takers) (call : Called) (reported : call.standings ≡ standings_in log) where
   -- WHO STANDS
 
   record IsOfClient (c : Taker) : Type 0 where
@@ -76,7 +76,7 @@ module _ {B : Type 0} {g : Ghosts B} (f : Frame) (x : loop.Proxy B g) (p : Proxy
   ups = r.upstreams call (stage_in log.takers)
 
   taken_same : (k : ℕ) → taken_at (resting_call log call) k ≡ taken_at call k
-  taken_same k = ap (λ ss. taken_at (record call { standings = ss }) k) (sym told)
+  taken_same k = ap (λ ss. taken_at (record call { standings = ss }) k) (sym reported)
 
   reading_is : (c : Taker) (reads ended : Bool) → stage_in log.takers c.k ≡ Open c.reads c.ended → stage_in log.takers c.k ≡ Open reads ended → c.reads ≡ reads
   reading_is c reads ended one two = ap reads_of (sym one ∙ two)
@@ -165,7 +165,7 @@ module _ {B : Type 0} {g : Ghosts B} (f : Frame) (x : loop.Proxy B g) (p : Proxy
   -- WHO MAY STAND
 
   client_taken : (c : Taker) → find (is_numbered c.k) log.takers ≡ Some c → c.live ≡ true → taken_at call c.k ≡ length (sent_in log.takers c.k)
-  client_taken c found live = taken_found log call told apart c.k c found live ∙ sym (ap length (sent_found c.k c log.takers found))
+  client_taken c found live = taken_found log call reported apart c.k c found live ∙ sym (ap length (sent_found c.k c log.takers found))
 
   lacks_nothing : (c : Taker) (found : find (is_numbered c.k) log.takers ≡ Some c) (live : c.live ≡ true) (w : IsOfClient c) → nat_eq (length w.w.unsent) 0 ≡ not (has_unsent call c.k w.row)
   lacks_nothing c found live w =
@@ -211,7 +211,7 @@ module _ {B : Type 0} {g : Ghosts B} (f : Frame) (x : loop.Proxy B g) (p : Proxy
   one_sent c found live = by_who (who_stands c found live)
     where
       taken : taken_at call c.k ≡ length c.sent
-      taken = taken_found log call told apart c.k c found live
+      taken = taken_found log call reported apart c.k c found live
 
       short : Bool
       short = is_at_end c.short (length log.calls)
@@ -243,7 +243,7 @@ module _ {B : Type 0} {g : Ghosts B} (f : Frame) (x : loop.Proxy B g) (p : Proxy
   open_stands : (k : ℕ) (reads ended : Bool) → stage_in log.takers k ≡ Open reads ended → stands call k ≡ true
   open_stands k reads ended stage =
       let o = open_taker k reads ended log.takers stage in
-      stands_found log call told apart k o.c o.found ∙ o.live
+      stands_found log call reported apart k o.c o.found ∙ o.live
 
   third_of : (a b d : Bool) → d ≡ true → (a || b || d) ≡ true
   third_of true b d is = refl
@@ -286,8 +286,8 @@ module _ {B : Type 0} {g : Ghosts B} (f : Frame) (x : loop.Proxy B g) (p : Proxy
           absurd (by_who c number (who_stands c (ap (λ n. find (is_numbered n) log.takers) number ∙ found) live))
 
       by_found : (o : Option Taker) → find (is_numbered k) log.takers ≡ o → stands call k ≡ false
-      by_found None found = stands_missing log call told apart k found
-      by_found (Some c) found = stands_found log call told apart k c found ∙ by_live c found c.live refl
+      by_found None found = stands_missing log call reported apart k found
+      by_found (Some c) found = stands_found log call reported apart k c found ∙ by_live c found c.live refl
 
   exchange_there_stands : (y : ℕ) → is_open (p.tables.exchange y) ≡ true → y ≤ p.tables.opened → exchange_stands call log.dialled y ≡ true
   exchange_there_stands y live within = by_row (upstream_of x.upstreams y) (p.upstream y) refl (ups.rows y live (subst (λ n. y ≤ n) (sym r.opened) within))
@@ -330,12 +330,12 @@ module _ {B : Type 0} {g : Ghosts B} (f : Frame) (x : loop.Proxy B g) (p : Proxy
         ap (λ ks. stand_right call ks p) dialled_all
         ∙ both_hold (list_all (is_right call log.dialled p) call.standings && list_all (λ k. client_stands call p k (p.client k)) p.accepted) (list_all (exchange_stands call log.dialled) (open_exchanges p.tables))
         (both_hold (list_all (is_right call log.dialled p) call.standings) (list_all (λ k. client_stands call p k (p.client k)) p.accepted)
-        (standings_all log call told apart (is_right call log.dialled p) one_right) (all_hold (λ k. client_stands call p k (p.client k)) p.accepted client_there_stands))
+        (standings_all log call reported apart (is_right call log.dialled p) one_right) (all_hold (λ k. client_stands call p k (p.client k)) p.accepted client_there_stands))
         all_open;
     reads =
         ap (λ ks. reads_right call ks p) dialled_all
-        ∙ standings_all log call told apart (λ (s : Standing). is_same s.reads (is_read call p s.k (whose log.dialled p s.k))) one_read;
+        ∙ standings_all log call reported apart (λ (s : Standing). is_same s.reads (is_read call p s.k (whose log.dialled p s.k))) one_read;
     sends =
         ap (λ ks. sends_right call ks p) dialled_all
-        ∙ standings_all log call told apart (is_sent log.dialled p) one_sent;
+        ∙ standings_all log call reported apart (is_sent log.dialled p) one_sent;
   }

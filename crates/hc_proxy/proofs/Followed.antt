@@ -4,10 +4,10 @@
 -- connection has a number that no other has, since the wire hands out such alone. So stage and bytes change at one
 -- number alone (`stage_changed`, `stage_new`, `sent_changed`); each kind of call is read off that.
 use Rattle.std.{proofs.{Common.{◌≡◌, ◌⊎◌, ℕ, List, [], ◌∷◌, ◌++◌, Bool, true, false, Option, Some, None, refl, ap, sym, ◌∙◌, subst, arith}, lemmas.Bool.Decides.{nat_tests}}, specs.{Prelude.{nat_eq, find, length, if◌then◌else◌, option_map}, Option.{option_or}}}
-use Rattle.hc_wire.specs.{Events.{Stage, Unseen, Open, Closed, Fresh, with_stage, closed_of, reading_of, ended_of, stages_after, IsOfOpen}, Logs.{Log, Taker, Tells, fresh, stage_of, is_numbered, stage_from, sent_from, stage_in, sent_in, changed_at, over, taking, reading, shut, with_call, with_dialled, with_sent, with_reading, with_closed}, declared.event.WireEvent.{WireEvent}}
+use Rattle.hc_wire.specs.{Events.{Stage, Unseen, Open, Closed, Fresh, with_stage, closed_of, reading_of, ended_of, stages_after, IsOfOpen}, Logs.{Log, Taker, Reports, fresh, stage_of, is_numbered, stage_from, sent_from, stage_in, sent_in, changed_at, over, taking, reading, shut, with_call, with_dialled, with_sent, with_reading, with_closed}, declared.event.WireEvent.{WireEvent}}
 use Rattle.hc_wire.specs.declared.event.WireEvent.TheVariants as event
 use Rattle.hc_proxy.specs.Logging.{Follows, AreApart}
-use Rattle.hc_proxy.proofs.Closings.{told_on}
+use Rattle.hc_proxy.proofs.Closings.{reported_on}
 
 -- ONE CONNECTION CHANGES
 
@@ -151,12 +151,12 @@ sent_new k j cs none = ap sent_from (found_new k j cs none) ∙ by_test (nat_eq 
 
 -- THE CALLS
 
-module _ (told told' : Option Log) (stages stages' : ℕ → Stage) (log : Log) (f : Follows told stages log) where
+module _ (reported reported' : Option Log) (stages stages' : ℕ → Stage) (log : Log) (f : Follows reported stages log) where
   -- one connection is changed
   changes : (change : Taker → Taker) → KeepsNumber change → (stage : Stage → Stage) → Restages change stage → (k : ℕ) (log' : Log) → log'.takers ≡ changed_at k change log.takers
-      → (told' ≡ None) ⊎ (told' ≡ Some log') → ((j : ℕ) → stages' j ≡ with_stage k (stage (stages k)) stages j) → Follows told' stages' log'
+      → (reported' ≡ None) ⊎ (reported' ≡ Some log') → ((j : ℕ) → stages' j ≡ with_stage k (stage (stages k)) stages j) → Follows reported' stages' log'
   changes change keeps stage does k log' takers is stands = record {
-    told_is = is;
+    reported_is = is;
     stands = λ j. stands j ∙ (by_test (nat_eq j k) j ∙ (sym (stage_changed change keeps stage does k j log.takers) ∙ sym (ap (λ cs. stage_in cs j) takers)));
     apart = subst AreApart (sym takers) (apart_changed change keeps k log.takers f.apart);
   }
@@ -165,8 +165,8 @@ module _ (told told' : Option Log) (stages stages' : ℕ → Stage) (log : Log) 
       by_test true j = ap stage (f.stands k)
       by_test false j = f.stands j
 
-  pub follows_closed : (k : ℕ) → Tells told told' (with_closed k) → ((j : ℕ) → stages' j ≡ with_stage k (closed_of (stages k)) stages j) → Follows told' stages' (with_closed k log)
-  follows_closed k tells stands = changes shut (λ c. refl) closed_of (shuts, refl) k (with_closed k log) refl (told_on told told' log (with_closed k) f.told_is tells) stands
+  pub follows_closed : (k : ℕ) → Reports reported reported' (with_closed k) → ((j : ℕ) → stages' j ≡ with_stage k (closed_of (stages k)) stages j) → Follows reported' stages' (with_closed k log)
+  follows_closed k reports stands = changes shut (λ c. refl) closed_of (shuts, refl) k (with_closed k log) refl (reported_on reported reported' log (with_closed k) f.reported_is reports) stands
     where
       by_live : (b reads ended : Bool) → Closed ≡ closed_of (if b then Open reads ended else Closed)
       by_live true reads ended = refl
@@ -175,8 +175,8 @@ module _ (told told' : Option Log) (stages stages' : ℕ → Stage) (log : Log) 
       shuts : (c : Taker) → stage_of (shut c) ≡ closed_of (stage_of c)
       shuts c = by_live c.live c.reads c.ended
 
-  pub follows_reading : (k : ℕ) (on : Bool) → Tells told told' (with_reading k on) → ((j : ℕ) → stages' j ≡ with_stage k (reading_of on (stages k)) stages j) → Follows told' stages' (with_reading k on log)
-  follows_reading k on tells stands = changes (reading on) (λ c. refl) (reading_of on) (reads_on, refl) k (with_reading k on log) refl (told_on told told' log (with_reading k on) f.told_is tells) stands
+  pub follows_reading : (k : ℕ) (on : Bool) → Reports reported reported' (with_reading k on) → ((j : ℕ) → stages' j ≡ with_stage k (reading_of on (stages k)) stages j) → Follows reported' stages' (with_reading k on log)
+  follows_reading k on reports stands = changes (reading on) (λ c. refl) (reading_of on) (reads_on, refl) k (with_reading k on log) refl (reported_on reported reported' log (with_reading k on) f.reported_is reports) stands
     where
       by_live : (b reads ended : Bool) → (if b then Open on ended else Closed) ≡ reading_of on (if b then Open reads ended else Closed)
       by_live true reads ended = refl
@@ -185,9 +185,9 @@ module _ (told told' : Option Log) (stages stages' : ℕ → Stage) (log : Log) 
       reads_on : (c : Taker) → stage_of (reading on c) ≡ reading_of on (stage_of c)
       reads_on c = by_live c.live c.reads c.ended
 
-  pub follows_sent : (k : ℕ) (bytes : List ℕ) (short : Bool) → Tells told told' (with_sent k bytes short) → ((j : ℕ) → stages' j ≡ stages j) → Follows told' stages' (with_sent k bytes short log)
-  follows_sent k bytes short tells stands =
-      changes (taking bytes short (length log.calls)) (λ c. refl) (λ s. s) (λ c. refl, refl) k (with_sent k bytes short log) refl (told_on told told' log (with_sent k bytes short) f.told_is tells)
+  pub follows_sent : (k : ℕ) (bytes : List ℕ) (short : Bool) → Reports reported reported' (with_sent k bytes short) → ((j : ℕ) → stages' j ≡ stages j) → Follows reported' stages' (with_sent k bytes short log)
+  follows_sent k bytes short reports stands =
+      changes (taking bytes short (length log.calls)) (λ c. refl) (λ s. s) (λ c. refl, refl) k (with_sent k bytes short log) refl (reported_on reported reported' log (with_sent k bytes short) f.reported_is reports)
       (λ j. stands j ∙ by_test (nat_eq j k) j refl)
     where
       by_test : (b : Bool) (j : ℕ) → nat_eq j k ≡ b → stages j ≡ (if b then stages k else stages j)
@@ -195,9 +195,9 @@ module _ (told told' : Option Log) (stages stages' : ℕ → Stage) (log : Log) 
       by_test false j is = refl
 
   -- a new one
-  news : (k : ℕ) (log' : Log) → stages k ≡ Unseen → log'.takers ≡ log.takers ++ fresh k ∷ [] → (told' ≡ None) ⊎ (told' ≡ Some log') → ((j : ℕ) → stages' j ≡ with_stage k Fresh stages j) → Follows told' stages' log'
+  news : (k : ℕ) (log' : Log) → stages k ≡ Unseen → log'.takers ≡ log.takers ++ fresh k ∷ [] → (reported' ≡ None) ⊎ (reported' ≡ Some log') → ((j : ℕ) → stages' j ≡ with_stage k Fresh stages j) → Follows reported' stages' log'
   news k log' new takers is stands = record {
-    told_is = is;
+    reported_is = is;
     stands = λ j. stands j ∙ (by_test (nat_eq j k) j ∙ (sym (stage_new k j log.takers none) ∙ sym (ap (λ cs. stage_in cs j) takers)));
     apart = subst AreApart (sym takers) (apart_new k log.takers f.apart none);
   }
@@ -209,21 +209,21 @@ module _ (told told' : Option Log) (stages stages' : ℕ → Stage) (log : Log) 
       by_test true j = refl
       by_test false j = f.stands j
 
-  pub follows_dialled : (k : ℕ) → stages k ≡ Unseen → Tells told told' (with_dialled k) → ((j : ℕ) → stages' j ≡ with_stage k Fresh stages j) → Follows told' stages' (with_dialled k log)
-  follows_dialled k new tells stands = news k (with_dialled k log) new refl (told_on told told' log (with_dialled k) f.told_is tells) stands
+  pub follows_dialled : (k : ℕ) → stages k ≡ Unseen → Reports reported reported' (with_dialled k) → ((j : ℕ) → stages' j ≡ with_stage k Fresh stages j) → Follows reported' stages' (with_dialled k log)
+  follows_dialled k new reports stands = news k (with_dialled k log) new refl (reported_on reported reported' log (with_dialled k) f.reported_is reports) stands
 
-  same_takers : (log' : Log) → log'.takers ≡ log.takers → (told' ≡ None) ⊎ (told' ≡ Some log') → ((j : ℕ) → stages' j ≡ stages j) → Follows told' stages' log'
+  same_takers : (log' : Log) → log'.takers ≡ log.takers → (reported' ≡ None) ⊎ (reported' ≡ Some log') → ((j : ℕ) → stages' j ≡ stages j) → Follows reported' stages' log'
   same_takers log' takers is stands = record {
-    told_is = is;
+    reported_is = is;
     stands = λ j. stands j ∙ (f.stands j ∙ sym (ap (λ cs. stage_in cs j) takers));
     apart = subst AreApart (sym takers) f.apart;
   }
 
-  pub follows_call : (wait : Bool) (moment : ℕ) (what : WireEvent) (bytes : List ℕ) → IsOfOpen what stages → Tells told told' (with_call wait moment what bytes) → ((j : ℕ) → stages' j ≡ stages_after what stages j) → Follows told' stages' (with_call wait moment what bytes log)
-  follows_call wait moment (event.Accepted k) bytes new tells stands = news k (with_call wait moment (event.Accepted k) bytes log) new refl (told_on told told' log _ f.told_is tells) stands
-  follows_call wait moment (event.Got k n) bytes of_open tells stands = same_takers (with_call wait moment (event.Got k n) bytes log) refl (told_on told told' log _ f.told_is tells) stands
-  follows_call wait moment (event.Ended k) bytes of_open tells stands =
-      changes over (λ c. refl) ended_of (ends, refl) k (with_call wait moment (event.Ended k) bytes log) refl (told_on told told' log _ f.told_is tells) stands
+  pub follows_call : (wait : Bool) (moment : ℕ) (what : WireEvent) (bytes : List ℕ) → IsOfOpen what stages → Reports reported reported' (with_call wait moment what bytes) → ((j : ℕ) → stages' j ≡ stages_after what stages j) → Follows reported' stages' (with_call wait moment what bytes log)
+  follows_call wait moment (event.Accepted k) bytes new reports stands = news k (with_call wait moment (event.Accepted k) bytes log) new refl (reported_on reported reported' log _ f.reported_is reports) stands
+  follows_call wait moment (event.Got k n) bytes of_open reports stands = same_takers (with_call wait moment (event.Got k n) bytes log) refl (reported_on reported reported' log _ f.reported_is reports) stands
+  follows_call wait moment (event.Ended k) bytes of_open reports stands =
+      changes over (λ c. refl) ended_of (ends, refl) k (with_call wait moment (event.Ended k) bytes log) refl (reported_on reported reported' log _ f.reported_is reports) stands
     where
       by_live : (b reads ended : Bool) → (if b then Open reads true else Closed) ≡ ended_of (if b then Open reads ended else Closed)
       by_live true reads ended = refl
@@ -231,6 +231,6 @@ module _ (told told' : Option Log) (stages stages' : ℕ → Stage) (log : Log) 
 
       ends : (c : Taker) → stage_of (over c) ≡ ended_of (stage_of c)
       ends c = by_live c.live c.reads c.ended
-  follows_call wait moment (event.Broke k) bytes of_open tells stands = same_takers (with_call wait moment (event.Broke k) bytes log) refl (told_on told told' log _ f.told_is tells) stands
-  follows_call wait moment (event.Room k) bytes of_open tells stands = same_takers (with_call wait moment (event.Room k) bytes log) refl (told_on told told' log _ f.told_is tells) stands
-  follows_call wait moment event.Quiet bytes of_open tells stands = same_takers (with_call wait moment event.Quiet bytes log) refl (told_on told told' log _ f.told_is tells) stands
+  follows_call wait moment (event.Broke k) bytes of_open reports stands = same_takers (with_call wait moment (event.Broke k) bytes log) refl (reported_on reported reported' log _ f.reported_is reports) stands
+  follows_call wait moment (event.Room k) bytes of_open reports stands = same_takers (with_call wait moment (event.Room k) bytes log) refl (reported_on reported reported' log _ f.reported_is reports) stands
+  follows_call wait moment event.Quiet bytes of_open reports stands = same_takers (with_call wait moment event.Quiet bytes log) refl (reported_on reported reported' log _ f.reported_is reports) stands

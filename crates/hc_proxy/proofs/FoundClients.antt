@@ -4,24 +4,24 @@
 -- before are sent to others, whose clients are others: so its client still waits for it when its own act is carried
 -- out. `waits_on` is of the acts for others, `one_found` of those of one poll, `quiet_found` of those before the polls.
 use Rattle.std.{proofs.Common.{◌≡◌, ℕ, List, [], ◌∷◌, ◌++◌, true, false, Option, Some, None, refl, ap, sym, ◌∙◌, subst}, specs.Prelude.{is_some, if◌then◌else◌}}
-use Rattle.hc_effects.proofs.Vocabulary.{Act, told_to, tellings, IsOneTo, act}
+use Rattle.hc_effects.proofs.Vocabulary.{Act, recipient, consumer_acts, IsOneTo, act}
 use Rattle.hc_proxy.specs.{Carrying.{answered, answers, carried_out, all_carried_out}, Invariants.{IsHolder}, Rows.{Client, Proxy, changed}}
 use Rattle.hc_proxy.proofs.{CarriedOut.{sent_to, AreFound, back, on}, Holders.{one_held}, PolledAlone.{AreTo, one_first}, QuietActs.{AreQuiet}}
 
 -- WHO IS SENT SOMETHING is told something
 
-pub sent_told : (a : Act) (c : ℕ) → sent_to a ≡ Some c → told_to a ≡ Some c
-sent_told (act.Shown d r why status fields lo hi) c h = h
-sent_told (act.Given d x at bytes) c h = h
-sent_told (act.Ended d) c h = h
-sent_told (act.Failed d cause) c h = h
-sent_told (act.Denied refusal) c h = absurd (let never : None ≡ Some c = h in cc)
-sent_told (act.Opened x d need request) c h = absurd (let never : None ≡ Some c = h in cc)
-sent_told (act.Ask x) c h = absurd (let never : None ≡ Some c = h in cc)
-sent_told (act.Close x) c h = absurd (let never : None ≡ Some c = h in cc)
-sent_told (act.Pending d wait) c h = absurd (let never : None ≡ Some c = h in cc)
-sent_told (act.Lost r kind) c h = absurd (let never : None ≡ Some c = h in cc)
-sent_told (act.Evicted r) c h = absurd (let never : None ≡ Some c = h in cc)
+pub sent_reported : (a : Act) (c : ℕ) → sent_to a ≡ Some c → recipient a ≡ Some c
+sent_reported (act.Shown d r why status fields lo hi) c h = h
+sent_reported (act.Given d x at bytes) c h = h
+sent_reported (act.Ended d) c h = h
+sent_reported (act.Failed d cause) c h = h
+sent_reported (act.Denied refusal) c h = absurd (let never : None ≡ Some c = h in cc)
+sent_reported (act.Opened x d need request) c h = absurd (let never : None ≡ Some c = h in cc)
+sent_reported (act.Ask x) c h = absurd (let never : None ≡ Some c = h in cc)
+sent_reported (act.Close x) c h = absurd (let never : None ≡ Some c = h in cc)
+sent_reported (act.Pending d wait) c h = absurd (let never : None ≡ Some c = h in cc)
+sent_reported (act.Lost r kind) c h = absurd (let never : None ≡ Some c = h in cc)
+sent_reported (act.Evicted r) c h = absurd (let never : None ≡ Some c = h in cc)
 
 -- none of these acts is sent to c
 abbrev pub AreNotTo : ℕ → List Act → Type 0
@@ -35,7 +35,7 @@ not_to_both c (x ∷ xs) ys a b = (a.0, not_to_both c xs ys a.1 b)
 -- those of another's poll
 pub others_not : (c d : ℕ) (acts : List Act) → (c ≡ d → ⊥) → AreTo d acts → AreNotTo c acts
 others_not c d [] other to = tt
-others_not c d (a ∷ acts) other to = (λ sent. other (to.0 c (sent_told a c sent)), others_not c d acts other to.1)
+others_not c d (a ∷ acts) other to = (λ sent. other (to.0 c (sent_reported a c sent)), others_not c d acts other to.1)
 
 pub quiet_not : (c : ℕ) (acts : List Act) → AreQuiet acts → AreNotTo c acts
 quiet_not c [] quiet = tt
@@ -160,30 +160,30 @@ found_both (x ∷ xs) ys p a b = (a.0, found_both xs ys (carried_out x p) a.1 b)
 
 -- THE ACTS OF A POLL
 
-untold_found : (acts : List Act) (p : Proxy) → tellings acts ≡ [] → AreFound acts p
-untold_found [] p none = tt
-untold_found (a ∷ acts) p none = by_told (told_to a) refl (untold_found acts (carried_out a p)) none
+unreported_found : (acts : List Act) (p : Proxy) → consumer_acts acts ≡ [] → AreFound acts p
+unreported_found [] p none = tt
+unreported_found (a ∷ acts) p none = by_reported (recipient a) refl (unreported_found acts (carried_out a p)) none
   where
-    by_told : (o : Option ℕ) → told_to a ≡ o → (tellings acts ≡ [] → AreFound acts (carried_out a p)) → (if is_some o then a ∷ tellings acts else tellings acts) ≡ [] → AreFound (a ∷ acts) p
-    by_told None at later rest = (λ c sent. absurd (let never : None ≡ Some c = sym at ∙ sent_told a c sent in cc), later rest)
-    by_told (Some d) at later rest = absurd (let never : (a ∷ tellings acts) ≡ [] = rest in cc)
+    by_reported : (o : Option ℕ) → recipient a ≡ o → (consumer_acts acts ≡ [] → AreFound acts (carried_out a p)) → (if is_some o then a ∷ consumer_acts acts else consumer_acts acts) ≡ [] → AreFound (a ∷ acts) p
+    by_reported None at later rest = (λ c sent. absurd (let never : None ≡ Some c = sym at ∙ sent_reported a c sent in cc), later rest)
+    by_reported (Some d) at later rest = absurd (let never : (a ∷ consumer_acts acts) ≡ [] = rest in cc)
 
-none_sent : (a : Act) → told_to a ≡ None → (o : Option ℕ) → sent_to a ≡ o → sent_to a ≡ None
+none_sent : (a : Act) → recipient a ≡ None → (o : Option ℕ) → sent_to a ≡ o → sent_to a ≡ None
 none_sent a none None sent = sent
-none_sent a none (Some d) sent = absurd (let never : None ≡ Some d = sym none ∙ sent_told a d sent in cc)
+none_sent a none (Some d) sent = absurd (let never : None ≡ Some d = sym none ∙ sent_reported a d sent in cc)
 
-one_found : (acts : List Act) (p : Proxy) (k c : ℕ) → IsOneTo c (tellings acts) → IsHolder p k c → AreFound acts p
+one_found : (acts : List Act) (p : Proxy) (k c : ℕ) → IsOneTo c (consumer_acts acts) → IsHolder p k c → AreFound acts p
 one_found [] p k c is w = tt
-one_found (a ∷ acts) p k c is w = by_told (told_to a) refl (one_found acts (carried_out a p) k c) is
+one_found (a ∷ acts) p k c is w = by_reported (recipient a) refl (one_found acts (carried_out a p) k c) is
   where
-    some_is : (d : ℕ) → told_to a ≡ Some c → told_to a ≡ Some d → c ≡ d
+    some_is : (d : ℕ) → recipient a ≡ Some c → recipient a ≡ Some d → c ≡ d
     some_is d x y = let same : Some c ≡ Some d = sym x ∙ y in cc
 
-    by_told : (o : Option ℕ) → told_to a ≡ o → (IsOneTo c (tellings acts) → IsHolder (carried_out a p) k c → AreFound acts (carried_out a p)) → IsOneTo c (if is_some o then a ∷ tellings acts else tellings acts) → AreFound (a ∷ acts) p
-    by_told None at later rest = (λ d sent. absurd (let never : None ≡ Some d = sym at ∙ sent_told a d sent in cc), later rest (holder_alike p (carried_out a p) (unsent_same a p (none_sent a at (sent_to a) refl)) k c w))
-    by_told (Some d) at later rest =
-        let first = one_first c a (tellings acts) rest in
-        (λ b sent. (k, subst (IsHolder p k) (some_is b first.0 (sent_told a b sent)) w), untold_found acts (carried_out a p) first.1)
+    by_reported : (o : Option ℕ) → recipient a ≡ o → (IsOneTo c (consumer_acts acts) → IsHolder (carried_out a p) k c → AreFound acts (carried_out a p)) → IsOneTo c (if is_some o then a ∷ consumer_acts acts else consumer_acts acts) → AreFound (a ∷ acts) p
+    by_reported None at later rest = (λ d sent. absurd (let never : None ≡ Some d = sym at ∙ sent_reported a d sent in cc), later rest (holder_alike p (carried_out a p) (unsent_same a p (none_sent a at (sent_to a) refl)) k c w))
+    by_reported (Some d) at later rest =
+        let first = one_first c a (consumer_acts acts) rest in
+        (λ b sent. (k, subst (IsHolder p k) (some_is b first.0 (sent_reported a b sent)) w), unreported_found acts (carried_out a p) first.1)
 
 -- Before the polls nothing is sent.
 pub quiet_found : (acts : List Act) (p : Proxy) → ((c : ℕ) → AreNotTo c acts) → AreFound acts p

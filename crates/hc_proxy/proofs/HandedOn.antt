@@ -11,7 +11,7 @@ use Rattle.hc_core.specs.Steps.{faults_in, steps, bytes_received}
 use Rattle.hc_effects.proofs.Vocabulary.{is_denied, Act, Event, Response, Entry, is_open, is_wanted, Lawful, Tables, Exchange, Among, after, act, event}
 use Rattle.hc_effects.proofs.OfConsumers.{open_there}
 use Rattle.hc_msg.specs.declared.message.WirePart.TheVariants as part
-use Rattle.hc_msg.specs.{Inputs.{Next, Waits, Tells, Brings, Ends, Fails}, Reading.{Reading, Done, Failed, Answers}}
+use Rattle.hc_msg.specs.{Inputs.{Next, Waits, Reports, Brings, Ends, Fails}, Reading.{Reading, Done, Failed, Answers}}
 use Rattle.hc_peers.specs.Origins as origins
 use Rattle.hc_peers.specs.{Upstreams.{upstream_of, is_news, is_touched, has_news_at, Becomes, ListsStay}, declared.upstreams.Upstreams.{Upstreams}}
 use Rattle.hc_peers.specs.declared.upstream.Upstream as origin
@@ -20,7 +20,7 @@ use Rattle.hc_proxy.specs.declared.proxy.Proxy as loop
 use Rattle.hc_proxy.specs.{Carrying.{acts_in}, Connections.{taken_at}, Headed.{is_begun, has_head, IsReadAs}, Hearing.{IsApart, HasHanded, FaultStepped, PieceStepped}, Invariants.{OpensUp, unread, unread_of}, Keeping.{Turn, HasCache, IsUpstream, IsUpstreamAt, KeepsBut, Stepped, RestStays, Goes}, Network.{has_news, next_of, read_to, unless_denied, hands, hands_if, handed}, Rows.{Upstream, Proxy, with_upstream}, Steps.{with_entry}, Waiting.{is_poll}}
 use Rattle.hc_proxy.specs.Steps as steps_of
 use Rattle.hc_laws.proofs.Accepted as accepted
-use Rattle.hc_proxy.proofs.{Alike.{cache_moves}, AnswerNext.{IsAnswerNext, answer_next}, DoneFor.{but_stepped}, NextBegun.{begun_waits, begun_brings, begun_ends}, OpenAfter.{was_open}, OriginRows.{row_changed}, QuietActs.{AreQuiet, is_quiet_entry, quiet_opens_none}, StepOn.{law_of}, TakenParts.{news_same, next_same, TakenNone, TakenErr, IsTakenAs, IsReadOff, brought_off, told_off}, Unread.{among, unread_grows, unread_falls}}
+use Rattle.hc_proxy.proofs.{Alike.{cache_moves}, AnswerNext.{IsAnswerNext, answer_next}, DoneFor.{but_stepped}, NextBegun.{begun_waits, begun_brings, begun_ends}, OpenAfter.{was_open}, OriginRows.{row_changed}, QuietActs.{AreQuiet, is_quiet_entry, quiet_opens_none}, StepOn.{law_of}, TakenParts.{news_same, next_same, TakenNone, TakenErr, IsTakenAs, IsReadOff, brought_off, reported_off}, Unread.{among, unread_grows, unread_falls}}
 
 -- quiet acts open nothing
 pub quiet_up : (acts : List Act) (n m : ℕ) → AreQuiet acts → OpensUp n acts m → n ≡ m
@@ -397,8 +397,8 @@ module _ {B : Type 0} {g : Ghosts B} where
           abbrev unread_yet : loop.Proxy B g
           unread_yet = record x' { upstreams = x.upstreams }
 
-          abbrev told : Proxy
-          told = with_entry stepped.e p
+          abbrev reported : Proxy
+          reported = with_entry stepped.e p
 
           abbrev st : Stepped t.frame x unread_yet (event.Head z response) p
           st = record {
@@ -407,12 +407,12 @@ module _ {B : Type 0} {g : Ghosts B} where
             event_is = stepped.event_is;
             is_owed = stepped.is_owed;
             acts = stepped.acts;
-            cache = cache_moves t.frame x' unread_yet told refl refl refl refl stepped.cache;
+            cache = cache_moves t.frame x' unread_yet reported refl refl refl refl stepped.cache;
             later = stepped.later;
             same = stepped.same;
           }
 
-          before_read : KeepsBut z t unread_yet told
+          before_read : KeepsBut z t unread_yet reported
           before_read = head_but z t x unread_yet p response h st (record { now = rest.now; starts = rest.starts; clients = rest.clients; upstreams = refl; closed = rest.closed; round = rest.round }) moved one
 
           row_headed : (o u : Option Exchange) → p.tables.exchange z ≡ o → is_open o ≡ true → (after p.tables stepped.e).exchange z ≡ u → is_open u ≡ true → has_head u ≡ true
@@ -420,34 +420,34 @@ module _ {B : Type 0} {g : Ghosts B} where
           row_headed (Some w) None row was behind on = true_false (sym on)
           row_headed (Some w) (Some u) row was behind on = accepted.has_head t.frame.limits p.tables stepped.e stepped.is_owed z w row was response stepped.event_is u behind
 
-          heads : (v : Upstream) → is_open (told.tables.exchange z) ≡ true → told.upstream z ≡ Some v → IsReadAs (read_to taken.0 taken.1 v).reading (told.tables.exchange z)
+          heads : (v : Upstream) → is_open (reported.tables.exchange z) ≡ true → reported.upstream z ≡ Some v → IsReadAs (read_to taken.0 taken.1 v).reading (reported.tables.exchange z)
           unfolding with_entry
-          heads v on is = (answers_next (Tells (Answers response) taken.0 taken.1) taken.2, λ begun. row_headed (p.tables.exchange z) ((after p.tables stepped.e).exchange z) refl is_open_now refl on)
+          heads v on is = (answers_next (Reports (Answers response) taken.0 taken.1) taken.2, λ begun. row_headed (p.tables.exchange z) ((after p.tables stepped.e).exchange z) refl is_open_now refl on)
 
-          told_row : told.upstream z ≡ p.upstream z
+          reported_row : reported.upstream z ≡ p.upstream z
           unfolding with_entry
-          told_row = refl
+          reported_row = refl
 
           shorter : length taken.1 ≤ length rows.u.input
-          shorter = told_off rows.u.reader rows.u.input (Answers response) taken.0 taken.1 taken.2
+          shorter = reported_off rows.u.reader rows.u.input (Answers response) taken.0 taken.1 taken.2
 
-          less_told : unread_of (option_map (read_to taken.0 taken.1) (told.upstream z)) ≤ unread_of (told.upstream z) + 0
-          less_told = subst (λ (o : Option Upstream). unread_of (option_map (read_to taken.0 taken.1) o) ≤ unread_of o + 0) (sym told_row) (less_here taken.0 taken.1 s (now_is taken.0 taken.1 taken.3) lists shorter (p.upstream z) refl)
+          less_reported : unread_of (option_map (read_to taken.0 taken.1) (reported.upstream z)) ≤ unread_of (reported.upstream z) + 0
+          less_reported = subst (λ (o : Option Upstream). unread_of (option_map (read_to taken.0 taken.1) o) ≤ unread_of o + 0) (sym reported_row) (less_here taken.0 taken.1 s (now_is taken.0 taken.1 taken.3) lists shorter (p.upstream z) refl)
 
-          told_room : unread (with_upstream z (read_to taken.0 taken.1) told) + bytes_received x'.cache ≤ t.frame.bytes
-          told_room =
-              let grows : unread (with_upstream z (read_to taken.0 taken.1) told) ≤ unread told + 0 = unread_grows told (told.tables.opened + 1) (law_of t.frame unread_yet told before_read.cache).order.openings z (read_to taken.0 taken.1) 0 less_told in
-              let all : unread told + bytes_received x'.cache ≤ t.frame.bytes = stepped.cache.small in
+          reported_room : unread (with_upstream z (read_to taken.0 taken.1) reported) + bytes_received x'.cache ≤ t.frame.bytes
+          reported_room =
+              let grows : unread (with_upstream z (read_to taken.0 taken.1) reported) ≤ unread reported + 0 = unread_grows reported (reported.tables.opened + 1) (law_of t.frame unread_yet reported before_read.cache).order.openings z (read_to taken.0 taken.1) 0 less_reported in
+              let all : unread reported + bytes_received x'.cache ≤ t.frame.bytes = stepped.cache.small in
               omega arith
 
-          head_kept : KeepsBut z t x' (with_upstream z (read_to taken.0 taken.1) told)
+          head_kept : KeepsBut z t x' (with_upstream z (read_to taken.0 taken.1) reported)
           head_kept =
-              row_changed z t unread_yet told before_read (read_to taken.0 taken.1) rows.u (origins.read_to taken.0 taken.1 rows.u) rows.is_u x'.upstreams
+              row_changed z t unread_yet reported before_read (read_to taken.0 taken.1) rows.u (origins.read_to taken.0 taken.1 rows.u) rows.is_u x'.upstreams
               (subst (λ (up : Upstreams). Becomes z (Some (origins.read_to taken.0 taken.1 rows.u)) x.upstreams up) (sym rest.upstreams) (now_is taken.0 taken.1 taken.3))
               refl refl (λ v is a. alike taken.0 taken.1 s (now_is taken.0 taken.1 taken.3) lists shorter v a)
               (λ w apart. ap (λ (up : Upstreams). is_news up w) rest.upstreams ∙ lists.0 w)
               (λ w apart. ap (λ (up : Upstreams). is_touched up w) rest.upstreams ∙ lists.1 w)
-              heads told_room
+              heads reported_room
 
           commutes : (d : Entry) → with_upstream z (read_to taken.0 taken.1) (with_entry d p) ≡ with_entry d (with_upstream z (read_to taken.0 taken.1) p)
           unfolding with_entry
@@ -457,10 +457,10 @@ module _ {B : Type 0} {g : Ghosts B} where
           head_goes =
               let count : steps x'.cache ≡ steps x.cache + 1 = one in
               record {
-                q = with_upstream z (read_to taken.0 taken.1) told;
+                q = with_upstream z (read_to taken.0 taken.1) reported;
                 keeps = record {
                   keeps = head_kept;
-                  apart = apart_both z p told (with_upstream z (read_to taken.0 taken.1) told) (apart_step z t x unread_yet p (event.Head z response) refl st) (apart_row z (read_to taken.0 taken.1) told);
+                  apart = apart_both z p reported (with_upstream z (read_to taken.0 taken.1) reported) (apart_step z t x unread_yet p (event.Head z response) refl st) (apart_row z (read_to taken.0 taken.1) reported);
                   most = omega arith;
                   once = λ on. omega arith;
                   none = shut_never;
@@ -469,5 +469,5 @@ module _ {B : Type 0} {g : Ghosts B} where
                 same = λ same.
                     commutes stepped.e
                     ∙ (ap (λ (d : Entry). with_entry d (with_upstream z (read_to taken.0 taken.1) p)) (stepped.same same)
-                    ∙ sym (handed_is (Tells (Answers response) taken.0 taken.1) taken.2));
+                    ∙ sym (handed_is (Reports (Answers response) taken.0 taken.1) taken.2));
               }

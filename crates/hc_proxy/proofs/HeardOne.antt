@@ -80,14 +80,14 @@ module _ {B : Type 0} {g : Ghosts B} where
     mid_stands some = ∥∥₁_map some (λ s. let made = stepped s.0 s.1 s.2 (room_here s.0 s.1 s.3) in (s.0, with_entry made.e s.1, made.cache))
 
     denied_as : (f : Frame) (p : Proxy) (made : Stepped f x mid (event.Piece z bytes) p) (b : Bool) → b ≡ is_denied (drop first (act_list mid.acts)) → is_denied made.e.acts ≡ b
-    denied_as f p made b told = ap is_denied (sym (appended first (act_list x.acts) (act_list mid.acts) made.e.acts begins made.acts)) ∙ sym told
+    denied_as f p made b reported = ap is_denied (sym (appended first (act_list x.acts) (act_list mid.acts) made.e.acts begins made.acts)) ∙ sym reported
 
-    module _ (rest : RestStays x mid) (moved : mid.moved ≡ true) (one : steps mid.cache ≡ steps x.cache + 1) (b : Bool) (told : b ≡ is_denied (drop first (act_list mid.acts))) where
+    module _ (rest : RestStays x mid) (moved : mid.moved ≡ true) (one : steps mid.cache ≡ steps x.cache + 1) (b : Bool) (reported : b ≡ is_denied (drop first (act_list mid.acts))) where
       pub piece_passes : b ≡ false → (f : Frame) (p : Proxy) → HasCache f x p → unread p + bytes_received x.cache + length_of w ≤ f.bytes → PartStepped f x mid z w p
       piece_passes on f p h room =
           let made = stepped f p h (room_here f p room) in
           subst (λ (v : WirePart). PartStepped f x mid z v p) (sym is)
-          (record { mid = mid; first = made; rest = rest; moved = moved; one = one; behind = inl (denied_as f p made b told ∙ on, refl) })
+          (record { mid = mid; first = made; rest = rest; moved = moved; one = one; behind = inl (denied_as f p made b reported ∙ on, refl) })
 
       pub piece_denied : b ≡ true → (x' : loop.Proxy B g) → ((f : Frame) (p : Proxy) → HasCache f mid p → Stepped f mid x' (event.Fault z) p) → RestStays mid x' → steps x'.cache ≡ steps mid.cache + 1 → (f : Frame) (p : Proxy) → HasCache f x p → unread p + bytes_received x.cache + length_of w ≤ f.bytes → PartStepped f x x' z w p
       piece_denied off x' fault rest' one' f p h room =
@@ -99,5 +99,5 @@ module _ {B : Type 0} {g : Ghosts B} where
             rest = rest;
             moved = moved;
             one = one;
-            behind = inr (denied_as f p made b told ∙ off, record { stepped = fault f (with_entry made.e p) made.cache; rest = rest'; one = one' });
+            behind = inr (denied_as f p made b reported ∙ off, record { stepped = fault f (with_entry made.e p) made.cache; rest = rest'; one = one' });
           })

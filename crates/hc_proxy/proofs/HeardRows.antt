@@ -9,13 +9,13 @@ use Rattle.std.{proofs.{Common.{◌≡◌, ◌≤◌, ◌<◌, ◌⊎◌, inl, i
 use Rattle.hc_text.proofs.Basics.{false_true as never_true}
 use Rattle.hc_effects.proofs.Vocabulary.{Act, Need, Event, Request, History, is_open, is_wanted, Tables, owed, Limits, act, event}
 use Rattle.hc_head.specs.declared.message.{MsgError.{MsgError}, WireRequest.{WireRequest}}
-use Rattle.hc_msg.specs.{Inputs.{Next, Waits, Tells, Brings, Ends, Fails, next_in}, NextParts.{StandsNext, IsReadOn}, Reading.{Reading, Responses, Whole, Done, Failed, Token, Asks, Answers, Byte, Leads, heading}, Taking.{byte_tokens, ending}, declared.message.WirePart.{WirePart}}
+use Rattle.hc_msg.specs.{Inputs.{Next, Waits, Reports, Brings, Ends, Fails, next_in}, NextParts.{StandsNext, IsReadOn}, Reading.{Reading, Responses, Whole, Done, Failed, Token, Asks, Answers, Byte, Leads, heading}, Taking.{byte_tokens, ending}, declared.message.WirePart.{WirePart}}
 use Rattle.hc_msg.specs.declared.message.WirePart.TheVariants as part
-use Rattle.hc_msg.proofs.{Inputs.{done_takes}, Leading.{leads_on, tells_leads}, NextParts.{stands_next}}
+use Rattle.hc_msg.proofs.{Inputs.{done_takes}, Leading.{leads_on, reports_leads}, NextParts.{stands_next}}
 use Rattle.hc_peers.specs.Renderings.{is_head}
 use Rattle.hc_wire.specs.{Logs.{Called}, declared.event.WireEvent.{WireEvent}}
 use Rattle.hc_wire.specs.declared.event.WireEvent.TheVariants as wire
-use Rattle.hc_proxy.specs.{Asked.{got_by}, Carrying.{answers, opened, carried_out, all_carried_out, carried, acts_in}, Connections.{exchange_of, connection_of}, Handling.{begun, clients_here, client_comes, left, cancelled, leaves, origin_sends, origin_ends, sends, ends, broke, handled_by, handled}, Headed.{is_answer}, Network.{open_exchanges, has_news, next_of, read_to, is_last_denied, unless_denied, hands_head, hands, hands_if, event_at_close, closes, closes_if, handed, closed, each_heard, heard}, Polls.{polled_all, each_polled, polled, may_be_polled, live_consumers}, Rows.{Client, Upstream, Proxy, unused, with_client, with_upstream}, Starts.{asks, with_holder, started, hears_request, hears, hears_if, is_ready, started_all}, Steps.{with_entry, stepped}, Told.{told_by, told_of, HasSent, IsOpenedFor}, Ended.{is_end_of}, Turns.{so_far, happened, turned, turned_by}}
+use Rattle.hc_proxy.specs.{Asked.{got_by}, Carrying.{answers, opened, carried_out, all_carried_out, carried, acts_in}, Connections.{exchange_of, connection_of}, Handling.{begun, clients_here, client_comes, left, cancelled, leaves, origin_sends, origin_ends, sends, ends, broke, handled_by, handled}, Headed.{is_answer}, Network.{open_exchanges, has_news, next_of, read_to, is_last_denied, unless_denied, hands_head, hands, hands_if, event_at_close, closes, closes_if, handed, closed, each_heard, heard}, Polls.{polled_all, each_polled, polled, may_be_polled, live_consumers}, Rows.{Client, Upstream, Proxy, unused, with_client, with_upstream}, Starts.{asks, with_holder, started, hears_request, hears, hears_if, is_ready, started_all}, Steps.{with_entry, stepped}, Received.{received_by, received_of, HasSent, IsOpenedFor}, Ended.{is_end_of}, Turns.{so_far, happened, turned, turned_by}}
 use Rattle.hc_proxy.specs.Starts as starts
 use Rattle.hc_proxy.proofs.{AnswerNext.{IsAnswerNext, answer_next}, Folds.{turned_more}, Later.{carried_is_same}, OpenEnded.{never_done}, Openings.{StandsKnown, open_more, turn_opens, turns_know, unused_known}, Turning.{OpenOnly, with_new, with_opened, happened_keeps}, DialsHeard.{no_row, place_before, place_after, connection_at, came_by, new_by, came_more, ended_by, any_last, ended_more, is_end, end_is, none_came, among_all, IsCutBy}}
 
@@ -80,14 +80,14 @@ module _ (limits : Limits) (dialled : List ℕ) (x : ℕ) where
 
   abbrev pub HasEnds : List Called → History → Type 0
   HasEnds calls [] = Unit {0}
-  HasEnds calls (e ∷ h) = (is_end x e.event ≡ true → IsEnd calls (told_of x h)) × HasEnds calls h
+  HasEnds calls (e ∷ h) = (is_end x e.event ≡ true → IsEnd calls (received_of x h)) × HasEnds calls h
 
   abbrev pub HasHeard : List ℕ → List Called → Option Upstream → List Token → Type 0
   HasHeard ds calls None tokens = tokens ≡ []
   HasHeard ds calls (Some v) tokens = IsHeard ds calls v tokens
 
   abbrev pub Follows : List ℕ → List Called → Proxy → Type 0
-  Follows ds calls p = HasHeard ds calls (p.upstream x) (told_of x p.history) × HasEnds calls p.history
+  Follows ds calls p = HasHeard ds calls (p.upstream x) (received_of x p.history) × HasEnds calls p.history
 
   -- the bytes that were read
   sent_of : (ds : List ℕ) (behind : List Called) (v : Upstream) (tokens : List Token) → IsReading ds behind v tokens → HasSent v.no_body (came behind) tokens
@@ -135,8 +135,8 @@ module _ (limits : Limits) (dialled : List ℕ) (x : ℕ) where
   more_ends calls call [] ends = tt
   more_ends calls call (e ∷ h) ends = (λ on. later_end (ends.0 on), more_ends calls call h ends.1)
     where
-      later_end : IsEnd calls (told_of x h) → IsEnd (more_calls calls call) (told_of x h)
-      later_end n = record { behind = more_calls n.behind call; no_body = n.no_body; opens = later calls n.behind n.no_body call n.opens; answered = more_answered n.behind call n.no_body (told_of x h) n.answered }
+      later_end : IsEnd calls (received_of x h) → IsEnd (more_calls calls call) (received_of x h)
+      later_end n = record { behind = more_calls n.behind call; no_body = n.no_body; opens = later calls n.behind n.no_body call n.opens; answered = more_answered n.behind call n.no_body (received_of x h) n.answered }
 
   module _ (ds : List ℕ) (calls : List Called) (call : Called) where
     -- none that are its own come
@@ -207,17 +207,17 @@ module _ (limits : Limits) (dialled : List ℕ) (x : ℕ) where
     still false p q a b = a
 
     -- an event that tells these
-    step_on : (ev : Event) (p : Proxy) (tokens : List Token) → told_by x ev ≡ tokens → Row (p.upstream x) (told_of x p.history ++ tokens) → (is_end x ev ≡ true → IsEnd calls (told_of x p.history)) → HasEnds calls p.history → S (stepped limits ev p)
+    step_on : (ev : Event) (p : Proxy) (tokens : List Token) → received_by x ev ≡ tokens → Row (p.upstream x) (received_of x p.history ++ tokens) → (is_end x ev ≡ true → IsEnd calls (received_of x p.history)) → HasEnds calls p.history → S (stepped limits ev p)
     unfolding with_entry owed
-    step_on ev p tokens tells row end ends = (subst (λ (ts : List Token). Row (p.upstream x) (told_of x p.history ++ ts)) (sym tells) row, (end, ends))
+    step_on ev p tokens reports row end ends = (subst (λ (ts : List Token). Row (p.upstream x) (received_of x p.history ++ ts)) (sym reports) row, (end, ends))
 
     -- an end of x
-    end_on : (z : ℕ) (p : Proxy) → IsEnd calls (told_of x p.history) → S p → S (stepped limits (event.End z) p)
-    end_on z p end s = step_on (event.End z) p [] refl (subst (Row (p.upstream x)) (sym (append-nil (told_of x p.history))) s.0) (λ on. end) s.1
+    end_on : (z : ℕ) (p : Proxy) → IsEnd calls (received_of x p.history) → S p → S (stepped limits (event.End z) p)
+    end_on z p end s = step_on (event.End z) p [] refl (subst (Row (p.upstream x)) (sym (append-nil (received_of x p.history))) s.0) (λ on. end) s.1
 
     -- or nothing of x
-    other_on : (ev : Event) (p : Proxy) → told_by x ev ≡ [] → is_end x ev ≡ false → S p → S (stepped limits ev p)
-    other_on ev p tells off s = step_on ev p [] tells (subst (Row (p.upstream x)) (sym (append-nil (told_of x p.history))) s.0) (λ on. never_true (sym off ∙ on)) s.1
+    other_on : (ev : Event) (p : Proxy) → received_by x ev ≡ [] → is_end x ev ≡ false → S p → S (stepped limits ev p)
+    other_on ev p reports off s = step_on ev p [] reports (subst (Row (p.upstream x)) (sym (append-nil (received_of x p.history))) s.0) (λ on. never_true (sym off ∙ on)) s.1
 
     denies : (z : ℕ) (p : Proxy) → S p → S (unless_denied limits z p)
     denies z p s = still (is_last_denied p.part) p (stepped limits (event.Fault z) p) s (other_on (event.Fault z) p refl refl s)
@@ -228,7 +228,7 @@ module _ (limits : Limits) (dialled : List ℕ) (x : ℕ) where
       origin_off : (change : Upstream → Upstream) (p : Proxy) → S p → S (with_upstream z change p)
       origin_off change p s =
           let same : (with_upstream z change p).upstream x ≡ p.upstream x = rw off refl in
-          (subst (λ (o : Option Upstream). Row o (told_of x p.history)) (sym same) s.0, s.1)
+          (subst (λ (o : Option Upstream). Row o (received_of x p.history)) (sym same) s.0, s.1)
 
       head_off : (token : Token) (p : Proxy) → S p → S (hands_head limits z token p)
       head_off (Answers response) p s = other_on (event.Head z response) p (rw off refl) refl s
@@ -237,7 +237,7 @@ module _ (limits : Limits) (dialled : List ℕ) (x : ℕ) where
 
       hands_off : (n : Next) (p : Proxy) → S p → S (hands limits z n p)
       hands_off (Waits t) p s = origin_off (read_to t []) p s
-      hands_off (Tells token t rest) p s = head_off token (with_upstream z (read_to t rest) p) (origin_off (read_to t rest) p s)
+      hands_off (Reports token t rest) p s = head_off token (with_upstream z (read_to t rest) p) (origin_off (read_to t rest) p s)
       hands_off (Brings bytes t rest) p s =
           let q : Proxy = with_upstream z (read_to t rest) p in
           denies z (stepped limits (event.Piece z bytes) q) (other_on (event.Piece z bytes) q (rw off refl) refl (origin_off (read_to t rest) p s))
@@ -302,18 +302,18 @@ module _ (limits : Limits) (dialled : List ℕ) (x : ℕ) where
           let same : (with_upstream z change p).upstream x ≡ Some (change v) = rw (on, at) refl in
           subst (λ (o : Option Upstream). Row o tokens) (sym same) r
 
-      hands_here : (n : Next) (p : Proxy) (v : Upstream) → p.upstream x ≡ Some v → n ≡ next_of v → StandsNext 16384 v.reading v.input n → IsAnswerNext n → IsHeard ds calls v (told_of x p.history) → S p → S (hands limits z n p)
-      hands_here (Waits t) p v at is next answer r s = (here (read_to t []) p v (told_of x p.history) at (wait_on v (told_of x p.history) t is next answer r), s.1)
-      hands_here (Tells (Answers response) t rest) p v at is next answer r s =
-          let tokens : List Token = told_of x p.history in
-          let reading : IsReading ds r.behind v tokens = reading_of v tokens (Tells (Answers response) t rest) is (λ u never. let no_wait : Tells (Answers response) t rest ≡ Waits u = never in cc) r in
+      hands_here : (n : Next) (p : Proxy) (v : Upstream) → p.upstream x ≡ Some v → n ≡ next_of v → StandsNext 16384 v.reading v.input n → IsAnswerNext n → IsHeard ds calls v (received_of x p.history) → S p → S (hands limits z n p)
+      hands_here (Waits t) p v at is next answer r s = (here (read_to t []) p v (received_of x p.history) at (wait_on v (received_of x p.history) t is next answer r), s.1)
+      hands_here (Reports (Answers response) t rest) p v at is next answer r s =
+          let tokens : List Token = received_of x p.history in
+          let reading : IsReading ds r.behind v tokens = reading_of v tokens (Reports (Answers response) t rest) is (λ u never. let no_wait : Reports (Answers response) t rest ≡ Waits u = never in cc) r in
           let read : IsHeard ds calls (read_to t rest v) (tokens ++ Answers response ∷ []) =
-          reads_on v tokens (Answers response ∷ []) next.front rest t next.whole (tells_leads v.reading next.front (Answers response) t next.tells) answer r reading in
+          reads_on v tokens (Answers response ∷ []) next.front rest t next.whole (reports_leads v.reading next.front (Answers response) t next.reports) answer r reading in
           step_on (event.Head z response) (with_upstream z (read_to t rest) p) (Answers response ∷ []) (rw on refl) (here (read_to t rest) p v (tokens ++ Answers response ∷ []) at read) (λ is_not. never_true is_not) s.1
-      hands_here (Tells (Asks request) t rest) p v at is next answer r s = absurd answer
-      hands_here (Tells (Byte b) t rest) p v at is next answer r s = absurd answer
+      hands_here (Reports (Asks request) t rest) p v at is next answer r s = absurd answer
+      hands_here (Reports (Byte b) t rest) p v at is next answer r s = absurd answer
       hands_here (Brings bytes t rest) p v at is next answer r s =
-          let tokens : List Token = told_of x p.history in
+          let tokens : List Token = received_of x p.history in
           let reading : IsReading ds r.behind v tokens = reading_of v tokens (Brings bytes t rest) is (λ u never. let no_wait : Brings bytes t rest ≡ Waits u = never in cc) r in
           let read : IsHeard ds calls (read_to t rest v) (tokens ++ byte_tokens bytes) =
           reads_on v tokens (byte_tokens bytes) (next.front ++ bytes) rest t (append_assoc next.front bytes rest ∙ next.whole)
@@ -321,7 +321,7 @@ module _ (limits : Limits) (dialled : List ℕ) (x : ℕ) where
           let q : Proxy = with_upstream z (read_to t rest) p in
           denies z (stepped limits (event.Piece z bytes) q) (step_on (event.Piece z bytes) q (byte_tokens bytes) (rw on refl) (here (read_to t rest) p v (tokens ++ byte_tokens bytes) at read) (λ is_not. never_true is_not) s.1)
       hands_here Ends p v at is next answer r s =
-          let tokens : List Token = told_of x p.history in
+          let tokens : List Token = received_of x p.history in
           let reading : IsReading ds r.behind v tokens = reading_of v tokens Ends is (λ u never. let no_wait : Ends ≡ Waits u = never in cc) r in
           let answered : IsAnswered r.behind v.no_body tokens = record {
             sent = record {
@@ -338,7 +338,7 @@ module _ (limits : Limits) (dialled : List ℕ) (x : ℕ) where
           let q : Proxy = with_upstream z (read_to Done []) p in
           end_on z q (record { behind = r.behind; no_body = v.no_body; opens = r.opens; answered = answered }) (here (read_to Done []) p v tokens at (over v tokens Done refl refl r answered), s.1)
       hands_here (Fails e) p v at is next answer r s =
-          let tokens : List Token = told_of x p.history in
+          let tokens : List Token = received_of x p.history in
           let reading : IsReading ds r.behind v tokens = reading_of v tokens (Fails e) is (λ u never. let no_wait : Fails e ≡ Waits u = never in cc) r in
           other_on (event.Fault z) (with_upstream z (read_to (Failed e) []) p) refl refl (here (read_to (Failed e) []) p v tokens at (all_read v tokens (Failed e) next refl r reading), s.1)
 
@@ -369,13 +369,13 @@ module _ (limits : Limits) (dialled : List ℕ) (x : ℕ) where
         by_place (inl o) = o.answered
         by_place (inr reading) = by_next reading next
 
-    close_here : (z : ℕ) (p : Proxy) (v : Upstream) (n : Next) → v.ended ≡ true → n ≡ next_of v → StandsNext 16384 v.reading v.input n → IsHeard ds calls v (told_of x p.history) → S p → S (closes limits z n p)
+    close_here : (z : ℕ) (p : Proxy) (v : Upstream) (n : Next) → v.ended ≡ true → n ≡ next_of v → StandsNext 16384 v.reading v.input n → IsHeard ds calls v (received_of x p.history) → S p → S (closes limits z n p)
     close_here z p v (Waits t) ended is next r s = by_result (ending t) refl
       where
         by_result : (result : Result WirePart MsgError) → ending t ≡ result → S (stepped limits (event_at_close z result) p)
         by_result (Err e) at = other_on (event.Fault z) p refl refl s
-        by_result (Ok given) at = end_on z p (closing v (told_of x p.history) t ended is next (end_is t given at) r) s
-    close_here z p v (Tells token t rest) ended is next r s = s
+        by_result (Ok given) at = end_on z p (closing v (received_of x p.history) t ended is next (end_is t given at) r) s
+    close_here z p v (Reports token t rest) ended is next r s = s
     close_here z p v (Brings bytes t rest) ended is next r s = s
     close_here z p v Ends ended is next r s = s
     close_here z p v (Fails e) ended is next r s = other_on (event.Fault z) p refl refl s
@@ -390,7 +390,7 @@ module _ (limits : Limits) (dialled : List ℕ) (x : ℕ) where
         by_number true on =
             let same : x ≡ z = grind (arith, nat_tests) in
             let row : p.upstream x ≡ Some v = ap p.upstream same ∙ at in
-            let r : IsHeard ds calls v (told_of x p.history) = subst (λ (o : Option Upstream). Row o (told_of x p.history)) row s.0 in
+            let r : IsHeard ds calls v (received_of x p.history) = subst (λ (o : Option Upstream). Row o (received_of x p.history)) row s.0 in
             hands_here z on (next_of v) p v row refl (stands_next 16384 v.reading v.input) (answer_next 16384 v.reading v.input r.answer) r s
 
     handed_on : (z : ℕ) (o : Option Upstream) (p : Proxy) → p.upstream z ≡ o → S p → S (hands_if limits z o p)
@@ -403,7 +403,7 @@ module _ (limits : Limits) (dialled : List ℕ) (x : ℕ) where
 
     closes_off : (z : ℕ) → nat_eq x z ≡ false → (n : Next) (p : Proxy) → S p → S (closes limits z n p)
     closes_off z off (Waits t) p s = close_off z off (ending t) p s
-    closes_off z off (Tells token t rest) p s = s
+    closes_off z off (Reports token t rest) p s = s
     closes_off z off (Brings bytes t rest) p s = s
     closes_off z off Ends p s = s
     closes_off z off (Fails e) p s = other_on (event.Fault z) p refl refl s
@@ -416,7 +416,7 @@ module _ (limits : Limits) (dialled : List ℕ) (x : ℕ) where
         by_number true on =
             let same : x ≡ z = grind (arith, nat_tests) in
             let row : p.upstream x ≡ Some v = ap p.upstream same ∙ at in
-            let r : IsHeard ds calls v (told_of x p.history) = subst (λ (o : Option Upstream). Row o (told_of x p.history)) row s.0 in
+            let r : IsHeard ds calls v (received_of x p.history) = subst (λ (o : Option Upstream). Row o (received_of x p.history)) row s.0 in
             close_here z p v (next_of v) ended refl (stands_next 16384 v.reading v.input) r s
 
     closed_on : (z : ℕ) (o : Option Upstream) (p : Proxy) → p.upstream z ≡ o → S p → S (closes_if limits z o p)
@@ -450,7 +450,7 @@ module _ (limits : Limits) (dialled : List ℕ) (x : ℕ) where
 
     asks_on : (k : ℕ) (n : Next) (p : Proxy) → S p → S (hears limits k n p)
     asks_on k (Waits t) p s = s
-    asks_on k (Tells token t rest) p s = token_on k token (with_client k (starts.read_to t rest) p) s
+    asks_on k (Reports token t rest) p s = token_on k token (with_client k (starts.read_to t rest) p) s
     asks_on k (Brings bytes t rest) p s = s
     asks_on k Ends p s = s
     asks_on k (Fails e) p s = s
@@ -505,7 +505,7 @@ module _ (limits : Limits) (dialled : List ℕ) (x : ℕ) where
 
     -- it was opened before, or nothing is told of it
     abbrev IsOld : Proxy → Type 0
-    IsOld p = first.tables.opened < x → told_of x p.history ≡ []
+    IsOld p = first.tables.opened < x → received_of x p.history ≡ []
 
     abbrev NewOnly : List Act → Type 0
     NewOnly acts = OpenOnly (λ y. first.tables.opened < y) acts
@@ -526,11 +526,11 @@ module _ (limits : Limits) (dialled : List ℕ) (x : ℕ) where
     opens_on : (y c : ℕ) (need : Need) (request : Request) (p : Proxy) → first.tables.opened < y → Contains all (act.Opened y c need request) → IsOld p → Follows ds calls p → Follows ds calls (with_opened y request p)
     opens_on y c need request p above among old s = (by_number (nat_eq x y) refl, s.1)
       where
-        by_number : (b : Bool) → nat_eq x y ≡ b → HasHeard ds calls (if b then Some (opened request) else p.upstream x) (told_of x p.history)
+        by_number : (b : Bool) → nat_eq x y ≡ b → HasHeard ds calls (if b then Some (opened request) else p.upstream x) (received_of x p.history)
         by_number false off = s.0
         by_number true on =
             let same : y ≡ x = grind (arith, nat_tests) in
-            new_row request c need (told_of x p.history) (subst (λ (n : ℕ). Contains all (act.Opened n c need request)) same among) (old (omega arith))
+            new_row request c need (received_of x p.history) (subst (λ (n : ℕ). Contains all (act.Opened n c need request)) same among) (old (omega arith))
 
     answers_old : (o : Option ℕ) (a : Act) (p : Proxy) → IsOld p → IsOld (answers o a p)
     answers_old None a p old = old
@@ -599,7 +599,7 @@ module _ (limits : Limits) (dialled : List ℕ) (x : ℕ) where
     row_passes none (Some v) tokens row = passes ds calls call v tokens none row
 
     all_pass : Misses → (p : Proxy) → Before p → Behind p
-    all_pass none p s = (row_passes none (p.upstream x) (told_of x p.history) s.0, more_ends calls call p.history s.1)
+    all_pass none p s = (row_passes none (p.upstream x) (received_of x p.history) s.0, more_ends calls call p.history s.1)
 
     -- nothing came of any
     no_bytes : ((k : ℕ) → got_by k call.event call.bytes ≡ []) → Misses
@@ -641,9 +641,9 @@ module _ (limits : Limits) (dialled : List ℕ) (x : ℕ) where
       got_on None p at s = all_pass (misses (none_is at)) p s
       got_on (Some y) p at s = (by_number (nat_eq x y) refl, more_ends calls call p.history s.1)
         where
-          by_number : (b : Bool) → nat_eq x y ≡ b → HasHeard ds more (if b then option_map (origin_sends call.bytes) (p.upstream x) else p.upstream x) (told_of x p.history)
-          by_number false apart = row_passes (misses (other_is y apart at)) (p.upstream x) (told_of x p.history) s.0
-          by_number true on = let same : y ≡ x = grind (arith, nat_tests) in row_waits (at ∙ ap Some same) (p.upstream x) (told_of x p.history) s.0
+          by_number : (b : Bool) → nat_eq x y ≡ b → HasHeard ds more (if b then option_map (origin_sends call.bytes) (p.upstream x) else p.upstream x) (received_of x p.history)
+          by_number false apart = row_passes (misses (other_is y apart at)) (p.upstream x) (received_of x p.history) s.0
+          by_number true on = let same : y ≡ x = grind (arith, nat_tests) in row_waits (at ∙ ap Some same) (p.upstream x) (received_of x p.history) s.0
 
     -- its connection ends
     module _ (z : ℕ) (is : call.event ≡ wire.Ended z) where
@@ -668,9 +668,9 @@ module _ (limits : Limits) (dialled : List ℕ) (x : ℕ) where
       ends_on None p at s = leaves_on ds more z (p.client z) p (all_pass no_got p s)
       ends_on (Some y) p at s = (by_number (nat_eq x y) refl, more_ends calls call p.history s.1)
         where
-          by_number : (b : Bool) → nat_eq x y ≡ b → HasHeard ds more (if b then option_map origin_ends (p.upstream x) else p.upstream x) (told_of x p.history)
-          by_number false apart = row_passes no_got (p.upstream x) (told_of x p.history) s.0
-          by_number true on = let same : y ≡ x = grind (arith, nat_tests) in row_ends (at ∙ ap Some same) (p.upstream x) (told_of x p.history) s.0
+          by_number : (b : Bool) → nat_eq x y ≡ b → HasHeard ds more (if b then option_map origin_ends (p.upstream x) else p.upstream x) (received_of x p.history)
+          by_number false apart = row_passes no_got (p.upstream x) (received_of x p.history) s.0
+          by_number true on = let same : y ≡ x = grind (arith, nat_tests) in row_ends (at ∙ ap Some same) (p.upstream x) (received_of x p.history) s.0
 
     broke_on : (z : ℕ) (o : Option ℕ) (p : Proxy) → Behind p → Behind (broke limits o z p)
     broke_on z None p s = leaves_on ds more z (p.client z) p s
@@ -729,7 +729,7 @@ module _ (limits : Limits) (dialled : List ℕ) (x : ℕ) where
       let off : p.upstream x ≡ None → h.upstream x ≡ None = happened_keeps limits (λ q r. q.upstream x ≡ None → r.upstream x ≡ None) (no_row limits x) ds call (begun call p) in
       let opens : (p.tables.opened ≤ h.tables.opened) × OpenOnly (λ y. (p.tables.opened < y) × (y ≤ h.tables.opened)) (acts_in h.part) = turn_opens limits ds call p known.stands in
       let grows : p.tables.opened ≤ (carried h).tables.opened = subst (λ (t : Tables). p.tables.opened ≤ t.opened) (sym (carried_is_same h).tables) opens.0 in
-      let dialled_so : Follows (so_far (carried h) dialled) (more_calls calls call) h = (weaker p.tables.opened (carried h).tables.opened (more_calls calls call) (h.upstream x) (told_of x h.history) grows (low p known h off) now.0, now.1) in
+      let dialled_so : Follows (so_far (carried h) dialled) (more_calls calls call) h = (weaker p.tables.opened (carried h).tables.opened (more_calls calls call) (h.upstream x) (received_of x h.history) grows (low p known h off) now.0, now.1) in
       carries_on (so_far (carried h) dialled) calls call h
       (ap acts_in (sym (carried_is_same h).part))
       (open_more (λ y. (p.tables.opened < y) × (y ≤ h.tables.opened)) (λ y. p.tables.opened < y) (λ y f. f.0) (acts_in h.part) opens.1)
@@ -745,9 +745,9 @@ module _ (limits : Limits) (dialled : List ℕ) (x : ℕ) where
         | inr le ↦ le
       ]
 
-      old : (ds : List ℕ) (cs : List Called) (p : Proxy) → StandsKnown limits p → (h : Proxy) → (p.upstream x ≡ None → h.upstream x ≡ None) → Follows ds cs h → p.tables.opened < x → told_of x h.history ≡ []
+      old : (ds : List ℕ) (cs : List Called) (p : Proxy) → StandsKnown limits p → (h : Proxy) → (p.upstream x ≡ None → h.upstream x ≡ None) → Follows ds cs h → p.tables.opened < x → received_of x h.history ≡ []
       old ds cs p known h off now above = elim (by_row p known (p.upstream x) refl) [
-        | inl none ↦ subst (λ (o : Option Upstream). HasHeard ds cs o (told_of x h.history)) (off none) now.0
+        | inl none ↦ subst (λ (o : Option Upstream). HasHeard ds cs o (received_of x h.history)) (off none) now.0
         | inr le ↦ absurd (omega arith)
       ]
 

@@ -158,11 +158,11 @@ module _ (limits : Limits) (p : Proxy) (e : Entry) (law : Lawful p.tables) (is :
   -- who was waited for is, or is told that it is over
   alive_behind : (c : ℕ) → (e.event ≡ event.Cancel c → ⊥) → IsAlive (acts_in p.part) p c → IsAlive (acts_in (with_entry e p).part) (with_entry e p) c
   unfolding with_entry
-  alive_behind c other (inr told) = inr (leaves_append c (acts_in p.part) e.acts ∙ or_left _ _ told)
+  alive_behind c other (inr reported) = inr (leaves_append c (acts_in p.part) e.acts ∙ or_left _ _ reported)
   alive_behind c other (inl was) = by_test (leaves_in c e.acts) refl
     where
       by_test : (b : Bool) → leaves_in c e.acts ≡ b → IsAlive (acts_in p.part ++ e.acts) (with_entry e p) c
-      by_test true told = inr (leaves_append c (acts_in p.part) e.acts ∙ or_right _ _ told)
+      by_test true reported = inr (leaves_append c (acts_in p.part) e.acts ∙ or_right _ _ reported)
       by_test false stays = inl (stays_live p.tables e c other stays was)
 
   entry_back : (k c : ℕ) → IsHolder (with_entry e p) k c → IsHolder p k c

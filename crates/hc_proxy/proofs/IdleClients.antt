@@ -7,7 +7,7 @@
 use Rattle.std.{proofs.Common.{◌≡◌, ℕ, List, [], ◌∷◌, Bool, true, false, Option, Some, None, refl, ap, ◌∙◌}, specs.Prelude.{nat_eq, ◌+◌, if◌then◌else◌}}
 use Rattle.hc_effects.proofs.Vocabulary.{Event, Limits, event}
 use Rattle.hc_head.specs.declared.message.WireRequest.{WireRequest}
-use Rattle.hc_msg.specs.{Inputs.{Next, Waits, Tells, Brings, Ends, Fails, next_in}, Reading.{Failed, Token, Asks, Answers, Byte}}
+use Rattle.hc_msg.specs.{Inputs.{Next, Waits, Reports, Brings, Ends, Fails, next_in}, Reading.{Failed, Token, Asks, Answers, Byte}}
 use Rattle.hc_wire.specs.Logs.{Called}
 use Rattle.hc_proxy.specs.{Polls.{may_be_polled, polled, each_polled}, Rows.{Client, Proxy, with_client}, Starts.{read_to, asks, with_holder, started, refused, hears_request, hears, hears_if, is_ready}, Steps.{with_entry, stepped}}
 use Rattle.hc_proxy.specs.Starts as starts
@@ -49,7 +49,7 @@ module _ (limits : Limits) (call : Called) where
 
     hears_apart : (n : Next) (p : Proxy) → Apart k p (hears limits z n p)
     hears_apart (Waits reading) p = changes (read_to reading []) p
-    hears_apart (Tells token reading rest) p = token_apart token (with_client z (read_to reading rest) p) ∙ changes (read_to reading rest) p
+    hears_apart (Reports token reading rest) p = token_apart token (with_client z (read_to reading rest) p) ∙ changes (read_to reading rest) p
     hears_apart (Brings bytes reading rest) p = refl
     hears_apart Ends p = refl
     hears_apart (Fails e) p = changes (refused e) (with_client z (read_to (Failed e) []) p) ∙ changes (read_to (Failed e) []) p

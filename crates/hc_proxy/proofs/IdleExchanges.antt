@@ -7,7 +7,7 @@ use Rattle.std.{proofs.{Common.{◌≡◌, ◌⊎◌, inl, inr, ℕ, ◌+◌, Li
 use Rattle.hc_text.proofs.Basics.{bool_cases, true_false}
 use Rattle.hc_effects.proofs.Vocabulary.{opening_in, Event, Entry, is_open, is_wanted, Exchange, owed, Limits, event}
 use Rattle.hc_head.specs.declared.message.MsgError.{MsgError}
-use Rattle.hc_msg.specs.{Inputs.{Next, Waits, Tells, Brings, Ends, Fails}, Reading.{Done, Failed, Token, Asks, Answers, Byte}, Taking.{ending}, declared.message.WirePart.{WirePart}}
+use Rattle.hc_msg.specs.{Inputs.{Next, Waits, Reports, Brings, Ends, Fails}, Reading.{Done, Failed, Token, Asks, Answers, Byte}, Taking.{ending}, declared.message.WirePart.{WirePart}}
 use Rattle.hc_proxy.specs.{Invariants.{is_part, is_due, is_due_by}, Network.{has_news, next_of, read_to, is_last_denied, unless_denied, hands_head, hands, hands_if, handed, closes, closes_if, closed, event_at_close}, Rows.{Upstream, Proxy, with_upstream}, Steps.{with_entry, stepped}, Waiting.{is_poll}}
 use Rattle.hc_proxy.specs.Network as network
 use Rattle.hc_proxy.proofs.{OpenAfter.{OpensIt, was_open, was_wanted}, QuietActs.{AreQuiet, is_quiet_entry, quiet_opens_none, quiet_asks_none}, SkippedSteps.{IsSkipped, each}, Stands.{Stands, owed_here, goes_on}}
@@ -91,7 +91,7 @@ module _ (limits : Limits) where
 
     hands_apart : (n : Next) (p : Proxy) → ApartOn x p (hands limits z n p)
     hands_apart (Waits reading) p = reads x z off (read_to reading []) p
-    hands_apart (Tells token reading rest) p =
+    hands_apart (Reports token reading rest) p =
         both x p (with_upstream z (read_to reading rest) p) (hands_head limits z token (with_upstream z (read_to reading rest) p))
         (reads x z off (read_to reading rest) p) (head_apart token (with_upstream z (read_to reading rest) p))
     hands_apart (Brings bytes reading rest) p =
@@ -112,7 +112,7 @@ module _ (limits : Limits) where
 
     closes_apart : (n : Next) (p : Proxy) → ApartOn x p (closes limits z n p)
     closes_apart (Waits reading) p = close_apart (ending reading) p
-    closes_apart (Tells token reading rest) p = same x p
+    closes_apart (Reports token reading rest) p = same x p
     closes_apart (Brings bytes reading rest) p = same x p
     closes_apart Ends p = same x p
     closes_apart (Fails e) p = steps x (event.Fault z) refl p
@@ -165,7 +165,7 @@ module _ (limits : Limits) where
 
   no_close : (x : ℕ) (p : Proxy) (n : Next) → is_part n ≡ true → closes limits x n p ≡ p
   no_close x p (Waits reading) h = true_false (sym h)
-  no_close x p (Tells token reading rest) h = refl
+  no_close x p (Reports token reading rest) h = refl
   no_close x p (Brings bytes reading rest) h = refl
   no_close x p Ends h = refl
   no_close x p (Fails e) h = true_false (sym h)

@@ -42,8 +42,8 @@ change_later _ kinds.goes c = record { more = []; owed = sym (append-nil c.owed)
 answered_later : (a : Act) (c : Client) → IsLater c (answered a c)
 answered_later a c = by_test c.gone
   where
-    told : Client
-    told = record c {
+    reported : Client
+    reported = record c {
       owed = c.owed ++ rendering c.reply a;
       before = length c.owed;
       reply = record c.reply { form = form_behind c.reply a };
@@ -51,7 +51,7 @@ answered_later a c = by_test c.gone
       consumer = if is_last a then None else c.consumer;
     }
 
-    by_test : (b : Bool) → IsLater c (if b then c else told)
+    by_test : (b : Bool) → IsLater c (if b then c else reported)
     by_test true = later_same c
     by_test false = record { more = rendering c.reply a; owed = refl; gone = λ g. g }
 

@@ -109,4 +109,4 @@ pub mod ClientTurns
 mod OpenEnded
 mod DialsHeard
 mod HeardRows
-pub mod Told
+pub mod Received

@@ -7,7 +7,7 @@
 use Rattle.std.{proofs.{Common.{◌≡◌, ◌⊎◌, inl, inr, ◌≤◌, ◌<◌, ℕ, ◌+◌, ◌-◌, List, [], ◌∷◌, ◌++◌, Bool, true, false, Option, Some, None, Ok, Err, refl, ap, sym, ◌∙◌, subst, arith, append-nil, take_all}, lemmas.{Bool.Decides.{nat_tests}, List.{length-drop}}}, specs.{Prelude.{◌&&◌, ◌||◌, not, nat_eq, nat_lt, find, filter, map, drop, length, option_map, IfSome, Result, IsErrAnd, if◌then◌else◌}, List.{list_all}}}
 use Rattle.hc_text.proofs.Basics.{both_true as both_hold, or_left, or_right}
 use Rattle.hc_core.specs.Steps.{steps, faults_in}
-use Rattle.hc_io.specs.Sink.{Takes, TakesFront}
+use Rattle.hc_io.specs.Sink.{Takes, TakesPrefix}
 use Rattle.hc_io.proofs.Takings.{takes_more as takes_both, takes_none}
 use Rattle.hc_effects.proofs.Vocabulary.{is_open, tables, Limits}
 use Rattle.hc_peers.specs.{Clients.{client_of}, Upstreams.{upstream_of}}
@@ -19,8 +19,7 @@ use Rattle.hc_store.specs.declared.backend.Backend.{Ghosts}
 use Rattle.hc_wire.specs.{Events.{Stage, Unseen}, Logs.{Log, Taker, Called, empty_log, is_numbered, is_at_end, shut, standings_in, stage_from, stage_in, sent_in}}
 use Rattle.hc_wire.specs.declared.event.WireEvent.TheVariants as event
 use Rattle.hc_proxy.specs.declared.proxy.Proxy as loop
-use Rattle.hc_proxy.specs.{declared.stop.Stop.{Stop}, Connections.{connection_of, taken_at}, Endings.{IsLog, IsFresh, Serves, TakesTurns, was_sent}, Keeping.{Frame, HasUpstreams, IsUpstream, IsUpstreamAt}, Logging.{AreApart, short_from, is_short}, Loops.{AllFit}, Network.{open_exchanges, heard}, Records.{text_of}, Resting.{IsRestingClient, IsRestingAt, Rests}, Rows.{Client, Upstream, Proxy, unused}, Sending.{owed_by, is_taken, client_is_sent, taker_of, exchange_is_sent, all_is_sent}, Serving.{IsOfLoop, IsCutShort, IsStill, Begins, TurnsTo, TurnStops, EndsBy, IsClosed, all_closed}, Stops.{ended_as, ended_by}, Turns.{turned_by, behind_all, behind_calls, record_of}, Waiting.{waits}}
-use Rattle.hc_proxy.specs.Served.{ServesAs}
+use Rattle.hc_proxy.specs.{declared.stop.Stop.{Stop}, Connections.{connection_of, taken_at}, Endings.{IsLog, IsFresh, Serves, TakesTurns, was_sent}, Keeping.{Frame, HasUpstreams, IsUpstream, IsUpstreamAt}, Logging.{AreApart, short_from, is_short}, Loops.{AllFit}, Network.{open_exchanges, heard}, Records.{text_of}, Resting.{IsRestingClient, IsRestingAt, Rests}, Rows.{Client, Upstream, Proxy, unused}, Sending.{owed_by, is_taken, client_is_sent, taker_of, exchange_is_sent, all_is_sent}, Serving.{IsOfLoop, IsCutShort, IsStill, Begins, TurnsTo, TurnStops, EndsBy, IsClosed, all_closed}, Stops.{ended_as, ended_by}, Turns.{turned_by, behind_all, behind_calls, record_of}, Waiting.{waits}, Served.{ServesAs}}
 use Rattle.hc_proxy.specs.declared.stop.Stop.TheVariants as stop
 use Rattle.hc_proxy.proofs.{Fitting.{all_reversed, opened_within}, Rows.{sent_all}, Stands.{loops_are_runs}, TakersStand.{open_taker, sent_found, taken_found}}
 use Rattle.hc_state.proofs.LeftRows.{all_passing}
@@ -43,11 +42,11 @@ whole_turns limits log out out' takes =
 
 -- BETWEEN TURNS
 
-pub record IsTurning {B : Type 0} {g : Ghosts B} (n m : ℕ) (limits : Limits) (before : Log) (x : loop.Proxy B g) (told : Option Log) (stages : ℕ → Stage) (out out' : Option (List ℕ)) (wait : Bool) : Type 0 where
+pub record IsTurning {B : Type 0} {g : Ghosts B} (n m : ℕ) (limits : Limits) (before : Log) (x : loop.Proxy B g) (reported : Option Log) (stages : ℕ → Stage) (out out' : Option (List ℕ)) (wait : Bool) : Type 0 where
   pub f : Frame
   pub p : Proxy
   pub log : Log
-  pub still : IsStill n f x p log told stages
+  pub still : IsStill n f x p log reported stages
   pub wait_is : wait ≡ waits f.limits p
   pub limits_are : f.limits ≡ limits
   pub takes : Takes out out' f.written
@@ -68,8 +67,8 @@ fresh_of_loop limits log fresh = record {
 }
 
 module _ {B : Type 0} {g : Ghosts B} where
-  pub turning_begins : (n : ℕ) (f : Frame) (x : loop.Proxy B g) (before : Log) (told : Option Log) (stages : ℕ → Stage) (out : Option (List ℕ)) → Begins n f x before told stages → IsTurning n 0 f.limits before x told stages out out true
-  turning_begins n f x before told stages out b = record {
+  pub turning_begins : (n : ℕ) (f : Frame) (x : loop.Proxy B g) (before : Log) (reported : Option Log) (stages : ℕ → Stage) (out : Option (List ℕ)) → Begins n f x before reported stages → IsTurning n 0 f.limits before x reported stages out out true
+  turning_begins n f x before reported stages out b = record {
     f = f;
     p = unused;
     log = before;
@@ -82,11 +81,11 @@ module _ {B : Type 0} {g : Ghosts B} where
     of_loop = fresh_of_loop f.limits before b.fresh;
   }
 
-  module _ (n m : ℕ) (limits : Limits) (before : Log) (x : loop.Proxy B g) (told : Option Log) (stages : ℕ → Stage) (out out' : Option (List ℕ)) (wait : Bool) (t : IsTurning n m limits before x told stages out out' wait) where
+  module _ (n m : ℕ) (limits : Limits) (before : Log) (x : loop.Proxy B g) (reported : Option Log) (stages : ℕ → Stage) (out out' : Option (List ℕ)) (wait : Bool) (t : IsTurning n m limits before x reported stages out out' wait) where
     -- one more turn
-    pub turning_on : (n' : ℕ) (x' : loop.Proxy B g) (told' : Option Log) (stages' : ℕ → Stage) (new : Option (List ℕ)) (again : Bool) → TurnsTo n' t.f t.p t.log x x' told' stages' out' new again → faults_in x'.cache ≡ faults_in x.cache
-        → IsTurning n' (m + 1) limits before x' told' stages' out new again
-    turning_on n' x' told' stages' new again to none = record {
+    pub turning_on : (n' : ℕ) (x' : loop.Proxy B g) (reported' : Option Log) (stages' : ℕ → Stage) (new : Option (List ℕ)) (again : Bool) → TurnsTo n' t.f t.p t.log x x' reported' stages' out' new again → faults_in x'.cache ≡ faults_in x.cache
+        → IsTurning n' (m + 1) limits before x' reported' stages' out new again
+    turning_on n' x' reported' stages' new again to none = record {
       f = to.f';
       p = to.p';
       log = to.log';
@@ -110,15 +109,15 @@ module _ {B : Type 0} {g : Ghosts B} where
     by_stop turns log new stop.NoMemory is few front = Serves.wanting is few front
 
     -- a turn is cut short
-    pub turning_stops : (turns : ℕ) (x' : loop.Proxy B g) (told' : Option Log) (new : Option (List ℕ)) (P : Stop → Type 0) (result : Result (Unit {0}) Stop) → IsErrAnd result P → m < turns → TurnStops t.f t.p t.log x x' told' out' new → faults_in x'.cache ≡ faults_in x.cache
-        → EndsBy limits turns before told' out new (ended_as result)
-    turning_stops turns x' told' new P (Ok done) stops less cut none = absurd stops
-    turning_stops turns x' told' new P (Err e) stops less cut none =
+    pub turning_stops : (turns : ℕ) (x' : loop.Proxy B g) (reported' : Option Log) (new : Option (List ℕ)) (P : Stop → Type 0) (result : Result (Unit {0}) Stop) → IsErrAnd result P → m < turns → TurnStops t.f t.p t.log x x' reported' out' new → faults_in x'.cache ≡ faults_in x.cache
+        → EndsBy limits turns before reported' out new (ended_as result)
+    turning_stops turns x' reported' new P (Ok done) stops less cut none = absurd stops
+    turning_stops turns x' reported' new P (Err e) stops less cut none =
         let c = cut.goes none t.of_loop in
         let c' : IsCutShort limits cut.log' t.f.written out' new = subst (λ l. IsCutShort l cut.log' t.f.written out' new) t.limits_are c in
         record {
           log' = cut.log';
-          told_is = cut.told_is;
+          reported_is = cut.reported_is;
           bound = cut.bound ∙ t.bound;
           serves =
               by_stop turns cut.log' new e c'.is_log (let a = cut.calls in let b = t.calls in omega arith)
@@ -147,11 +146,11 @@ module _ {B : Type 0} {g : Ghosts B} where
     all_taken = subst (Takes out out') (sym record_so ∙ ap record_of tables_now) t.takes
 
     -- memory was refused behind the last turn
-    pub turning_wants : (turns : ℕ) (told' : Option Log) (P : Stop → Type 0) (result : Result (Unit {0}) Stop) → IsErrAnd result P → m ≤ turns → told' ≡ told → EndsBy limits turns before told' out out' (ended_as result)
-    turning_wants turns told' P (Ok done) stops few same = absurd stops
-    turning_wants turns told' P (Err e) stops few same = record {
+    pub turning_wants : (turns : ℕ) (reported' : Option Log) (P : Stop → Type 0) (result : Result (Unit {0}) Stop) → IsErrAnd result P → m ≤ turns → reported' ≡ reported → EndsBy limits turns before reported' out out' (ended_as result)
+    turning_wants turns reported' P (Ok done) stops few same = absurd stops
+    turning_wants turns reported' P (Err e) stops few same = record {
       log' = t.log;
-      told_is = subst (λ (z : Option Log). (z ≡ None) ⊎ (z ≡ Some t.log)) (sym same) t.still.follows.told_is;
+      reported_is = subst (λ (z : Option Log). (z ≡ None) ⊎ (z ≡ Some t.log)) (sym same) t.still.follows.reported_is;
       bound = t.bound;
       serves = by_stop turns t.log out' e is_log_now (let b = t.calls in omega arith) (whole_turns limits t.log out out' all_taken);
     }
@@ -283,15 +282,15 @@ all_shut log p =
     ap (λ b. b && list_all (exchange_is_sent (all_closed log) p) (open_exchanges p.tables)) (each_same (λ k. client_is_sent (all_closed log) k (p.client k)) (λ k. client_is_sent log k (p.client k)) (λ k. client_shut log k (p.client k)) p.accepted)
     ∙ ap (λ b. list_all (λ k. client_is_sent log k (p.client k)) p.accepted && b) (each_same (exchange_is_sent (all_closed log) p) (exchange_is_sent log p) (exchange_shut log p) (open_exchanges p.tables))
 
-module _ {B : Type 0} {g : Ghosts B} (n m : ℕ) (limits : Limits) (before : Log) (x : loop.Proxy B g) (told : Option Log) (stages : ℕ → Stage) (out out' : Option (List ℕ)) (wait : Bool) (t : IsTurning n m limits before x told stages out out' wait) where
+module _ {B : Type 0} {g : Ghosts B} (n m : ℕ) (limits : Limits) (before : Log) (x : loop.Proxy B g) (reported : Option Log) (stages : ℕ → Stage) (out out' : Option (List ℕ)) (wait : Bool) (t : IsTurning n m limits before x reported stages out out' wait) where
   -- all turns were made, and all connections are closed
-  pub turning_ends : (told' : Option Log) → IsClosed t.log told' → EndsBy limits m before told' out out' ended.Done
-  turning_ends told' closed =
-      let now = is_log_now n m limits before x told stages out out' wait t in
-      let same = tables_now n m limits before x told stages out out' wait t in
+  pub turning_ends : (reported' : Option Log) → IsClosed t.log reported' → EndsBy limits m before reported' out out' ended.Done
+  turning_ends reported' closed =
+      let now = is_log_now n m limits before x reported stages out out' wait t in
+      let same = tables_now n m limits before x reported stages out out' wait t in
       record {
         log' = all_closed t.log;
-        told_is = closed;
+        reported_is = closed;
         bound = t.bound;
         serves =
             Serves.done
@@ -306,7 +305,7 @@ module _ {B : Type 0} {g : Ghosts B} (n m : ℕ) (limits : Limits) (before : Log
               dialled = t.still.rests.opened ∙ ap (λ (r : Proxy). r.tables.opened) same;
               closed = shut_closed t.log.takers;
             })
-            (all_taken n m limits before x told stages out out' wait t);
+            (all_taken n m limits before x reported stages out out' wait t);
       }
 
 -- BEFORE THE FIRST TURN
@@ -316,27 +315,27 @@ abbrev pub log_of : Option Log → Log
 log_of None = empty_log
 log_of (Some log) = log
 
-pub told_first : (told : Option Log) → (told ≡ None) ⊎ (told ≡ Some (log_of told))
-told_first None = inl refl
-told_first (Some log) = inr refl
+pub reported_first : (reported : Option Log) → (reported ≡ None) ⊎ (reported ≡ Some (log_of reported))
+reported_first None = inl refl
+reported_first (Some log) = inr refl
 
-fresh_first : (told : Option Log) → IfSome told IsFresh → IsFresh (log_of told)
+fresh_first : (reported : Option Log) → IfSome reported IsFresh → IsFresh (log_of reported)
 fresh_first None fresh = record { calls = refl; dialled = refl; takers = refl }
 fresh_first (Some log) fresh = fresh
 
 abbrev pub frame_of : Limits → Frame
 frame_of limits = record { limits = limits; written = []; bytes = 0 }
 
-module _ {B : Type 0} {g : Ghosts B} (n : ℕ) (limits : Limits) (x : loop.Proxy B g) (told : Option Log) (stages : ℕ → Stage) (fresh : IfSome told IsFresh) (unseen : (k : ℕ) → stages k ≡ Unseen)
+module _ {B : Type 0} {g : Ghosts B} (n : ℕ) (limits : Limits) (x : loop.Proxy B g) (reported : Option Log) (stages : ℕ → Stage) (fresh : IfSome reported IsFresh) (unseen : (k : ℕ) → stages k ≡ Unseen)
     (rests : (log : Log) → IsFresh log → Rests (frame_of limits) x unused log) (none : steps x.cache ≡ 0) (written : text_of x.record ≡ []) where
-  pub loop_begins : Begins n (frame_of limits) x (log_of told) told stages
+  pub loop_begins : Begins n (frame_of limits) x (log_of reported) reported stages
   loop_begins =
-      let is = fresh_first told fresh in
+      let is = fresh_first reported fresh in
       record {
         still = record {
-          rests = rests (log_of told) is;
+          rests = rests (log_of reported) is;
           follows = record {
-            told_is = told_first told;
+            reported_is = reported_first reported;
             stands = λ k. unseen k ∙ sym (ap (λ cs. stage_in cs k) is.takers);
             apart = subst AreApart (sym is.takers) tt;
           };
@@ -348,9 +347,9 @@ module _ {B : Type 0} {g : Ghosts B} (n : ℕ) (limits : Limits) (x : loop.Proxy
       }
 
 -- what the wire tells
-pub told_ends : (limits : Limits) (turns : ℕ) (log : Log) (told told' : Option Log) (out out' : Option (List ℕ)) (end : Ended) → (told ≡ None) ⊎ (told ≡ Some log) → EndsBy limits turns log told' out out' end → ServesAs limits turns told told' out out' end
-told_ends limits turns log told None out out' end is e = tt
-told_ends limits turns log told (Some l) out out' end is e = by_told e.told_is
+pub reported_ends : (limits : Limits) (turns : ℕ) (log : Log) (reported reported' : Option Log) (out out' : Option (List ℕ)) (end : Ended) → (reported ≡ None) ⊎ (reported ≡ Some log) → EndsBy limits turns log reported' out out' end → ServesAs limits turns reported reported' out out' end
+reported_ends limits turns log reported None out out' end is e = tt
+reported_ends limits turns log reported (Some l) out out' end is e = by_reported e.reported_is
   where
     some_is : (a b : Log) → Some a ≡ Some b → a ≡ b
     some_is a b h = cc
@@ -360,8 +359,8 @@ told_ends limits turns log told (Some l) out out' end is e = by_told e.told_is
     by_old (Some old) (inl none) l' same = absurd (let never : Some old ≡ None = none in cc)
     by_old (Some old) (inr it) l' same = same ∙ ap (λ (z : Log). z.bound) (sym (some_is old log it))
 
-    by_told : (Some l ≡ None) ⊎ (Some l ≡ Some e.log') → ServesAs limits turns told (Some l) out out' end
-    by_told (inl none) = absurd (let never : Some l ≡ None = none in cc)
-    by_told (inr same) =
+    by_reported : (Some l ≡ None) ⊎ (Some l ≡ Some e.log') → ServesAs limits turns reported (Some l) out out' end
+    by_reported (inl none) = absurd (let never : Some l ≡ None = none in cc)
+    by_reported (inr same) =
         let it : l ≡ e.log' = some_is l e.log' same in
-        subst (λ (z : Log). ServesAs limits turns told (Some z) out out' end) (sym it) (e.serves, loops_are_runs limits e.log', by_old told is e.log' e.bound)
+        subst (λ (z : Log). ServesAs limits turns reported (Some z) out out' end) (sym it) (e.serves, loops_are_runs limits e.log', by_old reported is e.log' e.bound)

@@ -3,7 +3,7 @@
 use Rattle.std.{proofs.Common.{◌≡◌, ℕ, List, [], ◌∷◌, Bool, true, false, Option, Some, None, refl, ◌∙◌}, specs.Prelude.{◌&&◌, if◌then◌else◌, Result, Ok, Err}}
 use Rattle.hc_effects.proofs.Vocabulary.{Event, is_open, is_wanted, Limits, event}
 use Rattle.hc_head.specs.declared.message.MsgError.{MsgError}
-use Rattle.hc_msg.specs.{Inputs.{Next, Waits, Tells, Brings, Ends, Fails}, Reading.{Done, Failed, Token, Asks, Answers, Byte}, Taking.{ending}, declared.message.WirePart.{WirePart}}
+use Rattle.hc_msg.specs.{Inputs.{Next, Waits, Reports, Brings, Ends, Fails}, Reading.{Done, Failed, Token, Asks, Answers, Byte}, Taking.{ending}, declared.message.WirePart.{WirePart}}
 use Rattle.hc_proxy.specs.{Network.{has_news, next_of, read_to, is_last_denied, unless_denied, hands_head, hands, hands_if, handed, closes, closes_if, closed, event_at_close, open_exchanges, each_heard, heard}, Rows.{Upstream, Proxy, with_upstream}, Steps.{with_entry, stepped}}
 
 -- the event is of an exchange
@@ -35,7 +35,7 @@ module _ (limits : Limits) (R : Proxy → Proxy → Type 0) (kept : IsKeptByNetw
 
   hands_by : (x : ℕ) (n : Next) (p : Proxy) → R p (hands limits x n p)
   hands_by x (Waits reading) p = kept.reads x (read_to reading []) p
-  hands_by x (Tells token reading rest) p =
+  hands_by x (Reports token reading rest) p =
       kept.both p (with_upstream x (read_to reading rest) p) (hands_head limits x token (with_upstream x (read_to reading rest) p))
       (kept.reads x (read_to reading rest) p) (head_by x token (with_upstream x (read_to reading rest) p))
   hands_by x (Brings bytes reading rest) p =
@@ -56,7 +56,7 @@ module _ (limits : Limits) (R : Proxy → Proxy → Type 0) (kept : IsKeptByNetw
 
   closes_by : (x : ℕ) (n : Next) (p : Proxy) → R p (closes limits x n p)
   closes_by x (Waits reading) p = close_by x (ending reading) p
-  closes_by x (Tells token reading rest) p = kept.none p
+  closes_by x (Reports token reading rest) p = kept.none p
   closes_by x (Brings bytes reading rest) p = kept.none p
   closes_by x Ends p = kept.none p
   closes_by x (Fails e) p = kept.steps (event.Fault x) refl p

@@ -3,7 +3,7 @@
 use Rattle.std.{proofs.Common.{◌≡◌, ℕ, List, [], ◌∷◌, ◌++◌, Bool, true, false, Option, Some, None, refl, length}, specs.Prelude.{◌&&◌, not, nat_lt, is_none, if◌then◌else◌}}
 use Rattle.hc_head.specs.{Decoding.{asked_in}, Requests.{Asked, Grants, Denies}, Scans.{scan_byte, is_open}, Starts.{begins_request}, declared.scan.Scan.{Scan}}
 use Rattle.hc_head.specs.declared.message.MsgError.TheVariants as error
-use Rattle.hc_msg.specs.{Inputs.{Next, Waits, Tells, Fails, step_of, told_or, next_in}, Reading.{Reading, Heading, Requests, Failed, Token, Asks, Answers, Byte, Step, Move, Goes, EndsHead, quiet, fails, after_asked, head_move, move_of}}
+use Rattle.hc_msg.specs.{Inputs.{Next, Waits, Reports, Fails, step_of, reported_or, next_in}, Reading.{Reading, Heading, Requests, Failed, Token, Asks, Answers, Byte, Step, Move, Goes, EndsHead, quiet, fails, after_asked, head_move, move_of}}
 use Rattle.hc_wire.specs.Logs.{Called}
 use Rattle.hc_proxy.specs.{Connections.{has_unsent}, Invariants.{IsOfRequests}, Rows.{Client}, Starts.{is_ready}}
 
@@ -18,7 +18,7 @@ of_head _ is = absurd is
 
 abbrev pub IsNextAsked : Next → Type 0
 IsNextAsked (Waits reading) = IsHead reading
-IsNextAsked (Tells (Asks request) reading rest) = IsHead reading
+IsNextAsked (Reports (Asks request) reading rest) = IsHead reading
 IsNextAsked (Fails e) = Unit {0}
 IsNextAsked _ = ⊥
 
@@ -51,11 +51,11 @@ byte_asked scan text b = by_length (nat_lt (length text) 32768)
     by_length true = by_begins (begins_request (text ++ b ∷ []))
     by_length false = tt
 
-told_asked : (tokens : List Token) (next : Reading) (input : List ℕ) (go_on : Reading → Next) → ((s : Reading) → IsOfRequests s → IsNextAsked (go_on s)) → IsStepAsked tokens next → IsNextAsked (told_or tokens next input go_on)
-told_asked [] next input go_on rest is = rest next is
-told_asked (Asks request ∷ more) next input go_on rest is = is
-told_asked (Answers response ∷ more) next input go_on rest is = absurd is
-told_asked (Byte b ∷ more) next input go_on rest is = absurd is
+reported_asked : (tokens : List Token) (next : Reading) (input : List ℕ) (go_on : Reading → Next) → ((s : Reading) → IsOfRequests s → IsNextAsked (go_on s)) → IsStepAsked tokens next → IsNextAsked (reported_or tokens next input go_on)
+reported_asked [] next input go_on rest is = rest next is
+reported_asked (Asks request ∷ more) next input go_on rest is = is
+reported_asked (Answers response ∷ more) next input go_on rest is = absurd is
+reported_asked (Byte b ∷ more) next input go_on rest is = absurd is
 
 pub next_asks : (most : ℕ) (s : Reading) (input : List ℕ) → IsOfRequests s → IsNextAsked (next_in most s input)
 unfolding next_in
@@ -64,7 +64,7 @@ next_asks most (Failed e) [] is = tt
 next_asks most (Failed e) (b ∷ input) is = tt
 next_asks most (Heading Requests scan text) (b ∷ input) is =
     let step : Step = step_of (move_of (Heading Requests scan text) b) in
-    told_asked step.tokens step.next input (λ s. next_in most s input) (λ s of. next_asks most s input of) (byte_asked scan text b)
+    reported_asked step.tokens step.next input (λ s. next_in most s input) (λ s of. next_asks most s input of) (byte_asked scan text b)
 next_asks most _ input is = absurd is
 
 -- WHO IS READY

@@ -1,15 +1,15 @@
 -- What stands next where a head is still read: no body and no end. So whoever reads behind a head was told that.
 use Rattle.std.{proofs.Common.{◌≡◌, ℕ, ◌++◌, List, [], ◌∷◌, length, Bool, true, false, refl, sym, ◌∙◌, subst}, specs.Prelude.{nat_lt, not, if◌then◌else◌}}
 use Rattle.hc_text.proofs.Basics.{true_false}
-use Rattle.hc_head.specs.{Decoding.{asked_in, heard_in}, Requests.{Asked, Grants, Denies}, Responses.{Heard, Skips, Shows, Refuses}, Scans.{scan_byte, is_open}, declared.scan.Scan.{Scan}}
+use Rattle.hc_head.specs.{Decoding.{asked_in, heard_in}, Requests.{Asked, Grants, Denies}, Responses.{HeadOutcome, Skips, Shows, Refuses}, Scans.{scan_byte, is_open}, declared.scan.Scan.{Scan}}
 use Rattle.hc_head.specs.declared.message.MsgError.TheVariants as error
-use Rattle.hc_msg.specs.{Inputs.{Next, Waits, Tells, Brings, Ends, Fails, next_in, told_or, step_of}, Reading.{Kind, Requests, Responses, Reading, Heading, Counts, Runs, Sizing, Chunk, ChunkEnd, ChunkReturn, Trailing, Whole, Done, Failed, Token, Answers, Step, Goes, EndsHead, quiet, fails, after_asked, after_heard, begins_head, head_move, move_of}}
+use Rattle.hc_msg.specs.{Inputs.{Next, Waits, Reports, Brings, Ends, Fails, next_in, reported_or, step_of}, Reading.{Kind, Requests, Responses, Reading, Heading, Counts, Runs, Sizing, Chunk, ChunkEnd, ChunkReturn, Trailing, Whole, Done, Failed, Token, Answers, Step, Goes, EndsHead, quiet, fails, after_asked, after_heard, begins_head, head_move, move_of}}
 use Rattle.hc_proxy.specs.Headed.{is_begun}
 
 -- neither a body, nor an end, nor a wait behind a head
 abbrev pub IsUnbegun : Next → Type 0
 IsUnbegun (Waits t) = is_begun t ≡ false
-IsUnbegun (Tells token t rest) = Unit {0}
+IsUnbegun (Reports token t rest) = Unit {0}
 IsUnbegun (Brings bytes t rest) = ⊥
 IsUnbegun Ends = ⊥
 IsUnbegun (Fails e) = Unit {0}
@@ -22,7 +22,7 @@ asked_off : (a : Asked) → IsOff (after_asked a)
 asked_off (Grants request) none = refl
 asked_off (Denies e) none = refl
 
-heard_off : (no_body : Bool) (h : Heard) → IsOff (after_heard no_body h)
+heard_off : (no_body : Bool) (h : HeadOutcome) → IsOff (after_heard no_body h)
 heard_off no_body Skips none = refl
 heard_off no_body (Shows response framing) none = absurd (let never : (Answers response ∷ []) ≡ [] = none in cc)
 heard_off no_body (Refuses e) none = refl
@@ -44,16 +44,16 @@ byte_off kind scan text b = by_length (nat_lt (length text) 32768)
     by_length true none = move_off kind (scan_byte scan b) (text ++ b ∷ []) (begins_head kind (text ++ b ∷ [])) (is_open (scan_byte scan b)) none
     by_length false none = refl
 
-told_off : (tokens : List Token) (s : Reading) (rest : List ℕ) (go_on : Reading → Next) → (tokens ≡ [] → IsUnbegun (go_on s)) → IsUnbegun (told_or tokens s rest go_on)
-told_off [] s rest go_on h = h refl
-told_off (token ∷ more) s rest go_on h = tt
+reported_off : (tokens : List Token) (s : Reading) (rest : List ℕ) (go_on : Reading → Next) → (tokens ≡ [] → IsUnbegun (go_on s)) → IsUnbegun (reported_or tokens s rest go_on)
+reported_off [] s rest go_on h = h refl
+reported_off (token ∷ more) s rest go_on h = tt
 
 pub unbegun : (most : ℕ) (s : Reading) (input : List ℕ) → is_begun s ≡ false → IsUnbegun (next_in most s input)
 unfolding next_in
 unbegun most (Heading kind scan text) [] off = refl
 unbegun most (Failed e) [] off = tt
 unbegun most (Heading kind scan text) (b ∷ input) off =
-    told_off (step_of (move_of (Heading kind scan text) b)).tokens (step_of (move_of (Heading kind scan text) b)).next input (λ t. next_in most t input)
+    reported_off (step_of (move_of (Heading kind scan text) b)).tokens (step_of (move_of (Heading kind scan text) b)).next input (λ t. next_in most t input)
     (λ none. unbegun most (step_of (move_of (Heading kind scan text) b)).next input (byte_off kind scan text b none))
 unbegun most (Failed e) (b ∷ input) off = tt
 unbegun most (Counts left) input off = true_false off

@@ -2,15 +2,15 @@
 use Rattle.std.{proofs.{Common.{◌≡◌, ◌≤◌, ◌<◌, ◌^◌, ℕ, true, List, [], ◌∷◌, refl, subst, arith}, lemmas.{Bool.Decides.{nat_tests}, List.Elements.{All-head}}}, specs.Prelude.{nat_le, length}}
 use Rattle.hc_effects.proofs.Vocabulary.{event, Request, Response}
 use Rattle.hc_head.specs.Spellings.{IsMethod, IsSpelledRequest, IsSpelledResponse}
-use Rattle.hc_msg.specs.{Inputs.{Tells, next_in}, NextParts.{IsToldFirst, StandsNext}, Reading.{Reading, Token}, Spelled.{IsSpelled}}
-use Rattle.hc_msg.proofs.{Leading.{tells_leads}, NextParts.{stands_next}, Spelled.{tokens_spelled}}
+use Rattle.hc_msg.specs.{Inputs.{Reports, next_in}, NextParts.{IsReportedFirst, StandsNext}, Reading.{Reading, Token}, Spelled.{IsSpelled}}
+use Rattle.hc_msg.proofs.{Leading.{reports_leads}, NextParts.{stands_next}, Spelled.{tokens_spelled}}
 use Rattle.hc_sched.specs.{FirstLines.{is_method}, Schedule.{IsEvent}}
 
 -- what is told next has a spelling
-pub told_spelled : (most : ℕ) (s : Reading) (input : List ℕ) (token : Token) (t : Reading) (rest : List ℕ) → next_in most s input ≡ Tells token t rest → IsSpelled token
-told_spelled most s input token t rest is =
-    let first : IsToldFirst s input token t rest = subst (StandsNext most s input) is (stands_next most s input) in
-    All-head IsSpelled token [] (tokens_spelled s first.front (token ∷ []) t (tells_leads s first.front token t first.tells))
+pub reported_spelled : (most : ℕ) (s : Reading) (input : List ℕ) (token : Token) (t : Reading) (rest : List ℕ) → next_in most s input ≡ Reports token t rest → IsSpelled token
+reported_spelled most s input token t rest is =
+    let first : IsReportedFirst s input token t rest = subst (StandsNext most s input) is (stands_next most s input) in
+    All-head IsSpelled token [] (tokens_spelled s first.front (token ∷ []) t (reports_leads s first.front token t first.reports))
 
 method_is : (method : List ℕ) → IsMethod method → is_method method ≡ true
 unfolding is_method

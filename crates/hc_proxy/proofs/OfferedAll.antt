@@ -49,18 +49,18 @@ sends_both p a b c first second = record {
   unseen = λ k is. first.unseen k (second.unseen k is);
 }
 
-pub fails_later : (p : Proxy) (a b : Log) (told : Option Log) → Sends p a b → SentSome p b told → SentSome p a told
-fails_later p a b told first some = record {
+pub fails_later : (p : Proxy) (a b : Log) (reported : Option Log) → Sends p a b → SentSome p b reported → SentSome p a reported
+fails_later p a b reported first some = record {
   log' = some.log';
-  told_is = some.told_is;
+  reported_is = some.reported_is;
   calls = some.calls ∙ first.calls;
   bound = some.bound ∙ first.bound;
   dialled = some.dialled ∙ first.dialled;
   sent = λ all. some.sent (first.sent all);
 }
 
-pub fails_here : (p : Proxy) (log : Log) (told : Option Log) → (told ≡ None) ⊎ (told ≡ Some log) → SentSome p log told
-fails_here p log told is = record { log' = log; told_is = is; calls = refl; bound = refl; dialled = refl; sent = λ all. all }
+pub fails_here : (p : Proxy) (log : Log) (reported : Option Log) → (reported ≡ None) ⊎ (reported ≡ Some log) → SentSome p log reported
+fails_here p log reported is = record { log' = log; reported_is = is; calls = refl; bound = refl; dialled = refl; sent = λ all. all }
 
 -- CLIENTS
 
@@ -86,10 +86,10 @@ settled_sent log k (Some c) is = record {
 
 module _ (p : Proxy) (log : Log) (up : Upstreams) where
   -- before the first
-  pub clients_begin : (cl : Clients) (told : Option Log) (stages : ℕ → Stage) (left : List ℕ) → left ≡ touched_of cl
+  pub clients_begin : (cl : Clients) (reported : Option Log) (stages : ℕ → Stage) (left : List ℕ) → left ≡ touched_of cl
       → ((k : ℕ) → is_touched cl k ≡ false → settled_at (client_of cl k) ≡ true)
-      → HasConnections p cl up log → Follows told stages log → SendsToClients p log left cl up told stages
-  clients_begin cl told stages left listed settled has follows = record {
+      → HasConnections p cl up log → Follows reported stages log → SendsToClients p log left cl up reported stages
+  clients_begin cl reported stages left listed settled has follows = record {
     log' = log;
     follows = follows;
     sends = sends_none p log;
@@ -97,12 +97,12 @@ module _ (p : Proxy) (log : Log) (up : Upstreams) where
     sent = λ k none. settled_sent log k (client_of cl k) (settled k (not_listed k (touched_of cl) (subst (λ (ks : List ℕ). list_any (nat_eq k) ks ≡ false) listed none)));
   }
 
-  module _ {W : Type 0} (stages : W → ℕ → Stage) (tells : W → Option Log) (wire wire' : W) (cl cl' : Clients) (k : ℕ) (left : List ℕ)
-      (u : SendsToClients p log (k ∷ left) cl up (tells wire) (stages wire)) where
+  module _ {W : Type 0} (stages : W → ℕ → Stage) (reports : W → Option Log) (wire wire' : W) (cl cl' : Clients) (k : ℕ) (left : List ℕ)
+      (u : SendsToClients p log (k ∷ left) cl up (reports wire) (stages wire)) where
     -- one more
-    pub clients_next : IsOffered stages tells k cl cl' wire wire' → SendsToClients p log left cl' up (tells wire') (stages wire')
+    pub clients_next : IsOffered stages reports k cl cl' wire wire' → SendsToClients p log left cl' up (reports wire') (stages wire')
     clients_next offered =
-        let goes = client_goes stages tells wire wire' p cl cl' up u.log' k u.has u.follows offered in
+        let goes = client_goes stages reports wire wire' p cl cl' up u.log' k u.has u.follows offered in
         record {
           log' = goes.log';
           follows = goes.follows;
@@ -119,15 +119,15 @@ module _ (p : Proxy) (log : Log) (up : Upstreams) where
         by_number l j none false off sent others = others off (u.sent j (left_off j k left off none))
 
     -- one that fails
-    pub clients_fail : OffersSome k (unsent_at (client_of cl k)) (tells wire) (tells wire') → SentSome p log (tells wire')
-    clients_fail some = fails_later p log u.log' (tells wire') u.sends (client_fails stages tells wire wire' p cl cl' up u.log' k u.has u.follows some)
+    pub clients_fail : OffersSome k (unsent_at (client_of cl k)) (reports wire) (reports wire') → SentSome p log (reports wire')
+    clients_fail some = fails_later p log u.log' (reports wire') u.sends (client_fails stages reports wire wire' p cl cl' up u.log' k u.has u.follows some)
 
 -- CONNECTIONS TO THE ORIGIN
 
 module _ (p : Proxy) (log : Log) (cl : Clients) where
-  pub origins_begin : (up : Upstreams) (told : Option Log) (stages : ℕ → Stage) (left : List ℕ) → left ≡ upstreams.touched_of up
-      → HasConnections p cl up log → AreSent cl log → Follows told stages log → SendsToOrigins p log left cl up told stages
-  origins_begin up told stages left listed has clients follows = record {
+  pub origins_begin : (up : Upstreams) (reported : Option Log) (stages : ℕ → Stage) (left : List ℕ) → left ≡ upstreams.touched_of up
+      → HasConnections p cl up log → AreSent cl log → Follows reported stages log → SendsToOrigins p log left cl up reported stages
+  origins_begin up reported stages left listed has clients follows = record {
     log' = log;
     follows = follows;
     sends = sends_none p log;
@@ -141,13 +141,13 @@ module _ (p : Proxy) (log : Log) (cl : Clients) where
       by_row y None is untouched = tt
       by_row y (Some u) is untouched = let rests = has.touched y u is untouched in record { reads = rests.1; lacks = inl rests.0 }
 
-  module _ {W : Type 0} (stages : W → ℕ → Stage) (tells : W → Option Log) (wire wire' : W) (up up' : Upstreams) (y : ℕ) (on : Bool) (left : List ℕ)
-      (u : SendsToOrigins p log (y ∷ left) cl up (tells wire) (stages wire)) where
+  module _ {W : Type 0} (stages : W → ℕ → Stage) (reports : W → Option Log) (wire wire' : W) (up up' : Upstreams) (y : ℕ) (on : Bool) (left : List ℕ)
+      (u : SendsToOrigins p log (y ∷ left) cl up (reports wire) (stages wire)) where
     pub origins_next : on ≡ is_wanted (p.tables.exchange y) → ((z : ℕ) → is_news up' z ≡ is_news up z)
         → Marks (upstreams.is_touched up) (upstreams.is_touched up') y (upstreams.is_touched up y && lacks_at (upstream_of up' y))
-        → IsOfferedOrigin stages tells y on up up' wire wire' → SendsToOrigins p log left cl up' (tells wire') (stages wire')
+        → IsOfferedOrigin stages reports y on up up' wire wire' → SendsToOrigins p log left cl up' (reports wire') (stages wire')
     origins_next wanted news touches offered =
-        let goes = origin_goes stages tells wire wire' p cl up up' u.log' y on u.has u.follows wanted news touches offered in
+        let goes = origin_goes stages reports wire wire' p cl up up' u.log' y on u.has u.follows wanted news touches offered in
         record {
           log' = goes.log';
           follows = goes.follows;
@@ -164,5 +164,5 @@ module _ (p : Proxy) (log : Log) (cl : Clients) where
             subst (λ i. IsSentOriginAt p l i (upstream_of up' i)) (sym number) sent
         by_number l z none false off sent others = others off (u.sent z (left_off z y left off none))
 
-    pub origins_fail : OffersSome (number_at (upstream_of up y)) (unsent_up (upstream_of up y)) (tells wire) (tells wire') → SentSome p log (tells wire')
-    origins_fail some = fails_later p log u.log' (tells wire') u.sends (origin_fails stages tells wire wire' p cl up up' u.log' y on u.has u.follows some)
+    pub origins_fail : OffersSome (number_at (upstream_of up y)) (unsent_up (upstream_of up y)) (reports wire) (reports wire') → SentSome p log (reports wire')
+    origins_fail some = fails_later p log u.log' (reports wire') u.sends (origin_fails stages reports wire wire' p cl up up' u.log' y on u.has u.follows some)

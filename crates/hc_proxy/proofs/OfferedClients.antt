@@ -7,12 +7,12 @@
 use Rattle.std.{proofs.{Common.{◌≡◌, ◌⊎◌, inl, inr, ℕ, zero, suc, ◌+◌, ◌-◌, ◌≤◌, List, [], ◌∷◌, Bool, true, false, Option, Some, None, refl, ap, sym, ◌∙◌, subst, arith, length, take, drop, length-append, length-drop}, lemmas.{Bool.Decides.{nat_tests}, List.{length-take-le, drop_all}}, Math.Seq.{drop-nil}}, specs.Prelude.{nat_eq, nat_lt, ◌&&◌, ◌==◌, find, IsSome}}
 use Rattle.hc_text.proofs.Basics.{eq_itself as same_number, some_inj as some_is}
 use Rattle.hc_wire.specs.{Events.{Stage, Open, Closed, with_stage, closed_of, reading_of, IsOpen}, Logs.{Log, Taker, is_numbered, is_at_end, stage_from, sent_from, stage_in, sent_in, with_sent, with_reading, with_closed}}
-use Rattle.hc_peers.specs.{Clients.{client_of, Becomes}, Offering.{reading_told, stage_told, sent_of, sent_more, log_behind, unsent_at, IsOfferedTo, IsOfferedAt, IsOffered}, Offers.{OffersSome}, Peers.{is_idle, is_over, is_same}, Upstreams.{upstream_of}, declared.{clients.Clients.{Clients}, upstreams.Upstreams.{Upstreams}}}
+use Rattle.hc_peers.specs.{Clients.{client_of, Becomes}, Offering.{reading_reported, stage_reported, sent_of, sent_more, log_behind, unsent_at, IsOfferedTo, IsOfferedAt, IsOffered}, Offers.{OffersSome}, Peers.{is_idle, is_over, is_same}, Upstreams.{upstream_of}, declared.{clients.Clients.{Clients}, upstreams.Upstreams.{Upstreams}}}
 use Rattle.hc_peers.specs.declared.client.Client as peer
 use Rattle.hc_peers.specs.declared.upstream.Upstream as origin
 use Rattle.hc_peers.proofs.Rows.{same-itself}
 use Rattle.hc_proxy.specs.{Connections.{exchange_of, connection_of}, Keeping.{IsClient, IsUpstream, IsUpstreamAt}, Invariants.{NamesOne}, Logging.{Follows, short_from, is_short}, Rows.{Client, Upstream, Proxy}, TurnSteps.{SentSome}, Unsent.{taken_in, IsKnownAt, HasConnections, IsSentAt, Sends}}
-use Rattle.hc_proxy.proofs.{Followed.{follows_sent, follows_closed, follows_reading}, Taken.{MovesAt, client_front, moves_sent, moves_closed, moves_reading, none_front, some_sent}, Closings.{told_on}}
+use Rattle.hc_proxy.proofs.{Followed.{follows_sent, follows_closed, follows_reading}, Taken.{MovesAt, client_front, moves_sent, moves_closed, moves_reading, none_front, some_sent}, Closings.{reported_on}}
 
 pub none_some : {A : Type 0} {X : Type 0} (v : A) → None ≡ Some v → X
 none_some v is = absurd (let never : None ≡ Some v = is in cc)
@@ -229,9 +229,9 @@ module _ (p : Proxy) (cl : Clients) (up : Upstreams) (log : Log) (h : HasConnect
 
 -- WHAT COMES OF IT
 
-pub record ClientGoes (p : Proxy) (cl cl' : Clients) (up : Upstreams) (log : Log) (told : Option Log) (stages : ℕ → Stage) (k : ℕ) : Type 0 where
+pub record ClientGoes (p : Proxy) (cl cl' : Clients) (up : Upstreams) (log : Log) (reported : Option Log) (stages : ℕ → Stage) (k : ℕ) : Type 0 where
   pub log' : Log
-  pub follows : Follows told stages log'
+  pub follows : Follows reported stages log'
   pub sends : Sends p log log'
   pub has : HasConnections p cl' up log'
   pub sent : IsSentAt log' k (client_of cl' k)
@@ -261,13 +261,13 @@ module _ (p : Proxy) (cl cl' : Clients) (up : Upstreams) (log : Log) (h : HasCon
     ];
   }
 
-module _ {W : Type 0} (stages : W → ℕ → Stage) (tells : W → Option Log) (wire wire' : W) (p : Proxy) (cl cl' : Clients) (up : Upstreams) (log : Log) (k : ℕ)
-    (h : HasConnections p cl up log) (f : Follows (tells wire) (stages wire) log) where
+module _ {W : Type 0} (stages : W → ℕ → Stage) (reports : W → Option Log) (wire wire' : W) (p : Proxy) (cl cl' : Clients) (up : Upstreams) (log : Log) (k : ℕ)
+    (h : HasConnections p cl up log) (f : Follows (reports wire) (stages wire) log) where
   -- the log follows the wire without being told
-  untold : Follows None (stages wire) log
-  untold = record { told_is = inl refl; stands = f.stands; apart = f.apart }
+  unreported : Follows None (stages wire) log
+  unreported = record { reported_is = inl refl; stands = f.stands; apart = f.apart }
 
-  module _ (c : peer.Client) (at : client_of cl k ≡ Some c) (o : IsOfferedTo stages tells k c cl cl' wire wire') where
+  module _ (c : peer.Client) (at : client_of cl k ≡ Some c) (o : IsOfferedTo stages reports k c cl cl' wire wire') where
     abbrev n : ℕ
     n = o.n
 
@@ -287,10 +287,10 @@ module _ {W : Type 0} (stages : W → ℕ → Stage) (tells : W → Option Log) 
     m0 = client_moves p cl up log h k c at n less
 
     follows_mid : Follows None (stages wire) mid
-    follows_mid = follows_sent None None (stages wire) (stages wire) log untold k (take n c.unsent) less refl (λ j. refl)
+    follows_mid = follows_sent None None (stages wire) (stages wire) log unreported k (take n c.unsent) less refl (λ j. refl)
 
-    told_now : (tells wire' ≡ None) ⊎ (tells wire' ≡ Some (log_behind k after mid))
-    told_now = told_on (tells wire) (tells wire') log (λ l. log_behind k after (sent_of k n c.unsent l)) f.told_is o.told
+    reported_now : (reports wire' ≡ None) ⊎ (reports wire' ≡ Some (log_behind k after mid))
+    reported_now = reported_on (reports wire) (reports wire') log (λ l. log_behind k after (sent_of k n c.unsent l)) f.reported_is o.reported
 
     others_go : (stage' : Stage) (log' : Log) (m : MovesAt p k (take n c.unsent) less stage' log log') (row' : Option peer.Client) → Becomes k row' cl cl'
         → (j : ℕ) → nat_eq j k ≡ false → IsSentAt log j (client_of cl j) → IsSentAt log' j (client_of cl' j)
@@ -298,17 +298,17 @@ module _ {W : Type 0} (stages : W → ℕ → Stage) (tells : W → Option Log) 
         subst (λ (u : Option peer.Client). IsSentAt log' j u) (sym (becomes j ∙ rw off refl))
         (sent_same log log' j (client_of cl j) (short_off p k _ _ stage' log log' m j off) was)
 
-    goes_over : is_over after ≡ true → ClientGoes p cl cl' up log (tells wire') (stages wire') k
+    goes_over : is_over after ≡ true → ClientGoes p cl cl' up log (reports wire') (stages wire') k
     goes_over over =
         let gone : Becomes k None cl cl' = rw over at o.becomes in
         let m : MovesAt p k (take n c.unsent) less Closed log (with_closed k mid) = moves_closed p k (take n c.unsent) less log mid c.reading ended m0 in
-        let told : (tells wire' ≡ None) ⊎ (tells wire' ≡ Some (with_closed k mid)) = rw over at told_now in
+        let reported : (reports wire' ≡ None) ⊎ (reports wire' ≡ Some (with_closed k mid)) = rw over at reported_now in
         let shuts : (j : ℕ) → stages wire' j ≡ with_stage k (closed_of (stages wire k)) (stages wire) j = λ j. o.stands j ∙ rw over refl in
         let here : client_of cl' k ≡ None = gone k ∙ rw (same_number k) refl in
         let goes = follows_closed None None (stages wire) (stages wire') mid follows_mid k refl shuts in
         record {
           log' = with_closed k mid;
-          follows = record { told_is = told; stands = goes.stands; apart = goes.apart };
+          follows = record { reported_is = reported; stands = goes.stands; apart = goes.apart };
           sends = m.sends;
           has = client_has p cl up log h k c at n o.within Closed (with_closed k mid) m None cl' gone
               (over_known p cl up log h k c at n o.within Closed (with_closed k mid) m over) (λ u is. none_some u is) (λ live. absurd live);
@@ -316,8 +316,8 @@ module _ {W : Type 0} (stages : W → ℕ → Stage) (tells : W → Option Log) 
           others = others_go Closed (with_closed k mid) m None gone;
         }
 
-    goes_on : (log' : Log) → is_over after ≡ false → MovesAt p k (take n c.unsent) less (Open (is_idle after) ended) log log' → Follows (tells wire') (stages wire') log'
-        → ClientGoes p cl cl' up log (tells wire') (stages wire') k
+    goes_on : (log' : Log) → is_over after ≡ false → MovesAt p k (take n c.unsent) less (Open (is_idle after) ended) log log' → Follows (reports wire') (stages wire') log'
+        → ClientGoes p cl cl' up log (reports wire') (stages wire') k
     goes_on log' stays m follows =
         let becomes : Becomes k (Some (record after { reading = is_idle after })) cl cl' = rw stays at o.becomes in
         let here : client_of cl' k ≡ Some (record after { reading = is_idle after }) = becomes k ∙ rw (same_number k) refl in
@@ -333,42 +333,42 @@ module _ {W : Type 0} (stages : W → ℕ → Stage) (tells : W → Option Log) 
           others = others_go (Open (is_idle after) ended) log' m (Some (record after { reading = is_idle after })) becomes;
         }
 
-    goes_stays : is_over after ≡ false → ClientGoes p cl cl' up log (tells wire') (stages wire') k
+    goes_stays : is_over after ≡ false → ClientGoes p cl cl' up log (reports wire') (stages wire') k
     goes_stays stays = by_test (is_same c.reading (is_idle after)) refl
       where
-        told : (tells wire' ≡ None) ⊎ (tells wire' ≡ Some (reading_told k c.reading (is_idle after) mid))
-        told = rw stays at told_now
+        reported : (reports wire' ≡ None) ⊎ (reports wire' ≡ Some (reading_reported k c.reading (is_idle after) mid))
+        reported = rw stays at reported_now
 
-        stands : (j : ℕ) → stages wire' j ≡ stage_told k c.reading (is_idle after) (stages wire) j
+        stands : (j : ℕ) → stages wire' j ≡ stage_reported k c.reading (is_idle after) (stages wire) j
         stands j = o.stands j ∙ rw stays refl
 
-        by_test : (b : Bool) → is_same c.reading (is_idle after) ≡ b → ClientGoes p cl cl' up log (tells wire') (stages wire') k
+        by_test : (b : Bool) → is_same c.reading (is_idle after) ≡ b → ClientGoes p cl cl' up log (reports wire') (stages wire') k
         by_test true same =
             let was : c.reading ≡ is_idle after = was_same c.reading (is_idle after) same in
-            let it : (tells wire' ≡ None) ⊎ (tells wire' ≡ Some mid) = rw same at told in
+            let it : (reports wire' ≡ None) ⊎ (reports wire' ≡ Some mid) = rw same at reported in
             goes_on mid stays (subst (λ (b : Bool). MovesAt p k (take n c.unsent) less (Open b ended) log mid) was m0)
-            (record { told_is = it; stands = λ j. (stands j ∙ rw same refl) ∙ follows_mid.stands j; apart = follows_mid.apart })
+            (record { reported_is = it; stands = λ j. (stands j ∙ rw same refl) ∙ follows_mid.stands j; apart = follows_mid.apart })
         by_test false other =
-            let it : (tells wire' ≡ None) ⊎ (tells wire' ≡ Some (with_reading k (is_idle after) mid)) = rw other at told in
+            let it : (reports wire' ≡ None) ⊎ (reports wire' ≡ Some (with_reading k (is_idle after) mid)) = rw other at reported in
             let reads : (j : ℕ) → stages wire' j ≡ with_stage k (reading_of (is_idle after) (stages wire k)) (stages wire) j = λ j. stands j ∙ rw other refl in
             let goes = follows_reading None None (stages wire) (stages wire') mid follows_mid k (is_idle after) refl reads in
             goes_on (with_reading k (is_idle after) mid) stays (moves_reading p k (take n c.unsent) less log mid c.reading ended m0 (is_idle after))
-            (record { told_is = it; stands = goes.stands; apart = goes.apart })
+            (record { reported_is = it; stands = goes.stands; apart = goes.apart })
 
-    goes_to : ClientGoes p cl cl' up log (tells wire') (stages wire') k
+    goes_to : ClientGoes p cl cl' up log (reports wire') (stages wire') k
     goes_to = by_test (is_over after) refl
       where
-        by_test : (b : Bool) → is_over after ≡ b → ClientGoes p cl cl' up log (tells wire') (stages wire') k
+        by_test : (b : Bool) → is_over after ≡ b → ClientGoes p cl cl' up log (reports wire') (stages wire') k
         by_test true over = goes_over over
         by_test false stays = goes_stays stays
 
-  pub client_goes : IsOffered stages tells k cl cl' wire wire' → ClientGoes p cl cl' up log (tells wire') (stages wire') k
+  pub client_goes : IsOffered stages reports k cl cl' wire wire' → ClientGoes p cl cl' up log (reports wire') (stages wire') k
   client_goes offered = by_row (client_of cl k) refl offered
     where
-      by_row : (u : Option peer.Client) → client_of cl k ≡ u → IsOfferedAt stages tells k u cl cl' wire wire' → ClientGoes p cl cl' up log (tells wire') (stages wire') k
-      by_row None is (same, told, stands) = record {
+      by_row : (u : Option peer.Client) → client_of cl k ≡ u → IsOfferedAt stages reports k u cl cl' wire wire' → ClientGoes p cl cl' up log (reports wire') (stages wire') k
+      by_row None is (same, reported, stands) = record {
         log' = log;
-        follows = record { told_is = subst (λ (l : Option Log). (l ≡ None) ⊎ (l ≡ Some log)) (sym told) f.told_is; stands = λ j. stands j ∙ f.stands j; apart = f.apart };
+        follows = record { reported_is = subst (λ (l : Option Log). (l ≡ None) ⊎ (l ≡ Some log)) (sym reported) f.reported_is; stands = λ j. stands j ∙ f.stands j; apart = f.apart };
         sends = sends_none p log;
         has = same_has p cl cl' up log h same;
         sent = subst (λ (o : Option peer.Client). IsSentAt log k o) (sym (same k ∙ is)) tt;
@@ -377,9 +377,9 @@ module _ {W : Type 0} (stages : W → ℕ → Stage) (tells : W → Option Log) 
       by_row (Some c) is to = goes_to c is to
 
   -- what fails in the middle
-  pub client_fails : OffersSome k (unsent_at (client_of cl k)) (tells wire) (tells wire') → SentSome p log (tells wire')
+  pub client_fails : OffersSome k (unsent_at (client_of cl k)) (reports wire) (reports wire') → SentSome p log (reports wire')
   client_fails some = by_row (client_of cl k) refl some
     where
-      by_row : (u : Option peer.Client) → client_of cl k ≡ u → OffersSome k (unsent_at u) (tells wire) (tells wire') → SentSome p log (tells wire')
-      by_row None is part = some_sent p log k (tells wire) (tells wire') [] part f.told_is (λ n less. none_front p log k n less)
-      by_row (Some c) is part = some_sent p log k (tells wire) (tells wire') c.unsent part f.told_is (λ n less all. (client_moves p cl up log h k c is n less).sends.sent all)
+      by_row : (u : Option peer.Client) → client_of cl k ≡ u → OffersSome k (unsent_at u) (reports wire) (reports wire') → SentSome p log (reports wire')
+      by_row None is part = some_sent p log k (reports wire) (reports wire') [] part f.reported_is (λ n less. none_front p log k n less)
+      by_row (Some c) is part = some_sent p log k (reports wire) (reports wire') c.unsent part f.reported_is (λ n less all. (client_moves p cl up log h k c is n less).sends.sent all)

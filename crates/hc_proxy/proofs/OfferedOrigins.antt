@@ -7,12 +7,12 @@ use Rattle.std.{proofs.{Common.{◌≡◌, ◌⊎◌, inl, inr, ℕ, ◌+◌, �
 use Rattle.hc_text.proofs.Basics.{eq_itself as same_number, some_inj as some_is}
 use Rattle.hc_effects.proofs.Vocabulary.{is_open, is_wanted}
 use Rattle.hc_wire.specs.{Events.{Stage, Open, with_stage, reading_of, IsOpen}, Logs.{Log, stage_in, sent_in, with_sent, with_reading}}
-use Rattle.hc_peers.specs.{Clients.{client_of}, Offering.{reading_told, sent_of, unsent_up, number_at, IsOfferedUp, IsOfferedUpAt, IsOfferedOrigin}, Offers.{OffersSome}, Peers.{is_same}, Upstreams.{upstream_of, is_news, is_touched, lacks_at, Becomes, Marks}, declared.{clients.Clients.{Clients}, upstreams.Upstreams.{Upstreams}}}
+use Rattle.hc_peers.specs.{Clients.{client_of}, Offering.{reading_reported, sent_of, unsent_up, number_at, IsOfferedUp, IsOfferedUpAt, IsOfferedOrigin}, Offers.{OffersSome}, Peers.{is_same}, Upstreams.{upstream_of, is_news, is_touched, lacks_at, Becomes, Marks}, declared.{clients.Clients.{Clients}, upstreams.Upstreams.{Upstreams}}}
 use Rattle.hc_peers.specs.declared.client.Client as peer
 use Rattle.hc_peers.specs.declared.upstream.Upstream as origin
 use Rattle.hc_peers.proofs.Rows.{same-itself}
 use Rattle.hc_proxy.specs.{Connections.{exchange_of, connection_of}, Invariants.{NamesOne}, Keeping.{IsUpstream, IsUpstreamAt}, Logging.{Follows, is_short}, Resting.{IsRestingUpstream}, Rows.{Client, Upstream, Proxy}, TurnSteps.{SentSome}, Unsent.{taken_in, IsKnownAt, HasConnections, IsSentAt, AreSent, IsSentOriginAt, Sends}}
-use Rattle.hc_proxy.proofs.{Followed.{follows_sent, follows_reading}, Taken.{MovesAt, origin_front, moves_sent, moves_reading, none_front, some_sent}, OfferedClients.{drop_more, was_same, known_same, sent_same, upstream_same, taken_off, stage_off, short_off, none_some, sends_none}, Closings.{told_on}}
+use Rattle.hc_proxy.proofs.{Followed.{follows_sent, follows_reading}, Taken.{MovesAt, origin_front, moves_sent, moves_reading, none_front, some_sent}, OfferedClients.{drop_more, was_same, known_same, sent_same, upstream_same, taken_off, stage_off, short_off, none_some, sends_none}, Closings.{reported_on}}
 
 -- nobody is known of whom the tables tell nothing
 known_none : (log log' : Log) (j : ℕ) (o : Option peer.Client) → IsKnownAt log j o None → IsKnownAt log' j o None
@@ -240,23 +240,23 @@ module _ (p : Proxy) (cl : Clients) (up : Upstreams) (log : Log) (h : HasConnect
 
 -- WHAT COMES OF IT
 
-pub record OriginGoes (p : Proxy) (cl : Clients) (up up' : Upstreams) (log : Log) (told : Option Log) (stages : ℕ → Stage) (y : ℕ) : Type 0 where
+pub record OriginGoes (p : Proxy) (cl : Clients) (up up' : Upstreams) (log : Log) (reported : Option Log) (stages : ℕ → Stage) (y : ℕ) : Type 0 where
   pub log' : Log
-  pub follows : Follows told stages log'
+  pub follows : Follows reported stages log'
   pub sends : Sends p log log'
   pub has : HasConnections p cl up' log'
   pub clients : AreSent cl log → AreSent cl log'
   pub sent : IsSentOriginAt p log' y (upstream_of up' y)
   pub others : (z : ℕ) → nat_eq z y ≡ false → IsSentOriginAt p log z (upstream_of up z) → IsSentOriginAt p log' z (upstream_of up' z)
 
-module _ {W : Type 0} (stages : W → ℕ → Stage) (tells : W → Option Log) (wire wire' : W) (p : Proxy) (cl : Clients) (up up' : Upstreams) (log : Log) (y : ℕ) (on : Bool)
-    (h : HasConnections p cl up log) (f : Follows (tells wire) (stages wire) log) where
-  untold : Follows None (stages wire) log
-  untold = record { told_is = inl refl; stands = f.stands; apart = f.apart }
+module _ {W : Type 0} (stages : W → ℕ → Stage) (reports : W → Option Log) (wire wire' : W) (p : Proxy) (cl : Clients) (up up' : Upstreams) (log : Log) (y : ℕ) (on : Bool)
+    (h : HasConnections p cl up log) (f : Follows (reports wire) (stages wire) log) where
+  unreported : Follows None (stages wire) log
+  unreported = record { reported_is = inl refl; stands = f.stands; apart = f.apart }
 
   module _ (wanted : on ≡ is_wanted (p.tables.exchange y)) (news : (z : ℕ) → is_news up' z ≡ is_news up z)
       (touches : Marks (is_touched up) (is_touched up') y (is_touched up y && lacks_at (upstream_of up' y))) where
-    module _ (u : origin.Upstream) (at : upstream_of up y ≡ Some u) (o : IsOfferedUp stages tells y on u up up' wire wire') where
+    module _ (u : origin.Upstream) (at : upstream_of up y ≡ Some u) (o : IsOfferedUp stages reports y on u up up' wire wire') where
       abbrev n : ℕ
       n = o.n
 
@@ -273,12 +273,12 @@ module _ {W : Type 0} (stages : W → ℕ → Stage) (tells : W → Option Log) 
       m0 = origin_moves p cl up log h y u at n less
 
       follows_mid : Follows None (stages wire) mid
-      follows_mid = follows_sent None None (stages wire) (stages wire) log untold u.k (take n u.unsent) less refl (λ j. refl)
+      follows_mid = follows_sent None None (stages wire) (stages wire) log unreported u.k (take n u.unsent) less refl (λ j. refl)
 
-      told_now : (tells wire' ≡ None) ⊎ (tells wire' ≡ Some (reading_told u.k u.reading on mid))
-      told_now = told_on (tells wire) (tells wire') log (λ l. reading_told u.k u.reading on (sent_of u.k n u.unsent l)) f.told_is o.told
+      reported_now : (reports wire' ≡ None) ⊎ (reports wire' ≡ Some (reading_reported u.k u.reading on mid))
+      reported_now = reported_on (reports wire) (reports wire') log (λ l. reading_reported u.k u.reading on (sent_of u.k n u.unsent l)) f.reported_is o.reported
 
-      goes_on : (log' : Log) → MovesAt p u.k (take n u.unsent) less (Open on ended) log log' → Follows (tells wire') (stages wire') log' → OriginGoes p cl up up' log (tells wire') (stages wire') y
+      goes_on : (log' : Log) → MovesAt p u.k (take n u.unsent) less (Open on ended) log log' → Follows (reports wire') (stages wire') log' → OriginGoes p cl up up' log (reports wire') (stages wire') y
       goes_on log' m follows = record {
         log' = log';
         follows = follows;
@@ -289,28 +289,28 @@ module _ {W : Type 0} (stages : W → ℕ → Stage) (tells : W → Option Log) 
         others = rests_still p cl up log h y u at n o.within on wanted log' m up' o.becomes news touches;
       }
 
-      goes_to : OriginGoes p cl up up' log (tells wire') (stages wire') y
+      goes_to : OriginGoes p cl up up' log (reports wire') (stages wire') y
       goes_to = by_test (is_same u.reading on) refl
         where
-          by_test : (b : Bool) → is_same u.reading on ≡ b → OriginGoes p cl up up' log (tells wire') (stages wire') y
+          by_test : (b : Bool) → is_same u.reading on ≡ b → OriginGoes p cl up up' log (reports wire') (stages wire') y
           by_test true same =
               let was : u.reading ≡ on = was_same u.reading on same in
-              let it : (tells wire' ≡ None) ⊎ (tells wire' ≡ Some mid) = rw same at told_now in
+              let it : (reports wire' ≡ None) ⊎ (reports wire' ≡ Some mid) = rw same at reported_now in
               goes_on mid (subst (λ (b : Bool). MovesAt p u.k (take n u.unsent) less (Open b ended) log mid) was m0)
-              (record { told_is = it; stands = λ j. (o.stands j ∙ rw same refl) ∙ follows_mid.stands j; apart = follows_mid.apart })
+              (record { reported_is = it; stands = λ j. (o.stands j ∙ rw same refl) ∙ follows_mid.stands j; apart = follows_mid.apart })
           by_test false other =
-              let it : (tells wire' ≡ None) ⊎ (tells wire' ≡ Some (with_reading u.k on mid)) = rw other at told_now in
+              let it : (reports wire' ≡ None) ⊎ (reports wire' ≡ Some (with_reading u.k on mid)) = rw other at reported_now in
               let reads : (j : ℕ) → stages wire' j ≡ with_stage u.k (reading_of on (stages wire u.k)) (stages wire) j = λ j. o.stands j ∙ rw other refl in
               let goes = follows_reading None None (stages wire) (stages wire') mid follows_mid u.k on refl reads in
               goes_on (with_reading u.k on mid) (moves_reading p u.k (take n u.unsent) less log mid u.reading ended m0 on)
-              (record { told_is = it; stands = goes.stands; apart = goes.apart })
+              (record { reported_is = it; stands = goes.stands; apart = goes.apart })
 
     -- nothing is there
-    same_goes : upstream_of up y ≡ None → ((z : ℕ) → upstream_of up' z ≡ upstream_of up z) → tells wire' ≡ tells wire → ((j : ℕ) → stages wire' j ≡ stages wire j)
-        → OriginGoes p cl up up' log (tells wire') (stages wire') y
-    same_goes none same told stands = record {
+    same_goes : upstream_of up y ≡ None → ((z : ℕ) → upstream_of up' z ≡ upstream_of up z) → reports wire' ≡ reports wire → ((j : ℕ) → stages wire' j ≡ stages wire j)
+        → OriginGoes p cl up up' log (reports wire') (stages wire') y
+    same_goes none same reported stands = record {
       log' = log;
-      follows = record { told_is = subst (λ (l : Option Log). (l ≡ None) ⊎ (l ≡ Some log)) (sym told) f.told_is; stands = λ j. stands j ∙ f.stands j; apart = f.apart };
+      follows = record { reported_is = subst (λ (l : Option Log). (l ≡ None) ⊎ (l ≡ Some log)) (sym reported) f.reported_is; stands = λ j. stands j ∙ f.stands j; apart = f.apart };
       sends = sends_none p log;
       has = record {
         clients = h.clients;
@@ -343,17 +343,17 @@ module _ {W : Type 0} (stages : W → ℕ → Stage) (tells : W → Option Log) 
                 let number : z ≡ y = grind (arith, nat_tests) in
                 none_some w (sym (same y ∙ none) ∙ (ap (upstream_of up') (sym number) ∙ is))
 
-    pub origin_goes : IsOfferedOrigin stages tells y on up up' wire wire' → OriginGoes p cl up up' log (tells wire') (stages wire') y
+    pub origin_goes : IsOfferedOrigin stages reports y on up up' wire wire' → OriginGoes p cl up up' log (reports wire') (stages wire') y
     origin_goes offered = by_row (upstream_of up y) refl offered
       where
-        by_row : (o : Option origin.Upstream) → upstream_of up y ≡ o → IsOfferedUpAt stages tells y on o up up' wire wire' → OriginGoes p cl up up' log (tells wire') (stages wire') y
-        by_row None is (same, told, stands) = same_goes is same told stands
+        by_row : (o : Option origin.Upstream) → upstream_of up y ≡ o → IsOfferedUpAt stages reports y on o up up' wire wire' → OriginGoes p cl up up' log (reports wire') (stages wire') y
+        by_row None is (same, reported, stands) = same_goes is same reported stands
         by_row (Some u) is to = goes_to u is to
 
   -- what fails in the middle
-  pub origin_fails : OffersSome (number_at (upstream_of up y)) (unsent_up (upstream_of up y)) (tells wire) (tells wire') → SentSome p log (tells wire')
+  pub origin_fails : OffersSome (number_at (upstream_of up y)) (unsent_up (upstream_of up y)) (reports wire) (reports wire') → SentSome p log (reports wire')
   origin_fails some = by_row (upstream_of up y) refl some
     where
-      by_row : (o : Option origin.Upstream) → upstream_of up y ≡ o → OffersSome (number_at o) (unsent_up o) (tells wire) (tells wire') → SentSome p log (tells wire')
-      by_row None is part = some_sent p log 0 (tells wire) (tells wire') [] part f.told_is (λ n less. none_front p log 0 n less)
-      by_row (Some u) is part = some_sent p log u.k (tells wire) (tells wire') u.unsent part f.told_is (λ n less all. (origin_moves p cl up log h y u is n less).sends.sent all)
+      by_row : (o : Option origin.Upstream) → upstream_of up y ≡ o → OffersSome (number_at o) (unsent_up o) (reports wire) (reports wire') → SentSome p log (reports wire')
+      by_row None is part = some_sent p log 0 (reports wire) (reports wire') [] part f.reported_is (λ n less. none_front p log 0 n less)
+      by_row (Some u) is part = some_sent p log u.k (reports wire) (reports wire') u.unsent part f.reported_is (λ n less all. (origin_moves p cl up log h y u is n less).sends.sent all)

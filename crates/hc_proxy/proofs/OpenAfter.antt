@@ -5,7 +5,7 @@
 -- entry changes no row. Hence what was open or wanted before (`was_open`, `was_wanted`), and what stays so
 -- (`stays_open`, `stays_wanted`).
 use Rattle.std.{proofs.Common.{◌≡◌, ◌⊎◌, inl, inr, ℕ, Bool, true, false, Option, Some, None, refl, ap, sym, ◌∙◌, subst}, specs.Prelude.{◌&&◌, ◌||◌, not, is_none, nat_eq, if◌then◌else◌}}
-use Rattle.hc_text.proofs.Basics.{and_left as and_first, and_right as and_second, eq_tells as same_number}
+use Rattle.hc_text.proofs.Basics.{and_left as and_first, and_right as and_second, eq_reports as same_number}
 use Rattle.hc_effects.proofs.Vocabulary.{Opening, opening_in, asks_in, closes_in, is_denied, Event, Entry, exchange_after, exchange_heard, exchange_acted, exchange_made, exchange_opened, with_head, with_piece, is_open, is_wanted, Tables, Exchange, after, after_accepted, after_denied, event}
 
 -- the rows behind an entry: as they were, or as an accepted one leaves them

@@ -4,7 +4,7 @@
 -- the message or at an error, by the cases of where it stood before. At the end of a message no byte is read. So where
 -- it doesn't stand behind a told end before some bytes, it doesn't behind them.
 use Rattle.std.{proofs.Common.{◌≡◌, ℕ, ◌+◌, ◌-◌, ◌++◌, List, [], ◌∷◌, length, Bool, true, false, Option, Some, None, refl, ap, sym, ◌∙◌}, specs.Prelude.{◌==◌, not, nat_lt, nat_le, if◌then◌else◌}}
-use Rattle.hc_head.specs.{Requests.{Asked, Grants, Denies}, Responses.{Heard, Skips, Shows, Refuses}, Scans.{scan_byte, is_open}, declared.framing.Framing.{Framing}}
+use Rattle.hc_head.specs.{Requests.{Asked, Grants, Denies}, Responses.{HeadOutcome, Skips, Shows, Refuses}, Scans.{scan_byte, is_open}, declared.framing.Framing.{Framing}}
 use Rattle.hc_head.specs.declared.framing.Framing.TheVariants as framing
 use Rattle.hc_head.specs.declared.message.MsgError.TheVariants as error
 use Rattle.hc_msg.specs.{Chunks.{trailer_place, trail_on, trail}, declared.trailer.Trailer.{Trailer}, Reading.{Requests, Responses, Reading, Heading, Counts, Runs, Sizing, Chunk, ChunkEnd, ChunkReturn, Trailing, Whole, Done, Failed, Token, Step, Move, Goes, EndsHead, EndsLine, Stays, quiet, fails, counts, chunk, body, after_asked, after_heard, after_line, after_trail, begins_head, move_of, Makes, Leads}}
@@ -41,7 +41,7 @@ body_off framing.Chunked = refl
 body_off (framing.Counted n) = counts_off n
 body_off framing.ToClose = refl
 
-heard_off : (no_body : Bool) (h : Heard) → Off (after_heard no_body h)
+heard_off : (no_body : Bool) (h : HeadOutcome) → Off (after_heard no_body h)
 heard_off no_body Skips = refl
 heard_off no_body (Shows response f) = body_off f
 heard_off no_body (Refuses e) = refl

@@ -55,12 +55,12 @@ module _ (holder : ℕ → Option ℕ) (k : ℕ) where
   is_its (Some c) = is_at k (holder c)
 
   -- its row behind an act, and behind all of these
-  abbrev pub told : Act → Client → Client
-  told a client = if is_its (addressee a) then answered a client else client
+  abbrev pub reported : Act → Client → Client
+  reported a client = if is_its (addressee a) then answered a client else client
 
-  abbrev pub told_all : List Act → Client → Client
-  told_all [] client = client
-  told_all (a ∷ acts) client = told_all acts (told a client)
+  abbrev pub reported_all : List Act → Client → Client
+  reported_all [] client = client
+  reported_all (a ∷ acts) client = reported_all acts (reported a client)
 
   abbrev pub AreIts : List ℕ → Type 0
   AreIts [] = Unit {0}
@@ -93,10 +93,10 @@ module _ (holder : ℕ → Option ℕ) (k : ℕ) where
       by_whom None none = past (ap is_its none)
       by_whom (Some d) at = by_test d at (is_at k (holder d)) refl
 
-  past_same : (a : Act) (client : Client) → is_its (addressee a) ≡ false → told a client ≡ client
+  past_same : (a : Act) (client : Client) → is_its (addressee a) ≡ false → reported a client ≡ client
   past_same a client off = ap (λ (b : Bool). if b then answered a client else client) off
 
-  to_answered : (a : Act) (client : Client) (d : ℕ) → addressee a ≡ Some d → is_at k (holder d) ≡ true → told a client ≡ answered a client
+  to_answered : (a : Act) (client : Client) (d : ℕ) → addressee a ≡ Some d → is_at k (holder d) ≡ true → reported a client ≡ answered a client
   to_answered a client d at is = ap (λ (b : Bool). if b then answered a client else client) (ap is_its at ∙ is)
 
   -- none of its consumers is answered
@@ -117,28 +117,28 @@ module _ (holder : ℕ → Option ℕ) (k : ℕ) where
   others_same a h [] off its = tt
   others_same a h (c ∷ cs) off its = (to_other c a h (past_answers a c off its.0), others_same a h cs off its.1)
 
-  told_keeps : (a : Act) (client : Client) → IsKept (told a client) client
-  told_keeps a client = by_its (is_its (addressee a))
+  reported_keeps : (a : Act) (client : Client) → IsKept (reported a client) client
+  reported_keeps a client = by_its (is_its (addressee a))
     where
       by_its : (b : Bool) → IsKept (if b then answered a client else client) client
       by_its true = answered_keeps a client
       by_its false = record { input = refl; reading = refl; gone = refl }
 
-  pub all_keep : (acts : List Act) (client : Client) → IsKept (told_all acts client) client
+  pub all_keep : (acts : List Act) (client : Client) → IsKept (reported_all acts client) client
   all_keep [] client = record { input = refl; reading = refl; gone = refl }
   all_keep (a ∷ acts) client =
-      let one : IsKept (told a client) client = told_keeps a client in
-      let rest : IsKept (told_all acts (told a client)) (told a client) = all_keep acts (told a client) in
+      let one : IsKept (reported a client) client = reported_keeps a client in
+      let rest : IsKept (reported_all acts (reported a client)) (reported a client) = all_keep acts (reported a client) in
       record { input = rest.input ∙ one.input; reading = rest.reading ∙ one.reading; gone = rest.gone ∙ one.gone }
 
   -- WHERE NONE IS SENT TO IT
 
   module _ (cs : List ℕ) (asked : List WireRequest) (its : AreIts cs) where
-    pub owes_past : (acts : List Act) (h : History) (client : Client) → AreFor (λ d. ⊥) acts → Owes h cs asked client → Owes (all_alone acts h) cs asked (told_all acts client)
+    pub owes_past : (acts : List Act) (h : History) (client : Client) → AreFor (λ d. ⊥) acts → Owes h cs asked client → Owes (all_alone acts h) cs asked (reported_all acts client)
     owes_past [] h client none o = o
-    owes_past (a ∷ acts) h client none o = owes_past acts (alone a ∷ h) (told a client) none.1 (by_act (sends a))
+    owes_past (a ∷ acts) h client none o = owes_past acts (alone a ∷ h) (reported a client) none.1 (by_act (sends a))
       where
-        by_act : Sends a → Owes (alone a ∷ h) cs asked (told a client)
+        by_act : Sends a → Owes (alone a ∷ h) cs asked (reported a client)
         by_act (to d at is) = absurd (none.0 d at is)
         by_act (past off) = subst (Owes (alone a ∷ h) cs asked) (sym (past_same a client off)) (owes_by (alone a ∷ h) h cs asked client (others_same a h cs off its) o)
 
@@ -204,11 +204,11 @@ module _ (holder : ℕ → Option ℕ) (k : ℕ) where
     answered_here : (a : Act) (client : Client) → client.gone ≡ false → answered a client ≡ behind a client
     answered_here a client here = ap (λ (b : Bool). if b then client else behind a client) here
 
-    all_last : (acts : List Act) (h : History) (client : Client) → AreFor (λ d. d ≡ c) acts → OwesLast h client → OwesLast (all_alone acts h) (told_all acts client)
+    all_last : (acts : List Act) (h : History) (client : Client) → AreFor (λ d. d ≡ c) acts → OwesLast h client → OwesLast (all_alone acts h) (reported_all acts client)
     all_last [] h client for o = o
-    all_last (a ∷ acts) h client for o = all_last acts (alone a ∷ h) (told a client) for.1 (by_act (sends a))
+    all_last (a ∷ acts) h client for o = all_last acts (alone a ∷ h) (reported a client) for.1 (by_act (sends a))
       where
-        by_act : Sends a → OwesLast (alone a ∷ h) (told a client)
+        by_act : Sends a → OwesLast (alone a ∷ h) (reported a client)
         by_act (past off) = subst (OwesLast (alone a ∷ h)) (sym (past_same a client off)) (last_past a h client off o)
         by_act (to d at is) =
             let whom : addressee a ≡ Some c = at ∙ ap (λ (n : ℕ). Some n) (for.0 d at is) in
@@ -216,12 +216,12 @@ module _ (holder : ℕ → Option ℕ) (k : ℕ) where
 
     pub owes_last : (acts : List Act) (h : History) (client : Client) → AreFor (λ d. d ≡ c) acts → client.gone ≡ false
         → client.owed ≡ answers_to qs ds h ++ rendered whole (answer_to c h) → client.reply ≡ reply_behind whole (answer_to c h) → (client.consumer ≡ None) ⊎ (client.consumer ≡ Some c) → error_answer client.reading ≡ []
-        → Owes (all_alone acts h) (ds ++ c ∷ []) (qs ++ r ∷ []) (told_all acts client)
+        → Owes (all_alone acts h) (ds ++ c ∷ []) (qs ++ r ∷ []) (reported_all acts client)
     owes_last acts h client for here owed reply waits none =
         let g : History = all_alone acts h in
-        let o : OwesLast g (told_all acts client) = all_last acts h client for (record { here = here; owed_is = owed; reply = reply; waits = waits }) in
+        let o : OwesLast g (reported_all acts client) = all_last acts h client for (record { here = here; owed_is = owed; reply = reply; waits = waits }) in
         let all : List ℕ = answers_to (qs ++ r ∷ []) (ds ++ c ∷ []) g in
-        let still : error_answer (told_all acts client).reading ≡ [] = ap error_answer (all_keep acts client).reading ∙ none in
+        let still : error_answer (reported_all acts client).reading ≡ [] = ap error_answer (all_keep acts client).reading ∙ none in
         record {
           owed_is = o.owed_is ∙ (sym (answers_more qs ds r c g sizes) ∙ (sym (append-nil all) ∙ ap (λ (t : List ℕ). all ++ t) (sym still)));
           error = inl still;
@@ -244,12 +244,12 @@ module _ (holder : ℕ → Option ℕ) (k : ℕ) where
       by_gone true = refl
       by_gone false = ap (λ (b : Bool). if b then None else client.consumer) off
 
-  pub all_wait : (c : ℕ) (acts : List Act) (client : Client) → leaves_in c acts ≡ false → AreFor (λ d. d ≡ c) acts → (told_all acts client).consumer ≡ client.consumer
+  pub all_wait : (c : ℕ) (acts : List Act) (client : Client) → leaves_in c acts ≡ false → AreFor (λ d. d ≡ c) acts → (reported_all acts client).consumer ≡ client.consumer
   all_wait c [] client stays for = refl
   all_wait c (a ∷ acts) client stays for =
-      all_wait c acts (told a client) (not_true (leaves_in c acts) (λ later. false_true (leaves_in c (a ∷ acts)) stays (later_leaves c a acts later))) for.1 ∙ by_act (sends a)
+      all_wait c acts (reported a client) (not_true (leaves_in c acts) (λ later. false_true (leaves_in c (a ∷ acts)) stays (later_leaves c a acts later))) for.1 ∙ by_act (sends a)
     where
-      by_act : Sends a → (told a client).consumer ≡ client.consumer
+      by_act : Sends a → (reported a client).consumer ≡ client.consumer
       by_act (past off) = ap (λ (r : Client). r.consumer) (past_same a client off)
       by_act (to d at is) =
           let whom : sent_to a ≡ Some c = sent_is a ∙ (at ∙ ap (λ (n : ℕ). Some n) (for.0 d at is)) in
@@ -258,7 +258,7 @@ module _ (holder : ℕ → Option ℕ) (k : ℕ) where
 
   -- THE ROW
 
-  one_row : (a : Act) (rows : ℕ → Option Client) → sent_clients (sent_to a) a holder rows k ≡ option_map (told a) (rows k)
+  one_row : (a : Act) (rows : ℕ → Option Client) → sent_clients (sent_to a) a holder rows k ≡ option_map (reported a) (rows k)
   one_row a rows = ap (λ (o : Option ℕ). sent_clients o a holder rows k) (sent_is a) ∙ by_whom (addressee a)
     where
       none_row : (o : Option Client) → o ≡ option_map (λ (c : Client). c) o
@@ -279,18 +279,18 @@ module _ (holder : ℕ → Option ℕ) (k : ℕ) where
       by_whom None = none_row (rows k)
       by_whom (Some d) = by_holder (holder d)
 
-  two_rows : (acts : List Act) (a : Act) (o : Option Client) → option_map (told_all acts) (option_map (told a) o) ≡ option_map (told_all (a ∷ acts)) o
+  two_rows : (acts : List Act) (a : Act) (o : Option Client) → option_map (reported_all acts) (option_map (reported a) o) ≡ option_map (reported_all (a ∷ acts)) o
   two_rows acts a None = refl
   two_rows acts a (Some c) = refl
 
-  same_row : (o : Option Client) → o ≡ option_map (told_all []) o
+  same_row : (o : Option Client) → o ≡ option_map (reported_all []) o
   same_row None = refl
   same_row (Some c) = refl
 
-  pub all_rows : (acts : List Act) (p : Proxy) → p.holder ≡ holder → (all_carried_out acts p).client k ≡ option_map (told_all acts) (p.client k)
+  pub all_rows : (acts : List Act) (p : Proxy) → p.holder ≡ holder → (all_carried_out acts p).client k ≡ option_map (reported_all acts) (p.client k)
   all_rows [] p same = same_row (p.client k)
   all_rows (a ∷ acts) p same =
       all_rows acts (carried_out a p) (holders_stay a p ∙ same)
-      ∙ (ap (λ (o : Option Client). option_map (told_all acts) o)
+      ∙ (ap (λ (o : Option Client). option_map (reported_all acts) o)
       (ap (λ (f : ℕ → Option Client). f k) (clients_are a p) ∙ (ap (λ (f : ℕ → Option ℕ). sent_clients (sent_to a) a f p.client k) same ∙ one_row a p.client))
       ∙ two_rows acts a (p.client k))

@@ -226,14 +226,14 @@ module _ (h : History) (cs : List ℕ) (asked : List WireRequest) where
 
   -- it asks for more, by a consumer that nothing was told to
   pub owes_asks : (client : Client) (c : ℕ) (r : WireRequest) → client.closing ≡ false → answer_to c h ≡ [] → AreBelow c cs → Owes h cs asked client → Owes h (cs ++ c ∷ []) (asked ++ r ∷ []) (asks c r client)
-  owes_asks client c r off untold below o =
+  owes_asks client c r off unreported below o =
       let same : length asked ≡ length cs = sizes_are client o.last in
       record {
         owed_is =
             o.owed_is
             ∙ ap (λ (t : List ℕ). t ++ error_answer client.reading)
             (sym (append-nil (answers_to asked cs h))
-            ∙ (ap (λ (acts : List Act). answers_to asked cs h ++ rendered (reply_to r) acts) (sym untold) ∙ sym (answers_more asked cs r c h same)));
+            ∙ (ap (λ (acts : List Act). answers_to asked cs h ++ rendered (reply_to r) acts) (sym unreported) ∙ sym (answers_more asked cs r c h same)));
         error = inl (none_behind client off o.error);
         last = inr (record {
           ds = cs;
@@ -244,7 +244,7 @@ module _ (h : History) (cs : List ℕ) (asked : List WireRequest) where
           asked_are = refl;
           sizes = same;
           below = below;
-          reply = ap (reply_behind (reply_to r)) (sym untold);
+          reply = ap (reply_behind (reply_to r)) (sym unreported);
           waits = inr refl;
         });
       }

@@ -11,7 +11,7 @@ drop_first (x ∷ xs) ys = drop_first xs ys
 
 -- the acts that were appended
 pub appended : (first : ℕ) (old new more : List Act) → first ≡ length old → new ≡ old ++ more → drop first new ≡ more
-appended first old new more is told = ap (λ (n : ℕ). drop n new) is ∙ (ap (drop (length old)) told ∙ drop_first old more)
+appended first old new more is reported = ap (λ (n : ℕ). drop n new) is ∙ (ap (drop (length old)) reported ∙ drop_first old more)
 
 or_false : (a : Bool) → a ≡ (a || false)
 or_false true = refl

@@ -95,7 +95,7 @@ module _ {B : Type 0} {g : Ghosts B} where
   pub cache_kept : (f : Frame) (x x' : loop.Proxy B g) (p : Proxy) → OthersStay x x' → HasCache f x p → HasCache f x' p
   cache_kept f x x' p o h = cache_moves f x x' p o.cache o.text o.now o.starts h
 
-module _ {B : Type 0} {g : Ghosts B} (t : Turn) (x : loop.Proxy B g) (p : Proxy) (log : Log) (told : Option Log) (stages : ℕ → Stage) (keeps : KeepsCarried t x p) (on : OnWire t log told stages) where
+module _ {B : Type 0} {g : Ghosts B} (t : Turn) (x : loop.Proxy B g) (p : Proxy) (log : Log) (reported : Option Log) (stages : ℕ → Stage) (keeps : KeepsCarried t x p) (on : OnWire t log reported stages) where
   stage_is : (k : ℕ) → stage_in log.takers k ≡ t.stages k
   stage_is k = sym (on.follows.stands k) ∙ on.stands k
 
@@ -146,7 +146,7 @@ module _ {B : Type 0} {g : Ghosts B} (t : Turn) (x : loop.Proxy B g) (p : Proxy)
 
   -- BEHIND THE OFFERS
 
-  module _ (x' : loop.Proxy B g) (told' : Option Log) (stages' : ℕ → Stage) (o : OthersStay x x') (s : SendsToOrigins p log [] x'.clients x'.upstreams told' stages') where
+  module _ (x' : loop.Proxy B g) (reported' : Option Log) (stages' : ℕ → Stage) (o : OthersStay x x') (s : SendsToOrigins p log [] x'.clients x'.upstreams reported' stages') where
     resting_at : (k : ℕ) (c : Option peer.Client) (r : Option Client) → IsKnownAt s.log' k c r → IsSentAt s.log' k c → IsRestingAt s.log' k c r
     resting_at k None None is sent = tt
     resting_at k None (Some r) is sent = is
@@ -212,7 +212,7 @@ module _ {B : Type 0} {g : Ghosts B} (t : Turn) (x : loop.Proxy B g) (p : Proxy)
           (was.0, ap (λ (ks : List ℕ). exchange_of ks k) dialled_is ∙ was.1, was.2);
     }
 
-    pub sent_all : SentAll t p log x' told' stages'
+    pub sent_all : SentAll t p log x' reported' stages'
     sent_all = record {
       log' = s.log';
       follows = s.follows;
@@ -224,9 +224,9 @@ module _ {B : Type 0} {g : Ghosts B} (t : Turn) (x : loop.Proxy B g) (p : Proxy)
     }
 
   -- the clients first, and then the connections to the origin
-  pub sent_both : (one two : loop.Proxy B g) (told1 told2 : Option Log) (stages1 stages2 : ℕ → Stage) → OthersStay x one → OthersStay one two
-      → (s : SendsToClients p log [] one.clients one.upstreams told1 stages1) → SendsToOrigins p s.log' [] two.clients two.upstreams told2 stages2 → SentAll t p log two told2 stages2
-  sent_both one two told1 told2 stages1 stages2 o1 o2 s all = sent_all two told2 stages2 (others_both x one two o1 o2) (record {
+  pub sent_both : (one two : loop.Proxy B g) (reported1 reported2 : Option Log) (stages1 stages2 : ℕ → Stage) → OthersStay x one → OthersStay one two
+      → (s : SendsToClients p log [] one.clients one.upstreams reported1 stages1) → SendsToOrigins p s.log' [] two.clients two.upstreams reported2 stages2 → SentAll t p log two reported2 stages2
+  sent_both one two reported1 reported2 stages1 stages2 o1 o2 s all = sent_all two reported2 stages2 (others_both x one two o1 o2) (record {
     log' = all.log';
     follows = all.follows;
     sends = sends_both p log s.log' all.log' s.sends all.sends;

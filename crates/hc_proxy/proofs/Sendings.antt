@@ -25,8 +25,8 @@ module _ (a : Act) (c : ℕ) (to : peers.addressee a ≡ Some c) (p : Proxy) (k 
   q = with_client k (answered a) p
 
   -- its row behind the act
-  abbrev told : Client → Client
-  told r = record r {
+  abbrev reported : Client → Client
+  reported r = record r {
     owed = r.owed ++ rendering r.reply a;
     before = length r.owed;
     reply = record r.reply { form = form_behind r.reply a };
@@ -34,13 +34,13 @@ module _ (a : Act) (c : ℕ) (to : peers.addressee a ≡ Some c) (p : Proxy) (k 
     consumer = if is_last a then None else r.consumer;
   }
 
-  told_is : (r : Client) → r.gone ≡ false → answered a r ≡ told r
-  told_is r here = rw here refl
+  reported_is : (r : Client) → r.gone ≡ false → answered a r ≡ reported r
+  reported_is r here = rw here refl
 
   gone_is : (r : Client) → r.gone ≡ true → answered a r ≡ r
   gone_is r gone = rw gone refl
 
-  is_client_of : (n : ℕ) (cl : peer.Client) (r : Client) → IsClient n cl r → IsClient n (peers.answered a cl) (told r)
+  is_client_of : (n : ℕ) (cl : peer.Client) (r : Client) → IsClient n cl r → IsClient n (peers.answered a cl) (reported r)
   is_client_of n cl r is =
       let within : n ≤ length r.owed = is.within in
       record {
@@ -79,7 +79,7 @@ module _ (a : Act) (c : ℕ) (to : peers.addressee a ≡ Some c) (p : Proxy) (k 
       let row : r ≡ holder.row = some_is r holder.row (sym at ∙ (ap p.client place ∙ holder.at)) in
       let its : cl.consumer ≡ Some c = is.consumer ∙ (ap (λ (u : Client). u.consumer) row ∙ holder.consumer) in
       let same : is_same_consumer (peers.addressee a) cl.consumer ≡ true = rw (to, its) (same_number c) in
-      rw same (subst (λ (u : Client). IsClient n (peers.answered a cl) u) (sym (told_is r is.here)) (is_client_of n cl r is))
+      rw same (subst (λ (u : Client). IsClient n (peers.answered a cl) u) (sym (reported_is r is.here)) (is_client_of n cl r is))
   row_goes n j (Some cl) (Some r) at is false off =
       let other : is_same_consumer (peers.addressee a) cl.consumer ≡ false = rw to (apart j n cl r at is off cl.consumer refl) in
       rw other is
@@ -101,7 +101,7 @@ module _ (a : Act) (c : ℕ) (to : peers.addressee a ≡ Some c) (p : Proxy) (k 
 
   gone_same : (r : Client) (b : Bool) → r.gone ≡ b → (answered a r).gone ≡ r.gone
   gone_same r true is = ap (λ (u : Client). u.gone) (gone_is r is)
-  gone_same r false is = ap (λ (u : Client). u.gone) (told_is r is)
+  gone_same r false is = ap (λ (u : Client). u.gone) (reported_is r is)
 
   client_same : (j : ℕ) → is_client (q.client j) ≡ is_client (p.client j)
   client_same j = by_test (nat_eq j k) (p.client j)
@@ -111,13 +111,13 @@ module _ (a : Act) (c : ℕ) (to : peers.addressee a ≡ Some c) (p : Proxy) (k 
       by_test true None = refl
       by_test true (Some r) = ap not (gone_same r r.gone refl)
 
-  module _ {B : Type 0} {g : Ghosts B} (t : Turn) (x : loop.Proxy B g) (cl : Clients) (tells : (j : ℕ) → client_of cl j ≡ answered_in a (client_of x.clients j)) where
+  module _ {B : Type 0} {g : Ghosts B} (t : Turn) (x : loop.Proxy B g) (cl : Clients) (reports : (j : ℕ) → client_of cl j ≡ answered_in a (client_of x.clients j)) where
     abbrev x' : loop.Proxy B g
     x' = record x { clients = cl }
 
     pub clients_go : HasClients t x p → HasClients t x' q
     clients_go h = record {
-      rows = λ j. subst (λ (o : Option peer.Client). IsClientAt (taken_at t.call j) o (q.client j)) (sym (tells j))
+      rows = λ j. subst (λ (o : Option peer.Client). IsClientAt (taken_at t.call j) o (q.client j)) (sym (reports j))
           (row_goes (taken_at t.call j) j (client_of x.clients j) (p.client j) refl (h.rows j) (nat_eq j k) refl);
       order = h.order;
       listed = λ j some. h.listed j (some_stays j some);
@@ -139,15 +139,15 @@ module _ (a : Act) (c : ℕ) (to : peers.addressee a ≡ Some c) (p : Proxy) (k 
 
     pub wire_goes : AtWire t.stages x → AtWire t.stages x'
     wire_goes h = record {
-      clients = λ j u at. let was = read_same (client_of x.clients j) u (sym (tells j) ∙ at) in
+      clients = λ j u at. let was = read_same (client_of x.clients j) u (sym (reports j) ∙ at) in
           let stands = h.clients j was.0 was.1 in
           (stands.0, stands.1 ∙ ap (λ (b : Bool). Open b stands.0) (sym was.2));
       upstreams = h.upstreams;
       all = λ j opens. elim (h.all j opens) [
-        | inl there ↦ inl (subst IsSome (sym (tells j)) (still_there (client_of x.clients j) there))
+        | inl there ↦ inl (subst IsSome (sym (reports j)) (still_there (client_of x.clients j) there))
         | inr others ↦ inr others
       ];
-      closed = λ j among. (tells j ∙ ap (answered_in a) (h.closed j among).0, (h.closed j among).1);
+      closed = λ j among. (reports j ∙ ap (answered_in a) (h.closed j among).0, (h.closed j among).1);
     }
 
     pub origins_go : (acts : List Act) → HasUpstreams t x p acts → HasUpstreams t x' q acts

@@ -9,25 +9,25 @@ use Rattle.hc_text.proofs.Basics.{all_three, both_of, some_inj as some_is}
 use Rattle.hc_effects.proofs.Vocabulary.{Limits}
 use Rattle.hc_wire.specs.{Logs.{Log, Taker, Called, is_numbered, sent_in, sent_from, with_call}, declared.event.WireEvent.{WireEvent}}
 use Rattle.hc_wire.specs.declared.event.WireEvent.TheVariants as event
-use Rattle.hc_proxy.specs.{Carrying.{carried, acts_in}, Connections.{exchange_of, stands, taken_at}, Endings.{is_front, client_was_sent, upstream_was_sent, sent_by, was_sent}, Handling.{begun, seen_at, handled}, Invariants.{AreServed}, Logging.{AreApart}, Network.{heard}, Rows.{Client, Upstream, Proxy}, Starts.{started_all}, Turns.{so_far, happened, turned}}
+use Rattle.hc_proxy.specs.{Carrying.{carried, acts_in}, Connections.{exchange_of, stands, taken_at}, Endings.{is_prefix, client_was_sent, upstream_was_sent, sent_by, was_sent}, Handling.{begun, seen_at, handled}, Invariants.{AreServed}, Logging.{AreApart}, Network.{heard}, Rows.{Client, Upstream, Proxy}, Starts.{started_all}, Turns.{so_far, happened, turned}}
 use Rattle.hc_proxy.proofs.BeforeTaken as before
 use Rattle.hc_proxy.proofs.{DialsSent.{all_give, origin_unsent}, GoneStays.{happened_has, carried_has}, Later.{client_grows}, LetGo.{AreGone, turn_lets_go}, NetworkKeeps.{same_clients}, Openings.{StandsKnown, origin_grows}, TakersStand.{all_found, found_number, sent_found, taken_within, taken_missing}, TurnBegins.{called, sent_by_call}}
 
 -- FRONTS
 
-front_is : (sent owed : List ℕ) → is_front sent owed ≡ true → take (length sent) owed ≡ sent
+front_is : (sent owed : List ℕ) → is_prefix sent owed ≡ true → take (length sent) owed ≡ sent
 front_is sent owed is = (bytes_eq-Decides (take (length sent) owed) sent).0 is
 
-is_front_of : (sent owed : List ℕ) → take (length sent) owed ≡ sent → is_front sent owed ≡ true
+is_front_of : (sent owed : List ℕ) → take (length sent) owed ≡ sent → is_prefix sent owed ≡ true
 is_front_of sent owed is = (bytes_eq-Decides (take (length sent) owed) sent).1 is
 
-front_within : (sent owed : List ℕ) → is_front sent owed ≡ true → length sent ≤ length owed
+front_within : (sent owed : List ℕ) → is_prefix sent owed ≡ true → length sent ≤ length owed
 front_within sent owed is =
     let size : length (take (length sent) owed) ≡ min (length sent) (length owed) = length-take (length sent) owed in
     let same : length (take (length sent) owed) ≡ length sent = ap length (front_is sent owed is) in
     omega arith
 
-front_more : (sent owed more : List ℕ) → is_front sent owed ≡ true → is_front sent (owed ++ more) ≡ true
+front_more : (sent owed more : List ℕ) → is_prefix sent owed ≡ true → is_prefix sent (owed ++ more) ≡ true
 front_more sent owed more is = is_front_of sent (owed ++ more) (take-append-le (length sent) owed more (front_within sent owed is) ∙ front_is sent owed is)
 
 no_bytes : (sent : List ℕ) → nat_eq (length sent) 0 ≡ true → sent ≡ []
@@ -40,7 +40,7 @@ origin_still : (sent : List ℕ) (o o' : Option Upstream) → ((v : Upstream) �
 origin_still sent None o' stays is = ap (λ s. upstream_was_sent s o') (no_bytes sent is) ∙ origin_unsent o'
 origin_still sent (Some v) o' stays is =
     let w = stays v refl in
-    ap (upstream_was_sent sent) w.1 ∙ (ap (is_front sent) w.2 ∙ is)
+    ap (upstream_was_sent sent) w.1 ∙ (ap (is_prefix sent) w.2 ∙ is)
 
 -- ONE CLIENT
 
@@ -114,17 +114,17 @@ module _ (limits : Limits) (log : Log) (apart : AreApart log.takers) (p : Proxy)
           by_row : (o : Option Client) → q.client k ≡ o → client_was_sent taken o ≡ true
           by_row None row = ap (λ s. nat_eq (length s) 0) nothing
           by_row (Some new) row =
-              all_three (is_front taken new.owed) (nat_le new.before (length taken)) (not new.let_go || nat_eq (length taken) (length new.owed))
-              (ap (λ s. is_front s new.owed) nothing) (before_zero new row) (gone_all new.let_go (length taken) (length new.owed) (not_gone new row))
+              all_three (is_prefix taken new.owed) (nat_le new.before (length taken)) (not new.let_go || nat_eq (length taken) (length new.owed))
+              (ap (λ s. is_prefix s new.owed) nothing) (before_zero new row) (gone_all new.let_go (length taken) (length new.owed) (not_gone new row))
 
       -- it had one
       old_client : (old : Client) → p.client k ≡ Some old → client_was_sent taken (Some old) ≡ true → client_was_sent taken (q.client k) ≡ true
       old_client old at is =
-          let parts = both_of (is_front taken old.owed) (nat_le old.before (length taken)) (not old.let_go || nat_eq (length taken) (length old.owed)) is in
+          let parts = both_of (is_prefix taken old.owed) (nat_le old.before (length taken)) (not old.let_go || nat_eq (length taken) (length old.owed)) is in
           let later = client_grows limits k log.dialled call p old at in
           ap (client_was_sent taken) later.row
-          ∙ all_three (is_front taken later.new.owed) (nat_le later.new.before (length taken)) (not later.new.let_go || nat_eq (length taken) (length later.new.owed))
-          (ap (is_front taken) later.later.owed ∙ front_more taken old.owed later.later.more parts.0)
+          ∙ all_three (is_prefix taken later.new.owed) (nat_le later.new.before (length taken)) (not later.new.let_go || nat_eq (length taken) (length later.new.owed))
+          (ap (is_prefix taken) later.later.owed ∙ front_more taken old.owed later.later.more parts.0)
           (before_by later.new later.row parts.1)
           (gone_all later.new.let_go (length taken) (length later.new.owed) (λ go. all_by later.new later.row parts.0 parts.2 go))
         where
@@ -150,7 +150,7 @@ module _ (limits : Limits) (log : Log) (apart : AreApart log.takers) (p : Proxy)
               by_from (inr le) = grind (arith, nat_tests)
 
           -- who is let go behind the turn was so where it began, and is gone
-          all_by : (new : Client) → q.client k ≡ Some new → is_front taken old.owed ≡ true → (not old.let_go || nat_eq (length taken) (length old.owed)) ≡ true → new.let_go ≡ true → length taken ≡ length new.owed
+          all_by : (new : Client) → q.client k ≡ Some new → is_prefix taken old.owed ≡ true → (not old.let_go || nat_eq (length taken) (length old.owed)) ≡ true → new.let_go ≡ true → length taken ≡ length new.owed
           all_by new row front was go =
               let earlier = turn_lets_go limits k log.dialled call p new row go in
               let same : earlier.old ≡ seen_at call k old = some_is earlier.old (seen_at call k old) (sym earlier.row ∙ begun_row) in

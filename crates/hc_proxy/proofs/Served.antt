@@ -7,30 +7,30 @@ use Rattle.std.{proofs.Common.{◌≡◌, ◌⊎◌, inl, inr, ℕ, List, [], �
 use Rattle.hc_effects.proofs.Vocabulary.{Act, Limits, is_live, owed, act, event}
 use Rattle.hc_wire.specs.Logs.{Called}
 use Rattle.hc_proxy.specs.{Carrying.{acts_in}, Connections.{taken_at}, Invariants.{IsServed, AreServed, HasConsumers}, Polls.{takes_more, may_be_polled, each_polled}, Rows.{Client, Proxy}, Steps.{with_entry, stepped}}
-use Rattle.hc_proxy.proofs.{Polled.{PollsBy, Adds, entry_stands, told_either, tells_both}, QuietActs.{AreQuiet}, ServedActs.{IsTold, TellsUp, are_served}, SkippedSteps.{among}, Stands.{Stands, owed_here}}
+use Rattle.hc_proxy.proofs.{Polled.{PollsBy, Adds, entry_stands, reported_either, reports_both}, QuietActs.{AreQuiet}, ServedActs.{IsReceived, ReportsUp, are_served}, SkippedSteps.{among}, Stands.{Stands, owed_here}}
 use Rattle.hc_proxy.proofs.Polled as by
 
 -- QUIET ACTS ARE SENT TO NOBODY
 
-pub quiet_untold : (acts : List Act) (c : ℕ) → AreQuiet acts → IsTold c acts → ⊥
-quiet_untold [] c h told = told
-quiet_untold (act.Denied refusal ∷ acts) c h (inl to) = let never : None ≡ Some c = to in cc
-quiet_untold (act.Denied refusal ∷ acts) c h (inr told) = quiet_untold acts c h told
-quiet_untold (act.Opened x d need request ∷ acts) c h told = let never : false ≡ true = h in cc
-quiet_untold (act.Ask x ∷ acts) c h told = let never : false ≡ true = h in cc
-quiet_untold (act.Close x ∷ acts) c h (inl to) = let never : None ≡ Some c = to in cc
-quiet_untold (act.Close x ∷ acts) c h (inr told) = quiet_untold acts c h told
-quiet_untold (act.Shown d r why status fields lo hi ∷ acts) c h told = let never : false ≡ true = h in cc
-quiet_untold (act.Given d x at bytes ∷ acts) c h told = let never : false ≡ true = h in cc
-quiet_untold (act.Ended d ∷ acts) c h told = let never : false ≡ true = h in cc
-quiet_untold (act.Failed d cause ∷ acts) c h told = let never : false ≡ true = h in cc
-quiet_untold (act.Pending d wait ∷ acts) c h told = let never : false ≡ true = h in cc
-quiet_untold (act.Lost r kind ∷ acts) c h (inl to) = let never : None ≡ Some c = to in cc
-quiet_untold (act.Lost r kind ∷ acts) c h (inr told) = quiet_untold acts c h told
-quiet_untold (act.Evicted r ∷ acts) c h (inl to) = let never : None ≡ Some c = to in cc
-quiet_untold (act.Evicted r ∷ acts) c h (inr told) = quiet_untold acts c h told
+pub quiet_unreported : (acts : List Act) (c : ℕ) → AreQuiet acts → IsReceived c acts → ⊥
+quiet_unreported [] c h reported = reported
+quiet_unreported (act.Denied refusal ∷ acts) c h (inl to) = let never : None ≡ Some c = to in cc
+quiet_unreported (act.Denied refusal ∷ acts) c h (inr reported) = quiet_unreported acts c h reported
+quiet_unreported (act.Opened x d need request ∷ acts) c h reported = let never : false ≡ true = h in cc
+quiet_unreported (act.Ask x ∷ acts) c h reported = let never : false ≡ true = h in cc
+quiet_unreported (act.Close x ∷ acts) c h (inl to) = let never : None ≡ Some c = to in cc
+quiet_unreported (act.Close x ∷ acts) c h (inr reported) = quiet_unreported acts c h reported
+quiet_unreported (act.Shown d r why status fields lo hi ∷ acts) c h reported = let never : false ≡ true = h in cc
+quiet_unreported (act.Given d x at bytes ∷ acts) c h reported = let never : false ≡ true = h in cc
+quiet_unreported (act.Ended d ∷ acts) c h reported = let never : false ≡ true = h in cc
+quiet_unreported (act.Failed d cause ∷ acts) c h reported = let never : false ≡ true = h in cc
+quiet_unreported (act.Pending d wait ∷ acts) c h reported = let never : false ≡ true = h in cc
+quiet_unreported (act.Lost r kind ∷ acts) c h (inl to) = let never : None ≡ Some c = to in cc
+quiet_unreported (act.Lost r kind ∷ acts) c h (inr reported) = quiet_unreported acts c h reported
+quiet_unreported (act.Evicted r ∷ acts) c h (inl to) = let never : None ≡ Some c = to in cc
+quiet_unreported (act.Evicted r ∷ acts) c h (inr reported) = quiet_unreported acts c h reported
 
-pub quiet_up : (acts : List Act) (n : ℕ) → AreQuiet acts → TellsUp n acts
+pub quiet_up : (acts : List Act) (n : ℕ) → AreQuiet acts → ReportsUp n acts
 quiet_up [] n h = tt
 quiet_up (act.Denied refusal ∷ acts) n h = quiet_up acts n h
 quiet_up (act.Opened x d need request ∷ acts) n h = absurd (let never : false ≡ true = h in cc)
@@ -73,13 +73,13 @@ module _ (limits : Limits) (call : Called) where
   pub served_behind : (cs : List ℕ) (p q : Proxy) → HasConsumers p → AreQuiet (acts_in p.part) → ((c : ℕ) → among c cs ≡ true → is_live (p.tables.consumer c) ≡ true) → Adds limits call 0 cs p q → AreServed call q (acts_in q.part)
   served_behind cs p q h quiet live adds =
       are_served call (acts_in q.part) 0 q
-      (subst (TellsUp 0) (sym adds.acts) (tells_both (acts_in p.part) adds.more 0 0 (quiet_up (acts_in p.part) 0 quiet) (λ c told. absurd (quiet_untold (acts_in p.part) c quiet told)) (omega arith) adds.up))
-      (λ c told. by_part c (told_either (acts_in p.part) adds.more c (subst (IsTold c) adds.acts told)))
+      (subst (ReportsUp 0) (sym adds.acts) (reports_both (acts_in p.part) adds.more 0 0 (quiet_up (acts_in p.part) 0 quiet) (λ c reported. absurd (quiet_unreported (acts_in p.part) c quiet reported)) (omega arith) adds.up))
+      (λ c reported. by_part c (reported_either (acts_in p.part) adds.more c (subst (IsReceived c) adds.acts reported)))
     where
-      by_part : (c : ℕ) → IsTold c (acts_in p.part) ⊎ IsTold c adds.more → (k : ℕ) × IsServed call q k c
-      by_part c (inl told) = absurd (quiet_untold (acts_in p.part) c quiet told)
-      by_part c (inr told) =
-          let polled = adds.polled c told in
+      by_part : (c : ℕ) → IsReceived c (acts_in p.part) ⊎ IsReceived c adds.more → (k : ℕ) × IsServed call q k c
+      by_part c (inl reported) = absurd (quiet_unreported (acts_in p.part) c quiet reported)
+      by_part c (inr reported) =
+          let polled = adds.polled c reported in
           let s = served_now p h c (live c polled.0) polled.1 in
           (s.0, served_on p q adds.clients adds.holders s.0 c s.1)
 

@@ -9,7 +9,7 @@ use Rattle.hc_text.proofs.Basics.{some_inj as some_is}
 use Rattle.hc_effects.proofs.Vocabulary.{is_denied, Event, live, Entry, is_open, IsOwed, owed, Limits, event}
 use Rattle.hc_head.specs.declared.message.WireRequest.{WireRequest}
 use Rattle.hc_effects.proofs.PieceKeeps.{eq_cases}
-use Rattle.hc_msg.specs.{Inputs.{Next, Waits, Tells, Brings, Ends, Fails, next_in}, Reading.{Reading, Failed, Token, Asks, Answers, Byte}}
+use Rattle.hc_msg.specs.{Inputs.{Next, Waits, Reports, Brings, Ends, Fails, next_in}, Reading.{Reading, Failed, Token, Asks, Answers, Byte}}
 use Rattle.hc_wire.specs.{Logs.{Called}, declared.event.WireEvent.{WireEvent}}
 use Rattle.hc_wire.specs.declared.event.WireEvent.TheVariants as wire
 use Rattle.hc_proxy.specs.{Carrying.{acts_in}, Connections.{exchange_of}, Handling.{is_client, clients_here, inserted, client_comes, left, cancelled, leaves, client_sends, origin_sends, origin_ends, sends, ends, broke, handled_by, handled}, Invariants.{IsHolder, HasConsumers, AreServed}, Keeping.{IsNumbered}, Network.{heard}, Polls.{polled_all, each_polled, live_consumers}, Rows.{Client, Upstream, Proxy, with_client, with_upstream}, Starts.{read_to, asks, with_holder, started, refused, hears_request, hears, is_ready, hears_if, each_heard, started_all}, Steps.{with_entry, stepped}, Turns.{happened}, Waiting.{is_poll}}
@@ -314,8 +314,8 @@ module _ (limits : Limits) where
 
   hears_held : (k : ℕ) (r : Client) (n : Next) (p : Proxy) → p.client k ≡ Some r → r.gone ≡ false → r.consumer ≡ None → r.closing ≡ false → WellHeld limits p → Both p (hears limits k n p)
   hears_held k r (Waits reading) p row here none open_still w = reads_held k reading [] p w
-  hears_held k r (Tells token reading rest) p row here none open_still w =
-      two_held p (with_client k (read_to reading rest) p) (hears limits k (Tells token reading rest) p) (reads_held k reading rest p w)
+  hears_held k r (Reports token reading rest) p row here none open_still w =
+      two_held p (with_client k (read_to reading rest) p) (hears limits k (Reports token reading rest) p) (reads_held k reading rest p w)
       (λ v. token_held k (read_to reading rest r) token (with_client k (read_to reading rest) p) (changed_here k (read_to reading rest) p r row) here none open_still v)
   hears_held k r (Brings bytes reading rest) p row here none open_still w = (w, λ j h. h)
   hears_held k r Ends p row here none open_still w = (w, λ j h. h)

@@ -6,63 +6,63 @@
 use Rattle.std.proofs.{Common.{◌≡◌, ◌≢◌, ◌≤◌, ◌<◌, ◌^◌, ℕ, ◌+◌, List, [], ◌∷◌, true, Some, refl, ap, sym, ◌∙◌, subst, arith}, Math.{Bridge.{le_prop}, Logic.{∥∥₁_map, ∥∥₁_elim}}}
 use Rattle.hc_core.specs.Steps.{faults_in, steps, bytes_received}
 use Rattle.hc_effects.proofs.Vocabulary.{event, Request}
-use Rattle.hc_msg.specs.{Inputs.{Next, Waits, Tells, Brings, Ends, Fails, next_in}, Reading.{Asks, Answers, Byte}}
-use Rattle.hc_peers.specs.{Agreement.{consumer_at}, Clients.{client_of, ready_of, hearing, told_by, HearsNext}, declared.clients.{Clients.{Clients}, Heard.{Heard}}}
+use Rattle.hc_msg.specs.{Inputs.{Next, Waits, Reports, Brings, Ends, Fails, next_in}, Reading.{Asks, Answers, Byte}}
+use Rattle.hc_peers.specs.{Agreement.{consumer_at}, Clients.{client_of, ready_of, hearing, outcome_of, HearsNext}, declared.clients.{Clients.{Clients}, NextRequest.{NextRequest}}}
 use Rattle.hc_peers.specs.Clients as clients
 use Rattle.hc_peers.specs.declared.client.Client as peer
-use Rattle.hc_peers.specs.declared.clients.Heard.TheVariants as told
+use Rattle.hc_peers.specs.declared.clients.NextRequest.TheVariants as reported
 use Rattle.hc_sched.specs.Schedule.{IsEvent}
 use Rattle.hc_store.specs.declared.backend.Backend.{Ghosts}
 use Rattle.hc_proxy.specs.declared.proxy.Proxy as loop
 use Rattle.hc_proxy.specs.{Invariants.{unread}, Keeping.{Frame, Turn, HasCache, StandsForSome, KeepsHeard, IsHeard, IsNext, Stepped, RestStays, Goes, first_ready}, Rows.{Proxy}, Starts.{hears, each_heard}}
-use Rattle.hc_proxy.proofs.{NextAsks.{of_head, IsNextAsked, next_asks}, NextSpelled.{told_spelled, start_spelled}, Rows.{holder_of}, StartOne.{nobody_goes, each_is, of_requests, waits_goes, fails_goes, asked_cache, asks_goes}}
+use Rattle.hc_proxy.proofs.{NextAsks.{of_head, IsNextAsked, next_asks}, NextSpelled.{reported_spelled, start_spelled}, Rows.{holder_of}, StartOne.{nobody_goes, each_is, of_requests, waits_goes, fails_goes, asked_cache, asks_goes}}
 
 -- BY WHAT STANDS NEXT
 
-never_nobody : {A : Type 0} (k : ℕ) (n : Next) → told.Nobody ≡ told_by k n → A
-never_nobody k (Waits reading) is = absurd (let never : told.Nobody ≡ told.Nothing = is in cc)
-never_nobody k (Tells (Asks request) reading rest) is = absurd (let never : told.Nobody ≡ told.Asks k request.request = is in cc)
-never_nobody k (Tells (Answers response) reading rest) is = absurd (let never : told.Nobody ≡ told.Nothing = is in cc)
-never_nobody k (Tells (Byte b) reading rest) is = absurd (let never : told.Nobody ≡ told.Nothing = is in cc)
-never_nobody k (Brings bytes reading rest) is = absurd (let never : told.Nobody ≡ told.Nothing = is in cc)
-never_nobody k Ends is = absurd (let never : told.Nobody ≡ told.Nothing = is in cc)
-never_nobody k (Fails e) is = absurd (let never : told.Nobody ≡ told.Nothing = is in cc)
+never_nobody : {A : Type 0} (k : ℕ) (n : Next) → reported.Nobody ≡ outcome_of k n → A
+never_nobody k (Waits reading) is = absurd (let never : reported.Nobody ≡ reported.Nothing = is in cc)
+never_nobody k (Reports (Asks request) reading rest) is = absurd (let never : reported.Nobody ≡ reported.Asks k request.request = is in cc)
+never_nobody k (Reports (Answers response) reading rest) is = absurd (let never : reported.Nobody ≡ reported.Nothing = is in cc)
+never_nobody k (Reports (Byte b) reading rest) is = absurd (let never : reported.Nobody ≡ reported.Nothing = is in cc)
+never_nobody k (Brings bytes reading rest) is = absurd (let never : reported.Nobody ≡ reported.Nothing = is in cc)
+never_nobody k Ends is = absurd (let never : reported.Nobody ≡ reported.Nothing = is in cc)
+never_nobody k (Fails e) is = absurd (let never : reported.Nobody ≡ reported.Nothing = is in cc)
 
-asks_nothing : {A : Type 0} (k : ℕ) (r : Request) → told.Asks k r ≡ told.Nothing → A
-asks_nothing k r is = absurd (let never : told.Asks k r ≡ told.Nothing = is in cc)
+asks_nothing : {A : Type 0} (k : ℕ) (r : Request) → reported.Asks k r ≡ reported.Nothing → A
+asks_nothing k r is = absurd (let never : reported.Asks k r ≡ reported.Nothing = is in cc)
 
-request_of : Heard → Request → Request
-request_of (told.Asks k r) other = r
-request_of told.Nobody other = other
-request_of told.Nothing other = other
+request_of : NextRequest → Request → Request
+request_of (reported.Asks k r) other = r
+request_of reported.Nobody other = other
+request_of reported.Nothing other = other
 
-same_request : (j k : ℕ) (r q : Request) → told.Asks j r ≡ told.Asks k q → r ≡ q
+same_request : (j k : ℕ) (r q : Request) → reported.Asks j r ≡ reported.Asks k q → r ≡ q
 unfolding request_of
-same_request j k r q is = ap (λ (z : Heard). request_of z q) is
+same_request j k r q is = ap (λ (z : NextRequest). request_of z q) is
 
 -- THE LISTS
 
-pub nobody_left : (c : ℕ) (old new : Clients) → HearsNext c old new told.Nobody → ready_of old ≡ []
+pub nobody_left : (c : ℕ) (old new : Clients) → HearsNext c old new reported.Nobody → ready_of old ≡ []
 nobody_left c old new (clients.nobody none is stays) = none
 nobody_left c old new (clients.somebody w) = never_nobody w.k (next_in 1 w.client.reader w.client.input) w.result_is
 
-pub one_less : (c : ℕ) (old new : Clients) (result : Heard) → (result ≡ told.Nobody → ⊥) → HearsNext c old new result → IsNext true (ready_of old) (ready_of new)
+pub one_less : (c : ℕ) (old new : Clients) (result : NextRequest) → (result ≡ reported.Nobody → ⊥) → HearsNext c old new result → IsNext true (ready_of old) (ready_of new)
 one_less c old new result some (clients.nobody none is stays) = absurd (some is)
 one_less c old new result some (clients.somebody w) = (w.k, w.first ∙ ap (λ (ks : List ℕ). w.k ∷ ks) (sym w.others))
 
 -- ITS EVENT has a spelling
 
-pub start_event : (c : ℕ) (old new : Clients) (k : ℕ) (r : Request) → c < 2 ^ 62 → HearsNext c old new (told.Asks k r) → IsEvent (event.Start c r)
-start_event c old new k r small (clients.nobody none is stays) = absurd (let never : told.Asks k r ≡ told.Nobody = is in cc)
+pub start_event : (c : ℕ) (old new : Clients) (k : ℕ) (r : Request) → c < 2 ^ 62 → HearsNext c old new (reported.Asks k r) → IsEvent (event.Start c r)
+start_event c old new k r small (clients.nobody none is stays) = absurd (let never : reported.Asks k r ≡ reported.Nobody = is in cc)
 start_event c old new k r small (clients.somebody w) = by_next (next_in 1 w.client.reader w.client.input) refl w.result_is
   where
-    by_next : (n : Next) → next_in 1 w.client.reader w.client.input ≡ n → told.Asks k r ≡ told_by w.k n → IsEvent (event.Start c r)
-    by_next (Tells (Asks request) reading rest) at is =
+    by_next : (n : Next) → next_in 1 w.client.reader w.client.input ≡ n → reported.Asks k r ≡ outcome_of w.k n → IsEvent (event.Start c r)
+    by_next (Reports (Asks request) reading rest) at is =
         subst (λ (q : Request). IsEvent (event.Start c q)) (sym (same_request k w.k r request.request is))
-        (start_spelled c request.request small (told_spelled 1 w.client.reader w.client.input (Asks request) reading rest at))
+        (start_spelled c request.request small (reported_spelled 1 w.client.reader w.client.input (Asks request) reading rest at))
     by_next (Waits reading) at is = asks_nothing k r is
-    by_next (Tells (Answers response) reading rest) at is = asks_nothing k r is
-    by_next (Tells (Byte b) reading rest) at is = asks_nothing k r is
+    by_next (Reports (Answers response) reading rest) at is = asks_nothing k r is
+    by_next (Reports (Byte b) reading rest) at is = asks_nothing k r is
     by_next (Brings bytes reading rest) at is = asks_nothing k r is
     by_next Ends at is = asks_nothing k r is
     by_next (Fails e) at is = asks_nothing k r is
@@ -120,21 +120,21 @@ module _ {B : Type 0} {g : Ghosts B} where
   -- WHAT IS DONE
 
   module _ (t : Turn) (x : loop.Proxy B g) (p : Proxy) (h : KeepsHeard t x p) (s : Clients) where
-    pub goes_nobody : HearsNext (x.starts + 1) x.clients s told.Nobody → Goes (KeepsHeard t) (faults_in x.cache) (record x { clients = s }) (each_heard t.frame.limits t.call (first_ready (ready_of x.clients)) p)
+    pub goes_nobody : HearsNext (x.starts + 1) x.clients s reported.Nobody → Goes (KeepsHeard t) (faults_in x.cache) (record x { clients = s }) (each_heard t.frame.limits t.call (first_ready (ready_of x.clients)) p)
     goes_nobody (clients.nobody none is stays) = nobody_goes t x p h s stays none
     goes_nobody (clients.somebody w) = never_nobody w.k (next_in 1 w.client.reader w.client.input) w.result_is
 
-    nothing_by : (w : clients.IsHeard (x.starts + 1) x.clients s told.Nothing) (n : Next) → IsNextAsked n → clients.Becomes w.k (Some (hearing (x.starts + 1) n w.client)) x.clients s → told.Nothing ≡ told_by w.k n → Goes (KeepsHeard t) (faults_in x.cache) (record x { clients = s }) (hears t.frame.limits w.k n p)
+    nothing_by : (w : clients.IsHeard (x.starts + 1) x.clients s reported.Nothing) (n : Next) → IsNextAsked n → clients.Becomes w.k (Some (hearing (x.starts + 1) n w.client)) x.clients s → reported.Nothing ≡ outcome_of w.k n → Goes (KeepsHeard t) (faults_in x.cache) (record x { clients = s }) (hears t.frame.limits w.k n p)
     nothing_by w (Waits reading) of becomes is = waits_goes t x p h w.k w.rest w.client w.first w.row reading s (of_head reading of) becomes
-    nothing_by w (Tells (Asks request) reading rest) of becomes is = asks_nothing w.k request.request (sym is)
-    nothing_by w (Tells (Answers response) reading rest) of becomes is = absurd of
-    nothing_by w (Tells (Byte b) reading rest) of becomes is = absurd of
+    nothing_by w (Reports (Asks request) reading rest) of becomes is = asks_nothing w.k request.request (sym is)
+    nothing_by w (Reports (Answers response) reading rest) of becomes is = absurd of
+    nothing_by w (Reports (Byte b) reading rest) of becomes is = absurd of
     nothing_by w (Brings bytes reading rest) of becomes is = absurd of
     nothing_by w Ends of becomes is = absurd of
     nothing_by w (Fails e) of becomes is = fails_goes t x p h w.k w.rest w.client w.first w.row e s becomes
 
-    pub goes_nothing : HearsNext (x.starts + 1) x.clients s told.Nothing → Goes (KeepsHeard t) (faults_in x.cache) (record x { clients = s }) (each_heard t.frame.limits t.call (first_ready (ready_of x.clients)) p)
-    goes_nothing (clients.nobody none is stays) = absurd (let never : told.Nothing ≡ told.Nobody = is in cc)
+    pub goes_nothing : HearsNext (x.starts + 1) x.clients s reported.Nothing → Goes (KeepsHeard t) (faults_in x.cache) (record x { clients = s }) (each_heard t.frame.limits t.call (first_ready (ready_of x.clients)) p)
+    goes_nothing (clients.nobody none is stays) = absurd (let never : reported.Nothing ≡ reported.Nobody = is in cc)
     goes_nothing (clients.somebody w) =
         subst (λ q. Goes (KeepsHeard t) (faults_in x.cache) (record x { clients = s }) q) (sym (each_is t x p h w.k w.rest w.client w.first w.row))
         (nothing_by w (next_in 1 w.client.reader w.client.input) (next_asks 1 w.client.reader w.client.input (of_requests t x p h w.k w.rest w.client w.first w.row)) w.becomes w.result_is)
@@ -142,20 +142,20 @@ module _ {B : Type 0} {g : Ghosts B} where
     module _ (k : ℕ) (r : Request) (x' : loop.Proxy B g)
         (steps_by : (f : Frame) (q : Proxy) → HasCache f (record x { clients = s; starts = x.starts + 1 }) q → unread q + bytes_received x.cache + 0 ≤ f.bytes → Stepped f (record x { clients = s; starts = x.starts + 1 }) x' (event.Start (x.starts + 1) r) q)
         (stay : RestStays (record x { clients = s; starts = x.starts + 1 }) x') (moved : x'.moved ≡ true) (count : steps x'.cache ≡ steps x.cache + 1) where
-      asked_by : (w : clients.IsHeard (x.starts + 1) x.clients s (told.Asks k r)) (n : Next) → IsNextAsked n → clients.Becomes w.k (Some (hearing (x.starts + 1) n w.client)) x.clients s → told.Asks k r ≡ told_by w.k n → Goes (KeepsHeard t) (faults_in x.cache) x' (hears t.frame.limits w.k n p)
-      asked_by w (Tells (Asks request) reading left) of becomes is =
+      asked_by : (w : clients.IsHeard (x.starts + 1) x.clients s (reported.Asks k r)) (n : Next) → IsNextAsked n → clients.Becomes w.k (Some (hearing (x.starts + 1) n w.client)) x.clients s → reported.Asks k r ≡ outcome_of w.k n → Goes (KeepsHeard t) (faults_in x.cache) x' (hears t.frame.limits w.k n p)
+      asked_by w (Reports (Asks request) reading left) of becomes is =
           let c = asked_cache t x p h w.k w.rest w.client w.first w.row request reading left (of_head reading of) s becomes in
           asks_goes t x p h w.k w.rest w.client w.first w.row request reading left (of_head reading of) s becomes r (same_request k w.k r request.request is) x'
           (steps_by t.frame _ c (let all : unread p + bytes_received x.cache ≤ t.frame.bytes = h.quiet.keeps.cache.small in omega arith)) stay moved count
       asked_by w (Waits reading) of becomes is = asks_nothing k r is
-      asked_by w (Tells (Answers response) reading rest) of becomes is = absurd of
-      asked_by w (Tells (Byte b) reading rest) of becomes is = absurd of
+      asked_by w (Reports (Answers response) reading rest) of becomes is = absurd of
+      asked_by w (Reports (Byte b) reading rest) of becomes is = absurd of
       asked_by w (Brings bytes reading rest) of becomes is = absurd of
       asked_by w Ends of becomes is = absurd of
       asked_by w (Fails e) of becomes is = asks_nothing k r is
 
-      pub goes_asks : HearsNext (x.starts + 1) x.clients s (told.Asks k r) → Goes (KeepsHeard t) (faults_in x.cache) x' (each_heard t.frame.limits t.call (first_ready (ready_of x.clients)) p)
-      goes_asks (clients.nobody none is stays) = absurd (let never : told.Asks k r ≡ told.Nobody = is in cc)
+      pub goes_asks : HearsNext (x.starts + 1) x.clients s (reported.Asks k r) → Goes (KeepsHeard t) (faults_in x.cache) x' (each_heard t.frame.limits t.call (first_ready (ready_of x.clients)) p)
+      goes_asks (clients.nobody none is stays) = absurd (let never : reported.Asks k r ≡ reported.Nobody = is in cc)
       goes_asks (clients.somebody w) =
           subst (λ q. Goes (KeepsHeard t) (faults_in x.cache) x' q) (sym (each_is t x p h w.k w.rest w.client w.first w.row))
           (asked_by w (next_in 1 w.client.reader w.client.input) (next_asks 1 w.client.reader w.client.input (of_requests t x p h w.k w.rest w.client w.first w.row)) w.becomes w.result_is)

@@ -4,7 +4,7 @@ use Rattle.hc_text.proofs.Basics.{or_cases}
 use Rattle.hc_effects.proofs.Vocabulary.{leaves_in, Limits, consumer_after, consumer_settled, consumer_acted, consumer_heard, is_live, Entry, Lawful, Tables, Consumer, IsOwed, after, place}
 use Rattle.hc_proxy.specs.{Carrying.{acts_in}, Rows.{Proxy}, Steps.{with_entry}, Invariants.{AreOver}}
 use Rattle.hc_proxy.proofs.Holders.{leaves_append}
-use Rattle.hc_laws.proofs.{LiveAfter.{consumer_behind, dead_stays}, WhoLeaves.{told_over, told_live}}
+use Rattle.hc_laws.proofs.{LiveAfter.{consumer_behind, dead_stays}, WhoLeaves.{reported_over, reported_live}}
 use Rattle.hc_core.proofs.NobodyLive.{over_by as over_place}
 
 -- it started, and is over
@@ -48,11 +48,11 @@ module _ (limits : Limits) (t : Tables) (e : Entry) (law : Lawful t) (is : IsOwe
       ]
 
   -- who is told so is over
-  pub told_is_over : (c : ℕ) → leaves_in c e.acts ≡ true → IsOver (after t e) c
-  told_is_over c leaves =
-      let was = some_row (t.consumer c) (told_live limits t e law is c leaves) in
+  pub reported_is_over : (c : ℕ) → leaves_in c e.acts ≡ true → IsOver (after t e) c
+  reported_is_over c leaves =
+      let was = some_row (t.consumer c) (reported_live limits t e law is c leaves) in
       let behind = row_stays t e c was.0 was.1 in
-      record { k = behind.0; row = behind.1; over = told_over limits t e law is c leaves }
+      record { k = behind.0; row = behind.1; over = reported_over limits t e law is c leaves }
 
 -- an entry keeps it
 pub over_keeps : (limits : Limits) (p : Proxy) (e : Entry) → Lawful p.tables → IsOwed limits p.tables e → HasOver p → HasOver (with_entry e p)
@@ -60,5 +60,5 @@ unfolding with_entry
 over_keeps limits p e law is h c leaves =
     elim (or_cases (leaves_in c (acts_in p.part)) (leaves_in c e.acts) (sym (leaves_append c (acts_in p.part) e.acts) ∙ leaves)) as (λ _. IsOver (after p.tables e) c) [
       | inl before ↦ over_stays limits p.tables e law is c (h c before)
-      | inr now ↦ told_is_over limits p.tables e law is c now
+      | inr now ↦ reported_is_over limits p.tables e law is c now
     ]

@@ -189,7 +189,7 @@ module _ {B : Type 0} {g : Ghosts B} where
         now = h.now;
         event_is = refl;
         is_owed = is_owed;
-        acts = s.told;
+        acts = s.reported;
         cache = has_cache;
         later = (let counted : faults_in x.cache + failures_in entry.acts ≤ faults_in x'.cache = s.answered.counted in omega arith);
         same = faultless;

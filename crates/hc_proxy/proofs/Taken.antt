@@ -10,13 +10,13 @@ use Rattle.hc_rules.proofs.RangeReads.{bytes_eq-same, same_bytes}
 use Rattle.hc_wire.specs.{Events.{Stage, Unseen, Open, Closed, reading_of}, Logs.{Log, Taker, is_numbered, is_at_end, stage_of, stage_from, sent_from, stage_in, sent_in, changed_at, taking, reading, shut, with_sent, with_reading, with_closed}}
 use Rattle.hc_wire.proofs.LogLemmas.{stages-same}
 use Rattle.hc_peers.specs.Offers.{OffersSome}
-use Rattle.hc_proxy.specs.{Connections.{exchange_of}, Endings.{is_front, client_was_sent, upstream_was_sent, sent_by, was_sent}, Logging.{short_from, is_short}, Rows.{Client, Upstream, Proxy}, TurnSteps.{SentSome}, Unsent.{Sends}}
-use Rattle.hc_proxy.proofs.{Followed.{KeepsNumber, found}, Closings.{told_on}}
+use Rattle.hc_proxy.specs.{Connections.{exchange_of}, Endings.{is_prefix, client_was_sent, upstream_was_sent, sent_by, was_sent}, Logging.{short_from, is_short}, Rows.{Client, Upstream, Proxy}, TurnSteps.{SentSome}, Unsent.{Sends}}
+use Rattle.hc_proxy.proofs.{Followed.{KeepsNumber, found}, Closings.{reported_on}}
 
 -- FIRST PARTS
 
 -- what comes next is taken
-front_more : (sent owed unsent : List ℕ) (n : ℕ) → unsent ≡ drop (length sent) owed → is_front sent owed ≡ true → is_front (sent ++ take n unsent) owed ≡ true
+front_more : (sent owed unsent : List ℕ) (n : ℕ) → unsent ≡ drop (length sent) owed → is_prefix sent owed ≡ true → is_prefix (sent ++ take n unsent) owed ≡ true
 front_more sent owed unsent n left is =
     let whole : owed ≡ sent ++ unsent = sym (take-append-drop (length sent) owed) ∙ (ap (λ xs. xs ++ drop (length sent) owed) (same_bytes (take (length sent) owed) sent is) ∙ ap (λ xs. sent ++ xs) (sym left)) in
     bytes_eq-same (take (length (sent ++ take n unsent)) owed) (sent ++ take n unsent)
@@ -31,10 +31,10 @@ none_left (x ∷ xs) i is = rw is (none_left xs (length xs) refl)
 
 client_more : (sent unsent : List ℕ) (r : Client) (n : ℕ) → unsent ≡ drop (length sent) r.owed → client_was_sent sent (Some r) ≡ true → client_was_sent (sent ++ take n unsent) (Some r) ≡ true
 client_more sent unsent r n left was =
-    let parts = three (is_front sent r.owed) (nat_le r.before (length sent)) (not r.let_go || length sent == length r.owed) was in
+    let parts = three (is_prefix sent r.owed) (nat_le r.before (length sent)) (not r.let_go || length sent == length r.owed) was in
     let longer : length (sent ++ take n unsent) ≡ length sent + length (take n unsent) = length-append sent (take n unsent) in
     let early : nat_le r.before (length sent) ≡ true = parts.1 in
-    all_three (is_front (sent ++ take n unsent) r.owed) (nat_le r.before (length (sent ++ take n unsent))) (not r.let_go || length (sent ++ take n unsent) == length r.owed)
+    all_three (is_prefix (sent ++ take n unsent) r.owed) (nat_le r.before (length (sent ++ take n unsent))) (not r.let_go || length (sent ++ take n unsent) == length r.owed)
     (front_more sent r.owed unsent n left parts.0)
     (grind (arith, nat_tests))
     (by_end r.let_go parts.2)
@@ -99,7 +99,7 @@ module _ (p : Proxy) (log : Log) (k : ℕ) (r : Client) (at : p.client k ≡ Som
 
 -- of a connection to the origin
 module _ (p : Proxy) (log : Log) (k y : ℕ) (v : Upstream) (at : p.upstream y ≡ Some v) (its : exchange_of log.dialled k ≡ Some y) where
-  of_origin : (d : Taker) → d.k ≡ k → was_sent log.dialled p d ≡ is_front d.sent v.owed
+  of_origin : (d : Taker) → d.k ≡ k → was_sent log.dialled p d ≡ is_prefix d.sent v.owed
   of_origin d number =
       ap (λ (o : Option ℕ). sent_by p d o) (ap (exchange_of log.dialled) number ∙ its)
       ∙ ap (upstream_was_sent d.sent) at
@@ -233,12 +233,12 @@ none_front p log k n less all = all_changed k (taking (take n []) less (length l
     same d is was =
         ap (λ (xs : List ℕ). was_sent log.dialled p (let t : Taker = record d { sent = xs } in t)) (ap (λ xs. d.sent ++ xs) none ∙ append-nil d.sent) ∙ was
 
-pub some_sent : (p : Proxy) (log : Log) (k : ℕ) (told told' : Option Log) (unsent : List ℕ) → (o : OffersSome k unsent told told') → (told ≡ None) ⊎ (told ≡ Some log)
+pub some_sent : (p : Proxy) (log : Log) (k : ℕ) (reported reported' : Option Log) (unsent : List ℕ) → (o : OffersSome k unsent reported reported') → (reported ≡ None) ⊎ (reported ≡ Some log)
     → ((n : ℕ) (less : Bool) → list_all (was_sent log.dialled p) log.takers ≡ true → list_all (was_sent log.dialled p) (with_sent k (take n unsent) less log).takers ≡ true)
-    → SentSome p log told'
-some_sent p log k told told' unsent o is front = record {
+    → SentSome p log reported'
+some_sent p log k reported reported' unsent o is front = record {
   log' = with_sent k (take o.n unsent) o.short log;
-  told_is = told_on told told' log (with_sent k (take o.n unsent) o.short) is o.told;
+  reported_is = reported_on reported reported' log (with_sent k (take o.n unsent) o.short) is o.reported;
   calls = refl;
   bound = refl;
   dialled = refl;

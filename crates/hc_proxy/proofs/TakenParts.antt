@@ -9,13 +9,13 @@ use Rattle.std.{proofs.{Common.{◌≡◌, inl, inr, ◌≤◌, ℕ, ◌+◌, �
 use Rattle.hc_head.specs.declared.message.MsgError.{MsgError}
 use Rattle.hc_head.specs.declared.message.MsgError.TheVariants as error
 use Rattle.hc_msg.specs.declared.message.Look.TheVariants as look
-use Rattle.hc_msg.specs.{declared.message.WirePart.{WirePart}, Inputs.{Next, Waits, Tells, Brings, Ends, Fails, next_in, look_of}, NextParts.{IsBroughtFirst, StandsNext}, Reading.{Reading, Done, Failed, Token, Asks, Answers, Byte}, Taking.{is_whole}}
+use Rattle.hc_msg.specs.{declared.message.WirePart.{WirePart}, Inputs.{Next, Waits, Reports, Brings, Ends, Fails, next_in, look_of}, NextParts.{IsBroughtFirst, StandsNext}, Reading.{Reading, Done, Failed, Token, Asks, Answers, Byte}, Taking.{is_whole}}
 use Rattle.hc_msg.specs.declared.message.WirePart.TheVariants as part
 use Rattle.hc_msg.proofs.NextParts.{stands_next}
 use Rattle.hc_peers.specs.Origins as origins
 use Rattle.hc_peers.specs.declared.upstream.Upstream as origin
 use Rattle.hc_proxy.specs.{Hearing.{IsFit}, Keeping.{IsUpstream}, Network.{has_news, next_of}, Rows.{Upstream}}
-use Rattle.hc_proxy.proofs.NextSpelled.{told_spelled}
+use Rattle.hc_proxy.proofs.NextSpelled.{reported_spelled}
 
 -- A ROW AND ITS ROW IN THE DEFINITIONS
 
@@ -51,9 +51,9 @@ pub record TakenNone (n : Next) (old new : origin.Upstream) : Type 0 where
 
 taken_none : (n : Next) (old new : origin.Upstream) (r : Result (Option WirePart) MsgError) → r ≡ Ok None → origins.IsTaken n old new r → TakenNone n old new
 taken_none (Waits reading) old new r is t = record { reading = reading; next = refl; now = t.1 }
-taken_none (Tells (Answers response) reading rest) old new r is t = none_part r (part.Head response) is t.0
-taken_none (Tells (Asks request) reading rest) old new r is t = absurd t
-taken_none (Tells (Byte b) reading rest) old new r is t = absurd t
+taken_none (Reports (Answers response) reading rest) old new r is t = none_part r (part.Head response) is t.0
+taken_none (Reports (Asks request) reading rest) old new r is t = absurd t
+taken_none (Reports (Byte b) reading rest) old new r is t = absurd t
 taken_none (Brings bytes reading rest) old new r is t = none_part r (part.Piece bytes) is t.0
 taken_none Ends old new r is t = none_part r part.End is t.0
 taken_none (Fails e) old new r is t = ok_err r None e is t.0
@@ -64,16 +64,16 @@ none_taken old new r is (inr taken) = taken_none (origins.next_of old) old new r
 
 -- a part
 abbrev pub IsTakenAs : WirePart → Next → origin.Upstream → origin.Upstream → Type 0
-IsTakenAs (part.Head response) n old new = (reading : Reading) × (rest : List ℕ) × (n ≡ Tells (Answers response) reading rest) × (new ≡ origins.read_to reading rest old)
+IsTakenAs (part.Head response) n old new = (reading : Reading) × (rest : List ℕ) × (n ≡ Reports (Answers response) reading rest) × (new ≡ origins.read_to reading rest old)
 IsTakenAs (part.Piece bytes) n old new = (reading : Reading) × (rest : List ℕ) × (n ≡ Brings bytes reading rest) × (new ≡ origins.read_to reading rest old)
 IsTakenAs part.End n old new = (n ≡ Ends) × (new ≡ origins.read_to Done [] old)
 
 taken_some : (w : WirePart) (n : Next) (old new : origin.Upstream) (r : Result (Option WirePart) MsgError) → r ≡ Ok (Some w) → origins.IsTaken n old new r → IsTakenAs w n old new
 taken_some w (Waits reading) old new r is t = none_part r w t.0 is
-taken_some w (Tells (Answers response) reading rest) old new r is t =
-    subst (λ (v : WirePart). IsTakenAs v (Tells (Answers response) reading rest) old new) (same_part r (part.Head response) w t.0 is) (reading, rest, refl, t.1)
-taken_some w (Tells (Asks request) reading rest) old new r is t = absurd t
-taken_some w (Tells (Byte b) reading rest) old new r is t = absurd t
+taken_some w (Reports (Answers response) reading rest) old new r is t =
+    subst (λ (v : WirePart). IsTakenAs v (Reports (Answers response) reading rest) old new) (same_part r (part.Head response) w t.0 is) (reading, rest, refl, t.1)
+taken_some w (Reports (Asks request) reading rest) old new r is t = absurd t
+taken_some w (Reports (Byte b) reading rest) old new r is t = absurd t
 taken_some w (Brings bytes reading rest) old new r is t =
     subst (λ (v : WirePart). IsTakenAs v (Brings bytes reading rest) old new) (same_part r (part.Piece bytes) w t.0 is) (reading, rest, refl, t.1)
 taken_some w Ends old new r is t =
@@ -92,9 +92,9 @@ pub record TakenErr (n : Next) (old new : origin.Upstream) : Type 0 where
 
 taken_err : (e : MsgError) (n : Next) (old new : origin.Upstream) (r : Result (Option WirePart) MsgError) → r ≡ Err e → origins.IsTaken n old new r → TakenErr n old new
 taken_err e (Waits reading) old new r is t = ok_err r None e t.0 is
-taken_err e (Tells (Answers response) reading rest) old new r is t = ok_err r (Some (part.Head response)) e t.0 is
-taken_err e (Tells (Asks request) reading rest) old new r is t = absurd t
-taken_err e (Tells (Byte b) reading rest) old new r is t = absurd t
+taken_err e (Reports (Answers response) reading rest) old new r is t = ok_err r (Some (part.Head response)) e t.0 is
+taken_err e (Reports (Asks request) reading rest) old new r is t = absurd t
+taken_err e (Reports (Byte b) reading rest) old new r is t = absurd t
 taken_err e (Brings bytes reading rest) old new r is t = ok_err r (Some (part.Piece bytes)) e t.0 is
 taken_err e Ends old new r is t = ok_err r (Some part.End) e t.0 is
 taken_err e (Fails f) old new r is t = record { e = f; next = refl; now = t.1 }
@@ -128,8 +128,8 @@ brought_off s input bytes t rest is = of_first (subst (StandsNext 16384 s input)
         let c : length (bytes ++ rest) ≡ length bytes + length rest = length-append bytes rest in
         record { all = omega arith; most = (let d = f.longest in omega arith) }
 
-pub told_off : (s : Reading) (input : List ℕ) (token : Token) (t : Reading) (rest : List ℕ) → next_in 16384 s input ≡ Tells token t rest → length rest ≤ length input
-told_off s input token t rest is =
+pub reported_off : (s : Reading) (input : List ℕ) (token : Token) (t : Reading) (rest : List ℕ) → next_in 16384 s input ≡ Reports token t rest → length rest ≤ length input
+reported_off s input token t rest is =
     let f = subst (StandsNext 16384 s input) is (stands_next 16384 s input) in
     let a : length (f.front ++ rest) ≡ length input = ap length f.whole in
     let b : length (f.front ++ rest) ≡ length f.front + length rest = length-append f.front rest in
@@ -137,7 +137,7 @@ told_off s input token t rest is =
 
 -- what is taken fits a schedule
 pub taken_fits : (w : WirePart) (old new : origin.Upstream) → IsTakenAs w (origins.next_of old) old new → IsFit w
-taken_fits (part.Head response) old new t = told_spelled 16384 old.reader old.input (Answers response) t.0 t.1 t.2
+taken_fits (part.Head response) old new t = reported_spelled 16384 old.reader old.input (Answers response) t.0 t.1 t.2
 taken_fits (part.Piece bytes) old new t = let r = (brought_off old.reader old.input bytes t.0 t.1 t.2).most in omega arith
 taken_fits part.End old new t = tt
 
@@ -145,7 +145,7 @@ taken_fits part.End old new t = tt
 
 pub looks_waits : (n : Next) → look_of n ≡ look.Waits → (reading : Reading) × (n ≡ Waits reading)
 looks_waits (Waits reading) is = (reading, refl)
-looks_waits (Tells token reading rest) is = absurd (let never : look.Part ≡ look.Waits = is in cc)
+looks_waits (Reports token reading rest) is = absurd (let never : look.Part ≡ look.Waits = is in cc)
 looks_waits (Brings bytes reading rest) is = absurd (let never : look.Part ≡ look.Waits = is in cc)
 looks_waits Ends is = absurd (let never : look.Part ≡ look.Waits = is in cc)
 looks_waits (Fails e) is = absurd (let never : look.Fails ≡ look.Waits = is in cc)
@@ -153,6 +153,6 @@ looks_waits (Fails e) is = absurd (let never : look.Fails ≡ look.Waits = is in
 pub looks_fails : (n : Next) → look_of n ≡ look.Fails → (e : MsgError) × (n ≡ Fails e)
 looks_fails (Fails e) is = (e, refl)
 looks_fails (Waits reading) is = absurd (let never : look.Waits ≡ look.Fails = is in cc)
-looks_fails (Tells token reading rest) is = absurd (let never : look.Part ≡ look.Fails = is in cc)
+looks_fails (Reports token reading rest) is = absurd (let never : look.Part ≡ look.Fails = is in cc)
 looks_fails (Brings bytes reading rest) is = absurd (let never : look.Part ≡ look.Fails = is in cc)
 looks_fails Ends is = absurd (let never : look.Part ≡ look.Fails = is in cc)

@@ -83,9 +83,9 @@ any_found k (s ∷ ss) = by_test (is_of k s) (any_found k ss)
     by_test false rest = rest
 
 -- a call that tells how they stood
-module _ (log : Log) (call : Called) (told : call.standings ≡ standings_in log) (apart : AreApart log.takers) where
+module _ (log : Log) (call : Called) (reported : call.standings ≡ standings_in log) (apart : AreApart log.takers) where
   at_call : (k : ℕ) → find (is_of k) call.standings ≡ live_standing (length log.calls) (find (is_numbered k) log.takers)
-  at_call k = ap (find (is_of k)) told ∙ standing_found (length log.calls) k log.takers apart
+  at_call k = ap (find (is_of k)) reported ∙ standing_found (length log.calls) k log.takers apart
 
   pub taken_found : (k : ℕ) (c : Taker) → find (is_numbered k) log.takers ≡ Some c → c.live ≡ true → taken_at call k ≡ length c.sent
   unfolding live_standing live_by
@@ -133,7 +133,7 @@ module _ (log : Log) (call : Called) (told : call.standings ≡ standings_in log
   -- what holds of each open one holds of all that it tells of
   pub standings_all : (test : Standing → Bool) → ((c : Taker) → find (is_numbered c.k) log.takers ≡ Some c → c.live ≡ true → test (standing_of (length log.calls) c) ≡ true) → list_all test call.standings ≡ true
   standings_all test each =
-      ap (list_all test) told
+      ap (list_all test) reported
       ∙ (by_list log.takers ∙ all_found (λ (c : Taker). if c.live then test (standing_of (length log.calls) c) else true) log.takers apart (λ c is. by_live c c.live refl (each c is)))
     where
       by_live : (c : Taker) (b : Bool) → c.live ≡ b → (c.live ≡ true → test (standing_of (length log.calls) c) ≡ true) → (if b then test (standing_of (length log.calls) c) else true) ≡ true

@@ -7,7 +7,7 @@ use Rattle.std.{proofs.{Common.{◌≡◌, ◌⊎◌, inl, inr, ◌≤◌, ◌<�
 use Rattle.hc_peers.specs.Clients.{client_of}
 use Rattle.hc_peers.specs.declared.client.Client as peer
 use Rattle.hc_store.specs.declared.backend.Backend.{Ghosts}
-use Rattle.hc_wire.specs.{Events.{Stage, Unseen, Open, Closed, Fresh, IsOpen, IsOfOpen, FitsIn, ended_of, stages_after, got_bytes}, Logs.{Log, Taker, Called, Tells, is_numbered, over, standings_in, stage_from, stage_in, sent_from, sent_in, takers_with, with_call}, declared.event.WireEvent.{WireEvent}}
+use Rattle.hc_wire.specs.{Events.{Stage, Unseen, Open, Closed, Fresh, IsOpen, IsOfOpen, FitsIn, ended_of, stages_after, got_bytes}, Logs.{Log, Taker, Called, Reports, is_numbered, over, standings_in, stage_from, stage_in, sent_from, sent_in, takers_with, with_call}, declared.event.WireEvent.{WireEvent}}
 use Rattle.hc_wire.specs.declared.event.WireEvent.TheVariants as event
 use Rattle.hc_proxy.specs.declared.proxy.Proxy as loop
 use Rattle.hc_proxy.specs.{Connections.{stands, taken_at}, Handling.{begun, seen_at, clients_here, is_client}, Invariants.{HasConsumers}, Keeping.{Frame, Turn, HasCache, HasClients, HasUpstreams, IsClient, IsClientAt, AtWire, Begun}, Resting.{IsRestingAt, Rests}, Rows.{Client, Proxy}, Serving.{IsStill}, Standings.{client_stands}, Underway.{OnWire}}
@@ -65,7 +65,7 @@ mapped_some change (Some a) some = refl
 mapped_none : {A : Type 0} (change : A → A) (o : Option A) → o ≡ None → option_map change o ≡ None
 mapped_none change o is = ap (option_map change) is
 
-module _ {B : Type 0} {g : Ghosts B} (n : ℕ) (f : Frame) (x : loop.Proxy B g) (p : Proxy) (log : Log) (told told' : Option Log) (stages stages' : ℕ → Stage) (s : IsStill n f x p log told stages)
+module _ {B : Type 0} {g : Ghosts B} (n : ℕ) (f : Frame) (x : loop.Proxy B g) (p : Proxy) (log : Log) (reported reported' : Option Log) (stages stages' : ℕ → Stage) (s : IsStill n f x p log reported stages)
     (wait : Bool) (moment : ℕ) (what : WireEvent) (slice : List ℕ) (of_open : IsOfOpen what stages) (stand : (k : ℕ) → stages' k ≡ stages_after what stages k) (fits : FitsIn what 16384) (early : moment < 2 ^ 62) (many : n + 1 ≤ 2 ^ 45) where
   abbrev pub call : Called
   call = called log wait moment what (got_bytes what slice)
@@ -270,9 +270,9 @@ module _ {B : Type 0} {g : Ghosts B} (n : ℕ) (f : Frame) (x : loop.Proxy B g) 
       by_found None found = inr (taken_missing log call refl s.follows.apart k found ∙ (sym (ap (λ o. length (sent_from o)) found) ∙ sym (ap length (sent_same k))))
       by_found (Some c) found = by_live c found c.live refl
 
-  pub on_wire : Tells told told' (with_call wait moment what (got_bytes what slice)) → OnWire turn log' told' stages'
-  on_wire tells = record {
-    follows = follows_call told told' stages stages' log s.follows wait moment what (got_bytes what slice) of_open tells stand;
+  pub on_wire : Reports reported reported' (with_call wait moment what (got_bytes what slice)) → OnWire turn log' reported' stages'
+  on_wire reports = record {
+    follows = follows_call reported reported' stages stages' log s.follows wait moment what (got_bytes what slice) of_open reports stand;
     stands = λ k. refl;
     dialled = refl;
     taken = taken_same;

@@ -10,7 +10,7 @@ use Rattle.hc_io.proofs.Takings.{takes_none}
 use Rattle.hc_effects.proofs.Vocabulary.{Entry, History, Limits}
 use Rattle.hc_store.specs.declared.backend.Backend.{Ghosts}
 use Rattle.hc_sched.specs.Schedule.{timed_text}
-use Rattle.hc_wire.specs.{Events.{Stage, Unseen, IsOfOpen, FitsIn, stages_after, got_bytes}, Logs.{Log, Called, Tells, is_numbered, stage_from, with_call}, declared.event.WireEvent.{WireEvent}}
+use Rattle.hc_wire.specs.{Events.{Stage, Unseen, IsOfOpen, FitsIn, stages_after, got_bytes}, Logs.{Log, Called, Reports, is_numbered, stage_from, with_call}, declared.event.WireEvent.{WireEvent}}
 use Rattle.hc_wire.specs.declared.event.WireEvent.TheVariants as event
 use Rattle.hc_proxy.specs.declared.proxy.Proxy as loop
 use Rattle.hc_proxy.specs.{declared.stop.Stop.{Stop}, Carrying.{acts_in, carried}, Endings.{was_sent}, Handling.{begun}, Invariants.{AreServed, last_event}, Keeping.{Frame, Turn, Begun, KeepsPolled, Goes}, Loops.{Fits, AllFit}, Records.{text_of}, Rows.{Proxy, unused}, Serving.{IsOfLoop, IsCutShort, IsStill, FinishesTurn, CutsTurn, TurnsTo, TurnStops}, Turns.{so_far, happened, turned, turned_by, behind_all, behind_calls, record_of, timed_of, text_behind}, Underway.{OnWire, IsPolledOn}, Waiting.{waits}}
@@ -69,16 +69,16 @@ module _ (limits : Limits) (log : Log) (p : Proxy) (call : Called) (l : IsOfLoop
 
 -- BETWEEN TURNS
 
-module _ {B : Type 0} {g : Ghosts B} (n : ℕ) (f : Frame) (x : loop.Proxy B g) (p : Proxy) (log : Log) (told : Option Log) (stages : ℕ → Stage) (s : IsStill n f x p log told stages) where
+module _ {B : Type 0} {g : Ghosts B} (n : ℕ) (f : Frame) (x : loop.Proxy B g) (p : Proxy) (log : Log) (reported : Option Log) (stages : ℕ → Stage) (s : IsStill n f x p log reported stages) where
   -- what is written is the record of the turns before
   written_so : f.written ≡ record_of p
   written_so = sym (s.rests.cache.text ∙ (ap (λ (z : List ℕ). f.written ++ z) s.written ∙ append-nil f.written))
 
   -- the next call fails
-  pub stops_before : (told' : Option Log) → told' ≡ told → (out : Option (List ℕ)) → TurnStops f p log x x told' out out
-  stops_before told' same out = record {
+  pub stops_before : (reported' : Option Log) → reported' ≡ reported → (out : Option (List ℕ)) → TurnStops f p log x x reported' out out
+  stops_before reported' same out = record {
     log' = log;
-    told_is = subst (λ (z : Option Log). (z ≡ None) ⊎ (z ≡ Some log)) (sym same) s.follows.told_is;
+    reported_is = subst (λ (z : Option Log). (z ≡ None) ⊎ (z ≡ Some log)) (sym same) s.follows.reported_is;
     bound = refl;
     calls = omega arith;
     goes = λ none l. record {
@@ -98,26 +98,26 @@ module _ {B : Type 0} {g : Ghosts B} (n : ℕ) (f : Frame) (x : loop.Proxy B g) 
 
 -- A TURN
 
-module _ {B : Type 0} {g : Ghosts B} (n : ℕ) (f : Frame) (x : loop.Proxy B g) (p : Proxy) (log : Log) (told told' : Option Log) (stages stages' : ℕ → Stage) (s : IsStill n f x p log told stages)
+module _ {B : Type 0} {g : Ghosts B} (n : ℕ) (f : Frame) (x : loop.Proxy B g) (p : Proxy) (log : Log) (reported reported' : Option Log) (stages stages' : ℕ → Stage) (s : IsStill n f x p log reported stages)
     (wait : Bool) (moment : ℕ) (what : WireEvent) (slice : List ℕ) (of_open : IsOfOpen what stages) (stand : (k : ℕ) → stages' k ≡ stages_after what stages k) (fits : FitsIn what 16384) (early : moment < 2 ^ 62) (many : n + 1 ≤ 2 ^ 45)
-    (tells : Tells told told' (with_call wait moment what (got_bytes what slice))) (waits_so : wait ≡ waits f.limits p) where
+    (reports : Reports reported reported' (with_call wait moment what (got_bytes what slice))) (waits_so : wait ≡ waits f.limits p) where
   abbrev pub call : Called
-  call = begins.call n f x p log told told' stages stages' s wait moment what slice of_open stand fits early many
+  call = begins.call n f x p log reported reported' stages stages' s wait moment what slice of_open stand fits early many
 
   abbrev pub turn : Turn
-  turn = begins.turn n f x p log told told' stages stages' s wait moment what slice of_open stand fits early many
+  turn = begins.turn n f x p log reported reported' stages stages' s wait moment what slice of_open stand fits early many
 
   abbrev pub x' : loop.Proxy B g
-  x' = begins.x' n f x p log told told' stages stages' s wait moment what slice of_open stand fits early many
+  x' = begins.x' n f x p log reported reported' stages stages' s wait moment what slice of_open stand fits early many
 
   abbrev pub log' : Log
-  log' = begins.log' n f x p log told told' stages stages' s wait moment what slice of_open stand fits early many
+  log' = begins.log' n f x p log reported reported' stages stages' s wait moment what slice of_open stand fits early many
 
   b : Begun turn x' (begun call p) what slice
-  b = begins.begins n f x p log told told' stages stages' s wait moment what slice of_open stand fits early many
+  b = begins.begins n f x p log reported reported' stages stages' s wait moment what slice of_open stand fits early many
 
-  pub on_wire : OnWire turn log' told' stages'
-  on_wire = begins.on_wire n f x p log told told' stages stages' s wait moment what slice of_open stand fits early many tells
+  pub on_wire : OnWire turn log' reported' stages'
+  on_wire = begins.on_wire n f x p log reported reported' stages stages' s wait moment what slice of_open stand fits early many reports
 
   -- the tables that the definitions owe before the acts are carried out
   abbrev pub owed_by : Proxy
@@ -131,7 +131,7 @@ module _ {B : Type 0} {g : Ghosts B} (n : ℕ) (f : Frame) (x : loop.Proxy B g) 
   turned_is = ap (λ ks. carried (happened f.limits ks call (begun call p))) dials_so
 
   call_fits : Fits f.limits log.dialled p call
-  call_fits = fits_now f x p log s.rests s.follows.apart call refl (begins.few_bytes n f x p log told told' stages stages' s wait moment what slice of_open stand fits early many) waits_so
+  call_fits = fits_now f x p log s.rests s.follows.apart call refl (begins.few_bytes n f x p log reported reported' stages stages' s wait moment what slice of_open stand fits early many) waits_so
 
   -- WHO IS SERVED
 
@@ -139,7 +139,7 @@ module _ {B : Type 0} {g : Ghosts B} (n : ℕ) (f : Frame) (x : loop.Proxy B g) 
   new_there k is = by_test (among k p.accepted) refl
     where
       unseen : stage_from (find (is_numbered k) log.takers) ≡ Unseen
-      unseen = ap stage_from (begins.new_one n f x p log told told' stages stages' s wait moment what slice of_open stand fits early many k is)
+      unseen = ap stage_from (begins.new_one n f x p log reported reported' stages stages' s wait moment what slice of_open stand fits early many k is)
 
       by_test : (t : Bool) → among k p.accepted ≡ t → among k p.accepted ≡ false
       by_test false off = off
@@ -164,7 +164,7 @@ module _ {B : Type 0} {g : Ghosts B} (n : ℕ) (f : Frame) (x : loop.Proxy B g) 
   enough = let is = s.rests.opened in omega arith
 
   written_now : f.written ≡ record_of p
-  written_now = written_so n f x p log told stages s
+  written_now = written_so n f x p log reported stages s
 
   module _ (l : IsOfLoop f.limits log p) where
     known : StandsKnown f.limits p
@@ -176,8 +176,8 @@ module _ {B : Type 0} {g : Ghosts B} (n : ℕ) (f : Frame) (x : loop.Proxy B g) 
     sent_turned : list_all (was_sent log'.dialled (turned f.limits log.dialled call p)) log'.takers ≡ true
     sent_turned =
         sent_still f.limits log s.follows.apart p wait moment what (got_bytes what slice) known gone (served (so_far p log.dialled))
-        (begins.ended n f x p log told told' stages stages' s wait moment what slice of_open stand fits early many) l.sent on_wire.follows.apart
-        (begins.new_one n f x p log told told' stages stages' s wait moment what slice of_open stand fits early many)
+        (begins.ended n f x p log reported reported' stages stages' s wait moment what slice of_open stand fits early many) l.sent on_wire.follows.apart
+        (begins.new_one n f x p log reported reported' stages stages' s wait moment what slice of_open stand fits early many)
         (λ j none. (s.rests.seen j (ap stage_from none)).0)
 
     -- where it was cut short behind the call, and nothing was written
@@ -208,10 +208,10 @@ module _ {B : Type 0} {g : Ghosts B} (n : ℕ) (f : Frame) (x : loop.Proxy B g) 
         }
 
   -- memory was wanting before anything was written
-  pub stops_early : (x1 : loop.Proxy B g) (out : Option (List ℕ)) → TurnStops f p log x x1 told' out out
+  pub stops_early : (x1 : loop.Proxy B g) (out : Option (List ℕ)) → TurnStops f p log x x1 reported' out out
   stops_early x1 out = record {
     log' = log';
-    told_is = on_wire.follows.told_is;
+    reported_is = on_wire.follows.reported_is;
     bound = refl;
     calls = let is = length-append log.calls (call ∷ []) in omega arith;
     goes = λ none l. cut_early l out;
@@ -227,10 +227,10 @@ module _ {B : Type 0} {g : Ghosts B} (n : ℕ) (f : Frame) (x : loop.Proxy B g) 
     calls_on l' same = ap length same ∙ length-append log.calls (call ∷ [])
 
     -- it was cut short
-    pub stops_late : (x1 : loop.Proxy B g) (told1 : Option Log) (out out' : Option (List ℕ)) → x1.cache ≡ y.cache → CutsTurn goes.q log' y told1 out out' → TurnStops f p log x x1 told1 out out'
-    stops_late x1 told1 out out' cache c = record {
+    pub stops_late : (x1 : loop.Proxy B g) (reported1 : Option Log) (out out' : Option (List ℕ)) → x1.cache ≡ y.cache → CutsTurn goes.q log' y reported1 out out' → TurnStops f p log x x1 reported1 out out'
+    stops_late x1 reported1 out out' cache c = record {
       log' = c.log';
-      told_is = c.told_is;
+      reported_is = c.reported_is;
       bound = c.bound;
       calls = let is = calls_on c.log' c.calls in omega arith;
       goes = λ none l. by_loop (ap faults_in (sym cache) ∙ none) l;
@@ -256,9 +256,9 @@ module _ {B : Type 0} {g : Ghosts B} (n : ℕ) (f : Frame) (x : loop.Proxy B g) 
             }
 
     -- it was made
-    pub turns_on : (x1 : loop.Proxy B g) (told1 : Option Log) (stages1 : ℕ → Stage) (out out' : Option (List ℕ)) (again : Bool) → x1.cache ≡ y.cache → steps y.cache ≤ steps x.cache + 2049
-        → FinishesTurn turn goes.q log' y x1 told1 stages1 out out' again → TurnsTo (n + 1) f p log x x1 told1 stages1 out out' again
-    turns_on x1 told1 stages1 out out' again cache few e = record {
+    pub turns_on : (x1 : loop.Proxy B g) (reported1 : Option Log) (stages1 : ℕ → Stage) (out out' : Option (List ℕ)) (again : Bool) → x1.cache ≡ y.cache → steps y.cache ≤ steps x.cache + 2049
+        → FinishesTurn turn goes.q log' y x1 reported1 stages1 out out' again → TurnsTo (n + 1) f p log x x1 reported1 stages1 out out' again
+    turns_on x1 reported1 stages1 out out' again cache few e = record {
       f' = record turn.frame { written = turn.frame.written ++ text_of y.record };
       p' = carried goes.q;
       log' = e.log';
@@ -266,7 +266,7 @@ module _ {B : Type 0} {g : Ghosts B} (n : ℕ) (f : Frame) (x : loop.Proxy B g) 
         rests = e.rests;
         follows = e.follows;
         within = record {
-          bytes = begins.enough n f x p log told told' stages stages' s wait moment what slice of_open stand fits early many;
+          bytes = begins.enough n f x p log reported reported' stages stages' s wait moment what slice of_open stand fits early many;
           steps_are = let same = ap steps cache in let le = s.within.steps_are in omega arith;
         };
         written = e.written;
@@ -293,18 +293,18 @@ module _ {B : Type 0} {g : Ghosts B} (n : ℕ) (f : Frame) (x : loop.Proxy B g) 
     abbrev went : Goes (KeepsPolled turn) (faults_in x.cache) y owed_by
     went = happens turn (begun call p) (subst (λ (n : ℕ). Begun turn (record x { now = n; moved = false }) (begun call p) what slice) (sym greater) b)
 
-    pub polled_on : IsPolledOn told' stages' y
+    pub polled_on : IsPolledOn reported' stages' y
     polled_on = (turn, went.q, log', went.keeps, on_wire)
 
-    module _ (result : Result Bool Stop) (x1 : loop.Proxy B g) (told1 : Option Log) (stages1 : ℕ → Stage) (out out' : Option (List ℕ)) (same : x1.cache ≡ y.cache) where
+    module _ (result : Result Bool Stop) (x1 : loop.Proxy B g) (reported1 : Option Log) (stages1 : ℕ → Stage) (out out' : Option (List ℕ)) (same : x1.cache ≡ y.cache) where
       pub turned_ok : (events : ℕ) → events ≡ n + 1 → steps y.cache ≤ steps x.cache + 2049
-          → ((t : Turn) (q : Proxy) (l : Log) → KeepsPolled t y q → OnWire t l told' stages' → IfOk result (FinishesTurn t q l y x1 told1 stages1 out out'))
-          → IfOk result (TurnsTo events f p log x x1 told1 stages1 out out')
+          → ((t : Turn) (q : Proxy) (l : Log) → KeepsPolled t y q → OnWire t l reported' stages' → IfOk result (FinishesTurn t q l y x1 reported1 stages1 out out'))
+          → IfOk result (TurnsTo events f p log x x1 reported1 stages1 out out')
       turned_ok events one few finishes =
           if_ok-map result _ _
-          (λ again e. subst (λ (k : ℕ). TurnsTo k f p log x x1 told1 stages1 out out' again) (sym one) (turns_on y went x1 told1 stages1 out out' again same few e))
+          (λ again e. subst (λ (k : ℕ). TurnsTo k f p log x x1 reported1 stages1 out out' again) (sym one) (turns_on y went x1 reported1 stages1 out out' again same few e))
           (finishes turn went.q log' went.keeps on_wire)
 
-      pub turned_err : ((t : Turn) (q : Proxy) (l : Log) → KeepsPolled t y q → OnWire t l told' stages' → OnErr result (CutsTurn q l y told1 out out'))
-          → OnErr result (TurnStops f p log x x1 told1 out out')
-      turned_err cuts = err-map result _ _ (λ cut. stops_late y went x1 told1 out out' same cut) (cuts turn went.q log' went.keeps on_wire)
+      pub turned_err : ((t : Turn) (q : Proxy) (l : Log) → KeepsPolled t y q → OnWire t l reported' stages' → OnErr result (CutsTurn q l y reported1 out out'))
+          → OnErr result (TurnStops f p log x x1 reported1 out out')
+      turned_err cuts = err-map result _ _ (λ cut. stops_late y went x1 reported1 out out' same cut) (cuts turn went.q log' went.keeps on_wire)

@@ -7,7 +7,7 @@
 use Rattle.std.{proofs.Common.{◌≡◌, ℕ, ◌+◌, Bool, true, false, List, [], ◌∷◌, Option, Some, None, refl}, specs.Prelude.{◌&&◌, is_none, nat_lt, length, if◌then◌else◌}}
 use Rattle.hc_effects.proofs.Vocabulary.{Act, Event, Request, is_open, Limits, act, event}
 use Rattle.hc_head.specs.declared.message.{MsgError.{MsgError}, WireRequest.{WireRequest}}
-use Rattle.hc_msg.specs.{Inputs.{Next, Waits, Tells, Brings, Ends, Fails, next_in}, Reading.{Reading, Done, Failed, Token, Asks, Answers, Byte}, Taking.{ending}}
+use Rattle.hc_msg.specs.{Inputs.{Next, Waits, Reports, Brings, Ends, Fails, next_in}, Reading.{Reading, Done, Failed, Token, Asks, Answers, Byte}, Taking.{ending}}
 use Rattle.hc_wire.specs.{Logs.{Called}, declared.event.WireEvent.{WireEvent}}
 use Rattle.hc_wire.specs.declared.event.WireEvent.TheVariants as wire
 use Rattle.hc_proxy.specs.{Carrying.{answered, answers, opened, all_carried_out, carried, acts_in}, Connections.{exchange_of}, Handling.{begun, inserted, clients_here, left, cancelled, leaves, client_sends, origin_sends, origin_ends, breaks, sends, ends, broke, handled_by, handled}, Network.{open_exchanges, is_last_denied, unless_denied, next_of, hands_head, hands, hands_if, event_at_close, closes, closes_if, handed, closed, heard}, Polls.{live_consumers, may_be_polled, polled, each_polled, polled_all}, Rows.{Client, Upstream, Proxy, new_client, with, with_client, with_upstream}, Starts.{asks, with_holder, started, refused, hears_request, hears, is_ready, hears_if, started_all}, Steps.{stepped}, Turns.{so_far, happened, turned}}
@@ -133,7 +133,7 @@ module _ (limits : Limits) (R : Proxy → Proxy → Type 0) (kept : IsKept limit
 
   hands_by : (x : ℕ) (n : Next) (p : Proxy) → R p (hands limits x n p)
   hands_by x (Waits reading) p = reads_on x reading [] p
-  hands_by x (Tells token reading rest) p = kept.both p _ _ (reads_on x reading rest p) (head_by x token (with_upstream x (network.read_to reading rest) p))
+  hands_by x (Reports token reading rest) p = kept.both p _ _ (reads_on x reading rest p) (head_by x token (with_upstream x (network.read_to reading rest) p))
   hands_by x (Brings bytes reading rest) p = denies x p _ (then_steps (event.Piece x bytes) p _ (reads_on x reading rest p))
   hands_by x Ends p = then_steps (event.End x) p _ (reads_on x Done [] p)
   hands_by x (Fails e) p = then_steps (event.Fault x) p _ (reads_on x (Failed e) [] p)
@@ -144,7 +144,7 @@ module _ (limits : Limits) (R : Proxy → Proxy → Type 0) (kept : IsKept limit
 
   close_by : (x : ℕ) (n : Next) (p : Proxy) → R p (closes limits x n p)
   close_by x (Waits reading) p = kept.steps (event_at_close x (ending reading)) p
-  close_by x (Tells token reading rest) p = kept.none p
+  close_by x (Reports token reading rest) p = kept.none p
   close_by x (Brings bytes reading rest) p = kept.none p
   close_by x Ends p = kept.none p
   close_by x (Fails e) p = kept.steps (event.Fault x) p
@@ -182,7 +182,7 @@ module _ (limits : Limits) (R : Proxy → Proxy → Type 0) (kept : IsKept limit
 
   hears_by : (k : ℕ) (n : Next) (p : Proxy) → R p (hears limits k n p)
   hears_by k (Waits reading) p = reads_to k reading [] p
-  hears_by k (Tells token reading rest) p = kept.both p _ _ (reads_to k reading rest p) (hears_by_token k token (with_client k (starts.read_to reading rest) p))
+  hears_by k (Reports token reading rest) p = kept.both p _ _ (reads_to k reading rest p) (hears_by_token k token (with_client k (starts.read_to reading rest) p))
   hears_by k (Brings bytes reading rest) p = kept.none p
   hears_by k Ends p = kept.none p
   hears_by k (Fails e) p = kept.both p _ _ (reads_to k (Failed e) [] p) (kept.client k (refused e) _ (is_refused e))

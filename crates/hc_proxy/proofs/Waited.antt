@@ -8,7 +8,7 @@
 use Rattle.std.{proofs.{Common.{◌≡◌, inl, inr, ◌≤◌, ℕ, ◌+◌, List, [], ◌∷◌, length, Bool, true, false, Option, Some, None, refl, ap, sym, ◌∙◌, subst, arith}, lemmas.Bool.Decides.{nat_tests}}, specs.{Prelude.{◌&&◌, ◌||◌, ◌==◌, nat_eq, not, if◌then◌else◌}, List.{list_any}}}
 use Rattle.hc_text.proofs.Basics.{true_false}
 use Rattle.hc_effects.proofs.Vocabulary.{event, is_open, is_wanted, Limits}
-use Rattle.hc_msg.specs.{Inputs.{Next, Waits, Tells, Brings, Ends, Fails, look_of}, Reading.{Reading, Asks, Answers, Byte}}
+use Rattle.hc_msg.specs.{Inputs.{Next, Waits, Reports, Brings, Ends, Fails, look_of}, Reading.{Reading, Asks, Answers, Byte}}
 use Rattle.hc_proxy.specs.{Headed.{AreHeaded, IsReadAs}, Hearing.{has_next, IsHeardAt}, Invariants.{is_part, is_due_by, IsHeardOut}, Network.{has_news, next_of, read_to, hands, hands_if, handed, closes_if, closed, is_last_denied, open_exchanges, each_heard, heard}, Rows.{Upstream, Proxy, with_upstream}, Steps.{with_entry, stepped}, Waiting.{hears_nothing}}
 use Rattle.hc_proxy.proofs.{AnswerNext.{IsAnswerNext, answer_next}, IdleExchanges.{Idle, heard_one, idle_skips}, NetworkKeeps.{IsKeptByNetwork, closed_by, each_keeps}, SkippedSteps.{among, Ascends, not_below}, HandedOn.{wanted_open}}
 
@@ -45,7 +45,7 @@ module _ (limits : Limits) where
 
   next_waits : (n : Next) → has_next (look_of n) ≡ false → (reading : Reading) × (n ≡ Waits reading)
   next_waits (Waits reading) off = (reading, refl)
-  next_waits (Tells token reading rest) off = true_false off
+  next_waits (Reports token reading rest) off = true_false off
   next_waits (Brings bytes reading rest) off = true_false off
   next_waits Ends off = true_false off
   next_waits (Fails e) off = true_false off
@@ -98,9 +98,9 @@ module _ (limits : Limits) where
   hands_some : (z : ℕ) (n : Next) (q : Proxy) → IsAnswerNext n → has_next (look_of n) ≡ true → 1 ≤ length (hands limits z n q).part
   unfolding with_entry
   hands_some z (Waits reading) q answers next = true_false (sym next)
-  hands_some z (Tells (Answers response) reading rest) q answers next = omega arith
-  hands_some z (Tells (Asks request) reading rest) q answers next = absurd answers
-  hands_some z (Tells (Byte b) reading rest) q answers next = absurd answers
+  hands_some z (Reports (Answers response) reading rest) q answers next = omega arith
+  hands_some z (Reports (Asks request) reading rest) q answers next = absurd answers
+  hands_some z (Reports (Byte b) reading rest) q answers next = absurd answers
   hands_some z (Brings bytes reading rest) q answers next =
       by_denial (stepped limits (event.Piece z bytes) (with_upstream z (read_to reading rest) q)) (is_last_denied (stepped limits (event.Piece z bytes) (with_upstream z (read_to reading rest) q)).part) (omega arith)
     where

@@ -11,7 +11,7 @@ use Rattle.hc_wire.specs.declared.event.WireEvent.{WireEvent}
 use Rattle.hc_wire.specs.declared.event.WireEvent.TheVariants as wire
 use Rattle.hc_wire.specs.Logs.{Called, Log}
 use Rattle.hc_proxy.specs.Asked.{got_from}
-use Rattle.hc_proxy.specs.Told.{told_of, IsSent}
+use Rattle.hc_proxy.specs.Received.{received_of, IsSent}
 use Rattle.hc_proxy.specs.Turns.{behind_all}
 
 abbrev pub is_end_of : ℕ → WireEvent → Bool
@@ -34,13 +34,13 @@ pub record IsClosed (k : ℕ) (calls : List Called) (front : List ℕ) (reading 
 
 -- What was told is that of a whole answer.
 pub record IsWhole (limits : Limits) (log : Log) (x : ℕ) (tokens : List Token) : Type 0 where
-  pub told : IsSent limits log x tokens
-  pub whole : (told.sent.reading ≡ Whole)
-      ⊎ IsClosed told.k told.at.after told.sent.front told.sent.reading
+  pub reported : IsSent limits log x tokens
+  pub whole : (reported.sent.reading ≡ Whole)
+      ⊎ IsClosed reported.k reported.at.after reported.sent.front reported.sent.reading
 
 -- So it is of what was told of an exchange before an end, whatever a log says.
-abbrev pub EndsAreTold : Type 0
-EndsAreTold =
+abbrev pub EndsAreReceived : Type 0
+EndsAreReceived =
     (limits : Limits) (log : Log) (x : ℕ) (later earlier : History) (e : Entry) →
     (behind_all limits log).history ≡ later ++ e ∷ earlier → e.event ≡ event.End x →
-    IsWhole limits log x (told_of x earlier)
+    IsWhole limits log x (received_of x earlier)

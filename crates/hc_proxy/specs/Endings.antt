@@ -1,7 +1,7 @@
 -- What came of the serving loop, by how it ended.
 use Rattle.std.specs.Prelude.{◌≡◌, ◌≤◌, ◌+◌, ◌++◌, ◌&&◌, ◌||◌, ◌==◌, nat_le, not, ℕ, List, [], length, take, bytes_eq, Bool, true, Option, Some, None}
 use Rattle.std.specs.List.{list_all}
-use Rattle.hc_io.specs.Sink.{Takes, TakesFront}
+use Rattle.hc_io.specs.Sink.{Takes, TakesPrefix}
 use Rattle.hc_rules.specs.declared.room.Limits.{Limits}
 use Rattle.hc_sched.specs.declared.schedule.Ended.{Ended}
 use Rattle.hc_sched.specs.declared.schedule.Ended.TheVariants as ended
@@ -15,19 +15,19 @@ use Rattle.hc_proxy.specs.Turns.{behind_all, behind_calls, record_of}
 -- WHAT WAS SENT
 
 -- the bytes are the first of those that are owed
-abbrev pub is_front : List ℕ → List ℕ → Bool
-is_front sent owed = bytes_eq (take (length sent) owed) sent
+abbrev pub is_prefix : List ℕ → List ℕ → Bool
+is_prefix sent owed = bytes_eq (take (length sent) owed) sent
 
 -- a client lacks at most the last act or error answer, and nothing where it was let go
 abbrev pub client_was_sent : List ℕ → Option Client → Bool
 client_was_sent sent None = length sent == 0
 client_was_sent sent (Some client) =
-    is_front sent client.owed && nat_le client.before (length sent)
+    is_prefix sent client.owed && nat_le client.before (length sent)
     && (not client.let_go || length sent == length client.owed)
 
 abbrev pub upstream_was_sent : List ℕ → Option Upstream → Bool
 upstream_was_sent sent None = length sent == 0
-upstream_was_sent sent (Some upstream) = is_front sent upstream.owed
+upstream_was_sent sent (Some upstream) = is_prefix sent upstream.owed
 
 abbrev pub sent_by : Proxy → Taker → Option ℕ → Bool
 sent_by p taker None = client_was_sent taker.sent (p.client taker.k)
@@ -66,7 +66,7 @@ pub record TakesTurns (limits : Limits) (log : Log) (out out' : Option (List ℕ
   pub between : Option (List ℕ)
   pub earlier : Takes out between (record_of (behind_calls limits log turns))
   pub last : List ℕ
-  pub part : TakesFront between out' last
+  pub part : TakesPrefix between out' last
   pub record_is : record_of (behind_all limits log) ≡ record_of (behind_calls limits log turns) ++ last
 
 pub data Serves (limits : Limits) (turns : ℕ) (log : Log) (out out' : Option (List ℕ))

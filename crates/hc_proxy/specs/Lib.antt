@@ -17,7 +17,7 @@ pub mod Endings
 pub mod Laws
 pub mod Sentences
 pub mod Asked
-pub mod Told
+pub mod Received
 pub mod Ended
 pub mod Rendered
 pub mod Invariants

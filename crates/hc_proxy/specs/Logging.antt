@@ -9,8 +9,8 @@ AreApart [] = Unit {0}
 AreApart (taker ∷ takers) = (find (is_numbered taker.k) takers ≡ None) × AreApart takers
 
 -- What the wire tells is this, if it tells anything; and each connection stands as this says.
-pub record Follows (told : Option Log) (stages : ℕ → Stage) (log : Log) : Type 0 where
-  pub told_is : (told ≡ None) ⊎ (told ≡ Some log)
+pub record Follows (reported : Option Log) (stages : ℕ → Stage) (log : Log) : Type 0 where
+  pub reported_is : (reported ≡ None) ⊎ (reported ≡ Some log)
   pub stands : (k : ℕ) → stages k ≡ stage_in log.takers k
   pub apart : AreApart log.takers
 

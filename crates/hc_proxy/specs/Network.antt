@@ -5,7 +5,7 @@ use Rattle.hc_event.specs.declared.event.Event.TheVariants as event
 use Rattle.hc_event.specs.Filters.{is_denied}
 use Rattle.hc_head.specs.declared.message.MsgError.{MsgError}
 use Rattle.hc_msg.specs.declared.message.WirePart.{WirePart}
-use Rattle.hc_msg.specs.Inputs.{Next, Waits, Tells, Brings, Ends, Fails, next_in}
+use Rattle.hc_msg.specs.Inputs.{Next, Waits, Reports, Brings, Ends, Fails, next_in}
 use Rattle.hc_msg.specs.Reading.{Reading, Done, Failed, Token, Answers}
 use Rattle.hc_msg.specs.Taking.{is_whole, ending}
 use Rattle.hc_rules.specs.declared.room.Limits.{Limits}
@@ -50,7 +50,7 @@ hands_head limits x _ p = p
 -- what stands next is one event
 abbrev pub hands : Limits → ℕ → Next → Proxy → Proxy
 hands limits x (Waits reading) p = with_upstream x (read_to reading []) p
-hands limits x (Tells token reading rest) p =
+hands limits x (Reports token reading rest) p =
     hands_head limits x token (with_upstream x (read_to reading rest) p)
 hands limits x (Brings bytes reading rest) p =
     unless_denied limits x

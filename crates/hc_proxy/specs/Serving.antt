@@ -3,7 +3,7 @@ use Rattle.std.specs.Prelude.{◌≡◌, ◌⊎◌, ◌≤◌, ℕ, ◌+◌, Lis
 use Rattle.std.specs.List.{list_all}
 use Rattle.hc_core.specs.Steps.{faults_in}
 use Rattle.hc_io.specs.Faults as sink
-use Rattle.hc_io.specs.Sink.{Takes, TakesFront}
+use Rattle.hc_io.specs.Sink.{Takes, TakesPrefix}
 use Rattle.hc_rules.specs.declared.room.Limits.{Limits}
 use Rattle.hc_sched.specs.declared.schedule.Ended.{Ended}
 use Rattle.hc_store.specs.declared.backend.Backend.{Ghosts}
@@ -40,7 +40,7 @@ pub record IsCutShort (limits : Limits) (log : Log) (written : List ℕ) (out ou
   pub all_but_one : length log.calls ≤ turns + 1
   pub written_is : written ≡ record_of (behind_calls limits log turns)
   pub text : List ℕ
-  pub takes : TakesFront out out' text
+  pub takes : TakesPrefix out out' text
   pub record_is : record_of (behind_all limits log) ≡ written ++ text
 
 -- all its connections are closed, if the wire tells it
@@ -48,7 +48,7 @@ abbrev pub all_closed : Log → Log
 all_closed log = record log { takers = map shut log.takers }
 
 abbrev pub IsClosed : Log → Option Log → Type 0
-IsClosed log told = (told ≡ None) ⊎ (told ≡ Some (all_closed log))
+IsClosed log reported = (reported ≡ None) ⊎ (reported ≡ Some (all_closed log))
 
 -- WHY IT STOPS
 
@@ -63,35 +63,35 @@ module _ {B : Type 0} {g : Ghosts B} where
   -- BETWEEN TURNS
 
   -- so many events were handed out, and the record is written
-  pub record IsStill (n : ℕ) (f : Frame) (x : loop.Proxy B g) (p : Proxy) (log : Log) (told : Option Log) (stages : ℕ → Stage) : Type 0 where
+  pub record IsStill (n : ℕ) (f : Frame) (x : loop.Proxy B g) (p : Proxy) (log : Log) (reported : Option Log) (stages : ℕ → Stage) : Type 0 where
     pub rests : Rests f x p log
-    pub follows : Follows told stages log
+    pub follows : Follows reported stages log
     pub within : IsWithin n f x
     pub written : text_of x.record ≡ []
 
   -- for some tables and some log, where the next call waits so
   abbrev pub IsReady : ℕ → Option Log → (ℕ → Stage) → Bool → loop.Proxy B g → Type 0
-  IsReady n told stages wait x =
-      (f : Frame) × (p : Proxy) × (log : Log) × IsStill n f x p log told stages × (wait ≡ waits f.limits p)
+  IsReady n reported stages wait x =
+      (f : Frame) × (p : Proxy) × (log : Log) × IsStill n f x p log reported stages × (wait ≡ waits f.limits p)
 
   -- before the first
-  pub record Begins (n : ℕ) (f : Frame) (x : loop.Proxy B g) (log : Log) (told : Option Log) (stages : ℕ → Stage) : Type 0 where
-    pub still : IsStill n f x unused log told stages
+  pub record Begins (n : ℕ) (f : Frame) (x : loop.Proxy B g) (log : Log) (reported : Option Log) (stages : ℕ → Stage) : Type 0 where
+    pub still : IsStill n f x unused log reported stages
     pub fresh : IsFresh log
     pub unwritten : f.written ≡ []
 
   abbrev pub IsBeginning : ℕ → Option Log → (ℕ → Stage) → loop.Proxy B g → Type 0
-  IsBeginning n told stages x = (f : Frame) × (log : Log) × Begins n f x log told stages
+  IsBeginning n reported stages x = (f : Frame) × (log : Log) × Begins n f x log reported stages
 
   -- WHAT HAPPENED IS CARRIED OUT
 
   -- All of it, and the record is written.
-  pub record FinishesTurn (t : Turn) (p : Proxy) (log : Log) (x x' : loop.Proxy B g) (told : Option Log) (stages : ℕ → Stage)
+  pub record FinishesTurn (t : Turn) (p : Proxy) (log : Log) (x x' : loop.Proxy B g) (reported : Option Log) (stages : ℕ → Stage)
       (out out' : Option (List ℕ)) (again : Bool) : Type 0 where
     pub log' : Log
     pub more : List ℕ
     pub rests : Rests (record t.frame { written = t.frame.written ++ text_of x.record }) x' (carried p) log'
-    pub follows : Follows told stages log'
+    pub follows : Follows reported stages log'
     pub takes : Takes out out' (text_of x.record)
     pub written : text_of x'.record ≡ []
     pub again_is : again ≡ waits t.frame.limits (carried p)
@@ -101,11 +101,11 @@ module _ {B : Type 0} {g : Ghosts B} where
     pub sent : SentOn (carried p) log log'
 
   -- Some of it.
-  pub record CutsTurn (p : Proxy) (log : Log) (x : loop.Proxy B g) (told : Option Log) (out out' : Option (List ℕ)) : Type 0 where
+  pub record CutsTurn (p : Proxy) (log : Log) (x : loop.Proxy B g) (reported : Option Log) (out out' : Option (List ℕ)) : Type 0 where
     pub log' : Log
     pub more : List ℕ
-    pub told_is : (told ≡ None) ⊎ (told ≡ Some log')
-    pub takes : TakesFront out out' (text_of x.record)
+    pub reported_is : (reported ≡ None) ⊎ (reported ≡ Some log')
+    pub takes : TakesPrefix out out' (text_of x.record)
     pub calls : log'.calls ≡ log.calls
     pub bound : log'.bound ≡ log.bound
     pub dialled : log'.dialled ≡ log.dialled ++ more
@@ -115,12 +115,12 @@ module _ {B : Type 0} {g : Ghosts B} where
   -- A TURN
 
   -- It was made. What is said of the log holds where no failure of the store was counted in it.
-  pub record TurnsTo (n : ℕ) (f : Frame) (p : Proxy) (log : Log) (x x' : loop.Proxy B g) (told : Option Log) (stages : ℕ → Stage)
+  pub record TurnsTo (n : ℕ) (f : Frame) (p : Proxy) (log : Log) (x x' : loop.Proxy B g) (reported : Option Log) (stages : ℕ → Stage)
       (out out' : Option (List ℕ)) (again : Bool) : Type 0 where
     pub f' : Frame
     pub p' : Proxy
     pub log' : Log
-    pub still : IsStill n f' x' p' log' told stages
+    pub still : IsStill n f' x' p' log' reported stages
     pub limits : f'.limits ≡ f.limits
     pub text : List ℕ
     pub takes : Takes out out' text
@@ -131,9 +131,9 @@ module _ {B : Type 0} {g : Ghosts B} where
     pub goes : faults_in x'.cache ≡ faults_in x.cache → IsOfLoop f.limits log p → IsOfLoop f.limits log' p'
 
   -- It was cut short.
-  pub record TurnStops (f : Frame) (p : Proxy) (log : Log) (x x' : loop.Proxy B g) (told : Option Log) (out out' : Option (List ℕ)) : Type 0 where
+  pub record TurnStops (f : Frame) (p : Proxy) (log : Log) (x x' : loop.Proxy B g) (reported : Option Log) (out out' : Option (List ℕ)) : Type 0 where
     pub log' : Log
-    pub told_is : (told ≡ None) ⊎ (told ≡ Some log')
+    pub reported_is : (reported ≡ None) ⊎ (reported ≡ Some log')
     pub bound : log'.bound ≡ log.bound
     pub calls : length log'.calls ≤ length log.calls + 1
     pub goes : faults_in x'.cache ≡ faults_in x.cache → IsOfLoop f.limits log p → IsCutShort f.limits log' f.written out out'
@@ -141,8 +141,8 @@ module _ {B : Type 0} {g : Ghosts B} where
 -- ALL OF IT
 
 -- how it ends, for some log that the wire tells if it tells one
-pub record EndsBy (limits : Limits) (turns : ℕ) (log : Log) (told : Option Log) (out out' : Option (List ℕ)) (end : Ended) : Type 0 where
+pub record EndsBy (limits : Limits) (turns : ℕ) (log : Log) (reported : Option Log) (out out' : Option (List ℕ)) (end : Ended) : Type 0 where
   pub log' : Log
-  pub told_is : (told ≡ None) ⊎ (told ≡ Some log')
+  pub reported_is : (reported ≡ None) ⊎ (reported ≡ Some log')
   pub bound : log'.bound ≡ log.bound
   pub serves : Serves limits turns log' out out' end

@@ -4,7 +4,7 @@ use Rattle.hc_event.specs.declared.event.Event.TheVariants as event
 use Rattle.hc_head.specs.declared.message.MsgError.{MsgError}
 use Rattle.hc_head.specs.declared.message.WireRequest.{WireRequest}
 use Rattle.hc_wire.specs.Logs.{Called}
-use Rattle.hc_msg.specs.Inputs.{Next, Waits, Tells, Brings, Ends, Fails, next_in}
+use Rattle.hc_msg.specs.Inputs.{Next, Waits, Reports, Brings, Ends, Fails, next_in}
 use Rattle.hc_msg.specs.Reading.{Reading, Failed, Token, Asks}
 use Rattle.hc_rules.specs.declared.room.Limits.{Limits}
 use Rattle.hc_proxy.specs.Connections.{has_unsent}
@@ -53,7 +53,7 @@ hears_request limits k _ p = p
 
 abbrev pub hears : Limits → ℕ → Next → Proxy → Proxy
 hears limits k (Waits reading) p = with_client k (read_to reading []) p
-hears limits k (Tells token reading rest) p =
+hears limits k (Reports token reading rest) p =
     hears_request limits k token (with_client k (read_to reading rest) p)
 hears limits k (Brings bytes reading rest) p = p
 hears limits k Ends p = p

@@ -27,19 +27,19 @@ pub record HasStopCause {T : Type 0} (before now : ℕ) (result : Result T Stop)
 
 module _ {B : Type 0} {g : Ghosts B} where
   -- All acts are carried out: as many connections were dialled as exchanges were opened.
-  pub record CarriedOut (t : Turn) (p : Proxy) (log : Log) (x : loop.Proxy B g) (told : Option Log) (stages : ℕ → Stage) : Type 0 where
+  pub record CarriedOut (t : Turn) (p : Proxy) (log : Log) (x : loop.Proxy B g) (reported : Option Log) (stages : ℕ → Stage) : Type 0 where
     pub log' : Log
     pub more : List ℕ
     pub dials : Dials more log log'
-    pub on_wire : OnWire (record t { dialled = t.dialled ++ more; stages = stages }) log' told stages
+    pub on_wire : OnWire (record t { dialled = t.dialled ++ more; stages = stages }) log' reported stages
     pub opened : length t.dialled ≤ p.tables.opened → length (t.dialled ++ more) ≡ p.tables.opened
     pub keeps : KeepsCarried (record t { dialled = t.dialled ++ more; stages = stages }) x (carried p)
 
 -- Some are.
-pub record CarriedSome (t : Turn) (p : Proxy) (log : Log) (told : Option Log) (stages : ℕ → Stage) : Type 0 where
+pub record CarriedSome (t : Turn) (p : Proxy) (log : Log) (reported : Option Log) (stages : ℕ → Stage) : Type 0 where
   pub log' : Log
   pub more : List ℕ
-  pub follows : Follows told stages log'
+  pub follows : Follows reported stages log'
   pub dials : Dials more log log'
   pub opened : length (t.dialled ++ more) ≤ p.tables.opened
 
@@ -47,9 +47,9 @@ pub record CarriedSome (t : Turn) (p : Proxy) (log : Log) (told : Option Log) (s
 
 module _ {B : Type 0} {g : Ghosts B} where
   -- All that was unsent was offered.
-  pub record SentAll (t : Turn) (p : Proxy) (log : Log) (x : loop.Proxy B g) (told : Option Log) (stages : ℕ → Stage) : Type 0 where
+  pub record SentAll (t : Turn) (p : Proxy) (log : Log) (x : loop.Proxy B g) (reported : Option Log) (stages : ℕ → Stage) : Type 0 where
     pub log' : Log
-    pub follows : Follows told stages log'
+    pub follows : Follows reported stages log'
     pub calls : log'.calls ≡ log.calls
     pub bound : log'.bound ≡ log.bound
     pub dialled : log'.dialled ≡ log.dialled
@@ -57,9 +57,9 @@ module _ {B : Type 0} {g : Ghosts B} where
     pub rests : Rests t.frame x p log'
 
 -- Some of it was. Who had a first part of what it is owed has one still.
-pub record SentSome (p : Proxy) (log : Log) (told : Option Log) : Type 0 where
+pub record SentSome (p : Proxy) (log : Log) (reported : Option Log) : Type 0 where
   pub log' : Log
-  pub told_is : (told ≡ None) ⊎ (told ≡ Some log')
+  pub reported_is : (reported ≡ None) ⊎ (reported ≡ Some log')
   pub calls : log'.calls ≡ log.calls
   pub bound : log'.bound ≡ log.bound
   pub dialled : log'.dialled ≡ log.dialled

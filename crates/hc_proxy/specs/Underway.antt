@@ -12,7 +12,7 @@ use Rattle.hc_peers.specs.Upstreams.{is_news, is_touched, Becomes, Marks}
 use Rattle.hc_peers.specs.declared.upstreams.Upstreams.{Upstreams}
 use Rattle.hc_store.specs.declared.backend.Backend.{Ghosts}
 use Rattle.hc_wire.specs.Events.{Stage, Unseen, Closed, Fresh, with_stage, closed_of}
-use Rattle.hc_wire.specs.Logs.{Log, Taker, Tells, changed_at, sent_in, shut, with_dialled}
+use Rattle.hc_wire.specs.Logs.{Log, Taker, Reports, changed_at, sent_in, shut, with_dialled}
 use Rattle.hc_proxy.specs.declared.proxy.Proxy as loop
 use Rattle.hc_proxy.specs.Carrying.{carried_out, all_carried_out, carried, sent_request}
 use Rattle.hc_proxy.specs.Connections.{taken_at}
@@ -31,31 +31,31 @@ abbrev pub shut_each : List ℕ → List Taker → List Taker
 shut_each [] cs = cs
 shut_each (k ∷ ks) cs = shut_each ks (changed_at k shut cs)
 
-pub record Closes (ks : List ℕ) (log : Log) (told : Option Log) (before after : ℕ → Stage) : Type 0 where
+pub record Closes (ks : List ℕ) (log : Log) (reported : Option Log) (before after : ℕ → Stage) : Type 0 where
   pub log' : Log
-  pub follows : Follows told after log'
+  pub follows : Follows reported after log'
   pub dials : Dials [] log log'
   pub stands : (j : ℕ) → after j ≡ closed_among ks before j
   pub takers : log'.takers ≡ shut_each ks log.takers
 
 -- A connection was dialled, whose number is new.
-pub record DialsOne (k : ℕ) (told told' : Option Log) (before after : ℕ → Stage) : Type 0 where
+pub record DialsOne (k : ℕ) (reported reported' : Option Log) (before after : ℕ → Stage) : Type 0 where
   pub new : before k ≡ Unseen
-  pub told_is : Tells told told' (with_dialled k)
+  pub reported_is : Reports reported reported' (with_dialled k)
   pub stands : (j : ℕ) → after j ≡ with_stage k Fresh before j
 
 -- The exchange has a new connection, which is owed the request.
-pub record Opens (x : ℕ) (request : Request) (old new : Upstreams) (told told' : Option Log) (before after : ℕ → Stage) : Type 0 where
+pub record Opens (x : ℕ) (request : Request) (old new : Upstreams) (reported reported' : Option Log) (before after : ℕ → Stage) : Type 0 where
   pub k : ℕ
-  pub dials : DialsOne k told told' before after
+  pub dials : DialsOne k reported reported' before after
   pub becomes : Becomes x (Some (new_upstream k (is_head request) (sent_request request))) old new
   pub news : (y : ℕ) → is_news new y ≡ is_news old y
   pub touched : Marks (is_touched old) (is_touched new) x true
 
 -- One was dialled, or none.
-pub data DialsSome (told told' : Option Log) (before after : ℕ → Stage) : Type 0 where
-  none : told' ≡ told → ((j : ℕ) → after j ≡ before j) → DialsSome told told' before after
-  one : (k : ℕ) → DialsOne k told told' before after → DialsSome told told' before after
+pub data DialsSome (reported reported' : Option Log) (before after : ℕ → Stage) : Type 0 where
+  none : reported' ≡ reported → ((j : ℕ) → after j ≡ before j) → DialsSome reported reported' before after
+  one : (k : ℕ) → DialsOne k reported reported' before after → DialsSome reported reported' before after
 
 -- WHAT IS STILL TO BE CARRIED OUT
 
@@ -88,8 +88,8 @@ module _ {B : Type 0} {g : Ghosts B} where
     pub seen : AreSeen t p
 
 -- the wire stands as the turn says, and what was taken is what was taken at the call, but of those that are closed
-pub record OnWire (t : Turn) (log : Log) (told : Option Log) (stages : ℕ → Stage) : Type 0 where
-  pub follows : Follows told stages log
+pub record OnWire (t : Turn) (log : Log) (reported : Option Log) (stages : ℕ → Stage) : Type 0 where
+  pub follows : Follows reported stages log
   pub stands : (k : ℕ) → stages k ≡ t.stages k
   pub dialled : log.dialled ≡ t.dialled
   pub taken : (k : ℕ) → (t.stages k ≡ Closed) ⊎ (taken_at t.call k ≡ length (sent_in log.takers k))
@@ -101,11 +101,11 @@ dialling more stages t = record t { dialled = t.dialled ++ more; stages = stages
 module _ {B : Type 0} {g : Ghosts B} where
   -- An act is carried out, before these.
   pub record GoesOn (t : Turn) (a : Act) (acts : List Act) (p : Proxy) (log : Log) (x : loop.Proxy B g)
-      (told : Option Log) (stages : ℕ → Stage) : Type 0 where
+      (reported : Option Log) (stages : ℕ → Stage) : Type 0 where
     pub log' : Log
     pub more : List ℕ
     pub dials : Dials more log log'
-    pub on_wire : OnWire (dialling more stages t) log' told stages
+    pub on_wire : OnWire (dialling more stages t) log' reported stages
     pub keeps : KeepsUnderway (dialling more stages t) acts x (carried_out a p)
 
   -- the act comes next, for some tables and some acts behind it
@@ -116,17 +116,17 @@ module _ {B : Type 0} {g : Ghosts B} where
 
   -- Some acts of the turn were carried out, and these are left.
   pub record IsUnderway (t : Turn) (p : Proxy) (log : Log) (acts : List Act) (x : loop.Proxy B g)
-      (told : Option Log) (stages : ℕ → Stage) : Type 0 where
+      (reported : Option Log) (stages : ℕ → Stage) : Type 0 where
     pub log' : Log
     pub more : List ℕ
     pub p' : Proxy
     pub dials : Dials more log log'
-    pub on_wire : OnWire (dialling more stages t) log' told stages
+    pub on_wire : OnWire (dialling more stages t) log' reported stages
     pub keeps : KeepsUnderway (dialling more stages t) acts x p'
     pub same : all_carried_out acts p' ≡ carried p
     pub tables : p'.tables ≡ p.tables
 
   -- the polls are done, for some tables and some log
   abbrev pub IsPolledOn : Option Log → (ℕ → Stage) → loop.Proxy B g → Type 0
-  IsPolledOn told stages x =
-      (t : Turn) × (p : Proxy) × (log : Log) × KeepsPolled t x p × OnWire t log told stages
+  IsPolledOn reported stages x =
+      (t : Turn) × (p : Proxy) × (log : Log) × KeepsPolled t x p × OnWire t log reported stages

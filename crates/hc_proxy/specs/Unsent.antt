@@ -86,17 +86,17 @@ pub record Sends (p : Proxy) (log log' : Log) : Type 0 where
   pub unseen : (k : ℕ) → stage_in log'.takers k ≡ Unseen → stage_in log.takers k ≡ Unseen
 
 -- all clients were offered what they are owed, but for those of a list that are left
-pub record SendsToClients (p : Proxy) (log : Log) (left : List ℕ) (cl : Clients) (up : Upstreams) (told : Option Log) (stages : ℕ → Stage) : Type 0 where
+pub record SendsToClients (p : Proxy) (log : Log) (left : List ℕ) (cl : Clients) (up : Upstreams) (reported : Option Log) (stages : ℕ → Stage) : Type 0 where
   pub log' : Log
-  pub follows : Follows told stages log'
+  pub follows : Follows reported stages log'
   pub sends : Sends p log log'
   pub has : HasConnections p cl up log'
   pub sent : (k : ℕ) → list_any (nat_eq k) left ≡ false → IsSentAt log' k (client_of cl k)
 
 -- and so were the connections of all exchanges, but for those of a list that are left
-pub record SendsToOrigins (p : Proxy) (log : Log) (left : List ℕ) (cl : Clients) (up : Upstreams) (told : Option Log) (stages : ℕ → Stage) : Type 0 where
+pub record SendsToOrigins (p : Proxy) (log : Log) (left : List ℕ) (cl : Clients) (up : Upstreams) (reported : Option Log) (stages : ℕ → Stage) : Type 0 where
   pub log' : Log
-  pub follows : Follows told stages log'
+  pub follows : Follows reported stages log'
   pub sends : Sends p log log'
   pub has : HasConnections p cl up log'
   pub clients : AreSent cl log'

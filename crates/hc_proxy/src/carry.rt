@@ -72,8 +72,8 @@ impl<B: Backend> Proxy<B> {
                 self.hang_up(x)?;
                 Ok(())
             }
-            told => {
-                self.clients.answer(told)?;
+            reported => {
+                self.clients.answer(reported)?;
                 Ok(())
             }
         }

@@ -1,10 +1,10 @@
 //! What holds of each loop, as contracts of functions that do nothing.
 ghost use Rattle.hc_proxy.specs.Asked.{StartsAreAsked};
-ghost use Rattle.hc_proxy.specs.Ended.{EndsAreTold};
+ghost use Rattle.hc_proxy.specs.Ended.{EndsAreReceived};
 ghost use Rattle.hc_proxy.specs.Laws.{LoopsAreRuns};
 ghost use Rattle.hc_proxy.specs.Rendered.{AnswersAreOwed};
 ghost use Rattle.hc_proxy.specs.Sentences.{LogsAreAsSaid, EndsAreAsSaid};
-ghost use Rattle.hc_proxy.specs.Told.{EventsAreTold};
+ghost use Rattle.hc_proxy.specs.Received.{EventsAreReceived};
 
 /// Whatever a log says, the events that the loop steps are a run of a store that begins empty, and
 /// the tables are those behind it. Each consumer reads one answer whole.
@@ -32,14 +32,14 @@ pub fn starts_are_asked()
 
 /// Whatever a log says, an exchange is told the first of what its connection sent: heads, and bytes of
 /// bodies.
-pub fn events_are_told()
-    ensures { EventsAreTold }
+pub fn events_are_received()
+    ensures { EventsAreReceived }
 {}
 
 /// Whatever a log says, an end is told only behind a whole answer, or one that the close of the
 /// connection makes whole.
-pub fn ends_are_told()
-    ensures { EndsAreTold }
+pub fn ends_are_received()
+    ensures { EndsAreReceived }
 {}
 
 /// Whatever a log says, a client is owed the answers to its first requests, each once and in their order.

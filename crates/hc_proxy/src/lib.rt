@@ -14,7 +14,7 @@ mod starts;
 mod stop;
 
 pub use laws::{
-    answers_are_owed, ends_are_as_said, ends_are_told, events_are_told, logs_are_as_said,
+    answers_are_owed, ends_are_as_said, ends_are_received, events_are_received, logs_are_as_said,
     loops_are_runs, starts_are_asked,
 };
 pub use serve::serve_on;

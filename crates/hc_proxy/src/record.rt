@@ -1,6 +1,6 @@
 //! The record: the text of the events that are stepped, which is a schedule.
 ghost use Rattle.std.specs.Prelude.{◌≡◌, ◌≤◌, ◌++◌, [], OnOk, OnErr, IsErrOf};
-ghost use Rattle.hc_io.specs.Sink.{Takes, TakesFront, HasSinkCause};
+ghost use Rattle.hc_io.specs.Sink.{Takes, TakesPrefix, HasSinkCause};
 ghost use Rattle.hc_sched.specs.Schedule.{IsEvent, IsSmall, timed_text};
 ghost use Rattle.hc_proxy.specs.Records.{text_of, last_of};
 
@@ -46,7 +46,7 @@ impl Record {
     /// Writes what wasn't written yet.
     pub(crate) fn write<K: Sink>(&mut self, log: &mut K) -> Result<(), SinkError>
         ensures ok { OnOk result (Takes (K.taken log.old) (K.taken log.new) (text_of self.old)) }
-        ensures front { TakesFront (K.taken log.old) (K.taken log.new) (text_of self.old) }
+        ensures front { TakesPrefix (K.taken log.old) (K.taken log.new) (text_of self.old) }
         ensures empty { OnOk result (text_of self.new ≡ []) }
         ensures last { last_of self.new ≡ last_of self.old }
         ensures cause { HasSinkCause (K.faults log.old) (K.faults log.new) result }

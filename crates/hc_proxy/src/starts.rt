@@ -8,7 +8,7 @@ ghost use Rattle.hc_proxy.specs.Starts.{started_all, each_heard};
 
 use crate::proxy::Proxy;
 use hc_event::Event;
-use hc_peers::Heard;
+use hc_peers::NextRequest;
 use hc_store::Backend;
 use hc_text::NoMemory;
 
@@ -43,9 +43,9 @@ impl<B: Backend> Proxy<B> {
     {
         let c = self.starts + 1;
         match self.clients.hear_next(c)? {
-            Heard::Nobody => Ok(false),
-            Heard::Nothing => Ok(true),
-            Heard::Asks(_, request) => {
+            NextRequest::Nobody => Ok(false),
+            NextRequest::Nothing => Ok(true),
+            NextRequest::Asks(_, request) => {
                 self.starts = c;
                 self.happen(Event::Start { c, request })?;
                 Ok(true)

@@ -1,7 +1,7 @@
 -- Ranges are read from what is written.
 use Rattle.std.{proofs.{Common.{ℕ, ◌-◌, ◌<◌, ◌≤◌, ◌^◌, Bool, true, false, cond, eqb, [], ◌∷◌, ◌++◌, Some, refl, arith}, lemmas.List.{append-nil}}, specs.Fmt.{decimal}}
 use Rattle.hc_text.proofs.NumberLemmas.{IsNumber-decimal}
-use Rattle.hc_range.specs.{declared.range.{Asked.TheVariants.{From, FromTo}, ContentRange.TheVariants.{Part}, Span.{Span}}, Ranges.{SpellsPositions, SpellsSpec, SpellsRange, SpellsContentRange}, Spans.{IsWithin, asked_by, range_text, content_range_text}}
+use Rattle.hc_range.specs.{declared.range.{RangeSpec.TheVariants.{From, FromTo}, ContentRange.TheVariants.{Part}, Span.{Span}}, Ranges.{SpellsPositions, SpellsSpec, SpellsRange, SpellsContentRange}, Spans.{IsWithin, asked_by, range_text, content_range_text}}
 
 positions-decimal : (first last : ℕ) → first ≤ last → last < 2 ^ 62 → SpellsPositions (decimal first ++ 45 ∷ [] ++ decimal last) first last
 positions-decimal first last up small = (decimal first, decimal last, IsNumber-decimal first (omega arith), IsNumber-decimal last small, up, refl)

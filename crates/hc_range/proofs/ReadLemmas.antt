@@ -6,7 +6,7 @@
 -- no positions (`star_positions`). Numbers have one reading, so the answers agree.
 use Rattle.std.{proofs.{lemmas.{Bool.{cases_Bool, and_parts, and_from, eqb-true, eq-eqb, both_ways, not_from_false, not_from_true, Decides.{nat_tests}}, List.{append_assoc, length-append, length-map, take_at, drop_at}}, Common.{◌≡◌, ◌≢◌, ℕ, ◌+◌, ◌<◌, ◌≤◌, Bool, true, false, eqb, not, List, [], ◌∷◌, ◌++◌, length, take, drop, map, Option, Some, refl, sym, ap, ◌∙◌, subst, inl, inr, arith, lit≤}}, specs.{Char.{digit_value, to_ascii_lowercase}, List.{list_all}, Str.Parse.{AllDigits}}}
 use Rattle.hc_text.specs.Numbers.{IsNumber}
-use Rattle.hc_range.specs.{Bytes.{LacksByte}, declared.range.{Asked.{Asked, TheVariants.{From, FromTo, Last}}, ContentRange.{ContentRange, TheVariants.{Part, Unsatisfied}}}, Ranges.{SpellsPositions, SpellsSpec, SpellsRange, SpellsTotal, SpellsResponse, SpellsContentRange}}
+use Rattle.hc_range.specs.{Bytes.{LacksByte}, declared.range.{RangeSpec.{RangeSpec, TheVariants.{From, FromTo, Last}}, ContentRange.{ContentRange, TheVariants.{Part, Unsatisfied}}}, Ranges.{SpellsPositions, SpellsSpec, SpellsRange, SpellsTotal, SpellsResponse, SpellsContentRange}}
 
 abbrev other : ℕ → ℕ → Bool
 other c b = not (eqb b c)
@@ -61,12 +61,12 @@ positions_at text a b e lacks first last h =
     (subst (λ (t : List ℕ). IsNumber t first) one.0 h.2, subst (λ (t : List ℕ). IsNumber t last) one.1 h.3, h.4)
 
 -- what such a text asks for
-abbrev pub AsksBy : List ℕ → List ℕ → Asked → Type 0
+abbrev pub AsksBy : List ℕ → List ℕ → RangeSpec → Type 0
 AsksBy a b (From first) = IsNumber a first × (b ≡ [])
 AsksBy a b (FromTo first last) = IsNumber a first × IsNumber b last × (first ≤ last)
 AsksBy a b (Last n) = (a ≡ []) × IsNumber b n
 
-pub spec_at : (text a b : List ℕ) → text ≡ a ++ 45 ∷ b → LacksByte 45 a → (asked : Asked) → SpellsSpec text asked → AsksBy a b asked
+pub spec_at : (text a b : List ℕ) → text ≡ a ++ 45 ∷ b → LacksByte 45 a → (asked : RangeSpec) → SpellsSpec text asked → AsksBy a b asked
 spec_at text a b e lacks (From first) h =
     let x = h.0 in
     let one = split_unique 45 x [] a b (LacksByte-number 45 x first (lit≤ tt) h.1) lacks (sym h.2 ∙ e) in
@@ -76,17 +76,17 @@ spec_at text a b e lacks (Last n) h =
     let one = split_unique 45 [] h.0 a b refl lacks (sym h.2 ∙ e) in
     (sym one.0, rw (← one.1) h.1)
 
-pub asks_last : (a b : List ℕ) (asked : Asked) → length a ≡ 0 → AsksBy a b asked → (n : ℕ) × (asked ≡ Last n) × IsNumber b n
+pub asks_last : (a b : List ℕ) (asked : RangeSpec) → length a ≡ 0 → AsksBy a b asked → (n : ℕ) × (asked ≡ Last n) × IsNumber b n
 asks_last a b (From first) none h = absurd (number_some a first h.0 none)
 asks_last a b (FromTo first last) none h = absurd (number_some a first h.0 none)
 asks_last a b (Last n) none h = (n, refl, h.1)
 
-pub asks_from : (a b : List ℕ) (asked : Asked) → length a ≢ 0 → length b ≡ 0 → AsksBy a b asked → (first : ℕ) × (asked ≡ From first) × IsNumber a first
+pub asks_from : (a b : List ℕ) (asked : RangeSpec) → length a ≢ 0 → length b ≡ 0 → AsksBy a b asked → (first : ℕ) × (asked ≡ From first) × IsNumber a first
 asks_from a b (From first) some none h = (first, refl, h.0)
 asks_from a b (FromTo first last) some none h = absurd (number_some b last h.1 none)
 asks_from a b (Last n) some none h = absurd (some (ap length h.0))
 
-pub asks_positions : (text a b : List ℕ) → text ≡ a ++ 45 ∷ b → LacksByte 45 a → length a ≢ 0 → length b ≢ 0 → (asked : Asked) → SpellsSpec text asked
+pub asks_positions : (text a b : List ℕ) → text ≡ a ++ 45 ∷ b → LacksByte 45 a → length a ≢ 0 → length b ≢ 0 → (asked : RangeSpec) → SpellsSpec text asked
     → (first : ℕ) × (last : ℕ) × (asked ≡ FromTo first last) × SpellsPositions text first last
 asks_positions text a b e lacks some more (From first) h = absurd (more (ap length (spec_at text a b e lacks (From first) h).1))
 asks_positions text a b e lacks some more (FromTo first last) h = (first, last, refl, h)
@@ -99,7 +99,7 @@ unit_at word text unit rest x y six eu er lower e =
     let long : length x ≡ 6 = sym (length-map x to_ascii_lowercase) ∙ ap length lower ∙ six in
     (eu ∙ ap (take 6) e ∙ take_at x y 6 long, er ∙ ap (drop 6) e ∙ drop_at x y 6 long)
 
-pub range_at : (text unit spec : List ℕ) → unit ≡ take 6 text → spec ≡ drop 6 text → (asked : Asked) → SpellsRange text asked
+pub range_at : (text unit spec : List ℕ) → unit ≡ take 6 text → spec ≡ drop 6 text → (asked : RangeSpec) → SpellsRange text asked
     → (map to_ascii_lowercase unit ≡ 98 ∷ 121 ∷ 116 ∷ 101 ∷ 115 ∷ 61 ∷ []) × SpellsSpec spec asked
 range_at text unit spec eu es asked h =
     let same = unit_at (98 ∷ 121 ∷ 116 ∷ 101 ∷ 115 ∷ 61 ∷ []) text unit spec h.0 h.1 refl eu es h.2 h.4 in
@@ -126,11 +126,11 @@ star_positions text first last star h =
     omega (arith, h.2.1.0, h.3.1.0, long, ap length star)
 
 -- what a text tells that is cut at its first slash
-abbrev pub TellsBy : List ℕ → List ℕ → ContentRange → Type 0
-TellsBy p t (Part first last total) = SpellsPositions p first last × SpellsTotal t last total
-TellsBy p t (Unsatisfied total) = (p ≡ 42 ∷ []) × IsNumber t total
+abbrev pub SpellsParts : List ℕ → List ℕ → ContentRange → Type 0
+SpellsParts p t (Part first last total) = SpellsPositions p first last × SpellsTotal t last total
+SpellsParts p t (Unsatisfied total) = (p ≡ 42 ∷ []) × IsNumber t total
 
-pub response_at : (text p t : List ℕ) → text ≡ p ++ 47 ∷ t → LacksByte 47 p → (range : ContentRange) → SpellsResponse text range → TellsBy p t range
+pub response_at : (text p t : List ℕ) → text ≡ p ++ 47 ∷ t → LacksByte 47 p → (range : ContentRange) → SpellsResponse text range → SpellsParts p t range
 response_at text p t e lacks (Part first last total) h =
     let x = h.0 in
     let y = h.1 in
@@ -140,25 +140,25 @@ response_at text p t e lacks (Unsatisfied total) h =
     let one = split_unique 47 (42 ∷ []) h.0 p t refl lacks (sym h.2 ∙ e) in
     (sym one.0, rw (← one.1) h.1)
 
-pub tells_unsatisfied : (p t : List ℕ) (range : ContentRange) → p ≡ 42 ∷ [] → TellsBy p t range → (total : ℕ) × (range ≡ Unsatisfied total) × IsNumber t total
-tells_unsatisfied p t (Part first last total) star h = absurd (star_positions p first last star h.0)
-tells_unsatisfied p t (Unsatisfied total) star h = (total, refl, h.1)
+pub reports_unsatisfied : (p t : List ℕ) (range : ContentRange) → p ≡ 42 ∷ [] → SpellsParts p t range → (total : ℕ) × (range ≡ Unsatisfied total) × IsNumber t total
+reports_unsatisfied p t (Part first last total) star h = absurd (star_positions p first last star h.0)
+reports_unsatisfied p t (Unsatisfied total) star h = (total, refl, h.1)
 
-pub tells_part : (p t : List ℕ) (range : ContentRange) → p ≢ 42 ∷ [] → TellsBy p t range
+pub gives_part : (p t : List ℕ) (range : ContentRange) → p ≢ 42 ∷ [] → SpellsParts p t range
     → (first : ℕ) × (last : ℕ) × (total : Option ℕ) × (range ≡ Part first last total) × SpellsPositions p first last × SpellsTotal t last total
-tells_part p t (Part first last total) differs h = (first, last, total, refl, h.0, h.1)
-tells_part p t (Unsatisfied total) differs h = absurd (differs h.0)
+gives_part p t (Part first last total) differs h = (first, last, total, refl, h.0, h.1)
+gives_part p t (Unsatisfied total) differs h = absurd (differs h.0)
 
 -- two answers of a reader of positions
 pub same_last : (r : Option (ℕ × ℕ)) (x y first last : ℕ) → r ≡ Some (x, y) → r ≡ Some (first, last) → y ≡ last
 same_last r x y first last read spelled = let pair : ◌≡◌ {A = ℕ × ℕ} (x, y) (first, last) = cc in ap (λ (p : ℕ × ℕ). p.1) pair
 
-pub same_positions : (r : Option (ℕ × ℕ)) (x y first last : ℕ) (asked : Asked) → r ≡ Some (x, y) → r ≡ Some (first, last) → asked ≡ FromTo first last → Some (FromTo x y) ≡ Some asked
+pub same_positions : (r : Option (ℕ × ℕ)) (x y first last : ℕ) (asked : RangeSpec) → r ≡ Some (x, y) → r ≡ Some (first, last) → asked ≡ FromTo first last → Some (FromTo x y) ≡ Some asked
 same_positions r x y first last asked read spelled is = grind (arith, nat_tests)
 
 pub same_part : (r : Option (ℕ × ℕ)) (x y first last : ℕ) (s : Option (Option ℕ)) (z total : Option ℕ) (range : ContentRange)
     → r ≡ Some (x, y) → r ≡ Some (first, last) → s ≡ Some z → s ≡ Some total → range ≡ Part first last total → Some (Part x y z) ≡ Some range
-same_part r x y first last s z total range read spelled told wants is = grind (arith, nat_tests)
+same_part r x y first last s z total range read spelled reported wants is = grind (arith, nat_tests)
 
 -- the asterisk in the place of positions
 pub same_total : (x total : ℕ) (range : ContentRange) → range ≡ Unsatisfied total → x ≡ total → Some (Unsatisfied x) ≡ Some range

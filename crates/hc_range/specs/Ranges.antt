@@ -2,8 +2,8 @@
 use Rattle.std.specs.Prelude.{◌≡◌, ℕ, ◌<◌, ◌≤◌, List, ◌++◌, codes, Option, Some, None}
 use Rattle.std.specs.Str.{str_to_ascii_lowercase}
 use Rattle.hc_text.specs.Numbers.{IsNumber}
-use Rattle.hc_range.specs.declared.range.Asked.{Asked}
-use Rattle.hc_range.specs.declared.range.Asked.TheVariants.{From, FromTo, Last}
+use Rattle.hc_range.specs.declared.range.RangeSpec.{RangeSpec}
+use Rattle.hc_range.specs.declared.range.RangeSpec.TheVariants.{From, FromTo, Last}
 use Rattle.hc_range.specs.declared.range.ContentRange.{ContentRange}
 use Rattle.hc_range.specs.declared.range.ContentRange.TheVariants.{Part, Unsatisfied}
 
@@ -13,13 +13,13 @@ SpellsPositions text first last =
     (a : List ℕ) × (b : List ℕ) × IsNumber a first × IsNumber b last × (first ≤ last) × (text ≡ a ++ codes "-" ++ b)
 
 -- int-range or suffix-range
-abbrev pub SpellsSpec : List ℕ → Asked → Type 0
+abbrev pub SpellsSpec : List ℕ → RangeSpec → Type 0
 SpellsSpec text (From first) = (a : List ℕ) × IsNumber a first × (text ≡ a ++ codes "-")
 SpellsSpec text (FromTo first last) = SpellsPositions text first last
 SpellsSpec text (Last n) = (b : List ℕ) × IsNumber b n × (text ≡ codes "-" ++ b)
 
 -- ranges-specifier with one range, the unit in any case
-abbrev pub SpellsRange : List ℕ → Asked → Type 0
+abbrev pub SpellsRange : List ℕ → RangeSpec → Type 0
 SpellsRange text asked =
     (unit : List ℕ) × (spec : List ℕ) × (str_to_ascii_lowercase unit ≡ codes "bytes=") × SpellsSpec spec asked × (text ≡ unit ++ spec)
 

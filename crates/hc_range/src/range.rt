@@ -9,7 +9,7 @@ pub struct Span {
 
 /// The one range that a Range field asks for (RFC 9110 section 14.1.2).
 #[derive(Clone, Copy, Debug, PartialEq, Eq)]
-pub enum Asked {
+pub enum RangeSpec {
     /// From this position on.
     From(u64),
     /// From the first position to the last, which is inclusive.

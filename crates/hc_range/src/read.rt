@@ -1,10 +1,10 @@
 //! Ranges read from text.
 ghost use Rattle.std.specs.Prelude.{◌≡◌, ℕ, ◌<◌, ◌≤◌, ◌↔◌, IsTrue, codes, Some, IfSome, Option};
-ghost use Rattle.hc_range.specs.declared.range.Asked.{Asked};
+ghost use Rattle.hc_range.specs.declared.range.RangeSpec.{RangeSpec};
 ghost use Rattle.hc_range.specs.declared.range.ContentRange.{ContentRange};
 ghost use Rattle.hc_range.specs.Ranges.{SpellsRange, SpellsSpec, SpellsPositions, SpellsTotal, SpellsResponse, SpellsContentRange};
 
-use crate::range::{Asked, ContentRange};
+use crate::range::{RangeSpec, ContentRange};
 use crate::split::split_once;
 use hc_text::read_number;
 
@@ -13,9 +13,9 @@ const UNIT_LEN: usize = 6;
 
 /// The one range that a Range field asks for: `bytes=` in any case, then `a-b` with a at most b,
 /// `a-` or `-n`, without white space. It is None exactly where the text is none of these.
-pub fn read_range(text: &[u8]) -> Option<Asked>
+pub fn read_range(text: &[u8]) -> Option<RangeSpec>
     ensures found { IfSome result (SpellsRange text.now) }
-    ensures spelled { (asked : Asked) → SpellsRange text.now asked → result ≡ Some asked }
+    ensures spelled { (asked : RangeSpec) → SpellsRange text.now asked → result ≡ Some asked }
 {
     let (unit, spec) = text.split_at_checked(UNIT_LEN)?;
     if !unit.eq_ignore_ascii_case(b"bytes=") {
@@ -25,21 +25,21 @@ pub fn read_range(text: &[u8]) -> Option<Asked>
 }
 
 /// The range after the unit.
-fn read_spec(text: &[u8]) -> Option<Asked>
+fn read_spec(text: &[u8]) -> Option<RangeSpec>
     ensures found { IfSome result (SpellsSpec text.now) }
-    ensures spelled { (asked : Asked) → SpellsSpec text.now asked → result ≡ Some asked }
+    ensures spelled { (asked : RangeSpec) → SpellsSpec text.now asked → result ≡ Some asked }
 {
     let (first, last) = split_once(text, b'-')?;
     if first.is_empty() {
         let n = read_number(last)?;
-        return Some(Asked::Last(n));
+        return Some(RangeSpec::Last(n));
     }
     if last.is_empty() {
         let first = read_number(first)?;
-        return Some(Asked::From(first));
+        return Some(RangeSpec::From(first));
     }
     let (first, last) = read_positions(text)?;
-    Some(Asked::FromTo(first, last))
+    Some(RangeSpec::FromTo(first, last))
 }
 
 /// A first and a last position.

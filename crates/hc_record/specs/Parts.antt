@@ -34,7 +34,7 @@ pub record AreFirst (first : FirstLines) : Type 0 where
   pub known_status : IsTrue (brings_whole first.status || brings_part first.status)
 
 -- it is told whether two texts make one line in this version
-abbrev pub TellsSame : Version → List ℕ → List ℕ → Bool → Type 0
-TellsSame version text own same =
+abbrev pub ReportsSame : Version → List ℕ → List ℕ → Bool → Type 0
+ReportsSame version text own same =
     MatchBool same (tag_line version text ≡ tag_line version own)
     (¬ (tag_line version text ≡ tag_line version own))

@@ -9,7 +9,7 @@ use crate::head::StoredHead;
 
 /// No record is a proper prefix of another, of whichever versions, and no text is the record of two
 /// heads or of two versions.
-pub fn records_tell_heads_apart(_head: &StoredHead)
+pub fn records_spell_heads_apart(_head: &StoredHead)
     ensures apart { (v w : Version) (other : Head) → IsHead other
         → spelling v (plain _head.now) ≡ spelling w other → (plain _head.now ≡ other) × (v ≡ w) }
     ensures prefix { (v w : Version) (other : Head) (rest : List ℕ) → IsHead other

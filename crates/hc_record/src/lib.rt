@@ -15,7 +15,7 @@ mod write;
 pub use head::StoredHead;
 pub use joining::joining_tag;
 pub use kind::Kind;
-pub use law::records_tell_heads_apart;
+pub use law::records_spell_heads_apart;
 pub use read::read_record;
 pub use seal::seal_record;
 pub use version::Version;

@@ -4,7 +4,7 @@ ghost use Rattle.hc_etag.specs.Etags.{quote};
 ghost use Rattle.hc_rules.specs.Statuses.{brings_whole, brings_part};
 ghost use Rattle.hc_record.specs.Head.{opaque_of};
 ghost use Rattle.hc_record.specs.Lines.{joining_text, tag_line};
-ghost use Rattle.hc_record.specs.Parts.{seal_text, IsSmallSeal, numbers_text, AreSmall, first_text, AreFirst, TellsSame};
+ghost use Rattle.hc_record.specs.Parts.{seal_text, IsSmallSeal, numbers_text, AreSmall, first_text, AreFirst, ReportsSame};
 ghost use Rattle.hc_record.specs.Reading.{Takes, lacks};
 
 use crate::cursor::Cursor;
@@ -89,7 +89,7 @@ pub(crate) fn take_tag_text<'a>(version: Version, text: &mut Cursor<'a>) -> Opti
 
 /// Whether the text is that of the joining tag, where the version tells one.
 pub(crate) fn is_own_tag(version: Version, text: &[u8], joining: &Option<Tag>) -> bool
-    ensures { TellsSame version text.now (joining_text (opaque_of joining.now)) result }
+    ensures { ReportsSame version text.now (joining_text (opaque_of joining.now)) result }
 {
     match version {
         Version::First => true,

@@ -1,6 +1,6 @@
 -- The run of the generator on a cache in memory.
 use Rattle.std.specs.Prelude.{◌≡◌, ℕ, ◌+◌, ◌*◌, ◌<◌, ◌≤◌, ◌^◌, List, Option}
-use Rattle.hc_io.specs.Sink.{Takes, TakesFront}
+use Rattle.hc_io.specs.Sink.{Takes, TakesPrefix}
 use Rattle.hc_rules.specs.declared.room.Limits.{Limits}
 use Rattle.hc_sched.specs.declared.schedule.Ended.{Ended}
 use Rattle.hc_sched.specs.declared.schedule.Ended.TheVariants as ended
@@ -37,8 +37,8 @@ pub record Stands (limits : Limits) (seed n : ℕ) (r : Rounds) : Type 0 where
 pub data Generates (limits : Limits) (seed n : ℕ) (out out' : Option (List ℕ)) : Ended → Type 0 where
   done : (text : List ℕ) → IsSummary limits seed n text → Takes out out' text →
       Generates limits seed n out out' ended.Done
-  unwritten : (text : List ℕ) → IsSummary limits seed n text → TakesFront out out' text →
+  unwritten : (text : List ℕ) → IsSummary limits seed n text → TakesPrefix out out' text →
       Generates limits seed n out out' ended.SinkFailed
-  wanting : (text : List ℕ) → IsSummary limits seed n text → TakesFront out out' text →
+  wanting : (text : List ℕ) → IsSummary limits seed n text → TakesPrefix out out' text →
       Generates limits seed n out out' ended.NoMemory
   unfinished : out' ≡ out → Generates limits seed n out out' ended.NoMemory

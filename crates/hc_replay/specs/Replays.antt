@@ -6,14 +6,13 @@ use Rattle.hc_sched.specs.declared.schedule.Ended.{Ended}
 use Rattle.hc_sched.specs.declared.schedule.Ended.TheVariants as ended
 use Rattle.hc_sched.specs.declared.schedule.Timed.{Timed}
 use Rattle.hc_sched.specs.Schedule.{Item, Spells}
-use Rattle.hc_driver.specs.Courses.{TakesThenFront}
+use Rattle.hc_driver.specs.Courses.{TakesThenPrefix}
 use Rattle.hc_driver.specs.Endings.{How, Wholly, UpToLast, UpToWant}
 use Rattle.hc_driver.specs.Stepping as steps
 use Rattle.hc_driver.specs.Stepping.{events_in, report_of, report_before, last_entry}
 use Rattle.hc_model.specs.Entries.{Contents, History}
 use Rattle.hc_core.specs.declared.cache.Cache.{Cache}
-use Rattle.hc_core.specs.Steps.{StandsFor, has_failed, limits_in, faults_in}
-use Rattle.hc_core.specs.Steps.{steps as steps_in}
+use Rattle.hc_core.specs.Steps.{StandsFor, has_failed, limits_in, faults_in, steps as steps_in}
 use Rattle.hc_replay.specs.Histories.{run_of, failures}
 use Rattle.hc_replay.specs.WholeRuns.{IsWholeRun}
 
@@ -36,7 +35,7 @@ pub data Replays {B : Type 0} {g : Ghosts B} (s u : Cache B g) (out out' : Optio
   wholly : {events : List Timed} (h : steps.History) → IsReplayed s u events h → Takes out out' (report_of h) →
       Replays s u out out' Wholly events
   up_to_last : {events : List Timed} (h : steps.History) → IsReplayed s u events h →
-      TakesThenFront out out' (report_before h) (last_entry h) → Replays s u out out' UpToLast events
+      TakesThenPrefix out out' (report_before h) (last_entry h) → Replays s u out out' UpToLast events
   -- each later step will be refused memory, too
   up_to_want : {events : List Timed} (h : steps.History) (last : Cache B g) → IsReplayed s last events h →
       Takes out out' (report_of h) → has_failed u ≡ true → Replays s u out out' UpToWant events

@@ -3,8 +3,7 @@ use Rattle.std.specs.Prelude.{◌≡◌, ℕ, ◌+◌, List, [], ◌∷◌, true
 use Rattle.hc_event.specs.declared.event.Event.{Event}
 use Rattle.hc_event.specs.declared.act.Act.{Act}
 use Rattle.hc_rules.specs.declared.room.Limits.{Limits}
-use Rattle.hc_text.specs.Sorted.{is_sorted}
-use Rattle.hc_text.specs.Sorted.{is_among, itself}
+use Rattle.hc_text.specs.Sorted.{is_sorted, is_among, itself}
 use Rattle.hc_generate.specs.States.{State, beginning}
 use Rattle.hc_generate.specs.Rounds.{IsRound}
 use Rattle.hc_generate.specs.Hearing.{state_after}

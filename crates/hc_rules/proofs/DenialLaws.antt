@@ -120,11 +120,11 @@ fits-same : (m promised n : ℕ) → Some m ≡ Some promised → n ≤ m → n 
 fits-same m promised n same h = let e : m ≡ promised = cc in omega arith
 
 promise-least : (x : OpenExchange) (n : ℕ) (promised : Option ℕ) → x.promised ≡ promised → x.headed ≡ true → x.asked ≡ true → n ≢ 0 → IsLeast (StopsPiece (Some x) n) (overlong promised (x.delivered + n))
-promise-least x n None is headed asked some = piece-none x n headed asked some (λ promised told. let e : None ≡ Some promised = cc in absurd (cc))
+promise-least x n None is headed asked some = piece-none x n headed asked some (λ promised reported. let e : None ≡ Some promised = cc in absurd (cc))
 promise-least x n (Some m) is headed asked some =
     either (IsLeast (StopsPiece (Some x) n)) (ltb m (x.delivered + n)) _ _
     (λ h. ((is, ltb-lt m (x.delivered + n) h), piece-last x n headed asked some))
-    (λ h. piece-none x n headed asked some (λ promised told. let e : Some m ≡ Some promised = sym is ∙ told in fits-same m promised (x.delivered + n) e (ltb-le m (x.delivered + n) h)))
+    (λ h. piece-none x n headed asked some (λ promised reported. let e : Some m ≡ Some promised = sym is ∙ reported in fits-same m promised (x.delivered + n) e (ltb-le m (x.delivered + n) h)))
 
 piece-least : (x : Option OpenExchange) (n : ℕ) → IsLeast (StopsPiece x n) (piece_refusal x n)
 piece-least None n = (tt, closed-least)

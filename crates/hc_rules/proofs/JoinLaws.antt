@@ -41,24 +41,24 @@ join-some tag total hole answer h =
     let a = and_parts (status && strong && part) (not (of_response answer.fields).no_store) h in
     let b = and_parts (status && strong) part a.0 in
     let d = and_parts status strong b.0 in
-    let (last, (told, within)) = fills-some (content_range_of answer.fields) total hole b.1 in
+    let (last, (reported, within)) = fills-some (content_range_of answer.fields) total hole b.1 in
     let (strict, same) = strong-some answer.fields tag.0 tag.1 d.1 in
-    (last, record { status = d.0; strict = strict; same = same; told = told; within = within; kept = denied (of_response answer.fields).no_store a.1 })
+    (last, record { status = d.0; strict = strict; same = same; reported = reported; within = within; kept = denied (of_response answer.fields).no_store a.1 })
 
 strong-same : (fields : List (List ℕ × List ℕ)) (weak : Bool) (opaque : List ℕ) → weak ≡ false → strong_of fields ≡ Some opaque → strongly_equals fields weak opaque ≡ true
 strong-same fields true opaque strict same = absurd (cc)
 strong-same fields false opaque strict same = ap (λ (o : Option (List ℕ)). is_same_tag o opaque) same ∙ bytes_eq-same opaque opaque refl
 
 fills-part : (o : Option ContentRange) (last total : ℕ) (hole : Span) → o ≡ Some (Part hole.lo last (Some total)) → last < hole.hi → fills o total hole ≡ true
-fills-part o last total hole told within =
-    ap (λ (p : Option ContentRange). fills p total hole) told
+fills-part o last total hole reported within =
+    ap (λ (p : Option ContentRange). fills p total hole) reported
     ∙ and_from (eqb total total && eqb hole.lo hole.lo) (leb (last + 1) hole.hi) (and_from (eqb total total) (eqb hole.lo hole.lo) (eqb-same total) (eqb-same hole.lo)) (lt-leb last hole.hi within)
 
 some-join : (tag : Bool × List ℕ) (total : ℕ) (hole : Span) (answer : Response) (last : ℕ) → IsJoin tag total hole answer last → joins tag total hole answer ≡ true
 unfolding joins
 some-join tag total hole answer last h =
     let strong = strong-same answer.fields tag.0 tag.1 h.strict h.same in
-    let part = fills-part (content_range_of answer.fields) last total hole h.told h.within in
+    let part = fills-part (content_range_of answer.fields) last total hole h.reported h.within in
     let kept : not (of_response answer.fields).no_store ≡ true = ap not h.kept in
     and_from _ _ (and_from _ _ (and_from _ _ h.status strong) part) kept
 

@@ -1,8 +1,7 @@
 -- The least of a list is one of it, and none is less.
 use Rattle.std.{proofs.{lemmas.{Bool.{cases_Bool, cases_lt, Decides.{nat_tests}}, List.Elements.{All-cons, All-nil}}, Common.{◌≡◌, ◌≢◌, ℕ, zero, suc, ◌≤◌, Bool, true, cond, min, List, [], ◌∷◌, map, get_or, Option, Some, None, refl, inl, inr, arith}}, specs.Prelude.{All, Contains, filter}}
 use Rattle.hc_text.proofs.Basics.{either}
-use Rattle.hc_rules.specs.{declared.{survivor.Member.{Member}, admission.Bound.{Bound}}, Admissions.{admission_of, beside_writing, beside_exclusive, with_holes, is_of, numbers, least_of, least_bound}, Laws.{IsLeastOf, SurvivorsAreLeast, IsRightAdmission, AdmissionsAreRight, those}}
-use Rattle.hc_rules.specs.Admissions.{least, lesser, stands_at}
+use Rattle.hc_rules.specs.{declared.{survivor.Member.{Member}, admission.Bound.{Bound}}, Admissions.{admission_of, beside_group, beside_exclusive, with_holes, is_of, numbers, least_of, least_bound, least, lesser, stands_at}, Laws.{IsLeastOf, SurvivorsAreLeast, IsRightAdmission, AdmissionsAreRight, those}}
 use Rattle.hc_rules.specs.declared.admission.BoundKind.TheVariants as kind
 use Rattle.hc_rules.specs.declared.admission.Admission.TheVariants as admission
 
@@ -62,14 +61,14 @@ exclusive-right : (bound : List Bound) (ranged holes : Bool) (o : Option ℕ) �
 exclusive-right bound ranged holes None none h = grind (arith, nat_tests, either, holes-right, least-is)
 exclusive-right bound ranged holes (Some d) none h = contains-filter (is_of kind.Exclusive) bound d h.0
 
-writing-right : (bound : List Bound) (ranged holes : Bool) (o : Option ℕ) → IsLeastOf (those (is_of kind.Shared) bound) o
-    → IsRightAdmission bound ranged holes (beside_writing o ranged (beside_exclusive (least_of kind.Exclusive bound) (cond holes (with_holes (least_bound bound)) admission.Reader)))
-writing-right bound ranged holes None h = exclusive-right bound ranged holes (least_of kind.Exclusive bound) h (least-is (those (is_of kind.Exclusive) bound))
-writing-right bound ranged holes (Some d) h =
+writer_group-right : (bound : List Bound) (ranged holes : Bool) (o : Option ℕ) → IsLeastOf (those (is_of kind.Shared) bound) o
+    → IsRightAdmission bound ranged holes (beside_group o ranged (beside_exclusive (least_of kind.Exclusive bound) (cond holes (with_holes (least_bound bound)) admission.Reader)))
+writer_group-right bound ranged holes None h = exclusive-right bound ranged holes (least_of kind.Exclusive bound) h (least-is (those (is_of kind.Exclusive) bound))
+writer_group-right bound ranged holes (Some d) h =
     either (IsRightAdmission bound ranged holes) ranged _ _
     (λ part. contains-filter (is_of kind.Shared) bound d h.0)
     (λ whole. (whole, not_empty (those (is_of kind.Shared) bound) d h.0))
 
 pub admissions-right : AdmissionsAreRight
 unfolding admission_of
-admissions-right bound ranged holes = writing-right bound ranged holes (least_of kind.Shared bound) (least-is (those (is_of kind.Shared) bound))
+admissions-right bound ranged holes = writer_group-right bound ranged holes (least_of kind.Shared bound) (least-is (those (is_of kind.Shared) bound))

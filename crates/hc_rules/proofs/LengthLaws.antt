@@ -4,7 +4,7 @@ use Rattle.hc_text.proofs.Basics.{either}
 use Rattle.hc_range.specs.declared.range.ContentRange.{ContentRange}
 use Rattle.hc_range.specs.declared.range.ContentRange.TheVariants as range
 use Rattle.hc_event.specs.declared.{event.{Request.{Request}, Response.{Response}}, act.Need.{Need}}
-use Rattle.hc_rules.specs.{declared.{need.Route.{Route}, length.Length.{Length, TheVariants.{Unknown, Promised, Part, Bad}}}, Needs.{route_of}, Lengths.{is_same_number, promised_or_bad, all_tell, content_length_of, has_no_body, agrees, part_length, tells_part, length_of}, RangeTexts.{number_of, content_range_of}, Statuses.{brings_part}, Laws.{declared_in, AllSay, IsRightLength, LengthsAreRight}}
+use Rattle.hc_rules.specs.{declared.{need.Route.{Route}, length.Length.{Length, TheVariants.{Unknown, Promised, Part, Bad}}}, Needs.{route_of}, Lengths.{is_same_number, promised_or_bad, all_spell, content_length_of, has_no_body, agrees, part_length, gives_part, length_of}, RangeTexts.{number_of, content_range_of}, Statuses.{brings_part}, Laws.{declared_in, AllSay, IsRightLength, LengthsAreRight}}
 use Rattle.hc_rules.specs.declared.need.Route.TheVariants as route
 
 same : (n : ℕ) (o : Option ℕ) → is_same_number (Some n) o ≡ true → o ≡ Some n
@@ -20,38 +20,38 @@ some : (e : List ℕ) (es : List (List ℕ)) → e ∷ es ≢ []
 some e es is = absurd (cc)
 
 -- what Content-Length tells, by its elements
-abbrev Told : List (List ℕ) → Length → Type 0
-Told es Unknown = es ≡ []
-Told es (Promised n) = AllSay n es
-Told es (Part base n) = ⊥
-Told es Bad = es ≢ []
+abbrev Reported : List (List ℕ) → Length → Type 0
+Reported es Unknown = es ≡ []
+Reported es (Promised n) = AllSay n es
+Reported es (Part base n) = ⊥
+Reported es Bad = es ≢ []
 
-by_number : (e : List ℕ) (es : List (List ℕ)) (o : Option ℕ) → all_tell o (e ∷ es) ≡ true → Told (e ∷ es) (promised_or_bad o)
+by_number : (e : List ℕ) (es : List (List ℕ)) (o : Option ℕ) → all_spell o (e ∷ es) ≡ true → Reported (e ∷ es) (promised_or_bad o)
 by_number e es None h = some e es
 by_number e es (Some n) h = (some e es, all_say n (e ∷ es) h)
 
-told_right : (es : List (List ℕ)) → Told es (content_length_of es)
-told_right [] = refl
-told_right (e ∷ es) =
-    either (Told (e ∷ es)) (all_tell (number_of e) (e ∷ es)) _ _ (by_number e es (number_of e)) (λ _. some e es)
+reported_right : (es : List (List ℕ)) → Reported es (content_length_of es)
+reported_right [] = refl
+reported_right (e ∷ es) =
+    either (Reported (e ∷ es)) (all_spell (number_of e) (e ∷ es)) _ _ (by_number e es (number_of e)) (λ _. some e es)
 
 module _ (need : Need) (request : Request) (response : Response) (body : has_no_body request response.status ≡ false) where
-  whole : (said : Length) → Told (declared_in response) said → IsRightLength need request response said
+  whole : (said : Length) → Reported (declared_in response) said → IsRightLength need request response said
   whole said t = grind (arith, nat_tests)
 
-  agreed : (said : Length) (n : ℕ) → Told (declared_in response) said → agrees said n ≡ true → (declared_in response ≡ []) ⊎ AllSay n (declared_in response)
+  agreed : (said : Length) (n : ℕ) → Reported (declared_in response) said → agrees said n ≡ true → (declared_in response ≡ []) ⊎ AllSay n (declared_in response)
   agreed Unknown n t h = inl t
   agreed (Promised m) n t h = inr (rw (sym (eqb-true m n h)) t)
   agreed (Part base m) n t h = absurd t
   agreed Bad n t h = absurd (both_ways _ refl h)
 
-  turned : (r : Route) (status : ℕ) → tells_part r status ≡ true → (brings_part status ≡ true) × (r ≢ route.Direct)
+  turned : (r : Route) (status : ℕ) → gives_part r status ≡ true → (brings_part status ≡ true) × (r ≢ route.Direct)
   turned route.Direct status h = absurd (both_ways _ refl h)
   turned _ status h = (h, λ is. absurd (cc))
 
-  part : (said : Length) (told_range : Option ContentRange) → content_range_of response.fields ≡ told_range → Told (declared_in response) said → tells_part (route_of need) response.status ≡ true → IsRightLength need request response (part_length said told_range)
-  part said (Some (range.Part first last total)) is t tells =
-      let turn = turned (route_of need) response.status tells in
+  part : (said : Length) (reported_range : Option ContentRange) → content_range_of response.fields ≡ reported_range → Reported (declared_in response) said → gives_part (route_of need) response.status ≡ true → IsRightLength need request response (part_length said reported_range)
+  part said (Some (range.Part first last total)) is t reports =
+      let turn = turned (route_of need) response.status reports in
       either (IsRightLength need request response) (agrees said (last + 1 - first)) _ _
       (λ h. (
         turn.0,
@@ -64,14 +64,14 @@ module _ (need : Need) (request : Request) (response : Response) (body : has_no_
           agrees = agreed said (last + 1 - first) t h;
         },
       ))
-      (λ _. (body, inr tells))
-  part said _ is t tells = (body, inr tells)
+      (λ _. (body, inr reports))
+  part said _ is t reports = (body, inr reports)
 
 pub lengths-right : LengthsAreRight
 unfolding length_of
 lengths-right need request response =
-    let t = told_right (declared_in response) in
+    let t = reported_right (declared_in response) in
     either (IsRightLength need request response) (has_no_body request response.status) _ _ (λ none. inl (none, refl))
-    (λ body. either (IsRightLength need request response) (tells_part (route_of need) response.status) _ _
+    (λ body. either (IsRightLength need request response) (gives_part (route_of need) response.status) _ _
     (part need request response body _ _ refl t)
     (λ _. whole need request response body _ t))

@@ -21,11 +21,11 @@ number_of-number text n found =
 IsNumber-tests : (text : List ℕ) → is_number text ≡ true → IsNumber text (digits_value 10 text)
 IsNumber-tests text is = grind (arith, nat_tests, leb-le, ltb-lt, digits.to)
 
-pub IsNumber-told : (text : List ℕ) (n : ℕ) → number_of text ≡ Some n → IsNumber text n
-IsNumber-told text n told =
+pub IsNumber-reported : (text : List ℕ) (n : ℕ) → number_of text ≡ Some n → IsNumber text n
+IsNumber-reported text n reported =
     elim (cases_Bool (is_number text)) [
-      | inl is ↦ let e : Some (digits_value 10 text) ≡ Some n = rw is at told in let same : digits_value 10 text ≡ n = cc in rw (← same) (IsNumber-tests text is)
-      | inr isnt ↦ let e : None ≡ Some n = rw isnt at told in absurd (cc)
+      | inl is ↦ let e : Some (digits_value 10 text) ≡ Some n = rw is at reported in let same : digits_value 10 text ≡ n = cc in rw (← same) (IsNumber-tests text is)
+      | inr isnt ↦ let e : None ≡ Some n = rw isnt at reported in absurd (cc)
     ]
 
 pub number_of-read : (text : List ℕ) (r : Option ℕ) → IfSome r (IsNumber text) → IfNone r ((n : ℕ) → ¬ (IsNumber text n)) → r ≡ number_of text

@@ -54,12 +54,12 @@ exclusive-right : (v : PlanView) (s : Candidate) (why : Why) (span : Span) (d : 
 exclusive-right v s why span d turn may = grind (arith, nat_tests)
 
 wanted-right : (v : PlanView) (s : Candidate) (why : Why) (want : Wanted) → (v.class.only ≡ false → HasTurn v) → MayRead v why → IsBare v (by_wanted v s why want)
-wanted-right v s why (wants.Interval span) turn may = either (IsBare v) s.writing _ _ (λ _. refl) (λ _. exclusive-right v s why span s.exclusive turn may)
+wanted-right v s why (wants.Interval span) turn may = either (IsBare v) s.writer_group _ _ (λ _. refl) (λ _. exclusive-right v s why span s.exclusive turn may)
 wanted-right v s why _ turn may = refl
 
 why-right : (v : PlanView) (s : Candidate) (why : Option Why) → (v.class.only ≡ false → HasTurn v) → why_by v.kept (allowed_by v.current) ≡ why → IsBare v (by_why v s why)
 why-right v s None turn is = (refl, turn)
-why-right v s (Some why) turn is = either (IsBare v) (is_none v.class.range && s.writing) _ _ (λ _. is) (λ _. wanted-right v s why s.span turn is)
+why-right v s (Some why) turn is = either (IsBare v) (is_none v.class.range && s.writer_group) _ _ (λ _. is) (λ _. wanted-right v s why s.span turn is)
 
 current-right : (v : PlanView) (current : Option Candidate) → (v.class.only ≡ false → HasTurn v) → v.current ≡ current → IsBare v (by_current v current)
 current-right v current turn is = search (arith, either, why-right)

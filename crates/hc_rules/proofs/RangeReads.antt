@@ -7,10 +7,10 @@
 use Rattle.std.{proofs.{Common.{◌≡◌, ℕ, ◌≤◌, Bool, true, false, eqb, leb, ltb, not, List, [], ◌∷◌, ◌++◌, take, drop, map, Option, Some, None, refl, sym, ap, ◌∙◌, subst, inl, inr, arith, lit≤, lt-ltb}, lemmas.{Bool.{cases_Bool, and_parts, eqb-true, not_from_true, both_ways}, List.{append_assoc, take-append-drop}, Slice.Eq.{bytes_eq-Decides}}}, specs.{Prelude.{bytes_eq, option_map, IfSome, if◌then◌else◌}, Char.{to_ascii_lowercase}, List.{list_all}}}
 use Rattle.hc_text.proofs.{Basics.{eqb-same, le-leb, leb-le, ltb-lt, mapped_from}, Cutting.{none_or_some as seen}}
 use Rattle.hc_text.specs.Numbers.{IsNumber}
-use Rattle.hc_range.specs.{Bytes.{LacksByte}, declared.range.{Asked.{Asked, TheVariants.{From, FromTo, Last}}, ContentRange.{ContentRange, TheVariants.{Part, Unsatisfied}}}, Ranges.{SpellsSpec, SpellsRange, SpellsTotal, SpellsResponse, SpellsContentRange}}
+use Rattle.hc_range.specs.{Bytes.{LacksByte}, declared.range.{RangeSpec.{RangeSpec, TheVariants.{From, FromTo, Last}}, ContentRange.{ContentRange, TheVariants.{Part, Unsatisfied}}}, Ranges.{SpellsSpec, SpellsRange, SpellsTotal, SpellsResponse, SpellsContentRange}}
 use Rattle.hc_range.proofs.ReadLemmas.{range_at, content_range_at, number_some, LacksByte-number, lacks_slash}
 use Rattle.hc_rules.specs.RangeTexts.{number_of, with_byte, split_at, from_to, positions_by, positions_from, spec_in, asked_in, with_total, without_part, content_range_from, response_from, response_in, content_range_in}
-use Rattle.hc_rules.proofs.Numbers.{number_of-number, IsNumber-told}
+use Rattle.hc_rules.proofs.Numbers.{number_of-number, IsNumber-reported}
 
 -- what a test lets through passed it
 pub if_passes : {A : Type 0} (test : Bool) (o : Option A) (y : A) → (if test then o else None) ≡ Some y → (test ≡ true) × (o ≡ Some y)
@@ -70,11 +70,11 @@ from_to-numbers [] b m n ha hb up = absurd (number_some [] m ha refl)
 from_to-numbers (d ∷ a) [] m n ha hb up = absurd (number_some [] n hb refl)
 from_to-numbers (d ∷ a) (e ∷ b) m n ha hb up = rw (number_of-number (d ∷ a) m ha, number_of-number (e ∷ b) n hb, le-leb m n up) refl
 
-spec_in-cut : (a b : List ℕ) (asked : Asked) → LacksByte 45 a → positions_by a b ≡ Some asked → spec_in (a ++ 45 ∷ b) ≡ Some asked
+spec_in-cut : (a b : List ℕ) (asked : RangeSpec) → LacksByte 45 a → positions_by a b ≡ Some asked → spec_in (a ++ 45 ∷ b) ≡ Some asked
 spec_in-cut a b asked lacks h = ap positions_from (split_at-cut 45 a b lacks) ∙ h
 
 -- what is spelled is read
-pub spec_in-spelled : (text : List ℕ) (asked : Asked) → SpellsSpec text asked → spec_in text ≡ Some asked
+pub spec_in-spelled : (text : List ℕ) (asked : RangeSpec) → SpellsSpec text asked → spec_in text ≡ Some asked
 spec_in-spelled text (From first) h =
     let (a, number, is) = h in
     ap spec_in is ∙ spec_in-cut a [] (From first) (LacksByte-number 45 a first (lit≤ tt) number) (from-number a first number)
@@ -85,45 +85,45 @@ spec_in-spelled text (Last n) h =
     let (b, number, is) = h in
     ap spec_in is ∙ spec_in-cut [] b (Last n) refl (rw (number_of-number b n number) refl)
 
-from_to-some : (m n : Option ℕ) (asked : Asked) → from_to m n ≡ Some asked → (a : ℕ) × ((b : ℕ) × ((m ≡ Some a) × ((n ≡ Some b) × ((a ≤ b) × (FromTo a b ≡ asked)))))
+from_to-some : (m n : Option ℕ) (asked : RangeSpec) → from_to m n ≡ Some asked → (a : ℕ) × ((b : ℕ) × ((m ≡ Some a) × ((n ≡ Some b) × ((a ≤ b) × (FromTo a b ≡ asked)))))
 from_to-some None n asked h = absurd (cc)
 from_to-some (Some a) None asked h = absurd (cc)
 from_to-some (Some a) (Some b) asked h =
     let up = if_passes (leb a b) (Some (FromTo a b)) asked h in (a, (b, (refl, (refl, (leb-le a b up.0, cc up.1)))))
 
-spells-positions : (text a b : List ℕ) (asked : Asked) → text ≡ a ++ 45 ∷ b → positions_by a b ≡ Some asked → SpellsSpec text asked
+spells-positions : (text a b : List ℕ) (asked : RangeSpec) → text ≡ a ++ 45 ∷ b → positions_by a b ≡ Some asked → SpellsSpec text asked
 spells-positions text [] b asked is h =
-    let (n, told, same) = mapped_from Last (number_of b) asked h in
-    subst (SpellsSpec text) same (b, IsNumber-told b n told, is)
+    let (n, reported, same) = mapped_from Last (number_of b) asked h in
+    subst (SpellsSpec text) same (b, IsNumber-reported b n reported, is)
 spells-positions text (d ∷ a) [] asked is h =
-    let (n, told, same) = mapped_from From (number_of (d ∷ a)) asked h in
-    subst (SpellsSpec text) same (d ∷ a, IsNumber-told (d ∷ a) n told, is)
+    let (n, reported, same) = mapped_from From (number_of (d ∷ a)) asked h in
+    subst (SpellsSpec text) same (d ∷ a, IsNumber-reported (d ∷ a) n reported, is)
 spells-positions text (d ∷ a) (e ∷ b) asked is h =
     let (m, (n, (first, (last, (up, same))))) = from_to-some (number_of (d ∷ a)) (number_of (e ∷ b)) asked h in
     subst (SpellsSpec text) same
-    (d ∷ a, e ∷ b, IsNumber-told (d ∷ a) m first, IsNumber-told (e ∷ b) n last, up, is ∙ sym (append_assoc (d ∷ a) (45 ∷ []) (e ∷ b)))
+    (d ∷ a, e ∷ b, IsNumber-reported (d ∷ a) m first, IsNumber-reported (e ∷ b) n last, up, is ∙ sym (append_assoc (d ∷ a) (45 ∷ []) (e ∷ b)))
 
 -- what is read is spelled
-pub spec_in-some : (text : List ℕ) (asked : Asked) → spec_in text ≡ Some asked → SpellsSpec text asked
+pub spec_in-some : (text : List ℕ) (asked : RangeSpec) → spec_in text ≡ Some asked → SpellsSpec text asked
 spec_in-some text asked h = elim (seen (split_at 45 text)) [
   | inl none ↦ let e : None ≡ Some asked = sym (ap positions_from none) ∙ h in absurd (cc)
   | inr (parts, is) ↦ spells-positions text parts.0 parts.1 asked (split_at-some 45 text parts.0 parts.1 is) (sym (ap positions_from is) ∙ h)
 ]
 
-pub asked_in-spelled : (text : List ℕ) (asked : Asked) → SpellsRange text asked → asked_in text ≡ Some asked
+pub asked_in-spelled : (text : List ℕ) (asked : RangeSpec) → SpellsRange text asked → asked_in text ≡ Some asked
 unfolding asked_in
 asked_in-spelled text asked h =
     let (unit, spec) = range_at text (take 6 text) (drop 6 text) refl refl asked h in
     rw (bytes_eq-same (map to_ascii_lowercase (take 6 text)) (98 ∷ 121 ∷ 116 ∷ 101 ∷ 115 ∷ 61 ∷ []) unit) (spec_in-spelled (drop 6 text) asked spec)
 
-pub asked_in-some : (text : List ℕ) (asked : Asked) → asked_in text ≡ Some asked → SpellsRange text asked
+pub asked_in-some : (text : List ℕ) (asked : RangeSpec) → asked_in text ≡ Some asked → SpellsRange text asked
 unfolding asked_in
 asked_in-some text asked h =
     let unit = if_passes _ (spec_in (drop 6 text)) asked h in
     (take 6 text, drop 6 text, same_bytes _ _ unit.0, spec_in-some (drop 6 text) asked unit.1, sym (take-append-drop 6 text))
 
 -- what is read by the grammar is what is defined
-pub asked_in-read : (text : List ℕ) (r : Option Asked) → IfSome r (SpellsRange text) → ((asked : Asked) → SpellsRange text asked → r ≡ Some asked) → r ≡ asked_in text
+pub asked_in-read : (text : List ℕ) (r : Option RangeSpec) → IfSome r (SpellsRange text) → ((asked : RangeSpec) → SpellsRange text asked → r ≡ Some asked) → r ≡ asked_in text
 asked_in-read text (Some asked) found spelled = sym (asked_in-spelled text asked found)
 asked_in-read text None found spelled = elim (seen (asked_in text)) [
   | inl none ↦ sym none
@@ -138,11 +138,11 @@ response_in-cut positions text range lacks h = ap response_from (split_at-cut 47
 
 response_in-spelled : (text : List ℕ) (range : ContentRange) → SpellsResponse text range → response_in text ≡ Some range
 response_in-spelled text (Part first last total) h =
-    let (positions, whole, spelled, told, is) = h in
+    let (positions, whole, spelled, reported, is) = h in
     let spec = spec_in-spelled positions (FromTo first last) spelled in
     ap response_in (is ∙ append_assoc positions (47 ∷ []) whole)
     ∙ response_in-cut positions whole (Part first last total) (lacks_slash positions first last spelled)
-    (ap (content_range_from positions whole) spec ∙ with_total-spelled whole first last total told)
+    (ap (content_range_from positions whole) spec ∙ with_total-spelled whole first last total reported)
 response_in-spelled text (Unsatisfied total) h =
     let (whole, number, is) = h in
     ap response_in is ∙ response_in-cut (42 ∷ []) whole (Unsatisfied total) refl (rw (number_of-number whole total number) refl)
@@ -154,22 +154,22 @@ with_total-some first last None text range is h =
     (None, (cc star.1, same_bytes text (42 ∷ []) star.0))
 with_total-some first last (Some total) text range is h =
     let below = if_passes (ltb last total) (Some (Part first last (Some total))) range h in
-    (Some total, (cc below.1, (IsNumber-told text total (sym is), ltb-lt last total below.0)))
+    (Some total, (cc below.1, (IsNumber-reported text total (sym is), ltb-lt last total below.0)))
 
 without_part-some : (positions text : List ℕ) (range : ContentRange) → without_part positions text ≡ Some range
     → (total : ℕ) × ((positions ≡ 42 ∷ []) × ((number_of text ≡ Some total) × (Unsatisfied total ≡ range)))
 without_part-some positions text range h =
     let star = if_passes (bytes_eq positions (42 ∷ [])) (option_map Unsatisfied (number_of text)) range h in
-    let (total, told, same) = mapped_from Unsatisfied (number_of text) range star.1 in
-    (total, (same_bytes positions (42 ∷ []) star.0, (told, same)))
+    let (total, reported, same) = mapped_from Unsatisfied (number_of text) range star.1 in
+    (total, (same_bytes positions (42 ∷ []) star.0, (reported, same)))
 
-spells-response : (text positions whole : List ℕ) (o : Option Asked) (range : ContentRange) → text ≡ positions ++ 47 ∷ whole → o ≡ spec_in positions → content_range_from positions whole o ≡ Some range → SpellsResponse text range
+spells-response : (text positions whole : List ℕ) (o : Option RangeSpec) (range : ContentRange) → text ≡ positions ++ 47 ∷ whole → o ≡ spec_in positions → content_range_from positions whole o ≡ Some range → SpellsResponse text range
 spells-response text positions whole None range is spec h =
-    let (total, (star, (told, same))) = without_part-some positions whole range h in
-    subst (SpellsResponse text) same (whole, IsNumber-told whole total told, is ∙ ap (λ (p : List ℕ). p ++ 47 ∷ whole) star)
+    let (total, (star, (reported, same))) = without_part-some positions whole range h in
+    subst (SpellsResponse text) same (whole, IsNumber-reported whole total reported, is ∙ ap (λ (p : List ℕ). p ++ 47 ∷ whole) star)
 spells-response text positions whole (Some (FromTo first last)) range is spec h =
-    let (total, (same, told)) = with_total-some first last (number_of whole) whole range refl h in
-    subst (SpellsResponse text) same (positions, whole, spec_in-some positions (FromTo first last) (sym spec), told, is ∙ sym (append_assoc positions (47 ∷ []) whole))
+    let (total, (same, reported)) = with_total-some first last (number_of whole) whole range refl h in
+    subst (SpellsResponse text) same (positions, whole, spec_in-some positions (FromTo first last) (sym spec), reported, is ∙ sym (append_assoc positions (47 ∷ []) whole))
 spells-response text positions whole _ range is spec h = absurd (cc)
 
 response_in-some : (text : List ℕ) (range : ContentRange) → response_in text ≡ Some range → SpellsResponse text range

@@ -1,6 +1,5 @@
 -- What is known of the statuses that may be stored. Proofs open `brings_whole` and `brings_part` nowhere else.
-use Rattle.std.proofs.{Common.{◌≡◌, ℕ, ◌<◌, ◌≤◌, true, false, arith}, lemmas.Bool.Decides.{nat_tests}}
-use Rattle.std.specs.Prelude.{nat_eq}
+use Rattle.std.{proofs.{Common.{◌≡◌, ℕ, ◌<◌, ◌≤◌, true, false, arith}, lemmas.Bool.Decides.{nat_tests}}, specs.Prelude.{nat_eq}}
 use Rattle.hc_rules.specs.Statuses.{brings_whole, brings_part}
 
 -- none brings both

@@ -1,13 +1,11 @@
 -- How a consumer may be bound to a representation beside those that are.
-use Rattle.std.specs.Prelude.{ℕ, Bool, true, false, List, map, filter, if◌then◌else◌, Option, Some, None}
+use Rattle.std.specs.Prelude.{ℕ, Bool, true, false, List, map, filter, if◌then◌else◌, Option, Some, None, ◌==◌, min, [], ◌∷◌}
 use Rattle.hc_rules.specs.declared.admission.Bound.{Bound}
 use Rattle.hc_rules.specs.declared.admission.BoundKind.{BoundKind}
 use Rattle.hc_rules.specs.declared.admission.BoundKind.TheVariants as kind
 use Rattle.hc_rules.specs.declared.admission.Admission.{Admission}
 use Rattle.hc_rules.specs.declared.admission.Admission.TheVariants as admission
-use Rattle.std.specs.Prelude.{ℕ, ◌==◌, Bool, List, map, filter, Option}
 use Rattle.hc_rules.specs.declared.survivor.Member.{Member}
-use Rattle.std.specs.Prelude.{ℕ, min, List, [], ◌∷◌, Option, Some, None}
 
 -- The least of some numbers.
 
@@ -59,13 +57,13 @@ abbrev pub beside_exclusive : Option ℕ → Admission → Admission
 beside_exclusive None other = other
 beside_exclusive (Some d) other = admission.Behind d
 
--- of a shared writing one is a member, but for who wants a range
-abbrev pub beside_writing : Option ℕ → Bool → Admission → Admission
-beside_writing None ranged other = other
-beside_writing (Some d) ranged other = if ranged then admission.Behind d else admission.Shared
+-- of a writer group one is a member, but for who wants a range
+abbrev pub beside_group : Option ℕ → Bool → Admission → Admission
+beside_group None ranged other = other
+beside_group (Some d) ranged other = if ranged then admission.Behind d else admission.Shared
 
 unfoldable pub admission_of : List Bound → Bool → Bool → Admission
 admission_of bound ranged holes =
-    beside_writing (least_of kind.Shared bound) ranged
+    beside_group (least_of kind.Shared bound) ranged
     (beside_exclusive (least_of kind.Exclusive bound)
     (if holes then with_holes (least_bound bound) else admission.Reader))

@@ -1,6 +1,6 @@
 -- The case of a head that comes (RFC 9111 sections 3, 3.3, 3.4 and 4.3): the first row that applies.
 use Rattle.std.specs.Prelude.{ℕ, ◌+◌, ◌==◌, ◌||◌, ◌&&◌, nat_le, not, Bool, false, List, codes, if◌then◌else◌, Option, Some, None, is_some}
-use Rattle.hc_range.specs.declared.range.Asked.{Asked}
+use Rattle.hc_range.specs.declared.range.RangeSpec.{RangeSpec}
 use Rattle.hc_range.specs.declared.range.Span.{Span}
 use Rattle.hc_range.specs.declared.range.ContentRange.{ContentRange}
 use Rattle.hc_range.specs.declared.range.ContentRange.TheVariants as range
@@ -82,14 +82,14 @@ begins_at None first last = false
 begins_at (Some span) first last = first == span.lo && nat_le (last + 1) span.hi
 
 -- the part begins where the range does, and isn't longer; its total is given
-abbrev pub fits_part : Asked → Option ContentRange → Bool
+abbrev pub fits_part : RangeSpec → Option ContentRange → Bool
 fits_part asked None = false
 fits_part asked (Some (range.Unsatisfied total)) = false
 fits_part asked (Some (range.Part first last None)) = false
 fits_part asked (Some (range.Part first last (Some total))) = begins_at (resolved_span asked total) first last
 
 -- A part from which a representation may be founded for a consumer with this range: others could join it by its strong tag.
-abbrev pub fits_to_found : Option Asked → Response → Bool
+abbrev pub fits_to_found : Option RangeSpec → Response → Bool
 fits_to_found None response = false
 fits_to_found (Some asked) response =
     is_some (strong_of response.fields) && fits_part asked (content_range_of response.fields)

@@ -20,8 +20,8 @@ is_of_total (Some n) total = n == total
 abbrev pub fills : Option ContentRange → ℕ → Span → Bool
 fills None total hole = false
 fills (Some (range.Unsatisfied n)) total hole = false
-fills (Some (range.Part first last told)) total hole =
-    is_of_total told total && first == hole.lo && nat_le (last + 1) hole.hi
+fills (Some (range.Part first last reported)) total hole =
+    is_of_total reported total && first == hole.lo && nat_le (last + 1) hole.hi
 
 -- The answer brings bytes of the hole from the same representation: a part whose tag is strongly equal to this one
 -- and that may be stored.

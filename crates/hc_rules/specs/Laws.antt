@@ -1,14 +1,14 @@
 -- What the tables come to.
 use Rattle.std.specs.Prelude.{◌≡◌, ◌≢◌, ◌↔◌, ℕ, ◌+◌, ◌-◌, ◌<◌, ◌≤◌, ◌⊎◌, Bool, true, false, List, [], length, take, sum, map, filter, All, Contains, Option, Some, None, is_some, unwrap_or, IsSome, IfSome, codes}
 use Rattle.hc_range.specs.declared.range.Span.{Span}
-use Rattle.hc_range.specs.declared.range.Asked.{Asked}
+use Rattle.hc_range.specs.declared.range.RangeSpec.{RangeSpec}
 use Rattle.hc_range.specs.declared.range.ContentRange.{ContentRange}
 use Rattle.hc_range.specs.declared.range.ContentRange.TheVariants as range
 use Rattle.hc_cachectl.specs.Directives.{of_response}
 use Rattle.hc_range.specs.Ranges.{SpellsRange, SpellsContentRange}
 use Rattle.hc_etag.specs.Etags.{SpellsTag}
 use Rattle.hc_rules.specs.RangeTexts.{asked_in, content_range_in, content_range_of, number_of}
-use Rattle.hc_rules.specs.Lengths.{has_no_body, tells_part, length_of}
+use Rattle.hc_rules.specs.Lengths.{has_no_body, gives_part, length_of}
 use Rattle.hc_rules.specs.Statuses.{brings_whole, brings_part}
 use Rattle.hc_etag.specs.TagTexts.{strong_in}
 use Rattle.hc_rules.specs.TagTexts.{strong_of}
@@ -19,7 +19,7 @@ use Rattle.hc_event.specs.declared.event.Request.{Request}
 use Rattle.hc_event.specs.declared.event.Response.{Response}
 use Rattle.hc_event.specs.declared.act.Need.{Need}
 use Rattle.hc_rules.specs.declared.length.Length.{Length}
-use Rattle.hc_rules.specs.declared.length.Length.TheVariants as told
+use Rattle.hc_rules.specs.declared.length.Length.TheVariants as reported
 use Rattle.hc_event.specs.declared.act.Why.{Why}
 use Rattle.hc_event.specs.declared.act.Refusal.{Refusal}
 use Rattle.hc_event.specs.declared.act.Refusal.TheVariants as refusal
@@ -48,15 +48,14 @@ use Rattle.hc_rules.specs.HeadCases.{head_case}
 use Rattle.hc_rules.specs.Plans.{plan_of, plan_on, why_by, allowed_by}
 use Rattle.hc_rules.specs.Readings.{read_step}
 use Rattle.hc_rules.specs.Rooms.{gives_way}
-use Rattle.hc_rules.specs.Admissions.{admission_of, is_of, numbers, least_of, least_bound}
-use Rattle.hc_rules.specs.Admissions.{survivor_at, stands_at}
+use Rattle.hc_rules.specs.Admissions.{admission_of, is_of, numbers, least_of, least_bound, survivor_at, stands_at}
 use Rattle.hc_rules.specs.Joins.{joins}
 
 -- TEXTS
 
 -- The range that is read is the one that the text spells, and so is what Content-Range tells.
 abbrev pub RangesAreSpelled : Type 0
-RangesAreSpelled = (text : List ℕ) (asked : Asked) → (asked_in text ≡ Some asked) ↔ SpellsRange text asked
+RangesAreSpelled = (text : List ℕ) (asked : RangeSpec) → (asked_in text ≡ Some asked) ↔ SpellsRange text asked
 
 abbrev pub PartsAreSpelled : Type 0
 PartsAreSpelled = (text : List ℕ) (range : ContentRange) → (content_range_in text ≡ Some range) ↔ SpellsContentRange text range
@@ -166,15 +165,15 @@ pub record SaysPart (response : Response) (base count : ℕ) : Type 0 where
 -- What is promised is none of an answer without a body, or what Content-Length says; a part is what Content-Range says;
 -- where nothing is known nothing was said, and what is bad has a body and said something, or had to tell a part.
 abbrev pub IsRightLength : Need → Request → Response → Length → Type 0
-IsRightLength need request response told.Unknown =
+IsRightLength need request response reported.Unknown =
     (has_no_body request response.status ≡ false) × (declared_in response ≡ [])
-IsRightLength need request response (told.Promised n) =
+IsRightLength need request response (reported.Promised n) =
     ((has_no_body request response.status ≡ true) × (n ≡ 0)) ⊎ AllSay n (declared_in response)
-IsRightLength need request response (told.Part base count) =
+IsRightLength need request response (reported.Part base count) =
     (brings_part response.status ≡ true) × (route_of need ≢ route.Direct) × SaysPart response base count
-IsRightLength need request response told.Bad =
+IsRightLength need request response reported.Bad =
     (has_no_body request response.status ≡ false)
-    × ((declared_in response ≢ []) ⊎ (tells_part (route_of need) response.status ≡ true))
+    × ((declared_in response ≢ []) ⊎ (gives_part (route_of need) response.status ≡ true))
 
 abbrev pub LengthsAreRight : Type 0
 LengthsAreRight =
@@ -220,7 +219,7 @@ pub record IsJoin (tag : Bool × List ℕ) (total : ℕ) (hole : Span) (answer :
   pub status : brings_part answer.status ≡ true
   pub strict : tag.0 ≡ false
   pub same : strong_of answer.fields ≡ Some tag.1
-  pub told : content_range_of answer.fields ≡ Some (range.Part hole.lo last (Some total))
+  pub reported : content_range_of answer.fields ≡ Some (range.Part hole.lo last (Some total))
   pub within : last < hole.hi
   pub kept : (of_response answer.fields).no_store ≡ false
 
@@ -330,9 +329,9 @@ carried_out v why span hole admission.Reader = plan.Bind why (Some span)
 carried_out v why span hole admission.Exclusive = plan.FirstHole span (unwrap_or hole span)
 carried_out v why span hole (admission.Behind d) = plan.Busy d v.kept
 
--- the plan sees who is bound; while the shared writing is on, all of them are its members
+-- the plan sees who is bound; while the writer group is on, all of them are its members
 pub record SeesBound (s : Candidate) (bound : List Bound) : Type 0 where
-  pub writing : s.writing ≡ is_some (least_of kind.Shared bound)
+  pub writer_group : s.writer_group ≡ is_some (least_of kind.Shared bound)
   pub together : (d : ℕ) → least_of kind.Shared bound ≡ Some d → s.least_bound ≡ Some d
   pub exclusive : s.exclusive ≡ least_of kind.Exclusive bound
   pub least : s.least_bound ≡ least_bound bound

@@ -24,13 +24,13 @@ promised_or_bad None = Bad
 promised_or_bad (Some n) = Promised n
 
 -- all elements spell this number
-abbrev pub all_tell : Option ℕ → List (List ℕ) → Bool
-all_tell n elements = list_all (λ element. is_same_number n (number_of element)) elements
+abbrev pub all_spell : Option ℕ → List (List ℕ) → Bool
+all_spell n elements = list_all (λ element. is_same_number n (number_of element)) elements
 
 -- the elements are to spell one number
 abbrev pub content_length_of : List (List ℕ) → Length
 content_length_of [] = Unknown
-content_length_of (element ∷ elements) = if all_tell (number_of element) (element ∷ elements) then promised_or_bad (number_of element) else Bad
+content_length_of (element ∷ elements) = if all_spell (number_of element) (element ∷ elements) then promised_or_bad (number_of element) else Bad
 
 abbrev pub is_head : Request → Bool
 is_head request = bytes_eq request.method (codes "HEAD")
@@ -59,15 +59,15 @@ IsPartInOrder (range.Part first last total) = (first ≤ last) × (last < 2 ^ 62
 IsPartInOrder (range.Unsatisfied total) = Unit {0}
 
 -- a part tells where it begins, where it isn't an answer that goes past the store
-abbrev pub tells_part : Route → ℕ → Bool
-tells_part route.Direct status = false
-tells_part _ status = brings_part status
+abbrev pub gives_part : Route → ℕ → Bool
+gives_part route.Direct status = false
+gives_part _ status = brings_part status
 
 -- what the head says to an exchange that was opened for this need, with this request
 unfoldable pub length_of : Need → Request → Response → Length
 length_of need request response =
     if has_no_body request response.status then Promised 0
-    else if tells_part (route_of need) response.status
+    else if gives_part (route_of need) response.status
     then part_length (content_length_of (elements_in (codes "content-length") response.fields)) (content_range_of response.fields)
     else content_length_of (elements_in (codes "content-length") response.fields)
 

@@ -30,7 +30,7 @@ abbrev pub by_exclusive : PlanView → Candidate → Why → Span → Option ℕ
 by_exclusive v s why span (Some d) = plan.Busy d v.kept
 by_exclusive v s why span None = by_hole v s why span s.hole
 
--- an interval of it, while its shared writing isn't on
+-- an interval of it, while its writer group isn't on
 abbrev pub alone_on : PlanView → Candidate → Why → Span → Plan
 alone_on v s why span = by_exclusive v s why span s.exclusive
 
@@ -39,12 +39,12 @@ abbrev pub by_wanted : PlanView → Candidate → Why → Wanted → Plan
 by_wanted v s why wants.TotalUnknown = busy v s.least_bound
 by_wanted v s why wants.Unsatisfiable = plan.Direct need.Unsatisfied
 by_wanted v s why (wants.Interval span) =
-    if s.writing then busy v s.least_bound else alone_on v s why span
+    if s.writer_group then busy v s.least_bound else alone_on v s why span
 
 -- row "joins the writing": without a range, so none of the rows above it apply
 abbrev pub plan_on : PlanView → Candidate → Why → Plan
 plan_on v s why =
-    if is_none v.class.range && s.writing then plan.Bind why None
+    if is_none v.class.range && s.writer_group then plan.Bind why None
     else by_wanted v s why s.span
 
 -- why it may read: the 304 that it kept, or what freshness allows

@@ -5,8 +5,8 @@ use Rattle.std.specs.Str.{str_to_ascii_lowercase, all_ascii_digits}
 use Rattle.std.specs.Str.Parse.{digits_value}
 use Rattle.hc_fields.specs.FieldList.{values_of}
 use Rattle.hc_fields.specs.FirstValues.{only_of}
-use Rattle.hc_range.specs.declared.range.Asked.{Asked}
-use Rattle.hc_range.specs.declared.range.Asked.TheVariants.{From, FromTo, Last}
+use Rattle.hc_range.specs.declared.range.RangeSpec.{RangeSpec}
+use Rattle.hc_range.specs.declared.range.RangeSpec.TheVariants.{From, FromTo, Last}
 use Rattle.hc_range.specs.declared.range.ContentRange.{ContentRange}
 use Rattle.hc_range.specs.declared.range.ContentRange.TheVariants.{Part, Unsatisfied}
 
@@ -34,26 +34,26 @@ abbrev pub slash : ℕ
 slash = 47
 
 -- two positions, the first not above the last
-abbrev pub from_to : Option ℕ → Option ℕ → Option Asked
+abbrev pub from_to : Option ℕ → Option ℕ → Option RangeSpec
 from_to (Some first) (Some last) = if nat_le first last then Some (FromTo first last) else None
 from_to _ _ = None
 
 -- what stands before the hyphen and behind it: positions, or a length where nothing stands before
-abbrev pub positions_by : List ℕ → List ℕ → Option Asked
+abbrev pub positions_by : List ℕ → List ℕ → Option RangeSpec
 positions_by [] last = option_map Last (number_of last)
 positions_by (b ∷ first) [] = option_map From (number_of (b ∷ first))
 positions_by (b ∷ first) (d ∷ last) = from_to (number_of (b ∷ first)) (number_of (d ∷ last))
 
-abbrev pub positions_from : Option (List ℕ × List ℕ) → Option Asked
+abbrev pub positions_from : Option (List ℕ × List ℕ) → Option RangeSpec
 positions_from None = None
 positions_from (Some (first, last)) = positions_by first last
 
 -- int-range or suffix-range
-abbrev pub spec_in : List ℕ → Option Asked
+abbrev pub spec_in : List ℕ → Option RangeSpec
 spec_in text = positions_from (split_at hyphen text)
 
 -- the one range that the value of Range asks for, the unit in any case
-unfoldable pub asked_in : List ℕ → Option Asked
+unfoldable pub asked_in : List ℕ → Option RangeSpec
 asked_in text =
     if bytes_eq (str_to_ascii_lowercase (take 6 text)) (codes "bytes=")
     then spec_in (drop 6 text) else None
@@ -70,7 +70,7 @@ without_part positions text =
     if bytes_eq positions (codes "*") then option_map Unsatisfied (number_of text) else None
 
 -- what stands before the slash, and the positions that it tells; the length stands behind it
-abbrev pub content_range_from : List ℕ → List ℕ → Option Asked → Option ContentRange
+abbrev pub content_range_from : List ℕ → List ℕ → Option RangeSpec → Option ContentRange
 content_range_from positions text (Some (FromTo first last)) = with_total first last (number_of text) text
 content_range_from positions text (Some (From first)) = None
 content_range_from positions text (Some (Last n)) = None

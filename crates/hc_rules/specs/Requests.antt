@@ -3,7 +3,7 @@ use Rattle.std.specs.Prelude.{ℕ, ◌∷◌, [], List, ◌||◌, not, Bool, tru
 use Rattle.std.specs.Option.{option_map}
 use Rattle.hc_fields.specs.FieldList.{values_of}
 use Rattle.hc_fields.specs.FirstValues.{has_field}
-use Rattle.hc_range.specs.declared.range.Asked.{Asked}
+use Rattle.hc_range.specs.declared.range.RangeSpec.{RangeSpec}
 use Rattle.hc_range.specs.declared.range.Span.{Span}
 use Rattle.hc_range.specs.Spans.{resolved_span}
 use Rattle.hc_cachectl.specs.Directives.{of_request}
@@ -39,7 +39,7 @@ has_condition fields =
 
 -- The range that the values of Range ask for: none without a value, and one that is read with one. More values, or one that isn't
 -- read, can't be told (RFC 9110 section 14.2).
-abbrev pub ranges_read : List (List ℕ) → Option (Option Asked)
+abbrev pub ranges_read : List (List ℕ) → Option (Option RangeSpec)
 ranges_read [] = Some None
 ranges_read (value ∷ []) = option_map Some (asked_in value)
 ranges_read (value ∷ other ∷ values) = None
@@ -62,7 +62,7 @@ unfoldable pub is_bypassing : Request → Bool
 is_bypassing request = bypasses request.load || (of_request request.fields).no_cache
 
 -- the range that the request asks the cache for
-unfoldable pub range_of : Request → Option Asked
+unfoldable pub range_of : Request → Option RangeSpec
 range_of request = if is_disabled request then None else unwrap_or (ranges_read (ranges_in request.fields)) None
 
 -- what the request asks of the cache
@@ -79,7 +79,7 @@ wanted_part None = wants.Unsatisfiable
 wanted_part (Some span) = wants.Interval span
 
 -- the interval of a body of this length that is wanted: the range, or all
-abbrev pub wanted_of : Option Asked → Option ℕ → Wanted
+abbrev pub wanted_of : Option RangeSpec → Option ℕ → Wanted
 wanted_of range None = wants.TotalUnknown
 wanted_of None (Some total) = wants.Interval (record { lo = 0; hi = total })
 wanted_of (Some asked) (Some total) = wanted_part (resolved_span asked total)

@@ -7,7 +7,7 @@ use crate::least::lesser;
 /// How a consumer is bound to a representation.
 #[derive(Clone, Copy, Debug, PartialEq, Eq)]
 pub enum BoundKind {
-    /// A member of its shared writing.
+    /// A member of its writer group.
     Shared,
     /// Its exclusive writer.
     Exclusive,
@@ -25,7 +25,7 @@ pub struct Bound {
 /// How one more consumer may be bound.
 #[derive(Clone, Copy, Debug, PartialEq, Eq)]
 pub enum Admission {
-    /// As a member of the shared writing.
+    /// As a member of the writer group.
     Shared,
     /// As a reader of what is stored.
     Reader,

@@ -9,7 +9,7 @@ use crate::status::{brings_part, brings_whole};
 use crate::tag_text::strong_of;
 use hc_cachectl::{read_request, read_response};
 use hc_event::{Need, Request, Response};
-use hc_range::{Asked, ContentRange, resolve};
+use hc_range::{RangeSpec, ContentRange, resolve};
 
 /// What a head is to the exchange that it answers, and to what is stored.
 #[derive(Clone, Copy, Debug, PartialEq, Eq)]
@@ -168,7 +168,7 @@ pub fn is_storable(request: &Request, response: &Response) -> bool
 /// Whether a part that may be stored is fit to found a representation for a consumer with this range:
 /// it has one strong tag, its total is given, and it begins where the range does and isn't longer.
 /// Without a range it isn't.
-pub fn fits_to_found(range: Option<Asked>, response: &Response) -> bool
+pub fn fits_to_found(range: Option<RangeSpec>, response: &Response) -> bool
     requires { IfSome range IsInOrder }
     ensures { result ≡ fits_to_found range response.now }
 {
@@ -179,9 +179,9 @@ pub fn fits_to_found(range: Option<Asked>, response: &Response) -> bool
 }
 
 /// Whether the part begins where the range does and isn't longer, and its total is given.
-fn fits_part(asked: Asked, told: Option<ContentRange>) -> bool
+fn fits_part(asked: RangeSpec, reported: Option<ContentRange>) -> bool
     requires { IsInOrder asked }
-    ensures { result ≡ fits_part asked told }
+    ensures { result ≡ fits_part asked reported }
 {
     let Some(
         ContentRange::Part {
@@ -189,7 +189,7 @@ fn fits_part(asked: Asked, told: Option<ContentRange>) -> bool
             last,
             total: Some(total),
         },
-    ) = told
+    ) = reported
     else {
         return false;
     };

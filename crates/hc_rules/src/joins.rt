@@ -49,10 +49,10 @@ fn joins(tag: &Tag, total: u64, hole: Span, answer: &Response) -> bool
 }
 
 /// Whether the part begins where the hole does and isn't longer, and its total is given and this.
-fn fills(told: Option<ContentRange>, whole: u64, hole: Span) -> bool
-    ensures { result ≡ fills told whole hole }
+fn fills(reported: Option<ContentRange>, whole: u64, hole: Span) -> bool
+    ensures { result ≡ fills reported whole hole }
 {
-    let Some(ContentRange::Part { first, last, total }) = told else {
+    let Some(ContentRange::Part { first, last, total }) = reported else {
         return false;
     };
     total == Some(whole) && first == hole.lo && last < hole.hi

@@ -106,11 +106,11 @@ impl Length {
     }
 
     /// What a part tells, of which Content-Length said this.
-    fn of_part(self, told: Option<ContentRange>) -> Length
-        requires { IfSome told IsPartInOrder }
-        ensures { result ≡ part_length self told }
+    fn of_part(self, reported: Option<ContentRange>) -> Length
+        requires { IfSome reported IsPartInOrder }
+        ensures { result ≡ part_length self reported }
     {
-        let Some(ContentRange::Part { first, last, .. }) = told else {
+        let Some(ContentRange::Part { first, last, .. }) = reported else {
             return Length::Bad;
         };
         let promised = last - first + 1;

@@ -18,7 +18,7 @@ pub enum Plan {
     Turn(u64),
     /// It opens an exchange with the turn of its key.
     Fetch(Need),
-    /// It reads the current representation: this span of it, or all that its shared writing brings.
+    /// It reads the current representation: this span of it, or all that its writer group brings.
     Bind { why: Why, span: Option<Span> },
     /// It reads this span of the current representation, and opens an exchange for its first hole.
     FirstHole { span: Span, hole: Span },
@@ -40,11 +40,11 @@ pub struct Candidate {
     pub span: Wanted,
     /// The first hole of that interval in what is stored, if it has one.
     pub hole: Option<Span>,
-    /// Its shared writing is on.
-    pub writing: bool,
+    /// Its writer group is on.
+    pub writer_group: bool,
     /// Its exclusive writer, if it has one.
     pub exclusive: Option<u64>,
-    /// The least of the consumers that are bound to it, if there is one. While the shared writing is
+    /// The least of the consumers that are bound to it, if there is one. While the writer group is
     /// on, these are its members.
     pub least_bound: Option<u64>,
 }
@@ -135,18 +135,18 @@ fn is_back(view: &PlanView) -> bool
 fn plan_on(view: &PlanView, current: &Candidate, why: Why) -> Plan
     ensures { result ≡ plan_on view.now current.now why }
 {
-    if view.class.range.is_none() && current.writing {
+    if view.class.range.is_none() && current.writer_group {
         return Plan::Bind { why, span: None };
     }
     match current.span {
         Wanted::TotalUnknown => busy(view, current.least_bound),
         Wanted::Unsatisfiable => Plan::Direct(Need::Unsatisfied),
-        Wanted::Interval(_) if current.writing => busy(view, current.least_bound),
+        Wanted::Interval(_) if current.writer_group => busy(view, current.least_bound),
         Wanted::Interval(span) => alone_on(view, current, why, span),
     }
 }
 
-/// What is done with an interval of it, while its shared writing isn't on.
+/// What is done with an interval of it, while its writer group isn't on.
 fn alone_on(view: &PlanView, current: &Candidate, why: Why, span: Span) -> Plan
     ensures { result ≡ alone_on view.now current.now why span }
 {

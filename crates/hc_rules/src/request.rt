@@ -7,7 +7,7 @@ use crate::range_text::asked_in;
 use hc_cachectl::read_request;
 use hc_event::{Load, Request};
 use hc_fields::{Fields, has_field};
-use hc_range::{Asked, Span, resolve};
+use hc_range::{RangeSpec, Span, resolve};
 
 /// What a request asks of the cache, told once when it comes.
 #[derive(Clone, Copy, Debug, PartialEq, Eq)]
@@ -19,7 +19,7 @@ pub struct RequestClass {
     /// It goes past what is stored, which is then forgotten.
     pub bypassing: bool,
     /// The range that it asks for. A disabled request has none here.
-    pub range: Option<Asked>,
+    pub range: Option<RangeSpec>,
 }
 
 /// The interval of a body that is wanted.
@@ -59,7 +59,7 @@ pub fn class_of(request: &Request) -> RequestClass
 }
 
 /// The range that the fields ask for, if any. None where Range stands twice or isn't one that is read.
-fn read_ranges(fields: &Fields) -> Option<Option<Asked>>
+fn read_ranges(fields: &Fields) -> Option<Option<RangeSpec>>
     ensures value { result ≡ ranges_read (ranges_in fields.now) }
     ensures ordered { IfSome result (λ range. IfSome range IsInOrder) }
 {
@@ -82,7 +82,7 @@ fn has_condition(fields: &Fields) -> bool
 }
 
 /// The interval that is wanted of a body of so many bytes, if that is known: the range, or all.
-pub fn wanted_of(range: Option<Asked>, total: Option<u64>) -> Wanted
+pub fn wanted_of(range: Option<RangeSpec>, total: Option<u64>) -> Wanted
     requires { IfSome range IsInOrder }
     ensures { result ≡ wanted_of range total }
 {

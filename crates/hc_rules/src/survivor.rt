@@ -4,7 +4,7 @@ ghost use Rattle.hc_rules.specs.Admissions.{survivor_at};
 
 use crate::least::lesser;
 
-/// A member of a shared writing, and the position at which it stands.
+/// A member of a writer group, and the position at which it stands.
 #[derive(Clone, Copy)]
 pub struct Member {
     pub c: u64,

@@ -8,13 +8,11 @@ use Rattle.std.{proofs.{Common.{◌≡◌, ◌≢◌, ◌≤◌, ℕ, ◌+◌, L
 use Rattle.hc_effects.proofs.Vocabulary.{Act, Event, Limits, live, is_live, Entry, History, Contents, failures_in, Lawful, Tables, Consumer, IsOwed, owed, tables, after, starts_after}
 use Rattle.hc_event.specs.declared.event.Event.TheVariants as event
 use Rattle.hc_store.specs.declared.backend.Backend.{Ghosts}
-use Rattle.hc_model.specs.Live.{Leaves}
+use Rattle.hc_model.specs.{Live.{Leaves}, Denials.{IsLeastLive}}
 use Rattle.hc_laws.proofs.{Faultless.{faultless_are_owed}, LawfulRuns.{lawful_in_runs}, LeaverGoes.{leaver_goes}, LiveRuns.{few_in_runs}}
 use Rattle.hc_state.proofs.LiveCounts.{counted, one, counted_moves}
 use Rattle.hc_core.specs.{declared.cache.Cache.{Cache}, Steps.{StandsFor, Answers, Steps, faults_in, limits_in, last_moment, live_in, steps, bytes_received}}
-use Rattle.hc_model.specs.Denials.{IsLeastLive}
-use Rattle.hc_saving.specs.Leaving.{AllLeave, leaving}
-use Rattle.hc_saving.specs.LeftCaches.{HasLeft, StandsForAny}
+use Rattle.hc_saving.specs.{Leaving.{AllLeave, leaving}, LeftCaches.{HasLeft, StandsForAny}}
 use Rattle.hc_saving.specs.Leaving as leaving_all
 
 -- ONE LEAVES

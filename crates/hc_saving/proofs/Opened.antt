@@ -11,7 +11,7 @@ use Rattle.hc_sched.specs.{declared.schedule.{Ended.{Ended}, Timed.{Timed}}, Sch
 use Rattle.hc_sched.specs.declared.schedule.Ended.TheVariants as ended
 use Rattle.hc_driver.specs.Endings.{How, Ends}
 use Rattle.hc_driver.specs.Stepping as steps
-use Rattle.hc_driver.proofs.Reported.{ends_so}
+use Rattle.hc_driver.proofs.ReportSteps.{ends_so}
 use Rattle.hc_effects.proofs.Vocabulary.{Limits, may_begin, History, Contents, IsRun, tables}
 use Rattle.hc_store.specs.declared.backend.Backend.{Ghosts}
 use Rattle.hc_contents.specs.{Fit.{unfit_of}, declared.unfit.Unfit.{Unfit}}
@@ -19,13 +19,11 @@ use Rattle.hc_contents.specs.declared.unfit.Unfit.TheVariants as unfit
 use Rattle.hc_contents.proofs.Counting.{begins_by}
 use Rattle.hc_core.specs.{Begins.{IsCause}, declared.{begin.ContentsError.{ContentsError}, cache.Cache.{Cache}}, Steps.{StandsFor, ServesAll, faults_in, limits_in, last_moment}}
 use Rattle.hc_core.specs.declared.begin.ContentsError.TheVariants as error
-use Rattle.hc_replay.specs.{Histories.{run_of}, Replays.{IsReplayed, Replays}}
-use Rattle.hc_replay.specs.WholeRuns.{IsWholeRun}
+use Rattle.hc_replay.specs.{Histories.{run_of}, Replays.{IsReplayed, Replays}, WholeRuns.{IsWholeRun}}
 use Rattle.hc_replay.specs.Replays as replays
 use Rattle.hc_image.specs.{Readings.{BeginsWithNone}, Spelled.{SpellsImage}}
 use Rattle.hc_image.proofs.Once.{image_once}
-use Rattle.hc_saving.specs.{declared.{open.OpenEnded.{OpenEnded}, begin.BeginError.{BeginError}}, Opens.{Continues, Opens, Completes, IsImageTaken, IsUnopened, ended_by}, Begins.{BeginsWith, IsUnbegun, refused_by}}
-use Rattle.hc_saving.specs.Continued.{IsOpened, Leaves, IsContinued}
+use Rattle.hc_saving.specs.{declared.{open.OpenEnded.{OpenEnded}, begin.BeginError.{BeginError}}, Opens.{Continues, Opens, Completes, IsImageTaken, IsUnopened, ended_by}, Begins.{BeginsWith, IsUnbegun, refused_by}, Continued.{IsOpened, Leaves, IsContinued}}
 use Rattle.hc_saving.specs.declared.open.OpenEnded.TheVariants as opened
 use Rattle.hc_saving.specs.Opens as opens
 use Rattle.hc_saving.specs.Begins as begins

@@ -7,26 +7,25 @@
 use Rattle.std.{proofs.{Common.{◌≡◌, ◌≤◌, ◌<◌, ◌^◌, ◌+◌, ℕ, List, [], ◌++◌, length, take, drop, true, Option, Some, None, Result, Err, refl, ap, sym, ◌∙◌, subst, arith, append_assoc}, lemmas.List.{append-nil, length-drop, take-append-drop, take_all}}, specs.{Prelude.{Ok, IfErr}, Result.{IsErrAnd}}}
 use Rattle.hc_io.specs.Source.{Gives, GivesAll}
 use Rattle.hc_io.proofs.Givings.{gives_none}
-use Rattle.hc_sched.specs.{declared.schedule.{Refused.{Refused}, Timed.{Timed}}, Reading.{events_in, Progress}, Laws.{AreTimed}, Schedule.{Item, Spells}}
-use Rattle.hc_sched.specs.Reading.{beginning, refusal_of}
+use Rattle.hc_sched.specs.{declared.schedule.{Refused.{Refused}, Timed.{Timed}}, Reading.{events_in, Progress, beginning, refusal_of}, Laws.{AreTimed}, Schedule.{Item, Spells}}
 use Rattle.hc_sched.proofs.OneReading.{is_read, brings_all, brings_items, brings_timed}
 use Rattle.hc_driver.specs.Breaks as breaks
 use Rattle.hc_driver.specs.Courses as courses
 use Rattle.hc_driver.specs.{Breaks.{Breaks, IsReadOut}, Courses.{Goes}, Endings.{How, Wholly, IsRefused, events_from}, Stepping.{never}, declared.stop.Stop.{Stop}}
 use Rattle.hc_driver.specs.Stepping as steps
 use Rattle.hc_driver.specs.declared.stop.Stop.TheVariants as stop
-use Rattle.hc_effects.proofs.{Basics.{some_none}, Vocabulary.{Limits, may_begin, contents_of, History, Contents, IsRun, tables}}
+use Rattle.hc_effects.proofs.Basics.{some_none}
+use Rattle.hc_effects.proofs.Vocabulary.{Limits, may_begin, contents_of, History, Contents, IsRun, tables}
 use Rattle.hc_store.specs.declared.backend.Backend.{Ghosts}
 use Rattle.hc_contents.specs.{Fit.{unfit_of}, PlainContents.{plain_contents}}
 use Rattle.hc_contents.specs.declared.contents.Contents as coded
 use Rattle.hc_laws.proofs.ReadWhole.{runs_read_whole}
 use Rattle.hc_core.specs.{declared.cache.Cache.{Cache}, Steps.{StandsFor, faults_in, limits_in, last_moment, live_in, steps as steps_in}}
 use Rattle.hc_replay.specs.{Histories.{run_of}, Replays.{IsReplayed}}
-use Rattle.hc_replay.proofs.Reported.{replayed, leads_limits}
+use Rattle.hc_replay.proofs.ReportSteps.{replayed, leads_limits}
 use Rattle.hc_image.proofs.Once.{image_once}
 use Rattle.hc_image.specs.{Readings.{BeginsWithNone}, Spelled.{SpellsImage}}
-use Rattle.hc_saving.specs.{declared.{silent.Silent.{Silent}, recovering.RecoverError.{RecoverError}, begin.BeginError.{BeginError}}, Begins.{BeginsWith, IsUnbegun}, Recovers.{BeginsAs, AreWholeEvents, IsLeftBehind, IsRecovered, Recovers, IsTaken, IsStepped, HasNone, IsUnread, IsUnstepped, of_begin}, Silence.{AnswersSilently, IsSpent}}
-use Rattle.hc_saving.specs.LeftCaches.{HasLeft}
+use Rattle.hc_saving.specs.{declared.{silent.Silent.{Silent}, recovering.RecoverError.{RecoverError}, begin.BeginError.{BeginError}}, Begins.{BeginsWith, IsUnbegun}, Recovers.{BeginsAs, AreWholeEvents, IsLeftBehind, IsRecovered, Recovers, IsTaken, IsStepped, HasNone, IsUnread, IsUnstepped, of_begin}, Silence.{AnswersSilently, IsSpent}, LeftCaches.{HasLeft}}
 use Rattle.hc_saving.specs.Begins as begins
 use Rattle.hc_saving.specs.Recovers as recovers
 use Rattle.hc_saving.specs.declared.recovering.RecoverError.TheVariants as error
@@ -36,7 +35,7 @@ use Rattle.hc_saving.proofs.{Leaves.{nobody_lives}, Opened.{behind, fitting}, Sa
 
 module _ {B : Type 0} {g : Ghosts B} (s u : Cache B g) (contents : Contents) (h : History) (q : HasLeft s u contents h) (limits : limits_in u ≡ limits_in s) (nobody : live_in u ≡ 0) (few : steps_in u ≤ steps_in s + 1024) where
   pub left_behind : (found : Contents) → found ≡ contents_of (tables contents q.left) → IsLeftBehind (limits_in s) contents h found
-  left_behind found told = record {
+  left_behind found reported = record {
     left = q.left;
     leave = q.leave;
     few = (let number = q.number in omega (arith, number, few));
@@ -46,7 +45,7 @@ module _ {B : Type 0} {g : Ghosts B} (s u : Cache B g) (contents : Contents) (h 
       short = q.stands.short;
       run = subst (λ (l : Limits). IsRun l contents q.left) limits q.stands.run;
       empty = nobody_lives u contents q.left q.stands nobody;
-      contents_are = sym told;
+      contents_are = sym reported;
     };
   }
 

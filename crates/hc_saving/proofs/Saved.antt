@@ -15,11 +15,10 @@ use Rattle.hc_driver.specs.{Courses.{Goes}, Endings.{How, Wholly, UpToEnd, Ends}
 use Rattle.hc_driver.specs.Endings as endings
 use Rattle.hc_driver.specs.Stepping as steps
 use Rattle.hc_driver.proofs.Timings.{timed_back}
-use Rattle.hc_laws.proofs.{CountedOpenings.{openings_counted}}
-use Rattle.hc_core.specs.{Steps.{StandsFor, Answers, limits_in, last_moment, steps as steps_in}}
-use Rattle.hc_replay.specs.{Histories.{run_of, failures}, Replays.{IsReplayed}}
-use Rattle.hc_replay.specs.WholeRuns.{IsWholeRun}
-use Rattle.hc_replay.proofs.Reported.{replayed, leads_limits}
+use Rattle.hc_laws.proofs.CountedOpenings.{openings_counted}
+use Rattle.hc_core.specs.Steps.{StandsFor, Answers, limits_in, last_moment, steps as steps_in}
+use Rattle.hc_replay.specs.{Histories.{run_of, failures}, Replays.{IsReplayed}, WholeRuns.{IsWholeRun}}
+use Rattle.hc_replay.proofs.ReportSteps.{replayed, leads_limits}
 use Rattle.hc_image.specs.{Images.{image_of}, Spelled.{SpellsImage}}
 use Rattle.hc_saving.specs.{declared.silent.Silent.{Silent}, Recovers.{IsLeftBehind}, Saves.{IsLeft, IsSaved, Saves, Writes, saved_of}, Silence.{AnswersSilently, IsSpent}}
 use Rattle.hc_saving.specs.Saves as saves
@@ -28,14 +27,14 @@ use Rattle.hc_saving.specs.Saves as saves
 
 module _ (limits : Limits) (h : History) (found : Contents) (q : IsLeftBehind limits no_contents h found) (few : length h ≤ 2 ^ 59)
     (fits : found.next_exchange ≤ 2 ^ 60 → may_begin limits found ≡ true) (written : may_begin limits found ≡ true → SpellsImage (image_of found) found) where
-  told : found ≡ saved_of q.left
-  told = sym q.leaves.contents_are
+  reported : found ≡ saved_of q.left
+  reported = sym q.leaves.contents_are
 
   next_few : found.next_exchange ≤ 2 ^ 60
   unfolding contents_of
   next_few =
       let opened : (tables no_contents q.left).opened ≤ no_contents.next_exchange - 1 + length q.left = openings_counted limits no_contents q.left q.leaves.begins q.leaves.run in
-      let next : found.next_exchange ≡ (tables no_contents q.left).opened + 1 = ap (λ (c : Contents). c.next_exchange) told in
+      let next : found.next_exchange ≡ (tables no_contents q.left).opened + 1 = ap (λ (c : Contents). c.next_exchange) reported in
       let long = q.few in
       omega (arith, opened, next, long, few)
 
@@ -44,9 +43,9 @@ module _ (limits : Limits) (h : History) (found : Contents) (q : IsLeftBehind li
     left = q.left;
     leave = q.leave;
     whole = record { run = q.leaves.run; reads = q.reads };
-    begins = subst (λ (c : Contents). may_begin limits c ≡ true) told (fits next_few);
-    image_is = ap image_of told;
-    spells = subst (SpellsImage (image_of found)) told (written (fits next_few));
+    begins = subst (λ (c : Contents). may_begin limits c ≡ true) reported (fits next_few);
+    image_is = ap image_of reported;
+    spells = subst (SpellsImage (image_of found)) reported (written (fits next_few));
   }
 
   -- its image is what was written, behind nothing
@@ -64,11 +63,11 @@ pub record Stepped (s u : Silent) (h : courses.History) : Type 0 where
 
 pub stepped : (n : ℕ) (s u : Silent) (h : courses.History) → courses.Leads AnswersSilently never n s h u → Stepped s u h
 stepped n s _ _ courses.nothing = record { history = []; leads = steps.nothing; events_are = refl }
-stepped n s u _ (courses.more h e t _ leads off tells) =
+stepped n s u _ (courses.more h e t _ leads off reports) =
     let q = stepped n s t h leads in
     record {
-      history = record { timed = e.timed; acts = tells.acts } ∷ q.history;
-      leads = steps.more q.history _ t.cache u.cache q.leads tells.answered;
+      history = record { timed = e.timed; acts = reports.acts } ∷ q.history;
+      leads = steps.more q.history _ t.cache u.cache q.leads reports.answered;
       events_are = ap (λ (l : List Timed). l ++ e.timed ∷ []) q.events_are;
     }
 

@@ -2,13 +2,11 @@
 use Rattle.std.specs.Prelude.{◌≡◌, ℕ, ◌∷◌}
 use Rattle.hc_event.specs.declared.event.Event.TheVariants as event
 use Rattle.hc_rules.specs.declared.room.Limits.{Limits}
-use Rattle.hc_model.specs.Denials.{live}
+use Rattle.hc_model.specs.Denials.{live, IsLeastLive}
 use Rattle.hc_model.specs.Entries.{Entry, History, Contents}
 use Rattle.hc_model.specs.Rows.{Tables}
 use Rattle.hc_model.specs.Runs.{owed}
 use Rattle.hc_model.specs.Tables.{tables}
-use Rattle.hc_model.specs.Denials.{IsLeastLive}
-use Rattle.hc_model.specs.Denials.{IsLeastLive}
 
 -- a consumer is cancelled at the moment of the last event, over a store that never fails
 abbrev pub leaving : Limits → Tables → ℕ → Entry

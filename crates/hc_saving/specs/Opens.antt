@@ -6,7 +6,7 @@ use Rattle.hc_sched.specs.declared.schedule.Ended.{Ended}
 use Rattle.hc_sched.specs.declared.schedule.Ended.TheVariants as ended
 use Rattle.hc_sched.specs.declared.schedule.Timed.{Timed}
 use Rattle.hc_sched.specs.Schedule.{Item, Spells}
-use Rattle.hc_driver.specs.Courses.{TakesThenFront}
+use Rattle.hc_driver.specs.Courses.{TakesThenPrefix}
 use Rattle.hc_driver.specs.Endings.{How, Wholly, UpToLast, UpToWant, Ends}
 use Rattle.hc_driver.specs.Stepping as steps
 use Rattle.hc_driver.specs.Stepping.{report_of, report_before, last_entry}
@@ -28,7 +28,7 @@ pub data Continues (limits : Limits) (contents : Contents) (out out' : Option (L
   wholly : {events : List Timed} (h : steps.History) → IsContinued limits contents events h →
       Takes out out' (report_of h) → Continues limits contents out out' Wholly events
   up_to_last : {events : List Timed} (h : steps.History) → IsContinued limits contents events h →
-      TakesThenFront out out' (report_before h) (last_entry h) →
+      TakesThenPrefix out out' (report_before h) (last_entry h) →
       Continues limits contents out out' UpToLast events
   up_to_want : {events : List Timed} (h : steps.History) → IsContinued limits contents events h →
       Takes out out' (report_of h) → Continues limits contents out out' UpToWant events

@@ -1,6 +1,6 @@
 -- What came of a save: a schedule was stepped, all who were live left, and the image of what is left was written.
 use Rattle.std.specs.Prelude.{◌≡◌, ℕ, List, Option, true}
-use Rattle.hc_io.specs.Sink.{Takes, TakesFront}
+use Rattle.hc_io.specs.Sink.{Takes, TakesPrefix}
 use Rattle.hc_io.specs.Source.{Gives, GivesAll}
 use Rattle.hc_sched.specs.declared.schedule.Ended.{Ended}
 use Rattle.hc_sched.specs.declared.schedule.Ended.TheVariants as ended
@@ -58,10 +58,10 @@ pub data Saves (limits : Limits) (left left' out out' : Option (List ℕ)) : End
       Saves limits left left' out out' ended.SourceFailed
   -- some first part of the image was taken
   unwritten : (text image : List ℕ) (items : List Item) → GivesAll left left' text →
-      Spells 0 text items → IsSaved limits (events_of 0 items) image → TakesFront out out' image →
+      Spells 0 text items → IsSaved limits (events_of 0 items) image → TakesPrefix out out' image →
       Saves limits left left' out out' ended.SinkFailed
   wanting : (text image : List ℕ) (items : List Item) → GivesAll left left' text →
-      Spells 0 text items → IsSaved limits (events_of 0 items) image → TakesFront out out' image →
+      Spells 0 text items → IsSaved limits (events_of 0 items) image → TakesPrefix out out' image →
       Saves limits left left' out out' ended.NoMemory
   -- memory was refused before anything was written
   wanting_early : (text : List ℕ) → Gives left left' text → out' ≡ out →
@@ -73,8 +73,8 @@ pub data Saves (limits : Limits) (left left' out out' : Option (List ℕ)) : End
 pub data Writes (limits : Limits) (h : History) (out out' : Option (List ℕ)) : Ended → Type 0 where
   all : (image : List ℕ) → IsLeft limits h image → Takes out out' image →
       Writes limits h out out' ended.Done
-  part : (image : List ℕ) → IsLeft limits h image → TakesFront out out' image →
+  part : (image : List ℕ) → IsLeft limits h image → TakesPrefix out out' image →
       Writes limits h out out' ended.SinkFailed
-  short : (image : List ℕ) → IsLeft limits h image → TakesFront out out' image →
+  short : (image : List ℕ) → IsLeft limits h image → TakesPrefix out out' image →
       Writes limits h out out' ended.NoMemory
   none : out' ≡ out → Writes limits h out out' ended.NoMemory

@@ -24,7 +24,7 @@ impl Course for Silent {
 
     ghost over = { never };
 
-    ghost tells = { AnswersSilently };
+    ghost reports = { AnswersSilently };
 
     ghost spent = { IsSpent };
 

@@ -6,12 +6,11 @@
 -- load are brief, a number has few digits, and a piece has the longest text.
 use Rattle.std.{proofs.{lemmas.Bool.Decides.{nat_tests}, Common.{◌≡◌, ℕ, ◌≤◌, true, false, List, ◌∷◌, ◌++◌, length, Some, refl, ap, arith, length-append, le-leb, leb-true}}, specs.{Prelude.{option_map}, Fmt.{decimal}}}
 use Rattle.http_header.specs.Token.{is_token_byte}
-use Rattle.hc_text.specs.Texts.{lacks, IsSmall}
-use Rattle.hc_text.specs.Texts.{behind}
+use Rattle.hc_text.specs.Texts.{lacks, IsSmall, behind}
 use Rattle.hc_event.specs.declared.event.Event.TheVariants as event
 use Rattle.hc_event.specs.declared.event.Load.{Load}
 use Rattle.hc_event.specs.declared.event.Load.TheVariants as load
-use Rattle.hc_sched.specs.{Words.{plain_of, plain_within, number_and_rest}, Pieces.{piece_text}, FirstLines.{First, Sets, Starts, Heads, Brings, Dooms, Tells, is_method, is_word, load_of, how_of, start_of, poll_of, head_of, piece_of, doom_of, first_of}, Schedule.{Item, Moment, Happens, load_word, item_line, IsItem}}
+use Rattle.hc_sched.specs.{Words.{plain_of, plain_within, number_and_rest}, Pieces.{piece_text}, FirstLines.{First, Sets, Starts, Heads, Brings, Dooms, Reports, is_method, is_word, load_of, how_of, start_of, poll_of, head_of, piece_of, doom_of, first_of}, Schedule.{Item, Moment, Happens, load_word, item_line, IsItem}}
 use Rattle.hc_target.specs.Targets.{is_target, is_short_word}
 use Rattle.hc_text.proofs.{Cutting.{cut-first, lacks-append}, Cuts.{lacks-decimal}}
 use Rattle.hc_sched.proofs.{Plain.{plain_of-decimal, plain-short}, Hex.{IsPiece, is_piece_text-of, lacks-piece_text, length-piece_text}}
@@ -86,7 +85,7 @@ start_of-is : (c : ℕ) (method : List ℕ) (kind : Load) (target : List ℕ) (c
 unfolding start_of
 start_of-is c method kind target count small is h few = search (arith, numbered-is, cut-first, method-short, how_of-is)
 
-poll_of-is : (c want : ℕ) → IsSmall c → want ≤ 65536 → poll_of (decimal c ++ 32 ∷ decimal want) ≡ Some (Tells (event.Poll c want))
+poll_of-is : (c want : ℕ) → IsSmall c → want ≤ 65536 → poll_of (decimal c ++ 32 ∷ decimal want) ≡ Some (Reports (event.Poll c want))
 unfolding poll_of
 poll_of-is c want small within = rw (numbered-is c (decimal want) small, plain_within-is 0 65536 want (omega arith) within (omega arith)) refl
 
@@ -111,10 +110,10 @@ first_for (Happens (event.Start c request)) = Starts c request.method request.lo
 first_for (Happens (event.Head x response)) = Heads x response.status (length response.fields)
 first_for (Happens (event.Piece x bytes)) = Brings x (piece_text bytes)
 first_for (Happens (event.Doom key)) = Dooms key
-first_for (Happens (event.Poll c want)) = Tells (event.Poll c want)
-first_for (Happens (event.End x)) = Tells (event.End x)
-first_for (Happens (event.Fault x)) = Tells (event.Fault x)
-first_for (Happens (event.Cancel c)) = Tells (event.Cancel c)
+first_for (Happens (event.Poll c want)) = Reports (event.Poll c want)
+first_for (Happens (event.End x)) = Reports (event.End x)
+first_for (Happens (event.Fault x)) = Reports (event.Fault x)
+first_for (Happens (event.Cancel c)) = Reports (event.Cancel c)
 
 number-first : (f : ℕ → First) (n : ℕ) → IsSmall n → option_map f (plain_of (decimal n)) ≡ Some (f n)
 number-first f n h = ap (option_map f) (plain_of-decimal (decimal n) n (h, refl))
@@ -129,9 +128,9 @@ first_of-line (Happens (event.Poll c want)) h = poll_of-is c want h.0 h.1
 first_of-line (Happens (event.Head x response)) h =
     head_of-is x response.status (length response.fields) h.0 h.1 h.2 h.3.within_limits.few
 first_of-line (Happens (event.Piece x bytes)) h = piece_of-is x bytes h.0 (record { short = h.1; small = h.2 })
-first_of-line (Happens (event.End x)) h = number-first (λ n. Tells (event.End n)) x h
-first_of-line (Happens (event.Fault x)) h = number-first (λ n. Tells (event.Fault n)) x h
-first_of-line (Happens (event.Cancel c)) h = number-first (λ n. Tells (event.Cancel n)) c h
+first_of-line (Happens (event.End x)) h = number-first (λ n. Reports (event.End n)) x h
+first_of-line (Happens (event.Fault x)) h = number-first (λ n. Reports (event.Fault n)) x h
+first_of-line (Happens (event.Cancel c)) h = number-first (λ n. Reports (event.Cancel n)) c h
 first_of-line (Happens (event.Doom key)) h = doom_of-is key (target-short key h)
 
 -- it is one short line

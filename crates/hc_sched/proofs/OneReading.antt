@@ -9,8 +9,7 @@ use Rattle.hc_event.specs.declared.event.Event.TheVariants as event
 use Rattle.hc_fields.specs.Lines.{fields_text}
 use Rattle.hc_text.proofs.Cuts.{cut_once}
 use Rattle.hc_fields.proofs.FieldTexts.{fields_once}
-use Rattle.hc_sched.specs.{declared.{begun.Begun.{Begun}, schedule.{Refused.{Refused}, Timed.{Timed}}}, Pieces.{bytes_of}, FirstLines.{First, Sets, Starts, Heads, Brings, Dooms, Tells, first_of}, Reading.{Progress, Reads, Stopped, Spent, after, events_in}, Feeding.{is_between}, Schedule.{Item, Moment, Happens, item_line, item_fields, item_text, text_of, IsHead, IsItem, IsSmall, IsSchedule, Spells, moment_after, events_of}, Laws.{HasRead, AreTimed, refusal_at}}
-use Rattle.hc_sched.specs.Reading.{beginning, refusal_of}
+use Rattle.hc_sched.specs.{declared.{begun.Begun.{Begun}, schedule.{Refused.{Refused}, Timed.{Timed}}}, Pieces.{bytes_of}, FirstLines.{First, Sets, Starts, Heads, Brings, Dooms, Reports, first_of}, Reading.{Progress, Reads, Stopped, Spent, after, events_in, beginning, refusal_of}, Feeding.{is_between}, Schedule.{Item, Moment, Happens, item_line, item_fields, item_text, text_of, IsHead, IsItem, IsSmall, IsSchedule, Spells, moment_after, events_of}, Laws.{HasRead, AreTimed, refusal_at}}
 use Rattle.hc_sched.specs.declared.schedule.SchedRefusal.TheVariants as why
 use Rattle.hc_sched.proofs.{FieldReads.{Pair}, FeedLemmas.{after-append, after-stopped, events_in-append}, Forms.{first_for, first_of-line, line-short}, Hex.{bytes_of-piece_text}, Spelled.{items_read}, Standing.{StandsFor, begun_text, text_step}}
 
@@ -87,7 +86,7 @@ item_from (Starts c method kind target count) fields = Happens (event.Start c (r
 item_from (Heads x status count) fields = Happens (event.Head x (record { status = status; fields = fields }))
 item_from (Brings x text) fields = Happens (event.Piece x (bytes_of text))
 item_from (Dooms target) fields = Happens (event.Doom target)
-item_from (Tells event) fields = Happens event
+item_from (Reports event) fields = Happens event
 
 item_is : (item : Item) → IsItem item → item_from (first_for item) (item_fields item) ≡ item
 unfolding item_from

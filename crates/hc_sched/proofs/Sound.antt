@@ -6,12 +6,11 @@
 -- `says_number`). `first_of-says` joins them all; the proof of what the reading represents uses it.
 use Rattle.std.{proofs.{lemmas.{Bool.{cases_Bool, and_parts, Decides.{nat_tests}}, Slice.Eq.{bytes_eq-Decides}}, Common.{arith, ◌≡◌, ◌⊎◌, ℕ, ◌≤◌, ◌&&◌, Bool, true, List, [], ◌∷◌, ◌++◌, Option, Some, None, refl, sym, ap, subst, ◌∙◌, inl, inr}}, specs.{Prelude.{codes, nat_le, bytes_eq, option_map, if◌then◌else◌}, Fmt.{decimal}}}
 use Rattle.hc_text.proofs.{Basics.{mapped_from as option_map-parts}, Cutting.{append-cut, append-behind}}
-use Rattle.hc_text.specs.Texts.{IsSmall}
-use Rattle.hc_text.specs.Texts.{cut, behind}
+use Rattle.hc_text.specs.Texts.{IsSmall, cut, behind}
 use Rattle.hc_event.specs.declared.event.Event.TheVariants as event
 use Rattle.hc_event.specs.declared.event.Load.{Load}
 use Rattle.hc_event.specs.declared.event.Load.TheVariants as load
-use Rattle.hc_sched.specs.{Words.{◌>>=◌, or_else, plain_of, plain_within, number_and_rest}, Pieces.{piece_text, bytes_of, is_piece_text}, FirstLines.{First, Sets, Starts, Heads, Brings, Dooms, Tells, is_method, is_word, load_of, how_of, start_of, poll_of, head_of, piece_of, doom_of, first_of}, Schedule.{load_word, event_line, fields_in, IsEvent}}
+use Rattle.hc_sched.specs.{Words.{◌>>=◌, or_else, plain_of, plain_within, number_and_rest}, Pieces.{piece_text, bytes_of, is_piece_text}, FirstLines.{First, Sets, Starts, Heads, Brings, Dooms, Reports, is_method, is_word, load_of, how_of, start_of, poll_of, head_of, piece_of, doom_of, first_of}, Schedule.{load_word, event_line, fields_in, IsEvent}}
 use Rattle.hc_sched.proofs.{Steps.{bind-Some}, Plain.{IsPlain-plain_of}, Hex.{IsPiece, IsPiece-text}}
 
 -- What a first line that says so is.
@@ -26,7 +25,7 @@ Says line (Heads x status count) =
 Says line (Brings x text) =
     (codes "piece " ++ (decimal x ++ 32 ∷ piece_text (bytes_of text)) ≡ line) × IsSmall x × IsPiece (bytes_of text)
 Says line (Dooms target) = codes "doom " ++ target ≡ line
-Says line (Tells event) = (event_line event ≡ line) × IsEvent event × (fields_in event ≡ [])
+Says line (Reports event) = (event_line event ≡ line) × IsEvent event × (fields_in event ≡ [])
 
 -- the number that words begin with
 record BeginsWith (words : List ℕ) (parts : ℕ × List ℕ) : Type 0 where
@@ -67,9 +66,9 @@ word_is word text h = sym ((bytes_eq-Decides word text).0 h)
 -- a word is the first that fits, or is told by those behind it
 load_or : (word text : List ℕ) (read kind : Load) (other : Option Load) → load_word read ≡ text → (if bytes_eq word text then Some read else other) ≡ Some kind
     → (other ≡ Some kind → load_word kind ≡ word) → load_word kind ≡ word
-load_or word text read kind other told h rest =
+load_or word text read kind other reported h rest =
     elim (cases_Bool (bytes_eq word text)) [
-      | inl same ↦ let is : read ≡ kind = cc (rw same at h) in ap load_word (sym is) ∙ (told ∙ word_is word text same)
+      | inl same ↦ let is : read ≡ kind = cc (rw same at h) in ap load_word (sym is) ∙ (reported ∙ word_is word text same)
       | inr off ↦ rest (rw off at h)
     ]
 
@@ -111,7 +110,7 @@ poll_of-parts line words f is h =
     let begins = numbered-parts words first.0 first.1 in
     let second = bind-Some (plain_within 0 65536 first.0.1) _ f first.2 in
     let want = plain_within-parts 0 65536 first.0.1 second.0 second.1 in
-    let same : Tells (event.Poll first.0.0 second.0) ≡ f = cc second.2 in
+    let same : Reports (event.Poll first.0.0 second.0) ≡ f = cc second.2 in
     rw (← same) (rw (want.text_is, begins.text) is, (begins.small, want.below), refl)
 
 head_of-parts : (line words : List ℕ) (f : First) → codes "head " ++ words ≡ line → head_of words ≡ Some f → Says line f
@@ -191,7 +190,7 @@ first_of-says line f h =
     says_number (codes "at ") line Sets f _ h2 (λ n small text. (text, small)) (λ h3.
     says_form (codes "start ") line start_of f _ h3 (λ words is read. start_of-parts line words f is read) (λ h4.
     says_form (codes "head ") line head_of f _ h4 (λ words is read. head_of-parts line words f is read) (λ h5.
-    says_number (codes "end ") line (λ x. Tells (event.End x)) f _ h5 (λ n small text. (text, small, refl)) (λ h6.
-    says_number (codes "fault ") line (λ x. Tells (event.Fault x)) f _ h6 (λ n small text. (text, small, refl)) (λ h7.
-    says_number (codes "cancel ") line (λ c. Tells (event.Cancel c)) f _ h7 (λ n small text. (text, small, refl)) (λ h8.
+    says_number (codes "end ") line (λ x. Reports (event.End x)) f _ h5 (λ n small text. (text, small, refl)) (λ h6.
+    says_number (codes "fault ") line (λ x. Reports (event.Fault x)) f _ h6 (λ n small text. (text, small, refl)) (λ h7.
+    says_number (codes "cancel ") line (λ c. Reports (event.Cancel c)) f _ h7 (λ n small text. (text, small, refl)) (λ h8.
     says_doom line f h8))))))))

@@ -5,12 +5,11 @@
 -- work: a field line ends the item where it is the last one missing, else it is counted down. `line_step` joins both
 -- kinds of lines. A byte grows the line, ends it or is refused (`byte_step`); `text_step` goes on by induction.
 use Rattle.std.{proofs.{lemmas.{Bool.{cases_Bool, cases_lt, cases_eq, eq-eqb, ne_eqb, eqb-true, le-ltb, Decides.{nat_tests}}, List.{append-nil}}, Common.{◌≡◌, ℕ, ◌+◌, ◌-◌, ◌<◌, ◌≤◌, ◌==◌, true, List, [], ◌∷◌, ◌++◌, length, Option, Some, None, refl, sym, ap, subst, ◌∙◌, inl, inr, arith, append_assoc, zero-add, lt-ltb}}, specs.{Prelude.{codes}, Fmt.{decimal}}}
-use Rattle.hc_text.specs.Texts.{IsSmall}
-use Rattle.hc_text.specs.Texts.{cut, behind}
+use Rattle.hc_text.specs.Texts.{IsSmall, cut, behind}
 use Rattle.hc_event.specs.declared.event.Event.TheVariants as event
 use Rattle.hc_fields.specs.{FieldList.{field_list_with}, Lines.{fields_text}}
 use Rattle.hc_fields.proofs.{Edits.{IsFieldList-put, length-put, size_of-put}, Ends.{put-last}, LineLemmas.{fields_text-push}}
-use Rattle.hc_sched.specs.{declared.{begun.{Begun.{Begun}, Opening.{Opening}}, place.Place.{Place}, schedule.Timed.{Timed}}, Pieces.{bytes_of}, FirstLines.{First, Sets, Starts, Heads, Brings, Dooms, Tells, is_method, first_of}, FieldLines.{field_parts, may_follow, field_of}, Reading.{Progress, Reads, Stopped, Spent, Step, begin, event_of, take_first, take_field, take_next, take_line, take_byte, after, events_in}, Schedule.{Item, Moment, Happens, load_word, event_line, item_line, item_fields, item_text, fields_in, text_of, IsHead, IsEvent, IsItem, IsSchedule, moment_after, moment_end, event_at, events_of}, Laws.{HasRead}}
+use Rattle.hc_sched.specs.{declared.{begun.{Begun.{Begun}, Opening.{Opening}}, place.Place.{Place}, schedule.Timed.{Timed}}, Pieces.{bytes_of}, FirstLines.{First, Sets, Starts, Heads, Brings, Dooms, Reports, is_method, first_of}, FieldLines.{field_parts, may_follow, field_of}, Reading.{Progress, Reads, Stopped, Spent, Step, begin, event_of, take_first, take_field, take_next, take_line, take_byte, after, events_in}, Schedule.{Item, Moment, Happens, load_word, event_line, item_line, item_fields, item_text, fields_in, text_of, IsHead, IsEvent, IsItem, IsSchedule, moment_after, moment_end, event_at, events_of}, Laws.{HasRead}}
 use Rattle.hc_sched.specs.declared.begun.Opening.TheVariants as opening
 use Rattle.hc_target.specs.Targets.{is_target}
 use Rattle.hc_sched.proofs.{Steps.{bind-Some}, FieldLemmas.{Follows-from_test}, FieldReads.{Pair, line_of, field_text-line}, Sound.{Says, first_of-says, test_passes}}
@@ -163,7 +162,7 @@ module _ (start : ℕ) where
         | inl is ↦ rw is (one_item text line es p.moment (Happens (event.Doom target)) h is (omega arith) says refl)
         | inr bad ↦ rw bad (stops start text (10 ∷ []) es p.moment None line h)
       ]
-  says_step text line es p bytes (Tells event) h says = one_item text line es p.moment (Happens event) h says.1 (omega arith) says.0 says.2
+  says_step text line es p bytes (Reports event) h says = one_item text line es p.moment (Happens event) h says.1 (omega arith) says.0 says.2
 
   first_step : (text line : List ℕ) (es : List Timed) (p : Place) (bytes : ℕ) → Stands start text es p.moment None line → StepsTo start (text ++ 10 ∷ []) es (take_first p bytes (first_of line))
   first_step text line es p bytes h =

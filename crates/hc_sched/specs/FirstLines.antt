@@ -2,13 +2,12 @@
 use Rattle.std.specs.Prelude.{ℕ, ◌&&◌, not, nat_le, Bool, List, length, codes, bytes_eq, Option, Some, None, option_map, if◌then◌else◌}
 use Rattle.std.specs.List.{list_all}
 use Rattle.http_header.specs.Token.{is_token_byte}
-use Rattle.hc_text.specs.Texts.{lacks}
+use Rattle.hc_text.specs.Texts.{lacks, cut, behind}
 use Rattle.hc_event.specs.declared.event.Event.{Event}
 use Rattle.hc_event.specs.declared.event.Event.TheVariants as event
 use Rattle.hc_event.specs.declared.event.Load.{Load}
 use Rattle.hc_event.specs.declared.event.Load.TheVariants as load
 use Rattle.hc_sched.specs.Words.{◌>>=◌, or_else, plain_of, plain_within, number_and_rest}
-use Rattle.hc_text.specs.Texts.{cut, behind}
 use Rattle.hc_sched.specs.Pieces.{is_piece_text}
 
 -- What the first line of an item says. The target is any word: whether it is one is tested apart.
@@ -24,7 +23,7 @@ pub data First : Type 0 where
   -- all entries of a target are forgotten
   Dooms : (target : List ℕ) → First
   -- an event of numbers alone
-  Tells : (event : Event) → First
+  Reports : (event : Event) → First
 
 -- a token of 1 to 15 bytes other than `CONNECT`
 unfoldable pub is_method : List ℕ → Bool
@@ -68,7 +67,7 @@ unfoldable pub poll_of : List ℕ → Option First
 poll_of words = do
   first ← number_and_rest words
   want ← plain_within 0 65536 first.1
-  Some (Tells (event.Poll first.0 want))
+  Some (Reports (event.Poll first.0 want))
 
 -- `X STATUS K`
 unfoldable pub head_of : List ℕ → Option First
@@ -97,9 +96,9 @@ first_of line =
     or_else (behind (codes "start ") line) start_of (
     or_else (behind (codes "head ") line) head_of (
     or_else (behind (codes "end ") line)
-    (λ words. option_map (λ x. Tells (event.End x)) (plain_of words)) (
+    (λ words. option_map (λ x. Reports (event.End x)) (plain_of words)) (
     or_else (behind (codes "fault ") line)
-    (λ words. option_map (λ x. Tells (event.Fault x)) (plain_of words)) (
+    (λ words. option_map (λ x. Reports (event.Fault x)) (plain_of words)) (
     or_else (behind (codes "cancel ") line)
-    (λ words. option_map (λ c. Tells (event.Cancel c)) (plain_of words)) (
+    (λ words. option_map (λ c. Reports (event.Cancel c)) (plain_of words)) (
     or_else (behind (codes "doom ") line) doom_of None))))))))

@@ -4,9 +4,8 @@ use Rattle.hc_sched.specs.declared.place.Place.{Place}
 use Rattle.hc_sched.specs.declared.schedule.Refused.{Refused}
 use Rattle.hc_sched.specs.declared.schedule.SchedRefusal.TheVariants as why
 use Rattle.hc_sched.specs.declared.schedule.Timed.{Timed}
-use Rattle.hc_sched.specs.Reading.{Progress, Reads, Stopped, Spent, after, events_in, refusal_of}
+use Rattle.hc_sched.specs.Reading.{Progress, Reads, Stopped, Spent, after, events_in, refusal_of, beginning}
 use Rattle.hc_sched.specs.Feeding.{is_between}
-use Rattle.hc_sched.specs.Reading.{beginning}
 use Rattle.hc_sched.specs.Schedule.{Item, IsEvent, IsSmall, IsSchedule, Spells, text_of, events_of, timed_text}
 
 -- between two items, behind so many lines

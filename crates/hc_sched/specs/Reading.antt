@@ -13,10 +13,8 @@ use Rattle.hc_sched.specs.declared.begun.Opening.TheVariants as opening
 use Rattle.hc_sched.specs.declared.place.Place.{Place}
 use Rattle.hc_target.specs.Targets.{is_target}
 use Rattle.hc_sched.specs.Pieces.{bytes_of}
-use Rattle.hc_sched.specs.FirstLines.{First, Sets, Starts, Heads, Brings, Dooms, Tells, first_of}
+use Rattle.hc_sched.specs.FirstLines.{First, Sets, Starts, Heads, Brings, Dooms, Reports, first_of}
 use Rattle.hc_sched.specs.FieldLines.{field_of}
-use Rattle.std.specs.Prelude.{ℕ, List, Option}
-use Rattle.std.specs.Prelude.{ℕ, []}
 
 -- the reading of a text at its beginning, at this moment
 abbrev pub beginning : ℕ → Progress
@@ -90,7 +88,7 @@ take_first p bytes (Some (Heads x status count)) = begin p (opening.Head x statu
 take_first p bytes (Some (Brings x text)) = happen p (event.Piece x (bytes_of text))
 take_first p bytes (Some (Dooms target)) =
     if is_target target then happen p (event.Doom target) else refuse p why.BadTarget
-take_first p bytes (Some (Tells event)) = happen p event
+take_first p bytes (Some (Reports event)) = happen p event
 
 -- a field line of the item that is begun
 abbrev pub take_field : Place → Begun → ℕ → Option (List ℕ × List ℕ) → Step

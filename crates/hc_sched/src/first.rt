@@ -41,7 +41,7 @@ pub(crate) enum First<'a> {
     /// All entries of a target are forgotten.
     Dooms(&'a [u8]),
     /// An event of numbers alone.
-    Tells(Event),
+    Reports(Event),
 }
 
 /// Whether each byte may stand in a token (RFC 9110 section 5.6.2).
@@ -137,7 +137,7 @@ fn read_poll(words: &[u8]) -> Option<First<'_>>
 {
     let (c, rest) = numbered(words)?;
     let want = plain_within(rest, 0, MOST_BYTES)?;
-    Some(First::Tells(Event::Poll {
+    Some(First::Reports(Event::Poll {
         c,
         want: want as u32,
     }))
@@ -208,13 +208,13 @@ pub(crate) fn read_first(line: &[u8]) -> Option<First<'_>>
         return read_head(words);
     }
     if let Some(words) = line.strip_prefix(b"end ") {
-        return Some(First::Tells(Event::End { x: plain(words)? }));
+        return Some(First::Reports(Event::End { x: plain(words)? }));
     }
     if let Some(words) = line.strip_prefix(b"fault ") {
-        return Some(First::Tells(Event::Fault { x: plain(words)? }));
+        return Some(First::Reports(Event::Fault { x: plain(words)? }));
     }
     if let Some(words) = line.strip_prefix(b"cancel ") {
-        return Some(First::Tells(Event::Cancel { c: plain(words)? }));
+        return Some(First::Reports(Event::Cancel { c: plain(words)? }));
     }
     if let Some(words) = line.strip_prefix(b"doom ") {
         return read_doom(words);

@@ -215,7 +215,7 @@ impl Place {
             }
             First::Brings { x, text } => self.bring(alloc, x, text, out)?,
             First::Dooms(target) => self.doom(alloc, target, out)?,
-            First::Tells(event) => self.happen(event, out)?,
+            First::Reports(event) => self.happen(event, out)?,
         }
         Ok(())
     }

@@ -37,7 +37,7 @@ pub(crate) struct Socket {
     /// That it ended was handed out.
     pub(crate) ended: bool,
     /// That it is broken was handed out.
-    told: bool,
+    reported: bool,
     /// It stands among those that are due.
     queued: bool,
     /// How often it stands among those that hold bytes.
@@ -82,7 +82,7 @@ impl Socket {
             reads: true,
             broken,
             ended: false,
-            told: false,
+            reported: false,
             queued: false,
             noted: 0,
             newer: false,
@@ -152,7 +152,7 @@ impl Socket {
     /// Whether an event of it is due.
     pub(crate) fn is_due(&self) -> bool {
         !self.closed
-            && (self.broken && !self.told
+            && (self.broken && !self.reported
                 || self.is_cut_unread()
                 || self.has_room()
                 || self.has_unread_end()
@@ -216,8 +216,8 @@ impl Socket {
             self.ended = true;
             return Some(WireEvent::Ended(k));
         }
-        if self.broken && !self.told {
-            self.told = true;
+        if self.broken && !self.reported {
+            self.reported = true;
             return Some(WireEvent::Broke(k));
         }
         None

@@ -27,8 +27,8 @@ pub present-not : (f : Cells) (p n q : ℕ) → is_some (f q) ≡ true → p ≤
 present-not f p n q here ge lt = one-of (are_absent f p n) (λ is. let none = all-absent f p n is q ge lt in let never : false ≡ true = rw none at here in cc)
 
 -- The next position tells it.
-pub next-tells : (f : Cells) (p n m : ℕ) → IsNext f p (Some m) → nat_le (p + n) m ≡ are_absent f p n
-next-tells f p n m next = search (arith, le_cases, absent-all, present-not)
+pub next-reports : (f : Cells) (p n m : ℕ) → IsNext f p (Some m) → nat_le (p + n) m ≡ are_absent f p n
+next-reports f p n m next = search (arith, le_cases, absent-all, present-not)
 
 pub on_err : {T E : Type 0} {P : Type 0} (r : Result T E) → P → OnErr r P
 on_err (Ok v) p = tt

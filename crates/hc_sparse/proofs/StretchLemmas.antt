@@ -20,7 +20,7 @@ bytes-append f x (b ∷ bs) p m h =
     rw (more, (let e : p + 0 ≡ p = omega arith in rw e at (h 0 (omega arith))), same, ends, rest) refl
 
 -- Bytes of x from p on, at most n, behind which none of x stands where there are fewer.
-pub record IsFront (f : Cells) (x p n : ℕ) (bytes : List ℕ) : Type 0 where
+pub record IsPrefix (f : Cells) (x p n : ℕ) (bytes : List ℕ) : Type 0 where
   pub most : length bytes ≤ n
   pub each : (i : ℕ) → i < length bytes → f (p + i) ≡ Some (record { byte = get_or bytes i 0; x = x })
   pub ends : length bytes < n → (byte : ℕ) → f (p + length bytes) ≢ Some (record { byte = byte; x = x })
@@ -31,22 +31,22 @@ cell-of cell x same = rw (← same) refl
 each-of : (f : Cells) (x p : ℕ) (rest : List ℕ) (cell : Cell) → f p ≡ Some (record { byte = cell.byte; x = x }) → ((i : ℕ) → i < length rest → f (p + 1 + i) ≡ Some (record { byte = get_or rest i 0; x = x })) → (i : ℕ) → i < suc (length rest) → f (p + i) ≡ Some (record { byte = get_or (cell.byte ∷ rest) i 0; x = x })
 each-of f x p rest cell here each i lt = grind (arith, nat_tests)
 
-front-of : (f : Cells) (x p n : ℕ) (rest : List ℕ) → IsFront f x (p + 1) n rest → (o : Option Cell) → f p ≡ o → IsFront f x p (suc n) (goes_on x o rest)
+front-of : (f : Cells) (x p n : ℕ) (rest : List ℕ) → IsPrefix f x (p + 1) n rest → (o : Option Cell) → f p ≡ o → IsPrefix f x p (suc n) (goes_on x o rest)
 front-of f x p n rest front o e = grind (arith, nat_tests)
 
-pub front : (f : Cells) (x p n : ℕ) → IsFront f x p n (bytes_from f x p n)
+pub front : (f : Cells) (x p n : ℕ) → IsPrefix f x p n (bytes_from f x p n)
 front f x p zero = record { most = omega arith; each = λ i lt. absurd (omega arith); ends = λ lt. absurd (omega arith) }
 front f x p (suc n) = front-of f x p n (bytes_from f x (p + 1) n) (front f x (p + 1) n) (f p) refl
 
 -- There is one such list.
-first-of : (f : Cells) (x p n : ℕ) (o : Option Cell) (rest : List ℕ) → f p ≡ o → IsFront f x p (suc n) [] → goes_on x o rest ≡ []
+first-of : (f : Cells) (x p n : ℕ) (o : Option Cell) (rest : List ℕ) → f p ≡ o → IsPrefix f x p (suc n) [] → goes_on x o rest ≡ []
 first-of f x p n None rest e is = refl
 first-of f x p n (Some cell) rest e is = elim (eqb_tells cell.x x) [
   | inr off ↦ rw off.0 refl
   | inl same ↦ absurd (is.ends (omega arith) cell.byte (let at-p : p + 0 ≡ p = omega arith in rw at-p (e ∙ ap Some (cell-of cell x same.1))))
 ]
 
-pub front-unique : (f : Cells) (x p n : ℕ) (bytes : List ℕ) → IsFront f x p n bytes → bytes_from f x p n ≡ bytes
+pub front-unique : (f : Cells) (x p n : ℕ) (bytes : List ℕ) → IsPrefix f x p n bytes → bytes_from f x p n ≡ bytes
 front-unique f x p zero [] is = refl
 front-unique f x p zero (b ∷ bs) is = absurd (let most = is.most in omega arith)
 front-unique f x p (suc n) [] is = first-of f x p n (f p) (bytes_from f x (p + 1) n) refl is

@@ -9,5 +9,5 @@ abbrev pub AreHad : Spans → Marks → Type 0
 AreHad s f = AllHad s.begins f
 
 -- Where somebody has each position of the spans, somebody has each from one to below another.
-abbrev pub Tell : Spans → ℕ → ℕ → Type 0
-Tell s lo hi = (f : Marks) → AreHad s f → HaveAll f lo hi
+abbrev pub Have : Spans → ℕ → ℕ → Type 0
+Have s lo hi = (f : Marks) → AreHad s f → HaveAll f lo hi

@@ -18,7 +18,7 @@ pub(crate) struct Spans {
 impl Spans {
     ghost use Rattle.hc_sparse.specs.Extents.{Marks, HaveAll};
     ghost use Rattle.hc_sparse.specs.SpanMaps.{IsSpan};
-    ghost use Rattle.hc_sparse.specs.Spans.{AreHad, Tell};
+    ghost use Rattle.hc_sparse.specs.Spans.{AreHad, Have};
 
     /// No spans.
     pub(crate) fn new(alloc: Global) -> Spans
@@ -31,7 +31,7 @@ impl Spans {
 
     /// Where the first span that ends past a position ends, if it has the position.
     pub(crate) fn end_from(&self, p: u64) -> Option<u64>
-        ensures { IfSome result (λ end. (p < end) × Tell self.now p end) }
+        ensures { IfSome result (λ end. (p < end) × Have self.now p end) }
     {
         let (begin, end) = self.first_past(p)?;
         if begin <= p { Some(end) } else { None }
@@ -41,7 +41,7 @@ impl Spans {
     pub(crate) fn add(&mut self, at: u64, end: u64) -> Result<(), NoMemory>
         requires some { at < end }
         ensures had { (f : Marks) → AreHad self.old f → HaveAll f at end → AreHad self.new f }
-        ensures told { OnOk result (Tell self.new at end) }
+        ensures reported { OnOk result (Have self.new at end) }
     {
         let begin = self.begin_of(at);
         let last = self.end_of(end);
@@ -53,7 +53,7 @@ impl Spans {
     /// Where the span that ends at a position begins, or the position.
     fn begin_of(&self, at: u64) -> u64
         ensures by { result ≤ at }
-        ensures told { Tell self.now result at }
+        ensures reported { Have self.now result at }
     {
         match self.begins.get(&at) {
             Some(begin) => *begin,
@@ -64,7 +64,7 @@ impl Spans {
     /// Where the span that begins at a position ends, or the position.
     fn end_of(&self, end: u64) -> u64
         ensures from { end ≤ result }
-        ensures told { Tell self.now end result }
+        ensures reported { Have self.now end result }
     {
         match self.end_from(end) {
             Some(last) => last,

@@ -14,9 +14,9 @@ unwritten limits t now event none = rw none refl
 -- an event that writes nothing, and at which the store doesn't fail
 pub does_answered : {B : Type 0} {g : Ghosts B} (limits : Limits) (faults : ℕ) (u : Rows B g) (t s : Tables) (before out acts : List Act) (now : ℕ) (event : Event) → Does limits t now event NoFlaw acts s
     → write_in t (entry_without_acts now event) event ≡ None → flaw_in acts ≡ NoFlaw → out ≡ before ++ acts → RowsStand limits u s → Answered limits faults u t before out now event
-does_answered limits faults u t s before out acts now event does none flawless told stands = record {
+does_answered limits faults u t s before out acts now event does none flawless reported stands = record {
   flaw = NoFlaw;
-  acts = told ∙ ap (λ z. before ++ z) (sym does.acts_are);
+  acts = reported ∙ ap (λ z. before ++ z) (sym does.acts_are);
   shown = ap flaw_in does.acts_are ∙ flawless;
   may = unwritten limits t now event none;
   caused = λ is. false_true is;
@@ -26,9 +26,9 @@ does_answered limits faults u t s before out acts now event does none flawless t
 -- an event at which the store fails, where it writes what is lost
 pub lossy_answered : {B : Type 0} {g : Ghosts B} (limits : Limits) (faults : ℕ) (u : Rows B g) (t s : Tables) (before out acts : List Act) (now : ℕ) (event : Event) (r : ℕ) → Does limits t now event (Loses r kind.Fault) acts s
     → written_representation t (entry_of limits t now event (Loses r kind.Fault)) ≡ Some r → is_kept (t.representation r) ≡ true → flaw_in acts ≡ Loses r kind.Fault → faults < (shelf_of u.entries).faults → out ≡ before ++ acts → RowsStand limits u s → Answered limits faults u t before out now event
-lossy_answered limits faults u t s before out acts now event r does writes kept flawed failed told stands = record {
+lossy_answered limits faults u t s before out acts now event r does writes kept flawed failed reported stands = record {
   flaw = Loses r kind.Fault;
-  acts = told ∙ ap (λ z. before ++ z) (sym does.acts_are);
+  acts = reported ∙ ap (λ z. before ++ z) (sym does.acts_are);
   shown = ap flaw_in does.acts_are ∙ flawed;
   may = rw (writes, kept) (by_same (nat_eq r r) (eqb-same r));
   caused = λ is. failed;

@@ -2,8 +2,7 @@
 use Rattle.std.{proofs.{Common.{◌≡◌, ◌≢◌, ℕ, List, [], ◌∷◌, length, Bool, true, false, Option, Some, None, refl, sym, ◌∙◌, arith}, lemmas.Bool.Decides.{nat_tests}}, specs.Prelude.{is_some, filter, ◌==◌}}
 use Rattle.hc_text.proofs.Basics.{eqb-same, false_true}
 use Rattle.hc_stored.specs.Kept.{Kept, is_nobody}
-use Rattle.hc_text.specs.Sorted.{itself}
-use Rattle.hc_text.specs.Sorted.{has}
+use Rattle.hc_text.specs.Sorted.{itself, has}
 use Rattle.hc_effects.proofs.Vocabulary.{bound, is_bound, Tables, Representation, Among}
 use Rattle.hc_effects.proofs.ExclusiveWriters.{filter_some}
 use Rattle.hc_model.specs.Rows as rows

@@ -14,7 +14,7 @@ use Rattle.hc_entry.specs.Kept as keyed
 use Rattle.hc_exch.specs.{Exchanges.{table_of}, Known.{Known, without_exchange}}
 use Rattle.hc_exch.specs.Exchanges as exch
 use Rattle.hc_model.specs.Rows as rows
-use Rattle.hc_state.specs.{declared.{rows.Rows.{Rows}}, Kept.{KeepsConsumer, head_in, KeepsExchange, KeepsRunning, held_for, held_of, held_alone, unstored_bytes}, Lines.{KeepsKey, is_away, is_away_at}, Stands.{RowsStand}, Stopped.{NobodyAwaits}, Stored.{KeepsEntry, KeepsEntries, TellsWriter}}
+use Rattle.hc_state.specs.{declared.rows.Rows.{Rows}, Kept.{KeepsConsumer, head_in, KeepsExchange, KeepsRunning, held_for, held_of, held_alone, unstored_bytes}, Lines.{KeepsKey, is_away, is_away_at}, Stands.{RowsStand}, Stopped.{NobodyAwaits}, Stored.{KeepsEntry, KeepsEntries, KnowsWriter}}
 use Rattle.hc_txn.specs.declared.transaction.Transaction.{Transaction as Consumer}
 use Rattle.hc_state.proofs.{Fallbacks.{same, held_alike}, OneOfEach.{first_row, growing_same, kind_same}, PastRows.{consumer_alike}, Ties.{exchange_same, key_same, overs_closed, writer_then}}
 
@@ -97,7 +97,7 @@ module _ (t : Tables) (x : ℕ) where
   entry_closed q None (Some v) apart kept = record { gone = kept.gone; unused = kept.unused }
   entry_closed q (Some k) None apart kept = kept
   entry_closed q (Some k) (Some v) apart kept =
-      let writer : TellsWriter s.exchange k.writer v.writer =
+      let writer : KnowsWriter s.exchange k.writer v.writer =
       writer_then (λ y on. overs_closed (nat_eq x y) (t.exchange y) on) kept.writer in
       let same = λ (stays : v.is_gone ≡ false). kind_same t s q v (growing_apart q (apart v refl stays)) in
       assumption (

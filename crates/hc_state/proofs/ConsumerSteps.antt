@@ -9,7 +9,7 @@ use Rattle.hc_entry.specs.Kept as keyed
 use Rattle.hc_effects.proofs.Vocabulary.{current, with_consumer, is_in_line, Tables}
 use Rattle.hc_model.specs.Rows as rows
 use Rattle.hc_rules.proofs.RangeReads.{same_bytes}
-use Rattle.hc_state.specs.{declared.{rows.Rows.{Rows}}, Changes.{BecomesAt}, Kept.{KeepsConsumer}, Lines.{KeepsKey, has_turn, is_passed, is_away}}
+use Rattle.hc_state.specs.{declared.rows.Rows.{Rows}, Changes.{BecomesAt}, Kept.{KeepsConsumer}, Lines.{KeepsKey, has_turn, is_passed, is_away}}
 use Rattle.hc_txn.specs.declared.transaction.Transaction.{Transaction as Consumer}
 use Rattle.hc_state.proofs.Ties.{SeesSame, consumer_same}
 

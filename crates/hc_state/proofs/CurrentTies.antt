@@ -6,7 +6,7 @@ use Rattle.hc_store.specs.declared.backend.Backend.{Ghosts}
 use Rattle.hc_sparse.specs.Cells.{EndsBy, Covers}
 use Rattle.hc_stored.specs.{declared.view.EntryView.{EntryView}, Entries.{shelf_of}, Kept.{Kept}, Shelf.{is_kept}, Views.{view_of}}
 use Rattle.hc_effects.proofs.{KeysKeep.{current_row}, PollKeeps.{current_stays}, Tests.{none_some}, HoleLemmas.{covers_all, covers_yes}}
-use Rattle.hc_state.specs.{declared.rows.Rows.{Rows}, Stands.{RowsStand}, Stored.{IsEntry, KeepsEntry, TellsLength, told, untold}}
+use Rattle.hc_state.specs.{declared.rows.Rows.{Rows}, Stands.{RowsStand}, Stored.{IsEntry, KeepsEntry, KnowsLength, reported, unreported}}
 
 -- WHAT IS STORED
 
@@ -20,14 +20,14 @@ module _ (t : Tables) (law : Lawful t) (q : ℕ) (p : Representation) (here : t.
   stays_stored stays = grind (arith, nat_tests)
 
 -- a length is told, until it is gone
-pub total_told : (t : Tables) (q : ℕ) (e : Kept) (p : Representation) → IsEntry t q e p → p.is_gone ≡ false → e.head.total ≡ p.head.total
-total_told t q e p is stays = grind (arith, nat_tests)
+pub total_reported : (t : Tables) (q : ℕ) (e : Kept) (p : Representation) → IsEntry t q e p → p.is_gone ≡ false → e.head.total ≡ p.head.total
+total_reported t q e p is stays = grind (arith, nat_tests)
 
 -- what the store covers is covered
 pub covers_as : (t : Tables) (q : ℕ) (e : Kept) (p : Representation) → IsEntry t q e p → EndsBy p.reach p.stored → (b : Bool) (lo hi : ℕ) → (IsTrue b ↔ Covers e.cells lo hi) → b ≡ covers p.stored p.reach lo hi
-covers_as t q e p is ends b lo hi tells = same_test b (covers p.stored p.reach lo hi)
-    (λ on. covers_yes p.stored p.reach lo hi ends (λ n low up. ap (λ z. is_some z) (sym (is.cells n)) ∙ tells.0 on n low up))
-    (λ on. tells.1 (λ n low up. ap (λ z. is_some z) (is.cells n) ∙ covers_all p.stored p.reach lo hi on n low up))
+covers_as t q e p is ends b lo hi reports = same_test b (covers p.stored p.reach lo hi)
+    (λ on. covers_yes p.stored p.reach lo hi ends (λ n low up. ap (λ z. is_some z) (sym (is.cells n)) ∙ reports.0 on n low up))
+    (λ on. reports.1 (λ n low up. ap (λ z. is_some z) (is.cells n) ∙ covers_all p.stored p.reach lo hi on n low up))
 
 module _ {B : Type 0} {g : Ghosts B} {limits : Limits} (r : Rows B g) (t : Tables) (stands : RowsStand limits r t) where
   -- what is kept is an entry

@@ -7,15 +7,14 @@
 use Rattle.std.{proofs.{Common.{◌≡◌, ◌≢◌, inl, inr, ℕ, ◌+◌, List, [], Bool, true, false, Option, Some, None, refl, ap, sym, ◌∙◌, subst, arith}, lemmas.Bool.Decides.{nat_tests}}, specs.{Prelude.{is_some, nat_eq, bytes_eq, drop, not, ◌&&◌, if◌then◌else◌}, HashMap.{get, hash_map_len}}}
 use Rattle.hc_text.proofs.Basics.{eqb-other, eqb-same, false_true, same_or, and_off as then_false}
 use Rattle.hc_effects.proofs.Vocabulary.{Limits, Cause, Request, Response, is_disabled, is_only, Place, is_number, is_live, live, with_consumer, as_over, family, Lawful, is_in_line, stands_in_line, has_passed, is_bound_place, Tables, Exchange, Representation, Among, came_alone, place}
-use Rattle.hc_effects.proofs.{Tests.{and_false}, Basics.{number_is as number_tells}}
+use Rattle.hc_effects.proofs.{Tests.{and_false}, Basics.{number_is as number_reports}}
 use Rattle.hc_store.specs.declared.backend.Backend.{Ghosts}
 use Rattle.hc_entry.specs.{declared.keys.KeyTable.{KeyTable}, Keys.{kept_of}}
 use Rattle.hc_exch.specs.{Exchanges.{table_of}, Known.{Known, forgotten}}
 use Rattle.hc_stored.specs.{Entries.{shelf_of}, Shelf.{Shelf}}
 use Rattle.hc_model.specs.Rows as rows
-use Rattle.hc_state.specs.{declared.{rows.Rows.{Rows}}, Changes.{ChangesAt, BecomesAt, one}, Kept.{IsKept, KeepsConsumer, KeepsExchange, answer_for, is_direct, held_for, held_of, held_alone, unread, unstored_bytes}, Leaving.{LeavesKey, Forgets, IsUserAt, UnbindsAt}, Lines.{KeepsKey, is_passed, is_away, is_away_at}, Stands.{RowsStand}, Stored.{KeepsEntries, is_first}}
-use Rattle.hc_txn.specs.declared.transaction.Transaction.{Transaction as Consumer}
-use Rattle.hc_txn.specs.Transactions.{put_down}
+use Rattle.hc_state.specs.{declared.rows.Rows.{Rows}, Changes.{ChangesAt, BecomesAt, one}, Kept.{IsKept, KeepsConsumer, KeepsExchange, answer_for, is_direct, held_for, held_of, held_alone, unread, unstored_bytes}, Leaving.{LeavesKey, Forgets, IsUserAt, UnbindsAt}, Lines.{KeepsKey, is_passed, is_away, is_away_at}, Stands.{RowsStand}, Stored.{KeepsEntries, is_first}}
+use Rattle.hc_txn.specs.{declared.transaction.Transaction.{Transaction as Consumer}, Transactions.{put_down}}
 use Rattle.hc_state.proofs.{Apart.{keys_apart, entries_apart, user_at}, ConsumerSteps.{all_kept_with}, Maps.{merely_true}, FallbackSteps.{live_same}, QueueHandler.{becomes_by}, Ties.{exchange_same, kept_row, runs_same}}
 use Rattle.hc_state.proofs.LiveCounts as counts
 
@@ -94,7 +93,7 @@ module _ (t : Tables) (law : Lawful t) (c : ℕ) (v : rows.Consumer) (row : t.co
     where
       by_test : (b : Bool) → is_number v.own y ≡ b → b ≡ false
       by_test false off = refl
-      by_test true on = absurd (ne (law.owned.one d c y u v is row (law.places.direct d y u is at).own (number_tells v.own y on)))
+      by_test true on = absurd (ne (law.owned.one d c y u v is row (law.places.direct d y u is at).own (number_reports v.own y on)))
 
   not_its : (d y : ℕ) (u : rows.Consumer) → d ≢ c → t.consumer d ≡ Some u → is_number v.own y ≡ true → is_number u.own y ≡ false
   not_its d y u ne is on = grind (arith, nat_tests)

@@ -7,7 +7,7 @@ use Rattle.hc_stored.specs.Entries.{shelf_of}
 use Rattle.hc_entry.specs.Keys.{kept_of}
 use Rattle.hc_exch.specs.Exchanges.{table_of}
 use Rattle.hc_model.specs.Rows as rows
-use Rattle.hc_state.specs.{declared.{rows.Rows.{Rows}}, Changes.{BecomesAt, one}, Kept.{KeepsConsumer, held_for}, Lines.{KeepsKey}, Stands.{RowsStand}, Stored.{is_first}}
+use Rattle.hc_state.specs.{declared.rows.Rows.{Rows}, Changes.{BecomesAt, one}, Kept.{KeepsConsumer, held_for}, Lines.{KeepsKey}, Stands.{RowsStand}, Stored.{is_first}}
 use Rattle.hc_txn.specs.declared.transaction.Transaction.{Transaction as Consumer}
 use Rattle.hc_state.proofs.{Fallbacks.{IsAlike, same, fallback, is_fallback, held_alike, users_alike}, ConsumerSteps.{all_kept_with}, OneOfEach.{entries_same}, Ties.{exchange_same}}
 

@@ -5,12 +5,10 @@
 -- membership of one number in three lists, and the holder, just as the consumer's new row does. For the turn, nobody
 -- may have held it before (`holds_key`).
 use Rattle.std.{proofs.{Common.{◌≡◌, inl, inr, ℕ, List, Bool, true, false, cond, eqb, Option, Some, None, refl, ap, sym, ◌∙◌, arith}, lemmas.Bool.Decides.{nat_tests}}, specs.Prelude.{bytes_eq, ◌&&◌, ◌||◌, not}}
-use Rattle.hc_text.proofs.Basics.{eqb-other, eqb-same, false_true, same_or, and_off as then_false}
+use Rattle.hc_text.proofs.{Basics.{eqb-other, eqb-same, false_true, same_or, and_off as then_false}, SortedLemmas.{has-with, has-without}}
 use Rattle.hc_entry.specs.Kept as keyed
 use Rattle.hc_entry.specs.{Kept.{on_line}, Lines.{is_held_by, holder_without, come_back, held_by, left_by, gone_away, line_after_pass}}
-use Rattle.hc_text.specs.Sorted.{is_among, itself}
-use Rattle.hc_text.specs.Sorted.{with_item, without}
-use Rattle.hc_text.proofs.SortedLemmas.{has-with, has-without}
+use Rattle.hc_text.specs.Sorted.{is_among, itself, with_item, without}
 use Rattle.hc_effects.proofs.Vocabulary.{is_disabled, is_only, is_in_line, stands_in_line, holds_place, has_passed, Tables, place}
 use Rattle.hc_effects.proofs.Tests.{and_false}
 use Rattle.hc_rules.proofs.RangeReads.{bytes_eq-same}

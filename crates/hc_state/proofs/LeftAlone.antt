@@ -6,7 +6,7 @@
 -- `leave_stops` joins these: what a leaver left may be closed.
 use Rattle.std.{proofs.Common.{◌≡◌, ◌≢◌, ◌⊎◌, inl, inr, ℕ, [], Bool, true, false, Option, Some, None, refl, ap, sym, ◌∙◌, subst}, specs.{Prelude.{is_some, is_none, not, ◌==◌, ◌&&◌, ◌||◌, if◌then◌else◌}, Option.{option_or}}}
 use Rattle.hc_text.proofs.Basics.{eqb-other, eqb-same, false_true, same_or, same_some as same_row, some_inj as some_is, and_off as then_false}
-use Rattle.hc_effects.proofs.Vocabulary.{Place, BoundBy, is_last_reader, is_number, with_consumer, as_over, left_by, family, is_open, is_headless, Lawful, MayLetGo, own_open, shared_exchange, writing_in, is_written, Tables, Exchange, Representation, Consumer, IsBound, IsAbout, IsHad, IsExclusiveWriter, exclusive, has_more, Response, place, by}
+use Rattle.hc_effects.proofs.Vocabulary.{Place, BoundBy, is_last_reader, is_number, with_consumer, as_over, left_by, family, is_open, is_headless, Lawful, MayLetGo, own_open, shared_exchange, group_in, is_written, Tables, Exchange, Representation, Consumer, IsBound, IsAbout, IsHad, IsExclusiveWriter, exclusive, has_more, Response, place, by}
 use Rattle.hc_model.specs.Sound as sound
 use Rattle.hc_effects.proofs.{AboutKeeps.{own_open_of}, Basics.{number_is}, Exclusives.{exclusive_parts}, KeyActs.{test_some}, LettingGo.{may_let_go}, Stops.{writer_about}, Tests.{none_some}}
 use Rattle.hc_state.specs.{Kept.{held_alone}, Stopped.{NobodyAwaits, HoldsNothing, MayStop}}
@@ -23,7 +23,7 @@ pub data HowLeft (t : Tables) (c x : ℕ) (k : Consumer) : Type 0 where
 pub how_left : (t : Tables) (c x : ℕ) (k : Consumer) → left_by t c k ≡ Some x → HowLeft t c x k
 how_left t c x k left = by_own (own_open t k) refl left
   where
-    by_row : (r lo : ℕ) (hi : Option ℕ) (how : BoundBy) → k.place ≡ place.Bound r lo hi how → (z : Option Representation) → t.representation r ≡ z → writing_in t z ≡ Some x → HowLeft t c x k
+    by_row : (r lo : ℕ) (hi : Option ℕ) (how : BoundBy) → k.place ≡ place.Bound r lo hi how → (z : Option Representation) → t.representation r ≡ z → group_in t z ≡ Some x → HowLeft t c x k
     by_row r lo hi how at None row h = none_some x h
     by_row r lo hi how at (Some v) row h = let both = test_some (is_written t v) v.writer x h in shared_by r lo hi how v at row both.0 both.1
 

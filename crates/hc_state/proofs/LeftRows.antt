@@ -1,22 +1,21 @@
 -- What the rows say that a consumer leaves is what the tables say.
 --
 -- It leaves its own exchange if that is open, or the one that writes what it alone reads. Both tell alike whether an
--- exchange is open (`is_open_as`), and a writer that was forgotten is over (`writing_as`). Whether all who are bound
+-- exchange is open (`is_open_as`), and a writer that was forgotten is over (`group_as`). Whether all who are bound
 -- are this one has the work: two lists with the same members pass the same tests. `left_as` joins these. The last
 -- lemmas say it of what the code found, for the files of leaves and misreads.
 use Rattle.std.{proofs.{Common.{◌≡◌, inl, inr, ℕ, List, [], ◌∷◌, Bool, true, false, Option, Some, None, refl, ap, ap₂, sym, ◌∙◌, subst, arith}, lemmas.Bool.Decides.{nat_tests}}, specs.{Prelude.{is_some, IsSomeAnd, nat_eq, filter, not, ◌&&◌, ◌||◌, ◌==◌, if◌then◌else◌}, List.{list_all}, Option.{option_or, option_and_then}, HashMap.{get}}}
 use Rattle.hc_text.proofs.Basics.{both_true as and_both, and_left as and_first, and_right as and_then, eqb-same, false_true, never_true as not_true, or_right as or_then, same_test}
-use Rattle.hc_effects.proofs.Vocabulary.{Limits, Place, is_last_reader, is_number, left_by, with_consumer, as_over, is_open, Lawful, bound, is_bound, if_open, shared_exchange, writing_in, is_written, is_open_writer, Tables, Exchange, Representation, Among, Cause, place}
+use Rattle.hc_effects.proofs.Vocabulary.{Limits, Place, is_last_reader, is_number, left_by, with_consumer, as_over, is_open, Lawful, bound, is_bound, if_open, shared_exchange, group_in, is_written, is_open_writer, Tables, Exchange, Representation, Among, Cause, place}
 use Rattle.hc_store.specs.declared.backend.Backend.{Ghosts}
-use Rattle.hc_text.specs.Sorted.{has}
+use Rattle.hc_text.specs.Sorted.{has, itself}
 use Rattle.hc_stored.specs.{Entries.{shelf_of}, Kept.{Kept}, Views.{bound_in}}
-use Rattle.hc_text.specs.Sorted.{itself}
 use Rattle.hc_exch.specs.{Exchanges.{table_of}, declared.row.Open.{Open}}
 use Rattle.hc_exch.specs.Known as known
 use Rattle.hc_model.specs.Rows as rows
 use Rattle.hc_model.specs.Sound as sound
 use Rattle.hc_effects.proofs.{OfConsumers.{left_open}, ExclusiveWriters.{filter_some}, Basics.{some_row}}
-use Rattle.hc_state.specs.{declared.{rows.Rows.{Rows}}, Kept.{IsKept, KeepsConsumer, KeepsRunning}, Handlers.{IsDown}, Leaving.{if_running, writing_of, last_read, left_of}, Stands.{RowsStand}, Stored.{KeepsEntry, TellsWriter, as_written, forgotten, is_over}}
+use Rattle.hc_state.specs.{declared.rows.Rows.{Rows}, Kept.{IsKept, KeepsConsumer, KeepsRunning}, Handlers.{IsDown}, Leaving.{if_running, writer_group_of, last_read, left_of}, Stands.{RowsStand}, Stored.{KeepsEntry, KnowsWriter, as_written, forgotten, is_over}}
 use Rattle.hc_txn.specs.declared.transaction.Transaction.{Transaction as Consumer}
 use Rattle.hc_state.proofs.{Ties.{kept_row}, Words.{there}}
 
@@ -65,9 +64,9 @@ module _ {B : Type 0} {g : Ghosts B} {limits : Limits} (r : Rows B g) (t : Table
   running_as own = grind (arith, nat_tests)
 
   -- the exchange of the writing of what is kept
-  pub writing_as : (law : Lawful t) (q : ℕ) → writing_of (table_of r.exchanges) ((shelf_of r.entries).kept q) ≡ writing_in t (t.representation q)
+  pub group_as : (law : Lawful t) (q : ℕ) → writer_group_of (table_of r.exchanges) ((shelf_of r.entries).kept q) ≡ group_in t (t.representation q)
   unfolding is_written
-  writing_as law q = by_row ((shelf_of r.entries).kept q) (t.representation q) refl (stands.entries.each q)
+  group_as law q = by_row ((shelf_of r.entries).kept q) (t.representation q) refl (stands.entries.each q)
     where
       both : (b : Bool) (z : Option ℕ) → (if b then None else if_running (table_of r.exchanges) z) ≡ (if (not b && is_open_writer t z) then z else None)
       both true z = refl
@@ -78,7 +77,7 @@ module _ {B : Type 0} {g : Ghosts B} {limits : Limits} (r : Rows B g) (t : Table
       none_written true z x is off = refl
       none_written false z x is off = rw (is, off) refl
 
-      by_writer : (e : Kept) (v : Representation) → TellsWriter t.exchange e.writer v.writer → (if v.is_lost then None else if_running (table_of r.exchanges) e.writer) ≡ (if (not v.is_lost && is_open_writer t v.writer) then v.writer else None)
+      by_writer : (e : Kept) (v : Representation) → KnowsWriter t.exchange e.writer v.writer → (if v.is_lost then None else if_running (table_of r.exchanges) e.writer) ≡ (if (not v.is_lost && is_open_writer t v.writer) then v.writer else None)
       by_writer e v (as_written is) = rw is (both v.is_lost v.writer)
       by_writer e v (forgotten x none is on) = rw none (none_written v.is_lost v.writer x is (shut (t.exchange x) on))
 
@@ -86,7 +85,7 @@ module _ {B : Type 0} {g : Ghosts B} {limits : Limits} (r : Rows B g) (t : Table
       unwritten v true is off = absurd (off is)
       unwritten v false is off = refl
 
-      by_row : (k : Option Kept) (o : Option Representation) → t.representation q ≡ o → KeepsEntry t q k o → writing_of (table_of r.exchanges) k ≡ writing_in t o
+      by_row : (k : Option Kept) (o : Option Representation) → t.representation q ≡ o → KeepsEntry t q k o → writer_group_of (table_of r.exchanges) k ≡ group_in t o
       by_row None None there kept = refl
       by_row None (Some v) there kept = unwritten v (is_written t v) refl (λ written. law.sound.writes.has_bound q v there written kept.unused)
       by_row (Some e) None there kept = absurd kept
@@ -107,7 +106,7 @@ module _ {B : Type 0} {g : Ghosts B} {limits : Limits} (r : Rows B g) (t : Table
         (λ all. all_has test e.bound (λ d has_it. let passes : is_bound q (t.consumer d) ≡ true = sym (kept.bound d) ∙ has_it in passing_all test (λ n. is_bound q (t.consumer n)) t.starts all d (law.sound.numbered.lists.started d (bound_there q (t.consumer d) passes)) passes))
 
     last_as : last_read (table_of r.exchanges) (shelf_of r.entries) c v.place ≡ (if is_last_reader t c v.place then shared_exchange t v.place else None)
-    last_as = grind (arith, nat_tests, all_as, eqb-same, row, writing_as)
+    last_as = grind (arith, nat_tests, all_as, eqb-same, row, group_as)
 
     pub left_as : left_of r c k ≡ left_by t c v
     left_as = grind (arith, nat_tests, running_as, if_open, last_as)

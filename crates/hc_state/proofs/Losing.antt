@@ -1,7 +1,7 @@
 -- A representation is lost: what is kept represents the tables in which it is.
 --
 -- Of its row only changes that it is lost, and who goes on alone. What looks at neither is told as before
--- (`told_same`): so are consumers, keys and other entries. What is held has the work. Nobody went on alone before, and
+-- (`reported_same`): so are consumers, keys and other entries. What is held has the work. Nobody went on alone before, and
 -- nothing is held for the one who does now (`held_lost`), as the user of this file proves. `stands_lost` joins this for
 -- `lose_to`; by `may_lost` it may be let go then.
 use Rattle.std.{proofs.{Common.{◌≡◌, ◌≢◌, inl, inr, ℕ, List, true, Option, Some, None, refl, ap, sym, ◌∙◌, subst, false, arith}, lemmas.Bool.Decides.{nat_tests}}, specs.{Prelude.{is_some, nat_eq, option_map}, HashMap.{get, hash_map_len}}}
@@ -13,7 +13,7 @@ use Rattle.hc_stored.specs.Shelf as shelf
 use Rattle.hc_entry.specs.Keys.{kept_of}
 use Rattle.hc_exch.specs.Exchanges.{table_of, next_of}
 use Rattle.hc_model.specs.Rows as rows
-use Rattle.hc_state.specs.{declared.rows.Rows.{Rows}, Kept.{held_for, held_of, held_alone, unstored_bytes}, Stands.{RowsStand}, Stopped.{HoldsNothing}, Stored.{IsEntry, TellsLength, told, untold, KeepsEntry, KeepsEntries, is_first, is_usable_row}}
+use Rattle.hc_state.specs.{declared.rows.Rows.{Rows}, Kept.{held_for, held_of, held_alone, unstored_bytes}, Stands.{RowsStand}, Stopped.{HoldsNothing}, Stored.{IsEntry, KnowsLength, reported, unreported, KeepsEntry, KeepsEntries, is_first, is_usable_row}}
 use Rattle.hc_state.proofs.{Fallbacks.{unstored_moved}, Ties.{consumer_same, exchange_same, key_same, entry_same}}
 
 module _ (t : Tables) (r : ℕ) (v : Representation) (alone : Option ℕ) (row : t.representation r ≡ Some v) where
@@ -34,8 +34,8 @@ module _ (t : Tables) (r : ℕ) (v : Representation) (alone : Option ℕ) (row :
   others q ne = rw (eqb-other r q ne) refl
 
   -- what a loss leaves is told as before
-  told_same : {A : Type 0} (f : Option Representation → A) → f (Some (lost_to alone v)) ≡ f (Some v) → (q : ℕ) → f (s.representation q) ≡ f (t.representation q)
-  told_same f leaves q = grind (arith, nat_tests)
+  reported_same : {A : Type 0} (f : Option Representation → A) → f (Some (lost_to alone v)) ≡ f (Some v) → (q : ℕ) → f (s.representation q) ≡ f (t.representation q)
+  reported_same f leaves q = grind (arith, nat_tests)
 
   first_same : (q : ℕ) (o : Option rows.Consumer) → is_first s q o ≡ is_first t q o
   first_same q o = grind (arith, nat_tests)
@@ -53,7 +53,7 @@ module _ (t : Tables) (r : ℕ) (v : Representation) (alone : Option ℕ) (row :
 
   current_same : (key : List ℕ) → current s key ≡ current t key
   unfolding current
-  current_same key = finds_same (λ q. is_usable key (t.representation q)) (λ q. is_usable key (s.representation q)) (told_same (is_usable key) refl) t.founded
+  current_same key = finds_same (λ q. is_usable key (t.representation q)) (λ q. is_usable key (s.representation q)) (reported_same (is_usable key) refl) t.founded
 
   -- WHAT MAY BE LET GO
 
@@ -72,7 +72,7 @@ module _ (t : Tables) (r : ℕ) (v : Representation) (alone : Option ℕ) (row :
         let a = row_as q u is_u in
         let b = row_as n z is_z in
         may.one_current q n a.old b.old a.was b.was (sym a.gone_is ∙ u_stays) (sym b.gone_is ∙ z_stays) (sym a.key_is ∙ (keys_same ∙ b.key_is));
-    founded = λ q some. may.founded q (sym (told_same (λ o. is_some o) refl q) ∙ some);
+    founded = λ q some. may.founded q (sym (reported_same (λ o. is_some o) refl q) ∙ some);
     started = may.started;
     waits = λ d q kept u is at.
         let w = may.waits d q kept u is at in
@@ -92,9 +92,9 @@ module _ (t : Tables) (r : ℕ) (v : Representation) (alone : Option ℕ) (row :
       let reach : true ≡ false → (kept_as_lost alone e).reach ≡ v.reach = λ off. false_true (sym off) in
       assumption (is, by_length is.length, reach, (λ (c : ℕ). is.first c ∙ sym (first_same r (t.consumer c))))
     where
-      by_length : TellsLength e v → TellsLength (kept_as_lost alone e) (lost_to alone v)
-      by_length (told same) = told same
-      by_length (untold u) = untold (record { gone = u.gone; untold = u.untold; total = u.total; known = u.known; came = u.came; first = u.first })
+      by_length : KnowsLength e v → KnowsLength (kept_as_lost alone e) (lost_to alone v)
+      by_length (reported same) = reported same
+      by_length (unreported u) = unreported (record { gone = u.gone; unreported = u.unreported; total = u.total; known = u.known; came = u.came; first = u.first })
 
   entries_lost : (a b : Shelf) → KeepsEntries t a → shelf.Becomes (option_map (kept_as_lost alone)) same_order r a b → shelf.is_kept a r ≡ true → KeepsEntries s b
   unfolding bound kind_of
@@ -103,7 +103,7 @@ module _ (t : Tables) (r : ℕ) (v : Representation) (alone : Option ℕ) (row :
       | inl e ↦ subst (λ n. KeepsEntry s n (b.kept n) (s.representation n)) e (by_kept (a.kept r) refl)
       | inr ne ↦ rw (becomes.kept q, eqb-other r q ne) (entry_same t s q (a.kept q) (t.representation q) refl (record { users = λ d. refl; first = λ d. first_same q (t.consumer d); list = refl; kind = λ p at. refl; overs = λ y on. on }) (kept.each q))
     ];
-    order = becomes.order ∙ (kept.order ∙ sym (filters_same (λ q. is_usable_row (t.representation q)) (λ q. is_usable_row (s.representation q)) (told_same is_usable_row refl) t.used));
+    order = becomes.order ∙ (kept.order ∙ sym (filters_same (λ q. is_usable_row (t.representation q)) (λ q. is_usable_row (s.representation q)) (reported_same is_usable_row refl) t.used));
   }
     where
       by_kept : (k : Option Kept) → a.kept r ≡ k → KeepsEntry s r (b.kept r) (s.representation r)
@@ -125,8 +125,8 @@ stands_lost r u t q v alone row stands nobody nothing last consumers keys exchan
       last_start = last ∙ stands.last_start;
       next = ap (λ z. next_of z) exchanges ∙ stands.next;
       count = ap (λ z. hash_map_len z) consumers ∙ stands.count;
-      consumers = λ d. rw consumers (consumer_same t z (get nat_eq r.consumers d) (t.consumer d) (λ k at. record { past = λ x is. refl; length = λ n lo hi how is. told_same t q v alone row total_in refl n }) (stands.consumers d));
-      exchanges = λ y. rw exchanges (exchange_same t z y (table_of r.exchanges y) (record { row = refl; brings = λ w at. told_same t q v alone row (λ o. is_some o) refl (family y w); held = held_lost t q v alone row nobody nothing y (t.exchange y) refl }) (stands.exchanges y));
+      consumers = λ d. rw consumers (consumer_same t z (get nat_eq r.consumers d) (t.consumer d) (λ k at. record { past = λ x is. refl; length = λ n lo hi how is. reported_same t q v alone row total_in refl n }) (stands.consumers d));
+      exchanges = λ y. rw exchanges (exchange_same t z y (table_of r.exchanges y) (record { row = refl; brings = λ w at. reported_same t q v alone row (λ o. is_some o) refl (family y w); held = held_lost t q v alone row nobody nothing y (t.exchange y) refl }) (stands.exchanges y));
       keys = λ key. rw keys (key_same t z key (kept_of r.keys key) (record { current = current_same t q v alone row key; in_line = λ d. refl; passed = λ d. refl; away = λ d. refl; turn = λ d. refl }) (stands.keys key));
       entries = entries_lost t q v alone row (shelf_of r.entries) (shelf_of u.entries) stands.entries becomes there;
     }

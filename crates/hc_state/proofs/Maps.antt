@@ -1,7 +1,7 @@
 -- What a call of a map leaves, and what holds wherever there is some past.
 use Rattle.std.{proofs.{Common.{◌≡◌, ◌≢◌, inl, inr, ℕ, ◌+◌, ◌<◌, ◌≤◌, ◌^◌, List, [], ◌∷◌, ◌++◌, Bool, true, false, Option, Some, None, Bor, refl, ap, sym, ◌∙◌, arith}, lemmas.{Bool.Decides.{nat_tests}, Grind.{not_there}, List.{append_assoc}}}, specs.{Prelude.{is_some, nat_eq, nat_lt, option_map, if◌then◌else◌, IsSomeAnd, IfSome}, Option.{option_copied}, HashMap.{get, get_by, hash_map_len, UpdatesBy}}}
 use Rattle.hc_text.proofs.Basics.{eqb-other, eqb-same, same_or}
-use Rattle.hc_range.specs.{declared.range.{Asked.{Asked, TheVariants.{the_data as asked}}, Span.{Span}}, Spans.{IsInOrder, IsWithin}}
+use Rattle.hc_range.specs.{declared.range.{RangeSpec.{RangeSpec, TheVariants.{the_data as asked}}, Span.{Span}}, Spans.{IsInOrder, IsWithin}}
 use Rattle.hc_effects.proofs.Vocabulary.{Act}
 use Rattle.hc_entry.specs.Lines.{is_held_by}
 use Rattle.hc_state.specs.Changes.{Numbered, ChangesAt, BecomesAt, one}
@@ -85,6 +85,6 @@ pub merely_number : {P : Type 0} (o : Option ℕ) (n : ℕ) → ∥ P ∥₁ →
 merely_number o n some h = held_is n o (merely_true (is_held_by n o) some (λ p. ap (is_held_by n) (h p) ∙ eqb-same n))
 
 -- a range that is in order wherever there is some past
-pub merely_ordered : {P : Type 0} (range : Option Asked) → ∥ P ∥₁ → (P → (asked : Asked) → range ≡ Some asked → IsInOrder asked) → IfSome range IsInOrder
+pub merely_ordered : {P : Type 0} (range : Option RangeSpec) → ∥ P ∥₁ → (P → (asked : RangeSpec) → range ≡ Some asked → IsInOrder asked) → IfSome range IsInOrder
 merely_ordered (Some (asked.FromTo first last)) some h = let below : first < last + 1 = merely_below first (last + 1) some (λ p. let le : first ≤ last = h p (asked.FromTo first last) refl in omega arith) in omega arith
 merely_ordered _ some h = tt

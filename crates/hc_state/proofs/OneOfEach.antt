@@ -12,7 +12,7 @@ use Rattle.hc_stored.specs.{Entries.{shelf_of}, Shelf.{Shelf}}
 use Rattle.hc_entry.specs.Keys.{kept_of}
 use Rattle.hc_exch.specs.Exchanges.{table_of, next_of}
 use Rattle.hc_model.specs.Rows as rows
-use Rattle.hc_state.specs.{declared.{rows.Rows.{Rows}}, Changes.{BecomesAt}, Kept.{KeepsConsumer, KeepsExchange, held_for}, Lines.{KeepsKey}, Stands.{RowsStand}, Stored.{KeepsEntry, KeepsEntries, is_first, is_usable_row}}
+use Rattle.hc_state.specs.{declared.rows.Rows.{Rows}, Changes.{BecomesAt}, Kept.{KeepsConsumer, KeepsExchange, held_for}, Lines.{KeepsKey}, Stands.{RowsStand}, Stored.{KeepsEntry, KeepsEntries, is_first, is_usable_row}}
 use Rattle.hc_txn.specs.declared.transaction.Transaction.{Transaction as Consumer}
 use Rattle.hc_state.proofs.Ties.{consumer_same, exchange_same, entry_same, OversStay}
 

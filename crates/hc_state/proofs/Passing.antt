@@ -2,8 +2,7 @@
 use Rattle.std.proofs.Common.{◌≡◌, refl}
 use Rattle.hc_event.specs.declared.place.Place.{Place}
 use Rattle.hc_event.specs.declared.place.Place.TheVariants as place
-use Rattle.hc_model.specs.Planning.{has_passed}
-use Rattle.hc_model.specs.ConsumerRows.{kept_by}
+use Rattle.hc_model.specs.{Planning.{has_passed}, ConsumerRows.{kept_by}}
 use Rattle.hc_txn.specs.Transactions as txn
 
 pub passed_alike : (p : Place) → txn.has_passed p ≡ has_passed p

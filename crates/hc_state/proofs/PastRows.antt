@@ -2,7 +2,7 @@
 use Rattle.std.{proofs.{lemmas.Bool.Decides.{nat_tests}, Common.{arith, ◌≡◌, ℕ, Option, Some, None, refl, ap, sym, ◌∙◌}}, specs.Prelude.{if◌then◌else◌}}
 use Rattle.hc_effects.proofs.Vocabulary.{Place, total_in, base_in, end_in, lo_of, hi_of, Tables, place}
 use Rattle.hc_model.specs.Rows as rows
-use Rattle.hc_state.specs.{Kept.{IsKept, KeepsConsumer, head_in, answer_for}}
+use Rattle.hc_state.specs.Kept.{IsKept, KeepsConsumer, head_in, answer_for}
 use Rattle.hc_txn.specs.declared.transaction.Transaction.{Transaction as Consumer}
 
 -- of each exchange, and of each length

@@ -12,9 +12,8 @@ use Rattle.hc_entry.specs.Keys as keys
 use Rattle.hc_entry.specs.{Keys.{kept_of}, Kept.{on_line}, Lines.{come_back}}
 use Rattle.hc_model.specs.Rows as rows
 use Rattle.hc_effects.proofs.PollEffects.{same_consumer}
-use Rattle.hc_state.specs.{declared.{rows.Rows.{Rows}}, Changes.{Numbered, ChangesAt, BecomesAt}, Kept.{IsKept, KeepsConsumer, answer_for}, Lines.{KeepsKey}, Plans.{is_idle_at, in_line}, Stands.{RowsStand}}
-use Rattle.hc_txn.specs.declared.transaction.Transaction.{Transaction as Consumer}
-use Rattle.hc_txn.specs.Transactions.{lined_up}
+use Rattle.hc_state.specs.{declared.rows.Rows.{Rows}, Changes.{Numbered, ChangesAt, BecomesAt}, Kept.{IsKept, KeepsConsumer, answer_for}, Lines.{KeepsKey}, Plans.{is_idle_at, in_line}, Stands.{RowsStand}}
+use Rattle.hc_txn.specs.{declared.transaction.Transaction.{Transaction as Consumer}, Transactions.{lined_up}}
 use Rattle.hc_state.proofs.{FallbackSteps.{falls_back}, ConsumerSteps.{keys_with}, KeySteps.{says_elsewhere, lined, comes_back}}
 
 -- a consumer that is there is another

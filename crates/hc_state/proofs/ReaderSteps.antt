@@ -13,7 +13,7 @@ use Rattle.hc_stored.specs.Shelf as shelf
 use Rattle.hc_entry.specs.Keys.{kept_of}
 use Rattle.hc_exch.specs.{Exchanges.{table_of, next_of}, Known.{Known}}
 use Rattle.hc_model.specs.Rows as rows
-use Rattle.hc_state.specs.{declared.{rows.Rows.{Rows}}, Changes.{BecomesAt}, Kept.{IsKept, KeepsExchange, held_for, held_of, held_alone, unread, unstored_bytes}, Lines.{has_turn, is_passed, is_away}, Stands.{RowsStand, Stands, Answered}, Stored.{KeepsEntries, is_first}}
+use Rattle.hc_state.specs.{declared.rows.Rows.{Rows}, Changes.{BecomesAt}, Kept.{IsKept, KeepsExchange, held_for, held_of, held_alone, unread, unstored_bytes}, Lines.{has_turn, is_passed, is_away}, Stands.{RowsStand, Stands, Answered}, Stored.{KeepsEntries, is_first}}
 use Rattle.hc_txn.specs.declared.transaction.Transaction.{Transaction as Consumer}
 use Rattle.hc_state.proofs.{FallbackSteps.{length_same, live_same}, Fallbacks.{unstored_moved}, ConsumerSteps.{SaysOfIt, all_kept_with, key_stays, key_with}, OneOfEach.{entries_same}, Ties.{exchange_same}}
 

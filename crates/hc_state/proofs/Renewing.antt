@@ -3,8 +3,7 @@ use Rattle.std.{proofs.{Common.{◌≡◌, ℕ, ◌<◌, ◌≤◌, ◌^◌, len
 use Rattle.hc_text.proofs.Basics.{and_left, and_right, some_inj as some_is}
 use Rattle.hc_fields.specs.FieldList.{IsFieldList, IsWithinLimits, size_of}
 use Rattle.hc_record.specs.Head.{Head, IsHead, one_strong_opaque}
-use Rattle.hc_validate.specs.Updates.{is_within_limits, updated_fields}
-use Rattle.hc_validate.specs.Updates.{FieldPairs}
+use Rattle.hc_validate.specs.Updates.{is_within_limits, updated_fields, FieldPairs}
 use Rattle.hc_effects.proofs.FieldsKeep.{values_kept, within_limits_kept}
 use Rattle.hc_stored.specs.{Kept.{Kept, with_head}, Shelf.{Shelf, Becomes, Stays, head_at, same_order}}
 use Rattle.hc_exch.specs.{declared.row.{Open.{Open}, Opening.{Opening}}, Known.{begins_with}, Openings.{opened_with}}
@@ -13,8 +12,8 @@ use Rattle.hc_state.specs.Renewals.{renewed_head, Renews}
 within_limits_test : (fields : FieldPairs) → IsWithinLimits fields → is_within_limits fields ≡ true
 within_limits_test fields is = grind (arith, nat_tests)
 
-within_limits_told : (fields : FieldPairs) → is_within_limits fields ≡ true → IsWithinLimits fields
-within_limits_told fields on =
+within_limits_reported : (fields : FieldPairs) → is_within_limits fields ≡ true → IsWithinLimits fields
+within_limits_reported fields on =
     let first : nat_le (length fields) 64 ≡ true = and_left _ _ on in
     let second : nat_le (size_of fields) 32768 ≡ true = and_right (nat_le (length fields) 64) _ on in
     record { few = grind (arith, nat_tests, first); small = grind (arith, nat_tests, second) }
@@ -28,7 +27,7 @@ renewed_is head requested answered from is asked came list = record {
   own_joining = is.own_joining ∙ ap one_strong_opaque (sym (values_kept (codes "etag") refl head.fields from));
   vary_list = is.vary_list;
   list = list;
-  within_limits = within_limits_told (updated_fields head.fields from) (within_limits_kept head.fields from (within_limits_test head.fields is.within_limits));
+  within_limits = within_limits_reported (updated_fields head.fields from) (within_limits_kept head.fields from (within_limits_test head.fields is.within_limits));
 }
 
 -- when it was opened

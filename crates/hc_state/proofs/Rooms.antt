@@ -9,9 +9,8 @@ use Rattle.hc_text.proofs.Basics.{eqb-other, eqb-same, false_true, same_or, some
 use Rattle.hc_effects.proofs.Vocabulary.{Limits, Act, Room, Write, weight_of, room_of, idle_now, current, is_current, is_number, let_go, let_all_go, MayMakeRoom, MayLetGo, weight_now, weights_now, room_now, giving_way, AreOnce, bound, Tables, Representation, Among, act, room}
 use Rattle.hc_store.specs.declared.backend.Backend.{Ghosts}
 use Rattle.hc_stored.specs.{Entries.{shelf_of}, Kept.{Kept, is_nobody}, Shelf.{Shelf, idle, is_unused, weigh_kept, weight_at, first_of}}
-use Rattle.hc_text.specs.Sorted.{itself}
+use Rattle.hc_text.specs.Sorted.{itself, has}
 use Rattle.hc_stored.proofs.{OrderLemmas.{distinct-first}, WeightLemmas.{weight-kept}}
-use Rattle.hc_text.specs.Sorted.{has}
 use Rattle.hc_sparse.proofs.SizeLemmas.{size-same}
 use Rattle.hc_model.specs.{Contents.{is_idle}, LettingGo.{weight_in, first_idle}}
 use Rattle.hc_effects.proofs.{Basics.{same_functions, number_is}, IdleNow.{filter_both}, LettingGo.{current_may, keeps_may_all, all_more, idle_after}, PollKeeps.{current_stays}, Tests.{none_some}}

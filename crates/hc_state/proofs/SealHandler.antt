@@ -6,7 +6,7 @@
 -- `stands_unstored` applies (`stopped_lost`). `seal_stopped` uses both.
 use Rattle.std.{proofs.{lemmas.Bool.Decides.{nat_tests}, Common.{arith, ◌≡◌, ◌≢◌, inl, inr, ℕ, ◌<◌, List, [], ◌∷◌, ◌++◌, Bool, true, false, Option, Some, None, refl, ap, sym, ◌∙◌, subst}}, specs.Prelude.{is_some, nat_eq, option_map, ◌&&◌, if◌then◌else◌}}
 use Rattle.hc_store.specs.declared.backend.Backend.{Ghosts}
-use Rattle.hc_effects.proofs.Vocabulary.{Act, Limits, with_representation, tables_after_close, over, let_go, as_gone, lost_to, family, Grows, Lawful, kind_of, is_growing, is_complete, is_front, covers_all, brings_to, Tables, Exchange, Representation, bound, exclusive, Response, act, kind}
+use Rattle.hc_effects.proofs.Vocabulary.{Act, Limits, with_representation, tables_after_close, over, let_go, as_gone, lost_to, family, Grows, Lawful, kind_of, is_growing, is_complete, is_prefix, covers_all, brings_to, Tables, Exchange, Representation, bound, exclusive, Response, act, kind}
 use Rattle.hc_record.specs.declared.kind.Kind.{Kind, TheVariants.{the_data as kinds}}
 use Rattle.hc_sparse.specs.Cells.{Covers}
 use Rattle.hc_stored.specs.{Entries.{shelf_of}, Kept.{Kept}, Shelf.{Shelf, same_order}, Views.{view_of}, declared.view.EntryView.{EntryView}}
@@ -18,9 +18,9 @@ use Rattle.hc_model.specs.Rows as rows
 use Rattle.hc_effects.proofs.HoleLemmas as holes
 use Rattle.hc_effects.proofs.Tests.{none_some}
 use Rattle.hc_state.proofs.{Ties.{overs_closed, writer_then}, CloseHandler.{quiet, unawaited_go}, Closing.{entry_closed, stands_closed, stands_unstored}, OneOfEach.{first_row}, Stopping.{Stays}}
-use Rattle.hc_state.specs.{declared.{rows.Rows.{Rows}, stop.Stop.TheVariants.{the_data as stop}}, Facts.{Facts}, Stopped.{with_consumers, HoldsNothing, MayStop, HasStopped, unsealed}, Stands.{RowsStand, KeepsRest}, Stops.{brought_by, goes_with, stop_by, stop_at, stop_of, IsViewOf, kind_left}, Stored.{IsEntry, TellsLength, told, untold, KeepsEntry, KeepsEntries, TellsWriter}}
+use Rattle.hc_state.specs.{declared.{rows.Rows.{Rows}, stop.Disposition.TheVariants.{the_data as stop}}, Facts.{Facts}, Stopped.{with_consumers, HoldsNothing, MayStop, HasStopped, unsealed}, Stands.{RowsStand, KeepsRest}, Stops.{brought_by, goes_with, stop_by, stop_at, stop_of, IsViewOf, kind_left}, Stored.{IsEntry, KnowsLength, reported, unreported, KeepsEntry, KeepsEntries, KnowsWriter}}
 use Rattle.hc_exch.specs.declared.row.Open.{Open}
-use Rattle.hc_text.proofs.Basics.{any_none, eq_tells, eqb-other, eqb-same, false_true, same_or, some_inj as some_is, and_off as then_false}
+use Rattle.hc_text.proofs.Basics.{any_none, eq_reports, eqb-other, eqb-same, false_true, same_or, some_inj as some_is, and_off as then_false}
 
 -- what is called whole is
 whole_covers : (v : Representation) (n : ℕ) → kind_left v ≡ kinds.Whole → v.head.total ≡ Some n → Covers v.stored 0 n
@@ -30,9 +30,9 @@ whole_covers v n is known = by_test (is_complete v) refl is
     by_front true h = cc
     by_front false h = cc
 
-    by_test : (b : Bool) → is_complete v ≡ b → (if b then kinds.Whole else if is_front v then kinds.Truncated else kinds.Ranges) ≡ kinds.Whole → Covers v.stored 0 n
-    by_test true all h = holes.covers_all v.stored v.reach 0 n (let told_all : covers_all v (Some n) ≡ true = ap (covers_all v) (sym known) ∙ all in told_all)
-    by_test false off h = absurd (by_front (is_front v) h)
+    by_test : (b : Bool) → is_complete v ≡ b → (if b then kinds.Whole else if is_prefix v then kinds.Truncated else kinds.Ranges) ≡ kinds.Whole → Covers v.stored 0 n
+    by_test true all h = holes.covers_all v.stored v.reach 0 n (let reported_all : covers_all v (Some n) ≡ true = ap (covers_all v) (sym known) ∙ all in reported_all)
+    by_test false off h = absurd (by_front (is_prefix v) h)
 
 -- one exchange at most brings what is stored
 pub nothing_else : (t : Tables) → Lawful t → (x q : ℕ) (p : Representation) → t.representation q ≡ Some p → Grows t x q → (y : ℕ) → x ≢ y → brings_to q y (t.exchange y) ≡ false
@@ -49,7 +49,7 @@ nothing_else t law x q p there grows y ne = by_row (t.exchange y) refl
     by_tests z row false same is of_q = refl
     by_tests z row true false is of_q = refl
     by_tests z row true true is of_q =
-        let own : family y z ≡ q = eq_tells (family y z) q of_q in
+        let own : family y z ≡ q = eq_reports (family y z) q of_q in
         absurd (ne (law.growing.one q x y p there grows (record { w = z; row = row; is_open = is; headed = headed_by z row own z.head refl; of_r = own })))
 
     by_row : (o : Option Exchange) → t.exchange y ≡ o → brings_to q y o ≡ false
@@ -84,8 +84,8 @@ module _ (limits : Limits) (t : Tables) (facts : Facts limits t) (f : ℕ → Op
     sealed_entry sort total sort_is total_is =
         let is = stays.is in
         let same : total ≡ stays.p.head.total = total_is ∙ by_length is.length in
-        let length : TellsLength (entry.sealed_kept sort total stays.e) stays.p = told same in
-        let writer : TellsWriter (tables_after_close x s).exchange stays.e.writer stays.p.writer =
+        let length : KnowsLength (entry.sealed_kept sort total stays.e) stays.p = reported same in
+        let writer : KnowsWriter (tables_after_close x s).exchange stays.e.writer stays.p.writer =
         writer_then (λ y on. overs_closed (nat_eq x y) (t.exchange y) on) is.writer in
         let whole : (n : ℕ) → sort ≡ kinds.Whole → total ≡ Some n → Covers stays.p.stored 0 n =
         λ n whole known. whole_covers stays.p n (sym sort_is ∙ whole) (sym same ∙ known) in
@@ -98,9 +98,9 @@ module _ (limits : Limits) (t : Tables) (facts : Facts limits t) (f : ℕ → Op
           (λ (d : ℕ). is.first d ∙ sym (first_row s (tables_after_close x s) (λ n. refl) q (s.consumer d))),
         )
       where
-        by_length : TellsLength stays.e stays.p → stays.e.head.total ≡ stays.p.head.total
-        by_length (told same) = same
-        by_length (untold u) = false_true (sym stays.stays ∙ u.gone)
+        by_length : KnowsLength stays.e stays.p → stays.e.head.total ≡ stays.p.head.total
+        by_length (reported same) = same
+        by_length (unreported u) = false_true (sym stays.stays ∙ u.gone)
 
     entries_sealed : (b : Shelf) (sort : Kind) (total : Option ℕ) → sort ≡ kind_left stays.p → total ≡ stays.e.head.total → KeepsEntries s shelf_before → shelf.Becomes (option_map (entry.sealed_kept sort total)) same_order q shelf_before b → KeepsEntries (tables_after_close x s) b
     entries_sealed b sort total sort_is total_is kept becomes = record {
@@ -206,10 +206,10 @@ seal_kept x q running s is = by_brought (brought_by running) is
 pub viewed : (s : Shelf) (q : ℕ) (e : Kept) (o : Option EntryView) (entry : EntryView) → s.kept q ≡ Some e → o ≡ option_map view_of (s.kept q) → o ≡ Some entry → entry ≡ view_of e
 viewed s q e o entry at is some = some_is entry (view_of e) (sym some ∙ (is ∙ ap (option_map view_of) at))
 
-pub told_kept : (s : Shelf) (q : ℕ) (e : Kept) (p : Representation) (entry : EntryView) → s.kept q ≡ Some e → entry ≡ view_of e → IsViewOf p e.cells (view_of e) → IsViewOf p (shelf.cells_at s q) entry
-told_kept s q e p entry at is is_told = record {
-  total = ap (λ (z : EntryView). z.total) is ∙ is_told.total;
-  size = ap (λ (z : EntryView). z.size) is ∙ is_told.size;
-  stored = λ n. ap (λ k. shelf.cells_in k n) at ∙ is_told.stored n;
-  ends = is_told.ends;
+pub reported_kept : (s : Shelf) (q : ℕ) (e : Kept) (p : Representation) (entry : EntryView) → s.kept q ≡ Some e → entry ≡ view_of e → IsViewOf p e.cells (view_of e) → IsViewOf p (shelf.cells_at s q) entry
+reported_kept s q e p entry at is is_reported = record {
+  total = ap (λ (z : EntryView). z.total) is ∙ is_reported.total;
+  size = ap (λ (z : EntryView). z.size) is ∙ is_reported.size;
+  stored = λ n. ap (λ k. shelf.cells_in k n) at ∙ is_reported.stored n;
+  ends = is_reported.ends;
 }

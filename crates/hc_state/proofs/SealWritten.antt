@@ -1,6 +1,6 @@
 -- What an exchange that stops brought is what the event writes, where that is sealed.
 use Rattle.std.{proofs.{lemmas.Bool.Decides.{nat_tests}, Common.{arith, ◌≡◌, ◌≢◌, inl, inr, ℕ, List, [], ◌∷◌, Bool, true, false, Option, Some, None, refl, ap, sym, ◌∙◌}}, specs.Prelude.{is_some, nat_eq, not, ◌&&◌, ◌||◌, ◌==◌, if◌then◌else◌}}
-use Rattle.hc_text.proofs.Basics.{eq_tells, eqb-other, eqb-same, same_or}
+use Rattle.hc_text.proofs.Basics.{eq_reports, eqb-other, eqb-same, same_or}
 use Rattle.hc_effects.proofs.Vocabulary.{brings_whole, closes_in, is_unkeepable, going_with, Entry, family, ends_early, ends_founding, is_keepable, stops_early, Lawful, Tables, Exchange, Representation, Among, sealed_representation, seals_at, sealed_by, is_sealed, stops, first_found}
 use Rattle.hc_effects.proofs.Tests.{none_some}
 
@@ -48,7 +48,7 @@ module _ (t : Tables) (law : Lawful t) (e : Entry) (x : ℕ) (w : Exchange) (r :
 -- where it doesn't go with the exchange that founded it
 pub sealed_stopping : (t : Tables) → Lawful t → (e : Entry) (x : ℕ) (w : Exchange) (r : ℕ) (v : Representation) → t.exchange x ≡ Some w → family x w ≡ r → t.representation r ≡ Some v → v.is_gone ≡ false → going_with t (Some x) ≡ None
     → ((y : ℕ) → (stops y e.event || closes_in y e.acts) ≡ nat_eq x y) → ((y : ℕ) (z : Exchange) → (stops_early z y e.event || closes_in y e.acts) ≡ true → nat_eq x y ≡ true) → sealed_representation t e ≡ Some r
-sealed_stopping t law e x w r v ex of_r there stays kept stops_at early_at = sealed_lasting t law e x w r v ex of_r there stays stops_at (λ z row on. keepable (sym (eq_tells x r (early_at r z on))))
+sealed_stopping t law e x w r v ex of_r there stays kept stops_at early_at = sealed_lasting t law e x w r v ex of_r there stays stops_at (λ z row on. keepable (sym (eq_reports x r (early_at r z on))))
   where
     keepable : r ≡ x → is_unkeepable (Some v) ≡ false
     keepable same = ap is_unkeepable (sym (ap t.representation (sym same) ∙ there)) ∙ by_test (is_unkeepable (t.representation x)) refl kept

@@ -15,7 +15,7 @@ use Rattle.hc_sparse.proofs.SizeLemmas.{size-same}
 use Rattle.hc_stored.specs.{Entries.{shelf_of}, Kept.{Kept}, Shelf.{Shelf}, Views.{view_of}}
 use Rattle.hc_exch.specs.{Exchanges.{table_of}, declared.{row.Open.{Open}, role.Role.TheVariants.{the_data as role}}}
 use Rattle.hc_model.specs.Rows as rows
-use Rattle.hc_state.specs.{declared.{rows.Rows.{Rows}, stop.Stop.{Stop, TheVariants.{the_data as stop}}}, Facts.{Facts}, Kept.{IsRunning, KeepsRunning, role_of, role_awaited}, Stands.{RowsStand}, Stopped.{with_consumers}, Stops.{body_of, brought_by, may_complete, goes_with, stop_by, stop_at, stop_of, IsViewOf}, Stored.{IsEntry, KeepsEntry, TellsLength, told, untold}}
+use Rattle.hc_state.specs.{declared.{rows.Rows.{Rows}, stop.Disposition.{Disposition, TheVariants.{the_data as stop}}}, Facts.{Facts}, Kept.{IsRunning, KeepsRunning, role_of, role_awaited}, Stands.{RowsStand}, Stopped.{with_consumers}, Stops.{body_of, brought_by, may_complete, goes_with, stop_by, stop_at, stop_of, IsViewOf}, Stored.{IsEntry, KeepsEntry, KnowsLength, reported, unreported}}
 
 -- nothing is stored by it that isn't gone
 pub record IsApartNow (t : Tables) (x : ℕ) : Type 0 where
@@ -40,11 +40,11 @@ pub record Stays (t s : Tables) (shelf : Shelf) (x q : ℕ) (w : Exchange) : Typ
   pub kept : shelf.kept q ≡ Some e
   pub is : IsEntry s q e p
   pub stays : p.is_gone ≡ false
-  pub is_told : IsViewOf p e.cells (view_of e)
+  pub is_reported : IsViewOf p e.cells (view_of e)
   pub keeps : going_with t (Some x) ≡ None
 
 -- what the tables say of each
-abbrev pub Means : Tables → Tables → Shelf → ℕ → Exchange → Stop → Type 0
+abbrev pub Means : Tables → Tables → Shelf → ℕ → Exchange → Disposition → Type 0
 Means t s shelf x w stop.Nothing = IsApartNow t x
 Means t s shelf x w (stop.LetGo q) = GoesWith t x q w
 Means t s shelf x w (stop.Seal q) = Stays t s shelf x q w
@@ -119,8 +119,8 @@ module _ {B : Type 0} {g : Ghosts B} {limits : Limits} (r : Rows B g) (t : Table
         let rep = facts.law.sound.rows q p here in
         rep.store.all_stored (not_lost p.is_lost refl) n ∙ rep.store.ends n le
 
-    told_is : IsViewOf p e.cells (view_of e)
-    told_is = record {
+    reported_is : IsViewOf p e.cells (view_of e)
+    reported_is = record {
       total = total_as;
       size = size-same e.cells p.stored is.cells ∙ sym (facts.sized q p here (λ gone. false_true (sym stays ∙ gone)));
       stored = is.cells;
@@ -132,7 +132,7 @@ module _ {B : Type 0} {g : Ghosts B} {limits : Limits} (r : Rows B g) (t : Table
     completes =
         let joins : is_some e.head.joining ≡ is_some p.head.joining = ap (λ (h : Head). is_some h.joining) is.head in
         let takes : Rattle.hc_stored.specs.Heads.refuses_ranges e.head ≡ Rattle.hc_model.specs.Gone.refuses_ranges p = ap (λ (h : Head). Rattle.hc_stored.specs.Heads.refuses_ranges h) is.head in
-        rw (joins, total_as, told_is.size, takes) refl
+        rw (joins, total_as, reported_is.size, takes) refl
 
     status_as : e.head.status ≡ p.head.status
     status_as = ap (λ (h : Head). h.status) is.head
@@ -178,7 +178,7 @@ module _ {B : Type 0} {g : Ghosts B} {limits : Limits} (r : Rows B g) (t : Table
         kept = kept;
         is = is;
         stays = stays;
-        is_told = told_is (family x w) e p here is stays;
+        is_reported = reported_is (family x w) e p here is stays;
         keeps = going_off (t.representation x) refl (goes_keeps e p here off (unkeepable_by e p here is stays) (t.representation x) refl);
       }
 
@@ -195,5 +195,5 @@ module _ {B : Type 0} {g : Ghosts B} {limits : Limits} (r : Rows B g) (t : Table
       by_row (Some p) at = subst (Means t s shelf x w) (sym (ap (stop_at x shelf) (brought_some p at))) (by_kept p at (shelf.kept (family x w)) refl (subst (KeepsEntry s (family x w) (shelf.kept (family x w))) at (stands.entries.each (family x w))))
 
   -- what the code decided means that
-  pub means_it : (decided : Stop) → decided ≡ stop_of x running shelf → Means t s shelf x w decided
+  pub means_it : (decided : Disposition) → decided ≡ stop_of x running shelf → Means t s shelf x w decided
   means_it decided is = subst (Means t s shelf x w) (sym is) means

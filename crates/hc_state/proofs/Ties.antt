@@ -11,7 +11,7 @@ use Rattle.hc_effects.proofs.Vocabulary.{route_of, Place, BoundBy, current, tota
 use Rattle.hc_exch.specs.{Known.{Known}, declared.{role.Role.{Role, TheVariants.{the_data as role}}, row.Open.{Open}}}
 use Rattle.hc_stored.specs.Kept.{Kept}
 use Rattle.hc_model.specs.Rows as rows
-use Rattle.hc_state.specs.{Kept.{IsKept, IsRunning, KeepsConsumer, KeepsExchange, KeepsRunning, answer_for, held_for, role_awaited}, Lines.{KeepsKey, has_turn, is_passed, is_away}, Stored.{KeepsEntry, TellsWriter, as_written, forgotten, is_first, is_over}}
+use Rattle.hc_state.specs.{Kept.{IsKept, IsRunning, KeepsConsumer, KeepsExchange, KeepsRunning, answer_for, held_for, role_awaited}, Lines.{KeepsKey, has_turn, is_passed, is_away}, Stored.{KeepsEntry, KnowsWriter, as_written, forgotten, is_first, is_over}}
 use Rattle.hc_txn.specs.declared.transaction.Transaction.{Transaction as Consumer}
 
 -- CONSUMERS
@@ -106,9 +106,9 @@ pub put_over : (b : Bool) (z o : Option Exchange) → is_over z ≡ true → is_
 put_over b z o ends on = grind (arith, nat_tests)
 
 -- and so is what was forgotten
-pub writer_then : {f g : ℕ → Option Exchange} {k v : Option ℕ} → OversStay f g → TellsWriter f k v → TellsWriter g k v
+pub writer_then : {f g : ℕ → Option Exchange} {k v : Option ℕ} → OversStay f g → KnowsWriter f k v → KnowsWriter g k v
 writer_then stay (as_written is) = as_written is
-writer_then stay (forgotten x none told on) = forgotten x none told (stay x on)
+writer_then stay (forgotten x none reported on) = forgotten x none reported (stay x on)
 
 -- REPRESENTATIONS
 

@@ -5,18 +5,15 @@
 -- bound to it either. Else the entry stays with the shorter list. `entries_unbound` joins the two, and `user_kept` says
 -- that whoever is bound is on the list.
 use Rattle.std.{proofs.{Common.{◌≡◌, ◌≢◌, inl, inr, ℕ, List, [], ◌∷◌, Bool, true, false, cond, eqb, Option, Some, None, refl, ap, sym, ◌∙◌, subst, arith}, lemmas.Bool.Decides.{nat_tests}}, specs.{Prelude.{is_some, not, ◌&&◌, if◌then◌else◌}, Option.{option_and_then}}}
-use Rattle.hc_text.proofs.Basics.{eqb-other, eqb-same, false_true, same_or}
-use Rattle.hc_text.specs.Sorted.{has, without}
-use Rattle.hc_text.proofs.SortedLemmas.{has-without}
+use Rattle.hc_text.proofs.{Basics.{eqb-other, eqb-same, false_true, same_or}, SortedLemmas.{has-without}}
+use Rattle.hc_text.specs.Sorted.{has, without, itself, is_among}
 use Rattle.hc_stored.specs.Kept as entry
 use Rattle.hc_stored.specs.{Kept.{Kept, is_nobody, unless_it, without_user}, Shelf.{Shelf, same_order}, Views.{bound_in}}
-use Rattle.hc_text.specs.Sorted.{itself}
 use Rattle.hc_stored.specs.Shelf as shelf
-use Rattle.hc_text.specs.Sorted.{is_among}
 use Rattle.hc_effects.proofs.Vocabulary.{Place, BoundBy, is_number, with_consumer, kind_of, bound, is_bound, is_bound_place, Tables, Representation, Among, came_alone, place}
 use Rattle.hc_model.specs.Rows as rows
 use Rattle.hc_effects.proofs.{ExclusiveWriters.{filter_some}, Tests.{and_false}}
-use Rattle.hc_state.specs.{Leaving.{IsUserAt, UnbindsAt}, Stored.{IsEntry, TellsLength, told, untold, KeepsEntry, KeepsEntries, is_first}}
+use Rattle.hc_state.specs.{Leaving.{IsUserAt, UnbindsAt}, Stored.{IsEntry, KnowsLength, reported, unreported, KeepsEntry, KeepsEntries, is_first}}
 use Rattle.hc_state.proofs.{OneOfEach.{bound_same}, Ties.{entry_same}, LiveCounts.{filter_nothing}}
 
 -- it isn't among them any more
@@ -107,9 +104,9 @@ module _ (t : Tables) (started : (d : ℕ) → is_some (t.consumer d) ≡ true �
       gone_by_test : (g n : Bool) → (g && n) ≡ true → (g ≡ true) × (n ≡ true)
       gone_by_test g n on = grind (arith, nat_tests)
 
-      by_length : TellsLength e p → TellsLength (without_user c e) p
-      by_length (told same) = told same
-      by_length (untold u) = untold (record { gone = u.gone; untold = u.untold; total = u.total; known = u.known; came = u.came; first = ap (unless_it c) u.first })
+      by_length : KnowsLength e p → KnowsLength (without_user c e) p
+      by_length (reported same) = reported same
+      by_length (unreported u) = unreported (record { gone = u.gone; unreported = u.unreported; total = u.total; known = u.known; came = u.came; first = ap (unless_it c) u.first })
 
       left_by_test : (b : Bool) → (e.is_gone && is_nobody (without itself c e.bound)) ≡ b → KeepsEntry s q (if b then None else Some (without_user c e)) (Some p)
       unfolding kind_of

@@ -2,12 +2,10 @@
 use Rattle.std.{proofs.{Common.{◌≡◌, ℕ, ◌+◌, Bool, true, false, not, List, [], ◌∷◌, ◌++◌, drop, Some, refl, ap, sym, ◌∙◌, arith}, lemmas.{List.{append_assoc, drop_more}, Option.{slice_get_within, get_or_from_slice_get}}}, specs.{Prelude.{◌||◌, bytes_eq, codes, filter, slice_get}, List.{list_any}}}
 use Rattle.hc_text.proofs.Basics.{false_true}
 use Rattle.http_header.specs.Token.{lowercase}
-use Rattle.hc_fields.specs.FieldList.{IsFieldList, IsWithinLimits, has_name, without}
-use Rattle.hc_fields.specs.FirstValues.{elements_in}
+use Rattle.hc_fields.specs.{FieldList.{IsFieldList, IsWithinLimits, has_name, without}, FirstValues.{elements_in}}
 use Rattle.hc_fields.proofs.Edits.{length-parts, size_of-parts}
 use Rattle.hc_rules.proofs.RangeReads.{bytes_eq-same, same_bytes}
-use Rattle.hc_validate.specs.Updates.{is_renewed, left_by}
-use Rattle.hc_validate.specs.Updates.{FieldPairs}
+use Rattle.hc_validate.specs.Updates.{is_renewed, left_by, FieldPairs}
 use Rattle.hc_validate.proofs.Renewals.{field_at, left_by-more}
 use Rattle.hc_effects.proofs.Vocabulary.{kept_fields, varied_by}
 use Rattle.hc_model.specs.Heads.{is_varied}
@@ -55,38 +53,38 @@ module _ (p : Pair → Bool) (same : (f g : Pair) → has_name g.0 f ≡ true �
 
 -- those that it doesn't name
 abbrev pub unnamed : FieldPairs → FieldPairs → FieldPairs
-unnamed told fs = filter (λ f. not (is_varied told f)) fs
+unnamed reported fs = filter (λ f. not (is_varied reported f)) fs
 
-by_name : (told : FieldPairs) (f g : Pair) → has_name g.0 f ≡ true → is_varied told f ≡ is_varied told g
-by_name told f g is = ap (λ (name : List ℕ). list_any (λ element. bytes_eq (lowercase element) name) (elements_in (codes "vary") told)) (same_bytes f.0 g.0 is)
+by_name : (reported : FieldPairs) (f g : Pair) → has_name g.0 f ≡ true → is_varied reported f ≡ is_varied reported g
+by_name reported f g is = ap (λ (name : List ℕ). list_any (λ element. bytes_eq (lowercase element) name) (elements_in (codes "vary") reported)) (same_bytes f.0 g.0 is)
 
-pub varied-first : (asked told : FieldPairs) → left_by (unnamed told asked) asked ≡ varied_by asked told
-varied-first asked told = left_is (is_varied told) (by_name told) [] asked
+pub varied-first : (asked reported : FieldPairs) → left_by (unnamed reported asked) asked ≡ varied_by asked reported
+varied-first asked reported = left_is (is_varied reported) (by_name reported) [] asked
 
 -- as the code tests it
-pub varied-lower : (told : FieldPairs) (name value : List ℕ) → lowercase name ≡ name → list_any (is_named_by name) (elements_in (codes "vary") told) ≡ is_varied told (name, value)
-varied-lower told name value lower = ap (λ (n : List ℕ). list_any (λ element. bytes_eq (lowercase element) n) (elements_in (codes "vary") told)) lower
+pub varied-lower : (reported : FieldPairs) (name value : List ℕ) → lowercase name ≡ name → list_any (is_named_by name) (elements_in (codes "vary") reported) ≡ is_varied reported (name, value)
+varied-lower reported name value lower = ap (λ (n : List ℕ). list_any (λ element. bytes_eq (lowercase element) n) (elements_in (codes "vary") reported)) lower
 
-pub unnamed-more : (told asked : FieldPairs) (i : ℕ) (g : Pair) → slice_get asked i ≡ Some g → is_varied told g ≡ false → unnamed told (drop i asked) ≡ g ∷ unnamed told (drop (i + 1) asked)
-unnamed-more told asked i g is off = rw (drop_more asked i g (slice_get_within asked i g is), get_or_from_slice_get asked i g g is, off) refl
+pub unnamed-more : (reported asked : FieldPairs) (i : ℕ) (g : Pair) → slice_get asked i ≡ Some g → is_varied reported g ≡ false → unnamed reported (drop i asked) ≡ g ∷ unnamed reported (drop (i + 1) asked)
+unnamed-more reported asked i g is off = rw (drop_more asked i g (slice_get_within asked i g is), get_or_from_slice_get asked i g g is, off) refl
 
-pub unnamed-named : (told asked : FieldPairs) (i : ℕ) (g : Pair) → slice_get asked i ≡ Some g → is_varied told g ≡ true → unnamed told (drop i asked) ≡ unnamed told (drop (i + 1) asked)
-unnamed-named told asked i g is on = rw (drop_more asked i g (slice_get_within asked i g is), get_or_from_slice_get asked i g g is, on) refl
+pub unnamed-named : (reported asked : FieldPairs) (i : ℕ) (g : Pair) → slice_get asked i ≡ Some g → is_varied reported g ≡ true → unnamed reported (drop i asked) ≡ unnamed reported (drop (i + 1) asked)
+unnamed-named reported asked i g is on = rw (drop_more asked i g (slice_get_within asked i g is), get_or_from_slice_get asked i g g is, on) refl
 
 -- one field more is looked at
-module _ (told asked fields : FieldPairs) (i : ℕ) (g : Pair) (list : IsFieldList asked) (is : slice_get asked i ≡ Some g) (left : left_by (unnamed told (drop i asked)) fields ≡ varied_by asked told) where
+module _ (reported asked fields : FieldPairs) (i : ℕ) (g : Pair) (list : IsFieldList asked) (is : slice_get asked i ≡ Some g) (left : left_by (unnamed reported (drop i asked)) fields ≡ varied_by asked reported) where
   lower : lowercase g.0 ≡ g.0
   lower = (field_at asked i g list is).is_lower
 
-  pub varied-removed : list_any (is_named_by g.0) (elements_in (codes "vary") told) ≡ false → (after : FieldPairs) → after ≡ without (lowercase g.0) fields → left_by (unnamed told (drop (i + 1) asked)) after ≡ varied_by asked told
+  pub varied-removed : list_any (is_named_by g.0) (elements_in (codes "vary") reported) ≡ false → (after : FieldPairs) → after ≡ without (lowercase g.0) fields → left_by (unnamed reported (drop (i + 1) asked)) after ≡ varied_by asked reported
   varied-removed off after removed =
-      let rest = unnamed told (drop (i + 1) asked) in
+      let rest = unnamed reported (drop (i + 1) asked) in
       ap (left_by rest) (removed ∙ ap (λ (n : List ℕ). without n fields) lower)
       ∙ (left_by-more g rest fields
-      ∙ (ap (λ (t : FieldPairs). left_by t fields) (sym (unnamed-more told asked i g is (sym (varied-lower told g.0 g.1 lower) ∙ off))) ∙ left))
+      ∙ (ap (λ (t : FieldPairs). left_by t fields) (sym (unnamed-more reported asked i g is (sym (varied-lower reported g.0 g.1 lower) ∙ off))) ∙ left))
 
-  pub varied-kept : list_any (is_named_by g.0) (elements_in (codes "vary") told) ≡ true → left_by (unnamed told (drop (i + 1) asked)) fields ≡ varied_by asked told
-  varied-kept on = ap (λ (t : FieldPairs). left_by t fields) (sym (unnamed-named told asked i g is (sym (varied-lower told g.0 g.1 lower) ∙ on))) ∙ left
+  pub varied-kept : list_any (is_named_by g.0) (elements_in (codes "vary") reported) ≡ true → left_by (unnamed reported (drop (i + 1) asked)) fields ≡ varied_by asked reported
+  varied-kept on = ap (λ (t : FieldPairs). left_by t fields) (sym (unnamed-named reported asked i g is (sym (varied-lower reported g.0 g.1 lower) ∙ on))) ∙ left
 
 -- WHAT IS STORED
 

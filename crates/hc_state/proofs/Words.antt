@@ -33,7 +33,7 @@ on_ok_two (Err e) p q f = tt
 
 -- and where both grow by as many
 pub more_received : {a b m n : ℕ} (more : ℕ) → a ≡ b + more → n ≡ m + more → m ≤ b → n ≤ a
-more_received more count told most = omega (arith, count, told, most)
+more_received more count reported most = omega (arith, count, reported, most)
 
 pub none_received : (n : ℕ) → 0 ≤ n
 none_received n = omega arith

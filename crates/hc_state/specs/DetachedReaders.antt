@@ -17,7 +17,7 @@ use Rattle.hc_rules.specs.Admissions.{least}
 use Rattle.hc_model.specs.Cases.{head_view}
 use Rattle.hc_model.specs.Currents.{current, is_number}
 use Rattle.hc_model.specs.Denials.{denial}
-use Rattle.hc_model.specs.Effects.{all_closed, let_go, lost_to, unless_survived, with_representation, writing_lost}
+use Rattle.hc_model.specs.Effects.{all_closed, let_go, lost_to, unless_survived, with_representation, group_lost}
 use Rattle.hc_model.specs.Exchanges.{family, front}
 use Rattle.hc_model.specs.LettingGo.{MayLetGo}
 use Rattle.hc_model.specs.Rows.{Tables, Exchange, Representation}
@@ -64,7 +64,7 @@ pub record MayLoseShared (t : Tables) (r x : ℕ) (v : Representation) : Type 0 
 -- the tables once that is lost and let go: the survivor goes on with x, the others fail
 abbrev pub shared_loss : ℕ → ℕ → ℕ → Representation → Option ℕ → Tables → Tables
 shared_loss now r x v detached_reader t =
-    let_go now r (with_representation r (Some (lost_to detached_reader v)) (writing_lost r detached_reader (Some x) t))
+    let_go now r (with_representation r (Some (lost_to detached_reader v)) (group_lost r detached_reader (Some x) t))
 
 pub record LosesShared {B : Type 0} {g : Ghosts B} (limits : Limits) (u : Rows B g) (t : Tables) (now r x : ℕ)
     (v : Representation) (detached_reader : Option ℕ) : Type 0 where
@@ -72,7 +72,7 @@ pub record LosesShared {B : Type 0} {g : Ghosts B} (limits : Limits) (u : Rows B
   pub rows : RowsStand limits u (shared_loss now r x v detached_reader t)
 
 -- and x is closed, where nobody goes on with it
-pub record LosesWriting {B : Type 0} {g : Ghosts B} (limits : Limits) (u : Rows B g) (t : Tables)
+pub record LosesGroup {B : Type 0} {g : Ghosts B} (limits : Limits) (u : Rows B g) (t : Tables)
     (before out : List Act) (now r x : ℕ) (v : Representation) (kind : LostKind) : Type 0 where
   pub acts : out ≡ before
       ++ (act.Lost r kind ∷ map act.Close (unless_survived (survivor t r v) (Some x)))

@@ -8,13 +8,11 @@ use Rattle.hc_event.specs.declared.act.Act.TheVariants as act
 use Rattle.hc_rules.specs.declared.need.Route.TheVariants as route
 use Rattle.hc_rules.specs.Admissions.{lesser}
 use Rattle.hc_rules.specs.Needs.{route_of}
-use Rattle.hc_text.specs.Sorted.{is_sorted}
+use Rattle.hc_text.specs.Sorted.{is_sorted, is_among, itself}
 use Rattle.hc_stored.specs.Entries.{shelf_of}
 use Rattle.hc_stored.specs.Shelf.{Shelf}
 use Rattle.hc_entry.specs.Keys.{line_of, kept_of}
 use Rattle.hc_entry.specs.Lines.{is_in}
-use Rattle.hc_text.specs.Sorted.{is_among}
-use Rattle.hc_text.specs.Sorted.{itself}
 use Rattle.hc_exch.specs.declared.exchanges.Exchanges.{Exchanges}
 use Rattle.hc_exch.specs.declared.row.Open.{Open}
 use Rattle.hc_exch.specs.Exchanges.{table_of, next_of}

@@ -2,7 +2,7 @@
 use Rattle.std.specs.Prelude.{◌≡◌, ℕ, ◌||◌, not, IsTrue, List, bytes_eq, Bool, true, false, Option, Some, None, if◌then◌else◌}
 use Rattle.http_header.specs.Token.{lowercase}
 use Rattle.hc_fields.specs.FieldList.{IsWithinLimits}
-use Rattle.hc_range.specs.declared.range.Asked.{Asked}
+use Rattle.hc_range.specs.declared.range.RangeSpec.{RangeSpec}
 use Rattle.hc_record.specs.Head.{Head, joining_of}
 use Rattle.hc_record.specs.Plain.{plain}
 use Rattle.hc_record.specs.declared.kind.Kind.{Kind}
@@ -96,7 +96,7 @@ abbrev pub part_of : Wanted → Option ℕ → ℕ × Option ℕ
 part_of (wanted.Interval span) total = (span.lo, Some span.hi)
 part_of _ total = (0, total)
 
-abbrev pub part_by : Bool → Option Asked → Option ℕ → ℕ × Option ℕ
+abbrev pub part_by : Bool → Option RangeSpec → Option ℕ → ℕ × Option ℕ
 part_by true range total = (0, total)
 part_by false range total = part_of (wanted_of range total) total
 

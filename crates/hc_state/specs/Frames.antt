@@ -8,13 +8,13 @@ use Rattle.hc_state.specs.declared.rows.Rows.{Rows}
 -- where it is refused nothing is told, and each fault of the store stays counted
 pub record KeepsFaults {B : Type 0} {g : Ghosts B} {T E : Type 0} (result : Result T E)
     (r u : Rows B g) (before out : List Act) : Type 0 where
-  pub told : OnErr result (out ≡ before)
+  pub reported : OnErr result (out ≡ before)
   pub faults : (shelf_of r.entries).faults ≤ (shelf_of u.entries).faults
 
 -- where it is refused nothing is told, and the store doesn't fail
 pub record AddsNoFault {B : Type 0} {g : Ghosts B} {T E : Type 0} (result : Result T E)
     (r u : Rows B g) (before out : List Act) : Type 0 where
-  pub told : OnErr result (out ≡ before)
+  pub reported : OnErr result (out ≡ before)
   pub faults : (shelf_of u.entries).faults ≡ (shelf_of r.entries).faults
 
 -- no exchange changes, nobody starts, and the store doesn't fail

@@ -22,10 +22,9 @@ use Rattle.hc_event.specs.declared.place.Place.TheVariants as place
 use Rattle.hc_model.specs.Moves as moves
 use Rattle.hc_model.specs.Moves.{Move}
 use Rattle.hc_txn.specs.declared.transaction.Transaction.{Transaction as Consumer}
-use Rattle.hc_txn.specs.Transactions.{queues}
+use Rattle.hc_txn.specs.Transactions.{queues, put_down}
 use Rattle.hc_state.specs.declared.rows.Rows.{Rows}
 use Rattle.hc_state.specs.Changes.{ChangesAt, BecomesAt}
-use Rattle.hc_txn.specs.Transactions.{put_down}
 
 -- WHERE A CONSUMER STANDS
 

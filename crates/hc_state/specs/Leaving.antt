@@ -29,19 +29,19 @@ abbrev pub if_running : Table → Option ℕ → Option ℕ
 if_running table None = None
 if_running table (Some x) = if is_open x table then Some x else None
 
--- the exchange of a shared writing, as long as that is on, by what is told of the representation
-abbrev pub writing_by : Table → EntryView → Option ℕ
-writing_by table told = if told.is_lost then None else if_running table told.writer
+-- the exchange of a writer group, as long as that is on, by what is told of the representation
+abbrev pub group_by : Table → EntryView → Option ℕ
+group_by table reported = if reported.is_lost then None else if_running table reported.writer
 
 -- and that of what is kept
-abbrev pub writing_of : Table → Option Kept → Option ℕ
-writing_of table None = None
-writing_of table (Some k) = writing_by table (view_of k)
+abbrev pub writer_group_of : Table → Option Kept → Option ℕ
+writer_group_of table None = None
+writer_group_of table (Some k) = group_by table (view_of k)
 
 -- that of which whoever stands there is the last reader
 abbrev pub last_read : Table → Shelf → ℕ → Place → Option ℕ
 last_read table s c (place.Bound r lo hi by) =
-    if list_all (λ d. d == c) (bound_in (s.kept r)) then writing_of table (s.kept r) else None
+    if list_all (λ d. d == c) (bound_in (s.kept r)) then writer_group_of table (s.kept r) else None
 last_read table s c _ = None
 
 -- what nobody reads any more once it leaves

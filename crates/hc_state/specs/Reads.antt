@@ -34,7 +34,7 @@ use Rattle.hc_txn.specs.declared.transaction.Transaction.{Transaction as Consume
 use Rattle.hc_state.specs.declared.rows.Rows.{Rows}
 use Rattle.hc_state.specs.Handlers.{most}
 use Rattle.hc_state.specs.Facts.{Facts}
-use Rattle.hc_state.specs.Leaving.{if_running, writing_of}
+use Rattle.hc_state.specs.Leaving.{if_running, writer_group_of}
 use Rattle.hc_state.specs.Plans.{is_idle_at, AnswersFilling}
 use Rattle.hc_state.specs.Stands.{RowsStand, Answered, Answers}
 
@@ -114,7 +114,7 @@ bound_view table e c stored next k = record {
   stored = stored;
   held = goes_alone c e && nat_lt 0 (held_own table k.own);
   due = k.due;
-  source = option_or (if_running table k.own) (writing_of table e);
+  source = option_or (if_running table k.own) (writer_group_of table e);
   next_stored = next;
 }
 

@@ -7,14 +7,14 @@ use Rattle.hc_model.specs.Contents.{runs_from}
 use Rattle.hc_model.specs.Entries.{Content}
 
 -- one representation: its head as it is kept, and its bytes as the longest runs
-pub record TellsOne (s : Shelf) (r : ℕ) (item : Content) : Type 0 where
+pub record IsContentOf (s : Shelf) (r : ℕ) (item : Content) : Type 0 where
   pub number : item.r ≡ r
   pub key : option_map key_in (s.kept r) ≡ Some item.key
   pub head : head_at s r ≡ Some item.head
   pub runs : (n : ℕ) → EndsBy n (cells_at s r) → item.runs ≡ runs_from (cells_at s r) 0 n
 
 -- these, in this order
-abbrev pub TellsAll : Shelf → List ℕ → List Content → Type 0
-TellsAll s [] [] = Unit {0}
-TellsAll s (r ∷ rs) (item ∷ items) = TellsOne s r item × TellsAll s rs items
-TellsAll s _ _ = ⊥
+abbrev pub AreContentsOf : Shelf → List ℕ → List Content → Type 0
+AreContentsOf s [] [] = Unit {0}
+AreContentsOf s (r ∷ rs) (item ∷ items) = IsContentOf s r item × AreContentsOf s rs items
+AreContentsOf s _ _ = ⊥

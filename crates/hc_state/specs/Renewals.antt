@@ -2,9 +2,8 @@
 use Rattle.std.specs.Prelude.{◌≡◌, ℕ, Bool, true, false, Some, option_map}
 use Rattle.hc_event.specs.declared.event.Response.{Response}
 use Rattle.hc_record.specs.Head.{Head}
-use Rattle.hc_validate.specs.Updates.{FieldPairs}
+use Rattle.hc_validate.specs.Updates.{FieldPairs, updated_fields}
 use Rattle.hc_validate.specs.Selection.{selects}
-use Rattle.hc_validate.specs.Updates.{updated_fields}
 use Rattle.hc_store.specs.declared.backend.Backend.{Ghosts}
 use Rattle.hc_stored.specs.Entries.{shelf_of}
 use Rattle.hc_stored.specs.Kept.{Kept, with_head}
@@ -49,7 +48,7 @@ pub record IsRenewed {B : Type 0} {g : Ghosts B} (a u : Rows B g) (x now r : ℕ
 -- a 304 of x selects r, or doesn't
 pub record IsSelected {B : Type 0} {g : Ghosts B} (a u : Rows B g) (x now r : ℕ) (response : Response) (selected : Bool) : Type 0 where
   pub rest : KeepsBeside a u
-  pub tells : (k : Kept) → (shelf_of a.entries).kept r ≡ Some k → selected ≡ selects k.head response
+  pub reports : (k : Kept) → (shelf_of a.entries).kept r ≡ Some k → selected ≡ selects k.head response
   pub head : (o : Open) → (table_of a.exchanges x).running ≡ Some o →
       RenewsIf selected o.moment now response.fields r (shelf_of a.entries) (shelf_of u.entries)
 

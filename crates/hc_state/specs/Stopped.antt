@@ -131,10 +131,10 @@ pub record Waited (t : Tables) (x c : ℕ) (w : Exchange) (k : Consumer) : Type 
 -- WHERE IT ENDS, AND TOLD NO LENGTH
 
 -- x is open, and its head told no length
-pub record TellsNoLength (t : Tables) (x : ℕ) : Type 0 where
+pub record ReportsNoLength (t : Tables) (x : ℕ) : Type 0 where
   pub w : Exchange
   pub row : t.exchange x ≡ Some w
-  pub untold : promised_bytes w ≡ None
+  pub unreported : promised_bytes w ≡ None
 
 -- all but representations stays
 pub record KeepsBesideEntries {B : Type 0} {g : Ghosts B} (r u : Rows B g) : Type 0 where

@@ -5,23 +5,22 @@ use Rattle.hc_record.specs.declared.kind.Kind.TheVariants as kind
 use Rattle.hc_sparse.specs.Cells.{Cells, EndsBy}
 use Rattle.hc_stored.specs.declared.view.EntryView.{EntryView}
 use Rattle.hc_stored.specs.Kept.{Kept}
-use Rattle.hc_text.specs.Sorted.{itself}
+use Rattle.hc_text.specs.Sorted.{itself, has}
 use Rattle.hc_stored.specs.Shelf.{Shelf}
 use Rattle.hc_stored.specs.Views.{view_of, bound_in}
 use Rattle.hc_exch.specs.declared.role.Role.{Role}
 use Rattle.hc_exch.specs.declared.role.Role.TheVariants as role
 use Rattle.hc_exch.specs.declared.row.Open.{Open}
 use Rattle.hc_exch.specs.Known.{Table}
-use Rattle.hc_text.specs.Sorted.{has}
 use Rattle.hc_model.specs.Currents.{is_number}
-use Rattle.hc_model.specs.Kinds.{is_complete, is_front}
+use Rattle.hc_model.specs.Kinds.{is_complete, is_prefix}
 use Rattle.hc_model.specs.Rows.{Representation}
-use Rattle.hc_state.specs.declared.stop.Stop.{Stop}
-use Rattle.hc_state.specs.declared.stop.Stop.TheVariants as stop
+use Rattle.hc_state.specs.declared.stop.Disposition.{Disposition}
+use Rattle.hc_state.specs.declared.stop.Disposition.TheVariants as stop
 use Rattle.hc_state.specs.declared.stop.Readers.{Readers}
 use Rattle.hc_state.specs.declared.stop.Readers.TheVariants as readers
 use Rattle.hc_txn.specs.declared.transaction.Transaction.{Transaction as Consumer}
-use Rattle.hc_state.specs.Leaving.{writing_of}
+use Rattle.hc_state.specs.Leaving.{writer_group_of}
 use Rattle.hc_rules.specs.Statuses.{brings_whole}
 
 abbrev pub body_of : Role → Option ℕ
@@ -42,17 +41,17 @@ may_complete entry =
 abbrev pub goes_with : ℕ → ℕ → EntryView → Bool
 goes_with x r entry = x == r && brings_whole entry.status && not (may_complete entry)
 
-abbrev pub stop_by : ℕ → ℕ → Option Kept → Stop
+abbrev pub stop_by : ℕ → ℕ → Option Kept → Disposition
 stop_by x r None = stop.Nothing
 stop_by x r (Some k) =
     if k.is_gone then stop.Nothing
     else if goes_with x r (view_of k) then stop.LetGo r else stop.Seal r
 
-abbrev pub stop_at : ℕ → Shelf → Option ℕ → Stop
+abbrev pub stop_at : ℕ → Shelf → Option ℕ → Disposition
 stop_at x s None = stop.Nothing
 stop_at x s (Some r) = stop_by x r (s.kept r)
 
-abbrev pub stop_of : ℕ → Option Open → Shelf → Stop
+abbrev pub stop_of : ℕ → Option Open → Shelf → Disposition
 stop_of x running s = stop_at x s (brought_by running)
 
 -- WHO READS FROM IT
@@ -69,7 +68,7 @@ alone_in (Some k) = k.alone
 abbrev pub readers_by : ℕ → Table → Shelf → ℕ → Option ℕ → Readers
 readers_by x table s c None = readers.One c
 readers_by x table s c (Some r) =
-    if is_number (writing_of table (s.kept r)) x then readers.All r
+    if is_number (writer_group_of table (s.kept r)) x then readers.All r
     else readers.One (unwrap_or (alone_in (s.kept r)) c)
 
 abbrev pub readers_of : ℕ → Table → Shelf → Readers
@@ -95,7 +94,7 @@ reads_from s (readers.All r) d = has itself d (bound_in (s.kept r))
 -- the kind of what nothing more comes of
 abbrev pub kind_left : Representation → Kind
 kind_left v =
-    if is_complete v then kind.Whole else if is_front v then kind.Truncated else kind.Ranges
+    if is_complete v then kind.Whole else if is_prefix v then kind.Truncated else kind.Ranges
 
 -- what is told of it is what the tables say: its length, how many bytes are stored, and which
 pub record IsViewOf (v : Representation) (cells : Cells) (entry : EntryView) : Type 0 where

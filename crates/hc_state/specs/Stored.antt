@@ -3,9 +3,8 @@ use Rattle.std.specs.Prelude.{◌≡◌, ◌≢◌, ◌<◌, ◌^◌, ℕ, [], B
 use Rattle.hc_sparse.specs.Cells.{Covers}
 use Rattle.hc_record.specs.Head.{sealed_head}
 use Rattle.hc_record.specs.declared.kind.Kind.TheVariants as kinds
-use Rattle.hc_text.specs.Sorted.{has}
+use Rattle.hc_text.specs.Sorted.{has, itself}
 use Rattle.hc_stored.specs.Kept.{Kept}
-use Rattle.hc_text.specs.Sorted.{itself}
 use Rattle.hc_stored.specs.Shelf.{Shelf}
 use Rattle.hc_model.specs.Currents.{is_number}
 use Rattle.hc_model.specs.Kinds.{kind_of}
@@ -24,17 +23,17 @@ is_first t r (Some k) = is_bound_place r k.place && came_alone t k.place
 
 -- A length that became known once it was gone isn't told: all of it has come, and nobody came to it
 -- alone.
-pub record IsUntold (k : Kept) (v : Representation) : Type 0 where
+pub record IsForgotten (k : Kept) (v : Representation) : Type 0 where
   pub gone : v.is_gone ≡ true
-  pub untold : k.head.total ≡ None
+  pub unreported : k.head.total ≡ None
   pub total : ℕ
   pub known : v.head.total ≡ Some total
   pub came : Covers v.body 0 total
   pub first : k.first ≡ None
 
-pub data TellsLength (k : Kept) (v : Representation) : Type 0 where
-  told : k.head.total ≡ v.head.total → TellsLength k v
-  untold : IsUntold k v → TellsLength k v
+pub data KnowsLength (k : Kept) (v : Representation) : Type 0 where
+  reported : k.head.total ≡ v.head.total → KnowsLength k v
+  unreported : IsForgotten k v → KnowsLength k v
 
 -- WHO WRITES IT
 
@@ -43,11 +42,11 @@ abbrev pub is_over : Option Exchange → Bool
 is_over None = false
 is_over (Some w) = not w.is_open
 
--- The exchange of its shared writing is told; one that is over may be forgotten.
-pub data TellsWriter (exchange : ℕ → Option Exchange) (kept told : Option ℕ) : Type 0 where
-  as_written : kept ≡ told → TellsWriter exchange kept told
-  forgotten : (x : ℕ) → kept ≡ None → told ≡ Some x → is_over (exchange x) ≡ true →
-      TellsWriter exchange kept told
+-- The exchange of its writer group is told; one that is over may be forgotten.
+pub data KnowsWriter (exchange : ℕ → Option Exchange) (kept reported : Option ℕ) : Type 0 where
+  as_written : kept ≡ reported → KnowsWriter exchange kept reported
+  forgotten : (x : ℕ) → kept ≡ None → reported ≡ Some x → is_over (exchange x) ≡ true →
+      KnowsWriter exchange kept reported
 
 -- ONE OF THEM
 
@@ -56,14 +55,14 @@ pub record IsEntry (t : Tables) (r : ℕ) (k : Kept) (v : Representation) : Type
   pub used : v.is_gone ≡ true → bound t r ≢ []
   pub key : k.key ≡ v.key
   pub head : sealed_head kinds.Growing v.head.total k.head ≡ v.head
-  pub length : TellsLength k v
+  pub length : KnowsLength k v
   pub kind : v.is_gone ≡ false → k.head.kind ≡ kind_of t r v
   pub whole : (n : ℕ) → k.head.kind ≡ kinds.Whole → k.head.total ≡ Some n → Covers v.stored 0 n
   pub cells : (p : ℕ) → k.cells p ≡ v.stored p
   pub reach : v.is_lost ≡ false → k.reach ≡ v.reach
   pub bound : (c : ℕ) → has itself c k.bound ≡ is_bound r (t.consumer c)
   pub first : (c : ℕ) → is_number k.first c ≡ is_first t r (t.consumer c)
-  pub writer : TellsWriter t.exchange k.writer v.writer
+  pub writer : KnowsWriter t.exchange k.writer v.writer
   pub is_lost : k.is_lost ≡ v.is_lost
   pub alone : k.alone ≡ v.alone
   pub is_gone : k.is_gone ≡ v.is_gone
@@ -91,8 +90,8 @@ is_usable_kept None = false
 is_usable_kept (Some k) = not k.is_gone
 
 -- each length that is told may be sealed
-abbrev pub TellsShort : Shelf → Type 0
-TellsShort s =
+abbrev pub KnowsShort : Shelf → Type 0
+KnowsShort s =
     (r n : ℕ) (k : Kept) → s.kept r ≡ Some k → k.head.total ≡ Some n → n < 2 ^ 62
 
 -- those that aren't gone stand in the order in which consumers became bound to them

@@ -2,13 +2,10 @@
 ghost use Rattle.std.specs.Prelude.{◌≡◌, ◌+◌, ◌≤◌, ◌^◌, IsSomeAnd, nat_eq};
 ghost use Rattle.std.specs.Option.{option_and_then};
 ghost use Rattle.std.specs.HashMap.{get};
-ghost use Rattle.hc_text.specs.Sorted.{has};
-ghost use Rattle.hc_text.specs.Sorted.{itself};
+ghost use Rattle.hc_text.specs.Sorted.{has, itself};
 ghost use Rattle.hc_state.specs.DetachedReaders.{ChangesEach, after_parting};
-ghost use Rattle.hc_txn.specs.Transactions.{without_own};
-ghost use Rattle.hc_txn.specs.Transactions.{founding as founds_with};
+ghost use Rattle.hc_txn.specs.Transactions.{without_own, founding as founds_with, lined_up, passed_for, bound_shown, bound_first, with_own, reading_past, answer_of, once_answered, once_shown, once_given, with_answer, standing_at, with_turn, once_over, put_down, with_due, with_end};
 ghost use Rattle.hc_state.specs.Changes.{ChangesAt, ChangesAmong, over_if_passed};
-ghost use Rattle.hc_txn.specs.Transactions.{lined_up, passed_for, bound_shown, bound_first, with_own, reading_past, answer_of, once_answered, once_shown, once_given, with_answer, standing_at, with_turn, once_over, put_down, with_due, with_end};
 
 use hc_event::{Cause, Place, Response};
 use hc_range::Span;

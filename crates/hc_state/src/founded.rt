@@ -64,13 +64,13 @@ pub fn founded_head(
 }
 
 /// The fields of a request that Vary names (RFC 9111 section 4.1).
-fn varied(asked: &Fields, told: &Fields) -> Result<Fields, NoMemory>
-    ensures { IfOk result (λ fields. fields ≡ varied_by asked.now told.now) }
+fn varied(asked: &Fields, reported: &Fields) -> Result<Fields, NoMemory>
+    ensures { IfOk result (λ fields. fields ≡ varied_by asked.now reported.now) }
 {
     let mut fields = asked.copy()?;
     for i in 0..asked.len() {
         let (name, _) = asked.at(i);
-        if !is_varied(told, name) {
+        if !is_varied(reported, name) {
             fields.remove(name);
         }
     }
@@ -80,11 +80,11 @@ fn varied(asked: &Fields, told: &Fields) -> Result<Fields, NoMemory>
 const VARY: &[u8] = b"vary";
 
 /// Whether Vary names the field.
-fn is_varied(told: &Fields, name: &[u8]) -> bool
-    ensures { result ≡ list_any (is_named_by name.now) (elements_in (codes "vary") told.now) }
+fn is_varied(reported: &Fields, name: &[u8]) -> bool
+    ensures { result ≡ list_any (is_named_by name.now) (elements_in (codes "vary") reported.now) }
 {
-    for i in 0..told.count(VARY) {
-        if lists(told.value(VARY, i).unwrap(), name) {
+    for i in 0..reported.count(VARY) {
+        if lists(reported.value(VARY, i).unwrap(), name) {
             return true;
         }
     }

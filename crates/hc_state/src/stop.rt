@@ -2,7 +2,7 @@
 
 /// What becomes of what an exchange brought when that is closed.
 #[derive(Clone, Copy)]
-pub enum Stop {
+pub enum Disposition {
     /// Nothing is stored by it that isn't gone.
     Nothing,
     /// It can't be completed later, and is let go.

@@ -5,12 +5,10 @@
 -- (`ordered-same`, `ordered-first`, `ordered-out`). Then what a row admits, and what is left where somebody leaves: a
 -- row that isn't over has somebody or isn't gone (`kept-left`), and one that is over was gone (`gone-left`).
 use Rattle.std.{proofs.{Common.{◌≡◌, ℕ, List, ◌∷◌, true, false, not, eqb, Option, Some, None, refl, sym, ap, ◌∙◌, inl, inr, arith}, lemmas.Bool.{cases_Bool, and_parts, eqb-true, Decides.{nat_tests}}}, specs.Prelude.{is_some, is_none, option_map, ◌&&◌}}
-use Rattle.hc_text.proofs.Basics.{not_true}
-use Rattle.hc_text.specs.Sorted.{is_sorted, has, without}
-use Rattle.hc_text.proofs.SortedLemmas.{has-without}
+use Rattle.hc_text.proofs.{Basics.{not_true}, SortedLemmas.{has-without}}
+use Rattle.hc_text.specs.Sorted.{is_sorted, has, without, itself}
 use Rattle.hc_store.specs.Slots.{Held, Slots}
 use Rattle.hc_stored.specs.{Kept.{Kept, is_nobody}, Rows.{Row, Rows, with_row, Changes, kept_of, kept_by, slot_at, users_at, unused_by, going, is_current, is_over}, Shelved.{IsShelved, AreShelved}, Views.{admits, admits_first, has_user}}
-use Rattle.hc_text.specs.Sorted.{itself}
 
 -- what is kept is a row, of some slot
 pub slot-kept : (slots : Slots) (o : Option Row) → is_some (kept_by slots o) ≡ true → (n : ℕ) × (slot_at o ≡ Some n)

@@ -6,8 +6,7 @@
 -- moves it to the front (`keys-promoted`), and a new one stands first (`keys-put`).
 use Rattle.std.{proofs.{Common.{◌≡◌, ℕ, ◌-◌, ◌≤◌, List, [], ◌∷◌, length, true, false, cond, eqb, Some, None, refl, sym, ap, ◌∙◌, inl, inr, arith}, lemmas.{Bool.{cases_Bool, eqb-true, Decides.{nat_tests}}, List.{take_all}, Map.Keys.{IsDistinct-head, IsDistinct-tail, IsDistinct-cons}}}, specs.{Prelude.{nat_eq}, List.{AllByRecursion, IsDistinct}, Map.{keys_of, lookup_entry, remove_entry}}}
 use Rattle.lru.specs.LruCache.{LruCache, promoted, put_entries}
-use Rattle.hc_text.specs.Sorted.{has, without}
-use Rattle.hc_text.specs.Sorted.{itself}
+use Rattle.hc_text.specs.Sorted.{has, without, itself}
 
 -- nowhere in the list
 abbrev Lacks : ℕ → List ℕ → Type 0

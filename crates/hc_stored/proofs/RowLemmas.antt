@@ -5,15 +5,13 @@
 -- (`lifetime-sealed`), so the summary still follows. Consumers change who is bound: that still ascends, and where the
 -- row is gone somebody is left (`shelved-bound`, `shelved-left`). A founded row has its consumer.
 use Rattle.std.{proofs.{Common.{◌≡◌, ℕ, ◌+◌, ◌<◌, ◌^◌, List, [], ◌∷◌, length, Bool, true, false, not, eqb, cond, Option, Some, None, refl, ap, ◌∙◌, arith}, lemmas.Bool.Decides.{nat_tests}}, specs.Prelude.{option_map, ◌&&◌}}
-use Rattle.hc_text.proofs.Basics.{or_right}
-use Rattle.hc_text.specs.Sorted.{has, with_item, without}
-use Rattle.hc_text.proofs.SortedLemmas.{is_sorted-with, is_sorted-filter, has-with, has-without}
+use Rattle.hc_text.proofs.{Basics.{or_right}, SortedLemmas.{is_sorted-with, is_sorted-filter, has-with, has-without}}
+use Rattle.hc_text.specs.Sorted.{has, with_item, without, itself}
 use Rattle.hc_record.specs.{declared.kind.Kind.{Kind}, Head.{Head, sealed_head}}
 use Rattle.hc_fresh.specs.{Ages.{corrected_initial_age}, Facts.{head_facts}, Lifetimes.{lifetime, lifetime_by}}
 use Rattle.hc_cachectl.specs.Directives.{of_response}
 use Rattle.hc_store.specs.{Heads.{with_kind}, Slots.{Held, bare, rewrites, puts, seals}}
 use Rattle.hc_stored.specs.{Begun.{begun_row}, Heads.{Summary, summary_of}, Kept.{unless_it, is_nobody}, Rows.{Row, with_summary, with_last, reaching, sealed_as, used_by, used_first_by, unused_by, going, losing, written_in, founded_row}, Shelved.{is_among, IsShelved}}
-use Rattle.hc_text.specs.Sorted.{itself}
 
 summary-is : (b : Held) (summary : Summary) → option_map (λ (h : Held). summary_of h.head) (Some b) ≡ Some summary → summary_of b.head ≡ summary
 summary-is b summary is = let e = is in cc

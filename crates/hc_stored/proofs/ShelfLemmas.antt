@@ -7,10 +7,9 @@
 use Rattle.std.{proofs.{Common.{◌≡◌, ℕ, ◌<◌, ◌^◌, List, true, false, eqb, cond, Option, Some, None, refl, sym, ap, ◌∙◌, subst, inl, inr, arith}, Math.Logic.{∥∥₁_map}, lemmas.{Bool.{cases_Bool, eqb-true, Decides.{nat_tests}}, Grind.{merely}, Iterator.Adapters.{option_map_id}}}, specs.Prelude.{is_some, option_map}}
 use mathlib.Core.Path.{fun_ext}
 use Rattle.hc_text.proofs.Basics.{none_of}
-use Rattle.hc_text.specs.Sorted.{has}
+use Rattle.hc_text.specs.Sorted.{has, itself}
 use Rattle.hc_store.specs.Slots.{Held, Slots, with_slot, slots_after, is_live, cells_held}
 use Rattle.hc_stored.specs.{Heads.{summary_of}, Kept.{Kept}, Rows.{Row, Rows, with_row, Changes, kept_by, kept_of, slot_at, is_current}, Shelf.{cells_in}, Shelved.{IsShelved, Owner, AreShelved}}
-use Rattle.hc_text.specs.Sorted.{itself}
 use Rattle.hc_stored.proofs.WeightLemmas.{slot-there}
 
 -- OF ONE ROW

@@ -5,11 +5,10 @@
 -- without it the others weigh what they did (`sums-other`). What is kept owns the slots of its rows (`owners`), so the
 -- sum of all slots is that of what is kept (`weight-kept`).
 use Rattle.std.{proofs.{Common.{◌≡◌, ℕ, ◌+◌, ◌<◌, ◌^◌, List, [], ◌∷◌, true, false, eqb, Option, Some, None, refl, sym, ap, ◌∙◌, inl, inr, arith}, Math.Logic.{∥∥₁_map}, lemmas.{Bool.{cases_Bool, eqb-true, Decides.{nat_tests}}, Grind.{not_there}, List.Sums.{sum_by-cons}, Map.Keys.{IsDistinct-head, IsDistinct-tail}}}, specs.{Prelude.{is_some, option_map, nat_eq, if◌then◌else◌}, List.{AllByRecursion, IsDistinct, sum_by}}}
-use Rattle.hc_text.specs.Sorted.{has}
+use Rattle.hc_text.specs.Sorted.{has, itself}
 use Rattle.hc_store.specs.Slots.{Held, Slots, with_slot, is_live, weigh, weight}
 use Rattle.hc_store.proofs.Weights.{weight-none, weight-gone}
 use Rattle.hc_stored.specs.{Rows.{Row, Rows, kept_by, kept_of, slot_at}, Shelf.{weigh_kept}, Shelved.{Owner, AreShelved}}
-use Rattle.hc_text.specs.Sorted.{itself}
 
 -- WHO OWNS SLOTS
 

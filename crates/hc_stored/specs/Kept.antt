@@ -13,7 +13,7 @@ pub record Kept : Type 0 where
   pub reach : ℕ  -- where the last of its bytes ends
   pub bound : List ℕ  -- the consumers that are bound to it, by number
   pub first : Option ℕ  -- who of them came alone
-  pub writer : Option ℕ  -- the exchange of its shared writing, the last one
+  pub writer : Option ℕ  -- the exchange of its writer group, the last one
   pub is_lost : Bool
   pub alone : Option ℕ  -- who goes on with it after it was lost
   pub is_gone : Bool

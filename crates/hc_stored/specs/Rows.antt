@@ -3,7 +3,7 @@ use Rattle.std.specs.Prelude.{◌≡◌, ℕ, max, ◌==◌, ◌&&◌, List, [],
 use Rattle.std.specs.declared.hash.FoldHasher.{FoldHasher}
 use Rattle.std.specs.declared.hash.BuildHasherDefault.{BuildHasherDefault}
 use Rattle.std.specs.HashMap.{get, HashMap}
-use Rattle.hc_text.specs.Sorted.{with_item, without}
+use Rattle.hc_text.specs.Sorted.{with_item, without, itself}
 use Rattle.hc_record.specs.declared.kind.Kind.{Kind}
 use Rattle.hc_record.specs.Head.{opaque_of}
 use Rattle.hc_store.specs.Slots.{Held, Slots}
@@ -12,7 +12,6 @@ use Rattle.hc_stored.specs.declared.entry.Entry.{Entry}
 use Rattle.hc_stored.specs.Groups.{exchange_of}
 use Rattle.hc_stored.specs.Heads.{Summary}
 use Rattle.hc_stored.specs.Kept.{Kept, alone_if, unless_it, is_nobody}
-use Rattle.hc_text.specs.Sorted.{itself}
 
 pub record Row : Type 0 where
   pub key : List ℕ

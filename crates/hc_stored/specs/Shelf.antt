@@ -1,13 +1,12 @@
 -- What is kept of all representations, and how it changes.
 use Rattle.std.specs.Prelude.{◌≡◌, ℕ, ◌==◌, List, [], ◌∷◌, filter, reverse, Bool, true, false, Option, Some, None, is_some, option_map, nat_eq, if◌then◌else◌}
 use Rattle.std.specs.List.{IsDistinct}
-use Rattle.hc_text.specs.Sorted.{has, without}
+use Rattle.hc_text.specs.Sorted.{has, without, itself}
 use Rattle.hc_sparse.specs.Cells.{Cells, size}
 use Rattle.hc_record.specs.Head.{Head}
 use Rattle.hc_rules.specs.declared.room.Limits.{Limits}
 use Rattle.hc_rules.specs.Rooms.{weight_of}
 use Rattle.hc_stored.specs.Kept.{Kept, is_nobody}
-use Rattle.hc_text.specs.Sorted.{itself}
 
 pub record Shelf : Type 0 where
   pub kept : ℕ → Option Kept  -- by number

@@ -1,11 +1,10 @@
 -- The rows, the order of the current ones and the slots agree.
 use Rattle.std.specs.Prelude.{◌≡◌, ℕ, ◌-◌, ◌<◌, ◌^◌, ◌==◌, ◌||◌, Bool, true, false, List, Option, Some, None, is_some, option_map}
-use Rattle.hc_text.specs.Sorted.{is_sorted, has}
+use Rattle.hc_text.specs.Sorted.{is_sorted, has, itself}
 use Rattle.hc_sparse.specs.Cells.{Cells, EndsBy}
 use Rattle.hc_store.specs.Slots.{Held, Slots, is_live, cells_held}
 use Rattle.hc_stored.specs.Heads.{summary_of}
 use Rattle.hc_stored.specs.Kept.{is_nobody}
-use Rattle.hc_text.specs.Sorted.{itself}
 use Rattle.hc_stored.specs.Rows.{Row, Rows, is_current}
 
 -- Nothing is from there on, and it is 0 or a byte is just before it.

@@ -1,13 +1,12 @@
 -- What is told of what is kept.
 use Rattle.std.specs.Prelude.{ℕ, length, List, [], Bool, false, ◌&&◌, not, Option, Some, None, is_some, is_none}
-use Rattle.hc_text.specs.Sorted.{has}
+use Rattle.hc_text.specs.Sorted.{has, itself}
 use Rattle.hc_sparse.specs.Cells.{size}
 use Rattle.hc_fresh.specs.declared.facts.HeadFacts.{HeadFacts}
 use Rattle.hc_fresh.specs.Facts.{head_facts}
 use Rattle.hc_stored.specs.declared.view.EntryView.{EntryView}
 use Rattle.hc_stored.specs.Heads.{refuses_ranges}
 use Rattle.hc_stored.specs.Kept.{Kept}
-use Rattle.hc_text.specs.Sorted.{itself}
 use Rattle.hc_stored.specs.Rows.{Row}
 
 abbrev pub view_of : Kept → EntryView

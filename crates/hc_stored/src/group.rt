@@ -1,8 +1,8 @@
 //! The writer group of a representation, where it has one.
 ghost use Rattle.std.specs.Prelude.{◌≡◌, ◌+◌, ◌-◌, ◌≤◌, ◌^◌, false, IfSome, option_map, IfOk, OnOk, OnErr};
 ghost use Rattle.std.specs.Option.{option_and_then};
-ghost use Rattle.hc_writers.specs.Writing.{Writing, begun, is_member, joined_by, moved_to, grown_by, survivor, after_loss};
-ghost use Rattle.hc_stored.specs.Groups.{left_if_member, left_answer, told_if_member, joined_unless, exchange_of, MayJoin};
+ghost use Rattle.hc_writers.specs.Group.{Group, begun, is_member, joined_by, moved_to, grown_by, survivor, after_loss};
+ghost use Rattle.hc_stored.specs.Groups.{left_if_member, left_answer, moved_if_member, joined_unless, exchange_of, MayJoin};
 
 use hc_text::NoMemory;
 use hc_writers::{Left, Writers};
@@ -67,8 +67,8 @@ pub(crate) fn grow(group: &mut Option<Writers>, count: u64)
 }
 
 /// One stands there, if it reads along.
-pub(crate) fn tell(group: &mut Option<Writers>, c: u64, offset: u64)
-    ensures { group.new ≡ option_map (told_if_member c offset) group.old }
+pub(crate) fn note(group: &mut Option<Writers>, c: u64, offset: u64)
+    ensures { group.new ≡ option_map (moved_if_member c offset) group.old }
 {
     if let Some(writers) = group {
         if writers.holds(c) {

@@ -2,18 +2,17 @@
 ghost use Rattle.std.specs.Prelude.{◌≡◌, ◌+◌, ◌≤◌, ◌<◌, ◌^◌, ℕ, true, false, length, vec_len, IfOk, OnOk, OnErr, option_map};
 ghost use Rattle.hc_record.specs.Plain.{plain};
 ghost use Rattle.hc_sparse.specs.Cells.{size};
-ghost use Rattle.hc_text.specs.Sorted.{is_sorted, has};
+ghost use Rattle.hc_text.specs.Sorted.{is_sorted, has, itself};
 ghost use Rattle.hc_store.specs.Slots.{Held};
 ghost use Rattle.hc_stored.specs.Heads.{summary_of};
 ghost use Rattle.hc_stored.specs.Begun.{begun_row};
 ghost use Rattle.hc_stored.specs.Kept.{founded_kept};
-ghost use Rattle.hc_text.specs.Sorted.{itself};
-ghost use Rattle.hc_stored.specs.Groups.{left_answer, told_if_member};
-ghost use Rattle.hc_writers.specs.Writing.{survivor};
+ghost use Rattle.hc_stored.specs.Groups.{left_answer, moved_if_member};
+ghost use Rattle.hc_writers.specs.Group.{survivor};
 ghost use Rattle.std.specs.Option.{option_and_then};
 
 use crate::entry::Entry;
-use crate::group::{begin, exchange, grow, join, leave, lose, tell};
+use crate::group::{begin, exchange, grow, join, leave, lose, note};
 use crate::summary::HeadSummary;
 use crate::view::EntryView;
 use hc_record::{Kind, StoredHead};
@@ -140,12 +139,12 @@ impl Entry {
     }
 
     /// A consumer that reads along stands there.
-    pub(crate) fn tell(&mut self, c: u64, offset: u64)
+    pub(crate) fn note(&mut self, c: u64, offset: u64)
         ensures row { row_of self.new ≡ row_of self.old }
         ensures group { self.new.writers
-            ≡ option_map (told_if_member c offset) self.old.writers }
+            ≡ option_map (moved_if_member c offset) self.old.writers }
     {
-        tell(&mut self.writers, c, offset);
+        note(&mut self.writers, c, offset);
     }
 
     /// A write of it was refused while several read along. Who goes on, if anybody.

@@ -1,8 +1,7 @@
 //! The order of the current representations.
 ghost use Rattle.std.specs.Prelude.{◌≡◌, ◌<◌, ◌^◌, [], ◌∷◌, length, true, false, IfOk, OnOk, OnErr};
 ghost use Rattle.std.specs.Map.{keys_of};
-ghost use Rattle.hc_text.specs.Sorted.{has, without};
-ghost use Rattle.hc_text.specs.Sorted.{itself};
+ghost use Rattle.hc_text.specs.Sorted.{has, without, itself};
 
 use hc_text::NoMemory;
 use lru::{Iter, LruCache};

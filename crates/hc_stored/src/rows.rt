@@ -1,10 +1,9 @@
 //! Entries by the numbers of their representations: one changes, and the others stay.
 ghost use Rattle.std.specs.Prelude.{◌≡◌, ◌≤◌, ◌^◌, ℕ, ◌∷◌, Some, None, is_some, option_map, true, false, OnOk, OnErr};
-ghost use Rattle.hc_text.specs.Sorted.{is_sorted, has};
-ghost use Rattle.hc_text.specs.Sorted.{itself};
+ghost use Rattle.hc_text.specs.Sorted.{is_sorted, has, itself};
 ghost use Rattle.std.specs.Option.{option_and_then};
-ghost use Rattle.hc_writers.specs.Writing.{survivor};
-ghost use Rattle.hc_stored.specs.Groups.{left_answer, told_if_member};
+ghost use Rattle.hc_writers.specs.Group.{survivor};
+ghost use Rattle.hc_stored.specs.Groups.{left_answer, moved_if_member};
 ghost use Rattle.hc_stored.specs.Grouped.{group_at};
 ghost use Rattle.hc_stored.specs.Rows.{row_of, rows_of, summary_in, with_row, Changes, with_summary, reaching, sealed_as, used_by, used_first_by, unused_by, going, losing, written_in, slot_at, users_at, is_over, is_unused_row};
 
@@ -78,7 +77,7 @@ pub(crate) fn drop_in(rows: &mut HashMap<u64, Entry>, r: u64) -> Slot
 }
 
 /// Its head tells this.
-pub(crate) fn tell_in(rows: &mut HashMap<u64, Entry>, r: u64, summary: HeadSummary)
+pub(crate) fn report_in(rows: &mut HashMap<u64, Entry>, r: u64, summary: HeadSummary)
     ensures { Changes (with_summary (summary_in summary)) r (rows_of rows.old) (rows_of rows.new) }
 {
     if let Some(entry) = rows.get_mut(&r) {
@@ -185,10 +184,10 @@ pub(crate) fn write_in(rows: &mut HashMap<u64, Entry>, r: u64, x: u64) -> Result
 pub(crate) fn stand_in(rows: &mut HashMap<u64, Entry>, r: u64, c: u64, offset: u64)
     ensures rows { (q : ℕ) → rows_of rows.new q ≡ rows_of rows.old q }
     ensures group { group_at rows.new r
-        ≡ option_map (told_if_member c offset) (group_at rows.old r) }
+        ≡ option_map (moved_if_member c offset) (group_at rows.old r) }
 {
     if let Some(entry) = rows.get_mut(&r) {
-        entry.tell(c, offset);
+        entry.note(c, offset);
     }
 }
 

@@ -21,7 +21,7 @@ pub struct EntryView {
     pub users: usize,
     /// Who of them came alone.
     pub first: Option<u64>,
-    /// The exchange of its shared writing, the last one.
+    /// The exchange of its writer group, the last one.
     pub writer: Option<u64>,
     /// A write of it was refused.
     pub is_lost: bool,

@@ -18,6 +18,6 @@ is_target-is text word utf8 = rw (word, is_utf8-from_IsUtf8 text utf8) refl
 -- what the URL says decides
 pub is_target-own : (text own : List ℕ) (url : Parts) (is : Bool) → is_short_word text ≡ true → own ≡ text → IsUtf8 text → parse_url None own ≡ Ok url
     → is ≡ has_own_text url own → is ≡ is_target text
-is_target-own text own url is word same utf8 read told =
+is_target-own text own url is word same utf8 read reported =
     let parsed : parse_url None text ≡ Ok url = rw same at read in
-    told ∙ (ap (λ (t : List ℕ). has_own_text url t) same ∙ sym (is_target-is text word utf8 ∙ ap (λ (r : Parsed Parts). gives_text r text) parsed))
+    reported ∙ (ap (λ (t : List ℕ). has_own_text url t) same ∙ sym (is_target-is text word utf8 ∙ ap (λ (r : Parsed Parts). gives_text r text) parsed))

@@ -127,7 +127,7 @@ fn replay_before<B: Backend, K: Sink>(
 {
     let ended = replay_front(alloc, 0, front, source, out);
     let mut text = String::new(alloc);
-    tell_end(ended, &mut text)?;
+    report_end(ended, &mut text)?;
     write_text(&text, out)
 }
 
@@ -143,8 +143,8 @@ fn replay_on<B: Backend, K: Sink>(
 {
     let ended = replay(alloc, 0, cache, source, out);
     let mut text = String::new(alloc);
-    tell_end(ended, &mut text)?;
-    tell_left(alloc, cache, &mut text)?;
+    report_end(ended, &mut text)?;
+    report_left(alloc, cache, &mut text)?;
     write_text(&text, out)
 }
 
@@ -153,7 +153,7 @@ fn write_text<K: Sink>(text: &String, out: &mut K) -> Result<(), Stop> {
 }
 
 /// Tells how much is stored, and how many events were stepped.
-fn tell_left<B: Backend>(alloc: Global, cache: &Cache<B>, to: &mut String) -> Result<(), Stop> {
+fn report_left<B: Backend>(alloc: Global, cache: &Cache<B>, to: &mut String) -> Result<(), Stop> {
     let stored = stored(kind_in(alloc, cache)?);
     let steps = cache.steps();
     Ok(write!(to, "stored {stored}\nstepped {steps}\n")?)
@@ -209,7 +209,7 @@ fn number_of(word: &str) -> Option<u64> {
 }
 
 /// Tells how a replay ended that came to an end of its schedule.
-fn tell_end(ended: Ended, to: &mut String) -> Result<(), Stop> {
+fn report_end(ended: Ended, to: &mut String) -> Result<(), Stop> {
     match ended {
         Ended::Done => Ok(to.push_str("ended done\n")?),
         Ended::Refused(refused) => {

@@ -9,7 +9,7 @@ use std::process::ExitCode;
 pub trait Calls {
     /// Writes the value of the call to `value`. `NoSuchCall` where no call has this name and such
     /// arguments.
-    fn tell(&mut self, vector: &Vector, value: &mut String) -> Result<(), Fault>;
+    fn note(&mut self, vector: &Vector, value: &mut String) -> Result<(), Fault>;
 }
 
 /// Writes each line of standard input again, with its value where it is a vector. Empty lines and
@@ -17,14 +17,14 @@ pub trait Calls {
 ///
 /// At the first line that is not understood, standard error has its number and why, and the status is
 /// 1.
-pub fn tell_all<R: Input + Print + Eprint + AllocGlobal, C: Calls>(
+pub fn report_all<R: Input + Print + Eprint + AllocGlobal, C: Calls>(
     rt: &R,
     calls: &mut C,
 ) -> ExitCode {
     let mut number = 0_u64;
     for line in rt.lines(rt.alloc()) {
         number = number.wrapping_add(1);
-        if let Err(fault) = tell_line(rt, calls, line) {
+        if let Err(fault) = report_line(rt, calls, line) {
             let _ = eprintln!(rt; "line {number}: {fault:?}");
             return ExitCode::FAILURE;
         }
@@ -32,7 +32,7 @@ pub fn tell_all<R: Input + Print + Eprint + AllocGlobal, C: Calls>(
     ExitCode::SUCCESS
 }
 
-fn tell_line<R: Print + AllocGlobal, C: Calls>(
+fn report_line<R: Print + AllocGlobal, C: Calls>(
     rt: &R,
     calls: &mut C,
     line: io::Result<String>,
@@ -51,6 +51,6 @@ fn tell_line<R: Print + AllocGlobal, C: Calls>(
 fn value_of<C: Calls>(alloc: Global, calls: &mut C, line: &str) -> Result<String, Fault> {
     let vector = read_vector(alloc, line)?;
     let mut value = String::new(alloc);
-    calls.tell(&vector, &mut value)?;
+    calls.note(&vector, &mut value)?;
     Ok(value)
 }

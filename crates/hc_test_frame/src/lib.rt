@@ -8,8 +8,8 @@ mod lines;
 mod values;
 mod vector;
 
-pub use calls::{Calls, tell_all};
+pub use calls::{Calls, report_all};
 pub use fault::Fault;
 pub use lines::fields_of;
-pub use values::{quote, show, tell};
+pub use values::{quote, show, note};
 pub use vector::{Vector, read_vector};

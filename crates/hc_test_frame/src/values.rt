@@ -10,7 +10,7 @@ pub fn show<T: Debug>(value: &T, to: &mut String) -> Result<(), NoMemory> {
 }
 
 /// Writes the value in the same way, where that is all that a call does.
-pub fn tell<T: Debug>(value: &T, to: &mut String) -> Result<(), Fault> {
+pub fn note<T: Debug>(value: &T, to: &mut String) -> Result<(), Fault> {
     Ok(show(value, to)?)
 }
 

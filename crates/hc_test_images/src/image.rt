@@ -8,56 +8,56 @@ use hc_text::NoMemory;
 /// Writes the value of the call, if it is one of these.
 pub(crate) fn call(v: &Vector, to: &mut String) -> Result<bool, Fault> {
     match v.call() {
-        "read_image t" => tell_read(v, to),
-        "rewrite_image t" => tell_rewritten(v, to),
-        "cuts_of_image t" => tell_cuts(v, to),
+        "read_image t" => report_read(v, to),
+        "rewrite_image t" => report_rewritten(v, to),
+        "cuts_of_image t" => report_cuts(v, to),
         _ => return Ok(false),
     }?;
     Ok(true)
 }
 
 /// What is read of the text, and how many bytes of it are used.
-fn tell_read(v: &Vector, to: &mut String) -> Result<(), NoMemory> {
+fn report_read(v: &Vector, to: &mut String) -> Result<(), NoMemory> {
     match read_image(v.alloc(), v.text(0))? {
-        Some(read) => tell_image(&read, to),
+        Some(read) => report_image(&read, to),
         None => Ok(to.push_str("None")?),
     }
 }
 
-fn tell_image(read: &ImageRead, to: &mut String) -> Result<(), NoMemory> {
+fn report_image(read: &ImageRead, to: &mut String) -> Result<(), NoMemory> {
     write!(to, "{} bytes, ", read.used)?;
-    tell_contents(&read.contents, to)
+    report_contents(&read.contents, to)
 }
 
 /// The moment, the two numbers and the items.
-fn tell_contents(contents: &Contents, to: &mut String) -> Result<(), NoMemory> {
+fn report_contents(contents: &Contents, to: &mut String) -> Result<(), NoMemory> {
     write!(to, "now {} last {}", contents.now, contents.last_consumer)?;
     write!(to, " next {}", contents.next_exchange)?;
     for item in contents.items.as_slice() {
-        tell_item(item, to)?;
+        report_item(item, to)?;
     }
     Ok(())
 }
 
 /// The key, the number and the runs of an item, and what its head says of itself.
-fn tell_item(item: &Content, to: &mut String) -> Result<(), NoMemory> {
+fn report_item(item: &Content, to: &mut String) -> Result<(), NoMemory> {
     to.push_str("; ")?;
     quote(item.key.bytes.as_slice(), to)?;
     write!(to, " {} {:?}", item.r, item.head.kind)?;
     write!(to, " {:?} {}", item.head.total, item.head.status)?;
     for run in item.runs.as_slice() {
-        tell_run(run, to)?;
+        report_run(run, to)?;
     }
     Ok(())
 }
 
-fn tell_run(run: &Run, to: &mut String) -> Result<(), NoMemory> {
+fn report_run(run: &Run, to: &mut String) -> Result<(), NoMemory> {
     write!(to, " {}@{} ", run.x, run.at)?;
     quote(run.bytes.as_slice(), to)
 }
 
 /// The image that is written of what is read of the text.
-fn tell_rewritten(v: &Vector, to: &mut String) -> Result<(), NoMemory> {
+fn report_rewritten(v: &Vector, to: &mut String) -> Result<(), NoMemory> {
     let Some(read) = read_image(v.alloc(), v.text(0))? else {
         to.push_str("None")?;
         return Ok(());
@@ -69,7 +69,7 @@ fn tell_rewritten(v: &Vector, to: &mut String) -> Result<(), NoMemory> {
 }
 
 /// How many of the text's first parts begin with an image: each is cut off behind so many bytes.
-fn tell_cuts(v: &Vector, to: &mut String) -> Result<(), NoMemory> {
+fn report_cuts(v: &Vector, to: &mut String) -> Result<(), NoMemory> {
     let text = v.text(0);
     let mut images = 0_u64;
     for len in 0..text.len() {

@@ -3,7 +3,7 @@
 
 mod image;
 
-use hc_test_frame::{Calls, Fault, Vector, tell_all};
+use hc_test_frame::{Calls, Fault, Vector, report_all};
 use std::process::ExitCode;
 
 /// The calls of the library.
@@ -11,7 +11,7 @@ use std::process::ExitCode;
 struct Images {}
 
 impl Calls for Images {
-    fn tell(&mut self, vector: &Vector, to: &mut String) -> Result<(), Fault> {
+    fn note(&mut self, vector: &Vector, to: &mut String) -> Result<(), Fault> {
         if image::call(vector, to)? {
             Ok(())
         } else {
@@ -21,5 +21,5 @@ impl Calls for Images {
 }
 
 fn main(rt: HostRuntime) -> ExitCode {
-    tell_all(&rt, &mut Images {})
+    report_all(&rt, &mut Images {})
 }

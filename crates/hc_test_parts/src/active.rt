@@ -1,6 +1,6 @@
 //! Calls of who is bound to a representation.
 use hc_entry::{ActiveEntry, Admission};
-use hc_test_frame::{Fault, Vector, tell};
+use hc_test_frame::{Fault, Vector, note};
 use std::alloc::Global;
 
 /// A representation, and who is bound to it.
@@ -18,16 +18,16 @@ impl Binding {
     }
 
     /// Makes the call. One that may change something writes then who is bound with the least number,
-    /// whether a shared writing is on, and who writes alone.
-    pub(crate) fn tell(&mut self, v: &Vector, to: &mut String) -> Result<(), Fault> {
+    /// whether a writer group is on, and who writes alone.
+    pub(crate) fn note(&mut self, v: &Vector, to: &mut String) -> Result<(), Fault> {
         let entry = &self.entry;
         match v.call() {
             "active_admission nww" => {
                 let admission = entry.admission(v.number(0), is_ranged(v), has_holes(v));
-                tell(&admission, to)
+                note(&admission, to)
             }
-            "active_is_gone" => tell(&entry.is_gone(), to),
-            "active_representation" => tell(&entry.representation(), to),
+            "active_is_gone" => note(&entry.is_gone(), to),
+            "active_representation" => note(&entry.representation(), to),
             _ => {
                 self.change(v, to)?;
                 self.look(to)
@@ -76,7 +76,7 @@ impl Binding {
 
     fn look(&self, to: &mut String) -> Result<(), Fault> {
         let least = self.entry.least_bound();
-        let writing = self.entry.is_writing();
+        let writer_group = self.entry.is_group();
         let alone = self.entry.exclusive();
         write!(to, "least {least:?}, writing {writing}, alone {alone:?}")?;
         Ok(())

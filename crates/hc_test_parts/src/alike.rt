@@ -59,7 +59,7 @@ fn are_alike(blocks: &Sparse, runs: &PlainSparse) -> bool {
     for pair in 0..(COUNT + 1) * (COUNT + 1) {
         let lo = FIRST + pair / (COUNT + 1) * SIZE;
         let hi = FIRST + pair % (COUNT + 1) * SIZE;
-        if !tell_the_same(blocks, runs, lo, hi) || !tell_the_same(blocks, runs, lo, hi + 1) {
+        if !report_the_same(blocks, runs, lo, hi) || !report_the_same(blocks, runs, lo, hi + 1) {
             return false;
         }
     }
@@ -67,7 +67,7 @@ fn are_alike(blocks: &Sparse, runs: &PlainSparse) -> bool {
 }
 
 /// Whether both tell the same of the positions from one to below another.
-fn tell_the_same(blocks: &Sparse, runs: &PlainSparse, lo: u64, hi: u64) -> bool {
+fn report_the_same(blocks: &Sparse, runs: &PlainSparse, lo: u64, hi: u64) -> bool {
     let span = Span2 { lo, hi };
     blocks.covers(span) == runs.covers(span) && blocks.next_present(lo) == runs.next_present(lo)
 }

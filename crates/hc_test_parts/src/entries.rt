@@ -4,13 +4,13 @@ ghost use Rattle.hc_stored.specs.Entries.{shelf_of};
 ghost use Rattle.hc_stored.specs.Shelf.{is_kept};
 
 use crate::samples::{Sample, fails_of, limits_of};
-use crate::values::{tell_read, tell_some};
+use crate::values::{report_read, report_some};
 use hc_record::{Kind, StoredHead};
 use hc_rules::Write;
 use hc_sparse::{Presence, Span2};
 use hc_store::{Backend, Failing, Memory, StoreError};
 use hc_stored::Entries;
-use hc_test_frame::{Fault, Vector, quote, tell};
+use hc_test_frame::{Fault, Vector, quote, note};
 use hc_text::{Key, NoMemory};
 
 /// Past the last position that there may be.
@@ -29,7 +29,7 @@ impl Shelf {
     }
 
     /// Makes the call, and writes what it answers.
-    pub(crate) fn tell(
+    pub(crate) fn note(
         &mut self,
         sample: &Sample,
         v: &Vector,
@@ -37,11 +37,11 @@ impl Shelf {
     ) -> Result<(), Fault> {
         match v.call() {
             call if call.starts_with("entries_new nn") => self.begin(v, to),
-            _ => self.tell_of_entries(sample, v, to),
+            _ => self.report_of_entries(sample, v, to),
         }
     }
 
-    fn tell_of_entries(
+    fn report_of_entries(
         &mut self,
         sample: &Sample,
         v: &Vector,
@@ -70,15 +70,15 @@ fn call_of_all<B: Backend>(
     to: &mut String,
 ) -> Result<(), Fault> {
     match v.call() {
-        "entries_used" => tell(&(entries.used(), entries.store().used()), to),
-        "entries_first_idle" => tell(&entries.first_idle(), to),
-        "entries_room_for_slot" => tell(&entries.room(Write::Slot), to),
+        "entries_used" => note(&(entries.used(), entries.store().used()), to),
+        "entries_first_idle" => note(&entries.first_idle(), to),
+        "entries_room_for_slot" => note(&entries.room(Write::Slot), to),
         "entries_room_for_piece nn" => {
             let stored = v.number(0);
             let count = v.number(1);
-            tell(&entries.room(Write::Piece { stored, count }), to)
+            note(&entries.room(Write::Piece { stored, count }), to)
         }
-        "entries_found nn" => tell_some(&found(entries, sample, v)?, to),
+        "entries_found nn" => report_some(&found(entries, sample, v)?, to),
         _ => call_of_one(entries, sample, v, to),
     }
 }
@@ -92,13 +92,13 @@ fn call_of_one<B: Backend>(
 ) -> Result<(), Fault> {
     let r = v.number(0);
     match v.call() {
-        "entries_entry n" => tell(&entries.entry(r), to),
-        "entries_total_and_kind n" => tell(&total_and_kind(entries, r), to),
-        "entries_bound n" => tell(&entries.bound(r), to),
-        "entries_key n" => tell_key(entries.key(r), to),
-        "entries_tag_is_weak n" => tell(&tag_is_weak(entries, r), to),
-        "entries_answered n" => tell(&answered(entries, r), to),
-        "entries_covers nnn" => tell_some(&covers(entries, r, v.number(1), v.number(2)), to),
+        "entries_entry n" => note(&entries.entry(r), to),
+        "entries_total_and_kind n" => note(&total_and_kind(entries, r), to),
+        "entries_bound n" => note(&entries.bound(r), to),
+        "entries_key n" => report_key(entries.key(r), to),
+        "entries_tag_is_weak n" => note(&tag_is_weak(entries, r), to),
+        "entries_answered n" => note(&answered(entries, r), to),
+        "entries_covers nnn" => report_some(&covers(entries, r, v.number(1), v.number(2)), to),
         _ => change(entries, sample, v, to),
     }
 }
@@ -116,7 +116,7 @@ fn answered<B: Backend>(entries: &Entries<B>, r: u64) -> Option<u64> {
     Some(entries.facts(r)?.answered)
 }
 
-fn tell_key(key: Option<&Key>, to: &mut String) -> Result<(), Fault> {
+fn report_key(key: Option<&Key>, to: &mut String) -> Result<(), Fault> {
     match key {
         Some(key) => quote(key.bytes.as_slice(), to)?,
         None => to.push_str("None")?,
@@ -136,21 +136,21 @@ fn change<B: Backend>(
         return Err(Fault::NoSuchCall);
     }
     match v.call() {
-        "entries_put nnt" => tell_some(&put(entries, r, v.number(1), v.text(2)), to),
-        "entries_update n" => tell(&entries.update(r, &sample.head), to),
-        "entries_seal n" => tell(&entries.seal(r, Kind::Truncated, Some(7)), to),
-        "entries_head n" => tell_head(entries, r, to),
-        "entries_run nn" => tell_run(entries, r, v.number(1), to),
+        "entries_put nnt" => report_some(&put(entries, r, v.number(1), v.text(2)), to),
+        "entries_update n" => note(&entries.update(r, &sample.head), to),
+        "entries_seal n" => note(&entries.seal(r, Kind::Truncated, Some(7)), to),
+        "entries_head n" => report_head(entries, r, to),
+        "entries_run nn" => report_run(entries, r, v.number(1), to),
         _ => change_users(entries, r, v, to),
     }
 }
 
 /// Reads the head of one, and writes its status.
-fn tell_head<B: Backend>(entries: &mut Entries<B>, r: u64, to: &mut String) -> Result<(), Fault>
+fn report_head<B: Backend>(entries: &mut Entries<B>, r: u64, to: &mut String) -> Result<(), Fault>
     requires { is_kept (shelf_of entries.old) r ≡ true }
 {
     let read = entries.head(r);
-    tell(&status_of(&read), to)
+    note(&status_of(&read), to)
 }
 
 fn status_of(read: &Result<StoredHead, StoreError>) -> Result<u16, StoreError> {
@@ -161,7 +161,7 @@ fn status_of(read: &Result<StoredHead, StoreError>) -> Result<u16, StoreError> {
 }
 
 /// Reads some bytes of one, and writes them.
-fn tell_run<B: Backend>(
+fn report_run<B: Backend>(
     entries: &mut Entries<B>,
     r: u64,
     p: u64,
@@ -170,7 +170,7 @@ fn tell_run<B: Backend>(
     requires { is_kept (shelf_of entries.old) r ≡ true }
 {
     let read = entries.run_at(r, p, 9);
-    tell_read(&read, to)
+    report_read(&read, to)
 }
 
 /// Makes a call that changes who uses one, and writes what it answers.
@@ -184,9 +184,9 @@ fn change_users<B: Backend>(
 {
     let n = v.number(1);
     match v.call() {
-        "entries_bind nn" => tell_some(&bind(entries, r, n), to),
-        "entries_bind_first nn" => tell_some(&bind_first(entries, r, n), to),
-        "entries_unbind n" => tell_some(&unbind(entries, r), to),
+        "entries_bind nn" => report_some(&bind(entries, r, n), to),
+        "entries_bind_first nn" => report_some(&bind_first(entries, r, n), to),
+        "entries_unbind n" => report_some(&unbind(entries, r), to),
         _ => {
             lose(entries, r, v)?;
             to.push_str("done")?;
@@ -244,8 +244,8 @@ fn put<B: Backend>(
 /// Whether all these bytes are there, told in both ways.
 fn covers<B: Backend>(entries: &Entries<B>, r: u64, lo: u64, hi: u64) -> Option<(bool, bool)> {
     entries.entry(r)?;
-    let told = entries.covers(r, lo, hi);
-    Some((told, entries.bytes(r).covers(Span2 { lo, hi })))
+    let reported = entries.covers(r, lo, hi);
+    Some((reported, entries.bytes(r).covers(Span2 { lo, hi })))
 }
 
 /// Binds one to a representation to which another is bound, or nobody.

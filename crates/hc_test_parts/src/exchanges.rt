@@ -7,7 +7,7 @@ use crate::samples::response_of;
 use hc_event::{Event, Load, Need, Request};
 use hc_exch::{Exchanges, Role};
 use hc_fields::Fields;
-use hc_test_frame::{Fault, Vector, quote, tell};
+use hc_test_frame::{Fault, Vector, quote, note};
 use hc_text::{Bytes, Key, MethodName};
 use std::alloc::Global;
 
@@ -27,11 +27,11 @@ impl Table {
 
     /// Makes the call. One that may change something writes then which exchanges are wanted, and how
     /// many bytes are held for the first.
-    pub(crate) fn tell(&mut self, v: &Vector, to: &mut String) -> Result<(), Fault> {
+    pub(crate) fn note(&mut self, v: &Vector, to: &mut String) -> Result<(), Fault> {
         let x = v.number(0);
         match v.call() {
-            "exchange_view n" => tell(&self.exchanges.view(x), to),
-            "exchange_opening n" => self.tell_opening(x, to),
+            "exchange_view n" => note(&self.exchanges.view(x), to),
+            "exchange_opening n" => self.report_opening(x, to),
             _ => {
                 self.change(v, to)?;
                 self.look(to)
@@ -39,7 +39,7 @@ impl Table {
         }
     }
 
-    fn tell_opening(&self, x: u64, to: &mut String) -> Result<(), Fault> {
+    fn report_opening(&self, x: u64, to: &mut String) -> Result<(), Fault> {
         let Some(opening) = self.exchanges.opening(x) else {
             to.push_str("None")?;
             return Ok(());

@@ -4,7 +4,7 @@ use hc_writers::Writers;
 use std::alloc::Global;
 
 /// Makes the call.
-pub(crate) fn tell_group(v: &Vector, to: &mut String) -> Result<(), Fault> {
+pub(crate) fn report_group(v: &Vector, to: &mut String) -> Result<(), Fault> {
     match v.call() {
         "group_survivor" => survivor(v.alloc(), to),
         _ => Err(Fault::NoSuchCall),

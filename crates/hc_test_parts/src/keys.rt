@@ -1,6 +1,6 @@
 //! Calls of what is kept by key, for two keys.
 use hc_entry::KeyTable;
-use hc_test_frame::{Fault, Vector, tell};
+use hc_test_frame::{Fault, Vector, note};
 use hc_text::{Key, NoMemory};
 use std::alloc::Global;
 
@@ -19,18 +19,18 @@ impl TwoKeys {
     }
 
     /// Makes the call, of the key that its first word names.
-    pub(crate) fn tell(&mut self, v: &Vector, to: &mut String) -> Result<(), Fault> {
+    pub(crate) fn note(&mut self, v: &Vector, to: &mut String) -> Result<(), Fault> {
         let key = key(v.alloc(), v.word(0))?;
-        self.tell_of(&key, v, to)
+        self.note_of(&key, v, to)
     }
 
     /// Makes the call. One that may change something writes then of each key whose turn it is, and
     /// what is current.
-    fn tell_of(&mut self, key: &Key, v: &Vector, to: &mut String) -> Result<(), Fault> {
+    fn note_of(&mut self, key: &Key, v: &Vector, to: &mut String) -> Result<(), Fault> {
         let c = v.number(1);
         match v.call() {
-            "key_turn_with wn" => tell(&self.table.turn_with(key, c), to),
-            "key_met w" => self.tell_met(key, to),
+            "key_turn_with wn" => note(&self.table.turn_with(key, c), to),
+            "key_met w" => self.report_met(key, to),
             _ => {
                 self.change(key, v)?;
                 self.look(v.alloc(), to)
@@ -39,7 +39,7 @@ impl TwoKeys {
     }
 
     /// Writes a bit for each who waits, which is set where the seats have him once.
-    fn tell_met(&self, key: &Key, to: &mut String) -> Result<(), Fault> {
+    fn report_met(&self, key: &Key, to: &mut String) -> Result<(), Fault> {
         let mut met = 0u64;
         for i in 0..self.table.seats(key) {
             if let Some(c) = self.table.seated(key, i) {
@@ -93,7 +93,7 @@ impl TwoKeys {
 
     fn look_at(&self, name: &str, key: &Key, to: &mut String) -> Result<(), Fault> {
         to.push_str(name)?;
-        tell(&(self.table.turn(key), self.table.current(key)), to)
+        note(&(self.table.turn(key), self.table.current(key)), to)
     }
 }
 

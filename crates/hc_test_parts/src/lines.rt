@@ -1,13 +1,13 @@
 //! Calls of the line of a key.
-use hc_entry::{KeyLine, Place};
-use hc_test_frame::{Fault, Vector, tell};
+use hc_entry::{KeyLine, Seat};
+use hc_test_frame::{Fault, Vector, note};
 use std::alloc::Global;
 
 /// A line, and the place of who entered last.
 #[derive(Drop)]
 pub(crate) struct Line {
     line: KeyLine,
-    last: Place,
+    last: Seat,
 }
 
 impl Line {
@@ -15,15 +15,15 @@ impl Line {
     pub(crate) fn new(alloc: Global) -> Line {
         Line {
             line: KeyLine::new(alloc),
-            last: Place { key: 0 },
+            last: Seat { key: 0 },
         }
     }
 
     /// Makes the call. One that may change something writes whose turn it is then, and whose it would be
     /// with 5 in line.
-    pub(crate) fn tell(&mut self, v: &Vector, to: &mut String) -> Result<(), Fault> {
+    pub(crate) fn note(&mut self, v: &Vector, to: &mut String) -> Result<(), Fault> {
         match v.call() {
-            "line_is_in n" => tell(&self.line.is_in(v.number(0)), to),
+            "line_is_in n" => note(&self.line.is_in(v.number(0)), to),
             _ => {
                 self.change(v)?;
                 self.look(to)

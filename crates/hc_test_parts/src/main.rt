@@ -23,8 +23,8 @@ mod values;
 mod words;
 
 use exchanges::Table;
-use group::tell_group;
-use hc_test_frame::{Calls, Fault, Vector, tell_all};
+use group::report_group;
+use hc_test_frame::{Calls, Fault, Vector, report_all};
 use sorted::Sorted;
 use sparse::ManyBytes;
 use std::alloc::Global;
@@ -35,7 +35,7 @@ use words::Words;
 
 fn main(rt: HostRuntime) -> ExitCode {
     match Parts::new(rt.alloc()) {
-        Ok(mut parts) => tell_all(&rt, &mut parts),
+        Ok(mut parts) => report_all(&rt, &mut parts),
         Err(_) => ExitCode::FAILURE,
     }
 }
@@ -66,10 +66,10 @@ impl Parts {
     }
 
     /// Makes a call of stitching, which is of sparse bytes, or else one of the words of HTTP.
-    fn tell_other(&mut self, vector: &Vector, value: &mut String) -> Result<(), Fault> {
+    fn report_other(&mut self, vector: &Vector, value: &mut String) -> Result<(), Fault> {
         match vector.name() {
-            "next_part" | "first_hole" | "accepts" => self.bytes.tell(vector, value),
-            _ => self.words.tell(vector, value),
+            "next_part" | "first_hole" | "accepts" => self.bytes.note(vector, value),
+            _ => self.words.note(vector, value),
         }
     }
 }
@@ -77,17 +77,17 @@ impl Parts {
 impl Calls for Parts {
     /// The first word of a call's name says of which part it is. Calls of the words of HTTP have names of
     /// their own.
-    fn tell(&mut self, vector: &Vector, value: &mut String) -> Result<(), Fault> {
+    fn note(&mut self, vector: &Vector, value: &mut String) -> Result<(), Fault> {
         let name = vector.name();
         let (object, _) = name.split_once('_').unwrap_or((name, ""));
         match object {
-            "numbers" | "members" => self.sorted.tell(vector, value),
-            "line" | "key" | "keys" | "active" => self.turns.tell(vector, value),
-            "exchange" | "exchanges" => self.table.tell(vector, value),
-            "store" | "entries" => self.stored.tell(vector, value),
-            "bytes" => self.bytes.tell(vector, value),
-            "group" => tell_group(vector, value),
-            _ => self.tell_other(vector, value),
+            "numbers" | "members" => self.sorted.note(vector, value),
+            "line" | "key" | "keys" | "active" => self.turns.note(vector, value),
+            "exchange" | "exchanges" => self.table.note(vector, value),
+            "store" | "entries" => self.stored.note(vector, value),
+            "bytes" => self.bytes.note(vector, value),
+            "group" => report_group(vector, value),
+            _ => self.report_other(vector, value),
         }
     }
 }

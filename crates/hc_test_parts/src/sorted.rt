@@ -1,9 +1,8 @@
 //! Calls of lists sorted by number.
 ghost use Rattle.std.specs.Prelude.{◌≡◌, true};
-ghost use Rattle.hc_text.specs.Sorted.{is_sorted};
-ghost use Rattle.hc_text.specs.Sorted.{itself};
+ghost use Rattle.hc_text.specs.Sorted.{is_sorted, itself};
 
-use hc_test_frame::{Fault, Vector, tell};
+use hc_test_frame::{Fault, Vector, note};
 use hc_text::{Numbered, has_item, item_at, leave_out, put_in, put_reserved, replace_in, take_out};
 use std::alloc::Global;
 
@@ -24,11 +23,11 @@ impl Sorted {
     }
 
     /// Makes the call.
-    pub(crate) fn tell(&mut self, v: &Vector, to: &mut String) -> Result<(), Fault> {
+    pub(crate) fn note(&mut self, v: &Vector, to: &mut String) -> Result<(), Fault> {
         if v.name().starts_with("numbers") {
-            self.numbers.tell(v, to)
+            self.numbers.note(v, to)
         } else {
-            self.members.tell(v, to)
+            self.members.note(v, to)
         }
     }
 }
@@ -49,14 +48,14 @@ impl Numbers {
     }
 
     /// Makes the call. One that may change something writes then all numbers.
-    fn tell(&mut self, v: &Vector, to: &mut String) -> Result<(), Fault> {
+    fn note(&mut self, v: &Vector, to: &mut String) -> Result<(), Fault> {
         let n = v.number(0);
         match v.call() {
-            "numbers_has n" => tell(&has_item(self.items.as_slice(), n), to),
-            "numbers_item n" => tell(&item_at(self.items.as_slice(), n), to),
+            "numbers_has n" => note(&has_item(self.items.as_slice(), n), to),
+            "numbers_item n" => note(&item_at(self.items.as_slice(), n), to),
             _ => {
                 self.change(n, v, to)?;
-                tell(&self.items.as_slice(), to)
+                note(&self.items.as_slice(), to)
             }
         }
     }
@@ -132,7 +131,7 @@ impl Members {
     }
 
     /// Makes the call, and writes where a member reads next, if it is one.
-    fn tell(&mut self, v: &Vector, to: &mut String) -> Result<(), Fault> {
+    fn note(&mut self, v: &Vector, to: &mut String) -> Result<(), Fault> {
         let c = v.number(0);
         let offset = v.number(1);
         match v.call() {
@@ -142,7 +141,7 @@ impl Members {
             "members_item n" => {}
             _ => return Err(Fault::NoSuchCall),
         }
-        tell(&self.offset_of(c), to)
+        note(&self.offset_of(c), to)
     }
 
     /// Where the member of this number reads next.

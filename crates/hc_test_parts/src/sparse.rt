@@ -6,9 +6,9 @@ ghost use Rattle.hc_sparse.specs.Ops.{IsAllowed};
 use crate::alike::steps_are_alike;
 use crate::order::{CODES, order_of};
 use crate::stitching;
-use crate::values::tell_run;
+use crate::values::report_run;
 use hc_sparse::{PlainSparse, Run, Span2, Sparse, SparseAnswer, SparseBytes, SparseOp, run_ops};
-use hc_test_frame::{Fault, Vector, tell};
+use hc_test_frame::{Fault, Vector, note};
 use hc_text::{Bytes, NoMemory};
 use std::alloc::Global;
 
@@ -31,10 +31,10 @@ impl Both {
     }
 
     /// Makes the call on both, and writes what differs.
-    fn tell(&mut self, v: &Vector, to: &mut String) -> Result<(), Fault> {
-        tell_of(&mut self.blocks, v, to)?;
+    fn note(&mut self, v: &Vector, to: &mut String) -> Result<(), Fault> {
+        note_of(&mut self.blocks, v, to)?;
         let mut other = String::new(v.alloc());
-        tell_of(&mut self.runs, v, &mut other)?;
+        note_of(&mut self.runs, v, &mut other)?;
         if other.as_str() != to.as_str() {
             write!(to, ", in runs {other}")?;
         }
@@ -42,9 +42,9 @@ impl Both {
     }
 
     /// Makes the call on both, and writes what comes where it differs from what was told.
-    fn tell_other(&mut self, v: &Vector, to: &mut String) -> Result<(), Fault> {
+    fn report_other(&mut self, v: &Vector, to: &mut String) -> Result<(), Fault> {
         let mut value = String::new(v.alloc());
-        self.tell(v, &mut value)?;
+        self.note(v, &mut value)?;
         if value.as_str() != to.as_str() {
             write!(to, ", in another order {value}")?;
         }
@@ -77,12 +77,12 @@ impl ManyBytes {
     }
 
     /// Makes the call on all, and writes what came of the first, and what differs from it.
-    pub(crate) fn tell(&mut self, v: &Vector, to: &mut String) -> Result<(), Fault> {
+    pub(crate) fn note(&mut self, v: &Vector, to: &mut String) -> Result<(), Fault> {
         match v.call() {
             "bytes_new" => self.begin(v.alloc(), to),
             "bytes_in_every_order nntnntnntnntnnt" => self.put_in_every_order(v, to),
-            "bytes_in_steps n" => tell(&steps_are_alike(v.alloc(), v.number(0))?, to),
-            _ => self.tell_of_all(v, to),
+            "bytes_in_steps n" => note(&steps_are_alike(v.alloc(), v.number(0))?, to),
+            _ => self.report_of_all(v, to),
         }
     }
 
@@ -90,16 +90,16 @@ impl ManyBytes {
     fn begin(&mut self, alloc: Global, to: &mut String) -> Result<(), Fault> {
         self.orders.clear();
         self.orders.push(Both::new(alloc))?;
-        tell(&self.orders.len(), to)
+        note(&self.orders.len(), to)
     }
 
-    fn tell_of_all(&mut self, v: &Vector, to: &mut String) -> Result<(), Fault> {
+    fn report_of_all(&mut self, v: &Vector, to: &mut String) -> Result<(), Fault> {
         let mut is_first = true;
         for both in self.orders.iter_mut() {
             if is_first {
-                both.tell(v, to)?;
+                both.note(v, to)?;
             } else {
-                both.tell_other(v, to)?;
+                both.report_other(v, to)?;
             }
             is_first = false;
         }
@@ -117,7 +117,7 @@ impl ManyBytes {
                 self.put_in_order(v, order)?;
             }
         }
-        tell(&self.orders.len(), to)
+        note(&self.orders.len(), to)
     }
 
     fn put_in_order(&mut self, v: &Vector, order: [usize; 5]) -> Result<(), NoMemory> {
@@ -130,44 +130,44 @@ impl ManyBytes {
 }
 
 /// Makes the call on the bytes as they are kept in one of the two ways.
-fn tell_of<M: SparseBytes>(map: &mut M, v: &Vector, to: &mut String) -> Result<(), Fault> {
+fn note_of<M: SparseBytes>(map: &mut M, v: &Vector, to: &mut String) -> Result<(), Fault> {
     let a = v.number(0);
     let b = v.number(1);
     match v.call() {
-        "bytes_put nnt" => tell_put(map, v, to),
-        "bytes_run nn" => tell_run_at(map, v, to),
-        "bytes_next n" => tell_next(map, v, to),
-        "bytes_next_present n" => tell(&map.next_present(a), to),
-        "bytes_covers nn" => tell(&map.covers(Span2 { lo: a, hi: b }), to),
-        "bytes_size" => tell(&map.size(), to),
-        "bytes_copy nn" if b > 0 => tell_copy(map, a, b as usize, to),
+        "bytes_put nnt" => report_put(map, v, to),
+        "bytes_run nn" => report_run_at(map, v, to),
+        "bytes_next n" => report_next(map, v, to),
+        "bytes_next_present n" => note(&map.next_present(a), to),
+        "bytes_covers nn" => note(&map.covers(Span2 { lo: a, hi: b }), to),
+        "bytes_size" => note(&map.size(), to),
+        "bytes_copy nn" if b > 0 => report_copy(map, a, b as usize, to),
         _ => stitching::call(map, v, to),
     }
 }
 
-fn tell_put<M: SparseBytes>(map: &mut M, v: &Vector, to: &mut String) -> Result<(), Fault> {
+fn report_put<M: SparseBytes>(map: &mut M, v: &Vector, to: &mut String) -> Result<(), Fault> {
     let op = put_of(v, 0)?;
-    tell_op(map, v.alloc(), op, to)
+    report_op(map, v.alloc(), op, to)
 }
 
-fn tell_run_at<M: SparseBytes>(map: &mut M, v: &Vector, to: &mut String) -> Result<(), Fault> {
+fn report_run_at<M: SparseBytes>(map: &mut M, v: &Vector, to: &mut String) -> Result<(), Fault> {
     let op = SparseOp::RunAt {
         p: v.number(0),
         want: v.number(1) as usize,
     };
-    tell_op(map, v.alloc(), op, to)
+    report_op(map, v.alloc(), op, to)
 }
 
-fn tell_next<M: SparseBytes>(map: &mut M, v: &Vector, to: &mut String) -> Result<(), Fault> {
+fn report_next<M: SparseBytes>(map: &mut M, v: &Vector, to: &mut String) -> Result<(), Fault> {
     let op = SparseOp::Next { p: v.number(0) };
-    tell_op(map, v.alloc(), op, to)
+    report_op(map, v.alloc(), op, to)
 }
 
-fn tell_copy<M: SparseBytes>(map: &M, p: u64, want: usize, to: &mut String) -> Result<(), Fault>
+fn report_copy<M: SparseBytes>(map: &M, p: u64, want: usize, to: &mut String) -> Result<(), Fault>
     requires { 0 < want }
 {
     let copy = copy_at(map, p, want)?;
-    tell_run(&copy, to)
+    report_run(&copy, to)
 }
 
 /// A copy of the run at this place.
@@ -207,7 +207,7 @@ pub(crate) fn is_done<M: SparseBytes>(
 }
 
 /// Does the operation, and writes its answer, where it is allowed.
-fn tell_op<M: SparseBytes>(
+fn report_op<M: SparseBytes>(
     map: &mut M,
     alloc: Global,
     op: SparseOp,
@@ -215,15 +215,15 @@ fn tell_op<M: SparseBytes>(
 ) -> Result<(), Fault> {
     let answer = answer(alloc, map, op)?;
     match &answer {
-        Some(answer) => tell_answer(answer, to),
+        Some(answer) => report_answer(answer, to),
         None => Err(Fault::NoSuchCall),
     }
 }
 
-fn tell_answer(answer: &SparseAnswer, to: &mut String) -> Result<(), Fault> {
+fn report_answer(answer: &SparseAnswer, to: &mut String) -> Result<(), Fault> {
     match answer {
-        SparseAnswer::Run(run) => return tell_run(run, to),
-        SparseAnswer::Next(next) => return tell(next, to),
+        SparseAnswer::Run(run) => return report_run(run, to),
+        SparseAnswer::Next(next) => return note(next, to),
         SparseAnswer::Done => to.push_str("Done")?,
         SparseAnswer::Taken => to.push_str("Taken")?,
     }

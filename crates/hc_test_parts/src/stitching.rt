@@ -4,7 +4,7 @@ use hc_etag::read_tag;
 use hc_partial::{Stitch, accepts, first_hole, next};
 use hc_range::Span;
 use hc_sparse::Presence;
-use hc_test_frame::{Fault, Vector, tell};
+use hc_test_frame::{Fault, Vector, note};
 
 /// Makes the call.
 pub(crate) fn call<P: Presence>(store: &P, v: &Vector, to: &mut String) -> Result<(), Fault> {
@@ -17,21 +17,21 @@ pub(crate) fn call<P: Presence>(store: &P, v: &Vector, to: &mut String) -> Resul
                 offset: lo,
                 shown: true,
             };
-            tell(&next(&stitch, store), to)
+            note(&next(&stitch, store), to)
         }
-        "first_hole nn" => tell(&first_hole(store, Span { lo, hi }), to),
-        "accepts nnntnt" => tell_answer(v, to),
+        "first_hole nn" => note(&first_hole(store, Span { lo, hi }), to),
+        "accepts nnntnt" => report_answer(v, to),
         _ => Err(Fault::NoSuchCall),
     }
 }
 
 /// Writes what an answer is to a hole, of a representation of so many bytes and with such a tag.
-fn tell_answer(v: &Vector, to: &mut String) -> Result<(), Fault> {
+fn report_answer(v: &Vector, to: &mut String) -> Result<(), Fault> {
     let hole = Span {
         lo: v.number(0),
         hi: v.number(1),
     };
     let tag = read_tag(v.alloc(), v.text(3))?.ok_or(Fault::NoSuchCall)?;
     let answer = response_of(v.number(4), v, 5)?;
-    tell(&accepts(&tag, v.number(2), hole, &answer)?, to)
+    note(&accepts(&tag, v.number(2), hole, &answer)?, to)
 }

@@ -25,11 +25,11 @@ impl Stored {
     }
 
     /// Makes the call.
-    pub(crate) fn tell(&mut self, v: &Vector, to: &mut String) -> Result<(), Fault> {
+    pub(crate) fn note(&mut self, v: &Vector, to: &mut String) -> Result<(), Fault> {
         if v.name().starts_with("store") {
-            self.cupboard.tell(&self.sample, v, to)
+            self.cupboard.note(&self.sample, v, to)
         } else {
-            self.shelf.tell(&self.sample, v, to)
+            self.shelf.note(&self.sample, v, to)
         }
     }
 }

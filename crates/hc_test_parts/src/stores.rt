@@ -3,11 +3,11 @@ ghost use Rattle.std.specs.Prelude.{◌≡◌, true};
 ghost use Rattle.hc_store.specs.Slots.{is_live};
 
 use crate::samples::{Sample, fails_of, limits_of};
-use crate::values::{tell_read, tell_some};
+use crate::values::{report_read, report_some};
 use hc_record::{Kind, StoredHead};
 use hc_sparse::{Presence, Span2};
 use hc_store::{Backend, Failing, Memory, Slot, SlotView, StoreError};
-use hc_test_frame::{Fault, Vector, tell};
+use hc_test_frame::{Fault, Vector, note};
 use hc_text::NoMemory;
 
 /// Past the last position that there may be.
@@ -50,9 +50,9 @@ impl<B: Backend> Kept<B> {
         }
     }
 
-    fn tell_run(&mut self, p: u64, to: &mut String) -> Result<(), Fault> {
+    fn report_run(&mut self, p: u64, to: &mut String) -> Result<(), Fault> {
         let read = self.store.run_at(self.slot, p, 9);
-        tell_read(&read, to)
+        report_read(&read, to)
     }
 
     fn seal(&mut self) -> Result<(), StoreError> {
@@ -64,9 +64,9 @@ impl<B: Backend> Kept<B> {
     }
 
     /// Reads the record, and writes the length of the body, the status and when it was asked for.
-    fn tell_record(&mut self, to: &mut String) -> Result<(), Fault> {
+    fn report_record(&mut self, to: &mut String) -> Result<(), Fault> {
         let read = self.store.read_record(self.slot);
-        tell(&facts_of(&read), to)
+        note(&facts_of(&read), to)
     }
 
     fn view(&self) -> SlotView<'_, B> {
@@ -77,27 +77,27 @@ impl<B: Backend> Kept<B> {
     }
 
     /// Makes a call that changes nothing, or else one that may.
-    fn tell(&mut self, sample: &Sample, v: &Vector, to: &mut String) -> Result<(), Fault> {
+    fn note(&mut self, sample: &Sample, v: &Vector, to: &mut String) -> Result<(), Fault> {
         let lo = v.number(0);
         let hi = v.number(1);
         match v.call() {
-            "store_covers nn" => tell(&self.view().covers(Span2 { lo, hi }), to),
-            "store_next n" => tell(&self.view().next_present(lo), to),
-            "store_kind" => tell(&self.store.kind(self.slot), to),
-            "store_used" => tell(&self.store.used(), to),
-            "store_used_by" => tell(&self.store.used_by(self.slot), to),
+            "store_covers nn" => note(&self.view().covers(Span2 { lo, hi }), to),
+            "store_next n" => note(&self.view().next_present(lo), to),
+            "store_kind" => note(&self.store.kind(self.slot), to),
+            "store_used" => note(&self.store.used(), to),
+            "store_used_by" => note(&self.store.used_by(self.slot), to),
             _ => self.change(sample, v, to),
         }
     }
 
     fn change(&mut self, sample: &Sample, v: &Vector, to: &mut String) -> Result<(), Fault> {
         match v.call() {
-            "store_create" => tell(&self.create(sample), to),
-            "store_put nt" => tell_some(&self.put(v.number(0), v.text(1)), to),
-            "store_run n" => self.tell_run(v.number(0), to),
-            "store_seal" => tell(&self.seal(), to),
-            "store_write_record" => tell(&self.write_record(&sample.head), to),
-            "store_read_record" => self.tell_record(to),
+            "store_create" => note(&self.create(sample), to),
+            "store_put nt" => report_some(&self.put(v.number(0), v.text(1)), to),
+            "store_run n" => self.report_run(v.number(0), to),
+            "store_seal" => note(&self.seal(), to),
+            "store_write_record" => note(&self.write_record(&sample.head), to),
+            "store_read_record" => self.report_record(to),
             _ => Err(Fault::NoSuchCall),
         }
     }
@@ -134,7 +134,7 @@ impl Cupboard {
     }
 
     /// Makes the call, and writes what it answers.
-    pub(crate) fn tell(
+    pub(crate) fn note(
         &mut self,
         sample: &Sample,
         v: &Vector,
@@ -142,8 +142,8 @@ impl Cupboard {
     ) -> Result<(), Fault> {
         match v.call() {
             call if call.starts_with("store_new nn") => self.begin(sample, v, to),
-            "store_drop" => tell_some(&self.drop_slot(), to),
-            _ => self.tell_of_slot(sample, v, to),
+            "store_drop" => report_some(&self.drop_slot(), to),
+            _ => self.report_of_slot(sample, v, to),
         }
     }
 
@@ -155,9 +155,9 @@ impl Cupboard {
         }
     }
 
-    fn tell_of_slot(&mut self, sample: &Sample, v: &Vector, to: &mut String) -> Result<(), Fault> {
+    fn report_of_slot(&mut self, sample: &Sample, v: &Vector, to: &mut String) -> Result<(), Fault> {
         match &mut self.kept {
-            Some(kept) => kept.tell(sample, v, to),
+            Some(kept) => kept.note(sample, v, to),
             None => Err(Fault::NoSuchCall),
         }
     }
@@ -165,7 +165,7 @@ impl Cupboard {
     fn begin(&mut self, sample: &Sample, v: &Vector, to: &mut String) -> Result<(), Fault> {
         let store = failing_store(v)?;
         let error = self.keep(Kept::begun(store, sample));
-        tell(&error, to)
+        note(&error, to)
     }
 
     /// Keeps the slot, or tells why none was made.

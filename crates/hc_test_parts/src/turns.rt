@@ -24,14 +24,14 @@ impl Turns {
     }
 
     /// Makes the call.
-    pub(crate) fn tell(&mut self, v: &Vector, to: &mut String) -> Result<(), Fault> {
+    pub(crate) fn note(&mut self, v: &Vector, to: &mut String) -> Result<(), Fault> {
         let name = v.name();
         if name.starts_with("line") {
-            self.line.tell(v, to)
+            self.line.note(v, to)
         } else if name.starts_with("key") {
-            self.keys.tell(v, to)
+            self.keys.note(v, to)
         } else {
-            self.binding.tell(v, to)
+            self.binding.note(v, to)
         }
     }
 }

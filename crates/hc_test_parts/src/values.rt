@@ -1,7 +1,7 @@
 //! How values are written.
 use hc_sparse::Run;
 use hc_store::StoreError;
-use hc_test_frame::{Fault, quote, tell};
+use hc_test_frame::{Fault, quote, note};
 use hc_text::NoMemory;
 use std::fmt::Debug;
 
@@ -9,43 +9,43 @@ use std::fmt::Debug;
 const FEW: usize = 16;
 
 /// Writes bytes: few in quotes, and of many each with how often it stands in a row.
-fn tell_bytes(bytes: &[u8], to: &mut String) -> Result<(), Fault> {
+fn report_bytes(bytes: &[u8], to: &mut String) -> Result<(), Fault> {
     if bytes.len() <= FEW {
         return Ok(quote(bytes, to)?);
     }
     for row in bytes.chunk_by(|a, b| a == b) {
-        tell_row(row, to)?;
+        report_row(row, to)?;
     }
     Ok(())
 }
 
 /// Writes a byte that stands in a row.
-fn tell_row(row: &[u8], to: &mut String) -> Result<(), NoMemory> {
+fn report_row(row: &[u8], to: &mut String) -> Result<(), NoMemory> {
     quote(row.get(..1).unwrap_or(row), to)?;
     write!(to, "*{}", row.len())?;
     Ok(())
 }
 
 /// Writes a stretch: of which exchange, from where on, and its bytes.
-pub(crate) fn tell_run(run: &Option<Run>, to: &mut String) -> Result<(), Fault> {
+pub(crate) fn report_run(run: &Option<Run>, to: &mut String) -> Result<(), Fault> {
     match run {
-        Some(run) => tell_stretch(run, to),
+        Some(run) => report_stretch(run, to),
         None => Ok(to.push_str("None")?),
     }
 }
 
-fn tell_stretch(run: &Run, to: &mut String) -> Result<(), Fault> {
+fn report_stretch(run: &Run, to: &mut String) -> Result<(), Fault> {
     write!(to, "of {} at {} ", run.x, run.at)?;
-    tell_bytes(run.bytes.as_slice(), to)
+    report_bytes(run.bytes.as_slice(), to)
 }
 
 /// Writes the stretch that a store read, or why it read none.
-pub(crate) fn tell_read(
+pub(crate) fn report_read(
     read: &Result<Option<Run>, StoreError>,
     to: &mut String,
 ) -> Result<(), Fault> {
     match read {
-        Ok(run) => tell_run(run, to),
+        Ok(run) => report_run(run, to),
         Err(error) => {
             write!(to, "Err({error:?})")?;
             Ok(())
@@ -54,9 +54,9 @@ pub(crate) fn tell_read(
 }
 
 /// Writes what the call answered, where it could be made.
-pub(crate) fn tell_some<T: Debug>(value: &Option<T>, to: &mut String) -> Result<(), Fault> {
+pub(crate) fn report_some<T: Debug>(value: &Option<T>, to: &mut String) -> Result<(), Fault> {
     match value {
-        Some(value) => tell(value, to),
+        Some(value) => note(value, to),
         None => Err(Fault::NoSuchCall),
     }
 }

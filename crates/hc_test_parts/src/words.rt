@@ -31,8 +31,8 @@ impl Words {
     }
 
     /// Makes the call.
-    pub(crate) fn tell(&mut self, v: &Vector, to: &mut String) -> Result<(), Fault> {
-        let is_told = texts::call(v, to)?
+    pub(crate) fn note(&mut self, v: &Vector, to: &mut String) -> Result<(), Fault> {
+        let is_reported = texts::call(v, to)?
             || tags::call(v, to)?
             || ranges::call(v, to)?
             || directives::call(v, to)?
@@ -40,7 +40,7 @@ impl Words {
             || fields::change(&mut self.fields, v, to)?
             || records::call(v, to)?
             || methods::call(v, to)?;
-        if is_told {
+        if is_reported {
             Ok(())
         } else {
             Err(Fault::NoSuchCall)

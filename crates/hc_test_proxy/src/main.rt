@@ -5,10 +5,10 @@
 mod runs;
 mod trial;
 
-use hc_test_frame::tell_all;
+use hc_test_frame::report_all;
 use std::process::ExitCode;
 use trial::Trial;
 
 fn main(rt: HostRuntime) -> ExitCode {
-    tell_all(&rt, &mut Trial::new(rt.alloc()))
+    report_all(&rt, &mut Trial::new(rt.alloc()))
 }

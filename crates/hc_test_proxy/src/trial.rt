@@ -11,7 +11,7 @@ use hc_proxy::serve_on;
 use hc_rules::Limits;
 use hc_sched::Ended;
 use hc_store::Memory;
-use hc_test_frame::{Calls, Fault, Vector, tell};
+use hc_test_frame::{Calls, Fault, Vector, note};
 use hc_text::{Bytes, NoMemory};
 use hc_wire::{ScriptWire, Scripted, Wire, WireEvent, is_script};
 use std::alloc::Global;
@@ -91,16 +91,16 @@ impl Trial {
 }
 
 impl Calls for Trial {
-    fn tell(&mut self, v: &Vector, value: &mut String) -> Result<(), Fault> {
+    fn note(&mut self, v: &Vector, value: &mut String) -> Result<(), Fault> {
         match v.call() {
-            "serve n" => return tell(&self.serve(v.number(0))?, value),
+            "serve n" => return note(&self.serve(v.number(0))?, value),
             "record" => return quote_runs(self.alloc, self.record.taken(), value),
             "sent n" => return quote_runs(self.alloc, self.wire.sent(v.number(0)), value),
             "stall nn" => self.stall(v)?,
             "accepted nnn" => self.accept_all(v)?,
             _ => self.script.push(event_of(v)?)?,
         }
-        tell(&self.script.len(), value)
+        note(&self.script.len(), value)
     }
 }
 

@@ -218,7 +218,7 @@ fn begins_with_nothing_else(rt: HostRuntime) -> Result<(), Fail> {
 }
 
 #[test]
-fn tells_that_its_store_fails(rt: HostRuntime) -> Result<(), Fail> {
+fn reports_that_its_store_fails(rt: HostRuntime) -> Result<(), Fail> {
     let contents = left_by(&rt, &[LEFT])?;
     for op in &[Op::Create, Op::Put] {
         let fails = vec![in rt.alloc(); (*op, 1)]?;

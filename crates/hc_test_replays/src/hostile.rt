@@ -198,7 +198,7 @@ fn resume_over<R: Abort + AllocGlobal>(rt: &R, op: Op, call: u64) -> Result<(), 
 /// it is shown, and one failure of the store is told at most.
 fn expect_first_part<R: Abort + AllocGlobal>(rt: &R, report: &str) -> Result<(), Fail> {
     let mut given = String::new(rt.alloc());
-    let mut told = 0u64;
+    let mut reported = 0u64;
     let mut is_rest = false;
     for line in report.lines() {
         is_rest = is_rest || line == "shown 2 2 fetched:2 206 3 6 2";
@@ -206,11 +206,11 @@ fn expect_first_part<R: Abort + AllocGlobal>(rt: &R, report: &str) -> Result<(),
             given.push_str(line.split_whitespace().last().unwrap_or(""))?;
         }
         if line.starts_with("lost") || line.contains("store-read") {
-            told = told.wrapping_add(1);
+            reported = reported.wrapping_add(1);
         }
     }
     let whole = if is_rest { "646566" } else { "616263646566" };
     assert!(rt; whole.starts_with(given.as_str()), "{report}");
-    assert!(rt; told <= 1, "{report}");
+    assert!(rt; reported <= 1, "{report}");
     Ok(())
 }

@@ -1,10 +1,10 @@
 //! Acts and reports: each line that is an act is kept, and its value is its text in a report.
 use crate::given::{fields_at, request_at};
-use crate::told::tell_bytes;
+use crate::reported::report_bytes;
 use crate::words::{cause_at, kind_at, need_at, refusal_of, wait_at, why_at};
 use hc_event::{Act, Acts};
 use hc_sched::write_acts;
-use hc_test_frame::{Fault, Vector, tell};
+use hc_test_frame::{Fault, Vector, note};
 use hc_text::{Bytes, NoMemory};
 use std::alloc::Global;
 
@@ -25,8 +25,8 @@ impl Report {
     /// Writes the value of the call.
     pub(crate) fn call(&mut self, v: &Vector, to: &mut String) -> Result<(), Fault> {
         match v.call() {
-            "report n" => self.tell(v, to),
-            "keeps_room n" => tell_room(v, to),
+            "report n" => self.note(v, to),
+            "keeps_room n" => report_room(v, to),
             _ => self.keep(v, to),
         }
     }
@@ -36,7 +36,7 @@ impl Report {
         self.acts.push(act_of(v)?)?;
         let mut copies = Vec::new(v.alloc());
         self.copy_last(&mut copies)?;
-        tell_entry(v.alloc(), self.acts.list().len() as u64, &copies, to)
+        report_entry(v.alloc(), self.acts.list().len() as u64, &copies, to)
     }
 
     fn copy_last(&self, to: &mut Vec<Act>) -> Result<(), NoMemory> {
@@ -47,16 +47,16 @@ impl Report {
     }
 
     /// Writes the entry of this number with all acts, which are handed out, and how many are left.
-    fn tell(&mut self, v: &Vector, to: &mut String) -> Result<(), Fault> {
-        self.tell_drained(v, to)?;
+    fn note(&mut self, v: &Vector, to: &mut String) -> Result<(), Fault> {
+        self.report_drained(v, to)?;
         write!(to, " {} left", self.acts.list().len())?;
         Ok(())
     }
 
-    fn tell_drained(&mut self, v: &Vector, to: &mut String) -> Result<(), Fault> {
+    fn report_drained(&mut self, v: &Vector, to: &mut String) -> Result<(), Fault> {
         let mut acts = Vec::new(v.alloc());
         self.drain(&mut acts)?;
-        tell_entry(v.alloc(), v.number(0), &acts, to)
+        report_entry(v.alloc(), v.number(0), &acts, to)
     }
 
     fn drain(&mut self, to: &mut Vec<Act>) -> Result<(), NoMemory> {
@@ -68,10 +68,10 @@ impl Report {
 }
 
 /// Writes the entry of this number, with these acts.
-fn tell_entry(alloc: Global, number: u64, acts: &[Act], to: &mut String) -> Result<(), Fault> {
+fn report_entry(alloc: Global, number: u64, acts: &[Act], to: &mut String) -> Result<(), Fault> {
     let mut text = Vec::new(alloc);
     write_acts(number, acts, &mut text)?;
-    tell_bytes(&text, to)
+    report_bytes(&text, to)
 }
 
 /// The act that the line is.
@@ -151,12 +151,12 @@ fn given(v: &Vector) -> Result<Act, Fault> {
 }
 
 /// Writes whether room for so many acts is kept.
-fn tell_room(v: &Vector, to: &mut String) -> Result<(), Fault> {
+fn report_room(v: &Vector, to: &mut String) -> Result<(), Fault> {
     let count = v.number(0);
     if count > 1024 {
         return Err(Fault::NoSuchCall);
     }
-    tell(&keeps_room(v.alloc(), count as usize)?, to)
+    note(&keeps_room(v.alloc(), count as usize)?, to)
 }
 
 /// Whether room that is made for so many acts falls by one with each, and is back when they are gone.

@@ -1,25 +1,25 @@
 //! Answers that come in pieces, however they are cut.
 ghost use Rattle.std.specs.Prelude.{◌<◌};
 
-use crate::told::{CUTS, tell_bytes, tell_response};
+use crate::reported::{CUTS, report_bytes, report_response};
 use hc_msg::{MsgError, ResponseReader, Taken, WirePart};
-use hc_test_frame::{Fault, Vector, quote, tell};
+use hc_test_frame::{Fault, Vector, quote, note};
 use std::alloc::Global;
 
 /// Writes what is told of an answer to a GET or a HEAD, and also what is told where it is cut
 /// otherwise, where that is another.
-pub(crate) fn tell_answers(v: &Vector, to: &mut String) -> Result<(), Fault> {
-    tell_answer(v, 1, 9, to)?;
+pub(crate) fn report_answers(v: &Vector, to: &mut String) -> Result<(), Fault> {
+    report_answer(v, 1, 9, to)?;
     let mut other = String::new(v.alloc());
-    tell_other(v, to, &mut other)
+    report_other(v, to, &mut other)
 }
 
 /// Writes what is told, in `other`, where the answer is cut by the first of these sizes that tells
 /// another.
-fn tell_other(v: &Vector, to: &mut String, other: &mut String) -> Result<(), Fault> {
+fn report_other(v: &Vector, to: &mut String, other: &mut String) -> Result<(), Fault> {
     for size in CUTS {
         other.clear();
-        tell_answer(v, *size, (*size).min(9), other)?;
+        report_answer(v, *size, (*size).min(9), other)?;
         if other.as_str() != to.as_str() {
             write!(to, " but by {size} {other}")?;
             break;
@@ -30,7 +30,7 @@ fn tell_other(v: &Vector, to: &mut String, other: &mut String) -> Result<(), Fau
 
 /// Writes what is heard of the answer, which comes in pieces of `size` bytes, of which `most` are taken
 /// at once.
-fn tell_answer(v: &Vector, size: usize, most: usize, to: &mut String) -> Result<(), Fault>
+fn report_answer(v: &Vector, size: usize, most: usize, to: &mut String) -> Result<(), Fault>
     requires { 0 < most }
 {
     let mut heard = Heard::new(v.alloc(), v.word(0) == "head");
@@ -54,7 +54,7 @@ fn hear(
         };
         rest = rest.get(used..).unwrap_or(&[]);
     }
-    heard.tell(rest, to)
+    heard.note(rest, to)
 }
 
 /// A reader of an answer, and what it told: a head, the bytes of a body, and how it ended.
@@ -97,7 +97,7 @@ impl Heard {
 
     fn keep(&mut self, taken: &Taken<WirePart>, is_over: bool) -> Result<Option<usize>, Fault> {
         match &taken.got {
-            Some(WirePart::Head(response)) => tell_response(response, &mut self.head)?,
+            Some(WirePart::Head(response)) => report_response(response, &mut self.head)?,
             Some(WirePart::Piece(bytes)) => self.body.extend_from_slice(bytes.as_slice())?,
             Some(WirePart::End) => self.is_ended = true,
             None if is_over => return Ok(None),
@@ -108,42 +108,42 @@ impl Heard {
 
     /// Writes all that was told, and how it ended: with an error, with the bytes behind it, or where the
     /// connection is closed.
-    fn tell(&mut self, rest: &[u8], to: &mut String) -> Result<(), Fault> {
+    fn note(&mut self, rest: &[u8], to: &mut String) -> Result<(), Fault> {
         to.push_str(self.head.as_str())?;
         if !self.body.is_empty() {
             to.push(' ')?;
-            tell_bytes(&self.body, to)?;
+            report_bytes(&self.body, to)?;
         }
         match self.error {
             Some(e) => {
                 to.push(' ')?;
-                tell(&e, to)
+                note(&e, to)
             }
-            None if self.is_ended => tell_end(rest, to),
-            None => self.tell_close(to),
+            None if self.is_ended => report_end(rest, to),
+            None => self.report_close(to),
         }
     }
 
-    fn tell_close(&mut self, to: &mut String) -> Result<(), Fault> {
+    fn report_close(&mut self, to: &mut String) -> Result<(), Fault> {
         let closed = self.reader.finish();
-        tell_closed(&closed, to)
+        report_closed(&closed, to)
     }
 }
 
 /// Writes what the end of the connection comes to.
-fn tell_closed(closed: &Result<WirePart, MsgError>, to: &mut String) -> Result<(), Fault> {
+fn report_closed(closed: &Result<WirePart, MsgError>, to: &mut String) -> Result<(), Fault> {
     match closed {
         Ok(WirePart::End) => Ok(to.push_str(" closed end")?),
         Ok(_) => Ok(to.push_str(" closed")?),
         Err(e) => {
             to.push_str(" closed ")?;
-            tell(e, to)
+            note(e, to)
         }
     }
 }
 
 /// Writes that the answer is whole, and the bytes behind it.
-fn tell_end(rest: &[u8], to: &mut String) -> Result<(), Fault> {
+fn report_end(rest: &[u8], to: &mut String) -> Result<(), Fault> {
     to.push_str(" end")?;
     if !rest.is_empty() {
         to.push_str(" behind ")?;

@@ -2,7 +2,7 @@
 ghost use Rattle.std.specs.Prelude.{◌≡◌, ◌+◌, ◌<◌, ◌≤◌, ◌^◌, OnOk};
 
 use crate::echo::Echo;
-use crate::told::{tell_event, tell_text};
+use crate::reported::{report_event, report_text};
 use hc_event::Event;
 use hc_generate::Generator;
 use hc_test_frame::{Fault, Vector};
@@ -15,45 +15,45 @@ const MOST: u64 = 10_000;
 /// Writes the value of the call. `NoSuchCall` where it is none of these.
 pub(crate) fn call(v: &Vector, to: &mut String) -> Result<(), Fault> {
     match v.call() {
-        "event_of_seed nn" => tell_drawn(v, to),
-        "summary_of_seed nn" => tell_summary(v, to),
+        "event_of_seed nn" => report_drawn(v, to),
+        "summary_of_seed nn" => report_summary(v, to),
         _ => Err(Fault::NoSuchCall),
     }
 }
 
 /// Writes the event of a seed that has this number, and its moment.
-fn tell_drawn(v: &Vector, to: &mut String) -> Result<(), Fault> {
+fn report_drawn(v: &Vector, to: &mut String) -> Result<(), Fault> {
     let mut generator = Generator::new(v.alloc(), v.number(0));
     let drawn = walk(&mut generator, v.alloc(), MOST, v.number(1))?;
-    tell_at(generator.moment(), &drawn, to)
+    report_at(generator.moment(), &drawn, to)
 }
 
 /// Writes the event, if there is one, and its moment.
-fn tell_at(moment: u64, drawn: &Option<Event>, to: &mut String) -> Result<(), Fault> {
+fn report_at(moment: u64, drawn: &Option<Event>, to: &mut String) -> Result<(), Fault> {
     match drawn {
         Some(event) => {
             write!(to, "{moment} ")?;
-            tell_event(event, to)
+            report_event(event, to)
         }
         None => Err(Fault::NoSuchCall),
     }
 }
 
 /// Writes what was counted after so many rounds from a seed.
-fn tell_summary(v: &Vector, to: &mut String) -> Result<(), Fault> {
+fn report_summary(v: &Vector, to: &mut String) -> Result<(), Fault> {
     let rounds = v.number(1);
     if rounds > MOST {
         return Err(Fault::NoSuchCall);
     }
     let mut generator = Generator::new(v.alloc(), v.number(0));
     walk(&mut generator, v.alloc(), rounds, 0)?;
-    tell_counts(&generator, v.alloc(), to)
+    report_counts(&generator, v.alloc(), to)
 }
 
-fn tell_counts(generator: &Generator, alloc: Global, to: &mut String) -> Result<(), Fault> {
+fn report_counts(generator: &Generator, alloc: Global, to: &mut String) -> Result<(), Fault> {
     let mut summary = Vec::new(alloc);
     generator.write_summary(&mut summary)?;
-    tell_text(&summary, to)
+    report_text(&summary, to)
 }
 
 /// Goes on by so many rounds, or up to the event of this number, which is told then.

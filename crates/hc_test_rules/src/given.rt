@@ -9,7 +9,7 @@ ghost use Rattle.hc_sched.specs.Feeding.{lines_in};
 use hc_etag::Tag;
 use hc_event::{Event, Request, Response};
 use hc_fields::Fields;
-use hc_range::{Asked, read_range};
+use hc_range::{RangeSpec, read_range};
 use hc_record::{Kind, StoredHead, joining_tag};
 use hc_sched::{Feed, Timed};
 use hc_test_frame::{Fault, Vector, fields_of};
@@ -77,11 +77,11 @@ pub(crate) fn fields_at(v: &Vector, at: usize) -> Result<Fields, Fault> {
 }
 
 /// The range that the text at this place asks for, none where it is empty.
-pub(crate) fn range_at(v: &Vector, at: usize) -> Result<Option<Asked>, Fault>
+pub(crate) fn range_at(v: &Vector, at: usize) -> Result<Option<RangeSpec>, Fault>
     ensures { IfOk result (λ range. IfSome range IsInOrder) }
 {
     match read_range(v.text(at)) {
-        Some(Asked::FromTo(first, last)) if first > last => Err(Fault::NoSuchCall),
+        Some(RangeSpec::FromTo(first, last)) if first > last => Err(Fault::NoSuchCall),
         None if !v.text(at).is_empty() => Err(Fault::NoSuchCall),
         range => Ok(range),
     }

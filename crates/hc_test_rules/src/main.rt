@@ -13,12 +13,12 @@ mod messages;
 mod plans;
 mod requests;
 mod schedules;
-mod told;
+mod reported;
 mod validation;
 mod words;
 
 use acts::Report;
-use hc_test_frame::{Calls, Fault, Vector, tell_all};
+use hc_test_frame::{Calls, Fault, Vector, report_all};
 use std::process::ExitCode;
 
 /// The calls of the libraries.
@@ -29,49 +29,49 @@ struct Libraries {
 }
 
 impl Calls for Libraries {
-    fn tell(&mut self, vector: &Vector, value: &mut String) -> Result<(), Fault> {
-        let told = call(vector, value);
-        if is_of_none(told) {
+    fn note(&mut self, vector: &Vector, value: &mut String) -> Result<(), Fault> {
+        let reported = call(vector, value);
+        if is_of_none(reported) {
             self.report.call(vector, value)
         } else {
-            told
+            reported
         }
     }
 }
 
 /// Writes the value of a call that keeps nothing. `NoSuchCall` where it is none of these.
 fn call(vector: &Vector, value: &mut String) -> Result<(), Fault> {
-    let mut told = freshness::call(vector, value);
-    if is_of_none(told) {
-        told = validation::call(vector, value);
+    let mut reported = freshness::call(vector, value);
+    if is_of_none(reported) {
+        reported = validation::call(vector, value);
     }
-    if is_of_none(told) {
-        told = requests::call(vector, value);
+    if is_of_none(reported) {
+        reported = requests::call(vector, value);
     }
-    if is_of_none(told) {
-        told = plans::call(vector, value);
+    if is_of_none(reported) {
+        reported = plans::call(vector, value);
     }
-    if is_of_none(told) {
-        told = schedules::call(vector, value);
+    if is_of_none(reported) {
+        reported = schedules::call(vector, value);
     }
-    if is_of_none(told) {
-        told = heads::call(vector, value);
+    if is_of_none(reported) {
+        reported = heads::call(vector, value);
     }
-    if is_of_none(told) {
-        told = messages::call(vector, value);
+    if is_of_none(reported) {
+        reported = messages::call(vector, value);
     }
-    if is_of_none(told) {
-        told = drawing::call(vector, value);
+    if is_of_none(reported) {
+        reported = drawing::call(vector, value);
     }
-    told
+    reported
 }
 
 /// Whether those that were asked so far have no such call.
-fn is_of_none(told: Result<(), Fault>) -> bool {
-    told == Err(Fault::NoSuchCall)
+fn is_of_none(reported: Result<(), Fault>) -> bool {
+    reported == Err(Fault::NoSuchCall)
 }
 
 fn main(rt: HostRuntime) -> ExitCode {
     let report = Report::new(rt.alloc());
-    tell_all(&rt, &mut Libraries { report })
+    report_all(&rt, &mut Libraries { report })
 }

@@ -1,7 +1,7 @@
 //! Calls of `hc_msg`: what is sent, and requests that come in pieces, however they are cut.
-use crate::answers::tell_answers;
+use crate::answers::report_answers;
 use crate::given::{fields_at, is_yes, request_at};
-use crate::told::{CUTS, tell_request, tell_text};
+use crate::reported::{CUTS, report_request, report_text};
 use hc_event::{Request, Response};
 use hc_msg::{RequestReader, Taken, WireRequest, write_chunk, write_request, write_response_head};
 use hc_target::is_target;
@@ -11,23 +11,23 @@ use std::alloc::Global;
 /// Writes the value of the call. `NoSuchCall` where it is none of these.
 pub(crate) fn call(v: &Vector, to: &mut String) -> Result<(), Fault> {
     match v.call() {
-        "read_requests t" => tell_requests(v, to),
-        "read_answer wt" => tell_answers(v, to),
-        "write_chunk t" => tell_chunk(v, to),
-        "write_response_head nwt" => tell_sent_head(v, to),
-        "write_request t" => tell_sent_request(v, to),
+        "read_requests t" => report_requests(v, to),
+        "read_answer wt" => report_answers(v, to),
+        "write_chunk t" => report_chunk(v, to),
+        "write_response_head nwt" => report_sent_head(v, to),
+        "write_request t" => report_sent_request(v, to),
         _ => Err(Fault::NoSuchCall),
     }
 }
 
-fn tell_chunk(v: &Vector, to: &mut String) -> Result<(), Fault> {
+fn report_chunk(v: &Vector, to: &mut String) -> Result<(), Fault> {
     let mut bytes = Vec::new(v.alloc());
     write_chunk(v.text(0), &mut bytes)?;
-    tell_text(&bytes, to)
+    report_text(&bytes, to)
 }
 
 /// Writes the head of an answer as it is sent: the status, whether the body comes in chunks, and fields.
-fn tell_sent_head(v: &Vector, to: &mut String) -> Result<(), Fault> {
+fn report_sent_head(v: &Vector, to: &mut String) -> Result<(), Fault> {
     let status = v.number(0);
     if status > 599 {
         return Err(Fault::NoSuchCall);
@@ -37,10 +37,10 @@ fn tell_sent_head(v: &Vector, to: &mut String) -> Result<(), Fault> {
         status: status as u16,
         fields: fields_at(v, 2)?,
     };
-    tell_head(v.alloc(), &response, chunked, to)
+    report_head(v.alloc(), &response, chunked, to)
 }
 
-fn tell_head(
+fn report_head(
     alloc: Global,
     response: &Response,
     chunked: bool,
@@ -48,33 +48,33 @@ fn tell_head(
 ) -> Result<(), Fault> {
     let mut bytes = Vec::new(alloc);
     write_response_head(response, chunked, &mut bytes)?;
-    tell_text(&bytes, to)
+    report_text(&bytes, to)
 }
 
 /// Writes a request as it is sent.
-fn tell_sent_request(v: &Vector, to: &mut String) -> Result<(), Fault> {
+fn report_sent_request(v: &Vector, to: &mut String) -> Result<(), Fault> {
     let request = request_at(v, 0)?;
-    tell_request_sent(v.alloc(), &request, to)
+    report_request_sent(v.alloc(), &request, to)
 }
 
-fn tell_request_sent(alloc: Global, request: &Request, to: &mut String) -> Result<(), Fault> {
+fn report_request_sent(alloc: Global, request: &Request, to: &mut String) -> Result<(), Fault> {
     if !is_target(alloc, &request.key.bytes)? {
         return Err(Fault::NoSuchCall);
     }
     let mut bytes = Vec::new(alloc);
     write_request(request, &mut bytes)?;
-    tell_text(&bytes, to)
+    report_text(&bytes, to)
 }
 
 /// Writes the requests of the text, and also what pieces of another size tell, where that is another.
-fn tell_requests(v: &Vector, to: &mut String) -> Result<(), Fault> {
+fn report_requests(v: &Vector, to: &mut String) -> Result<(), Fault> {
     requests_in(v, 1, to)?;
     let mut other = String::new(v.alloc());
-    tell_other(v, to, &mut other)
+    report_other(v, to, &mut other)
 }
 
 /// Writes what pieces of the first of these sizes tell that tells another, in `other`.
-fn tell_other(v: &Vector, to: &mut String, other: &mut String) -> Result<(), Fault> {
+fn report_other(v: &Vector, to: &mut String, other: &mut String) -> Result<(), Fault> {
     for size in CUTS {
         other.clear();
         requests_in(v, *size, other)?;
@@ -116,7 +116,7 @@ fn take_request(
     to: &mut String,
 ) -> Result<Option<usize>, Fault> {
     match reader.take(piece) {
-        Ok(taken) => tell_taken(&taken, piece.is_empty(), to),
+        Ok(taken) => report_taken(&taken, piece.is_empty(), to),
         Err(e) => {
             show(&e, to)?;
             Ok(None)
@@ -124,14 +124,14 @@ fn take_request(
     }
 }
 
-fn tell_taken(
+fn report_taken(
     taken: &Taken<WireRequest>,
     is_over: bool,
     to: &mut String,
 ) -> Result<Option<usize>, Fault> {
     match &taken.got {
         Some(asked) => {
-            tell_request(&asked.request, to)?;
+            report_request(&asked.request, to)?;
             to.push_str(if asked.old { " of HTTP/1.0 | " } else { " | " })?;
         }
         None if is_over => {

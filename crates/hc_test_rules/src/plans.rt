@@ -5,16 +5,16 @@ use hc_rules::{
     Bound, Candidate, Limits, Member, PlanView, ReadView, RequestClass, Write, admission_of,
     least_bound, lesser, plan_of, read_step, room_of, survivor_at, weight_of,
 };
-use hc_test_frame::{Fault, Vector, tell};
+use hc_test_frame::{Fault, Vector, note};
 use hc_text::NoMemory;
 use std::alloc::Global;
 
 /// Writes the value of the call. `NoSuchCall` where it is none of these.
 pub(crate) fn call(v: &Vector, to: &mut String) -> Result<(), Fault> {
     match v.call() {
-        "read_step nnnwnnn" | "read_step nnnwwnn" => tell_step(v, to),
-        "lesser nn" => tell(&lesser(v.option(0), v.number(1)), to),
-        "weight_of n" => tell_weight(v, to),
+        "read_step nnnwnnn" | "read_step nnnwwnn" => report_step(v, to),
+        "lesser nn" => note(&lesser(v.option(0), v.number(1)), to),
+        "weight_of n" => report_weight(v, to),
         _ => call_of_any_count(v, to),
     }
 }
@@ -22,23 +22,23 @@ pub(crate) fn call(v: &Vector, to: &mut String) -> Result<(), Fault> {
 /// Writes the value of a call with more arguments or fewer. `NoSuchCall` where it is none of these.
 fn call_of_any_count(v: &Vector, to: &mut String) -> Result<(), Fault> {
     match v.name() {
-        "plan_of" => tell_plan(v, to),
-        "admission_of" => tell_admission(v, to),
-        "least_bound" => tell_least(v, to),
-        "room_of" => tell_room(v, to),
-        "survivor_at" => tell_survivor(v, to),
+        "plan_of" => report_plan(v, to),
+        "admission_of" => report_admission(v, to),
+        "least_bound" => report_least(v, to),
+        "room_of" => report_room(v, to),
+        "survivor_at" => report_survivor(v, to),
         _ => Err(Fault::NoSuchCall),
     }
 }
 
-fn tell_plan(v: &Vector, to: &mut String) -> Result<(), Fault> {
+fn report_plan(v: &Vector, to: &mut String) -> Result<(), Fault> {
     let is_plan = v.call().starts_with("plan_of nnnwtwnn");
     let current = match v.argument_count() {
         8 if is_plan => None,
         15 if is_plan => Some(candidate_of(v)?),
         _ => return Err(Fault::NoSuchCall),
     };
-    tell(&plan_of(&plan_view_of(v, current)?), to)
+    note(&plan_of(&plan_view_of(v, current)?), to)
 }
 
 /// The moment, since when, the consumer, its class, its range, whether it passed, what it kept and
@@ -70,7 +70,7 @@ fn plan_view_of(v: &Vector, current: Option<Candidate>) -> Result<PlanView, Faul
 }
 
 /// What is current: why it may be shown, whether Vary matches, what is wanted of it, its first hole,
-/// whether the shared writing is on, its exclusive writer and the least that is bound.
+/// whether the writer group is on, its exclusive writer and the least that is bound.
 fn candidate_of(v: &Vector) -> Result<Candidate, Fault> {
     let allowed = if v.word(8).is_empty() {
         None
@@ -82,7 +82,7 @@ fn candidate_of(v: &Vector) -> Result<Candidate, Fault> {
         vary: is_yes(v, 9)?,
         span: wanted_at(v, 10)?,
         hole: span_at(v, 11)?,
-        writing: is_yes(v, 12)?,
+        writer_group: is_yes(v, 12)?,
         exclusive: v.option(13),
         least_bound: v.option(14),
     })
@@ -90,7 +90,7 @@ fn candidate_of(v: &Vector) -> Result<Candidate, Fault> {
 
 /// Writes the step of the reading: the offset, the end, the end of what is stored there, whether bytes
 /// are held, what failure is due, which exchange is read, and where the next stored byte is.
-fn tell_step(v: &Vector, to: &mut String) -> Result<(), Fault> {
+fn report_step(v: &Vector, to: &mut String) -> Result<(), Fault> {
     let due = if v.word(4).is_empty() {
         None
     } else {
@@ -105,19 +105,19 @@ fn tell_step(v: &Vector, to: &mut String) -> Result<(), Fault> {
         source: v.option(5),
         next_stored: v.option(6),
     };
-    tell(&read_step(&view), to)
+    note(&read_step(&view), to)
 }
 
-fn tell_admission(v: &Vector, to: &mut String) -> Result<(), Fault> {
+fn report_admission(v: &Vector, to: &mut String) -> Result<(), Fault> {
     let ranged = is_yes(v, 0)?;
     let holes = is_yes(v, 1)?;
     let bound = bound_from(v, 2)?;
-    tell(&admission_of(&bound, ranged, holes), to)
+    note(&admission_of(&bound, ranged, holes), to)
 }
 
-fn tell_least(v: &Vector, to: &mut String) -> Result<(), Fault> {
+fn report_least(v: &Vector, to: &mut String) -> Result<(), Fault> {
     let bound = bound_from(v, 0)?;
-    tell(&least_bound(&bound), to)
+    note(&least_bound(&bound), to)
 }
 
 /// Those who are bound, from this place on.
@@ -134,16 +134,16 @@ fn add_bound(v: &Vector, from: usize, bound: &mut Vec<Bound>) -> Result<(), Faul
     Ok(())
 }
 
-fn tell_weight(v: &Vector, to: &mut String) -> Result<(), Fault> {
+fn report_weight(v: &Vector, to: &mut String) -> Result<(), Fault> {
     let stored = v.number(0);
     if stored >= 1 << 62 {
         return Err(Fault::NoSuchCall);
     }
-    tell(&weight_of(stored), to)
+    note(&weight_of(stored), to)
 }
 
 /// Writes whether there is room: the limits, how much is used, the write, and what the idle ones weigh.
-fn tell_room(v: &Vector, to: &mut String) -> Result<(), Fault> {
+fn report_room(v: &Vector, to: &mut String) -> Result<(), Fault> {
     let limits = Limits {
         max_entry: v.number(0),
         max_total: v.number(1),
@@ -158,7 +158,7 @@ fn tell_room(v: &Vector, to: &mut String) -> Result<(), Fault> {
         "piece" => Write::Piece { stored, count },
         _ => return Err(Fault::NoSuchCall),
     };
-    tell(&room_of(&limits, used, write, &numbers_from(v, 4)?), to)
+    note(&room_of(&limits, used, write, &numbers_from(v, 4)?), to)
 }
 
 /// The numbers from this place on.
@@ -171,9 +171,9 @@ fn numbers_from(v: &Vector, from: usize) -> Result<Vec<u64>, NoMemory> {
 }
 
 /// Writes who stands at the end of what is stored: each member, with where it stands.
-fn tell_survivor(v: &Vector, to: &mut String) -> Result<(), Fault> {
+fn report_survivor(v: &Vector, to: &mut String) -> Result<(), Fault> {
     let members = members_of(v.alloc(), &numbers_from(v, 1)?)?;
-    tell(&survivor_at(v.number(0), &members), to)
+    note(&survivor_at(v.number(0), &members), to)
 }
 
 /// The members that stand in a row, the number and the offset of each.

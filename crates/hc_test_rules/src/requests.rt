@@ -8,34 +8,34 @@ use hc_rules::{
     head_case, hole_answer, is_conditional, is_storable, length_of, refusal_of, route_of,
     wanted_of,
 };
-use hc_test_frame::{Fault, Vector, tell};
+use hc_test_frame::{Fault, Vector, note};
 
 /// Writes the value of the call. `NoSuchCall` where it is none of these.
 pub(crate) fn call(v: &Vector, to: &mut String) -> Result<(), Fault> {
     match v.call() {
-        "class_of t" => tell_class(v, to),
-        "wanted_of tn" => tell_wanted(v, to),
-        "refusal_of nnwt" => tell_refusal(v, None, 3, to),
-        "refusal_of nnwwwnnt" => tell_refusal_of_exchange(v, to),
-        "length_of wtt" => tell_length(v, to),
-        "content_range_of t" => tell_content_range(v, to),
-        "is_storable tt" => tell_storable(v, to),
-        "fits_to_found tt" => tell_fit(v, to),
-        "is_conditional wt" => tell_conditional(v, to),
-        "hole_answer tnnnt" => tell_hole_answer(v, to),
-        "route_of w" => tell_route(v, to),
-        "head_case wwnwwwwwww" => tell_head_case(v, to),
+        "class_of t" => report_class(v, to),
+        "wanted_of tn" => report_wanted(v, to),
+        "refusal_of nnwt" => report_refusal(v, None, 3, to),
+        "refusal_of nnwwwnnt" => report_refusal_of_exchange(v, to),
+        "length_of wtt" => report_length(v, to),
+        "content_range_of t" => report_content_range(v, to),
+        "is_storable tt" => report_storable(v, to),
+        "fits_to_found tt" => report_fit(v, to),
+        "is_conditional wt" => report_conditional(v, to),
+        "hole_answer tnnnt" => report_hole_answer(v, to),
+        "route_of w" => report_route(v, to),
+        "head_case wwnwwwwwww" => report_head_case(v, to),
         _ => Err(Fault::NoSuchCall),
     }
 }
 
 /// Writes what holds of the class of a request, and its range.
-fn tell_class(v: &Vector, to: &mut String) -> Result<(), Fault> {
+fn report_class(v: &Vector, to: &mut String) -> Result<(), Fault> {
     let request = request_at(v, 0)?;
-    tell_class_as(class_of(&request), to)
+    report_class_as(class_of(&request), to)
 }
 
-fn tell_class_as(class: RequestClass, to: &mut String) -> Result<(), Fault> {
+fn report_class_as(class: RequestClass, to: &mut String) -> Result<(), Fault> {
     if class.disabled {
         to.push_str("disabled ")?;
     }
@@ -45,17 +45,17 @@ fn tell_class_as(class: RequestClass, to: &mut String) -> Result<(), Fault> {
     if class.bypassing {
         to.push_str("bypassing ")?;
     }
-    tell(&class.range, to)
+    note(&class.range, to)
 }
 
-fn tell_wanted(v: &Vector, to: &mut String) -> Result<(), Fault> {
+fn report_wanted(v: &Vector, to: &mut String) -> Result<(), Fault> {
     let range = range_at(v, 0)?;
-    tell(&wanted_of(range, v.option(1)), to)
+    note(&wanted_of(range, v.option(1)), to)
 }
 
 /// Writes the refusal of the event at this place, behind the last start, how many are live, and whether
 /// the consumer is.
-fn tell_refusal(
+fn report_refusal(
     v: &Vector,
     exchange: Option<OpenExchange>,
     at: usize,
@@ -67,80 +67,80 @@ fn tell_refusal(
         is_live: is_yes(v, 2)?,
         exchange,
     };
-    tell_refusal_at(&gate, v, at, to)
+    report_refusal_at(&gate, v, at, to)
 }
 
-fn tell_refusal_at(gate: &Gate, v: &Vector, at: usize, to: &mut String) -> Result<(), Fault> {
+fn report_refusal_at(gate: &Gate, v: &Vector, at: usize, to: &mut String) -> Result<(), Fault> {
     let event = event_at(v, at)?;
-    tell(&refusal_of(gate, &event), to)
+    note(&refusal_of(gate, &event), to)
 }
 
 /// Writes the refusal of an event of an open exchange: whether it has its head, whether a piece was asked
 /// for, how many bytes came and how many were promised.
-fn tell_refusal_of_exchange(v: &Vector, to: &mut String) -> Result<(), Fault> {
+fn report_refusal_of_exchange(v: &Vector, to: &mut String) -> Result<(), Fault> {
     let exchange = OpenExchange {
         headed: is_yes(v, 3)?,
         asked: is_yes(v, 4)?,
         delivered: v.number(5),
         promised: v.option(6),
     };
-    tell_refusal(v, Some(exchange), 7, to)
+    report_refusal(v, Some(exchange), 7, to)
 }
 
-fn tell_length(v: &Vector, to: &mut String) -> Result<(), Fault> {
+fn report_length(v: &Vector, to: &mut String) -> Result<(), Fault> {
     let need = need_at(v, 0)?;
     let request = request_at(v, 1)?;
     let response = response_at(v, 2)?;
-    tell(&length_of(need, &request, &response), to)
+    note(&length_of(need, &request, &response), to)
 }
 
-fn tell_content_range(v: &Vector, to: &mut String) -> Result<(), Fault> {
+fn report_content_range(v: &Vector, to: &mut String) -> Result<(), Fault> {
     let fields = fields_at(v, 0)?;
-    tell(&content_range_of(&fields), to)
+    note(&content_range_of(&fields), to)
 }
 
-fn tell_storable(v: &Vector, to: &mut String) -> Result<(), Fault> {
+fn report_storable(v: &Vector, to: &mut String) -> Result<(), Fault> {
     let request = request_at(v, 0)?;
     let response = response_at(v, 1)?;
-    tell(&is_storable(&request, &response), to)
+    note(&is_storable(&request, &response), to)
 }
 
-fn tell_fit(v: &Vector, to: &mut String) -> Result<(), Fault> {
+fn report_fit(v: &Vector, to: &mut String) -> Result<(), Fault> {
     let range = range_at(v, 0)?;
     let response = response_at(v, 1)?;
-    tell(&fits_to_found(range, &response), to)
+    note(&fits_to_found(range, &response), to)
 }
 
-fn tell_conditional(v: &Vector, to: &mut String) -> Result<(), Fault> {
+fn report_conditional(v: &Vector, to: &mut String) -> Result<(), Fault> {
     let need = need_at(v, 0)?;
     let request = request_at(v, 1)?;
-    tell(&is_conditional(need, &request), to)
+    note(&is_conditional(need, &request), to)
 }
 
 /// Writes what an answer is to a hole of a representation with this tag and length.
-fn tell_hole_answer(v: &Vector, to: &mut String) -> Result<(), Fault> {
+fn report_hole_answer(v: &Vector, to: &mut String) -> Result<(), Fault> {
     match read_tag(v.alloc(), v.text(0))? {
-        Some(tag) => tell_hole_answer_with(&tag, v, to),
+        Some(tag) => report_hole_answer_with(&tag, v, to),
         None => Err(Fault::NoSuchCall),
     }
 }
 
-fn tell_hole_answer_with(tag: &Tag, v: &Vector, to: &mut String) -> Result<(), Fault> {
+fn report_hole_answer_with(tag: &Tag, v: &Vector, to: &mut String) -> Result<(), Fault> {
     let hole = Span {
         lo: v.number(2),
         hi: v.number(3),
     };
     let answer = response_at(v, 4)?;
-    tell(&hole_answer(tag, v.number(1), hole, &answer), to)
+    note(&hole_answer(tag, v.number(1), hole, &answer), to)
 }
 
-fn tell_route(v: &Vector, to: &mut String) -> Result<(), Fault> {
-    tell(&route_of(need_at(v, 0)?), to)
+fn report_route(v: &Vector, to: &mut String) -> Result<(), Fault> {
+    note(&route_of(need_at(v, 0)?), to)
 }
 
-fn tell_head_case(v: &Vector, to: &mut String) -> Result<(), Fault> {
+fn report_head_case(v: &Vector, to: &mut String) -> Result<(), Fault> {
     let view = head_view_of(v)?;
-    tell(&head_case(&view), to)
+    note(&head_case(&view), to)
 }
 
 /// The need, whether a head was shown, the status, and seven answers about the head.

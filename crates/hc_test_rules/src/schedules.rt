@@ -3,46 +3,46 @@ ghost use Rattle.std.specs.Prelude.{◌+◌, ◌<◌, ◌≤◌, ◌^◌, length
 ghost use Rattle.hc_sched.specs.Feeding.{lines_in};
 
 use crate::given::{MOST, event_at};
-use crate::told::{tell_event, tell_text};
+use crate::reported::{report_event, report_text};
 use hc_event::Event;
 use hc_sched::{Feed, FeedError, Refused, SchedRefusal, Timed, write_event};
 use hc_target::is_target;
-use hc_test_frame::{Fault, Vector, tell};
+use hc_test_frame::{Fault, Vector, note};
 use hc_text::NoMemory;
 use std::alloc::Global;
 
 /// Writes the value of the call. `NoSuchCall` where it is none of these.
 pub(crate) fn call(v: &Vector, to: &mut String) -> Result<(), Fault> {
     match v.call() {
-        "is_target t" => tell_target(v, to),
-        "copy t" => tell_copy(v, to),
-        "read_schedule nt" => tell_alike(v, to),
-        "read_schedule nnt" => tell_read(v, to),
-        "cut_schedule t" => tell_cuts(v, to),
-        "write_end nnn" => tell_end(v, to),
+        "is_target t" => report_target(v, to),
+        "copy t" => report_copy(v, to),
+        "read_schedule nt" => report_alike(v, to),
+        "read_schedule nnt" => report_read(v, to),
+        "cut_schedule t" => report_cuts(v, to),
+        "write_end nnn" => report_end(v, to),
         _ => Err(Fault::NoSuchCall),
     }
 }
 
-fn tell_target(v: &Vector, to: &mut String) -> Result<(), Fault> {
-    tell(&is_target(v.alloc(), v.text(0))?, to)
+fn report_target(v: &Vector, to: &mut String) -> Result<(), Fault> {
+    note(&is_target(v.alloc(), v.text(0))?, to)
 }
 
 /// Writes a copy of an event.
-fn tell_copy(v: &Vector, to: &mut String) -> Result<(), Fault> {
+fn report_copy(v: &Vector, to: &mut String) -> Result<(), Fault> {
     let event = event_at(v, 0)?;
-    tell_event(&event.copy()?, to)
+    report_event(&event.copy()?, to)
 }
 
 /// Writes the text of an end, behind a moment, at a moment, and of an exchange.
-fn tell_end(v: &Vector, to: &mut String) -> Result<(), Fault> {
+fn report_end(v: &Vector, to: &mut String) -> Result<(), Fault> {
     let (last, now, x) = (v.number(0), v.number(1), v.number(2));
     if last > now || now >= 1 << 62 || x >= 1 << 62 {
         return Err(Fault::NoSuchCall);
     }
     let mut text = Vec::new(v.alloc());
     write_end(last, now, x, &mut text)?;
-    tell_text(&text, to)
+    report_text(&text, to)
 }
 
 fn write_end(last: u64, now: u64, x: u64, text: &mut Vec<u8>) -> Result<(), NoMemory>
@@ -55,20 +55,20 @@ fn write_end(last: u64, now: u64, x: u64, text: &mut Vec<u8>) -> Result<(), NoMe
 }
 
 /// Writes what is told of a text in pieces of so many bytes.
-fn tell_read(v: &Vector, to: &mut String) -> Result<(), Fault> {
+fn report_read(v: &Vector, to: &mut String) -> Result<(), Fault> {
     read(v.alloc(), v.number(0), v.text(2), v.number(1) as usize, to)
 }
 
 /// Writes what is told of a text in pieces of 1 to 300 bytes, and also of the first size that tells
 /// another.
-fn tell_alike(v: &Vector, to: &mut String) -> Result<(), Fault> {
+fn report_alike(v: &Vector, to: &mut String) -> Result<(), Fault> {
     read(v.alloc(), v.number(0), v.text(1), 1, to)?;
     let mut other = String::new(v.alloc());
-    tell_other(v, to, &mut other)
+    report_other(v, to, &mut other)
 }
 
 /// Writes what is told of the first size from 2 that tells another, in `other`.
-fn tell_other(v: &Vector, to: &mut String, other: &mut String) -> Result<(), Fault> {
+fn report_other(v: &Vector, to: &mut String, other: &mut String) -> Result<(), Fault> {
     for size in 2..301 {
         other.clear();
         read(v.alloc(), v.number(0), v.text(1), size, other)?;
@@ -94,10 +94,10 @@ fn read(
     }
     let mut feed = Feed::after(alloc, moment);
     let mut events = Vec::new(alloc);
-    tell_pieces(&mut feed, text, size, &mut events, to)
+    report_pieces(&mut feed, text, size, &mut events, to)
 }
 
-fn tell_pieces(
+fn report_pieces(
     feed: &mut Feed,
     text: &[u8],
     size: usize,
@@ -108,17 +108,17 @@ fn tell_pieces(
     requires few { lines_in feed.old + length text.now ≤ 2 ^ 60 }
 {
     let fed = feed_pieces(feed, text, size, events);
-    tell_events(events, to)?;
-    tell_answer(fed, feed.held(), to)?;
+    report_events(events, to)?;
+    report_answer(fed, feed.held(), to)?;
     to.push_str(", ")?;
     let ended = feed.finish();
-    tell_answer(ended, feed.held(), to)
+    report_answer(ended, feed.held(), to)
 }
 
-fn tell_events(events: &[Timed], to: &mut String) -> Result<(), Fault> {
+fn report_events(events: &[Timed], to: &mut String) -> Result<(), Fault> {
     for timed in events {
         write!(to, "{} ", timed.now)?;
-        tell_event(&timed.event, to)?;
+        report_event(&timed.event, to)?;
         to.push_str(" | ")?;
     }
     Ok(())
@@ -146,7 +146,7 @@ fn feed_pieces(
 }
 
 /// Writes an answer, and how many bytes are held.
-fn tell_answer(answer: Result<(), FeedError>, held: usize, to: &mut String) -> Result<(), Fault> {
+fn report_answer(answer: Result<(), FeedError>, held: usize, to: &mut String) -> Result<(), Fault> {
     match answer {
         Ok(()) => Ok(write!(to, "ok {held}")?),
         Err(FeedError::Refused(Refused { line, why })) => {
@@ -158,7 +158,7 @@ fn tell_answer(answer: Result<(), FeedError>, held: usize, to: &mut String) -> R
 
 /// Writes how many of the front parts of a schedule are whole, how many are cut short, and how many are
 /// refused otherwise.
-fn tell_cuts(v: &Vector, to: &mut String) -> Result<(), Fault> {
+fn report_cuts(v: &Vector, to: &mut String) -> Result<(), Fault> {
     let text = v.text(0);
     if text.len() > MOST {
         return Err(Fault::NoSuchCall);

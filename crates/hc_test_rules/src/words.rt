@@ -81,9 +81,9 @@ pub(crate) fn kind_at(v: &Vector, at: usize) -> Result<LostKind, Fault> {
 }
 
 /// The refusal of this number, with what it tells.
-pub(crate) fn refusal_of(number: u64, told: u64) -> Result<Refusal, Fault> {
+pub(crate) fn refusal_of(number: u64, reported: u64) -> Result<Refusal, Fault> {
     Ok(match number {
-        1 => Refusal::NotRising { last: told },
+        1 => Refusal::NotRising { last: reported },
         2 => Refusal::TooManyConsumers,
         3 => Refusal::NoConsumer,
         4 => Refusal::Finished,
@@ -93,7 +93,7 @@ pub(crate) fn refusal_of(number: u64, told: u64) -> Result<Refusal, Fault> {
         8 => Refusal::NoHeadYet,
         9 => Refusal::NotAsked,
         10 => Refusal::EmptyPiece,
-        11 => Refusal::Overlong { promised: told },
+        11 => Refusal::Overlong { promised: reported },
         _ => return Err(Fault::NoSuchCall),
     })
 }

@@ -31,7 +31,7 @@ fn dial_at<R: Net + Clock + AllocGlobal + Drop>(
     if far.send(k, b"a")? != 1 {
         return Err(Fault::TookLess);
     }
-    if !is_told_broken(far, k)? {
+    if !is_reported_broken(far, k)? {
         return Err(Fault::NeverBroke);
     }
     if far.send(k, b"bc")? != 2 {
@@ -41,7 +41,7 @@ fn dial_at<R: Net + Clock + AllocGlobal + Drop>(
 }
 
 /// Whether the first thing that is told of the connection is that it is broken.
-fn is_told_broken<R: Net + Clock + AllocGlobal + Drop>(
+fn is_reported_broken<R: Net + Clock + AllocGlobal + Drop>(
     wire: &mut MioWire<R>,
     k: u64,
 ) -> Result<bool, Fault> {

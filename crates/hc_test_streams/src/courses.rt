@@ -28,7 +28,7 @@ impl Course for Countdown {
 
     ghost over = { λ s. nat_eq s.left 0 };
 
-    ghost tells = { λ _ _ _ _ _ _. ⊤ };
+    ghost reports = { λ _ _ _ _ _ _. ⊤ };
 
     ghost spent = { λ _ _. ⊤ };
 

@@ -79,7 +79,7 @@ fn follow<R: Abort>(rt: &R, wire: &mut ScriptWire) {
 }
 
 #[test]
-fn fails_where_it_is_told_to(rt: HostRuntime) -> Result<(), Fail> {
+fn fails_where_it_is_reported_to(rt: HostRuntime) -> Result<(), Fail> {
     let fails = vec![in rt.alloc(); 2, 3, 5]?;
     let mut wire = wire_of(&rt, rt.alloc(), LINES, fails)?;
     fail(&rt, &mut wire);

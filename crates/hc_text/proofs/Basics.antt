@@ -36,8 +36,8 @@ and_both a b h = grind (arith, nat_tests)
 pub and_off : (a b : Bool) → b ≡ false → (a && b) ≡ false
 and_off a b h = grind (arith, nat_tests)
 
-pub eq_tells : (a b : ℕ) → nat_eq a b ≡ true → a ≡ b
-eq_tells a b h = grind (arith, nat_tests)
+pub eq_reports : (a b : ℕ) → nat_eq a b ≡ true → a ≡ b
+eq_reports a b h = grind (arith, nat_tests)
 
 pub and_right : (a b : Bool) → (a && b) ≡ true → b ≡ true
 and_right a b h = grind (arith, nat_tests)

@@ -1,7 +1,6 @@
 -- Texts and small numbers.
-use Rattle.std.specs.Prelude.{ℕ, ◌<◌, ◌^◌, ◌==◌, Bool, not, List}
+use Rattle.std.specs.Prelude.{ℕ, ◌<◌, ◌^◌, ◌==◌, Bool, not, List, ◌+◌, length, take, drop, bytes_eq, position, Option, Some, None, option_map, if◌then◌else◌}
 use Rattle.std.specs.List.{list_all}
-use Rattle.std.specs.Prelude.{ℕ, ◌+◌, ◌==◌, List, length, take, drop, bytes_eq, position, Option, Some, None, option_map, if◌then◌else◌}
 
 -- A text that is cut at the first of some byte, or behind a prefix.
 

@@ -1,7 +1,6 @@
 //! Where a byte stands in a text.
 ghost use Rattle.std.specs.Prelude.{◌≡◌, ◌==◌, ◌+◌, length, IfSome, option_map, position};
-ghost use Rattle.hc_text.specs.Texts.{lacks};
-ghost use Rattle.hc_text.specs.Texts.{cut};
+ghost use Rattle.hc_text.specs.Texts.{lacks, cut};
 
 use memchr::memchr;
 

@@ -28,7 +28,7 @@ begun request now = record {
   hi = None;
   given = 0;
   due = None;
-  told = refl;
+  reported = refl;
 }
 
 -- it waits in the line of its key with others

@@ -18,8 +18,8 @@ use hc_sparse::Presence;
 /// Who uses a representation, as a plan looks at it.
 #[derive(Clone, Copy)]
 pub struct Users {
-    /// Its shared writing is on.
-    pub writing: bool,
+    /// Its writer group is on.
+    pub writer_group: bool,
     /// Its exclusive writer.
     pub exclusive: Option<u64>,
     /// The least consumer that is bound to it.
@@ -32,7 +32,7 @@ impl Users {
         ensures { result ≡ users_of entry.now }
     {
         Users {
-            writing: entry.is_writing(),
+            writer_group: entry.is_group(),
             exclusive: entry.exclusive(),
             least_bound: entry.least_bound(),
         }
@@ -50,7 +50,7 @@ impl Transaction {
         store: &P,
         now: u64,
     ) -> Candidate
-        requires told { facts.now ≡ head_facts (plain head.now) }
+        requires reported { facts.now ≡ head_facts (plain head.now) }
         requires later { facts.now.answered ≤ now }
         requires early { now < 2 ^ 62 }
         requires small { facts.now.initial_age < 2 ^ 63 }
@@ -64,7 +64,7 @@ impl Transaction {
             vary: vary_matches(head, &self.request),
             span,
             hole: hole_of(store, span),
-            writing: users.writing,
+            writer_group: users.writer_group,
             exclusive: users.exclusive,
             least_bound: users.least_bound,
         }

@@ -33,7 +33,7 @@ pub struct Transaction {
     pub given: u64,
     /// The failure that is due.
     pub due: Option<Cause>,
-    ghost told: { facts ≡ request_facts request },
+    ghost reported: { facts ≡ request_facts request },
 }
 
 impl Transaction {

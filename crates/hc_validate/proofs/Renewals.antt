@@ -2,8 +2,7 @@
 use Rattle.std.{proofs.{Common.{◌≡◌, ℕ, ◌+◌, ◌≤◌, true, false, List, [], ◌∷◌, length, drop, inl, inr, refl, ap, subst, arith}, lemmas.{Bool.{both_ways, cases_Bool, lt-leb}, List.{drop_more}, Option.{slice_get_within, get_or_from_slice_get}}, Math.Bool.{and-false}}, specs.Prelude.{slice_get, Some, nat_le}}
 use Rattle.hc_fields.specs.{declared.error.FieldError.{FieldError, TheVariants.{BadName, BadValue, TooMany, TooLong, NoMemory}}, FieldList.{IsField, IsFieldList, Refuses, has_name, is_own_value, field_list_with, size_of, without}}
 use Rattle.hc_fields.proofs.Edits.{length-put, size_of-put}
-use Rattle.hc_validate.specs.Updates.{is_fixed, is_within_limits, is_renewed, left_by, changeable_fields, with_all}
-use Rattle.hc_validate.specs.Updates.{FieldPairs}
+use Rattle.hc_validate.specs.Updates.{is_fixed, is_within_limits, is_renewed, left_by, changeable_fields, with_all, FieldPairs}
 
 -- each field of a list is one
 pub field_at : (fields : FieldPairs) (i : ℕ) (g : List ℕ × List ℕ) → IsFieldList fields → slice_get fields i ≡ Some g → IsField g

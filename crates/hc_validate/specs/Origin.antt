@@ -11,7 +11,7 @@ use Rattle.hc_etag.specs.TagTexts.{strong_in}
 use Rattle.hc_event.specs.declared.event.Request.{Request}
 use Rattle.hc_fields.specs.FieldList.{joined_of, values_of}
 use Rattle.hc_fields.specs.FirstValues.{has_field, only_of}
-use Rattle.hc_range.specs.declared.range.Asked.{Asked}
+use Rattle.hc_range.specs.declared.range.RangeSpec.{RangeSpec}
 use Rattle.hc_range.specs.declared.range.Span.{Span}
 use Rattle.hc_range.specs.Ranges.{SpellsRange}
 use Rattle.hc_range.specs.Spans.{resolved_span}
@@ -71,9 +71,9 @@ abbrev pub range_of : FieldPairs → Option (List ℕ)
 range_of fields = only_of (values_of (codes "range") fields)
 
 -- what Range asks for, where it stands once and can be read (RFC 9110 section 14.2)
-abbrev pub IsAsked : FieldPairs → Option Asked → Type 0
+abbrev pub IsAsked : FieldPairs → Option RangeSpec → Type 0
 IsAsked fields (Some asked) = IsSomeAnd (range_of fields) (λ text. SpellsRange text asked)
-IsAsked fields None = IfSome (range_of fields) (λ text. (asked : Asked) → ¬ (SpellsRange text asked))
+IsAsked fields None = IfSome (range_of fields) (λ text. (asked : RangeSpec) → ¬ (SpellsRange text asked))
 
 -- what If-Range has between its quotes, where it stands once and is a strong tag
 abbrev pub if_range : FieldPairs → Option (List ℕ)
@@ -131,23 +131,23 @@ cut_by n None = unsatisfied_answer n
 cut_by n (Some span) = part n span
 
 -- by the range that is asked for, where a part may be answered
-abbrev pub ranged_by : ℕ → Bool → Option Asked → Answer
+abbrev pub ranged_by : ℕ → Bool → Option RangeSpec → Answer
 ranged_by n true (Some asked) = cut_by n (resolved_span asked n)
 ranged_by n _ _ = whole n
 
 -- the first case that applies
-abbrev pub answer_by : ℕ → Bool → Bool → Option Asked → Answer
+abbrev pub answer_by : ℕ → Bool → Bool → Option RangeSpec → Answer
 answer_by n listed may_cut asked = if listed then not_modified_answer n else ranged_by n may_cut asked
 
 -- what is read of a request's fields: whether If-None-Match lists the tag, and what Range asks for
-pub record IsRead (n : ℕ) (fields : FieldPairs) (listed : Bool) (asked : Option Asked) : Type 0 where
+pub record IsRead (n : ℕ) (fields : FieldPairs) (listed : Bool) (asked : Option RangeSpec) : Type 0 where
   pub listed_is : IsTrue listed ↔ IsListed (decimal n) fields
   pub asked_is : IsAsked fields asked
 
 abbrev pub IsAnswerOf : Option ℕ → FieldPairs → Answer → Type 0
 IsAnswerOf None fields answer = answer ≡ missing
 IsAnswerOf (Some n) fields answer =
-    (listed : Bool) × (asked : Option Asked) × IsRead n fields listed asked
+    (listed : Bool) × (asked : Option RangeSpec) × IsRead n fields listed asked
     × (answer ≡ answer_by n listed (may_cut (decimal n) fields) asked)
 
 -- the answer is the one to this request

@@ -1,13 +1,11 @@
 -- Whether a 304 is about what is stored (RFC 9111 section 4.3.4).
-use Rattle.std.specs.Prelude.{◌==◌, ◌&&◌, ◌||◌, not, Bool, codes}
+use Rattle.std.specs.Prelude.{◌==◌, ◌&&◌, ◌||◌, not, Bool, codes, ℕ, true, false, List, bytes_eq, Option, Some}
 use Rattle.hc_cachectl.specs.Directives.{of_response}
-use Rattle.hc_fields.specs.FirstValues.{has_field}
+use Rattle.hc_fields.specs.FirstValues.{has_field, only_of}
 use Rattle.hc_record.specs.Head.{Head}
 use Rattle.hc_event.specs.declared.event.Response.{Response}
-use Rattle.std.specs.Prelude.{ℕ, ◌&&◌, not, Bool, true, false, List, codes, bytes_eq, Option, Some}
 use Rattle.std.specs.Option.{option_and_then}
 use Rattle.hc_fields.specs.FieldList.{values_of}
-use Rattle.hc_fields.specs.FirstValues.{only_of}
 use Rattle.hc_etag.specs.TagTexts.{tag_in}
 
 -- The entity tag of a head (RFC 9110 section 8.8.3).

@@ -1,9 +1,7 @@
 -- The stored fields after a new head of the same representation (RFC 9111 section 3.2).
 use Rattle.std.specs.Prelude.{ℕ, ◌∷◌, [], ◌&&◌, not, nat_le, Bool, List, codes, bytes_eq, filter, length, if◌then◌else◌}
 use Rattle.std.specs.List.{list_any}
-use Rattle.hc_fields.specs.FieldList.{has_name, field_list_with, size_of}
-use Rattle.std.specs.Prelude.{ℕ, List}
-use Rattle.hc_fields.specs.FieldList.{field_list_with, without}
+use Rattle.hc_fields.specs.FieldList.{has_name, field_list_with, size_of, without}
 
 -- Fields in which one value stands for a name.
 

@@ -7,7 +7,7 @@ ghost use Rattle.hc_validate.specs.Origin.{behind_slash, if_range, is_just, is_o
 use hc_etag::{TagItems, TagList, read_tag_list, strong_in};
 use hc_event::Request;
 use hc_fields::{Fields, has_field, only_value};
-use hc_range::{Asked, read_range};
+use hc_range::{RangeSpec, read_range};
 use hc_text::{NoMemory, read_plain};
 use std::alloc::Global;
 
@@ -101,7 +101,7 @@ fn has_tag(tags: &TagItems, opaque: &[u8]) -> bool
 }
 
 /// What Range asks for, where it stands once and can be read.
-pub(crate) fn asked_in(fields: &Fields) -> Option<Asked>
+pub(crate) fn asked_in(fields: &Fields) -> Option<RangeSpec>
     ensures is { IsAsked fields.now result }
     ensures ordered { IfSome result IsInOrder }
 {

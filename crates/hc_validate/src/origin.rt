@@ -8,7 +8,7 @@ use crate::setting::set_field;
 use crate::showing::{add_range, set_number};
 use hc_event::{Request, Response};
 use hc_fields::Fields;
-use hc_range::{Asked, Span, resolve};
+use hc_range::{RangeSpec, Span, resolve};
 use hc_text::{NoMemory, write_number};
 use std::alloc::Global;
 
@@ -120,7 +120,7 @@ fn whole(size: u64, mut fields: Fields) -> Result<Answer, NoMemory>
 }
 
 /// The answer to a request for a range.
-fn cut(size: u64, fields: Fields, asked: Asked) -> Result<Answer, NoMemory>
+fn cut(size: u64, fields: Fields, asked: RangeSpec) -> Result<Answer, NoMemory>
     requires is { fields ≡ common size }
     requires order { IsInOrder asked }
     requires small { size ≤ 1048576 }

@@ -2,8 +2,7 @@
 ghost use Rattle.std.specs.Prelude.{◌≡◌, option_map};
 ghost use Rattle.hc_etag.specs.PlainTags.{plain_tag};
 ghost use Rattle.hc_record.specs.Plain.{plain};
-ghost use Rattle.hc_validate.specs.Selection.{selects};
-ghost use Rattle.hc_validate.specs.Selection.{selects_by};
+ghost use Rattle.hc_validate.specs.Selection.{selects, selects_by};
 
 use crate::tags::tag_of;
 use hc_cachectl::read_response;

@@ -1,6 +1,6 @@
 -- What a connection is sent, nothing or in two goes: for one connection, for the list of them, and for the log.
 use Rattle.std.proofs.{Common.{◌≡◌, ℕ, List, [], ◌∷◌, ◌++◌, length, Bool, false, Option, Some, None, eqb, refl, sym, ap, ◌∙◌, inl, inr, append_assoc}, lemmas.{Bool.{cases_Bool}, List.{append-nil}}}
-use Rattle.hc_wire.specs.Logs.{Log, Taker, Tells, with_sent, changed_at, taking}
+use Rattle.hc_wire.specs.Logs.{Log, Taker, Reports, with_sent, changed_at, taking}
 
 -- NOTHING IS SENT
 
@@ -17,9 +17,9 @@ changed-none k n (c ∷ cs) = elim (cases_Bool (eqb c.k k)) [
 pub sent-none : (k : ℕ) (log : Log) → with_sent k [] false log ≡ log
 sent-none k log = ap (λ (cs : List Taker). let l : Log = record log { takers = cs } in l) (changed-none k (length log.calls) log.takers)
 
-pub tells-none : (k : ℕ) (l : Option Log) → Tells l l (with_sent k [] false)
-tells-none k None = refl
-tells-none k (Some log) = ap Some (sym (sent-none k log))
+pub reports-none : (k : ℕ) (l : Option Log) → Reports l l (with_sent k [] false)
+reports-none k None = refl
+reports-none k (Some log) = ap Some (sym (sent-none k log))
 
 -- ONE BEHIND ANOTHER
 
@@ -36,6 +36,6 @@ changed-both k n a b s (c ∷ cs) = elim (cases_Bool (eqb c.k k)) [
 pub sent-both : (k : ℕ) (a b : List ℕ) (s : Bool) (log : Log) → with_sent k b s (with_sent k a false log) ≡ with_sent k (a ++ b) s log
 sent-both k a b s log = ap (λ (cs : List Taker). let l : Log = record log { takers = cs } in l) (changed-both k (length log.calls) a b s log.takers)
 
-pub tells-both : (k : ℕ) (a b : List ℕ) (s : Bool) (l m n : Option Log) → Tells l m (with_sent k a false) → Tells m n (with_sent k b s) → Tells l n (with_sent k (a ++ b) s)
-tells-both k a b s None m n first second = let h = rw first at second in h
-tells-both k a b s (Some log) m n first second = let h = rw first at second in h ∙ ap Some (sent-both k a b s log)
+pub reports-both : (k : ℕ) (a b : List ℕ) (s : Bool) (l m n : Option Log) → Reports l m (with_sent k a false) → Reports m n (with_sent k b s) → Reports l n (with_sent k (a ++ b) s)
+reports-both k a b s None m n first second = let h = rw first at second in h
+reports-both k a b s (Some log) m n first second = let h = rw first at second in h ∙ ap Some (sent-both k a b s log)

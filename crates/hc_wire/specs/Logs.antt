@@ -123,6 +123,6 @@ abbrev pub with_closed : ℕ → Log → Log
 with_closed k log = record log { takers = changed_at k shut log.takers }
 
 -- the log becomes so, if it is told
-abbrev pub Tells : Option Log → Option Log → (Log → Log) → Type 0
-Tells None new change = new ≡ None
-Tells (Some log) new change = new ≡ Some (change log)
+abbrev pub Reports : Option Log → Option Log → (Log → Log) → Type 0
+Reports None new change = new ≡ None
+Reports (Some log) new change = new ≡ Some (change log)

@@ -10,8 +10,8 @@ use Rattle.hc_wire.specs.Logs.{Log}
 use Rattle.hc_wire.specs.Stalls.{room_of}
 
 -- what it tells of its calls
-abbrev pub told : ScriptWire → Option Log
-told w = Some (record {
+abbrev pub reported : ScriptWire → Option Log
+reported w = Some (record {
   bound = w.bound.items;
   calls = w.calls.items;
   dialled = w.dialled.items;

@@ -4,7 +4,7 @@ ghost use Rattle.std.specs.Option.{option_copied};
 ghost use Rattle.std.specs.Result.{is_ok};
 ghost use Rattle.hc_wire.specs.declared.event.WireEvent.TheVariants.{Quiet};
 ghost use Rattle.hc_wire.specs.Events.{Unseen, Fresh, IsOpen, IsOfOpen, FitsIn, got_bytes, with_stage, closed_of, reading_of, stages_after};
-ghost use Rattle.hc_wire.specs.Logs.{Tells, stage_in, sent_in, empty_log, with_binding, with_call, with_dialled, with_sent, with_reading, with_closed};
+ghost use Rattle.hc_wire.specs.Logs.{Reports, stage_in, sent_in, empty_log, with_binding, with_call, with_dialled, with_sent, with_reading, with_closed};
 ghost use Rattle.hc_wire.specs.Scripts.{IsScript};
 ghost use Rattle.hc_wire.specs.Following.{behind_past, behind_event, behind_first, begins_quiet, left_at, coming, coming_of, bytes_left, is_listed, is_room, is_stall_of, room_in, used, used_at};
 ghost use Rattle.hc_wire.specs.Wires.{HasRisen, HasWireCause};
@@ -257,7 +257,7 @@ impl ScriptWire {
 }
 
 impl Wire for ScriptWire {
-    ghost use Rattle.hc_wire.specs.Plays.{IsIdle, HandsOut, UsesUp, FailsAsListed, IsNextNumber, KeepsScript, told};
+    ghost use Rattle.hc_wire.specs.Plays.{IsIdle, HandsOut, UsesUp, FailsAsListed, IsNextNumber, KeepsScript, reported};
     ghost use Rattle.hc_wire.specs.Stalls.{room_of};
 
     ghost faults = { λ w. w.failed };
@@ -266,7 +266,7 @@ impl Wire for ScriptWire {
 
     ghost stages = { λ w. stage_in w.connections.items };
 
-    ghost log = { told };
+    ghost log = { reported };
 
     ghost idle = { IsIdle };
 
@@ -275,8 +275,8 @@ impl Wire for ScriptWire {
             ≡ stage_in self.old.connections.items k }
         ensures events { length self.new.calls.items ≡ length self.old.calls.items }
         ensures ok { OnOk result
-            (Tells (told self.old) (told self.new) (with_binding listen origin)) }
-        ensures err { OnErr result (told self.new ≡ told self.old) }
+            (Reports (reported self.old) (reported self.new) (with_binding listen origin)) }
+        ensures err { OnErr result (reported self.new ≡ reported self.old) }
         ensures cause { HasWireCause self.old.failed self.new.failed result }
 
         // It fails exactly where it is listed, and the script stays.
@@ -299,9 +299,9 @@ impl Wire for ScriptWire {
         ensures fits { IfOk result (λ p. FitsIn p.1 (length into.old)) }
         ensures stages { IfOk result (λ p. (k : ℕ) → stage_in self.new.connections.items k
             ≡ stages_after p.1 (stage_in self.old.connections.items) k) }
-        ensures ok { IfOk result (λ p. Tells (told self.old) (told self.new)
+        ensures ok { IfOk result (λ p. Reports (reported self.old) (reported self.new)
             (with_call wait p.0 p.1 (got_bytes p.1 into.new))) }
-        ensures err { OnErr result (told self.new ≡ told self.old) }
+        ensures err { OnErr result (reported self.new ≡ reported self.old) }
         ensures err_stages { OnErr result ((k : ℕ) → stage_in self.new.connections.items k
             ≡ stage_in self.old.connections.items k) }
         ensures events { length self.new.calls.items ≡ (if is_ok result
@@ -346,8 +346,8 @@ impl Wire for ScriptWire {
         ensures fresh { IfOk result (λ k. stage_in self.old.connections.items k ≡ Unseen) }
         ensures stages { IfOk result (λ k. (j : ℕ) → stage_in self.new.connections.items j
             ≡ with_stage k Fresh (stage_in self.old.connections.items) j) }
-        ensures ok { IfOk result (λ k. Tells (told self.old) (told self.new) (with_dialled k)) }
-        ensures err { OnErr result (told self.new ≡ told self.old) }
+        ensures ok { IfOk result (λ k. Reports (reported self.old) (reported self.new) (with_dialled k)) }
+        ensures err { OnErr result (reported self.new ≡ reported self.old) }
         ensures err_stages { OnErr result ((k : ℕ) → stage_in self.new.connections.items k
             ≡ stage_in self.old.connections.items k) }
         ensures events { length self.new.calls.items ≡ length self.old.calls.items }
@@ -380,9 +380,9 @@ impl Wire for ScriptWire {
         ensures within { IfOk result (λ n. n ≤ length from.now) }
         ensures stages { (j : ℕ) → stage_in self.new.connections.items j
             ≡ stage_in self.old.connections.items j }
-        ensures ok { IfOk result (λ n. Tells (told self.old) (told self.new)
+        ensures ok { IfOk result (λ n. Reports (reported self.old) (reported self.new)
             (with_sent k (take n from.now) (nat_lt n (length from.now)))) }
-        ensures err { OnErr result (told self.new ≡ told self.old) }
+        ensures err { OnErr result (reported self.new ≡ reported self.old) }
         ensures events { length self.new.calls.items ≡ length self.old.calls.items }
         ensures cause { HasWireCause self.old.failed self.new.failed result }
 
@@ -408,7 +408,7 @@ impl Wire for ScriptWire {
         ensures stages { (j : ℕ) → stage_in self.new.connections.items j ≡ with_stage k
             (reading_of on (stage_in self.old.connections.items k))
             (stage_in self.old.connections.items) j }
-        ensures log { Tells (told self.old) (told self.new) (with_reading k on) }
+        ensures log { Reports (reported self.old) (reported self.new) (with_reading k on) }
         ensures events { length self.new.calls.items ≡ length self.old.calls.items }
         ensures faults { self.new.failed ≡ self.old.failed }
 
@@ -424,7 +424,7 @@ impl Wire for ScriptWire {
         ensures stages { (j : ℕ) → stage_in self.new.connections.items j ≡ with_stage k
             (closed_of (stage_in self.old.connections.items k))
             (stage_in self.old.connections.items) j }
-        ensures log { Tells (told self.old) (told self.new) (with_closed k) }
+        ensures log { Reports (reported self.old) (reported self.new) (with_closed k) }
         ensures events { length self.new.calls.items ≡ length self.old.calls.items }
         ensures faults { self.new.failed ≡ self.old.failed }
 

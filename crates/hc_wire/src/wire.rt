@@ -15,7 +15,7 @@ pub const MOST_EVENTS: u64 = 1 << 45;
 pub trait Wire {
     ghost use Rattle.hc_wire.specs.declared.event.WireEvent.TheVariants.{Quiet};
     ghost use Rattle.hc_wire.specs.Events.{Stage, Unseen, Fresh, with_stage, closed_of, reading_of, stages_after, IsOfOpen, FitsIn, got_bytes};
-    ghost use Rattle.hc_wire.specs.Logs.{Log, Tells, with_binding, with_call, with_dialled, with_sent, with_reading, with_closed};
+    ghost use Rattle.hc_wire.specs.Logs.{Log, Reports, with_binding, with_call, with_dialled, with_sent, with_reading, with_closed};
     ghost use Rattle.hc_wire.specs.Wires.{HasWireCause};
 
     /// How often a call has failed.
@@ -38,7 +38,7 @@ pub trait Wire {
         ensures stages { (k : ℕ) → stages self.new k ≡ stages self.old k }
         ensures events { events self.new ≡ events self.old }
         ensures ok { OnOk result
-            (Tells (log self.old) (log self.new) (with_binding listen origin)) }
+            (Reports (log self.old) (log self.new) (with_binding listen origin)) }
         ensures err { OnErr result (log self.new ≡ log self.old) }
         ensures cause { HasWireCause (faults self.old) (faults self.new) result };
 
@@ -54,7 +54,7 @@ pub trait Wire {
         ensures fits { IfOk result (λ p. FitsIn p.1 (length into.old)) }
         ensures stages { IfOk result (λ p. (k : ℕ) → stages self.new k
             ≡ stages_after p.1 (stages self.old) k) }
-        ensures ok { IfOk result (λ p. Tells (log self.old) (log self.new)
+        ensures ok { IfOk result (λ p. Reports (log self.old) (log self.new)
             (with_call wait p.0 p.1 (got_bytes p.1 into.new))) }
         ensures err { OnErr result (log self.new ≡ log self.old) }
         ensures err_stages { OnErr result ((k : ℕ) → stages self.new k ≡ stages self.old k) }
@@ -68,7 +68,7 @@ pub trait Wire {
         ensures fresh { IfOk result (λ k. stages self.old k ≡ Unseen) }
         ensures stages { IfOk result (λ k. (j : ℕ) → stages self.new j
             ≡ with_stage k Fresh (stages self.old) j) }
-        ensures ok { IfOk result (λ k. Tells (log self.old) (log self.new) (with_dialled k)) }
+        ensures ok { IfOk result (λ k. Reports (log self.old) (log self.new) (with_dialled k)) }
         ensures err { OnErr result (log self.new ≡ log self.old) }
         ensures err_stages { OnErr result ((k : ℕ) → stages self.new k ≡ stages self.old k) }
         ensures events { events self.new ≡ events self.old }
@@ -79,7 +79,7 @@ pub trait Wire {
     fn send(&mut self, k: u64, from: &[u8]) -> Result<usize, WireError>
         ensures within { IfOk result (λ n. n ≤ length from.now) }
         ensures stages { (j : ℕ) → stages self.new j ≡ stages self.old j }
-        ensures ok { IfOk result (λ n. Tells (log self.old) (log self.new)
+        ensures ok { IfOk result (λ n. Reports (log self.old) (log self.new)
             (with_sent k (take n from.now) (nat_lt n (length from.now)))) }
         ensures err { OnErr result (log self.new ≡ log self.old) }
         ensures events { events self.new ≡ events self.old }
@@ -91,7 +91,7 @@ pub trait Wire {
         requires { used ≤ length from.old }
         ensures within { IfOk result (λ n. n ≤ length (drop used from.old)) }
         ensures stages { (j : ℕ) → stages self.new j ≡ stages self.old j }
-        ensures ok { IfOk result (λ n. Tells (log self.old) (log self.new) (with_sent k
+        ensures ok { IfOk result (λ n. Reports (log self.old) (log self.new) (with_sent k
             (take n (drop used from.old)) (nat_lt n (length (drop used from.old))))) }
         ensures err { OnErr result (log self.new ≡ log self.old) }
         ensures left { IfOk result (λ n. from.new
@@ -112,7 +112,7 @@ pub trait Wire {
     fn reads(&mut self, k: u64, on: bool)
         ensures stages { (j : ℕ) → stages self.new j
             ≡ with_stage k (reading_of on (stages self.old k)) (stages self.old) j }
-        ensures log { Tells (log self.old) (log self.new) (with_reading k on) }
+        ensures log { Reports (log self.old) (log self.new) (with_reading k on) }
         ensures events { events self.new ≡ events self.old }
         ensures faults { faults self.new ≡ faults self.old };
 
@@ -120,7 +120,7 @@ pub trait Wire {
     fn close(&mut self, k: u64)
         ensures stages { (j : ℕ) → stages self.new j
             ≡ with_stage k (closed_of (stages self.old k)) (stages self.old) j }
-        ensures log { Tells (log self.old) (log self.new) (with_closed k) }
+        ensures log { Reports (log self.old) (log self.new) (with_closed k) }
         ensures events { events self.new ≡ events self.old }
         ensures faults { faults self.new ≡ faults self.old };
 }

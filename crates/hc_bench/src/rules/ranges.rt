@@ -3,7 +3,7 @@ ghost use Rattle.hc_range.specs.Spans.{IsInOrder, IsWithin};
 
 use crate::error::{BenchError, expect};
 use hc_range::{
-    Asked, ContentRange, Span, read_content_range, read_range, resolve, write_content_range,
+    RangeSpec, ContentRange, Span, read_content_range, read_range, resolve, write_content_range,
     write_range,
 };
 
@@ -21,11 +21,11 @@ pub(super) fn read_ranges(times: u64) -> Result<(), BenchError> {
 
 /// A range, and what it asks for.
 #[inline(never)]
-fn range_case(round: u64) -> (&'static [u8], Asked) {
+fn range_case(round: u64) -> (&'static [u8], RangeSpec) {
     if round % 2 == 0 {
-        (b"bytes=500-999", Asked::FromTo(500, 999))
+        (b"bytes=500-999", RangeSpec::FromTo(500, 999))
     } else {
-        (b"bytes=734-", Asked::From(734))
+        (b"bytes=734-", RangeSpec::From(734))
     }
 }
 
@@ -70,13 +70,13 @@ pub(super) fn resolve_ranges(times: u64) -> Result<(), BenchError> {
 
 /// What is asked for, and where that is.
 #[inline(never)]
-fn resolve_case(round: u64) -> (Asked, Span)
+fn resolve_case(round: u64) -> (RangeSpec, Span)
     ensures { IsInOrder result.0 }
 {
     if round % 2 == 0 {
-        (Asked::FromTo(500, 999), Span { lo: 500, hi: 1000 })
+        (RangeSpec::FromTo(500, 999), Span { lo: 500, hi: 1000 })
     } else {
-        (Asked::Last(500), Span { lo: 734, hi: 1234 })
+        (RangeSpec::Last(500), Span { lo: 734, hi: 1234 })
     }
 }
 

@@ -21,7 +21,7 @@ impl<B: Backend> Cache<B> {
     /// answered NoMemory it represents none, and NoMemory comes.
     pub fn contents(&mut self) -> Result<Contents, StoreError>
         requires idle { live_in self.old ≡ 0 }
-        ensures told { IfOk result (λ found. (contents : model.Contents) (h : model.History)
+        ensures reported { IfOk result (λ found. (contents : model.Contents) (h : model.History)
             → StandsFor self.old contents h
             → plain_contents found ≡ contents_of (tables contents h)) }
         ensures fits { IfOk result (λ found. found.next_exchange ≤ 2 ^ 60

@@ -2,14 +2,12 @@
 ghost use Rattle.std.specs.Prelude.{◌≡◌, ℕ, true, IfSome, IfNone};
 ghost use Rattle.hc_model.specs.Entries.{Contents, History};
 ghost use Rattle.hc_model.specs.Exchanges.{is_open, is_wanted};
-ghost use Rattle.hc_text.specs.Sorted.{is_sorted};
-ghost use Rattle.hc_text.specs.Sorted.{is_among, itself};
-ghost use Rattle.hc_model.specs.Denials.{live};
+ghost use Rattle.hc_text.specs.Sorted.{is_sorted, is_among, itself};
+ghost use Rattle.hc_model.specs.Denials.{live, IsLeastLive};
 ghost use Rattle.hc_model.specs.Kinds.{kind_for};
 ghost use Rattle.hc_model.specs.Lines.{turn};
 ghost use Rattle.hc_model.specs.Tables.{tables};
 ghost use Rattle.hc_core.specs.Steps.{StandsFor, last_moment, steps, bytes_received, live_in, store_in};
-ghost use Rattle.hc_model.specs.Denials.{IsLeastLive};
 
 use crate::cache::Cache;
 use hc_record::Kind;

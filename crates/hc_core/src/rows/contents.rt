@@ -6,7 +6,7 @@ ghost use Rattle.hc_stored.specs.Entries.{shelf_of};
 ghost use Rattle.hc_stored.specs.Shelf.{Stays, idle, is_kept, cells_at};
 ghost use Rattle.hc_contents.specs.PlainContents.{plain_item};
 ghost use Rattle.hc_model.specs.Contents.{runs_from};
-ghost use Rattle.hc_state.specs.Remains.{TellsAll, TellsOne};
+ghost use Rattle.hc_state.specs.Remains.{AreContentsOf, IsContentOf};
 
 use hc_contents::{Content, ContentList, RunList};
 use hc_sparse::Run;
@@ -19,7 +19,7 @@ const END: u64 = 1 << 62;
 
 /// The idle ones, first the one to which none was bound for longest.
 pub(crate) fn items_of<B: Backend>(entries: &mut Entries<B>) -> Result<ContentList, StoreError>
-    ensures items { IfOk result (λ items. TellsAll (shelf_of entries.old)
+    ensures items { IfOk result (λ items. AreContentsOf (shelf_of entries.old)
         (idle (shelf_of entries.old)) (map plain_item items)) }
     ensures same { Stays (shelf_of entries.old) (shelf_of entries.new) }
     ensures no_limit { HasNoLimit result }
@@ -43,7 +43,7 @@ fn content_of<B: Backend>(
 ) -> Result<Content, StoreError>
     requires { is_kept (shelf_of entries.old) r ≡ true }
     ensures item { IfOk result
-        (λ item. TellsOne (shelf_of entries.old) r (plain_item item)) }
+        (λ item. IsContentOf (shelf_of entries.old) r (plain_item item)) }
     ensures same { Stays (shelf_of entries.old) (shelf_of entries.new) }
     ensures no_limit { HasNoLimit result }
     ensures cause { HasCause (shelf_of entries.old).faults (shelf_of entries.new).faults

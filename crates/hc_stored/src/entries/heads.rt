@@ -7,7 +7,7 @@ ghost use Rattle.hc_store.specs.Causes.{HasCause, HasNoLimit};
 ghost use Rattle.hc_stored.specs.Kept.{with_head, sealed_kept};
 
 use super::Entries;
-use crate::rows::{seal_in, slot_in, tell_in};
+use crate::rows::{seal_in, slot_in, report_in};
 use crate::summary::HeadSummary;
 use hc_record::{Kind, StoredHead};
 use hc_store::{Backend, StoreError};
@@ -41,7 +41,7 @@ impl<B: Backend> Entries<B> {
     {
         let summary = HeadSummary::of(head)?;
         self.store.write_record(slot_in(&self.rows, r), head)?;
-        tell_in(&mut self.rows, r, summary);
+        report_in(&mut self.rows, r, summary);
         Ok(())
     }
 

@@ -16,8 +16,8 @@ use hc_writers::Left;
 impl<B: Backend> Entries<B> {
     ghost use Rattle.hc_stored.specs.Entries.{shelf_of};
     ghost use Rattle.hc_stored.specs.Grouped.{group_of};
-    ghost use Rattle.hc_stored.specs.Groups.{left_answer, told_if_member, IsGroupOf};
-    ghost use Rattle.hc_writers.specs.Writing.{survivor};
+    ghost use Rattle.hc_stored.specs.Groups.{left_answer, moved_if_member, IsGroupOf};
+    ghost use Rattle.hc_writers.specs.Group.{survivor};
     ghost use Rattle.hc_stored.specs.Shelf.{is_kept, same_order, moved_first, taken_out, Becomes, Stays};
 
     /// One more consumer is bound, and the representation stands first in the order.
@@ -92,11 +92,11 @@ impl<B: Backend> Entries<B> {
     }
 
     /// A consumer that reads the representation along stands there.
-    pub fn tell(&mut self, r: u64, c: u64, offset: u64)
+    pub fn note(&mut self, r: u64, c: u64, offset: u64)
         ensures stays { Stays (shelf_of self.old) (shelf_of self.new) }
         ensures faults { (shelf_of self.new).faults ≡ (shelf_of self.old).faults }
         ensures group { group_of self.new r
-            ≡ option_map (told_if_member c offset) (group_of self.old r) }
+            ≡ option_map (moved_if_member c offset) (group_of self.old r) }
     {
         stand_in(&mut self.rows, r, c, offset);
     }

@@ -1,5 +1,5 @@
 //! Calls of `hc_fields`, on the list that the lines before left.
-use crate::words::lists::{append_often, tell_list, tell_read, tell_read_of_many};
+use crate::words::lists::{append_often, report_list, report_read, report_read_of_many};
 use hc_fields::{Fields, agree_on, has_field, only_value};
 use hc_test_frame::{Fault, Vector, fields_of, quote, show};
 use hc_text::NoMemory;
@@ -8,20 +8,20 @@ use hc_text::NoMemory;
 pub(crate) fn ask(fields: &Fields, v: &Vector, to: &mut String) -> Result<bool, Fault> {
     let name = v.text(0);
     match v.call() {
-        "list" => tell_list(fields, to),
-        "lines t" => tell_lines(fields, name, to),
+        "list" => report_list(fields, to),
+        "lines t" => report_lines(fields, name, to),
         "len" => show(&fields.len(), to),
         "size" => show(&fields.size(), to),
         "within_limits" => show(&fields.within_limits(), to),
         "count t" => show(&fields.count(name), to),
-        "get t" => tell_value(fields.get(name), to),
-        "value tn" => tell_value(fields.value(name, v.number(1) as usize), to),
-        "joined t" => tell_joined(fields, name, to),
+        "get t" => report_value(fields.get(name), to),
+        "value tn" => report_value(fields.value(name, v.number(1) as usize), to),
+        "joined t" => report_joined(fields, name, to),
         "has_field t" => show(&has_field(fields, name), to),
-        "only_value t" => tell_value(only_value(fields, name), to),
-        "agree_on ttt" => return tell_agreement(v, to),
-        "read_lines tn" => tell_read(v, name, v.number(1), to),
-        "read_lines tnn" => tell_read_of_many(v, to),
+        "only_value t" => report_value(only_value(fields, name), to),
+        "agree_on ttt" => return report_agreement(v, to),
+        "read_lines tn" => report_read(v, name, v.number(1), to),
+        "read_lines tnn" => report_read_of_many(v, to),
         _ => return Ok(false),
     }?;
     Ok(true)
@@ -58,13 +58,13 @@ fn begin(fields: &mut Fields, v: &Vector, to: &mut String) -> Result<bool, Fault
 }
 
 /// The lines of the list behind a text.
-fn tell_lines(fields: &Fields, text: &[u8], to: &mut String) -> Result<(), NoMemory> {
+fn report_lines(fields: &Fields, text: &[u8], to: &mut String) -> Result<(), NoMemory> {
     let mut lines = text.to_vec(fields.allocator())?;
     fields.write_lines(&mut lines)?;
     quote(&lines, to)
 }
 
-fn tell_joined(fields: &Fields, name: &[u8], to: &mut String) -> Result<(), NoMemory> {
+fn report_joined(fields: &Fields, name: &[u8], to: &mut String) -> Result<(), NoMemory> {
     match fields.joined(name)? {
         Some(joined) => quote(joined.as_slice(), to),
         None => Ok(to.push_str("None")?),
@@ -72,7 +72,7 @@ fn tell_joined(fields: &Fields, name: &[u8], to: &mut String) -> Result<(), NoMe
 }
 
 /// Whether the lists that two texts tell say the same under a name.
-fn tell_agreement(v: &Vector, to: &mut String) -> Result<bool, Fault> {
+fn report_agreement(v: &Vector, to: &mut String) -> Result<bool, Fault> {
     let a = fields_of(v.alloc(), v.text(1))?;
     let b = fields_of(v.alloc(), v.text(2))?;
     show(&agree_on(&a, &b, v.text(0)), to)?;
@@ -80,7 +80,7 @@ fn tell_agreement(v: &Vector, to: &mut String) -> Result<bool, Fault> {
 }
 
 /// The value in quotes, or that there is none.
-fn tell_value(value: Option<&[u8]>, to: &mut String) -> Result<(), NoMemory> {
+fn report_value(value: Option<&[u8]>, to: &mut String) -> Result<(), NoMemory> {
     match value {
         Some(value) => quote(value, to),
         None => Ok(to.push_str("None")?),

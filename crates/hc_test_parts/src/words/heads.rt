@@ -62,18 +62,18 @@ pub(crate) fn record_of(head: &StoredHead) -> Result<Vec<u8>, NoMemory> {
 }
 
 /// The head: kind, total, status, both moments, the joining tag, the fields of the request and its own.
-pub(crate) fn tell_head(head: &StoredHead, to: &mut String) -> Result<(), NoMemory> {
+pub(crate) fn report_head(head: &StoredHead, to: &mut String) -> Result<(), NoMemory> {
     write!(to, "{:?} {:?} {}", head.kind, head.total, head.status)?;
     write!(to, " {} {} ", head.requested, head.answered)?;
     match &head.joining {
         Some(tag) => quote(tag.opaque.as_slice(), to)?,
         None => to.push_str("None")?,
     }
-    tell_lines(&head.vary_fields, to)?;
-    tell_lines(&head.fields, to)
+    report_lines(&head.vary_fields, to)?;
+    report_lines(&head.fields, to)
 }
 
-fn tell_lines(fields: &Fields, to: &mut String) -> Result<(), NoMemory> {
+fn report_lines(fields: &Fields, to: &mut String) -> Result<(), NoMemory> {
     to.push(' ')?;
     let lines = lines_of(fields)?;
     quote(&lines, to)

@@ -5,16 +5,16 @@ use hc_text::NoMemory;
 
 /// The lines of the list, by `at`. Where the list as plain data, what it writes or its copy tell others,
 /// these follow.
-pub(crate) fn tell_list(fields: &Fields, to: &mut String) -> Result<(), NoMemory> {
+pub(crate) fn report_list(fields: &Fields, to: &mut String) -> Result<(), NoMemory> {
     let lines = lines_by_place(fields)?;
-    tell_lines(fields, &lines, to)
+    report_lines(fields, &lines, to)
 }
 
-fn tell_lines(fields: &Fields, lines: &[u8], to: &mut String) -> Result<(), NoMemory> {
+fn report_lines(fields: &Fields, lines: &[u8], to: &mut String) -> Result<(), NoMemory> {
     quote(lines, to)?;
-    tell_other(" listed ", lines_listed(fields)?, lines, to)?;
-    tell_other(" copied ", lines_copied(fields)?, lines, to)?;
-    tell_other(" written ", lines_of(fields)?, lines, to)
+    report_other(" listed ", lines_listed(fields)?, lines, to)?;
+    report_other(" copied ", lines_copied(fields)?, lines, to)?;
+    report_other(" written ", lines_of(fields)?, lines, to)
 }
 
 /// The lines that the list writes.
@@ -25,7 +25,7 @@ pub(crate) fn lines_of(fields: &Fields) -> Result<Vec<u8>, NoMemory> {
 }
 
 /// Writes what was found, where that isn't these lines.
-fn tell_other(name: &str, found: Vec<u8>, lines: &[u8], to: &mut String) -> Result<(), NoMemory> {
+fn report_other(name: &str, found: Vec<u8>, lines: &[u8], to: &mut String) -> Result<(), NoMemory> {
     if found.as_slice() == lines {
         return Ok(());
     }
@@ -65,7 +65,7 @@ fn push_line(name: &[u8], value: &[u8], to: &mut Vec<u8>) -> Result<(), NoMemory
 
 /// What is read of the field lines that a text begins with: how many fields, of how many bytes, and
 /// whether just these bytes are written of them again.
-pub(crate) fn tell_read(
+pub(crate) fn report_read(
     v: &Vector,
     text: &[u8],
     count: u64,
@@ -73,12 +73,12 @@ pub(crate) fn tell_read(
 ) -> Result<(), NoMemory> {
     let read = Fields::read_lines(v.alloc(), text, count)?;
     match &read {
-        Some((fields, len)) => tell_fields(fields, *len, text, to),
+        Some((fields, len)) => report_fields(fields, *len, text, to),
         None => Ok(to.push_str("None")?),
     }
 }
 
-fn tell_fields(fields: &Fields, len: usize, text: &[u8], to: &mut String) -> Result<(), NoMemory> {
+fn report_fields(fields: &Fields, len: usize, text: &[u8], to: &mut String) -> Result<(), NoMemory> {
     let lines = lines_of(fields)?;
     let how = if text.get(..len) == Some(lines.as_slice()) {
         "written again"
@@ -90,12 +90,12 @@ fn tell_fields(fields: &Fields, len: usize, text: &[u8], to: &mut String) -> Res
 }
 
 /// The same of a text that stands so many times.
-pub(crate) fn tell_read_of_many(v: &Vector, to: &mut String) -> Result<(), NoMemory> {
+pub(crate) fn report_read_of_many(v: &Vector, to: &mut String) -> Result<(), NoMemory> {
     let mut text = Vec::new(v.alloc());
     for _ in 0..v.number(1) {
         text.extend_from_slice(v.text(0))?;
     }
-    tell_read(v, &text, v.number(2), to)
+    report_read(v, &text, v.number(2), to)
 }
 
 /// Appends a field so often: how often it was done, and before how many of these times, and up to which of

@@ -1,6 +1,6 @@
 //! Calls of `hc_record`.
-use crate::words::heads::{head_of, kind_of, record_of, tell_head};
-use crate::words::tally::tell_changes;
+use crate::words::heads::{head_of, kind_of, record_of, report_head};
+use crate::words::tally::report_changes;
 use hc_etag::Tag;
 use hc_fields::Fields;
 use hc_record::{StoredHead, joining_tag, read_record, seal_record};
@@ -10,73 +10,73 @@ use hc_text::NoMemory;
 /// Writes the value of the call, if it is one of these.
 pub(crate) fn call(v: &Vector, to: &mut String) -> Result<bool, Fault> {
     match v.call() {
-        "read_record t" => tell_read(v, to),
-        "rewrite_record t" => tell_rewritten(v, to),
-        "write_record wnnnntt" => return tell_written(v, to),
-        "joining_tag t" => return tell_joining(v, to),
-        "seal_record twn" => return tell_sealed(v, to),
-        "changes_of_record t" => tell_changes(v.alloc(), v.text(0), to),
+        "read_record t" => report_read(v, to),
+        "rewrite_record t" => report_rewritten(v, to),
+        "write_record wnnnntt" => return report_written(v, to),
+        "joining_tag t" => return report_joining(v, to),
+        "seal_record twn" => return report_sealed(v, to),
+        "changes_of_record t" => report_changes(v.alloc(), v.text(0), to),
         _ => return Ok(false),
     }?;
     Ok(true)
 }
 
-fn tell_read(v: &Vector, to: &mut String) -> Result<(), NoMemory> {
+fn report_read(v: &Vector, to: &mut String) -> Result<(), NoMemory> {
     let head = read_record(v.alloc(), v.text(0))?;
     match &head {
-        Some(head) => tell_head(head, to),
+        Some(head) => report_head(head, to),
         None => Ok(to.push_str("None")?),
     }
 }
 
 /// The record of the head that is read.
-fn tell_rewritten(v: &Vector, to: &mut String) -> Result<(), NoMemory> {
+fn report_rewritten(v: &Vector, to: &mut String) -> Result<(), NoMemory> {
     let head = read_record(v.alloc(), v.text(0))?;
     match &head {
-        Some(head) => tell_record_of(head, to),
+        Some(head) => report_record_of(head, to),
         None => Ok(to.push_str("None")?),
     }
 }
 
-fn tell_record_of(head: &StoredHead, to: &mut String) -> Result<(), NoMemory> {
+fn report_record_of(head: &StoredHead, to: &mut String) -> Result<(), NoMemory> {
     let record = record_of(head)?;
-    tell_record(&record, to)
+    report_record(&record, to)
 }
 
 /// The record of a copy of the head that the arguments tell.
-fn tell_written(v: &Vector, to: &mut String) -> Result<bool, Fault> {
+fn report_written(v: &Vector, to: &mut String) -> Result<bool, Fault> {
     let head = head_of(v)?;
     match &head {
-        Some(head) => tell_record_of_copy(head, to),
+        Some(head) => report_record_of_copy(head, to),
         None => Ok(false),
     }
 }
 
-fn tell_record_of_copy(head: &StoredHead, to: &mut String) -> Result<bool, Fault> {
+fn report_record_of_copy(head: &StoredHead, to: &mut String) -> Result<bool, Fault> {
     let copy = head.copy()?;
-    tell_record_of(&copy, to)?;
+    report_record_of(&copy, to)?;
     Ok(true)
 }
 
 /// How many bytes a record has, and these.
-fn tell_record(record: &[u8], to: &mut String) -> Result<(), NoMemory> {
+fn report_record(record: &[u8], to: &mut String) -> Result<(), NoMemory> {
     write!(to, "{} bytes ", record.len())?;
     quote(record, to)
 }
 
 /// What stands between the quotes of the tag, which isn't weak.
-fn tell_joining(v: &Vector, to: &mut String) -> Result<bool, Fault> {
+fn report_joining(v: &Vector, to: &mut String) -> Result<bool, Fault> {
     let fields = fields_of(v.alloc(), v.text(0))?;
-    tell_joining_in(&fields, to)
+    report_joining_in(&fields, to)
 }
 
-fn tell_joining_in(fields: &Fields, to: &mut String) -> Result<bool, Fault> {
+fn report_joining_in(fields: &Fields, to: &mut String) -> Result<bool, Fault> {
     let tag = joining_tag(fields.allocator(), fields)?;
-    tell_opaque(&tag, to)?;
+    report_opaque(&tag, to)?;
     Ok(is_strong(&tag))
 }
 
-fn tell_opaque(tag: &Option<Tag>, to: &mut String) -> Result<(), NoMemory> {
+fn report_opaque(tag: &Option<Tag>, to: &mut String) -> Result<(), NoMemory> {
     match tag {
         Some(tag) => quote(tag.opaque.as_slice(), to),
         None => Ok(to.push_str("None")?),
@@ -92,7 +92,7 @@ fn is_strong(tag: &Option<Tag>) -> bool {
 }
 
 /// The text with this kind and this total.
-fn tell_sealed(v: &Vector, to: &mut String) -> Result<bool, Fault> {
+fn report_sealed(v: &Vector, to: &mut String) -> Result<bool, Fault> {
     let mut record = v.text(0).to_vec(v.alloc())?;
     let (Some(kind), total) = (kind_of(v.word(1)), v.option(2)) else {
         return Ok(false);

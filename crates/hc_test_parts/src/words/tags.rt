@@ -8,67 +8,67 @@ use hc_text::NoMemory;
 /// Writes the value of the call, if it is one of these.
 pub(crate) fn call(v: &Vector, to: &mut String) -> Result<bool, NoMemory> {
     match v.call() {
-        "read_tag t" => tell_tag(v, to),
-        "tag_in t" => tell_tag_in(v.text(0), to),
-        "strong_in t" => tell_strong_in(v.text(0), to),
-        "write_tag t" => return tell_written(v, to),
+        "read_tag t" => report_tag(v, to),
+        "tag_in t" => report_tag_in(v.text(0), to),
+        "strong_in t" => report_strong_in(v.text(0), to),
+        "write_tag t" => return report_written(v, to),
         "equal_tags tt" => return compare(v, to),
-        "read_tag_list t" => tell_list(v, to),
-        "tags_are tt" => tell_same(v, to),
+        "read_tag_list t" => report_list(v, to),
+        "tags_are tt" => report_same(v, to),
         _ => return Ok(false),
     }?;
     Ok(true)
 }
 
-fn tell_tag(v: &Vector, to: &mut String) -> Result<(), NoMemory> {
+fn report_tag(v: &Vector, to: &mut String) -> Result<(), NoMemory> {
     let tag = read_tag(v.alloc(), v.text(0))?;
     match &tag {
-        Some(tag) => tell_opaque(tag.weak, tag.opaque.as_slice(), to),
-        None => tell_none(to),
+        Some(tag) => report_opaque(tag.weak, tag.opaque.as_slice(), to),
+        None => report_none(to),
     }
 }
 
-fn tell_tag_in(text: &[u8], to: &mut String) -> Result<(), NoMemory> {
+fn report_tag_in(text: &[u8], to: &mut String) -> Result<(), NoMemory> {
     match tag_in(text) {
-        Some(tag) => tell_opaque(tag.weak, tag.opaque, to),
-        None => tell_none(to),
+        Some(tag) => report_opaque(tag.weak, tag.opaque, to),
+        None => report_none(to),
     }
 }
 
-fn tell_strong_in(text: &[u8], to: &mut String) -> Result<(), NoMemory> {
+fn report_strong_in(text: &[u8], to: &mut String) -> Result<(), NoMemory> {
     match strong_in(text) {
         Some(opaque) => quote(opaque, to),
-        None => tell_none(to),
+        None => report_none(to),
     }
 }
 
-fn tell_none(to: &mut String) -> Result<(), NoMemory> {
+fn report_none(to: &mut String) -> Result<(), NoMemory> {
     to.push_str("None")?;
     Ok(())
 }
 
 /// What stands between the quotes of a tag, and whether it is weak.
-fn tell_opaque(weak: bool, opaque: &[u8], to: &mut String) -> Result<(), NoMemory> {
+fn report_opaque(weak: bool, opaque: &[u8], to: &mut String) -> Result<(), NoMemory> {
     to.push_str(if weak { "weak " } else { "strong " })?;
     quote(opaque, to)
 }
 
 /// What is written of the copy of a tag, where the text is one.
-fn tell_written(v: &Vector, to: &mut String) -> Result<bool, NoMemory> {
+fn report_written(v: &Vector, to: &mut String) -> Result<bool, NoMemory> {
     let tag = read_tag(v.alloc(), v.text(0))?;
     match &tag {
-        Some(tag) => tell_copy(v, tag, to),
+        Some(tag) => report_copy(v, tag, to),
         None => Ok(false),
     }
 }
 
-fn tell_copy(v: &Vector, tag: &Tag, to: &mut String) -> Result<bool, NoMemory> {
+fn report_copy(v: &Vector, tag: &Tag, to: &mut String) -> Result<bool, NoMemory> {
     let copy = tag.copy()?;
-    tell_text(v, &copy, to)?;
+    report_text(v, &copy, to)?;
     Ok(true)
 }
 
-fn tell_text(v: &Vector, tag: &Tag, to: &mut String) -> Result<(), NoMemory> {
+fn report_text(v: &Vector, tag: &Tag, to: &mut String) -> Result<(), NoMemory> {
     let mut text = Vec::new(v.alloc());
     write_tag(tag, &mut text)?;
     quote(&text, to)
@@ -87,33 +87,33 @@ fn compare(v: &Vector, to: &mut String) -> Result<bool, NoMemory> {
 fn compare_with(a: &Tag, v: &Vector, to: &mut String) -> Result<bool, NoMemory> {
     let b = read_tag(v.alloc(), v.text(1))?;
     match &b {
-        Some(b) => tell_equal(a, b, to),
+        Some(b) => report_equal(a, b, to),
         None => Ok(false),
     }
 }
 
-fn tell_equal(a: &Tag, b: &Tag, to: &mut String) -> Result<bool, NoMemory> {
+fn report_equal(a: &Tag, b: &Tag, to: &mut String) -> Result<bool, NoMemory> {
     let strong = strong_equal(a, b);
     let weak = weak_equal(a, b);
     write!(to, "strong {strong}, weak {weak}")?;
     Ok(true)
 }
 
-fn tell_list(v: &Vector, to: &mut String) -> Result<(), NoMemory> {
+fn report_list(v: &Vector, to: &mut String) -> Result<(), NoMemory> {
     let list = read_tag_list(v.alloc(), v.text(0))?;
     match &list {
-        Some(list) => tell_list_copy(v, list, to),
-        None => tell_none(to),
+        Some(list) => report_list_copy(v, list, to),
+        None => report_none(to),
     }
 }
 
-fn tell_list_copy(v: &Vector, list: &TagList, to: &mut String) -> Result<(), NoMemory> {
+fn report_list_copy(v: &Vector, list: &TagList, to: &mut String) -> Result<(), NoMemory> {
     let copy = list.copy()?;
-    tell_tags(v, &copy, to)
+    report_tags(v, &copy, to)
 }
 
 /// The texts that are written of the tags of a list.
-fn tell_tags(v: &Vector, list: &TagList, to: &mut String) -> Result<(), NoMemory> {
+fn report_tags(v: &Vector, list: &TagList, to: &mut String) -> Result<(), NoMemory> {
     let TagList::Tags(tags) = list else {
         to.push_str("Any")?;
         return Ok(());
@@ -121,21 +121,21 @@ fn tell_tags(v: &Vector, list: &TagList, to: &mut String) -> Result<(), NoMemory
     to.push_str("Tags")?;
     for tag in tags.items.as_slice() {
         to.push(' ')?;
-        tell_text(v, tag, to)?;
+        report_text(v, tag, to)?;
     }
     Ok(())
 }
 
 /// Whether the second text is that of the tags of a list, each with a blank behind it.
-fn tell_same(v: &Vector, to: &mut String) -> Result<(), NoMemory> {
+fn report_same(v: &Vector, to: &mut String) -> Result<(), NoMemory> {
     let list = read_tag_list(v.alloc(), v.text(0))?;
     match &list {
-        Some(TagList::Tags(tags)) => tell_same_tags(tags.items.as_slice(), v, to),
+        Some(TagList::Tags(tags)) => report_same_tags(tags.items.as_slice(), v, to),
         _ => show(&false, to),
     }
 }
 
-fn tell_same_tags(tags: &[Tag], v: &Vector, to: &mut String) -> Result<(), NoMemory> {
+fn report_same_tags(tags: &[Tag], v: &Vector, to: &mut String) -> Result<(), NoMemory> {
     let mut found = Vec::new(v.alloc());
     write_each(tags, &mut found)?;
     show(&(found.as_slice() == v.text(1)), to)

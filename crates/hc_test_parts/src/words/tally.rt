@@ -78,7 +78,7 @@ fn are_alike(a: &[u8], b: &[u8], lines: &[u8]) -> bool {
 }
 
 /// What the texts are that differ from this one in one byte.
-pub(crate) fn tell_changes(alloc: Global, text: &[u8], to: &mut String) -> Result<(), NoMemory> {
+pub(crate) fn report_changes(alloc: Global, text: &[u8], to: &mut String) -> Result<(), NoMemory> {
     let mut tally = Tally {
         records: 0,
         others: 0,

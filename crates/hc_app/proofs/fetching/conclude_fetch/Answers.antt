@@ -4,7 +4,7 @@ use Rattle.hc_fetch.specs.declared.ended.FetchEnded.TheVariants as fetched
 use Rattle.hc_app.specs.declared.status.Status.TheVariants as status
 use Rattle.hc_app.specs.Concluding as concluding
 use Rattle.hc_app.specs.Fetching as fetching
-use Rattle.hc_app.proofs.Fetched.{ended_as, is_stopped, stopped_told, stopped_untold}
+use Rattle.hc_app.proofs.Fetched.{ended_as, is_stopped, stopped_reported, stopped_unreported}
 use Rattle.hc_app.proofs.fetching.conclude_fetch.Goals as goal
 
 pub returns-in-Done : goal.returns-in-Done
@@ -25,9 +25,9 @@ returns-in-NoMemory g c = ended_as _ _ _ _ c.args.end fetched.NoMemory ended.NoM
 
 pub returns-in-Ok : goal.returns-in-Ok
 returns-in-Ok g c =
-    stopped_told _ _ _ _ c.args.end (is_stopped c.args.end c.in_default.not-Done c.in_default.not-Refused c.in_default.not-SourceFailed c.in_default.not-SinkFailed c.in_default.not-NoMemory) c.in-Ok.ensures.said c.in-Ok.ensures.calm
+    stopped_reported _ _ _ _ c.args.end (is_stopped c.args.end c.in_default.not-Done c.in_default.not-Refused c.in_default.not-SourceFailed c.in_default.not-SinkFailed c.in_default.not-NoMemory) c.in-Ok.ensures.said c.in-Ok.ensures.calm
 
 pub returns-in-Err : goal.returns-in-Err
 returns-in-Err g c =
     rw c.stopped.ensures
-    (stopped_untold _ _ _ _ c.args.end (is_stopped c.args.end c.in_default.not-Done c.in_default.not-Refused c.in_default.not-SourceFailed c.in_default.not-SinkFailed c.in_default.not-NoMemory) _ c.say_fetch.ensures.front c.in-Err.ensures.cause.failed c.in-Err.ensures.no_fault)
+    (stopped_unreported _ _ _ _ c.args.end (is_stopped c.args.end c.in_default.not-Done c.in_default.not-Refused c.in_default.not-SourceFailed c.in_default.not-SinkFailed c.in_default.not-NoMemory) _ c.say_fetch.ensures.front c.in-Err.ensures.cause.failed c.in-Err.ensures.no_fault)

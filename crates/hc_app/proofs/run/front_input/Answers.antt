@@ -1,5 +1,5 @@
 use Rattle.std.proofs.Common.{refl, ◌∙◌, arith}
-use Rattle.hc_replay.proofs.Reported.{new_moment}
+use Rattle.hc_replay.proofs.ReportSteps.{new_moment}
 use Rattle.hc_model.specs.Entries.{no_contents}
 use Rattle.hc_app.specs.Owing.{wanting_all}
 use Rattle.hc_app.proofs.{Done.{never_wire}, Fronted.{does_front}, Concluded.{wireless, stream_status}}

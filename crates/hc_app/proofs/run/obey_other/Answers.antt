@@ -1,5 +1,5 @@
 use Rattle.std.proofs.Common.{refl, subst, inl}
-use Rattle.hc_app.specs.{Commands.{IsCommand}, Program.{obeyed, answered, served, told}}
+use Rattle.hc_app.specs.{Commands.{IsCommand}, Program.{obeyed, answered, served, reported}}
 use Rattle.hc_app.specs.declared.status.Status.TheVariants as status
 use Rattle.hc_app.proofs.{Done.{usage_said, usage_unsaid}, Failed.{all_calm, stopped_status, stopped_wireless, wire_still}}
 use Rattle.hc_app.proofs.run.obey_other.Goals as goal
@@ -11,10 +11,10 @@ pub returns-in-Some-Generate-clause-keeps : goal.returns-in-Some-Generate-clause
 returns-in-Some-Generate-clause-keeps g c = obeyed _ (subst (IsCommand _) c.in-Some-Generate.field-0-is c.in-Some-Generate.ensures.found) (c.write_summary.ensures.does _) refl
 
 pub returns-in-Ok-clause-keeps : goal.returns-in-Ok-clause-keeps
-returns-in-Ok-clause-keeps g c = told c.in-None.ensures.none c.requires.other (usage_said _ _ _ _ _ _ _ c.in-Ok.ensures.said) refl
+returns-in-Ok-clause-keeps g c = reported c.in-None.ensures.none c.requires.other (usage_said _ _ _ _ _ _ _ c.in-Ok.ensures.said) refl
 
 pub returns-in-Err-clause-keeps : goal.returns-in-Err-clause-keeps
-returns-in-Err-clause-keeps g c = rw c.stopped.ensures (told c.in-None.ensures.none c.requires.other (usage_unsaid _ _ _ _ _ _ _ _ c.say_usage.ensures.front c.in-Err.ensures.cause.failed) refl)
+returns-in-Err-clause-keeps g c = rw c.stopped.ensures (reported c.in-None.ensures.none c.requires.other (usage_unsaid _ _ _ _ _ _ _ _ c.say_usage.ensures.front c.in-Err.ensures.cause.failed) refl)
 
 pub returns-in-Some-Origin-clause-keeps : goal.returns-in-Some-Origin-clause-keeps
 returns-in-Some-Origin-clause-keeps g c = answered _ _ (subst (IsCommand _) c.in-Some-Origin.field-0-is c.in-Some-Origin.ensures.found) c.answer.ensures.answers refl

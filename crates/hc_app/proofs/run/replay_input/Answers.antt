@@ -1,5 +1,5 @@
 use Rattle.std.proofs.Common.{refl}
-use Rattle.hc_replay.proofs.Reported.{new_moment}
+use Rattle.hc_replay.proofs.ReportSteps.{new_moment}
 use Rattle.hc_app.specs.Owing.{wanting_all}
 use Rattle.hc_app.proofs.{Done.{does_replay, never_wire}, Concluded.{wireless, stream_status}}
 use Rattle.hc_app.proofs.run.replay_input.Goals as goal

@@ -1,5 +1,4 @@
-use Rattle.std.proofs.Common.{[], ◌∷◌, ◌++◌}
-use Rattle.std.specs.Prelude.{codes}
+use Rattle.std.{proofs.Common.{[], ◌∷◌, ◌++◌}, specs.Prelude.{codes}}
 use Rattle.hc_binary.proofs.Rooms.{puts_then}
 use Rattle.hc_binary.proofs.copies.put_line.Goals as goal
 

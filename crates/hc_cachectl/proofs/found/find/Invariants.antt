@@ -1,8 +1,7 @@
 use Rattle.std.{proofs.Common.{◌≡◌, drop}, specs.List.{flat_map}}
 use Rattle.http_header.specs.Token.{lowercase}
 use Rattle.hc_text.specs.Elements.{elements}
-use Rattle.hc_fields.specs.FieldList.{values_of}
-use Rattle.hc_fields.specs.FirstValues.{elements_in}
+use Rattle.hc_fields.specs.{FieldList.{values_of}, FirstValues.{elements_in}}
 use Rattle.hc_cachectl.specs.Found.{with_elements, nothing_found}
 use Rattle.hc_cachectl.proofs.found.find.Given as goal
 

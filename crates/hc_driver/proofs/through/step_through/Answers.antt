@@ -1,4 +1,4 @@
-use Rattle.hc_driver.proofs.Reported.{ends_stepped}
+use Rattle.hc_driver.proofs.ReportSteps.{ends_stepped}
 use Rattle.hc_driver.proofs.through.step_through.Goals as goal
 
 pub returns-clause-ends : goal.returns-clause-ends

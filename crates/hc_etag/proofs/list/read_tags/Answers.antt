@@ -15,15 +15,15 @@ pub loop-first-preserved : goal.loop-first-preserved
 loop-first-preserved c =
     let text = c.args.text.now in
     let rest = c.loop-first.rest.now in
-    let front = c.in-Some-front_tag.front in
+    let leading = c.in-Some-leading_tag.leading in
     let new = c.in_ok-tag.field-0 in
-    let value : value_of new ≡ (front.weak, front.opaque.now) = let weak : new.weak ≡ front.weak = c.in_ok-tag.ensures.weak in let opaque : new.opaque ≡ front.opaque.now = c.in_ok-tag.ensures.opaque in cc in
-    let more : values_of c.push.new.self.items ≡ values_of c.loop-first.tags.items ++ (front.weak, front.opaque.now) ∷ [] =
+    let value : value_of new ≡ (leading.weak, leading.opaque.now) = let weak : new.weak ≡ leading.weak = c.in_ok-tag.ensures.weak in let opaque : new.opaque ≡ leading.opaque.now = c.in_ok-tag.ensures.opaque in cc in
+    let more : values_of c.push.new.self.items ≡ values_of c.loop-first.tags.items ++ (leading.weak, leading.opaque.now) ∷ [] =
     ap values_of c.in_ok-push.ensures.items ∙ map_push value_of c.loop-first.tags.items new ∙ ap (λ (v : Bool × List ℕ). values_of c.loop-first.tags.items ++ v ∷ []) value in
     let so_far = subst (λ (m : Bool). IsReadUpTo text (values_of c.loop-first.tags.items) m rest) c.if-not-may_come.false c.loop-first.invariant in
-    subst (λ (read : List (Bool × List ℕ)). IsReadUpTo text read false front.rest.now) (sym more)
-    (read_tag text (values_of c.loop-first.tags.items) rest c.in-Some.first.now c.in-Some.after.now front.weak front.opaque.now front.rest.now
-    c.in-Some.ensures.cases.0 (sym c.is_blank.ensures ∙ c.if-is_blank.false) c.if-first-eq44.false c.in-Some-front_tag.ensures.opaque c.in-Some-front_tag.ensures.found so_far)
+    subst (λ (read : List (Bool × List ℕ)). IsReadUpTo text read false leading.rest.now) (sym more)
+    (read_tag text (values_of c.loop-first.tags.items) rest c.in-Some.first.now c.in-Some.after.now leading.weak leading.opaque.now leading.rest.now
+    c.in-Some.ensures.cases.0 (sym c.is_blank.ensures ∙ c.if-is_blank.false) c.if-first-eq44.false c.in-Some-leading_tag.ensures.opaque c.in-Some-leading_tag.ensures.found so_far)
 
 pub returns-clause-found : goal.returns-clause-found
 returns-clause-found c = (all_read c.args.text.now (values_of c.loop-first.tags.items) c.loop-first.may_come c.loop-first.rest.now c.in_default.ensures.cases c.loop-first.invariant).0

@@ -1,4 +1,4 @@
-use Rattle.hc_replay.proofs.Reported.{completes_all}
+use Rattle.hc_replay.proofs.ReportSteps.{completes_all}
 use Rattle.hc_front.proofs.FrontReplayed.{replays_all}
 use Rattle.hc_front.proofs.replaying.replay_front.Goals as goal
 

@@ -1,8 +1,7 @@
 use Rattle.std.{proofs.{Common.{◌≡◌, ◌∙◌, ℕ, ap, not, rules, of_calls}, lemmas.Fn.{filter_same}}, specs.List.{list_any}}
-use Rattle.hc_text.specs.Sorted.{is_sorted}
+use Rattle.hc_text.specs.Sorted.{is_sorted, itself}
 use Rattle.hc_text.proofs.SortedLemmas.{is_sorted-filter}
 use Rattle.hc_generate.specs.Hearing.{leaves, still_live}
-use Rattle.hc_text.specs.Sorted.{itself}
 use Rattle.hc_generate.proofs.ActLemmas.{still_live-any}
 use Rattle.hc_generate.proofs.hearing.forget_gone.Goals as goal
 

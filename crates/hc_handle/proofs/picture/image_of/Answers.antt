@@ -7,6 +7,6 @@ pub returns-clause-image : goal.returns-clause-image
 returns-clause-image c = record {
   contents = plain_contents c.in-Ok.contents;
   image_is = rw c.new-image.ensures.items at c.in_ok-write_image.ensures.ok;
-  left = λ before h stands. c.in-Ok.ensures.told before h stands;
+  left = λ before h stands. c.in-Ok.ensures.reported before h stands;
   begins = λ few limits entry total. may_more (limits_in c.args.cache.now) limits (plain_contents c.in-Ok.contents) entry total (c.in-Ok.ensures.fits few);
 }

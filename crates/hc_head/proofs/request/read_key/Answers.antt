@@ -9,7 +9,7 @@ returns-in_default c = sym (no_text_key c.args.text.now c.in_default.ensures.cas
 
 pub returns-in-Ok-set_fragment : goal.returns-in-Ok-set_fragment
 returns-in-Ok-set_fragment c =
-    let told = c.in-Ok.ensures.cases in
+    let reported = c.in-Ok.ensures.cases in
     let same : c.set_fragment.new.self ≡ set_fragment c.in-Ok-parse.url None = search rules in
-    let read = read_key_is c.args.text.now c.in-Ok.text.now _ told.0 told.1 c.in-Ok-parse.ensures in
+    let read = read_key_is c.args.text.now c.in-Ok.text.now _ reported.0 reported.1 c.in-Ok-parse.ensures in
     key_given c.own_key.result c.args.text.now c.set_fragment.new.self c.own_key.ensures (read ∙ ap own_key (sym same))

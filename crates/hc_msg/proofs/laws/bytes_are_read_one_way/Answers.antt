@@ -4,7 +4,7 @@ use Rattle.hc_msg.proofs.Leading.{leads_one, leads_on, leads_apart, stays_failed
 use Rattle.hc_msg.proofs.laws.bytes_are_read_one_way.Goals as goal
 
 pub returns-clause-one : goal.returns-clause-one
-returns-clause-one c = λ s text tokens more t u x y. let one = leads_one s text tokens more t u x y in (one.tells, one.next)
+returns-clause-one c = λ s text tokens more t u x y. let one = leads_one s text tokens more t u x y in (one.reports, one.next)
 
 pub returns-clause-pieces : goal.returns-clause-pieces
 returns-clause-pieces c = λ s xs ys tokens t. (

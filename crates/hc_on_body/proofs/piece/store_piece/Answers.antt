@@ -51,8 +51,8 @@ returns-clause-answers g c =
     refl puts.rest.last_start puts.rest.consumers puts.rest.keys
     (subst (λ (e : Exchanges). Becomes (with_piece c.args.bytes.now false) c.args.x e c.piece.new.self) puts.rest.exchanges c.in_ok-piece.ensures.ok)
 
-told_kind : (a b : LostKind) → (let told : Result (Option LostKind) NoMemory = Ok (Some a) in told) ≡ Ok (Some b) → a ≡ b
-told_kind a b is = cc
+reported_kind : (a b : LostKind) → (let reported : Result (Option LostKind) NoMemory = Ok (Some a) in reported) ≡ Ok (Some b) → a ≡ b
+reported_kind a b is = cc
 
 pub returns-in-Err-clause-refused : goal.returns-in-Err-clause-refused
 returns-in-Err-clause-refused g c = λ kind is.
@@ -64,7 +64,7 @@ returns-in-Err-clause-refused g c = λ kind is.
     let made = c.make_room.ensures in
     let puts = c.put_piece.ensures in
     let short = c.requires.comes.short in
-    let loss : loss_by c.in-Err.error ≡ Some kind = c.in_ok-lost_kind.ensures.lost ∙ ap (λ (z : LostKind). Some z) (told_kind c.in_ok-lost_kind.field-0 kind is) in
+    let loss : loss_by c.in-Err.error ≡ Some kind = c.in_ok-lost_kind.ensures.lost ∙ ap (λ (z : LostKind). Some z) (reported_kind c.in_ok-lost_kind.field-0 kind is) in
     let kept = kept_mid r mid c.args.now c.args.x c.args.r c.args.bytes.now c.requires.comes.stands c.requires.comes.accepted c.requires.comes.stored (act_list c.args.out.now) (act_list c.make_room.new.out) c.unwrap-entry.result.size had made.gives made.last_start made.exchanges in
     record {
       refuses = refused_mid r mid c.args.now c.args.x c.args.r c.args.bytes.now c.requires.comes.stands c.requires.comes.accepted c.requires.comes.stored (act_list c.args.out.now) (act_list c.make_room.new.out) c.unwrap-entry.result.size had made.gives made.last_start made.exchanges

@@ -2,7 +2,7 @@ use Rattle.std.proofs.Common.{◌≡◌, true, ap, sym, subst}
 use Rattle.hc_exch.specs.{declared.exchanges.Exchanges.{Exchanges}, Exchanges.{table_of}, Known.{is_open}}
 use Rattle.hc_stored.specs.Entries.{shelf_of}
 use Rattle.hc_effects.proofs.Vocabulary.{act_list}
-use Rattle.hc_state.specs.{Stopped.{HasStopped, MayStop}, Stored.{TellsShort}}
+use Rattle.hc_state.specs.{Stopped.{HasStopped, MayStop}, Stored.{KnowsShort}}
 use Rattle.hc_on_leave.proofs.Shorts.{shorts_here}
 use Rattle.hc_on_body.proofs.StopHandler.{breaks_off}
 use Rattle.hc_on_body.proofs.stop.break_off.Goals as goal
@@ -10,7 +10,7 @@ use Rattle.hc_on_body.proofs.stop.break_off.Goals as goal
 pub stop_bringing-requires-clause-may : goal.stop_bringing-requires-clause-may
 stop_bringing-requires-clause-may g c = record {
   running = subst (λ (e : Exchanges). is_open c.args.x (table_of e) ≡ true) (sym c.make_due_to.ensures.exchanges) c.requires.running;
-  short = subst (λ z. TellsShort (shelf_of z)) (sym c.make_due_to.ensures.rest.entries) (shorts_here c.args.rows.now c.requires.stands);
+  short = subst (λ z. KnowsShort (shelf_of z)) (sym c.make_due_to.ensures.rest.entries) (shorts_here c.args.rows.now c.requires.stands);
 }
 
 pub returns-clause-broken : goal.returns-clause-broken

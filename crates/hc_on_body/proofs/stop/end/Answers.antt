@@ -21,4 +21,4 @@ returns-in-Some-clause-answers g c = λ limits t facts stands accepts.
 pub returns-in-None-clause-answers : goal.returns-in-None-clause-answers
 returns-in-None-clause-answers g c = λ limits t facts stands accepts.
     let seen = viewed c.args.rows.now t c.args.x c.view.result c.unwrap-view.result stands c.view.ensures c.unwrap-view.ensures in
-    c.end_whole.ensures.answers _ t facts stands accepts (record { w = seen.w; row = seen.row; untold = sym seen.promised_is ∙ c.in-None.is })
+    c.end_whole.ensures.answers _ t facts stands accepts (record { w = seen.w; row = seen.row; unreported = sym seen.promised_is ∙ c.in-None.is })

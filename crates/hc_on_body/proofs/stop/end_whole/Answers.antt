@@ -2,8 +2,7 @@ use Rattle.std.{proofs.Common.{◌≡◌, ℕ, ◌^◌, None, refl, ap, ◌∙�
 use Rattle.hc_text.proofs.Basics.{same_some as same_row}
 use Rattle.hc_effects.proofs.Vocabulary.{act_list, promised_bytes}
 use Rattle.hc_stored.specs.{Entries.{shelf_of}, Views.{bound_in}}
-use Rattle.hc_text.specs.Sorted.{itself}
-use Rattle.hc_text.specs.Sorted.{has}
+use Rattle.hc_text.specs.Sorted.{itself, has}
 use Rattle.hc_effects.proofs.LettingGo.{may_let_go}
 use Rattle.hc_state.specs.{Changes.{ChangesAmong}, Stopped.{SealedWhole}}
 use Rattle.hc_txn.specs.Transactions.{with_end}
@@ -31,30 +30,30 @@ seal_whole-requires-clause-short g c =
     delivered_short r s.t facts s.rows x seen.w seen.row seen.is_open (few_received s.received) c.unwrap-view.result.delivered seen.delivered)
 
 pub returns-in-None-clause-answers : goal.returns-in-None-clause-answers
-returns-in-None-clause-answers g c = λ limits t facts stands accepts tells.
+returns-in-None-clause-answers g c = λ limits t facts stands accepts reports.
     let r = c.args.rows.now in
     let x = c.args.x in
     let view = c.unwrap-view.result in
     let seen = viewed r t x c.view.result view stands c.view.ensures c.unwrap-view.ensures in
-    let untold : promised_bytes seen.w ≡ None = ap (λ z. promised_bytes z) (same_row (t.exchange x) seen.w tells.w seen.row tells.row) ∙ tells.untold in
-    past_answered limits t facts c.args.now x seen.w seen.row untold accepts (shelf_of r.entries).faults r _ (act_list c.args.out.now) view.c view.delivered
+    let unreported : promised_bytes seen.w ≡ None = ap (λ z. promised_bytes z) (same_row (t.exchange x) seen.w reports.w seen.row reports.row) ∙ reports.unreported in
+    past_answered limits t facts c.args.now x seen.w seen.row unreported accepts (shelf_of r.entries).faults r _ (act_list c.args.out.now) view.c view.delivered
     (unbrought r t facts stands x seen.w seen.row seen.is_open c.brought.result c.brought.ensures c.in-None.is) seen.delivered seen.c_is stands
     refl refl refl c.close.ensures c.know_end.ensures
 
 pub returns-in-Some-clause-answers : goal.returns-in-Some-clause-answers
-returns-in-Some-clause-answers g c = λ limits t facts stands accepts tells.
+returns-in-Some-clause-answers g c = λ limits t facts stands accepts reports.
     let r = c.args.rows.now in
     let x = c.args.x in
     let q = c.in-Some.r in
     let view = c.unwrap-view.result in
     let mid = c.seal_whole.new.rows in
     let seen = viewed r t x c.view.result view stands c.view.ensures c.unwrap-view.ensures in
-    let untold : promised_bytes seen.w ≡ None = ap (λ z. promised_bytes z) (same_row (t.exchange x) seen.w tells.w seen.row tells.row) ∙ tells.untold in
+    let unreported : promised_bytes seen.w ≡ None = ap (λ z. promised_bytes z) (same_row (t.exchange x) seen.w reports.w seen.row reports.row) ∙ reports.unreported in
     let b = brought_row r t facts stands x seen.w seen.row seen.is_open q c.brought.result c.brought.ensures c.in-Some.is in
-    let one : q ≡ x = b.2 ∙ own_family limits t facts c.args.now x seen.w seen.row untold accepts b.0 b.1 in
+    let one : q ≡ x = b.2 ∙ own_family limits t facts c.args.now x seen.w seen.row unreported accepts b.0 b.1 in
     let there_q = ap t.representation b.2 ∙ b.1 in
     let sealed = c.seal_whole.ensures.sealed _ t b.0 (may_let_go t facts.law) there_q (λ stays. nobody_alone t facts.law q b.0 there_q stays) stands in
-    whole_answered limits t facts c.args.now x seen.w seen.row untold accepts b.0 b.1 (shelf_of r.entries).faults r mid _ stands (act_list c.args.out.now) (act_list c.seal_whole.new.out)
+    whole_answered limits t facts c.args.now x seen.w seen.row unreported accepts b.0 b.1 (shelf_of r.entries).faults r mid _ stands (act_list c.args.out.now) (act_list c.seal_whole.new.out)
     refl refl refl c.close-in-Some.ensures
     (subst (λ (n : ℕ). ChangesAmong mid.consumers c.know_ends.new.consumers (λ d. has itself d (bound_in ((shelf_of mid.entries).kept x))) (with_end n)) seen.delivered
     (subst (λ (n : ℕ). ChangesAmong mid.consumers c.know_ends.new.consumers (λ d. has itself d (bound_in ((shelf_of mid.entries).kept n))) (with_end view.delivered)) one

@@ -3,7 +3,7 @@ use Rattle.hc_effects.proofs.Vocabulary.{act_list}
 use Rattle.hc_exch.specs.{Exchanges.{table_of}, Openings.{opened_with}}
 use Rattle.hc_state.specs.{Dooms.{IsDoomed, IsUnheard}, Heads.{is_bad_case}}
 use Rattle.hc_on_leave.proofs.HeardRows.{asker_of, asked_by}
-use Rattle.hc_on_head.proofs.{DoomingHandlers.{past_place, accepted_then, good_then, dooming_taken, dooming_bad, unheard_as}, HeadTold.{taken_case}}
+use Rattle.hc_on_head.proofs.{DoomingHandlers.{past_place, accepted_then, good_then, dooming_taken, dooming_bad, unheard_as}, HeadReported.{taken_case}}
 use Rattle.hc_on_head.proofs.dooming.take_dooming.Goals as goal
 
 pub doom-requires-clause-unheard : goal.doom-requires-clause-unheard

@@ -2,7 +2,7 @@ use Rattle.std.proofs.Common.{Some, inr, ap, sym, ◌∙◌}
 use Rattle.hc_effects.proofs.Vocabulary.{act_list, HeadCase, doomed_by_case}
 use Rattle.hc_state.specs.Heads.{is_bad_case, breaks_off, broken_by}
 use Rattle.hc_on_leave.proofs.{HeardRows.{asker_of, asked_by}, UnstoredHandlers.{alone_taken, taken_answered}}
-use Rattle.hc_on_head.proofs.{HeadTold.{down_case, past_case, good_past, anew_case, downs_none}, JoinHeads.{aim_some, kept_this, about_this, join_case, good_join}}
+use Rattle.hc_on_head.proofs.{HeadReported.{down_case, past_case, good_past, anew_case, downs_none}, JoinHeads.{aim_some, kept_this, about_this, join_case, good_join}}
 use Rattle.hc_state.proofs.Words.{ok_then}
 use Rattle.hc_on_head.proofs.head.take_case.Goals as goal
 

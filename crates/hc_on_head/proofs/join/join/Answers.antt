@@ -3,7 +3,7 @@ use Rattle.hc_effects.proofs.Vocabulary.{act_list}
 use Rattle.hc_stored.specs.Entries.{shelf_of}
 use Rattle.hc_exch.specs.Exchanges.{table_of}
 use Rattle.hc_effects.proofs.LettingGo.{may_let_go}
-use Rattle.hc_on_head.proofs.{JoinHandler.{join_of, gone_joined, past_answered, stands_alone, stands_shared, joins_answered, holds_alone, kept_growing, brings_lost, lost_answered}, JoinTold.{joins_of}, TurnHandler.{stands_unrenewed}}
+use Rattle.hc_on_head.proofs.{JoinHandler.{join_of, gone_joined, past_answered, stands_alone, stands_shared, joins_answered, holds_alone, kept_growing, brings_lost, lost_answered}, JoinReported.{joins_of}, TurnHandler.{stands_unrenewed}}
 use Rattle.hc_on_head.proofs.join.join.Goals as goal
 
 pub returns-then-is_lost-clause-answers : goal.returns-then-is_lost-clause-answers
@@ -31,7 +31,7 @@ returns-in_ok-share-in-Ok-clause-answers g c = λ k any joins limits t w facts s
     let response = c.args.response.now in
     let j = join_of r t facts stands now x c.args.heard.c q response w row k joins goes is c.requires.comes.accepted c.requires.comes.asker c.requires.about.about c.requires.about.there in
     let kept = sym j.is.is_lost ∙ (sym (c.is_lost.ensures j.e j.kept) ∙ c.if-is_lost.false) in
-    let resumed = sym c.if-resumes.true ∙ c.resumes-resumes.ensures _ t w j.p j.e j.hole.0 j.hole.1 facts stands row j.a.awaits.is_open j.hole.2 j.for_it j.row kept j.kept j.told in
+    let resumed = sym c.if-resumes.true ∙ c.resumes-resumes.ensures _ t w j.p j.e j.hole.0 j.hole.1 facts stands row j.a.awaits.is_open j.hole.2 j.for_it j.row kept j.kept j.reported in
     joins_answered r c.share.new.rows t facts now x response goes w j.a k (joins_of k joins) is q j.aim j.p j.row (act_list c.args.out.now) kept true resumed
     (stands_shared r c.share.new.rows t now x q c.args.heard.c response w j.a.v j.p j.can j.a.k j.o j.e stands j.for_it j.a.there j.running j.on j.kept c.renew_growing.new.rows c.bring-in-Ok.new.rows c.in-Ok.ensures.ok c.bring-in-Ok.ensures c.in_ok-share-in-Ok.ensures.shares)
     (shelf_of r.entries).faults
@@ -45,7 +45,7 @@ returns-else-resumes-clause-answers g c = λ k any joins limits t w facts stands
     let response = c.args.response.now in
     let j = join_of r t facts stands now x c.args.heard.c q response w row k joins goes is c.requires.comes.accepted c.requires.comes.asker c.requires.about.about c.requires.about.there in
     let kept = sym j.is.is_lost ∙ (sym (c.is_lost.ensures j.e j.kept) ∙ c.if-is_lost.false) in
-    let resumed = sym c.if-resumes.false ∙ c.resumes-resumes.ensures _ t w j.p j.e j.hole.0 j.hole.1 facts stands row j.a.awaits.is_open j.hole.2 j.for_it j.row kept j.kept j.told in
+    let resumed = sym c.if-resumes.false ∙ c.resumes-resumes.ensures _ t w j.p j.e j.hole.0 j.hole.1 facts stands row j.a.awaits.is_open j.hole.2 j.for_it j.row kept j.kept j.reported in
     joins_answered r c.bring-in-Ok.new.rows t facts now x response goes w j.a k (joins_of k joins) is q j.aim j.p j.row (act_list c.args.out.now) kept false resumed
     (stands_alone r c.bring-in-Ok.new.rows t now x q c.args.heard.c response w j.a.v j.p j.can j.a.k j.o j.e stands j.for_it j.a.there j.running j.on j.kept c.renew_growing.new.rows c.bring-in-Ok.new.rows c.in-Ok.ensures.ok c.bring-in-Ok.ensures)
     (shelf_of r.entries).faults

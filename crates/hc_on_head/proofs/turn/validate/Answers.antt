@@ -12,7 +12,7 @@ use Rattle.hc_entry.specs.Keys.{kept_of}
 use Rattle.hc_event.specs.declared.place.Place.TheVariants as place
 use Rattle.hc_state.specs.{Stands.{RowsStand}, Stored.{is_usable_kept}}
 use Rattle.hc_on_leave.proofs.{HeadCases.{case_unselected}, HeardRows.{asker_of, asked_by}}
-use Rattle.hc_on_head.proofs.TurnHandler.{answered_on, heard_on, usable_still, waits_on, at_turn, current_still, key_heard, not_still, selected_of, stands_selected, stands_unrenewed, still, tells_selected, there_still, unselected_case, unstill_as, validated_answered}
+use Rattle.hc_on_head.proofs.TurnHandler.{answered_on, heard_on, usable_still, waits_on, at_turn, current_still, key_heard, not_still, selected_of, stands_selected, stands_unrenewed, still, reports_selected, there_still, unselected_case, unstill_as, validated_answered}
 use Rattle.hc_on_head.proofs.turn.validate.Goals as goal
 
 pub returns-in_default-clause-answers : goal.returns-in_default-clause-answers
@@ -67,7 +67,7 @@ returns-in-Ok-true-clause-answers g c = λ limits t w facts stands goes row abou
     let stood = subst (λ (d : ℕ). RowsStand limits thr (with_consumer d (Some (record a.v { place = place.Passed q (Some x) })) (with_representation q (Some (with_refreshed_head now response w s.v)) t))) (sym for_it)
     (c.let_through.ensures.stands _ t w a.v (with_refreshed_head now response w s.v) facts.law a.awaits for_it (at_turn r mid thr u t facts stands now x response goes w a is q s.v s.named s.cur s.row before before) (stands_selected r mid t x now h.0 w q response stands h.1 row s sel)) in
     validated_answered r mid thr u t facts stands now x response goes w a is q s.v s.named s.cur s.row before (act_list c.refuse.new.out)
-    (sym (tells_selected r mid t x now h.0 w q response stands h.1 row s true sel)) stood c.refuse.ensures.acts c.refuse.ensures.rest.rest c.refuse.ensures.rest.consumers c.refuse.ensures.closed
+    (sym (reports_selected r mid t x now h.0 w q response stands h.1 row s true sel)) stood c.refuse.ensures.acts c.refuse.ensures.rest.rest c.refuse.ensures.rest.consumers c.refuse.ensures.closed
 
 pub returns-in-Ok-false-clause-answers : goal.returns-in-Ok-false-clause-answers
 returns-in-Ok-false-clause-answers g c = λ limits t w facts stands goes row about is.
@@ -84,7 +84,7 @@ returns-in-Ok-false-clause-answers g c = λ limits t w facts stands goes row abo
     let a = asker_of r t facts now x response w stands goes row in
     let found : c.select.result ≡ Ok false = cc in
     let sel = selected_of r mid x now q response c.select.result false found c.select.ensures.ok in
-    let off = sym (tells_selected r mid t x now h.0 w q response stands h.1 row s false sel) in
+    let off = sym (reports_selected r mid t x now h.0 w q response stands h.1 row s false sel) in
     answered_on r mid sel.rest u t before (act_list c.start_anew-in-Ok-false.new.out) now (event.Head x response) c.select.ensures.fails.cause.later
     (c.start_anew-in-Ok-false.ensures.answers case.NotValidated refl _ t w facts (stands_unrenewed r mid t sel.rest (sel.head h.0 h.1) stands) goes row
     (unselected_case r mid mid u t facts stands now x response goes w a is q s.v s.named s.cur s.row before before off) refl about)

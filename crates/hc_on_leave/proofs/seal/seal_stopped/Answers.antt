@@ -1,9 +1,9 @@
 use Rattle.std.proofs.Common.{ℕ, ◌<◌, [], Err, refl, ap, sym, ◌∙◌, subst}
 use Rattle.hc_effects.proofs.Vocabulary.{act_list}
 use Rattle.hc_stored.specs.{Entries.{shelf_of}, declared.view.EntryView.{EntryView}}
-use Rattle.hc_state.specs.declared.stop.Stop.TheVariants as stop
+use Rattle.hc_state.specs.declared.stop.Disposition.TheVariants as stop
 use Rattle.hc_state.specs.Stopped.{with_consumers}
-use Rattle.hc_state.proofs.{SealHandler.{stopped_sealed, stopped_lost, viewed, told_kept, nobody_yet, nothing_held}, ReaderSteps.{stands_read}, Stopping.{Stays, means_it}}
+use Rattle.hc_state.proofs.{SealHandler.{stopped_sealed, stopped_lost, viewed, reported_kept, nobody_yet, nothing_held}, ReaderSteps.{stands_read}, Stopping.{Stays, means_it}}
 use Rattle.hc_on_leave.proofs.Shorts.{view_short}
 use Rattle.hc_on_leave.proofs.seal.seal_stopped.Goals as goal
 
@@ -18,7 +18,7 @@ returns-in-Ok-clause-stopped g c = λ limits t f facts may stands decided.
     let stays : Stays t (with_consumers f t) (shelf_of r.entries) x q may.w = means_it r t facts f stands x may.w may.row may.is_open (stop.Seal q) (sym decided) in
     let is = viewed (shelf_of r.entries) q stays.e c.entry.result c.unwrap-entry.result stays.kept c.entry.ensures c.unwrap-entry.ensures in
     stopped_sealed limits r _ t facts f x c.args.alone may c.args.now _ (act_list c.args.out.now) (act_list c.args.out.now) q stays stands refl refl refl c.close.ensures
-    c.kind_without-kind.result c.unwrap-entry.result.total (c.kind_without-kind.ensures stays.p (told_kept (shelf_of r.entries) q stays.e stays.p c.unwrap-entry.result stays.kept is stays.is_told)) (ap (λ (z : EntryView). z.total) is) c.in-Ok.ensures.ok refl
+    c.kind_without-kind.result c.unwrap-entry.result.total (c.kind_without-kind.ensures stays.p (reported_kept (shelf_of r.entries) q stays.e stays.p c.unwrap-entry.result stays.kept is stays.is_reported)) (ap (λ (z : EntryView). z.total) is) c.in-Ok.ensures.ok refl
 
 pub returns-in-Err-clause-stopped : goal.returns-in-Err-clause-stopped
 returns-in-Err-clause-stopped g c = λ limits t f facts may stands decided.

@@ -1,7 +1,7 @@
 use Rattle.std.proofs.Common.{refl, sym, ◌∙◌}
 use Rattle.hc_stored.specs.Entries.{shelf_of}
 use Rattle.hc_exch.specs.Exchanges.{table_of}
-use Rattle.hc_state.specs.declared.stop.Stop.TheVariants as stop
+use Rattle.hc_state.specs.declared.stop.Disposition.TheVariants as stop
 use Rattle.hc_state.proofs.{CloseHandler.{stopped_nothing, stopped_going}, SealHandler.{seal_kept}, Stopping.{means_it}}
 use Rattle.hc_on_leave.proofs.seal.stop_bringing.Goals as goal
 

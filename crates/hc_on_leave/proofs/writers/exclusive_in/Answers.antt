@@ -10,7 +10,7 @@ use Rattle.hc_on_leave.proofs.writers.exclusive_in.Goals as goal
 pub returns-then-is_some : goal.returns-then-is_some
 returns-then-is_some g c = λ limits t p facts stands here stays.
     let r = c.args.rows.now in
-    let written = c.writing_in.ensures ∙ written_by (table_of r.exchanges) ((shelf_of r.entries).kept c.args.r) c.args.entry.now c.requires.entry in
+    let written = c.group_in.ensures ∙ written_by (table_of r.exchanges) ((shelf_of r.entries).kept c.args.r) c.args.entry.now c.requires.entry in
     exclusive_written r t facts stands c.args.r p here (ap (λ o. is_some o) (sym written) ∙ (sym c.is_some.ensures ∙ c.if-is_some.true))
 
 pub has_more-requires-clause-counts : goal.has_more-requires-clause-counts
@@ -51,7 +51,7 @@ returns-then-has_more g c = λ limits t p facts stands here stays.
     let is = entry_at r t stands q e kept p here in
     let a = alone_row r t facts stands q p here e is n (ap (λ (z : EntryView). z.first) seen ∙ c.in_ok-c.was) in
     let k_kept : IsKept t k a.v = subst (KeepsConsumer t (Some k)) a.row (subst (λ o. KeepsConsumer t o (t.consumer n)) at (stands.consumers n)) in
-    let written = c.writing_in.ensures ∙ written_by (table_of r.exchanges) ((shelf_of r.entries).kept q) c.args.entry.now c.requires.entry in
+    let written = c.group_in.ensures ∙ written_by (table_of r.exchanges) ((shelf_of r.entries).kept q) c.args.entry.now c.requires.entry in
     exclusive_some r t facts stands q p here e is n a stays (ap (λ o. is_some o) (sym written) ∙ (sym c.is_some.ensures ∙ c.if-is_some.false))
     (sym k_kept.due ∙ none_of k.due (sym c.is_some-2.ensures ∙ c.if-is_some-2.false))
     (sym (c.has_more.ensures _ t a.v p facts stands k_kept here stays) ∙ c.if-has_more.true)

@@ -10,8 +10,7 @@ use Rattle.hc_txn.specs.Views.{plan_view_by}
 use Rattle.hc_record.specs.Plain.{plain}
 use Rattle.hc_state.specs.{Kept.{KeepsConsumer}, Plans.{IsIdle, HasCurrent}}
 use Rattle.hc_state.proofs.{Maps.{known_of, lent, some_that}, Words.{ok_then, on_ok_two}}
-use Rattle.hc_on_poll.proofs.PlanHandlers.{unlooked_plan, some_plan_at, looked_current, current_kept, fault_only, read_current, read_until, read_some, read_answers, read_fault}
-use Rattle.hc_on_poll.proofs.Deciding.{decided}
+use Rattle.hc_on_poll.proofs.{PlanHandlers.{unlooked_plan, some_plan_at, looked_current, current_kept, fault_only, read_current, read_until, read_some, read_answers, read_fault}, Deciding.{decided}}
 use Rattle.hc_on_poll.proofs.carry.carry_out.Goals as goal
 
 pub carry_out_bare-requires-clause-opens : goal.carry_out_bare-requires-clause-opens

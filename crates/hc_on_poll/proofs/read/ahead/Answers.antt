@@ -1,12 +1,10 @@
-use Rattle.std.proofs.Common.{◌≡◌, ℕ, nat_lt, ap, sym, ◌∙◌, true, false, Bool}
-use Rattle.std.specs.Prelude.{◌&&◌}
+use Rattle.std.{proofs.Common.{◌≡◌, ℕ, nat_lt, ap, sym, ◌∙◌, true, false, Bool}, specs.Prelude.{◌&&◌}}
 use Rattle.hc_stored.specs.Entries.{shelf_of}
 use Rattle.hc_exch.specs.Exchanges.{table_of}
 use Rattle.hc_model.specs.Currents.{is_number}
 use Rattle.hc_state.specs.Reads.{held_own}
-use Rattle.hc_on_poll.proofs.Unstored.{unstored_as}
+use Rattle.hc_on_poll.proofs.{Unstored.{unstored_as}, read.ahead.Goals.{then-goes_alone, else-goes_alone}}
 use Rattle.hc_on_poll.proofs.read.ahead.Goals as goal
-use Rattle.hc_on_poll.proofs.read.ahead.Goals.{then-goes_alone, else-goes_alone}
 
 pub returns : goal.returns
 returns g c =

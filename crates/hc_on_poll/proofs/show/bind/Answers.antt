@@ -4,7 +4,7 @@ use Rattle.hc_record.specs.Plain.{plain}
 use Rattle.hc_validate.specs.Showing.{shown_response}
 use Rattle.hc_state.specs.{Handlers.{IsLeft}, Kept.{KeepsConsumer}, Plans.{HasCurrent}}
 use Rattle.hc_on_poll.specs.Ready.{MayLeaveLine}
-use Rattle.hc_on_poll.proofs.{BindHandler.{bind_answered, shows_told, part_ends, current_total}, PassesHandler.{current_as}}
+use Rattle.hc_on_poll.proofs.{BindHandler.{bind_answered, shows_reported, part_ends, current_total}, PassesHandler.{current_as}}
 use Rattle.hc_state.proofs.Maps.{lent, known_of, some_that}
 use Rattle.hc_on_poll.proofs.show.bind.Goals as goal
 
@@ -28,4 +28,4 @@ returns-clause-answers g c =
     bind_answered r (record r { entries = c.bind.new.self; keys = c.leave_line_in.new.keys }) c.bind.new.self c.bind_shown.new.consumers t facts.law c.args.c c.args.r lo hi k v stands at row idle now_is
     (part_ends (t.representation c.args.r) head c.args.span hi to same)
     (record { last_start = refl; consumers = refl; exchanges = refl; entries = refl; line = some_that at_row k (IsLeft r.keys c.leave_line_in.new.keys c.args.c) at c.leave_line_in.ensures }) c.in_ok-bind.ensures.ok c.bind_shown.ensures _ now want c.args.why response (act_list c.args.out.now) (act_list c.put_shown.new.out)
-    (is ∙ shows_told c.args.r head c.args.why c.args.span k lo hi _ response from to c.is_some-ranged.ensures (c.in_ok-shown.ensures ∙ ap (λ s. shown_response head c.args.why s c.is_some-ranged.result) c.span_to.ensures)) c.put_shown.ensures)
+    (is ∙ shows_reported c.args.r head c.args.why c.args.span k lo hi _ response from to c.is_some-ranged.ensures (c.in_ok-shown.ensures ∙ ap (λ s. shown_response head c.args.why s c.is_some-ranged.result) c.span_to.ensures)) c.put_shown.ensures)

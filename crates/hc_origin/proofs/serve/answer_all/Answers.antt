@@ -18,7 +18,7 @@ pub loop-turn-preserved : goal.loop-turn-preserved
 loop-turn-preserved g c =
     let is = c.loop-turn.invariant.0 in (
       turning-more (g.W.Wire.log c.args.wire.now) (g.W.Wire.log c.loop-turn.wire) (g.W.Wire.log c.turn.new.wire) (g.W.Wire.stages c.loop-turn.wire) (g.W.Wire.stages c.turn.new.wire)
-          c.loop-turn.origin c.turn.new.self c.loop-turn._turn is (c.in_ok-turn.ensures.turns is.tells is.log is.follows is.rests),
+          c.loop-turn.origin c.turn.new.self c.loop-turn._turn is (c.in_ok-turn.ensures.turns is.reports is.log is.follows is.rests),
       c.in_ok-turn.ensures.cause.calm ∙ c.loop-turn.invariant.1,
     )
 
@@ -27,7 +27,7 @@ returns-in_err-turn-clause-answers g c =
     let is = c.loop-turn.invariant.0 in
     turning-stops (g.W.Wire.log c.args.wire.now) (g.W.Wire.log c.loop-turn.wire) (g.W.Wire.log c.turn.new.wire) (g.W.Wire.stages c.loop-turn.wire) (g.W.Wire.stages c.turn.new.wire)
     c.loop-turn.origin c.turn.new.self c.loop-turn._turn c.args.turns c.in_err-turn.field-0.0 _ c.from_residual-in_err-turn.result is c.loop-turn-test.true
-    (c.in_err-turn.ensures.turns is.tells is.log is.follows is.rests) c.from_residual-in_err-turn.ensures.1
+    (c.in_err-turn.ensures.turns is.reports is.log is.follows is.rests) c.from_residual-in_err-turn.ensures.1
 
 pub returns-clause-answers : goal.returns-clause-answers
 returns-clause-answers g c =

@@ -1,9 +1,8 @@
 use Rattle.std.proofs.Common.{◌≡◌, ◌+◌, Ok, Err, refl, ap, sym, ◌∙◌, subst, arith}
 use Rattle.hc_core.specs.Steps.{steps, limits_in, bytes_received}
 use Rattle.hc_sched.specs.declared.schedule.Ended.TheVariants as ended
-use Rattle.hc_proxy.specs.{Endings.{MayEnd}, Stops.{ended_by}}
-use Rattle.hc_proxy.specs.Served.{ServesAs}
-use Rattle.hc_proxy.proofs.{Causes.{may_end, ends_wire, ends_wire_calm, ends_sink, ends_sink_calm}, LoopGoes.{log_of, frame_of, loop_begins, told_ends, told_first}}
+use Rattle.hc_proxy.specs.{Endings.{MayEnd}, Stops.{ended_by}, Served.{ServesAs}}
+use Rattle.hc_proxy.proofs.{Causes.{may_end, ends_wire, ends_wire_calm, ends_sink, ends_sink_calm}, LoopGoes.{log_of, frame_of, loop_begins, reported_ends, reported_first}}
 use Rattle.hc_proxy.proofs.serve.serve_on.Goals as goal
 
 pub serve-requires : goal.serve-requires
@@ -23,23 +22,23 @@ serve-requires g c = record {
 pub returns-in-Ok-clause-serves : goal.returns-in-Ok-clause-serves
 returns-in-Ok-clause-serves g c = λ none.
     let cache = c.args.cache in
-    let told = g.W.Wire.log c.args.wire.now in
+    let reported = g.W.Wire.log c.args.wire.now in
     let zero : steps cache + bytes_received cache ≡ 0 = c.requires.unused in
-    told_ends (limits_in cache) c.args.turns (log_of told) told (g.W.Wire.log c.serve.new.wire) (g.K.Sink.taken c.args.log.now) (g.K.Sink.taken c.serve.new.log) ended.Done (told_first told)
-    (c.in-Ok.ensures.serves none (frame_of (limits_in cache)) (log_of told)
-    (loop_begins (g.W.Wire.events c.args.wire.now) (limits_in cache) c.new-proxy.result told (g.W.Wire.stages c.args.wire.now) c.requires.fresh c.requires.unseen
+    reported_ends (limits_in cache) c.args.turns (log_of reported) reported (g.W.Wire.log c.serve.new.wire) (g.K.Sink.taken c.args.log.now) (g.K.Sink.taken c.serve.new.log) ended.Done (reported_first reported)
+    (c.in-Ok.ensures.serves none (frame_of (limits_in cache)) (log_of reported)
+    (loop_begins (g.W.Wire.events c.args.wire.now) (limits_in cache) c.new-proxy.result reported (g.W.Wire.stages c.args.wire.now) c.requires.fresh c.requires.unseen
     (λ log fresh. c.new-proxy.ensures.rests (frame_of (limits_in cache)) log (record { stands = c.requires.new; limits = refl; received = omega arith; written = refl; bounded = omega arith }) fresh)
     (ap steps c.new-proxy.ensures.cache ∙ omega arith) c.new-proxy.ensures.written))
 
 pub returns-clause-serves : goal.returns-clause-serves
 returns-clause-serves g c = λ none.
     let cache = c.args.cache in
-    let told = g.W.Wire.log c.args.wire.now in
+    let reported = g.W.Wire.log c.args.wire.now in
     let zero : steps cache + bytes_received cache ≡ 0 = c.requires.unused in
-    subst (ServesAs (limits_in cache) c.args.turns told (g.W.Wire.log c.serve.new.wire) (g.K.Sink.taken c.args.log.now) (g.K.Sink.taken c.serve.new.log)) (sym c.ended.ensures)
-    (told_ends (limits_in cache) c.args.turns (log_of told) told (g.W.Wire.log c.serve.new.wire) (g.K.Sink.taken c.args.log.now) (g.K.Sink.taken c.serve.new.log) (ended_by c.in-Err.stop) (told_first told)
-    (c.in-Err.ensures.serves none (frame_of (limits_in cache)) (log_of told)
-    (loop_begins (g.W.Wire.events c.args.wire.now) (limits_in cache) c.new-proxy.result told (g.W.Wire.stages c.args.wire.now) c.requires.fresh c.requires.unseen
+    subst (ServesAs (limits_in cache) c.args.turns reported (g.W.Wire.log c.serve.new.wire) (g.K.Sink.taken c.args.log.now) (g.K.Sink.taken c.serve.new.log)) (sym c.ended.ensures)
+    (reported_ends (limits_in cache) c.args.turns (log_of reported) reported (g.W.Wire.log c.serve.new.wire) (g.K.Sink.taken c.args.log.now) (g.K.Sink.taken c.serve.new.log) (ended_by c.in-Err.stop) (reported_first reported)
+    (c.in-Err.ensures.serves none (frame_of (limits_in cache)) (log_of reported)
+    (loop_begins (g.W.Wire.events c.args.wire.now) (limits_in cache) c.new-proxy.result reported (g.W.Wire.stages c.args.wire.now) c.requires.fresh c.requires.unseen
     (λ log fresh. c.new-proxy.ensures.rests (frame_of (limits_in cache)) log (record { stands = c.requires.new; limits = refl; received = omega arith; written = refl; bounded = omega arith }) fresh)
     (ap steps c.new-proxy.ensures.cache ∙ omega arith) c.new-proxy.ensures.written)))
 

@@ -1,4 +1,4 @@
-use Rattle.hc_replay.proofs.Reported.{replays_all, completes_all}
+use Rattle.hc_replay.proofs.ReportSteps.{replays_all, completes_all}
 use Rattle.hc_replay.proofs.replaying.replay.Goals as goal
 
 pub returns-clause-ends : goal.returns-clause-ends

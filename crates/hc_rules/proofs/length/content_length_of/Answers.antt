@@ -1,11 +1,10 @@
 use Rattle.std.{proofs.Common.{◌∙◌, sym}, specs.Prelude.{codes}}
-use Rattle.hc_fields.specs.FieldList.{values_of}
-use Rattle.hc_fields.specs.FirstValues.{elements_in}
-use Rattle.hc_rules.proofs.LengthFolds.{one_more, told_is}
+use Rattle.hc_fields.specs.{FieldList.{values_of}, FirstValues.{elements_in}}
+use Rattle.hc_rules.proofs.LengthFolds.{one_more, reported_is}
 use Rattle.hc_rules.proofs.length.content_length_of.Goals as goal
 
 pub loop-i-init : goal.loop-i-init
-loop-i-init c = told_is (elements_in (codes "content-length") c.args.fields.now)
+loop-i-init c = reported_is (elements_in (codes "content-length") c.args.fields.now)
 
 pub loop-i-preserved : goal.loop-i-preserved
 loop-i-preserved c =

@@ -1,7 +1,6 @@
 use Rattle.std.{proofs.Common.{◌≡◌, drop}, specs.{Prelude.{codes}, List.{flat_map}}}
 use Rattle.hc_text.specs.Elements.{elements}
-use Rattle.hc_fields.specs.FieldList.{values_of}
-use Rattle.hc_fields.specs.FirstValues.{elements_in}
+use Rattle.hc_fields.specs.{FieldList.{values_of}, FirstValues.{elements_in}}
 use Rattle.hc_rules.specs.{Lengths.{content_length_of}, LengthSoFar.{with_elements}}
 use Rattle.hc_rules.proofs.length.content_length_of.Given as goal
 

@@ -1,7 +1,6 @@
 use Rattle.std.proofs.{Common.{◌∙◌}, lemmas.Bool.{eq-eqb}}
 use Rattle.hc_text.proofs.Basics.{eqb-other}
-use Rattle.hc_rules.specs.declared.survivor.Member.{Member}
-use Rattle.hc_rules.specs.Admissions.{stands_at}
+use Rattle.hc_rules.specs.{declared.survivor.Member.{Member}, Admissions.{stands_at}}
 use Rattle.hc_rules.proofs.{LeastFolds.{least_taken, least_left}, survivor.survivor_at.Goals.{then-member-end, else-member-end}}
 use Rattle.hc_rules.proofs.survivor.survivor_at.Goals as goal
 

@@ -8,7 +8,7 @@ pub returns-in-Ok-clause-left : goal.returns-in-Ok-clause-left
 returns-in-Ok-clause-left c = λ contents h stands.
     let q = c.in_ok-leave_all.ensures.left contents h stands in
     left_behind c.args.cache c.leave_all.new.cache contents h q c.in_ok-leave_all.ensures.limits c.in_ok-leave_all.ensures.nobody c.in_ok-leave_all.ensures.few
-    (plain_contents c.in-Ok.contents) (c.in-Ok.ensures.told contents q.left q.stands)
+    (plain_contents c.in-Ok.contents) (c.in-Ok.ensures.reported contents q.left q.stands)
 
 pub returns-in-Ok-clause-fits : goal.returns-in-Ok-clause-fits
 returns-in-Ok-clause-fits c = λ few.

@@ -1,7 +1,7 @@
 use Rattle.std.proofs.Common.{refl, subst, arith, ◌≡◌}
 use Rattle.hc_effects.proofs.Vocabulary.{Limits, no_contents}
 use Rattle.hc_replay.specs.Histories.{run_of, failures}
-use Rattle.hc_replay.proofs.Reported.{new_moment}
+use Rattle.hc_replay.proofs.ReportSteps.{new_moment}
 use Rattle.hc_saving.specs.Saves.{Writes}
 use Rattle.hc_saving.proofs.Saved.{gone_through, not_saved, image_saved, never_risen, no_source}
 use Rattle.hc_saving.proofs.saving.save.Goals as goal

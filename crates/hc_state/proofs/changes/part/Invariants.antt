@@ -1,6 +1,5 @@
 use Rattle.std.proofs.Common.{take}
-use Rattle.hc_text.specs.Sorted.{itself}
-use Rattle.hc_text.specs.Sorted.{has}
+use Rattle.hc_text.specs.Sorted.{itself, has}
 use Rattle.hc_state.specs.DetachedReaders.{ChangesEach, after_parting}
 use Rattle.hc_state.proofs.changes.part.Given as goal
 

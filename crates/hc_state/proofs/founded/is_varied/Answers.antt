@@ -8,7 +8,7 @@ use Rattle.hc_state.proofs.founded.is_varied.Goals as goal
 pub returns-then-lists : goal.returns-then-lists
 returns-then-lists c =
     let test = is_named_by c.args.name.now in
-    let values = values_of (codes "vary") c.args.told.now in
+    let values = values_of (codes "vary") c.args.reported.now in
     let value = rw c.unwrap.ensures at c.value.ensures in
     let more = one_more test values c.loop-i.i c.unwrap.result.now (sym value) in
     let passes = sym c.lists.ensures ∙ c.if-lists.true in
@@ -18,7 +18,7 @@ returns-then-lists c =
 pub loop-i-preserved : goal.loop-i-preserved
 loop-i-preserved c =
     let test = is_named_by c.args.name.now in
-    let values = values_of (codes "vary") c.args.told.now in
+    let values = values_of (codes "vary") c.args.reported.now in
     let value = rw c.unwrap.ensures at c.value.ensures in
     let more = one_more test values c.loop-i.i c.unwrap.result.now (sym value) in
     let fails = sym c.lists.ensures ∙ c.if-lists.false in

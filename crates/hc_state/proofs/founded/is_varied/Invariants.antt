@@ -6,5 +6,5 @@ use Rattle.hc_state.proofs.founded.is_varied.Given as goal
 
 abbrev pub invariant-loop-i : goal.invariant-loop-i
 invariant-loop-i l =
-    list_any (is_named_by l.name) (flat_map elements (drop l.i (values_of (codes "vary") l.told)))
-    ≡ list_any (is_named_by l.name) (flat_map elements (values_of (codes "vary") l.told))
+    list_any (is_named_by l.name) (flat_map elements (drop l.i (values_of (codes "vary") l.reported)))
+    ≡ list_any (is_named_by l.name) (flat_map elements (values_of (codes "vary") l.reported))

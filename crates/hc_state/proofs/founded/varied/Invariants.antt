@@ -5,4 +5,4 @@ use Rattle.hc_state.proofs.Varied.{unnamed}
 use Rattle.hc_state.proofs.founded.varied.Given as goal
 
 abbrev pub invariant-loop-i : goal.invariant-loop-i
-invariant-loop-i l = left_by (unnamed l.told (drop l.i l.asked)) l.fields ≡ varied_by l.asked l.told
+invariant-loop-i l = left_by (unnamed l.reported (drop l.i l.asked)) l.fields ≡ varied_by l.asked l.reported

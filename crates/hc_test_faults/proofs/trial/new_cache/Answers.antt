@@ -1,4 +1,4 @@
-use Rattle.hc_replay.proofs.Reported.{new_moment}
+use Rattle.hc_replay.proofs.ReportSteps.{new_moment}
 use Rattle.hc_test_faults.proofs.trial.new_cache.Goals as goal
 
 pub returns-clause-moment : goal.returns-clause-moment

@@ -1,6 +1,5 @@
 use Rattle.std.{proofs.Common.{◌≡◌, ◌∙◌, ap, []}, specs.{Prelude.{codes}, Fmt.{decimal}}}
-use Rattle.hc_validate.specs.Origin.{answer_of}
-use Rattle.hc_validate.specs.Updates.{FieldPairs, with_one}
+use Rattle.hc_validate.specs.{Origin.{answer_of}, Updates.{FieldPairs, with_one}}
 use Rattle.hc_validate.proofs.Names.{IsToken-content_length}
 use Rattle.hc_validate.proofs.origin.missing.Goals as goal
 

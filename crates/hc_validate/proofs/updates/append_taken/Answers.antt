@@ -1,7 +1,6 @@
 use Rattle.std.proofs.Common.{◌≡◌, ◌∙◌, ◌+◌, ℕ, List, ◌∷◌, false, drop, ap, inl, inr, sym}
 use Rattle.hc_fields.specs.FieldList.{field_list_with}
-use Rattle.hc_validate.specs.Updates.{is_within_limits, changeable_fields, with_all}
-use Rattle.hc_validate.specs.Updates.{FieldPairs}
+use Rattle.hc_validate.specs.Updates.{is_within_limits, changeable_fields, with_all, FieldPairs}
 use Rattle.hc_validate.proofs.Renewals.{field_at, refused_large, taken-fixed, taken-more}
 use Rattle.hc_validate.proofs.updates.append_taken.Goals as goal
 

@@ -1,7 +1,6 @@
 use Rattle.std.proofs.{Common.{◌∙◌, ◌+◌, ℕ, List, drop, ◌≤◌, length, ap, arith, sym}, lemmas.List.{drop_all}}
 use Rattle.hc_fields.specs.FieldList.{without}
-use Rattle.hc_validate.specs.Updates.{left_by, changeable_fields}
-use Rattle.hc_validate.specs.Updates.{FieldPairs}
+use Rattle.hc_validate.specs.Updates.{left_by, changeable_fields, FieldPairs}
 use Rattle.hc_validate.proofs.Renewals.{field_at, left_by-more, left_by-nil, taken-fixed, taken-more}
 use Rattle.hc_validate.proofs.updates.drop_renewed.Goals as goal
 

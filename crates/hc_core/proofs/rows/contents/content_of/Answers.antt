@@ -2,7 +2,7 @@ use Rattle.std.{proofs.Common.{◌≡◌, Some, refl, ap, sym, ◌∙◌, subst}
 use Rattle.hc_sparse.specs.Cells.{Cells, EndsBy}
 use Rattle.hc_stored.specs.Entries.{shelf_of}
 use Rattle.hc_effects.proofs.Vocabulary.{runs_from}
-use Rattle.hc_core.proofs.ContentsTold.{cells_same}
+use Rattle.hc_core.proofs.ContentsReported.{cells_same}
 use Rattle.hc_core.proofs.rows.contents.content_of.Goals as goal
 
 pub returns-clause-item : goal.returns-clause-item

@@ -3,8 +3,8 @@ use Rattle.hc_stored.specs.Entries.{shelf_of}
 use Rattle.hc_effects.proofs.Vocabulary.{Content}
 use Rattle.hc_contents.specs.declared.contents.Content as coded
 use Rattle.hc_contents.specs.PlainContents.{plain_item}
-use Rattle.hc_state.specs.Remains.{TellsAll}
-use Rattle.hc_core.proofs.{BegunItems.{calm_ok, take_next}, ContentsTold.{stays_then, idle_at, one_back, tells_more, any_default}}
+use Rattle.hc_state.specs.Remains.{AreContentsOf}
+use Rattle.hc_core.proofs.{BegunItems.{calm_ok, take_next}, ContentsReported.{stays_then, idle_at, one_back, reports_more, any_default}}
 use Rattle.hc_core.proofs.rows.contents.items_of.Goals as goal
 
 pub content_of-requires : goal.content_of-requires
@@ -26,8 +26,8 @@ loop-r-preserved g c =
     let all : map plain_item c.push.new.self ≡ map plain_item c.loop-r.items ++ plain_item item ∷ [] = ap (λ (zs : List coded.Content). map plain_item zs) c.in_ok-push.ensures.ok ∙ map-append plain_item c.loop-r.items (item ∷ []) in
     record {
       same = stays_then a m (shelf_of c.content_of.new.entries) inv.same c.content_of.ensures.same;
-      told =
-          subst (λ (qs : List ℕ). TellsAll a qs (map plain_item c.push.new.self)) (sym more)
-          (subst (λ (zs : List Content). TellsAll a (take i rs ++ r ∷ []) zs) (sym all) (tells_more a (take i rs) (map plain_item c.loop-r.items) r (plain_item item) inv.told one));
+      reported =
+          subst (λ (qs : List ℕ). AreContentsOf a qs (map plain_item c.push.new.self)) (sym more)
+          (subst (λ (zs : List Content). AreContentsOf a (take i rs ++ r ∷ []) zs) (sym all) (reports_more a (take i rs) (map plain_item c.loop-r.items) r (plain_item item) inv.reported one));
       faults = calm_ok _ _ item c.in_ok-content_of.ensures.cause ∙ inv.faults;
     }

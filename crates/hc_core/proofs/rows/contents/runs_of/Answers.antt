@@ -3,7 +3,7 @@ use Rattle.hc_text.proofs.Basics.{false_true}
 use Rattle.hc_sparse.specs.{Cells.{Cells, IsNext}, Stretch.{stretch, IsLongest}, declared.run.Run.{Run}}
 use Rattle.hc_sparse.proofs.StretchLemmas.{stretch-absent, stretch-longest}
 use Rattle.hc_stored.specs.{Entries.{shelf_of}, Shelf.{cells_at}}
-use Rattle.hc_core.proofs.{Remaining.{AreFound, none_found, more_found, all_found, goes_nearer, stays_within, some_left}, BegunItems.{calm_ok}, ContentsTold.{stays_itself, stays_then, cells_same}}
+use Rattle.hc_core.proofs.{Remaining.{AreFound, none_found, more_found, all_found, goes_nearer, stays_within, some_left}, BegunItems.{calm_ok}, ContentsReported.{stays_itself, stays_then, cells_same}}
 use Rattle.hc_core.proofs.rows.contents.runs_of.Goals as goal
 
 pub runs-init : goal.runs-init

@@ -25,10 +25,10 @@ go_all-requires-clause-count g c =
 pub returns-in_err-go_all-clause-goes : goal.returns-in_err-go_all-clause-goes
 returns-in_err-go_all-clause-goes g c =
     let fed = fed_front c.args.feed.now c.args.piece.now c.feed-fed.result c.feed-fed.new.self c.feed-fed.new.out.items (rw c.clear.ensures.items at c.feed-fed.ensures.feeds) in
-    passes_stopped g.C.Course.tells g.C.Course.over g.C.Course.spent c.args.self.now.number c.args.on.now c.go_all.new.on _ _ c.args.feed.now c.args.piece.now c.feed-fed.new.self c.feed-fed.new.out.items fed.0 fed.1 c.in_err-go_all.field-0.0 c.from_residual.result
-    c.from_residual.ensures.1 (comes_err g.C.Course.tells g.C.Course.over g.C.Course.spent _ _ _ _ _ _ _ _ c.in_err-go_all.was (rw c.as_slice.ensures.value at c.go_all.ensures.comes))
+    passes_stopped g.C.Course.reports g.C.Course.over g.C.Course.spent c.args.self.now.number c.args.on.now c.go_all.new.on _ _ c.args.feed.now c.args.piece.now c.feed-fed.new.self c.feed-fed.new.out.items fed.0 fed.1 c.in_err-go_all.field-0.0 c.from_residual.result
+    c.from_residual.ensures.1 (comes_err g.C.Course.reports g.C.Course.over g.C.Course.spent _ _ _ _ _ _ _ _ c.in_err-go_all.was (rw c.as_slice.ensures.value at c.go_all.ensures.comes))
 
 pub returns-in_err-fed-clause-goes : goal.returns-in_err-fed-clause-goes
 returns-in_err-fed-clause-goes g c =
-    passes_fed g.C.Course.tells g.C.Course.over g.C.Course.spent c.args.self.now.number c.args.on.now c.go_all.new.on _ _ c.args.feed.now c.args.piece.now c.feed-fed.new.self c.feed-fed.new.out.items c.in_err-fed.field-0.0 c.feed-fed.result c.from_residual-in_err-fed.result
+    passes_fed g.C.Course.reports g.C.Course.over g.C.Course.spent c.args.self.now.number c.args.on.now c.go_all.new.on _ _ c.args.feed.now c.args.piece.now c.feed-fed.new.self c.feed-fed.new.out.items c.in_err-fed.field-0.0 c.feed-fed.result c.from_residual-in_err-fed.result
     c.from_residual-in_err-fed.ensures.1 c.in_err-fed.was (rw c.clear.ensures.items at c.feed-fed.ensures.feeds) (rw c.as_slice.ensures.value at c.in_ok-go_all.ensures.comes)

@@ -1,4 +1,4 @@
-use Rattle.hc_driver.proofs.Reported.{lacks_text}
+use Rattle.hc_driver.proofs.ReportSteps.{lacks_text}
 use Rattle.hc_driver.proofs.reporting.AnyCourse.go.Goals as goal
 
 pub returns-clause-lacks : goal.returns-clause-lacks

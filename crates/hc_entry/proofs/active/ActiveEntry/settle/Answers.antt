@@ -1,9 +1,8 @@
 use Rattle.std.{proofs.Common.{◌≡◌, ◌≤◌, length, true, false, refl, sym, ap, ◌∙◌, arith}, specs.Prelude.{◌&&◌}}
-use Rattle.hc_text.specs.Sorted.{has}
+use Rattle.hc_text.specs.Sorted.{has, itself}
 use Rattle.hc_rules.specs.declared.admission.BoundKind.TheVariants as kind
 use Rattle.hc_rules.specs.Admissions.{is_same_kind}
 use Rattle.hc_entry.specs.Users.{is_bound, is_bound_as, rebound}
-use Rattle.hc_text.specs.Sorted.{itself}
 use Rattle.hc_entry.proofs.UserLemmas.{has-map, bound_as-map, rebound-one, made, settled-writer, settled-other}
 use Rattle.hc_entry.proofs.active.ActiveEntry.settle.Goals as goal
 

@@ -3,9 +3,9 @@ use Rattle.hc_fields.specs.Joined.{all_values, bytes_left}
 use Rattle.hc_fields.proofs.agree.Joined.advance.Given as goal
 
 -- pieces that are told already
-abbrev pub told : Option (List ℕ) → ℕ
-told None = 0
-told (Some value) = 1
+abbrev pub reported : Option (List ℕ) → ℕ
+reported None = 0
+reported (Some value) = 1
 
 abbrev pub invariant-loop-value : goal.invariant-loop-value
 invariant-loop-value l = record {
@@ -14,4 +14,4 @@ invariant-loop-value l = record {
 }
 
 abbrev pub decreases-loop-value : goal.decreases-loop-value
-decreases-loop-value l = 2 * (l.self.count - l.self.next) + told (option_copied l.self.value)
+decreases-loop-value l = 2 * (l.self.count - l.self.next) + reported (option_copied l.self.value)

@@ -22,5 +22,5 @@ returns-clause-stepped g c =
     let q = subst (λ (l : List Act). core.Steps c.args.self.now.cache c.step-2.new.self l (act_list c.step-2.new.out) c.args.now c.args.event.now) c.clear.ensures.acts c.in_ok-step.ensures.answered in
     let ending = ap (λ (o : Option Watched). is_ending o c.args.want) (sym c.in-Some.ensures) ∙ sym c.is_ending.ensures ∙ c.if-is_ending.false in
     settled_at c.args.self.now _ c.args.now _ _ c.args.event.now c.args.c c.args.want c.requires.is (act_list c.step-2.new.out) q c.in_ok-step.ensures.moment c.in_ok-step.ensures.ready c.in_ok-step.ensures.received
-    c.in-Some.watched.now c.in_ok-told.ensures.told (sym c.in-Some.ensures) ending
-    c.leaves_in-leaves.result c.in_ok-told.told c.list.result.now c.list.ensures c.leaves_in-leaves.ensures c.in_ok-told.ensures.satisfied c.settle.ensures
+    c.in-Some.watched.now c.in_ok-reported.ensures.reported (sym c.in-Some.ensures) ending
+    c.leaves_in-leaves.result c.in_ok-reported.reported c.list.result.now c.list.ensures c.leaves_in-leaves.ensures c.in_ok-reported.ensures.satisfied c.settle.ensures

@@ -13,19 +13,19 @@ step-requires-clause-within_limits g c =
 pub returns-then-is_denied-clause-stepped : goal.returns-then-is_denied-clause-stepped
 returns-then-is_denied-clause-stepped g c =
     let q = subst (λ (r : Request). core.Steps c.args.self.now.cache c.step.new.self (act_list c.args.out.now) (act_list c.step.new.out) c.args.now (event.Start c.args.c r)) c.in_ok-unconditioned.ensures c.in_ok-step.ensures.answered in
-    let same = behind_all (act_list c.args.out.now) q.acts (act_list c.step.new.out) c.list-start.result.now c.list.result.now c.list-start.ensures c.list.ensures q.told in
+    let same = behind_all (act_list c.args.out.now) q.acts (act_list c.step.new.out) c.list-start.result.now c.list.result.now c.list-start.ensures c.list.ensures q.reported in
     has_denied c.args.self.now _ c.args.now _ _ c.in_ok-step.ensures.moment c.in_ok-step.ensures.ready c.in_ok-step.ensures.received c.args.c c.args.request.now q refl
     (ap is_denied (sym same) ∙ sym c.is_denied.ensures ∙ c.if-is_denied.true) c.requires.watched
 
 pub watch-requires : goal.watch-requires
 watch-requires g c =
     let q = c.in_ok-step.ensures.answered in
-    none_more (act_list c.args.out.now) q.acts (act_list c.step.new.out) c.list-start.result.now c.list-start.ensures q.told
+    none_more (act_list c.args.out.now) q.acts (act_list c.step.new.out) c.list-start.result.now c.list-start.ensures q.reported
 
 pub returns-clause-stepped : goal.returns-clause-stepped
 returns-clause-stepped g c =
     let q = subst (λ (r : Request). core.Steps c.args.self.now.cache c.step.new.self (act_list c.args.out.now) (act_list c.step.new.out) c.args.now (event.Start c.args.c r)) c.in_ok-unconditioned.ensures c.in_ok-step.ensures.answered in
-    let same = behind_all (act_list c.args.out.now) q.acts (act_list c.step.new.out) c.list-start.result.now c.list.result.now c.list-start.ensures c.list.ensures q.told in
+    let same = behind_all (act_list c.args.out.now) q.acts (act_list c.step.new.out) c.list-start.result.now c.list.result.now c.list-start.ensures c.list.ensures q.reported in
     on_ok_two c.watch.result c.watch.ensures.watched c.watch.ensures.same
     (λ changes kept.
     has_watched c.args.self.now _ c.args.now _ _ c.in_ok-step.ensures.moment c.in_ok-step.ensures.ready c.in_ok-step.ensures.received c.args.c c.args.request.now
@@ -36,4 +36,4 @@ returns-clause-stepped g c =
 pub returns-clause-kept : goal.returns-clause-kept
 returns-clause-kept g c =
     on_err_by c.watch.result c.watch.ensures.kept
-    (λ cut. truncated (act_list c.args.out.now) c.in_ok-step.ensures.answered.acts (act_list c.step.new.out) (act_list c.watch.new.out) c.list-start.result.now c.list-start.ensures c.in_ok-step.ensures.answered.told cut)
+    (λ cut. truncated (act_list c.args.out.now) c.in_ok-step.ensures.answered.acts (act_list c.step.new.out) (act_list c.watch.new.out) c.list-start.result.now c.list-start.ensures c.in_ok-step.ensures.answered.reported cut)

@@ -1,6 +1,5 @@
 use Rattle.std.proofs.Common.{ℕ, List, subst, sym, not}
-use Rattle.hc_text.specs.Sorted.{is_at}
-use Rattle.hc_text.specs.Sorted.{itself}
+use Rattle.hc_text.specs.Sorted.{is_at, itself}
 use Rattle.hc_generate.proofs.OrderLemmas.{AreStarted, AreStarted-filter}
 use Rattle.hc_generate.proofs.generator.Generator.cancel.Goals as goal
 

@@ -1,6 +1,5 @@
 -- `empty` owns nothing.
-use Rattle.std.proofs.Common.{◌≡◌, [], ◌∷◌, refl, lit<}
-use Rattle.std.specs.Prelude.{None}
+use Rattle.std.{proofs.{Common.{◌≡◌, [], ◌∷◌, refl, lit<}, raw_atomic.Walks.{proved_at, leaves}}, specs.Prelude.{None}}
 use mir.Val.{Val, vstruct, vcons, vnil}
 use base.Logic.{SProp, emp}
 use base.Fml.{ftrue}
@@ -15,11 +14,8 @@ use denote.RawPtr.{null_ptr}
 use denote.Signature.{types_at}
 use denote.Steps.{nothing}
 use denote.Triple.Walked.{Stays, walk_of}
-use Rattle.std.proofs.raw_atomic.Walks.{proved_at, leaves}
-use Rattle.hc_handle.proofs.Steps.{null, pointer_none}
-use Rattle.hc_handle.specs.contracts.pointer.SessionPointer.empty.{ended, clauses}
-use Rattle.hc_handle.specs.contracts.pointer.SessionPointer.empty.Key.{name as #self}
-use Rattle.hc_handle.proofs.pointer.SessionPointer.empty.Statement.{statement}
+use Rattle.hc_handle.proofs.{Steps.{null, pointer_none}, pointer.SessionPointer.empty.Statement.{statement}}
+use Rattle.hc_handle.specs.contracts.pointer.SessionPointer.empty.{ended, clauses, Key.{name as #self}}
 use Rattle.hc_handle.proofs.pointer.SessionPointer.empty.Code as code
 
 abbrev stayed : Stays ended.signature.params ended.kept

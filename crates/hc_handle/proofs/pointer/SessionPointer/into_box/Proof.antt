@@ -1,6 +1,5 @@
 -- `into_box` makes the box again.
-use Rattle.std.proofs.Common.{◌≡◌, List, [], ◌∷◌, ◌++◌, refl, sym, ap, ◌∙◌, subst}
-use Rattle.std.specs.Prelude.{Some, true}
+use Rattle.std.{proofs.{Common.{◌≡◌, List, [], ◌∷◌, ◌++◌, refl, sym, ap, ◌∙◌, subst}, raw_atomic.Walks.{proved_at, leaves}}, specs.Prelude.{Some, true}}
 use lib.Dec.{T}
 use mir.Val.{Val, vptr, has_ty, WT}
 use base.Logic.{SProp, ent, emp, id⊢}
@@ -26,22 +25,16 @@ use denote.Triple.Clauses.{Lasts, lasts}
 use denote.Triple.Spec.{triple_of}
 use denote.Triple.Call.{calls_at_last}
 use denote.Triple.Walked.{Stays, stay_dropped, Goes-dropped, walk_of}
-use Rattle.core.proofs.alloc.Calls.{handle_tells}
-use Rattle.core.proofs.atomic.Steps.{fm}
+use Rattle.core.proofs.{alloc.Calls.{handle_tells}, atomic.Steps.{fm}}
 use Rattle.std_alloc.proofs.BoxSteps.Form as box
-use Rattle.std_alloc.proofs.BoxSteps.Steps.{box_out, box_in}
-use Rattle.std.proofs.raw_atomic.Walks.{proved_at, leaves}
+use Rattle.std_alloc.proofs.{BoxSteps.Steps.{box_out, box_in}, boxed.Box.from_raw.Met.{met}}
 use Rattle.std.proofs.alloc.Global.TheLaws as global_laws
 use Rattle.std.specs.contracts.alloc.Global as global
 use Rattle.std.proofs.impls.GlobalAllocator.TheImpl.Met as heap_met
 use Rattle.std_alloc.specs.contracts.boxed.Box.from_raw as callee
-use Rattle.std_alloc.proofs.boxed.Box.from_raw.Met.{met}
-use Rattle.hc_handle.proofs.Steps.{R, S, Z, E, word, word_good, pointer_out, some_of}
-use Rattle.hc_handle.specs.Pointers.{has_session}
+use Rattle.hc_handle.proofs.{Steps.{R, S, Z, E, word, word_good, pointer_out, some_of}, pointer.SessionPointer.into_box.Statement.{statement}}
+use Rattle.hc_handle.specs.{Pointers.{has_session}, contracts.pointer.SessionPointer.into_box.{ended, clauses, Key.{name as #self}}}
 use Rattle.hc_handle.proofs.session.Session.TheLaws as session_laws
-use Rattle.hc_handle.specs.contracts.pointer.SessionPointer.into_box.{ended, clauses}
-use Rattle.hc_handle.specs.contracts.pointer.SessionPointer.into_box.Key.{name as #self}
-use Rattle.hc_handle.proofs.pointer.SessionPointer.into_box.Statement.{statement}
 use Rattle.hc_handle.proofs.pointer.SessionPointer.into_box.Code as code
 
 abbrev stayed : Stays ended.signature.params ended.kept

@@ -1,6 +1,5 @@
 -- `of` takes the box apart.
-use Rattle.std.proofs.Common.{◌≡◌, List, [], ◌∷◌, ◌++◌, refl, sym, ap, ◌∙◌, subst}
-use Rattle.std.specs.Prelude.{Some}
+use Rattle.std.{proofs.{Common.{◌≡◌, List, [], ◌∷◌, ◌++◌, refl, sym, ap, ◌∙◌, subst}, raw_atomic.Walks.{proved_at, leaves}}, specs.Prelude.{Some}}
 use Rattle.libc.specs.Heap.{chunk}
 use mir.Val.{Val}
 use mir.Raw.{raw as bare}
@@ -32,18 +31,13 @@ use denote.Triple.Walked.{Stays, stay_dropped, Goes-dropped, walk_of}
 use Rattle.core.proofs.atomic.Steps.{fm}
 use Rattle.std_alloc.specs.Box.Ownership.{box_owns}
 use Rattle.std_alloc.proofs.BoxSteps.Form as box
-use Rattle.std_alloc.proofs.BoxSteps.Steps.{box_out, box_in}
-use Rattle.std.proofs.raw_atomic.Walks.{proved_at, leaves}
+use Rattle.std_alloc.proofs.{BoxSteps.Steps.{box_out, box_in}, boxed.Box.into_raw.Met.{met}}
 use Rattle.std.proofs.alloc.Global.TheLaws as global_laws
 use Rattle.std.proofs.impls.GlobalAllocator.TheImpl.Met as heap_met
 use Rattle.std_alloc.specs.contracts.boxed.Box.into_raw as callee
-use Rattle.std_alloc.proofs.boxed.Box.into_raw.Met.{met}
-use Rattle.hc_handle.proofs.Steps.{R, Z, E, word, word_good, pointer_in, Boxed}
-use Rattle.hc_handle.proofs.Dropped.{drops, dropped}
+use Rattle.hc_handle.proofs.{Steps.{R, Z, E, word, word_good, pointer_in, Boxed}, Dropped.{drops, dropped}, pointer.SessionPointer.of.Statement.{statement}}
 use Rattle.hc_handle.proofs.session.Session.TheLaws as session_laws
-use Rattle.hc_handle.specs.contracts.pointer.SessionPointer.of.{ended, clauses}
-use Rattle.hc_handle.specs.contracts.pointer.SessionPointer.of.Key.{name as #self}
-use Rattle.hc_handle.proofs.pointer.SessionPointer.of.Statement.{statement}
+use Rattle.hc_handle.specs.contracts.pointer.SessionPointer.of.{ended, clauses, Key.{name as #self}}
 use Rattle.hc_handle.proofs.pointer.SessionPointer.of.Code as code
 
 abbrev stayed : Stays ended.signature.params ended.kept

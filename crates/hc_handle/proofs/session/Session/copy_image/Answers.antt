@@ -15,5 +15,5 @@ returns c = record {
   stays = c.image_of.ensures.stays;
   spent = refl;
   acts = refl;
-  told = refl;
+  reported = refl;
 }

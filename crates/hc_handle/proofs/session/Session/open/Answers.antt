@@ -1,6 +1,6 @@
 use Rattle.hc_contents.specs.PlainContents.{plain_contents}
 use Rattle.hc_handle.specs.Sessions.{IsUnopened, unbegun}
-use Rattle.hc_handle.proofs.Told.{if_err}
+use Rattle.hc_handle.proofs.Reported.{if_err}
 use Rattle.hc_handle.proofs.session.Session.open.Goals as goal
 
 pub returns-in_err-cache-clause-refused : goal.returns-in_err-cache-clause-refused

@@ -1,6 +1,6 @@
 use Rattle.std.proofs.{Common.{◌≡◌, Ok, Err, length, take, refl, arith, rules}, lemmas.List.{take_all}}
 use Rattle.hc_head.specs.declared.scan.Sought.TheVariants as sought
-use Rattle.hc_msg.proofs.Calls.{begun, not_begun, call_tells, call_fails, call_long, call_open}
+use Rattle.hc_msg.proofs.Calls.{begun, not_begun, call_reports, call_fails, call_long, call_open}
 use Rattle.hc_msg.proofs.call.Call.take.Goals as goal
 
 pub returns-in_default-clause-takes : goal.returns-in_default-clause-takes
@@ -28,7 +28,7 @@ returns-in_ok-request-in-Ok-Ends-clause-takes c =
     let tokens = rw c.as_slice-held.ensures.value at found in
     let none = c.in_ok-request-in-Ok-Ends.ensures.empty in
     let begins = rw is at (begun call.start c.in-Some.start call.held.items c.as_slice-held.result.now c.args.piece.now c.find_end-found.result c.head_count-count.result c.requires.sound.begins c.as_slice-held.ensures.value c.head_count-count.ensures c.in-Some.ensures) in
-    (tokens.2, rw none (call_tells call.scan call.held.items c.args.piece.now c.in-Ok-Ends.n c.in_ok-request-in-Ok-Ends.request c.whole_head.result tokens.0 tokens.1 begins c.whole_head.ensures.called c.in_ok-request-in-Ok-Ends.was))
+    (tokens.2, rw none (call_reports call.scan call.held.items c.args.piece.now c.in-Ok-Ends.n c.in_ok-request-in-Ok-Ends.request c.whole_head.result tokens.0 tokens.1 begins c.whole_head.ensures.called c.in_ok-request-in-Ok-Ends.was))
 
 pub returns-in_ok-extend_from_slice-in-Ok-Open-clause-takes : goal.returns-in_ok-extend_from_slice-in-Ok-Open-clause-takes
 returns-in_ok-extend_from_slice-in-Ok-Open-clause-takes c =

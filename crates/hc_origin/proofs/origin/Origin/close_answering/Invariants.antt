@@ -5,8 +5,8 @@ use Rattle.hc_origin.proofs.origin.Origin.close_answering.Given as goal
 
 abbrev pub invariant-loop-reply : goal.invariant-loop-reply
 invariant-loop-reply g l =
-    ((tells : Bool) (log : Log) → Follows tells (g.W.Wire.log l.fn.wire) (g.W.Wire.stages l.fn.wire) log → IsEnding log nobody l.fn.self.answering.items
-    → GoesTo tells log (g.W.Wire.log l.wire) (g.W.Wire.stages l.wire) (λ next. IsEnding next nobody l.self.answering.items))
+    ((reports : Bool) (log : Log) → Follows reports (g.W.Wire.log l.fn.wire) (g.W.Wire.stages l.fn.wire) log → IsEnding log nobody l.fn.self.answering.items
+    → GoesTo reports log (g.W.Wire.log l.wire) (g.W.Wire.stages l.wire) (λ next. IsEnding next nobody l.self.answering.items))
     × (g.W.Wire.faults l.wire ≡ g.W.Wire.faults l.fn.wire)
 
 abbrev pub decreases-loop-reply : goal.decreases-loop-reply

@@ -5,8 +5,8 @@ use Rattle.hc_origin.proofs.origin.Origin.send_all.Given as goal
 
 abbrev pub invariant-loop-reply : goal.invariant-loop-reply
 invariant-loop-reply g l =
-    ((tells : Bool) (log : Log) → Follows tells (g.W.Wire.log l.fn.wire) (g.W.Wire.stages l.fn.wire) log → AreKept l.fn.self log
-    → GoesTo tells log (g.W.Wire.log l.wire) (g.W.Wire.stages l.wire) (AreOffered (asking_in l.self) l.self.answering.items l.self.offered.items))
+    ((reports : Bool) (log : Log) → Follows reports (g.W.Wire.log l.fn.wire) (g.W.Wire.stages l.fn.wire) log → AreKept l.fn.self log
+    → GoesTo reports log (g.W.Wire.log l.wire) (g.W.Wire.stages l.wire) (AreOffered (asking_in l.self) l.self.answering.items l.self.offered.items))
     × (g.W.Wire.faults l.wire ≡ g.W.Wire.faults l.fn.wire)
 
 abbrev pub decreases-loop-reply : goal.decreases-loop-reply

@@ -80,7 +80,7 @@ invariant_of-self-then-is_settled g c =
     let s = c.args.self.now in
     let k = c.args.k in
     let l = c.list_ready.new.client in
-    let w : Client = record l { reading = c.tell_reading.new.reading } in
+    let w : Client = record l { reading = c.report_reading.new.reading } in
     let now = c.get_mut.follows.lender w in
     let was = c.in-Some.ensures.value in
     let change = changed-hash k (Some w) s.rows now ((c.get_mut.follows.holds w).3 (search rules)) in
@@ -99,13 +99,13 @@ invariant_of-self-else-is_settled g c =
     let k = c.args.k in
     let client = c.in-Some.client.now in
     let l = c.list_ready.new.client in
-    let w : Client = record l { reading = c.tell_reading.new.reading } in
+    let w : Client = record l { reading = c.report_reading.new.reading } in
     let now = c.get_mut.follows.lender w in
     let was = c.in-Some.ensures.value in
     let change = changed-hash k (Some w) s.rows now ((c.get_mut.follows.holds w).3 (search rules)) in
     let others = c.list_ready.ensures.others in
     let sent = c.in_ok-offer.ensures.ok in
-    let told : c.tell_reading.new.reading ≡ is_idle l = c.tell_reading.ensures.reading ∙ c.is_idle-on.ensures in
+    let reported : c.report_reading.new.reading ≡ is_idle l = c.report_reading.ensures.reading ∙ c.is_idle-on.ensures in
     let as_sent : l ≡ sent_more sent.n client = c.in-Ok.ensures.ok ∙ ap (λ (u : List ℕ). let x : Client = record client { unsent = u } in x) sent.left in
     record {
       alive = live-kept s.rows now k (Some w) change s.live s.live s.alive (ap (λ (x : Client). consumer_at (Some x)) others ∙ ap consumer_at was) (λ d. refl);
@@ -113,7 +113,7 @@ invariant_of-self-else-is_settled g c =
       unsettled = touched-now s.rows now k (Some w) change s.touched s.touched s.unsettled (λ j ne off. off)
           (λ off. absurd (
           let still = settled-still client l sent.n as_sent (ap settled_at was ∙ s.unsettled k off) in
-          let on : is_settled w ≡ true = ap (λ (r : Bool). is_settled (record l { reading = r })) told ∙ still in
+          let on : is_settled w ≡ true = ap (λ (r : Bool). is_settled (record l { reading = r })) reported ∙ still in
           let not_so : is_settled w ≡ false = sym c.is_settled.ensures ∙ c.if-is_settled.false in
           cc));
     }
@@ -124,18 +124,18 @@ returns-then-is_settled-clause-ok g c =
     let k = c.args.k in
     let client = c.in-Some.client.now in
     let l = c.list_ready.new.client in
-    let w : Client = record l { reading = c.tell_reading.new.reading } in
+    let w : Client = record l { reading = c.report_reading.new.reading } in
     let now = c.get_mut.follows.lender w in
     let change = changed-hash k (Some w) s.rows now ((c.get_mut.follows.holds w).3 (search rules)) in
     let x : Client = record client { unsent = c.offer.new.self } in
     let same : l ≡ x = c.in-Ok.ensures.ok in
     let idle = c.is_idle-on.ensures ∙ ap is_idle same in
     let read = ap (λ (y : Client). y.reading) same in
-    let is : Some w ≡ Some (record x { reading = c.is_idle-on.result }) = rw (same, c.tell_reading.ensures.reading) refl in
-    offered-stays g.W.Wire.stages g.W.Wire.log k client c.offer.new.self s _ c.args.wire.now c.offer.new.wire c.tell_reading.new.wire
+    let is : Some w ≡ Some (record x { reading = c.is_idle-on.result }) = rw (same, c.report_reading.ensures.reading) refl in
+    offered-stays g.W.Wire.stages g.W.Wire.log k client c.offer.new.self s _ c.args.wire.now c.offer.new.wire c.report_reading.new.wire
     c.in_ok-offer.ensures.ok c.in_ok-offer.ensures.stages (sym c.in-Some.ensures.value) c.is_idle-on.result (sym c.is_over.ensures ∙ c.if-is_over.false) idle
     (by-changed k _ _ _ (record { here = change.here ∙ is; apart = change.apart }))
-    (rw read at c.tell_reading.ensures.log) (rw read at c.tell_reading.ensures.stages)
+    (rw read at c.report_reading.ensures.log) (rw read at c.report_reading.ensures.stages)
 
 pub returns-else-is_settled-clause-ok : goal.returns-else-is_settled-clause-ok
 returns-else-is_settled-clause-ok g c =
@@ -143,15 +143,15 @@ returns-else-is_settled-clause-ok g c =
     let k = c.args.k in
     let client = c.in-Some.client.now in
     let l = c.list_ready.new.client in
-    let w : Client = record l { reading = c.tell_reading.new.reading } in
+    let w : Client = record l { reading = c.report_reading.new.reading } in
     let now = c.get_mut.follows.lender w in
     let change = changed-hash k (Some w) s.rows now ((c.get_mut.follows.holds w).3 (search rules)) in
     let x : Client = record client { unsent = c.offer.new.self } in
     let same : l ≡ x = c.in-Ok.ensures.ok in
     let idle = c.is_idle-on.ensures ∙ ap is_idle same in
     let read = ap (λ (y : Client). y.reading) same in
-    let is : Some w ≡ Some (record x { reading = c.is_idle-on.result }) = rw (same, c.tell_reading.ensures.reading) refl in
-    offered-stays g.W.Wire.stages g.W.Wire.log k client c.offer.new.self s _ c.args.wire.now c.offer.new.wire c.tell_reading.new.wire
+    let is : Some w ≡ Some (record x { reading = c.is_idle-on.result }) = rw (same, c.report_reading.ensures.reading) refl in
+    offered-stays g.W.Wire.stages g.W.Wire.log k client c.offer.new.self s _ c.args.wire.now c.offer.new.wire c.report_reading.new.wire
     c.in_ok-offer.ensures.ok c.in_ok-offer.ensures.stages (sym c.in-Some.ensures.value) c.is_idle-on.result (sym c.is_over.ensures ∙ c.if-is_over.false) idle
     (by-changed k _ _ _ (record { here = change.here ∙ is; apart = change.apart }))
-    (rw read at c.tell_reading.ensures.log) (rw read at c.tell_reading.ensures.stages)
+    (rw read at c.report_reading.ensures.log) (rw read at c.report_reading.ensures.stages)

@@ -1,6 +1,6 @@
 use Rattle.std.proofs.Common.{rules, refl}
 use Rattle.hc_effects.proofs.Vocabulary.{act}
-use Rattle.hc_proxy.proofs.{Dialings.{any_not_there, any_fresh, any_target, opens_goes}, Carryings.{stays_on, fails_before, fails_opening, answer_goes, ask_goes, told_of, cause_none}, Hangings.{close_goes}}
+use Rattle.hc_proxy.proofs.{Dialings.{any_not_there, any_fresh, any_target, opens_goes}, Carryings.{stays_on, fails_before, fails_opening, answer_goes, ask_goes, received_of, cause_none}, Hangings.{close_goes}}
 use Rattle.hc_proxy.proofs.proxy.Proxy.carry_out_one.Goals as goal
 use Rattle.hc_peers.proofs.Outcomes.{err-map, ok-map}
 use Rattle.hc_record.proofs.JoiningLemmas.{on_err}
@@ -55,7 +55,7 @@ pub returns-in_ok-answer-in_default : goal.returns-in_ok-answer-in_default
 returns-in_ok-answer-in_default g c = record {
   ok = λ t p log acts h on.
       stays_on t _ p c.args.act acts log _ _ on
-      (answer_goes t c.args.self.now p acts c.answer.new.self c.args.act (told_of t c.args.self.now p acts c.args.act c.in_default.not-Opened c.in_default.not-Ask c.in_default.not-Close) c.in_ok-answer-in_default.ensures h);
+      (answer_goes t c.args.self.now p acts c.answer.new.self c.args.act (received_of t c.args.self.now p acts c.args.act c.in_default.not-Opened c.in_default.not-Ask c.in_default.not-Close) c.in_ok-answer-in_default.ensures h);
   err = λ t p log acts h on. tt;
   cache = refl;
   events = refl;

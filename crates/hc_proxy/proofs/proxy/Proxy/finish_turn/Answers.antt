@@ -35,12 +35,12 @@ carry_out-requires g c = record {
 pub returns-in_err-carry_out-clause-err : goal.returns-in_err-carry_out-clause-err
 returns-in_err-carry_out-clause-err g c = λ t p before k on.
     let y = c.args.self.now in
-    let told = g.W.Wire.log c.args.wire.now in
+    let reported = g.W.Wire.log c.args.wire.now in
     let stages = g.W.Wire.stages c.args.wire.now in
     let k' = written_keeps t p y k c.write.new.self c.in_ok-write.ensures.empty c.in_ok-write.ensures.last in
-    let on' = written_wire t (text_of y.record) before told stages on in
+    let on' = written_wire t (text_of y.record) before reported stages on in
     on_err c.from_residual-in_err-carry_out.result _
-    (cut_carrying t p before y k told stages on (g.K.Sink.taken c.args.log.now) (g.K.Sink.taken c.write.new.log) c.in_ok-write.ensures.ok (g.W.Wire.log c.carry_out.new.wire) (g.W.Wire.stages c.carry_out.new.wire)
+    (cut_carrying t p before y k reported stages on (g.K.Sink.taken c.args.log.now) (g.K.Sink.taken c.write.new.log) c.in_ok-write.ensures.ok (g.W.Wire.log c.carry_out.new.wire) (g.W.Wire.stages c.carry_out.new.wire)
     (c.in_err-carry_out.ensures.err (writing t (text_of y.record)) p before k' on'))
 
 pub returns-in_err-carry_out-clause-causes : goal.returns-in_err-carry_out-clause-causes
@@ -52,19 +52,19 @@ returns-in_err-carry_out-clause-causes g c =
 pub returns-in_err-send-clause-err : goal.returns-in_err-send-clause-err
 returns-in_err-send-clause-err g c = λ t p before k on.
     let y = c.args.self.now in
-    let told = g.W.Wire.log c.args.wire.now in
+    let reported = g.W.Wire.log c.args.wire.now in
     let stages = g.W.Wire.stages c.args.wire.now in
     let out = g.K.Sink.taken c.args.log.now in
     let out' = g.K.Sink.taken c.write.new.log in
     let takes = c.in_ok-write.ensures.ok in
-    let told1 = g.W.Wire.log c.carry_out.new.wire in
+    let reported1 = g.W.Wire.log c.carry_out.new.wire in
     let stages1 = g.W.Wire.stages c.carry_out.new.wire in
     let k' = written_keeps t p y k c.write.new.self c.in_ok-write.ensures.empty c.in_ok-write.ensures.last in
-    let on' = written_wire t (text_of y.record) before told stages on in
+    let on' = written_wire t (text_of y.record) before reported stages on in
     let co = c.in_ok-carry_out.ensures.ok (writing t (text_of y.record)) p before k' on' in
     on_err c.from_residual-in_err-send.result _
-    (cut_sending t p before y k told stages on out out' takes told1 stages1 c.carry_out.new.self co (g.W.Wire.log c.send.new.wire)
-    (c.in_err-send.ensures.err (behind t p before y k told stages on out out' takes told1 stages1 c.carry_out.new.self co) (carried p) co.log' co.keeps co.on_wire))
+    (cut_sending t p before y k reported stages on out out' takes reported1 stages1 c.carry_out.new.self co (g.W.Wire.log c.send.new.wire)
+    (c.in_err-send.ensures.err (behind t p before y k reported stages on out out' takes reported1 stages1 c.carry_out.new.self co) (carried p) co.log' co.keeps co.on_wire))
 
 pub returns-in_err-send-clause-causes : goal.returns-in_err-send-clause-causes
 returns-in_err-send-clause-causes g c =
@@ -76,39 +76,39 @@ returns-in_err-send-clause-causes g c =
 pub returns-clause-ok : goal.returns-clause-ok
 returns-clause-ok g c = λ t p before k on.
     let y = c.args.self.now in
-    let told = g.W.Wire.log c.args.wire.now in
+    let reported = g.W.Wire.log c.args.wire.now in
     let stages = g.W.Wire.stages c.args.wire.now in
     let out = g.K.Sink.taken c.args.log.now in
     let out' = g.K.Sink.taken c.write.new.log in
     let takes = c.in_ok-write.ensures.ok in
-    let told1 = g.W.Wire.log c.carry_out.new.wire in
+    let reported1 = g.W.Wire.log c.carry_out.new.wire in
     let stages1 = g.W.Wire.stages c.carry_out.new.wire in
-    let told2 = g.W.Wire.log c.send.new.wire in
+    let reported2 = g.W.Wire.log c.send.new.wire in
     let stages2 = g.W.Wire.stages c.send.new.wire in
     let k' = written_keeps t p y k c.write.new.self c.in_ok-write.ensures.empty c.in_ok-write.ensures.last in
-    let on' = written_wire t (text_of y.record) before told stages on in
+    let on' = written_wire t (text_of y.record) before reported stages on in
     let co = c.in_ok-carry_out.ensures.ok (writing t (text_of y.record)) p before k' on' in
-    let turn = behind t p before y k told stages on out out' takes told1 stages1 c.carry_out.new.self co in
+    let turn = behind t p before y k reported stages on out out' takes reported1 stages1 c.carry_out.new.self co in
     let a = c.in_ok-send.ensures.ok turn (carried p) co.log' co.keeps co.on_wire in
-    finishes t p before y k told stages on out out' takes told1 stages1 c.carry_out.new.self co c.send.new.self told2 stages2 a c.waits.new.self _
+    finishes t p before y k reported stages on out out' takes reported1 stages1 c.carry_out.new.self co c.send.new.self reported2 stages2 a c.waits.new.self _
     (c.waits.ensures.rests turn.frame (carried p) a.log' a.rests) (c.in_ok-waits.ensures.waits turn.frame (carried p) a.log' a.rests)
 
 pub returns-in_err-waits-clause-err : goal.returns-in_err-waits-clause-err
 returns-in_err-waits-clause-err g c = λ t p before k on.
     let y = c.args.self.now in
-    let told = g.W.Wire.log c.args.wire.now in
+    let reported = g.W.Wire.log c.args.wire.now in
     let stages = g.W.Wire.stages c.args.wire.now in
     let out = g.K.Sink.taken c.args.log.now in
     let out' = g.K.Sink.taken c.write.new.log in
     let takes = c.in_ok-write.ensures.ok in
-    let told1 = g.W.Wire.log c.carry_out.new.wire in
+    let reported1 = g.W.Wire.log c.carry_out.new.wire in
     let stages1 = g.W.Wire.stages c.carry_out.new.wire in
-    let told2 = g.W.Wire.log c.send.new.wire in
+    let reported2 = g.W.Wire.log c.send.new.wire in
     let stages2 = g.W.Wire.stages c.send.new.wire in
     let k' = written_keeps t p y k c.write.new.self c.in_ok-write.ensures.empty c.in_ok-write.ensures.last in
-    let on' = written_wire t (text_of y.record) before told stages on in
+    let on' = written_wire t (text_of y.record) before reported stages on in
     let co = c.in_ok-carry_out.ensures.ok (writing t (text_of y.record)) p before k' on' in
-    let turn = behind t p before y k told stages on out out' takes told1 stages1 c.carry_out.new.self co in
+    let turn = behind t p before y k reported stages on out out' takes reported1 stages1 c.carry_out.new.self co in
     let a = c.in_ok-send.ensures.ok turn (carried p) co.log' co.keeps co.on_wire in
     on_err c.from_residual-in_err-waits.result _
-    (cut_waiting t p before y k told stages on out out' takes told1 stages1 c.carry_out.new.self co c.send.new.self told2 stages2 a)
+    (cut_waiting t p before y k reported stages on out out' takes reported1 stages1 c.carry_out.new.self co c.send.new.self reported2 stages2 a)

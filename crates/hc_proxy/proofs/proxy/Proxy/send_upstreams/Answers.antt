@@ -5,7 +5,7 @@ use Rattle.hc_proxy.proofs.proxy.Proxy.send_upstreams.Goals as goal
 use Rattle.hc_record.proofs.JoiningLemmas.{on_err}
 
 pub returns-in_err-list_touched-clause-err : goal.returns-in_err-list_touched-clause-err
-returns-in_err-list_touched-clause-err g c = λ f p log cache has clients follows. on_err c.from_residual.result _ (fails_here p log (g.W.Wire.log c.args.wire.now) follows.told_is)
+returns-in_err-list_touched-clause-err g c = λ f p log cache has clients follows. on_err c.from_residual.result _ (fails_here p log (g.W.Wire.log c.args.wire.now) follows.reported_is)
 
 pub returns-clause-ok : goal.returns-clause-ok
 returns-clause-ok g c = λ f p log cache has clients follows.

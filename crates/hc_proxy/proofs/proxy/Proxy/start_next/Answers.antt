@@ -1,7 +1,7 @@
 use Rattle.std.proofs.Common.{◌≡◌, ◌≤◌, ◌+◌, ◌^◌, length, subst, arith}
 use Rattle.hc_core.specs.Steps.{steps}
 use Rattle.hc_peers.specs.Clients.{ready_of, HearsNext}
-use Rattle.hc_peers.specs.declared.clients.Heard.TheVariants as told
+use Rattle.hc_peers.specs.declared.clients.NextRequest.TheVariants as reported
 use Rattle.hc_proxy.proofs.StartNext.{few_starts, few_bytes, new_number, start_event, next_cache, one_less, goes_nobody, goes_nothing, goes_asks}
 use Rattle.hc_proxy.proofs.proxy.Proxy.start_next.Goals as goal
 
@@ -34,7 +34,7 @@ returns-in-Nobody-clause-goes g c t p h =
 
 pub returns-in-Nothing-clause-next : goal.returns-in-Nothing-clause-next
 returns-in-Nothing-clause-next g c =
-    one_less (c.args.self.now.starts + 1) c.args.self.now.clients c.hear_next.new.self told.Nothing (λ same. let never : told.Nothing ≡ told.Nobody = same in cc)
+    one_less (c.args.self.now.starts + 1) c.args.self.now.clients c.hear_next.new.self reported.Nothing (λ same. let never : reported.Nothing ≡ reported.Nobody = same in cc)
     (subst (HearsNext (c.args.self.now.starts + 1) c.args.self.now.clients c.hear_next.new.self) c.in-Nothing.is c.in_ok-hear_next.ensures)
 
 pub returns-in-Nothing-clause-goes : goal.returns-in-Nothing-clause-goes

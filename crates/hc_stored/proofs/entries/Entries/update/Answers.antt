@@ -12,9 +12,9 @@ invariant_of-self-2-clause-shelved g c =
     let summary = summary_in c.in_ok-summary.summary in
     let f = with_summary summary in
     let head = plain c.args.head.now in
-    updated-shelved e.shelved r c.slot_in.result.n c.slot_in.ensures f (rewrites head) (λ a. refl) c.tell_in.ensures
+    updated-shelved e.shelved r c.slot_in.result.n c.slot_in.ensures f (rewrites head) (λ a. refl) c.report_in.ensures
     (λ m. ap (λ (s : Slots). s m) c.in_ok-write_record.ensures.ok)
-    (λ a b is h. shelved-rewritten head summary a b c.in_ok-summary.ensures h) (ordered-same e.shelved r f c.tell_in.ensures (λ a. refl))
+    (λ a b is h. shelved-rewritten head summary a b c.in_ok-summary.ensures h) (ordered-same e.shelved r f c.report_in.ensures (λ a. refl))
 
 pub returns-clause-ok : goal.returns-clause-ok
 returns-clause-ok g c =
@@ -23,7 +23,7 @@ returns-clause-ok g c =
     let head = plain c.args.head.now in
     record {
       kept =
-          updated-kept e.shelved c.args.r c.slot_in.result.n c.slot_in.ensures f (rewrites head) (λ a. refl) c.tell_in.ensures
+          updated-kept e.shelved c.args.r c.slot_in.result.n c.slot_in.ensures f (rewrites head) (λ a. refl) c.report_in.ensures
           (λ m. ap (λ (s : Slots). s m) c.in_ok-write_record.ensures.ok) (with_head head) (λ a b. refl);
       order = refl;
       limits = c.in_ok-write_record.ensures.limits;

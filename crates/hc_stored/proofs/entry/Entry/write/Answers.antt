@@ -1,5 +1,5 @@
 use Rattle.std.proofs.Common.{◌≡◌, List, ap, sym, ◌∙◌, subst}
-use Rattle.hc_writers.specs.Writing.{Writing, resumed}
+use Rattle.hc_writers.specs.Group.{Group, resumed}
 use Rattle.hc_stored.specs.Groups.{HasMembers}
 use Rattle.hc_stored.proofs.GroupLemmas.{resumed_grouped}
 use Rattle.hc_stored.proofs.entry.Entry.write.Goals as goal

@@ -1,6 +1,5 @@
 use Rattle.std.{proofs.Common.{◌≡◌, true}, specs.Map.{keys_of}}
-use Rattle.hc_text.specs.Sorted.{has}
-use Rattle.hc_text.specs.Sorted.{itself}
+use Rattle.hc_text.specs.Sorted.{has, itself}
 use Rattle.hc_stored.proofs.OrderLemmas.{keys-promoted, distinct-promoted}
 use Rattle.hc_stored.proofs.order.Order.move_first.Goals as goal
 

@@ -1,5 +1,5 @@
 use Rattle.std.proofs.Common.{inl}
-use Rattle.hc_driver.proofs.Reported.{on_err}
+use Rattle.hc_driver.proofs.ReportSteps.{on_err}
 use Rattle.hc_test_streams.proofs.courses.CountdownCourse.go.Goals as goal
 
 pub returns-in_err-push-clause-lacks : goal.returns-in_err-push-clause-lacks

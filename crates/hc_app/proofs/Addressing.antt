@@ -51,12 +51,15 @@ module _ (e : ℕ) (is_end : (e ≡ 46) ⊎ (e ≡ 58)) (text : List ℕ) where
   never_cut none n rest begins = none_some (cut e text) (decimal n, rest) none (cut_is n rest begins)
 
   word_is : (word behind : List ℕ) → cut e text ≡ Some (word, behind) → (n : ℕ) (rest : List ℕ) → Begins e text n rest → (word ≡ decimal n) × (behind ≡ rest)
-  word_is word behind at n rest begins = let same = both_are (cut e text) (word, behind) (decimal n, rest) at (cut_is n rest begins) in (ap (λ (p : Parts). p.0) same, ap (λ (p : Parts). p.1) same)
+  word_is word behind at n rest begins = let same = both_are (cut e text) (word, behind) (decimal n, rest) at (cut_is n rest begins) in
+      (ap (λ (p : Parts). p.0) same, ap (λ (p : Parts). p.1) same)
 
-  pub never_plain : (word behind : List ℕ) → cut e text ≡ Some (word, behind) → ((n : ℕ) → IsPlain word n → ⊥) → (n : ℕ) (rest : List ℕ) → Begins e text n rest → ⊥
+  pub never_plain : (word behind : List ℕ) → cut e text ≡ Some (word, behind) → ((n : ℕ) → IsPlain word n → ⊥) → (n : ℕ) (rest : List ℕ) →
+      Begins e text n rest → ⊥
   never_plain word behind at none n rest begins = none n (let few : n ≤ 255 = begins.0 in omega arith, (word_is word behind at n rest begins).0)
 
-  pub never_more : (word behind : List ℕ) (m : ℕ) → cut e text ≡ Some (word, behind) → IsPlain word m → 255 < m → (n : ℕ) (rest : List ℕ) → Begins e text n rest → ⊥
+  pub never_more : (word behind : List ℕ) (m : ℕ) → cut e text ≡ Some (word, behind) → IsPlain word m → 255 < m → (n : ℕ) (rest : List ℕ) →
+      Begins e text n rest → ⊥
   never_more word behind m at plain more n rest begins =
       let few : n ≤ 255 = begins.0 in
       let small : m < 2 ^ 62 = plain.0 in
@@ -137,13 +140,16 @@ module _ (t0 : List ℕ) where
   pub off_three : (n1 n2 : ℕ) (t1 t2 : List ℕ) → Begins 46 t0 n1 t1 → Begins 46 t1 n2 t2 → ((n : ℕ) (rest : List ℕ) → Begins 46 t2 n rest → ⊥) → Never t0
   off_three n1 n2 t1 t2 b1 b2 none a is = not_three t0 a is n1 t1 b1 n2 t2 b2 none
 
-  pub off_four : (n1 n2 n3 : ℕ) (t1 t2 t3 : List ℕ) → Begins 46 t0 n1 t1 → Begins 46 t1 n2 t2 → Begins 46 t2 n3 t3 → ((n : ℕ) (rest : List ℕ) → Begins 58 t3 n rest → ⊥) → Never t0
+  pub off_four : (n1 n2 n3 : ℕ) (t1 t2 t3 : List ℕ) → Begins 46 t0 n1 t1 → Begins 46 t1 n2 t2 → Begins 46 t2 n3 t3 →
+      ((n : ℕ) (rest : List ℕ) → Begins 58 t3 n rest → ⊥) → Never t0
   off_four n1 n2 n3 t1 t2 t3 b1 b2 b3 none a is = not_four t0 a is n1 t1 b1 n2 t2 b2 n3 t3 b3 none
 
-  pub off_port : (n1 n2 n3 n4 : ℕ) (t1 t2 t3 t4 : List ℕ) → Begins 46 t0 n1 t1 → Begins 46 t1 n2 t2 → Begins 46 t2 n3 t3 → Begins 58 t3 n4 t4 → ((n : ℕ) → IsPort t4 n → ⊥) → Never t0
+  pub off_port : (n1 n2 n3 n4 : ℕ) (t1 t2 t3 t4 : List ℕ) → Begins 46 t0 n1 t1 → Begins 46 t1 n2 t2 → Begins 46 t2 n3 t3 → Begins 58 t3 n4 t4 →
+      ((n : ℕ) → IsPort t4 n → ⊥) → Never t0
   off_port n1 n2 n3 n4 t1 t2 t3 t4 b1 b2 b3 b4 none a is = not_port t0 a is n1 t1 b1 n2 t2 b2 n3 t3 b3 n4 t4 b4 none
 
-pub address_is : (t0 t1 t2 t3 t4 : List ℕ) (n1 n2 n3 n4 : ℕ) (a : Address) → Begins 46 t0 n1 t1 → Begins 46 t1 n2 t2 → Begins 46 t2 n3 t3 → Begins 58 t3 n4 t4 → IsPort t4 a.port
+pub address_is : (t0 t1 t2 t3 t4 : List ℕ) (n1 n2 n3 n4 : ℕ) (a : Address) → Begins 46 t0 n1 t1 → Begins 46 t1 n2 t2 → Begins 46 t2 n3 t3 →
+    Begins 58 t3 n4 t4 → IsPort t4 a.port
     → a.octets ≡ n1 ∷ n2 ∷ n3 ∷ n4 ∷ [] → IsAddress t0 a
 address_is t0 t1 t2 t3 t4 n1 n2 n3 n4 a b1 b2 b3 b4 port octets = record {
   one = n1;
@@ -156,5 +162,7 @@ address_is t0 t1 t2 t3 t4 n1 n2 n3 n4 a b1 b2 b3 b4 port octets = record {
   below_three = b3.0;
   below_four = b4.0;
   port = (port.0, port.1);
-  text_is = b1.1 ∙ ap (λ (t : List ℕ). decimal n1 ++ 46 ∷ t) (b2.1 ∙ ap (λ (t : List ℕ). decimal n2 ++ 46 ∷ t) (b3.1 ∙ ap (λ (t : List ℕ). decimal n3 ++ 46 ∷ t) (b4.1 ∙ ap (λ (t : List ℕ). decimal n4 ++ 58 ∷ t) port.2)));
+  text_is = b1.1 ∙ ap (λ (t : List ℕ). decimal n1 ++ 46 ∷ t)
+      (b2.1 ∙ ap (λ (t : List ℕ). decimal n2 ++ 46 ∷ t)
+      (b3.1 ∙ ap (λ (t : List ℕ). decimal n3 ++ 46 ∷ t) (b4.1 ∙ ap (λ (t : List ℕ). decimal n4 ++ 58 ∷ t) port.2)));
 }

@@ -38,6 +38,7 @@ not_wire _ _ done off = λ is. cc
 not_wire _ _ unwired off = λ is. off refl
 not_wire _ _ wanting off = λ is. cc
 
-pub unbound_answer : (listen : Address) (turns : ℕ) (reported reported' : Option Log) (e : WireError) → reported' ≡ reported → AnswersOrigin listen turns reported reported' (unbound_as e)
+pub unbound_answer : (listen : Address) (turns : ℕ) (reported reported' : Option Log) (e : WireError) → reported' ≡ reported → AnswersOrigin
+    listen turns reported reported' (unbound_as e)
 unbound_answer listen turns reported reported' wire.WireFailed same = answering.unbound same
 unbound_answer listen turns reported reported' wire.NoMemory same = answering.wanting_all same

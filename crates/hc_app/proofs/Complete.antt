@@ -79,18 +79,21 @@ false_true is = cc
 
 -- WHAT IS REFUSED
 
-refused_here : (moment : ℕ) (given : List ℕ) (rest : Option (List ℕ)) (text : List ℕ) (r : Refused) → Gives (Some given) rest text → endings.IsRefused moment text r → refusal_of moment given ≡ Some r
+refused_here : (moment : ℕ) (given : List ℕ) (rest : Option (List ℕ)) (text : List ℕ) (r : Refused) → Gives (Some given) rest text →
+    endings.IsRefused moment text r → refusal_of moment given ≡ Some r
 refused_here moment given None text r gives refuses = absurd gives
 refused_here moment given (Some rest) text r gives refuses = ap (refusal_of moment) gives ∙ refuses rest
 
 -- what was refused is the text that was given
-refusal_is : (moment : ℕ) (given : List ℕ) (rest : Option (List ℕ)) (reach : Reach) (text : List ℕ) (r : Refused) → IsRead reach (Some given) rest text → IsRefusedIn moment text r reach → refusal_of moment given ≡ Some r
+refusal_is : (moment : ℕ) (given : List ℕ) (rest : Option (List ℕ)) (reach : Reach) (text : List ℕ) (r : Refused) → IsRead reach (Some given) rest text →
+    IsRefusedIn moment text r reach → refusal_of moment given ≡ Some r
 refusal_is moment given rest _ text r read (endings.within at_once) = refused_here moment given rest text r read at_once.refuses
 refusal_is moment given rest _ text r read (endings.at_end unrefused refuses) = ap (refusal_of moment) (sym read.0) ∙ refuses
 
 -- an image is refused or not
 image_apart : (text schedule : List ℕ) (contents : Contents) (e : OpenEnded) → IsTaken text contents schedule → IsRefusedImage text e → ⊥
-image_apart text schedule contents _ taken (opening.bad_image none) = none contents taken.is_opened.image schedule taken.is_opened.is_image taken.is_opened.text_is
+image_apart text schedule contents _ taken (opening.bad_image none) =
+    none contents taken.is_opened.image schedule taken.is_opened.is_image taken.is_opened.text_is
 image_apart text schedule contents _ taken (opening.bad_content s c i is says) =
     let same = (opened_once text contents c schedule s taken.is_opened is).0 in
     some_none (unfit.BadContent i) (sym says ∙ subst (λ (d : Contents). unfit_of store_limits d ≡ None) same taken.fits)
@@ -99,7 +102,8 @@ image_apart text schedule contents _ taken (opening.full s c is says) =
     some_none unfit.Full (sym says ∙ subst (λ (d : Contents). unfit_of store_limits d ≡ None) same taken.fits)
 
 -- a refused line behind an image is that of the schedule behind it
-refusal_behind : (text schedule s : List ℕ) (contents c : Contents) (r : Refused) → IsTaken text contents schedule → IsTaken text c s → refusal_of c.now s ≡ Some r → refusal_of contents.now schedule ≡ Some r
+refusal_behind : (text schedule s : List ℕ) (contents c : Contents) (r : Refused) → IsTaken text contents schedule → IsTaken text c s →
+    refusal_of c.now s ≡ Some r → refusal_of contents.now schedule ≡ Some r
 refusal_behind text schedule s contents c r taken other refused =
     let same = opened_once text contents c schedule s taken.is_opened other.is_opened in
     rw (same.0, same.1) refused
@@ -112,7 +116,8 @@ module _ (left : List ℕ) (out diag : Option (List ℕ)) (o d : ℕ) (after : S
 
   by_owed : (duty : Duty) (due : Status)
       → ((reach : Reach) (text report : List ℕ) → IsRead reach (Some left) after.left text → duty.Owes reach text (Quiet report) → EndsWith status.Done due)
-      → ((reach : Reach) (text report word : List ℕ) (s : Status) → IsRead reach (Some left) after.left text → duty.Owes reach text (Saying report word s) → EndsWith s due)
+      → ((reach : Reach) (text report word : List ℕ) (s : Status) → IsRead reach (Some left) after.left text →
+      duty.Owes reach text (Saying report word s) → EndsWith s due)
       → (s : Status) → Does duty start after s → IsFaultless s → EndsWith s due
   by_owed duty due quiet says _ (owing.done reach text report read owes took same) sound = quiet reach text report read owes
   by_owed duty due quiet says _ (owing.said reach text report word s read owes took said) sound = says reach text report word s read owes
@@ -125,11 +130,15 @@ module _ (left : List ℕ) (out diag : Option (List ℕ)) (o d : ℕ) (after : S
 
   -- REPLAYING
 
-  not_refused : (items : List Item) (reach : Reach) (text report word : List ℕ) (s : Status) → Spells 0 left items → IsRead reach (Some left) after.left text → replaying.Replays reach text (Saying report word s) → ⊥
-  not_refused items _ text report _ _ spells read (replaying.refused reach _ _ r refuses is) = some_none r (sym (refusal_is 0 left after.left reach text r read refuses) ∙ (is_read 0 left items spells).0)
+  not_refused : (items : List Item) (reach : Reach) (text report word : List ℕ) (s : Status) → Spells 0 left items →
+      IsRead reach (Some left) after.left text → replaying.Replays reach text (Saying report word s) → ⊥
+  not_refused items _ text report _ _ spells read (replaying.refused reach _ _ r refuses is) =
+      some_none r (sym (refusal_is 0 left after.left reach text r read refuses) ∙ (is_read 0 left items spells).0)
 
-  not_spelled : (r : Refused) (reach : Reach) (text report : List ℕ) → refusal_of 0 left ≡ Some r → IsRead reach (Some left) after.left text → replaying.Replays reach text (Quiet report) → ⊥
-  not_spelled r _ text report refused read (replaying.spelled _ _ items spells is) = some_none r (sym refused ∙ (ap (refusal_of 0) (sym read.0) ∙ (is_read 0 text items spells).0))
+  not_spelled : (r : Refused) (reach : Reach) (text report : List ℕ) → refusal_of 0 left ≡ Some r → IsRead reach (Some left) after.left text →
+      replaying.Replays reach text (Quiet report) → ⊥
+  not_spelled r _ text report refused read (replaying.spelled _ _ items spells is) =
+      some_none r (sym refused ∙ (ap (refusal_of 0) (sym read.0) ∙ (is_read 0 text items spells).0))
 
   says_refused : (reach : Reach) (text report word : List ℕ) (s : Status) → replaying.Replays reach text (Saying report word s) → code_of s ≡ 1
   says_refused _ text report _ _ (replaying.refused reach _ _ r refuses is) = refl
@@ -139,18 +148,23 @@ module _ (left : List ℕ) (out diag : Option (List ℕ)) (o d : ℕ) (after : S
       by_owed replaying.replaying status.Done (λ reach text report read owes. inl refl)
       (λ reach text report word s read owes. absurd (not_refused items reach text report word s spells read owes))
 
-  refused_replays : (r : Refused) → refusal_of 0 left ≡ Some r → (s : Status) → Does replaying.replaying start after s → IsFaultless s → EndsWith s status.Refused
+  refused_replays : (r : Refused) → refusal_of 0 left ≡ Some r → (s : Status) → Does replaying.replaying start after s → IsFaultless s →
+      EndsWith s status.Refused
   refused_replays r refused =
       by_owed replaying.replaying status.Refused (λ reach text report read owes. absurd (not_spelled r reach text report refused read owes))
       (λ reach text report word s read owes. inl (says_refused reach text report word s owes))
 
   -- SAVING
 
-  save_unrefused : (items : List Item) (reach : Reach) (text report word : List ℕ) (s : Status) → Spells 0 left items → IsRead reach (Some left) after.left text → saving.Saves reach text (Saying report word s) → ⊥
-  save_unrefused items _ text _ _ _ spells read (saving.refused reach _ r refuses) = some_none r (sym (refusal_is 0 left after.left reach text r read refuses) ∙ (is_read 0 left items spells).0)
+  save_unrefused : (items : List Item) (reach : Reach) (text report word : List ℕ) (s : Status) → Spells 0 left items →
+      IsRead reach (Some left) after.left text → saving.Saves reach text (Saying report word s) → ⊥
+  save_unrefused items _ text _ _ _ spells read (saving.refused reach _ r refuses) =
+      some_none r (sym (refusal_is 0 left after.left reach text r read refuses) ∙ (is_read 0 left items spells).0)
 
-  save_unspelled : (r : Refused) (reach : Reach) (text report : List ℕ) → refusal_of 0 left ≡ Some r → IsRead reach (Some left) after.left text → saving.Saves reach text (Quiet report) → ⊥
-  save_unspelled r _ text report refused read (saving.spelled _ _ items spells is) = some_none r (sym refused ∙ (ap (refusal_of 0) (sym read.0) ∙ (is_read 0 text items spells).0))
+  save_unspelled : (r : Refused) (reach : Reach) (text report : List ℕ) → refusal_of 0 left ≡ Some r → IsRead reach (Some left) after.left text →
+      saving.Saves reach text (Quiet report) → ⊥
+  save_unspelled r _ text report refused read (saving.spelled _ _ items spells is) =
+      some_none r (sym refused ∙ (ap (refusal_of 0) (sym read.0) ∙ (is_read 0 text items spells).0))
 
   save_says : (reach : Reach) (text report word : List ℕ) (s : Status) → saving.Saves reach text (Saying report word s) → code_of s ≡ 1
   save_says _ text _ _ _ (saving.refused reach _ r refuses) = refl
@@ -167,11 +181,15 @@ module _ (left : List ℕ) (out diag : Option (List ℕ)) (o d : ℕ) (after : S
 
   -- BEHIND A FRONT
 
-  front_unrefused : (items : List Item) (reach : Reach) (text report word : List ℕ) (s : Status) → Spells 0 left items → IsRead reach (Some left) after.left text → fronting.Fronts reach text (Saying report word s) → ⊥
-  front_unrefused items _ text report _ _ spells read (fronting.refused reach _ _ r refuses is) = some_none r (sym (refusal_is 0 left after.left reach text r read refuses) ∙ (is_read 0 left items spells).0)
+  front_unrefused : (items : List Item) (reach : Reach) (text report word : List ℕ) (s : Status) → Spells 0 left items →
+      IsRead reach (Some left) after.left text → fronting.Fronts reach text (Saying report word s) → ⊥
+  front_unrefused items _ text report _ _ spells read (fronting.refused reach _ _ r refuses is) =
+      some_none r (sym (refusal_is 0 left after.left reach text r read refuses) ∙ (is_read 0 left items spells).0)
 
-  front_unspelled : (r : Refused) (reach : Reach) (text report : List ℕ) → refusal_of 0 left ≡ Some r → IsRead reach (Some left) after.left text → fronting.Fronts reach text (Quiet report) → ⊥
-  front_unspelled r _ text report refused read (fronting.spelled _ _ items spells is) = some_none r (sym refused ∙ (ap (refusal_of 0) (sym read.0) ∙ (is_read 0 text items spells).0))
+  front_unspelled : (r : Refused) (reach : Reach) (text report : List ℕ) → refusal_of 0 left ≡ Some r → IsRead reach (Some left) after.left text →
+      fronting.Fronts reach text (Quiet report) → ⊥
+  front_unspelled r _ text report refused read (fronting.spelled _ _ items spells is) =
+      some_none r (sym refused ∙ (ap (refusal_of 0) (sym read.0) ∙ (is_read 0 text items spells).0))
 
   front_says : (reach : Reach) (text report word : List ℕ) (s : Status) → fronting.Fronts reach text (Saying report word s) → code_of s ≡ 1
   front_says _ text report _ _ (fronting.refused reach _ _ r refuses is) = refl
@@ -192,25 +210,31 @@ module _ (left : List ℕ) (out diag : Option (List ℕ)) (o d : ℕ) (after : S
     taken_at : (text : List ℕ) → text ≡ left → IsTaken text contents schedule
     taken_at text same = subst (λ (l : List ℕ). IsTaken l contents schedule) (sym same) taken
 
-    open_unrefused : (items : List Item) (reach : Reach) (text report word : List ℕ) (s : Status) → Spells contents.now schedule items → IsRead reach (Some left) after.left text → opening.Opens reach text (Saying report word s) → ⊥
+    open_unrefused : (items : List Item) (reach : Reach) (text report word : List ℕ) (s : Status) → Spells contents.now schedule items →
+        IsRead reach (Some left) after.left text → opening.Opens reach text (Saying report word s) → ⊥
     open_unrefused items _ text _ _ _ spells read (opening.refused_image _ e why) = image_apart text schedule contents e (taken_at text read.0) why
     open_unrefused items _ text report _ _ spells read (opening.refused _ other part _ c reach rest r is so_far refuses continued) =
-        some_none r (sym (refusal_behind text schedule other contents c r (taken_at text read.0) is (refusal_is c.now other rest reach part r so_far refuses)) ∙ (is_read contents.now schedule items spells).0)
+        some_none r (sym (refusal_behind text schedule other contents c r (taken_at text read.0) is
+        (refusal_is c.now other rest reach part r so_far refuses)) ∙ (is_read contents.now schedule items spells).0)
 
-    open_unspelled : (r : Refused) (reach : Reach) (text report : List ℕ) → refusal_of contents.now schedule ≡ Some r → IsRead reach (Some left) after.left text → opening.Opens reach text (Quiet report) → ⊥
+    open_unspelled : (r : Refused) (reach : Reach) (text report : List ℕ) → refusal_of contents.now schedule ≡ Some r →
+        IsRead reach (Some left) after.left text → opening.Opens reach text (Quiet report) → ⊥
     open_unspelled r _ text report refused read (opening.spelled _ other _ c items is spells continued) =
         some_none r (sym (refusal_behind text other schedule c contents r is (taken_at text read.0) refused) ∙ (is_read c.now other items spells).0)
 
-    open_says : (reach : Reach) (text report word : List ℕ) (s : Status) → IsRead reach (Some left) after.left text → opening.Opens reach text (Saying report word s) → code_of s ≡ 1
+    open_says : (reach : Reach) (text report word : List ℕ) (s : Status) → IsRead reach (Some left) after.left text →
+        opening.Opens reach text (Saying report word s) → code_of s ≡ 1
     open_says _ text _ _ _ read (opening.refused_image _ e why) = absurd (image_apart text schedule contents e (taken_at text read.0) why)
     open_says _ text report _ _ read (opening.refused _ other part _ c reach rest r is so_far refuses continued) = refl
 
-    spelled_opens : (items : List Item) → Spells contents.now schedule items → (s : Status) → Does opening.opening start after s → IsFaultless s → EndsWith s status.Done
+    spelled_opens : (items : List Item) → Spells contents.now schedule items → (s : Status) → Does opening.opening start after s → IsFaultless s →
+        EndsWith s status.Done
     spelled_opens items spells =
         by_owed opening.opening status.Done (λ reach text report read owes. inl refl)
         (λ reach text report word s read owes. absurd (open_unrefused items reach text report word s spells read owes))
 
-    refused_opens : (r : Refused) → refusal_of contents.now schedule ≡ Some r → (s : Status) → Does opening.opening start after s → IsFaultless s → EndsWith s status.Refused
+    refused_opens : (r : Refused) → refusal_of contents.now schedule ≡ Some r → (s : Status) → Does opening.opening start after s → IsFaultless s →
+        EndsWith s status.Refused
     refused_opens r refused =
         by_owed opening.opening status.Refused (λ reach text report read owes. absurd (open_unspelled r reach text report refused read owes))
         (λ reach text report word s read owes. inl (open_says reach text report word s read owes))
@@ -222,9 +246,11 @@ module _ (left : List ℕ) (out diag : Option (List ℕ)) (o d : ℕ) (after : S
     image_unspelled : (reach : Reach) (text report : List ℕ) → IsRead reach (Some left) after.left text → opening.Opens reach text (Quiet report) → ⊥
     image_unspelled _ text report read (opening.spelled _ other _ c items is spells continued) = image_apart text other c e is (why_at text read.0)
 
-    image_says : (reach : Reach) (text report word : List ℕ) (s : Status) → IsRead reach (Some left) after.left text → opening.Opens reach text (Saying report word s) → code_of s ≡ 7
+    image_says : (reach : Reach) (text report word : List ℕ) (s : Status) → IsRead reach (Some left) after.left text →
+        opening.Opens reach text (Saying report word s) → code_of s ≡ 7
     image_says _ text _ _ _ read (opening.refused_image _ other so) = refl
-    image_says _ text report _ _ read (opening.refused _ other part _ c reach rest r is so_far refuses continued) = absurd (image_apart text other c e is (why_at text read.0))
+    image_says _ text report _ _ read (opening.refused _ other part _ c reach rest r is so_far refuses continued) =
+        absurd (image_apart text other c e is (why_at text read.0))
 
     refused_image_opens : (s : Status) → Does opening.opening start after s → IsFaultless s → EndsWith s status.ImageRefused
     refused_image_opens =
@@ -283,18 +309,23 @@ module _ (left : List ℕ) (out diag : Option (List ℕ)) (o d : ℕ) (after : S
     fetch_apart : (c : Command) → IsCommand words c → (plan : FetchPlan) → IsFetch words plan → ⊥
     fetch_apart c is plan f =
         let p = named words c is in
-        let fetch_is : words ≡ codes "fetch" ∷ f.target ∷ f.first ∷ f.second ∷ [] = f.are ∙ ap (λ (w : List ℕ). w ∷ f.target ∷ f.first ∷ f.second ∷ []) f.plan_is.word_is in
-        not_fetch c ((bytes_eq-Decides (name_of c) (codes "fetch")).1 (first_of words (name_of c) (codes "fetch") p.0 (f.target ∷ f.first ∷ f.second ∷ []) p.1 fetch_is))
+        let fetch_is : words ≡ codes "fetch" ∷ f.target ∷ f.first ∷ f.second ∷ [] = f.are ∙
+        ap (λ (w : List ℕ). w ∷ f.target ∷ f.first ∷ f.second ∷ []) f.plan_is.word_is in
+        not_fetch c ((bytes_eq-Decides (name_of c) (codes "fetch")).1
+        (first_of words (name_of c) (codes "fetch") p.0 (f.target ∷ f.first ∷ f.second ∷ []) p.1 fetch_is))
 
-    asked : (s : Status) → (s ≡ status.NoMemory → ⊥) → (c : Command) → bytes_eq (codes "origin") (name_of c) ≡ false → bytes_eq (codes "serve") (name_of c) ≡ false → IsCommand words c → Keeps words start after wire wire' s → Asked c s
+    asked : (s : Status) → (s ≡ status.NoMemory → ⊥) → (c : Command) → bytes_eq (codes "origin") (name_of c) ≡ false →
+        bytes_eq (codes "serve") (name_of c) ≡ false → IsCommand words c → Keeps words start after wire wire' s → Asked c s
     asked s off c off_origin off_serve is (program.obeyed done word did same) = record { done = done; named_so = same_name done c word is; did = did }
     asked s off c off_origin off_serve is (program.answered listen turns word did same) = absurd (differ (command.Origin listen turns) c off_origin word is)
-    asked s off c off_origin off_serve is (program.served listen from turns word did same) = absurd (differ (command.Serve listen from turns) c off_serve word is)
+    asked s off c off_origin off_serve is (program.served listen from turns word did same) =
+        absurd (differ (command.Serve listen from turns) c off_serve word is)
     asked s off c off_origin off_serve is (program.reported none unfetched did same) = absurd (none c is)
     asked s off c off_origin off_serve is (program.fetched plan f did same) = absurd (fetch_apart c is plan f)
     asked _ off c off_origin off_serve is (program.wanting same reported_same) = absurd (off refl)
 
-    did_replay : (c : Command) (s : Status) → bytes_eq (name_of c) (codes "replay") ≡ true → Does (duty_of c) start after s → Does replaying.replaying start after s
+    did_replay : (c : Command) (s : Status) → bytes_eq (name_of c) (codes "replay") ≡ true → Does (duty_of c) start after s →
+        Does replaying.replaying start after s
     did_replay command.Replay s same did = did
     did_replay _ s same did = absurd (false_true same)
 
@@ -306,31 +337,44 @@ module _ (left : List ℕ) (out diag : Option (List ℕ)) (o d : ℕ) (after : S
     did_open command.Open s same did = did
     did_open _ s same did = absurd (false_true same)
 
-    did_front : (c : Command) (s : Status) → bytes_eq (name_of c) (codes "conditional") ≡ true → Does (duty_of c) start after s → Does fronting.fronting start after s
+    did_front : (c : Command) (s : Status) → bytes_eq (name_of c) (codes "conditional") ≡ true → Does (duty_of c) start after s →
+        Does fronting.fronting start after s
     did_front command.Conditional s same did = did
     did_front _ s same did = absurd (false_true same)
 
-    did_generate : (c : Command) (s : Status) → bytes_eq (name_of c) (codes "generate") ≡ true → Does (duty_of c) start after s → IsFaultless s → EndsWith s status.Done
+    did_generate : (c : Command) (s : Status) → bytes_eq (name_of c) (codes "generate") ≡ true → Does (duty_of c) start after s → IsFaultless s →
+        EndsWith s status.Done
     did_generate (command.Generate seed count) s same did sound = made seed count s did sound
     did_generate _ s same did sound = absurd (false_true same)
 
-    keeps_some : (s : Status) → (s ≡ status.NoMemory → ⊥) → (due : Status) → IsDue words left due → Keeps words start after wire wire' s → IsFaultless s → EndsWith s due
-    keeps_some s off _ (program.spelled items is spells) keeps sound = let q = asked s off command.Replay refl refl is keeps in spelled_replays items spells s (did_replay q.done s q.named_so q.did) sound
-    keeps_some s off _ (program.refused r is refused) keeps sound = let q = asked s off command.Replay refl refl is keeps in refused_replays r refused s (did_replay q.done s q.named_so q.did) sound
-    keeps_some s off _ (program.generated seed count is) keeps sound = let q = asked s off (command.Generate seed count) refl refl is keeps in did_generate q.done s q.named_so q.did sound
-    keeps_some s off _ (program.saved items is spells) keeps sound = let q = asked s off command.Save refl refl is keeps in spelled_saves items spells s (did_save q.done s q.named_so q.did) sound
-    keeps_some s off _ (program.unsaved r is refused) keeps sound = let q = asked s off command.Save refl refl is keeps in refused_saves r refused s (did_save q.done s q.named_so q.did) sound
+    keeps_some : (s : Status) → (s ≡ status.NoMemory → ⊥) → (due : Status) → IsDue words left due → Keeps words start after wire wire' s → IsFaultless s →
+        EndsWith s due
+    keeps_some s off _ (program.spelled items is spells) keeps sound = let q = asked s off command.Replay refl refl is keeps in
+        spelled_replays items spells s (did_replay q.done s q.named_so q.did) sound
+    keeps_some s off _ (program.refused r is refused) keeps sound = let q = asked s off command.Replay refl refl is keeps in
+        refused_replays r refused s (did_replay q.done s q.named_so q.did) sound
+    keeps_some s off _ (program.generated seed count is) keeps sound = let q = asked s off (command.Generate seed count) refl refl is keeps in
+        did_generate q.done s q.named_so q.did sound
+    keeps_some s off _ (program.saved items is spells) keeps sound = let q = asked s off command.Save refl refl is keeps in
+        spelled_saves items spells s (did_save q.done s q.named_so q.did) sound
+    keeps_some s off _ (program.unsaved r is refused) keeps sound = let q = asked s off command.Save refl refl is keeps in
+        refused_saves r refused s (did_save q.done s q.named_so q.did) sound
     keeps_some s off _ (program.opened contents schedule items is taken spells) keeps sound =
         let q = asked s off command.Open refl refl is keeps in spelled_opens contents schedule taken items spells s (did_open q.done s q.named_so q.did) sound
     keeps_some s off _ (program.stopped contents schedule r is taken refused) keeps sound =
         let q = asked s off command.Open refl refl is keeps in refused_opens contents schedule taken r refused s (did_open q.done s q.named_so q.did) sound
-    keeps_some s off _ (program.no_image e is why) keeps sound = let q = asked s off command.Open refl refl is keeps in refused_image_opens e why s (did_open q.done s q.named_so q.did) sound
-    keeps_some s off _ (program.fronted items is spells) keeps sound = let q = asked s off command.Conditional refl refl is keeps in spelled_fronts items spells s (did_front q.done s q.named_so q.did) sound
-    keeps_some s off _ (program.unfronted r is refused) keeps sound = let q = asked s off command.Conditional refl refl is keeps in refused_fronts r refused s (did_front q.done s q.named_so q.did) sound
+    keeps_some s off _ (program.no_image e is why) keeps sound = let q = asked s off command.Open refl refl is keeps in
+        refused_image_opens e why s (did_open q.done s q.named_so q.did) sound
+    keeps_some s off _ (program.fronted items is spells) keeps sound = let q = asked s off command.Conditional refl refl is keeps in
+        spelled_fronts items spells s (did_front q.done s q.named_so q.did) sound
+    keeps_some s off _ (program.unfronted r is refused) keeps sound = let q = asked s off command.Conditional refl refl is keeps in
+        refused_fronts r refused s (did_front q.done s q.named_so q.did) sound
     keeps_some s off _ (program.no_command none unfetched) (program.obeyed word_is word did same) sound = absurd (none word_is word)
     keeps_some s off _ (program.no_command none unfetched) (program.reported other apart did same) sound = reported s did sound
-    keeps_some s off _ (program.no_command none unfetched) (program.answered listen turns word did same) sound = absurd (none (command.Origin listen turns) word)
-    keeps_some s off _ (program.no_command none unfetched) (program.served listen from turns word did same) sound = absurd (none (command.Serve listen from turns) word)
+    keeps_some s off _ (program.no_command none unfetched) (program.answered listen turns word did same) sound =
+        absurd (none (command.Origin listen turns) word)
+    keeps_some s off _ (program.no_command none unfetched) (program.served listen from turns word did same) sound =
+        absurd (none (command.Serve listen from turns) word)
     keeps_some s off _ (program.no_command none unfetched) (program.fetched plan f did same) sound = absurd (unfetched plan f)
     keeps_some _ off _ (program.no_command none unfetched) (program.wanting same reported_same) sound = absurd (off refl)
 
@@ -346,9 +390,11 @@ module _ (left : List ℕ) (out diag : Option (List ℕ)) (o d : ℕ) (after : S
     keeps_due status.ImageRefused due is keeps sound = keeps_some status.ImageRefused (λ same. cc) due is keeps sound
     keeps_due status.FetchStopped due is keeps sound = keeps_some status.FetchStopped (λ same. cc) due is keeps sound
 
-    pub completes : (code : ℕ) → Ends code words start after wire wire' → (code ≡ 3 → HasRisen 0 0) → (code ≡ 4 → HasRisen 0 0 ⊎ HasRisen 0 0) → Completes code words left
+    pub completes : (code : ℕ) → Ends code words start after wire wire' → (code ≡ 3 → HasRisen 0 0) → (code ≡ 4 → HasRisen 0 0 ⊎ HasRisen 0 0) →
+        Completes code words left
     completes code ends source sink due is =
-        by_code (keeps_due ends.ended due is ends.keeps (faultless ends.ended (λ three. never (source (ends.code_is ∙ three))) (λ four. neither (sink (ends.code_is ∙ four)))))
+        by_code (keeps_due ends.ended due is ends.keeps
+        (faultless ends.ended (λ three. never (source (ends.code_is ∙ three))) (λ four. neither (sink (ends.code_is ∙ four)))))
       where
         never : HasRisen 0 0 → ⊥
         never (inl lt) = omega (arith, lt)

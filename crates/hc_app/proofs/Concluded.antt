@@ -15,22 +15,27 @@ module _ (diag diag' : Option (List ℕ)) (d d' : ℕ) where
   pub is_reported : (e : Ended) (r : Refused) → e ≡ ended.Refused r → Takes diag diag' (refusal_text r) → d' ≡ d → Concludes diag diag' d d' e status.Refused
   is_reported e r is said calm = subst (λ (y : Ended). Concludes diag diag' d d' y status.Refused) (sym is) (reported r said calm)
 
-  unreported_by : (r : Refused) (error : SinkError) → TakesPrefix diag diag' (refusal_text r) → (IsErrOf {T = Unit {0}} (Err error) sink.SinkFailed → HasRisen d d')
+  unreported_by : (r : Refused) (error : SinkError) → TakesPrefix diag diag' (refusal_text r) →
+      (IsErrOf {T = Unit {0}} (Err error) sink.SinkFailed → HasRisen d d')
       → (IsErrOf {T = Unit {0}} (Err error) sink.NoMemory → d' ≡ d) → Concludes diag diag' d d' (ended.Refused r) (stopped_as error)
   unreported_by r sink.SinkFailed front failed calm = unreported r front (failed refl)
   unreported_by r sink.NoMemory front failed calm = wanting_word r front (calm refl)
 
-  pub is_unreported : (e : Ended) (r : Refused) (error : SinkError) → e ≡ ended.Refused r → TakesPrefix diag diag' (refusal_text r) → (IsErrOf {T = Unit {0}} (Err error) sink.SinkFailed → HasRisen d d')
+  pub is_unreported : (e : Ended) (r : Refused) (error : SinkError) → e ≡ ended.Refused r → TakesPrefix diag diag' (refusal_text r) →
+      (IsErrOf {T = Unit {0}} (Err error) sink.SinkFailed → HasRisen d d')
       → (IsErrOf {T = Unit {0}} (Err error) sink.NoMemory → d' ≡ d) → Concludes diag diag' d d' e (stopped_as error)
-  is_unreported e r error is front failed calm = subst (λ (y : Ended). Concludes diag diag' d d' y (stopped_as error)) (sym is) (unreported_by r error front failed calm)
+  is_unreported e r error is front failed calm =
+      subst (λ (y : Ended). Concludes diag diag' d d' y (stopped_as error)) (sym is) (unreported_by r error front failed calm)
 
   -- THE STREAMS
 
   module _ (input input' out out' : ℕ) where
     -- by the ending, which tells of the input and of the output
-    pub stream_status : (e : Ended) (s : Status) → Concludes diag diag' d d' e s → (e ≡ ended.SourceFailed → HasRisen input input') → (e ≢ ended.SourceFailed → input' ≡ input) → (e ≡ ended.SinkFailed → HasRisen out out') → (e ≢ ended.SinkFailed → out' ≡ out)
+    pub stream_status : (e : Ended) (s : Status) → Concludes diag diag' d d' e s → (e ≡ ended.SourceFailed → HasRisen input input') →
+        (e ≢ ended.SourceFailed → input' ≡ input) → (e ≡ ended.SinkFailed → HasRisen out out') → (e ≢ ended.SinkFailed → out' ≡ out)
         → IsStreamStatus input input' out out' d d' s
-    stream_status _ _ (quiet _ _ done same calm) source still sinks kept = all_calm input input' out out' d d' status.Done (λ is. cc) (λ is. cc) (still (λ is. cc)) (kept (λ is. cc)) calm
+    stream_status _ _ (quiet _ _ done same calm) source still sinks kept =
+        all_calm input input' out out' d d' status.Done (λ is. cc) (λ is. cc) (still (λ is. cc)) (kept (λ is. cc)) calm
     stream_status _ _ (quiet _ _ unreadable same calm) source still sinks kept = record {
       source_failed = λ is. source refl;
       source_calm = λ off. absurd (off refl);
@@ -43,10 +48,13 @@ module _ (diag diag' : Option (List ℕ)) (d d' : ℕ) where
       sink_failed = λ is. inl (sinks refl);
       sinks_calm = λ off. absurd (off refl);
     }
-    stream_status _ _ (quiet _ _ wanting same calm) source still sinks kept = all_calm input input' out out' d d' status.NoMemory (λ is. cc) (λ is. cc) (still (λ is. cc)) (kept (λ is. cc)) calm
-    stream_status _ _ (reported r said calm) source still sinks kept = all_calm input input' out out' d d' status.Refused (λ is. cc) (λ is. cc) (still (λ is. cc)) (kept (λ is. cc)) calm
+    stream_status _ _ (quiet _ _ wanting same calm) source still sinks kept =
+        all_calm input input' out out' d d' status.NoMemory (λ is. cc) (λ is. cc) (still (λ is. cc)) (kept (λ is. cc)) calm
+    stream_status _ _ (reported r said calm) source still sinks kept =
+        all_calm input input' out out' d d' status.Refused (λ is. cc) (λ is. cc) (still (λ is. cc)) (kept (λ is. cc)) calm
     stream_status _ _ (unreported r said risen) source still sinks kept = diag_risen input input' out out' d d' risen (still (λ is. cc))
-    stream_status _ _ (wanting_word r said calm) source still sinks kept = all_calm input input' out out' d d' status.NoMemory (λ is. cc) (λ is. cc) (still (λ is. cc)) (kept (λ is. cc)) calm
+    stream_status _ _ (wanting_word r said calm) source still sinks kept =
+        all_calm input input' out out' d d' status.NoMemory (λ is. cc) (λ is. cc) (still (λ is. cc)) (kept (λ is. cc)) calm
 
   -- NO WIRE
 

@@ -22,13 +22,15 @@ use Rattle.hc_app.specs.Fronting as fronting
 use Rattle.hc_app.specs.Owing as owing
 
 -- a front in memory, whose store counts no failure
-module _ {B : Type 0} {g : Ghosts B} (s : Front B g) (new : FrontStands s no_contents []) (limits : limits_in s ≡ store_limits) (calm : (u : Front B g) → faults_in u ≡ 0) where
+module _ {B : Type 0} {g : Ghosts B} (s : Front B g) (new : FrontStands s no_contents []) (limits : limits_in s ≡ store_limits)
+    (calm : (u : Front B g) → faults_in u ≡ 0) where
   fronted : (u : Front B g) (events : List Timed) (h : History) → IsReplayed s u events h → IsFronted h
   fronted u events h is =
       let none = calm u in
       let counted = is.counted in
       let on = is.goes_on no_contents [] new in
-      let all : IsWholeRun (limits_in s) no_contents (core_of no_contents is.heard) = subst (λ (f : FrontHistory). IsWholeRun (limits_in s) no_contents (core_of no_contents f)) (append-nil is.heard) on.whole in
+      let all : IsWholeRun (limits_in s) no_contents (core_of no_contents is.heard) =
+      subst (λ (f : FrontHistory). IsWholeRun (limits_in s) no_contents (core_of no_contents f)) (append-nil is.heard) on.whole in
       record {
         heard = is.heard;
         reported = ap (answered_of no_contents) (sym (append-nil is.heard)) ∙ (on.reported ∙ append-nil h);
@@ -40,7 +42,8 @@ module _ {B : Type 0} {g : Ghosts B} (s : Front B g) (new : FrontStands s no_con
   report_owed : (u : Front B g) (events : List Timed) (h : History) → IsReplayed s u events h → IsFrontReport events (report_of h)
   report_owed u events h is = record { history = h; fronted = fronted u events h is; events_are = is.events_are; report_is = refl }
 
-  begun : (u : Front B g) (text : List ℕ) (first rest : List Timed) (h : History) → IsReplayed s u first h → IsSteppedAtOnce 0 text first rest → BeginsFront text (report_before h) (last_entry h)
+  begun : (u : Front B g) (text : List ℕ) (first rest : List Timed) (h : History) → IsReplayed s u first h → IsSteppedAtOnce 0 text first rest →
+      BeginsFront text (report_before h) (last_entry h)
   begun u text first rest h is stepped = record {
     history = h;
     rest = rest;
@@ -64,7 +67,8 @@ module _ {B : Type 0} {g : Ghosts B} (s : Front B g) (new : FrontStands s no_con
     never_over : (events : List Timed) → Went UpToEnd events → ⊥
     never_over events went = elim went [ ]
 
-    pub does_front : (e : Ended) (st : Status) → endings.Ends Went 0 left left' e → Concludes diag diag' d d' e st → (e ≡ ended.SinkFailed → HasRisen o o') → (e ≢ ended.SinkFailed → o' ≡ o) → Does fronting.fronting before after st
+    pub does_front : (e : Ended) (st : Status) → endings.Ends Went 0 left left' e → Concludes diag diag' d d' e st →
+        (e ≡ ended.SinkFailed → HasRisen o o') → (e ≢ ended.SinkFailed → o' ≡ o) → Does fronting.fronting before after st
     does_front _ _ (endings.done text items gives spells (replays.wholly h is taken)) (concluding.quiet _ _ concluding.done same sound) failed kept =
         owing.done ToEnd text (report_of h) gives (fronting.spelled text (report_of h) items spells (report_owed u _ h is)) taken same
     does_front _ _ (endings.over text first rest gives stepped went) reported failed kept = absurd (never_over first went)
@@ -72,14 +76,19 @@ module _ {B : Type 0} {g : Ghosts B} (s : Front B g) (new : FrontStands s no_con
     does_front _ _ (endings.refused reach text r read refused (replays.wholly h is taken)) (concluding.reported _ said sound) failed kept =
         owing.said reach text (report_of h) _ _ read (fronting.refused reach text (report_of h) r refused (report_owed u _ h is)) taken said
     does_front _ _ (endings.refused reach text r read refused (replays.wholly h is taken)) (concluding.unreported _ said risen) failed kept =
-        owing.unsaid reach text (report_of h) _ _ read (fronting.refused reach text (report_of h) r refused (report_owed u _ h is)) taken said (record { failed = risen; sound = kept (λ other. cc) })
+        owing.unsaid reach text (report_of h) _ _ read (fronting.refused reach text (report_of h) r refused (report_owed u _ h is)) taken said
+        (record { failed = risen; sound = kept (λ other. cc) })
     does_front _ _ (endings.refused reach text r read refused (replays.wholly h is taken)) (concluding.wanting_word _ said sound) failed kept =
         owing.wanting_word reach text (report_of h) _ _ read (fronting.refused reach text (report_of h) r refused (report_owed u _ h is)) taken said
     does_front _ _ (endings.unreadable text gives unrefused (replays.wholly h is taken)) (concluding.quiet _ _ concluding.unreadable same sound) failed kept =
         owing.unreadable text (report_of h) gives (unrefused, report_owed u _ h is) taken same
-    does_front _ _ (endings.unwritten text first rest gives stepped (replays.up_to_last h is taken)) (concluding.quiet _ _ concluding.unwritten same sound) failed kept =
-        owing.unwritten text (report_before h) (last_entry h) gives (begun u text first rest h is stepped) taken (record { failed = failed refl; unsaid = same; sound = sound })
-    does_front _ _ (endings.wanting text first rest gives stepped (replays.up_to_last h is taken)) (concluding.quiet _ _ concluding.wanting same sound) failed kept =
+    does_front _ _ (endings.unwritten text first rest gives stepped (replays.up_to_last h is taken))
+        (concluding.quiet _ _ concluding.unwritten same sound) failed kept =
+        owing.unwritten text (report_before h) (last_entry h) gives (begun u text first rest h is stepped) taken
+        (record { failed = failed refl; unsaid = same; sound = sound })
+    does_front _ _ (endings.wanting text first rest gives stepped (replays.up_to_last h is taken)) (concluding.quiet _ _ concluding.wanting same sound)
+        failed kept =
         owing.wanting text (report_before h) (last_entry h) gives (begun u text first rest h is stepped) taken same
-    does_front _ _ (endings.wanting_answer text first rest next gives stepped (replays.up_to_want h last is taken spent)) (concluding.quiet _ _ concluding.wanting same sound) failed kept =
+    does_front _ _ (endings.wanting_answer text first rest next gives stepped (replays.up_to_want h last is taken spent))
+        (concluding.quiet _ _ concluding.wanting same sound) failed kept =
         owing.wanting text (report_before h) (last_entry h) gives (begun last text first (next ∷ rest) h is stepped) (all_reported h out out' taken) same

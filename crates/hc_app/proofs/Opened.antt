@@ -29,7 +29,8 @@ use Rattle.hc_app.proofs.{Failed.{all_calm, diag_risen}, Done.{never_wire}, Save
 
 module _ (diag diag' : Option (List ℕ)) (d d' : ℕ) where
   -- a refused image
-  pub refusal_reported : (e : OpenEnded) → ((x : Ended) → e ≢ opened.Ran x) → Takes diag diag' (image_text e) → d' ≡ d → ConcludesOpen diag diag' d d' e status.ImageRefused
+  pub refusal_reported : (e : OpenEnded) → ((x : Ended) → e ≢ opened.Ran x) → Takes diag diag' (image_text e) → d' ≡ d →
+      ConcludesOpen diag diag' d d' e status.ImageRefused
   refusal_reported e off said calm = opening.reported e (refused e off) said calm
     where
       refused : (e : OpenEnded) → ((x : Ended) → e ≢ opened.Ran x) → IsImageRefused e
@@ -38,7 +39,8 @@ module _ (diag diag' : Option (List ℕ)) (d d' : ℕ) where
       refused (opened.BadContent i) off = tt
       refused opened.Full off = tt
 
-  pub refusal_unreported : (e : OpenEnded) → ((x : Ended) → e ≢ opened.Ran x) → (error : SinkError) → TakesPrefix diag diag' (image_text e) → (IsErrOf {T = Unit {0}} (Err error) sink.SinkFailed → HasRisen d d')
+  pub refusal_unreported : (e : OpenEnded) → ((x : Ended) → e ≢ opened.Ran x) → (error : SinkError) → TakesPrefix diag diag' (image_text e) →
+      (IsErrOf {T = Unit {0}} (Err error) sink.SinkFailed → HasRisen d d')
       → (IsErrOf {T = Unit {0}} (Err error) sink.NoMemory → d' ≡ d) → ConcludesOpen diag diag' d d' e (stopped_as error)
   refusal_unreported (opened.Ran x) off error front failed calm = absurd (off x refl)
   refusal_unreported opened.BadImage off sink.SinkFailed front failed calm = opening.unreported opened.BadImage tt front (failed refl)
@@ -54,15 +56,21 @@ module _ (diag diag' : Option (List ℕ)) (d d' : ℕ) where
   ran_once a b same = cc
 
   module _ (input input' out out' : ℕ) where
-    pub stream_status : (e : OpenEnded) (s : Status) → ConcludesOpen diag diag' d d' e s → (e ≡ opened.Ran ended.SourceFailed → HasRisen input input') → (e ≢ opened.Ran ended.SourceFailed → input' ≡ input)
+    pub stream_status : (e : OpenEnded) (s : Status) → ConcludesOpen diag diag' d d' e s → (e ≡ opened.Ran ended.SourceFailed → HasRisen input input') →
+        (e ≢ opened.Ran ended.SourceFailed → input' ≡ input)
         → (e ≡ opened.Ran ended.SinkFailed → HasRisen out out') → (e ≢ opened.Ran ended.SinkFailed → out' ≡ out) → IsStreamStatus input input' out out' d d' s
     stream_status _ s (opening.ran e _ by) source still sinks kept =
-        concluded.stream_status diag diag' d d' input input' out out' e s by (λ is. source (ap opened.Ran is)) (λ off. still (λ is. off (ran_once e ended.SourceFailed is))) (λ is. sinks (ap opened.Ran is)) (λ off. kept (λ is. off (ran_once e ended.SinkFailed is)))
+        concluded.stream_status diag diag' d d' input input' out out' e s by (λ is. source (ap opened.Ran is))
+        (λ off. still (λ is. off (ran_once e ended.SourceFailed is))) (λ is. sinks (ap opened.Ran is))
+        (λ off. kept (λ is. off (ran_once e ended.SinkFailed is)))
     stream_status e _ (opening.reported _ refused said calm) source still sinks kept =
-        all_calm input input' out out' d d' status.ImageRefused (λ is. cc) (λ is. cc) (still (λ is. subst IsImageRefused is refused)) (kept (λ is. subst IsImageRefused is refused)) calm
-    stream_status e _ (opening.unreported _ refused said risen) source still sinks kept = diag_risen input input' out out' d d' risen (still (λ is. subst IsImageRefused is refused))
+        all_calm input input' out out' d d' status.ImageRefused (λ is. cc) (λ is. cc) (still (λ is. subst IsImageRefused is refused))
+        (kept (λ is. subst IsImageRefused is refused)) calm
+    stream_status e _ (opening.unreported _ refused said risen) source still sinks kept =
+        diag_risen input input' out out' d d' risen (still (λ is. subst IsImageRefused is refused))
     stream_status e _ (opening.wanting_word _ refused said calm) source still sinks kept =
-        all_calm input input' out out' d d' status.NoMemory (λ is. cc) (λ is. cc) (still (λ is. subst IsImageRefused is refused)) (kept (λ is. subst IsImageRefused is refused)) calm
+        all_calm input input' out out' d d' status.NoMemory (λ is. cc) (λ is. cc) (still (λ is. subst IsImageRefused is refused))
+        (kept (λ is. subst IsImageRefused is refused)) calm
 
   pub wireless : (e : OpenEnded) (s : Status) → ConcludesOpen diag diag' d d' e s → s ≢ status.WireFailed
   wireless _ s (opening.ran e _ by) = concluded.wireless diag diag' d d' e s by
@@ -79,7 +87,8 @@ module _ (left left' out out' diag diag' : Option (List ℕ)) (o o' d d' : ℕ) 
   abbrev after : Streams
   after = record { left = left'; out = out'; diag = diag'; out_faults = o'; diag_faults = d' }
 
-  does_refuse : (text : List ℕ) (e : OpenEnded) (st : Status) → GivesAll left left' text → IsRefusedImage text e → out' ≡ out → IsImageRefused e → ConcludesOpen diag diag' d d' e st → (e ≢ opened.Ran ended.SinkFailed → o' ≡ o)
+  does_refuse : (text : List ℕ) (e : OpenEnded) (st : Status) → GivesAll left left' text → IsRefusedImage text e → out' ≡ out → IsImageRefused e →
+      ConcludesOpen diag diag' d d' e st → (e ≢ opened.Ran ended.SinkFailed → o' ≡ o)
       → Does opening.opening before after st
   does_refuse text _ st gives why unwritten refused (opening.ran e _ by) kept = absurd refused
   does_refuse text e _ gives why unwritten refused (opening.reported _ is said calm) kept =
@@ -90,14 +99,16 @@ module _ (left left' out out' diag diag' : Option (List ℕ)) (o o' d d' : ℕ) 
   does_refuse text e _ gives why unwritten refused (opening.wanting_word _ is said calm) kept =
       owing.wanting_word ToEnd text [] (image_text e) status.ImageRefused gives (opening.refused_image text e why) (untaken out out' unwritten) said
 
-  module _ (text schedule : List ℕ) (contents : Contents) (rest : Option (List ℕ)) (gives : GivesAll left left' text) (is : IsOpened text contents schedule) (fits : unfit_of store_limits contents ≡ None) where
+  module _ (text schedule : List ℕ) (contents : Contents) (rest : Option (List ℕ)) (gives : GivesAll left left' text)
+      (is : IsOpened text contents schedule) (fits : unfit_of store_limits contents ≡ None) where
     taken_so : IsTaken text contents schedule
     taken_so = record { is_opened = is; fits = fits }
 
     report_owed : (events : List Timed) (h : History) → IsContinued store_limits contents events h → IsReportFrom contents events (report_of h)
     report_owed events h continued = record { history = h; continued = continued; report_is = refl }
 
-    begun : (part : List ℕ) (first more : List Timed) (h : History) → Gives (Some schedule) rest part → IsContinued store_limits contents first h → IsSteppedAtOnce contents.now part first more → opening.BeginsOpen text (report_before h) (last_entry h)
+    begun : (part : List ℕ) (first more : List Timed) (h : History) → Gives (Some schedule) rest part → IsContinued store_limits contents first h →
+        IsSteppedAtOnce contents.now part first more → opening.BeginsOpen text (report_before h) (last_entry h)
     begun part first more h given continued stepped = opening.report (record {
       schedule = schedule;
       contents = contents;
@@ -119,40 +130,59 @@ module _ (left left' out out' diag diag' : Option (List ℕ)) (o o' d d' : ℕ) 
     never_over : (events : List Timed) → Went UpToEnd events → ⊥
     never_over events went = elim went [ ]
 
-    does_run : (e : Ended) (st : Status) → e ≢ ended.SourceFailed → endings.Ends Went contents.now (Some schedule) rest e → Concludes diag diag' d d' e st → (e ≡ ended.SinkFailed → HasRisen o o') → (e ≢ ended.SinkFailed → o' ≡ o)
+    does_run : (e : Ended) (st : Status) → e ≢ ended.SourceFailed → endings.Ends Went contents.now (Some schedule) rest e →
+        Concludes diag diag' d d' e st → (e ≡ ended.SinkFailed → HasRisen o o') → (e ≢ ended.SinkFailed → o' ≡ o)
         → Does opening.opening before after st
-    does_run _ _ readable (endings.done part items given spells (opens.wholly h continued taken)) (concluding.quiet _ _ concluding.done same sound) failed kept =
-        owing.done ToEnd text (report_of h) gives (opening.spelled text schedule (report_of h) contents items taken_so (subst (λ (l : List ℕ). Spells contents.now l items) given.0 spells) (report_owed _ h continued)) taken same
+    does_run _ _ readable (endings.done part items given spells (opens.wholly h continued taken)) (concluding.quiet _ _ concluding.done same sound) failed
+        kept =
+        owing.done ToEnd text (report_of h) gives
+        (opening.spelled text schedule (report_of h) contents items taken_so (subst (λ (l : List ℕ). Spells contents.now l items) given.0 spells)
+        (report_owed _ h continued)) taken same
     does_run _ _ readable (endings.over part first more given stepped went) said failed kept = absurd (never_over first went)
     does_run _ _ readable (endings.refused reach part r read refused went) (concluding.quiet _ _ is_quiet same sound) failed kept = elim is_quiet [ ]
     does_run _ _ readable (endings.refused reach part r read refused (opens.wholly h continued taken)) (concluding.reported _ said sound) failed kept =
-        owing.said ToEnd text (report_of h) _ _ gives (opening.refused text schedule part (report_of h) contents reach rest r taken_so read refused (report_owed _ h continued)) taken said
+        owing.said ToEnd text (report_of h) _ _ gives
+        (opening.refused text schedule part (report_of h) contents reach rest r taken_so read refused (report_owed _ h continued)) taken said
     does_run _ _ readable (endings.refused reach part r read refused (opens.wholly h continued taken)) (concluding.unreported _ said risen) failed kept =
-        owing.unsaid ToEnd text (report_of h) _ _ gives (opening.refused text schedule part (report_of h) contents reach rest r taken_so read refused (report_owed _ h continued)) taken said
+        owing.unsaid ToEnd text (report_of h) _ _ gives
+        (opening.refused text schedule part (report_of h) contents reach rest r taken_so read refused (report_owed _ h continued)) taken said
         (record { failed = risen; sound = kept (λ other. cc) })
     does_run _ _ readable (endings.refused reach part r read refused (opens.wholly h continued taken)) (concluding.wanting_word _ said sound) failed kept =
-        owing.wanting_word ToEnd text (report_of h) _ _ gives (opening.refused text schedule part (report_of h) contents reach rest r taken_so read refused (report_owed _ h continued)) taken said
+        owing.wanting_word ToEnd text (report_of h) _ _ gives
+        (opening.refused text schedule part (report_of h) contents reach rest r taken_so read refused (report_owed _ h continued)) taken said
     does_run _ _ readable (endings.unreadable part given unrefused went) said failed kept = absurd (readable refl)
-    does_run _ _ readable (endings.unwritten part first more given stepped (opens.up_to_last h continued taken)) (concluding.quiet _ _ concluding.unwritten same sound) failed kept =
-        owing.unwritten text (report_before h) (last_entry h) (gives_front left left' text gives) (begun part first more h given continued stepped) taken (record { failed = failed refl; unsaid = same; sound = sound })
-    does_run _ _ readable (endings.wanting part first more given stepped (opens.up_to_last h continued taken)) (concluding.quiet _ _ concluding.wanting same sound) failed kept =
+    does_run _ _ readable (endings.unwritten part first more given stepped (opens.up_to_last h continued taken))
+        (concluding.quiet _ _ concluding.unwritten same sound) failed kept =
+        owing.unwritten text (report_before h) (last_entry h) (gives_front left left' text gives) (begun part first more h given continued stepped) taken
+        (record { failed = failed refl; unsaid = same; sound = sound })
+    does_run _ _ readable (endings.wanting part first more given stepped (opens.up_to_last h continued taken))
+        (concluding.quiet _ _ concluding.wanting same sound) failed kept =
         owing.wanting text (report_before h) (last_entry h) (gives_front left left' text gives) (begun part first more h given continued stepped) taken same
-    does_run _ _ readable (endings.wanting_answer part first more next given stepped (opens.up_to_want h continued taken)) (concluding.quiet _ _ concluding.wanting same sound) failed kept =
-        owing.wanting text (report_before h) (last_entry h) (gives_front left left' text gives) (begun part first (next ∷ more) h given continued stepped) (all_reported h out out' taken) same
+    does_run _ _ readable (endings.wanting_answer part first more next given stepped (opens.up_to_want h continued taken))
+        (concluding.quiet _ _ concluding.wanting same sound) failed kept =
+        owing.wanting text (report_before h) (last_entry h) (gives_front left left' text gives) (begun part first (next ∷ more) h given continued stepped)
+        (all_reported h out out' taken) same
 
   -- the input failed, or memory was refused, before that
-  does_stop : (text : List ℕ) (st : Status) → Gives left left' text → out' ≡ out → Concludes diag diag' d d' ended.SourceFailed st → Does opening.opening before after st
-  does_stop text _ gives unwritten (concluding.quiet _ _ concluding.unreadable same sound) = owing.unreadable text [] gives refl (untaken out out' unwritten) same
+  does_stop : (text : List ℕ) (st : Status) → Gives left left' text → out' ≡ out → Concludes diag diag' d d' ended.SourceFailed st →
+      Does opening.opening before after st
+  does_stop text _ gives unwritten (concluding.quiet _ _ concluding.unreadable same sound) =
+      owing.unreadable text [] gives refl (untaken out out' unwritten) same
 
-  does_want : (text : List ℕ) (st : Status) → Gives left left' text → out' ≡ out → Concludes diag diag' d d' ended.NoMemory st → Does opening.opening before after st
-  does_want text _ gives unwritten (concluding.quiet _ _ concluding.wanting same sound) = owing.wanting text [] [] gives opening.nothing (none_taken out out' unwritten) same
+  does_want : (text : List ℕ) (st : Status) → Gives left left' text → out' ≡ out → Concludes diag diag' d d' ended.NoMemory st →
+      Does opening.opening before after st
+  does_want text _ gives unwritten (concluding.quiet _ _ concluding.wanting same sound) =
+      owing.wanting text [] [] gives opening.nothing (none_taken out out' unwritten) same
 
-  pub does_open : (e : OpenEnded) (st : Status) → opens.Opens store_limits left left' out out' e → ConcludesOpen diag diag' d d' e st → (e ≡ opened.Ran ended.SinkFailed → HasRisen o o') → (e ≢ opened.Ran ended.SinkFailed → o' ≡ o)
+  pub does_open : (e : OpenEnded) (st : Status) → opens.Opens store_limits left left' out out' e → ConcludesOpen diag diag' d d' e st →
+      (e ≡ opened.Ran ended.SinkFailed → HasRisen o o') → (e ≢ opened.Ran ended.SinkFailed → o' ≡ o)
       → Does opening.opening before after st
-  does_open _ st (opens.bad_image text gives none unwritten) by failed kept = does_refuse text opened.BadImage st gives (opening.bad_image none) unwritten tt by kept
+  does_open _ st (opens.bad_image text gives none unwritten) by failed kept =
+      does_refuse text opened.BadImage st gives (opening.bad_image none) unwritten tt by kept
   does_open _ st (opens.bad_content text schedule contents i gives is says unwritten) by failed kept =
       does_refuse text (opened.BadContent i) st gives (opening.bad_content schedule contents i is says) unwritten tt by kept
-  does_open _ st (opens.full text schedule contents gives is says unwritten) by failed kept = does_refuse text opened.Full st gives (opening.full schedule contents is says) unwritten tt by kept
+  does_open _ st (opens.full text schedule contents gives is says unwritten) by failed kept =
+      does_refuse text opened.Full st gives (opening.full schedule contents is says) unwritten tt by kept
   does_open _ st (opens.ran text schedule contents rest e gives is fits readable ends) (opening.ran _ _ by) failed kept =
       does_run text schedule contents rest gives is fits e st readable ends by (λ same. failed (ap opened.Ran same)) (λ off. kept (λ same. off (inner same)))
     where

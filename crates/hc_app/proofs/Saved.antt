@@ -31,20 +31,23 @@ module _ (left left' out out' diag diag' : Option (List ℕ)) (o o' d d' : ℕ) 
   abbrev after : Streams
   after = record { left = left'; out = out'; diag = diag'; out_faults = o'; diag_faults = d' }
 
-  pub does_save : (e : Ended) (st : Status) → saves.Saves store_limits left left' out out' e → Concludes diag diag' d d' e st → (e ≡ ended.SinkFailed → HasRisen o o') → (e ≢ ended.SinkFailed → o' ≡ o) → Does saving.saving before after st
+  pub does_save : (e : Ended) (st : Status) → saves.Saves store_limits left left' out out' e → Concludes diag diag' d d' e st →
+      (e ≡ ended.SinkFailed → HasRisen o o') → (e ≢ ended.SinkFailed → o' ≡ o) → Does saving.saving before after st
   does_save _ _ (saves.done text image items gives spells is takes) (concluding.quiet _ _ concluding.done same sound) failed kept =
       owing.done ToEnd text image gives (saving.spelled text image items spells is) takes same
   does_save _ _ (saves.refused reach text r read refused unwritten) (concluding.quiet _ _ is_quiet same sound) failed kept = elim is_quiet [ ]
   does_save _ _ (saves.refused reach text r read refused unwritten) (concluding.reported _ said sound) failed kept =
       owing.said reach text [] _ _ read (saving.refused reach text r refused) (untaken out out' unwritten) said
   does_save _ _ (saves.refused reach text r read refused unwritten) (concluding.unreported _ said risen) failed kept =
-      owing.unsaid reach text [] _ _ read (saving.refused reach text r refused) (untaken out out' unwritten) said (record { failed = risen; sound = kept (λ other. cc) })
+      owing.unsaid reach text [] _ _ read (saving.refused reach text r refused) (untaken out out' unwritten) said
+      (record { failed = risen; sound = kept (λ other. cc) })
   does_save _ _ (saves.refused reach text r read refused unwritten) (concluding.wanting_word _ said sound) failed kept =
       owing.wanting_word reach text [] _ _ read (saving.refused reach text r refused) (untaken out out' unwritten) said
   does_save _ _ (saves.unreadable text gives unrefused unwritten) (concluding.quiet _ _ concluding.unreadable same sound) failed kept =
       owing.unreadable text [] gives (unrefused, refl) (untaken out out' unwritten) same
   does_save _ _ (saves.unwritten text image items gives spells is front) (concluding.quiet _ _ concluding.unwritten same sound) failed kept =
-      owing.unwritten text [] image (gives_front left left' text gives) (saving.image_alone image items spells is) (then_front out out' image front) (record { failed = failed refl; unsaid = same; sound = sound })
+      owing.unwritten text [] image (gives_front left left' text gives) (saving.image_alone image items spells is) (then_front out out' image front)
+      (record { failed = failed refl; unsaid = same; sound = sound })
   does_save _ _ (saves.wanting text image items gives spells is front) (concluding.quiet _ _ concluding.wanting same sound) failed kept =
       owing.wanting text [] image (gives_front left left' text gives) (saving.image_alone image items spells is) (then_front out out' image front) same
   does_save _ _ (saves.wanting_early text gives unwritten) (concluding.quiet _ _ concluding.wanting same sound) failed kept =

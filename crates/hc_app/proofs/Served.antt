@@ -10,7 +10,8 @@ use Rattle.hc_app.specs.{declared.status.Status.{Status}, Serving.{IsServedAs, S
 use Rattle.hc_app.specs.declared.status.Status.TheVariants as status
 use Rattle.hc_app.specs.Serving as serving
 
-pub fresh_served : (old new : Option Log) (listen from : Address) → Reports old new (with_binding (Some listen) (Some from)) → IfSome old origin.IsFresh → IfSome new IsFresh
+pub fresh_served : (old new : Option Log) (listen from : Address) → Reports old new (with_binding (Some listen) (Some from)) → IfSome old origin.IsFresh →
+    IfSome new IsFresh
 fresh_served None new listen from reports fresh = subst (λ (o : Option Log). IfSome o IsFresh) (sym reports) tt
 fresh_served (Some log) new listen from reports fresh =
     subst (λ (o : Option Log). IfSome o IsFresh) (sym reports) (record { calls = fresh.uncalled; dialled = fresh.undialled; takers = fresh.untaken })
@@ -45,6 +46,7 @@ sink_off _ _ unwired off = λ is. cc
 sink_off _ _ unwritten off = λ is. off refl
 sink_off _ _ wanting off = λ is. cc
 
-pub unbound_serves : (listen from : Address) (turns : ℕ) (reported reported' : Option Log) (out out' : Option (List ℕ)) (e : WireError) → reported' ≡ reported → out' ≡ out → ServesFrom listen from turns reported reported' out out' (unbound_as e)
+pub unbound_serves : (listen from : Address) (turns : ℕ) (reported reported' : Option Log) (out out' : Option (List ℕ)) (e : WireError) →
+    reported' ≡ reported → out' ≡ out → ServesFrom listen from turns reported reported' out out' (unbound_as e)
 unbound_serves listen from turns reported reported' out out' wire.WireFailed same kept = serving.unbound same kept
 unbound_serves listen from turns reported reported' out out' wire.NoMemory same kept = serving.wanting_all same kept

@@ -17,7 +17,8 @@ one_of [] word one is = absurd (omega (arith, one))
 one_of (first ∷ []) word one is = ap (λ (w : String Global). w ∷ []) is
 one_of (first ∷ second ∷ more) word one is = absurd (omega (arith, one))
 
-pub three_of : (words : List (String Global)) (a b c : String Global) → length words ≡ 3 → a ≡ get_or words 0 a → b ≡ get_or words 1 b → c ≡ get_or words 2 c → a ∷ b ∷ c ∷ [] ≡ words
+pub three_of : (words : List (String Global)) (a b c : String Global) → length words ≡ 3 → a ≡ get_or words 0 a → b ≡ get_or words 1 b →
+    c ≡ get_or words 2 c → a ∷ b ∷ c ∷ [] ≡ words
 three_of [] a b c three a_is b_is c_is = absurd (omega (arith, three))
 three_of (x ∷ []) a b c three a_is b_is c_is = absurd (omega (arith, three))
 three_of (x ∷ y ∷ []) a b c three a_is b_is c_is = absurd (omega (arith, three))
@@ -63,21 +64,28 @@ is_open word is = reopen (ap (λ (w : List ℕ). w ∷ []) (same_text word (code
 pub is_conditional : (word : List ℕ) → bytes_eq word (codes "conditional") ≡ true → IsCommand (word ∷ []) command.Conditional
 is_conditional word is = conditional (ap (λ (w : List ℕ). w ∷ []) (same_text word (codes "conditional") is))
 
-pub no_word : (word : List ℕ) → bytes_eq word (codes "replay") ≡ false → bytes_eq word (codes "save") ≡ false → bytes_eq word (codes "open") ≡ false → bytes_eq word (codes "conditional") ≡ false → IsNoCommand (word ∷ [])
+pub no_word : (word : List ℕ) → bytes_eq word (codes "replay") ≡ false → bytes_eq word (codes "save") ≡ false → bytes_eq word (codes "open") ≡ false →
+    bytes_eq word (codes "conditional") ≡ false → IsNoCommand (word ∷ [])
 no_word word off_replay off_save off_open off_conditional _ (replay is) = other_text word (codes "replay") off_replay (head_of word (codes "replay") [] [] is)
 no_word word off_replay off_save off_open off_conditional _ (save is) = other_text word (codes "save") off_save (head_of word (codes "save") [] [] is)
 no_word word off_replay off_save off_open off_conditional _ (reopen is) = other_text word (codes "open") off_open (head_of word (codes "open") [] [] is)
-no_word word off_replay off_save off_open off_conditional _ (conditional is) = other_text word (codes "conditional") off_conditional (head_of word (codes "conditional") [] [] is)
-no_word word off_replay off_save off_open off_conditional _ (generate first second seed count is first_is second_is few) = absurd (let never : 1 ≡ 3 = ap length is in cc)
-no_word word off_replay off_save off_open off_conditional _ (origin first second listen turns is first_is second_is) = absurd (let never : 1 ≡ 3 = ap length is in cc)
-no_word word off_replay off_save off_open off_conditional _ (serve first second third listen from turns is first_is second_is third_is) = absurd (let never : 1 ≡ 4 = ap length is in cc)
+no_word word off_replay off_save off_open off_conditional _ (conditional is) =
+    other_text word (codes "conditional") off_conditional (head_of word (codes "conditional") [] [] is)
+no_word word off_replay off_save off_open off_conditional _ (generate first second seed count is first_is second_is few) =
+    absurd (let never : 1 ≡ 3 = ap length is in cc)
+no_word word off_replay off_save off_open off_conditional _ (origin first second listen turns is first_is second_is) =
+    absurd (let never : 1 ≡ 3 = ap length is in cc)
+no_word word off_replay off_save off_open off_conditional _ (serve first second third listen from turns is first_is second_is third_is) =
+    absurd (let never : 1 ≡ 4 = ap length is in cc)
 
 module _ (word first second : List ℕ) where
   abbrev words : List (List ℕ)
   words = word ∷ first ∷ second ∷ []
 
-  pub is_generation : (seed count : ℕ) → bytes_eq word (codes "generate") ≡ true → IsPlain first seed → IsPlain second count → count ≤ 1000000 → IsCommand words (command.Generate seed count)
-  is_generation seed count is first_is second_is few = generate first second seed count (ap (λ (w : List ℕ). w ∷ first ∷ second ∷ []) (same_text word (codes "generate") is)) first_is second_is few
+  pub is_generation : (seed count : ℕ) → bytes_eq word (codes "generate") ≡ true → IsPlain first seed → IsPlain second count → count ≤ 1000000 →
+      IsCommand words (command.Generate seed count)
+  is_generation seed count is first_is second_is few =
+      generate first second seed count (ap (λ (w : List ℕ). w ∷ first ∷ second ∷ []) (same_text word (codes "generate") is)) first_is second_is few
 
   -- what a generation would say
   pub no_generation : ((seed count : ℕ) → word ≡ codes "generate" → IsPlain first seed → IsPlain second count → count ≤ 1000000 → ⊥) → IsNoGeneration words
@@ -90,10 +98,14 @@ module _ (word first second : List ℕ) where
   other_word off = no_generation (λ seed count is one_is two_is few. other_text word (codes "generate") off is)
 
   pub too_many : (n : ℕ) → IsPlain second n → 1000000 < n → IsNoGeneration words
-  too_many n plain more = no_generation (λ seed count is one_is two_is few. let same = decimal_injective count n (omega (arith, two_is.0)) (omega (arith, plain.0)) (sym two_is.1 ∙ plain.1) in omega arith)
+  too_many n plain more = no_generation
+      (λ seed count is one_is two_is few. let same =
+      decimal_injective count n (omega (arith, two_is.0)) (omega (arith, plain.0)) (sym two_is.1 ∙ plain.1) in omega arith)
 
-  pub is_origin : (listen : Address) (turns : ℕ) → bytes_eq word (codes "origin") ≡ true → IsAddress first listen → IsPlain second turns → IsCommand words (command.Origin listen turns)
-  is_origin listen turns is first_is second_is = origin first second listen turns (ap (λ (w : List ℕ). w ∷ first ∷ second ∷ []) (same_text word (codes "origin") is)) first_is second_is
+  pub is_origin : (listen : Address) (turns : ℕ) → bytes_eq word (codes "origin") ≡ true → IsAddress first listen → IsPlain second turns →
+      IsCommand words (command.Origin listen turns)
+  is_origin listen turns is first_is second_is = origin
+      first second listen turns (ap (λ (w : List ℕ). w ∷ first ∷ second ∷ []) (same_text word (codes "origin") is)) first_is second_is
 
   no_origin : ((listen : Address) (turns : ℕ) → word ≡ codes "origin" → IsAddress first listen → IsPlain second turns → ⊥) → IsNoOrigin words
   no_origin never _ _ (origin one two listen turns is one_is two_is) =
@@ -126,11 +138,14 @@ module _ (word first second third : List ℕ) where
   abbrev four : List (List ℕ)
   four = word ∷ first ∷ second ∷ third ∷ []
 
-  pub is_serving : (listen from : Address) (turns : ℕ) → bytes_eq word (codes "serve") ≡ true → IsAddress first listen → IsAddress second from → IsPlain third turns → IsCommand four (command.Serve listen from turns)
+  pub is_serving : (listen from : Address) (turns : ℕ) → bytes_eq word (codes "serve") ≡ true → IsAddress first listen → IsAddress second from → IsPlain
+      third turns → IsCommand four (command.Serve listen from turns)
   is_serving listen from turns is first_is second_is third_is =
-      serve first second third listen from turns (ap (λ (w : List ℕ). w ∷ first ∷ second ∷ third ∷ []) (same_text word (codes "serve") is)) first_is second_is third_is
+      serve first second third listen from turns (ap (λ (w : List ℕ). w ∷ first ∷ second ∷ third ∷ []) (same_text word (codes "serve") is)) first_is
+      second_is third_is
 
-  no_serving : ((listen from : Address) (turns : ℕ) → word ≡ codes "serve" → IsAddress first listen → IsAddress second from → IsPlain third turns → ⊥) → IsNoCommand four
+  no_serving : ((listen from : Address) (turns : ℕ) → word ≡ codes "serve" → IsAddress first listen → IsAddress second from → IsPlain third turns → ⊥) →
+      IsNoCommand four
   no_serving never _ (replay is) = absurd (let no : 4 ≡ 1 = ap length is in cc)
   no_serving never _ (save is) = absurd (let no : 4 ≡ 1 = ap length is in cc)
   no_serving never _ (reopen is) = absurd (let no : 4 ≡ 1 = ap length is in cc)

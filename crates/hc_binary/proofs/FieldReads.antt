@@ -40,7 +40,8 @@ next_is fs rest at is =
     let parts = cut-position 10 rest at is in
     ap (read_on fs []) (sym parts.whole) ∙ read_line fs [] (take at rest) (drop (at + 1) rest) parts.before
 
-next_cut : (fs : Fields) (rest line after : List ℕ) → cut 10 rest ≡ Some (line, after) → read_on fs [] rest ≡ (line_behind fs line >>= (λ all. read_on all [] after))
+next_cut : (fs : Fields) (rest line after : List ℕ) → cut 10 rest ≡ Some (line, after) →
+    read_on fs [] rest ≡ (line_behind fs line >>= (λ all. read_on all [] after))
 unfolding cut
 next_cut fs rest line after is =
     elim (none_or_some (position (λ x. x == 10) rest)) [

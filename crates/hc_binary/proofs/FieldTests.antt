@@ -50,16 +50,19 @@ are_within fs is =
     record { few = leb-true (length fs) 64 parts.0; small = leb-true (size_of fs) 32768 parts.1 }
 
 -- an allowed field is taken where all are within the limits
-pub with_allowed : (fs : List Pair) (name value : List ℕ) → IsAllowed fs name value → IsWithinLimits (put fs name value) → with_field fs (name, value) ≡ Some (put fs name value)
+pub with_allowed : (fs : List Pair) (name value : List ℕ) → IsAllowed fs name value → IsWithinLimits (put fs name value) →
+    with_field fs (name, value) ≡ Some (put fs name value)
 with_allowed fs name value allowed within =
     let token = allowed.is_name in
     let some : nat_le 1 (length name) ≡ true = le-leb 1 (length name) (omega (arith, token.0)) in
     let name_is = and_from (nat_le 1 (length name)) (list_all is_token_byte name) some (list_all-from_AllPass is_token_byte name token.1) in
     let both = and_from (nat_le 1 (length name) && list_all is_token_byte name) (is_own_value value) name_is allowed.is_value in
-    let is = and_from ((nat_le 1 (length name) && list_all is_token_byte name) && is_own_value value) (nat_le (length value) 8192) both (le-leb (length value) 8192 allowed.is_short) in
+    let is = and_from ((nat_le 1 (length name) && list_all is_token_byte name) && is_own_value value) (nat_le (length value) 8192) both
+    (le-leb (length value) 8192 allowed.is_short) in
     let few = and_from (nat_le (length (put fs name value)) 64) (nat_le (size_of (put fs name value)) 32768)
     (le-leb (length (put fs name value)) 64 within.few) (le-leb (size_of (put fs name value)) 32768 within.small) in
-    some_if (is_field (name, value) && are_within_limits (put fs name value)) (put fs name value) (and_from (is_field (name, value)) (are_within_limits (put fs name value)) is few)
+    some_if (is_field (name, value) && are_within_limits (put fs name value)) (put fs name value)
+    (and_from (is_field (name, value)) (are_within_limits (put fs name value)) is few)
 
 -- past the limits none is
 pub with_beyond : (fs : List Pair) (name value : List ℕ) → (IsWithinLimits (put fs name value) → ⊥) → with_field fs (name, value) ≡ None

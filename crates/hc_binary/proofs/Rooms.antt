@@ -4,7 +4,8 @@ use borrow.Rule.Slice.PartMut.{put_mid, post_of, same_len_mid}
 use Rattle.hc_fields.specs.Lines.{field_text, fields_text}
 use Rattle.hc_binary.specs.Copies.{HoldsPrefix, Puts}
 
-pub puts_then : (old middle new : List ℕ) (at between n : ℕ) (bytes more : List ℕ) → Puts old at bytes middle between → Puts middle between more new n → Puts old at (bytes ++ more) new n
+pub puts_then : (old middle new : List ℕ) (at between n : ℕ) (bytes more : List ℕ) → Puts old at bytes middle between → Puts middle between more new n →
+    Puts old at (bytes ++ more) new n
 puts_then old middle new at between n bytes more first then = record {
   room = then.room ∙ first.room;
   holds = λ text h. let both = then.holds (text ++ bytes) (first.holds text h) in rw (append_assoc text bytes more) at both;
@@ -14,7 +15,8 @@ pub puts_none : (room : List ℕ) (at : ℕ) → Puts room at [] room at
 puts_none room at = record { room = refl; holds = λ text h. rw (append-nil text) h }
 
 -- a text that ends at a place, or where nothing is taken behind it
-front_of : (text bytes : List ℕ) (at n : ℕ) → at ≤ length text → n ≤ length bytes → (at < length text → n ≡ 0) → take (at + n) (text ++ bytes) ≡ take at text ++ take n bytes
+front_of : (text bytes : List ℕ) (at n : ℕ) → at ≤ length text → n ≤ length bytes → (at < length text → n ≡ 0) →
+    take (at + n) (text ++ bytes) ≡ take at text ++ take n bytes
 front_of text bytes at n within fits ends =
     elim (cases_lt at (length text)) [
       | inl below ↦
@@ -27,7 +29,8 @@ front_of text bytes at n within fits ends =
           let parts = length-append text (take n bytes) in
           let count = length-take-le n bytes fits in
           omega (arith, parts, count, within, past) in
-          let whole : (text ++ take n bytes) ++ drop n bytes ≡ text ++ bytes = append_assoc text (take n bytes) (drop n bytes) ∙ ap (λ (l : List ℕ). text ++ l) (take-append-drop n bytes) in
+          let whole : (text ++ take n bytes) ++ drop n bytes ≡ text ++ bytes = append_assoc text (take n bytes) (drop n bytes) ∙
+          ap (λ (l : List ℕ). text ++ l) (take-append-drop n bytes) in
           ap (take (at + n)) (sym whole) ∙ (take_at (text ++ take n bytes) (drop n bytes) (at + n) len ∙ ap (λ (l : List ℕ). l ++ take n bytes) (sym all))
     ]
 
@@ -60,7 +63,8 @@ texts-append : (fs gs : List (List ℕ × List ℕ)) → fields_text (fs ++ gs) 
 texts-append [] gs = refl
 texts-append (f ∷ fs) gs = ap (λ (l : List ℕ). field_text f ++ l) (texts-append fs gs) ∙ sym (append_assoc (field_text f) (fields_text fs) (fields_text gs))
 
-texts-more : (fs : List (List ℕ × List ℕ)) (i : ℕ) (f : List ℕ × List ℕ) → slice_get fs i ≡ Some f → fields_text (take (i + 1) fs) ≡ fields_text (take i fs) ++ field_text f
+texts-more : (fs : List (List ℕ × List ℕ)) (i : ℕ) (f : List ℕ × List ℕ) → slice_get fs i ≡ Some f →
+    fields_text (take (i + 1) fs) ≡ fields_text (take i fs) ++ field_text f
 texts-more fs i f is =
     let more : take (i + 1) fs ≡ take i fs ++ f ∷ [] = rw (get_or_from_slice_get fs i f f is) at (take_more fs i f (slice_get_within fs i f is)) in
     ap fields_text more ∙ (texts-append (take i fs) (f ∷ []) ∙ ap (λ (l : List ℕ). fields_text (take i fs) ++ l) (append-nil (field_text f)))
@@ -71,7 +75,8 @@ pub lines_more : (old middle new : List ℕ) (at between n : ℕ) (fs : List (Li
 lines_more old middle new at between n fs i f is first then =
     rw (texts-more fs i f is) (puts_then old middle new at between n (fields_text (take i fs)) (field_text f) first then)
 
-pub lines_all : (old new : List ℕ) (at n : ℕ) (fs : List (List ℕ × List ℕ)) (i : ℕ) → length fs ≤ i → Puts old at (fields_text (take i fs)) new n → Puts old at (fields_text fs) new n
+pub lines_all : (old new : List ℕ) (at n : ℕ) (fs : List (List ℕ × List ℕ)) (i : ℕ) → length fs ≤ i → Puts old at (fields_text (take i fs)) new n →
+    Puts old at (fields_text fs) new n
 lines_all old new at n fs i past h = rw (take_all i fs past) at h
 
 -- from the beginning of a room

@@ -52,7 +52,8 @@ fn read_line(fields: &mut Fields, line: &[u8]) -> Result<(), CallRefusal>
 /// The fields whose lines the text is.
 pub(crate) fn read_fields(alloc: Global, text: &[u8]) -> Result<Fields, CallRefusal>
     ensures value { MatchResult result (λ fields. fields_of text.now ≡ Some fields)
-        (λ e. e ≢ CallRefusal.NoMemory → (e ≡ CallRefusal.BadFields) × (fields_of text.now ≡ None)) }
+        (λ e. e ≢ CallRefusal.NoMemory
+        → (e ≡ CallRefusal.BadFields) × (fields_of text.now ≡ None)) }
     ensures within_limits { IfOk result (λ fields. IsWithinLimits fields) }
 {
     let mut fields = Fields::new(alloc)?;

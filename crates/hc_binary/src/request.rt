@@ -69,7 +69,11 @@ pub(crate) fn read_key(alloc: Global, target: &[u8]) -> Result<Key, CallRefusal>
 }
 
 /// The request, which loads so.
-pub(crate) fn read_request(alloc: Global, asked: Asked<'_>, load: Load) -> Result<Request, CallRefusal>
+pub(crate) fn read_request(
+    alloc: Global,
+    asked: Asked<'_>,
+    load: Load,
+) -> Result<Request, CallRefusal>
     ensures made { Makes (request_made asked.entry.method.now load asked.entry.target.now
         asked.entry.fields.now) result }
     ensures target { IfOk result (λ request. is_target request.key ≡ true) }
@@ -80,7 +84,10 @@ pub(crate) fn read_request(alloc: Global, asked: Asked<'_>, load: Load) -> Resul
     }
     let key = read_key(alloc, asked.target)?;
     let fields = read_fields(alloc, asked.fields)?;
-    let bytes = asked.method.to_vec(alloc).map_err(|_| CallRefusal::NoMemory)?;
+    let bytes = asked
+        .method
+        .to_vec(alloc)
+        .map_err(|_| CallRefusal::NoMemory)?;
     Ok(Request {
         method: MethodName { bytes },
         key,

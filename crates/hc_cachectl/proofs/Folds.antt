@@ -8,7 +8,8 @@ with_elements-append found [] ys = refl
 with_elements-append found (x ∷ xs) ys = with_elements-append (with_element found x) xs ys
 
 -- the elements of one more value
-pub one_more : (found next : Found) (values : List (List ℕ)) (i : ℕ) (value : List ℕ) → slice_get values i ≡ Some value → next ≡ with_elements found (elements value)
+pub one_more : (found next : Found) (values : List (List ℕ)) (i : ℕ) (value : List ℕ) → slice_get values i ≡ Some value →
+    next ≡ with_elements found (elements value)
     → with_elements next (flat_map elements (drop (i + 1) values)) ≡ with_elements found (flat_map elements (drop i values))
 one_more found next values i value is next_is =
     let later = flat_map elements (drop (i + 1) values) in
@@ -19,7 +20,8 @@ one_more found next values i value is next_is =
 abbrev first : List ℕ → List (List ℕ) → Option Argument
 first name es = option_map argument_in (find (is_directive name) es)
 
-first-more : (name e : List ℕ) (es : List (List ℕ)) (found : Option Argument) → option_or (option_or found (directive_argument name e)) (first name es) ≡ option_or found (first name (e ∷ es))
+first-more : (name e : List ℕ) (es : List (List ℕ)) (found : Option Argument) →
+    option_or (option_or found (directive_argument name e)) (first name es) ≡ option_or found (first name (e ∷ es))
 first-more name e es None = elim (cases_Bool (is_directive name e)) [
   | inl passes ↦ rw passes refl
   | inr fails ↦ rw fails refl
@@ -44,7 +46,15 @@ option_or-none (Some a) = refl
 
 folded : (found : Found) (es : List (List ℕ)) → with_elements found es ≡ with_firsts found es
 folded found [] =
-    rw (option_or-none found.max_age, option_or-none found.min_fresh, option_or-none found.max_stale, or-false found.no_store, or-false found.no_cache, or-false found.must_revalidate, or-false found.only_if_cached) refl
+    rw (
+      option_or-none found.max_age,
+      option_or-none found.min_fresh,
+      option_or-none found.max_stale,
+      or-false found.no_store,
+      or-false found.no_cache,
+      or-false found.must_revalidate,
+      or-false found.only_if_cached,
+    ) refl
 folded found (e ∷ es) =
     let more : with_firsts (with_element found e) es ≡ with_firsts found (e ∷ es) =
     rw (

@@ -16,7 +16,8 @@ seconds_after seconds (d ∷ ds) = if is_ascii_digit d then seconds_after (Some 
 abbrev reported : ℕ → List ℕ → Option ℕ
 reported n ds = if list_all is_ascii_digit ds then Some (min (digits_value_after 10 n ds) most_seconds) else None
 
-capped-digit : (n : ℕ) (s : Option ℕ) (d : ℕ) (ds : List ℕ) (b : Bool) → is_ascii_digit d ≡ b → seconds_after (Some (more s d)) ds ≡ reported (n * 10 + digit_value d) ds → seconds_after s (d ∷ ds) ≡ reported n (d ∷ ds)
+capped-digit : (n : ℕ) (s : Option ℕ) (d : ℕ) (ds : List ℕ) (b : Bool) → is_ascii_digit d ≡ b →
+    seconds_after (Some (more s d)) ds ≡ reported (n * 10 + digit_value d) ds → seconds_after s (d ∷ ds) ≡ reported n (d ∷ ds)
 capped-digit n s d ds true digit later = rw digit later
 capped-digit n s d ds false digit later = rw digit refl
 
@@ -42,11 +43,13 @@ pub quoted_is : (text : List ℕ) → quoted_after None text ≡ option_and_then
 quoted_is text = said_is (quoted_content text)
 
 -- a byte that is said
-said-digit : (seconds : Option ℕ) (d : ℕ) (text : Option (List ℕ)) → is_ascii_digit d ≡ true → option_and_then (seconds_after seconds) (option_map (λ ds. d ∷ ds) text) ≡ option_and_then (seconds_after (Some (more seconds d))) text
+said-digit : (seconds : Option ℕ) (d : ℕ) (text : Option (List ℕ)) → is_ascii_digit d ≡ true → option_and_then
+    (seconds_after seconds) (option_map (λ ds. d ∷ ds) text) ≡ option_and_then (seconds_after (Some (more seconds d))) text
 said-digit seconds d None digit = refl
 said-digit seconds d (Some ds) digit = rw digit refl
 
-said-other : (seconds : Option ℕ) (d : ℕ) (text : Option (List ℕ)) → is_ascii_digit d ≡ false → option_and_then (seconds_after seconds) (option_map (λ ds. d ∷ ds) text) ≡ None
+said-other : (seconds : Option ℕ) (d : ℕ) (text : Option (List ℕ)) → is_ascii_digit d ≡ false → option_and_then
+    (seconds_after seconds) (option_map (λ ds. d ∷ ds) text) ≡ None
 said-other seconds d None digit = refl
 said-other seconds d (Some ds) digit = rw digit refl
 
@@ -58,23 +61,29 @@ abbrev pub SaysNext : List ℕ → ℕ → ℕ → Type 0
 SaysNext text i at = ((get_or text i 0 ≡ backslash) × (at ≡ i + 1)) ⊎ ((get_or text i 0 ≢ backslash) × (at ≡ i))
 
 module _ (seconds : Option ℕ) (text : List ℕ) (i at : ℕ) (lt : i + 1 < length text) (no_end : get_or text i 0 ≢ quote) where
-  pub next_digit : SaysNext text i at → is_ascii_digit (get_or text at 0) ≡ true → quoted_after seconds (drop i text) ≡ quoted_after (Some (more seconds (get_or text at 0))) (drop (at + 1) text)
+  pub next_digit : SaysNext text i at → is_ascii_digit (get_or text at 0) ≡ true →
+      quoted_after seconds (drop i text) ≡ quoted_after (Some (more seconds (get_or text at 0))) (drop (at + 1) text)
   next_digit (inl taken) digit =
-      rw (taken.1, front text i lt, ne_eqb (get_or text i 0) quote no_end, taken.0) (said-digit seconds (get_or text (i + 1) 0) (quoted_content (drop (i + 1 + 1) text)) (rw (← taken.1) digit))
+      rw (taken.1, front text i lt, ne_eqb (get_or text i 0) quote no_end, taken.0)
+      (said-digit seconds (get_or text (i + 1) 0) (quoted_content (drop (i + 1 + 1) text)) (rw (← taken.1) digit))
   next_digit (inr plain) digit =
-      rw (plain.1, front text i lt, ne_eqb (get_or text i 0) quote no_end, ne_eqb (get_or text i 0) backslash plain.0, drop_more text (i + 1) 0 lt) (said-digit seconds (get_or text i 0) (quoted_content (get_or text (i + 1) 0 ∷ drop (i + 1 + 1) text)) (rw (← plain.1) digit))
+      rw (plain.1, front text i lt, ne_eqb (get_or text i 0) quote no_end, ne_eqb (get_or text i 0) backslash plain.0, drop_more text (i + 1) 0 lt)
+      (said-digit seconds (get_or text i 0) (quoted_content (get_or text (i + 1) 0 ∷ drop (i + 1 + 1) text)) (rw (← plain.1) digit))
 
   pub next_other : SaysNext text i at → is_ascii_digit (get_or text at 0) ≡ false → quoted_after seconds (drop i text) ≡ None
   next_other (inl taken) digit =
-      rw (front text i lt, ne_eqb (get_or text i 0) quote no_end, taken.0) (said-other seconds (get_or text (i + 1) 0) (quoted_content (drop (i + 1 + 1) text)) (rw (← taken.1) digit))
+      rw (front text i lt, ne_eqb (get_or text i 0) quote no_end, taken.0)
+      (said-other seconds (get_or text (i + 1) 0) (quoted_content (drop (i + 1 + 1) text)) (rw (← taken.1) digit))
   next_other (inr plain) digit =
-      rw (front text i lt, ne_eqb (get_or text i 0) quote no_end, ne_eqb (get_or text i 0) backslash plain.0) (said-other seconds (get_or text i 0) (quoted_content (get_or text (i + 1) 0 ∷ drop (i + 1 + 1) text)) (rw (← plain.1) digit))
+      rw (front text i lt, ne_eqb (get_or text i 0) quote no_end, ne_eqb (get_or text i 0) backslash plain.0)
+      (said-other seconds (get_or text i 0) (quoted_content (get_or text (i + 1) 0 ∷ drop (i + 1 + 1) text)) (rw (← plain.1) digit))
 
 pub closed_early : (seconds : Option ℕ) (text : List ℕ) (i : ℕ) → i + 1 < length text → get_or text i 0 ≡ quote → quoted_after seconds (drop i text) ≡ None
 closed_early seconds text i lt is = rw (front text i lt, is) refl
 
 -- one byte that is left, or none
-pub never_closed : (seconds : Option ℕ) (text : List ℕ) (i : ℕ) → length text ≤ i + 1 → (i + 1 ≡ length text → get_or text i 0 ≢ quote) → quoted_after seconds (drop i text) ≡ None
+pub never_closed : (seconds : Option ℕ) (text : List ℕ) (i : ℕ) → length text ≤ i + 1 → (i + 1 ≡ length text → get_or text i 0 ≢ quote) →
+    quoted_after seconds (drop i text) ≡ None
 never_closed seconds text i le ne = elim (cases_lt i (length text)) [
   | inl lt ↦ rw (drop_more text i 0 lt, drop_all (i + 1) text le, ne_eqb (get_or text i 0) quote (ne (omega arith))) refl
   | inr past ↦ rw (drop_all i text past) refl

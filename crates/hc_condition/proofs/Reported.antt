@@ -29,12 +29,14 @@ any_leaves c (act.Evicted r ∷ acts) = any_leaves c acts
 any_leaves c (act.Denied refusal ∷ acts) = any_leaves c acts
 
 -- one more act is told
-pub reported_more : (f : Act → Act) (out new : List Act) (a reported : Act) (left whole : List Act) → new ≡ out ++ reported ∷ [] → reported ≡ f a → out ++ map f (a ∷ left) ≡ whole → new ++ map f left ≡ whole
+pub reported_more : (f : Act → Act) (out new : List Act) (a reported : Act) (left whole : List Act) → new ≡ out ++ reported ∷ [] → reported ≡ f a → out ++
+    map f (a ∷ left) ≡ whole → new ++ map f left ≡ whole
 reported_more f out new a reported left whole pushed is before =
     ap (λ (l : List Act). l ++ map f left) pushed ∙ append_assoc out (reported ∷ []) (map f left) ∙ ap (λ (t : Act). out ++ t ∷ map f left) is ∙ before
 
 -- it is found among one more
-pub found_more : (g : Act → Bool) (b x now : Bool) (a : Act) (left : List Act) (whole : Bool) → now ≡ (b || x) → x ≡ g a → (b || list_any g (a ∷ left)) ≡ whole → (now || list_any g left) ≡ whole
+pub found_more : (g : Act → Bool) (b x now : Bool) (a : Act) (left : List Act) (whole : Bool) → now ≡ (b || x) → x ≡ g a →
+    (b || list_any g (a ∷ left)) ≡ whole → (now || list_any g left) ≡ whole
 found_more g true x now a left whole is same before = ap (λ (c : Bool). c || list_any g left) is ∙ before
 found_more g false x now a left whole is same before = ap (λ (c : Bool). c || list_any g left) (is ∙ same) ∙ before
 
@@ -46,10 +48,12 @@ unreported fields = filter (λ (f : List ℕ × List ℕ). not (is_reported f)) 
 abbrev pub left_reported : ℕ → FieldPairs → FieldPairs → FieldPairs
 left_reported i fields kept = left_by (unreported (drop i fields)) kept
 
-pub unreported-more : (from : FieldPairs) (i : ℕ) (g : List ℕ × List ℕ) → slice_get from i ≡ Some g → is_reported g ≡ false → unreported (drop i from) ≡ g ∷ unreported (drop (i + 1) from)
+pub unreported-more : (from : FieldPairs) (i : ℕ) (g : List ℕ × List ℕ) → slice_get from i ≡ Some g → is_reported g ≡ false →
+    unreported (drop i from) ≡ g ∷ unreported (drop (i + 1) from)
 unreported-more from i g is other = rw (drop_more from i g (slice_get_within from i g is), get_or_from_slice_get from i g g is, other) refl
 
-pub unreported-reported : (from : FieldPairs) (i : ℕ) (g : List ℕ × List ℕ) → slice_get from i ≡ Some g → is_reported g ≡ true → unreported (drop i from) ≡ unreported (drop (i + 1) from)
+pub unreported-reported : (from : FieldPairs) (i : ℕ) (g : List ℕ × List ℕ) → slice_get from i ≡ Some g → is_reported g ≡ true →
+    unreported (drop i from) ≡ unreported (drop (i + 1) from)
 unreported-reported from i g is reported = rw (drop_more from i g (slice_get_within from i g is), get_or_from_slice_get from i g g is, reported) refl
 
 -- each of the fields that isn't told has its name among the others
@@ -82,7 +86,8 @@ marks_all (f ∷ fields) = marks_first f fields (marks_all fields)
 reported_alike : (f g : List ℕ × List ℕ) → f.0 ≡ g.0 → is_reported f ≡ is_reported g
 reported_alike f g same = ap (λ (n : List ℕ). list_any (bytes_eq n) names_of_304) same
 
-apart_more : (f g : List ℕ × List ℕ) (fields : FieldPairs) → is_reported f ≡ true → is_renewed (unreported fields) f ≡ false → is_renewed (unreported (g ∷ fields)) f ≡ false
+apart_more : (f g : List ℕ × List ℕ) (fields : FieldPairs) → is_reported f ≡ true → is_renewed (unreported fields) f ≡ false →
+    is_renewed (unreported (g ∷ fields)) f ≡ false
 apart_more f g fields reported rest = elim (cases_Bool (is_reported g)) [
   | inl is ↦ rw is rest
   | inr off ↦ rw off (by_name (has_name g.0 f) refl off)

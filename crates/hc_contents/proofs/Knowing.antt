@@ -16,13 +16,15 @@ drop_append zero xs ys le = refl
 drop_append (suc i) [] ys le = absurd (let no_such : suc i ≤ 0 = le in omega arith)
 drop_append (suc i) (x ∷ xs) ys le = drop_append i xs ys (omega arith)
 
-module _ (last now : ℕ → Option ℕ) (items : List Content) (item : Content) (reports : KnowsLast last items) (updates : (x : ℕ) → now x ≡ cond (nat_eq item.r x) (Some (length items)) (last x)) where
+module _ (last now : ℕ → Option ℕ) (items : List Content) (item : Content) (reports : KnowsLast last items)
+    (updates : (x : ℕ) → now x ≡ cond (nat_eq item.r x) (Some (length items)) (last x)) where
   one_more : length (items ++ item ∷ []) ≡ length items + 1
   one_more = length-append items (item ∷ []) ∙ refl
 
   -- no place is behind the last
   below : (x : ℕ) → is_from (length items) (last x) ≡ false
-  below x = let none : drop (length items) items ≡ [] = drop_all (length items) items (omega arith) in reports x (length items) (omega arith) ∙ ap (list_any (λ (other : Content). other.r == x)) none
+  below x = let none : drop (length items) items ≡ [] = drop_all (length items) items (omega arith) in reports x (length items) (omega arith) ∙
+      ap (list_any (λ (other : Content). other.r == x)) none
 
   still : (x : ℕ) (o : Option ℕ) → is_from (length items) o ≡ false → is_from (length items + 1) o ≡ false
   still x None off = refl
@@ -32,8 +34,10 @@ module _ (last now : ℕ → Option ℕ) (items : List Content) (item : Content)
   at_end x true is = grind (arith, nat_tests)
   at_end x false is = still x (last x) (below x)
 
-  inside : (x i : ℕ) (b : Bool) → i ≤ length items → nat_eq item.r x ≡ b → is_from i (cond b (Some (length items)) (last x)) ≡ (list_any (λ (other : Content). other.r == x) (drop i items) || (b || false))
-  inside x i true le is = (let there : nat_le i (length items) ≡ true = grind (arith, nat_tests) in there) ∙ or_true (list_any (λ (other : Content). other.r == x) (drop i items))
+  inside : (x i : ℕ) (b : Bool) → i ≤ length items → nat_eq item.r x ≡ b →
+      is_from i (cond b (Some (length items)) (last x)) ≡ (list_any (λ (other : Content). other.r == x) (drop i items) || (b || false))
+  inside x i true le is = (let there : nat_le i (length items) ≡ true = grind (arith, nat_tests) in there) ∙
+      or_true (list_any (λ (other : Content). other.r == x) (drop i items))
     where
       or_true : (b : Bool) → true ≡ (b || true)
       or_true true = refl
@@ -59,7 +63,8 @@ module _ (last now : ℕ → Option ℕ) (items : List Content) (item : Content)
 -- AT EACH ITEM
 
 -- as far as the next item
-pub take_reported : (items : List coded.Content) (i : ℕ) (item : coded.Content) → i < length items → item ≡ get_or items i item → take (suc i) (map plain_item items) ≡ take i (map plain_item items) ++ plain_item item ∷ []
+pub take_reported : (items : List coded.Content) (i : ℕ) (item : coded.Content) → i < length items → item ≡ get_or items i item →
+    take (suc i) (map plain_item items) ≡ take i (map plain_item items) ++ plain_item item ∷ []
 take_reported [] i item lt is = absurd (let none : i < 0 = lt in omega arith)
 take_reported (x ∷ xs) zero item lt is = ap (λ (y : coded.Content). plain_item y ∷ []) (sym is)
 take_reported (x ∷ xs) (suc i) item lt is = ap (λ (ys : List Content). plain_item x ∷ ys) (take_reported xs i item (omega arith) is)
@@ -67,17 +72,23 @@ take_reported (x ∷ xs) (suc i) item lt is = ap (λ (ys : List Content). plain_
 pub reports_none : (last : ℕ → Option ℕ) → ((x : ℕ) → last x ≡ None) → KnowsLast last []
 reports_none last none x i le = rw (none x) (ap (list_any (λ (other : Content). other.r == x)) (sym (drop_all i [] (omega arith))))
 
-pub reports_next : (last now : ℕ → Option ℕ) (items : List coded.Content) (i : ℕ) (item : coded.Content) → i < length items → item ≡ get_or items i item → KnowsLast last (take i (map plain_item items))
+pub reports_next : (last now : ℕ → Option ℕ) (items : List coded.Content) (i : ℕ) (item : coded.Content) → i < length items → item ≡ get_or items i item →
+    KnowsLast last (take i (map plain_item items))
     → ((x : ℕ) → now x ≡ cond (nat_eq item.r x) (Some i) (last x)) → KnowsLast now (take (i + 1) (map plain_item items))
 reports_next last now items i item lt is reports updates =
     let next : i + 1 ≡ suc i = omega arith in
     let all : length (map plain_item items) ≡ length items = length-map items plain_item in
-    let count : length (take i (map plain_item items)) ≡ i = (let some : length (take i (map plain_item items)) ≡ min i (length (map plain_item items)) = length-take i (map plain_item items) in omega arith) in
+    let count : length (take i (map plain_item items)) ≡ i =
+    (let some : length (take i (map plain_item items)) ≡ min i (length (map plain_item items)) = length-take i (map plain_item items) in omega arith) in
     subst (KnowsLast now) (sym (ap (λ n. take n (map plain_item items)) next ∙ take_reported items i item lt is))
-    (reports_more last now (take i (map plain_item items)) (plain_item item) reports (λ x. updates x ∙ ap (λ n. cond (nat_eq item.r x) (Some n) (last x)) (sym count)))
+    (reports_more last now (take i (map plain_item items)) (plain_item item) reports
+    (λ x. updates x ∙ ap (λ n. cond (nat_eq item.r x) (Some n) (last x)) (sym count)))
 
-pub reports_all : (last : ℕ → Option ℕ) (items : List coded.Content) (i : ℕ) → length items ≤ i → KnowsLast last (take i (map plain_item items)) → KnowsLast last (map plain_item items)
-reports_all last items i le reports = subst (KnowsLast last) (take_all i (map plain_item items) (let all : length (map plain_item items) ≡ length items = length-map items plain_item in omega arith)) reports
+pub reports_all : (last : ℕ → Option ℕ) (items : List coded.Content) (i : ℕ) → length items ≤ i → KnowsLast last (take i (map plain_item items)) →
+    KnowsLast last (map plain_item items)
+reports_all last items i le reports =
+    subst (KnowsLast last) (take_all i (map plain_item items)
+    (let all : length (map plain_item items) ≡ length items = length-map items plain_item in omega arith)) reports
 
 -- ITS KEY
 
@@ -85,8 +96,10 @@ abbrev is_same : Vec ℕ Global → Vec ℕ Global → Bool
 is_same x y = pointwise nat_eq x.items y.items
 
 -- the set has the key that was put, and those that it had
-pub key_added : {S : Type 0} (old new : HashSet (Vec ℕ Global) S) (put : Vec ℕ Global) (added : Bool) → added ≡ not (contains is_same old put) → PutsKey old new put added
-    → (key : List ℕ) → contains_by (λ (stored : Vec ℕ Global). bytes_eq key stored.items) new ≡ (bytes_eq put.items key || contains_by (λ (stored : Vec ℕ Global). bytes_eq key stored.items) old)
+pub key_added : {S : Type 0} (old new : HashSet (Vec ℕ Global) S) (put : Vec ℕ Global) (added : Bool) → added ≡ not (contains is_same old put) →
+    PutsKey old new put added
+    → (key : List ℕ) → contains_by (λ (stored : Vec ℕ Global). bytes_eq key stored.items)
+    new ≡ (bytes_eq put.items key || contains_by (λ (stored : Vec ℕ Global). bytes_eq key stored.items) old)
 key_added old new put true is puts key =
     sym (list_any-IsPermutation (λ (stored : Vec ℕ Global). bytes_eq key stored.items) (put ∷ old.keys) new.keys puts)
     ∙ ap (λ b. b || list_any (λ (stored : Vec ℕ Global). bytes_eq key stored.items) old.keys) (nat_list_eq_equiv.symm key put.items)

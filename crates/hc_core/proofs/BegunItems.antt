@@ -31,14 +31,16 @@ pub record IsPlaced (runs : List Run) (i : ℕ) (run : Run) : Type 0 where
 pub is_placed : (n x : ℕ) (runs : List Run) (i : ℕ) (run : Run) → ascend_from n x runs ≡ true → i < length runs → run ≡ get_or runs i run → IsPlaced runs i run
 is_placed n x runs i run good lt is = let p = placed n x runs i run good lt is in record { behind = p.1; some = p.2; within = p.3 }
   where
-    placed : (n x : ℕ) (runs : List Run) (i : ℕ) (run : Run) → ascend_from n x runs ≡ true → i < length runs → run ≡ get_or runs i run → (n ≤ run.at) × (last_end (take i runs) ≤ run.at) × (0 < length run.bytes) × (end_of run ≤ last_end runs)
+    placed : (n x : ℕ) (runs : List Run) (i : ℕ) (run : Run) → ascend_from n x runs ≡ true → i < length runs → run ≡ get_or runs i run → (n ≤ run.at) ×
+        (last_end (take i runs) ≤ run.at) × (0 < length run.bytes) × (end_of run ≤ last_end runs)
     placed n x [] i run good lt is = absurd (let none : i < 0 = lt in omega arith)
     placed n x (first ∷ runs) zero run good lt is =
         let low_test : nat_le n first.at ≡ true = and_left _ _ (and_left _ _ (and_left _ _ good)) in
         let some_test : nat_lt 0 (length first.bytes) ≡ true = and_right _ _ (and_left _ _ (and_left _ _ good)) in
         let low : n ≤ first.at = grind (arith, nat_tests) in
         let some : 0 < length first.bytes = grind (arith, nat_tests) in
-        subst (λ (z : Run). (n ≤ z.at) × (0 ≤ z.at) × (0 < length z.bytes) × (end_of z ≤ last_end (first ∷ runs))) (sym is) (low, omega arith, some, omega arith)
+        subst (λ (z : Run). (n ≤ z.at) × (0 ≤ z.at) × (0 < length z.bytes) × (end_of z ≤ last_end (first ∷ runs))) (sym is)
+        (low, omega arith, some, omega arith)
     placed n x (first ∷ runs) (suc i) run good lt is =
         let low_test : nat_le n first.at ≡ true = and_left _ _ (and_left _ _ (and_left _ _ good)) in
         let low : n ≤ first.at = grind (arith, nat_tests) in
@@ -94,8 +96,10 @@ none_put a r size none = record {
 pub still_kept : (a m : Shelf) (r : ℕ) (done : List Run) → is_kept a r ≡ true → ArePut a m r done → is_kept m r ≡ true
 still_kept a m r done there before = grind (arith, nat_tests)
 
-module _ (a m u : Shelf) (r i : ℕ) (runs : List Run) (run : Run) (there : is_kept a r ≡ true) (lt : i < length runs) (is : run ≡ get_or runs i run) (placed : IsPlaced runs i run)
-    (before : ArePut a m r (take i runs)) (puts : Becomes (option_map (kept_with_bytes run.at run.x run.bytes None)) same_order r m u) (used : u.used ≡ m.used + length run.bytes) (faults : u.faults ≡ m.faults) (fits : last_end runs ≤ 2 ^ 62) where
+module _ (a m u : Shelf) (r i : ℕ) (runs : List Run) (run : Run) (there : is_kept a r ≡ true) (lt : i < length runs) (is : run ≡ get_or runs i run)
+    (placed : IsPlaced runs i run)
+    (before : ArePut a m r (take i runs)) (puts : Becomes (option_map (kept_with_bytes run.at run.x run.bytes None)) same_order r m u)
+    (used : u.used ≡ m.used + length run.bytes) (faults : u.faults ≡ m.faults) (fits : last_end runs ≤ 2 ^ 62) where
   abbrev done : List Run
   done = take i runs
 
@@ -127,7 +131,8 @@ module _ (a m u : Shelf) (r i : ℕ) (runs : List Run) (run : Run) (there : is_k
           ∙ twice (kept_with_bytes run.at run.x run.bytes None) (with_runs done) (with_runs (done ++ run ∷ [])) (a.kept r) (runs_more done run)
 
       by_number : (q : ℕ) (b : Bool) → m.kept q ≡ cond b (option_map (with_runs done) (a.kept r)) (a.kept q)
-          → cond b (option_map (kept_with_bytes run.at run.x run.bytes None) (m.kept r)) (m.kept q) ≡ cond b (option_map (with_runs (done ++ run ∷ [])) (a.kept r)) (a.kept q)
+          → cond b (option_map (kept_with_bytes run.at run.x run.bytes None) (m.kept r)) (m.kept q) ≡ cond b
+          (option_map (with_runs (done ++ run ∷ [])) (a.kept r)) (a.kept q)
       by_number q true was = here
       by_number q false was = was
 
@@ -175,14 +180,16 @@ any_reverse test [] = refl
 any_reverse test (x ∷ xs) =
     ap (list_any test) (reverse-append (x ∷ []) xs) ∙ (list_any-append test (reverse xs) (x ∷ []) ∙ (rw (any_reverse test xs) (grind (arith, nat_tests))))
 
-good_from : (limits : Limits) (contents : Contents) (earlier items : List Content) (i : ℕ) (item : Content) → are_good limits contents earlier items ≡ true → i < length items → item ≡ get_or items i item
+good_from : (limits : Limits) (contents : Contents) (earlier items : List Content) (i : ℕ) (item : Content) →
+    are_good limits contents earlier items ≡ true → i < length items → item ≡ get_or items i item
     → is_good limits contents (reverse (take i items) ++ earlier) item (drop (suc i) items) ≡ true
 good_from limits contents earlier [] i item good lt is = absurd (let none : i < 0 = lt in omega arith)
 good_from limits contents earlier (first ∷ items) zero item good lt is =
     subst (λ (z : Content). is_good limits contents earlier z items ≡ true) (sym is) (and_left _ _ good)
 good_from limits contents earlier (first ∷ items) (suc i) item good lt is =
     let rest = good_from limits contents (first ∷ earlier) items i item (and_right _ _ good) (omega arith) is in
-    let same : reverse (first ∷ take i items) ++ earlier ≡ reverse (take i items) ++ first ∷ earlier = ap (λ zs. zs ++ earlier) (reverse-append (first ∷ []) (take i items)) ∙ rw append_assoc refl in
+    let same : reverse (first ∷ take i items) ++ earlier ≡ reverse (take i items) ++ first ∷ earlier =
+    ap (λ zs. zs ++ earlier) (reverse-append (first ∷ []) (take i items)) ∙ rw append_assoc refl in
     subst (λ (zs : List Content). is_good limits contents zs item (drop (suc i) items) ≡ true) (sym same) rest
 
 -- what is known of an item that is good
@@ -193,7 +200,8 @@ pub record IsFit (limits : Limits) (before : List Content) (item : Content) : Ty
   pub small : bytes_in item.runs ≤ limits.max_entry
   pub moments : item.head.requested ≤ item.head.answered
 
-fit_by : (limits : Limits) (contents : Contents) (before : List Content) (item : Content) (later : List Content) → is_good limits contents (reverse before) item later ≡ true → IsFit limits before item
+fit_by : (limits : Limits) (contents : Contents) (before : List Content) (item : Content) (later : List Content) →
+    is_good limits contents (reverse before) item later ≡ true → IsFit limits before item
 fit_by limits contents before item later good =
     let most = and_left _ _ good in
     let upto_kind = and_left _ _ most in
@@ -211,10 +219,12 @@ fit_by limits contents before item later good =
       moments = grind (arith, nat_tests);
     }
 
-module _ (limits : Limits) (contents : Contents) (good : are_good limits contents [] contents.items ≡ true) (i : ℕ) (item : Content) (lt : i < length contents.items) (is : item ≡ get_or contents.items i item) where
+module _ (limits : Limits) (contents : Contents) (good : are_good limits contents [] contents.items ≡ true) (i : ℕ) (item : Content)
+    (lt : i < length contents.items) (is : item ≡ get_or contents.items i item) where
   pub is_fit : IsFit limits (take i contents.items) item
   is_fit = fit_by limits contents (take i contents.items) item (drop (suc i) contents.items)
-      (subst (λ (zs : List Content). is_good limits contents zs item (drop (suc i) contents.items) ≡ true) (append_none (reverse (take i contents.items))) (good_from limits contents [] contents.items i item good lt is))
+      (subst (λ (zs : List Content). is_good limits contents zs item (drop (suc i) contents.items) ≡ true) (append_none (reverse (take i contents.items)))
+      (good_from limits contents [] contents.items i item good lt is))
 
   pub items_more : take (i + 1) contents.items ≡ take i contents.items ++ item ∷ []
   items_more = take_next contents.items i item lt is
@@ -225,7 +235,8 @@ module _ (limits : Limits) (contents : Contents) (good : are_good limits content
       let both = sum_by-append (λ (o : Content). weight_of (bytes_in o.runs)) (take i contents.items) (item ∷ []) in
       grind (arith, nat_tests)
 
-  pub light : nat_le (weights_of contents.items) limits.max_total ≡ true → weights_of (take i contents.items) + weight_of (bytes_in item.runs) ≤ limits.max_total
+  pub light : nat_le (weights_of contents.items) limits.max_total ≡ true →
+      weights_of (take i contents.items) + weight_of (bytes_in item.runs) ≤ limits.max_total
   light test =
       let all : weights_of contents.items ≤ limits.max_total = grind (arith, nat_tests) in
       let some = sum_by-take-le (λ (o : Content). weight_of (bytes_in o.runs)) contents.items (i + 1) in
@@ -247,16 +258,19 @@ pub record AreKept {B : Type 0} {g : Ghosts B} (a u : Rows B g) (contents : Cont
 
 module _ {B : Type 0} {g : Ghosts B} (r : Rows B g) (contents : Contents) where
   -- what has no number there isn't kept
-  pub unkept : (items : List Content) (n : ℕ) → RowsStand (shelf_of r.entries).limits r (first_tables (with_items items contents)) → find (λ (o : Content). o.r == n) items ≡ None → (shelf_of r.entries).kept n ≡ None
+  pub unkept : (items : List Content) (n : ℕ) → RowsStand (shelf_of r.entries).limits r (first_tables (with_items items contents)) →
+      find (λ (o : Content). o.r == n) items ≡ None → (shelf_of r.entries).kept n ≡ None
   unkept items n stands none = grind (arith, nat_tests)
 
   pub none_kept : RowsStand (shelf_of r.entries).limits r (first_tables (with_items [] contents)) → (shelf_of r.entries).used ≡ 0 → AreKept r r contents 0
   none_kept stands used = record { stands = stands; used = used; bounds = refl; faults = refl }
 
   pub all_kept : (u : Rows B g) (i : ℕ) → length contents.items ≤ i → AreKept r u contents i → RowsStand (shelf_of u.entries).limits u (first_tables contents)
-  all_kept u i le k = subst (λ (zs : List Content). RowsStand (shelf_of u.entries).limits u (first_tables (with_items zs contents))) (take_all i contents.items le) k.stands
+  all_kept u i le k = subst (λ (zs : List Content). RowsStand (shelf_of u.entries).limits u (first_tables (with_items zs contents)))
+      (take_all i contents.items le) k.stands
 
-reported_at : (items : List coded.Content) (i : ℕ) (item : coded.Content) → i < length items → item ≡ get_or items i item → plain_item item ≡ get_or (map plain_item items) i (plain_item item)
+reported_at : (items : List coded.Content) (i : ℕ) (item : coded.Content) → i < length items → item ≡ get_or items i item →
+    plain_item item ≡ get_or (map plain_item items) i (plain_item item)
 reported_at [] i item lt is = absurd (let none : i < 0 = lt in omega arith)
 reported_at (x ∷ xs) zero item lt is = ap plain_item is
 reported_at (x ∷ xs) (suc i) item lt is = reported_at xs i item (omega arith) is
@@ -274,7 +288,8 @@ unfolding may_begin
 next_fits limits contents may = grind (arith, nat_tests, and_right, and_left)
 
 -- what the item at a place needs, and what it leaves
-module _ {B : Type 0} {g : Ghosts B} (a r : Rows B g) (contents : coded_all.Contents) (i : ℕ) (item : coded.Content) (lt : i < length contents.items) (is : item ≡ get_or contents.items i item)
+module _ {B : Type 0} {g : Ghosts B} (a r : Rows B g) (contents : coded_all.Contents) (i : ℕ) (item : coded.Content) (lt : i < length contents.items)
+    (is : item ≡ get_or contents.items i item)
     (may : may_begin (shelf_of a.entries).limits (plain_contents contents) ≡ true) (kept : AreKept a r (plain_contents contents) i) where
   abbrev place : i < length (map plain_item contents.items)
   place = longer contents.items i lt
@@ -303,14 +318,21 @@ module _ {B : Type 0} {g : Ghosts B} (a r : Rows B g) (contents : coded_all.Cont
   pub item_light : (shelf_of r.entries).used + weight_of (bytes_in item.runs) ≤ (shelf_of r.entries).limits.max_total
   item_light =
       subst (λ (l : Limits). (shelf_of r.entries).used + weight_of (bytes_in item.runs) ≤ l.max_total) (sym bounds_are)
-      (subst (λ (n : ℕ). n + weight_of (bytes_in item.runs) ≤ (shelf_of a.entries).limits.max_total) (sym kept.used) (light (shelf_of a.entries).limits (plain_contents contents) good i (plain_item item) place at (weight_fits (shelf_of a.entries).limits (plain_contents contents) may)))
+      (subst (λ (n : ℕ). n + weight_of (bytes_in item.runs) ≤ (shelf_of a.entries).limits.max_total) (sym kept.used)
+      (light (shelf_of a.entries).limits (plain_contents contents) good i (plain_item item) place at
+      (weight_fits (shelf_of a.entries).limits (plain_contents contents) may)))
 
-  pub one_more_kept : (u : Rows B g) → KeepsItem r u (plain_item item) → (shelf_of u.entries).used ≡ (shelf_of r.entries).used + weight_of (bytes_in item.runs) → (shelf_of u.entries).faults ≡ (shelf_of r.entries).faults → AreKept a u (plain_contents contents) (i + 1)
+  pub one_more_kept : (u : Rows B g) → KeepsItem r u (plain_item item) →
+      (shelf_of u.entries).used ≡ (shelf_of r.entries).used + weight_of (bytes_in item.runs) → (shelf_of u.entries).faults ≡ (shelf_of r.entries).faults →
+      AreKept a u (plain_contents contents) (i + 1)
   one_more_kept u keeps used faults = record {
     stands =
-        subst (λ (zs : List Content). RowsStand (shelf_of u.entries).limits u (first_tables (with_items zs (plain_contents contents)))) (sym (items_more (shelf_of a.entries).limits (plain_contents contents) good i (plain_item item) place at))
-        (stands_more r u (plain_contents contents) (take i (map plain_item contents.items)) (plain_item item) item_fits.ascending item_fits.right item_fits.new keeps kept.stands);
-    used = used ∙ (ap (λ (n : ℕ). n + weight_of (bytes_in item.runs)) kept.used ∙ sym (weights_more (shelf_of a.entries).limits (plain_contents contents) good i (plain_item item) place at));
+        subst (λ (zs : List Content). RowsStand (shelf_of u.entries).limits u (first_tables (with_items zs (plain_contents contents))))
+        (sym (items_more (shelf_of a.entries).limits (plain_contents contents) good i (plain_item item) place at))
+        (stands_more r u (plain_contents contents) (take i (map plain_item contents.items)) (plain_item item) item_fits.ascending item_fits.right
+        item_fits.new keeps kept.stands);
+    used = used ∙ (ap (λ (n : ℕ). n + weight_of (bytes_in item.runs)) kept.used ∙
+        sym (weights_more (shelf_of a.entries).limits (plain_contents contents) good i (plain_item item) place at));
     bounds = keeps.entries.limits ∙ kept.bounds;
     faults = faults ∙ kept.faults;
   }

@@ -23,8 +23,10 @@ use Rattle.hc_core.specs.Begins.{with_items, kept_item, KeepsItem}
 
 -- BEFORE THE FIRST
 
-pub stands_before : {B : Type 0} {g : Ghosts B} (r : Rows B g) (contents : Contents) → r.last_start ≡ contents.last_consumer → next_of r.exchanges ≡ contents.next_exchange → 0 < contents.next_exchange → hash_map_len r.consumers ≡ 0
-    → ((c : ℕ) → get nat_eq r.consumers c ≡ None) → ((x : ℕ) → table_of r.exchanges x ≡ unknown) → ((key : List ℕ) → kept_of r.keys key ≡ nothing) → ((q : ℕ) → (shelf_of r.entries).kept q ≡ None) → (shelf_of r.entries).order ≡ []
+pub stands_before : {B : Type 0} {g : Ghosts B} (r : Rows B g) (contents : Contents) → r.last_start ≡ contents.last_consumer →
+    next_of r.exchanges ≡ contents.next_exchange → 0 < contents.next_exchange → hash_map_len r.consumers ≡ 0
+    → ((c : ℕ) → get nat_eq r.consumers c ≡ None) → ((x : ℕ) → table_of r.exchanges x ≡ unknown) → ((key : List ℕ) → kept_of r.keys key ≡ nothing) →
+    ((q : ℕ) → (shelf_of r.entries).kept q ≡ None) → (shelf_of r.entries).order ≡ []
     → RowsStand (shelf_of r.entries).limits r (first_tables (with_items [] contents))
 unfolding current
 stands_before r contents last next some count none unopened unawaited unkept order = record {
@@ -76,8 +78,10 @@ find_same n f h (q ∷ qs) off same = rw (same q off.0, find_same n f h qs off.1
 
 -- ONE MORE
 
-module _ {B : Type 0} {g : Ghosts B} (r u : Rows B g) (contents : Contents) (items : List Content) (item : Content) (ascends : ascend_from 0 0 item.runs ≡ true) (right : is_kind_right item item.head.total ≡ true)
-    (new : find (λ (other : Content). other.r == item.r) items ≡ None) (keeps : KeepsItem r u item) (stands : RowsStand (shelf_of r.entries).limits r (first_tables (with_items items contents))) where
+module _ {B : Type 0} {g : Ghosts B} (r u : Rows B g) (contents : Contents) (items : List Content) (item : Content)
+    (ascends : ascend_from 0 0 item.runs ≡ true) (right : is_kind_right item item.head.total ≡ true)
+    (new : find (λ (other : Content). other.r == item.r) items ≡ None) (keeps : KeepsItem r u item)
+    (stands : RowsStand (shelf_of r.entries).limits r (first_tables (with_items items contents))) where
   abbrev more : List Content
   more = items ++ item ∷ []
 
@@ -92,13 +96,15 @@ module _ {B : Type 0} {g : Ghosts B} (r u : Rows B g) (contents : Contents) (ite
   row_new : s.representation item.r ≡ Some (representation_of_content item)
   row_new =
       let self : (item.r == item.r) ≡ true = eqb-same item.r in
-      let found : find (λ (o : Content). o.r == item.r) more ≡ Some item = find-append (λ (o : Content). o.r == item.r) items (item ∷ []) ∙ rw (new, self) refl in
+      let found : find (λ (o : Content). o.r == item.r) more ≡ Some item = find-append (λ (o : Content). o.r == item.r) items (item ∷ []) ∙
+      rw (new, self) refl in
       ap (option_map representation_of_content) found
 
   row_old : (q : ℕ) → eqb item.r q ≡ false → s.representation q ≡ t.representation q
   row_old q other =
       let off : (item.r == q) ≡ false = other in
-      let same : find (λ (o : Content). o.r == q) more ≡ find (λ (o : Content). o.r == q) items = find-append (λ (o : Content). o.r == q) items (item ∷ []) ∙ rw off (or_none (find (λ (o : Content). o.r == q) items)) in
+      let same : find (λ (o : Content). o.r == q) more ≡ find (λ (o : Content). o.r == q) items =
+      find-append (λ (o : Content). o.r == q) items (item ∷ []) ∙ rw off (or_none (find (λ (o : Content). o.r == q) items)) in
       ap (option_map representation_of_content) same
 
   -- WHAT IS KEPT
@@ -114,7 +120,8 @@ module _ {B : Type 0} {g : Ghosts B} (r u : Rows B g) (contents : Contents) (ite
     head = ap (λ (k : Kept). record k.head { kind = kind.Growing; total = item.head.total }) rest;
     length = stored.reported (ap (λ (k : Kept). k.head.total) rest);
     kind = λ fresh. ap (λ (k : Kept). k.head.kind) rest ∙ sym (kind_begun item ascends right (with_items more contents) item.r);
-    whole = λ n is total. whole_begun item ascends right n (sym (ap (λ (k : Kept). k.head.kind) rest) ∙ is) (sym (ap (λ (k : Kept). k.head.total) rest) ∙ total);
+    whole = λ n is total. whole_begun item ascends right n (sym (ap (λ (k : Kept). k.head.kind) rest) ∙ is)
+        (sym (ap (λ (k : Kept). k.head.total) rest) ∙ total);
     cells = λ p. runs_cells 0 0 p item.runs (entries.kept_at_beginning item.key item.head) ascends ∙ or_none (cells_of item.runs p);
     reach = λ held. runs_reach item.runs (entries.kept_at_beginning item.key item.head) ∙ none_first (last_end item.runs);
     bound = λ c. rw rest refl;
@@ -168,15 +175,18 @@ module _ {B : Type 0} {g : Ghosts B} (r u : Rows B g) (contents : Contents) (ite
   unfolding current
   current_now key =
       let first : is_usable key (s.representation item.r) ≡ (bytes_eq item.key key && true) = ap (is_usable key) row_new in
-      let same : find (λ q. is_usable key (s.representation q)) (reverse (numbers items)) ≡ find (λ q. is_usable key (t.representation q)) (reverse (numbers items)) = find_same item.r _ _ (reverse (numbers items)) off (λ q other. ap (is_usable key) (row_old q other)) in
+      let same : find (λ q. is_usable key (s.representation q)) (reverse (numbers items)) ≡ find (λ q. is_usable key (t.representation q))
+      (reverse (numbers items)) = find_same item.r _ _ (reverse (numbers items)) off (λ q other. ap (is_usable key) (row_old q other)) in
       ap (find (λ q. is_usable key (s.representation q))) listed ∙ (rw (first, same) (grind (arith, nat_tests)))
 
   key_now : (key : List ℕ) → KeepsKey s key (kept_of u.keys key)
   key_now key = rw (keeps.keys key) (by_key (bytes_eq item.key key) (current_now key))
     where
-      by_key : (b : Bool) → current s key ≡ cond b (Some item.r) (current t key) → KeepsKey s key (cond b (with_current (Some item.r) (kept_of r.keys item.key)) (kept_of r.keys key))
+      by_key : (b : Bool) → current s key ≡ cond b (Some item.r) (current t key) →
+          KeepsKey s key (cond b (with_current (Some item.r) (kept_of r.keys item.key)) (kept_of r.keys key))
       by_key true is = let k = stands.keys item.key in record { current = sym is; in_line = k.in_line; passed = k.passed; away = k.away; holder = k.holder }
-      by_key false is = let k = stands.keys key in record { current = k.current ∙ sym is; in_line = k.in_line; passed = k.passed; away = k.away; holder = k.holder }
+      by_key false is = let k = stands.keys key in
+          record { current = k.current ∙ sym is; in_line = k.in_line; passed = k.passed; away = k.away; holder = k.holder }
 
   -- One item more is kept.
   pub stands_more : RowsStand (shelf_of u.entries).limits u (first_tables (with_items (items ++ item ∷ []) contents))

@@ -66,7 +66,8 @@ same_kind_is : (a b : Kind) → same_kind a b ≡ true → a ≡ b
 same_kind_is a b h = grind (arith, nat_tests)
 
 -- the kind tells no more of runs than where they end, and how many bytes they have
-by_extent : (runs others : List Run) (total : ℕ) → last_end runs ≡ last_end others → bytes_in runs ≡ bytes_in others → kind_of_runs runs total ≡ kind_of_runs others total
+by_extent : (runs others : List Run) (total : ℕ) → last_end runs ≡ last_end others → bytes_in runs ≡ bytes_in others →
+    kind_of_runs runs total ≡ kind_of_runs others total
 by_extent runs others total end count = rw (end, count) refl
 
 whole_by : (complete front : Bool) → kind_by complete front ≡ kind.Whole → complete ≡ true
@@ -79,7 +80,8 @@ module _ (item : Content) (ascends : ascend_from 0 0 item.runs ≡ true) where
   abbrev reach : ℕ
   reach = last_end item.runs
 
-  reported_by : (o : Option ℕ) → is_kind_right item o ≡ true → kind_by (kinds.covers_all (representation_of_content item) o) (is_prefix (representation_of_content item)) ≡ item.head.kind
+  reported_by : (o : Option ℕ) → is_kind_right item o ≡ true →
+      kind_by (kinds.covers_all (representation_of_content item) o) (is_prefix (representation_of_content item)) ≡ item.head.kind
   reported_by None right = false_true right
   reported_by (Some total) right =
       let test : nat_le reach total ≡ true = and_left _ _ right in
@@ -88,7 +90,8 @@ module _ (item : Content) (ascends : ascend_from 0 0 item.runs ≡ true) where
       let last = λ (m : ℕ) (end : reach ≡ m + 1). tight 0 0 m item.runs ascends end in
       let count : bytes_in item.runs ≡ size_below cells reach = bytes_below 0 0 item.runs ascends in
       same_kind_is _ _ (kind_right cells reach total ends last within (bytes_in item.runs) count)
-      ∙ (by_extent (runs_from cells 0 reach) item.runs total (last_is cells reach total ends last within) (count_is cells reach total ends last within ∙ sym count)
+      ∙ (by_extent (runs_from cells 0 reach) item.runs total (last_is cells reach total ends last within)
+      (count_is cells reach total ends last within ∙ sym count)
       ∙ sym (same_kind_is _ _ (and_right _ _ right)))
 
   module _ (right : is_kind_right item item.head.total ≡ true) where
@@ -100,4 +103,6 @@ module _ (item : Content) (ascends : ascend_from 0 0 item.runs ≡ true) where
     -- what is called whole is
     pub whole_begun : (n : ℕ) → item.head.kind ≡ kind.Whole → item.head.total ≡ Some n → Covers cells 0 n
     whole_begun n is total =
-        covers_all cells reach 0 n (whole_by (covers cells reach 0 n) (is_prefix (representation_of_content item)) (reported_by (Some n) (ap (is_kind_right item) (sym total) ∙ right) ∙ is))
+        covers_all cells reach 0 n
+        (whole_by (covers cells reach 0 n) (is_prefix (representation_of_content item))
+        (reported_by (Some n) (ap (is_kind_right item) (sym total) ∙ right) ∙ is))

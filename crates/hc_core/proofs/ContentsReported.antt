@@ -55,7 +55,8 @@ stored_ends v fresh s p le = elim (cases_Bool v.is_lost) [
   | inr held ↦ s.all_stored held p ∙ s.ends p le
 ]
 
-module _ (t : Tables) (s : Shelf) (q : ℕ) (k : Kept) (v : Representation) (item : Content) (kept : s.kept q ≡ Some k) (e : IsEntry t q k v) (fresh : v.is_gone ≡ false) (ends : EndsBy v.reach v.stored) (one : IsContentOf s q item) where
+module _ (t : Tables) (s : Shelf) (q : ℕ) (k : Kept) (v : Representation) (item : Content) (kept : s.kept q ≡ Some k) (e : IsEntry t q k v)
+    (fresh : v.is_gone ≡ false) (ends : EndsBy v.reach v.stored) (one : IsContentOf s q item) where
   key_is : v.key ≡ item.key
   key_is = sym e.key ∙ some_is k.key item.key (sym (ap (option_map key_in) kept) ∙ one.key)
 
@@ -85,7 +86,8 @@ module _ {B : Type 0} {g : Ghosts B} (r : Rows B g) (t : Tables) (law : Lawful t
   abbrev shelf : Shelf
   shelf = shelf_of r.entries
 
-  at_one : (q : ℕ) (item : Content) (z : Option Representation) → t.representation q ≡ z → is_idle t q z ≡ true → IsContentOf shelf q item → option_map (content_of t q) z ≡ Some item
+  at_one : (q : ℕ) (item : Content) (z : Option Representation) → t.representation q ≡ z → is_idle t q z ≡ true → IsContentOf shelf q item →
+      option_map (content_of t q) z ≡ Some item
   at_one q item None row passes one = false_true passes
   at_one q item (Some v) row passes one = by_kept (shelf.kept q) refl (subst (KeepsEntry t q (shelf.kept q)) row (stands.entries.each q))
     where
@@ -96,7 +98,8 @@ module _ {B : Type 0} {g : Ghosts B} (r : Rows B g) (t : Tables) (law : Lawful t
       by_kept None kept e = false_true (sym fresh ∙ e.gone)
       by_kept (Some k) kept e = ap Some (content_is t shelf q k v item kept e fresh (stored_ends v fresh (law.sound.rows q v row).store) one)
 
-  all_are : (qs : List ℕ) (items : List Content) → AreContentsOf shelf (filter (λ q. is_idle t q (t.representation q)) qs) items → filter_map (content_at t) (filter (λ q. is_idle t q (t.representation q)) qs) ≡ items
+  all_are : (qs : List ℕ) (items : List Content) → AreContentsOf shelf (filter (λ q. is_idle t q (t.representation q)) qs) items →
+      filter_map (content_at t) (filter (λ q. is_idle t q (t.representation q)) qs) ≡ items
   all_are [] [] reports = refl
   all_are [] (item ∷ items) reports = absurd reports
   all_are (q ∷ qs) items reports = elim (cases_Bool (is_idle t q (t.representation q))) [
@@ -105,7 +108,8 @@ module _ {B : Type 0} {g : Ghosts B} (r : Rows B g) (t : Tables) (law : Lawful t
   ]
     where
       by_items : (items : List Content) → AreContentsOf shelf (q ∷ filter (λ q. is_idle t q (t.representation q)) qs) items
-          → ((rest : List Content) → AreContentsOf shelf (filter (λ q. is_idle t q (t.representation q)) qs) rest → filter_map (content_at t) (filter (λ q. is_idle t q (t.representation q)) qs) ≡ rest)
+          → ((rest : List Content) → AreContentsOf shelf (filter (λ q. is_idle t q (t.representation q)) qs) rest →
+          filter_map (content_at t) (filter (λ q. is_idle t q (t.representation q)) qs) ≡ rest)
           → is_idle t q (t.representation q) ≡ true → filter_map (content_at t) (q ∷ filter (λ q. is_idle t q (t.representation q)) qs) ≡ items
       by_items [] reports again on = absurd reports
       by_items (item ∷ rest) reports again on =
@@ -113,12 +117,15 @@ module _ {B : Type 0} {g : Ghosts B} (r : Rows B g) (t : Tables) (law : Lawful t
           rw (first, again rest reports.1) refl
 
   pub items_are : (items : List Content) → AreContentsOf shelf (idle shelf) items → filter_map (content_at t) (idle_now t) ≡ items
-  items_are items reports = all_are (reverse t.used) items (subst (λ (qs : List ℕ). AreContentsOf shelf qs items) (idle_is r t (may_let_go t law) stands) reports)
+  items_are items reports =
+      all_are (reverse t.used) items (subst (λ (qs : List ℕ). AreContentsOf shelf qs items) (idle_is r t (may_let_go t law) stands) reports)
 
 -- THE CACHE
 
-pub contents_reported : {B : Type 0} {g : Ghosts B} (s : Cache B g) (found : coded_all.Contents) → found.now ≡ s.last_moment → found.last_consumer ≡ s.rows.last_start → found.next_exchange ≡ next_of s.rows.exchanges
-    → AreContentsOf (shelf_of s.rows.entries) (idle (shelf_of s.rows.entries)) (map plain_item found.items) → (contents : Contents) (h : History) → StandsFor s contents h → plain_contents found ≡ contents_of (tables contents h)
+pub contents_reported : {B : Type 0} {g : Ghosts B} (s : Cache B g) (found : coded_all.Contents) → found.now ≡ s.last_moment →
+    found.last_consumer ≡ s.rows.last_start → found.next_exchange ≡ next_of s.rows.exchanges
+    → AreContentsOf (shelf_of s.rows.entries) (idle (shelf_of s.rows.entries)) (map plain_item found.items) → (contents : Contents) (h : History) →
+    StandsFor s contents h → plain_contents found ≡ contents_of (tables contents h)
 unfolding contents_of
 contents_reported s found moment last next reports contents h stands =
     let law = law_of_runs (shelf_of s.rows.entries).limits contents h stands.begins stands.run in
@@ -130,8 +137,10 @@ contents_reported s found moment last next reports contents h stands =
     }
 
 -- a cache may begin with what a good one tells
-pub may_again : {B : Type 0} {g : Ghosts B} (s : Cache B g) (found : coded_all.Contents) → found.now ≡ s.last_moment → found.last_consumer ≡ s.rows.last_start → found.next_exchange ≡ next_of s.rows.exchanges
-    → AreContentsOf (shelf_of s.rows.entries) (idle (shelf_of s.rows.entries)) (map plain_item found.items) → IsGood s.rows s.received s.last_moment s.steps → found.next_exchange ≤ 2 ^ 60 → may_begin (shelf_of s.rows.entries).limits (plain_contents found) ≡ true
+pub may_again : {B : Type 0} {g : Ghosts B} (s : Cache B g) (found : coded_all.Contents) → found.now ≡ s.last_moment →
+    found.last_consumer ≡ s.rows.last_start → found.next_exchange ≡ next_of s.rows.exchanges
+    → AreContentsOf (shelf_of s.rows.entries) (idle (shelf_of s.rows.entries)) (map plain_item found.items) →
+    IsGood s.rows s.received s.last_moment s.steps → found.next_exchange ≤ 2 ^ 60 → may_begin (shelf_of s.rows.entries).limits (plain_contents found) ≡ true
 may_again s found moment last next reports good few =
     merely_true (may_begin (shelf_of s.rows.entries).limits (plain_contents found)) good.0 (λ at.
     let some = at.0 in
@@ -143,17 +152,20 @@ may_again s found moment last next reports good few =
       exchanges = omega (arith, few, next, opened);
     } in
     ap (may_begin (shelf_of s.rows.entries).limits) (contents_reported s found moment last next reports some.contents some.h stands)
-    ∙ leaves_good (shelf_of s.rows.entries).limits some.contents some.begins some.h some.run (heads_come_within_limits some.h some.within_limits) some.starts in_limits)
+    ∙ leaves_good (shelf_of s.rows.entries).limits some.contents some.begins some.h some.run (heads_come_within_limits some.h some.within_limits)
+    some.starts in_limits)
 
 -- the cache represents the same where what is kept stays
-pub stands_still : {B : Type 0} {g : Ghosts B} (s u : Cache B g) → u.last_moment ≡ s.last_moment → u.rows.last_start ≡ s.rows.last_start → u.rows.consumers ≡ s.rows.consumers → u.rows.exchanges ≡ s.rows.exchanges → u.rows.keys ≡ s.rows.keys
+pub stands_still : {B : Type 0} {g : Ghosts B} (s u : Cache B g) → u.last_moment ≡ s.last_moment → u.rows.last_start ≡ s.rows.last_start →
+    u.rows.consumers ≡ s.rows.consumers → u.rows.exchanges ≡ s.rows.exchanges → u.rows.keys ≡ s.rows.keys
     → Stays (shelf_of s.rows.entries) (shelf_of u.rows.entries) → (contents : Contents) (h : History) → StandsFor s contents h → StandsFor u contents h
 stands_still s u moment last consumers exchanges same_keys stays contents h stands = record {
   begins = subst (λ l. may_begin l contents ≡ true) (sym stays.limits) stands.begins;
   short = stands.short;
   run = subst (λ l. IsRun l contents h) (sym stays.limits) stands.run;
   moment = moment ∙ stands.moment;
-  rows = subst (λ l. RowsStand l u.rows (tables contents h)) (sym stays.limits) (stands_read s.rows u.rows (tables contents h) last consumers exchanges same_keys stays stands.rows);
+  rows = subst (λ l. RowsStand l u.rows (tables contents h)) (sym stays.limits)
+      (stands_read s.rows u.rows (tables contents h) last consumers exchanges same_keys stays stands.rows);
 }
 
 -- what is idle is kept
@@ -164,7 +176,8 @@ at_filter test (x ∷ xs) i r lt is = elim (cases_Bool (test x)) [
   | inl on ↦ by_place i (rw on at lt) (rw on at is) on (λ k less same. at_filter test xs k r less same)
 ]
   where
-    by_place : (i : ℕ) → i < length (x ∷ filter test xs) → r ≡ get_or (x ∷ filter test xs) i r → test x ≡ true → ((k : ℕ) → k < length (filter test xs) → r ≡ get_or (filter test xs) k r → test r ≡ true) → test r ≡ true
+    by_place : (i : ℕ) → i < length (x ∷ filter test xs) → r ≡ get_or (x ∷ filter test xs) i r → test x ≡ true →
+        ((k : ℕ) → k < length (filter test xs) → r ≡ get_or (filter test xs) k r → test r ≡ true) → test r ≡ true
     by_place zero lt is on again = ap test is ∙ on
     by_place (suc i) lt is on again = again i (let less : suc i < suc (length (filter test xs)) = lt in omega arith) is
 
@@ -189,14 +202,16 @@ one_back a m r item stays one = record {
   runs = λ n ends. subst (λ (f : Cells). EndsBy n f → item.runs ≡ runs_from f 0 n) (cells_same a m r stays) (one.runs n) ends;
 }
 
-pub reports_more : (s : Shelf) (rs : List ℕ) (items : List Content) (r : ℕ) (item : Content) → AreContentsOf s rs items → IsContentOf s r item → AreContentsOf s (rs ++ r ∷ []) (items ++ item ∷ [])
+pub reports_more : (s : Shelf) (rs : List ℕ) (items : List Content) (r : ℕ) (item : Content) → AreContentsOf s rs items → IsContentOf s r item →
+    AreContentsOf s (rs ++ r ∷ []) (items ++ item ∷ [])
 reports_more s [] [] r item all one = (one, tt)
 reports_more s [] (x ∷ xs) r item all one = absurd all
 reports_more s (q ∷ qs) [] r item all one = absurd all
 reports_more s (q ∷ qs) (x ∷ xs) r item all one = (all.0, reports_more s qs xs r item all.1 one)
 
 -- a cache is as good where what is kept stays
-pub good_still : {B : Type 0} {g : Ghosts B} (r u : Rows B g) (bytes moment : ℕ) → u.last_start ≡ r.last_start → u.consumers ≡ r.consumers → u.exchanges ≡ r.exchanges → u.keys ≡ r.keys → Stays (shelf_of r.entries) (shelf_of u.entries) → StandsAt r bytes moment → StandsAt u bytes moment
+pub good_still : {B : Type 0} {g : Ghosts B} (r u : Rows B g) (bytes moment : ℕ) → u.last_start ≡ r.last_start → u.consumers ≡ r.consumers →
+    u.exchanges ≡ r.exchanges → u.keys ≡ r.keys → Stays (shelf_of r.entries) (shelf_of u.entries) → StandsAt r bytes moment → StandsAt u bytes moment
 good_still r u bytes moment last consumers exchanges same_keys stays at = (
   record {
     contents = at.0.contents;
@@ -207,7 +222,8 @@ good_still r u bytes moment last consumers exchanges same_keys stays at = (
     starts = at.0.starts;
     run = subst (λ l. IsRun l at.0.contents at.0.h) (sym stays.limits) at.0.run;
     received = at.0.received;
-    rows = subst (λ l. RowsStand l u (tables at.0.contents at.0.h)) (sym stays.limits) (stands_read r u (tables at.0.contents at.0.h) last consumers exchanges same_keys stays at.0.rows);
+    rows = subst (λ l. RowsStand l u (tables at.0.contents at.0.h)) (sym stays.limits)
+        (stands_read r u (tables at.0.contents at.0.h) last consumers exchanges same_keys stays at.0.rows);
   },
   at.1,
 )

@@ -24,4 +24,5 @@ grow_begun contents r v row = by_item (find (λ (item : Content). item.r == r) c
 
 pub heads_grow : OfRuns HeadsGrow
 heads_grow = in_runs (λ limits t. HeadsGrow t) (λ limits contents may. grow_begun contents) (λ limits t e later g. g)
-    (λ limits t now flaw later c g ev goes real r u row. grows_by t (entry_of limits t now ev flaw) r u g (rep_from t (entry_of limits t now ev flaw) r (t.representation r) u refl row))
+    (λ limits t now flaw later c g ev goes real r u row. grows_by t (entry_of limits t now ev flaw) r u g
+    (rep_from t (entry_of limits t now ev flaw) r (t.representation r) u refl row))

@@ -15,7 +15,8 @@ module _ {B : Type 0} {g : Ghosts B} (s : Cache B g) (key : List ℕ) (contents 
   t = tables contents h
 
   pub turn_reported : turn_of (line_of s.rows.keys key) ≡ turn t key
-  turn_reported = turn_of_is t key (kept_of s.rows.keys key) (runs_are_sound (shelf_of s.rows.entries).limits contents h stands.begins stands.run).numbered.lists (stands.rows.keys key)
+  turn_reported = turn_of_is t key (kept_of s.rows.keys key)
+      (runs_are_sound (shelf_of s.rows.entries).limits contents h stands.begins stands.run).numbered.lists (stands.rows.keys key)
 
   module _ (q : ℕ) (at : (kept_of s.rows.keys key).current ≡ Some q) where
     is_current : current t key ≡ Some q

@@ -109,7 +109,8 @@ module _ {B : Type 0} {g : Ghosts B} (s : Cache B g) where
   pub none_lives : least_of None live_keys ≡ None → live_in s ≡ 0
   none_lives none = sym (length-keys_of s.rows.consumers.entries) ∙ ap length (least_none None live_keys none)
 
-  pub least_lives : (c : ℕ) → least_of None live_keys ≡ Some c → (contents : Contents) (h : History) → StandsFor s contents h → IsLeastLive (tables contents h) c
+  pub least_lives : (c : ℕ) → least_of None live_keys ≡ Some c → (contents : Contents) (h : History) → StandsFor s contents h →
+      IsLeastLive (tables contents h) c
   least_lives c is contents h stands = record {
     live = sym (tied c) ∙ on (least_is None live_keys c is).from;
     least = λ d alive. (least_is None live_keys c is).rest d (member d (tied d ∙ alive));
@@ -129,6 +130,7 @@ module _ {B : Type 0} {g : Ghosts B} (s : Cache B g) where
   if_none None ks done is = none_lives (sym is ∙ ap (least_of None) done)
   if_none (Some c) ks done is = tt
 
-  pub if_some : (o : Option ℕ) (ks : List ℕ) → ks ≡ [] → least_of o ks ≡ least_of None live_keys → IfSome o (λ c. (contents : Contents) (h : History) → StandsFor s contents h → IsLeastLive (tables contents h) c)
+  pub if_some : (o : Option ℕ) (ks : List ℕ) → ks ≡ [] → least_of o ks ≡ least_of None live_keys →
+      IfSome o (λ c. (contents : Contents) (h : History) → StandsFor s contents h → IsLeastLive (tables contents h) c)
   if_some None ks done is = tt
   if_some (Some c) ks done is = least_lives c (sym is ∙ ap (least_of (Some c)) done)

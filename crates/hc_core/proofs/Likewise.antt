@@ -28,7 +28,8 @@ use Rattle.hc_core.specs.{declared.cache.Cache.{Cache}, Steps.{ServesAll}}
 -- WHAT IS GOOD
 
 -- of each item the runs rise, and its kind is theirs
-good_found : (limits : Limits) (contents : Contents) (q : ℕ) (item : Content) (earlier items : List Content) → are_good limits contents earlier items ≡ true → find (λ (o : Content). o.r == q) items ≡ Some item
+good_found : (limits : Limits) (contents : Contents) (q : ℕ) (item : Content) (earlier items : List Content) →
+    are_good limits contents earlier items ≡ true → find (λ (o : Content). o.r == q) items ≡ Some item
     → (ascend_from 0 0 item.runs ≡ true) × (is_kind_right item item.head.total ≡ true)
 good_found limits contents q item earlier [] good found = none_some item found
 good_found limits contents q item earlier (first ∷ items) good found = elim (cases_Bool (first.r == q)) [
@@ -57,7 +58,8 @@ filter_twice f (q ∷ qs) = elim (cases_Bool (f q)) [
 
 module _ (t : Tables) where
   -- what stands there with a row is found by its number
-  found_listed : (q : ℕ) (v : Representation) → t.representation q ≡ Some v → (qs : List ℕ) → Among q qs → find (λ (o : Content). o.r == q) (filter_map (content_at t) qs) ≡ Some (content_of t q v)
+  found_listed : (q : ℕ) (v : Representation) → t.representation q ≡ Some v → (qs : List ℕ) → Among q qs →
+      find (λ (o : Content). o.r == q) (filter_map (content_at t) qs) ≡ Some (content_of t q v)
   found_listed q v row [] among = absurd among
   found_listed q v row (n ∷ qs) among = by_row (t.representation n) refl (λ later. found_listed q v row qs later)
     where
@@ -67,7 +69,9 @@ module _ (t : Tables) where
       others : n ≢ q → Among q qs
       others ne = elim among [ inl same ↦ absurd (ne same) | inr later ↦ later ]
 
-      by_row : (z : Option Representation) → t.representation n ≡ z → (Among q qs → find (λ (o : Content). o.r == q) (filter_map (content_at t) qs) ≡ Some (content_of t q v)) → find (λ (o : Content). o.r == q) (filter_map (content_at t) (n ∷ qs)) ≡ Some (content_of t q v)
+      by_row : (z : Option Representation) → t.representation n ≡ z →
+          (Among q qs → find (λ (o : Content). o.r == q) (filter_map (content_at t) qs) ≡ Some (content_of t q v)) →
+          find (λ (o : Content). o.r == q) (filter_map (content_at t) (n ∷ qs)) ≡ Some (content_of t q v)
       by_row None at rest = elim (same_or n q) [
         | inl same ↦ none_some v (sym at ∙ (ap t.representation same ∙ row))
         | inr ne ↦ rw at (rest (others ne))
@@ -81,26 +85,30 @@ module _ (t : Tables) where
   found_unlisted q [] off = refl
   found_unlisted q (n ∷ qs) off = by_row (t.representation n) refl (found_unlisted q qs (λ later. off (inr later)))
     where
-      by_row : (z : Option Representation) → t.representation n ≡ z → find (λ (o : Content). o.r == q) (filter_map (content_at t) qs) ≡ None → find (λ (o : Content). o.r == q) (filter_map (content_at t) (n ∷ qs)) ≡ None
+      by_row : (z : Option Representation) → t.representation n ≡ z → find (λ (o : Content). o.r == q) (filter_map (content_at t) qs) ≡ None →
+          find (λ (o : Content). o.r == q) (filter_map (content_at t) (n ∷ qs)) ≡ None
       by_row None at rest = rw at rest
       by_row (Some u) at rest = rw (at, eqb-other n q (λ same. off (inl same))) rest
 
   -- each idle one has a row, and so its number stands in its item
-  numbers_are : (qs : List ℕ) → numbers (filter_map (content_at t) (filter (λ q. is_idle t q (t.representation q)) qs)) ≡ filter (λ q. is_idle t q (t.representation q)) qs
+  numbers_are : (qs : List ℕ) →
+      numbers (filter_map (content_at t) (filter (λ q. is_idle t q (t.representation q)) qs)) ≡ filter (λ q. is_idle t q (t.representation q)) qs
   numbers_are [] = refl
   numbers_are (q ∷ qs) = elim (cases_Bool (is_idle t q (t.representation q))) [
     | inr off ↦ rw off (numbers_are qs)
     | inl on ↦ rw on (by_row (t.representation q) refl on (numbers_are qs))
   ]
     where
-      by_row : (z : Option Representation) → t.representation q ≡ z → is_idle t q z ≡ true → numbers (filter_map (content_at t) (filter (λ q. is_idle t q (t.representation q)) qs)) ≡ filter (λ q. is_idle t q (t.representation q)) qs
+      by_row : (z : Option Representation) → t.representation q ≡ z → is_idle t q z ≡ true →
+          numbers (filter_map (content_at t) (filter (λ q. is_idle t q (t.representation q)) qs)) ≡ filter (λ q. is_idle t q (t.representation q)) qs
           → numbers (filter_map (content_at t) (q ∷ filter (λ q. is_idle t q (t.representation q)) qs)) ≡ q ∷ filter (λ q. is_idle t q (t.representation q)) qs
       by_row None at on rest = false_true on
       by_row (Some v) at on rest = rw at (ap (λ (zs : List ℕ). q ∷ zs) rest)
 
 -- THE ROWS
 
-module _ {B : Type 0} {g : Ghosts B} (r : Rows B g) (limits : Limits) (t : Tables) (law : Lawful t) (measures : Measures t) (grow : HeadsGrow t) (none : live t ≡ 0) (may : may_begin limits (contents_of t) ≡ true) (stands : RowsStand (shelf_of r.entries).limits r (first_tables (contents_of t))) where
+module _ {B : Type 0} {g : Ghosts B} (r : Rows B g) (limits : Limits) (t : Tables) (law : Lawful t) (measures : Measures t) (grow : HeadsGrow t)
+    (none : live t ≡ 0) (may : may_begin limits (contents_of t) ≡ true) (stands : RowsStand (shelf_of r.entries).limits r (first_tables (contents_of t))) where
   abbrev s : Tables
   s = first_tables (contents_of t)
 
@@ -117,7 +125,8 @@ module _ {B : Type 0} {g : Ghosts B} (r : Rows B g) (limits : Limits) (t : Table
           let here : is_current t v.key q ≡ true = ap (λ o. is_number o q) (current_is t v.key q v law.sound row refl fresh) ∙ eqb-same q in
           let none_reads = ap length (none_bound t law none q) in
           rw (here, none_reads, fresh) refl
-      by_gone v row true gone = rw (not_true (is_current t v.key q) (λ on. false_true (sym (current_stays t v.key q v (number_is (current t v.key) q on) row) ∙ gone)), gone) refl
+      by_gone v row true gone =
+          rw (not_true (is_current t v.key q) (λ on. false_true (sym (current_stays t v.key q v (number_is (current t v.key) q on) row) ∙ gone)), gone) refl
 
       by_row : (z : Option Representation) → t.representation q ≡ z → is_idle t q z ≡ is_usable_row z
       by_row None row = refl
@@ -125,7 +134,8 @@ module _ {B : Type 0} {g : Ghosts B} (r : Rows B g) (limits : Limits) (t : Table
 
   -- what stays of a number: its item, as it is loaded, or nothing
   data Remains (q : ℕ) : Type 0 where
-    has_item : (v : Representation) → t.representation q ≡ Some v → v.is_gone ≡ false → find (λ (o : Content). o.r == q) (contents_of t).items ≡ Some (content_of t q v) → Remains q
+    has_item : (v : Representation) → t.representation q ≡ Some v → v.is_gone ≡ false →
+        find (λ (o : Content). o.r == q) (contents_of t).items ≡ Some (content_of t q v) → Remains q
     has_gone : (v : Representation) → t.representation q ≡ Some v → v.is_gone ≡ true → s.representation q ≡ None → Remains q
     has_none : t.representation q ≡ None → s.representation q ≡ None → Remains q
 
@@ -134,7 +144,9 @@ module _ {B : Type 0} {g : Ghosts B} (r : Rows B g) (limits : Limits) (t : Table
   remains q = by_row (t.representation q) refl
     where
       unlisted : is_usable_row (t.representation q) ≡ false → s.representation q ≡ None
-      unlisted off = ap (option_map representation_of_content) (found_unlisted t q (idle_now t) (λ among. false_true (sym (idle_is q ∙ off) ∙ (filter_among (λ n. is_idle t n (t.representation n)) q (reverse t.used) among).1)))
+      unlisted off = ap (option_map representation_of_content)
+          (found_unlisted t q (idle_now t)
+          (λ among. false_true (sym (idle_is q ∙ off) ∙ (filter_among (λ n. is_idle t n (t.representation n)) q (reverse t.used) among).1)))
 
       listed : (v : Representation) → t.representation q ≡ Some v → v.is_gone ≡ false → Among q (idle_now t)
       listed v row fresh =
@@ -149,12 +161,14 @@ module _ {B : Type 0} {g : Ghosts B} (r : Rows B g) (limits : Limits) (t : Table
       by_row None row = has_none row (unlisted (ap is_usable_row row))
       by_row (Some v) row = by_gone v row v.is_gone refl
 
-  loaded_row : (q : ℕ) (v : Representation) → find (λ (o : Content). o.r == q) (contents_of t).items ≡ Some (content_of t q v) → s.representation q ≡ Some (representation_of_content (content_of t q v))
+  loaded_row : (q : ℕ) (v : Representation) → find (λ (o : Content). o.r == q) (contents_of t).items ≡ Some (content_of t q v) →
+      s.representation q ≡ Some (representation_of_content (content_of t q v))
   loaded_row q v found = ap (option_map representation_of_content) found
 
   -- REPRESENTATIONS
 
-  module _ (q : ℕ) (v : Representation) (row : t.representation q ≡ Some v) (fresh : v.is_gone ≡ false) (found : find (λ (o : Content). o.r == q) (contents_of t).items ≡ Some (content_of t q v)) where
+  module _ (q : ℕ) (v : Representation) (row : t.representation q ≡ Some v) (fresh : v.is_gone ≡ false)
+      (found : find (λ (o : Content). o.r == q) (contents_of t).items ≡ Some (content_of t q v)) where
     abbrev item : Content
     item = content_of t q v
 
@@ -220,7 +234,8 @@ module _ {B : Type 0} {g : Ghosts B} (r : Rows B g) (limits : Limits) (t : Table
       by_case : Remains q → KeepsEntry t q (kept_at q) (t.representation q)
       by_case (has_none row off) = rw (row, unkept q off) tt
       by_case (has_gone v row is off) = rw (row, unkept q off) (record { gone = is; unused = none_bound t law none q })
-      by_case (has_item v row fresh found) = subst (KeepsEntry t q (kept_at q)) (sym row) (by_kept (kept_at q) (subst (KeepsEntry s q (kept_at q)) (loaded_row q v found) (stands.entries.each q)))
+      by_case (has_item v row fresh found) =
+          subst (KeepsEntry t q (kept_at q)) (sym row) (by_kept (kept_at q) (subst (KeepsEntry s q (kept_at q)) (loaded_row q v found) (stands.entries.each q)))
         where
           by_kept : (o : Option Kept) → KeepsEntry s q o (Some (representation_of_content (content_of t q v))) → KeepsEntry t q o (Some v)
           by_kept None e = false_true e.gone
@@ -316,7 +331,8 @@ module _ {B : Type 0} {g : Ghosts B} (r : Rows B g) (limits : Limits) (t : Table
 
 -- THE CACHE
 
-pub serves_all : {B : Type 0} {g : Ghosts B} (s : Cache B g) (contents : Contents) → s.last_moment ≡ contents.now → may_begin (shelf_of s.rows.entries).limits contents ≡ true → RowsStand (shelf_of s.rows.entries).limits s.rows (first_tables contents) → ServesAll s contents
+pub serves_all : {B : Type 0} {g : Ghosts B} (s : Cache B g) (contents : Contents) → s.last_moment ≡ contents.now → may_begin
+    (shelf_of s.rows.entries).limits contents ≡ true → RowsStand (shelf_of s.rows.entries).limits s.rows (first_tables contents) → ServesAll s contents
 unfolding contents_of
 serves_all s contents moment may stands before h begins short run none leaves =
     record {
@@ -325,7 +341,8 @@ serves_all s contents moment may stands before h begins short run none leaves =
       run = run;
       moment = moment ∙ sym (ap (λ (c : Contents). c.now) leaves);
       rows =
-          rows_likewise s.rows (shelf_of s.rows.entries).limits (tables before h) (law_of_runs (shelf_of s.rows.entries).limits before h begins run) (measures_in_runs (shelf_of s.rows.entries).limits before h begins run) (heads_grow (shelf_of s.rows.entries).limits before h begins run) none
+          rows_likewise s.rows (shelf_of s.rows.entries).limits (tables before h) (law_of_runs (shelf_of s.rows.entries).limits before h begins run)
+          (measures_in_runs (shelf_of s.rows.entries).limits before h begins run) (heads_grow (shelf_of s.rows.entries).limits before h begins run) none
           (subst (λ (c : Contents). may_begin (shelf_of s.rows.entries).limits c ≡ true) (sym leaves) may)
           (subst (λ (c : Contents). RowsStand (shelf_of s.rows.entries).limits s.rows (first_tables c)) (sym leaves) stands);
     }

@@ -19,7 +19,8 @@ module _ (t : Tables) (law : Lawful t) (none : live t ≡ 0) where
   has_left c k row = over_by k.place (sym (ap is_live row) ∙ nobody c)
 
   -- so nothing is said of anybody that isn't said of who left
-  pub nobody_says : (f : Option Consumer → Bool) → f None ≡ false → ((k : Consumer) → k.place ≡ place.Over → f (Some k) ≡ false) → (c : ℕ) → f (t.consumer c) ≡ false
+  pub nobody_says : (f : Option Consumer → Bool) → f None ≡ false → ((k : Consumer) → k.place ≡ place.Over → f (Some k) ≡ false) → (c : ℕ) →
+      f (t.consumer c) ≡ false
   nobody_says f off over c = grind (arith, nat_tests, has_left)
 
   pub unbound : (r c : ℕ) → is_bound r (t.consumer c) ≡ false

@@ -9,7 +9,8 @@ use Rattle.hc_state.proofs.Maps.{merely_below}
 use Rattle.hc_on_leave.proofs.Gates.{denies_as}
 use Rattle.hc_core.proofs.Standing.{stands_of_runs}
 
-opens_one : (limits : Limits) (t : Tables) (now : ℕ) (flaw : Flaw) → Sound t → (ev : Event) → denial t ev ≡ None → (after_accepted t (entry_of limits t now ev flaw)).opened ≤ t.opened + 1
+opens_one : (limits : Limits) (t : Tables) (now : ℕ) (flaw : Flaw) → Sound t → (ev : Event) → denial t ev ≡ None →
+    (after_accepted t (entry_of limits t now ev flaw)).opened ≤ t.opened + 1
 opens_one limits t now flaw sound ev free = grind (arith, nat_tests, opens_next)
 
 module _ {B : Type 0} {g : Ghosts B} (r u : Rows B g) (before out : List Act) (now : ℕ) (ev : Event)
@@ -25,5 +26,6 @@ module _ {B : Type 0} {g : Ghosts B} (r u : Rows B g) (before out : List Act) (n
 
   pub next_after : (bytes : ℕ) → bytes < 2 ^ 61 → (last : ℕ) → ∥ StandsUntil r bytes last ∥₁ → next_of u.exchanges ≤ next_of r.exchanges + 1
   next_after bytes small last some =
-      let lt = merely_below (next_of u.exchanges) (next_of r.exchanges + 2) some (λ s. (let le = by_gate (stands_of_runs r bytes small s.0) (refusal_of (gate_of r ev) ev) refl in omega (arith, le))) in
+      let lt = merely_below (next_of u.exchanges) (next_of r.exchanges + 2) some
+      (λ s. (let le = by_gate (stands_of_runs r bytes small s.0) (refusal_of (gate_of r ev) ev) refl in omega (arith, le))) in
       omega (arith, lt)

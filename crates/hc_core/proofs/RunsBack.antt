@@ -15,7 +15,8 @@ lone_rest : (p q : ℕ) (cell : Cell) (runs : List Run) → p ≢ q → cells_of
 lone_rest p q cell runs ne = grind (arith, nat_tests)
 
 -- nor in front of a run that goes on
-joined_rest : (p q : ℕ) (cell : Cell) (run : Run) (runs : List Run) → run.at ≡ p + 1 → run.x ≡ cell.x → p ≢ q → cells_of (run_from p cell run.bytes ∷ runs) q ≡ cells_of (run ∷ runs) q
+joined_rest : (p q : ℕ) (cell : Cell) (run : Run) (runs : List Run) → run.at ≡ p + 1 → run.x ≡ cell.x → p ≢ q →
+    cells_of (run_from p cell run.bytes ∷ runs) q ≡ cells_of (run ∷ runs) q
 joined_rest p q cell run runs at from ne = grind (arith, nat_tests)
 
 with_here : (p : ℕ) (cell : Cell) (runs : List Run) → cells_of (with_cell p cell runs) p ≡ Some cell

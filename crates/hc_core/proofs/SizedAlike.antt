@@ -42,7 +42,8 @@ sized_here limits t law sizes numbers few q v row used = sized_by t law limits s
 
 -- IN ANY OTHER
 
-module _ {B : Type 0} {g : Ghosts B} (r : Rows B g) (t s : Tables) (law : Lawful t) (sizes : Sizes (shelf_of r.entries).limits t) (stands : RowsStand (shelf_of r.entries).limits r t)
+module _ {B : Type 0} {g : Ghosts B} (r : Rows B g) (t s : Tables) (law : Lawful t) (sizes : Sizes (shelf_of r.entries).limits t)
+    (stands : RowsStand (shelf_of r.entries).limits r t)
     (its_law : Lawful s) (numbers : Numbers s) (few : s.received < 2 ^ 62) (stands_too : RowsStand (shelf_of r.entries).limits r s) where
   abbrev kept : ℕ → Option Kept
   kept = (shelf_of r.entries).kept

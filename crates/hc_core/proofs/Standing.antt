@@ -19,7 +19,8 @@ come_up v n w all headed = by_head w.head headed all
     by_head None some up = false_true some
     by_head (Some response) some up = up
 
-pub law_of_runs : (limits : Limits) (contents : Contents) (h : History) → may_begin limits contents ≡ true → IsRun limits contents h → Lawful (tables contents h)
+pub law_of_runs : (limits : Limits) (contents : Contents) (h : History) → may_begin limits contents ≡ true → IsRun limits contents h →
+    Lawful (tables contents h)
 law_of_runs limits contents h may run =
     let here = carried limits contents h may run in
     record {
@@ -37,7 +38,8 @@ law_of_runs limits contents h may run =
     }
 
 -- where as many bytes are stored as is said
-pub facts_of_runs : (limits : Limits) (contents : Contents) (h : History) → may_begin limits contents ≡ true → IsRun limits contents h → AreSized (tables contents h) → Facts limits (tables contents h)
+pub facts_of_runs : (limits : Limits) (contents : Contents) (h : History) → may_begin limits contents ≡ true → IsRun limits contents h →
+    AreSized (tables contents h) → Facts limits (tables contents h)
 facts_of_runs limits contents h may run sized =
     let here = carried limits contents h may run in
     record {
@@ -52,7 +54,11 @@ facts_of_runs limits contents h may run sized =
       fits = subst (λ n. n ≤ limits.max_total) (sym (weights_total (tables contents h))) (fits limits contents h may run).within;
       live = few_in_runs limits contents h may run;
       turns = (turned_in_runs limits contents h may run).turns;
-      come = record { covered = λ r c x v k w there exclusive_writer reader undue owns row headed. come_up v.body _ w (here.beside.covered r c x v k w there exclusive_writer reader undue owns row) headed };
+      come = record {
+        covered =
+            λ r c x v k w there exclusive_writer reader undue owns row headed. come_up v.body _ w
+            (here.beside.covered r c x v k w there exclusive_writer reader undue owns row) headed;
+      };
       parts = parts_in_runs limits contents h may run;
       origins = origins_in_runs limits contents h may run;
       fronts = fronts_in_runs limits contents h may run;
@@ -65,15 +71,20 @@ few_of most small = omega (arith, most, small)
 -- of what is in use in a run of few bytes
 pub sized_of_some : {B : Type 0} {g : Ghosts B} (r : Rows B g) (bytes : ℕ) → bytes < 2 ^ 61 → (s : StandsForSome r bytes) → AreSized (tables s.contents s.h)
 sized_of_some r bytes small s =
-    sized_here (shelf_of r.entries).limits (tables s.contents s.h) (law_of_runs (shelf_of r.entries).limits s.contents s.h s.begins s.run) (sizes_in_runs (shelf_of r.entries).limits s.contents s.h s.begins s.run)
+    sized_here (shelf_of r.entries).limits (tables s.contents s.h) (law_of_runs (shelf_of r.entries).limits s.contents s.h s.begins s.run)
+    (sizes_in_runs (shelf_of r.entries).limits s.contents s.h s.begins s.run)
     (numbers_in_runs (shelf_of r.entries).limits s.contents s.h s.begins s.short s.run) (few_received (few_of s.received small))
 
 -- and so in any other run for which they stand
-pub sized_of_any : {B : Type 0} {g : Ghosts B} (r : Rows B g) (bytes : ℕ) (contents : Contents) (h : History) → bytes < 2 ^ 61 → ∥ StandsForSome r bytes ∥₁ → may_begin (shelf_of r.entries).limits contents ≡ true → IsRun (shelf_of r.entries).limits contents h → RowsStand (shelf_of r.entries).limits r (tables contents h) → AreSized (tables contents h)
+pub sized_of_any : {B : Type 0} {g : Ghosts B} (r : Rows B g) (bytes : ℕ) (contents : Contents) (h : History) → bytes < 2 ^ 61 →
+    ∥ StandsForSome r bytes ∥₁ → may_begin (shelf_of r.entries).limits contents ≡ true → IsRun (shelf_of r.entries).limits contents h →
+    RowsStand (shelf_of r.entries).limits r (tables contents h) → AreSized (tables contents h)
 sized_of_any r bytes contents h small some may run rows q v row used =
     merely_same v.size (size v.stored) some (λ s.
-    sized_alike r (tables contents h) (tables s.contents s.h) (law_of_runs (shelf_of r.entries).limits contents h may run) (sizes_in_runs (shelf_of r.entries).limits contents h may run) rows
-    (law_of_runs (shelf_of r.entries).limits s.contents s.h s.begins s.run) (numbers_in_runs (shelf_of r.entries).limits s.contents s.h s.begins s.short s.run) (few_received (few_of s.received small)) s.rows q v row used)
+    sized_alike r (tables contents h) (tables s.contents s.h) (law_of_runs (shelf_of r.entries).limits contents h may run)
+    (sizes_in_runs (shelf_of r.entries).limits contents h may run) rows
+    (law_of_runs (shelf_of r.entries).limits s.contents s.h s.begins s.run)
+    (numbers_in_runs (shelf_of r.entries).limits s.contents s.h s.begins s.short s.run) (few_received (few_of s.received small)) s.rows q v row used)
 
 pub stands_of_runs : {B : Type 0} {g : Ghosts B} (r : Rows B g) (bytes : ℕ) → bytes < 2 ^ 61 → StandsForSome r bytes → Stands r
 stands_of_runs r bytes small s = record {

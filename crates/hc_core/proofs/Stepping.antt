@@ -24,7 +24,9 @@ use Rattle.hc_core.specs.{declared.cache.Cache.{Cache}, Steps.{StandsFor, Steps,
 none_long : AreShort no_contents
 none_long r n item there is = none_some item there
 
-pub stands_beginning : {B : Type 0} {g : Ghosts B} (s : Cache B g) → s.last_moment ≡ 0 → s.rows.last_start ≡ 0 → next_of s.rows.exchanges ≡ 1 → hash_map_len s.rows.consumers ≡ 0 → ((c : ℕ) → get nat_eq s.rows.consumers c ≡ None) → ((x : ℕ) → table_of s.rows.exchanges x ≡ unknown) → ((key : List ℕ) → kept_of s.rows.keys key ≡ nothing) → ((q : ℕ) → (shelf_of s.rows.entries).kept q ≡ None) → (shelf_of s.rows.entries).order ≡ []
+pub stands_beginning : {B : Type 0} {g : Ghosts B} (s : Cache B g) → s.last_moment ≡ 0 → s.rows.last_start ≡ 0 → next_of s.rows.exchanges ≡ 1 →
+    hash_map_len s.rows.consumers ≡ 0 → ((c : ℕ) → get nat_eq s.rows.consumers c ≡ None) → ((x : ℕ) → table_of s.rows.exchanges x ≡ unknown) →
+    ((key : List ℕ) → kept_of s.rows.keys key ≡ nothing) → ((q : ℕ) → (shelf_of s.rows.entries).kept q ≡ None) → (shelf_of s.rows.entries).order ≡ []
     → StandsFor s no_contents []
 unfolding tables
 stands_beginning s moment last next count none unopened unawaited unkept order = record {
@@ -35,9 +37,25 @@ stands_beginning s moment last next count none unopened unawaited unkept order =
   rows = stands_begun s.rows last next count none unopened unawaited unkept order;
 }
 
-pub begins_good : {B : Type 0} {g : Ghosts B} (r : Rows B g) → r.last_start ≡ 0 → next_of r.exchanges ≡ 1 → hash_map_len r.consumers ≡ 0 → ((c : ℕ) → get nat_eq r.consumers c ≡ None) → ((x : ℕ) → table_of r.exchanges x ≡ unknown) → ((key : List ℕ) → kept_of r.keys key ≡ nothing) → ((q : ℕ) → (shelf_of r.entries).kept q ≡ None) → (shelf_of r.entries).order ≡ [] → StandsAt r 0 0
+pub begins_good : {B : Type 0} {g : Ghosts B} (r : Rows B g) → r.last_start ≡ 0 → next_of r.exchanges ≡ 1 → hash_map_len r.consumers ≡ 0 →
+    ((c : ℕ) → get nat_eq r.consumers c ≡ None) → ((x : ℕ) → table_of r.exchanges x ≡ unknown) → ((key : List ℕ) → kept_of r.keys key ≡ nothing) →
+    ((q : ℕ) → (shelf_of r.entries).kept q ≡ None) → (shelf_of r.entries).order ≡ [] → StandsAt r 0 0
 unfolding tables
-begins_good r last next count none unopened unawaited unkept order = (record { contents = no_contents; h = []; begins = begins_well (shelf_of r.entries).limits; short = none_long; within_limits = tt; starts = tt; run = tt; received = none_received 0; rows = stands_begun r last next count none unopened unawaited unkept order }, refl)
+begins_good r last next count none unopened unawaited unkept order = (
+  record {
+    contents = no_contents;
+    h = [];
+    begins = begins_well (shelf_of r.entries).limits;
+    short = none_long;
+    within_limits = tt;
+    starts = tt;
+    run =
+        tt;
+    received = none_received 0;
+    rows = stands_begun r last next count none unopened unawaited unkept order;
+  },
+  refl,
+)
 
 -- limits are a set: of what is merely there, they tell what is
 limits_set : IsSet Limits
@@ -65,7 +83,8 @@ small_after t e within_limits small = by_test (is_denied e.acts)
     by_test : (b : Bool) → (if b then after_denied t e else after_accepted t e).last_start < 2 ^ 62
     by_test b = grind (arith, nat_tests)
 
-small_next : (contents : Contents) (h : History) (e : Entry) → IsEventWithinLimits e.event → (tables contents h).last_start < 2 ^ 62 → (tables contents (e ∷ h)).last_start < 2 ^ 62
+small_next : (contents : Contents) (h : History) (e : Entry) → IsEventWithinLimits e.event → (tables contents h).last_start < 2 ^ 62 →
+    (tables contents (e ∷ h)).last_start < 2 ^ 62
 unfolding tables
 small_next contents h e within_limits small = small_after (tables contents h) e within_limits small
 
@@ -102,15 +121,18 @@ until_at r bytes moment at = (at.0, (let is = at.1 in omega (arith, is)))
 
 -- WHAT IS OWED
 
-answer_accepted : (limits : Limits) (t : Tables) (now : ℕ) (ev : Event) (flaw : Flaw) → denial t ev ≡ None → answer limits t now ev flaw ≡ accepted_acts limits t now ev flaw
+answer_accepted : (limits : Limits) (t : Tables) (now : ℕ) (ev : Event) (flaw : Flaw) → denial t ev ≡ None →
+    answer limits t now ev flaw ≡ accepted_acts limits t now ev flaw
 unfolding answer
 answer_accepted limits t now ev flaw none = ap (λ o. denied_or o (accepted_acts limits t now ev flaw)) none
 
-answer_denied : (limits : Limits) (t : Tables) (now : ℕ) (ev : Event) (flaw : Flaw) (why : Refusal) → denial t ev ≡ Some why → answer limits t now ev flaw ≡ act.Denied why ∷ []
+answer_denied : (limits : Limits) (t : Tables) (now : ℕ) (ev : Event) (flaw : Flaw) (why : Refusal) → denial t ev ≡ Some why →
+    answer limits t now ev flaw ≡ act.Denied why ∷ []
 unfolding answer
 answer_denied limits t now ev flaw why some = ap (λ o. denied_or o (accepted_acts limits t now ev flaw)) some
 
-may_stand_accepted : (limits : Limits) (t : Tables) (e : Entry) (flaw : Flaw) → flaw_in e.acts ≡ flaw → may_be limits t e flaw ≡ true → may_stand limits t e ≡ true
+may_stand_accepted : (limits : Limits) (t : Tables) (e : Entry) (flaw : Flaw) → flaw_in e.acts ≡ flaw → may_be limits t e flaw ≡ true →
+    may_stand limits t e ≡ true
 unfolding may_stand
 may_stand_accepted limits t e flaw shown may = or_second (is_denied e.acts) (may_be limits t e (flaw_in e.acts)) (ap (may_be limits t e) shown ∙ may)
 
@@ -134,17 +156,24 @@ pub record OneMore {B : Type 0} {g : Ghosts B} (r u : Rows B g) (contents : Cont
   pub rows : RowsStand (shelf_of u.entries).limits u (tables contents (record { now = now; event = ev; acts = acts } ∷ h))
 
 -- its acts are those that were appended
-pub record Reported {B : Type 0} {g : Ghosts B} (r u : Rows B g) (contents : Contents) (h : History) (before out : List Act) (now : ℕ) (ev : Event) : Type 0 where
+pub record Reported {B : Type 0} {g : Ghosts B} (r u : Rows B g) (contents : Contents) (h : History) (before out : List Act) (now : ℕ) (ev : Event) : Type
+    0 where
   pub reported : out ≡ before ++ acts_in before out
   pub more : OneMore r u contents h (acts_in before out) now ev
 
-reported_by : {B : Type 0} {g : Ghosts B} (r u : Rows B g) (contents : Contents) (h : History) (before out acts : List Act) (now : ℕ) (ev : Event) → out ≡ before ++ acts → OneMore r u contents h acts now ev → Reported r u contents h before out now ev
+reported_by : {B : Type 0} {g : Ghosts B} (r u : Rows B g) (contents : Contents) (h : History) (before out acts : List Act) (now : ℕ) (ev : Event) →
+    out ≡ before ++ acts → OneMore r u contents h acts now ev → Reported r u contents h before out now ev
 reported_by r u contents h before out acts now ev reported more =
     let same : acts_in before out ≡ acts = ap (drop (length before)) reported ∙ drop-append_seam before acts in
-    record { reported = reported ∙ ap (λ (z : List Act). before ++ z) (sym same); more = subst (λ (z : List Act). OneMore r u contents h z now ev) (sym same) more }
+    record {
+      reported = reported ∙ ap (λ (z : List Act). before ++ z) (sym same);
+      more =
+          subst (λ (z : List Act). OneMore r u contents h z now ev) (sym same) more;
+    }
 
 -- a failure that the acts tell was counted
-one_counted : (faults after : ℕ) (flaw : Flaw) (b : Bool) → is_fault flaw ≡ b → (is_fault flaw ≡ true → faults < after) → faults ≤ after → faults + (if b then 1 else 0) ≤ after
+one_counted : (faults after : ℕ) (flaw : Flaw) (b : Bool) → is_fault flaw ≡ b → (is_fault flaw ≡ true → faults < after) → faults ≤ after →
+    faults + (if b then 1 else 0) ≤ after
 one_counted faults after flaw b is caused never = grind (arith, nat_tests)
 
 module _ {B : Type 0} {g : Ghosts B} (r u : Rows B g) (now : ℕ) (ev : Event) (before out : List Act)
@@ -163,7 +192,8 @@ module _ {B : Type 0} {g : Ghosts B} (r u : Rows B g) (now : ℕ) (ev : Event) (
 
     -- whatever was owed, the rows represent it
     stands_with : (acts : List Act) (after : Tables) → after ≡ tables contents (with_acts acts ∷ h) → after.moment ≡ now
-        → IsOwed (shelf_of r.entries).limits t (with_acts acts) → (shelf_of r.entries).faults + failures_in acts ≤ (shelf_of u.entries).faults → (shelf_of u.entries).limits ≡ (shelf_of r.entries).limits → RowsStand (shelf_of r.entries).limits u after → OneMore r u contents h acts now ev
+        → IsOwed (shelf_of r.entries).limits t (with_acts acts) → (shelf_of r.entries).faults + failures_in acts ≤ (shelf_of u.entries).faults →
+        (shelf_of u.entries).limits ≡ (shelf_of r.entries).limits → RowsStand (shelf_of r.entries).limits u after → OneMore r u contents h acts now ev
     stands_with acts after is now_is owed counts bounded stands = record {
       begins = ap (λ l. may_begin l contents) bounded ∙ begun;
       run = subst (λ l. IsRun l contents (with_acts acts ∷ h)) (sym bounded) (run, owed);
@@ -186,14 +216,20 @@ module _ {B : Type 0} {g : Ghosts B} (r u : Rows B g) (now : ℕ) (ev : Event) (
           later = in_time;
           acts = sym (ap (answer (shelf_of r.entries).limits t now ev) done.shown ∙ answer_accepted (shelf_of r.entries).limits t now ev done.flaw free);
           flaw = may_stand_accepted (shelf_of r.entries).limits t e done.flaw done.shown done.may;
-        }) (subst (λ (f : Flaw). (shelf_of r.entries).faults + (if is_fault f then 1 else 0) ≤ (shelf_of u.entries).faults) (sym done.shown) counts) done.rows.limits done.rows)
+        }) (subst (λ (f : Flaw). (shelf_of r.entries).faults + (if is_fault f then 1 else 0) ≤ (shelf_of u.entries).faults) (sym done.shown) counts)
+        done.rows.limits done.rows)
     by_refusal (Some why) is =
         let some : denial t ev ≡ Some why = sym (denies_as r t ev rows) ∙ is in
         let acts = act.Denied why ∷ [] in
         let e : Entry = with_acts acts in
         reported_by r u contents h before out acts now ev (denied why is).1
         (stands_with acts (after_denied t e) (denied_tables contents h e refl) refl
-        (record { later = in_time; acts = sym (answer_denied (shelf_of r.entries).limits t now ev NoFlaw why some); flaw = may_stand_denied (shelf_of r.entries).limits t e refl })
+        (record {
+          later = in_time;
+          acts = sym (answer_denied (shelf_of r.entries).limits t now ev NoFlaw why some);
+          flaw =
+              may_stand_denied (shelf_of r.entries).limits t e refl;
+        })
         (omega (arith, never))
         (ap (λ (z : Rows B g). (shelf_of z.entries).limits) (denied why is).0)
         (subst (λ z. RowsStand (shelf_of r.entries).limits z (after_denied t e)) (sym (denied why is).0) (stands_denied r t e rows)))
@@ -215,7 +251,8 @@ module _ {B : Type 0} {g : Ghosts B} (r u : Rows B g) (now : ℕ) (ev : Event) (
           within_limits = (s.within_limits, within_limits_fields ev within_limits);
           starts = (s.starts, has_target ev within_limits);
           run = more.run;
-          received = more_received {a = bytes + received_in ev} (received_in ev) refl (received_next s.contents s.h (record { now = now; event = ev; acts = acts_in before out })) s.received;
+          received = more_received {a = bytes + received_in ev} (received_in ev) refl
+              (received_next s.contents s.h (record { now = now; event = ev; acts = acts_in before out })) s.received;
           rows = more.rows;
         },
         more.moment,
@@ -226,15 +263,18 @@ module _ {B : Type 0} {g : Ghosts B} (r u : Rows B g) (now : ℕ) (ev : Event) (
       merely_below u.last_start (2 ^ 62) some (λ until.
       let more = (some_more last later until).more in
       let was : (tables until.0.contents until.0.h).last_start < 2 ^ 62 = subst (λ n. n < 2 ^ 62) until.0.rows.last_start small in
-      subst (λ n. n < 2 ^ 62) (sym more.rows.last_start) (small_next until.0.contents until.0.h (record { now = now; event = ev; acts = acts_in before out }) within_limits was))
+      subst (λ n. n < 2 ^ 62) (sym more.rows.last_start)
+      (small_next until.0.contents until.0.h (record { now = now; event = ev; acts = acts_in before out }) within_limits was))
 
   pub bounded_after : (last : ℕ) → last ≤ now → ∥ StandsUntil r bytes last ∥₁ → (shelf_of u.entries).limits ≡ (shelf_of r.entries).limits
-  bounded_after last later some = ∥∥₁_elim some (limits_set (shelf_of u.entries).limits (shelf_of r.entries).limits) (λ s. (some_more last later s).more.bounded)
+  bounded_after last later some =
+      ∥∥₁_elim some (limits_set (shelf_of u.entries).limits (shelf_of r.entries).limits) (λ s. (some_more last later s).more.bounded)
 
   pub reported_after : (last : ℕ) → last ≤ now → ∥ StandsUntil r bytes last ∥₁ → out ≡ before ++ acts_in before out
   reported_after last later some = ∥∥₁_elim some (acts_set out (before ++ acts_in before out)) (λ s. (some_more last later s).reported)
 
-  pub counted_after : (last : ℕ) → last ≤ now → ∥ StandsUntil r bytes last ∥₁ → (shelf_of r.entries).faults + failures_in (acts_in before out) ≤ (shelf_of u.entries).faults
+  pub counted_after : (last : ℕ) → last ≤ now → ∥ StandsUntil r bytes last ∥₁ → (shelf_of r.entries).faults + failures_in
+      (acts_in before out) ≤ (shelf_of u.entries).faults
   counted_after last later some = ∥∥₁_elim some le_prop (λ s. (some_more last later s).more.counted)
 
 module _ {B : Type 0} {g : Ghosts B} (s u : Cache B g) (now : ℕ) (ev : Event) (before out : List Act)
@@ -245,7 +285,8 @@ module _ {B : Type 0} {g : Ghosts B} (s u : Cache B g) (now : ℕ) (ev : Event) 
   stands_on : ∥ StandsUntil s.rows s.received s.last_moment ∥₁ → (contents : Contents) (h : History) → StandsFor s contents h → StandsFor u contents (record { now = now; event = ev; acts = acts_in before out } ∷ h)
   stands_on some contents h stands =
       let sized = sized_of_any s.rows s.received contents h small (∥∥₁_map some (λ until. until.0)) stands.begins stands.run stands.rows in
-      let more = (one_more s.rows u.rows now ev before out denied answered never s.received small contents h stands.begins stands.run sized stands.rows (subst (λ m. m ≤ now) stands.moment later)).more in
+      let more = (one_more s.rows u.rows now ev before out denied answered never s.received small contents h stands.begins stands.run sized stands.rows
+      (subst (λ m. m ≤ now) stands.moment later)).more in
       record {
         begins = more.begins;
         short = stands.short;

@@ -14,5 +14,6 @@ module _ {B : Type 0} {g : Ghosts B} (r : Rows B g) (x : ℕ) (o : Open) (runnin
   pub since : (bytes now : ℕ) → StandsUntil r bytes now → o.moment ≤ now
   since bytes now (s, until) = opened_by (tables s.contents s.h) now (heads_in_runs (shelf_of r.entries).limits s.contents s.h s.begins s.run) s.rows until
 
-pub timely : {B : Type 0} {g : Ghosts B} (r : Rows B g) (bytes x now : ℕ) → now < 2 ^ 62 → ∥ StandsUntil r bytes now ∥₁ → IsTimely now (table_of r.exchanges x).running
+pub timely : {B : Type 0} {g : Ghosts B} (r : Rows B g) (bytes x now : ℕ) → now < 2 ^ 62 → ∥ StandsUntil r bytes now ∥₁ →
+    IsTimely now (table_of r.exchanges x).running
 timely r bytes x now early some o running = record { later = ∥∥₁_elim some le_prop (λ until. since r x o running bytes now until); small = early }

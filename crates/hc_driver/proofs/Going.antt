@@ -51,7 +51,8 @@ all_but_last [] a b taken = record { part = []; rest = []; whole = refl; takes =
 all_but_last (e ∷ h) a b taken = record { part = e.text; rest = []; whole = append-nil e.text; takes = taken }
 
 -- all that was answered before goes in front
-ahead : (f g : History) (a b c : Option (List ℕ)) → Takes a b (text_of f) → TakesThenPrefix b c (text_before g) (last_text g) → TakesThenPrefix a c (text_before (g ++ f)) (last_text (g ++ f))
+ahead : (f g : History) (a b c : Option (List ℕ)) → Takes a b (text_of f) → TakesThenPrefix b c (text_before g) (last_text g) →
+    TakesThenPrefix a c (text_before (g ++ f)) (last_text (g ++ f))
 ahead f [] a b c taken up =
     let none : up.part ≡ [] = nothing_first up.part up.rest up.whole in
     let same : Takes b c [] = subst (λ (l : List ℕ). Takes b c l) none up.takes in
@@ -77,7 +78,8 @@ pub record Counts : Type 0 where
   pub faults : ℕ
 
 module _ {A : Type 0} (reports : A → ℕ → ℕ → Event → List ℕ → A → Type 0) (over : A → Bool) (spent : A → A → Type 0) where
-  leads-append : (n m : ℕ) (s t u : A) (h g : History) → m ≡ n + length h → Leads reports over n s h t → Leads reports over m t g u → Leads reports over n s (g ++ h) u
+  leads-append : (n m : ℕ) (s t u : A) (h g : History) → m ≡ n + length h → Leads reports over n s h t → Leads reports over m t g u →
+      Leads reports over n s (g ++ h) u
   leads-append n m s t u h _ is first nothing = first
   leads-append n m s t u h _ is first (more g e v w rest is_open reported) =
       let number : m + length g + 1 ≡ n + length (g ++ h) + 1 = let len = length-append g h in omega arith in
@@ -97,23 +99,30 @@ module _ {A : Type 0} (reports : A → ℕ → ℕ → Event → List ℕ → A 
   goes_none n s out is_open = wholly [] refl nothing is_open (takes_none out)
 
   -- all of some events, and then some more so far
-  pub goes_more : (n m : ℕ) (s t u : A) (a b c : Option (List ℕ)) (how : How) (xs ys : List Timed) → Goes reports over spent n s t a b Wholly xs → m ≡ n + length xs
+  pub goes_more : (n m : ℕ) (s t u : A) (a b c : Option (List ℕ)) (how : How) (xs ys : List Timed) → Goes reports over spent n s t a b Wholly xs →
+      m ≡ n + length xs
       → Goes reports over spent m t u b c how ys → Goes reports over spent n s u a c how (xs ++ ys)
   goes_more n m s t u a b c _ xs ys (wholly f f_are f_leads f_open f_taken) is (wholly g g_are g_leads g_open g_taken) =
-      wholly (g ++ f) (events-join f g xs ys f_are g_are) (leads-append n m s t u f g (number-is n m f xs f_are is) f_leads g_leads) g_open (texts-join f g a b c f_taken g_taken)
+      wholly (g ++ f) (events-join f g xs ys f_are g_are) (leads-append n m s t u f g (number-is n m f xs f_are is) f_leads g_leads) g_open
+      (texts-join f g a b c f_taken g_taken)
   goes_more n m s t u a b c _ xs ys (wholly f f_are f_leads f_open f_taken) is (up_to_end g g_are g_leads ended g_taken) =
-      up_to_end (g ++ f) (events-join f g xs ys f_are g_are) (leads-append n m s t u f g (number-is n m f xs f_are is) f_leads g_leads) ended (texts-join f g a b c f_taken g_taken)
+      up_to_end (g ++ f) (events-join f g xs ys f_are g_are) (leads-append n m s t u f g (number-is n m f xs f_are is) f_leads g_leads) ended
+      (texts-join f g a b c f_taken g_taken)
   goes_more n m s t u a b c _ xs ys (wholly f f_are f_leads f_open f_taken) is (up_to_last g g_are g_leads g_taken) =
-      up_to_last (g ++ f) (events-join f g xs ys f_are g_are) (leads-append n m s t u f g (number-is n m f xs f_are is) f_leads g_leads) (ahead f g a b c f_taken g_taken)
+      up_to_last (g ++ f) (events-join f g xs ys f_are g_are) (leads-append n m s t u f g (number-is n m f xs f_are is) f_leads g_leads)
+      (ahead f g a b c f_taken g_taken)
   goes_more n m s t u a b c _ xs ys (wholly f f_are f_leads f_open f_taken) is (up_to_want g last g_are g_leads g_open g_taken led) =
-      up_to_want (g ++ f) last (events-join f g xs ys f_are g_are) (leads-append n m s t last f g (number-is n m f xs f_are is) f_leads g_leads) g_open (texts-join f g a b c f_taken g_taken) led
+      up_to_want (g ++ f) last (events-join f g xs ys f_are g_are) (leads-append n m s t last f g (number-is n m f xs f_are is) f_leads g_leads) g_open
+      (texts-join f g a b c f_taken g_taken) led
 
   -- what went wholly went up to the last
-  pub wholly_last : (n : ℕ) (s u : A) (a b : Option (List ℕ)) (xs : List Timed) → Goes reports over spent n s u a b Wholly xs → Goes reports over spent n s u a b UpToLast xs
+  pub wholly_last : (n : ℕ) (s u : A) (a b : Option (List ℕ)) (xs : List Timed) → Goes reports over spent n s u a b Wholly xs →
+      Goes reports over spent n s u a b UpToLast xs
   wholly_last n s u a b xs (wholly h are leads is_open taken) = up_to_last h are leads (all_but_last h a b taken)
 
   -- what went wholly, and its next answer was refused memory
-  wholly_want : (n : ℕ) (s t u : A) (a b : Option (List ℕ)) (xs : List Timed) → Goes reports over spent n s t a b Wholly xs → spent t u → Goes reports over spent n s u a b UpToWant xs
+  wholly_want : (n : ℕ) (s t u : A) (a b : Option (List ℕ)) (xs : List Timed) → Goes reports over spent n s t a b Wholly xs → spent t u →
+      Goes reports over spent n s u a b UpToWant xs
   wholly_want n s t u a b xs (wholly h are leads is_open taken) led = up_to_want h t are leads is_open taken led
 
   -- ONE EVENT
@@ -136,7 +145,8 @@ module _ {A : Type 0} (reports : A → ℕ → ℕ → Event → List ℕ → A 
     pub is_open : over u ≡ false
     pub calm : now.faults ≡ before.faults
 
-  pub written_none : (s : A) (now : Counts) (events : List Timed) (out : Option (List ℕ)) → over s ≡ false → AreTimed now.moment events → IsWritten s s now now events 0 out out
+  pub written_none : (s : A) (now : Counts) (events : List Timed) (out : Option (List ℕ)) → over s ≡ false → AreTimed now.moment events →
+      IsWritten s s now now events 0 out out
   written_none s now events out is_open timed = record {
     goes = goes_none now.number s out is_open;
     numbered = omega arith;
@@ -161,7 +171,8 @@ module _ {A : Type 0} (reports : A → ℕ → ℕ → Event → List ℕ → A 
   may_step s u before now events i out out' timed w lt is = subst (λ (l : List Timed). AreTimed now.moment l) (from events i timed lt is) w.timed
 
   -- the number of those that went
-  number-taken : (s u : A) (before now : Counts) (events : List Timed) (i : ℕ) (out out' : Option (List ℕ)) → IsWritten s u before now events i out out' → i < length events
+  number-taken : (s u : A) (before now : Counts) (events : List Timed) (i : ℕ) (out out' : Option (List ℕ)) → IsWritten s u before now events i out out' →
+      i < length events
       → now.number ≡ before.number + length (take i events)
   number-taken s u before now events i out out' w lt = let l = length-take i events in omega (arith, w.numbered, lt)
 
@@ -169,7 +180,8 @@ module _ {A : Type 0} (reports : A → ℕ → ℕ → Event → List ℕ → A 
   pub written_more : (s t u : A) (before now next : Counts) (events : List Timed) (i : ℕ) (a b c : Option (List ℕ)) (timed : Timed) (number : ℕ) (text : List ℕ)
       → IsWritten s t before now events i a b → i < length events → timed ≡ get_or events i timed
       → reports t number timed.now timed.event text u → over u ≡ false → Takes b c text
-      → number ≡ now.number + 1 → next.number ≡ number → next.steps ≡ now.steps + 1 → next.received ≡ now.received + received_in timed.event → next.moment ≡ timed.now → next.faults ≡ now.faults
+      → number ≡ now.number + 1 → next.number ≡ number → next.steps ≡ now.steps + 1 → next.received ≡ now.received + received_in timed.event →
+      next.moment ≡ timed.now → next.faults ≡ now.faults
       → IsWritten s u before next events (i + 1) a c
   written_more s t u before now next events i a b c timed number text w lt is reported is_open takes one_more kept steps received moment faults =
       let now_wholly : Goes reports over spent now.number t u b c Wholly (timed ∷ []) =
@@ -180,7 +192,8 @@ module _ {A : Type 0} (reports : A → ℕ → ℕ → Event → List ℕ → A 
       let more_size : size_of (take (i + 1) events) ≡ size_of (take i events ++ timed ∷ []) = ap size_of is_prefix in
       record {
         goes = subst (λ (l : List Timed). Goes reports over spent before.number s u a c Wholly l) (sym is_prefix)
-            (goes_more before.number now.number s t u a b c Wholly (take i events) (timed ∷ []) w.goes (number-taken s t before now events i a b w lt) now_wholly);
+            (goes_more before.number now.number s t u a b c Wholly (take i events) (timed ∷ []) w.goes (number-taken s t before now events i a b w lt)
+            now_wholly);
         numbered = omega arith;
         counted = omega arith;
         size = omega arith;
@@ -205,14 +218,16 @@ module _ {A : Type 0} (reports : A → ℕ → ℕ → Event → List ℕ → A 
 
   pub written_end : (s t u : A) (before now : Counts) (number : ℕ) (events : List Timed) (i : ℕ) (a b c : Option (List ℕ)) (timed : Timed) (text : List ℕ)
       → IsWritten s t before now events i a b → i < length events → timed ≡ get_or events i timed
-      → reports t number timed.now timed.event text u → over u ≡ true → Takes b c text → number ≡ now.number + 1 → Some (Goes reports over spent before.number s u a c) UpToEnd events
+      → reports t number timed.now timed.event text u → over u ≡ true → Takes b c text → number ≡ now.number + 1 →
+      Some (Goes reports over spent before.number s u a c) UpToEnd events
   written_end s t u before now number events i a b c timed text w lt is reported ended takes numbered =
       written_some s t u before now events i a b c UpToEnd timed w lt is
       (up_to_end ((record { timed = timed; text = text }) ∷ []) refl (one now.number number t u timed text w.is_open reported numbered) ended takes)
 
   pub written_last : (s t u : A) (before now : Counts) (number : ℕ) (events : List Timed) (i : ℕ) (a b c : Option (List ℕ)) (timed : Timed) (text : List ℕ)
       → IsWritten s t before now events i a b → i < length events → timed ≡ get_or events i timed
-      → reports t number timed.now timed.event text u → TakesPrefix b c text → number ≡ now.number + 1 → Some (Goes reports over spent before.number s u a c) UpToLast events
+      → reports t number timed.now timed.event text u → TakesPrefix b c text → number ≡ now.number + 1 →
+      Some (Goes reports over spent before.number s u a c) UpToLast events
   written_last s t u before now number events i a b c timed text w lt is reported takes numbered =
       written_some s t u before now events i a b c UpToLast timed w lt is
       (up_to_last ((record { timed = timed; text = text }) ∷ []) refl (one now.number number t u timed text w.is_open reported numbered)
@@ -235,13 +250,17 @@ module _ {A : Type 0} (reports : A → ℕ → ℕ → Event → List ℕ → A 
       inl (written_last s t u before now number events i a b b timed reported.0 w lt is reported.1 none numbered)
 
   -- as what is refused is called
-  pub comes_memory : (n : ℕ) (s u : A) (a b : Option (List ℕ)) (events : List Timed) (result : Result (Unit {0}) Stop) → IsErrAnd result (λ (st : Stop). st ≡ stop.NoMemory)
-      → Some (Goes reports over spent n s u a b) UpToLast events ⊎ Wants (Goes reports over spent n s u a b) events → Comes (Goes reports over spent n s u a b) events result
+  pub comes_memory : (n : ℕ) (s u : A) (a b : Option (List ℕ)) (events : List Timed) (result : Result (Unit {0}) Stop) →
+      IsErrAnd result (λ (st : Stop). st ≡ stop.NoMemory)
+      → Some (Goes reports over spent n s u a b) UpToLast events ⊎ Wants (Goes reports over spent n s u a b) events →
+      Comes (Goes reports over spent n s u a b) events result
   comes_memory n s u a b events (Ok x) is lacks = absurd is
   comes_memory n s u a b events (Err st) is lacks = subst (λ (l : Stop). Comes (Goes reports over spent n s u a b) events (Err l)) (sym is) lacks
 
-  pub comes_sink : (n : ℕ) (s u : A) (a b : Option (List ℕ)) (events : List Timed) (e : SinkError) (result : Result (Unit {0}) Stop) → IsErrAnd result (λ (st : Stop). st ≡ of_sink e)
+  pub comes_sink : (n : ℕ) (s u : A) (a b : Option (List ℕ)) (events : List Timed) (e : SinkError) (result : Result (Unit {0}) Stop) →
+      IsErrAnd result (λ (st : Stop). st ≡ of_sink e)
       → Some (Goes reports over spent n s u a b) UpToLast events → Comes (Goes reports over spent n s u a b) events result
   comes_sink n s u a b events e (Ok x) is last = absurd is
   comes_sink n s u a b events sink.SinkFailed (Err st) is last = subst (λ (l : Stop). Comes (Goes reports over spent n s u a b) events (Err l)) (sym is) last
-  comes_sink n s u a b events sink.NoMemory (Err st) is last = subst (λ (l : Stop). Comes (Goes reports over spent n s u a b) events (Err l)) (sym is) (inl last)
+  comes_sink n s u a b events sink.NoMemory (Err st) is last =
+      subst (λ (l : Stop). Comes (Goes reports over spent n s u a b) events (Err l)) (sym is) (inl last)

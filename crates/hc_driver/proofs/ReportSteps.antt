@@ -23,7 +23,8 @@ ends_so Went Goes so moment left left' _ (endings.refused reach text r read refu
 ends_so Went Goes so moment left left' _ (endings.unreadable text gives unrefused went) = endings.unreadable text gives unrefused (so _ _ went)
 ends_so Went Goes so moment left left' _ (endings.unwritten text first rest gives stepped went) = endings.unwritten text first rest gives stepped (so _ _ went)
 ends_so Went Goes so moment left left' _ (endings.wanting text first rest gives stepped went) = endings.wanting text first rest gives stepped (so _ _ went)
-ends_so Went Goes so moment left left' _ (endings.wanting_answer text first rest next gives stepped went) = endings.wanting_answer text first rest next gives stepped (so _ _ went)
+ends_so Went Goes so moment left left' _ (endings.wanting_answer text first rest next gives stepped went) =
+    endings.wanting_answer text first rest next gives stepped (so _ _ went)
 
 -- what was all reported was reported up to the last
 pub all_reported : (h : History) (a b : Option (List ℕ)) → Takes a b (report_of h) → TakesThenPrefix a b (report_before h) (last_entry h)
@@ -34,7 +35,8 @@ module _ {A : Type 0} (answers : A → ℕ → Event → List Act → A → Type
   -- it was answered, and its text was refused memory
   pub lacks_text : (s u : A) (number now : ℕ) (event : Event) (before after : List Act) {E : Type 0} (r : Result (Unit {0}) E)
       → Appends answers s u now event before after → OnErr r (Lacks (Reports answers) spent s number now event u)
-  lacks_text s u number now event before after r reported = on_err r (inr (entry_text number reported.acts, record { acts = reported.acts; answered = reported.answered; text_is = refl }))
+  lacks_text s u number now event before after r reported =
+      on_err r (inr (entry_text number reported.acts, record { acts = reported.acts; answered = reported.answered; text_is = refl }))
 
   -- these steps have that course
   record Stepped (s u : A) (h : courses.History) : Type 0 where
@@ -47,7 +49,8 @@ module _ {A : Type 0} (answers : A → ℕ → Event → List Act → A → Type
     length_is : length history ≡ length h
 
   stepped : (s u : A) (h : courses.History) → courses.Leads (Reports answers) never 0 s h u → Stepped s u h
-  stepped s _ _ courses.nothing = record { history = []; leads = nothing; events_are = refl; report_is = refl; before_is = refl; last_is = refl; length_is = refl }
+  stepped s _ _ courses.nothing =
+      record { history = []; leads = nothing; events_are = refl; report_is = refl; before_is = refl; last_is = refl; length_is = refl }
   stepped s _ _ (courses.more h e t u leads is_open reported) =
       let first = stepped s t h leads in
       let entry : Entry = record { timed = e.timed; acts = reported.acts } in
@@ -57,14 +60,16 @@ module _ {A : Type 0} (answers : A → ℕ → Event → List Act → A → Type
         history = entry ∷ first.history;
         leads = more first.history entry t u first.leads reported.answered;
         events_are = ap (λ (l : List Timed). l ++ e.timed ∷ []) first.events_are;
-        report_is = ap (λ (l : List ℕ). l ++ entry_text (length first.history + 1) reported.acts) first.report_is ∙ ap (λ (l : List ℕ). courses.text_of h ++ l) text;
+        report_is = ap (λ (l : List ℕ). l ++ entry_text (length first.history + 1) reported.acts) first.report_is ∙
+            ap (λ (l : List ℕ). courses.text_of h ++ l) text;
         before_is = first.report_is;
         last_is = text;
         length_is = let same = first.length_is in omega arith;
       }
 
   -- how far a course went, it was stepped
-  pub steps_so : (s u : A) (out out' : Option (List ℕ)) (how : How) (events : List Timed) → Goes (Reports answers) never spent 0 s u out out' how events → Steps answers spent s u out out' how events
+  pub steps_so : (s u : A) (out out' : Option (List ℕ)) (how : How) (events : List Timed) → Goes (Reports answers) never spent 0 s u out out' how events →
+      Steps answers spent s u out out' how events
   steps_so s u out out' _ events (courses.wholly h are leads is_open taken) =
       let by = stepped s u h leads in
       wholly by.history (by.events_are ∙ are) by.leads (subst (λ (l : List ℕ). Takes out out' l) (sym by.report_is) taken)
@@ -72,11 +77,13 @@ module _ {A : Type 0} (answers : A → ℕ → Event → List Act → A → Type
   steps_so s u out out' _ events (courses.up_to_last h are leads taken) =
       let by = stepped s u h leads in
       up_to_last by.history (by.events_are ∙ are) by.leads
-      (subst (λ (l : List ℕ). TakesThenPrefix out out' (report_before by.history) l) (sym by.last_is) (subst (λ (l : List ℕ). TakesThenPrefix out out' l (courses.last_text h)) (sym by.before_is) taken))
+      (subst (λ (l : List ℕ). TakesThenPrefix out out' (report_before by.history) l) (sym by.last_is)
+      (subst (λ (l : List ℕ). TakesThenPrefix out out' l (courses.last_text h)) (sym by.before_is) taken))
   steps_so s u out out' _ events (courses.up_to_want h last are leads is_open taken led) =
       let by = stepped s last h leads in
       up_to_want by.history last (by.events_are ∙ are) by.leads (subst (λ (l : List ℕ). Takes out out' l) (sym by.report_is) taken) led
 
-  pub ends_stepped : (s u : A) (moment : ℕ) (left left' out out' : Option (List ℕ)) (e : Ended) → Ends (Goes (Reports answers) never spent 0 s u out out') moment left left' e
+  pub ends_stepped : (s u : A) (moment : ℕ) (left left' out out' : Option (List ℕ)) (e : Ended) →
+      Ends (Goes (Reports answers) never spent 0 s u out out') moment left left' e
       → Ends (Steps answers spent s u out out') moment left left' e
   ends_stepped s u moment left left' out out' e ends = ends_so _ _ (steps_so s u out out') moment left left' e ends

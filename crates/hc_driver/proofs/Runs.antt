@@ -9,7 +9,7 @@ use Rattle.std.{proofs.{Common.{◌≡◌, ◌⊎◌, ℕ, ◌+◌, ◌*◌, ◌
 use Rattle.hc_event.specs.declared.event.Event.{Event}
 use Rattle.hc_io.specs.Source.{Gives, GivesAll, IsAtEnd}
 use Rattle.hc_io.proofs.Givings.{gives_none, gives_more}
-use Rattle.hc_sched.specs.{declared.{place.Place.{Place}, schedule.{Refused.{Refused}, Timed.{Timed}, FeedError.{FeedError}}}, Reading.{Progress, Reads, Stopped, after, events_in, beginning, refusal_of}, Feeding.{lines_in, is_between, Feeds, ending}, Laws.{AreTimed, refusal_at}, Schedule.{IsSmall}}
+use Rattle.hc_sched.specs.{declared.{place.Place.{Place}, schedule.{Refused.{Refused}, Timed.{Timed}, FeedError.{FeedError}}}, Reading.{Progress, Reads, Stopped, after, events_in, beginning, refusal_of, is_between, refusal_at}, Feeding.{lines_in, Feeds, ending}, Laws.{AreTimed}, Schedule.{IsSmall}}
 use Rattle.hc_sched.specs.declared.schedule.Ended.TheVariants as ended
 use Rattle.hc_sched.specs.declared.schedule.FeedError.TheVariants as error
 use Rattle.hc_sched.proofs.{FeedLemmas.{after-append, after-stopped, events_in-append}, OneReading.{brings_timed, is_read, is_spelled}}
@@ -30,7 +30,8 @@ pub record Extent : Type 0 where
   pub given : ℕ
 
 -- what was read so far went wholly
-pub record IsOn {A : Type 0} (reports : A → ℕ → ℕ → Event → List ℕ → A → Type 0) (over : A → Bool) (spent : A → A → Type 0) (s u : A) (moment given : ℕ) (now : Extent) (feed : Progress) (left left' out out' : Option (List ℕ)) : Type 0 where
+pub record IsOn {A : Type 0} (reports : A → ℕ → ℕ → Event → List ℕ → A → Type 0) (over : A → Bool) (spent : A → A → Type 0) (s u : A) (moment given : ℕ)
+    (now : Extent) (feed : Progress) (left left' out out' : Option (List ℕ)) : Type 0 where
   pub text : List ℕ
   pub gives : Gives left left' text
   pub leads : after (beginning moment) text ≡ feed
@@ -68,7 +69,8 @@ pub front_few : (xs ys all : List Timed) → xs ++ ys ≡ all → length xs ≤ 
 front_few xs ys all e = let parts = length-append xs ys in let same : length (xs ++ ys) ≡ length all = ap length e in omega arith
 
 module _ {A : Type 0} (reports : A → ℕ → ℕ → Event → List ℕ → A → Type 0) (over : A → Bool) (spent : A → A → Type 0) where
-  pub on_start : (s : A) (moment : ℕ) (now : Extent) (left out : Option (List ℕ)) → now.number ≡ 0 → now.steps + now.received ≡ 0 → now.moment ≤ moment → over s ≡ false
+  pub on_start : (s : A) (moment : ℕ) (now : Extent) (left out : Option (List ℕ)) → now.number ≡ 0 → now.steps + now.received ≡ 0 → now.moment ≤ moment →
+      over s ≡ false
       → IsOn reports over spent s s moment now.given now (beginning moment) left left out out
   on_start s moment now left out number none le is_open = record {
     text = [];
@@ -85,7 +87,8 @@ module _ {A : Type 0} (reports : A → ℕ → ℕ → Event → List ℕ → A 
     is_open = is_open;
   }
 
-  pub brought-append : (moment : ℕ) (text piece : List ℕ) → events_from moment (text ++ piece) ≡ events_from moment text ++ events_in (after (beginning moment) text) piece
+  pub brought-append : (moment : ℕ) (text piece : List ℕ) → events_from moment (text ++ piece) ≡ events_from moment text ++ events_in
+      (after (beginning moment) text) piece
   brought-append moment text piece = events_in-append (beginning moment) text piece
 
   -- the events of the next piece may be stepped, and are no more than fit
@@ -93,28 +96,35 @@ module _ {A : Type 0} (reports : A → ℕ → ℕ → Event → List ℕ → A 
       → IsOn reports over spent s u moment given now feed left left' out out' → AreTimed now.moment (events_in feed piece)
   next_timed s u moment given now feed left left' out out' piece small on =
       let all = brings_timed moment (on.text ++ piece) small in
-      let parts : events_from moment (on.text ++ piece) ≡ events_from moment on.text ++ events_in feed piece = brought-append moment on.text piece ∙ ap (λ (p : Progress). events_from moment on.text ++ events_in p piece) on.leads in
+      let parts : events_from moment (on.text ++ piece) ≡ events_from moment on.text ++ events_in feed piece = brought-append moment on.text piece ∙
+      ap (λ (p : Progress). events_from moment on.text ++ events_in p piece) on.leads in
       let back = timed_back moment (events_from moment on.text) (events_in feed piece) (subst (λ (l : List Timed). AreTimed moment l) parts all) in
       timed_from (last_moment moment (events_from moment on.text)) now.moment (events_in feed piece) on.moment_is back
 
   pub next_small : (s u : A) (moment given : ℕ) (now : Extent) (feed : Progress) (left left' out out' : Option (List ℕ)) (piece : List ℕ)
-      → (on : IsOn reports over spent s u moment given now feed left left' out out') → now.steps + now.received + size_of (events_in feed piece) ≤ length on.text + length piece
+      → (on : IsOn reports over spent s u moment given now feed left left' out out') →
+      now.steps + now.received + size_of (events_in feed piece) ≤ length on.text + length piece
   next_small s u moment given now feed left left' out out' piece on =
-      let parts : events_from moment (on.text ++ piece) ≡ events_from moment on.text ++ events_in feed piece = brought-append moment on.text piece ∙ ap (λ (p : Progress). events_from moment on.text ++ events_in p piece) on.leads in
+      let parts : events_from moment (on.text ++ piece) ≡ events_from moment on.text ++ events_in feed piece = brought-append moment on.text piece ∙
+      ap (λ (p : Progress). events_from moment on.text ++ events_in p piece) on.leads in
       let small = brought_small moment (on.text ++ piece) in
       let len = length-append on.text piece in
-      let size : size_of (events_from moment (on.text ++ piece)) ≡ size_of (events_from moment on.text) + size_of (events_in feed piece) = ap size_of parts ∙ size_of-append (events_from moment on.text) (events_in feed piece) in
+      let size : size_of (events_from moment (on.text ++ piece)) ≡ size_of (events_from moment on.text) + size_of (events_in feed piece) =
+      ap size_of parts ∙ size_of-append (events_from moment on.text) (events_in feed piece) in
       let on_size = on.size in
       omega arith
 
   -- each has two bytes
   pub next_few : (s u : A) (moment given : ℕ) (now : Extent) (feed : Progress) (left left' out out' : Option (List ℕ)) (piece : List ℕ)
-      → (on : IsOn reports over spent s u moment given now feed left left' out out') → 2 * (now.steps + length (events_in feed piece)) ≤ length on.text + length piece
+      → (on : IsOn reports over spent s u moment given now feed left left' out out') →
+      2 * (now.steps + length (events_in feed piece)) ≤ length on.text + length piece
   next_few s u moment given now feed left left' out out' piece on =
-      let parts : events_from moment (on.text ++ piece) ≡ events_from moment on.text ++ events_in feed piece = brought-append moment on.text piece ∙ ap (λ (p : Progress). events_from moment on.text ++ events_in p piece) on.leads in
+      let parts : events_from moment (on.text ++ piece) ≡ events_from moment on.text ++ events_in feed piece = brought-append moment on.text piece ∙
+      ap (λ (p : Progress). events_from moment on.text ++ events_in p piece) on.leads in
       let few = brought_few moment (on.text ++ piece) in
       let len = length-append on.text piece in
-      let count : length (events_from moment (on.text ++ piece)) ≡ length (events_from moment on.text) + length (events_in feed piece) = ap length parts ∙ length-append (events_from moment on.text) (events_in feed piece) in
+      let count : length (events_from moment (on.text ++ piece)) ≡ length (events_from moment on.text) + length (events_in feed piece) = ap length parts ∙
+      length-append (events_from moment on.text) (events_in feed piece) in
       let numbered = on.numbered in let number = on.number_is in
       omega arith
 
@@ -125,7 +135,8 @@ module _ {A : Type 0} (reports : A → ℕ → ℕ → Event → List ℕ → A 
   comes_err n s u a b xs st result was comes = subst (λ (l : Result (Unit {0}) Stop). Comes (Goes reports over spent n s u a b) xs l) was comes
 
   -- the events that were fed stopped it
-  module _ (n : ℕ) (s u : A) (a b : Option (List ℕ)) (before : Progress) (piece : List ℕ) (now : Progress) (xs ys : List Timed) (whole : xs ++ ys ≡ events_in before piece) where
+  module _ (n : ℕ) (s u : A) (a b : Option (List ℕ)) (before : Progress) (piece : List ℕ) (now : Progress) (xs ys : List Timed)
+      (whole : xs ++ ys ≡ events_in before piece) where
     abbrev Went : How → List Timed → Type 0
     Went = Goes reports over spent n s u a b
 
@@ -154,18 +165,21 @@ module _ {A : Type 0} (reports : A → ℕ → ℕ → Event → List ℕ → A 
     by_stop stop.SinkFailed it = some_fed UpToLast it
     by_stop stop.NoMemory it = wants_fed it
 
-    pub passes_stopped : (st : Stop) (result : Result (Unit {0}) Stop) → IsErrAnd result (λ (e : Stop). e ≡ st) → Comes Went xs (Err st) → Passes Went before piece now result
+    pub passes_stopped : (st : Stop) (result : Result (Unit {0}) Stop) → IsErrAnd result (λ (e : Stop). e ≡ st) → Comes Went xs (Err st) →
+        Passes Went before piece now result
     passes_stopped st (Ok x) is comes = absurd is
     passes_stopped st (Err e) is comes = subst (λ (l : Stop). Passes Went before piece now (Err l)) (sym is) (by_stop st comes)
 
   -- the text is refused, or there was not enough memory to feed it
-  pub passes_fed : (n : ℕ) (s u : A) (a b : Option (List ℕ)) (before : Progress) (piece : List ℕ) (now : Progress) (xs : List Timed) (e : FeedError) (fed : Result (Unit {0}) FeedError) (result : Result (Unit {0}) Stop)
+  pub passes_fed : (n : ℕ) (s u : A) (a b : Option (List ℕ)) (before : Progress) (piece : List ℕ) (now : Progress) (xs : List Timed) (e : FeedError)
+      (fed : Result (Unit {0}) FeedError) (result : Result (Unit {0}) Stop)
       → IsErrAnd result (λ (st : Stop). st ≡ of_feed e) → fed ≡ Err e → Feeds before piece fed now [] xs → Goes reports over spent n s u a b Wholly xs
       → Passes (Goes reports over spent n s u a b) before piece now result
   passes_fed n s u a b before piece now xs e fed (Ok x) is was h goes = absurd is
   passes_fed n s u a b before piece now xs (error.Refused r) fed (Err st) is was h goes =
       let f = subst (λ (l : Result (Unit {0}) FeedError). Feeds before piece l now [] xs) was h in
-      subst (λ (l : Stop). Passes (Goes reports over spent n s u a b) before piece now (Err l)) (sym is) (f.leads, subst (λ (l : List Timed). Goes reports over spent n s u a b Wholly l) f.adds goes)
+      subst (λ (l : Stop). Passes (Goes reports over spent n s u a b) before piece now (Err l)) (sym is)
+      (f.leads, subst (λ (l : List Timed). Goes reports over spent n s u a b Wholly l) f.adds goes)
   passes_fed n s u a b before piece now xs error.NoMemory fed (Err st) is was h goes =
       let f = subst (λ (l : Result (Unit {0}) FeedError). Feeds before piece l now [] xs) was h in
       let some : pieces.Some (Goes reports over spent n s u a b) UpToLast (events_in before piece) =
@@ -183,17 +197,22 @@ module _ {A : Type 0} (reports : A → ℕ → ℕ → Event → List ℕ → A 
       → Passes (Goes reports over spent now.number t u b c) feed piece feed' (Ok tt) → IsReading feed'
       → next.given ≡ now.given + length piece → lines_in feed' ≤ lines_in feed + length piece
       → next.number ≡ now.number + length (events_in feed piece) → next.steps ≡ now.steps + length (events_in feed piece)
-      → next.steps + next.received ≡ now.steps + now.received + size_of (events_in feed piece) → next.moment ≡ last_moment now.moment (events_in feed piece) → over u ≡ false
+      → next.steps + next.received ≡ now.steps + now.received + size_of (events_in feed piece) →
+      next.moment ≡ last_moment now.moment (events_in feed piece) → over u ≡ false
       → IsOn reports over spent s u moment given next feed' left new a c
   on_more s t u moment given now next feed feed' piece left mid new a b c on gives goes reading count lines number steps size last is_open =
-      let parts : events_from moment (on.text ++ piece) ≡ events_from moment on.text ++ events_in feed piece = brought-append moment on.text piece ∙ ap (λ (p : Progress). events_from moment on.text ++ events_in p piece) on.leads in
+      let parts : events_from moment (on.text ++ piece) ≡ events_from moment on.text ++ events_in feed piece = brought-append moment on.text piece ∙
+      ap (λ (p : Progress). events_from moment on.text ++ events_in p piece) on.leads in
       let len = length-append on.text piece in
       let events = length-append (events_from moment on.text) (events_in feed piece) in
       let same : length (events_from moment (on.text ++ piece)) ≡ length (events_from moment on.text ++ events_in feed piece) = ap length parts in
       let on_count = on.count in let on_lines = on.lines in let on_numbered = on.numbered in let on_number = on.number_is in let on_size = on.size in
-      let sizes : size_of (events_from moment (on.text ++ piece)) ≡ size_of (events_from moment on.text) + size_of (events_in feed piece) = ap size_of parts ∙ size_of-append (events_from moment on.text) (events_in feed piece) in
-      let later : last_moment now.moment (events_in feed piece) ≤ last_moment (last_moment moment (events_from moment on.text)) (events_in feed piece) = last_later now.moment _ (events_in feed piece) on.moment_is in
-      let is_last : last_moment moment (events_from moment (on.text ++ piece)) ≡ last_moment (last_moment moment (events_from moment on.text)) (events_in feed piece) = ap (last_moment moment) parts ∙ last-append moment (events_from moment on.text) (events_in feed piece) in
+      let sizes : size_of (events_from moment (on.text ++ piece)) ≡ size_of (events_from moment on.text) + size_of (events_in feed piece) =
+      ap size_of parts ∙ size_of-append (events_from moment on.text) (events_in feed piece) in
+      let later : last_moment now.moment (events_in feed piece) ≤ last_moment (last_moment moment (events_from moment on.text)) (events_in feed piece) =
+      last_later now.moment _ (events_in feed piece) on.moment_is in
+      let is_last : last_moment moment (events_from moment (on.text ++ piece)) ≡ last_moment (last_moment moment (events_from moment on.text))
+      (events_in feed piece) = ap (last_moment moment) parts ∙ last-append moment (events_from moment on.text) (events_in feed piece) in
       record {
         text = on.text ++ piece;
         gives = gives_more left mid new on.text piece on.gives gives;
@@ -231,11 +250,13 @@ module _ {A : Type 0} (reports : A → ℕ → ℕ → Event → List ℕ → A 
   rests left mid new text f g = subst (λ (l : List ℕ). Gives left new l) (append-nil text) (gives_more left mid new text [] f g)
 
   -- no line of what was read so far is refused
-  unrefused : (s u : A) (moment given : ℕ) (now : Extent) (feed : Progress) (left mid a b : Option (List ℕ)) → (on : IsOn reports over spent s u moment given now feed left mid a b) → IsUnrefused moment on.text
+  unrefused : (s u : A) (moment given : ℕ) (now : Extent) (feed : Progress) (left mid a b : Option (List ℕ)) →
+      (on : IsOn reports over spent s u moment given now feed left mid a b) → IsUnrefused moment on.text
   unrefused s u moment given now feed left mid a b on = subst IsReading (sym on.leads) on.reading
 
   refusal_here : (feed : Progress) → IsReading feed → (result : Result (Unit {0}) FeedError) → result ≡ ending feed → IsAs feed result
-  refusal_here feed reading result is = subst (λ (l : Result (Unit {0}) FeedError). IsAs feed l) (sym is) (subst (λ (p : Progress). IsAs p (ending p)) (sym reading.2) (here reading.0 reading.1))
+  refusal_here feed reading result is =
+      subst (λ (l : Result (Unit {0}) FeedError). IsAs feed l) (sym is) (subst (λ (p : Progress). IsAs p (ending p)) (sym reading.2) (here reading.0 reading.1))
     where
       here : (place : Place) (line : List ℕ) → IsAs (Reads place line) (ending (Reads place line))
       here place line = elim (cases_Bool (is_between place line)) [
@@ -248,7 +269,8 @@ module _ {A : Type 0} (reports : A → ℕ → ℕ → Event → List ℕ → A 
 
   -- all was read
   pub read_out : (s u : A) (moment given : ℕ) (now : Extent) (feed : Progress) (left mid new a b : Option (List ℕ))
-      → IsOn reports over spent s u moment given now feed left mid a b → Gives mid new [] → IsAtEnd new → IsReadOut (Goes reports over spent 0 s u a b) moment left new feed
+      → IsOn reports over spent s u moment given now feed left mid a b → Gives mid new [] → IsAtEnd new →
+      IsReadOut (Goes reports over spent 0 s u a b) moment left new feed
   read_out s u moment given now feed left mid new a b on gives end = record {
     text = on.text;
     gives = gives_all left new on.text (rests left mid new on.text on.gives gives) end;
@@ -258,7 +280,8 @@ module _ {A : Type 0} (reports : A → ℕ → ℕ → Event → List ℕ → A 
   }
 
   -- and how it ends is by what the feed answers
-  module _ (s u : A) (moment : ℕ) (feed : Progress) (left new a b : Option (List ℕ)) (result : Result (Unit {0}) FeedError) (out : IsReadOut (Goes reports over spent 0 s u a b) moment left new feed) (is : result ≡ ending feed) where
+  module _ (s u : A) (moment : ℕ) (feed : Progress) (left new a b : Option (List ℕ)) (result : Result (Unit {0}) FeedError)
+      (out : IsReadOut (Goes reports over spent 0 s u a b) moment left new feed) (is : result ≡ ending feed) where
     refusal_read : IsAs feed result
     refusal_read = refusal_here feed (subst IsReading out.leads out.unrefused) result is
 
@@ -270,7 +293,8 @@ module _ {A : Type 0} (reports : A → ℕ → ℕ → Event → List ℕ → A 
         endings.done out.text spelled.0 out.gives spelled.1
         (subst (λ (l : List Timed). Goes reports over spent 0 s u a b Wholly l) same out.went)
 
-    pub ends_cut_short : (e : FeedError) (stopped : Result (Unit {0}) Stop) → result ≡ Err e → IsErrAnd stopped (λ (st : Stop). st ≡ of_feed e) → Ends (Goes reports over spent 0 s u a b) moment left new (ended_as stopped)
+    pub ends_cut_short : (e : FeedError) (stopped : Result (Unit {0}) Stop) → result ≡ Err e → IsErrAnd stopped (λ (st : Stop). st ≡ of_feed e) →
+        Ends (Goes reports over spent 0 s u a b) moment left new (ended_as stopped)
     ends_cut_short e (Ok x) err stops = absurd stops
     ends_cut_short (error.Refused r) (Err st) err stops =
         let some : refusal_at feed ≡ Some r = subst (λ (l : Result (Unit {0}) FeedError). IsAs feed l) err refusal_read in
@@ -279,10 +303,12 @@ module _ {A : Type 0} (reports : A → ℕ → ℕ → Event → List ℕ → A 
     ends_cut_short error.NoMemory (Err st) err stops = absurd (subst (λ (l : Result (Unit {0}) FeedError). IsAs feed l) err refusal_read)
 
   stays : (moment : ℕ) (text : List ℕ) (r : Refused) → after (beginning moment) text ≡ Stopped r → IsRefused moment text r
-  stays moment text r leads more = ap refusal_at (after-append (beginning moment) text more ∙ (ap (λ (p : Progress). after p more) leads ∙ after-stopped r more))
+  stays moment text r leads more =
+      ap refusal_at (after-append (beginning moment) text more ∙ (ap (λ (p : Progress). after p more) leads ∙ after-stopped r more))
 
   -- a piece stops it
-  module _ (s t u : A) (moment given : ℕ) (now : Extent) (feed feed' : Progress) (piece : List ℕ) (left mid new a b c : Option (List ℕ)) (on : IsOn reports over spent s t moment given now feed left mid a b) (gives : Gives mid new piece) (short : length piece ≤ 16384) where
+  module _ (s t u : A) (moment given : ℕ) (now : Extent) (feed feed' : Progress) (piece : List ℕ) (left mid new a b c : Option (List ℕ))
+      (on : IsOn reports over spent s t moment given now feed left mid a b) (gives : Gives mid new piece) (short : length piece ≤ 16384) where
     abbrev Here : How → List Timed → Type 0
     Here = Goes reports over spent now.number t u b c
 
@@ -328,15 +354,20 @@ module _ {A : Type 0} (reports : A → ℕ → ℕ → Event → List ℕ → A 
         breaks.refused (on.text ++ piece) r all refused (subst (λ (l : List Timed). Whole Wholly l) (sym parts) (joined Wholly (events_in feed piece) went))
 
     breaks_wanting : pieces.Some Here UpToLast (events_in feed piece) ⊎ Wants Here (events_in feed piece) → Breaks Whole moment left new stop.NoMemory
-    breaks_wanting (inl some) = breaks.wanting (on.text ++ piece) (earlier ++ some.first) some.rest all (at_once some.first some.rest some.whole) (joined UpToLast some.first some.went)
+    breaks_wanting (inl some) =
+        breaks.wanting (on.text ++ piece) (earlier ++ some.first) some.rest all (at_once some.first some.rest some.whole) (joined UpToLast some.first some.went)
     breaks_wanting (inr wants) =
-        breaks.wanting_answer (on.text ++ piece) (earlier ++ wants.first) wants.rest wants.next all (at_once wants.first (wants.next ∷ wants.rest) wants.whole) (joined UpToWant wants.first wants.went)
+        breaks.wanting_answer (on.text ++ piece) (earlier ++ wants.first) wants.rest wants.next all
+        (at_once wants.first (wants.next ∷ wants.rest) wants.whole) (joined UpToWant wants.first wants.went)
 
     pub breaks_at : (st : Stop) → Passes Here feed piece feed' (Err st) → Breaks Whole moment left new st
-    breaks_at stop.Over some = breaks.over (on.text ++ piece) (earlier ++ some.first) some.rest all (at_once some.first some.rest some.whole) (joined UpToEnd some.first some.went)
+    breaks_at stop.Over some =
+        breaks.over (on.text ++ piece) (earlier ++ some.first) some.rest all (at_once some.first some.rest some.whole) (joined UpToEnd some.first some.went)
     breaks_at (stop.Refused r) passes = breaks_refused r passes.0 passes.1
     breaks_at stop.SourceFailed never = absurd never
-    breaks_at stop.SinkFailed some = breaks.unwritten (on.text ++ piece) (earlier ++ some.first) some.rest all (at_once some.first some.rest some.whole) (joined UpToLast some.first some.went)
+    breaks_at stop.SinkFailed some =
+        breaks.unwritten (on.text ++ piece) (earlier ++ some.first) some.rest all (at_once some.first some.rest some.whole)
+        (joined UpToLast some.first some.went)
     breaks_at stop.NoMemory it = breaks_wanting it
 
   -- what an error names
@@ -346,28 +377,34 @@ module _ {A : Type 0} (reports : A → ℕ → ℕ → Event → List ℕ → A 
 
   -- what was read stopped it
   pub breaks_source : {T : Type 0} (s u : A) (moment given : ℕ) (now : Extent) (feed : Progress) (left mid new a b : Option (List ℕ)) (stopped : Result T Stop)
-      → IsOn reports over spent s u moment given now feed left mid a b → new ≡ mid → IsErrAnd stopped (λ (st : Stop). st ≡ stop.SourceFailed) → IfErr stopped (Breaks (Goes reports over spent 0 s u a b) moment left new)
+      → IsOn reports over spent s u moment given now feed left mid a b → new ≡ mid → IsErrAnd stopped (λ (st : Stop). st ≡ stop.SourceFailed) →
+      IfErr stopped (Breaks (Goes reports over spent 0 s u a b) moment left new)
   breaks_source s u moment given now feed left mid new a b stopped on same stops =
       names stop.SourceFailed stopped (Breaks (Goes reports over spent 0 s u a b) moment left new) stops
       (breaks.unreadable on.text (rw same on.gives) (unrefused s u moment given now feed left mid a b on) on.goes)
 
-  pub breaks_as : {T : Type 0} (s t u : A) (moment given : ℕ) (now : Extent) (feed feed' : Progress) (piece : List ℕ) (left mid new a b c : Option (List ℕ)) (st : Stop) (result : Result (Unit {0}) Stop) (stopped : Result T Stop)
+  pub breaks_as : {T : Type 0} (s t u : A) (moment given : ℕ) (now : Extent) (feed feed' : Progress) (piece : List ℕ)
+      (left mid new a b c : Option (List ℕ)) (st : Stop) (result : Result (Unit {0}) Stop) (stopped : Result T Stop)
       → IsOn reports over spent s t moment given now feed left mid a b → Gives mid new piece → length piece ≤ 16384
       → Passes (Goes reports over spent now.number t u b c) feed piece feed' result → result ≡ Err st → IsErrAnd stopped (λ (e : Stop). e ≡ st)
       → IfErr stopped (Breaks (Goes reports over spent 0 s u a c) moment left new)
   breaks_as s t u moment given now feed feed' piece left mid new a b c st result stopped on gives short goes was stops =
       names st stopped (Breaks (Goes reports over spent 0 s u a c) moment left new) stops
-      (breaks_at s t u moment given now feed feed' piece left mid new a b c on gives short st (subst (λ (l : Result (Unit {0}) Stop). Passes (Goes reports over spent now.number t u b c) feed piece feed' l) was goes))
+      (breaks_at s t u moment given now feed feed' piece left mid new a b c on gives short st
+      (subst (λ (l : Result (Unit {0}) Stop). Passes (Goes reports over spent now.number t u b c) feed piece feed' l) was goes))
 
   -- where nothing more is answered, the course is over
-  ended_over : (s u : A) (n : ℕ) (before now : Progress) (piece : List ℕ) (a b : Option (List ℕ)) → Passes (Goes reports over spent n s u a b) before piece now (Err stop.Over) → over u ≡ true
+  ended_over : (s u : A) (n : ℕ) (before now : Progress) (piece : List ℕ) (a b : Option (List ℕ)) →
+      Passes (Goes reports over spent n s u a b) before piece now (Err stop.Over) → over u ≡ true
   ended_over s u n before now piece a b some = by_way some.first some.went
     where
       by_way : (events : List Timed) → Goes reports over spent n s u a b UpToEnd events → over u ≡ true
       by_way events (courses.up_to_end h are leads is_over taken) = is_over
 
-  pub over_as : {T : Type 0} (s u : A) (n : ℕ) (before now : Progress) (piece : List ℕ) (a b : Option (List ℕ)) (st : Stop) (result : Result (Unit {0}) Stop) (stopped : Result T Stop)
-      → Passes (Goes reports over spent n s u a b) before piece now result → result ≡ Err st → IsErrAnd stopped (λ (e : Stop). e ≡ st) → stopped ≡ Err stop.Over → over u ≡ true
+  pub over_as : {T : Type 0} (s u : A) (n : ℕ) (before now : Progress) (piece : List ℕ) (a b : Option (List ℕ)) (st : Stop)
+      (result : Result (Unit {0}) Stop) (stopped : Result T Stop)
+      → Passes (Goes reports over spent n s u a b) before piece now result → result ≡ Err st → IsErrAnd stopped (λ (e : Stop). e ≡ st) →
+      stopped ≡ Err stop.Over → over u ≡ true
   over_as s u n before now piece a b st result (Ok x) goes was stops is = absurd stops
   over_as s u n before now piece a b st result (Err e) goes was stops is =
       let same : e ≡ stop.Over = ap stop_of is in
@@ -387,6 +424,7 @@ module _ (Went : How → List Timed → Type 0) (moment : ℕ) (left left' : Opt
   ends_broken _ (breaks.wanting text first rest gives at_once went) = endings.wanting text first rest gives at_once went
   ends_broken _ (breaks.wanting_answer text first rest next gives at_once went) = endings.wanting_answer text first rest next gives at_once went
 
-  pub ends_as : (st : Stop) (result : Result (Unit {0}) Stop) → Breaks Went moment left left' st → IsErrAnd result (λ (e : Stop). e ≡ st) → Ends Went moment left left' (ended_as result)
+  pub ends_as : (st : Stop) (result : Result (Unit {0}) Stop) → Breaks Went moment left left' st → IsErrAnd result (λ (e : Stop). e ≡ st) →
+      Ends Went moment left left' (ended_as result)
   ends_as st (Ok x) broken is = absurd is
   ends_as st (Err e) broken is = subst (λ (l : Stop). Ends Went moment left left' (ended_by l)) (sym is) (ends_broken st broken)

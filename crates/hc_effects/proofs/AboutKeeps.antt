@@ -42,10 +42,13 @@ module _ (step : Step) where
   now_on = after_accepted t e
 
   -- where its head hasn't come
-  module _ (c r x lo : ℕ) (hi : Option ℕ) (how : BoundBy) (u : Consumer) (row : now_on.consumer c ≡ Some u) (stands : u.place ≡ place.Bound r lo hi how) (is : IsOwn now_on u x) where
+  module _ (c r x lo : ℕ) (hi : Option ℕ) (how : BoundBy) (u : Consumer) (row : now_on.consumer c ≡ Some u) (stands : u.place ≡ place.Bound r lo hi how)
+      (is : IsOwn now_on u x) where
     asking : (a : Consumer) → a ≡ u → is.w.head ≡ None → IsAwaiting x is.w a.place → IsAbout now_on r x
-    asking a same bare (owners.direct way at) = absurd (let no : place.Direct x ≡ place.Bound r lo hi how = sym at ∙ (ap (λ (q : Consumer). q.place) same ∙ stands) in cc)
-    asking a same bare (owners.turn way at) = absurd (let no : place.Turn x ≡ place.Bound r lo hi how = sym at ∙ (ap (λ (q : Consumer). q.place) same ∙ stands) in cc)
+    asking a same bare (owners.direct way at) =
+        absurd (let no : place.Direct x ≡ place.Bound r lo hi how = sym at ∙ (ap (λ (q : Consumer). q.place) same ∙ stands) in cc)
+    asking a same bare (owners.turn way at) =
+        absurd (let no : place.Turn x ≡ place.Bound r lo hi how = sym at ∙ (ap (λ (q : Consumer). q.place) same ∙ stands) in cc)
     asking a same bare (owners.hole q l h g way aim at) =
         let p = from.place_inj q l h g r lo hi how (sym at ∙ (ap (λ (q : Consumer). q.place) same ∙ stands)) in
         let hole = hole_is is.w.need way in
@@ -69,10 +72,14 @@ module _ (step : Step) where
       still w joined same is_there = of_family (ap (λ (z : Option ℕ). unwrap_or z x) joined ∙ same) (there r is_there)
 
       was_about : (w : Exchange) → t.exchange x ≡ Some w → is_some w.head ≡ true → is.w.joined ≡ w.joined → IsAbout t r x → IsAbout now_on r x
-      was_about w is_row had joined (sound.headed q row on some fam is_there) = still w joined (ap (family x) (same_row (t.exchange x) w q is_row row) ∙ fam) is_there
-      was_about w is_row had joined (sound.asks q a z row on bare needs aim) = absurd (false_true (sym (ap (λ (p : Option Response). is_some p) bare) ∙ (ap (λ (p : Exchange). is_some p.head) (same_row (t.exchange x) q w row is_row) ∙ had)))
+      was_about w is_row had joined (sound.headed q row on some fam is_there) =
+          still w joined (ap (family x) (same_row (t.exchange x) w q is_row row) ∙ fam) is_there
+      was_about w is_row had joined (sound.asks q a z row on bare needs aim) =
+          absurd (false_true (sym (ap (λ (p : Option Response). is_some p) bare) ∙
+          (ap (λ (p : Exchange). is_some p.head) (same_row (t.exchange x) q w row is_row) ∙ had)))
 
-      by_head : (k : Consumer) (w : Exchange) (response : Response) → ev ≡ event.Head x response → t.exchange x ≡ Some w → HeadedAs step x response w k.place u.place is.w → IsAbout now_on r x
+      by_head : (k : Consumer) (w : Exchange) (response : Response) → ev ≡ event.Head x response → t.exchange x ≡ Some w →
+          HeadedAs step x response w k.place u.place is.w → IsAbout now_on r x
       by_head k w response here is_row (head.direct at) = absurd (let no : place.Direct x ≡ place.Bound r lo hi how = sym at ∙ stands in cc)
       by_head k w response here is_row (head.founds l h g at on joined) =
           let p = from.place_inj x l h g r lo hi how (sym at ∙ stands) in
@@ -80,7 +87,8 @@ module _ (step : Step) where
           of_family (ap (λ (z : Option ℕ). unwrap_or z x) joined ∙ p.number) (ap (λ n. is_some (now_on.representation n)) (sym p.number) ∙ founded)
       by_head k w response here is_row (head.joins q l h g was at aim on joined) =
           let p = from.place_inj q l h g r lo hi how (sym at ∙ stands) in
-          of_family (ap (λ (z : Option ℕ). unwrap_or z x) joined ∙ p.number) (there r (ap (λ n. is_some (t.representation n)) (sym p.number) ∙ s.numbered.names.aims x q w is_row aim))
+          of_family (ap (λ (z : Option ℕ). unwrap_or z x) joined ∙ p.number)
+          (there r (ap (λ n. is_some (t.representation n)) (sym p.number) ∙ s.numbered.names.aims x q w is_row aim))
 
       kept_about : (k : Consumer) (w : Exchange) → IsRow t e c x k u → k.own ≡ Some x → t.exchange x ≡ Some w → IsSame t e x w is.w → IsAbout now_on r x
       kept_about k w rows mine is_row same = by_heard same.heard_or
@@ -91,19 +99,23 @@ module _ (step : Step) where
               let reading = o.reading c x k w rows.row mine is_row (same.was_open is.opened) had in
               let stays : u.place ≡ k.place = reader_stays step c x k u w is.w rows mine is.own is_row had is.row same is.opened reading in
               let was : IsBound t r c k = sound.is_bound lo hi how rows.row (sym stays ∙ stands) in
-              was_about w is_row had all.1 (s.writes.own_about r c x k was (own_open_is t k x (record { own = mine; w = w; row = is_row; opened = same.was_open is.opened })))
+              was_about w is_row had all.1
+              (s.writes.own_about r c x k was (own_open_is t k x (record { own = mine; w = w; row = is_row; opened = same.was_open is.opened })))
           by_heard (inr got) = by_head k w got.response got.at is_row (headed_as step c x k u w is.w got.response got.at rows mine is_row is.row same is.opened)
 
       left_about : (k : Consumer) → IsRow t e c x k u → (l : IsLeft t e c x (consumer_heard t e c ev k).place) → ExchangeFrom t e x is.w → IsAbout now_on r x
       left_about k rows l (exchange.new p none opens here made) = absurd (none_some _ (sym none ∙ (left_group step c x _ l).exchange_row))
       left_about k rows l (exchange.was w is_row same) =
           let writer_group = left_group step c x _ l in
-          let at : u.place ≡ place.Bound l.r l.lo l.hi l.how = heard_at step c x k u (λ d want polls. unpolled step d want polls (left_body step c x _ l)) rows ∙ l.at in
+          let at : u.place ≡ place.Bound l.r l.lo l.hi l.how =
+          heard_at step c x k u (λ d want polls. unpolled step d want polls (left_body step c x _ l)) rows ∙ l.at in
           let p = from.place_inj l.r l.lo l.hi l.how r lo hi how (sym at ∙ stands) in
           let one : writer_group.w ≡ w = same_row (t.exchange x) writer_group.w w writer_group.exchange_row is_row in
-          by_heard writer_group.headed one (ap (family x) (sym one) ∙ (writer_group.family_is ∙ p.number)) (ap (λ n. is_some (t.representation n)) (sym p.number) ∙ ap is_some writer_group.row) same.heard_or
+          by_heard writer_group.headed one (ap (family x) (sym one) ∙ (writer_group.family_is ∙ p.number))
+          (ap (λ n. is_some (t.representation n)) (sym p.number) ∙ ap is_some writer_group.row) same.heard_or
         where
-          by_heard : {q : Exchange} → is_some q.head ≡ true → q ≡ w → family x w ≡ r → is_some (t.representation r) ≡ true → ((is.w.head ≡ w.head) × (is.w.joined ≡ w.joined)) ⊎ IsHeaded t e x w is.w → IsAbout now_on r x
+          by_heard : {q : Exchange} → is_some q.head ≡ true → q ≡ w → family x w ≡ r → is_some (t.representation r) ≡ true →
+              ((is.w.head ≡ w.head) × (is.w.joined ≡ w.joined)) ⊎ IsHeaded t e x w is.w → IsAbout now_on r x
           by_heard had one fam is_there (inl all) = still w all.1 fam is_there
           by_heard had one fam is_there (inr got) =
               let bare = (is_new limits t now flaw s ev goes x got.response w got.at is_row).bare in
@@ -113,12 +125,15 @@ module _ (step : Step) where
       by_from (exchange.was w is_row same) (own.kept k rows mine heard) = kept_about k w rows mine is_row same
       by_from (exchange.new p none opens here made) (own.kept k rows mine heard) = absurd (false_true (ap is_some (sym none) ∙ o.there c x k rows.row mine))
       by_from (exchange.was w is_row same) (own.opened k p rows opens here this) = absurd (none_some w (sym (new_number step p x opens this) ∙ is_row))
-      by_from (exchange.new q none opens here made) (own.opened k p rows also mine this) = absurd (false_true (ap (λ (a : Exchange). is_some a.head) made ∙ headed))
+      by_from (exchange.new q none opens here made) (own.opened k p rows also mine this) =
+          absurd (false_true (ap (λ (a : Exchange). is_some a.head) made ∙ headed))
       by_from exchange_is (own.left k rows l) = left_about k rows l exchange_is
 
     by_test : may_stand limits t e ≡ true → (z : Option Response) → is.w.head ≡ z → IsAbout now_on r x
     by_test stand None bare = by_waiting bare (waiting_kept step stand x is.w is.row is.opened bare)
-    by_test stand (Some response) some = by_from (ap (λ (z : Option Response). is_some z) some) (exchange_from t e x (t.exchange x) is.w refl is.row) (own_from t e c x (t.consumer c) u refl row is.own)
+    by_test stand (Some response) some =
+        by_from (ap (λ (z : Option Response). is_some z) some) (exchange_from t e x (t.exchange x) is.w refl is.row)
+        (own_from t e c x (t.consumer c) u refl row is.own)
 
   -- Whose open exchange it is, and who is bound, is bound to what that is about.
   pub own_about_kept : may_stand limits t e ≡ true → (r c x : ℕ) (u : Consumer) → IsBound now_on r c u → own_open now_on u ≡ Some x → IsAbout now_on r x

@@ -14,7 +14,8 @@ use Rattle.hc_effects.proofs.{PieceKeeps.{eq_cases}, PollKeys.{IsNear, near_poll
 
 -- the acts of an accepted event, by its kind
 pub data IsAnswer (limits : Limits) (t : Tables) (now : ℕ) (ev : Event) (flaw : Flaw) : List Act → Type 0 where
-  reported : answer_acts t now ev flaw ≡ [] → IsAnswer limits t now ev flaw (map act.Evicted (evicted limits t now ev) ++ (loss_acts flaw ++ close_acts t now ev flaw))
+  reported : answer_acts t now ev flaw ≡ [] →
+      IsAnswer limits t now ev flaw (map act.Evicted (evicted limits t now ev) ++ (loss_acts flaw ++ close_acts t now ev flaw))
   asked : IsAnswer limits t now ev flaw (answer_acts t now ev flaw ++ (close_acts t now ev flaw ++ loss_acts flaw))
 
 pub answer_is : (limits : Limits) (t : Tables) (now : ℕ) (ev : Event) (flaw : Flaw) → IsAnswer limits t now ev flaw (accepted_acts limits t now ev flaw)
@@ -25,7 +26,8 @@ answer_is limits t now _ flaw = reported refl
 -- what is said to the consumer of a poll: nothing, its move, or that a read failed
 pub data IsSaid (t : Tables) (now : ℕ) (ev : Event) (flaw : Flaw) : List Act → Type 0 where
   silent : IsSaid t now ev flaw []
-  does : (c want : ℕ) (k : Consumer) (m : Move) → ev ≡ event.Poll c want → t.consumer c ≡ Some k → m ≡ poll_move t now want c (Some k) → IsNear t k m → IsSaid t now ev flaw (acts_of c m)
+  does : (c want : ℕ) (k : Consumer) (m : Move) → ev ≡ event.Poll c want → t.consumer c ≡ Some k → m ≡ poll_move t now want c (Some k) → IsNear t k m →
+      IsSaid t now ev flaw (acts_of c m)
   misreads : (c want r : ℕ) → ev ≡ event.Poll c want → flaw ≡ Misreads r → IsSaid t now ev flaw (act.Failed c (cause.StoreRead r) ∷ [])
 
 pub said_is : (t : Tables) (now : ℕ) (ev : Event) (flaw : Flaw) → IsSaid t now ev flaw (answer_acts t now ev flaw)
@@ -131,7 +133,8 @@ AllPass P [] = Unit {0}
 AllPass P (r ∷ rs) = P r × AllPass P rs
 
 -- what all that makes room has, what is evicted has
-pub evicts_all : (r : ℕ) (rs : List ℕ) (rest : List Act) (P : ℕ → Type 0) → AllPass P rs → evicts_in r rest ≡ false → evicts_in r (map act.Evicted rs ++ rest) ≡ true → P r
+pub evicts_all : (r : ℕ) (rs : List ℕ) (rest : List Act) (P : ℕ → Type 0) → AllPass P rs → evicts_in r rest ≡ false → evicts_in
+    r (map act.Evicted rs ++ rest) ≡ true → P r
 evicts_all r [] rest P all none h = absurd (let never : false ≡ true = sym none ∙ h in cc)
 evicts_all r (q ∷ rs) rest P all none h = elim (eq_cases q r) [
   | inl here ↦ rw (sym here.1) all.0
@@ -148,7 +151,8 @@ pub move_closes : (x r c : ℕ) (m : Move) (rest : List Act) → ClosesAs x r (a
 move_closes x r c Nothing rest = record { closes = refl; loses = refl; evicts = refl }
 move_closes x r c _ rest = record { closes = refl; loses = refl; evicts = refl }
 
-pub said_closes : (x r : ℕ) (t : Tables) (now : ℕ) (ev : Event) (flaw : Flaw) (acts rest : List Act) → IsSaid t now ev flaw acts → ClosesAs x r (acts ++ rest) rest
+pub said_closes : (x r : ℕ) (t : Tables) (now : ℕ) (ev : Event) (flaw : Flaw) (acts rest : List Act) → IsSaid t now ev flaw acts →
+    ClosesAs x r (acts ++ rest) rest
 said_closes x r t now ev flaw _ rest silent = record { closes = refl; loses = refl; evicts = refl }
 said_closes x r t now ev flaw _ rest (does c want k m at row is near) = move_closes x r c m rest
 said_closes x r t now ev flaw _ rest (misreads c want q at is) = record { closes = refl; loses = refl; evicts = refl }
@@ -166,27 +170,40 @@ pub record IsFarFrom (c : ℕ) (acts : List Act) : Type 0 where
   pub showing : (s : Showing) → showing_in acts ≡ Some s → nat_eq s.c c ≡ false
 
 far_nil : (c : ℕ) → IsFarFrom c []
-far_nil c = record { waits = refl; leaves = refl; fails = refl; shows = refl; given = refl; opens = λ o h. absurd (let never : None ≡ Some o = h in cc); showing = λ s h. absurd (let never : None ≡ Some s = h in cc) }
+far_nil c = record {
+  waits = refl;
+  leaves = refl;
+  fails = refl;
+  shows = refl;
+  given = refl;
+  opens = λ o h. absurd (let never : None ≡ Some o = h in cc);
+  showing = λ s h. absurd (let never : None ≡ Some s = h in cc);
+}
 
 pub far_loss : (c : ℕ) (flaw : Flaw) (rest : List Act) → IsFarFrom c rest → IsFarFrom c (loss_acts flaw ++ rest)
-far_loss c (Loses r kind) rest far = record { waits = far.waits; leaves = far.leaves; fails = far.fails; shows = far.shows; given = far.given; opens = far.opens; showing = far.showing }
+far_loss c (Loses r kind) rest far =
+    record { waits = far.waits; leaves = far.leaves; fails = far.fails; shows = far.shows; given = far.given; opens = far.opens; showing = far.showing }
 far_loss c _ rest far = far
 
 pub far_lost_only : (c : ℕ) (flaw : Flaw) → IsFarFrom c (loss_acts flaw)
-far_lost_only c (Loses r kind) = let far = far_nil c in record { waits = refl; leaves = refl; fails = refl; shows = refl; given = refl; opens = far.opens; showing = far.showing }
+far_lost_only c (Loses r kind) = let far = far_nil c in
+    record { waits = refl; leaves = refl; fails = refl; shows = refl; given = refl; opens = far.opens; showing = far.showing }
 far_lost_only c _ = far_nil c
 
 pub far_closing : (c : ℕ) (ys : List ℕ) (rest : List Act) → IsFarFrom c rest → IsFarFrom c (map act.Close ys ++ rest)
 far_closing c [] rest far = far
-far_closing c (y ∷ ys) rest far = let f = far_closing c ys rest far in record { waits = f.waits; leaves = f.leaves; fails = f.fails; shows = f.shows; given = f.given; opens = f.opens; showing = f.showing }
+far_closing c (y ∷ ys) rest far = let f = far_closing c ys rest far in
+    record { waits = f.waits; leaves = f.leaves; fails = f.fails; shows = f.shows; given = f.given; opens = f.opens; showing = f.showing }
 
 pub far_closed : (c : ℕ) (ys : List ℕ) → IsFarFrom c (map act.Close ys)
 far_closed c [] = far_nil c
-far_closed c (y ∷ ys) = let f = far_closed c ys in record { waits = f.waits; leaves = f.leaves; fails = f.fails; shows = f.shows; given = f.given; opens = f.opens; showing = f.showing }
+far_closed c (y ∷ ys) = let f = far_closed c ys in
+    record { waits = f.waits; leaves = f.leaves; fails = f.fails; shows = f.shows; given = f.given; opens = f.opens; showing = f.showing }
 
 pub far_evicted : (c : ℕ) (rs : List ℕ) (rest : List Act) → IsFarFrom c rest → IsFarFrom c (map act.Evicted rs ++ rest)
 far_evicted c [] rest far = far
-far_evicted c (r ∷ rs) rest far = let f = far_evicted c rs rest far in record { waits = f.waits; leaves = f.leaves; fails = f.fails; shows = f.shows; given = f.given; opens = f.opens; showing = f.showing }
+far_evicted c (r ∷ rs) rest far = let f = far_evicted c rs rest far in
+    record { waits = f.waits; leaves = f.leaves; fails = f.fails; shows = f.shows; given = f.given; opens = f.opens; showing = f.showing }
 
 pub far_other : (c d : ℕ) (m : Move) (rest : List Act) → nat_eq d c ≡ false → IsFarFrom c rest → IsFarFrom c (acts_of d m ++ rest)
 far_other c d Nothing rest other far = far
@@ -208,12 +225,52 @@ far_other c d (Shows r why head lo hi) rest other far = record {
   opens = far.opens;
   showing = λ s h. ap (λ (q : Showing). nat_eq q.c c) (sym (some_is _ s h)) ∙ other;
 }
-far_other c d (Gives run) rest other far = record { waits = far.waits; leaves = far.leaves; fails = far.fails; shows = far.shows; given = rw other far.given; opens = far.opens; showing = far.showing }
-far_other c d Ends rest other far = record { waits = far.waits; leaves = rw other far.leaves; fails = far.fails; shows = far.shows; given = far.given; opens = far.opens; showing = far.showing }
-far_other c d (Fails cause) rest other far = record { waits = far.waits; leaves = rw other far.leaves; fails = rw other far.fails; shows = far.shows; given = far.given; opens = far.opens; showing = far.showing }
-far_other c d _ rest other far = record { waits = rw other far.waits; leaves = far.leaves; fails = far.fails; shows = far.shows; given = far.given; opens = far.opens; showing = far.showing }
+far_other c d (Gives run) rest other far =
+    record {
+      waits = far.waits;
+      leaves = far.leaves;
+      fails = far.fails;
+      shows = far.shows;
+      given = rw other far.given;
+      opens = far.opens;
+      showing =
+          far.showing;
+    }
+far_other c d Ends rest other far =
+    record {
+      waits = far.waits;
+      leaves = rw other far.leaves;
+      fails = far.fails;
+      shows = far.shows;
+      given = far.given;
+      opens = far.opens;
+      showing =
+          far.showing;
+    }
+far_other c d (Fails cause) rest other far =
+    record {
+      waits = far.waits;
+      leaves = rw other far.leaves;
+      fails = rw other far.fails;
+      shows = far.shows;
+      given = far.given;
+      opens = far.opens;
+      showing = far.showing;
+    }
+far_other c d _ rest other far =
+    record {
+      waits = rw other far.waits;
+      leaves = far.leaves;
+      fails = far.fails;
+      shows = far.shows;
+      given = far.given;
+      opens = far.opens;
+      showing =
+          far.showing;
+    }
 
-pub far_said : (c : ℕ) (t : Tables) (now : ℕ) (ev : Event) (flaw : Flaw) (acts rest : List Act) → ((d want : ℕ) → ev ≡ event.Poll d want → nat_eq d c ≡ false) → IsSaid t now ev flaw acts → IsFarFrom c rest → IsFarFrom c (acts ++ rest)
+pub far_said : (c : ℕ) (t : Tables) (now : ℕ) (ev : Event) (flaw : Flaw) (acts rest : List Act) →
+    ((d want : ℕ) → ev ≡ event.Poll d want → nat_eq d c ≡ false) → IsSaid t now ev flaw acts → IsFarFrom c rest → IsFarFrom c (acts ++ rest)
 far_said c t now ev flaw _ rest other silent far = far
 far_said c t now ev flaw _ rest other (does d want k m at row is near) far = far_other c d m rest (other d want at) far
 far_said c t now ev flaw _ rest other (misreads d want q at is) far = far_other c d (Fails (cause.StoreRead q)) rest (other d want at) far

@@ -24,10 +24,36 @@ pub record AreAlike (a b : List Act) : Type 0 where
   pub leaves : (c : ℕ) → leaves_in c a ≡ leaves_in c b
 
 pub alike_evicted : (rs : List ℕ) (b : List Act) → AreAlike (map act.Evicted rs ++ b) b
-alike_evicted [] b = record { loses = λ r. refl; loss = refl; misreads = λ r. refl; fails = λ c. refl; waits = λ c. refl; showing = refl; opens = refl; asks = λ x. refl; closes = λ x. refl; shows = λ c. refl; gives = λ c. refl; leaves = λ c. refl }
+alike_evicted [] b = record {
+  loses = λ r. refl;
+  loss = refl;
+  misreads = λ r. refl;
+  fails = λ c. refl;
+  waits = λ c. refl;
+  showing = refl;
+  opens = refl;
+  asks = λ x. refl;
+  closes = λ x. refl;
+  shows = λ c. refl;
+  gives = λ c. refl;
+  leaves = λ c. refl;
+}
 alike_evicted (r ∷ rs) b =
     let k = alike_evicted rs b in
-    record { loses = k.loses; loss = k.loss; misreads = k.misreads; fails = k.fails; waits = k.waits; showing = k.showing; opens = k.opens; asks = k.asks; closes = k.closes; shows = k.shows; gives = k.gives; leaves = k.leaves }
+    record {
+      loses = k.loses;
+      loss = k.loss;
+      misreads = k.misreads;
+      fails = k.fails;
+      waits = k.waits;
+      showing = k.showing;
+      opens = k.opens;
+      asks = k.asks;
+      closes = k.closes;
+      shows = k.shows;
+      gives = k.gives;
+      leaves = k.leaves;
+    }
 
 any_of_five : (a b c d f p q x y z : Bool) → a ≡ p → b ≡ q → c ≡ x → d ≡ y → f ≡ z → (a || b || c || d || f) ≡ (p || q || x || y || z)
 any_of_five a b c d f p q x y z at bt ct dt ft = rw (at, bt, ct, dt, ft) refl
@@ -69,7 +95,8 @@ module _ (t : Tables) (now : ℕ) (ev : Event) (a b : List Act) (k : AreAlike a 
   pub itself_same : (r : ℕ) (v : Representation) → goes_itself t e r v ≡ goes_itself t f r v
   itself_same r v =
       any_of_five _ _ _ _ _ _ _ _ _ _
-      (ap (λ z. is_current t v.key r && (is_key z v.key || is_key (bypass_key e) v.key)) doomed_same ∙ ap (λ z. is_current t v.key r && (is_key (doomed_key_of t f) v.key || is_key z v.key)) bypassed_same)
+      (ap (λ z. is_current t v.key r && (is_key z v.key || is_key (bypass_key e) v.key)) doomed_same ∙
+      ap (λ z. is_current t v.key r && (is_key (doomed_key_of t f) v.key || is_key z v.key)) bypassed_same)
       (by_exchange_same r (exchange_at t ev)) (k.loses r) (k.misreads r)
       (ap (λ z. (brings_whole v.head.status && z) && not (is_keepable v)) (ends_same r (t.exchange r)))
 
@@ -104,7 +131,8 @@ module _ (t : Tables) (now : ℕ) (ev : Event) (a b : List Act) (k : AreAlike a 
 
   -- CONSUMERS
 
-  with_head_same : (x : ℕ) (response : Response) (w : Exchange) (q : Consumer) → Rattle.hc_model.specs.ConsumerRows.with_head t e x response w q ≡ Rattle.hc_model.specs.ConsumerRows.with_head t f x response w q
+  with_head_same : (x : ℕ) (response : Response) (w : Exchange) (q : Consumer) →
+      Rattle.hc_model.specs.ConsumerRows.with_head t e x response w q ≡ Rattle.hc_model.specs.ConsumerRows.with_head t f x response w q
   with_head_same x response w q = grind (arith, nat_tests)
 
   by_head_same : (c x : ℕ) (response : Response) (q : Consumer) (z : Option Exchange) → by_head t e c x response z q ≡ by_head t f c x response z q

@@ -46,13 +46,15 @@ module _ (step : Step) (stand : may_stand step.limits step.tables (entry_of step
 
   -- A WRITING THAT WAS ON
 
-  pub was_written : (r x : ℕ) (v u : Representation) → IsKept t e r v u → IsOn now_on u x → u.writer ≡ v.writer → u.writer ≡ Some x → (is_written t v ≡ true) × (v.writer ≡ Some x) × (loses_in r e.acts ≡ false)
+  pub was_written : (r x : ℕ) (v u : Representation) → IsKept t e r v u → IsOn now_on u x → u.writer ≡ v.writer → u.writer ≡ Some x →
+      (is_written t v ≡ true) × (v.writer ≡ Some x) × (loses_in r e.acts ≡ false)
   was_written r x v u kept on same writer =
       let parts = or_false (loses_in r e.acts) v.is_lost (sym kept.lost_is ∙ on.kept) in
       let writes : v.writer ≡ Some x = sym same ∙ writer in
       (written_by t v x parts.1 writes (was_open x (now_on.exchange x) (o.writers r x v kept.row writes) refl on.open_now), writes, parts.0)
 
-  from_was : (r c x : ℕ) (v : Representation) (u : Consumer) → t.representation r ≡ Some v → is_written t v ≡ true → v.writer ≡ Some x → loses_in r e.acts ≡ false → OwnFrom t e c x u → ⊥
+  from_was : (r c x : ℕ) (v : Representation) (u : Consumer) → t.representation r ≡ Some v → is_written t v ≡ true → v.writer ≡ Some x → loses_in
+      r e.acts ≡ false → OwnFrom t e c x u → ⊥
   from_was r c x v u row on writer kept (own.kept k is before heard) = o.apart r x c v k row on writer is.row before
   from_was r c x v u row on writer kept (own.opened k p is opens here this) =
       none_some_exchange (new_number step p x opens this) (o.writers r x v row writer)
@@ -70,7 +72,8 @@ module _ (step : Step) (stand : may_stand step.limits step.tables (entry_of step
   -- ONE THAT BEGINS WITH A HEAD
 
   -- at a head nothing is opened, and no writing is left by an exchange without a head
-  own_before : (x c : ℕ) (response : Response) (w : Exchange) (u : Consumer) → ev ≡ event.Head x response → t.exchange x ≡ Some w → w.head ≡ None → OwnFrom t e c x u → (k : Consumer) × (t.consumer c ≡ Some k) × (k.own ≡ Some x) × ((consumer_heard t e c ev k).own ≡ Some x)
+  own_before : (x c : ℕ) (response : Response) (w : Exchange) (u : Consumer) → ev ≡ event.Head x response → t.exchange x ≡ Some w → w.head ≡ None →
+      OwnFrom t e c x u → (k : Consumer) × (t.consumer c ≡ Some k) × (k.own ≡ Some x) × ((consumer_heard t e c ev k).own ≡ Some x)
   own_before x c response w u here row bare (own.kept k is before heard) = (k, is.row, before, heard)
   own_before x c response w u here row bare (own.opened k p is opens mine this) =
       absurd (let polls = (is_opened step p opens) in let no : event.Head x response ≡ event.Poll p.c polls.want = sym here ∙ polls.at in cc)
@@ -81,19 +84,23 @@ module _ (step : Step) (stand : may_stand step.limits step.tables (entry_of step
       false_true (sym (ap (λ (q : Option Response). is_some q) (ap (λ (z : Exchange). z.head) one ∙ bare)) ∙ a.headed))
 
   -- the exchange isn't its consumer's own any more
-  given_up : (x c : ℕ) (response : Response) (w : Exchange) (k : Consumer) (z : Option Exchange) → z ≡ Some w → w.c ≡ c → becomes_shared t e response w (case_at t e) ≡ true → (by_head t e c x response z k).own ≡ None
+  given_up : (x c : ℕ) (response : Response) (w : Exchange) (k : Consumer) (z : Option Exchange) → z ≡ Some w → w.c ≡ c →
+      becomes_shared t e response w (case_at t e) ≡ true → (by_head t e c x response z k).own ≡ None
   given_up x c response w k z is mine shared = grind (arith, nat_tests)
 
-  from_head : (x c : ℕ) (response : Response) (w : Exchange) (u : Consumer) → ev ≡ event.Head x response → t.exchange x ≡ Some w → becomes_shared t e response w (case_at t e) ≡ true → OwnFrom t e c x u → ⊥
+  from_head : (x c : ℕ) (response : Response) (w : Exchange) (u : Consumer) → ev ≡ event.Head x response → t.exchange x ≡ Some w →
+      becomes_shared t e response w (case_at t e) ≡ true → OwnFrom t e c x u → ⊥
   from_head x c response w u here row shared from =
       let new = is_new limits t now flaw s ev goes x response w here row in
       let got = own_before x c response w u here row new.bare from in
       let a = o.waiting x w row new.is_open new.bare in
       let mine : w.c ≡ c = o.one w.c c x a.k got.0 a.row got.1 a.own got.2 in
-      let none : (consumer_heard t e c ev got.0).own ≡ None = ap (λ v. (consumer_heard t e c v got.0).own) here ∙ given_up x c response w got.0 (t.exchange x) row mine shared in
+      let none : (consumer_heard t e c ev got.0).own ≡ None = ap (λ v. (consumer_heard t e c v got.0).own) here ∙
+      given_up x c response w got.0 (t.exchange x) row mine shared in
       none_some x (sym none ∙ got.3)
 
-  shared_by : (response : Response) (w : Exchange) (g : Option HeadCase) → is_joining g ≡ true → is_resumed t e response w (row_of t w.aim) ≡ true → becomes_shared t e response w g ≡ true
+  shared_by : (response : Response) (w : Exchange) (g : Option HeadCase) → is_joining g ≡ true → is_resumed t e response w (row_of t w.aim) ≡ true →
+      becomes_shared t e response w g ≡ true
   shared_by response w None joins resumed = absurd (false_true joins)
   shared_by response w (Some case.FirstJoins) joins resumed = resumed
   shared_by response w (Some case.LaterJoins) joins resumed = resumed
@@ -115,20 +122,25 @@ module _ (step : Step) (stand : may_stand step.limits step.tables (entry_of step
   shared_by response w (Some case.LaterChanged) joins resumed = absurd (false_true joins)
 
   -- what is resumed is resumed by a head without a loss
-  loss_none : (x r : ℕ) (response : Response) (w : Exchange) → ev ≡ event.Head x response → t.exchange x ≡ Some w → is_joining (case_at t e) ≡ true → w.aim ≡ Some r → loses_in r e.acts ≡ false → has_loss e.acts ≡ false
+  loss_none : (x r : ℕ) (response : Response) (w : Exchange) → ev ≡ event.Head x response → t.exchange x ≡ Some w → is_joining (case_at t e) ≡ true →
+      w.aim ≡ Some r → loses_in r e.acts ≡ false → has_loss e.acts ≡ false
   loss_none x r response w here row joins aim kept =
-      subst (λ v. is_joining (case_at t (entry_of limits t now v flaw)) ≡ true → may_stand limits t (entry_of limits t now v flaw) ≡ true → loses_in r (entry_of limits t now v flaw).acts ≡ false → has_loss (entry_of limits t now v flaw).acts ≡ false) (sym here) (λ joining standing keeping. no_loss limits t now flaw s x response w r row joining aim standing keeping) joins stand kept
+      subst (λ v. is_joining (case_at t (entry_of limits t now v flaw)) ≡ true → may_stand limits t (entry_of limits t now v flaw) ≡ true → loses_in
+      r (entry_of limits t now v flaw).acts ≡ false → has_loss (entry_of limits t now v flaw).acts ≡ false) (sym here)
+      (λ joining standing keeping. no_loss limits t now flaw s x response w r row joining aim standing keeping) joins stand kept
 
   all_resumed : (a l h : Bool) → a ≡ true → l ≡ false → h ≡ false → (a && not (l || h)) ≡ true
   all_resumed a l h p q z = rw (p, q, z) refl
 
-  from_resumed : (r c : ℕ) (v : Representation) (z : Option ℕ) (u : Consumer) → t.representation r ≡ Some v → (R : IsResumed t e r v z) → OwnFrom t e c R.x u → ⊥
+  from_resumed : (r c : ℕ) (v : Representation) (z : Option ℕ) (u : Consumer) → t.representation r ≡ Some v → (R : IsResumed t e r v z) →
+      OwnFrom t e c R.x u → ⊥
   from_resumed r c v z u row R from =
       let renews = R.renews in
       let kept = or_false v.is_lost (loses_in r e.acts) (not_true (v.is_lost || loses_in r e.acts) (and_right _ _ renews)) in
       let aim : R.w.aim ≡ Some r = number_is R.w.aim r (and_right _ (is_number R.w.aim r) (and_left _ _ renews)) in
       let none = loss_none R.x r R.response R.w R.at R.row R.joins aim kept.1 in
-      let resumed : is_resumed t e R.response R.w (row_of t R.w.aim) ≡ true = ap (is_resumed t e R.response R.w) (ap (row_of t) aim ∙ row) ∙ all_resumed (resumes t R.response R.w v) v.is_lost (has_loss e.acts) R.resumed kept.0 none in
+      let resumed : is_resumed t e R.response R.w (row_of t R.w.aim) ≡ true = ap (is_resumed t e R.response R.w) (ap (row_of t) aim ∙ row) ∙
+      all_resumed (resumes t R.response R.w v) v.is_lost (has_loss e.acts) R.resumed kept.0 none in
       from_head R.x c R.response R.w u R.at R.row (shared_by R.response R.w (case_at t e) R.joins resumed) from
 
   -- A FOUNDED ONE
@@ -139,13 +151,15 @@ module _ (step : Step) (stand : may_stand step.limits step.tables (entry_of step
   range_brings : (lost : Bool) (w : Exchange) (response : Response) → CaseBy (head_view t lost w response) case.FoundsRange → brings_part response.status ≡ true
   range_brings lost w response (cases.founds_range way status fits kept good) = status
 
-  pub founded_shared : (r x : ℕ) (response : Response) (w : Exchange) (g : Option HeadCase) → ev ≡ event.Head r response → t.exchange r ≡ Some w → case_at t e ≡ g → is_founding g ≡ true → writer_at r response ≡ Some x → becomes_shared t e response w g ≡ true
+  pub founded_shared : (r x : ℕ) (response : Response) (w : Exchange) (g : Option HeadCase) → ev ≡ event.Head r response → t.exchange r ≡ Some w →
+      case_at t e ≡ g → is_founding g ≡ true → writer_at r response ≡ Some x → becomes_shared t e response w g ≡ true
   founded_shared r x response w None here row is on writer = absurd (false_true on)
   founded_shared r x response w (Some case.FoundsWhole) here row is on writer = refl
   founded_shared r x response w (Some case.FirstReplaced) here row is on writer = refl
   founded_shared r x response w (Some case.FoundsRange) here row is on writer =
       absurd (
-      let status : brings_part response.status ≡ true = range_brings (has_loss e.acts) w response (case_of_head t e r response w case.FoundsRange here row is) in
+      let status : brings_part response.status ≡ true =
+      range_brings (has_loss e.acts) w response (case_of_head t e r response w case.FoundsRange here row is) in
       let test : brings_part response.status ≡ false = whole_status r x response writer in
       false_true (sym test ∙ status))
   founded_shared r x response w (Some case.DirectBad) here row is on writer = absurd (false_true on)
@@ -180,6 +194,7 @@ module _ (step : Step) (stand : may_stand step.limits step.tables (entry_of step
       from_head r c response w u at row (founded_shared r x response w (case_at t e) at row refl founding writes) (subst (λ n. OwnFrom t e c n u) one from)
 
   -- The exchange of a writing that is on is nobody's own.
-  pub apart_kept : (r x c : ℕ) (v : Representation) (u : Consumer) → now_on.representation r ≡ Some v → is_written now_on v ≡ true → v.writer ≡ Some x → now_on.consumer c ≡ Some u → u.own ≡ Some x → ⊥
+  pub apart_kept : (r x c : ℕ) (v : Representation) (u : Consumer) → now_on.representation r ≡ Some v → is_written now_on v ≡ true → v.writer ≡ Some x →
+      now_on.consumer c ≡ Some u → u.own ≡ Some x → ⊥
   apart_kept r x c v u row on writer also is =
       apart_from r x c v u (rep_from t e r (t.representation r) v refl row) (is_on now_on v x on writer) writer (own_from t e c x (t.consumer c) u refl also is)

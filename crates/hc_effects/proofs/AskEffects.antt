@@ -7,7 +7,8 @@ use Rattle.hc_effects.proofs.{OfConsumers.{BringsNothing, brings_nothing, row_ac
 use Rattle.hc_effects.proofs.OfConsumers as event_of
 use Rattle.hc_effects.proofs.PollEffects as polls
 
-module _ (limits : Limits) (t : Tables) (law : Lawful t) (now c want : ℕ) (k : Consumer) (row : t.consumer c ≡ Some k) (x : ℕ) (is : move_of t now want c k ≡ Asks x) where
+module _ (limits : Limits) (t : Tables) (law : Lawful t) (now c want : ℕ) (k : Consumer) (row : t.consumer c ≡ Some k) (x : ℕ)
+    (is : move_of t now want c k ≡ Asks x) where
   abbrev e : Entry
   e = record { now = now; event = event.Poll c want; acts = acts_of c (Asks x) }
 
@@ -25,7 +26,8 @@ module _ (limits : Limits) (t : Tables) (law : Lawful t) (now c want : ℕ) (k :
       none_left false = refl
   by_row y (Some w) = row_acted t e c nothing y w ∙ by_test (x == y) refl
     where
-      by_test : (b : Bool) → nat_eq x y ≡ b → Some (record w { asked = b || false || w.asked; is_open = w.is_open }) ≡ (if b then option_map to_bring (Some w) else Some w)
+      by_test : (b : Bool) → nat_eq x y ≡ b →
+          Some (record w { asked = b || false || w.asked; is_open = w.is_open }) ≡ (if b then option_map to_bring (Some w) else Some w)
       by_test true here = refl
       by_test false other = refl
 

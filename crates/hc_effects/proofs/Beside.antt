@@ -13,6 +13,8 @@ is_cached_place (place.Bound r lo hi by) = true
 is_cached_place _ = false
 
 pub record IsBeside (t : Tables) : Type 0 where
-  pub covered : (r c x : ℕ) (v : Representation) (k : Consumer) (w : Exchange) → t.representation r ≡ Some v → IsExclusiveWriter t r v c → IsBound t r c k → k.due ≡ None → k.own ≡ Some x → t.exchange x ≡ Some w → Covers v.body (offset t k) (goes_on_at w w.head)
-  pub rested : (r c : ℕ) (v : Representation) (k : Consumer) → t.representation r ≡ Some v → v.is_lost ≡ false → IsFirst t r c → IsBound t r c k → k.due ≡ None → k.own ≡ None → is_written t v ≡ false → HasRest t v k
+  pub covered : (r c x : ℕ) (v : Representation) (k : Consumer) (w : Exchange) → t.representation r ≡ Some v → IsExclusiveWriter t r v c →
+      IsBound t r c k → k.due ≡ None → k.own ≡ Some x → t.exchange x ≡ Some w → Covers v.body (offset t k) (goes_on_at w w.head)
+  pub rested : (r c : ℕ) (v : Representation) (k : Consumer) → t.representation r ≡ Some v → v.is_lost ≡ false → IsFirst t r c → IsBound t r c k →
+      k.due ≡ None → k.own ≡ None → is_written t v ≡ false → HasRest t v k
   pub cached : (c : ℕ) (k : Consumer) → t.consumer c ≡ Some k → is_cached_place k.place ≡ true → is_disabled k.request ≡ false

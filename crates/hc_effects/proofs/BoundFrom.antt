@@ -18,7 +18,8 @@ pub record IsSamePlace (q a : ℕ) (b : Option ℕ) (d : BoundBy) (r lo : ℕ) (
   pub to : b ≡ hi
   pub by_is : d ≡ how
 
-pub place_inj : (q a : ℕ) (b : Option ℕ) (d : BoundBy) (r lo : ℕ) (hi : Option ℕ) (how : BoundBy) → place.Bound q a b d ≡ place.Bound r lo hi how → IsSamePlace q a b d r lo hi how
+pub place_inj : (q a : ℕ) (b : Option ℕ) (d : BoundBy) (r lo : ℕ) (hi : Option ℕ) (how : BoundBy) → place.Bound q a b d ≡ place.Bound r lo hi how →
+    IsSamePlace q a b d r lo hi how
 place_inj q a b d r lo hi how is = record { number = cc; from = cc; to = cc; by_is = cc }
 
 -- an interval is read that is wanted
@@ -28,7 +29,8 @@ pub record IsInterval (w : Wanted) (lo : ℕ) (hi : Option ℕ) : Type 0 where
   pub from : span.lo ≡ lo
   pub to : Some span.hi ≡ hi
 
-pub wanted_bound : (r lo : ℕ) (hi : Option ℕ) (how : BoundBy) (q : ℕ) (d : BoundBy) (other : Place) (w : Wanted) → bound_to_wanted q d other w ≡ place.Bound r lo hi how → (other ≡ place.Bound r lo hi how) ⊎ (IsInterval w lo hi × (q ≡ r) × (d ≡ how))
+pub wanted_bound : (r lo : ℕ) (hi : Option ℕ) (how : BoundBy) (q : ℕ) (d : BoundBy) (other : Place) (w : Wanted) →
+    bound_to_wanted q d other w ≡ place.Bound r lo hi how → (other ≡ place.Bound r lo hi how) ⊎ (IsInterval w lo hi × (q ≡ r) × (d ≡ how))
 wanted_bound r lo hi how q d other w is = grind (arith, nat_tests)
 
 module _ (t : Tables) (e : Entry) (c r lo : ℕ) (hi : Option ℕ) (how : BoundBy) where
@@ -58,7 +60,8 @@ module _ (t : Tables) (e : Entry) (c r lo : ℕ) (hi : Option ℕ) (how : BoundB
   passed_bound : (x : ℕ) (o : Option ℕ) → passed_on x o ≡ place.Bound r lo hi how → ⊥
   passed_bound x o is = grind (arith, nat_tests)
 
-  placed : (x : ℕ) (response : Response) (w : Exchange) (k : Consumer) (o : Option HeadCase) → place_by_case x response w k o ≡ place.Bound r lo hi how → IsPlaced x response w k o
+  placed : (x : ℕ) (response : Response) (w : Exchange) (k : Consumer) (o : Option HeadCase) → place_by_case x response w k o ≡ place.Bound r lo hi how →
+      IsPlaced x response w k o
   placed x response w k None is = same is
   placed x response w k (Some case.DirectBad) is = absurd (down_bound (cause.BadHead x) is)
   placed x response w k (Some case.DirectTaken) is = same is
@@ -90,13 +93,16 @@ module _ (t : Tables) (e : Entry) (c r lo : ℕ) (hi : Option ℕ) (how : BoundB
   -- what the event says of a consumer leaves it bound as it was, or founds
   data IsHeard (k : Consumer) : Type 0 where
     same : k.place ≡ place.Bound r lo hi how → IsHeard k
-    founded : (x : ℕ) (response : Response) (w : Exchange) → e.event ≡ event.Head x response → t.exchange x ≡ Some w → w.c ≡ c → x ≡ r → how ≡ by.Founding → IsFounded x response w k (case_at t e) → IsHeard k
+    founded : (x : ℕ) (response : Response) (w : Exchange) → e.event ≡ event.Head x response → t.exchange x ≡ Some w → w.c ≡ c → x ≡ r →
+        how ≡ by.Founding → IsFounded x response w k (case_at t e) → IsHeard k
 
-  heard_placed : (x : ℕ) (response : Response) (w : Exchange) (k : Consumer) → e.event ≡ event.Head x response → t.exchange x ≡ Some w → w.c ≡ c → IsPlaced x response w k (case_at t e) → IsHeard k
+  heard_placed : (x : ℕ) (response : Response) (w : Exchange) (k : Consumer) → e.event ≡ event.Head x response → t.exchange x ≡ Some w → w.c ≡ c →
+      IsPlaced x response w k (case_at t e) → IsHeard k
   heard_placed x response w k ev row here (same old) = same old
   heard_placed x response w k ev row here (founded of_r by_is how_is) = founded x response w ev row here of_r by_is how_is
 
-  heard_head : (x : ℕ) (response : Response) (o : Option Exchange) (k : Consumer) → e.event ≡ event.Head x response → t.exchange x ≡ o → (by_head t e c x response o k).place ≡ place.Bound r lo hi how → IsHeard k
+  heard_head : (x : ℕ) (response : Response) (o : Option Exchange) (k : Consumer) → e.event ≡ event.Head x response → t.exchange x ≡ o →
+      (by_head t e c x response o k).place ≡ place.Bound r lo hi how → IsHeard k
   heard_head x response None k ev row is = same is
   heard_head x response (Some w) k ev row is = elim (eq_cases w.c c) [
     | inr other ↦ same (rw other.0 at is)
@@ -128,7 +134,8 @@ module _ (t : Tables) (e : Entry) (c r lo : ℕ) (hi : Option ℕ) (how : BoundB
     pub interval : IsInterval (wanted_of (range_of k.request) v.head.total) lo hi
     pub by_is : how ≡ by.FirstHole o.x
 
-  by_route : (o : Opening) (k : Consumer) (way : Route) → route_of o.need ≡ way → opened_place t o.x k way ≡ place.Bound r lo hi how → (route_of o.need ≡ route.Hole) × IsFirstHole o k
+  by_route : (o : Opening) (k : Consumer) (way : Route) → route_of o.need ≡ way → opened_place t o.x k way ≡ place.Bound r lo hi how →
+      (route_of o.need ≡ route.Hole) × IsFirstHole o k
   by_route o k way at is = grind (arith, nat_tests)
 
   -- what is opened for it leaves it bound, or is for its first hole
@@ -136,7 +143,8 @@ module _ (t : Tables) (e : Entry) (c r lo : ℕ) (hi : Option ℕ) (how : BoundB
     same : k.place ≡ place.Bound r lo hi how → IsOpened k
     opens : (o : Opening) → opening_in e.acts ≡ Some o → o.c ≡ c → bound_to k.place ≡ None → route_of o.need ≡ route.Hole → IsFirstHole o k → IsOpened k
 
-  unless : (o : Opening) (k : Consumer) (q : Option ℕ) → opening_in e.acts ≡ Some o → o.c ≡ c → bound_to k.place ≡ q → unless_bound q k.place (opened_place t o.x k (route_of o.need)) ≡ place.Bound r lo hi how → IsOpened k
+  unless : (o : Opening) (k : Consumer) (q : Option ℕ) → opening_in e.acts ≡ Some o → o.c ≡ c → bound_to k.place ≡ q →
+      unless_bound q k.place (opened_place t o.x k (route_of o.need)) ≡ place.Bound r lo hi how → IsOpened k
   unless o k None row here free is = let all = by_route o k (route_of o.need) refl is in opens o row here free all.0 all.1
   unless o k (Some q) row here free is = same is
 
@@ -184,9 +192,13 @@ module _ (t : Tables) (e : Entry) (c r lo : ℕ) (hi : Option ℕ) (how : BoundB
   -- what is opened, of a consumer as the event left it, and what it is shown, where it stood then
   pub data BoundFrom (u : Consumer) : Type 0 where
     stays : (k : Consumer) → IsRow k u → k.place ≡ place.Bound r lo hi how → BoundFrom u
-    founds : (k : Consumer) (x : ℕ) (response : Response) (w : Exchange) → IsRow k u → e.event ≡ event.Head x response → t.exchange x ≡ Some w → w.c ≡ c → x ≡ r → how ≡ by.Founding → IsFounded x response w k (case_at t e) → BoundFrom u
-    opens : (k : Consumer) (o : Opening) → IsRow k u → opening_in e.acts ≡ Some o → o.c ≡ c → bound_to (waiting t e c (consumer_heard t e c e.event k)).place ≡ None → route_of o.need ≡ route.Hole → IsFirstHole o (waiting t e c (consumer_heard t e c e.event k)) → BoundFrom u
-    shows : (k : Consumer) (s : Showing) → IsRow k u → showing_in e.acts ≡ Some s → IsShown s (by_opening t c (opening_in e.acts) (waiting t e c (consumer_heard t e c e.event k))).place → BoundFrom u
+    founds : (k : Consumer) (x : ℕ) (response : Response) (w : Exchange) → IsRow k u → e.event ≡ event.Head x response → t.exchange x ≡ Some w → w.c ≡ c →
+        x ≡ r → how ≡ by.Founding → IsFounded x response w k (case_at t e) → BoundFrom u
+    opens : (k : Consumer) (o : Opening) → IsRow k u → opening_in e.acts ≡ Some o → o.c ≡ c →
+        bound_to (waiting t e c (consumer_heard t e c e.event k)).place ≡ None → route_of o.need ≡ route.Hole →
+        IsFirstHole o (waiting t e c (consumer_heard t e c e.event k)) → BoundFrom u
+    shows : (k : Consumer) (s : Showing) → IsRow k u → showing_in e.acts ≡ Some s →
+        IsShown s (by_opening t c (opening_in e.acts) (waiting t e c (consumer_heard t e c e.event k))).place → BoundFrom u
 
   module _ (k u : Consumer) (row : IsRow k u) where
     abbrev h : Consumer
@@ -207,17 +219,21 @@ module _ (t : Tables) (e : Entry) (c r lo : ℕ) (hi : Option ℕ) (how : BoundB
     from_shown (same old) = from_opened (opened (opening_in e.acts) (waiting t e c h) refl old)
     from_shown (shows s is all) = shows k s row is all
 
-    pub from_row : (if leaves_in c e.acts then place.Over else shown_place c (showing_in e.acts) (by_opening t c (opening_in e.acts) (waiting t e c h)).place) ≡ place.Bound r lo hi how → BoundFrom u
+    pub from_row : (if leaves_in c e.acts then place.Over else
+        shown_place c (showing_in e.acts) (by_opening t c (opening_in e.acts) (waiting t e c h)).place) ≡ place.Bound r lo hi how → BoundFrom u
     from_row is = from_shown (shown (showing_in e.acts) (by_opening t c (opening_in e.acts) (waiting t e c h)).place refl (rw row.leaves at is))
 
-  settled : (k q u : Consumer) (b : Bool) → starts_over t e c k ≡ b → consumer_settled t e c k q ≡ u → u.place ≡ place.Bound r lo hi how → (b ≡ false) × (due_after t e c k q ≡ u) × (q.place ≡ place.Bound r lo hi how)
-  settled k q u true over is stands = absurd (let never : place.Line ≡ place.Bound r lo hi how = ap (λ (z : Consumer). z.place) (rw over at is) ∙ stands in line_bound never)
+  settled : (k q u : Consumer) (b : Bool) → starts_over t e c k ≡ b → consumer_settled t e c k q ≡ u → u.place ≡ place.Bound r lo hi how → (b ≡ false) ×
+      (due_after t e c k q ≡ u) × (q.place ≡ place.Bound r lo hi how)
+  settled k q u true over is stands =
+      absurd (let never : place.Line ≡ place.Bound r lo hi how = ap (λ (z : Consumer). z.place) (rw over at is) ∙ stands in line_bound never)
   settled k q u false over is stands = let same : due_after t e c k q ≡ u = rw over at is in (refl, same, ap (λ (z : Consumer). z.place) same ∙ stands)
 
   stays_in : (p : Place) (b : Bool) → leaves_in c e.acts ≡ b → (if b then place.Over else p) ≡ place.Bound r lo hi how → b ≡ false
   stays_in p b leaves is = grind (arith, nat_tests)
 
-  by_row : (k u : Consumer) → t.consumer c ≡ Some k → consumer_settled t e c k (consumer_acted t e c (consumer_heard t e c e.event k)) ≡ u → u.place ≡ place.Bound r lo hi how → BoundFrom u
+  by_row : (k u : Consumer) → t.consumer c ≡ Some k → consumer_settled t e c k (consumer_acted t e c (consumer_heard t e c e.event k)) ≡ u →
+      u.place ≡ place.Bound r lo hi how → BoundFrom u
   by_row k u row is stands =
       let all = settled k (consumer_acted t e c (consumer_heard t e c e.event k)) u (starts_over t e c k) refl is stands in
       from_row k u (record { row = row; stays = all.0; leaves = stays_in _ (leaves_in c e.acts) refl all.2; is = all.1 }) all.2

@@ -25,9 +25,11 @@ module _ (step : Step) where
   abbrev now_on : Tables
   now_on = after_accepted t e
 
-  module _ (c r lo : ℕ) (hi : Option ℕ) (how : BoundBy) (k : Consumer) (row : t.consumer c ≡ Some k) (at : k.place ≡ place.Bound r lo hi how) (no_waiter : (y : ℕ) (w : Exchange) → t.exchange y ≡ Some w → w.is_open ≡ true → w.head ≡ None → w.c ≡ c → ⊥) where
+  module _ (c r lo : ℕ) (hi : Option ℕ) (how : BoundBy) (k : Consumer) (row : t.consumer c ≡ Some k) (at : k.place ≡ place.Bound r lo hi how)
+      (no_waiter : (y : ℕ) (w : Exchange) → t.exchange y ≡ Some w → w.is_open ≡ true → w.head ≡ None → w.c ≡ c → ⊥) where
     pub head_not : (x : ℕ) (response : Response) (w : Exchange) → ev ≡ event.Head x response → t.exchange x ≡ Some w → w.c ≡ c → ⊥
-    head_not x response w here exchange_row mine = let new = is_new limits t now flaw s ev goes x response w here exchange_row in no_waiter x w exchange_row new.is_open new.bare mine
+    head_not x response w here exchange_row mine = let new = is_new limits t now flaw s ev goes x response w here exchange_row in
+        no_waiter x w exchange_row new.is_open new.bare mine
 
     heard_same : (u : Event) → ev ≡ u → (u ≡ event.Cancel c → ⊥) → consumer_heard t e c u k ≡ k
     heard_same (event.Head x response) here stays = by_row (t.exchange x) refl
@@ -83,7 +85,8 @@ module _ (step : Step) where
     unheaded _ lost here sends mine = none_sends sends
 
     stays_on : starts_over t e c k ≡ false
-    stays_on = stays_by t e c k (λ lost. false_true (sym (ap (loses_what_it_waits_for t e c) at) ∙ lost)) (λ doom waits. waits_not how refl (sym (ap (waits_at t) at) ∙ waits)) (unheaded ev _ refl)
+    stays_on = stays_by t e c k (λ lost. false_true (sym (ap (loses_what_it_waits_for t e c) at) ∙ lost))
+        (λ doom waits. waits_not how refl (sym (ap (waits_at t) at) ∙ waits)) (unheaded ev _ refl)
 
     -- THE ACTS
 
@@ -116,9 +119,11 @@ module _ (step : Step) where
     bound_stays uncancelled stays =
         let on_row = is_kept t e c k row in
         let same : consumer_heard t e c ev k ≡ k = heard_same ev refl uncancelled in
-        let made : due_after t e c k (consumer_acted t e c (consumer_heard t e c ev k)) ≡ on_row.u = sym (settled t e c k (consumer_acted t e c (consumer_heard t e c ev k)) stays_on) ∙ on_row.is in
+        let made : due_after t e c k (consumer_acted t e c (consumer_heard t e c ev k)) ≡ on_row.u =
+        sym (settled t e c k (consumer_acted t e c (consumer_heard t e c ev k)) stays_on) ∙ on_row.is in
         let waits : (waiting t e c k).place ≡ place.Bound r lo hi how = waits_where t k (wait_in c e.acts) reported_not ∙ at in
-        let shown : shown_place c (showing_in e.acts) (by_opening t c (opening_in e.acts) (waiting t e c k)).place ≡ place.Bound r lo hi how = shows_on _ (showing_in e.acts) (opens_on (waiting t e c k) (opening_in e.acts) waits) in
+        let shown : shown_place c (showing_in e.acts) (by_opening t c (opening_in e.acts) (waiting t e c k)).place ≡ place.Bound r lo hi how =
+        shows_on _ (showing_in e.acts) (opens_on (waiting t e c k) (opening_in e.acts) waits) in
         let acted : (consumer_acted t e c k).place ≡ place.Bound r lo hi how = stays_put _ (leaves_in c e.acts) stays ∙ shown in
         record {
           u = on_row.u;

@@ -36,14 +36,16 @@ split_order : (o : Option (List ℕ × List ℕ)) (asked : RangeSpec) → positi
 split_order None asked is = absurd (none_some asked is)
 split_order (Some (first, last)) asked is = positions_order first last asked is
 
-if_order : (b : Bool) (o : Option RangeSpec) (asked : RangeSpec) → ((z : RangeSpec) → o ≡ Some z → IsInOrder z) → (if b then o else None) ≡ Some asked → IsInOrder asked
+if_order : (b : Bool) (o : Option RangeSpec) (asked : RangeSpec) → ((z : RangeSpec) → o ≡ Some z → IsInOrder z) → (if b then o else None) ≡ Some asked →
+    IsInOrder asked
 if_order true o asked all is = all asked is
 if_order false o asked all is = absurd (none_some asked is)
 
 asked_order : (text : List ℕ) (asked : RangeSpec) → asked_in text ≡ Some asked → IsInOrder asked
 unfolding asked_in
 asked_order text asked is =
-    if_order (bytes_eq (str_to_ascii_lowercase (take 6 text)) (codes "bytes=")) (spec_in (drop 6 text)) asked (λ z it. split_order (split_at hyphen (drop 6 text)) z it) is
+    if_order (bytes_eq (str_to_ascii_lowercase (take 6 text)) (codes "bytes=")) (spec_in (drop 6 text)) asked
+    (λ z it. split_order (split_at hyphen (drop 6 text)) z it) is
 
 values_order : (values : List (List ℕ)) (asked : RangeSpec) → unwrap_or (ranges_read values) None ≡ Some asked → IsInOrder asked
 values_order [] asked is = absurd (none_some asked is)
@@ -73,7 +75,8 @@ part_proper (Some z) span proper is = let same : z ≡ span = cc in subst (λ (q
 whole_span : (n : ℕ) (span : Span) → wanted.Interval (record { lo = 0; hi = n }) ≡ wanted.Interval span → span.lo ≤ span.hi
 whole_span n span is = let same : record { lo = 0; hi = n } ≡ span = cc in subst (λ (q : Span). q.lo ≤ q.hi) same (omega arith)
 
-pub wanted_proper : (range : Option RangeSpec) (o : Option ℕ) (span : Span) → ((asked : RangeSpec) → range ≡ Some asked → IsInOrder asked) → wanted_of range o ≡ wanted.Interval span → span.lo ≤ span.hi
+pub wanted_proper : (range : Option RangeSpec) (o : Option ℕ) (span : Span) → ((asked : RangeSpec) → range ≡ Some asked → IsInOrder asked) →
+    wanted_of range o ≡ wanted.Interval span → span.lo ≤ span.hi
 wanted_proper range None span order is = absurd (let no : wanted.TotalUnknown ≡ wanted.Interval span = is in cc)
 wanted_proper None (Some n) span order is = whole_span n span is
 wanted_proper (Some asked) (Some n) span order is = part_proper (resolved_span asked n) span (λ z found. resolved_proper asked n z (order asked refl) found) is
@@ -117,10 +120,13 @@ module _ (step : Step) where
     abbrev came : Type 0
     came = BoundFrom t e c r lo hi how u
 
-    shown_plan : (k : Consumer) (z : Showing) → IsRow t e c r lo hi how k u → showing_in e.acts ≡ Some z → IsShown t e c r lo hi how z (by_opening t c (opening_in e.acts) (waiting t e c (consumer_heard t e c ev k))).place → ShownAs t now z.c k z.r z.lo z.hi
+    shown_plan : (k : Consumer) (z : Showing) → IsRow t e c r lo hi how k u → showing_in e.acts ≡ Some z →
+        IsShown t e c r lo hi how z (by_opening t c (opening_in e.acts) (waiting t e c (consumer_heard t e c ev k))).place → ShownAs t now z.c k z.r z.lo z.hi
     shown_plan k z row is all =
         let shows = showing_by limits t now flaw s ev goes z is in
-        let placed : (by_opening t c (opening_in e.acts) (waiting t e c (consumer_heard t e c ev k))).place ≡ k.place = subst (λ d. (by_opening t d (opening_in e.acts) (waiting t e d (consumer_heard t e d ev k))).place ≡ k.place) all.at (shown_place_is limits t now flaw s ev goes z k is) in
+        let placed : (by_opening t c (opening_in e.acts) (waiting t e c (consumer_heard t e c ev k))).place ≡ k.place =
+        subst (λ d. (by_opening t d (opening_in e.acts) (waiting t e d (consumer_heard t e d ev k))).place ≡ k.place) all.at
+        (shown_place_is limits t now flaw s ev goes z k is) in
         let free : reads k.place ≡ false = sym (ap reads placed) ∙ all.free in
         let row_z : t.consumer z.c ≡ Some k = ap t.consumer all.at ∙ row.row in
         let one : shows.k ≡ k = same_row (t.consumer z.c) shows.k k shows.poll.row row_z in
@@ -128,13 +134,15 @@ module _ (step : Step) where
         (shown_from t now z.c k shows.want z s row_z show free).shown_as
 
   module _ (b : IsBounded t) where
-    founded_proper : (c r lo hi : ℕ) (how : BoundBy) (x : ℕ) (response : Response) (w : Exchange) (k : Consumer) (g : Option HeadCase) → IsFounded t e c r lo (Some hi) how x response w k g → lo ≤ hi
+    founded_proper : (c r lo hi : ℕ) (how : BoundBy) (x : ℕ) (response : Response) (w : Exchange) (k : Consumer) (g : Option HeadCase) →
+        IsFounded t e c r lo (Some hi) how x response w k g → lo ≤ hi
     founded_proper c r lo hi how x response w k _ (from.whole lo_is hi_is) = rw lo_is (omega arith)
     founded_proper c r lo hi how x response w k _ (from.replaced lo_is hi_is) = rw lo_is (omega arith)
     founded_proper c r lo hi how x response w k _ (from.part i) = interval_proper k.request _ lo hi i
 
     shown_proper : (c r lo hi : ℕ) (k : Consumer) (z : Showing) → z.lo ≡ lo → z.hi ≡ Some hi → ShownAs t now z.c k z.r z.lo z.hi → lo ≤ hi
-    shown_proper c r lo hi k z from_is to_is (shown_as.joins v current_is there on lo_is hi_is) = let zero : lo ≡ 0 = sym from_is ∙ lo_is in rw zero (omega arith)
+    shown_proper c r lo hi k z from_is to_is (shown_as.joins v current_is there on lo_is hi_is) = let zero : lo ≡ 0 = sym from_is ∙ lo_is in
+        rw zero (omega arith)
     shown_proper c r lo hi k z from_is to_is (shown_as.stored v span current_is there off wanted_is none lo_is hi_is) =
         let le : span.lo ≤ span.hi = wanted_proper (range_of k.request) v.head.total span (range_order k.request) wanted_is in
         let first : lo ≡ span.lo = sym from_is ∙ lo_is in
@@ -143,11 +151,14 @@ module _ (step : Step) where
 
     proper_by : (c r lo hi : ℕ) (how : BoundBy) (u : Consumer) → BoundFrom t e c r lo (Some hi) how u → lo ≤ hi
     proper_by c r lo hi how u (from.stays k row at) = b.proper c r lo hi how k row.row at
-    proper_by c r lo hi how u (from.founds k x response w row here exchange_row mine of_r by_is all) = founded_proper c r lo hi how x response w k (case_at t e) all
-    proper_by c r lo hi how u (from.opens k p row opens mine free way hole) = interval_proper (waiting t e c (consumer_heard t e c ev k)).request hole.v.head.total lo hi hole.interval
+    proper_by c r lo hi how u (from.founds k x response w row here exchange_row mine of_r by_is all) =
+        founded_proper c r lo hi how x response w k (case_at t e) all
+    proper_by c r lo hi how u (from.opens k p row opens mine free way hole) =
+        interval_proper (waiting t e c (consumer_heard t e c ev k)).request hole.v.head.total lo hi hole.interval
     proper_by c r lo hi how u (from.shows k z row is all) = shown_proper c r lo hi k z all.from all.to (shown_plan c r lo (Some hi) how u k z row is all)
 
-    founded_first : (c r lo : ℕ) (how : BoundBy) (x : ℕ) (response : Response) (w : Exchange) (k : Consumer) (g : Option HeadCase) → IsFounded t e c r lo None how x response w k g → lo ≡ 0
+    founded_first : (c r lo : ℕ) (how : BoundBy) (x : ℕ) (response : Response) (w : Exchange) (k : Consumer) (g : Option HeadCase) →
+        IsFounded t e c r lo None how x response w k g → lo ≡ 0
     founded_first c r lo how x response w k g it9 = grind (arith, nat_tests)
 
     shown_first : (lo : ℕ) (k : Consumer) (z : Showing) → z.lo ≡ lo → z.hi ≡ None → ShownAs t now z.c k z.r z.lo z.hi → lo ≡ 0
@@ -166,7 +177,8 @@ module _ (step : Step) where
     given_is c k u row after =
         let on = is_kept t e c k row in
         let one : on.u ≡ u = same_row (now_on.consumer c) on.u u on.row after in
-        sym (ap (λ (z : Consumer). z.given) (on.is ∙ one)) ∙ (given_by (starts_over t e c k) t e c k (consumer_acted t e c (consumer_heard t e c ev k)) ∙ (acted t e c k).given_is)
+        sym (ap (λ (z : Consumer). z.given) (on.is ∙ one)) ∙
+        (given_by (starts_over t e c k) t e c k (consumer_acted t e c (consumer_heard t e c ev k)) ∙ (acted t e c k).given_is)
 
     fresh_by : (c : ℕ) (q : Option Consumer) (u : Consumer) → t.consumer c ≡ q → now_on.consumer c ≡ Some u → u.shown ≡ false → u.given ≡ 0
     fresh_by c None u row after off = new_given t e c (t.consumer c) u row after
@@ -180,7 +192,8 @@ module _ (step : Step) where
 
     module _ (a : IsFallback t) where
       -- who is given something stays within its end
-      given_within : (c r lo hi : ℕ) (how : BoundBy) (k : Consumer) → t.consumer c ≡ Some k → k.shown ≡ true → k.place ≡ place.Bound r lo (Some hi) how → ToOne t now c ev e.acts → lo + (k.given + length (given_in c e.acts)) ≤ hi
+      given_within : (c r lo hi : ℕ) (how : BoundBy) (k : Consumer) → t.consumer c ≡ Some k → k.shown ≡ true → k.place ≡ place.Bound r lo (Some hi) how →
+          ToOne t now c ev e.acts → lo + (k.given + length (given_in c e.acts)) ≤ hi
       given_within c r lo hi how k row on at (acts_to.quiet none quiet off) =
           let zero : length (given_in c e.acts) ≡ 0 = ap (λ (xs : List ℕ). length xs) none in
           let had : lo + k.given ≤ hi = b.within c r lo hi how k row at in
@@ -192,14 +205,16 @@ module _ (step : Step) where
       given_within c r lo hi how k row on at (acts_to.gives want q run is_at there move bytes quiet off) =
           let one : q ≡ k = same_row (t.consumer c) q k there row in
           let its : move_of t now want c k ≡ Gives run = sym (ap (move_of t now want c) one) ∙ move in
-          let g = given_next t want c k run s (some_want t c want ev goes is_at) (λ x stood. a.apart.unfounded c x k row stood) (gives_of t now c want k run (move_of t now want c k) (move_by t now want c k s row) its on) in
+          let g = given_next t want c k run s (some_want t c want ev goes is_at) (λ x stood. a.apart.unfounded c x k row stood)
+          (gives_of t now c want k run (move_of t now want c k) (move_by t now want c k s row) its on) in
           let le : run.at + length run.bytes ≤ hi = subst (λ z. IfSome z (λ n. run.at + length run.bytes ≤ n)) (ap (hi_of t) at) g.1.within in
           let first : lo_of t k.place ≡ lo = ap (lo_of t) at in
           let start : run.at ≡ lo_of t k.place + k.given = g.1.at_is in
           let count : length (given_in c e.acts) ≡ length run.bytes = ap (λ (xs : List ℕ). length xs) bytes in
           omega arith
 
-      within_by : (c r lo hi : ℕ) (how : BoundBy) (u : Consumer) (q : Bool) (k : Consumer) → t.consumer c ≡ Some k → k.shown ≡ q → now_on.consumer c ≡ Some u → u.place ≡ place.Bound r lo (Some hi) how → lo ≤ hi → lo + u.given ≤ hi
+      within_by : (c r lo hi : ℕ) (how : BoundBy) (u : Consumer) (q : Bool) (k : Consumer) → t.consumer c ≡ Some k → k.shown ≡ q →
+          now_on.consumer c ≡ Some u → u.place ≡ place.Bound r lo (Some hi) how → lo ≤ hi → lo + u.given ≤ hi
       within_by c r lo hi how u false k row off after at proper =
           let none : length (given_in c e.acts) ≡ 0 = ap (λ (xs : List ℕ). length xs) ((shown_once.by_event limits t now c flaw ev).before k row off) in
           let had : k.given ≡ 0 = b.fresh c k row off in
@@ -214,13 +229,15 @@ module _ (step : Step) where
               let sum : u.given ≡ k.given + length (given_in c e.acts) = given_is c k u row after in
               omega arith
 
-      within_row : (c r lo hi : ℕ) (how : BoundBy) (u : Consumer) (q : Option Consumer) → t.consumer c ≡ q → now_on.consumer c ≡ Some u → u.place ≡ place.Bound r lo (Some hi) how → lo ≤ hi → lo + u.given ≤ hi
+      within_row : (c r lo hi : ℕ) (how : BoundBy) (u : Consumer) (q : Option Consumer) → t.consumer c ≡ q → now_on.consumer c ≡ Some u →
+          u.place ≡ place.Bound r lo (Some hi) how → lo ≤ hi → lo + u.given ≤ hi
       within_row c r lo hi how u None row after at proper = let none : u.given ≡ 0 = new_given t e c (t.consumer c) u row after in omega arith
       within_row c r lo hi how u (Some k) row after at proper = within_by c r lo hi how u k.shown k row refl after at proper
 
       -- WHAT AN EXCHANGE BRINGS
 
-      piece_fits : (y p : ℕ) (bytes : List ℕ) (w : Exchange) → t.exchange y ≡ Some w → promised_bytes w ≡ Some p → denial t (event.Piece y bytes) ≡ None → length w.body + length bytes ≤ p
+      piece_fits : (y p : ℕ) (bytes : List ℕ) (w : Exchange) → t.exchange y ≡ Some w → promised_bytes w ≡ Some p → denial t (event.Piece y bytes) ≡ None →
+          length w.body + length bytes ≤ p
       unfolding refusals.refusal_of
       piece_fits y p bytes w row is h = grind (arith, nat_tests)
 
@@ -238,7 +255,8 @@ module _ (step : Step) where
       promise_by y p z is after (exchange.was w row same) = by_heard same.heard_or
         where
           by_heard : ((z.head ≡ w.head) × (z.joined ≡ w.joined)) ⊎ IsHeaded t e y w z → length z.body ≤ p
-          by_heard (inl still) = brought y p w z row (sym (ap promise_of (length_same w z same.need_is same.request_is still.0)) ∙ is) (brings t e y w z row after)
+          by_heard (inl still) = brought y p w z row (sym (ap promise_of (length_same w z same.need_is same.request_is still.0)) ∙ is)
+              (brings t e y w z row after)
           by_heard (inr got) =
               let new = is_new limits t now flaw s ev goes y got.response w got.at row in
               let empty : z.body ≡ [] = got.body_is ∙ (s.waits.headless y w row new.bare).0 in
@@ -253,7 +271,8 @@ module _ (step : Step) where
         proper = λ c r lo hi how u after at. proper_by c r lo hi how u (bound_from t e c r lo (Some hi) how (t.consumer c) u refl after at);
         first = λ c r lo how u after at. first_by c r lo how u (bound_from t e c r lo None how (t.consumer c) u refl after at);
         fresh = λ c u after off. fresh_by c (t.consumer c) u refl after off;
-        within = λ c r lo hi how u after at. within_row c r lo hi how u (t.consumer c) refl after at (proper_by c r lo hi how u (bound_from t e c r lo (Some hi) how (t.consumer c) u refl after at));
+        within = λ c r lo hi how u after at. within_row c r lo hi how u (t.consumer c) refl after at
+            (proper_by c r lo hi how u (bound_from t e c r lo (Some hi) how (t.consumer c) u refl after at));
         promise = λ x p z after is. promise_by x p z is after (exchange_from t e x (t.exchange x) z refl after);
       }
 

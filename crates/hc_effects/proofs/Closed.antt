@@ -69,13 +69,16 @@ module _ (limits : Limits) (t : Tables) (now : ℕ) (flaw : Flaw) (s : Sound t) 
   before ev = record { now = now; event = ev; acts = answer_acts t now ev flaw ++ loss_acts flaw }
 
   closes_by : (ev : Event) (x : ℕ) → Among x (closing t (before ev)) → closes_in x (accepted_acts limits t now ev flaw) ≡ true
-  closes_by (event.Poll c want) x there = closes_after x (poll_acts t now want c flaw) _ (closes_list x (closing t (before (event.Poll c want))) (loss_acts flaw) there)
+  closes_by (event.Poll c want) x there =
+      closes_after x (poll_acts t now want c flaw) _ (closes_list x (closing t (before (event.Poll c want))) (loss_acts flaw) there)
   closes_by (event.Cancel c) x there = closes_list x (closing t (before (event.Cancel c))) (loss_acts flaw) there
   closes_by ev x there = closes_evicted x (evicted limits t now ev) _ (closes_lost x flaw _ (closes_all x (closing t (before ev)) there))
 
   -- an exchange that must be closed, and that the event leaves open, is closed
-  pub closes : (ev : Event) (x : ℕ) (w : Exchange) → t.exchange x ≡ Some w → must_close t (before ev) x w ≡ true → (exchange_heard t (before ev) x ev w).is_open ≡ true → closes_in x (accepted_acts limits t now ev flaw) ≡ true
+  pub closes : (ev : Event) (x : ℕ) (w : Exchange) → t.exchange x ≡ Some w → must_close t (before ev) x w ≡ true →
+      (exchange_heard t (before ev) x ev w).is_open ≡ true → closes_in x (accepted_acts limits t now ev flaw) ≡ true
   unfolding closing
   closes ev x w row must on =
       let test : closes_row t (before ev) x (t.exchange x) ≡ true = ap (closes_row t (before ev) x) row ∙ and_both _ _ must on in
-      closes_by ev x (among_filter x (λ y. closes_row t (before ev) y (t.exchange y)) (reverse t.openings) test (reversed x t.openings (s.numbered.lists.opened x (ap is_some row))))
+      closes_by ev x (among_filter x (λ y. closes_row t (before ev) y (t.exchange y)) (reverse t.openings) test
+      (reversed x t.openings (s.numbered.lists.opened x (ap is_some row))))

@@ -14,18 +14,21 @@ pub record ComesTo (t : Tables) (e : Entry) (c : ℕ) (rs : List ℕ) (u : Table
   pub founded : t.founded ≡ u.founded
   pub used : to_front (binds t e) t.used ≡ u.used
   pub exchange : (x : ℕ) → exchange_after t e x (t.exchange x) ≡ u.exchange x
-  pub representation : (r : ℕ) → representation_after t e r (t.representation r) ≡ (if is_in rs r then option_map as_gone (u.representation r) else u.representation r)
+  pub representation : (r : ℕ) →
+      representation_after t e r (t.representation r) ≡ (if is_in rs r then option_map as_gone (u.representation r) else u.representation r)
   pub consumer : (d : ℕ) → nat_eq c d ≡ false → consumer_after t e d (t.consumer d) ≡ option_map (back_from_any e.now rs) (u.consumer d)
 
 -- who waits starts over exactly where that is let go
-module _ (t : Tables) (e : Entry) (law : Lawful t) (rs : List ℕ) (goes : (r : ℕ) (v : Representation) → t.representation r ≡ Some v → becomes_gone t e r v ≡ is_in rs r) where
+module _ (t : Tables) (e : Entry) (law : Lawful t) (rs : List ℕ)
+    (goes : (r : ℕ) (v : Representation) → t.representation r ≡ Some v → becomes_gone t e r v ≡ is_in rs r) where
   pub waits_as : (d : ℕ) (k : Consumer) → t.consumer d ≡ Some k → (p : Place) → k.place ≡ p → goes_from t e p ≡ waits_for_any rs p
   waits_as d k row (place.Passed r kept) at = let w = law.passed.waits d r kept k row at in ap (goes_in t e r) w.row ∙ goes r w.v w.row
   waits_as d k row _ at = refl
 
 module _ (t : Tables) (e : Entry) (c : ℕ) (n : BringsNothing t e c) where
   -- the tables after it: c is q, and waits for nothing that is let go
-  pub after_by : (rs : List ℕ) (u : Tables) (q : Consumer) → ComesTo t e c rs u → consumer_after t e c (t.consumer c) ≡ Some q → waits_for_any rs q.place ≡ false
+  pub after_by : (rs : List ℕ) (u : Tables) (q : Consumer) → ComesTo t e c rs u → consumer_after t e c (t.consumer c) ≡ Some q →
+      waits_for_any rs q.place ≡ false
       → after_accepted t e ≡ with_event e.now e.event (let_all_go e.now rs (with_consumer c (Some q) u))
   after_by rs u q comes row waits =
       same_tables (after_accepted t e) (with_event e.now e.event (without e.now rs (with_consumer c (Some q) u))) (record {
@@ -47,7 +50,8 @@ module _ (t : Tables) (e : Entry) (c : ℕ) (n : BringsNothing t e c) where
       by_number : (d : ℕ) → consumer_after t e d (t.consumer d) ≡ option_map (back_from_any e.now rs) (if c == d then Some q else u.consumer d)
       by_number d = grind (arith, nat_tests)
 
-  module _ (law : Lawful t) (far : (d : ℕ) → nat_eq c d ≡ false → IsFarFrom d e.acts) (rs : List ℕ) (goes : (r : ℕ) (v : Representation) → t.representation r ≡ Some v → becomes_gone t e r v ≡ is_in rs r) where
+  module _ (law : Lawful t) (far : (d : ℕ) → nat_eq c d ≡ false → IsFarFrom d e.acts) (rs : List ℕ)
+      (goes : (r : ℕ) (v : Representation) → t.representation r ≡ Some v → becomes_gone t e r v ≡ is_in rs r) where
     pub others : (d : ℕ) → nat_eq c d ≡ false → consumer_after t e d (t.consumer d) ≡ option_map (back_from_any e.now rs) (t.consumer d)
     others d other = by_row (t.consumer d) refl
       where
@@ -57,7 +61,8 @@ module _ (t : Tables) (e : Entry) (c : ℕ) (n : BringsNothing t e c) where
             consumer_alone t e c n d k (far d other) (n.heard d k other) (law.owned.idle_due d k row)
             ∙ ap (λ (b : Bool). Some (if b then back_in_line e.now k else k)) (waits_as t e law rs goes d k row k.place refl)
 
-    pub representations : ((r : ℕ) → loses_in r e.acts ≡ false) → (r : ℕ) → representation_after t e r (t.representation r) ≡ (if is_in rs r then option_map as_gone (t.representation r) else t.representation r)
+    pub representations : ((r : ℕ) → loses_in r e.acts ≡ false) → (r : ℕ) →
+        representation_after t e r (t.representation r) ≡ (if is_in rs r then option_map as_gone (t.representation r) else t.representation r)
     representations lossless r = by_row (t.representation r) refl
       where
         by_test : (b : Bool) (v : Representation) → Some (if b then as_gone v else v) ≡ (if b then Some (as_gone v) else Some v)
@@ -70,7 +75,8 @@ module _ (t : Tables) (e : Entry) (c : ℕ) (n : BringsNothing t e c) where
 
         by_row : (o : Option Representation) → t.representation r ≡ o → representation_after t e r o ≡ (if is_in rs r then option_map as_gone o else o)
         by_row None row = representation_absent t e r (n.founds_none r) ∙ none_left (is_in rs r)
-        by_row (Some v) row = representation_frame t e r v (n.representation r v) (lossless r) ∙ (ap (λ (b : Bool). Some (if b then as_gone v else v)) (goes r v row) ∙ by_test (is_in rs r) v)
+        by_row (Some v) row = representation_frame t e r v (n.representation r v) (lossless r) ∙
+            (ap (λ (b : Bool). Some (if b then as_gone v else v)) (goes r v row) ∙ by_test (is_in rs r) v)
 
 -- ONE OR TWO ARE LET GO
 

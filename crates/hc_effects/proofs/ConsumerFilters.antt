@@ -53,7 +53,8 @@ heard_same t e c (event.Fault x) k = by_row (t.exchange x)
     by_row : (o : Option Exchange) → IsSame k (by_fault c x o k)
     by_row None = same k
     by_row (Some w) = same_if _ k _ (record { request_is = refl; since_is = refl; given_is = refl; shown_is = refl })
-heard_same t e c (event.Cancel d) k = same_if (d == c) k (record k { place = place.Over }) (record { request_is = refl; since_is = refl; given_is = refl; shown_is = refl })
+heard_same t e c (event.Cancel d) k =
+    same_if (d == c) k (record k { place = place.Over }) (record { request_is = refl; since_is = refl; given_is = refl; shown_is = refl })
 heard_same t e c _ k = same k
 
 opening_same : (t : Tables) (c : ℕ) (o : Option Opening) (k : Consumer) → IsSame k (by_opening t c o k)
@@ -87,10 +88,12 @@ given_by b t e c k q = grind (arith, nat_tests)
 pub shown_by : (b : Bool) (t : Tables) (e : Entry) (c : ℕ) (k q : Consumer) → (cond b (back_in_line e.now q) (due_after t e c k q)).shown ≡ q.shown
 shown_by b t e c k q = grind (arith, nat_tests)
 
-pub since_by : (b : Bool) (t : Tables) (e : Entry) (c : ℕ) (k q : Consumer) → Some ((cond b (back_in_line e.now q) (due_after t e c k q)).since) ≡ option_or (last (cond b (e.now ∷ []) [])) (Some q.since)
+pub since_by : (b : Bool) (t : Tables) (e : Entry) (c : ℕ) (k q : Consumer) →
+    Some ((cond b (back_in_line e.now q) (due_after t e c k q)).since) ≡ option_or (last (cond b (e.now ∷ []) [])) (Some q.since)
 since_by b t e c k q = grind (arith, nat_tests)
 
-after_request : (t : Tables) (e : Entry) (c : ℕ) (k : Consumer) → (consumer_settled t e c k (consumer_acted t e c (consumer_heard t e c e.event k))).request ≡ k.request
+after_request : (t : Tables) (e : Entry) (c : ℕ) (k : Consumer) →
+    (consumer_settled t e c k (consumer_acted t e c (consumer_heard t e c e.event k))).request ≡ k.request
 after_request t e c k = request_by (starts_over t e c k) t e c k (consumer_acted t e c (consumer_heard t e c e.event k)) ∙ (acted t e c k).request_is
 
 -- REQUESTS
@@ -99,12 +102,15 @@ made_request : (c now : ℕ) (ev : Event) → option_map (λ (k : Consumer). k.r
 made_request c now ev = grind (arith, nat_tests)
 
 -- the request after an accepted entry
-request_after : (t : Tables) (e : Entry) (c : ℕ) (o : Option Consumer) → option_map (λ (k : Consumer). k.request) (consumer_after t e c o) ≡ option_or (option_map (λ (k : Consumer). k.request) o) (first (request_in c e.event))
+request_after : (t : Tables) (e : Entry) (c : ℕ) (o : Option Consumer) →
+    option_map (λ (k : Consumer). k.request) (consumer_after t e c o) ≡ option_or (option_map (λ (k : Consumer). k.request) o) (first (request_in c e.event))
 unfolding consumer_after
 request_after t e c None = made_request c e.now e.event
 request_after t e c (Some k) = ap Some (after_request t e c k)
 
-request_step : (t : Tables) (e : Entry) (c : ℕ) (b : Bool) → is_denied e.acts ≡ b → option_map (λ (k : Consumer). k.request) ((after t e).consumer c) ≡ option_or (option_map (λ (k : Consumer). k.request) (t.consumer c)) (first (if_accepted e (request_in c e.event)))
+request_step : (t : Tables) (e : Entry) (c : ℕ) (b : Bool) → is_denied e.acts ≡ b →
+    option_map (λ (k : Consumer). k.request) ((after t e).consumer c) ≡ option_or (option_map (λ (k : Consumer). k.request) (t.consumer c))
+    (first (if_accepted e (request_in c e.event)))
 unfolding after
 request_step t e c true denied = rw denied (sym (or_none _))
 request_step t e c false denied = rw denied (request_after t e c (t.consumer c))
@@ -113,21 +119,27 @@ pub requests_are : (contents : Contents) (h : History) (c : ℕ) → option_map 
 unfolding tables
 requests_are contents [] c = refl
 requests_are contents (e ∷ h) c =
-    first_more (each (λ e. if_accepted e (request_in c e.event)) h) (if_accepted e (request_in c e.event)) _ _ (requests_are contents h c) (request_step (tables contents h) e c (is_denied e.acts) refl)
+    first_more (each (λ e. if_accepted e (request_in c e.event)) h) (if_accepted e (request_in c e.event)) _ _ (requests_are contents h c)
+    (request_step (tables contents h) e c (is_denied e.acts) refl)
 
 -- STARTS
 
-made_since : (t : Tables) (e : Entry) (c : ℕ) (ev : Event) → option_map (λ (k : Consumer). k.since) (consumer_made c e.now ev) ≡ last (if start_in c ev then e.now ∷ [] else [])
+made_since : (t : Tables) (e : Entry) (c : ℕ) (ev : Event) →
+    option_map (λ (k : Consumer). k.since) (consumer_made c e.now ev) ≡ last (if start_in c ev then e.now ∷ [] else [])
 made_since t e c ev = grind (arith, nat_tests)
 
-since_after : (t : Tables) (e : Entry) (c : ℕ) (o : Option Consumer) → option_map (λ (k : Consumer). k.since) (consumer_after t e c o) ≡ option_or (last (if starts_over_at t e c o then e.now ∷ [] else [])) (option_map (λ (k : Consumer). k.since) o)
+since_after : (t : Tables) (e : Entry) (c : ℕ) (o : Option Consumer) →
+    option_map (λ (k : Consumer). k.since) (consumer_after t e c o) ≡ option_or (last (if starts_over_at t e c o then e.now ∷ [] else []))
+    (option_map (λ (k : Consumer). k.since) o)
 unfolding consumer_after
 since_after t e c None = made_since t e c e.event ∙ sym (or_none _)
 since_after t e c (Some k) =
     since_by (starts_over t e c k) t e c k (consumer_acted t e c (consumer_heard t e c e.event k))
     ∙ ap (λ n. option_or (last (if starts_over t e c k then e.now ∷ [] else [])) (Some n)) (acted t e c k).since_is
 
-since_step : (t : Tables) (e : Entry) (c : ℕ) (b : Bool) → is_denied e.acts ≡ b → option_map (λ (k : Consumer). k.since) ((after t e).consumer c) ≡ option_or (last (if_accepted e (start_at c t e))) (option_map (λ (k : Consumer). k.since) (t.consumer c))
+since_step : (t : Tables) (e : Entry) (c : ℕ) (b : Bool) → is_denied e.acts ≡ b →
+    option_map (λ (k : Consumer). k.since) ((after t e).consumer c) ≡ option_or (last (if_accepted e (start_at c t e)))
+    (option_map (λ (k : Consumer). k.since) (t.consumer c))
 unfolding after
 since_step t e c true denied = rw denied refl
 since_step t e c false denied = rw denied (since_after t e c (t.consumer c))

@@ -40,9 +40,11 @@ module _ (step : Step) (m : Measures step.tables) (i : IsBeside step.tables) (re
 
   -- what came stays
   pub grown : (r : ℕ) (v p : Representation) (a b : ℕ) → t.representation r ≡ Some v → now_on.representation r ≡ Some p → Covers v.body a b → Covers p.body a b
-  grown r v p a b there after all d from_a lt = some_stays (v.body d) (p.body d) (λ cell is. bodies_are_kept limits t now flaw s ev goes r d cell v p there after is) (all d from_a lt)
+  grown r v p a b there after all d from_a lt =
+      some_stays (v.body d) (p.body d) (λ cell is. bodies_are_kept limits t now flaw s ev goes r d cell v p there after is) (all d from_a lt)
 
-  module _ (r c lo : ℕ) (hi : Option ℕ) (how : BoundBy) (k u : Consumer) (row : IsRow t e c r lo hi how k u) (at : k.place ≡ place.Bound r lo hi how) (stands : u.place ≡ place.Bound r lo hi how) where
+  module _ (r c lo : ℕ) (hi : Option ℕ) (how : BoundBy) (k u : Consumer) (row : IsRow t e c r lo hi how k u) (at : k.place ≡ place.Bound r lo hi how)
+      (stands : u.place ≡ place.Bound r lo hi how) where
     pub offset_more : offset t k ≤ offset now_on u
     offset_more =
         let a = acted t e c k in
@@ -59,14 +61,17 @@ module _ (step : Step) (m : Measures step.tables) (i : IsBeside step.tables) (re
 
     -- A PIECE OF ITS OWN EXCHANGE
 
-    module _ (x : ℕ) (w : Exchange) (v p : Representation) (there : t.representation r ≡ Some v) (kept : IsKept t e r v p) (own : k.own ≡ Some x) (exchange_row : t.exchange x ≡ Some w) where
+    module _ (x : ℕ) (w : Exchange) (v p : Representation) (there : t.representation r ≡ Some v) (kept : IsKept t e r v p) (own : k.own ≡ Some x)
+        (exchange_row : t.exchange x ≡ Some w) where
       -- an own open exchange with its head is of what it reads
       pub of_r : w.is_open ≡ true → is_some w.head ≡ true → family x w ≡ r
       of_r opened headed = by_about (s.writes.own_about r c x k reader (own_open_is t k x (record { own = own; w = w; row = exchange_row; opened = opened })))
         where
           by_about : IsAbout t r x → family x w ≡ r
           by_about (sound.headed q q_row q_open q_head fam q_there) = ap (family x) (same_row (t.exchange x) w q exchange_row q_row) ∙ fam
-          by_about (sound.asks q a b q_row q_open bare needs aim) = absurd (false_true (sym (ap (λ (z : Option Response). is_some z) bare) ∙ (ap (λ (z : Exchange). is_some z.head) (same_row (t.exchange x) q w q_row exchange_row) ∙ headed)))
+          by_about (sound.asks q a b q_row q_open bare needs aim) =
+              absurd (false_true (sym (ap (λ (z : Option Response). is_some z) bare) ∙
+              (ap (λ (z : Exchange). is_some z.head) (same_row (t.exchange x) q w q_row exchange_row) ∙ headed)))
 
       pub piece_body : (bytes : List ℕ) → ev ≡ event.Piece x bytes → p.body ≡ cells_with (front w) x bytes v.body
       piece_body bytes here = by_fills (fills t e r v p kept)
@@ -75,20 +80,26 @@ module _ (step : Step) (m : Measures step.tables) (i : IsBeside step.tables) (re
           taken = piece_taken step m x bytes w here exchange_row
 
           by_fills : Fills t e r v p → p.body ≡ cells_with (front w) x bytes v.body
-          by_fills (fills_by.still none_of body_is stored_is reach_is) = absurd (none_of x bytes w (record { at = here; row = exchange_row; of_r = of_r taken.is_open taken.headed }))
+          by_fills (fills_by.still none_of body_is stored_is reach_is) =
+              absurd (none_of x bytes w (record { at = here; row = exchange_row; of_r = of_r taken.is_open taken.headed }))
           by_fills (fills_by.more y more a is body_is stored_is reach_is) =
               let same = piece_inj x y bytes more (sym here ∙ is.at) in
               let one : a ≡ w = same_row (t.exchange x) a w (ap t.exchange same.0 ∙ is.row) exchange_row in
-              body_is ∙ (ap (λ (q : Exchange). cells_with (front q) y more v.body) one ∙ (ap (λ n. cells_with (front w) n more v.body) (sym same.0) ∙ ap (λ d. cells_with (front w) x d v.body) (sym same.1)))
+              body_is ∙ (ap (λ (q : Exchange). cells_with (front q) y more v.body) one ∙
+              (ap (λ n. cells_with (front w) n more v.body) (sym same.0) ∙ ap (λ d. cells_with (front w) x d v.body) (sym same.1)))
 
     -- ITS OWN EXCHANGE STAYS
 
-    module _ (x : ℕ) (w z : Exchange) (v p : Representation) (there : t.representation r ≡ Some v) (kept : IsKept t e r v p) (after : now_on.representation r ≡ Some p) (none : u.due ≡ None) (own : k.own ≡ Some x) (exchange_row : t.exchange x ≡ Some w) (same : IsSame t e x w z) (after_x : now_on.exchange x ≡ Some z) (exclusive_writer : IsExclusiveWriter t r v c) where
+    module _ (x : ℕ) (w z : Exchange) (v p : Representation) (there : t.representation r ≡ Some v) (kept : IsKept t e r v p)
+        (after : now_on.representation r ≡ Some p) (none : u.due ≡ None) (own : k.own ≡ Some x) (exchange_row : t.exchange x ≡ Some w)
+        (same : IsSame t e x w z) (after_x : now_on.exchange x ≡ Some z) (exclusive_writer : IsExclusiveWriter t r v c) where
       was : Covers v.body (offset t k) (goes_on_at w w.head)
       was = i.covered r c x v k w there exclusive_writer reader (none_before none) own exchange_row
 
       further : (a : ℕ) → a ≤ goes_on_at w w.head → Covers p.body (offset now_on u) a
-      further a le d from_u lt = grown r v p (offset t k) (goes_on_at w w.head) there after was d (let more : offset t k ≤ offset now_on u = offset_more in let begins : offset now_on u ≤ d = from_u in omega arith) (omega arith)
+      further a le d from_u lt =
+          grown r v p (offset t k) (goes_on_at w w.head) there after was d
+          (let more : offset t k ≤ offset now_on u = offset_more in let begins : offset now_on u ≤ d = from_u in omega arith) (omega arith)
 
       still_bare : z.head ≡ w.head → w.head ≡ None → Covers p.body (offset now_on u) (goes_on_at z z.head)
       still_bare head_is bare =
@@ -110,13 +121,15 @@ module _ (step : Step) (m : Measures step.tables) (i : IsBeside step.tables) (re
           let below : d < front z = lt in
           elim (split d (front w)) [
             | inl before ↦ further (front w) (omega arith) d from_u before
-            | inr past ↦ ap (λ (f : Cells). is_some (f d)) (piece_body x w v p there kept own exchange_row bytes here) ∙ (let yes = inside-yes (front w) (length bytes) d past (omega arith) in rw yes refl)
+            | inr past ↦ ap (λ (f : Cells). is_some (f d)) (piece_body x w v p there kept own exchange_row bytes here) ∙
+                (let yes = inside-yes (front w) (length bytes) d past (omega arith) in rw yes refl)
           ]
 
       still_headed : z.head ≡ w.head → z.joined ≡ w.joined → is_some w.head ≡ true → Covers p.body (offset now_on u) (goes_on_at z z.head)
       still_headed head_is joined_is headed =
           let there_now : is_some z.head ≡ true = ap (λ (a : Option Response). is_some a) head_is ∙ headed in
-          subst (Covers p.body (offset now_on u)) (sym (headed_at z z.head refl there_now)) (by_brings (held step m x w z same head_is joined_is) headed (brings t e x w z exchange_row after_x))
+          subst (Covers p.body (offset now_on u)) (sym (headed_at z z.head refl there_now))
+          (by_brings (held step m x w z same head_is joined_is) headed (brings t e x w z exchange_row after_x))
 
       still_by : z.head ≡ w.head → z.joined ≡ w.joined → (a : Option Response) → w.head ≡ a → Covers p.body (offset now_on u) (goes_on_at z z.head)
       still_by head_is joined_is None is = still_bare head_is is
@@ -155,7 +168,8 @@ module _ (step : Step) (m : Measures step.tables) (i : IsBeside step.tables) (re
       | inl none_is ↦ (let zero_is : hole_start p.need ≡ 0 = none_is in omega arith)
       | inr hole ↦
           let opener = is_opener limits t now flaw s ev goes c k p row.row opens mine in
-          let same : hole.from ≡ offset t k = later_from hole.from hole.to (opens_hole t c k p now opener.want s row.row opener.opening hole.from hole.to hole.is) in
+          let same : hole.from ≡ offset t k =
+          later_from hole.from hole.to (opens_hole t c k p now opener.want s row.row opener.opening hole.from hole.to hole.is) in
           let start : hole_start p.need ≡ hole.from = ap hole_start hole.is in
           omega arith
     ]

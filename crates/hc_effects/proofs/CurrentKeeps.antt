@@ -42,16 +42,20 @@ heard_same t e r _ v = same v
 -- a row after an entry was there, and doesn't become gone where it isn't gone; or it is founded
 pub data WasOrFounded (t : Tables) (e : Entry) (r : ℕ) (u : Representation) : Type 0 where
   was : (v : Representation) → t.representation r ≡ Some v → u.key ≡ v.key → u.is_gone ≡ (becomes_gone t e r v || v.is_gone) → WasOrFounded t e r u
-  founded : (x : ℕ) (response : Response) (w : Exchange) → e.event ≡ event.Head x response → x ≡ r → is_founding (case_at t e) ≡ true → t.exchange x ≡ Some w → u.key ≡ w.request.key → t.representation r ≡ None → WasOrFounded t e r u
+  founded : (x : ℕ) (response : Response) (w : Exchange) → e.event ≡ event.Head x response → x ≡ r → is_founding (case_at t e) ≡ true →
+      t.exchange x ≡ Some w → u.key ≡ w.request.key → t.representation r ≡ None → WasOrFounded t e r u
 
-made : (t : Tables) (e : Entry) (r x : ℕ) (response : Response) (u : Representation) (b : Bool) (o : Option Exchange) → e.event ≡ event.Head x response → t.representation r ≡ None → (b ≡ true → (is_founding (case_at t e) ≡ true) × (x ≡ r)) → t.exchange x ≡ o → (if b then option_map (new_representation r e response) o else None) ≡ Some u → WasOrFounded t e r u
+made : (t : Tables) (e : Entry) (r x : ℕ) (response : Response) (u : Representation) (b : Bool) (o : Option Exchange) → e.event ≡ event.Head x response →
+    t.representation r ≡ None → (b ≡ true → (is_founding (case_at t e) ≡ true) × (x ≡ r)) → t.exchange x ≡ o →
+    (if b then option_map (new_representation r e response) o else None) ≡ Some u → WasOrFounded t e r u
 made t e r x response u false o at none is row h = absurd (let never : None ≡ Some u = h in cc)
 made t e r x response u true None at none is row h = absurd (let never : None ≡ Some u = h in cc)
 made t e r x response u true (Some w) at none is row h =
     let parts = is refl in
     founded x response w at parts.1 parts.0 row (sym (ap (λ (z : Representation). z.key) (some_inj (new_representation r e response w) u h))) none
 
-of_none : (t : Tables) (e : Entry) (r : ℕ) (ev : Event) (u : Representation) → e.event ≡ ev → t.representation r ≡ None → founded_at t e r ev ≡ Some u → WasOrFounded t e r u
+of_none : (t : Tables) (e : Entry) (r : ℕ) (ev : Event) (u : Representation) → e.event ≡ ev → t.representation r ≡ None → founded_at t e r ev ≡ Some u →
+    WasOrFounded t e r u
 of_none t e r (event.Head x response) u at none h =
     made t e r x response u (is_founding (case_at t e) && (x == r)) (t.exchange x) at none (λ b.
     let parts = and_both (is_founding (case_at t e)) (x == r) b in
@@ -59,24 +63,29 @@ of_none t e r (event.Head x response) u at none h =
     (parts.0, grind (arith, nat_tests))) refl h
 of_none t e r _ u at none h = absurd (let never : None ≡ Some u = h in cc)
 
-pub was_or_founded : (t : Tables) (e : Entry) (r : ℕ) (o : Option Representation) (u : Representation) → t.representation r ≡ o → representation_after t e r o ≡ Some u → WasOrFounded t e r u
+pub was_or_founded : (t : Tables) (e : Entry) (r : ℕ) (o : Option Representation) (u : Representation) → t.representation r ≡ o →
+    representation_after t e r o ≡ Some u → WasOrFounded t e r u
 unfolding representation_after
 was_or_founded t e r None u row h = of_none t e r e.event u refl row h
 was_or_founded t e r (Some v) u row h =
     let s = heard_same t e r e.event v in
     let is = some_inj (representation_acted t e r v (representation_heard t e r e.event v)) u h in
-    was v row (sym (ap (λ (z : Representation). z.key) is) ∙ s.key_is) (sym (ap (λ (z : Representation). z.is_gone) is) ∙ ap (λ b. becomes_gone t e r v || b) s.gone_is)
+    was v row (sym (ap (λ (z : Representation). z.key) is) ∙ s.key_is)
+    (sym (ap (λ (z : Representation). z.is_gone) is) ∙ ap (λ b. becomes_gone t e r v || b) s.gone_is)
 
 -- WHAT FOUNDS REPLACES WHAT IS CURRENT
 
-replaces : (t : Tables) (e : Entry) (q : ℕ) (w : Exchange) (c : HeadCase) → is_founding (Some c) ≡ true → is_current_of t w q ≡ true → goes_by_case t e q (Some c) w ≡ true
+replaces : (t : Tables) (e : Entry) (q : ℕ) (w : Exchange) (c : HeadCase) → is_founding (Some c) ≡ true → is_current_of t w q ≡ true →
+    goes_by_case t e q (Some c) w ≡ true
 replaces t e q w c is now = grind (arith, nat_tests)
 
-replaces_some : (t : Tables) (e : Entry) (q : ℕ) (w : Exchange) (o : Option HeadCase) → is_founding o ≡ true → is_current_of t w q ≡ true → goes_by_case t e q o w ≡ true
+replaces_some : (t : Tables) (e : Entry) (q : ℕ) (w : Exchange) (o : Option HeadCase) → is_founding o ≡ true → is_current_of t w q ≡ true →
+    goes_by_case t e q o w ≡ true
 replaces_some t e q w None is now = absurd (let never : false ≡ true = is in cc)
 replaces_some t e q w (Some c) is now = replaces t e q w c is now
 
-goes_too : (t : Tables) (e : Entry) (q x : ℕ) (response : Response) (w : Exchange) (v : Representation) → e.event ≡ event.Head x response → t.exchange x ≡ Some w → is_founding (case_at t e) ≡ true → is_current_of t w q ≡ true → becomes_gone t e q v ≡ true
+goes_too : (t : Tables) (e : Entry) (q x : ℕ) (response : Response) (w : Exchange) (v : Representation) → e.event ≡ event.Head x response →
+    t.exchange x ≡ Some w → is_founding (case_at t e) ≡ true → is_current_of t w q ≡ true → becomes_gone t e q v ≡ true
 unfolding becomes_gone
 goes_too t e q x response w v at row is now =
     let by_head : goes_by_head t e q ≡ true = ap (goes_by_exchange t e q) (ap (exchange_at t) at ∙ row) ∙ replaces_some t e q w (case_at t e) is now in
@@ -115,7 +124,8 @@ usable_row t key n (Some v) row h =
     let parts = and_both (bytes_eq v.key key) (not v.is_gone) h in
     record { v = v; row = row; of_key = same_bytes v.key key parts.0; fresh = not_gone v.is_gone parts.1 }
 
-pub current_is : (t : Tables) (key : List ℕ) (q : ℕ) (v : Representation) → Sound t → t.representation q ≡ Some v → v.key ≡ key → v.is_gone ≡ false → current t key ≡ Some q
+pub current_is : (t : Tables) (key : List ℕ) (q : ℕ) (v : Representation) → Sound t → t.representation q ≡ Some v → v.key ≡ key → v.is_gone ≡ false →
+    current t key ≡ Some q
 unfolding current
 current_is t key q v s row of_key fresh =
     find_only (λ r. is_usable key (t.representation r)) t.founded q
@@ -127,7 +137,9 @@ current_is t key q v s row of_key fresh =
 -- ALL OF IT
 
 -- what is founded and what was there and isn't gone are of different keys
-apart : (t : Tables) (e : Entry) (r q x : ℕ) (response : Response) (w : Exchange) (v u z : Representation) → Sound t → e.event ≡ event.Head x response → is_founding (case_at t e) ≡ true → t.exchange x ≡ Some w → z.key ≡ w.request.key → t.representation q ≡ Some v → u.key ≡ v.key → u.is_gone ≡ (becomes_gone t e q v || v.is_gone) → u.is_gone ≡ false → z.key ≡ u.key → r ≡ q
+apart : (t : Tables) (e : Entry) (r q x : ℕ) (response : Response) (w : Exchange) (v u z : Representation) → Sound t → e.event ≡ event.Head x response →
+    is_founding (case_at t e) ≡ true → t.exchange x ≡ Some w → z.key ≡ w.request.key → t.representation q ≡ Some v → u.key ≡ v.key →
+    u.is_gone ≡ (becomes_gone t e q v || v.is_gone) → u.is_gone ≡ false → z.key ≡ u.key → r ≡ q
 apart t e r q x response w v u z s at is row key there key_is gone_is fresh same_key =
     let stays = or_false (becomes_gone t e q v) v.is_gone (sym gone_is ∙ fresh) in
     let of_key : v.key ≡ w.request.key = sym (same_key ∙ key_is) ∙ key in
@@ -135,7 +147,8 @@ apart t e r q x response w v u z s at is row key there key_is gone_is fresh same
     let is_now : is_current_of t w q ≡ true = ap (λ o. is_number o q) now ∙ eq-refl q in
     absurd (let never : false ≡ true = sym stays.0 ∙ goes_too t e q x response w v at row is is_now in cc)
 
-one : (t : Tables) (e : Entry) (r q : ℕ) (z u : Representation) → Sound t → WasOrFounded t e r z → WasOrFounded t e q u → z.is_gone ≡ false → u.is_gone ≡ false → z.key ≡ u.key → r ≡ q
+one : (t : Tables) (e : Entry) (r q : ℕ) (z u : Representation) → Sound t → WasOrFounded t e r z → WasOrFounded t e q u → z.is_gone ≡ false →
+    u.is_gone ≡ false → z.key ≡ u.key → r ≡ q
 one t e r q z u s (was v row key_is gone_is) (was v' row' key_is' gone_is') fresh fresh' same_key =
     let a = or_false (becomes_gone t e r v) v.is_gone (sym gone_is ∙ fresh) in
     let b = or_false (becomes_gone t e q v') v'.is_gone (sym gone_is' ∙ fresh') in

@@ -101,7 +101,8 @@ module _ (limits : Limits) (t : Tables) (law : Lawful t) (now : ℕ) (key : Key)
   stays : (c : ℕ) (k : Consumer) → t.consumer c ≡ Some k → beside t it c k ≡ k
   stays c k row =
       let spared = spared_bodiless t it k.place refl in
-      beside_same t now ev (dooms key) NoFlaw xs c k (undue_of t it c k (record { stop = stop_none t it k refl; loss = loss_spared t it c k.place spared; head = refl })) spared (law.owned.idle_due c k row)
+      beside_same t now ev (dooms key) NoFlaw xs c k
+      (undue_of t it c k (record { stop = stop_none t it k refl; loss = loss_spared t it c k.place spared; head = refl })) spared (law.owned.idle_due c k row)
 
   consumers : (c : ℕ) → consumer_after t it c (t.consumer c) ≡ option_map (back_from_any now rs) (option_map (sent_back t now key) (t.consumer c))
   unfolding doomed_key_of
@@ -111,7 +112,8 @@ module _ (limits : Limits) (t : Tables) (law : Lawful t) (now : ℕ) (key : Key)
       by_row None row = consumer_absent t it c refl
       by_row (Some k) row =
           after_heard t it c k (far t now ev (dooms key) NoFlaw xs c) refl (Some k) refl
-          ∙ (ap Some (ap₂ (λ (a : Bool) (q : Consumer). if a then back_in_line now k else q) (starts_is t now ev (dooms key) NoFlaw xs law rs goes c k row) (stays c k row)) ∙ sent_as t now key rs k)
+          ∙ (ap Some (ap₂ (λ (a : Bool) (q : Consumer). if a then back_in_line now k else q)
+          (starts_is t now ev (dooms key) NoFlaw xs law rs goes c k row) (stays c k row)) ∙ sent_as t now key rs k)
 
   -- WHAT IT DOES
 
@@ -121,11 +123,14 @@ module _ (limits : Limits) (t : Tables) (law : Lawful t) (now : ℕ) (key : Key)
 
   tables_are : after_accepted t it ≡ with_event now ev (let_some_go now (current t key) (all_closed xs (woken now key t)))
   tables_are =
-      reported_by t now ev (dooms key) NoFlaw xs rs (λ y. if is_in xs y then option_map over (t.exchange y) else t.exchange y) t.representation (woken now key t).consumer
+      reported_by t now ev (dooms key) NoFlaw xs rs (λ y. if is_in xs y then option_map over (t.exchange y) else t.exchange y) t.representation
+      (woken now key t).consumer
       (λ y. exchange_other t now ev (dooms key) NoFlaw xs y (λ x is. absurd (none_some x is)))
       rows consumers
       ∙ (ap (λ (u : Tables). with_event now ev (let_all_go now rs u)) (sym (all_closed_is xs (woken now key t)))
       ∙ ap (with_event now ev) (some_all now (current t key) (all_closed xs (woken now key t))))
 
-  pub doom_does : Does limits t now ev NoFlaw (map act.Close (awaited_and t key None)) (with_event now ev (let_some_go now (current t key) (all_closed (awaited_and t key None) (woken now key t))))
-  doom_does = reported_plainly t now ev (dooms key) NoFlaw xs limits law never_denied (let_some_go now (current t key) (all_closed xs (woken now key t))) closing_is tables_are refl
+  pub doom_does : Does limits t now ev NoFlaw (map act.Close (awaited_and t key None))
+      (with_event now ev (let_some_go now (current t key) (all_closed (awaited_and t key None) (woken now key t))))
+  doom_does = reported_plainly t now ev (dooms key) NoFlaw xs limits law never_denied (let_some_go now (current t key) (all_closed xs (woken now key t)))
+      closing_is tables_are refl

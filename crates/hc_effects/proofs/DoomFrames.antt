@@ -8,7 +8,9 @@ use Rattle.hc_effects.proofs.{Basics.{false_true, number_is}, SameTables.{is_in,
 -- CONSUMERS
 
 -- whoever waits for the key starts over, and else who waits for what goes
-pub sent_as : (t : Tables) (now : ℕ) (key : List ℕ) (rs : List ℕ) (k : Consumer) → Some (if (bytes_eq key k.request.key && waits_at t k.place) || waits_for_any rs k.place then back_in_line now k else k) ≡ option_map (back_from_any now rs) (Some (sent_back t now key k))
+pub sent_as : (t : Tables) (now : ℕ) (key : List ℕ) (rs : List ℕ) (k : Consumer) →
+    Some (if (bytes_eq key k.request.key && waits_at t k.place) || waits_for_any rs k.place then back_in_line now k else k) ≡ option_map
+    (back_from_any now rs) (Some (sent_back t now key k))
 sent_as t now key rs k = grind (arith, nat_tests)
 
 -- EXCHANGES
@@ -27,10 +29,16 @@ module _ (t : Tables) (key : List ℕ) (s : Sound t) where
   -- what is awaited founded nothing yet
   unfounded_by : (x : ℕ) (o : Option Exchange) → t.exchange x ≡ o → is_awaited t key x o ≡ true → t.representation x ≡ None
   unfounded_by x None row h = absurd (false_true h)
-  unfounded_by x (Some w) row h = s.numbered.names.unfounded x w row (none_of w.head (and_right w.is_open _ (and_right (bytes_eq key w.request.key) _ (and_left _ (awaits (t.consumer w.c) x) h))))
+  unfounded_by x (Some w) row h =
+      s.numbered.names.unfounded x w row
+      (none_of w.head (and_right w.is_open _ (and_right (bytes_eq key w.request.key) _ (and_left _ (awaits (t.consumer w.c) x) h))))
 
-  pub awaited_apart : (also : Option ℕ) → ((x : ℕ) → also ≡ Some x → t.representation x ≡ None) → (r : ℕ) (v : Representation) → t.representation r ≡ Some v → is_in (awaited_and t key also) r ≡ false
-  awaited_apart also apart r v there = not_so (is_in (awaited_and t key also) r) (λ h. elim (or_cases (is_number also r) (is_awaited t key r (t.exchange r)) (in_filter r (λ x. is_number also x || is_awaited t key x (t.exchange x)) (reverse t.openings) h)) [
-    | inl named ↦ none_some v (sym (apart r (number_is also r named)) ∙ there)
-    | inr awaited ↦ none_some v (sym (unfounded_by r (t.exchange r) refl awaited) ∙ there)
-  ])
+  pub awaited_apart : (also : Option ℕ) → ((x : ℕ) → also ≡ Some x → t.representation x ≡ None) → (r : ℕ) (v : Representation) →
+      t.representation r ≡ Some v → is_in (awaited_and t key also) r ≡ false
+  awaited_apart also apart r v there =
+      not_so (is_in (awaited_and t key also) r)
+      (λ h. elim (or_cases (is_number also r) (is_awaited t key r (t.exchange r))
+      (in_filter r (λ x. is_number also x || is_awaited t key x (t.exchange x)) (reverse t.openings) h)) [
+        | inl named ↦ none_some v (sym (apart r (number_is also r named)) ∙ there)
+        | inr awaited ↦ none_some v (sym (unfounded_by r (t.exchange r) refl awaited) ∙ there)
+      ])

@@ -55,26 +55,35 @@ module _ (step : Step) (m : Measures step.tables) where
   module _ (r c lo hi : ℕ) (how : BoundBy) (u : Consumer) (v : Representation) (there : now_on.representation r ≡ Some v) where
     stays_by : (k : Consumer) → t.consumer c ≡ Some k → k.place ≡ place.Bound r lo (Some hi) how → RepFrom t e r v → EndsWithin v hi
     stays_by k row at (rep.was q kept) = kept_within r hi q v kept (m.ends r c lo hi how k q row at kept.row)
-    stays_by k row at (rep.founded response w none here also on made) = absurd (let is_there = s.numbered.bound_to r c k (sound.is_bound lo (Some hi) how row at) in false_true (sym (ap is_some none) ∙ is_there))
+    stays_by k row at (rep.founded response w none here also on made) =
+        absurd (let is_there = s.numbered.bound_to r c k (sound.is_bound lo (Some hi) how row at) in false_true (sym (ap is_some none) ∙ is_there))
 
     -- what it founds has the length that its head tells
-    founded_by : (x : ℕ) (response : Response) (w : Exchange) (k : Consumer) (g : Option HeadCase) → ev ≡ event.Head x response → t.exchange x ≡ Some w → case_at t e ≡ g → IsFounded t e c r lo (Some hi) how x response w k g → IsSpanOf (founded_total w response) hi
-    founded_by x response w k _ here row is (from.whole from_is to) = whole_total (whole_brings t _ w response (case_of_head t e x response w case.FoundsWhole here row is)) to
+    founded_by : (x : ℕ) (response : Response) (w : Exchange) (k : Consumer) (g : Option HeadCase) → ev ≡ event.Head x response → t.exchange x ≡ Some w →
+        case_at t e ≡ g → IsFounded t e c r lo (Some hi) how x response w k g → IsSpanOf (founded_total w response) hi
+    founded_by x response w k _ here row is (from.whole from_is to) =
+        whole_total (whole_brings t _ w response (case_of_head t e x response w case.FoundsWhole here row is)) to
       where
         whole_total : brings_whole response.status ≡ true → Some hi ≡ promise_in w response → IsSpanOf (founded_total w response) hi
-        whole_total status to = let off : brings_part response.status ≡ false = whole_is_no_part response.status status in record { total = hi; known = rw off (sym to); ends = omega arith }
-    founded_by x response w k _ here row is (from.replaced from_is to) = whole_total (replaced_brings t _ w response (case_of_head t e x response w case.FirstReplaced here row is)) to
+        whole_total status to = let off : brings_part response.status ≡ false = whole_is_no_part response.status status in
+            record { total = hi; known = rw off (sym to); ends = omega arith }
+    founded_by x response w k _ here row is (from.replaced from_is to) =
+        whole_total (replaced_brings t _ w response (case_of_head t e x response w case.FirstReplaced here row is)) to
       where
         whole_total : brings_whole response.status ≡ true → Some hi ≡ promise_in w response → IsSpanOf (founded_total w response) hi
-        whole_total status to = let off : brings_part response.status ≡ false = whole_is_no_part response.status status in record { total = hi; known = rw off (sym to); ends = omega arith }
+        whole_total status to = let off : brings_part response.status ≡ false = whole_is_no_part response.status status in
+            record { total = hi; known = rw off (sym to); ends = omega arith }
     founded_by x response w k _ here row is (from.part i) = interval_within (range_of k.request) (founded_total w response) lo hi i
 
-    founds_by : (x : ℕ) (response : Response) (w : Exchange) (k : Consumer) → ev ≡ event.Head x response → t.exchange x ≡ Some w → x ≡ r → IsFounded t e c r lo (Some hi) how x response w k (case_at t e) → RepFrom t e r v → EndsWithin v hi
-    founds_by x response w k here row of_r is (rep.was q kept) = absurd (none_some q (sym (is_new limits t now flaw s ev goes x response w here row).unfounded ∙ (ap t.representation of_r ∙ kept.row)))
+    founds_by : (x : ℕ) (response : Response) (w : Exchange) (k : Consumer) → ev ≡ event.Head x response → t.exchange x ≡ Some w → x ≡ r →
+        IsFounded t e c r lo (Some hi) how x response w k (case_at t e) → RepFrom t e r v → EndsWithin v hi
+    founds_by x response w k here row of_r is (rep.was q kept) =
+        absurd (none_some q (sym (is_new limits t now flaw s ev goes x response w here row).unfounded ∙ (ap t.representation of_r ∙ kept.row)))
     founds_by x response w k here row of_r is (rep.founded answer z none also row_too on made) =
         let w_is : w ≡ z = same_row (t.exchange r) w z (sym (ap t.exchange of_r) ∙ row) row_too in
         let answer_is : response ≡ answer = head_inj x r response answer (sym here ∙ also) in
-        let reported : founded_total w response ≡ v.head.total = ap (λ (q : Exchange). founded_total q response) w_is ∙ (ap (founded_total z) answer_is ∙ ap (λ (q : Representation). q.head.total) made) in
+        let reported : founded_total w response ≡ v.head.total = ap (λ (q : Exchange). founded_total q response) w_is ∙
+        (ap (founded_total z) answer_is ∙ ap (λ (q : Representation). q.head.total) made) in
         within_as v hi (founded_total w response) (founded_by x response w k (case_at t e) here row refl is) reported
       where
         head_inj : (a b : ℕ) (p q : Response) → event.Head a p ≡ event.Head b q → p ≡ q
@@ -82,13 +91,18 @@ module _ (step : Step) (m : Measures step.tables) where
 
     -- what is current is read as it was before
     was_by : (q : Representation) → t.representation r ≡ Some q → EndsWithin q hi → RepFrom t e r v → EndsWithin v hi
-    was_by q row w (rep.was p kept) = kept_within r hi p v kept (subst (λ (a : Representation). EndsWithin a hi) (same_row (t.representation r) q p row kept.row) w)
+    was_by q row w (rep.was p kept) = kept_within
+        r hi p v kept (subst (λ (a : Representation). EndsWithin a hi) (same_row (t.representation r) q p row kept.row) w)
     was_by q row w (rep.founded response x none here also on made) = absurd (none_some q (sym none ∙ row))
 
-    shown_by : (k : Consumer) (z : Showing) → IsRow t e c r lo (Some hi) how k u → showing_in e.acts ≡ Some z → IsShown t e c r lo (Some hi) how z (by_opening t c (opening_in e.acts) (waiting t e c (consumer_heard t e c ev k))).place → RepFrom t e r v → EndsWithin v hi
+    shown_by : (k : Consumer) (z : Showing) → IsRow t e c r lo (Some hi) how k u → showing_in e.acts ≡ Some z →
+        IsShown t e c r lo (Some hi) how z (by_opening t c (opening_in e.acts) (waiting t e c (consumer_heard t e c ev k))).place → RepFrom t e r v →
+        EndsWithin v hi
     shown_by k z row is all from_rep =
         let shows = showing_by limits t now flaw s ev goes z is in
-        let placed : (by_opening t c (opening_in e.acts) (waiting t e c (consumer_heard t e c ev k))).place ≡ k.place = subst (λ d. (by_opening t d (opening_in e.acts) (waiting t e d (consumer_heard t e d ev k))).place ≡ k.place) all.at (shown_place_is limits t now flaw s ev goes z k is) in
+        let placed : (by_opening t c (opening_in e.acts) (waiting t e c (consumer_heard t e c ev k))).place ≡ k.place =
+        subst (λ d. (by_opening t d (opening_in e.acts) (waiting t e d (consumer_heard t e d ev k))).place ≡ k.place) all.at
+        (shown_place_is limits t now flaw s ev goes z k is) in
         let free : reads k.place ≡ false = sym (ap reads placed) ∙ all.free in
         let row_z : t.consumer z.c ≡ Some k = ap t.consumer all.at ∙ row.row in
         let one : shows.k ≡ k = same_row (t.consumer z.c) shows.k k shows.poll.row row_z in
@@ -119,5 +133,6 @@ module _ (step : Step) (m : Measures step.tables) where
     brings = λ x z u after on headed there. brings_kept step m x z u after on headed there;
     tight = λ r n u row ends. tight_kept step m r n u row ends;
     within = λ r total u row known. within_kept step m r total u row known;
-    ends = λ r c lo hi how u v row at there. ends_by r c lo hi how u v there (bound_from t e c r lo (Some hi) how (t.consumer c) u refl row at) (rep_from t e r (t.representation r) v refl there);
+    ends = λ r c lo hi how u v row at there. ends_by r c lo hi how u v there (bound_from t e c r lo (Some hi) how (t.consumer c) u refl row at)
+        (rep_from t e r (t.representation r) v refl there);
   }

@@ -32,14 +32,18 @@ quiet_keeps t e s quiet none =
     record { waits = waits_kept t e s quiet well; one_about = one_about_kept t e s quiet well }
 
 -- what the refusals of a head and of a poll test
-head_by : (is_open headed asked : Bool) (n : ℕ) (o : Option ℕ) → head_refusal (if is_open then Some (record { headed = headed; asked = asked; delivered = n; promised = o }) else None) ≡ None → (is_open ≡ true) × (headed ≡ false)
+head_by : (is_open headed asked : Bool) (n : ℕ) (o : Option ℕ) →
+    head_refusal (if is_open then Some (record { headed = headed; asked = asked; delivered = n; promised = o }) else None) ≡ None → (is_open ≡ true) ×
+    (headed ≡ false)
 head_by is_open headed asked n o h = grind (arith, nat_tests)
 
 pub no_head : (o : Option Response) → is_some o ≡ false → o ≡ None
 no_head o h = grind (arith, nat_tests)
 
 module _ (limits : Limits) (t : Tables) (now : ℕ) (flaw : Flaw) (s : Sound t) where
-  pub reported : (event : Event) → opening_in (map act.Evicted (evicted limits t now event) ++ (loss_acts flaw ++ map act.Close (closing t (record { now = now; event = event; acts = loss_acts flaw })))) ≡ None
+  pub reported : (event : Event) → opening_in
+      (map act.Evicted (evicted limits t now event) ++
+      (loss_acts flaw ++ map act.Close (closing t (record { now = now; event = event; acts = loss_acts flaw })))) ≡ None
   reported event =
       let xs = closing t (record { now = now; event = event; acts = loss_acts flaw }) in
       evicts_open_none (evicted limits t now event) (loss_acts flaw ++ map act.Close xs) (losses_then flaw xs)
@@ -47,24 +51,29 @@ module _ (limits : Limits) (t : Tables) (now : ℕ) (flaw : Flaw) (s : Sound t) 
   pub cancels : (c : ℕ) → opening_in (map act.Close (closing t (record { now = now; event = event.Cancel c; acts = loss_acts flaw })) ++ loss_acts flaw) ≡ None
   cancels c = closes_open_none (closing t (record { now = now; event = event.Cancel c; acts = loss_acts flaw })) (loss_acts flaw) (losses_open_none flaw)
 
-  piece_is : (x : ℕ) (bytes : List ℕ) (o : Option Exchange) → t.exchange x ≡ o → piece_refusal (as_open o) (length bytes) ≡ None → KeepsDeliveries (after_accepted t (owed_entry limits t now (event.Piece x bytes) flaw))
+  piece_is : (x : ℕ) (bytes : List ℕ) (o : Option Exchange) → t.exchange x ≡ o → piece_refusal (as_open o) (length bytes) ≡ None →
+      KeepsDeliveries (after_accepted t (owed_entry limits t now (event.Piece x bytes) flaw))
   piece_is x bytes None row goes = absurd (never _ goes)
   piece_is x bytes (Some w) row goes =
       let got : IsTaken w (length bytes) = taken (length bytes) w goes in
-      let piece : IsPiece t now x bytes (accepted_acts limits t now (event.Piece x bytes) flaw) w = record { row = row; was_open = got.is_open; headed = got.headed; opens_none = reported (event.Piece x bytes) } in
+      let piece : IsPiece t now x bytes (accepted_acts limits t now (event.Piece x bytes) flaw) w =
+      record { row = row; was_open = got.is_open; headed = got.headed; opens_none = reported (event.Piece x bytes) } in
       record { waits = piece_waits t now x bytes _ w s piece; one_about = piece_one_about t now x bytes _ w s piece }
 
   pub head_taken : (w : Exchange) → head_refusal (as_open (Some w)) ≡ None → (w.is_open ≡ true) × (w.head ≡ None)
   head_taken w goes = let parts = head_by w.is_open (is_some w.head) w.asked (length w.body) (promised_bytes w) goes in (parts.0, no_head w.head parts.1)
 
-  head_is : (x : ℕ) (response : Response) (o : Option Exchange) → t.exchange x ≡ o → head_refusal (as_open o) ≡ None → KeepsDeliveries (after_accepted t (owed_entry limits t now (event.Head x response) flaw))
+  head_is : (x : ℕ) (response : Response) (o : Option Exchange) → t.exchange x ≡ o → head_refusal (as_open o) ≡ None →
+      KeepsDeliveries (after_accepted t (owed_entry limits t now (event.Head x response) flaw))
   head_is x response None row goes = absurd (never _ goes)
   head_is x response (Some w) row goes =
       let got = head_taken w goes in
-      let head : IsHead t now x response (accepted_acts limits t now (event.Head x response) flaw) w = record { row = row; was_open = got.0; headless = got.1; opens_none = reported (event.Head x response) } in
+      let head : IsHead t now x response (accepted_acts limits t now (event.Head x response) flaw) w =
+      record { row = row; was_open = got.0; headless = got.1; opens_none = reported (event.Head x response) } in
       record { waits = head_waits t now x response _ w s head; one_about = head_one_about t now x response _ w s head }
 
-  poll_is : (c want : ℕ) (o : Option Consumer) → t.consumer c ≡ o → is_live o ≡ true → KeepsDeliveries (after_accepted t (owed_entry limits t now (event.Poll c want) flaw))
+  poll_is : (c want : ℕ) (o : Option Consumer) → t.consumer c ≡ o → is_live o ≡ true →
+      KeepsDeliveries (after_accepted t (owed_entry limits t now (event.Poll c want) flaw))
   poll_is c want None row live = absurd (let never : false ≡ true = live in cc)
   poll_is c want (Some k) row live = record { waits = poll_waits limits t now c want k s row flaw; one_about = poll_one_about limits t now c want k s row flaw }
 

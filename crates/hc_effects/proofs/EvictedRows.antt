@@ -23,7 +23,8 @@ waiting_shift i h = grind (arith, nat_tests)
 starting_shift : (a b c h : Bool) → ((a || b) || (c || h)) ≡ (((a || b) || c) || h)
 starting_shift a b c h = grind (arith, nat_tests)
 
-module _ (t : Tables) (now : ℕ) (ev : Event) (rs : List ℕ) (b : List Act) (none : (r : ℕ) → evicts_in r b ≡ false) (fails : (c : ℕ) → fails_in c b ≡ false) (there : (r : ℕ) → is_in rs r ≡ true → is_some (t.representation r) ≡ true) where
+module _ (t : Tables) (now : ℕ) (ev : Event) (rs : List ℕ) (b : List Act) (none : (r : ℕ) → evicts_in r b ≡ false)
+    (fails : (c : ℕ) → fails_in c b ≡ false) (there : (r : ℕ) → is_in rs r ≡ true → is_some (t.representation r) ≡ true) where
   abbrev a : List Act
   a = map act.Evicted rs ++ b
 
@@ -46,10 +47,14 @@ module _ (t : Tables) (now : ℕ) (ev : Event) (rs : List ℕ) (b : List Act) (n
   unfolding becomes_gone
   gone_after r v = ap (λ z. goes_itself t f r v || z) (none r) ∙ or_off (goes_itself t f r v)
 
-  acted_row : (r : ℕ) (v u : Representation) → representation_acted t e r v u ≡ (if is_in rs r then as_gone (representation_acted t f r v u) else representation_acted t f r v u)
+  acted_row : (r : ℕ) (v u : Representation) →
+      representation_acted t e r v u ≡ (if is_in rs r then as_gone (representation_acted t f r v u) else representation_acted t f r v u)
   acted_row r v u = rw (like.loses r, gone_before r v, gone_after r v) (by_test (goes_itself t f r v) (is_in rs r))
     where
-      by_test : (i h : Bool) → record (representation_acted t f r v u) { is_gone = (i || h) || u.is_gone } ≡ (if h then as_gone (representation_acted t f r v u) else record (representation_acted t f r v u) { is_gone = i || u.is_gone })
+      by_test : (i h : Bool) →
+          record (representation_acted t f r v u)
+          { is_gone = (i || h) || u.is_gone } ≡ (if h then as_gone (representation_acted t f r v u) else
+          record (representation_acted t f r v u) { is_gone = i || u.is_gone })
       by_test true true = refl
       by_test true false = refl
       by_test false true = refl
@@ -58,7 +63,8 @@ module _ (t : Tables) (now : ℕ) (ev : Event) (rs : List ℕ) (b : List Act) (n
   stays_none : (r : ℕ) → t.representation r ≡ None → is_in rs r ≡ false
   stays_none r row = never_true (is_in rs r) (λ is. false_true (sym (ap is_some row) ∙ there r is))
 
-  pub representation_row : (r : ℕ) (z : Option Representation) → t.representation r ≡ z → representation_after t e r z ≡ (if is_in rs r then option_map as_gone (representation_after t f r z) else representation_after t f r z)
+  pub representation_row : (r : ℕ) (z : Option Representation) → t.representation r ≡ z →
+      representation_after t e r z ≡ (if is_in rs r then option_map as_gone (representation_after t f r z) else representation_after t f r z)
   unfolding representation_after
   representation_row r None row = founded_same t now ev a b like r ev ∙ rw (stays_none r row) refl
   representation_row r (Some v) row =
@@ -74,7 +80,8 @@ module _ (t : Tables) (now : ℕ) (ev : Event) (rs : List ℕ) (b : List Act) (n
   losing : (c : ℕ) (p : Place) → loses_what_it_waits_for t e c p ≡ (loses_what_it_waits_for t f c p || waits_for_any rs p)
   losing c (place.Passed r kept) = by_row (t.representation r) refl
     where
-      by_row : (z : Option Representation) → t.representation r ≡ z → (goes_in t e r z && not (fails_in c a)) ≡ ((goes_in t f r z && not (fails_in c b)) || is_in rs r)
+      by_row : (z : Option Representation) → t.representation r ≡ z →
+          (goes_in t e r z && not (fails_in c a)) ≡ ((goes_in t f r z && not (fails_in c b)) || is_in rs r)
       by_row None row = rw (stays_none r row) refl
       by_row (Some v) row = rw (gone_before r v, gone_after r v, like.fails c, fails c) (waiting_shift (goes_itself t f r v) (is_in rs r))
   losing c _ = refl
@@ -83,27 +90,32 @@ module _ (t : Tables) (now : ℕ) (ev : Event) (rs : List ℕ) (b : List Act) (n
   unfolding starts_over
   starts_before c k =
       rw (doomed_same t now ev a b like, case_same t now ev a b like, losing c k.place)
-      (starting_shift (is_key (doomed_key_of t f) k.request.key && waits_at t k.place) (sends_back (case_at t f) && is_for (exchange_at t ev) c) (loses_what_it_waits_for t f c k.place) (waits_for_any rs k.place))
+      (starting_shift (is_key (doomed_key_of t f) k.request.key && waits_at t k.place) (sends_back (case_at t f) && is_for (exchange_at t ev) c)
+      (loses_what_it_waits_for t f c k.place) (waits_for_any rs k.place))
 
-  settled_row : (c : ℕ) (k q : Consumer) → (starts_over t f c k ≡ false → waits_for_any rs q.place ≡ waits_for_any rs k.place) → consumer_settled t e c k q ≡ back_from_any now rs (consumer_settled t f c k q)
+  settled_row : (c : ℕ) (k q : Consumer) → (starts_over t f c k ≡ false → waits_for_any rs q.place ≡ waits_for_any rs k.place) →
+      consumer_settled t e c k q ≡ back_from_any now rs (consumer_settled t f c k q)
   settled_row c k q stays = elim (bool_cases (starts_over t f c k)) [
     | inl over ↦ rw (starts_before c k, over) refl
     | inr on ↦ elim (bool_cases (waits_for_any rs k.place)) [
       | inl waits ↦ let also : waits_for_any rs q.place ≡ true = stays on ∙ waits in rw (starts_before c k, on, waits, also) refl
-      | inr other ↦ let also : waits_for_any rs q.place ≡ false = stays on ∙ other in rw (starts_before c k, on, other, also) (rw (due_same t now ev a b like c k) refl)
+      | inr other ↦ let also : waits_for_any rs q.place ≡ false = stays on ∙ other in
+          rw (starts_before c k, on, other, also) (rw (due_same t now ev a b like c k) refl)
     ]
   ]
 
   made_row : (c : ℕ) (z : Event) → consumer_made c now z ≡ option_map (back_from_any now rs) (consumer_made c now z)
   made_row c z = grind (arith, nat_tests)
 
-  module _ (moves : (c : ℕ) (k : Consumer) → t.consumer c ≡ Some k → starts_over t f c k ≡ false → waits_for_any rs (consumer_acted t f c (consumer_heard t f c ev k)).place ≡ waits_for_any rs k.place) where
+  module _ (moves : (c : ℕ) (k : Consumer) → t.consumer c ≡ Some k → starts_over t f c k ≡ false →
+      waits_for_any rs (consumer_acted t f c (consumer_heard t f c ev k)).place ≡ waits_for_any rs k.place) where
     pub consumer_row : (c : ℕ) (z : Option Consumer) → t.consumer c ≡ z → consumer_after t e c z ≡ option_map (back_from_any now rs) (consumer_after t f c z)
     unfolding consumer_after
     consumer_row c None row = made_row c ev
     consumer_row c (Some k) row =
         let h = consumer_heard t f c ev k in
-        let acts : consumer_acted t e c (consumer_heard t e c ev k) ≡ consumer_acted t f c h = ap (consumer_acted t e c) (heard_consumer t now ev a b like c k ev) ∙ acted_same t now ev a b like c h in
+        let acts : consumer_acted t e c (consumer_heard t e c ev k) ≡ consumer_acted t f c h =
+        ap (consumer_acted t e c) (heard_consumer t now ev a b like c k ev) ∙ acted_same t now ev a b like c h in
         ap Some (ap (consumer_settled t e c k) acts ∙ settled_row c k (consumer_acted t f c h) (moves c k row))
 
     -- ALL OF IT

@@ -13,7 +13,8 @@ use Rattle.hc_effects.proofs.{Basics.{same_functions, false_true}, CurrentKeeps.
 -- WHO STANDS WHERE
 
 -- who is sent back waited, and waits in line
-back_bound : (now r q : ℕ) (k : Consumer) (p : Place) → k.place ≡ p → is_bound_place q (if waits_for r p then back_in_line now k else k).place ≡ is_bound_place q p
+back_bound : (now r q : ℕ) (k : Consumer) (p : Place) → k.place ≡ p →
+    is_bound_place q (if waits_for r p then back_in_line now k else k).place ≡ is_bound_place q p
 back_bound now r q k (place.Passed n kept) at = elim (bool_cases (r == n)) [ inl here ↦ rw here refl | inr other ↦ rw other (ap (is_bound_place q) at) ]
 back_bound now r q k _ at = ap (is_bound_place q) at
 
@@ -38,7 +39,8 @@ live_same t r = ap (λ test. length (filter test t.starts)) (same_functions _ _ 
 
 -- WHAT IS CURRENT
 
-usable_other : (key : List ℕ) (r q : ℕ) (z : Option Representation) → nat_eq r q ≡ false → is_usable key (if r == q then option_map as_gone z else z) ≡ is_usable key z
+usable_other : (key : List ℕ) (r q : ℕ) (z : Option Representation) → nat_eq r q ≡ false →
+    is_usable key (if r == q then option_map as_gone z else z) ≡ is_usable key z
 usable_other key r q z other = rw other refl
 
 no_more : (key : List ℕ) (r q : ℕ) (z : Option Representation) → nat_eq r q ≡ true → is_usable key (if r == q then option_map as_gone z else z) ≡ false
@@ -65,7 +67,8 @@ module _ (t : Tables) (r : ℕ) (one : OneCurrent t) (key : List ℕ) where
   ]
     where
       fails_too : (n : ℕ) → before n ≡ false → after n ≡ false
-      fails_too n fails = elim (bool_cases (r == n)) [ inl here ↦ no_more key r n (t.representation n) here | inr apart ↦ usable_other key r n (t.representation n) apart ∙ fails ]
+      fails_too n fails = elim (bool_cases (r == n))
+          [ inl here ↦ no_more key r n (t.representation n) here | inr apart ↦ usable_other key r n (t.representation n) apart ∙ fails ]
 
   find_none : (ns : List ℕ) → ((n : ℕ) → before n ≡ true → n ≡ r) → find after ns ≡ None
   find_none [] only = refl

@@ -45,7 +45,8 @@ number_in (event.Fault y) = y
 number_in _ = 0
 
 -- a row that the event leaves as it was, but for its acts
-plain : (t : Tables) (e : Entry) (x : ℕ) (ev : Event) (w : Exchange) → e.event ≡ ev → ((response : Response) → ev ≡ event.Head x response → ⊥) → (ev ≡ event.End x → ⊥) → (ev ≡ event.Fault x → ⊥) → IsSame t e x w (exchange_acted x e.acts w)
+plain : (t : Tables) (e : Entry) (x : ℕ) (ev : Event) (w : Exchange) → e.event ≡ ev → ((response : Response) → ev ≡ event.Head x response → ⊥) →
+    (ev ≡ event.End x → ⊥) → (ev ≡ event.Fault x → ⊥) → IsSame t e x w (exchange_acted x e.acts w)
 plain t e x ev w at head end fault = record {
   c_is = refl;
   need_is = refl;
@@ -61,7 +62,8 @@ plain t e x ev w at head end fault = record {
 }
 
 -- and one that is over
-over : (t : Tables) (e : Entry) (x : ℕ) (w z : Exchange) → z.c ≡ w.c → z.need ≡ w.need → z.request ≡ w.request → z.aim ≡ w.aim → z.head ≡ w.head → z.joined ≡ w.joined → ((response : Response) → e.event ≡ event.Head x response → ⊥) → z.is_open ≡ false → IsSame t e x w (exchange_acted x e.acts z)
+over : (t : Tables) (e : Entry) (x : ℕ) (w z : Exchange) → z.c ≡ w.c → z.need ≡ w.need → z.request ≡ w.request → z.aim ≡ w.aim → z.head ≡ w.head →
+    z.joined ≡ w.joined → ((response : Response) → e.event ≡ event.Head x response → ⊥) → z.is_open ≡ false → IsSame t e x w (exchange_acted x e.acts z)
 over t e x w z c need request aim head joined unheard off = record {
   c_is = c;
   need_is = need;
@@ -111,11 +113,13 @@ module _ (t : Tables) (e : Entry) (x : ℕ) where
     | inr other ↦ rw other.0 (plain t e x (event.Piece y bytes) w at (λ response is. cc) (λ is. cc) (λ is. cc))
   ]
   same (event.End y) w at = elim (eq_cases y x) [
-    | inl here ↦ rw here.0 (over t e x w (record w { is_ended = true; is_open = false }) refl refl refl refl refl refl (λ response is. let never : event.End y ≡ event.Head x response = sym at ∙ is in cc) refl)
+    | inl here ↦ rw here.0 (over t e x w (record w { is_ended = true; is_open = false }) refl refl refl refl refl refl
+        (λ response is. let never : event.End y ≡ event.Head x response = sym at ∙ is in cc) refl)
     | inr other ↦ rw other.0 (plain t e x (event.End y) w at (λ response is. cc) (λ is. other.1 (ap number_in is)) (λ is. cc))
   ]
   same (event.Fault y) w at = elim (eq_cases y x) [
-    | inl here ↦ rw here.0 (over t e x w (record w { is_open = false }) refl refl refl refl refl refl (λ response is. let never : event.Fault y ≡ event.Head x response = sym at ∙ is in cc) refl)
+    | inl here ↦ rw here.0 (over t e x w (record w { is_open = false }) refl refl refl refl refl refl
+        (λ response is. let never : event.Fault y ≡ event.Head x response = sym at ∙ is in cc) refl)
     | inr other ↦ rw other.0 (plain t e x (event.Fault y) w at (λ response is. cc) (λ is. cc) (λ is. other.1 (ap number_in is)))
   ]
   same ev w at = plain t e x ev w at (λ response is. cc) (λ is. cc) (λ is. cc)

@@ -53,7 +53,8 @@ unfolding is_written
 writer_some t v on none = and_false (not v.is_lost) (rw none at on)
 
 -- who is bound to what is written by several has a source
-pub shares_source : (t : Tables) (r c : ℕ) (v : Representation) (k : Consumer) (o : Option ℕ) → t.representation r ≡ Some v → IsBound t r c k → is_written t v ≡ true → v.writer ≡ o → source t k ≢ None
+pub shares_source : (t : Tables) (r c : ℕ) (v : Representation) (k : Consumer) (o : Option ℕ) → t.representation r ≡ Some v → IsBound t r c k →
+    is_written t v ≡ true → v.writer ≡ o → source t k ≢ None
 shares_source t r c v k None row is_reader on writer = absurd (writer_some t v on writer)
 shares_source t r c v k (Some x) row (sound.is_bound lo hi how is place) on writer =
     let from : shared_exchange t k.place ≡ Some x = rw (place, row, on) writer in

@@ -7,7 +7,8 @@ use Rattle.hc_rules.specs.declared.admission.BoundKind.TheVariants as kind
 use Rattle.hc_model.specs.Sound as sound
 use Rattle.hc_effects.proofs.{HadKeeps.{among_least}, HasBound.{reader_of}}
 
-among_writers : (t : Tables) (v : Representation) (c : ℕ) (ds : List ℕ) → Among c (numbers (filter (is_of kind.Exclusive) (map (bound_as t v) ds))) → Among c ds × (is_same_kind (bound_kind t v c) kind.Exclusive ≡ true)
+among_writers : (t : Tables) (v : Representation) (c : ℕ) (ds : List ℕ) → Among c (numbers (filter (is_of kind.Exclusive) (map (bound_as t v) ds))) →
+    Among c ds × (is_same_kind (bound_kind t v c) kind.Exclusive ≡ true)
 among_writers t v c [] there = absurd there
 among_writers t v c (d ∷ ds) there = elim (bool_cases (is_same_kind (bound_kind t v d) kind.Exclusive)) [
   | inr off ↦ let more = among_writers t v c ds (rw off at there) in (inr more.0, more.1)

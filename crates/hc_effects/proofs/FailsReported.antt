@@ -27,7 +27,8 @@ module _ (t : Tables) (now want c : ℕ) (k : Consumer) (why : Cause) where
       (λ hole is. absurd (later_fails hole (hi_of t k.place) is))
 
   reported_plan : (p : Plan) → plan_move t k p ≡ Fails why → cause.Miss ≡ why
-  reported_plan (plan.Bind reason span) is = absurd (binds_as (λ m. m ≡ Fails why → ⊥) (λ is. cc) t k reason span (current t k.request.key) (λ r head lo hi now is. cc) is)
+  reported_plan (plan.Bind reason span) is =
+      absurd (binds_as (λ m. m ≡ Fails why → ⊥) (λ is. cc) t k reason span (current t k.request.key) (λ r head lo hi now is. cc) is)
   reported_plan (plan.FirstHole span hole) is = absurd (hole_fails k.request hole (current_row t k) is)
   reported_plan plan.Miss is = cause_is cause.Miss is
   reported_plan p is = absurd (let never : plan_move t k p ≡ Fails why = is in cc)

@@ -11,7 +11,8 @@ pub record ClosesLittle (t : Tables) (e : Entry) : Type 0 where
   pub survives : (x r : ℕ) → has_no_survivor t e x r (t.representation r) ≡ false
 
 -- so where no writing is lost
-pub nothing_lost : (t : Tables) (e : Entry) → ((r : ℕ) (v : Representation) → t.representation r ≡ Some v → loses_group t e r v ≡ false) → (x r : ℕ) → has_no_survivor t e x r (t.representation r) ≡ false
+pub nothing_lost : (t : Tables) (e : Entry) → ((r : ℕ) (v : Representation) → t.representation r ≡ Some v → loses_group t e r v ≡ false) → (x r : ℕ) →
+    has_no_survivor t e x r (t.representation r) ≡ false
 nothing_lost t e unlost x r = grind (arith, nat_tests)
 
 -- so at an event that brings neither a head nor a piece, and dooms nothing
@@ -27,7 +28,9 @@ module _ (t : Tables) (e : Entry) (little : ClosesLittle t e) where
   must_by a b c d p q r = rw (p, q, r) refl
 
   pub must_as : (x : ℕ) (w : Exchange) → must_close t e x w ≡ is_left t x (leaver e)
-  must_as x w = must_by (is_refused (case_at t e) && brings_head x e.event) (is_doomed t e x w) (has_no_survivor t e x (family x w) (t.representation (family x w))) (is_left t x (leaver e)) (little.unrefused x) (little.undoomed x w) (little.survives x (family x w))
+  must_as x w = must_by (is_refused (case_at t e) && brings_head x e.event) (is_doomed t e x w)
+      (has_no_survivor t e x (family x w) (t.representation (family x w))) (is_left t x (leaver e)) (little.unrefused x) (little.undoomed x w)
+      (little.survives x (family x w))
 
   none_row : leaver e ≡ None → (x : ℕ) (o : Option Exchange) → closes_row t e x o ≡ false
   none_row none x None = refl
@@ -36,7 +39,8 @@ module _ (t : Tables) (e : Entry) (little : ClosesLittle t e) where
   -- nothing, where nobody leaves
   pub closes_nothing : leaver e ≡ None → closing t e ≡ []
   unfolding closing
-  closes_nothing none = ap (λ (test : ℕ → Bool). filter test (reverse t.openings)) (fun_ext (λ x. none_row none x (t.exchange x))) ∙ filter_none (reverse t.openings)
+  closes_nothing none = ap (λ (test : ℕ → Bool). filter test (reverse t.openings)) (fun_ext (λ x. none_row none x (t.exchange x))) ∙
+      filter_none (reverse t.openings)
 
 -- what writes nothing evicts nothing
 pub evicts_nothing : (limits : Limits) (t : Tables) (now : ℕ) (ev : Event) → write_in t (entry_without_acts now ev) ev ≡ None → evicted limits t now ev ≡ []

@@ -104,9 +104,11 @@ few_room : (limits : Limits) (t : Tables) (e : Entry) (o : Option Write) → wei
 few_room limits t e None fits small = omega arith
 few_room limits t e (Some w) fits small = few_of limits (weights t e) w (map (weight t e) (idle t e)) (heavy_idle t e) fits small
 
-few_for : (limits : Limits) (t : Tables) (now : ℕ) (ev : Event) → weights t (entry_without_acts now ev) ≤ limits.max_total → IsSmallPiece ev → Few (room_for limits t now ev)
+few_for : (limits : Limits) (t : Tables) (now : ℕ) (ev : Event) → weights t (entry_without_acts now ev) ≤ limits.max_total → IsSmallPiece ev →
+    Few (room_for limits t now ev)
 unfolding room_for
-few_for limits t now ev fits small = few_room limits t (entry_without_acts now ev) (write_in t (entry_without_acts now ev) ev) fits (small_write t (entry_without_acts now ev) ev small)
+few_for limits t now ev fits small =
+    few_room limits t (entry_without_acts now ev) (write_in t (entry_without_acts now ev) ev) fits (small_write t (entry_without_acts now ev) ev small)
 
 length_take : (n : ℕ) (rs : List ℕ) → length (take n rs) ≤ n
 length_take zero rs = omega arith
@@ -138,18 +140,21 @@ count_all (r ∷ rs) rest none = let rec : count_evicted (map act.Evicted rs ++ 
 count_move : (c : ℕ) (m : Move) (rest : List Act) → count_evicted (acts_of c m ++ rest) ≡ count_evicted rest
 count_move c m rest = grind (arith, nat_tests)
 
-count_said : (t : Tables) (now : ℕ) (ev : Event) (flaw : Flaw) (acts rest : List Act) → IsSaid t now ev flaw acts → count_evicted (acts ++ rest) ≡ count_evicted rest
+count_said : (t : Tables) (now : ℕ) (ev : Event) (flaw : Flaw) (acts rest : List Act) → IsSaid t now ev flaw acts →
+    count_evicted (acts ++ rest) ≡ count_evicted rest
 count_said t now ev flaw _ rest (parts.does c want k m at row is near) = count_move c m rest
 count_said t now ev flaw _ rest _ = refl
 
-few_acts : (limits : Limits) (t : Tables) (now : ℕ) (ev : Event) (flaw : Flaw) (acts : List Act) → IsAnswer limits t now ev flaw acts → length (evicted limits t now ev) ≤ 2 → count_evicted acts ≤ 2
+few_acts : (limits : Limits) (t : Tables) (now : ℕ) (ev : Event) (flaw : Flaw) (acts : List Act) → IsAnswer limits t now ev flaw acts →
+    length (evicted limits t now ev) ≤ 2 → count_evicted acts ≤ 2
 few_acts limits t now ev flaw _ (parts.reported silent) few =
     let ys = closing t (record { now = now; event = ev; acts = answer_acts t now ev flaw ++ loss_acts flaw }) in
     let all = count_all (evicted limits t now ev) (loss_acts flaw ++ map act.Close ys) (count_lost flaw (map act.Close ys) ∙ count_closes ys) in
     subst (λ n. n ≤ 2) (sym all) few
 few_acts limits t now ev flaw _ parts.asked few =
     let ys = closing t (record { now = now; event = ev; acts = answer_acts t now ev flaw ++ loss_acts flaw }) in
-    subst (λ n. n ≤ 2) (sym (count_said t now ev flaw (answer_acts t now ev flaw) (map act.Close ys ++ loss_acts flaw) (said_is t now ev flaw) ∙ count_closed ys flaw)) (omega arith)
+    subst (λ n. n ≤ 2) (sym (count_said t now ev flaw (answer_acts t now ev flaw) (map act.Close ys ++ loss_acts flaw) (said_is t now ev flaw) ∙
+    count_closed ys flaw)) (omega arith)
 
 pub few_give_way : FewGiveWay
 few_give_way limits t now event flaw fits small =

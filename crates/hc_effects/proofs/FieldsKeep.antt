@@ -44,7 +44,8 @@ module _ (name : List ℕ) (fixed : list_any (bytes_eq name) fixed_names ≡ tru
   renewed_not : (f : List ℕ × List ℕ) (new : FieldPairs) → AllFree new → f.0 ≡ name → is_renewed new f ≡ false
   renewed_not f [] free is = refl
   renewed_not f (g ∷ new) free is =
-      let other : bytes_eq f.0 g.0 ≡ false = not_true _ (λ same. false_true (sym (not_it g free.0) ∙ bytes_eq-same g.0 name (sym (same_bytes f.0 g.0 same) ∙ is))) in
+      let other : bytes_eq f.0 g.0 ≡ false =
+      not_true _ (λ same. false_true (sym (not_it g free.0) ∙ bytes_eq-same g.0 name (sym (same_bytes f.0 g.0 same) ∙ is))) in
       rw other (renewed_not f new free.1 is)
 
   left_of : (new fields : FieldPairs) → AllFree new → values_of name (left_by new fields) ≡ values_of name fields
@@ -63,7 +64,8 @@ module _ (name : List ℕ) (fixed : list_any (bytes_eq name) fixed_names ≡ tru
   values_kept fields new = by_test (is_within_limits (fields_with fields (changeable_fields new)))
     where
       by_test : (b : Bool) → values_of name (if b then fields_with fields (changeable_fields new) else fields) ≡ values_of name fields
-      by_test true = with_all_of (changeable_fields new) (left_by (changeable_fields new) fields) (taken_free new) ∙ left_of (changeable_fields new) fields (taken_free new)
+      by_test true = with_all_of (changeable_fields new) (left_by (changeable_fields new) fields) (taken_free new) ∙
+          left_of (changeable_fields new) fields (taken_free new)
       by_test false = refl
 
 abbrev pub length_name : List ℕ
@@ -90,7 +92,8 @@ pub length_none : (fields : FieldPairs) → has_field length_name (kept_fields f
 length_none fields = has_by _ [] (values_of-without_same length_name (without range_name fields))
 
 pub range_none : (fields : FieldPairs) → has_field range_name (kept_fields fields) ≡ false
-range_none fields = has_by _ [] (values_of-without_other length_name range_name (without range_name fields) (λ same. other_names (sym same)) ∙ values_of-without_same range_name fields)
+range_none fields = has_by _ [] (values_of-without_other length_name range_name (without range_name fields) (λ same. other_names (sym same)) ∙
+    values_of-without_same range_name fields)
 
 pub etag_kept : (fields : FieldPairs) → values_of (codes "etag") (kept_fields fields) ≡ values_of (codes "etag") fields
 etag_kept fields =

@@ -20,10 +20,13 @@ module _ (t : Tables) (e : Entry) where
   -- what came of r stays, or a piece comes
   pub data Fills (r : ℕ) (v u : Representation) : Type 0 where
     still : ((x : ℕ) (bytes : List ℕ) (w : Exchange) → IsPiece r x bytes w → ⊥) → u.body ≡ v.body → u.stored ≡ v.stored → u.reach ≡ v.reach → Fills r v u
-    more : (x : ℕ) (bytes : List ℕ) (w : Exchange) → IsPiece r x bytes w → u.body ≡ cells_with (front w) x bytes v.body → u.stored ≡ (if not (v.is_lost || loses_in r e.acts) then cells_with (front w) x bytes v.stored else v.stored) → u.reach ≡ max v.reach (front w + length bytes) → Fills r v u
+    more : (x : ℕ) (bytes : List ℕ) (w : Exchange) → IsPiece r x bytes w → u.body ≡ cells_with (front w) x bytes v.body →
+        u.stored ≡ (if not (v.is_lost || loses_in r e.acts) then cells_with (front w) x bytes v.stored else v.stored) →
+        u.reach ≡ max v.reach (front w + length bytes) → Fills r v u
 
   module _ (r : ℕ) (v : Representation) where
-    headed_still : ((x : ℕ) (bytes : List ℕ) (w : Exchange) → IsPiece r x bytes w → ⊥) → (x : ℕ) (response : Response) (o : Option Exchange) → Fills r v (representation_after_head t e r x response o v)
+    headed_still : ((x : ℕ) (bytes : List ℕ) (w : Exchange) → IsPiece r x bytes w → ⊥) → (x : ℕ) (response : Response) (o : Option Exchange) →
+        Fills r v (representation_after_head t e r x response o v)
     headed_still none x response None = still none refl refl refl
     headed_still none x response (Some w) = by_test (updates t e r w v)
       where
@@ -31,14 +34,18 @@ module _ (t : Tables) (e : Entry) where
         by_test true = still none refl refl refl
         by_test false = still none refl refl refl
 
-    unpieced : (ev : Event) → e.event ≡ ev → ((x : ℕ) (bytes : List ℕ) → ev ≡ event.Piece x bytes → ⊥) → (x : ℕ) (bytes : List ℕ) (w : Exchange) → IsPiece r x bytes w → ⊥
+    unpieced : (ev : Event) → e.event ≡ ev → ((x : ℕ) (bytes : List ℕ) → ev ≡ event.Piece x bytes → ⊥) → (x : ℕ) (bytes : List ℕ) (w : Exchange) →
+        IsPiece r x bytes w → ⊥
     unpieced ev here other x bytes w is = other x bytes (sym here ∙ is.at)
 
     piece_inj : (x y : ℕ) (a b : List ℕ) → event.Piece x a ≡ event.Piece y b → (x ≡ y) × (a ≡ b)
     piece_inj x y a b is = (cc, cc)
 
-    pieced_by : (x : ℕ) (bytes : List ℕ) (o : Option Exchange) → e.event ≡ event.Piece x bytes → t.exchange x ≡ o → Fills r v (representation_after_piece e r x bytes o v)
-    pieced_by x bytes None here row = still (λ y more w is. let same = piece_inj y x more bytes (sym is.at ∙ here) in none_some w (sym row ∙ (sym (ap t.exchange same.0) ∙ is.row))) refl refl refl
+    pieced_by : (x : ℕ) (bytes : List ℕ) (o : Option Exchange) → e.event ≡ event.Piece x bytes → t.exchange x ≡ o →
+        Fills r v (representation_after_piece e r x bytes o v)
+    pieced_by x bytes None here row =
+        still (λ y more w is. let same = piece_inj y x more bytes (sym is.at ∙ here) in none_some w (sym row ∙ (sym (ap t.exchange same.0) ∙ is.row)))
+        refl refl refl
       where
         none_some : (w : Exchange) → None ≡ Some w → ⊥
         none_some w h = cc
@@ -51,7 +58,8 @@ module _ (t : Tables) (e : Entry) where
     ]
       where
         by_kept : (b : Bool) → not (v.is_lost || loses_in r e.acts) ≡ b → family x w ≡ r → Fills r v (with_stored_bytes b (front w) x bytes v)
-        by_kept b is of_r = more x bytes w (record { at = here; row = row; of_r = of_r }) refl (ap (λ q. if q then cells_with (front w) x bytes v.stored else v.stored) (sym is)) refl
+        by_kept b is of_r = more x bytes w (record { at = here; row = row; of_r = of_r }) refl
+            (ap (λ q. if q then cells_with (front w) x bytes v.stored else v.stored) (sym is)) refl
 
     ended_by : ((x : ℕ) (bytes : List ℕ) (w : Exchange) → IsPiece r x bytes w → ⊥) → (n : ℕ) (b : Bool) → Fills r v (if b then with_total_if_none n v else v)
     ended_by none n true = still none refl refl refl

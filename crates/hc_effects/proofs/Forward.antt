@@ -24,7 +24,8 @@ module _ (t : Tables) (e : Entry) where
   is_on x w row = on_by x w (exchange_after t e x (t.exchange x)) row refl (stays t e x (t.exchange x) (ap is_some row))
 
   -- an exchange that is opened is there
-  pub opened_on : (x : ℕ) (o : Opening) (z : Option Exchange) → z ≡ None → opening_in e.acts ≡ Some o → o.x ≡ x → exchange_after t e x z ≡ Some (exchange_opened t e o)
+  pub opened_on : (x : ℕ) (o : Opening) (z : Option Exchange) → z ≡ None → opening_in e.acts ≡ Some o → o.x ≡ x →
+      exchange_after t e x z ≡ Some (exchange_opened t e o)
   unfolding exchange_after
   opened_on x o z none is here = grind (arith, nat_tests)
 
@@ -39,7 +40,8 @@ module _ (t : Tables) (e : Entry) where
   settled_request c k q true over = rw over refl
   settled_request c k q false over = rw over refl
 
-  kept_by : (c : ℕ) (k : Consumer) (o : Option Consumer) → o ≡ Some k → consumer_after t e c o ≡ Some (consumer_settled t e c k (consumer_acted t e c (consumer_heard t e c e.event k)))
+  kept_by : (c : ℕ) (k : Consumer) (o : Option Consumer) → o ≡ Some k →
+      consumer_after t e c o ≡ Some (consumer_settled t e c k (consumer_acted t e c (consumer_heard t e c e.event k)))
   unfolding consumer_after
   kept_by c k None is = absurd (let never : None ≡ Some k = is in cc)
   kept_by c k (Some u) is = ap (λ (z : Consumer). Some (consumer_settled t e c z (consumer_acted t e c (consumer_heard t e c e.event z)))) (some_inj u k is)
@@ -59,7 +61,8 @@ module _ (t : Tables) (e : Entry) where
   pub heard_other : (x : ℕ) (ev : Event) (w : Exchange) → (exchange_in ev ≡ Some x → ⊥) → exchange_heard t e x ev w ≡ w
   heard_other x ev w other = grind (arith, nat_tests)
 
-  pub after_is : (x : ℕ) (w : Exchange) (z : Option Exchange) → z ≡ Some w → exchange_after t e x z ≡ Some (exchange_acted x e.acts (exchange_heard t e x e.event w))
+  pub after_is : (x : ℕ) (w : Exchange) (z : Option Exchange) → z ≡ Some w →
+      exchange_after t e x z ≡ Some (exchange_acted x e.acts (exchange_heard t e x e.event w))
   unfolding exchange_after
   after_is x w None is = absurd (let never : None ≡ Some w = is in cc)
   after_is x w (Some u) is = ap (λ (q : Exchange). Some (exchange_acted x e.acts (exchange_heard t e x e.event q))) (some_inj u w is)

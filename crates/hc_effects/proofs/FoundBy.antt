@@ -41,11 +41,16 @@ module _ (v : HeadView) where
   turn : route_of v.need ≡ route.Turn → CaseBy v (turn_case v)
   turn way =
       either (CaseBy v) v.bad _ _ (turn_bad way) (λ good.
-      either (CaseBy v) (v.status == 304 && v.conditional && v.selects && not v.lost) _ _ (λ h. validated way (is_number v.status 304 (left (v.status == 304) _ (left _ v.selects (left _ (not v.lost) h)))) (right (v.status == 304) v.conditional (left _ v.selects (left _ (not v.lost) h))) (not_true v.lost (right _ (not v.lost) h))) (λ h0.
+      either (CaseBy v) (v.status == 304 && v.conditional && v.selects && not v.lost) _ _
+      (λ h. validated way (is_number v.status 304 (left (v.status == 304) _ (left _ v.selects (left _ (not v.lost) h))))
+      (right (v.status == 304) v.conditional (left _ v.selects (left _ (not v.lost) h))) (not_true v.lost (right _ (not v.lost) h))) (λ h0.
       either (CaseBy v) (v.status == 304 && v.conditional) _ _ (λ h. not_validated way (is_number v.status 304 (left (v.status == 304) _ h))) (λ h1.
       either (CaseBy v) (nat_le 500 v.status) _ _ (λ h. turn_server_error way) (λ h2.
-      either (CaseBy v) (brings_whole v.status && v.storable && not v.lost) _ _ (λ h. founds_whole way (left (brings_whole v.status) _ (left _ (not v.lost) h)) (not_true v.lost (right _ (not v.lost) h)) good) (λ h3.
-      either (CaseBy v) (brings_part v.status && v.storable && v.fits && not v.lost) _ _ (λ h. founds_range way (left (brings_part v.status) _ (left _ v.fits (left _ (not v.lost) h))) (right _ v.fits (left _ (not v.lost) h)) (not_true v.lost (right _ (not v.lost) h)) good) (λ h4. passes_by way))))))
+      either (CaseBy v) (brings_whole v.status && v.storable && not v.lost) _ _
+      (λ h. founds_whole way (left (brings_whole v.status) _ (left _ (not v.lost) h)) (not_true v.lost (right _ (not v.lost) h)) good) (λ h3.
+      either (CaseBy v) (brings_part v.status && v.storable && v.fits && not v.lost) _ _
+      (λ h. founds_range way (left (brings_part v.status) _ (left _ v.fits (left _ (not v.lost) h))) (right _ v.fits (left _ (not v.lost) h))
+      (not_true v.lost (right _ (not v.lost) h)) good) (λ h4. passes_by way))))))
 
   first : route_of v.need ≡ route.Hole → v.shown ≡ false → CaseBy v (first_case v)
   first way shown =
@@ -53,7 +58,9 @@ module _ (v : HeadView) where
       either (CaseBy v) v.joins _ _ (λ h. first_joins way shown h good) (λ h0.
       either (CaseBy v) (nat_le 500 v.status) _ _ (λ h. first_server_error way shown) (λ h1.
       either (CaseBy v) (brings_part v.status || v.status == 304 || v.status == 416) _ _ (λ h. first_changed way shown) (λ h2.
-      either (CaseBy v) (brings_whole v.status && v.storable && not v.lost) _ _ (λ h. first_replaced way shown (left (brings_whole v.status) _ (left _ (not v.lost) h)) (not_true v.lost (right _ (not v.lost) h)) good) (λ h3. first_passes_by way shown)))))
+      either (CaseBy v) (brings_whole v.status && v.storable && not v.lost) _ _
+      (λ h. first_replaced way shown (left (brings_whole v.status) _ (left _ (not v.lost) h)) (not_true v.lost (right _ (not v.lost) h)) good)
+      (λ h3. first_passes_by way shown)))))
 
   later : route_of v.need ≡ route.Hole → v.shown ≡ true → CaseBy v (later_case v)
   later way shown =

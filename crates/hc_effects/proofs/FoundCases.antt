@@ -50,8 +50,11 @@ replaced_lost v is = by_case (case_is v case.FirstReplaced is)
         let f : nat_eq v.status 416 ≡ false = grind (arith, nat_tests) in
         by_joins a b d status f v.joins refl
       where
-        by_joins : nat_eq v.status 304 ≡ false → nat_le 500 v.status ≡ false → brings_part v.status ≡ false → brings_whole v.status ≡ true → nat_eq v.status 416 ≡ false → (j : Bool) → v.joins ≡ j → head_case (record v { lost = true }) ≡ case.FirstPassesBy
-        by_joins a b d e f true on = absurd (let other : head_case v ≡ case.FirstJoins = rw (way, shown, good, on) refl in let never : case.FirstJoins ≡ case.FirstReplaced = sym other ∙ is in cc)
+        by_joins : nat_eq v.status 304 ≡ false → nat_le 500 v.status ≡ false → brings_part v.status ≡ false → brings_whole v.status ≡ true →
+            nat_eq v.status 416 ≡ false → (j : Bool) → v.joins ≡ j → head_case (record v { lost = true }) ≡ case.FirstPassesBy
+        by_joins a b d e f true on =
+            absurd (let other : head_case v ≡ case.FirstJoins = rw (way, shown, good, on) refl in let never : case.FirstJoins ≡ case.FirstReplaced =
+            sym other ∙ is in cc)
         by_joins a b d e f false off = rw (way, shown, good, off, a, b, d, f, e) (and_off v.storable case.FirstReplaced case.FirstPassesBy)
 
 -- a part that founds answers what may be stored
@@ -67,9 +70,12 @@ range_storable v is = by_case (case_is v case.FoundsRange is)
         let e : brings_whole v.status ≡ false = part_is_no_whole v.status status in
         by_test a b status e v.storable refl
       where
-        by_test : nat_eq v.status 304 ≡ false → nat_le 500 v.status ≡ false → brings_part v.status ≡ true → brings_whole v.status ≡ false → (s : Bool) → v.storable ≡ s → s ≡ true
+        by_test : nat_eq v.status 304 ≡ false → nat_le 500 v.status ≡ false → brings_part v.status ≡ true → brings_whole v.status ≡ false → (s : Bool) →
+            v.storable ≡ s → s ≡ true
         by_test a b d e true on = refl
-        by_test a b d e false off = absurd (let other : head_case v ≡ case.PassesBy = rw (way, good, a, b, e, d, off) refl in let never : case.PassesBy ≡ case.FoundsRange = sym other ∙ is in cc)
+        by_test a b d e false off =
+            absurd (let other : head_case v ≡ case.PassesBy = rw (way, good, a, b, e, d, off) refl in let never : case.PassesBy ≡ case.FoundsRange =
+            sym other ∙ is in cc)
 
 -- WHAT IT WRITES
 
@@ -79,7 +85,9 @@ no_loss (act.Lost r kind ∷ acts) = no_loss acts
 no_loss (_ ∷ acts) = no_loss acts
 
 -- itself, also where that is lost
-pub founding_writes : (limits : Limits) (t : Tables) (now x : ℕ) (response : Response) (w : Exchange) (flaw : Flaw) → t.exchange x ≡ Some w → is_founding (Some (head_case (head_view t false w response))) ≡ true → written_representation t (entry_of limits t now (event.Head x response) flaw) ≡ Some x
+pub founding_writes : (limits : Limits) (t : Tables) (now x : ℕ) (response : Response) (w : Exchange) (flaw : Flaw) → t.exchange x ≡ Some w →
+    is_founding (Some (head_case (head_view t false w response))) ≡ true →
+    written_representation t (entry_of limits t now (event.Head x response) flaw) ≡ Some x
 unfolding written_representation
 founding_writes limits t now x response w flaw row founds =
     let e = entry_of limits t now (event.Head x response) flaw in

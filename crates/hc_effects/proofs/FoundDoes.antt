@@ -45,11 +45,14 @@ founder x response w _ k = record k { place = place.Bound x 0 (promise_in w resp
 -- WHAT IT TELLS
 
 -- what a part that fits is part of is known, and so what is wanted of it
-pub fits_wanted : (asked : Option RangeSpec) (response : Response) → fits_to_found asked response ≡ true → (span : Span) × (wanted_of asked (total_of_part (content_range_of response.fields)) ≡ wanted.Interval span)
+pub fits_wanted : (asked : Option RangeSpec) (response : Response) → fits_to_found asked response ≡ true → (span : Span) ×
+    (wanted_of asked (total_of_part (content_range_of response.fields)) ≡ wanted.Interval span)
 fits_wanted None response fits = absurd (false_true fits)
-fits_wanted (Some asked) response fits = by_range (content_range_of response.fields) (and_right (is_some (strong_of response.fields)) (fits_part asked (content_range_of response.fields)) fits)
+fits_wanted (Some asked) response fits =
+    by_range (content_range_of response.fields) (and_right (is_some (strong_of response.fields)) (fits_part asked (content_range_of response.fields)) fits)
   where
-    by_span : (o : Option Span) (first last : ℕ) → begins_at o first last ≡ true → (span : Span) × (Rattle.hc_rules.specs.Requests.wanted_part o ≡ wanted.Interval span)
+    by_span : (o : Option Span) (first last : ℕ) → begins_at o first last ≡ true → (span : Span) ×
+        (Rattle.hc_rules.specs.Requests.wanted_part o ≡ wanted.Interval span)
     by_span None first last on = absurd (false_true on)
     by_span (Some span) first last on = (span, refl)
 
@@ -67,27 +70,34 @@ pub storable_get : (request : Request) (response : Response) → is_storable req
 unfolding is_storable
 storable_get request response on = and_left (is_get request) _ (and_left _ _ (and_left _ _ on))
 
-pub part_has : (w : Exchange) (response : Response) → route_of w.need ≡ route.Turn → brings_part response.status ≡ true → is_get w.request ≡ true → promise_in w response ≢ Some 0
+pub part_has : (w : Exchange) (response : Response) → route_of w.need ≡ route.Turn → brings_part response.status ≡ true → is_get w.request ≡ true →
+    promise_in w response ≢ Some 0
 unfolding length_of
 part_has w response way status get none = by_range (content_range_of response.fields) refl (sym promise_is ∙ none)
   where
-    promise_is : promise_in w response ≡ promise_of (part_length (content_length_of (elements_in (codes "content-length") response.fields)) (content_range_of response.fields))
+    promise_is : promise_in w response ≡ promise_of
+        (part_length (content_length_of (elements_in (codes "content-length") response.fields)) (content_range_of response.fields))
     promise_is =
         let bodied = get_no_head w.request get in
         let full = part_not_204 response.status status in
-        let changed : nat_eq response.status 304 ≡ false = (let low : response.status < 300 = (part_succeeds response.status status).1 in grind (arith, nat_tests)) in
+        let changed : nat_eq response.status 304 ≡ false =
+        (let low : response.status < 300 = (part_succeeds response.status status).1 in grind (arith, nat_tests)) in
         rw (bodied, full, changed, way, status) refl
 
     by_agreed : (b : Bool) (first last : ℕ) → first ≤ last → promise_of (if b then says.Part first (last + 1 - first) else says.Bad) ≡ Some 0 → ⊥
     by_agreed false first last le is = none_some 0 is
     by_agreed true first last le is = (let same : last + 1 - first ≡ 0 = (let one : Some (last + 1 - first) ≡ Some 0 = is in cc) in omega (arith, le, same))
 
-    by_range : (o : Option ContentRange) → content_range_of response.fields ≡ o → promise_of (part_length (content_length_of (elements_in (codes "content-length") response.fields)) o) ≡ Some 0 → ⊥
+    by_range : (o : Option ContentRange) → content_range_of response.fields ≡ o →
+        promise_of (part_length (content_length_of (elements_in (codes "content-length") response.fields)) o) ≡ Some 0 → ⊥
     by_range None at is = none_some 0 is
     by_range (Some (range.Unsatisfied total)) at is = none_some 0 is
-    by_range (Some (range.Part first last total)) at is = by_agreed (agrees (content_length_of (elements_in (codes "content-length") response.fields)) (last + 1 - first)) first last ((range_early response (range.Part first last total) at).0) is
+    by_range (Some (range.Part first last total)) at is =
+        by_agreed (agrees (content_length_of (elements_in (codes "content-length") response.fields)) (last + 1 - first)) first last
+        ((range_early response (range.Part first last total) at).0) is
 
-module _ (limits : Limits) (t : Tables) (law : Lawful t) (now x : ℕ) (response : Response) (goes : denial t (event.Head x response) ≡ None) (w : Exchange) (row : t.exchange x ≡ Some w) (k : Consumer) (asker : t.consumer w.c ≡ Some k) where
+module _ (limits : Limits) (t : Tables) (law : Lawful t) (now x : ℕ) (response : Response) (goes : denial t (event.Head x response) ≡ None) (w : Exchange)
+    (row : t.exchange x ≡ Some w) (k : Consumer) (asker : t.consumer w.c ≡ Some k) where
   abbrev ev : Event
   ev = event.Head x response
 
@@ -101,21 +111,28 @@ module _ (limits : Limits) (t : Tables) (law : Lawful t) (now x : ℕ) (response
   case_as g is = subst (CaseBy (head_view t false w response)) is (case_by (head_view t false w response))
 
   -- what goes
-  pub founds_goes : (g : HeadCase) → Founds g → (r : ℕ) → goes_by_case t (entry_without_acts now ev) r (Some g) w ≡ is_in (with_item_first (replaces w g) (with_item_first key_current [])) r
+  pub founds_goes : (g : HeadCase) → Founds g → (r : ℕ) → goes_by_case t (entry_without_acts now ev) r (Some g) w ≡ is_in
+      (with_item_first (replaces w g) (with_item_first key_current [])) r
   founds_goes _ whole r = sym (in_one key_current r)
   founds_goes _ part r = sym (in_one key_current r)
   founds_goes _ replaced r = ap (λ b. is_number w.aim r || b) (sym (in_one key_current r)) ∙ adds_one w.aim (with_item_first key_current []) r
 
   -- who reads what is founded
   pub founds_does : (g : HeadCase) → Founds g → Is g → Does limits t now ev NoFlaw (map act.Evicted (evicted limits t now ev))
-      (with_event now ev (let_all_go now (evicted limits t now ev) (let_some_go now key_current (let_some_go now (replaces w g) (with_consumer w.c (Some (founder x response w g k)) (with_answer now x response w.joined w (with_founding x (just_founded now x response w) t)))))))
+      (with_event now ev (let_all_go now (evicted limits t now ev)
+      (let_some_go now key_current
+      (let_some_go now (replaces w g)
+      (with_consumer w.c (Some (founder x response w g k)) (with_answer now x response w.joined w (with_founding x (just_founded now x response w) t)))))))
   founds_does _ whole is = founds_whole limits t law now x response goes w row k asker is
   founds_does _ part is = founds_range limits t law now x response goes w row k asker is
   founds_does _ replaced is = first_replaced limits t law now x response goes w row k asker is
 
   -- it goes past the store, where that is lost
-  pub lost_does : (kind : LostKind) (g : HeadCase) → Founds g → Is g → Does limits t now ev (Loses x kind) (map act.Evicted (evicted limits t now ev) ++ (act.Lost x kind ∷ []))
-      (with_event now ev (let_all_go now (evicted limits t now ev) (let_some_go now key_current (let_some_go now (replaces w g) (with_consumer w.c (Some (record k { place = place.Direct x })) (with_answer now x response w.joined w t))))))
+  pub lost_does : (kind : LostKind) (g : HeadCase) → Founds g → Is g →
+      Does limits t now ev (Loses x kind) (map act.Evicted (evicted limits t now ev) ++ (act.Lost x kind ∷ []))
+      (with_event now ev (let_all_go now (evicted limits t now ev)
+      (let_some_go now key_current
+      (let_some_go now (replaces w g) (with_consumer w.c (Some (record k { place = place.Direct x })) (with_answer now x response w.joined w t))))))
   lost_does kind _ whole is = passes_by_lost limits t law now x response goes w row k asker kind (whole_lost (head_view t false w response) is)
   lost_does kind _ part is = passes_by_lost limits t law now x response goes w row k asker kind (range_lost (head_view t false w response) is)
   lost_does kind _ replaced is = first_replaced_lost limits t law now x response goes w row k asker kind (replaced_lost (head_view t false w response) is)
@@ -149,13 +166,15 @@ module _ (limits : Limits) (t : Tables) (law : Lawful t) (now x : ℕ) (response
   empty_total _ part is none = by_case (case_as case.FoundsRange is)
     where
       by_case : CaseBy (head_view t false w response) case.FoundsRange → founded_total w response ≡ Some 0
-      by_case (cases.founds_range way status fits kept good) = absurd (part_has w response way status (storable_get w.request response (range_storable (head_view t false w response) is)) none)
+      by_case (cases.founds_range way status fits kept good) =
+          absurd (part_has w response way status (storable_get w.request response (range_storable (head_view t false w response) is)) none)
 
   -- its consumer knows what it wants of a part
   pub part_wanted : Is case.FoundsRange → (span : Span) × (wanted_of (range_of k.request) (founded_total w response) ≡ wanted.Interval span)
   part_wanted is = by_case (case_as case.FoundsRange is)
     where
-      by_case : CaseBy (head_view t false w response) case.FoundsRange → (span : Span) × (wanted_of (range_of k.request) (founded_total w response) ≡ wanted.Interval span)
+      by_case : CaseBy (head_view t false w response) case.FoundsRange → (span : Span) ×
+          (wanted_of (range_of k.request) (founded_total w response) ≡ wanted.Interval span)
       by_case (cases.founds_range way status fits kept good) =
           let its = fits_wanted (range_of k.request) response (sym (ap (λ o. fits_asker o response) asker) ∙ fits) in
           (its.0, ap (wanted_of (range_of k.request)) (total_part is) ∙ its.1)

@@ -23,7 +23,8 @@ any_filtered : (f h b : ℕ → Bool) (xs : List ℕ) → ((n : ℕ) → h n ≡
 any_filtered f h b [] both = refl
 any_filtered f h b (x ∷ xs) both = by_tests (f x) (b x) refl refl (any_filtered f h b xs both)
   where
-    by_tests : (p q : Bool) → f x ≡ p → b x ≡ q → list_any b (filter f xs) ≡ not (length (filter h xs) == 0) → list_any b (filter f (x ∷ xs)) ≡ not (length (filter h (x ∷ xs)) == 0)
+    by_tests : (p q : Bool) → f x ≡ p → b x ≡ q → list_any b (filter f xs) ≡ not (length (filter h xs) == 0) →
+        list_any b (filter f (x ∷ xs)) ≡ not (length (filter h (x ∷ xs)) == 0)
     by_tests true true passes on rest =
         let here : h x ≡ true = both x ∙ rw (passes, on) refl in
         let some : nat_eq (length (x ∷ filter h xs)) 0 ≡ false = grind (arith, nat_tests) in
@@ -31,8 +32,11 @@ any_filtered f h b (x ∷ xs) both = by_tests (f x) (b x) refl refl (any_filtere
     by_tests true false passes off rest = let here : h x ≡ false = both x ∙ rw (passes, off) refl in rw (passes, here, off) rest
     by_tests false q fails is rest = let here : h x ≡ false = both x ∙ rw fails refl in rw (fails, here) rest
 
-module _ (limits : Limits) (t : Tables) (law : Lawful t) (now x : ℕ) (response : Response) (goes : denial t (event.Head x response) ≡ None) (w : Exchange) (row : t.exchange x ≡ Some w) (k : Consumer) (asker : t.consumer w.c ≡ Some k) (g : HeadCase) (is : head_case (head_view t false w response) ≡ g) (doomless : doomed_by_case (Some g) w response ≡ None) (founds : is_founding (Some g) ≡ true)
-    (rs : List ℕ) (tests : (r : ℕ) (v : Representation) → t.representation r ≡ Some v → goes_by_case t (entry_without_acts now (event.Head x response)) r (Some g) w ≡ is_in rs r) where
+module _ (limits : Limits) (t : Tables) (law : Lawful t) (now x : ℕ) (response : Response) (goes : denial t (event.Head x response) ≡ None) (w : Exchange)
+    (row : t.exchange x ≡ Some w) (k : Consumer) (asker : t.consumer w.c ≡ Some k) (g : HeadCase) (is : head_case (head_view t false w response) ≡ g)
+    (doomless : doomed_by_case (Some g) w response ≡ None) (founds : is_founding (Some g) ≡ true)
+    (rs : List ℕ) (tests : (r : ℕ) (v : Representation) → t.representation r ≡ Some v →
+    goes_by_case t (entry_without_acts now (event.Head x response)) r (Some g) w ≡ is_in rs r) where
   abbrev ev : Event
   ev = event.Head x response
 
@@ -85,7 +89,8 @@ module _ (limits : Limits) (t : Tables) (law : Lawful t) (now x : ℕ) (response
 
   still_bound : (r d : ℕ) → is_bound r (fallback.consumer d) ≡ (is_bound r (t.consumer d) && not (moves_on t e d))
   still_bound r d = elim (eq_cases w.c d) [
-    | inl here ↦ rw here.0 (sym (rw (moves_is d, here.0) (ap (λ o. is_bound r o && not (weights.is_replacing (Some g) && true)) (sym (ap t.consumer here.1) ∙ asker) ∙ stays_here r)))
+    | inl here ↦ rw here.0 (sym
+        (rw (moves_is d, here.0) (ap (λ o. is_bound r o && not (weights.is_replacing (Some g) && true)) (sym (ap t.consumer here.1) ∙ asker) ∙ stays_here r)))
     | inr other ↦ rw other.0 (sym (rw (moves_is d, other.0, and_off (weights.is_replacing (Some g))) (and_on (is_bound r (t.consumer d)))))
   ]
 
@@ -105,10 +110,15 @@ module _ (limits : Limits) (t : Tables) (law : Lawful t) (now x : ℕ) (response
     row_then : (r : ℕ) → left.representation r ≡ (if is_in rs r then option_map as_gone (t.representation r) else t.representation r)
     row_then r = ap (λ (s : Tables). s.representation r) (all_go_is now rs fallback)
 
-    weighs : (r : ℕ) (b : Bool) (v : Representation) → t.representation r ≡ Some v → going.weight_in left r (if b then option_map as_gone (Some v) else Some v) ≡ weights.weight_in t e r (Some v)
-    weighs r b v there = by_test b ∙ ap (λ z. if z then weight_of v.size else 0) (ap (λ z. z || not (length (bound left r) == 0)) (current_then r v there) ∙ ap (λ z. stays_current t e r v || z) (sym (bound_then r)))
+    weighs : (r : ℕ) (b : Bool) (v : Representation) → t.representation r ≡ Some v → going.weight_in
+        left r (if b then option_map as_gone (Some v) else Some v) ≡ weights.weight_in t e r (Some v)
+    weighs r b v there = by_test b ∙
+        ap (λ z. if z then weight_of v.size else 0)
+        (ap (λ z. z || not (length (bound left r) == 0)) (current_then r v there) ∙ ap (λ z. stays_current t e r v || z) (sym (bound_then r)))
       where
-        by_test : (b : Bool) → going.weight_in left r (if b then option_map as_gone (Some v) else Some v) ≡ (if is_current left v.key r || not (length (bound left r) == 0) then weight_of v.size else 0)
+        by_test : (b : Bool) → going.weight_in
+            left r (if b then option_map as_gone (Some v) else Some v) ≡ (if is_current left v.key r || not (length (bound left r) == 0) then
+            weight_of v.size else 0)
         by_test true = refl
         by_test false = refl
 
@@ -119,17 +129,22 @@ module _ (limits : Limits) (t : Tables) (law : Lawful t) (now x : ℕ) (response
         none_weighs true = refl
         none_weighs false = refl
 
-        by_row : (o : Option Representation) → t.representation r ≡ o → going.weight_in left r (if is_in rs r then option_map as_gone o else o) ≡ weights.weight_in t e r o
+        by_row : (o : Option Representation) → t.representation r ≡ o → going.weight_in
+            left r (if is_in rs r then option_map as_gone o else o) ≡ weights.weight_in t e r o
         by_row None there = none_weighs (is_in rs r)
         by_row (Some v) there = weighs r (is_in rs r) v there
 
     twice : (b : Bool) → not (not b) ≡ b
     twice b = grind (arith, nat_tests)
 
-    idles : (r : ℕ) (b : Bool) (v : Representation) → t.representation r ≡ Some v → contents.is_idle left r (if b then option_map as_gone (Some v) else Some v) ≡ is_idle t e r (Some v)
-    idles r b v there = by_test b ∙ (ap (λ z. z && (length (bound left r) == 0)) (current_then r v there) ∙ ap (λ z. stays_current t e r v && z) (sym (ap not (bound_then r) ∙ twice (length (bound left r) == 0))))
+    idles : (r : ℕ) (b : Bool) (v : Representation) → t.representation r ≡ Some v →
+        contents.is_idle left r (if b then option_map as_gone (Some v) else Some v) ≡ is_idle t e r (Some v)
+    idles r b v there = by_test b ∙
+        (ap (λ z. z && (length (bound left r) == 0)) (current_then r v there) ∙
+        ap (λ z. stays_current t e r v && z) (sym (ap not (bound_then r) ∙ twice (length (bound left r) == 0))))
       where
-        by_test : (b : Bool) → contents.is_idle left r (if b then option_map as_gone (Some v) else Some v) ≡ (is_current left v.key r && (length (bound left r) == 0))
+        by_test : (b : Bool) → contents.is_idle left r
+            (if b then option_map as_gone (Some v) else Some v) ≡ (is_current left v.key r && (length (bound left r) == 0))
         by_test true = refl
         by_test false = refl
 
@@ -140,7 +155,8 @@ module _ (limits : Limits) (t : Tables) (law : Lawful t) (now x : ℕ) (response
         none_idles true = refl
         none_idles false = refl
 
-        by_row : (o : Option Representation) → t.representation r ≡ o → contents.is_idle left r (if is_in rs r then option_map as_gone o else o) ≡ is_idle t e r o
+        by_row : (o : Option Representation) → t.representation r ≡ o →
+            contents.is_idle left r (if is_in rs r then option_map as_gone o else o) ≡ is_idle t e r o
         by_row None there = none_idles (is_in rs r)
         by_row (Some v) there = idles r (is_in rs r) v there
 
@@ -159,7 +175,8 @@ module _ (limits : Limits) (t : Tables) (law : Lawful t) (now x : ℕ) (response
         ap (room_by limits t e) write_is
         ∙ (ap (λ (f : ℕ → ℕ). room_of limits (sum_by f t.founded) write.Slot (map f (idle t e))) (fun_ext weight_same)
         ∙ (ap (λ qs. room_of limits (sum_by (weight_now left) t.founded) write.Slot (map (weight_now left) qs)) idle_same
-        ∙ ap (λ (s : Tables). room_of limits (sum_by (weight_now left) s.founded) write.Slot (map (weight_now left) (idle_now left))) (sym (all_go_is now rs fallback))))
+        ∙ ap (λ (s : Tables). room_of limits (sum_by (weight_now left) s.founded) write.Slot (map (weight_now left) (idle_now left)))
+        (sym (all_go_is now rs fallback))))
 
     firsts_same : (a : Room) → weights.first_idle t e a ≡ going.first_idle left a
     firsts_same (room.After count) = ap (take count) idle_same

@@ -27,10 +27,23 @@ record HearsParts (t : Tables) (e : Entry) (r : ℕ) (v u : Representation) (ev 
   gone : u.is_gone ≡ v.is_gone
 
 hears_none : (t : Tables) (e : Entry) (r : ℕ) (v : Representation) (ev : Event) → HearsParts t e r v v ev
-hears_none t e r v ev = record { key = refl; head = λ a b. refl; writer = λ a. refl; body = λ a. refl; stored = λ a. refl; reach = λ a. refl; size = λ a. refl; lost = refl; alone = refl; gone = refl }
+hears_none t e r v ev = record {
+  key = refl;
+  head = λ a b. refl;
+  writer = λ a. refl;
+  body = λ a. refl;
+  stored = λ a. refl;
+  reach = λ a. refl;
+  size =
+      λ a. refl;
+  lost = refl;
+  alone = refl;
+  gone = refl;
+}
 
 module _ (t : Tables) (e : Entry) (r : ℕ) (v : Representation) where
-  hears_head : (x : ℕ) (response : Response) (z : Option Exchange) → t.exchange x ≡ z → HearsParts t e r v (representation_after_head t e r x response z v) (event.Head x response)
+  hears_head : (x : ℕ) (response : Response) (z : Option Exchange) → t.exchange x ≡ z →
+      HearsParts t e r v (representation_after_head t e r x response z v) (event.Head x response)
   hears_head x response None row = hears_none t e r v (event.Head x response)
   hears_head x response (Some w) row = elim (bool_cases (updates t e r w v)) [
     | inr off ↦ rw off (hears_none t e r v (event.Head x response))
@@ -50,7 +63,8 @@ module _ (t : Tables) (e : Entry) (r : ℕ) (v : Representation) where
         })
   ]
 
-  hears_piece : (x : ℕ) (bytes : List ℕ) (z : Option Exchange) → t.exchange x ≡ z → HearsParts t e r v (representation_after_piece e r x bytes z v) (event.Piece x bytes)
+  hears_piece : (x : ℕ) (bytes : List ℕ) (z : Option Exchange) → t.exchange x ≡ z →
+      HearsParts t e r v (representation_after_piece e r x bytes z v) (event.Piece x bytes)
   hears_piece x bytes None row = hears_none t e r v (event.Piece x bytes)
   hears_piece x bytes (Some w) row = elim (bool_cases (family x w == r)) [
     | inr off ↦ rw off (hears_none t e r v (event.Piece x bytes))
@@ -96,7 +110,8 @@ module _ (t : Tables) (e : Entry) (r : ℕ) (v : Representation) where
   acts_part : (u : Representation) → HearsParts t e r v u e.event → KeepsParts t e r v (representation_acted t e r v u)
   acts_part u h = grind (arith, nat_tests)
 
-  row_after : (z : Option Representation) → z ≡ Some v → representation_after t e r z ≡ Some (representation_acted t e r v (representation_heard t e r e.event v))
+  row_after : (z : Option Representation) → z ≡ Some v →
+      representation_after t e r z ≡ Some (representation_acted t e r v (representation_heard t e r e.event v))
   unfolding representation_after
   row_after None is = absurd (let never : None ≡ Some v = is in cc)
   row_after (Some u) is = ap (λ q. Some (representation_acted t e r q (representation_heard t e r e.event q))) (some_inj u v is)
@@ -117,7 +132,8 @@ module _ (t : Tables) (e : Entry) (r : ℕ) (v : Representation) where
         | inr past ↦ frames.by_bypass now (key_is (bypass_key e) v.key past)
       ]
 
-  caused_row : (x : ℕ) (response : Response) (z : Option Exchange) → e.event ≡ event.Head x response → t.exchange x ≡ z → goes_by_exchange t e r z ≡ true → GoesBy t e r v
+  caused_row : (x : ℕ) (response : Response) (z : Option Exchange) → e.event ≡ event.Head x response → t.exchange x ≡ z →
+      goes_by_exchange t e r z ≡ true → GoesBy t e r v
   caused_row x response None at row h = absurd (false_true h)
   caused_row x response (Some w) at row h = frames.by_head x response w at row h
 
@@ -133,14 +149,16 @@ module _ (t : Tables) (e : Entry) (r : ℕ) (v : Representation) where
   caused_head (event.Fault x) at h = absurd (no_head (event.Fault x) (t.exchange x) at refl h)
   caused_head _ at h = absurd (false_true h)
 
-  caused_stop : (z : Option Exchange) → t.exchange r ≡ z → brings_whole v.head.status ≡ true → is_keepable v ≡ false → ends_founding e r z ≡ true → GoesBy t e r v
+  caused_stop : (z : Option Exchange) → t.exchange r ≡ z → brings_whole v.head.status ≡ true → is_keepable v ≡ false → ends_founding e r z ≡ true →
+      GoesBy t e r v
   caused_stop None row status off h = absurd (false_true h)
   caused_stop (Some w) row status off h = frames.by_stop w row (and_left w.is_open _ h) status off (and_right w.is_open _ h)
 
   caused_early : (ends_early t e r v && not (is_keepable v)) ≡ true → GoesBy t e r v
   caused_early h =
       let early : ends_early t e r v ≡ true = and_left (ends_early t e r v) _ h in
-      caused_stop (t.exchange r) refl (and_left (brings_whole v.head.status) _ early) (not_keepable (is_keepable v) (and_right (ends_early t e r v) _ h)) (and_right (brings_whole v.head.status) _ early)
+      caused_stop (t.exchange r) refl (and_left (brings_whole v.head.status) _ early) (not_keepable (is_keepable v) (and_right (ends_early t e r v) _ h))
+      (and_right (brings_whole v.head.status) _ early)
 
   caused_itself : goes_itself t e r v ≡ true → GoesBy t e r v
   caused_itself h = elim (or_cases _ (ends_early t e r v && not (is_keepable v)) h) [
@@ -178,7 +196,8 @@ number_of : (o : Option ℕ) (n : ℕ) → is_number o n ≡ false → o ≡ Som
 number_of o n off is = false_true (sym off ∙ number_yes o n is)
 
 module _ (t : Tables) (e : Entry) (r : ℕ) (silent : speaks_of t e r ≡ false) where
-  parts_of : (is_event_of t e r e.event ≡ false) × (is_current_for t (doomed_key_of t e) r ≡ false) × (is_current_for t (bypass_key e) r ≡ false) × (are_acts_of r e ≡ false)
+  parts_of : (is_event_of t e r e.event ≡ false) × (is_current_for t (doomed_key_of t e) r ≡ false) × (is_current_for t (bypass_key e) r ≡ false) ×
+      (are_acts_of r e ≡ false)
   parts_of =
       let a = or_false _ (are_acts_of r e) silent in
       let b = or_false _ (is_current_for t (bypass_key e) r) a.0 in
@@ -212,13 +231,18 @@ module _ (t : Tables) (e : Entry) (r : ℕ) (silent : speaks_of t e r ≡ false)
   about_gone (Some case.LaterChanged) w h = and_left (is_number w.aim r) _ h
   about_gone _ w h = absurd (false_true h)
 
-  head_stays : (v : Representation) (x : ℕ) (response : Response) (z : Option Exchange) → head_about t e r z ≡ false → representation_after_head t e r x response z v ≡ v
+  head_stays : (v : Representation) (x : ℕ) (response : Response) (z : Option Exchange) → head_about t e r z ≡ false →
+      representation_after_head t e r x response z v ≡ v
   head_stays v x response None off = refl
   head_stays v x response (Some w) off =
-      let none : updates t e r w v ≡ false = not_so (updates t e r w v) (λ up. let both = and_left (is_updating (case_at t e) && is_number w.aim r) _ up in false_true (sym off ∙ about_updated (case_at t e) w (and_left (is_updating (case_at t e)) _ both) (and_right (is_updating (case_at t e)) _ both))) in
+      let none : updates t e r w v ≡ false =
+      not_so (updates t e r w v)
+      (λ up. let both = and_left (is_updating (case_at t e) && is_number w.aim r) _ up in
+      false_true (sym off ∙ about_updated (case_at t e) w (and_left (is_updating (case_at t e)) _ both) (and_right (is_updating (case_at t e)) _ both))) in
       rw none refl
 
-  piece_stays : (v : Representation) (x : ℕ) (bytes : List ℕ) (z : Option Exchange) → is_of_family r x z ≡ false → representation_after_piece e r x bytes z v ≡ v
+  piece_stays : (v : Representation) (x : ℕ) (bytes : List ℕ) (z : Option Exchange) → is_of_family r x z ≡ false →
+      representation_after_piece e r x bytes z v ≡ v
   piece_stays v x bytes None off = refl
   piece_stays v x bytes (Some w) off = rw off refl
 
@@ -285,7 +309,8 @@ others_dont_go t e r v silent = stays_on t e r silent v
 -- EXCHANGES
 
 module _ (t : Tables) (e : Entry) (x : ℕ) (silent : speaks_of_exchange e x ≡ false) where
-  exchange_parts : (is_number (exchange_in e.event) x ≡ false) × (asks_in x e.acts ≡ false) × (closes_in x e.acts ≡ false) × (is_opened x (opening_in e.acts) ≡ false)
+  exchange_parts : (is_number (exchange_in e.event) x ≡ false) × (asks_in x e.acts ≡ false) × (closes_in x e.acts ≡ false) ×
+      (is_opened x (opening_in e.acts) ≡ false)
   exchange_parts = grind (arith, nat_tests)
 
   heard_same : (w : Exchange) (ev : Event) → is_number (exchange_in ev) x ≡ false → exchange_heard t e x ev w ≡ w

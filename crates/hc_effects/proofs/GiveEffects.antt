@@ -8,7 +8,8 @@ use Rattle.hc_effects.proofs.{Basics.{append_none}, OfConsumers.{BringsNothing, 
 use Rattle.hc_effects.proofs.OfConsumers as event_of
 use Rattle.hc_effects.proofs.PollEffects as polls
 
-module _ (limits : Limits) (t : Tables) (law : Lawful t) (now c want : ℕ) (k : Consumer) (row : t.consumer c ≡ Some k) (run : Run) (is : move_of t now want c k ≡ Gives run) where
+module _ (limits : Limits) (t : Tables) (law : Lawful t) (now c want : ℕ) (k : Consumer) (row : t.consumer c ≡ Some k) (run : Run)
+    (is : move_of t now want c k ≡ Gives run) where
   abbrev e : Entry
   e = record { now = now; event = event.Poll c want; acts = acts_of c (Gives run) }
 
@@ -19,7 +20,8 @@ module _ (limits : Limits) (t : Tables) (law : Lawful t) (now c want : ℕ) (k :
   acted = rw (eqb-same c, append_none run.bytes, own_stays t e c k.place k.own (spared_bodiless t e k.place refl)) refl
 
   -- its consumer was given so many more
-  pub gives_bytes : Does limits t now (event.Poll c want) NoFlaw (acts_of c (Gives run)) (with_event now (event.Poll c want) (with_consumer c (Some (record k { given = k.given + length run.bytes })) t))
+  pub gives_bytes : Does limits t now (event.Poll c want) NoFlaw (acts_of c (Gives run))
+      (with_event now (event.Poll c want) (with_consumer c (Some (record k { given = k.given + length run.bytes })) t))
   gives_bytes =
       poll_does limits t law now c want k row (Gives run) (polls.gives run) is []
       (nothing_goes limits t law now c want k row (Gives run) (polls.gives run) is refl)

@@ -76,7 +76,8 @@ module _ (t : Tables) (want c : ℕ) (k : Consumer) (run : Run) where
   until = hi_of t k.place
 
   data Comes : Type 0 where
-    stored : (end : ℕ) → is_at_end until (offset t k) ≡ false → option_map end_of (stored_ahead t k want) ≡ Some end → stored_ahead t k (cut_at until end - offset t k) ≡ Some run → Comes
+    stored : (end : ℕ) → is_at_end until (offset t k) ≡ false → option_map end_of (stored_ahead t k want) ≡ Some end →
+        stored_ahead t k (cut_at until end - offset t k) ≡ Some run → Comes
     held_back : is_at_end until (offset t k) ≡ false → run_held_for t c k (most t want k) ≡ Some run → Comes
 
   gives_is : (o : Option Run) → gives o ≡ Gives run → o ≡ Some run
@@ -108,11 +109,13 @@ module _ (t : Tables) (want c : ℕ) (k : Consumer) (run : Run) where
   by_due None is = by_source view.source is
   by_due (Some cause) is = let never : Fails cause ≡ Gives run = is in cc
 
-  by_held : (b : Bool) → is_at_end until (offset t k) ≡ false → step_move t want c k (held_or b (fails_or view.due (waits_or view.source (opens view)))) ≡ Gives run → Comes
+  by_held : (b : Bool) → is_at_end until (offset t k) ≡ false →
+      step_move t want c k (held_or b (fails_or view.due (waits_or view.source (opens view)))) ≡ Gives run → Comes
   by_held true before is = held_back before (gives_is _ is)
   by_held false before is = absurd (by_due view.due is)
 
-  by_stored : (o : Option ℕ) → option_map end_of (stored_ahead t k want) ≡ o → is_at_end until (offset t k) ≡ false → step_move t want c k (stored_or until o (held_or view.held (fails_or view.due (waits_or view.source (opens view))))) ≡ Gives run → Comes
+  by_stored : (o : Option ℕ) → option_map end_of (stored_ahead t k want) ≡ o → is_at_end until (offset t k) ≡ false →
+      step_move t want c k (stored_or until o (held_or view.held (fails_or view.due (waits_or view.source (opens view))))) ≡ Gives run → Comes
   by_stored None row before is = by_held view.held before is
   by_stored (Some end) row before is = stored end before row (gives_is _ is)
 
@@ -136,11 +139,13 @@ module _ (t : Tables) (want c : ℕ) (k : Consumer) (run : Run) where
   bound_reads p r is = grind (arith, nat_tests)
 
   -- a stretch of a body
-  delivers_of : (r p n : ℕ) (v : Representation) (f : Cells) → t.representation r ≡ Some v → IsStretch f p n run → ((q : ℕ) → is_some (f q) ≡ true → f q ≡ v.body q) → Delivers t r run.at run.x run.bytes
+  delivers_of : (r p n : ℕ) (v : Representation) (f : Cells) → t.representation r ≡ Some v → IsStretch f p n run →
+      ((q : ℕ) → is_some (f q) ≡ true → f q ≡ v.body q) → Delivers t r run.at run.x run.bytes
   delivers_of r p n v f row s same i lt = grind (arith, nat_tests)
 
   -- up to the end, where that isn't there yet
-  within_by : (o : Option ℕ) (m p : ℕ) → run.at ≡ p → is_at_end o p ≡ false → length run.bytes ≤ cut_at o m - p → IfSome o (λ hi. run.at + length run.bytes ≤ hi)
+  within_by : (o : Option ℕ) (m p : ℕ) → run.at ≡ p → is_at_end o p ≡ false → length run.bytes ≤ cut_at o m - p →
+      IfSome o (λ hi. run.at + length run.bytes ≤ hi)
   within_by o m p at before few = grind (arith, nat_tests)
 
   -- STORED
@@ -152,7 +157,8 @@ module _ (t : Tables) (want c : ℕ) (k : Consumer) (run : Run) where
     row : t.representation r ≡ Some v
     is : stretch_to v.stored v.reach (offset t k) n ≡ Some z
 
-  from_row : (n : ℕ) (z : Run) (r : ℕ) (o : Option Representation) → bound_to k.place ≡ Some r → t.representation r ≡ o → option_and_then (stored_from (offset t k) n) o ≡ Some z → IsFrom n z
+  from_row : (n : ℕ) (z : Run) (r : ℕ) (o : Option Representation) → bound_to k.place ≡ Some r → t.representation r ≡ o → option_and_then
+      (stored_from (offset t k) n) o ≡ Some z → IsFrom n z
   from_row n z r None to row is = absurd (none_some z is)
   from_row n z r (Some v) to row is = record { r = r; v = v; to = to; row = row; is = is }
 
@@ -175,7 +181,8 @@ module _ (t : Tables) (want c : ℕ) (k : Consumer) (run : Run) where
       let sum : z.at + length z.bytes ≡ end = same in
       omega arith
 
-  stored_given : Sound t → 0 < want → (end : ℕ) → is_at_end until (offset t k) ≡ false → option_map end_of (stored_ahead t k want) ≡ Some end → stored_ahead t k (cut_at until end - offset t k) ≡ Some run → (r : ℕ) × IsGiven r
+  stored_given : Sound t → 0 < want → (end : ℕ) → is_at_end until (offset t k) ≡ false → option_map end_of (stored_ahead t k want) ≡ Some end →
+      stored_ahead t k (cut_at until end - offset t k) ≡ Some run → (r : ℕ) × IsGiven r
   stored_given s many end before ends is =
       let n = cut_at until end - offset t k in
       let f = stored_is n run is in
@@ -198,33 +205,42 @@ module _ (t : Tables) (want c : ℕ) (k : Consumer) (run : Run) where
   is_run x o [] is = absurd (none_some run is)
   is_run x o (b ∷ bytes) is = (omega arith, some_inj _ run is)
 
-  answer_there : (x p : ℕ) (w : Exchange) → base w ≤ p → p < exchanges.front w → answer_cell x p w ≡ Some (record { byte = slice_index w.body (p - base w); x = x })
+  answer_there : (x p : ℕ) (w : Exchange) → base w ≤ p → p < exchanges.front w →
+      answer_cell x p w ≡ Some (record { byte = slice_index w.body (p - base w); x = x })
   answer_there x p w from below = grind (arith, nat_tests)
 
   min_right : (a b : ℕ) → min a b ≤ b
   min_right a b = omega arith
 
-  held_answer : (x o n : ℕ) (w : Exchange) → base w ≤ o → t.exchange x ≡ Some w → t.representation x ≡ None → run_of x o (take n (drop (o - base w) w.body)) ≡ Some run → Delivers t x run.at run.x run.bytes × (run.at ≡ o) × (0 < length run.bytes) × (length run.bytes ≤ n)
+  held_answer : (x o n : ℕ) (w : Exchange) → base w ≤ o → t.exchange x ≡ Some w → t.representation x ≡ None →
+      run_of x o (take n (drop (o - base w) w.body)) ≡ Some run → Delivers t x run.at run.x run.bytes × (run.at ≡ o) × (0 < length run.bytes) ×
+      (length run.bytes ≤ n)
   held_answer x o n w from row apart is =
       let bytes = take n (drop (o - base w) w.body) in
       let got = is_run x o bytes is in
       let count : length bytes ≡ min n (length (drop (o - base w) w.body)) = length-take n (drop (o - base w) w.body) in
       let rest : length (drop (o - base w) w.body) ≡ length w.body - (o - base w) = length-drop (o - base w) w.body in
       let few : length bytes ≤ n = (let le : min n (length (drop (o - base w) w.body)) ≤ n = min-le_left n _ in omega arith) in
-      let inside : length bytes ≤ length w.body - (o - base w) = (let le : min n (length (drop (o - base w) w.body)) ≤ length (drop (o - base w) w.body) = min_right n _ in omega arith) in
+      let inside : length bytes ≤ length w.body - (o - base w) =
+      (let le : min n (length (drop (o - base w) w.body)) ≤ length (drop (o - base w) w.body) = min_right n _ in omega arith) in
       let delivers : Delivers t x o x bytes = (λ i lt. each bytes refl count inside few i lt) in
       subst (λ (z : Run). Delivers t x z.at z.x z.bytes × (z.at ≡ o) × (0 < length z.bytes) × (length z.bytes ≤ n)) got.1 (delivers, refl, got.0, few)
     where
-      each : (bytes : List ℕ) → bytes ≡ take n (drop (o - base w) w.body) → length bytes ≡ min n (length (drop (o - base w) w.body)) → length bytes ≤ length w.body - (o - base w) → length bytes ≤ n → (i : ℕ) → i < length bytes → body_of t x (o + i) ≡ Some (record { byte = slice_index bytes i; x = x })
+      each : (bytes : List ℕ) → bytes ≡ take n (drop (o - base w) w.body) → length bytes ≡ min n (length (drop (o - base w) w.body)) →
+          length bytes ≤ length w.body - (o - base w) → length bytes ≤ n → (i : ℕ) → i < length bytes →
+          body_of t x (o + i) ≡ Some (record { byte = slice_index bytes i; x = x })
       each bytes bytes_is count inside few i lt =
           let in_n : i < n = omega arith in
-          let cell : answer_cell x (o + i) w ≡ Some (record { byte = slice_index w.body (o + i - base w); x = x }) = answer_there x (o + i) w (omega arith) (omega arith) in
+          let cell : answer_cell x (o + i) w ≡ Some (record { byte = slice_index w.body (o + i - base w); x = x }) =
+          answer_there x (o + i) w (omega arith) (omega arith) in
           let place : o + i - base w ≡ (o - base w) + i = omega arith in
-          let byte : slice_index bytes i ≡ slice_index w.body ((o - base w) + i) = ap (λ (z : List ℕ). slice_index z i) bytes_is ∙ (get_or-take n (drop (o - base w) w.body) i 0 in_n ∙ get_or-drop (o - base w) w.body i 0) in
+          let byte : slice_index bytes i ≡ slice_index w.body ((o - base w) + i) = ap (λ (z : List ℕ). slice_index z i) bytes_is ∙
+          (get_or-take n (drop (o - base w) w.body) i 0 in_n ∙ get_or-drop (o - base w) w.body i 0) in
           let is_byte : slice_index w.body (o + i - base w) ≡ slice_index bytes i = ap (slice_index w.body) place ∙ sym byte in
           ap (cell_by t x (o + i)) apart ∙ (ap (direct_cell x (o + i)) row ∙ (cell ∙ ap (λ b. Some (record { byte = b; x = x })) is_byte))
 
-  held_direct : (x : ℕ) (q : Option Exchange) → k.place ≡ place.Direct x → t.exchange x ≡ q → t.representation x ≡ None → is_at_end until (offset t k) ≡ false → held_of_exchange x (offset t k) (most t want k) q ≡ Some run → (r : ℕ) × IsGiven r
+  held_direct : (x : ℕ) (q : Option Exchange) → k.place ≡ place.Direct x → t.exchange x ≡ q → t.representation x ≡ None →
+      is_at_end until (offset t k) ≡ false → held_of_exchange x (offset t k) (most t want k) q ≡ Some run → (r : ℕ) × IsGiven r
   held_direct x None at row apart before is = absurd (none_some run is)
   held_direct x (Some w) at row apart before is =
       let lo : lo_of t k.place ≡ base w = ap (lo_of t) at ∙ ap Rattle.hc_model.specs.Reading.base_in row in
@@ -242,7 +258,8 @@ module _ (t : Tables) (want c : ℕ) (k : Consumer) (run : Run) where
   lost_is : (b : Bool) (o : Option Run) → cond b o None ≡ Some run → o ≡ Some run
   lost_is b o is = grind (arith, nat_tests)
 
-  held_lost : Sound t → 0 < want → (r : ℕ) (q : Option Representation) → bound_to k.place ≡ Some r → t.representation r ≡ q → is_at_end until (offset t k) ≡ false → held_of_lost c (offset t k) (most t want k) q ≡ Some run → (r : ℕ) × IsGiven r
+  held_lost : Sound t → 0 < want → (r : ℕ) (q : Option Representation) → bound_to k.place ≡ Some r → t.representation r ≡ q →
+      is_at_end until (offset t k) ≡ false → held_of_lost c (offset t k) (most t want k) q ≡ Some run → (r : ℕ) × IsGiven r
   held_lost s many r None at row before is = absurd (none_some run is)
   held_lost s many r (Some v) at row before is =
       let store : IsStored v = (s.rows r v row).store in
@@ -252,7 +269,8 @@ module _ (t : Tables) (want c : ℕ) (k : Consumer) (run : Run) where
         record {
           number = bound_reads k.place r at;
           at_is = all.at_is;
-          some = some_of v.body v.reach (offset t k) (most t want k) run here store.ends (some_ahead until (offset t k + want) (offset t k) before (omega arith));
+          some = some_of v.body v.reach (offset t k) (most t want k) run here store.ends
+              (some_ahead until (offset t k + want) (offset t k) before (omega arith));
           delivered = delivers_of r (offset t k) (most t want k) v v.body row all (λ q there. refl);
           within = within_by until (offset t k + want) (offset t k) all.at_is before all.few;
         },

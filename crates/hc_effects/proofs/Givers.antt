@@ -16,7 +16,8 @@ module _ (t : Tables) (c : ℕ) where
   some_want zero ev goes at = absurd (zero_refused (sym (ap (denial t) at) ∙ goes))
   some_want (suc n) ev goes at = omega arith
 
-pub gives_of : (t : Tables) (now c want : ℕ) (k : Consumer) (run : Run) (m : Move) → MoveBy t now want c k m → m ≡ Gives run → k.shown ≡ true → reading t want c k ≡ Gives run
+pub gives_of : (t : Tables) (now c want : ℕ) (k : Consumer) (run : Run) (m : Move) → MoveBy t now want c k m → m ≡ Gives run → k.shown ≡ true →
+    reading t want c k ≡ Gives run
 gives_of t now c want k run m (by_move.shows _ unshown at) is on = absurd (false_true (sym unshown ∙ on))
 gives_of t now c want k run _ (by_move.waits x own bare) is on = absurd (let no : moves.Waits (wait.Head x) ≡ Gives run = is in cc)
 gives_of t now c want k run _ (by_move.down why_down at) is on = absurd (let no : Fails why_down ≡ Gives run = is in cc)

@@ -59,10 +59,12 @@ module _ (weight : ℕ → ℕ) (most : ℕ) where
   joined [] gone r = refl
   joined (q ∷ done) gone r = ap (λ ys. q ∷ ys) (joined done gone r)
 
-  went_then : (sum : ℕ) (xs done left gone : List ℕ) (rest : ℕ) → Went sum xs done left rest → GivesWay weight most rest left gone → GivesWay weight most sum xs (done ++ gone)
+  went_then : (sum : ℕ) (xs done left gone : List ℕ) (rest : ℕ) → Went sum xs done left rest → GivesWay weight most rest left gone →
+      GivesWay weight most sum xs (done ++ gone)
   went_then sum xs _ _ gone _ begins gives = gives
   went_then sum xs _ _ gone _ (more r rest done left past went) gives =
-      subst (GivesWay weight most sum xs) (sym (joined done gone r)) (went_then sum xs done (r ∷ left) (r ∷ gone) rest went (evictions.goes rest r left gone past gives))
+      subst (GivesWay weight most sum xs) (sym (joined done gone r))
+      (went_then sum xs done (r ∷ left) (r ∷ gone) rest went (evictions.goes rest r left gone past gives))
 
   nothing_more : (done : List ℕ) → done ++ [] ≡ done
   nothing_more [] = refl
@@ -82,7 +84,9 @@ module _ (limits : Limits) (t : Tables) (now : ℕ) (event : Event) where
   unfolding room_for
   room_is w is = ap (room_by limits t e) is
 
-  small_room : (w : Write) (z : Option ℕ) → is_too_large limits w ≡ false → gives_way limits.max_total (weights t e + grown_by w) (map (weight t e) (idle t e)) ≡ z → room_of limits (weights t e) w (map (weight t e) (idle t e)) ≡ rooms.room_by z
+  small_room : (w : Write) (z : Option ℕ) → is_too_large limits w ≡ false →
+      gives_way limits.max_total (weights t e + grown_by w) (map (weight t e) (idle t e)) ≡ z →
+      room_of limits (weights t e) w (map (weight t e) (idle t e)) ≡ rooms.room_by z
   unfolding room_of
   small_room w z small gives = rw small (ap rooms.room_by gives)
 
@@ -101,13 +105,15 @@ pub makes_room : MakesRoom
 makes_room limits t now event w gone is small gives =
     let e = entry_without_acts now event in
     let sum = weights t e + grown_by w in
-    let room_now : room_for limits t now event ≡ room.After (length gone) = room_is limits t now event w is ∙ small_room limits t now event w (Some (length gone)) small (counts (weight t e) limits.max_total sum (idle t e) gone gives) in
+    let room_now : room_for limits t now event ≡ room.After (length gone) = room_is limits t now event w is ∙
+    small_room limits t now event w (Some (length gone)) small (counts (weight t e) limits.max_total sum (idle t e) gone gives) in
     (room_now, ap (first_idle t e) room_now ∙ takes (weight t e) limits.max_total sum (idle t e) gone gives)
 
 pub has_no_room : HasNoRoom
 has_no_room limits t now event w is small past =
     let e = entry_without_acts now event in
-    let room_now : room_for limits t now event ≡ room.Full = room_is limits t now event w is ∙ small_room limits t now event w None small (never (weight t e) limits.max_total (weights t e + grown_by w) (idle t e) past) in
+    let room_now : room_for limits t now event ≡ room.Full = room_is limits t now event w is ∙
+    small_room limits t now event w None small (never (weight t e) limits.max_total (weights t e + grown_by w) (idle t e) past) in
     (room_now, ap (first_idle t e) room_now)
 
 pub has_too_large : HasTooLarge

@@ -21,10 +21,12 @@ module _ (step : Step) (m : Measures step.tables) where
   now_on = after_accepted t e
 
   -- an end tells a length that wasn't known
-  pub ended_total : (r : ℕ) (v p : Representation) → IsKept t e r v p → ev ≡ event.End r → p.head.total ≡ option_or v.head.total (Some (length_in (t.exchange r)))
+  pub ended_total : (r : ℕ) (v p : Representation) → IsKept t e r v p → ev ≡ event.End r →
+      p.head.total ≡ option_or v.head.total (Some (length_in (t.exchange r)))
   ended_total r v p kept here = grind (arith, nat_tests)
 
-  module _ (r x : ℕ) (v p : Representation) (w : Exchange) (there : t.representation r ≡ Some v) (on : is_written t v ≡ true) (writer : v.writer ≡ Some x) (kept : IsKept t e r v p) (g : IsGrowing t r v x w) (was_open : w.is_open ≡ true) where
+  module _ (r x : ℕ) (v p : Representation) (w : Exchange) (there : t.representation r ≡ Some v) (on : is_written t v ≡ true) (writer : v.writer ≡ Some x)
+      (kept : IsKept t e r v p) (g : IsGrowing t r v x w) (was_open : w.is_open ≡ true) where
     pub refused_not : (z : Event) → ev ≡ z → brings_head x z ≡ true → ⊥
     refused_not (event.Head y response) here h =
         let test : nat_eq y x ≡ true = h in
@@ -34,7 +36,8 @@ module _ (step : Step) (m : Measures step.tables) where
     refused_not _ here h = false_true h
 
     -- it isn't closed, doesn't fault, and has brought all that it promised
-    module _ (calm : (loses_in r e.acts ≡ false) ⊎ (brings_body ev ≡ false)) (unclosed : closes_in x e.acts ≡ true → ⊥) (unfaulted : ev ≡ event.Fault x → ⊥) (enough : ev ≡ event.End x → (n : ℕ) → promised_bytes w ≡ Some n → n ≤ length w.body) where
+    module _ (calm : (loses_in r e.acts ≡ false) ⊎ (brings_body ev ≡ false)) (unclosed : closes_in x e.acts ≡ true → ⊥)
+        (unfaulted : ev ≡ event.Fault x → ⊥) (enough : ev ≡ event.End x → (n : ℕ) → promised_bytes w ≡ Some n → n ≤ length w.body) where
       still_open : (exchange_heard t e x ev w).is_open ≡ true → is_open (now_on.exchange x) ≡ true
       still_open heard = ap is_open (after_is t e x w (t.exchange x) g.row) ∙ by_test (closes_in x e.acts) refl
         where
@@ -71,7 +74,8 @@ module _ (step : Step) (m : Measures step.tables) where
           by_promise q is = grind (arith, nat_tests)
 
       goes_on : (z : Event) → ev ≡ z → exchange_heard t e x z w ≡ w → is_open (now_on.exchange x) ≡ false → IsAll p
-      goes_on z here same off = absurd (false_true (sym off ∙ still_open (ap (λ a. (exchange_heard t e x a w).is_open) here ∙ (ap (λ (q : Exchange). q.is_open) same ∙ was_open))))
+      goes_on z here same off =
+          absurd (false_true (sym off ∙ still_open (ap (λ a. (exchange_heard t e x a w).is_open) here ∙ (ap (λ (q : Exchange). q.is_open) same ∙ was_open))))
 
       pub ends_all : (z : Event) → ev ≡ z → is_open (now_on.exchange x) ≡ false → IsAll p
       ends_all (event.Head y response) here off = elim (eq_cases y x) [

@@ -79,9 +79,11 @@ module _ (step : Step) (stand : may_stand step.limits step.tables (entry_of step
 
   -- WHO DOESN'T LEAVE
 
-  stays_by : (r c : ℕ) (k : Consumer) (v : Representation) → IsBound t r c k → t.representation r ≡ Some v → is_written t v ≡ true → (leaver b ≡ Some c → ⊥) → (u : Consumer) × IsBound now_on r c u
+  stays_by : (r c : ℕ) (k : Consumer) (v : Representation) → IsBound t r c k → t.representation r ≡ Some v → is_written t v ≡ true →
+      (leaver b ≡ Some c → ⊥) → (u : Consumer) × IsBound now_on r c u
   stays_by r c k v (sound.is_bound lo hi how row at) there on stays =
-      member_stays step c r lo hi how k v row at there on (λ here. stays (ap (λ z. leaver_by z b.acts) here)) (not_so (leaves_in c e.acts) (λ leaves. stays (leaves_leaver limits t now flaw s ev c leaves)))
+      member_stays step c r lo hi how k v row at there on (λ here. stays (ap (λ z. leaver_by z b.acts) here))
+      (not_so (leaves_in c e.acts) (λ leaves. stays (leaves_leaver limits t now flaw s ev c leaves)))
 
   -- THE LAST READER CLOSES IT
 
@@ -98,19 +100,23 @@ module _ (step : Step) (stand : may_stand step.limits step.tables (entry_of step
       let off : not (closes_in x e.acts) ≡ true = and_left _ _ acted in
       false_true (sym (ap not shut) ∙ off)
 
-  shared_is : (r l x : ℕ) (k : Consumer) (v : Representation) → IsBound t r l k → t.representation r ≡ Some v → is_written t v ≡ true → v.writer ≡ Some x → list_all (λ d. d == l) (bound t r) ≡ true → is_left_by t x l (Some k) ≡ true
+  shared_is : (r l x : ℕ) (k : Consumer) (v : Representation) → IsBound t r l k → t.representation r ≡ Some v → is_written t v ≡ true →
+      v.writer ≡ Some x → list_all (λ d. d == l) (bound t r) ≡ true → is_left_by t x l (Some k) ≡ true
   shared_is r l x k v it5 there on writer all = grind (arith, nat_tests)
 
-  last_closes : (r l x : ℕ) (k : Consumer) (v : Representation) → leaver b ≡ Some l → IsBound t r l k → t.representation r ≡ Some v → is_written t v ≡ true → v.writer ≡ Some x → list_all (λ d. d == l) (bound t r) ≡ true → is_open (now_on.exchange x) ≡ true → ⊥
+  last_closes : (r l x : ℕ) (k : Consumer) (v : Representation) → leaver b ≡ Some l → IsBound t r l k → t.representation r ≡ Some v →
+      is_written t v ≡ true → v.writer ≡ Some x → list_all (λ d. d == l) (bound t r) ≡ true → is_open (now_on.exchange x) ≡ true → ⊥
   last_closes r l x k v leaves reader there on writer all open_now =
       let grows = (s.rows r v there).growing x on writer in
-      let left : is_left t x (leaver b) ≡ true = ap (is_left t x) leaves ∙ (ap (is_left_by t x l) (row_of reader) ∙ shared_is r l x k v reader there on writer all) in
+      let left : is_left t x (leaver b) ≡ true = ap (is_left t x) leaves ∙
+      (ap (is_left_by t x l) (row_of reader) ∙ shared_is r l x k v reader there on writer all) in
       not_must x grows.0 (grows.1).row open_now (or_right _ _ left)
     where
       row_of : IsBound t r l k → t.consumer l ≡ Some k
       row_of (sound.is_bound lo hi how row at) = row
 
-  by_leaver : (r x : ℕ) (v : Representation) (z : Option ℕ) → leaver b ≡ z → t.representation r ≡ Some v → is_written t v ≡ true → v.writer ≡ Some x → is_open (now_on.exchange x) ≡ true → bound now_on r ≢ []
+  by_leaver : (r x : ℕ) (v : Representation) (z : Option ℕ) → leaver b ≡ z → t.representation r ≡ Some v → is_written t v ≡ true → v.writer ≡ Some x →
+      is_open (now_on.exchange x) ≡ true → bound now_on r ≢ []
   by_leaver r x v None leaves there on writer open_now =
       let one = some_among (bound t r) (s.writes.has_bound r v there on) in
       let reader = reader_of t r one.0 one.1 in
@@ -131,13 +137,18 @@ module _ (step : Step) (stand : may_stand step.limits step.tables (entry_of step
   -- BY A HEAD
 
   head_leaves : (c x : ℕ) (response : Response) → ev ≡ event.Head x response → leaves_in c e.acts ≡ false
-  head_leaves c x response here = not_so (leaves_in c e.acts) (λ leaves. let by_poll = leaving_by limits t now flaw s ev goes c leaves in let no : event.Head x response ≡ event.Poll c by_poll.want = sym here ∙ by_poll.poll.at in cc)
+  head_leaves c x response here =
+      not_so (leaves_in c e.acts)
+      (λ leaves. let by_poll = leaving_by limits t now flaw s ev goes c leaves in let no : event.Head x response ≡ event.Poll c by_poll.want = sym here ∙
+      by_poll.poll.at in cc)
 
-  head_place : (c x : ℕ) (response : Response) (w : Exchange) (k : Consumer) (z : Option Exchange) → z ≡ Some w → w.c ≡ c → (by_head t e c x response z k).place ≡ place_by_case x response w k (case_at t e)
+  head_place : (c x : ℕ) (response : Response) (w : Exchange) (k : Consumer) (z : Option Exchange) → z ≡ Some w → w.c ≡ c →
+      (by_head t e c x response z k).place ≡ place_by_case x response w k (case_at t e)
   head_place c x response w k z is mine = grind (arith, nat_tests)
 
   -- a head that binds its consumer, or leaves it bound: it dooms nothing, and sends nobody back
-  binding : (g : Option HeadCase) → ((is_founding g || is_joining g) ≡ true) → (w : Exchange) (response : Response) → (doomed_by_case g w response ≡ None) × (sends_back g ≡ false)
+  binding : (g : Option HeadCase) → ((is_founding g || is_joining g) ≡ true) → (w : Exchange) (response : Response) →
+      (doomed_by_case g w response ≡ None) × (sends_back g ≡ false)
   binding None h w response = absurd (false_true h)
   binding (Some case.FoundsWhole) h w response = (refl, refl)
   binding (Some case.FoundsRange) h w response = (refl, refl)
@@ -158,28 +169,36 @@ module _ (step : Step) (stand : may_stand step.limits step.tables (entry_of step
   binding (Some case.LaterBad) h w response = absurd (false_true h)
   binding (Some case.LaterChanged) h w response = absurd (false_true h)
 
-  module _ (c x : ℕ) (response : Response) (w : Exchange) (k : Consumer) (is : IsWaiter t c x k w) (here : ev ≡ event.Head x response) (binds : (is_founding (case_at t e) || is_joining (case_at t e)) ≡ true) where
+  module _ (c x : ℕ) (response : Response) (w : Exchange) (k : Consumer) (is : IsWaiter t c x k w) (here : ev ≡ event.Head x response)
+      (binds : (is_founding (case_at t e) || is_joining (case_at t e)) ≡ true) where
     doomed_none : doomed_key_of t e ≡ None
     unfolding doomed_key_of
     doomed_none = ap (doomed_in t e) here ∙ (ap (doomed_by_head t e response) is.exchange_row ∙ (binding (case_at t e) binds w response).0)
 
     pub stays_on : starts_over t e c k ≡ false
-    stays_on = stays_unless t e c k (awaiting_keeps t e c x w k.place is.at) (λ doom waits. false_true (sym (ap (λ z. is_key z k.request.key) doomed_none) ∙ doom)) (λ back mine. false_true (sym (binding (case_at t e) binds w response).1 ∙ back))
+    stays_on = stays_unless t e c k (awaiting_keeps t e c x w k.place is.at)
+        (λ doom waits. false_true (sym (ap (λ z. is_key z k.request.key) doomed_none) ∙ doom))
+        (λ back mine. false_true (sym (binding (case_at t e) binds w response).1 ∙ back))
 
     -- its consumer stands where the head puts it
     pub head_stands : (u : Consumer) × (now_on.consumer c ≡ Some u) × (u.place ≡ place_by_case x response w k (case_at t e))
     head_stands =
         let on = is_kept t e c k is.row in
-        let made : due_after t e c k (consumer_acted t e c (consumer_heard t e c ev k)) ≡ on.u = sym (settled t e c k (consumer_acted t e c (consumer_heard t e c ev k)) stays_on) ∙ on.is in
-        let placed = heard_place step c 0 0 None by.Plan k on.u (λ d want polls. let no : event.Head x response ≡ event.Poll d want = sym here ∙ polls in cc) (record { row = is.row; stays = stays_on; leaves = head_leaves c x response here; is = made }) in
+        let made : due_after t e c k (consumer_acted t e c (consumer_heard t e c ev k)) ≡ on.u =
+        sym (settled t e c k (consumer_acted t e c (consumer_heard t e c ev k)) stays_on) ∙ on.is in
+        let placed = heard_place step c 0 0 None by.Plan k on.u
+        (λ d want polls. let no : event.Head x response ≡ event.Poll d want = sym here ∙ polls in cc)
+        (record { row = is.row; stays = stays_on; leaves = head_leaves c x response here; is = made }) in
         (on.u, on.row, placed ∙ (ap (λ v. (consumer_heard t e c v k).place) here ∙ head_place c x response w k (t.exchange x) is.exchange_row is.for_it))
 
-  pub joins_way : (t : Tables) (lost : Bool) (w : Exchange) (response : Response) (g : HeadCase) → CaseBy (head_view t lost w response) g → is_joining (Some g) ≡ true → route_of w.need ≡ route.Hole
+  pub joins_way : (t : Tables) (lost : Bool) (w : Exchange) (response : Response) (g : HeadCase) → CaseBy (head_view t lost w response) g →
+      is_joining (Some g) ≡ true → route_of w.need ≡ route.Hole
   joins_way t lost w response _ (cases.first_joins way shown joins good) on = way
   joins_way t lost w response _ (cases.later_joins way shown joins good) on = way
   joins_way t lost w response _ _ on = absurd (false_true on)
 
-  pub joins_place : (x : ℕ) (response : Response) (w : Exchange) (k : Consumer) (g : Option HeadCase) → is_joining g ≡ true → place_by_case x response w k g ≡ k.place
+  pub joins_place : (x : ℕ) (response : Response) (w : Exchange) (k : Consumer) (g : Option HeadCase) → is_joining g ≡ true →
+      place_by_case x response w k g ≡ k.place
   joins_place x response w k None h = absurd (false_true h)
   joins_place x response w k (Some case.FirstJoins) h = refl
   joins_place x response w k (Some case.LaterJoins) h = refl
@@ -201,7 +220,8 @@ module _ (step : Step) (stand : may_stand step.limits step.tables (entry_of step
   joins_place x response w k (Some case.LaterChanged) h = absurd (false_true h)
 
   -- the consumer of a head that joins reads what it joins
-  pub awaiting_bound : (x r : ℕ) (w : Exchange) (p : Place) → route_of w.need ≡ route.Hole → w.aim ≡ Some r → IsAwaiting x w p → (lo : ℕ) × (hi : Option ℕ) × (how : BoundBy) × (p ≡ place.Bound r lo hi how)
+  pub awaiting_bound : (x r : ℕ) (w : Exchange) (p : Place) → route_of w.need ≡ route.Hole → w.aim ≡ Some r → IsAwaiting x w p → (lo : ℕ) ×
+      (hi : Option ℕ) × (how : BoundBy) × (p ≡ place.Bound r lo hi how)
   awaiting_bound x r w p hole aim it6 = grind (arith, nat_tests)
 
   by_resumed : (r : ℕ) (v : Representation) (z : Option ℕ) → (R : IsResumed t e r v z) → bound now_on r ≢ []
@@ -210,14 +230,16 @@ module _ (step : Step) (stand : may_stand step.limits step.tables (entry_of step
       let got = waiter_of step R.x R.w R.row new.is_open new.bare in
       let g = head_case (head_view t (has_loss e.acts) R.w R.response) in
       let is_case = case_is t e R.x R.response R.w R.at R.row in
-      let hole : route_of R.w.need ≡ route.Hole = joins_way t (has_loss e.acts) R.w R.response g (case_by (head_view t (has_loss e.acts) R.w R.response)) (sym (ap is_joining is_case) ∙ R.joins) in
+      let hole : route_of R.w.need ≡ route.Hole =
+      joins_way t (has_loss e.acts) R.w R.response g (case_by (head_view t (has_loss e.acts) R.w R.response)) (sym (ap is_joining is_case) ∙ R.joins) in
       let aim : R.w.aim ≡ Some r = number_is R.w.aim r (and_right _ (is_number R.w.aim r) (and_left _ _ R.renews)) in
       let at = awaiting_bound R.x r R.w got.0.place hole aim got.1.at in
       let st = head_stands R.w.c R.x R.response R.w got.0 got.1 R.at (or_right _ _ R.joins) in
       read_by r R.w.c (st.0, sound.is_bound at.0 at.1 at.2 st.1 (st.2 ∙ (joins_place R.x R.response R.w got.0 (case_at t e) R.joins ∙ at.3)))
 
   -- and that of one that founds with all of a body reads what it founds
-  founds_place : (r x : ℕ) (response : Response) (w : Exchange) (k : Consumer) (g : Option HeadCase) → becomes_shared t e response w g ≡ true → is_founding g ≡ true → place_by_case x response w k g ≡ place.Bound x 0 (promise_in w response) by.Founding
+  founds_place : (r x : ℕ) (response : Response) (w : Exchange) (k : Consumer) (g : Option HeadCase) → becomes_shared t e response w g ≡ true →
+      is_founding g ≡ true → place_by_case x response w k g ≡ place.Bound x 0 (promise_in w response) by.Founding
   founds_place r x response w k None shared_exchange on = absurd (false_true on)
   founds_place r x response w k (Some case.FoundsWhole) shared_exchange on = refl
   founds_place r x response w k (Some case.FirstReplaced) shared_exchange on = refl
@@ -238,13 +260,18 @@ module _ (step : Step) (stand : may_stand step.limits step.tables (entry_of step
   founds_place r x response w k (Some case.LaterBad) shared_exchange on = absurd (false_true on)
   founds_place r x response w k (Some case.LaterChanged) shared_exchange on = absurd (false_true on)
 
-  by_founded : (r x : ℕ) (response : Response) (w : Exchange) → ev ≡ event.Head r response → t.exchange r ≡ Some w → is_founding (case_at t e) ≡ true → writer_at r response ≡ Some x → bound now_on r ≢ []
+  by_founded : (r x : ℕ) (response : Response) (w : Exchange) → ev ≡ event.Head r response → t.exchange r ≡ Some w → is_founding (case_at t e) ≡ true →
+      writer_at r response ≡ Some x → bound now_on r ≢ []
   by_founded r x response w here row on writer =
       let new = is_new limits t now flaw s ev goes r response w here row in
       let got = waiter_of step r w row new.is_open new.bare in
       let shared_exchange = founded_shared step stand r x response w (case_at t e) here row refl on writer in
       let st = head_stands w.c r response w got.0 got.1 here (or_left _ _ on) in
-      read_by r w.c (st.0, sound.is_bound 0 (promise_in w response) by.Founding st.1 (st.2 ∙ founds_place r r response w got.0 (case_at t e) shared_exchange on))
+      read_by r w.c (
+        st.0,
+        sound.is_bound 0 (promise_in w response) by.Founding st.1
+            (st.2 ∙ founds_place r r response w got.0 (case_at t e) shared_exchange on),
+      )
 
   reader_from : (r x : ℕ) (v : Representation) → is_written now_on v ≡ true → v.writer ≡ Some x → RepFrom t e r v → bound now_on r ≢ []
   reader_from r x v on writer (rep.was q kept) = elim kept.writer_is [

@@ -29,7 +29,8 @@ module _ (t : Tables) (now x : ℕ) (response : Response) (es : List ℕ) (flaw 
   asks_none y = (asks_evicted y 0 es (loss_acts flaw ++ map act.Close xs)).asks ∙ ((asks_lost y 0 flaw (map act.Close xs)).asks ∙ (asks_closes y 0 xs).asks)
 
   misreads_none : (r : ℕ) → misreads_in r acts ≡ false
-  misreads_none r = (asks_evicted 0 r es (loss_acts flaw ++ map act.Close xs)).misreads ∙ ((asks_lost 0 r flaw (map act.Close xs)).misreads ∙ (asks_closes 0 r xs).misreads)
+  misreads_none r = (asks_evicted 0 r es (loss_acts flaw ++ map act.Close xs)).misreads ∙
+      ((asks_lost 0 r flaw (map act.Close xs)).misreads ∙ (asks_closes 0 r xs).misreads)
 
   closes_as : (y : ℕ) → closes_in y acts ≡ is_in xs y
   closes_as y = closes_evicted y es (loss_acts flaw ++ map act.Close xs) ∙ (closes_lost y flaw (map act.Close xs) ∙ closes_are y xs)
@@ -67,14 +68,22 @@ module _ (t : Tables) (now x : ℕ) (response : Response) (es : List ℕ) (flaw 
     none_left : (b : Bool) → None ≡ (if b then option_map over None else None)
     none_left b = grind (arith, nat_tests)
 
-    exchange_here : (joined : Option ℕ) → joined_at t e w ≡ joined → exchange_after t e x (t.exchange x) ≡ (if is_in xs x then option_map over (Some (exchange_with_head now response joined w)) else Some (exchange_with_head now response joined w))
+    exchange_here : (joined : Option ℕ) → joined_at t e w ≡ joined →
+        exchange_after t e x (t.exchange x) ≡ (if is_in xs x then option_map over (Some (exchange_with_head now response joined w)) else
+        Some (exchange_with_head now response joined w))
     unfolding exchange_after
-    exchange_here joined joins = ap (exchange_after t e x) row ∙ rw (eqb-same x, asks_none x, closes_as x, joins) (by_test (is_in xs x) (exchange_with_head now response joined w))
+    exchange_here joined joins = ap (exchange_after t e x) row ∙
+        rw (eqb-same x, asks_none x, closes_as x, joins) (by_test (is_in xs x) (exchange_with_head now response joined w))
 
-    exchange_by : (joined : Option ℕ) → joined_at t e w ≡ joined → (y : ℕ) → exchange_after t e y (t.exchange y) ≡ (if is_in xs y then option_map over (if x == y then Some (exchange_with_head now response joined w) else t.exchange y) else (if x == y then Some (exchange_with_head now response joined w) else t.exchange y))
+    exchange_by : (joined : Option ℕ) → joined_at t e w ≡ joined → (y : ℕ) →
+        exchange_after t e y (t.exchange y) ≡ (if is_in xs y then
+        option_map over (if x == y then Some (exchange_with_head now response joined w) else t.exchange y) else
+        (if x == y then Some (exchange_with_head now response joined w) else t.exchange y))
     unfolding exchange_after
     exchange_by joined joins y = elim (eq_cases x y) [
-      | inl here ↦ rw here.0 (subst (λ z. exchange_after t e z (t.exchange z) ≡ (if is_in xs z then option_map over (Some (exchange_with_head now response joined w)) else Some (exchange_with_head now response joined w))) here.1 (exchange_here joined joins))
+      | inl here ↦ rw here.0 (subst
+          (λ z. exchange_after t e z (t.exchange z) ≡ (if is_in xs z then option_map over (Some (exchange_with_head now response joined w)) else
+          Some (exchange_with_head now response joined w))) here.1 (exchange_here joined joins))
       | inr other ↦ rw other.0 (by_row (t.exchange y) other.0)
     ]
       where
@@ -97,10 +106,12 @@ module _ (t : Tables) (now x : ℕ) (response : Response) (es : List ℕ) (flaw 
           by_row (Some u) = then_false u.is_open (closes_in r acts) (closes_as r ∙ unclosed)
 
       -- by a doom, by the case of the head, by a loss, or to make room
-      pub goes_as : becomes_gone t e r v ≡ ((is_current t v.key r && is_key (doomed_key_of t e) v.key) || goes_by_case t e r (Some g) w || loses_in r (loss_acts flaw) || is_in es r)
+      pub goes_as : becomes_gone t e r v ≡ ((is_current t v.key r && is_key (doomed_key_of t e) v.key) || goes_by_case t e r (Some g) w || loses_in
+          r (loss_acts flaw) || is_in es r)
       unfolding becomes_gone
       goes_as =
-          rw (opens_none, row, is, loses_as r, misreads_none r, ends_none, evicts_as r) (drop (is_current t v.key r) (is_key (doomed_key_of t e) v.key) (goes_by_case t e r (Some g) w) (loses_in r (loss_acts flaw)) (is_in es r))
+          rw (opens_none, row, is, loses_as r, misreads_none r, ends_none, evicts_as r)
+          (drop (is_current t v.key r) (is_key (doomed_key_of t e) v.key) (goes_by_case t e r (Some g) w) (loses_in r (loss_acts flaw)) (is_in es r))
         where
           drop : (a b d f h : Bool) → ((a && (b || false)) || d || f || false || false || h) ≡ ((a && b) || d || f || h)
           drop a b d f h = ap (λ z. (a && z) || d || f || false || false || h) (or_off b) ∙ two_off ((a && b) || d || f) h
@@ -127,7 +138,8 @@ module _ (t : Tables) (now x : ℕ) (response : Response) (es : List ℕ) (flaw 
       absent_by b = grind (arith, nat_tests)
 
       -- what the head neither founds, updates nor loses stays, or is let go
-      pub row_by : (r : ℕ) → (is_founding (Some g) && nat_eq x r) ≡ false → ((v : Representation) → t.representation r ≡ Some v → (updates t e r w v ≡ false) × (loses_in r (loss_acts flaw) ≡ false))
+      pub row_by : (r : ℕ) → (is_founding (Some g) && nat_eq x r) ≡ false →
+          ((v : Representation) → t.representation r ≡ Some v → (updates t e r w v ≡ false) × (loses_in r (loss_acts flaw) ≡ false))
           → representation_after t e r (t.representation r) ≡ (if is_in rs r then option_map as_gone (t.representation r) else t.representation r)
       row_by r unfounding stays = by_row (t.representation r) refl
         where
@@ -140,8 +152,12 @@ module _ (t : Tables) (now x : ℕ) (response : Response) (es : List ℕ) (flaw 
 
       -- and all but one do
       pub rows_but : (q : ℕ) (z : Option Representation) → representation_after t e q (t.representation q) ≡ (if is_in rs q then option_map as_gone z else z)
-          → ((r : ℕ) → nat_eq q r ≡ false → (is_founding (Some g) && nat_eq x r) ≡ false) → ((r : ℕ) (v : Representation) → nat_eq q r ≡ false → t.representation r ≡ Some v → (updates t e r w v ≡ false) × (loses_in r (loss_acts flaw) ≡ false))
-          → (r : ℕ) → representation_after t e r (t.representation r) ≡ (if is_in rs r then option_map as_gone (if q == r then z else t.representation r) else (if q == r then z else t.representation r))
+          → ((r : ℕ) → nat_eq q r ≡ false → (is_founding (Some g) && nat_eq x r) ≡ false) →
+          ((r : ℕ) (v : Representation) → nat_eq q r ≡ false → t.representation r ≡ Some v → (updates t e r w v ≡ false) ×
+          (loses_in r (loss_acts flaw) ≡ false))
+          → (r : ℕ) → representation_after t e r
+          (t.representation r) ≡ (if is_in rs r then option_map as_gone (if q == r then z else t.representation r) else
+          (if q == r then z else t.representation r))
       rows_but q z here unfounding stays r = elim (eq_cases q r) [
         | inl same ↦ rw same.0 (subst (λ m. representation_after t e m (t.representation m) ≡ (if is_in rs m then option_map as_gone z else z)) same.1 here)
         | inr other ↦ rw other.0 (row_by r (unfounding r other.0) (λ v there. stays r v other.0 there))
@@ -150,7 +166,8 @@ module _ (t : Tables) (now x : ℕ) (response : Response) (es : List ℕ) (flaw 
     module _ (r : ℕ) (v : Representation) (there : t.representation r ≡ Some v) where
       -- what it updates
       pub row_updates : updates t e r w v ≡ true → loses_in r (loss_acts flaw) ≡ false → becomes_gone t e r v ≡ false
-          → representation_after t e r (t.representation r) ≡ Some (record (with_refreshed_head now response w v) { writer = if is_joining (Some g) && resumes t response w v then Some x else v.writer })
+          → representation_after t e r (t.representation r) ≡ Some
+          (record (with_refreshed_head now response w v) { writer = if is_joining (Some g) && resumes t response w v then Some x else v.writer })
       unfolding representation_after
       row_updates on unlost stays =
           ap (representation_after t e r) there
@@ -164,14 +181,16 @@ module _ (t : Tables) (now x : ℕ) (response : Response) (es : List ℕ) (flaw 
       unfolding representation_after
       row_loses alone kept lost_now goes_on goes =
           let loses : loses_in r acts ≡ true = loses_as r ∙ lost_now in
-          let off : updates t e r w v ≡ false = then_false (is_updating (case_at t e) && is_number w.aim r) (not (v.is_lost || loses_in r acts)) (rw (kept, loses) refl) in
+          let off : updates t e r w v ≡ false =
+          then_false (is_updating (case_at t e) && is_number w.aim r) (not (v.is_lost || loses_in r acts)) (rw (kept, loses) refl) in
           let heard_it : representation_heard t e r e.event v ≡ v = rw (row, off) refl in
           ap (representation_after t e r) there
           ∙ (ap (λ (u : Representation). Some (representation_acted t e r v u)) heard_it
           ∙ rw (goes, goes_on, loses, kept) refl)
 
     -- what it founds
-    pub row_founds : t.representation x ≡ None → is_founding (Some g) ≡ true → representation_after t e x (t.representation x) ≡ Some (just_founded now x response w)
+    pub row_founds : t.representation x ≡ None → is_founding (Some g) ≡ true →
+        representation_after t e x (t.representation x) ≡ Some (just_founded now x response w)
     unfolding representation_after
     row_founds none founds = ap (representation_after t e x) none ∙ rw (is, founds, eqb-same x, row) refl
 
@@ -179,16 +198,20 @@ module _ (t : Tables) (now x : ℕ) (response : Response) (es : List ℕ) (flaw 
 
     -- whoever isn't its consumer, and reads no writing that is lost, stays, or starts over by a doom or since what it waits for goes
     pub other_by : (law : Lawful t) (d : ℕ) (k : Consumer) → IsSpared t e k.place → nat_eq w.c d ≡ false → t.consumer d ≡ Some k
-        → consumer_after t e d (Some k) ≡ Some (if (is_key (doomed_key_of t e) k.request.key && waits_at t k.place) || goes_from t e k.place then back_in_line now k else k)
+        → consumer_after t e d (Some k) ≡ Some (if (is_key (doomed_key_of t e) k.request.key && waits_at t k.place) || goes_from t e k.place then
+        back_in_line now k else k)
     other_by law d k spared other there = consumer_apart t e d k (far d) spared (apart d k other) (law.owned.idle_due d k there)
 
-    module _ (law : Lawful t) (rs : List ℕ) (doomless : doomed_key_of t e ≡ None) (goes : (r : ℕ) (v : Representation) → t.representation r ≡ Some v → becomes_gone t e r v ≡ is_in rs r) where
-      pub other_row : (d : ℕ) (k : Consumer) → IsSpared t e k.place → nat_eq w.c d ≡ false → t.consumer d ≡ Some k → consumer_after t e d (Some k) ≡ Some (back_from_any now rs k)
+    module _ (law : Lawful t) (rs : List ℕ) (doomless : doomed_key_of t e ≡ None)
+        (goes : (r : ℕ) (v : Representation) → t.representation r ≡ Some v → becomes_gone t e r v ≡ is_in rs r) where
+      pub other_row : (d : ℕ) (k : Consumer) → IsSpared t e k.place → nat_eq w.c d ≡ false → t.consumer d ≡ Some k →
+          consumer_after t e d (Some k) ≡ Some (back_from_any now rs k)
       other_row d k spared other there =
           other_by law d k spared other there
           ∙ rw doomless (ap (λ (b : Bool). Some (if b then back_in_line now k else k)) (waits_as t e law rs goes d k there k.place refl))
 
-      pub others : ((p : Place) → IsSpared t e p) → (d : ℕ) → nat_eq w.c d ≡ false → consumer_after t e d (t.consumer d) ≡ option_map (back_from_any now rs) (t.consumer d)
+      pub others : ((p : Place) → IsSpared t e p) → (d : ℕ) → nat_eq w.c d ≡ false →
+          consumer_after t e d (t.consumer d) ≡ option_map (back_from_any now rs) (t.consumer d)
       others spared d other = by_row (t.consumer d) refl
         where
           by_row : (o : Option Consumer) → t.consumer d ≡ o → consumer_after t e d o ≡ option_map (back_from_any now rs) o
@@ -197,12 +220,15 @@ module _ (t : Tables) (now x : ℕ) (response : Response) (es : List ℕ) (flaw 
 
     -- ITS CONSUMER
 
-    module _ (k : Consumer) (asker : t.consumer w.c ≡ Some k) (at : IsAwaiting x w k.place) (undue : k.due ≡ None) (undoomed : (is_key (doomed_key_of t e) k.request.key && waits_at t k.place) ≡ false) (spared : IsSpared t e k.place) (spared_then : IsSpared t e (heard w g k).place) where
+    module _ (k : Consumer) (asker : t.consumer w.c ≡ Some k) (at : IsAwaiting x w k.place) (undue : k.due ≡ None)
+        (undoomed : (is_key (doomed_key_of t e) k.request.key && waits_at t k.place) ≡ false) (spared : IsSpared t e k.place)
+        (spared_then : IsSpared t e (heard w g k).place) where
       heard_is : consumer_heard t e w.c e.event k ≡ (heard w g k)
       heard_is = rw (row, eqb-same w.c, is) refl
 
       acted_is : consumer_acted t e w.c (heard w g k) ≡ (heard w g k)
-      acted_is = acted_quiet t e w.c (heard w g k) (quiet_acts es xs flaw) ∙ ap (λ (o : Option ℕ). record (heard w g k) { own = o }) (own_stays t e w.c (heard w g k).place (heard w g k).own spared_then)
+      acted_is = acted_quiet t e w.c (heard w g k) (quiet_acts es xs flaw) ∙
+          ap (λ (o : Option ℕ). record (heard w g k) { own = o }) (own_stays t e w.c (heard w g k).place (heard w g k).own spared_then)
 
       over_is : starts_over t e w.c k ≡ sends_back (Some g)
       unfolding starts_over
@@ -212,7 +238,9 @@ module _ (t : Tables) (now x : ℕ) (response : Response) (es : List ℕ) (flaw 
       unfolding becomes_due
       due_is = rw (stop_none t e k refl, loss_spared t e w.c k.place spared, row, eqb-same w.c, is) refl
 
-      after_is : consumer_after t e w.c (t.consumer w.c) ≡ Some (if sends_back (Some g) then back_in_line now (heard w g k) else record (heard w g k) { due = if reads (heard w g k).place then cause_by_case (Some g) x else None })
+      after_is : consumer_after t e w.c (t.consumer w.c) ≡ Some
+          (if sends_back (Some g) then back_in_line now (heard w g k) else
+          record (heard w g k) { due = if reads (heard w g k).place then cause_by_case (Some g) x else None })
       unfolding consumer_after
       after_is =
           ap (consumer_after t e w.c) asker
@@ -221,7 +249,8 @@ module _ (t : Tables) (now x : ℕ) (response : Response) (es : List ℕ) (flaw 
 
       -- it goes on
       pub asker_goes_on : sends_back (Some g) ≡ false → cause_by_case (Some g) x ≡ None → consumer_after t e w.c (t.consumer w.c) ≡ Some (heard w g k)
-      asker_goes_on stays fine = after_is ∙ rw (stays, fine) (ap (λ (o : Option Cause). Some (record (heard w g k) { due = o })) (by_reads (reads (heard w g k).place) ∙ sym undue))
+      asker_goes_on stays fine = after_is ∙
+          rw (stays, fine) (ap (λ (o : Option Cause). Some (record (heard w g k) { due = o })) (by_reads (reads (heard w g k).place) ∙ sym undue))
         where
           by_reads : (b : Bool) → (if b then None else None) ≡ (let none : Option Cause = None in none)
           by_reads true = refl
@@ -232,10 +261,12 @@ module _ (t : Tables) (now x : ℕ) (response : Response) (es : List ℕ) (flaw 
       asker_goes_back sends = after_is ∙ rw sends refl
 
       -- or a failure becomes due
-      pub asker_fails : (why : Cause) → sends_back (Some g) ≡ false → cause_by_case (Some g) x ≡ Some why → heard w g k ≡ k → reads k.place ≡ true → consumer_after t e w.c (t.consumer w.c) ≡ Some (record k { due = Some why })
+      pub asker_fails : (why : Cause) → sends_back (Some g) ≡ false → cause_by_case (Some g) x ≡ Some why → heard w g k ≡ k → reads k.place ≡ true →
+          consumer_after t e w.c (t.consumer w.c) ≡ Some (record k { due = Some why })
       asker_fails why stays fails same reading =
           after_is
-          ∙ (ap (λ (q : Consumer). Some (if sends_back (Some g) then back_in_line now q else record q { due = if reads q.place then cause_by_case (Some g) x else None })) same
+          ∙ (ap (λ (q : Consumer). Some
+          (if sends_back (Some g) then back_in_line now q else record q { due = if reads q.place then cause_by_case (Some g) x else None })) same
           ∙ rw (stays, fails, reading) refl)
 
     -- THE TABLES
@@ -245,7 +276,8 @@ module _ (t : Tables) (now x : ℕ) (response : Response) (es : List ℕ) (flaw 
       pub joins : joined_at t e w ≡ joined
       pub founded : with_item_first (if is_founding (Some g) then Some x else None) t.founded ≡ u.founded
       pub used : to_front (if is_founding (Some g) then Some x else None) t.used ≡ u.used
-      pub representation : (r : ℕ) → representation_after t e r (t.representation r) ≡ (if is_in rs r then option_map as_gone (u.representation r) else u.representation r)
+      pub representation : (r : ℕ) →
+          representation_after t e r (t.representation r) ≡ (if is_in rs r then option_map as_gone (u.representation r) else u.representation r)
       pub asker : consumer_after t e w.c (t.consumer w.c) ≡ Some q
       pub unwaiting : waits_for_any rs q.place ≡ false
       pub others : (d : ℕ) → nat_eq w.c d ≡ false → consumer_after t e d (t.consumer d) ≡ option_map (back_from_any now rs) (u.consumer d)
@@ -261,9 +293,12 @@ module _ (t : Tables) (now x : ℕ) (response : Response) (es : List ℕ) (flaw 
       abbrev pub rest : Tables
       rest = record t { founded = fs; used = us; representation = reps; consumer = cs }
 
-      pub after_head : HeadComes rs rest joined q → after_accepted t e ≡ with_event now e.event (let_all_go now rs (with_consumer w.c (Some q) (all_closed xs (with_answer now x response joined w rest))))
+      pub after_head : HeadComes rs rest joined q →
+          after_accepted t e ≡ with_event now e.event
+          (let_all_go now rs (with_consumer w.c (Some q) (all_closed xs (with_answer now x response joined w rest))))
       after_head h =
-          same_tables (after_accepted t e) (with_event now e.event (without now rs (with_consumer w.c (Some q) (shut xs (with_answer now x response joined w rest))))) (record {
+          same_tables (after_accepted t e)
+          (with_event now e.event (without now rs (with_consumer w.c (Some q) (shut xs (with_answer now x response joined w rest))))) (record {
             moment = refl;
             entries = refl;
             received = refl;
@@ -277,7 +312,8 @@ module _ (t : Tables) (now x : ℕ) (response : Response) (es : List ℕ) (flaw 
             representation = h.representation;
             consumer = by_number;
           })
-          ∙ (ap (λ (s : Tables). with_event now e.event (without now rs (with_consumer w.c (Some q) s))) (sym (all_closed_is xs (with_answer now x response joined w rest)))
+          ∙ (ap (λ (s : Tables). with_event now e.event (without now rs (with_consumer w.c (Some q) s)))
+          (sym (all_closed_is xs (with_answer now x response joined w rest)))
           ∙ ap (with_event now e.event) (sym (all_go_is now rs (with_consumer w.c (Some q) (all_closed xs (with_answer now x response joined w rest))))))
         where
           by_number : (d : ℕ) → consumer_after t e d (t.consumer d) ≡ option_map (back_from_any now rs) (if w.c == d then Some q else cs d)

@@ -21,7 +21,9 @@ module _ (step : Step) where
   abbrev now_on : Tables
   now_on = after_accepted t e
 
-  module _ (r c x lo : ℕ) (hi : Option ℕ) (how : BoundBy) (k u : Consumer) (w z : Exchange) (row : IsRow t e c r lo hi how k u) (at : k.place ≡ place.Bound r lo hi how) (stands : u.place ≡ place.Bound r lo hi how) (none : u.due ≡ None) (own : k.own ≡ Some x) (exchange_row : t.exchange x ≡ Some w) (same : IsSame t e x w z) (got : IsHeaded t e x w z) where
+  module _ (r c x lo : ℕ) (hi : Option ℕ) (how : BoundBy) (k u : Consumer) (w z : Exchange) (row : IsRow t e c r lo hi how k u)
+      (at : k.place ≡ place.Bound r lo hi how) (stands : u.place ≡ place.Bound r lo hi how) (none : u.due ≡ None) (own : k.own ≡ Some x)
+      (exchange_row : t.exchange x ≡ Some w) (same : IsSame t e x w z) (got : IsHeaded t e x w z) where
     pub new : IsNew limits t now flaw s ev goes x w
     new = is_new limits t now flaw s ev goes x got.response w got.at exchange_row
 
@@ -60,8 +62,10 @@ module _ (step : Step) where
     unfolding starts_over
     stays_back =
         let for_c : is_for (exchange_at t ev) c ≡ true = ap (λ v. is_for (exchange_at t v) c) got.at ∙ (ap (λ q. is_for q c) exchange_row ∙ test) in
-        let off : ((is_key (doomed_key_of t e) k.request.key && waits_at t k.place) || (sends_back (case_at t e) && is_for (exchange_at t ev) c) || loses_what_it_waits_for t e c k.place) ≡ false = row.stays in
-        by_parts (is_key (doomed_key_of t e) k.request.key && waits_at t k.place) (sends_back (case_at t e)) (is_for (exchange_at t ev) c) (loses_what_it_waits_for t e c k.place) for_c off
+        let off : ((is_key (doomed_key_of t e) k.request.key && waits_at t k.place) || (sends_back (case_at t e) && is_for (exchange_at t ev) c)
+        || loses_what_it_waits_for t e c k.place) ≡ false = row.stays in
+        by_parts (is_key (doomed_key_of t e) k.request.key && waits_at t k.place) (sends_back (case_at t e)) (is_for (exchange_at t ev) c)
+        (loses_what_it_waits_for t e c k.place) for_c off
       where
         by_parts : (a b d f : Bool) → d ≡ true → (a || (b && d) || f) ≡ false → b ≡ false
         by_parts true b d f on h = absurd (let no : true ≡ false = h in cc)
@@ -117,10 +121,12 @@ module _ (step : Step) where
     joined = is_join t (has_loss e.acts) w got.response (sym (ap is_joining is_case) ∙ joins)
 
     pub length_is : length_by z z.head ≡ length_of w.need w.request got.response
-    length_is = ap (length_by z) got.head_is ∙ (ap (λ (n : Need). length_of n z.request got.response) same.need_is ∙ ap (λ (q : Request). length_of w.need q got.response) same.request_is)
+    length_is = ap (length_by z) got.head_is ∙
+        (ap (λ (n : Need). length_of n z.request got.response) same.need_is ∙ ap (λ (q : Request). length_of w.need q got.response) same.request_is)
 
     pub reported_is : IsReceived joined.fills.from joined.fills.last (length_of w.need w.request got.response)
-    reported_is = part_reported w.need w.request got.response joined.fills.from joined.fills.last joined.fills.total (λ past. direct_hole (sym past ∙ way.0)) joined.fills.status joined.fills.part joined.good
+    reported_is = part_reported w.need w.request got.response joined.fills.from joined.fills.last joined.fills.total
+        (λ past. direct_hole (sym past ∙ way.0)) joined.fills.status joined.fills.part joined.good
 
     base_by : (l : Length) → IsReceived joined.fills.from joined.fills.last l → base_of l ≤ joined.fills.from
     base_by l (reported.none is) = let first : base_of l ≡ 0 = ap base_of is in omega arith

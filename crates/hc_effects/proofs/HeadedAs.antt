@@ -31,12 +31,14 @@ module _ (step : Step) where
   -- an event other than a poll leaves a consumer where it says
   pub heard_at : (c x : ℕ) (k u : Consumer) → ((d want : ℕ) → ev ≡ event.Poll d want → ⊥) → IsRow t e c x k u → u.place ≡ (consumer_heard t e c ev k).place
   heard_at c x k u unpolled row =
-      let stays : leaves_in c e.acts ≡ false = not_so _ (λ leaves. let got = leaving_by limits t now flaw s ev goes c leaves in unpolled c got.want got.poll.at) in
+      let stays : leaves_in c e.acts ≡ false =
+      not_so _ (λ leaves. let got = leaving_by limits t now flaw s ev goes c leaves in unpolled c got.want got.poll.at) in
       heard_place step c 0 0 None by.Plan k u unpolled (record { row = row.row; stays = row.stays; leaves = stays; is = row.is })
 
   -- A HEAD THAT LEAVES ITS EXCHANGE OPEN
 
-  module _ (x : ℕ) (w z : Exchange) (response : Response) (here : ev ≡ event.Head x response) (is_row : t.exchange x ≡ Some w) (after_row : now_on.exchange x ≡ Some z) (same : IsSame t e x w z) (opened : z.is_open ≡ true) where
+  module _ (x : ℕ) (w z : Exchange) (response : Response) (here : ev ≡ event.Head x response) (is_row : t.exchange x ≡ Some w)
+      (after_row : now_on.exchange x ≡ Some z) (same : IsSame t e x w z) (opened : z.is_open ≡ true) where
     same_test : nat_eq x x ≡ true
     same_test = grind (arith, nat_tests)
 
@@ -70,10 +72,14 @@ module _ (step : Step) where
   -- where its head leaves a consumer
   pub data HeadedAs (x : ℕ) (response : Response) (w : Exchange) (p q : Place) (z : Exchange) : Type 0 where
     direct : q ≡ place.Direct x → HeadedAs x response w p q z
-    founds : (lo : ℕ) (hi : Option ℕ) (how : BoundBy) → q ≡ place.Bound x lo hi how → is_founding (case_at t e) ≡ true → z.joined ≡ None → HeadedAs x response w p q z
-    joins : (r lo : ℕ) (hi : Option ℕ) (how : BoundBy) → p ≡ place.Bound r lo hi how → q ≡ place.Bound r lo hi how → w.aim ≡ Some r → is_joining (case_at t e) ≡ true → z.joined ≡ Some r → HeadedAs x response w p q z
+    founds : (lo : ℕ) (hi : Option ℕ) (how : BoundBy) → q ≡ place.Bound x lo hi how → is_founding (case_at t e) ≡ true → z.joined ≡ None →
+        HeadedAs x response w p q z
+    joins : (r lo : ℕ) (hi : Option ℕ) (how : BoundBy) → p ≡ place.Bound r lo hi how → q ≡ place.Bound r lo hi how → w.aim ≡ Some r →
+        is_joining (case_at t e) ≡ true → z.joined ≡ Some r → HeadedAs x response w p q z
 
-  module _ (c x : ℕ) (k u : Consumer) (w z : Exchange) (response : Response) (here : ev ≡ event.Head x response) (row : IsRow t e c x k u) (own : k.own ≡ Some x) (is_row : t.exchange x ≡ Some w) (after_row : now_on.exchange x ≡ Some z) (same : IsSame t e x w z) (opened : z.is_open ≡ true) where
+  module _ (c x : ℕ) (k u : Consumer) (w z : Exchange) (response : Response) (here : ev ≡ event.Head x response) (row : IsRow t e c x k u)
+      (own : k.own ≡ Some x) (is_row : t.exchange x ≡ Some w) (after_row : now_on.exchange x ≡ Some z) (same : IsSame t e x w z)
+      (opened : z.is_open ≡ true) where
     got : (q : Consumer) × IsWaiter t w.c x q w
     got = let new = is_new limits t now flaw s ev goes x response w here is_row in waiter_of step x w is_row new.is_open new.bare
 
@@ -97,7 +103,8 @@ module _ (step : Step) where
     ]
 
     placed : u.place ≡ place_by_case x response w k (case_at t e)
-    placed = heard_at c x k u (λ d want polls. let no : event.Head x response ≡ event.Poll d want = sym here ∙ polls in cc) row ∙ (ap (λ v. (consumer_heard t e c v k).place) here ∙ by_row (t.exchange x) is_row)
+    placed = heard_at c x k u (λ d want polls. let no : event.Head x response ≡ event.Poll d want = sym here ∙ polls in cc) row ∙
+        (ap (λ v. (consumer_heard t e c v k).place) here ∙ by_row (t.exchange x) is_row)
 
     headed : IsHeaded t e x w z
     headed = by_heard same.heard_or
@@ -143,7 +150,8 @@ module _ (step : Step) where
     found : (lo : ℕ) (hi : Option ℕ) → u.place ≡ place.Bound x lo hi by.Founding → is_founding (case_at t e) ≡ true → is_joining (case_at t e) ≡ false → As
     found lo hi is on off = founds lo hi by.Founding is on (unjoined_as off)
 
-    part_as : (v : Wanted) → u.place ≡ bound_to_wanted x by.Founding (place.Direct x) v → is_founding (case_at t e) ≡ true → is_joining (case_at t e) ≡ false → As
+    part_as : (v : Wanted) → u.place ≡ bound_to_wanted x by.Founding (place.Direct x) v → is_founding (case_at t e) ≡ true →
+        is_joining (case_at t e) ≡ false → As
     part_as (wanted.Interval span) is on off = found span.lo (Some span.hi) is on off
     part_as _ is on off = direct is
 
@@ -152,16 +160,21 @@ module _ (step : Step) where
     by_case _ (cases.validated way h d l) is = absurd (promising h)
     by_case _ (cases.not_validated way h) is = absurd (unsent (ap sends_back is))
     by_case _ (cases.turn_server_error way) is = direct (placed ∙ ap (place_by_case x response w k) is)
-    by_case _ (cases.founds_whole way h l g) is = found 0 (promise_in w response) (placed ∙ ap (place_by_case x response w k) is) (ap is_founding is) (ap is_joining is)
-    by_case _ (cases.founds_range way h f l g) is = part_as (wanted_of (range_of k.request) (founded_total w response)) (placed ∙ ap (place_by_case x response w k) is) (ap is_founding is) (ap is_joining is)
+    by_case _ (cases.founds_whole way h l g) is =
+        found 0 (promise_in w response) (placed ∙ ap (place_by_case x response w k) is) (ap is_founding is) (ap is_joining is)
+    by_case _ (cases.founds_range way h f l g) is =
+        part_as (wanted_of (range_of k.request) (founded_total w response)) (placed ∙ ap (place_by_case x response w k) is) (ap is_founding is)
+        (ap is_joining is)
     by_case _ (cases.passes_by way) is = direct (placed ∙ ap (place_by_case x response w k) is)
     by_case _ (cases.first_joins way shown h g) is = join (placed ∙ ap (place_by_case x response w k) is) (ap is_joining is) way at
     by_case _ (cases.first_server_error way shown) is = direct (placed ∙ ap (place_by_case x response w k) is)
     by_case _ (cases.first_changed way shown) is = absurd (unsent (ap sends_back is))
-    by_case _ (cases.first_replaced way shown h l g) is = found 0 (promise_in w response) (placed ∙ ap (place_by_case x response w k) is) (ap is_founding is) (ap is_joining is)
+    by_case _ (cases.first_replaced way shown h l g) is =
+        found 0 (promise_in w response) (placed ∙ ap (place_by_case x response w k) is) (ap is_founding is) (ap is_joining is)
     by_case _ (cases.first_passes_by way shown) is = direct (placed ∙ ap (place_by_case x response w k) is)
     by_case _ (cases.later_joins way shown h g) is = join (placed ∙ ap (place_by_case x response w k) is) (ap is_joining is) way at
     by_case _ _ is = absurd (unrefused (ap is_refused is))
 
     pub headed_as : As
-    headed_as = by_case (head_case (head_view t (has_loss e.acts) w response)) (case_by (head_view t (has_loss e.acts) w response)) (case_is t e x response w here is_row)
+    headed_as = by_case (head_case (head_view t (has_loss e.acts) w response)) (case_by (head_view t (has_loss e.acts) w response))
+        (case_is t e x response w here is_row)

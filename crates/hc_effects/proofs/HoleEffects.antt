@@ -6,7 +6,8 @@ use Rattle.hc_effects.proofs.Vocabulary.{Need, Request, Limits, range_of, wanted
 use Rattle.hc_event.specs.declared.place.Place.TheVariants as place
 use Rattle.hc_effects.proofs.{Basics.{false_true}, OfConsumers.{BringsNothing, binds_as}, OpenEffects.{e, nothing, why, opens, keeps_all, about_current}, PollEffects.{none_waits}}
 
-module _ (limits : Limits) (t : Tables) (law : Lawful t) (now c want : ℕ) (k : Consumer) (row : t.consumer c ≡ Some k) (x from to : ℕ) (request : Request) (is : move_of t now want c k ≡ Opens x (need.Hole from to) request) where
+module _ (limits : Limits) (t : Tables) (law : Lawful t) (now c want : ℕ) (k : Consumer) (row : t.consumer c ≡ Some k) (x from to : ℕ) (request : Request)
+    (is : move_of t now want c k ≡ Opens x (need.Hole from to) request) where
   abbrev n : Need
   n = need.Hole from to
 
@@ -18,7 +19,8 @@ module _ (limits : Limits) (t : Tables) (law : Lawful t) (now c want : ℕ) (k :
 
   -- A FIRST HOLE
 
-  module _ (free : bound_to k.place ≡ None) (r : ℕ) (v : Representation) (span : Span) (now_is : current t k.request.key ≡ Some r) (there : t.representation r ≡ Some v) (wants : wanted_of (range_of k.request) v.head.total ≡ wanted.Interval span) where
+  module _ (free : bound_to k.place ≡ None) (r : ℕ) (v : Representation) (span : Span) (now_is : current t k.request.key ≡ Some r)
+      (there : t.representation r ≡ Some v) (wants : wanted_of (range_of k.request) v.head.total ≡ wanted.Interval span) where
     place_is : unless_bound (bound_to k.place) k.place (opened_place t x k route.Hole) ≡ place.Bound r span.lo (Some span.hi) (by.FirstHole x)
     place_is = grind (arith, nat_tests)
 
@@ -30,9 +32,14 @@ module _ (limits : Limits) (t : Tables) (law : Lawful t) (now c want : ℕ) (k :
 
     -- its consumer becomes bound to what is current
     pub fills_first : Does limits t now (event.Poll c want) NoFlaw (acts_of c (Opens x n request))
-        (with_event now (event.Poll c want) (used_last r (with_consumer c (Some (record k { own = Some x; place = place.Bound r span.lo (Some span.hi) (by.FirstHole x) })) (with_opening x (just_opened now c n request (Some r)) t))))
+        (with_event now (event.Poll c want)
+        (used_last r (with_consumer c (Some (record k { own = Some x; place = place.Bound r span.lo (Some span.hi) (by.FirstHole x) }))
+        (with_opening x (just_opened now c n request (Some r)) t))))
     fills_first =
-        subst (λ aim. Does limits t now (event.Poll c want) NoFlaw (acts_of c (Opens x n request)) (with_event now (event.Poll c want) (used_last r (with_consumer c (Some (record k { own = Some x; place = place.Bound r span.lo (Some span.hi) (by.FirstHole x) })) (with_opening x (just_opened now c n request aim) t)))))
+        subst (λ aim. Does limits t now (event.Poll c want) NoFlaw (acts_of c (Opens x n request))
+        (with_event now (event.Poll c want)
+        (used_last r (with_consumer c (Some (record k { own = Some x; place = place.Bound r span.lo (Some span.hi) (by.FirstHole x) }))
+        (with_opening x (just_opened now c n request aim) t)))))
         now_is
         (about_current limits t law now c want k row x n request is free [] (to_front (Some r) t.used) (place.Bound r span.lo (Some span.hi) (by.FirstHole x))
         (keeps_all limits t law now c want k row x n request is refl) binds_it place_is (λ off. absurd (false_true (sym off))) (none_waits k.place) refl)
@@ -47,7 +54,10 @@ module _ (limits : Limits) (t : Tables) (law : Lawful t) (now c want : ℕ) (k :
     pub fills_later : Does limits t now (event.Poll c want) NoFlaw (acts_of c (Opens x n request))
         (with_event now (event.Poll c want) (with_consumer c (Some (record k { own = Some x })) (with_opening x (just_opened now c n request (Some r)) t)))
     fills_later =
-        subst (λ aim. Does limits t now (event.Poll c want) NoFlaw (acts_of c (Opens x n request)) (with_event now (event.Poll c want) (with_consumer c (Some (record k { own = Some x })) (with_opening x (just_opened now c n request aim) t))))
+        subst (λ aim. Does limits t now (event.Poll c want) NoFlaw (acts_of c (Opens x n request))
+        (with_event now (event.Poll c want) (with_consumer c (Some (record k { own = Some x })) (with_opening x (just_opened now c n request aim) t))))
         (ap (aim_from t k.request.key) at)
         (opens limits t law now c want k row x n request is [] t.used k.place
-        (keeps_all limits t law now c want k row x n request is refl) binds_none (ap (λ (o : Option ℕ). unless_bound o k.place (opened_place t x k route.Hole)) (ap bound_to at)) (law.owned.idle_due c k row) (none_waits k.place) (none_waits k.place))
+        (keeps_all limits t law now c want k row x n request is refl) binds_none
+        (ap (λ (o : Option ℕ). unless_bound o k.place (opened_place t x k route.Hole)) (ap bound_to at)) (law.owned.idle_due c k row) (none_waits k.place)
+        (none_waits k.place))

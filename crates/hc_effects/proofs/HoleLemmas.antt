@@ -69,7 +69,8 @@ covers_yes f reach lo hi ends all = grind (arith, nat_tests, far)
     within : lo < hi → hi ≤ reach
     within lt = elim (lt_cases (hi - 1) reach) [
       | inl less ↦ omega arith
-      | inr past ↦ absurd (let none : f (hi - 1) ≡ None = ends (hi - 1) past.1 in let there : is_some (f (hi - 1)) ≡ true = all (hi - 1) (omega arith) (omega arith) in let never : false ≡ true = rw none at there in cc)
+      | inr past ↦ absurd (let none : f (hi - 1) ≡ None = ends (hi - 1) past.1 in let there : is_some (f (hi - 1)) ≡ true =
+          all (hi - 1) (omega arith) (omega arith) in let never : false ≡ true = rw none at there in cc)
     ]
 
     none_there : (q : ℕ) → lo ≤ q → q < hi → is_none (f q) ≡ true → ⊥

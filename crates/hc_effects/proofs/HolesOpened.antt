@@ -12,7 +12,8 @@ pub stored_ends : (t : Tables) (r : ℕ) (v : Representation) → IsSoundReprese
 stored_ends t r v row p le = grind (arith, nat_tests)
 
 -- a later hole: what isn't stored of it hasn't come either
-pub later_absent : (t : Tables) (r c hi : ℕ) (v : Representation) (k : Consumer) → Sound t → IsAtHole t r c hi v k → v.body (offset t k) ≡ None → (p : ℕ) → offset t k ≤ p → p < (hole_at v.stored v.reach (offset t k) hi).hi → v.body p ≡ None
+pub later_absent : (t : Tables) (r c hi : ℕ) (v : Representation) (k : Consumer) → Sound t → IsAtHole t r c hi v k → v.body (offset t k) ≡ None →
+    (p : ℕ) → offset t k ≤ p → p < (hole_at v.stored v.reach (offset t k) hi).hi → v.body p ≡ None
 later_absent t r c hi v k s at none p le lt =
     let row = s.rows r v at.row in
     let missing : v.stored p ≡ None = hole_absent v.stored v.reach (offset t k) hi p (stored_ends t r v row) le lt in
@@ -28,11 +29,13 @@ later_absent t r c hi v k s at none p le lt =
         ]
 
 -- the first hole of a span
-pub first_hole_is : (f : Cells) (reach : ℕ) (span hole : Span) → first_hole f reach span ≡ Some hole → hole ≡ hole_at f reach (absent_from f reach span.lo span.hi) span.hi
+pub first_hole_is : (f : Cells) (reach : ℕ) (span hole : Span) → first_hole f reach span ≡ Some hole →
+    hole ≡ hole_at f reach (absent_from f reach span.lo span.hi) span.hi
 first_hole_is f reach span hole is = grind (arith, nat_tests)
 
 -- a first hole: what is current isn't lost, so what isn't stored hasn't come
-pub first_absent : (t : Tables) (r : ℕ) (v : Representation) (span hole : Span) → Sound t → t.representation r ≡ Some v → v.is_gone ≡ false → first_hole v.stored v.reach span ≡ Some hole → (p : ℕ) → hole.lo ≤ p → p < hole.hi → v.body p ≡ None
+pub first_absent : (t : Tables) (r : ℕ) (v : Representation) (span hole : Span) → Sound t → t.representation r ≡ Some v → v.is_gone ≡ false →
+    first_hole v.stored v.reach span ≡ Some hole → (p : ℕ) → hole.lo ≤ p → p < hole.hi → v.body p ≡ None
 first_absent t r v span hole s is not_gone found p le lt =
     let row = s.rows r v is in
     let same = first_hole_is v.stored v.reach span hole found in

@@ -30,11 +30,13 @@ filter_both f g h (x ∷ xs) both = elim (bool_cases (h x)) [
 
 any_first : (test : ℕ → Bool) (xs : List ℕ) → ((n : ℕ) → Among n xs → test n ≡ true) → list_any test xs ≡ not (length xs == 0)
 any_first test [] all = refl
-any_first test (x ∷ xs) all = let first : test x ≡ true = all x (inl refl) in let some : nat_eq (length (x ∷ xs)) 0 ≡ false = grind (arith, nat_tests) in rw (first, some) refl
+any_first test (x ∷ xs) all = let first : test x ≡ true = all x (inl refl) in let some : nat_eq (length (x ∷ xs)) 0 ≡ false = grind (arith, nat_tests) in
+    rw (first, some) refl
 
 -- WHO MOVES ON
 
-hole_of : (t : Tables) (lost : Bool) (w : Exchange) (response : Response) → CaseBy (head_view t lost w response) case.FirstReplaced → route_of w.need ≡ route.Hole
+hole_of : (t : Tables) (lost : Bool) (w : Exchange) (response : Response) → CaseBy (head_view t lost w response) case.FirstReplaced →
+    route_of w.need ≡ route.Hole
 hole_of t lost w response (cases.first_replaced way shown status kept good) = way
 
 replacing_is : (g : Option HeadCase) → is_replacing g ≡ true → g ≡ Some case.FirstReplaced
@@ -57,10 +59,12 @@ module _ (t : Tables) (now : ℕ) (ev : Event) (s : Sound t) (o : Owners t) (goe
   row_here : (r c : ℕ) (k : Consumer) → IsBound t r c k → t.consumer c ≡ Some k
   row_here r c k (sound.is_bound lo hi how row at) = row
 
-  goes_with : (r : ℕ) (v : Representation) (w : Exchange) → w.aim ≡ Some r → case_at t e ≡ Some case.FirstReplaced → exchange_at t ev ≡ Some w → goes_itself t e r v ≡ true
+  goes_with : (r : ℕ) (v : Representation) (w : Exchange) → w.aim ≡ Some r → case_at t e ≡ Some case.FirstReplaced → exchange_at t ev ≡ Some w →
+      goes_itself t e r v ≡ true
   goes_with r v w aim is at = grind (arith, nat_tests)
 
-  mine_is : (x c : ℕ) (response : Response) (r : ℕ) (v : Representation) (k : Consumer) (w : Exchange) → ev ≡ event.Head x response → t.exchange x ≡ Some w → IsBound t r c k → nat_eq w.c c ≡ true → case_at t e ≡ Some case.FirstReplaced → goes_itself t e r v ≡ true
+  mine_is : (x c : ℕ) (response : Response) (r : ℕ) (v : Representation) (k : Consumer) (w : Exchange) → ev ≡ event.Head x response →
+      t.exchange x ≡ Some w → IsBound t r c k → nat_eq w.c c ≡ true → case_at t e ≡ Some case.FirstReplaced → goes_itself t e r v ≡ true
   mine_is x c response r v k w here row reader mine is =
       let same : w.c ≡ c = grind (arith, nat_tests) in
       let new = is_new any t now NoFlaw s ev goes x response w here row in
@@ -70,14 +74,16 @@ module _ (t : Tables) (now : ℕ) (ev : Event) (s : Sound t) (o : Owners t) (goe
       let aim = awaits_at r x w waits.k.place waits.at hole (ap (λ (q : Consumer). is_bound_place r q.place) one ∙ bound_here r c k reader) in
       goes_with r v w aim is (ap (exchange_at t) here ∙ row)
 
-  moved_head : (x c : ℕ) (response : Response) (r : ℕ) (v : Representation) (k : Consumer) (z : Option Exchange) → ev ≡ event.Head x response → t.exchange x ≡ z → IsBound t r c k → is_for z c ≡ true → case_at t e ≡ Some case.FirstReplaced → goes_itself t e r v ≡ true
+  moved_head : (x c : ℕ) (response : Response) (r : ℕ) (v : Representation) (k : Consumer) (z : Option Exchange) → ev ≡ event.Head x response →
+      t.exchange x ≡ z → IsBound t r c k → is_for z c ≡ true → case_at t e ≡ Some case.FirstReplaced → goes_itself t e r v ≡ true
   moved_head x c response r v k None here row reader mine is = absurd (false_true mine)
   moved_head x c response r v k (Some w) here row reader mine is = mine_is x c response r v k w here row reader mine is
 
   no_case : (z : Event) → ev ≡ z → Rattle.hc_model.specs.Cases.case_of t false z ≡ None → case_at t e ≡ Some case.FirstReplaced → ⊥
   no_case z here none is = none_some case.FirstReplaced (sym (ap (Rattle.hc_model.specs.Cases.case_of t false) here ∙ none) ∙ is)
 
-  moved_by : (z : Event) (r c : ℕ) (v : Representation) (k : Consumer) → ev ≡ z → IsBound t r c k → is_for (exchange_at t z) c ≡ true → case_at t e ≡ Some case.FirstReplaced → goes_itself t e r v ≡ true
+  moved_by : (z : Event) (r c : ℕ) (v : Representation) (k : Consumer) → ev ≡ z → IsBound t r c k → is_for (exchange_at t z) c ≡ true →
+      case_at t e ≡ Some case.FirstReplaced → goes_itself t e r v ≡ true
   unfolding Rattle.hc_model.specs.Cases.case_of
   moved_by (event.Head x response) r c v k here reader mine is = moved_head x c response r v k (t.exchange x) here refl reader mine is
   moved_by _ r c v k here reader mine is = absurd (no_case _ here refl is)
@@ -116,4 +122,5 @@ module _ (t : Tables) (now : ℕ) (ev : Event) (s : Sound t) (o : Owners t) (goe
 pub idle_but_gone : IdleButGone
 unfolding idle
 idle_but_gone t now ev s o goes =
-    filter_both (λ r. is_idle t (entry_without_acts now ev) r (t.representation r)) (outlasts t (entry_without_acts now ev)) (λ r. contents.is_idle t r (t.representation r)) (reverse t.used) (λ r. idle_row t now ev s o goes r (t.representation r))
+    filter_both (λ r. is_idle t (entry_without_acts now ev) r (t.representation r)) (outlasts t (entry_without_acts now ev))
+    (λ r. contents.is_idle t r (t.representation r)) (reverse t.used) (λ r. idle_row t now ev s o goes r (t.representation r))

@@ -70,12 +70,27 @@ pub record IsFilling (n : Need) (o : Option Representation) (response : Response
   pub within : last < to
   pub status : brings_part response.status ≡ true
 
-filling_by : (from to : ℕ) (v : Representation) (response : Response) (opaque : Option (List ℕ)) (total : Option ℕ) → v.head.joining ≡ opaque → v.head.total ≡ total → joins_by opaque total (record { lo = from; hi = to }) response ≡ true → IsFilling (need.Hole from to) (Some v) response
+filling_by : (from to : ℕ) (v : Representation) (response : Response) (opaque : Option (List ℕ)) (total : Option ℕ) → v.head.joining ≡ opaque →
+    v.head.total ≡ total → joins_by opaque total (record { lo = from; hi = to }) response ≡ true → IsFilling (need.Hole from to) (Some v) response
 filling_by from to v response None total tag known h = absurd (let never : false ≡ true = h in cc)
 filling_by from to v response (Some opaque) None tag known h = absurd (let never : false ≡ true = h in cc)
 filling_by from to v response (Some opaque) (Some total) tag known h =
     let (last, j) = (joins-right (false, opaque) total (record { lo = from; hi = to }) response).0 h in
-    record { from = from; to = to; need_is = refl; v = v; row = refl; last = last; tagged = λ none. (let never : Some opaque ≡ None = sym tag ∙ none in cc); total = total; known = known; part = j.reported; within = j.within; status = j.status }
+    record {
+      from = from;
+      to = to;
+      need_is = refl;
+      v = v;
+      row = refl;
+      last = last;
+      tagged =
+          λ none. (let never : Some opaque ≡ None = sym tag ∙ none in cc);
+      total = total;
+      known = known;
+      part = j.reported;
+      within = j.within;
+      status = j.status;
+    }
 
 pub filling : (n : Need) (o : Option Representation) (response : Response) → joins_row n o response ≡ true → IsFilling n o response
 filling (need.Hole from to) None response h = absurd (let never : false ≡ true = h in cc)
@@ -95,7 +110,8 @@ lies_part from to last total said below =
 first_side : (from to : ℕ) (b : Bool) (x y : Length) → b ≡ true → LiesIn from to x → LiesIn from to (cond b x y)
 first_side from to b x y is lies = grind (arith, nat_tests)
 
-lies_hole : (from to last total : ℕ) (request : Request) (response : Response) → brings_part response.status ≡ true → content_range_of response.fields ≡ Some (range.Part from last (Some total)) → last < to → LiesIn from to (length_of (need.Hole from to) request response)
+lies_hole : (from to last total : ℕ) (request : Request) (response : Response) → brings_part response.status ≡ true →
+    content_range_of response.fields ≡ Some (range.Part from last (Some total)) → last < to → LiesIn from to (length_of (need.Hole from to) request response)
 unfolding length_of
 lies_hole from to last total request response status part below =
     let said = content_length_of (elements_in (codes "content-length") response.fields) in
@@ -103,7 +119,8 @@ lies_hole from to last total request response status part below =
     mix (LiesIn from to) (has_no_body request response.status) (reported.Promised 0) _ empty (first_side from to (brings_part response.status) _ _ status here)
 
 -- the head that joins is a part for a hole
-pub lies : (n : Need) (o : Option Representation) (request : Request) (response : Response) (f : IsFilling n o response) → LiesIn f.from f.to (length_of n request response)
+pub lies : (n : Need) (o : Option Representation) (request : Request) (response : Response) (f : IsFilling n o response) →
+    LiesIn f.from f.to (length_of n request response)
 lies n o request response f =
     subst (λ (m : Need). LiesIn f.from f.to (length_of m request response)) (sym f.need_is)
     (lies_hole f.from f.to f.last f.total request response f.status f.part f.within)

@@ -24,20 +24,24 @@ key_cases t ev key = elim (bool_cases (is_of_key (key_of t ev) (Some key))) [
 
 -- MOVES
 
-asks_move : (x : ℕ) (t : Tables) (c : ℕ) (k : Consumer) (m : Move) (rest : List Act) → IsNear t k m → ((y : ℕ) → source t k ≡ Some y → nat_eq y x ≡ false) → asks_in x (acts_of c m ++ rest) ≡ asks_in x rest
+asks_move : (x : ℕ) (t : Tables) (c : ℕ) (k : Consumer) (m : Move) (rest : List Act) → IsNear t k m →
+    ((y : ℕ) → source t k ≡ Some y → nat_eq y x ≡ false) → asks_in x (acts_of c m ++ rest) ≡ asks_in x rest
 asks_move x t c k _ rest (polls.asks y from) other = rw (other y from) refl
 asks_move x t c k _ rest _ other = refl
 
 -- what a move opens is of its consumer's key
-opens_move : (t : Tables) (c : ℕ) (k : Consumer) (m : Move) (rest : List Act) (o : Opening) → IsNear t k m → opening_in rest ≡ None → opening_in (acts_of c m ++ rest) ≡ Some o → o.request.key ≡ k.request.key
+opens_move : (t : Tables) (c : ℕ) (k : Consumer) (m : Move) (rest : List Act) (o : Opening) → IsNear t k m → opening_in rest ≡ None → opening_in
+    (acts_of c m ++ rest) ≡ Some o → o.request.key ≡ k.request.key
 opens_move t c k _ rest o (polls.opens y n request same) none h = ap (λ (q : Opening). q.request.key) (sym (some_inj _ o h)) ∙ same
 opens_move t c k _ rest o _ none h = absurd (none_some o (sym none ∙ h))
 
 -- a read that fails is the flaw that the acts show
-misread_cause : (r c : ℕ) (cause : Cause) (rest : List Act) → misreads_in r rest ≡ false → misreads_in r (act.Failed c cause ∷ rest) ≡ true → flaw_in (act.Failed c cause ∷ rest) ≡ Misreads r
+misread_cause : (r c : ℕ) (cause : Cause) (rest : List Act) → misreads_in r rest ≡ false → misreads_in r (act.Failed c cause ∷ rest) ≡ true → flaw_in
+    (act.Failed c cause ∷ rest) ≡ Misreads r
 misread_cause r c cause rest none h = grind (arith, nat_tests)
 
-misread_move : (r c : ℕ) (m : Move) (rest : List Act) → misreads_in r rest ≡ false → misreads_in r (acts_of c m ++ rest) ≡ true → flaw_in (acts_of c m ++ rest) ≡ Misreads r
+misread_move : (r c : ℕ) (m : Move) (rest : List Act) → misreads_in r rest ≡ false → misreads_in r (acts_of c m ++ rest) ≡ true → flaw_in
+    (acts_of c m ++ rest) ≡ Misreads r
 misread_move r c (Fails cause) rest none h = misread_cause r c cause rest none h
 misread_move r c _ rest none h = absurd (let never : false ≡ true = sym none ∙ h in cc)
 
@@ -47,7 +51,8 @@ leaver_move c d m flaw h = grind (arith, nat_tests)
 
 -- WHAT IS WRITTEN
 
-first_some : (f : ℕ → Option ℕ) (x : ℕ) (others : Option ℕ) (r : ℕ) (o : Option ℕ) → f x ≡ o → option_or o others ≡ Some r → (others ≡ Some r → (y : ℕ) × (f y ≡ Some r)) → (y : ℕ) × (f y ≡ Some r)
+first_some : (f : ℕ → Option ℕ) (x : ℕ) (others : Option ℕ) (r : ℕ) (o : Option ℕ) → f x ≡ o → option_or o others ≡ Some r →
+    (others ≡ Some r → (y : ℕ) × (f y ≡ Some r)) → (y : ℕ) × (f y ≡ Some r)
 first_some f x others r None is h rest = rest h
 first_some f x others r (Some q) is h rest = (x, is ∙ h)
 
@@ -96,7 +101,8 @@ first_rows t e' _ = tt
 pub evicted_rows : (limits : Limits) (t : Tables) (now : ℕ) (ev : Event) → AllPass (HasRow t) (evicted limits t now ev)
 evicted_rows limits t now ev = first_rows t (entry_without_acts now ev) (room_for limits t now ev)
 
-module _ (limits : Limits) (t : Tables) (e : Entry) (flaw : Flaw) (exchanges : ExchangeKeys t) (consumers : ConsumerKeys t) (acts_is : e.acts ≡ accepted_acts limits t e.now e.event flaw) (flaw_is : flaw_in e.acts ≡ flaw) (may : may_be limits t e flaw ≡ true) where
+module _ (limits : Limits) (t : Tables) (e : Entry) (flaw : Flaw) (exchanges : ExchangeKeys t) (consumers : ConsumerKeys t)
+    (acts_is : e.acts ≡ accepted_acts limits t e.now e.event flaw) (flaw_is : flaw_in e.acts ≡ flaw) (may : may_be limits t e flaw ≡ true) where
   abbrev Other : List ℕ → Type 0
   Other key = IsOther t e.event key
 
@@ -143,7 +149,8 @@ module _ (limits : Limits) (t : Tables) (e : Entry) (flaw : Flaw) (exchanges : E
     asks_said _ rest _ = refl
 
     asks_by : (acts : List Act) → answered acts → asks_in x acts ≡ false
-    asks_by _ (parts.reported silent) = (asks_evicted x 0 (evicted limits t e.now e.event) _).asks ∙ ((asks_lost x 0 flaw _).asks ∙ (asks_closes x 0 closings).asks)
+    asks_by _ (parts.reported silent) = (asks_evicted x 0 (evicted limits t e.now e.event) _).asks ∙
+        ((asks_lost x 0 flaw _).asks ∙ (asks_closes x 0 closings).asks)
     asks_by _ parts.asked = asks_said asked_of _ said_here ∙ ((asks_closed x 0 closings _).asks ∙ (asks_loss x 0 flaw).asks)
 
     -- an exchange of another key isn't asked
@@ -159,12 +166,14 @@ module _ (limits : Limits) (t : Tables) (e : Entry) (flaw : Flaw) (exchanges : E
     by_exchange : (x : ℕ) (w : Exchange) → t.exchange x ≡ Some w → v.key ≡ w.request.key → key_of_exchange t x ≡ Some v.key
     by_exchange x w row same = ap (option_map (λ (w : Exchange). w.request.key)) row ∙ ap Some (sym same)
 
-    head_cases : (x : ℕ) (w : Exchange) (a b : Bool) → t.exchange x ≡ Some w → (if a then Some x else if b then w.aim else None) ≡ Some r → v.key ≡ w.request.key
+    head_cases : (x : ℕ) (w : Exchange) (a b : Bool) → t.exchange x ≡ Some w → (if a then Some x else if b then w.aim else None) ≡ Some r →
+        v.key ≡ w.request.key
     head_cases x w true b row h = exchanges.founded r w v (ap t.exchange (sym (some_inj x r h)) ∙ row) there
     head_cases x w false true row h = aims_key t x r w v exchanges row h there
     head_cases x w false false row h = absurd (none_some r h)
 
-    head_row : (x : ℕ) (response : Response) (o : Option Exchange) → t.exchange x ≡ o → head_writes t (lossless e) x response o ≡ Some r → key_of_exchange t x ≡ Some v.key
+    head_row : (x : ℕ) (response : Response) (o : Option Exchange) → t.exchange x ≡ o → head_writes t (lossless e) x response o ≡ Some r →
+        key_of_exchange t x ≡ Some v.key
     head_row x response None row h = absurd (none_some r h)
     head_row x response (Some w) row h =
         by_exchange x w row (head_cases x w (is_founding (case_at t (lossless e))) (may_validate t w response || is_joining (case_at t (lossless e))) row h)
@@ -204,14 +213,17 @@ module _ (limits : Limits) (t : Tables) (e : Entry) (flaw : Flaw) (exchanges : E
         let both = and_left _ _ h in
         let writes : v.writer ≡ Some x = number_is v.writer x (and_left _ _ both) in
         let losing = and_left _ _ (and_then (is_number v.writer x) (loses_group t seen r v) both) in
-        let now_lost : loses_in r (loss_acts flaw) ≡ true = sym (said_closes x r t e.now e.event flaw asked_of (loss_acts flaw) said_here).loses ∙ and_then _ _ losing in
+        let now_lost : loses_in r (loss_acts flaw) ≡ true = sym (said_closes x r t e.now e.event flaw asked_of (loss_acts flaw) said_here).loses ∙
+        and_then _ _ losing in
         not_it (body_lost r v there (and_left _ _ losing) now_lost ∙ ap Some (writer_key t r x w v exchanges there writes row))
 
-    left_by : (c : ℕ) (o : Option Consumer) → t.consumer c ≡ o → ((k : Consumer) → t.consumer c ≡ Some k → key_of t e.event ≡ Some k.request.key) → is_left_by t x c o ≡ true → ⊥
+    left_by : (c : ℕ) (o : Option Consumer) → t.consumer c ≡ o → ((k : Consumer) → t.consumer c ≡ Some k → key_of t e.event ≡ Some k.request.key) →
+        is_left_by t x c o ≡ true → ⊥
     left_by c None is_row of_key h = let never : false ≡ true = h in cc
     left_by c (Some k) is_row of_key h = elim (or_cases _ _ h) [
       | inl own ↦ not_it (of_key k is_row ∙ ap Some (sym (own_key t c k exchanges consumers is_row x w (number_is _ x own) row)))
-      | inr shares ↦ not_it (of_key k is_row ∙ ap Some (sym (shared_key t c k exchanges consumers is_row k.place x w refl (number_is _ x (and_left _ _ shares)) row)))
+      | inr shares ↦ not_it (of_key k is_row ∙
+          ap Some (sym (shared_key t c k exchanges consumers is_row k.place x w refl (number_is _ x (and_left _ _ shares)) row)))
     ]
 
     -- by the leaver of a poll
@@ -262,7 +274,8 @@ module _ (limits : Limits) (t : Tables) (e : Entry) (flaw : Flaw) (exchanges : E
     stop_key : (x : ℕ) (w : Exchange) (ev : Event) → t.exchange x ≡ Some w → stops x ev ≡ true → key_of t ev ≡ Some w.request.key
     stop_key x w ev row h = grind (arith, nat_tests)
 
-    ends_key : (x : ℕ) (w : Exchange) → t.exchange x ≡ Some w → (stops x e.event || closes_in x (without_losses e.acts)) ≡ true → key_of t e.event ≡ Some w.request.key
+    ends_key : (x : ℕ) (w : Exchange) → t.exchange x ≡ Some w → (stops x e.event || closes_in x (without_losses e.acts)) ≡ true →
+        key_of t e.event ≡ Some w.request.key
     ends_key x w row h = elim (key_cases t e.event w.request.key) [
       | inl same ↦ same
       | inr other ↦ elim (or_cases _ _ h) [
@@ -271,7 +284,8 @@ module _ (limits : Limits) (t : Tables) (e : Entry) (flaw : Flaw) (exchanges : E
       ]
     ]
 
-    seal_row : (x : ℕ) (o : Option Exchange) → t.exchange x ≡ o → (stops x e.event || closes_in x (without_losses e.acts)) ≡ true → sealed_by t (lossless e) x o ≡ Some r → key_of t e.event ≡ Some v.key
+    seal_row : (x : ℕ) (o : Option Exchange) → t.exchange x ≡ o → (stops x e.event || closes_in x (without_losses e.acts)) ≡ true →
+        sealed_by t (lossless e) x o ≡ Some r → key_of t e.event ≡ Some v.key
     seal_row x None row ends h = absurd (none_some r h)
     seal_row x (Some w) row ends h =
         let is : family x w ≡ r = some_inj _ r (test_some _ (Some (family x w)) r h).1 in
@@ -280,7 +294,8 @@ module _ (limits : Limits) (t : Tables) (e : Entry) (flaw : Flaw) (exchanges : E
     sealed_key : sealed_representation t (lossless e) ≡ Some r → key_of t e.event ≡ Some v.key
     sealed_key h =
         let found = found_some (seals_at t (lossless e)) t.openings r h in
-        let both = test_some (stops found.0 e.event || closes_in found.0 (without_losses e.acts)) (sealed_by t (lossless e) found.0 (t.exchange found.0)) r found.1 in
+        let both = test_some (stops found.0 e.event || closes_in found.0 (without_losses e.acts)) (sealed_by t (lossless e) found.0 (t.exchange found.0))
+        r found.1 in
         seal_row found.0 (t.exchange found.0) refl both.0 both.1
 
     written_by : (ev : Event) → e.event ≡ ev → written_in t (lossless e) ev ≡ Some r → key_of t e.event ≡ Some v.key
@@ -313,14 +328,17 @@ module _ (limits : Limits) (t : Tables) (e : Entry) (flaw : Flaw) (exchanges : E
         let reads : may_misread t r e.event ≡ true = sym (ap (may_be limits t e) is) ∙ may in
         near_row c want (t.consumer c) at refl (sym (ap (may_misread t r) at) ∙ reads)
 
-    misread_said : (acts rest : List Act) → IsSaidHere acts → misreads_in r rest ≡ false → flaw_in (acts ++ rest) ≡ flaw → misreads_in r (acts ++ rest) ≡ true → key_of t e.event ≡ Some v.key
+    misread_said : (acts rest : List Act) → IsSaidHere acts → misreads_in r rest ≡ false → flaw_in (acts ++ rest) ≡ flaw → misreads_in
+        r (acts ++ rest) ≡ true → key_of t e.event ≡ Some v.key
     misread_said _ rest parts.silent none is h = absurd (let never : false ≡ true = sym none ∙ h in cc)
     misread_said _ rest (parts.does c want k m at row does near) none is h = misread_key c want at (sym is ∙ misread_move r c m rest none h)
     misread_said _ rest (parts.misreads c want q at reads) none is h = misread_key c want at (sym is ∙ misread_cause r c (cause.StoreRead q) rest none h)
 
     misread_by : (acts : List Act) → answered acts → flaw_in acts ≡ flaw → misreads_in r acts ≡ true → key_of t e.event ≡ Some v.key
     misread_by _ (parts.reported silent) is h =
-        absurd (let never : false ≡ true = sym ((asks_evicted 0 r (evicted limits t e.now e.event) _).misreads ∙ ((asks_lost 0 r flaw _).misreads ∙ (asks_closes 0 r closings).misreads)) ∙ h in cc)
+        absurd (let never : false ≡ true =
+        sym ((asks_evicted 0 r (evicted limits t e.now e.event) _).misreads ∙ ((asks_lost 0 r flaw _).misreads ∙ (asks_closes 0 r closings).misreads)) ∙
+        h in cc)
     misread_by _ parts.asked is h =
         misread_said asked_of _ said_here ((asks_closed 0 r closings _).misreads ∙ (asks_loss 0 r flaw).misreads) is h
 
@@ -331,13 +349,15 @@ module _ (limits : Limits) (t : Tables) (e : Entry) (flaw : Flaw) (exchanges : E
 
   -- OPENED
 
-  opens_said : (acts rest : List Act) (o : Opening) → IsSaidHere acts → opening_in rest ≡ None → opening_in (acts ++ rest) ≡ Some o → key_of t e.event ≡ Some o.request.key
+  opens_said : (acts rest : List Act) (o : Opening) → IsSaidHere acts → opening_in rest ≡ None → opening_in (acts ++ rest) ≡ Some o →
+      key_of t e.event ≡ Some o.request.key
   opens_said _ rest o (parts.does c want k m at row does near) none h = poll_key c want k at row ∙ ap Some (sym (opens_move t c k m rest o near none h))
   opens_said _ rest o _ none h = absurd (none_some o (sym none ∙ h))
 
   opens_by : (acts : List Act) (o : Opening) → answered acts → opening_in acts ≡ Some o → key_of t e.event ≡ Some o.request.key
   opens_by _ o (parts.reported silent) h =
-      absurd (none_some o (sym ((asks_evicted 0 0 (evicted limits t e.now e.event) _).opens ∙ ((asks_lost 0 0 flaw _).opens ∙ (asks_closes 0 0 closings).opens)) ∙ h))
+      absurd (none_some o (sym
+      ((asks_evicted 0 0 (evicted limits t e.now e.event) _).opens ∙ ((asks_lost 0 0 flaw _).opens ∙ (asks_closes 0 0 closings).opens)) ∙ h))
   opens_by _ o parts.asked h = opens_said asked_of _ o said_here ((asks_closed 0 0 closings _).opens ∙ (asks_loss 0 0 flaw).opens) h
 
   -- what is opened is of the event's key

@@ -43,19 +43,23 @@ doomed_key t e key is = grind (arith, nat_tests)
 pub of_row : (t : Tables) (r : ℕ) (key : List ℕ) (v : Representation) → HasRow t r key → t.representation r ≡ Some v → v.key ≡ key
 of_row t r key v has row = ap (λ (u : Representation). u.key) (same_row (t.representation r) v has.0 row has.1) ∙ has.2
 
-pub aims_key : (t : Tables) (x r : ℕ) (w : Exchange) (v : Representation) → ExchangeKeys t → t.exchange x ≡ Some w → w.aim ≡ Some r → t.representation r ≡ Some v → v.key ≡ w.request.key
+pub aims_key : (t : Tables) (x r : ℕ) (w : Exchange) (v : Representation) → ExchangeKeys t → t.exchange x ≡ Some w → w.aim ≡ Some r →
+    t.representation r ≡ Some v → v.key ≡ w.request.key
 aims_key t x r w v keys row is there = of_row t r w.request.key v (keys.aims x r w row is) there
 
-pub writer_key : (t : Tables) (r x : ℕ) (w : Exchange) (v : Representation) → ExchangeKeys t → t.representation r ≡ Some v → v.writer ≡ Some x → t.exchange x ≡ Some w → v.key ≡ w.request.key
+pub writer_key : (t : Tables) (r x : ℕ) (w : Exchange) (v : Representation) → ExchangeKeys t → t.representation r ≡ Some v → v.writer ≡ Some x →
+    t.exchange x ≡ Some w → v.key ≡ w.request.key
 writer_key t r x w v keys there is row =
     let h = keys.writers r x v there is in
     h.2 ∙ ap (λ (u : Exchange). u.request.key) (same_row (t.exchange x) h.0 w h.1 row)
 
-pub opener_key : (t : Tables) (x : ℕ) (w : Exchange) (k : Consumer) → ExchangeKeys t → t.exchange x ≡ Some w → t.consumer w.c ≡ Some k → w.request.key ≡ k.request.key
+pub opener_key : (t : Tables) (x : ℕ) (w : Exchange) (k : Consumer) → ExchangeKeys t → t.exchange x ≡ Some w → t.consumer w.c ≡ Some k →
+    w.request.key ≡ k.request.key
 opener_key t x w k keys row is = grind (arith, nat_tests)
 
 -- the representation of an exchange is of its key
-pub family_key : (t : Tables) (x r : ℕ) (w : Exchange) (v : Representation) → ExchangeKeys t → t.exchange x ≡ Some w → family x w ≡ r → t.representation r ≡ Some v → v.key ≡ w.request.key
+pub family_key : (t : Tables) (x r : ℕ) (w : Exchange) (v : Representation) → ExchangeKeys t → t.exchange x ≡ Some w → family x w ≡ r →
+    t.representation r ≡ Some v → v.key ≡ w.request.key
 family_key t x r w v keys row is there = by_joined w.joined refl is
   where
     by_joined : (o : Option ℕ) → w.joined ≡ o → unwrap_or o x ≡ r → v.key ≡ w.request.key
@@ -70,7 +74,8 @@ current_key t key r v is row =
     same_bytes v.key key (and_left _ _ passes)
 
 -- just what is current for a key is current for its own, where that is the same
-pub current_test : (t : Tables) (key : List ℕ) (r : ℕ) (v : Representation) → t.representation r ≡ Some v → (is_current t v.key r && bytes_eq key v.key) ≡ is_number (current t key) r
+pub current_test : (t : Tables) (key : List ℕ) (r : ℕ) (v : Representation) → t.representation r ≡ Some v →
+    (is_current t v.key r && bytes_eq key v.key) ≡ is_number (current t key) r
 current_test t key r v there = elim (bool_cases (bytes_eq key v.key)) [
   | inl same ↦ rw same (with_true (is_current t v.key r) ∙ ap (λ z. is_number (current t z) r) (sym (same_bytes key v.key same)))
   | inr other ↦ rw other (with_false (is_current t v.key r) ∙ sym (not_so (is_number (current t key) r) (λ on.
@@ -88,10 +93,12 @@ module _ (t : Tables) (c : ℕ) (k : Consumer) (exchanges : ExchangeKeys t) (con
       let h = consumers.own c x k is_row (own_is t k x is) in
       ap (λ (u : Exchange). u.request.key) (same_row (t.exchange x) w h.0 row h.1) ∙ h.2
 
-  pub bound_key : (r lo : ℕ) (hi : Option ℕ) (how : BoundBy) (v : Representation) → k.place ≡ place.Bound r lo hi how → t.representation r ≡ Some v → v.key ≡ k.request.key
+  pub bound_key : (r lo : ℕ) (hi : Option ℕ) (how : BoundBy) (v : Representation) → k.place ≡ place.Bound r lo hi how → t.representation r ≡ Some v →
+      v.key ≡ k.request.key
   bound_key r lo hi how v at row = of_row t r k.request.key v (consumers.bound r c k (sound.is_bound lo hi how is_row at)) row
 
-  pub shared_key : (place : Place) (x : ℕ) (w : Exchange) → k.place ≡ place → shared_exchange t place ≡ Some x → t.exchange x ≡ Some w → w.request.key ≡ k.request.key
+  pub shared_key : (place : Place) (x : ℕ) (w : Exchange) → k.place ≡ place → shared_exchange t place ≡ Some x → t.exchange x ≡ Some w →
+      w.request.key ≡ k.request.key
   shared_key (place.Bound r lo hi how) x w at is row = by_row (t.representation r) refl is
     where
       by_test : (v : Representation) (b : Bool) → (if b then v.writer else None) ≡ Some x → v.writer ≡ Some x
@@ -114,7 +121,8 @@ module _ (t : Tables) (c : ℕ) (k : Consumer) (exchanges : ExchangeKeys t) (con
       by_own (Some y) own h = own_key x w (own ∙ h) row
 
   -- what is near it is of its key
-  pub near_key : (r : ℕ) (v : Representation) → t.representation r ≡ Some v → (is_bound r (Some k) || is_current t k.request.key r) ≡ true → v.key ≡ k.request.key
+  pub near_key : (r : ℕ) (v : Representation) → t.representation r ≡ Some v → (is_bound r (Some k) || is_current t k.request.key r) ≡ true →
+      v.key ≡ k.request.key
   near_key r v row near = elim (or_cases _ _ near) [
     | inl bound ↦ by_place k.place refl bound
     | inr now ↦ current_key t k.request.key r v (number_is _ r now) row

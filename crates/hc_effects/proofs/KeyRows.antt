@@ -72,12 +72,14 @@ module _ (t : Tables) (e : Entry) (exchanges : ExchangeKeys t) (consumers : Cons
     stays_if : (b : Bool) (u : Representation) → (b ≡ true → ⊥) → (if b then u else v) ≡ v
     stays_if b u never_so = let fails = not_true b never_so in rw fails refl
 
-    head_stays : (x : ℕ) (response : Response) (o : Option Exchange) → key_of t e.event ≡ key_of_exchange t x → t.exchange x ≡ o → representation_after_head t e r x response o v ≡ v
+    head_stays : (x : ℕ) (response : Response) (o : Option Exchange) → key_of t e.event ≡ key_of_exchange t x → t.exchange x ≡ o →
+        representation_after_head t e r x response o v ≡ v
     head_stays x response None of_key row = refl
     head_stays x response (Some w) of_key row = stays_if (updates t e r w v) _ (λ h.
         not_ours x w of_key row (aims_key t x r w v exchanges row (number_is w.aim r (and_then _ _ (and_left _ _ h))) there))
 
-    piece_stays : (x : ℕ) (bytes : List ℕ) (o : Option Exchange) → key_of t e.event ≡ key_of_exchange t x → t.exchange x ≡ o → representation_after_piece e r x bytes o v ≡ v
+    piece_stays : (x : ℕ) (bytes : List ℕ) (o : Option Exchange) → key_of t e.event ≡ key_of_exchange t x → t.exchange x ≡ o →
+        representation_after_piece e r x bytes o v ≡ v
     piece_stays x bytes None of_key row = refl
     piece_stays x bytes (Some w) of_key row = stays_if (family x w == r) _ (λ h.
         not_ours x w of_key row (family_key t x r w v exchanges row (eq_is (family x w) r h) there))
@@ -129,7 +131,8 @@ module _ (t : Tables) (e : Entry) (exchanges : ExchangeKeys t) (consumers : Cons
 
     pub not_going : goes_itself t e r v ≡ false
     not_going =
-        all_none (is_current t v.key r && (is_key (doomed_key_of t e) v.key || is_key (bypass_key e) v.key)) (goes_by_head t e r) (loses_in r e.acts) (misreads_in r e.acts) (ends_early t e r v && not (is_keepable v))
+        all_none (is_current t v.key r && (is_key (doomed_key_of t e) v.key || is_key (bypass_key e) v.key)) (goes_by_head t e r) (loses_in r e.acts)
+        (misreads_in r e.acts) (ends_early t e r v && not (is_keepable v))
         (not_true _ not_doomed) (not_true _ (not_by_head e.event refl)) (far.loses r v there other) (far.misreads r v there other)
         (not_true _ (λ h. not_ended (t.exchange r) refl (and_then _ _ (and_left _ _ h))))
 
@@ -140,7 +143,8 @@ module _ (t : Tables) (e : Entry) (exchanges : ExchangeKeys t) (consumers : Cons
     acted_gone : (gone : Bool) → evicts_in r e.acts ≡ gone → representation_acted t e r v v ≡ record v { is_gone = gone || v.is_gone }
     acted_gone gone is = rw (far.loses r v there other, goes_as, is) refl
 
-    pub representation_row : (gone : Bool) → evicts_in r e.acts ≡ gone → representation_after t e r (t.representation r) ≡ Some (record v { is_gone = gone || v.is_gone })
+    pub representation_row : (gone : Bool) → evicts_in r e.acts ≡ gone →
+        representation_after t e r (t.representation r) ≡ Some (record v { is_gone = gone || v.is_gone })
     unfolding representation_after
     representation_row gone is =
         ap (representation_after t e r) there
@@ -160,7 +164,8 @@ module _ (t : Tables) (e : Entry) (exchanges : ExchangeKeys t) (consumers : Cons
     keeps_if : (b : Bool) (u : Consumer) → (b ≡ true → ⊥) → (if b then u else k) ≡ k
     keeps_if b u never_so = let fails = not_true b never_so in rw fails refl
 
-    head_keeps : (x : ℕ) (response : Response) (o : Option Exchange) → key_of t e.event ≡ key_of_exchange t x → t.exchange x ≡ o → by_head t e c x response o k ≡ k
+    head_keeps : (x : ℕ) (response : Response) (o : Option Exchange) → key_of t e.event ≡ key_of_exchange t x → t.exchange x ≡ o →
+        by_head t e c x response o k ≡ k
     head_keeps x response None of_key row = refl
     head_keeps x response (Some w) of_key row = keeps_if (w.c == c) _ (not_mine x w of_key row)
 
@@ -176,7 +181,8 @@ module _ (t : Tables) (e : Entry) (exchanges : ExchangeKeys t) (consumers : Cons
     heard_consumer _ at = refl
 
     -- what is lost is of another key
-    not_losing : (r lo : ℕ) (hi : Option ℕ) (how : BoundBy) (v : Representation) → k.place ≡ place.Bound r lo hi how → t.representation r ≡ Some v → loses_group t e r v ≡ false
+    not_losing : (r lo : ℕ) (hi : Option ℕ) (how : BoundBy) (v : Representation) → k.place ≡ place.Bound r lo hi how → t.representation r ≡ Some v →
+        loses_group t e r v ≡ false
     not_losing r lo hi how v at there = not_true _ (λ h.
         let same = bound_key t c k exchanges consumers is_row r lo hi how v at there in
         let none = far.loses r v there (subst (IsOther t e.event) (sym same) other) in
@@ -237,7 +243,8 @@ module _ (t : Tables) (e : Entry) (exchanges : ExchangeKeys t) (consumers : Cons
     going_row : (r : ℕ) (v : Representation) → t.representation r ≡ Some v → v.key ≡ k.request.key → becomes_gone t e r v ≡ evicts_in r e.acts
     going_row r v there same = goes_as r v there (subst (IsOther t e.event) (sym same) other)
 
-    goes_row : (r : ℕ) (kept : Option ℕ) (o : Option Representation) → k.place ≡ place.Passed r kept → t.representation r ≡ o → goes_in t e r o ≡ evicts_in r e.acts
+    goes_row : (r : ℕ) (kept : Option ℕ) (o : Option Representation) → k.place ≡ place.Passed r kept → t.representation r ≡ o → goes_in
+        t e r o ≡ evicts_in r e.acts
     goes_row r kept None at there = elim (bool_cases (evicts_in r e.acts)) [
       | inr none ↦ sym none
       | inl gone ↦ absurd (none_some _ (sym there ∙ (far.evicted r gone).1))

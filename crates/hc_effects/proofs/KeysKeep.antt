@@ -33,25 +33,32 @@ current_row t r key is = usable_row t r key (t.representation r) refl (find_pass
 pub data IsOpening (t : Tables) (ev : Event) (o : Opening) : Type 0 where
   opening : (want : ℕ) (k : Consumer) → ev ≡ event.Poll o.c want → t.consumer o.c ≡ Some k → o.request.key ≡ k.request.key → IsOpening t ev o
 
-opened_move : (t : Tables) (c : ℕ) (k : Consumer) (m : Move) (rest : List Act) (o : Opening) → IsNear t k m → opening_in rest ≡ None → opening_in (acts_of c m ++ rest) ≡ Some o → (c ≡ o.c) × (o.request.key ≡ k.request.key)
-opened_move t c k _ rest o (polls.opens y n request same) none h = (ap (λ (q : Opening). q.c) (some_inj _ o h), ap (λ (q : Opening). q.request.key) (sym (some_inj _ o h)) ∙ same)
+opened_move : (t : Tables) (c : ℕ) (k : Consumer) (m : Move) (rest : List Act) (o : Opening) → IsNear t k m → opening_in rest ≡ None → opening_in
+    (acts_of c m ++ rest) ≡ Some o → (c ≡ o.c) × (o.request.key ≡ k.request.key)
+opened_move t c k _ rest o (polls.opens y n request same) none h =
+    (ap (λ (q : Opening). q.c) (some_inj _ o h), ap (λ (q : Opening). q.request.key) (sym (some_inj _ o h)) ∙ same)
 opened_move t c k _ rest o _ none h = absurd (none_some o (sym none ∙ h))
 
-opened_said : (t : Tables) (now : ℕ) (ev : Event) (flaw : Flaw) (acts rest : List Act) (o : Opening) → IsSaid t now ev flaw acts → opening_in rest ≡ None → opening_in (acts ++ rest) ≡ Some o → IsOpening t ev o
+opened_said : (t : Tables) (now : ℕ) (ev : Event) (flaw : Flaw) (acts rest : List Act) (o : Opening) → IsSaid t now ev flaw acts → opening_in
+    rest ≡ None → opening_in (acts ++ rest) ≡ Some o → IsOpening t ev o
 opened_said t now ev flaw _ rest o (parts.does c want k m at row does near) none h =
     let both = opened_move t c k m rest o near none h in
     opening want k (at ∙ ap (λ d. event.Poll d want) both.0) (ap t.consumer (sym both.0) ∙ row) both.1
 opened_said t now ev flaw _ rest o _ none h = absurd (none_some o (sym none ∙ h))
 
-opened_by : (limits : Limits) (t : Tables) (now : ℕ) (ev : Event) (flaw : Flaw) (acts : List Act) (o : Opening) → IsAnswer limits t now ev flaw acts → opening_in acts ≡ Some o → IsOpening t ev o
+opened_by : (limits : Limits) (t : Tables) (now : ℕ) (ev : Event) (flaw : Flaw) (acts : List Act) (o : Opening) → IsAnswer limits t now ev flaw acts →
+    opening_in acts ≡ Some o → IsOpening t ev o
 opened_by limits t now ev flaw _ o (parts.reported silent) h =
     let seen : Entry = record { now = now; event = ev; acts = answer_acts t now ev flaw ++ loss_acts flaw } in
-    absurd (none_some o (sym ((asks_evicted 0 0 (evicted limits t now ev) _).opens ∙ ((asks_lost 0 0 flaw _).opens ∙ (asks_closes 0 0 (closing t seen)).opens)) ∙ h))
+    absurd (none_some o (sym
+    ((asks_evicted 0 0 (evicted limits t now ev) _).opens ∙ ((asks_lost 0 0 flaw _).opens ∙ (asks_closes 0 0 (closing t seen)).opens)) ∙ h))
 opened_by limits t now ev flaw _ o parts.asked h =
     let seen : Entry = record { now = now; event = ev; acts = answer_acts t now ev flaw ++ loss_acts flaw } in
-    opened_said t now ev flaw (answer_acts t now ev flaw) _ o (said_is t now ev flaw) ((asks_closed 0 0 (closing t seen) _).opens ∙ (asks_loss 0 0 flaw).opens) h
+    opened_said t now ev flaw (answer_acts t now ev flaw) _ o (said_is t now ev flaw)
+    ((asks_closed 0 0 (closing t seen) _).opens ∙ (asks_loss 0 0 flaw).opens) h
 
-pub opened_is : (limits : Limits) (t : Tables) (now : ℕ) (ev : Event) (flaw : Flaw) (o : Opening) → opening_in (accepted_acts limits t now ev flaw) ≡ Some o → IsOpening t ev o
+pub opened_is : (limits : Limits) (t : Tables) (now : ℕ) (ev : Event) (flaw : Flaw) (o : Opening) → opening_in
+    (accepted_acts limits t now ev flaw) ≡ Some o → IsOpening t ev o
 opened_is limits t now ev flaw o h = opened_by limits t now ev flaw _ o (answer_is limits t now ev flaw) h
 
 -- ROWS BEFORE AND AFTER
@@ -76,8 +83,10 @@ module _ (t : Tables) (e : Entry) where
   same_if x false w z same = record { c_is = refl; need_is = refl; request_is = refl; aim_is = refl; joined_is = inl refl }
 
   pub same_exchange : (x : ℕ) (ev : Event) (w : Exchange) → IsSameExchange w (exchange_acted x e.acts (exchange_heard t e x ev w))
-  same_exchange x (event.Head y response) w = same_if x (y == x) w _ (record { c_is = refl; need_is = refl; request_is = refl; aim_is = refl; joined_is = joined_by (is_joining (case_at t e)) w })
-  same_exchange x (event.Piece y bytes) w = same_if x (y == x) w _ (record { c_is = refl; need_is = refl; request_is = refl; aim_is = refl; joined_is = inl refl })
+  same_exchange x (event.Head y response) w =
+      same_if x (y == x) w _ (record { c_is = refl; need_is = refl; request_is = refl; aim_is = refl; joined_is = joined_by (is_joining (case_at t e)) w })
+  same_exchange x (event.Piece y bytes) w =
+      same_if x (y == x) w _ (record { c_is = refl; need_is = refl; request_is = refl; aim_is = refl; joined_is = inl refl })
   same_exchange x (event.End y) w = same_if x (y == x) w _ (record { c_is = refl; need_is = refl; request_is = refl; aim_is = refl; joined_is = inl refl })
   same_exchange x (event.Fault y) w = same_if x (y == x) w _ (record { c_is = refl; need_is = refl; request_is = refl; aim_is = refl; joined_is = inl refl })
   same_exchange x _ w = record { c_is = refl; need_is = refl; request_is = refl; aim_is = refl; joined_is = inl refl }
@@ -108,13 +117,20 @@ module _ (t : Tables) (e : Entry) where
   -- what is opened has its row
   pub exchange_new : (x : ℕ) (o : Opening) → opening_in e.acts ≡ Some o → o.x ≡ x → t.exchange x ≡ None → HasExchange (after_accepted t e) x o.request.key
   unfolding exchange_after
-  exchange_new x o is here none =
-      (exchange_opened t e o, ap (exchange_after t e x) none ∙ (ap (exchange_made t e x) is ∙ rw here (ap (λ b. if b then Some (exchange_opened t e o) else None) (eq-refl x))), refl)
+  exchange_new x o is here none = (
+    exchange_opened t e o,
+    ap (exchange_after t e x) none ∙
+        (ap (exchange_made t e x) is ∙ rw here (ap (λ b. if b then Some (exchange_opened t e o) else None) (eq-refl x))),
+    refl,
+  )
 
   pub representation_stays : (r : ℕ) (key : List ℕ) → HasRow t r key → HasRow (after_accepted t e) r key
   unfolding representation_after
-  representation_stays r key has =
-      (representation_acted t e r has.0 (representation_heard t e r e.event has.0), ap (representation_after t e r) has.1, (heard_same t e r e.event has.0).key_is ∙ has.2)
+  representation_stays r key has = (
+    representation_acted t e r has.0 (representation_heard t e r e.event has.0),
+    ap (representation_after t e r) has.1,
+    (heard_same t e r e.event has.0).key_is ∙ has.2,
+  )
 
   -- WRITERS
 
@@ -127,15 +143,19 @@ module _ (t : Tables) (e : Entry) where
   kept_if r true v u is = is
   kept_if r false v u is = kept refl
 
-  writer_if : (r x : ℕ) (response : Response) (w : Exchange) (v : Representation) (b : Bool) → renews b x v.writer ≡ (with_renewed_head t e x response w v).writer → t.exchange x ≡ Some w → w.aim ≡ Some r → WasWriter r v (with_renewed_head t e x response w v)
+  writer_if : (r x : ℕ) (response : Response) (w : Exchange) (v : Representation) (b : Bool) →
+      renews b x v.writer ≡ (with_renewed_head t e x response w v).writer → t.exchange x ≡ Some w → w.aim ≡ Some r →
+      WasWriter r v (with_renewed_head t e x response w v)
   writer_if r x response w v true is row aim = resumed x w row aim (sym is)
   writer_if r x response w v false is row aim = kept (sym is)
 
-  headed_writer : (r x : ℕ) (response : Response) (v : Representation) (o : Option Exchange) → t.exchange x ≡ o → WasWriter r v (representation_after_head t e r x response o v)
+  headed_writer : (r x : ℕ) (response : Response) (v : Representation) (o : Option Exchange) → t.exchange x ≡ o →
+      WasWriter r v (representation_after_head t e r x response o v)
   headed_writer r x response v None row = kept refl
   headed_writer r x response v (Some w) row = elim (bool_cases (updates t e r w v)) [
     | inr stays ↦ rw stays (kept refl)
-    | inl goes ↦ rw goes (writer_if r x response w v (is_joining (case_at t e) && resumes t response w v) refl row (number_is w.aim r (and_then _ _ (and_left _ _ goes))))
+    | inl goes ↦ rw goes (writer_if r x response w v (is_joining (case_at t e) && resumes t response w v) refl row
+        (number_is w.aim r (and_then _ _ (and_left _ _ goes))))
   ]
 
   pieced_writer : (r x : ℕ) (bytes : List ℕ) (v : Representation) (o : Option Exchange) → WasWriter r v (representation_after_piece e r x bytes o v)
@@ -148,7 +168,8 @@ module _ (t : Tables) (e : Entry) where
   heard_writer r v (event.End x) = kept_if r (x == r) v (with_total_if_none (length_in (t.exchange x)) v) (kept refl)
   heard_writer r v _ = kept refl
 
-  acted_writer : (r : ℕ) (v u : Representation) → representation_acted t e r v (representation_heard t e r e.event v) ≡ u → WasWriter r v (representation_heard t e r e.event v) → WasWriter r v u
+  acted_writer : (r : ℕ) (v u : Representation) → representation_acted t e r v (representation_heard t e r e.event v) ≡ u →
+      WasWriter r v (representation_heard t e r e.event v) → WasWriter r v u
   acted_writer r v u is (kept same) = kept (ap (λ (z : Representation). z.writer) (sym is) ∙ same)
   acted_writer r v u is (resumed x w row aim same) = resumed x w row aim (ap (λ (z : Representation). z.writer) (sym is) ∙ same)
 
@@ -157,7 +178,8 @@ module _ (t : Tables) (e : Entry) where
     was_row : (v : Representation) → t.representation r ≡ Some v → u.key ≡ v.key → WasWriter r v u → WasRow r u
     new_row : (response : Response) (w : Exchange) → t.exchange r ≡ Some w → u.key ≡ w.request.key → u.writer ≡ writer_at r response → WasRow r u
 
-  founded_with : (r x : ℕ) (response : Response) (u : Representation) (b : Bool) (o : Option Exchange) → (b ≡ true → x ≡ r) → t.exchange x ≡ o → (if b then option_map (new_representation r e response) o else None) ≡ Some u → WasRow r u
+  founded_with : (r x : ℕ) (response : Response) (u : Representation) (b : Bool) (o : Option Exchange) → (b ≡ true → x ≡ r) → t.exchange x ≡ o →
+      (if b then option_map (new_representation r e response) o else None) ≡ Some u → WasRow r u
   founded_with r x response u false o here row h = absurd (none_some u h)
   founded_with r x response u true None here row h = absurd (none_some u h)
   founded_with r x response u true (Some w) here row h =
@@ -165,10 +187,12 @@ module _ (t : Tables) (e : Entry) where
       new_row response w (ap t.exchange (sym (here refl)) ∙ row) (ap (λ (z : Representation). z.key) is) (ap (λ (z : Representation). z.writer) is)
 
   founded_new : (r : ℕ) (u : Representation) (ev : Event) → founded_at t e r ev ≡ Some u → WasRow r u
-  founded_new r u (event.Head x response) h = founded_with r x response u (is_founding (case_at t e) && (x == r)) (t.exchange x) (λ b. eq_is x r (and_then _ _ b)) refl h
+  founded_new r u (event.Head x response) h =
+      founded_with r x response u (is_founding (case_at t e) && (x == r)) (t.exchange x) (λ b. eq_is x r (and_then _ _ b)) refl h
   founded_new r u _ h = absurd (none_some u h)
 
-  pub representation_was : (r : ℕ) (o : Option Representation) (u : Representation) → t.representation r ≡ o → representation_after t e r o ≡ Some u → WasRow r u
+  pub representation_was : (r : ℕ) (o : Option Representation) (u : Representation) → t.representation r ≡ o → representation_after t e r o ≡ Some u →
+      WasRow r u
   unfolding representation_after
   representation_was r None u row h = founded_new r u e.event h
   representation_was r (Some v) u row h =

@@ -39,14 +39,92 @@ record Fronts (c : ℕ) (ev : Event) (o : Option ℕ) (front rest : List Act) : 
   opens : opening_in (front ++ rest) ≡ opening_in rest
   shows : showing_in (front ++ rest) ≡ showing_in rest
 
-not_misread : (why : Cause) (r : ℕ) (rest : List Act) → is_failed_read (Some why) ≡ false → misreads_in r rest ≡ false → misreads_in r (act.Failed 0 why ∷ rest) ≡ false
+not_misread : (why : Cause) (r : ℕ) (rest : List Act) → is_failed_read (Some why) ≡ false → misreads_in r rest ≡ false → misreads_in
+    r (act.Failed 0 why ∷ rest) ≡ false
 not_misread why r rest reported none = grind (arith, nat_tests)
 
 fronts : (c : ℕ) (ev : Event) (o : Option ℕ) (front rest : List Act) → IsPrefix c ev o front → Fronts c ev o front rest
-fronts c _ _ _ rest (ends want) = record { asked = refl; far = λ d other far. record { waits = far.waits; leaves = rw other far.leaves; fails = far.fails; shows = far.shows; given = far.given; opens = far.opens; showing = far.showing }; closes = λ x. refl; asks = λ x. refl; loses = λ r. refl; evicts = λ r. refl; misreads = λ r none. none; opens = refl; shows = refl }
-fronts c _ _ _ rest (fails want why reported) = record { asked = refl; far = λ d other far. record { waits = far.waits; leaves = rw other far.leaves; fails = rw other far.fails; shows = far.shows; given = far.given; opens = far.opens; showing = far.showing }; closes = λ x. refl; asks = λ x. refl; loses = λ r. refl; evicts = λ r. refl; misreads = λ r none. not_misread why r rest reported none; opens = refl; shows = refl }
-fronts c _ _ _ rest (misreads want q) = record { asked = refl; far = λ d other far. record { waits = far.waits; leaves = rw other far.leaves; fails = rw other far.fails; shows = far.shows; given = far.given; opens = far.opens; showing = far.showing }; closes = λ x. refl; asks = λ x. refl; loses = λ r. refl; evicts = λ r. refl; misreads = λ r none. or_rest (q == r) (misreads_in r rest) none; opens = refl; shows = refl }
-fronts c _ _ _ rest cancels = record { asked = refl; far = λ d other far. far; closes = λ x. refl; asks = λ x. refl; loses = λ r. refl; evicts = λ r. refl; misreads = λ r none. none; opens = refl; shows = refl }
+fronts c _ _ _ rest (ends want) =
+    record {
+      asked = refl;
+      far =
+          λ d other far. record {
+            waits = far.waits;
+            leaves = rw other far.leaves;
+            fails = far.fails;
+            shows = far.shows;
+            given = far.given;
+            opens = far.opens;
+            showing = far.showing;
+          };
+      closes = λ x. refl;
+      asks = λ x. refl;
+      loses = λ r. refl;
+      evicts = λ r. refl;
+      misreads = λ r none. none;
+      opens = refl;
+      shows =
+          refl;
+    }
+fronts c _ _ _ rest (fails want why reported) =
+    record {
+      asked = refl;
+      far =
+          λ d other far. record {
+            waits = far.waits;
+            leaves = rw other far.leaves;
+            fails = rw other far.fails;
+            shows = far.shows;
+            given = far.given;
+            opens =
+                far.opens;
+            showing = far.showing;
+          };
+      closes = λ x. refl;
+      asks = λ x. refl;
+      loses = λ r. refl;
+      evicts = λ r. refl;
+      misreads =
+          λ r none. not_misread why r rest reported none;
+      opens = refl;
+      shows = refl;
+    }
+fronts c _ _ _ rest (misreads want q) =
+    record {
+      asked = refl;
+      far =
+          λ d other far. record {
+            waits = far.waits;
+            leaves = rw other far.leaves;
+            fails = rw other far.fails;
+            shows = far.shows;
+            given = far.given;
+            opens =
+                far.opens;
+            showing = far.showing;
+          };
+      closes = λ x. refl;
+      asks = λ x. refl;
+      loses = λ r. refl;
+      evicts = λ r. refl;
+      misreads =
+          λ r none. or_rest (q == r) (misreads_in r rest) none;
+      opens = refl;
+      shows = refl;
+    }
+fronts c _ _ _ rest cancels =
+    record {
+      asked = refl;
+      far = λ d other far. far;
+      closes = λ x. refl;
+      asks = λ x. refl;
+      loses = λ r. refl;
+      evicts = λ r. refl;
+      misreads =
+          λ r none. none;
+      opens = refl;
+      shows = refl;
+    }
 
 leaver_is : (c : ℕ) (ev : Event) (o : Option ℕ) (front : List Act) (flaw : Flaw) → IsPrefix c ev o front → leaver_by ev (front ++ loss_acts flaw) ≡ Some c
 leaver_is c _ _ _ flaw (ends want) = refl
@@ -72,14 +150,46 @@ record IsSilent (c : ℕ) (acts : List Act) : Type 0 where
 silent : (c : ℕ) (xs : List ℕ) (flaw : Flaw) → IsSilent c (map act.Close xs ++ loss_acts flaw)
 silent c [] NoFlaw = record { opens = refl; showing = refl; waits = refl; leaves = refl; shows = refl; gives = refl }
 silent c [] _ = record { opens = refl; showing = refl; waits = refl; leaves = refl; shows = refl; gives = refl }
-silent c (x ∷ xs) flaw = let s = silent c xs flaw in record { opens = s.opens; showing = s.showing; waits = s.waits; leaves = s.leaves; shows = s.shows; gives = s.gives }
+silent c (x ∷ xs) flaw = let s = silent c xs flaw in
+    record { opens = s.opens; showing = s.showing; waits = s.waits; leaves = s.leaves; shows = s.shows; gives = s.gives }
 
 -- who leaves is over
 over_by : (t : Tables) (now c : ℕ) (k : Consumer) (ev : Event) (o : Option ℕ) (front rest : List Act) → IsPrefix c ev o front → IsSilent c rest
-    → consumer_acted t (record { now = now; event = ev; acts = front ++ rest }) c (consumer_heard t (record { now = now; event = ev; acts = front ++ rest }) c ev k) ≡ record k { place = place.Over }
-over_by t now c k _ _ _ rest (ends want) s = rw (s.opens, s.waits, s.shows, s.gives, eqb-same c, plus_none k.given, own_stays t (record { now = now; event = event.Poll c want; acts = act.Ended c ∷ rest }) c k.place k.own (spared_bodiless t (record { now = now; event = event.Poll c want; acts = act.Ended c ∷ rest }) k.place refl)) refl
-over_by t now c k _ _ _ rest (fails want why reported) s = rw (s.opens, s.waits, s.shows, s.gives, eqb-same c, plus_none k.given, own_stays t (record { now = now; event = event.Poll c want; acts = act.Failed c why ∷ rest }) c k.place k.own (spared_bodiless t (record { now = now; event = event.Poll c want; acts = act.Failed c why ∷ rest }) k.place refl)) refl
-over_by t now c k _ _ _ rest (misreads want r) s = rw (s.opens, s.waits, s.shows, s.gives, eqb-same c, plus_none k.given, own_stays t (record { now = now; event = event.Poll c want; acts = act.Failed c (cause.StoreRead r) ∷ rest }) c k.place k.own (spared_bodiless t (record { now = now; event = event.Poll c want; acts = act.Failed c (cause.StoreRead r) ∷ rest }) k.place refl)) refl
+    → consumer_acted t (record { now = now; event = ev; acts = front ++ rest }) c
+    (consumer_heard t (record { now = now; event = ev; acts = front ++ rest }) c ev k) ≡ record k { place = place.Over }
+over_by t now c k _ _ _ rest (ends want) s =
+    rw (
+      s.opens,
+      s.waits,
+      s.shows,
+      s.gives,
+      eqb-same c,
+      plus_none k.given,
+      own_stays t (record { now = now; event = event.Poll c want; acts = act.Ended c ∷ rest }) c k.place k.own
+          (spared_bodiless t (record { now = now; event = event.Poll c want; acts = act.Ended c ∷ rest }) k.place refl),
+    ) refl
+over_by t now c k _ _ _ rest (fails want why reported) s =
+    rw (
+      s.opens,
+      s.waits,
+      s.shows,
+      s.gives,
+      eqb-same c,
+      plus_none k.given,
+      own_stays t (record { now = now; event = event.Poll c want; acts = act.Failed c why ∷ rest }) c k.place k.own
+          (spared_bodiless t (record { now = now; event = event.Poll c want; acts = act.Failed c why ∷ rest }) k.place refl),
+    ) refl
+over_by t now c k _ _ _ rest (misreads want r) s =
+    rw (
+      s.opens,
+      s.waits,
+      s.shows,
+      s.gives,
+      eqb-same c,
+      plus_none k.given,
+      own_stays t (record { now = now; event = event.Poll c want; acts = act.Failed c (cause.StoreRead r) ∷ rest }) c k.place k.own
+          (spared_bodiless t (record { now = now; event = event.Poll c want; acts = act.Failed c (cause.StoreRead r) ∷ rest }) k.place refl),
+    ) refl
 over_by t now c k _ _ _ rest cancels s = rw (eqb-same c, s.opens, s.waits, s.leaves, s.showing, s.shows, s.gives, plus_none k.given) refl
 
 no_start : (c : ℕ) (ev : Event) (o : Option ℕ) (front : List Act) → IsPrefix c ev o front → (cs : List ℕ) → starts_after ev cs ≡ cs
@@ -94,7 +204,8 @@ no_last c _ _ _ (fails want why reported) n = refl
 no_last c _ _ _ (misreads want r) n = refl
 no_last c _ _ _ cancels n = refl
 
-module _ (limits : Limits) (t : Tables) (law : Lawful t) (now c : ℕ) (k : Consumer) (row : t.consumer c ≡ Some k) (ev : Event) (flaw : Flaw) (o : Option ℕ) (front : List Act) (is : IsPrefix c ev o front) where
+module _ (limits : Limits) (t : Tables) (law : Lawful t) (now c : ℕ) (k : Consumer) (row : t.consumer c ≡ Some k) (ev : Event) (flaw : Flaw)
+    (o : Option ℕ) (front : List Act) (is : IsPrefix c ev o front) where
   -- what is closed
   abbrev pub xs : List ℕ
   xs = with_item_first (left_by t c k) []
@@ -113,7 +224,8 @@ module _ (limits : Limits) (t : Tables) (law : Lawful t) (now c : ℕ) (k : Cons
   f = fronts c ev o front rest is
 
   closing_is : closing t (record { now = now; event = ev; acts = front ++ loss_acts flaw }) ≡ xs
-  closing_is = closes_left t (record { now = now; event = ev; acts = front ++ loss_acts flaw }) c (nothing (front ++ loss_acts flaw)) law.sound law.owned law.order c k row (leaver_is c ev o front flaw is)
+  closing_is = closes_left t (record { now = now; event = ev; acts = front ++ loss_acts flaw }) c (nothing (front ++ loss_acts flaw)) law.sound law.owned
+      law.order c k row (leaver_is c ev o front flaw is)
 
   -- what is said, closed and lost
   pub acts_left : answer_acts t now ev flaw ≡ front → accepted_acts limits t now ev flaw ≡ front ++ rest
@@ -151,7 +263,8 @@ module _ (limits : Limits) (t : Tables) (law : Lawful t) (now c : ℕ) (k : Cons
   loses_as r = f.loses r ∙ loses_closed r xs (loss_acts flaw)
 
   -- what a 200 founded that is closed goes, where it can't be completed later
-  ends_as : (r : ℕ) (v : Representation) → t.representation r ≡ Some v → (ends_early t e r v && not (is_keepable v)) ≡ is_number (going_with t (left_by t c k)) r
+  ends_as : (r : ℕ) (v : Representation) → t.representation r ≡ Some v →
+      (ends_early t e r v && not (is_keepable v)) ≡ is_number (going_with t (left_by t c k)) r
   ends_as r v there = by_left (left_by t c k) refl
     where
       founding : (z : Option Exchange) (b : Bool) → closes_in r (front ++ rest) ≡ b → (b ≡ true → is_open z ≡ true) → ends_founding e r z ≡ b
@@ -188,14 +301,17 @@ module _ (limits : Limits) (t : Tables) (law : Lawful t) (now c : ℕ) (k : Cons
             ∙ ap (λ z. is_number (going_with t z) r) (sym same))))
         | inr apart ↦
             let off : closes_in r (front ++ rest) ≡ false = closes_as r ∙ (in_one (left_by t c k) r ∙ (ap (λ z. is_number z r) left ∙ apart)) in
-            rw (founding (t.exchange r) false off (λ on. absurd (false_true on))) (drop_false (brings_whole v.head.status) (not (is_keepable v)) ∙ sym (other x (is_unkeepable (t.representation x)) apart))
+            rw (founding (t.exchange r) false off (λ on. absurd (false_true on)))
+            (drop_false (brings_whole v.head.status) (not (is_keepable v)) ∙ sym (other x (is_unkeepable (t.representation x)) apart))
       ]
 
   -- by a loss, a failed read, or with what founded it
-  pub goes_by : (r : ℕ) (v : Representation) → t.representation r ≡ Some v → becomes_gone t e r v ≡ (loses_in r (loss_acts flaw) || is_number o r || is_number (going_with t (left_by t c k)) r)
+  pub goes_by : (r : ℕ) (v : Representation) → t.representation r ≡ Some v →
+      becomes_gone t e r v ≡ (loses_in r (loss_acts flaw) || is_number o r || is_number (going_with t (left_by t c k)) r)
   goes_by r v there =
       goes_as t e c (nothing (front ++ rest)) r v
-      ∙ rw (unopened, loses_as r, f.misreads r (no_misread r xs flaw), ends_as r v there, f.evicts r ∙ evicts_closed r xs flaw) (drop (is_current t v.key r) (loses_in r (loss_acts flaw)) (is_number o r) (is_number (going_with t (left_by t c k)) r))
+      ∙ rw (unopened, loses_as r, f.misreads r (no_misread r xs flaw), ends_as r v there, f.evicts r ∙ evicts_closed r xs flaw)
+      (drop (is_current t v.key r) (loses_in r (loss_acts flaw)) (is_number o r) (is_number (going_with t (left_by t c k)) r))
     where
       drop : (a b d g : Bool) → ((a && false) || b || d || g || false) ≡ (b || d || g)
       drop true b d g = or_off (b || d || g)
@@ -210,13 +326,16 @@ module _ (limits : Limits) (t : Tables) (law : Lawful t) (now c : ℕ) (k : Cons
   pub itself : loses_what_it_waits_for t e c k.place ≡ false → consumer_after t e c (t.consumer c) ≡ Some (as_over k)
   itself stays =
       ap (consumer_after t e c) row
-      ∙ consumer_itself t e c (nothing (front ++ rest)) c k (consumer_heard t e c ev k) (record k { place = place.Over }) refl (over_by t now c k ev o front rest is (silent c xs flaw)) stays
+      ∙ consumer_itself t e c (nothing (front ++ rest)) c k (consumer_heard t e c ev k) (record k { place = place.Over }) refl
+      (over_by t now c k ev o front rest is (silent c xs flaw)) stays
 
   -- THE TABLES
 
   -- c is over, what nobody reads any more is closed, and these are let go
-  pub leaves : (rs : List ℕ) (rep : ℕ → Option Representation) → ((r : ℕ) (v : Representation) → t.representation r ≡ Some v → becomes_gone t e r v ≡ is_in rs r)
-      → ((r : ℕ) → representation_after t e r (t.representation r) ≡ (if is_in rs r then option_map as_gone (rep r) else rep r)) → loses_what_it_waits_for t e c k.place ≡ false
+  pub leaves : (rs : List ℕ) (rep : ℕ → Option Representation) →
+      ((r : ℕ) (v : Representation) → t.representation r ≡ Some v → becomes_gone t e r v ≡ is_in rs r)
+      → ((r : ℕ) → representation_after t e r (t.representation r) ≡ (if is_in rs r then option_map as_gone (rep r) else rep r)) →
+      loses_what_it_waits_for t e c k.place ≡ false
       → after_accepted t e ≡ with_event now ev (let_all_go now rs (with_consumer c (Some (as_over k)) (record (shut xs t) { representation = rep })))
   leaves rs rep goes rows stays =
       after_by t e c (nothing (front ++ rest)) rs (record (shut xs t) { representation = rep }) (as_over k) (record {

@@ -44,10 +44,12 @@ module _ (now r : ℕ) (t : Tables) where
     pub row : t.consumer c ≡ Some k
     pub off : nat_eq r q ≡ false
 
-  still_by : (c q : ℕ) (kept : Option ℕ) (k w : Consumer) (b : Bool) → t.consumer c ≡ Some w → waits_for r w.place ≡ b → (if b then back_in_line now w else w) ≡ k → k.place ≡ place.Passed q kept → StillWaits c q k
+  still_by : (c q : ℕ) (kept : Option ℕ) (k w : Consumer) (b : Bool) → t.consumer c ≡ Some w → waits_for r w.place ≡ b →
+      (if b then back_in_line now w else w) ≡ k → k.place ≡ place.Passed q kept → StillWaits c q k
   still_by c q kept k w b row is same at = grind (arith, nat_tests)
 
-  still_row : (c q : ℕ) (kept : Option ℕ) (k : Consumer) (z : Option Consumer) → t.consumer c ≡ z → option_map (back_from now r) z ≡ Some k → k.place ≡ place.Passed q kept → StillWaits c q k
+  still_row : (c q : ℕ) (kept : Option ℕ) (k : Consumer) (z : Option Consumer) → t.consumer c ≡ z → option_map (back_from now r) z ≡ Some k →
+      k.place ≡ place.Passed q kept → StillWaits c q k
   still_row c q kept k None row same at = absurd (none_some k same)
   still_row c q kept k (Some w) row same at = still_by c q kept k w (waits_for r w.place) row refl (some_inj _ k same) at
 
@@ -140,16 +142,19 @@ module _ (now r : ℕ) (t : Tables) (may : MayLetGo t) where
       by_test false = refl
   idle_row q (Some v) = by_test (r == q) ∙ (ap (λ o. is_number o q && (length (bound (let_go now r t) q) == 0)) (current_let_go now r t may.one_current v.key)
       ∙ (ap (λ cs. is_number (unless_it r (current t v.key)) q && (length cs == 0)) (bound_let_go now r t may.one_current q)
-      ∙ (ap (λ b. b && (length (bound t q) == 0)) (number_same (current t v.key) q) ∙ by_number (is_number (current t v.key) q) (length (bound t q) == 0) (r == q))))
+      ∙ (ap (λ b. b && (length (bound t q) == 0)) (number_same (current t v.key) q) ∙
+      by_number (is_number (current t v.key) q) (length (bound t q) == 0) (r == q))))
     where
-      by_test : (b : Bool) → is_idle (let_go now r t) q (if b then option_map as_gone (Some v) else Some v) ≡ (is_number (current (let_go now r t) v.key) q && (length (bound (let_go now r t) q) == 0))
+      by_test : (b : Bool) → is_idle (let_go now r t) q
+          (if b then option_map as_gone (Some v) else Some v) ≡ (is_number (current (let_go now r t) v.key) q && (length (bound (let_go now r t) q) == 0))
       by_test true = refl
       by_test false = refl
 
   -- all that was idle but for it is idle
   idle_let_go : idle_now (let_go now r t) ≡ filter (λ q. not (r == q)) (idle_now t)
   idle_let_go =
-      filter_both (λ q. is_idle (let_go now r t) q ((let_go now r t).representation q)) (λ q. not (r == q)) (λ q. is_idle t q (t.representation q)) (reverse t.used)
+      filter_both (λ q. is_idle (let_go now r t) q ((let_go now r t).representation q)) (λ q. not (r == q)) (λ q. is_idle t q (t.representation q))
+      (reverse t.used)
       (λ q. idle_row q (t.representation q))
 
   pub idle_next : AreOnce t.used → (rest : List ℕ) → idle_now t ≡ r ∷ rest → idle_now (let_go now r t) ≡ rest
@@ -170,7 +175,8 @@ bound_all now [] t may q = refl
 bound_all now (r ∷ rs) t may q = bound_all now rs (let_go now r t) (keeps_may now r t may) q ∙ bound_let_go now r t may.one_current q
 
 -- and all that was current still is, but for these
-pub current_all : (now : ℕ) (rs : List ℕ) (t : Tables) → MayLetGo t → (key : List ℕ) (q : ℕ) → is_number (current (let_all_go now rs t) key) q ≡ (is_number (current t key) q && not (is_in rs q))
+pub current_all : (now : ℕ) (rs : List ℕ) (t : Tables) → MayLetGo t → (key : List ℕ) (q : ℕ) →
+    is_number (current (let_all_go now rs t) key) q ≡ (is_number (current t key) q && not (is_in rs q))
 current_all now [] t may key q = by_test (is_number (current t key) q)
   where
     by_test : (b : Bool) → b ≡ (b && true)

@@ -34,7 +34,9 @@ module _ (step : Step) (m : Measures step.tables) (real : IsReal step.limits ste
   b = before limits t now flaw s ev
 
   pub loses_flaw : (r : ℕ) (v : Event) → loses_in r (accepted_acts limits t now v flaw) ≡ loses_in r (loss_acts flaw)
-  loses_flaw r (event.Poll c want) = (said_closes 0 r t now (event.Poll c want) flaw (answer_acts t now (event.Poll c want) flaw) _ (said_is t now (event.Poll c want) flaw)).loses ∙ loses_closed r (closing t (before limits t now flaw s (event.Poll c want))) (loss_acts flaw)
+  loses_flaw r (event.Poll c want) =
+      (said_closes 0 r t now (event.Poll c want) flaw (answer_acts t now (event.Poll c want) flaw) _ (said_is t now (event.Poll c want) flaw)).loses ∙
+      loses_closed r (closing t (before limits t now flaw s (event.Poll c want))) (loss_acts flaw)
   loses_flaw r (event.Cancel c) = loses_closed r (closing t (before limits t now flaw s (event.Cancel c))) (loss_acts flaw)
   loses_flaw r ev = loses_evicted r (evicted limits t now ev) _ ∙ loses_before r flaw _
 
@@ -51,7 +53,11 @@ module _ (step : Step) (m : Measures step.tables) (real : IsReal step.limits ste
         | inl denied ↦ absurd (false_true (sym real.taken ∙ denied))
         | inr may ↦
             let all : may_be limits t e (Loses r f.kind) ≡ true = sym (ap (may_be limits t e) (real.shown ∙ f.is)) ∙ may in
-            record { is = number_is (written_representation t e) r (and_left _ _ (and_left _ _ all)); kept = and_right (is_number (written_representation t e) r) _ (and_left _ _ all) }
+            record {
+              is = number_is (written_representation t e) r (and_left _ _ (and_left _ _ all));
+              kept =
+                  and_right (is_number (written_representation t e) r) _ (and_left _ _ all);
+            }
       ]
 
   pub fresh : (r : ℕ) (v : Representation) → t.representation r ≡ Some v → loses_in r e.acts ≡ true → v.is_lost ≡ false
@@ -86,7 +92,8 @@ module _ (step : Step) (m : Measures step.tables) (real : IsReal step.limits ste
   head_there : (r y : ℕ) (w : Exchange) (v : Representation) → t.exchange y ≡ Some w → t.representation r ≡ Some v → family y w ≡ r → is_some w.head ≡ true
   head_there r y w v row there of_r = grind (arith, nat_tests)
 
-  sealing_row : (r y : ℕ) (v : Representation) (z : Option Exchange) → t.representation r ≡ Some v → t.exchange y ≡ z → sealed_by t (lossless e) y z ≡ Some r → (stops y ev ≡ true) ⊎ (closes_in y e.acts ≡ true) → IsSealing r
+  sealing_row : (r y : ℕ) (v : Representation) (z : Option Exchange) → t.representation r ≡ Some v → t.exchange y ≡ z →
+      sealed_by t (lossless e) y z ≡ Some r → (stops y ev ≡ true) ⊎ (closes_in y e.acts ≡ true) → IsSealing r
   sealing_row r y v None there row h ends = absurd (none_some r h)
   sealing_row r y v (Some w) there row h ends =
       let parts = test_some (is_sealed t (lossless e) (family y w) (t.representation (family y w))) (Some (family y w)) r h in
@@ -106,7 +113,8 @@ module _ (step : Step) (m : Measures step.tables) (real : IsReal step.limits ste
       by_test (inl stop) = inl stop
       by_test (inr shut) = inr (sym (closes_lossless y e.acts) ∙ shut)
 
-  written_by : (r : ℕ) (v : Representation) (z : Event) → t.representation r ≡ Some v → brings_body z ≡ false → written_in t (lossless e) z ≡ Some r → IsSealing r
+  written_by : (r : ℕ) (v : Representation) (z : Event) → t.representation r ≡ Some v → brings_body z ≡ false → written_in t (lossless e) z ≡ Some r →
+      IsSealing r
   written_by r v (event.Head x response) there off h = absurd (let no : true ≡ false = off in cc)
   written_by r v (event.Piece x bytes) there off h = absurd (let no : true ≡ false = off in cc)
   written_by r v _ there off h = let got = found_some (seals_at t (lossless e)) t.openings r h in sealing r got.0 v there got.1

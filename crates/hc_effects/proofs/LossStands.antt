@@ -16,9 +16,12 @@ unfolding head_case
 later_again v way shown joins good = rw (way, shown, good, joins) refl
 
 -- a head that joins would join without its loss
-pub joins_again : (t : Tables) (a b : Bool) (w : Exchange) (response : Response) (c : HeadCase) → CaseBy (head_view t a w response) c → is_joining (Some c) ≡ true → is_joining (Some (head_case (head_view t b w response))) ≡ true
-joins_again t a b w response _ (cases.first_joins way shown joins good) on = ap (λ g. is_joining (Some g)) (first_again (head_view t b w response) way shown joins good)
-joins_again t a b w response _ (cases.later_joins way shown joins good) on = ap (λ g. is_joining (Some g)) (later_again (head_view t b w response) way shown joins good)
+pub joins_again : (t : Tables) (a b : Bool) (w : Exchange) (response : Response) (c : HeadCase) → CaseBy (head_view t a w response) c →
+    is_joining (Some c) ≡ true → is_joining (Some (head_case (head_view t b w response))) ≡ true
+joins_again t a b w response _ (cases.first_joins way shown joins good) on =
+    ap (λ g. is_joining (Some g)) (first_again (head_view t b w response) way shown joins good)
+joins_again t a b w response _ (cases.later_joins way shown joins good) on =
+    ap (λ g. is_joining (Some g)) (later_again (head_view t b w response) way shown joins good)
 joins_again t a b w response _ _ on = absurd (false_true on)
 
 -- THE ACTS
@@ -49,11 +52,15 @@ module _ (limits : Limits) (t : Tables) (now : ℕ) (flaw : Flaw) (s : Sound t) 
   abbrev e : Entry
   e = entry_of limits t now ev flaw
 
-  module _ (w : Exchange) (r : ℕ) (row : t.exchange x ≡ Some w) (joins : is_joining (case_at t e) ≡ true) (aim : w.aim ≡ Some r) (stand : may_stand limits t e ≡ true) (kept : loses_in r e.acts ≡ false) where
+  module _ (w : Exchange) (r : ℕ) (row : t.exchange x ≡ Some w) (joins : is_joining (case_at t e) ≡ true) (aim : w.aim ≡ Some r)
+      (stand : may_stand limits t e ≡ true) (kept : loses_in r e.acts ≡ false) where
     joins_lossless : is_joining (case_at t (lossless e)) ≡ true
     joins_lossless =
-        let first : is_joining (Some (head_case (head_view t (has_loss e.acts) w response))) ≡ true = sym (ap is_joining (case_is t e x response w refl row)) ∙ joins in
-        ap is_joining (case_is t (lossless e) x response w refl row) ∙ joins_again t (has_loss e.acts) (has_loss (lossless e).acts) w response (head_case (head_view t (has_loss e.acts) w response)) (case_by (head_view t (has_loss e.acts) w response)) first
+        let first : is_joining (Some (head_case (head_view t (has_loss e.acts) w response))) ≡ true =
+        sym (ap is_joining (case_is t e x response w refl row)) ∙ joins in
+        ap is_joining (case_is t (lossless e) x response w refl row) ∙ joins_again
+        t (has_loss e.acts) (has_loss (lossless e).acts) w response (head_case (head_view t (has_loss e.acts) w response))
+        (case_by (head_view t (has_loss e.acts) w response)) first
 
     founds_not : is_founding (case_at t (lossless e)) ≡ false
     founds_not =
@@ -65,14 +72,16 @@ module _ (limits : Limits) (t : Tables) (now : ℕ) (flaw : Flaw) (s : Sound t) 
     unfolding written_representation
     written_is =
         ap (head_writes t (lossless e) x response) row
-        ∙ (is_joined (is_founding (case_at t (lossless e))) (is_joining (case_at t (lossless e))) (may_validate t w response) (Some x) w.aim founds_not joins_lossless ∙ aim)
+        ∙ (is_joined (is_founding (case_at t (lossless e))) (is_joining (case_at t (lossless e))) (may_validate t w response) (Some x) w.aim founds_not
+        joins_lossless ∙ aim)
 
     by_flaw : (f : Flaw) → flaw ≡ f → has_loss (loss_acts f) ≡ false
     unfolding may_stand
     by_flaw (Loses q kind) is =
         let xs = closing t (before limits t now flaw s ev) in
         let rs = evicted limits t now ev in
-        let acts_are : e.acts ≡ map act.Evicted rs ++ (act.Lost q kind ∷ map act.Close xs) = ap (λ f. map act.Evicted rs ++ (loss_acts f ++ map act.Close xs)) is in
+        let acts_are : e.acts ≡ map act.Evicted rs ++ (act.Lost q kind ∷ map act.Close xs) =
+        ap (λ f. map act.Evicted rs ++ (loss_acts f ++ map act.Close xs)) is in
         let flaw_is : flaw_in e.acts ≡ Loses q kind = ap flaw_in acts_are ∙ flaw_closes q kind xs rs in
         elim (or_cases (is_denied e.acts) (may_be limits t e (flaw_in e.acts)) stand) [
           | inl denied ↦ absurd (false_true (sym (ap is_denied acts_are ∙ undenied q kind xs rs) ∙ denied))

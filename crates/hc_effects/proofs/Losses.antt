@@ -40,7 +40,8 @@ writers t r v cs =
 abbrev writes_alone : Tables → Representation → ℕ → Bool
 writes_alone t v c = is_same_kind (bound_kind t v c) kind.Exclusive
 
-writers_all : (t : Tables) (r : ℕ) (v : Representation) (c : ℕ) (cs : List ℕ) → ((d : ℕ) → is_bound r (t.consumer d) ≡ true → writes_alone t v d ≡ true → d ≡ c) → AllAre c (writers t r v cs)
+writers_all : (t : Tables) (r : ℕ) (v : Representation) (c : ℕ) (cs : List ℕ) →
+    ((d : ℕ) → is_bound r (t.consumer d) ≡ true → writes_alone t v d ≡ true → d ≡ c) → AllAre c (writers t r v cs)
 writers_all t r v c [] one = tt
 writers_all t r v c (d ∷ ds) one = elim (bool_cases (is_bound r (t.consumer d))) [
   | inr fails ↦ rw fails (writers_all t r v c ds one)
@@ -50,7 +51,8 @@ writers_all t r v c (d ∷ ds) one = elim (bool_cases (is_bound r (t.consumer d)
   ])
 ]
 
-writers_among : (t : Tables) (r : ℕ) (v : Representation) (c : ℕ) (cs : List ℕ) → Among c cs → is_bound r (t.consumer c) ≡ true → writes_alone t v c ≡ true → Among c (writers t r v cs)
+writers_among : (t : Tables) (r : ℕ) (v : Representation) (c : ℕ) (cs : List ℕ) → Among c cs → is_bound r (t.consumer c) ≡ true →
+    writes_alone t v c ≡ true → Among c (writers t r v cs)
 writers_among t r v c [] among bound alone = absurd among
 writers_among t r v c (d ∷ ds) (inl here) bound alone =
     let also : is_bound r (t.consumer d) ≡ true = ap (λ n. is_bound r (t.consumer n)) here ∙ bound in
@@ -78,8 +80,11 @@ alone_may t v c off alone = grind (arith, nat_tests)
 -- EXCLUSIVE WRITERS
 
 -- an exclusive writer is a first one
-first_by : (t : Tables) (r d : ℕ) (v : Representation) (k : Consumer) (place : Place) → t.consumer d ≡ Some k → k.place ≡ place → is_bound_place r place ≡ true → came_alone t place ≡ true → IsFirst t r d
-first_by t r d v k (place.Bound q lo hi how) row at bound alone = let same : q ≡ r = grind (arith, nat_tests) in sound.first k lo hi how row (at ∙ ap (λ (z : ℕ). place.Bound z lo hi how) same) (subst (λ (z : ℕ). came_alone t (place.Bound z lo hi how) ≡ true) same alone)
+first_by : (t : Tables) (r d : ℕ) (v : Representation) (k : Consumer) (place : Place) → t.consumer d ≡ Some k → k.place ≡ place →
+    is_bound_place r place ≡ true → came_alone t place ≡ true → IsFirst t r d
+first_by t r d v k (place.Bound q lo hi how) row at bound alone = let same : q ≡ r = grind (arith, nat_tests) in
+    sound.first k lo hi how row (at ∙ ap (λ (z : ℕ). place.Bound z lo hi how) same)
+    (subst (λ (z : ℕ). came_alone t (place.Bound z lo hi how) ≡ true) same alone)
 first_by t r d v k _ row at bound alone = absurd (let never : false ≡ true = bound in cc)
 
 and3 : (a b c : Bool) → (a && b && c) ≡ true → a ≡ true
@@ -93,13 +98,15 @@ is_bound_row : (t : Tables) (r c : ℕ) (k : Consumer) → IsBound t r c k → i
 is_bound_row t r c k (sound.is_bound lo hi how row at) = ap (is_bound r) row ∙ (ap (is_bound_place r) at ∙ eq-refl r)
 
 -- who is exclusive is the exclusive writer
-pub exclusive_is : (t : Tables) (r c : ℕ) (v : Representation) (k : Consumer) → Sound t → IsBound t r c k → is_written t v ≡ false → may_write t v (Some k) ≡ true → exclusive t r v ≡ Some c
+pub exclusive_is : (t : Tables) (r c : ℕ) (v : Representation) (k : Consumer) → Sound t → IsBound t r c k → is_written t v ≡ false →
+    may_write t v (Some k) ≡ true → exclusive t r v ≡ Some c
 unfolding exclusive bound
 exclusive_is t r c v k s reader unwritten may =
     let bound_c = is_bound_row t r c k reader in
     let may_c : may_write t v (t.consumer c) ≡ true = ap (may_write t v) (row_of t r c k reader) ∙ may in
     let first_c = first_of t r c v (t.consumer c) refl bound_c may_c in
-    let one = writers_all t r v c t.starts (λ d bound alone. s.writes.one_first r d c (first_of t r d v (t.consumer d) refl bound (alone_may t v d unwritten alone)) first_c) in
+    let one = writers_all t r v c t.starts
+    (λ d bound alone. s.writes.one_first r d c (first_of t r d v (t.consumer d) refl bound (alone_may t v d unwritten alone)) first_c) in
     let in_starts = s.numbered.lists.started c (ap is_some (row_of t r c k reader)) in
     let there = writers_among t r v c t.starts in_starts bound_c (may_alone t v c unwritten may_c) in
     least_some c (writers t r v t.starts) one (among_some c (writers t r v t.starts) there)
@@ -112,27 +119,33 @@ pub record HasRest (t : Tables) (v : Representation) (k : Consumer) : Type 0 whe
   pub end : hi_of t k.place ≡ Some hi
   pub covered : Covers v.stored (offset t k) hi
 
-pub no_more : (t : Tables) (v : Representation) (k : Consumer) (o : Option ℕ) → hi_of t k.place ≡ o → is_some o ≡ true → lacks_some v (offset t k) o ≡ false → HasRest t v k
+pub no_more : (t : Tables) (v : Representation) (k : Consumer) (o : Option ℕ) → hi_of t k.place ≡ o → is_some o ≡ true →
+    lacks_some v (offset t k) o ≡ false → HasRest t v k
 no_more t v k None is some none = absurd (let never : false ≡ true = some in cc)
-no_more t v k (Some hi) is some none = record { hi = hi; end = is; covered = covers_all v.stored v.reach (offset t k) hi (not_false (covers v.stored v.reach (offset t k) hi) none) }
+no_more t v k (Some hi) is some none =
+    record { hi = hi; end = is; covered = covers_all v.stored v.reach (offset t k) hi (not_false (covers v.stored v.reach (offset t k) hi) none) }
 
 pub or_end : (hi o : Option ℕ) → is_some hi ≡ true → is_some (option_or hi o) ≡ true
 or_end hi o some = grind (arith, nat_tests)
 
-by_first : (t : Tables) (r c : ℕ) (v : Representation) (k : Consumer) → Sound t → IsBound t r c k → k.due ≡ None → is_written t v ≡ false → IsFirst t r c → (exclusive t r v ≡ Some c) ⊎ HasRest t v k
+by_first : (t : Tables) (r c : ℕ) (v : Representation) (k : Consumer) → Sound t → IsBound t r c k → k.due ≡ None → is_written t v ≡ false →
+    IsFirst t r c → (exclusive t r v ≡ Some c) ⊎ HasRest t v k
 by_first t r c v k s reader none_due unwritten (sound.first u lo hi how row at alone) =
     let one : u ≡ k = same_row (t.consumer c) u k row (row_of t r c k reader) in
     let place : k.place ≡ place.Bound r lo hi how = ap (λ (w : Consumer). w.place) (sym one) ∙ at in
     let came : came_alone t k.place ≡ true = ap (came_alone t) place ∙ alone in
     elim (bool_cases (has_more t v k)) [
-      | inl more ↦ inl (exclusive_is t r c v k s reader unwritten (all_three (came_alone t k.place) (is_none k.due) (has_more t v k) came (ap is_none none_due) more))
+      | inl more ↦ inl (exclusive_is t r c v k s reader unwritten
+          (all_three (came_alone t k.place) (is_none k.due) (has_more t v k) came (ap is_none none_due) more))
       | inr none ↦
-          let known : is_some (hi_of t k.place) ≡ true = ap (λ p. is_some (hi_of t p)) place ∙ or_end hi _ (s.writes.known_end r c lo hi how k (row_of t r c k reader) place alone) in
+          let known : is_some (hi_of t k.place) ≡ true = ap (λ p. is_some (hi_of t p)) place ∙
+          or_end hi _ (s.writes.known_end r c lo hi how k (row_of t r c k reader) place alone) in
           inr (no_more t v k (hi_of t k.place) refl known (or_right _ (lacks_some v (offset t k) (hi_of t k.place)) none))
     ]
 
 -- Where no writing is shared, a bound consumer without a due failure is the one that goes on, or needs nothing more.
-pub goes_on_or_rests : (t : Tables) (r c : ℕ) (v : Representation) (k : Consumer) → Sound t → t.representation r ≡ Some v → IsBound t r c k → k.due ≡ None → is_written t v ≡ false → v.is_lost ≡ false → (exclusive t r v ≡ Some c) ⊎ HasRest t v k
+pub goes_on_or_rests : (t : Tables) (r c : ℕ) (v : Representation) (k : Consumer) → Sound t → t.representation r ≡ Some v → IsBound t r c k →
+    k.due ≡ None → is_written t v ≡ false → v.is_lost ≡ false → (exclusive t r v ≡ Some c) ⊎ HasRest t v k
 goes_on_or_rests t r c v k s row reader none_due unwritten kept = elim (s.writes.served r c v k row reader none_due) [
   | sound.shares on ↦ absurd (let never : false ≡ true = sym unwritten ∙ on in cc)
   | sound.reads hi end covered ↦ inr (record { hi = hi; end = end; covered = covered })

@@ -27,9 +27,18 @@ writer_of t law r v there on = by_writer v.writer refl
     by_writer (Some y) writer =
         let grows = (law.sound.rows r v there).growing y on writer in
         let g = grows.1 in
-        record { y = y; w = grows.0; writer = writer; row = g.row; is_open = sym (ap is_open g.row) ∙ writer_open t v y on writer; headed = g.headed; of_r = g.family_is }
+        record {
+          y = y;
+          w = grows.0;
+          writer = writer;
+          row = g.row;
+          is_open = sym (ap is_open g.row) ∙ writer_open t v y on writer;
+          headed = g.headed;
+          of_r = g.family_is;
+        }
 
-module _ (t : Tables) (e : Entry) (law : Lawful t) (r : ℕ) (v : Representation) (there : t.representation r ≡ Some v) (losing : loses_group t e r v ≡ true) where
+module _ (t : Tables) (e : Entry) (law : Lawful t) (r : ℕ) (v : Representation) (there : t.representation r ≡ Some v)
+    (losing : loses_group t e r v ≡ true) where
   -- it is written
   pub written_now : is_written t v ≡ true
   written_now = and_right _ (is_written t v) losing
@@ -40,7 +49,8 @@ module _ (t : Tables) (e : Entry) (law : Lawful t) (r : ℕ) (v : Representation
 
   -- WHO READS IT
 
-  module _ (d lo : ℕ) (hi : Option ℕ) (how : BoundBy) (k : Consumer) (at : k.place ≡ place.Bound r lo hi how) (quiet : IsQuietActs e.acts) (apart : IsApart t e d k) (fails : fails_in d e.acts ≡ false) (doomless : doomed_key_of t e ≡ None) where
+  module _ (d lo : ℕ) (hi : Option ℕ) (how : BoundBy) (k : Consumer) (at : k.place ≡ place.Bound r lo hi how) (quiet : IsQuietActs e.acts)
+      (apart : IsApart t e d k) (fails : fails_in d e.acts ≡ false) (doomless : doomed_key_of t e ≡ None) where
     own_as : own_after t e d k.place k.own ≡ (if is_number (survivor t r v) d then v.writer else k.own)
     own_as = rw (at, there, losing) refl
 
@@ -59,7 +69,9 @@ module _ (t : Tables) (e : Entry) (law : Lawful t) (r : ℕ) (v : Representation
         ∙ (let reading : reads k.place ≡ true = ap reads at in
         rw (stays, own_as, reading, due_as) (by_test (is_number (survivor t r v) d))))
       where
-        by_test : (b : Bool) → Some (record k { own = if b then v.writer else k.own; due = option_or k.due (if b then None else Some (cause.StoreWrite r)) }) ≡ Some (if b then record k { own = v.writer } else record k { due = option_or k.due (Some (cause.StoreWrite r)) })
+        by_test : (b : Bool) → Some
+            (record k { own = if b then v.writer else k.own; due = option_or k.due (if b then None else Some (cause.StoreWrite r)) }) ≡ Some
+            (if b then record k { own = v.writer } else record k { due = option_or k.due (Some (cause.StoreWrite r)) })
         by_test true = ap (λ (due : Option Cause). Some (record k { own = v.writer; due = due })) (or_nothing k.due)
         by_test false = refl
 
@@ -88,13 +100,15 @@ module _ (t : Tables) (e : Entry) (law : Lawful t) (r : ℕ) (v : Representation
 
   module _ (only : (q : ℕ) (u : Representation) → nat_eq r q ≡ false → t.representation q ≡ Some u → loses_group t e q u ≡ false) where
     -- just the exchange of the writing closes by that, where nobody goes on
-    pub no_survivor_as : (y : ℕ) (u : Exchange) → t.exchange y ≡ Some u → has_no_survivor t e y (family y u) (t.representation (family y u)) ≡ is_number closed_with y
+    pub no_survivor_as : (y : ℕ) (u : Exchange) → t.exchange y ≡ Some u →
+        has_no_survivor t e y (family y u) (t.representation (family y u)) ≡ is_number closed_with y
     no_survivor_as y u here = elim (eq_cases writer_now.y y) [
       | inl same ↦
           let one : writer_now.w ≡ u = same_row (t.exchange y) writer_now.w u (sym (ap t.exchange same.1) ∙ writer_now.row) here in
           let fam : family y u ≡ r = ap (λ (q : Exchange). family y q) (sym one) ∙ (ap (λ n. family n writer_now.w) (sym same.1) ∙ writer_now.of_r) in
           let wrote : v.writer ≡ Some y = writer_now.writer ∙ ap Some same.1 in
-          ap (λ n. has_no_survivor t e y n (t.representation n)) fam ∙ (ap (has_no_survivor t e y r) there ∙ rw (losing, wrote, eqb-same y) (by_test (is_none (survivor t r v))))
+          ap (λ n. has_no_survivor t e y n (t.representation n)) fam ∙
+          (ap (has_no_survivor t e y r) there ∙ rw (losing, wrote, eqb-same y) (by_test (is_none (survivor t r v))))
       | inr other ↦ by_row other.0 (t.representation (family y u)) refl ∙ sym (apart_by (is_none (survivor t r v)) other.0)
     ]
       where

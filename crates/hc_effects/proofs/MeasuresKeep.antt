@@ -26,7 +26,8 @@ pub record IsPart (response : Response) : Type 0 where
   pub total : ℕ
   pub reported : content_range_of response.fields ≡ Some (range.Part first last (Some total))
 
-part_by : (asked : RangeSpec) (response : Response) (o : Option ContentRange) → content_range_of response.fields ≡ o → fits_part asked o ≡ true → IsPart response
+part_by : (asked : RangeSpec) (response : Response) (o : Option ContentRange) → content_range_of response.fields ≡ o → fits_part asked o ≡ true →
+    IsPart response
 part_by asked response o is h = grind (arith, nat_tests)
 
 fits_by : (o : Option RangeSpec) (response : Response) → fits_to_found o response ≡ true → IsPart response
@@ -70,21 +71,25 @@ module _ (step : Step) (m : Measures step.tables) where
 
   -- ONE EXCHANGE IS ABOUT A BODY
 
-  pub about : (x q : ℕ) (w : Exchange) (v : Representation) → t.exchange x ≡ Some w → w.is_open ≡ true → is_some w.head ≡ true → family x w ≡ q → t.representation q ≡ Some v → IsAbout t q x
+  pub about : (x q : ℕ) (w : Exchange) (v : Representation) → t.exchange x ≡ Some w → w.is_open ≡ true → is_some w.head ≡ true → family x w ≡ q →
+      t.representation q ≡ Some v → IsAbout t q x
   about x q w v row on headed of_q there = sound.headed w row on headed of_q (ap is_some there)
 
-  pub one_piece : (x q y : ℕ) (bytes : List ℕ) (w z : Exchange) (v : Representation) → t.exchange x ≡ Some w → w.is_open ≡ true → is_some w.head ≡ true → family x w ≡ q → t.representation q ≡ Some v → fills_by.IsPiece t e q y bytes z → (y ≡ x) × (z ≡ w)
+  pub one_piece : (x q y : ℕ) (bytes : List ℕ) (w z : Exchange) (v : Representation) → t.exchange x ≡ Some w → w.is_open ≡ true → is_some w.head ≡ true →
+      family x w ≡ q → t.representation q ≡ Some v → fills_by.IsPiece t e q y bytes z → (y ≡ x) × (z ≡ w)
   one_piece x q y bytes w z v row on headed of_q there is =
       let got = piece_taken y bytes z is.at is.row in
       let same : y ≡ x = s.one_about q y x (about y q z v is.row got.is_open got.headed is.of_r there) (about x q w v row on headed of_q there) in
       (same, same_row (t.exchange x) z w (sym (ap t.exchange same) ∙ is.row) row)
 
   -- who founded a body and ends is the one about it
-  pub ends_own : (x q : ℕ) (w : Exchange) (v : Representation) → t.exchange x ≡ Some w → w.is_open ≡ true → is_some w.head ≡ true → family x w ≡ q → t.representation q ≡ Some v → ev ≡ event.End q → q ≡ x
+  pub ends_own : (x q : ℕ) (w : Exchange) (v : Representation) → t.exchange x ≡ Some w → w.is_open ≡ true → is_some w.head ≡ true → family x w ≡ q →
+      t.representation q ≡ Some v → ev ≡ event.End q → q ≡ x
   ends_own x q w v row on headed of_q there here =
       let z = ender q here in
       let alone : z.w.joined ≡ None = o.founders q z.w v z.row there in
-      s.one_about q q x (about q q z.w v z.row z.ending.is_open z.ending.headed (ap (λ (n : Option ℕ). unwrap_or n q) alone) there) (about x q w v row on headed of_q there)
+      s.one_about q q x (about q q z.w v z.row z.ending.is_open z.ending.headed (ap (λ (n : Option ℕ). unwrap_or n q) alone) there)
+      (about x q w v row on headed of_q there)
 
   -- WHAT A ROW KEEPS
 
@@ -97,7 +102,8 @@ module _ (step : Step) (m : Measures step.tables) where
   pub held : (x : ℕ) (w z : Exchange) → IsSame t e x w z → z.head ≡ w.head → z.joined ≡ w.joined → IsHeld x w z
   held x w z same head_is joined_is = grind (arith, nat_tests)
 
-  pub founder_not : (x q : ℕ) (w : Exchange) (response : Response) (y : Exchange) → t.exchange x ≡ Some w → is_some w.head ≡ true → family x w ≡ q → t.representation q ≡ None → ev ≡ event.Head q response → t.exchange q ≡ Some y → ⊥
+  pub founder_not : (x q : ℕ) (w : Exchange) (response : Response) (y : Exchange) → t.exchange x ≡ Some w → is_some w.head ≡ true → family x w ≡ q →
+      t.representation q ≡ None → ev ≡ event.Head q response → t.exchange q ≡ Some y → ⊥
   founder_not x q w response y row headed of_q none here also = by_joined w.joined refl
     where
       by_joined : (j : Option ℕ) → w.joined ≡ j → ⊥
@@ -113,7 +119,8 @@ module _ (step : Step) (m : Measures step.tables) where
 
   -- A HEAD THAT WAS THERE
 
-  module _ (x q : ℕ) (w z : Exchange) (v u : Representation) (row : t.exchange x ≡ Some w) (same : IsSame t e x w z) (keeps : IsHeld x w z) (on : z.is_open ≡ true) (headed : is_some w.head ≡ true) (of_q : family x w ≡ q) (after_row : now_on.exchange x ≡ Some z) (kept : IsKept t e q v u) where
+  module _ (x q : ℕ) (w z : Exchange) (v u : Representation) (row : t.exchange x ≡ Some w) (same : IsSame t e x w z) (keeps : IsHeld x w z)
+      (on : z.is_open ≡ true) (headed : is_some w.head ≡ true) (of_q : family x w ≡ q) (after_row : now_on.exchange x ≡ Some z) (kept : IsKept t e q v u) where
     unended : IsEnded t e q v u.head.total → ⊥
     unended is = same.unended on (is.at ∙ ap event.End (ends_own x q w v row (same.was_open on) headed of_q kept.row is.at))
 
@@ -126,11 +133,13 @@ module _ (step : Step) (m : Measures step.tables) where
 
     -- the front moves with the reach
     reaches : base w ≡ 0 → length w.body ≡ v.reach → Brings t e x w z → Fills t e q v u → length z.body ≡ u.reach
-    reaches first was (fills_by.still none body_is) (fills_by.still none_of same_body stored reach_is) = ap (λ (b : List ℕ). length b) body_is ∙ (was ∙ sym reach_is)
+    reaches first was (fills_by.still none body_is) (fills_by.still none_of same_body stored reach_is) = ap (λ (b : List ℕ). length b) body_is ∙
+        (was ∙ sym reach_is)
     reaches first was (fills_by.still none body_is) (fills_by.more y bytes p is body stored reach_is) =
         let it = one_piece x q y bytes w p v row (same.was_open on) headed of_q kept.row is in
         absurd (none bytes (is.at ∙ ap (λ n. event.Piece n bytes) it.0))
-    reaches first was (fills_by.more bytes here body_is) (fills_by.still none_of same_body stored reach_is) = absurd (none_of x bytes w (record { at = here; row = row; of_r = of_q }))
+    reaches first was (fills_by.more bytes here body_is) (fills_by.still none_of same_body stored reach_is) =
+        absurd (none_of x bytes w (record { at = here; row = row; of_r = of_q }))
     reaches first was (fills_by.more bytes here body_is) (fills_by.more y more p is body stored reach_is) =
         let it = one_piece x q y more w p v row (same.was_open on) headed of_q kept.row is in
         let bytes_same : bytes ≡ more = piece_bytes x y bytes more (sym here ∙ is.at) in
@@ -153,7 +162,8 @@ module _ (step : Step) (m : Measures step.tables) where
             let first : base z ≡ base w = keeps.base_is in
             measures.reported n total (keeps.promise_is ∙ promise) (total_same ∙ known) (omega arith)
         by_before (measures.unreported none unknown first alone was) =
-            measures.unreported (keeps.promise_is ∙ none) (total_same ∙ unknown) (keeps.base_is ∙ first) (keeps.joined_is ∙ alone) (reaches first was (brings t e x w z row after_row) (fills t e q v u kept))
+            measures.unreported (keeps.promise_is ∙ none) (total_same ∙ unknown) (keeps.base_is ∙ first) (keeps.joined_is ∙ alone)
+            (reaches first was (brings t e x w z row after_row) (fills t e q v u kept))
 
   -- A HEAD THAT COMES
 
@@ -165,7 +175,8 @@ module _ (step : Step) (m : Measures step.tables) where
     bare = (is_new limits t now flaw s ev goes x got.response w got.at row).bare
 
     length_is : length_by z z.head ≡ reported_length
-    length_is = ap (length_by z) got.head_is ∙ (ap (λ n. length_of n z.request got.response) same.need_is ∙ ap (λ q. length_of w.need q got.response) same.request_is)
+    length_is = ap (length_by z) got.head_is ∙
+        (ap (λ n. length_of n z.request got.response) same.need_is ∙ ap (λ q. length_of w.need q got.response) same.request_is)
 
     measured_within : (total : ℕ) (u : Representation) → IsWithin total reported_length → u.head.total ≡ Some total → IsMeasured z u
     measured_within total u is known =
@@ -177,7 +188,8 @@ module _ (step : Step) (m : Measures step.tables) where
 
     join : (q : ℕ) (v u : Representation) → is_joining (case_at t e) ≡ true → w.aim ≡ Some q → IsKept t e q v u → IsMeasured z u
     join q v u joins aim kept =
-        let first : is_joining (Some (head_case (head_view t (has_loss e.acts) w got.response))) ≡ true = sym (ap is_joining (case_is t e x got.response w got.at row)) ∙ joins in
+        let first : is_joining (Some (head_case (head_view t (has_loss e.acts) w got.response))) ≡ true =
+        sym (ap is_joining (case_is t e x got.response w got.at row)) ∙ joins in
         let j = is_join t (has_loss e.acts) w got.response first in
         let one : j.fills.v ≡ v = same_row (t.representation q) j.fills.v v (sym (ap (λ n. option_row n) aim) ∙ j.fills.row) kept.row in
         let known : v.head.total ≡ Some j.fills.total = ap (λ (a : Representation). a.head.total) (sym one) ∙ j.fills.known in
@@ -206,11 +218,15 @@ module _ (step : Step) (m : Measures step.tables) where
         let known : founded_total w got.response ≡ promise_of reported_length = rw off refl in
         by_promise (promise_of reported_length) refl first known
       where
-        by_promise : (p : Option ℕ) → promise_of reported_length ≡ p → base z ≡ 0 → founded_total w got.response ≡ promise_of reported_length → IsMeasured z founded_now
-        by_promise None is first known = measures.unreported (ap promise_of length_is ∙ is) (known ∙ is) first (got.joined_is ∙ (rw unjoined (s.waits.headless x w row bare).1)) (ap (λ (b : List ℕ). length b) body_none)
+        by_promise : (p : Option ℕ) → promise_of reported_length ≡ p → base z ≡ 0 → founded_total w got.response ≡ promise_of reported_length →
+            IsMeasured z founded_now
+        by_promise None is first known =
+            measures.unreported (ap promise_of length_is ∙ is) (known ∙ is) first (got.joined_is ∙ (rw unjoined (s.waits.headless x w row bare).1))
+            (ap (λ (b : List ℕ). length b) body_none)
         by_promise (Some n) is first known = measures.reported n n (ap promise_of length_is ∙ is) (known ∙ is) (omega arith)
 
-    part : (route_of w.need ≡ route.Direct → ⊥) → brings_part got.response.status ≡ true → fits_asker (t.consumer w.c) got.response ≡ true → is_bad reported_length ≡ false → IsMeasured z founded_now
+    part : (route_of w.need ≡ route.Direct → ⊥) → brings_part got.response.status ≡ true → fits_asker (t.consumer w.c) got.response ≡ true →
+        is_bad reported_length ≡ false → IsMeasured z founded_now
     part past status fits good =
         let p = asker_by (t.consumer w.c) got.response fits in
         let on : brings_part got.response.status ≡ true = status in
@@ -244,7 +260,9 @@ module _ (step : Step) (m : Measures step.tables) where
             let at_x : event.Head y response ≡ event.Head x got.response = sym here ∙ got.at in
             let answer : response ≡ got.response = cc in
             let one : p ≡ w = same_row (t.exchange x) p w (sym (ap t.exchange same_is) ∙ also) row in
-            subst (IsMeasured z) (ap (λ (a : Exchange). new_representation x e got.response a) (sym one) ∙ (ap (λ (a : Response). new_representation x e a p) (sym answer) ∙ (ap (λ (n : ℕ). new_representation n e response p) (sym same_is) ∙ made))) (founded_measured on)
+            subst (IsMeasured z) (ap (λ (a : Exchange). new_representation x e got.response a) (sym one) ∙
+            (ap (λ (a : Response). new_representation x e a p) (sym answer) ∙ (ap (λ (n : ℕ). new_representation n e response p) (sym same_is) ∙ made)))
+            (founded_measured on)
 
         by_own : is_joining (case_at t e) ≡ false → IsMeasured z u
         by_own off =
@@ -254,11 +272,13 @@ module _ (step : Step) (m : Measures step.tables) where
 
         joined_by : (q : ℕ) → is_joining (case_at t e) ≡ true → w.aim ≡ Some q → RepFrom t e q u → IsMeasured z u
         joined_by q on aim (rep.was v kept) = join q v u on aim kept
-        joined_by q on aim (rep.founded response p none here also founding made) = absurd (false_true (sym (ap is_some none) ∙ s.numbered.names.aims x q w row aim))
+        joined_by q on aim (rep.founded response p none here also founding made) =
+            absurd (false_true (sym (ap is_some none) ∙ s.numbered.names.aims x q w row aim))
 
         by_aim : is_joining (case_at t e) ≡ true → (a : Option ℕ) → w.aim ≡ a → IsMeasured z u
         by_aim on None aim =
-            let first : is_joining (Some (head_case (head_view t (has_loss e.acts) w got.response))) ≡ true = sym (ap is_joining (case_is t e x got.response w got.at row)) ∙ on in
+            let first : is_joining (Some (head_case (head_view t (has_loss e.acts) w got.response))) ≡ true =
+            sym (ap is_joining (case_is t e x got.response w got.at row)) ∙ on in
             let j = is_join t (has_loss e.acts) w got.response first in
             absurd (none_some j.fills.v (sym (ap (Rattle.hc_model.specs.Currents.row_of t) aim) ∙ j.fills.row))
         by_aim on (Some q) aim =
@@ -268,53 +288,66 @@ module _ (step : Step) (m : Measures step.tables) where
 
   -- ALL OF IT
 
-  brings_by : (x : ℕ) (z : Exchange) (u : Representation) → now_on.exchange x ≡ Some z → z.is_open ≡ true → is_some z.head ≡ true → now_on.representation (family x z) ≡ Some u → ExchangeFrom t e x z → IsMeasured z u
+  brings_by : (x : ℕ) (z : Exchange) (u : Representation) → now_on.exchange x ≡ Some z → z.is_open ≡ true → is_some z.head ≡ true →
+      now_on.representation (family x z) ≡ Some u → ExchangeFrom t e x z → IsMeasured z u
   brings_by x z u after on headed there (exchange.new p none opens here made) = absurd (false_true (ap (λ (a : Exchange). is_some a.head) made ∙ headed))
   brings_by x z u after on headed there (exchange.was w row same) = by_heard same.heard_or
     where
       was_there : (z.head ≡ w.head) → (z.joined ≡ w.joined) → (q : ℕ) → family x w ≡ q → RepFrom t e q u → IsMeasured z u
-      was_there head_is joined_is q of_q (rep.was v kept) = still_measured x q w z v u row same (held x w z same head_is joined_is) on (sym (ap (λ (a : Option Response). is_some a) head_is) ∙ headed) of_q after kept
-      was_there head_is joined_is q of_q (rep.founded response p none here also founding made) = absurd (founder_not x q w response p row (sym (ap (λ (a : Option Response). is_some a) head_is) ∙ headed) of_q none here also)
+      was_there head_is joined_is q of_q (rep.was v kept) =
+          still_measured x q w z v u row same (held x w z same head_is joined_is) on (sym (ap (λ (a : Option Response). is_some a) head_is) ∙ headed) of_q
+          after kept
+      was_there head_is joined_is q of_q (rep.founded response p none here also founding made) =
+          absurd (founder_not x q w response p row (sym (ap (λ (a : Option Response). is_some a) head_is) ∙ headed) of_q none here also)
 
       by_heard : ((z.head ≡ w.head) × (z.joined ≡ w.joined)) ⊎ IsHeaded t e x w z → IsMeasured z u
       by_heard (inl all) =
           let fam : family x z ≡ family x w = ap (λ (n : Option ℕ). unwrap_or n x) all.1 in
-          was_there all.0 all.1 (family x w) refl (rep_from t e (family x w) (t.representation (family x w)) u refl (sym (ap now_on.representation fam) ∙ there))
+          was_there all.0 all.1 (family x w) refl
+          (rep_from t e (family x w) (t.representation (family x w)) u refl (sym (ap now_on.representation fam) ∙ there))
       by_heard (inr got) = new_measured x w z row same got u there
 
-  written_some : (at x p : ℕ) (bytes : List ℕ) (f : Rattle.hc_sparse.specs.Cells.Cells) → ((p < at) ⊎ (at + length bytes ≤ p) → is_some (f p) ≡ true) → is_some (cells_with at x bytes f p) ≡ true
+  written_some : (at x p : ℕ) (bytes : List ℕ) (f : Rattle.hc_sparse.specs.Cells.Cells) → ((p < at) ⊎ (at + length bytes ≤ p) → is_some (f p) ≡ true) →
+      is_some (cells_with at x bytes f p) ≡ true
   written_some at x p bytes f old = grind (arith, nat_tests)
 
   tight_by : (r n : ℕ) (u : Representation) → u.reach ≡ n + 1 → RepFrom t e r u → is_some (u.body n) ≡ true
-  tight_by r n u ends (rep.founded response w none here also on made) = absurd (let zero_is : 0 ≡ u.reach = ap (λ (a : Representation). a.reach) made in let at_n : u.reach ≡ n + 1 = ends in omega arith)
+  tight_by r n u ends (rep.founded response w none here also on made) =
+      absurd (let zero_is : 0 ≡ u.reach = ap (λ (a : Representation). a.reach) made in let at_n : u.reach ≡ n + 1 = ends in omega arith)
   tight_by r n u ends (rep.was v kept) = by_fills (fills t e r v u kept)
     where
       by_fills : Fills t e r v u → is_some (u.body n) ≡ true
-      by_fills (fills_by.still none body_is stored reach_is) = ap (λ (f : Rattle.hc_sparse.specs.Cells.Cells). is_some (f n)) body_is ∙ m.tight r n v kept.row (sym reach_is ∙ ends)
+      by_fills (fills_by.still none body_is stored reach_is) = ap (λ (f : Rattle.hc_sparse.specs.Cells.Cells). is_some (f n)) body_is ∙
+          m.tight r n v kept.row (sym reach_is ∙ ends)
       by_fills (fills_by.more x bytes w is body_is stored reach_is) =
           let got = piece_taken x bytes w is.at is.row in
           let some_bytes : 0 < length bytes = got.some in
           let reach_now : u.reach ≡ max v.reach (front w + length bytes) = reach_is in
           let at_n : u.reach ≡ n + 1 = ends in
-          ap (λ (f : Rattle.hc_sparse.specs.Cells.Cells). is_some (f n)) body_is ∙ written_some (front w) x n bytes v.body (λ off. m.tight r n v kept.row (old off some_bytes reach_now at_n))
+          ap (λ (f : Rattle.hc_sparse.specs.Cells.Cells). is_some (f n)) body_is ∙
+          written_some (front w) x n bytes v.body (λ off. m.tight r n v kept.row (old off some_bytes reach_now at_n))
         where
           old : {a b : ℕ} → (n < a) ⊎ (a + b ≤ n) → 0 < b → u.reach ≡ max v.reach (a + b) → u.reach ≡ n + 1 → v.reach ≡ n + 1
           old (inl before) some_bytes reach_now at_n = omega arith
           old (inr past) some_bytes reach_now at_n = omega arith
 
   within_by : (r total : ℕ) (u : Representation) → u.head.total ≡ Some total → RepFrom t e r u → u.reach ≤ total
-  within_by r total u known (rep.founded response w none here also on made) = let zero_is : 0 ≡ u.reach = ap (λ (a : Representation). a.reach) made in omega arith
+  within_by r total u known (rep.founded response w none here also on made) = let zero_is : 0 ≡ u.reach = ap (λ (a : Representation). a.reach) made in
+      omega arith
   within_by r total u known (rep.was v kept) = by_total kept.total_is
     where
-      piece_within : (x : ℕ) (bytes : List ℕ) (w : Exchange) → v.head.total ≡ Some total → IsTaken w (length bytes) → IsMeasured w v → front w + length bytes ≤ total
+      piece_within : (x : ℕ) (bytes : List ℕ) (w : Exchange) → v.head.total ≡ Some total → IsTaken w (length bytes) → IsMeasured w v →
+          front w + length bytes ≤ total
       piece_within x bytes w before got it5 = grind (arith, nat_tests)
 
       by_fills : v.head.total ≡ Some total → Fills t e r v u → u.reach ≤ total
-      by_fills before (fills_by.still none body_is stored reach_is) = let was : v.reach ≤ total = m.within r total v kept.row before in let same : u.reach ≡ v.reach = reach_is in omega arith
+      by_fills before (fills_by.still none body_is stored reach_is) = let was : v.reach ≤ total = m.within r total v kept.row before in
+          let same : u.reach ≡ v.reach = reach_is in omega arith
       by_fills before (fills_by.more x bytes w is body_is stored reach_is) =
           let got = piece_taken x bytes w is.at is.row in
           let was : v.reach ≤ total = m.within r total v kept.row before in
-          let piece : front w + length bytes ≤ total = piece_within x bytes w before got (m.brings x w v is.row got.is_open got.headed (ap t.representation is.of_r ∙ kept.row)) in
+          let piece : front w + length bytes ≤ total = piece_within
+          x bytes w before got (m.brings x w v is.row got.is_open got.headed (ap t.representation is.of_r ∙ kept.row)) in
           let reach_now : u.reach ≡ max v.reach (front w + length bytes) = reach_is in
           omega arith
 
@@ -323,7 +356,9 @@ module _ (step : Step) (m : Measures step.tables) where
       ended_by is z before it3 filled = grind (arith, nat_tests)
 
       by_ended : IsEnded t e r v u.head.total → (q : Option ℕ) → v.head.total ≡ q → u.reach ≤ total
-      by_ended is (Some before) reported_is = by_fills (reported_is ∙ (sym (ap (λ q. option_or q (Some (length_in (t.exchange r)))) reported_is) ∙ (sym is.total_is ∙ known))) (fills t e r v u kept)
+      by_ended is (Some before) reported_is =
+          by_fills (reported_is ∙ (sym (ap (λ q. option_or q (Some (length_in (t.exchange r)))) reported_is) ∙ (sym is.total_is ∙ known)))
+          (fills t e r v u kept)
       by_ended is None reported_is =
           let z = ender r is.at in
           let alone : z.w.joined ≡ None = o.founders r z.w v z.row kept.row in
@@ -334,7 +369,8 @@ module _ (step : Step) (m : Measures step.tables) where
       by_total (inl same) = by_fills (sym same ∙ known) (fills t e r v u kept)
       by_total (inr is) = by_ended is v.head.total refl
 
-  pub brings_kept : (x : ℕ) (z : Exchange) (u : Representation) → now_on.exchange x ≡ Some z → z.is_open ≡ true → is_some z.head ≡ true → now_on.representation (family x z) ≡ Some u → IsMeasured z u
+  pub brings_kept : (x : ℕ) (z : Exchange) (u : Representation) → now_on.exchange x ≡ Some z → z.is_open ≡ true → is_some z.head ≡ true →
+      now_on.representation (family x z) ≡ Some u → IsMeasured z u
   brings_kept x z u after on headed there = brings_by x z u after on headed there (exchange_from t e x (t.exchange x) z refl after)
 
   pub tight_kept : (r n : ℕ) (u : Representation) → now_on.representation r ≡ Some u → u.reach ≡ n + 1 → is_some (u.body n) ≡ true

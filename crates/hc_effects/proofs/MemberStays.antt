@@ -12,7 +12,8 @@ module _ (step : Step) where
   abbrev e : Entry
   e = entry_of limits t now ev flaw
 
-  module _ (c r lo : ℕ) (hi : Option ℕ) (how : BoundBy) (k : Consumer) (v : Representation) (row : t.consumer c ≡ Some k) (at : k.place ≡ place.Bound r lo hi how) (there : t.representation r ≡ Some v) (on : is_written t v ≡ true) where
+  module _ (c r lo : ℕ) (hi : Option ℕ) (how : BoundBy) (k : Consumer) (v : Representation) (row : t.consumer c ≡ Some k)
+      (at : k.place ≡ place.Bound r lo hi how) (there : t.representation r ≡ Some v) (on : is_written t v ≡ true) where
     -- it waits for no head
     pub no_waiter : (y : ℕ) (w : Exchange) → t.exchange y ≡ Some w → w.is_open ≡ true → w.head ≡ None → w.c ≡ c → ⊥
     no_waiter y w exchange_row opened bare mine =
@@ -21,7 +22,8 @@ module _ (step : Step) where
         unwritten step w.c y got.0 w got.1 r lo hi how v v.writer (ap (λ (z : Consumer). z.place) one ∙ at) there on refl
 
     pub head_not : (x : ℕ) (response : Response) (w : Exchange) → ev ≡ event.Head x response → t.exchange x ≡ Some w → w.c ≡ c → ⊥
-    head_not x response w here exchange_row mine = let new = is_new limits t now flaw s ev goes x response w here exchange_row in no_waiter x w exchange_row new.is_open new.bare mine
+    head_not x response w here exchange_row mine = let new = is_new limits t now flaw s ev goes x response w here exchange_row in
+        no_waiter x w exchange_row new.is_open new.bare mine
 
     -- it is bound as it was
     pub member_stays : (ev ≡ event.Cancel c → ⊥) → leaves_in c e.acts ≡ false → (u : Consumer) × IsBound (after_accepted t e) r c u

@@ -41,14 +41,17 @@ module _ (limits : Limits) (t : Tables) (law : Lawful t) (now c want : ℕ) (k :
   stays p = grind (arith, nat_tests)
 
   -- it is over, what nobody reads any more is closed, and what it was to read is let go
-  pub misreads : Does limits t now ev flaw (act.Failed c (cause.StoreRead r) ∷ map act.Close (with_item_first (left_by t c k) [])) (with_event now ev (let_go now r (let_some_go now (going_with t (left_by t c k)) (with_leave c k t))))
+  pub misreads : Does limits t now ev flaw (act.Failed c (cause.StoreRead r) ∷ map act.Close (with_item_first (left_by t c k) []))
+      (with_event now ev (let_go now r (let_some_go now (going_with t (left_by t c k)) (with_leave c k t))))
   misreads = record {
-    acts_are = acts_left limits t law now c k row ev flaw (Some r) front is refl ∙ ap (λ acts. front ++ acts) (append_none (map act.Close (with_item_first (left_by t c k) [])));
+    acts_are = acts_left limits t law now c k row ev flaw (Some r) front is refl ∙
+        ap (λ acts. front ++ acts) (append_none (map act.Close (with_item_first (left_by t c k) [])));
     tables_are =
         ap (λ acts. after_accepted t (record { now = now; event = ev; acts = acts })) (acts_left limits t law now c k row ev flaw (Some r) front is refl)
         ∙ (leaves limits t law now c k row ev flaw (Some r) front is rs t.representation goes
         (representations t it c n law far_it rs goes (loses_as limits t law now c k row ev flaw (Some r) front is))
         (stays k.place)
-        ∙ (ap (λ (u : Tables). with_event now ev (let_all_go now rs (with_consumer c (Some (as_over k)) u))) (sym (all_closed_is (with_item_first (left_by t c k) []) t))
+        ∙ (ap (λ (u : Tables). with_event now ev (let_all_go now rs (with_consumer c (Some (as_over k)) u)))
+        (sym (all_closed_is (with_item_first (left_by t c k) []) t))
         ∙ ap (with_event now ev) (two_all now r (going_with t (left_by t c k)) (with_leave c k t))));
   }

@@ -26,11 +26,13 @@ module _ (t : Tables) (now want c : ℕ) (k : Consumer) where
   free (place.Bound r lo hi how) s row at shown none heard = absurd (never_plans t k r lo hi how at shown (s.unshown c r lo hi how k row at shown) none heard)
   free _ s row at shown none heard = refl
 
-  other_by : (b : Bool) → Sound t → t.consumer c ≡ Some k → k.shown ≡ b → shows_head t k ≡ None → IsHeard t k → MoveBy t now want c k (if b then reading t want c k else planned_move t now c k)
+  other_by : (b : Bool) → Sound t → t.consumer c ≡ Some k → k.shown ≡ b → shows_head t k ≡ None → IsHeard t k →
+      MoveBy t now want c k (if b then reading t want c k else planned_move t now c k)
   other_by true s row shown none heard = reads shown heard
   other_by false s row shown none heard = plans shown (free k.place s row refl shown none heard) (shows_of k.place refl shown none) heard
 
-  place_by : (p : Place) → Sound t → t.consumer c ≡ Some k → k.place ≡ p → shows_head t k ≡ None → IsHeard t k → MoveBy t now want c k (by_place t now want c k p)
+  place_by : (p : Place) → Sound t → t.consumer c ≡ Some k → k.place ≡ p → shows_head t k ≡ None → IsHeard t k →
+      MoveBy t now want c k (by_place t now want c k p)
   place_by (place.Down cause) s row at none heard = down cause at
   place_by place.Over s row at none heard = over at
   place_by _ s row at none heard = other_by k.shown s row refl none heard
@@ -38,11 +40,13 @@ module _ (t : Tables) (now want c : ℕ) (k : Consumer) where
   if_waits : (o : Option ℕ) (x : ℕ) → option_and_then (if_headless t) o ≡ Some x → (o ≡ Some x) × (is_headless (t.exchange x) ≡ true)
   if_waits o x is = grind (arith, nat_tests)
 
-  waits_by : (o : Option ℕ) → Sound t → t.consumer c ≡ Some k → option_and_then (if_headless t) (own_open t k) ≡ o → shows_head t k ≡ None → MoveBy t now want c k (or_else (waits_for_head o) (by_place t now want c k k.place))
+  waits_by : (o : Option ℕ) → Sound t → t.consumer c ≡ Some k → option_and_then (if_headless t) (own_open t k) ≡ o → shows_head t k ≡ None →
+      MoveBy t now want c k (or_else (waits_for_head o) (by_place t now want c k k.place))
   waits_by None s row is none = place_by k.place s row refl none is
   waits_by (Some x) s row is none = let all = if_waits (own_open t k) x is in waits x all.0 all.1
 
-  shown_by : (o : Option Move) → Sound t → t.consumer c ≡ Some k → shows_head t k ≡ o → MoveBy t now want c k (or_else o (or_else (waits_for_head (option_and_then (if_headless t) (own_open t k))) (by_place t now want c k k.place)))
+  shown_by : (o : Option Move) → Sound t → t.consumer c ≡ Some k → shows_head t k ≡ o →
+      MoveBy t now want c k (or_else o (or_else (waits_for_head (option_and_then (if_headless t) (own_open t k))) (by_place t now want c k k.place)))
   shown_by None s row is = waits_by (option_and_then (if_headless t) (own_open t k)) s row refl is
   shown_by (Some m) s row is = by_shown k.shown refl
     where

@@ -20,10 +20,12 @@ pub record IsShownAt (t : Tables) (p : Place) : Type 0 where
 module _ (P : Move → Type 0) (nothing : P Nothing) where
   -- HEADS
 
-  pub binds_as : (t : Tables) (k : Consumer) (why : Why) (span : Option Span) (o : Option ℕ) → ((r : ℕ) (head : Response) (lo : ℕ) (hi : Option ℕ) → o ≡ Some r → P (Shows r why head lo hi)) → P (binds_current t k why span o)
+  pub binds_as : (t : Tables) (k : Consumer) (why : Why) (span : Option Span) (o : Option ℕ) →
+      ((r : ℕ) (head : Response) (lo : ℕ) (hi : Option ℕ) → o ≡ Some r → P (Shows r why head lo hi)) → P (binds_current t k why span o)
   binds_as t k why span o each = grind (arith, nat_tests)
 
-  pub at_as : (t : Tables) (k : Consumer) (p : Place) (m : Move) → shows_at t k p ≡ Some m → ((r : ℕ) (why : Why) (head : Response) (lo : ℕ) (hi : Option ℕ) → IsShownAt t p → P (Shows r why head lo hi)) → P m
+  pub at_as : (t : Tables) (k : Consumer) (p : Place) (m : Move) → shows_at t k p ≡ Some m →
+      ((r : ℕ) (why : Why) (head : Response) (lo : ℕ) (hi : Option ℕ) → IsShownAt t p → P (Shows r why head lo hi)) → P m
   at_as t k p m is each = grind (arith, nat_tests)
 
   -- READING
@@ -36,17 +38,20 @@ module _ (P : Move → Type 0) (nothing : P Nothing) where
   waits_as x waits asks None = nothing
   waits_as x waits asks (Some w) = mix P w.asked _ _ waits asks
 
-  pub hole_as : (t : Tables) (request : Request) (hole : Span) (o : Option Representation) → ((v : Representation) → o ≡ Some v → P (opens_hole t request (Some v) hole)) → P (opens_hole t request o hole)
+  pub hole_as : (t : Tables) (request : Request) (hole : Span) (o : Option Representation) →
+      ((v : Representation) → o ≡ Some v → P (opens_hole t request (Some v) hole)) → P (opens_hole t request o hole)
   hole_as t request hole None each = nothing
   hole_as t request hole (Some v) each = each v refl
 
   module _ (t : Tables) (want c : ℕ) (k : Consumer) (ends : P Ends) (given : (run : Run) → P (Gives run)) where
     -- any step
-    pub step_as : (s : ReadStep) → ((cause : Cause) → P (Fails cause)) → ((x : ℕ) → P (waits_for x (t.exchange x))) → ((hole : Span) → s ≡ step.Hole hole → P (later_hole t k hole (hi_of t k.place))) → P (step_move t want c k s)
+    pub step_as : (s : ReadStep) → ((cause : Cause) → P (Fails cause)) → ((x : ℕ) → P (waits_for x (t.exchange x))) →
+        ((hole : Span) → s ≡ step.Hole hole → P (later_hole t k hole (hi_of t k.place))) → P (step_move t want c k s)
     step_as s fails waits later = grind (arith, nat_tests)
 
     -- the step that it takes
-    module _ (fails : (cause : Cause) → k.due ≡ Some cause → P (Fails cause)) (waits : (x : ℕ) → source t k ≡ Some x → P (waits_for x (t.exchange x))) (later : (hole : Span) → P (later_hole t k hole (hi_of t k.place))) where
+    module _ (fails : (cause : Cause) → k.due ≡ Some cause → P (Fails cause)) (waits : (x : ℕ) → source t k ≡ Some x → P (waits_for x (t.exchange x)))
+        (later : (hole : Span) → P (later_hole t k hole (hi_of t k.place))) where
       abbrev AsStep : ReadStep → Type 0
       AsStep s = P (step_move t want c k s)
 
@@ -78,12 +83,15 @@ module _ (P : Move → Type 0) (nothing : P Nothing) where
   -- A POLL
 
   module _ (t : Tables) (now want c : ℕ) (k : Consumer) where
-    pub move_as : ((m : Move) → k.shown ≡ false → shows_at t k k.place ≡ Some m → P m) → ((x : ℕ) → P (moves.Waits (wait.Head x))) → (shows_head t k ≡ None → option_and_then (if_headless t) (own_open t k) ≡ None → P (by_place t now want c k k.place)) → P (move_of t now want c k)
+    pub move_as : ((m : Move) → k.shown ≡ false → shows_at t k k.place ≡ Some m → P m) → ((x : ℕ) → P (moves.Waits (wait.Head x))) →
+        (shows_head t k ≡ None → option_and_then (if_headless t) (own_open t k) ≡ None → P (by_place t now want c k k.place)) → P (move_of t now want c k)
     move_as shows waits other = grind (arith, nat_tests)
 
 -- who is bound and wasn't shown a head is shown it now, or waits for it
-pub never_plans : (t : Tables) (k : Consumer) (r lo : ℕ) (hi : Option ℕ) (how : BoundBy) → k.place ≡ place.Bound r lo hi how → k.shown ≡ false → IsToBeShown t k how → shows_head t k ≡ None → option_and_then (if_headless t) (own_open t k) ≡ None → ⊥
-never_plans t k r lo hi how at shown shows none heard = by_how how (sym (sym (cond_false k.shown None (shows_at t k k.place) shown ∙ ap (shows_at t k) at) ∙ none)) shows
+pub never_plans : (t : Tables) (k : Consumer) (r lo : ℕ) (hi : Option ℕ) (how : BoundBy) → k.place ≡ place.Bound r lo hi how → k.shown ≡ false →
+    IsToBeShown t k how → shows_head t k ≡ None → option_and_then (if_headless t) (own_open t k) ≡ None → ⊥
+never_plans t k r lo hi how at shown shows none heard =
+    by_how how (sym (sym (cond_false k.shown None (shows_at t k k.place) shown ∙ ap (shows_at t k) at) ∙ none)) shows
   where
     by_how : (how : BoundBy) → None ≡ shows_at t k (place.Bound r lo hi how) → IsToBeShown t k how → ⊥
     by_how _ none sound.founded = none_some _ none

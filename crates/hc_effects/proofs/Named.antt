@@ -26,16 +26,21 @@ far_closes c (x ∷ xs) rest far = let f = far_closes c xs rest far in record { 
 far_move : (c d : ℕ) (m : Move) (rest : List Act) → nat_eq d c ≡ false → IsFar c rest → IsFar c (acts_of d m ++ rest)
 far_move c d m rest other far = grind (arith, nat_tests)
 
-pub far_poll : (t : Tables) (now want c d : ℕ) (flaw : Flaw) (rest : List Act) → nat_eq d c ≡ false → IsFar c rest → IsFar c (poll_acts t now want d flaw ++ rest)
+pub far_poll : (t : Tables) (now want c d : ℕ) (flaw : Flaw) (rest : List Act) → nat_eq d c ≡ false → IsFar c rest →
+    IsFar c (poll_acts t now want d flaw ++ rest)
 far_poll t now want c d (Misreads r) rest other far = record { gives = far.gives; shows = far.shows }
 far_poll t now want c d _ rest other far = far_move c d (poll_move t now want d (t.consumer d)) rest other far
 
-pub live_by : (late live zero : Bool) → (if late then Some refusal.NoConsumer else if not live then Some refusal.Finished else if zero then Some refusal.WantZero else None) ≡ None → live ≡ true
+pub live_by : (late live zero : Bool) →
+    (if late then Some refusal.NoConsumer else if not live then Some refusal.Finished else if zero then Some refusal.WantZero else None) ≡ None → live ≡ true
 live_by late live zero h = grind (arith, nat_tests)
 
 -- nothing is said to a consumer but by a poll
-pub far_reported : (limits : Limits) (t : Tables) (now c : ℕ) (flaw : Flaw) (event : Event) → IsFar c (map act.Evicted (evicted limits t now event) ++ (loss_acts flaw ++ map act.Close (closing t (record { now = now; event = event; acts = loss_acts flaw }))))
-far_reported limits t now c flaw event = far_quiet c _ (quiet_acts (evicted limits t now event) (closing t (record { now = now; event = event; acts = loss_acts flaw })) flaw)
+pub far_reported : (limits : Limits) (t : Tables) (now c : ℕ) (flaw : Flaw) (event : Event) →
+    IsFar c (map act.Evicted (evicted limits t now event) ++
+    (loss_acts flaw ++ map act.Close (closing t (record { now = now; event = event; acts = loss_acts flaw }))))
+far_reported limits t now c flaw event =
+    far_quiet c _ (quiet_acts (evicted limits t now event) (closing t (record { now = now; event = event; acts = loss_acts flaw })) flaw)
 
 module _ (limits : Limits) (t : Tables) (now c : ℕ) (flaw : Flaw) (none : t.consumer c ≡ None) where
   not_it : (d want : ℕ) → poll_refusal (gate t (event.Poll d want)) d want ≡ None → nat_eq d c ≡ false
@@ -46,6 +51,7 @@ module _ (limits : Limits) (t : Tables) (now c : ℕ) (flaw : Flaw) (none : t.co
   unfolding refusals.refusal_of
   far (event.Poll d want) h =
       far_poll t now want c d flaw _ (not_it d want h)
-      (far_closes c (closing t (record { now = now; event = event.Poll d want; acts = poll_acts t now want d flaw ++ loss_acts flaw })) (loss_acts flaw) (far_lost c flaw))
+      (far_closes c (closing t (record { now = now; event = event.Poll d want; acts = poll_acts t now want d flaw ++ loss_acts flaw })) (loss_acts flaw)
+      (far_lost c flaw))
   far (event.Cancel d) h = far_closes c (closing t (record { now = now; event = event.Cancel d; acts = loss_acts flaw })) (loss_acts flaw) (far_lost c flaw)
   far ev h = far_reported limits t now c flaw ev

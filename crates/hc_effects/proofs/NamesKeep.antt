@@ -35,7 +35,13 @@ number_in _ = 0
 
 naming : (t : Tables) (e : Entry) (x : ℕ) (ev : Event) (w : Exchange) → IsNaming x ev w (exchange_acted x e.acts (exchange_heard t e x ev w))
 naming t e x (event.Head y response) w = elim (eq_cases y x) [
-  | inl here ↦ rw here.0 (record { aim_is = refl; joined_is = joined_by (is_joining (case_at t e)) w.aim w.joined; bare = λ h. absurd (some_none response h); quiet = λ h answer is. some_none response h })
+  | inl here ↦ rw here.0 (record {
+    aim_is = refl;
+    joined_is = joined_by (is_joining (case_at t e)) w.aim w.joined;
+    bare = λ h. absurd (some_none response h);
+    quiet =
+        λ h answer is. some_none response h;
+  })
   | inr other ↦ rw other.0 (record { aim_is = refl; joined_is = inl refl; bare = λ h. h; quiet = λ h answer is. other.1 (ap number_in is) })
 ]
 naming t e x (event.Piece y bytes) w = elim (eq_cases y x) [
@@ -55,9 +61,11 @@ naming t e x _ w = record { aim_is = refl; joined_is = inl refl; bare = λ h. h;
 -- a row was there, or was opened now
 data WasOrOpened (t : Tables) (e : Entry) (x : ℕ) (u : Exchange) : Type 0 where
   was : (w : Exchange) → t.exchange x ≡ Some w → IsNaming x e.event w u → WasOrOpened t e x u
-  opened : (o : Opening) → opening_in e.acts ≡ Some o → o.x ≡ x → t.exchange x ≡ None → u.aim ≡ aim_of t (t.consumer o.c) → u.joined ≡ None → WasOrOpened t e x u
+  opened : (o : Opening) → opening_in e.acts ≡ Some o → o.x ≡ x → t.exchange x ≡ None → u.aim ≡ aim_of t (t.consumer o.c) → u.joined ≡ None →
+      WasOrOpened t e x u
 
-made : (t : Tables) (e : Entry) (x : ℕ) (o : Option Opening) (u : Exchange) → opening_in e.acts ≡ o → t.exchange x ≡ None → exchange_made t e x o ≡ Some u → WasOrOpened t e x u
+made : (t : Tables) (e : Entry) (x : ℕ) (o : Option Opening) (u : Exchange) → opening_in e.acts ≡ o → t.exchange x ≡ None →
+    exchange_made t e x o ≡ Some u → WasOrOpened t e x u
 made t e x None u is none h = absurd (let no : None ≡ Some u = h in cc)
 made t e x (Some o) u is none h = elim (eq_cases o.x x) [
   | inr other ↦ absurd (let no : None ≡ Some u = rw other.0 at h in cc)
@@ -80,8 +88,10 @@ pub current_there : (t : Tables) (key : List ℕ) (r : ℕ) → current t key �
 unfolding current
 current_there t key r is = usable_there key (t.representation r) (find_passes (λ q. is_usable key (t.representation q)) t.founded r is)
 
-aim_there : (t : Tables) (c r : ℕ) (k : Consumer) (p : Place) → Sound t → t.consumer c ≡ Some k → k.place ≡ p → aim_from t k.request.key p ≡ Some r → is_some (t.representation r) ≡ true
-aim_there t c r k (place.Bound q lo hi by) s row at is = subst (λ n. is_some (t.representation n) ≡ true) (some_inj q r is) (s.numbered.bound_to q c k (sound.is_bound lo hi by row at))
+aim_there : (t : Tables) (c r : ℕ) (k : Consumer) (p : Place) → Sound t → t.consumer c ≡ Some k → k.place ≡ p → aim_from t k.request.key p ≡ Some r →
+    is_some (t.representation r) ≡ true
+aim_there t c r k (place.Bound q lo hi by) s row at is =
+    subst (λ n. is_some (t.representation n) ≡ true) (some_inj q r is) (s.numbered.bound_to q c k (sound.is_bound lo hi by row at))
 aim_there t c r k _ s row at is = current_there t k.request.key r is
 
 opening_there : (t : Tables) (c r : ℕ) (o : Option Consumer) → Sound t → t.consumer c ≡ o → aim_of t o ≡ Some r → is_some (t.representation r) ≡ true

@@ -17,7 +17,8 @@ never_opens : {A : Type 0} (o : Option A) (a : A) → o ≡ None → o ≡ Some 
 never_opens o a none is = let no : None ≡ Some a = sym none ∙ is in cc
 
 module _ (limits : Limits) (t : Tables) (now : ℕ) (flaw : Flaw) (s : Sound t) where
-  by_poll : (c want : ℕ) (k : Option Consumer) (o : Opening) → t.consumer c ≡ k → is_live k ≡ true → opening_in (accepted_acts limits t now (event.Poll c want) flaw) ≡ Some o → o.x ≡ t.opened + 1
+  by_poll : (c want : ℕ) (k : Option Consumer) (o : Opening) → t.consumer c ≡ k → is_live k ≡ true → opening_in
+      (accepted_acts limits t now (event.Poll c want) flaw) ≡ Some o → o.x ≡ t.opened + 1
   by_poll c want None o row live is = absurd (let no : false ≡ true = live in cc)
   by_poll c want (Some k) o row live is = poll_opens_next limits t now c want k s row flaw o is
 
@@ -57,21 +58,24 @@ still_among : (c : ℕ) (event : Event) (cs : List ℕ) → Among c cs → Among
 still_among c (event.Start d request) cs there = inr there
 still_among c _ cs there = there
 
-consumer_among : (t : Tables) (e : Entry) (c : ℕ) (o : Option Consumer) → t.consumer c ≡ o → IsListed t → is_some (consumer_after t e c o) ≡ true → Among c (starts_after e.event t.starts)
+consumer_among : (t : Tables) (e : Entry) (c : ℕ) (o : Option Consumer) → t.consumer c ≡ o → IsListed t → is_some (consumer_after t e c o) ≡ true →
+    Among c (starts_after e.event t.starts)
 unfolding consumer_after
 consumer_among t e c None row l some = made_among c e.now e.event t.starts some
 consumer_among t e c (Some k) row l some = still_among c e.event t.starts (l.started c (ap is_some row))
 
 -- EXCHANGES
 
-made_other : (t : Tables) (e : Entry) (x : ℕ) (o : Option Opening) → opening_in e.acts ≡ o → ((p : Opening) → opening_in e.acts ≡ Some p → p.x ≡ t.opened + 1) → opened_after o t.opened < x → exchange_made t e x o ≡ None
+made_other : (t : Tables) (e : Entry) (x : ℕ) (o : Option Opening) → opening_in e.acts ≡ o →
+    ((p : Opening) → opening_in e.acts ≡ Some p → p.x ≡ t.opened + 1) → opened_after o t.opened < x → exchange_made t e x o ≡ None
 made_other t e x o is next lt = grind (arith, nat_tests)
 
 opened_before : (t : Tables) (n x : ℕ) (o : Option Opening) → ((p : Opening) → o ≡ Some p → p.x ≡ t.opened + 1) → opened_after o t.opened < x → t.opened < x
 opened_before t n x None next lt = lt
 opened_before t n x (Some o) next lt = let number : o.x ≡ t.opened + 1 = next o refl in let under : o.x < x = lt in omega arith
 
-exchange_none : (t : Tables) (e : Entry) (x : ℕ) (o : Option Exchange) → o ≡ None → exchange_made t e x (opening_in e.acts) ≡ None → exchange_after t e x o ≡ None
+exchange_none : (t : Tables) (e : Entry) (x : ℕ) (o : Option Exchange) → o ≡ None → exchange_made t e x (opening_in e.acts) ≡ None →
+    exchange_after t e x o ≡ None
 unfolding exchange_after
 exchange_none t e x o is none = grind (arith, nat_tests)
 
@@ -82,7 +86,8 @@ still_opened : (x : ℕ) (xs : List ℕ) (o : Option Opening) → Among x xs →
 still_opened x xs None there = there
 still_opened x xs (Some o) there = inr there
 
-exchange_among : (t : Tables) (e : Entry) (x : ℕ) (o : Option Exchange) → t.exchange x ≡ o → IsListed t → is_some (exchange_after t e x o) ≡ true → Among x (openings_after (opening_in e.acts) t.openings)
+exchange_among : (t : Tables) (e : Entry) (x : ℕ) (o : Option Exchange) → t.exchange x ≡ o → IsListed t → is_some (exchange_after t e x o) ≡ true →
+    Among x (openings_after (opening_in e.acts) t.openings)
 unfolding exchange_after
 exchange_among t e x None row l some = opening_among t e x t.openings (opening_in e.acts) some
 exchange_among t e x (Some w) row l some = still_opened x t.openings (opening_in e.acts) (l.opened x (ap is_some row))
@@ -102,7 +107,8 @@ founded_none t e r (event.Head x response) l lt = elim (eq_cases x r) [
     by_test b = grind (arith, nat_tests)
 founded_none t e r _ l lt = refl
 
-pub representation_none : (t : Tables) (e : Entry) (r : ℕ) (o : Option Representation) → o ≡ None → founded_at t e r e.event ≡ None → representation_after t e r o ≡ None
+pub representation_none : (t : Tables) (e : Entry) (r : ℕ) (o : Option Representation) → o ≡ None → founded_at t e r e.event ≡ None →
+    representation_after t e r o ≡ None
 unfolding representation_after
 representation_none t e r o is none = grind (arith, nat_tests)
 
@@ -110,7 +116,8 @@ still_founded : (r : ℕ) (rs : List ℕ) (o : Option ℕ) → Among r rs → Am
 still_founded r rs None there = there
 still_founded r rs (Some q) there = inr there
 
-founded_among : (t : Tables) (e : Entry) (r : ℕ) (rs : List ℕ) (event : Event) → is_some (founded_at t e r event) ≡ true → Among r (with_item_first (if is_founding (case_at t e) then exchange_in event else None) rs)
+founded_among : (t : Tables) (e : Entry) (r : ℕ) (rs : List ℕ) (event : Event) → is_some (founded_at t e r event) ≡ true →
+    Among r (with_item_first (if is_founding (case_at t e) then exchange_in event else None) rs)
 founded_among t e r rs (event.Head x response) some = elim (eq_cases x r) [
   | inr other ↦ absurd (none_by (is_founding (case_at t e)) (rw other.0 at some))
   | inl here ↦ by_case (is_founding (case_at t e)) refl
@@ -124,7 +131,8 @@ founded_among t e r rs (event.Head x response) some = elim (eq_cases x r) [
     by_case b is = grind (arith, nat_tests)
 founded_among t e r rs _ some = absurd (let no : false ≡ true = some in cc)
 
-representation_among : (t : Tables) (e : Entry) (r : ℕ) (o : Option Representation) → t.representation r ≡ o → IsListed t → is_some (representation_after t e r o) ≡ true → Among r (with_item_first (founds t e) t.founded)
+representation_among : (t : Tables) (e : Entry) (r : ℕ) (o : Option Representation) → t.representation r ≡ o → IsListed t →
+    is_some (representation_after t e r o) ≡ true → Among r (with_item_first (founds t e) t.founded)
 unfolding representation_after
 representation_among t e r None row l some = founded_among t e r t.founded e.event some
 representation_among t e r (Some v) row l some = still_founded r t.founded (founds t e) (l.founded r (ap is_some row))
@@ -138,7 +146,8 @@ numbers_are_kept limits t now flaw s event h =
     let next : (p : Opening) → opening_in e.acts ≡ Some p → p.x ≡ t.opened + 1 = λ p is. opens_next limits t now flaw s event p h is in
     record {
       new_consumers = λ c lt. let a = above t now c event h lt in consumer_none t e c (t.consumer c) (l.new_consumers c a.before) a.none;
-      new_exchanges = λ x lt. exchange_none t e x (t.exchange x) (l.new_exchanges x (opened_before t 0 x (opening_in e.acts) next lt)) (made_other t e x (opening_in e.acts) refl next lt);
+      new_exchanges = λ x lt. exchange_none t e x (t.exchange x) (l.new_exchanges x (opened_before t 0 x (opening_in e.acts) next lt))
+          (made_other t e x (opening_in e.acts) refl next lt);
       new_representations = λ r lt.
           let under = opened_before t 0 r (opening_in e.acts) next lt in
           representation_none t e r (t.representation r) (l.new_representations r under) (founded_none t e r event l under);

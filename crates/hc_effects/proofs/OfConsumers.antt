@@ -34,9 +34,51 @@ pub record BringsNothing (t : Tables) (e : Entry) (c : ℕ) : Type 0 where
 
 pub brings_nothing : (t : Tables) (now c : ℕ) (ev : Event) (acts : List Act) → IsOf c ev → BringsNothing t (record { now = now; event = ev; acts = acts }) c
 unfolding case_of doomed_key_of
-brings_nothing t now c _ acts (starts request) = record { names = refl; bodiless = refl; caseless = refl; doomless = refl; nowhere = refl; exchange = λ x w. refl; representation = λ r v. refl; founds_none = λ r. refl; goes_on = λ r w. refl; headless = λ d. refl; heard = λ d k other. refl; made = λ d other. rw other refl }
-brings_nothing t now c _ acts (polls want) = record { names = refl; bodiless = refl; caseless = refl; doomless = refl; nowhere = refl; exchange = λ x w. refl; representation = λ r v. refl; founds_none = λ r. refl; goes_on = λ r w. refl; headless = λ d. refl; heard = λ d k other. refl; made = λ d other. refl }
-brings_nothing t now c _ acts cancels = record { names = refl; bodiless = refl; caseless = refl; doomless = refl; nowhere = refl; exchange = λ x w. refl; representation = λ r v. refl; founds_none = λ r. refl; goes_on = λ r w. refl; headless = λ d. refl; heard = λ d k other. rw other refl; made = λ d other. refl }
+brings_nothing t now c _ acts (starts request) =
+    record {
+      names = refl;
+      bodiless = refl;
+      caseless = refl;
+      doomless = refl;
+      nowhere = refl;
+      exchange = λ x w. refl;
+      representation = λ r v. refl;
+      founds_none = λ r. refl;
+      goes_on = λ r w. refl;
+      headless = λ d. refl;
+      heard = λ d k other. refl;
+      made = λ d other. rw other refl;
+    }
+brings_nothing t now c _ acts (polls want) =
+    record {
+      names = refl;
+      bodiless = refl;
+      caseless = refl;
+      doomless = refl;
+      nowhere = refl;
+      exchange = λ x w. refl;
+      representation = λ r v. refl;
+      founds_none = λ r. refl;
+      goes_on = λ r w. refl;
+      headless = λ d. refl;
+      heard = λ d k other. refl;
+      made = λ d other. refl;
+    }
+brings_nothing t now c _ acts cancels =
+    record {
+      names = refl;
+      bodiless = refl;
+      caseless = refl;
+      doomless = refl;
+      nowhere = refl;
+      exchange = λ x w. refl;
+      representation = λ r v. refl;
+      founds_none = λ r. refl;
+      goes_on = λ r w. refl;
+      headless = λ d. refl;
+      heard = λ d k other. rw other refl;
+      made = λ d other. refl;
+    }
 
 no_number : (o : Option ℕ) → is_same_number o None ≡ false
 no_number o = grind (arith, nat_tests)
@@ -89,7 +131,8 @@ module _ (t : Tables) (s : Sound t) (o : Owners t) (c : ℕ) (k : Consumer) (row
   own_opened : (x : ℕ) → own_open t k ≡ Some x → is_open (t.exchange x) ≡ true
   own_opened x is = let own = own_open_of t k x is in ap is_open own.row ∙ own.opened
 
-  group_some : (r x : ℕ) (z : Option Representation) → t.representation r ≡ z → group_in t z ≡ Some x → (v : Representation) × (t.representation r ≡ Some v) × (is_written t v ≡ true) × (v.writer ≡ Some x)
+  group_some : (r x : ℕ) (z : Option Representation) → t.representation r ≡ z → group_in t z ≡ Some x → (v : Representation) ×
+      (t.representation r ≡ Some v) × (is_written t v ≡ true) × (v.writer ≡ Some x)
   group_some r x None row is = absurd (none_some x is)
   group_some r x (Some v) row is = let both = test_some (is_written t v) v.writer x is in (v, row, both.0, both.1)
 
@@ -109,7 +152,8 @@ module _ (t : Tables) (s : Sound t) (o : Owners t) (c : ℕ) (k : Consumer) (row
   pub left_open : (x : ℕ) → left_by t c k ≡ Some x → is_open (t.exchange x) ≡ true
   left_open x is = by_own (own_open t k) refl is
     where
-      by_own : (z : Option ℕ) → own_open t k ≡ z → option_or z (if is_last_reader t c k.place then shared_exchange t k.place else None) ≡ Some x → is_open (t.exchange x) ≡ true
+      by_own : (z : Option ℕ) → own_open t k ≡ z → option_or z (if is_last_reader t c k.place then shared_exchange t k.place else None) ≡ Some x →
+          is_open (t.exchange x) ≡ true
       by_own (Some y) own h = own_opened x (own ∙ h)
       by_own None own h = (shared_by x k.place refl (test_some (is_last_reader t c k.place) (shared_exchange t k.place) x h).1).0
 
@@ -121,11 +165,14 @@ module _ (t : Tables) (s : Sound t) (o : Owners t) (c : ℕ) (k : Consumer) (row
       by_last true z = and_true (is_number z x)
       by_last false z = then_false (is_number z x) false refl
 
-      alone : (y : ℕ) → own_open t k ≡ Some y → (z : Option ℕ) (last : Bool) → shared_exchange t k.place ≡ z → (nat_eq y x || (is_number z x && last)) ≡ nat_eq y x
+      alone : (y : ℕ) → own_open t k ≡ Some y → (z : Option ℕ) (last : Bool) → shared_exchange t k.place ≡ z →
+          (nat_eq y x || (is_number z x && last)) ≡ nat_eq y x
       alone y own None last is = or_off (nat_eq y x)
       alone y own (Some z) last is = absurd ((shared_by z k.place refl is).1 y own)
 
-      by_own : (z : Option ℕ) → own_open t k ≡ z → (is_number z x || (is_number (shared_exchange t k.place) x && is_last_reader t c k.place)) ≡ is_number (option_or z (if is_last_reader t c k.place then shared_exchange t k.place else None)) x
+      by_own : (z : Option ℕ) → own_open t k ≡ z →
+          (is_number z x || (is_number (shared_exchange t k.place) x && is_last_reader t c k.place)) ≡ is_number
+          (option_or z (if is_last_reader t c k.place then shared_exchange t k.place else None)) x
       by_own None own = by_last (is_last_reader t c k.place) (shared_exchange t k.place)
       by_own (Some y) own = alone y own (shared_exchange t k.place) (is_last_reader t c k.place) refl
 
@@ -164,12 +211,14 @@ module _ (t : Tables) (e : Entry) (a : ℕ) (n : BringsNothing t e a) where
       ∙ ap (λ (b : Bool). Some (if b then back_in_line e.now k else k)) (starts_from c k said.fails)
 
   -- c itself, where it doesn't start over
-  pub consumer_itself : (c : ℕ) (k h q : Consumer) → consumer_heard t e c e.event k ≡ h → consumer_acted t e c h ≡ q → loses_what_it_waits_for t e c k.place ≡ false
+  pub consumer_itself : (c : ℕ) (k h q : Consumer) → consumer_heard t e c e.event k ≡ h → consumer_acted t e c h ≡ q →
+      loses_what_it_waits_for t e c k.place ≡ false
       → consumer_after t e c (Some k) ≡ Some (record q { due = if reads q.place then k.due else None })
   unfolding consumer_after
   consumer_itself c k h q heard acted stays =
       ap (λ (z : Consumer). Some (consumer_settled t e c k z)) (ap (consumer_acted t e c) heard ∙ acted)
-      ∙ ap Some (rw (starts_as_loses c k, stays) (ap (λ (z : Option Cause). record q { due = if reads q.place then z else None }) (ap (option_or k.due) (undue c k) ∙ or_nothing k.due)))
+      ∙ ap Some (rw (starts_as_loses c k, stays)
+      (ap (λ (z : Option Cause). record q { due = if reads q.place then z else None }) (ap (option_or k.due) (undue c k) ∙ or_nothing k.due)))
 
   pub founds_nobody : founds t e ≡ None
   founds_nobody = rw n.caseless refl
@@ -177,7 +226,9 @@ module _ (t : Tables) (e : Entry) (a : ℕ) (n : BringsNothing t e a) where
   -- WHAT GOES
 
   -- by a bypass, a loss, a failed read, an early end or an eviction
-  pub goes_as : (r : ℕ) (v : Representation) → becomes_gone t e r v ≡ ((is_current t v.key r && is_key (bypass_key e) v.key) || loses_in r e.acts || misreads_in r e.acts || (ends_early t e r v && not (is_keepable v)) || evicts_in r e.acts)
+  pub goes_as : (r : ℕ) (v : Representation) →
+      becomes_gone t e r v ≡ ((is_current t v.key r && is_key (bypass_key e) v.key) || loses_in r e.acts || misreads_in
+      r e.acts || (ends_early t e r v && not (is_keepable v)) || evicts_in r e.acts)
   unfolding becomes_gone
   goes_as r v = grind (arith, nat_tests)
 
@@ -185,8 +236,10 @@ module _ (t : Tables) (e : Entry) (a : ℕ) (n : BringsNothing t e a) where
   pub ends_none : (r : ℕ) (v : Representation) → closes_in r e.acts ≡ false → ends_early t e r v ≡ false
   ends_none r v closes = grind (arith, nat_tests)
 
-  pub goes_nothing : (r : ℕ) (v : Representation) → bypass_key e ≡ None → loses_in r e.acts ≡ false → misreads_in r e.acts ≡ false → closes_in r e.acts ≡ false → evicts_in r e.acts ≡ false → becomes_gone t e r v ≡ false
-  goes_nothing r v bypass loses misreads closes evicts = goes_as r v ∙ rw (bypass, loses, misreads, ends_none r v closes, evicts) (drop_and (is_current t v.key r))
+  pub goes_nothing : (r : ℕ) (v : Representation) → bypass_key e ≡ None → loses_in r e.acts ≡ false → misreads_in r e.acts ≡ false → closes_in
+      r e.acts ≡ false → evicts_in r e.acts ≡ false → becomes_gone t e r v ≡ false
+  goes_nothing r v bypass loses misreads closes evicts = goes_as r v ∙
+      rw (bypass, loses, misreads, ends_none r v closes, evicts) (drop_and (is_current t v.key r))
     where
       drop_and : (b : Bool) → ((b && false) || false || false || false || false) ≡ false
       drop_and true = refl
@@ -199,7 +252,8 @@ module _ (t : Tables) (e : Entry) (a : ℕ) (n : BringsNothing t e a) where
   pub binds_none : opening_in e.acts ≡ None → showing_in e.acts ≡ None → to_front (binds t e) t.used ≡ t.used
   binds_none opens shows = ap (λ (o : Option ℕ). to_front o t.used) (binds_nobody t e (ap is_founding n.caseless) opens shows)
 
-  pub exchanges_stay : ((x : ℕ) → asks_in x e.acts ≡ false) → ((x : ℕ) → closes_in x e.acts ≡ false) → opening_in e.acts ≡ None → (x : ℕ) → exchange_after t e x (t.exchange x) ≡ t.exchange x
+  pub exchanges_stay : ((x : ℕ) → asks_in x e.acts ≡ false) → ((x : ℕ) → closes_in x e.acts ≡ false) → opening_in e.acts ≡ None → (x : ℕ) →
+      exchange_after t e x (t.exchange x) ≡ t.exchange x
   exchanges_stay asks closes opens x = by_row (t.exchange x)
     where
       by_row : (o : Option Exchange) → exchange_after t e x o ≡ o
@@ -225,7 +279,8 @@ module _ (t : Tables) (e : Entry) (a : ℕ) (n : BringsNothing t e a) where
     closes_left leaves =
         closing_as
         ∙ (ap (λ (test : ℕ → Bool). filter test (reverse t.openings)) (fun_ext test_is)
-        ∙ one_of (left_by t c k) (reverse t.openings) (reverse_once t.openings (descends_once (t.opened + 1) t.openings order.openings)) (λ x is. reversed x t.openings (s.numbered.lists.opened x (open_there (t.exchange x) (left_open t s o c k row x is)))))
+        ∙ one_of (left_by t c k) (reverse t.openings) (reverse_once t.openings (descends_once (t.opened + 1) t.openings order.openings))
+        (λ x is. reversed x t.openings (s.numbered.lists.opened x (open_there (t.exchange x) (left_open t s o c k row x is)))))
       where
         test_is : (x : ℕ) → (is_left t x (leaver e) && is_open (t.exchange x)) ≡ is_number (left_by t c k) x
         test_is x =

@@ -22,7 +22,9 @@ module _ (t : Tables) (now c : ℕ) (k : Consumer) where
   pub data Way (n : Need) : Type 0 where
     passes_by : bound_to k.place ≡ None → route_of n ≡ route.Direct → Way n
     fetches : bound_to k.place ≡ None → route_of n ≡ route.Turn → is_disabled k.request ≡ false → Way n
-    fills : (r : ℕ) (v : Representation) (span hole : Span) → bound_to k.place ≡ None → route_of n ≡ route.Hole → current t k.request.key ≡ Some r → t.representation r ≡ Some v → wanted_of (range_of k.request) v.head.total ≡ wanted.Interval span → first_hole v.stored v.reach span ≡ Some hole → n ≡ need.Hole hole.lo hole.hi → is_disabled k.request ≡ false → Way n
+    fills : (r : ℕ) (v : Representation) (span hole : Span) → bound_to k.place ≡ None → route_of n ≡ route.Hole → current t k.request.key ≡ Some r →
+        t.representation r ≡ Some v → wanted_of (range_of k.request) v.head.total ≡ wanted.Interval span → first_hole v.stored v.reach span ≡ Some hole →
+        n ≡ need.Hole hole.lo hole.hi → is_disabled k.request ≡ false → Way n
     goes_on : (r lo : ℕ) (hi : Option ℕ) (how : BoundBy) → k.place ≡ place.Bound r lo hi how → route_of n ≡ route.Hole → Way n
 
   -- who doesn't open for a hole is bound to nothing
@@ -53,12 +55,15 @@ module _ (t : Tables) (now c : ℕ) (k : Consumer) where
       key_is : request.key ≡ asked.key
       method_is : request.method ≡ asked.method
 
-    hole_opens : (asked : Request) (o : Option Representation) (hole : Span) → opens_hole t asked o hole ≡ open_it → (v : Representation) × (o ≡ Some v) × IsForHole asked hole
+    hole_opens : (asked : Request) (o : Option Representation) (hole : Span) → opens_hole t asked o hole ≡ open_it → (v : Representation) × (o ≡ Some v) ×
+        IsForHole asked hole
     hole_opens asked o hole is = grind (arith, nat_tests)
 
     -- READING
 
-    later_at : (hole : Span) (p : Place) (o : Option Representation) (hi : Option ℕ) → k.place ≡ p → row_of t (bound_to p) ≡ o → bound_row t k ≡ o → later_hole t k hole hi ≡ open_it → (bound_to k.place ≡ bound_to p) × IsForHole k.request hole × ((v : Representation) × (row_of t (bound_to p) ≡ Some v))
+    later_at : (hole : Span) (p : Place) (o : Option Representation) (hi : Option ℕ) → k.place ≡ p → row_of t (bound_to p) ≡ o → bound_row t k ≡ o →
+        later_hole t k hole hi ≡ open_it → (bound_to k.place ≡ bound_to p) × IsForHole k.request hole ×
+        ((v : Representation) × (row_of t (bound_to p) ≡ Some v))
     later_at hole p o hi at row bound is = grind (arith, nat_tests)
 
     hole_other : need.Validate ≡ n → (hole : Span) → n ≡ need.Hole hole.lo hole.hi → ⊥
@@ -70,7 +75,8 @@ module _ (t : Tables) (now c : ℕ) (k : Consumer) where
     none_row : (v : Representation) → row_of t None ≡ Some v → ⊥
     none_row v is = let never : None ≡ Some v = is in cc
 
-    later_by : (hole : Span) (p : Place) → IsHeard t k → k.place ≡ p → IsForHole k.request hole → (v : Representation) → row_of t (bound_to p) ≡ Some v → OpenedAs n request
+    later_by : (hole : Span) (p : Place) → IsHeard t k → k.place ≡ p → IsForHole k.request hole → (v : Representation) → row_of t (bound_to p) ≡ Some v →
+        OpenedAs n request
     later_by hole (place.Bound r lo hi how) heard at h v row = record {
       key_is = h.key_is;
       method_is = h.method_is;
@@ -117,7 +123,8 @@ module _ (t : Tables) (now c : ℕ) (k : Consumer) where
     binds_opens : (why : Why) (span : Option Span) (o : Option ℕ) → Other (binds_current t k why span o)
     binds_opens why span o = binds_as Other (λ is. cc) t k why span o (λ r head lo hi now is. cc)
 
-    first_by : (span hole : Span) → is_disabled k.request ≡ false → (j : plans.IsAlone (plan_view t now c k) span (Some hole)) → bound_to k.place ≡ None → k.shown ≡ false → shows_at t k k.place ≡ None → IsHeard t k → IsForHole k.request hole → OpenedAs n request
+    first_by : (span hole : Span) → is_disabled k.request ≡ false → (j : plans.IsAlone (plan_view t now c k) span (Some hole)) → bound_to k.place ≡ None →
+        k.shown ≡ false → shows_at t k k.place ≡ None → IsHeard t k → IsForHole k.request hole → OpenedAs n request
     first_by span hole cached j free off none heard h =
         let a = candidate_is t now c k j.s j.current in
         record {
@@ -129,22 +136,48 @@ module _ (t : Tables) (now c : ℕ) (k : Consumer) where
           unread = λ is. none;
           unshown = λ is. off;
           asked = λ is. subst (Asked (plan_view t now c k)) (sym h.need_is) (j.s, j.current);
-          way = fills a.r a.v span hole free (ap route_of h.need_is) a.current_is a.row (sym a.span_is ∙ j.wanted_is) (sym (ap (hole_of a.v) j.wanted_is) ∙ (sym a.hole_is ∙ j.hole_is)) h.need_is cached;
+          way = fills a.r a.v span hole free (ap route_of h.need_is) a.current_is a.row (sym a.span_is ∙ j.wanted_is)
+              (sym (ap (hole_of a.v) j.wanted_is) ∙ (sym a.hole_is ∙ j.hole_is)) h.need_is cached;
         }
 
-    by_plan : (p : Plan) → PlanBy (plan_view t now c k) p → AskedBy (plan_view t now c k) p → bound_to k.place ≡ None → k.shown ≡ false → shows_at t k k.place ≡ None → IsHeard t k → plan_move t k p ≡ open_it → OpenedAs n request
+    by_plan : (p : Plan) → PlanBy (plan_view t now c k) p → AskedBy (plan_view t now c k) p → bound_to k.place ≡ None → k.shown ≡ false →
+        shows_at t k k.place ≡ None → IsHeard t k → plan_move t k p ≡ open_it → OpenedAs n request
     by_plan _ (plans.turn d) asks free off none heard is = absurd (let never : moves.Waits (wait.Turn d) ≡ open_it = is in cc)
     by_plan _ (plans.busy d kept plain) asks free off none heard is = absurd (let never : moves.Waits (wait.Busy d) ≡ open_it = is in cc)
     by_plan _ plans.misses asks free off none heard is = absurd (let never : Fails cause.Miss ≡ open_it = is in cc)
     by_plan _ (plans.passes_by m way) asks free off none heard is =
         let same = opens_same (t.opened + 1) m k.request is in
-        record { key_is = sym (ap (λ (z : Request). z.key) same.1); method_is = sym (ap (λ (z : Request). z.method) same.1); plain = λ at. absurd (direct_other m way (same.0 ∙ at)); bypasses = λ at. absurd (direct_bypass m way (same.0 ∙ at)); heard = heard; unread = λ is. none; unshown = λ is. off; asked = λ at. subst (Asked (plan_view t now c k)) same.0 asks; way = passes_by free (sym (ap route_of same.0) ∙ way) }
+        record {
+          key_is = sym (ap (λ (z : Request). z.key) same.1);
+          method_is = sym (ap (λ (z : Request). z.method) same.1);
+          plain =
+              λ at. absurd (direct_other m way (same.0 ∙ at));
+          bypasses = λ at. absurd (direct_bypass m way (same.0 ∙ at));
+          heard = heard;
+          unread = λ is. none;
+          unshown = λ is. off;
+          asked = λ at. subst (Asked (plan_view t now c k)) same.0 asks;
+          way = passes_by free (sym (ap route_of same.0) ∙ way);
+        }
     by_plan _ (plans.fetches m way plain bypass cached) asks free off none heard is =
         let same = opens_same (t.opened + 1) m (origin_request t k m) is in
-        record { key_is = sym (ap (λ (z : Request). z.key) same.1) ∙ fetched_key m; method_is = sym (ap (λ (z : Request). z.method) same.1) ∙ fetched_method m; plain = λ at. sym (bypassing_is k.request) ∙ plain (same.0 ∙ at); bypasses = λ at. sym (bypassing_is k.request) ∙ bypass (same.0 ∙ at); heard = heard; unread = λ is. none; unshown = λ is. off; asked = λ at. subst (Asked (plan_view t now c k)) same.0 asks; way = fetches free (sym (ap route_of same.0) ∙ way) (cached_is cached) }
+        record {
+          key_is = sym (ap (λ (z : Request). z.key) same.1) ∙ fetched_key m;
+          method_is = sym (ap (λ (z : Request). z.method) same.1) ∙
+              fetched_method m;
+          plain = λ at. sym (bypassing_is k.request) ∙ plain (same.0 ∙ at);
+          bypasses = λ at. sym (bypassing_is k.request) ∙
+              bypass (same.0 ∙ at);
+          heard = heard;
+          unread = λ is. none;
+          unshown = λ is. off;
+          asked = λ at. subst (Asked (plan_view t now c k)) same.0 asks;
+          way = fetches free (sym (ap route_of same.0) ∙ way) (cached_is cached);
+        }
     by_plan _ (plans.joins why cached j) asks free off none heard is = absurd (binds_opens why None (current t k.request.key) is)
     by_plan _ (plans.reads why span cached j) asks free off none heard is = absurd (binds_opens why (Some span) (current t k.request.key) is)
-    by_plan _ (plans.fills span hole cached j nobody) asks free off none heard is = first_by span hole (cached_is cached) j free off none heard ((hole_opens k.request (current_row t k) hole is).2)
+    by_plan _ (plans.fills span hole cached j nobody) asks free off none heard is =
+        first_by span hole (cached_is cached) j free off none heard ((hole_opens k.request (current_row t k) hole is).2)
 
     by_move : (want : ℕ) (m : Move) → MoveBy t now want c k m → m ≡ open_it → OpenedAs n request
     by_move want m (by.shows _ shown at) is = absurd (at_as Other (λ is. cc) t k k.place m at (λ r why head lo hi there is. cc) is)
@@ -152,10 +185,12 @@ module _ (t : Tables) (now c : ℕ) (k : Consumer) where
     by_move want _ (by.down why at) is = absurd (let never : Fails why ≡ open_it = is in cc)
     by_move want _ (by.over at) is = absurd (let never : Nothing ≡ open_it = is in cc)
     by_move want _ (by.reads shown heard) is = step_opens want (read_step (read_view t want c k)) heard is
-    by_move want _ (by.plans shown free none heard) is = by_plan (plan_of (plan_view t now c k)) (plan_by (plan_view t now c k)) (plan_asks (plan_view t now c k)) free shown none heard is
+    by_move want _ (by.plans shown free none heard) is =
+        by_plan (plan_of (plan_view t now c k)) (plan_by (plan_view t now c k)) (plan_asks (plan_view t now c k)) free shown none heard is
 
   pub opening_is : (o : Opening) (m : Move) → IsOpening o m → m ≡ Opens o.x o.need o.request
   opening_is o _ said.opens = refl
 
   pub opened_as : (want : ℕ) (o : Opening) → Sound t → t.consumer c ≡ Some k → IsOpening o (move_of t now want c k) → OpenedAs o.need o.request
-  opened_as want o s row opening = by_move o.x o.need o.request want (move_of t now want c k) (move_by t now want c k s row) (opening_is o (move_of t now want c k) opening)
+  opened_as want o s row opening =
+      by_move o.x o.need o.request want (move_of t now want c k) (move_by t now want c k s row) (opening_is o (move_of t now want c k) opening)

@@ -42,14 +42,16 @@ module _ (limits : Limits) (t : Tables) (now : ℕ) (flaw : Flaw) (s : Sound t) 
   abbrev xs : List ℕ
   xs = closing t b
 
-  module _ (p : Opening) (here : p.c ≡ c) (opens : opening_in e.acts ≡ Some p) (move_is : poll_move t now want c (t.consumer c) ≡ Opens p.x p.need p.request) where
+  module _ (p : Opening) (here : p.c ≡ c) (opens : opening_in e.acts ≡ Some p)
+      (move_is : poll_move t now want c (t.consumer c) ≡ Opens p.x p.need p.request) where
     abbrev behind : List Act
     behind = map act.Close xs ++ loss_acts flaw
 
     -- a read that fails opens nothing
     not_misread : (r : ℕ) → flaw ≡ Misreads r → ⊥
     not_misread r at =
-        let none : opening_in (poll_acts t now want c (Misreads r) ++ behind) ≡ None = closes_open_none xs (loss_acts flaw) (subst (λ f. opening_in (loss_acts f) ≡ None) (sym at) refl) in
+        let none : opening_in (poll_acts t now want c (Misreads r) ++ behind) ≡ None =
+        closes_open_none xs (loss_acts flaw) (subst (λ f. opening_in (loss_acts f) ≡ None) (sym at) refl) in
         none_some p (sym none ∙ (sym (ap (λ f. opening_in (poll_acts t now want c f ++ behind)) at) ∙ opens))
 
     said_is : (f : Flaw) → flaw ≡ f → poll_acts t now want c f ≡ acts_of c (Opens p.x p.need p.request)

@@ -12,7 +12,8 @@ goes limits t e owed not_denied =
     goes_by (denial t e.event) (accepted_acts limits t e.now e.event (flaw_in e.acts)) (sym (ap is_denied owed.acts) ∙ not_denied)
 
 -- and its acts are those of an accepted event
-pub acts_are : (limits : Limits) (t : Tables) (e : Entry) → IsOwed limits t e → is_denied e.acts ≡ false → e.acts ≡ accepted_acts limits t e.now e.event (flaw_in e.acts)
+pub acts_are : (limits : Limits) (t : Tables) (e : Entry) → IsOwed limits t e → is_denied e.acts ≡ false →
+    e.acts ≡ accepted_acts limits t e.now e.event (flaw_in e.acts)
 unfolding answer
 acts_are limits t e owed not_denied =
     owed.acts ∙ ap (λ (o : Option Refusal). denied_or o (accepted_acts limits t e.now e.event (flaw_in e.acts))) (goes limits t e owed not_denied)

@@ -38,7 +38,8 @@ module _ (t : Tables) (e : Entry) (c x : ℕ) where
     pub survives : survivor t r v ≡ Some c
     pub writer_is : v.writer ≡ Some x
 
-  left_by : (r lo : ℕ) (hi : Option ℕ) (how : BoundBy) (o : Option Representation) (own : Option ℕ) (p : Place) → p ≡ place.Bound r lo hi how → t.representation r ≡ o → left_to t e c r o own ≡ Some x → (own ≡ Some x) ⊎ IsLeft p
+  left_by : (r lo : ℕ) (hi : Option ℕ) (how : BoundBy) (o : Option Representation) (own : Option ℕ) (p : Place) → p ≡ place.Bound r lo hi how →
+      t.representation r ≡ o → left_to t e c r o own ≡ Some x → (own ≡ Some x) ⊎ IsLeft p
   left_by r lo hi how None own p at row is = inl is
   left_by r lo hi how (Some v) own p at row is = elim (bool_cases (loses_group t e r v && is_number (survivor t r v) c)) [
     | inr off ↦ inl (rw off at is)
@@ -97,11 +98,13 @@ module _ (t : Tables) (e : Entry) (c x : ℕ) where
     pub from_row : own_after t e c h.place (by_opening t c (opening_in e.acts) (waiting t e c h)).own ≡ Some x → OwnFrom u
     from_row is = from_left (after_by h.place (by_opening t c (opening_in e.acts) (waiting t e c h)).own is)
 
-  settled : (k q u : Consumer) (b : Bool) → starts_over t e c k ≡ b → consumer_settled t e c k q ≡ u → u.own ≡ Some x → (b ≡ false) × (due_after t e c k q ≡ u) × (q.own ≡ Some x)
+  settled : (k q u : Consumer) (b : Bool) → starts_over t e c k ≡ b → consumer_settled t e c k q ≡ u → u.own ≡ Some x → (b ≡ false) ×
+      (due_after t e c k q ≡ u) × (q.own ≡ Some x)
   settled k q u true over is own = absurd (none_some x (ap (λ (z : Consumer). z.own) (rw over at is) ∙ own))
   settled k q u false over is own = let same : due_after t e c k q ≡ u = rw over at is in (refl, same, ap (λ (z : Consumer). z.own) same ∙ own)
 
-  by_row : (k u : Consumer) → t.consumer c ≡ Some k → consumer_settled t e c k (consumer_acted t e c (consumer_heard t e c e.event k)) ≡ u → u.own ≡ Some x → OwnFrom u
+  by_row : (k u : Consumer) → t.consumer c ≡ Some k → consumer_settled t e c k (consumer_acted t e c (consumer_heard t e c e.event k)) ≡ u →
+      u.own ≡ Some x → OwnFrom u
   by_row k u row is own =
       let all = settled k (consumer_acted t e c (consumer_heard t e c e.event k)) u (starts_over t e c k) refl is own in
       from_row k u (record { row = row; stays = all.0; is = all.1 }) all.2

@@ -46,7 +46,14 @@ module _ (step : Step) where
   pub is_opened : (p : Opening) → opening_in e.acts ≡ Some p → IsOpened p
   is_opened p is =
       let opens = opening_by limits t now flaw s ev goes p is in
-      record { k = opens.k; row = opens.poll.row; want = opens.want; at = opens.poll.at; way = opened_as t now p.c opens.k opens.want p s opens.poll.row opens.move }
+      record {
+        k = opens.k;
+        row = opens.poll.row;
+        want = opens.want;
+        at = opens.poll.at;
+        way =
+            opened_as t now p.c opens.k opens.want p s opens.poll.row opens.move;
+      }
 
   opener_from : (x : ℕ) (u : Exchange) → ExchangeFrom t e x u → IsOpener now_on u
   opener_from x u (exchange.was w row same) = opener_on x w u (o.opener x w row) same.c_is same.request_is same.need_is
@@ -88,7 +95,15 @@ module _ (step : Step) where
       let on : is_written t l.v ≡ true = and_right _ _ losing in
       let grows = (s.rows l.r l.v l.row).growing x on l.writer_is in
       let g = grows.1 in
-      record { row = l.row; written = on; loses = and_right _ _ (and_left _ _ losing); w = grows.0; exchange_row = g.row; family_is = g.family_is; headed = g.headed }
+      record {
+        row = l.row;
+        written = on;
+        loses = and_right _ _ (and_left _ _ losing);
+        w = grows.0;
+        exchange_row = g.row;
+        family_is = g.family_is;
+        headed = g.headed;
+      }
 
   there_by : (x : ℕ) → is_some (t.exchange x) ≡ true → is_some (now_on.exchange x) ≡ true
   there_by x there = exchange.stays t e x (t.exchange x) there
@@ -127,7 +142,8 @@ module _ (step : Step) where
   one_from c d x k u (own.kept a row is heard) (own.opened b p also opens here this) = absurd (kept_new c x a p row.row is opens this)
   one_from c d x k u (own.kept a row is heard) (own.left b also l) = absurd (kept_left c d x a _ l row.row is)
   one_from c d x k u (own.opened a p row opens here this) (own.kept b also too heard_too) = absurd (kept_new d x b p also.row too opens this)
-  one_from c d x k u (own.opened a p row opens here this) (own.opened b q also opens_too there that) = sym here ∙ (ap (λ (z : Opening). z.c) (same_row (opening_in e.acts) p q opens opens_too) ∙ there)
+  one_from c d x k u (own.opened a p row opens here this) (own.opened b q also opens_too there that) = sym here ∙
+      (ap (λ (z : Opening). z.c) (same_row (opening_in e.acts) p q opens opens_too) ∙ there)
   one_from c d x k u (own.opened a p row opens here this) (own.left b also l) = absurd (left_new d x _ l p opens this)
   one_from c d x k u (own.left a row l) (own.kept b also too heard_too) = absurd (kept_left d c x b _ l also.row too)
   one_from c d x k u (own.left a row l) (own.opened b q also opens here that) = absurd (left_new c x _ l q opens that)
@@ -152,7 +168,8 @@ module _ (step : Step) where
       record { w = exchange_opened t e p; row = opened_on t e y p (t.exchange y) (new_number p y is same) is same; for_it = here }
   first_from c r lo y hi u (bound.shows k z row is all) = absurd (let never : by.FirstHole y ≡ by.Plan = all.by_is in cc)
 
-  pub first_kept : (c r lo y : ℕ) (hi : Option ℕ) (u : Consumer) → now_on.consumer c ≡ Some u → u.place ≡ place.Bound r lo hi (by.FirstHole y) → IsFor now_on y c
+  pub first_kept : (c r lo y : ℕ) (hi : Option ℕ) (u : Consumer) → now_on.consumer c ≡ Some u → u.place ≡ place.Bound r lo hi (by.FirstHole y) →
+      IsFor now_on y c
   first_kept c r lo y hi u row at = first_from c r lo y hi u (bound_from t e c r lo hi (by.FirstHole y) (t.consumer c) u refl row at)
 
   -- WRITERS

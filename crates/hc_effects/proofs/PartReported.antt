@@ -39,7 +39,8 @@ from_order : (o : Option (List ℕ × List ℕ)) (first last : ℕ) → position
 from_order None first last is = absurd (none_some _ is)
 from_order (Some (a, b)) first last is = positions_order a b first last is
 
-with_order : (a b : ℕ) (o : Option ℕ) (text : List ℕ) (first last total : ℕ) → with_total a b o text ≡ Some (range.Part first last (Some total)) → (a ≡ first) × (b ≡ last) × (last < total)
+with_order : (a b : ℕ) (o : Option ℕ) (text : List ℕ) (first last total : ℕ) → with_total a b o text ≡ Some (range.Part first last (Some total)) →
+    (a ≡ first) × (b ≡ last) × (last < total)
 with_order a b (Some n) text first last total is = elim (bool_cases (nat_lt b n)) [
   | inr off ↦ absurd (none_some _ (rw off at is))
   | inl on ↦
@@ -57,7 +58,8 @@ with_order a b None text first last total is = elim (bool_cases (bytes_eq text (
 without_not : (positions text : List ℕ) (first last total : ℕ) → without_part positions text ≡ Some (range.Part first last (Some total)) → ⊥
 without_not positions text first last total is = grind (arith, nat_tests)
 
-reported_order : (positions text : List ℕ) (o : Option RangeSpec) (first last total : ℕ) → spec_in positions ≡ o → content_range_from positions text o ≡ Some (range.Part first last (Some total)) → IsInOrder first last total
+reported_order : (positions text : List ℕ) (o : Option RangeSpec) (first last total : ℕ) → spec_in positions ≡ o →
+    content_range_from positions text o ≡ Some (range.Part first last (Some total)) → IsInOrder first last total
 reported_order positions text None first last total at is = absurd (without_not positions text first last total is)
 reported_order positions text (Some (From a)) first last total at is = absurd (none_some _ is)
 reported_order positions text (Some (Last n)) first last total at is = absurd (none_some _ is)
@@ -68,7 +70,8 @@ reported_order positions text (Some (FromTo a b)) first last total at is =
     let q : b ≡ last = all.1 in
     record { is_sorted = omega arith; within = all.2 }
 
-response_order : (o : Option (List ℕ × List ℕ)) (first last total : ℕ) → response_from o ≡ Some (range.Part first last (Some total)) → IsInOrder first last total
+response_order : (o : Option (List ℕ × List ℕ)) (first last total : ℕ) → response_from o ≡ Some (range.Part first last (Some total)) →
+    IsInOrder first last total
 response_order None first last total is = absurd (none_some _ is)
 response_order (Some (positions, text)) first last total is = reported_order positions text (spec_in positions) first last total refl is
 
@@ -81,7 +84,8 @@ content_order text first last total is = by_test (bytes_eq (str_to_ascii_lowerca
     by_test false h = absurd (none_some _ h)
 
 -- the part that a head tells is in order
-pub part_order : (fields : List (List ℕ × List ℕ)) (first last total : ℕ) → content_range_of fields ≡ Some (range.Part first last (Some total)) → IsInOrder first last total
+pub part_order : (fields : List (List ℕ × List ℕ)) (first last total : ℕ) → content_range_of fields ≡ Some (range.Part first last (Some total)) →
+    IsInOrder first last total
 part_order fields first last total is = by_value (only_of (values_of (codes "content-range") fields)) is
   where
     by_value : (o : Option (List ℕ)) → option_and_then content_range_in o ≡ Some (range.Part first last (Some total)) → IsInOrder first last total
@@ -96,10 +100,13 @@ pub record IsWithin (total : ℕ) (l : Length) : Type 0 where
   pub promise : promise_of l ≡ Some n
   pub ends : base_of l + n ≤ total
 
-within_if : (total : ℕ) (b : Bool) (x y : Length) → (is_bad x ≡ false → IsWithin total x) → (is_bad y ≡ false → IsWithin total y) → is_bad (cond b x y) ≡ false → IsWithin total (cond b x y)
+within_if : (total : ℕ) (b : Bool) (x y : Length) → (is_bad x ≡ false → IsWithin total x) → (is_bad y ≡ false → IsWithin total y) →
+    is_bad (cond b x y) ≡ false → IsWithin total (cond b x y)
 within_if total b x y p q = grind (arith, nat_tests)
 
-within_part : (first last total : ℕ) (said : Length) → IsInOrder first last total → is_bad (part_length said (Some (range.Part first last (Some total)))) ≡ false → IsWithin total (part_length said (Some (range.Part first last (Some total))))
+within_part : (first last total : ℕ) (said : Length) → IsInOrder first last total →
+    is_bad (part_length said (Some (range.Part first last (Some total)))) ≡ false → IsWithin
+    total (part_length said (Some (range.Part first last (Some total))))
 within_part first last total said i =
     within_if total (agrees said (last + 1 - first)) (reported.Part first (last + 1 - first)) reported.Bad
     (λ good. let a : first ≤ last = i.is_sorted in let b : last < total = i.within in record { n = last + 1 - first; promise = refl; ends = omega arith })
@@ -110,7 +117,9 @@ by_way route.Direct status past is = absurd (past refl)
 by_way _ status past is = is
 
 -- a part that isn't bad promises bytes within the whole
-pub part_within : (n : Need) (request : Request) (response : Response) (first last total : ℕ) → (route_of n ≡ route.Direct → ⊥) → brings_part response.status ≡ true → content_range_of response.fields ≡ Some (range.Part first last (Some total)) → is_bad (length_of n request response) ≡ false → IsWithin total (length_of n request response)
+pub part_within : (n : Need) (request : Request) (response : Response) (first last total : ℕ) → (route_of n ≡ route.Direct → ⊥) →
+    brings_part response.status ≡ true → content_range_of response.fields ≡ Some (range.Part first last (Some total)) →
+    is_bad (length_of n request response) ≡ false → IsWithin total (length_of n request response)
 unfolding length_of
 part_within n request response first last total past status part =
     let said = content_length_of (elements_in (codes "content-length") response.fields) in
@@ -143,12 +152,17 @@ pub data IsReceived (first last : ℕ) (l : Length) : Type 0 where
   none : l ≡ reported.Promised 0 → IsReceived first last l
   part : l ≡ reported.Part first (last + 1 - first) → IsReceived first last l
 
-reported_if : (first last : ℕ) (b : Bool) (x y : Length) → (is_bad x ≡ false → IsReceived first last x) → (is_bad y ≡ false → IsReceived first last y) → is_bad (cond b x y) ≡ false → IsReceived first last (cond b x y)
+reported_if : (first last : ℕ) (b : Bool) (x y : Length) → (is_bad x ≡ false → IsReceived first last x) → (is_bad y ≡ false → IsReceived first last y) →
+    is_bad (cond b x y) ≡ false → IsReceived first last (cond b x y)
 reported_if first last b x y p q = grind (arith, nat_tests)
 
-pub part_reported : (n : Need) (request : Request) (response : Response) (first last total : ℕ) → (route_of n ≡ route.Direct → ⊥) → brings_part response.status ≡ true → content_range_of response.fields ≡ Some (range.Part first last (Some total)) → is_bad (length_of n request response) ≡ false → IsReceived first last (length_of n request response)
+pub part_reported : (n : Need) (request : Request) (response : Response) (first last total : ℕ) → (route_of n ≡ route.Direct → ⊥) →
+    brings_part response.status ≡ true → content_range_of response.fields ≡ Some (range.Part first last (Some total)) →
+    is_bad (length_of n request response) ≡ false → IsReceived first last (length_of n request response)
 unfolding length_of
 part_reported n request response first last total past status is_part =
     let said = content_length_of (elements_in (codes "content-length") response.fields) in
     reported_if first last (has_no_body request response.status) (reported.Promised 0) _ (λ good. none refl)
-    (rw (by_way (route_of n) response.status past status, is_part) (reported_if first last (agrees said (last + 1 - first)) (reported.Part first (last + 1 - first)) reported.Bad (λ good. part refl) (λ bad. absurd (let never : true ≡ false = bad in cc))))
+    (rw (by_way (route_of n) response.status past status, is_part)
+    (reported_if first last (agrees said (last + 1 - first)) (reported.Part first (last + 1 - first)) reported.Bad (λ good. part refl)
+    (λ bad. absurd (let never : true ≡ false = bad in cc))))

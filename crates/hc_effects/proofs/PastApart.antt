@@ -21,17 +21,20 @@ pub bound_direct : (r lo : ℕ) (hi : Option ℕ) (how : BoundBy) (y : ℕ) → 
 bound_direct r lo hi how y is = cc
 
 -- a part that founds is one of an interval that is wanted
-part_wanted : (asked : RangeSpec) (first last total : ℕ) (q : Option Span) → resolved_span asked total ≡ q → begins_at q first last ≡ true → (z : Span) × (wanted_of (Some asked) (Some total) ≡ wanted.Interval z)
+part_wanted : (asked : RangeSpec) (first last total : ℕ) (q : Option Span) → resolved_span asked total ≡ q → begins_at q first last ≡ true → (z : Span) ×
+    (wanted_of (Some asked) (Some total) ≡ wanted.Interval z)
 part_wanted asked first last total None is h = absurd (false_true h)
 part_wanted asked first last total (Some span) is h = (span, ap wanted_part is)
 
-part_range : (asked : RangeSpec) (q : Option ContentRange) → fits_part asked q ≡ true → (z : Span) × (wanted_of (Some asked) (Rattle.hc_model.specs.Heads.total_of_part q) ≡ wanted.Interval z)
+part_range : (asked : RangeSpec) (q : Option ContentRange) → fits_part asked q ≡ true → (z : Span) ×
+    (wanted_of (Some asked) (Rattle.hc_model.specs.Heads.total_of_part q) ≡ wanted.Interval z)
 part_range asked None h = absurd (false_true h)
 part_range asked (Some (range.Unsatisfied total)) h = absurd (false_true h)
 part_range asked (Some (range.Part first last None)) h = absurd (false_true h)
 part_range asked (Some (range.Part first last (Some total))) h = part_wanted asked first last total (resolved_span asked total) refl h
 
-fits_wanted : (w : Exchange) (response : Response) (q : Option RangeSpec) → brings_part response.status ≡ true → fits_to_found q response ≡ true → (z : Span) × (wanted_of q (founded_total w response) ≡ wanted.Interval z)
+fits_wanted : (w : Exchange) (response : Response) (q : Option RangeSpec) → brings_part response.status ≡ true → fits_to_found q response ≡ true →
+    (z : Span) × (wanted_of q (founded_total w response) ≡ wanted.Interval z)
 fits_wanted w response None status h = absurd (false_true h)
 fits_wanted w response (Some asked) status h =
     let got = part_range asked (content_range_of response.fields) (and_right _ _ h) in
@@ -49,7 +52,8 @@ pub record IsApart (t : Tables) : Type 0 where
   pub unfounded : (c x : ℕ) (k : Consumer) → t.consumer c ≡ Some k → k.place ≡ place.Direct x → t.representation x ≡ None
   pub headed : (c x : ℕ) (k : Consumer) → t.consumer c ≡ Some k → k.place ≡ place.Direct x → k.shown ≡ true → IsHeadedRow t x
 
-module _ (step : Step) (stand : may_stand step.limits step.tables (entry_of step.limits step.tables step.now step.event step.flaw) ≡ true) (a : IsApart step.tables) where
+module _ (step : Step) (stand : may_stand step.limits step.tables (entry_of step.limits step.tables step.now step.event step.flaw) ≡ true)
+    (a : IsApart step.tables) where
   open step use {limits, tables as t, now, flaw, sound as s, owners as o, event as ev, accepted as goes}
 
   abbrev e : Entry
@@ -58,7 +62,8 @@ module _ (step : Step) (stand : may_stand step.limits step.tables (entry_of step
   abbrev now_on : Tables
   now_on = after_accepted t e
 
-  unfounding : (x : ℕ) (response : Response) (w : Exchange) → ev ≡ event.Head x response → t.exchange x ≡ Some w → route_of w.need ≡ route.Direct → is_founding (case_at t e) ≡ true → ⊥
+  unfounding : (x : ℕ) (response : Response) (w : Exchange) → ev ≡ event.Head x response → t.exchange x ≡ Some w → route_of w.need ≡ route.Direct →
+      is_founding (case_at t e) ≡ true → ⊥
   unfounding x response w here row way on =
       let view = head_view t (has_loss e.acts) w response in
       founds_way view (head_case view) (founding_by view (sym (ap is_founding (case_is t e x response w here row)) ∙ on)) way
@@ -71,8 +76,10 @@ module _ (step : Step) (stand : may_stand step.limits step.tables (entry_of step
     bare_not w v row bare also headed = grind (arith, nat_tests)
 
     -- where it stood there, no head of that exchange founds
-    stood_past : (response : Response) (w : Exchange) → k.place ≡ place.Direct y → ev ≡ event.Head y response → t.exchange y ≡ Some w → is_founding (case_at t e) ≡ true → k.shown ≡ false → IsPast t y k → ⊥
-    stood_past response w at here row on unshown (owners.answered v also headed) = bare_not w v row (is_new limits t now flaw s ev goes y response w here row).bare also headed
+    stood_past : (response : Response) (w : Exchange) → k.place ≡ place.Direct y → ev ≡ event.Head y response → t.exchange y ≡ Some w →
+        is_founding (case_at t e) ≡ true → k.shown ≡ false → IsPast t y k → ⊥
+    stood_past response w at here row on unshown (owners.answered v also headed) =
+        bare_not w v row (is_new limits t now flaw s ev goes y response w here row).bare also headed
     stood_past response w at here row on unshown (owners.waits v mine also opened bare) =
         let n = is_new limits t now flaw s ev goes y response w here row in
         let got = waiter_of step y w row n.is_open n.bare in
@@ -80,7 +87,8 @@ module _ (step : Step) (stand : may_stand step.limits step.tables (entry_of step
         let one : got.0 ≡ k = same_row (t.consumer c) got.0 k (sym (ap t.consumer c_is) ∙ got.1.row) is.row in
         unfounding y response w here row (direct_way w at (subst (λ (q : Consumer). IsAwaiting y w q.place) one got.1.at)) on
 
-    stood_not : (response : Response) (w : Exchange) → k.place ≡ place.Direct y → ev ≡ event.Head y response → t.exchange y ≡ Some w → is_founding (case_at t e) ≡ true → ⊥
+    stood_not : (response : Response) (w : Exchange) → k.place ≡ place.Direct y → ev ≡ event.Head y response → t.exchange y ≡ Some w →
+        is_founding (case_at t e) ≡ true → ⊥
     stood_not response w at here row on = by_shown k.shown refl
       where
         by_shown : (b : Bool) → k.shown ≡ b → ⊥
@@ -90,7 +98,8 @@ module _ (step : Step) (stand : may_stand step.limits step.tables (entry_of step
         by_shown false unshown = stood_past response w at here row on unshown (o.past c y k is.row at unshown)
 
     -- a head that leaves its consumer past the store founds nothing
-    placed_not : (response : Response) (w : Exchange) (g : HeadCase) → t.exchange y ≡ Some w → w.c ≡ c → FoundingBy (head_view t (has_loss e.acts) w response) g → place_by_case y response w k (Some g) ≡ place.Direct y → ⊥
+    placed_not : (response : Response) (w : Exchange) (g : HeadCase) → t.exchange y ≡ Some w → w.c ≡ c →
+        FoundingBy (head_view t (has_loss e.acts) w response) g → place_by_case y response w k (Some g) ≡ place.Direct y → ⊥
     placed_not response w _ row mine (cases.part way status fits l g) at =
         let for_k : fits_to_found (range_of k.request) response ≡ true = sym (ap (λ q. fits_asker q response) (ap t.consumer mine ∙ is.row)) ∙ fits in
         let z = fits_wanted w response (range_of k.request) status for_k in
@@ -99,7 +108,9 @@ module _ (step : Step) (stand : may_stand step.limits step.tables (entry_of step
 
     heard_at : (response : Response) → ev ≡ event.Head y response → (by_head t e c y response (t.exchange y) k).place ≡ place.Direct y
     heard_at response here =
-        let heard : u.place ≡ (consumer_heard t e c ev k).place = heard_place step c 0 0 None by.Plan k u (λ d want polls. let no : event.Head y response ≡ event.Poll d want = sym here ∙ polls in cc) (record { row = is.row; stays = is.stays; leaves = is.leaves; is = is.is }) in
+        let heard : u.place ≡ (consumer_heard t e c ev k).place =
+        heard_place step c 0 0 None by.Plan k u (λ d want polls. let no : event.Head y response ≡ event.Poll d want = sym here ∙ polls in cc)
+        (record { row = is.row; stays = is.stays; leaves = is.leaves; is = is.is }) in
         sym (ap (λ v. (consumer_heard t e c v k).place) here) ∙ (sym heard ∙ stands)
 
     headed_not : (response : Response) (w : Exchange) → ev ≡ event.Head y response → t.exchange y ≡ Some w → is_founding (case_at t e) ≡ true → ⊥
@@ -110,7 +121,9 @@ module _ (step : Step) (stand : may_stand step.limits step.tables (entry_of step
           | inr off ↦ stood_not response w (rw off.0 at at) here row on
           | inl mine ↦
               let is_case = case_is t e y response w here row in
-              placed_not response w (head_case (head_view t (has_loss e.acts) w response)) row mine.1 (founding_by (head_view t (has_loss e.acts) w response) (sym (ap is_founding is_case) ∙ on)) (sym (ap (place_by_case y response w k) is_case) ∙ (rw mine.0 at at))
+              placed_not response w (head_case (head_view t (has_loss e.acts) w response)) row mine.1
+              (founding_by (head_view t (has_loss e.acts) w response) (sym (ap is_founding is_case) ∙ on))
+              (sym (ap (place_by_case y response w k) is_case) ∙ (rw mine.0 at at))
         ]
 
     head_refused : (response : Response) → t.exchange y ≡ None → denial t (event.Head y response) ≡ None → ⊥

@@ -45,7 +45,8 @@ module _ (t : Tables) (e : Entry) (c y : ℕ) where
   wanted_by x (wanted.Interval span) is = absurd (bound_not x span.lo (Some span.hi) by.Founding is)
   wanted_by x _ is = direct_inj x is
 
-  case_place : (x : ℕ) (response : Response) (w : Exchange) (k : Consumer) (g : Option HeadCase) → place_by_case x response w k g ≡ there → (k.place ≡ there) ⊎ (x ≡ y)
+  case_place : (x : ℕ) (response : Response) (w : Exchange) (k : Consumer) (g : Option HeadCase) → place_by_case x response w k g ≡ there →
+      (k.place ≡ there) ⊎ (x ≡ y)
   case_place x response w k None is = inl is
   case_place x response w k (Some case.DirectBad) is = absurd (down_not _ is)
   case_place x response w k (Some case.DirectTaken) is = inl is
@@ -66,7 +67,8 @@ module _ (t : Tables) (e : Entry) (c y : ℕ) where
   case_place x response w k (Some case.LaterJoins) is = inl is
   case_place x response w k (Some case.LaterChanged) is = inl is
 
-  head_place : (x : ℕ) (response : Response) (o : Option Exchange) (k : Consumer) → e.event ≡ event.Head x response → (by_head t e c x response o k).place ≡ there → PlaceFrom k.place
+  head_place : (x : ℕ) (response : Response) (o : Option Exchange) (k : Consumer) → e.event ≡ event.Head x response →
+      (by_head t e c x response o k).place ≡ there → PlaceFrom k.place
   head_place x response None k at is = stood is
   head_place x response (Some w) k at is = elim (eq_cases w.c c) [
     | inr off ↦ stood (rw off.0 at is)
@@ -94,7 +96,8 @@ module _ (t : Tables) (e : Entry) (c y : ℕ) where
   route_place : (x : ℕ) (k : Consumer) (way : Route) → opened_place t x k way ≡ there → x ≡ y
   route_place x k way is = grind (arith, nat_tests)
 
-  unless : (o : Opening) (k : Consumer) (q : Option ℕ) → opening_in e.acts ≡ Some o → o.c ≡ c → unless_bound q k.place (opened_place t o.x k (route_of o.need)) ≡ there → PlaceFrom k.place
+  unless : (o : Opening) (k : Consumer) (q : Option ℕ) → opening_in e.acts ≡ Some o → o.c ≡ c →
+      unless_bound q k.place (opened_place t o.x k (route_of o.need)) ≡ there → PlaceFrom k.place
   unless o k None row here is = opens o row here (route_place o.x k (route_of o.need) is)
   unless o k (Some r) row here is = stood is
 
@@ -121,7 +124,8 @@ module _ (t : Tables) (e : Entry) (c y : ℕ) where
   from_opened k (opens o is here number) = opens o is here number
   from_opened k (stood is) = heard_place_from e.event k refl (waited (consumer_heard t e c e.event k) (wait_in c e.acts) is)
 
-  settled : (k q u : Consumer) (b : Bool) → starts_over t e c k ≡ b → consumer_settled t e c k q ≡ u → u.place ≡ there → (b ≡ false) × (due_after t e c k q ≡ u) × (q.place ≡ there)
+  settled : (k q u : Consumer) (b : Bool) → starts_over t e c k ≡ b → consumer_settled t e c k q ≡ u → u.place ≡ there → (b ≡ false) ×
+      (due_after t e c k q ≡ u) × (q.place ≡ there)
   settled k q u true over is stands = absurd (line_not (ap (λ (z : Consumer). z.place) (rw over at is) ∙ stands))
   settled k q u false over is stands = let one : due_after t e c k q ≡ u = rw over at is in (refl, one, ap (λ (z : Consumer). z.place) one ∙ stands)
 
@@ -129,7 +133,8 @@ module _ (t : Tables) (e : Entry) (c y : ℕ) where
   stays_in p true is = absurd (over_not is)
   stays_in p false is = (refl, is)
 
-  by_row : (k u : Consumer) → t.consumer c ≡ Some k → consumer_settled t e c k (consumer_acted t e c (consumer_heard t e c e.event k)) ≡ u → u.place ≡ there → IsFrom k u
+  by_row : (k u : Consumer) → t.consumer c ≡ Some k → consumer_settled t e c k (consumer_acted t e c (consumer_heard t e c e.event k)) ≡ u →
+      u.place ≡ there → IsFrom k u
   by_row k u row is stands =
       let h = consumer_heard t e c e.event k in
       let all = settled k (consumer_acted t e c h) u (starts_over t e c k) refl is stands in
@@ -192,22 +197,29 @@ module _ (step : Step) (stand : may_stand step.limits step.tables (entry_of step
     module _ (w : Exchange) (waiter : IsWaiter t c y k w) (unshown : k.shown ≡ false) where
       fault_not : ev ≡ event.Fault y → ⊥
       fault_not here =
-          let heard : u.place ≡ (consumer_heard t e c ev k).place = heard_place step c 0 0 None by.Plan k u (λ d want polls. let no : event.Fault y ≡ event.Poll d want = sym here ∙ polls in cc) (record { row = is.row; stays = is.stays; leaves = is.leaves; is = is.is }) in
+          let heard : u.place ≡ (consumer_heard t e c ev k).place =
+          heard_place step c 0 0 None by.Plan k u (λ d want polls. let no : event.Fault y ≡ event.Poll d want = sym here ∙ polls in cc)
+          (record { row = is.row; stays = is.stays; leaves = is.leaves; is = is.is }) in
           let test : nat_eq w.c c ≡ true = (let m : w.c ≡ c = waiter.for_it in grind (arith, nat_tests)) in
           let down : (by_fault c y (Some w) k).place ≡ place.Down (cause.Net y) = rw (test, waiter.bare, unshown) refl in
-          let no : place.Down (cause.Net y) ≡ place.Direct y = sym down ∙ (sym (ap (λ v. (consumer_heard t e c v k).place) here ∙ ap (λ z. (by_fault c y z k).place) waiter.exchange_row) ∙ (sym heard ∙ stands)) in
+          let no : place.Down (cause.Net y) ≡ place.Direct y = sym down ∙
+          (sym (ap (λ v. (consumer_heard t e c v k).place) here ∙ ap (λ z. (by_fault c y z k).place) waiter.exchange_row) ∙ (sym heard ∙ stands)) in
           down_not t e c y (cause.Net y) no
 
       cancel_not : ev ≡ event.Cancel c → ⊥
       cancel_not here =
-          let heard : u.place ≡ (consumer_heard t e c ev k).place = heard_place step c 0 0 None by.Plan k u (λ d want polls. let no : event.Cancel c ≡ event.Poll d want = sym here ∙ polls in cc) (record { row = is.row; stays = is.stays; leaves = is.leaves; is = is.is }) in
+          let heard : u.place ≡ (consumer_heard t e c ev k).place =
+          heard_place step c 0 0 None by.Plan k u (λ d want polls. let no : event.Cancel c ≡ event.Poll d want = sym here ∙ polls in cc)
+          (record { row = is.row; stays = is.stays; leaves = is.leaves; is = is.is }) in
           let over : (consumer_heard t e c (event.Cancel c) k).place ≡ place.Over = (let test : nat_eq c c ≡ true = grind (arith, nat_tests) in rw test refl) in
           over_not t e c y (sym over ∙ (sym (ap (λ v. (consumer_heard t e c v k).place) here) ∙ (sym heard ∙ stands)))
 
       unmet : (z : Exchange) → IsSame t e y w z → z.head ≡ None → (v : Event) → ev ≡ v → exchange_in v ≡ Some y → ⊥
       unmet z same bare (event.Head x response) here h = same.unheard bare response (here ∙ ap (λ n. event.Head n response) (some_inj x y h))
-      unmet z same bare (event.Piece x bytes) here h = piece_refused bytes w waiter.exchange_row waiter.bare (sym (ap (denial t) (here ∙ ap (λ n. event.Piece n bytes) (some_inj x y h))) ∙ goes)
-      unmet z same bare (event.End x) here h = end_refused w waiter.exchange_row waiter.was_open waiter.bare (sym (ap (denial t) (here ∙ ap event.End (some_inj x y h))) ∙ goes)
+      unmet z same bare (event.Piece x bytes) here h =
+          piece_refused bytes w waiter.exchange_row waiter.bare (sym (ap (denial t) (here ∙ ap (λ n. event.Piece n bytes) (some_inj x y h))) ∙ goes)
+      unmet z same bare (event.End x) here h =
+          end_refused w waiter.exchange_row waiter.was_open waiter.bare (sym (ap (denial t) (here ∙ ap event.End (some_inj x y h))) ∙ goes)
       unmet z same bare (event.Fault x) here h = fault_not (here ∙ ap event.Fault (some_inj x y h))
       unmet z same bare _ here h = none_some y h
 

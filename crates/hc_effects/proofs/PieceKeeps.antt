@@ -37,11 +37,13 @@ abbrev with_bytes : Tables → ℕ → List ℕ → List Act → Exchange → Ex
 with_bytes t x bytes acts w = exchange_acted x acts (exchange_heard t (of_piece 0 x bytes acts) x (event.Piece x bytes) w)
 
 -- a row was there before
-pub was_exchange : (t : Tables) (now x y : ℕ) (bytes : List ℕ) (acts : List Act) (o : Option Exchange) (u : Exchange) → t.exchange y ≡ o → opening_in acts ≡ None → exchange_after t (of_piece now x bytes acts) y o ≡ Some u → WasExchange t x y bytes u
+pub was_exchange : (t : Tables) (now x y : ℕ) (bytes : List ℕ) (acts : List Act) (o : Option Exchange) (u : Exchange) → t.exchange y ≡ o → opening_in
+    acts ≡ None → exchange_after t (of_piece now x bytes acts) y o ≡ Some u → WasExchange t x y bytes u
 unfolding exchange_after
 was_exchange t now x y bytes acts None u is none row = absurd (let never : None ≡ Some u = rw none at row in cc)
 was_exchange t now x y bytes acts (Some w) u is none row =
-    subst (WasExchange t x y bytes) (some_inj (exchange_acted y acts (exchange_heard t (of_piece now x bytes acts) y (event.Piece x bytes) w)) u row) (elim (eq_cases x y) [
+    subst (WasExchange t x y bytes) (some_inj (exchange_acted y acts (exchange_heard t (of_piece now x bytes acts) y (event.Piece x bytes) w)) u row)
+    (elim (eq_cases x y) [
       | inl here ↦ rw here.0 (record {
         w = w;
         row = is;
@@ -76,7 +78,8 @@ pub record WasRepresentation (t : Tables) (x r : ℕ) (bytes : List ℕ) (u : Re
   pub row : t.representation r ≡ Some v
   pub body_is : (w : Exchange) → t.exchange x ≡ Some w → u.body ≡ (cond (nat_eq (family x w) r) (cells_with (front w) x bytes v.body) v.body)
 
-pub was_representation : (t : Tables) (now x r : ℕ) (bytes : List ℕ) (acts : List Act) (o : Option Representation) (u : Representation) → t.representation r ≡ o → representation_after t (of_piece now x bytes acts) r o ≡ Some u → WasRepresentation t x r bytes u
+pub was_representation : (t : Tables) (now x r : ℕ) (bytes : List ℕ) (acts : List Act) (o : Option Representation) (u : Representation) →
+    t.representation r ≡ o → representation_after t (of_piece now x bytes acts) r o ≡ Some u → WasRepresentation t x r bytes u
 unfolding representation_after
 was_representation t now x r bytes acts o u is row = grind (arith, nat_tests)
 
@@ -96,7 +99,8 @@ was_ahead t x y p bytes u was le =
     omega arith
 
 -- who is in a hole asks for one
-asks_by : (t : Tables) (r y : ℕ) (z : Exchange) (p : ℕ) → z.is_open ≡ true → t.exchange y ≡ Some z → z.head ≡ None → z.aim ≡ Some r → (n : Need) → z.need ≡ n → InHole n p → IsAbout t r y
+asks_by : (t : Tables) (r y : ℕ) (z : Exchange) (p : ℕ) → z.is_open ≡ true → t.exchange y ≡ Some z → z.head ≡ None → z.aim ≡ Some r → (n : Need) →
+    z.need ≡ n → InHole n p → IsAbout t r y
 asks_by t r y z p is_open row bare aim (need.Hole from to) is hole = sound.asks z from to row is_open bare is aim
 asks_by t r y z p is_open row bare aim _ is hole = absurd hole
 
@@ -110,18 +114,21 @@ module _ (t : Tables) (now x : ℕ) (bytes : List ℕ) (acts : List Act) (w : Ex
     pub opens_none : opening_in acts ≡ None
 
   -- what was absent stays so, where the piece is of another representation, or before it
-  stays_absent : (b : Bool) (v : Representation) (p : ℕ) → v.body p ≡ None → (b ≡ true → front w + length bytes ≤ p) → (cond b (cells_with (front w) x bytes v.body) v.body) p ≡ None
+  stays_absent : (b : Bool) (v : Representation) (p : ℕ) → v.body p ≡ None → (b ≡ true → front w + length bytes ≤ p) →
+      (cond b (cells_with (front w) x bytes v.body) v.body) p ≡ None
   stays_absent false v p none past = none
   stays_absent true v p none past = rw (inside-past (front w) (length bytes) p (past refl)) none
 
   -- an exchange of a hole of the representation of the piece is the one that brought it, which can't be
-  about_hole : Sound t → IsPiece → (y : ℕ) (z : Exchange) (r : ℕ) → z.is_open ≡ true → t.exchange y ≡ Some z → z.head ≡ None → z.aim ≡ Some r → family x w ≡ r → is_some (t.representation r) ≡ true → (p : ℕ) → InHole z.need p → x ≡ y
+  about_hole : Sound t → IsPiece → (y : ℕ) (z : Exchange) (r : ℕ) → z.is_open ≡ true → t.exchange y ≡ Some z → z.head ≡ None → z.aim ≡ Some r →
+      family x w ≡ r → is_some (t.representation r) ≡ true → (p : ℕ) → InHole z.need p → x ≡ y
   about_hole s piece y z r is_open row bare aim same there p hole =
       s.one_about r x y (sound.headed w piece.row piece.was_open piece.headed same there) (asks_by t r y z p is_open row bare aim z.need refl hole)
 
   module _ (s : Sound t) (piece : IsPiece) (y : ℕ) (u : Exchange) (v : Representation) (p : ℕ) (was : WasExchange t x y bytes u) where
     -- two open exchanges about one representation are the same
-    one : (z : Exchange) → t.exchange y ≡ Some z → z.is_open ≡ true → is_some z.head ≡ true → family x w ≡ family y z → is_some (t.representation (family y z)) ≡ true → x ≡ y
+    one : (z : Exchange) → t.exchange y ≡ Some z → z.is_open ≡ true → is_some z.head ≡ true → family x w ≡ family y z →
+        is_some (t.representation (family y z)) ≡ true → x ≡ y
     one z row is_open headed same there =
         s.one_about (family y z) x y (sound.headed w piece.row piece.was_open piece.headed same there) (sound.headed z row is_open headed refl there)
 
@@ -136,17 +143,21 @@ module _ (t : Tables) (now x : ℕ) (bytes : List ℕ) (acts : List Act) (w : Ex
         let n : length u.body ≡ length w.body + length bytes = ap length body ∙ length-append w.body bytes in
         omega arith
 
-    front_absent : (rep : WasRepresentation t x (family y u) bytes v) → u.is_open ≡ true → is_some u.head ≡ true → front u ≤ p → IsPromised (promised_bytes u) u p → v.body p ≡ None
+    front_absent : (rep : WasRepresentation t x (family y u) bytes v) → u.is_open ≡ true → is_some u.head ≡ true → front u ≤ p →
+        IsPromised (promised_bytes u) u p → v.body p ≡ None
     front_absent rep is_open headed le ends =
         let open_before = was.was_open is_open in
         let headed_before : is_some was.w.head ≡ true = rw was.head_is at headed in
         let there : t.representation (family y was.w) ≡ Some rep.v = rw was.family_is at rep.row in
-        let none = s.waits.fronts y was.w rep.v p was.row open_before headed_before there (was_ahead t x y p bytes u was le) (ends_same (promised_bytes was.w) u was.w p was.base_is (rw was.promised_is at ends)) in
+        let none = s.waits.fronts y was.w rep.v p was.row open_before headed_before there (was_ahead t x y p bytes u was le)
+        (ends_same (promised_bytes was.w) u was.w p was.base_is (rw was.promised_is at ends)) in
         ap (λ (f : Cells). f p) (rep.body_is w piece.row) ∙ stays_absent (nat_eq (family x w) (family y u)) rep.v p none (λ b.
         let same : family x w ≡ family y u = grind (arith, nat_tests) in
         past (one was.w was.row open_before headed_before (same ∙ was.family_is) (rw there refl)) le)
 
-  pub fronts_kept : Sound t → IsPiece → (y : ℕ) (u : Exchange) (v : Representation) (p : ℕ) → (after_accepted t (of_piece now x bytes acts)).exchange y ≡ Some u → u.is_open ≡ true → is_some u.head ≡ true → (after_accepted t (of_piece now x bytes acts)).representation (family y u) ≡ Some v → front u ≤ p → IsPromised (promised_bytes u) u p → v.body p ≡ None
+  pub fronts_kept : Sound t → IsPiece → (y : ℕ) (u : Exchange) (v : Representation) (p : ℕ) →
+      (after_accepted t (of_piece now x bytes acts)).exchange y ≡ Some u → u.is_open ≡ true → is_some u.head ≡ true →
+      (after_accepted t (of_piece now x bytes acts)).representation (family y u) ≡ Some v → front u ≤ p → IsPromised (promised_bytes u) u p → v.body p ≡ None
   fronts_kept s piece y u v p row is_open headed at le ends =
       let was = was_exchange t now x y bytes acts (t.exchange y) u refl piece.opens_none row in
       let rep = was_representation t now x (family y u) bytes acts (t.representation (family y u)) v refl at in
@@ -155,7 +166,9 @@ module _ (t : Tables) (now x : ℕ) (bytes : List ℕ) (acts : List Act) (w : Ex
   headed_not : (z : Exchange) (y : ℕ) → IsPiece → t.exchange y ≡ Some z → z.head ≡ None → x ≢ y
   headed_not z y piece row none same = grind (arith, nat_tests)
 
-  pub holes_kept : Sound t → IsPiece → (y : ℕ) (u : Exchange) (r : ℕ) (v : Representation) (p : ℕ) → (after_accepted t (of_piece now x bytes acts)).exchange y ≡ Some u → u.is_open ≡ true → u.head ≡ None → u.aim ≡ Some r → (after_accepted t (of_piece now x bytes acts)).representation r ≡ Some v → InHole u.need p → v.body p ≡ None
+  pub holes_kept : Sound t → IsPiece → (y : ℕ) (u : Exchange) (r : ℕ) (v : Representation) (p : ℕ) →
+      (after_accepted t (of_piece now x bytes acts)).exchange y ≡ Some u → u.is_open ≡ true → u.head ≡ None → u.aim ≡ Some r →
+      (after_accepted t (of_piece now x bytes acts)).representation r ≡ Some v → InHole u.need p → v.body p ≡ None
   holes_kept s piece y u r v p row is_open headless aim at hole =
       let was = was_exchange t now x y bytes acts (t.exchange y) u refl piece.opens_none row in
       let rep = was_representation t now x r bytes acts (t.representation r) v refl at in
@@ -164,10 +177,12 @@ module _ (t : Tables) (now x : ℕ) (bytes : List ℕ) (acts : List Act) (w : Ex
       let none = s.waits.holes y was.w r rep.v p was.row (was.was_open is_open) bare aimed rep.row (rw was.need_is at hole) in
       ap (λ (f : Cells). f p) (rep.body_is w piece.row) ∙ stays_absent (nat_eq (family x w) r) rep.v p none (λ b.
       let same : family x w ≡ r = grind (arith, nat_tests) in
-      absurd (headed_not was.w y piece was.row bare (about_hole s piece y was.w r (was.was_open is_open) was.row bare aimed same (rw rep.row refl) p (rw was.need_is at hole))))
+      absurd (headed_not was.w y piece was.row bare
+      (about_hole s piece y was.w r (was.was_open is_open) was.row bare aimed same (rw rep.row refl) p (rw was.need_is at hole))))
 
   -- what is about r was about it
-  was_there : (r : ℕ) (o : Option Representation) → (after_accepted t (of_piece now x bytes acts)).representation r ≡ o → is_some o ≡ true → is_some (t.representation r) ≡ true
+  was_there : (r : ℕ) (o : Option Representation) → (after_accepted t (of_piece now x bytes acts)).representation r ≡ o → is_some o ≡ true →
+      is_some (t.representation r) ≡ true
   was_there r None is some = absurd (let never : false ≡ true = some in cc)
   was_there r (Some u) is some = let rep = was_representation t now x r bytes acts (t.representation r) u refl is in rw rep.row refl
 
@@ -175,12 +190,14 @@ module _ (t : Tables) (now x : ℕ) (bytes : List ℕ) (acts : List Act) (w : Ex
   about_was piece r y (sound.headed u row is_open headed fam there) =
       let was = was_exchange t now x y bytes acts (t.exchange y) u refl piece.opens_none row in
       let headed_before : is_some was.w.head ≡ true = rw was.head_is at headed in
-      sound.headed was.w was.row (was.was_open is_open) headed_before (sym was.family_is ∙ fam) (was_there r ((after_accepted t (of_piece now x bytes acts)).representation r) refl there)
+      sound.headed was.w was.row (was.was_open is_open) headed_before (sym was.family_is ∙ fam)
+      (was_there r ((after_accepted t (of_piece now x bytes acts)).representation r) refl there)
   about_was piece r y (sound.asks u from to row is_open bare hole aim) =
       let was = was_exchange t now x y bytes acts (t.exchange y) u refl piece.opens_none row in
       sound.asks was.w from to was.row (was.was_open is_open) (sym was.head_is ∙ bare) (sym was.need_is ∙ hole) (sym was.aim_is ∙ aim)
 
-  headless_kept : Sound t → IsPiece → (y : ℕ) (u : Exchange) → (after_accepted t (of_piece now x bytes acts)).exchange y ≡ Some u → u.head ≡ None → (u.body ≡ []) × (u.joined ≡ None)
+  headless_kept : Sound t → IsPiece → (y : ℕ) (u : Exchange) → (after_accepted t (of_piece now x bytes acts)).exchange y ≡ Some u → u.head ≡ None →
+      (u.body ≡ []) × (u.joined ≡ None)
   headless_kept s piece y u row headless =
       let was = was_exchange t now x y bytes acts (t.exchange y) u refl piece.opens_none row in
       let bare : was.w.head ≡ None = sym was.head_is ∙ headless in

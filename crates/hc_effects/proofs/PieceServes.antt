@@ -16,7 +16,8 @@ pub record IsQuietActs (acts : List Act) : Type 0 where
 
 quiet_closes : (xs : List ℕ) → IsQuietActs (map act.Close xs)
 quiet_closes [] = record { opens = refl; waits = λ c. refl; shows = λ c. refl; showing = refl; gives = λ c. refl; leaves = λ c. refl }
-quiet_closes (x ∷ xs) = let q = quiet_closes xs in record { opens = q.opens; waits = q.waits; shows = q.shows; showing = q.showing; gives = q.gives; leaves = q.leaves }
+quiet_closes (x ∷ xs) = let q = quiet_closes xs in
+    record { opens = q.opens; waits = q.waits; shows = q.shows; showing = q.showing; gives = q.gives; leaves = q.leaves }
 
 pub quiet_losses : (flaw : Flaw) (rest : List Act) → IsQuietActs rest → IsQuietActs (loss_acts flaw ++ rest)
 quiet_losses (Loses r kind) rest q = record { opens = q.opens; waits = q.waits; shows = q.shows; showing = q.showing; gives = q.gives; leaves = q.leaves }
@@ -24,7 +25,8 @@ quiet_losses _ rest q = q
 
 quiet_evictions : (rs : List ℕ) (rest : List Act) → IsQuietActs rest → IsQuietActs (map act.Evicted rs ++ rest)
 quiet_evictions [] rest q = q
-quiet_evictions (r ∷ rs) rest q = let p = quiet_evictions rs rest q in record { opens = p.opens; waits = p.waits; shows = p.shows; showing = p.showing; gives = p.gives; leaves = p.leaves }
+quiet_evictions (r ∷ rs) rest q = let p = quiet_evictions rs rest q in
+    record { opens = p.opens; waits = p.waits; shows = p.shows; showing = p.showing; gives = p.gives; leaves = p.leaves }
 
 pub quiet_acts : (rs xs : List ℕ) (flaw : Flaw) → IsQuietActs (map act.Evicted rs ++ (loss_acts flaw ++ map act.Close xs))
 quiet_acts rs xs flaw = quiet_evictions rs _ (quiet_losses flaw _ (quiet_closes xs))
@@ -43,7 +45,8 @@ abbrev given_is : Consumer → ℕ → Consumer
 given_is k n = record k { given = n }
 
 -- of who hears this, they change but what is its own
-pub acted_quiet : (t : Tables) (e : Entry) (c : ℕ) (k : Consumer) → IsQuietActs e.acts → consumer_acted t e c k ≡ record k { own = own_after t e c k.place k.own }
+pub acted_quiet : (t : Tables) (e : Entry) (c : ℕ) (k : Consumer) → IsQuietActs e.acts →
+    consumer_acted t e c k ≡ record k { own = own_after t e c k.place k.own }
 acted_quiet t e c k q = grind (arith, nat_tests)
 
 -- a row that started over, and one that didn't
@@ -63,9 +66,12 @@ settled t e c k q stays = rw stays (record { place_is = refl; request_is = refl;
 bound_line : (r lo : ℕ) (hi : Option ℕ) (how : BoundBy) → place.Line ≡ place.Bound r lo hi how → ⊥
 bound_line r lo hi how h = cc
 
-was_bound_by : (t : Tables) (e : Entry) (c r lo : ℕ) (hi : Option ℕ) (how : BoundBy) (k u : Consumer) (b : Bool) → starts_over t e c k ≡ b → t.consumer c ≡ Some k → consumer_settled t e c k (record k { own = own_after t e c k.place k.own }) ≡ u → u.place ≡ place.Bound r lo hi how → WasBound t e c u
+was_bound_by : (t : Tables) (e : Entry) (c r lo : ℕ) (hi : Option ℕ) (how : BoundBy) (k u : Consumer) (b : Bool) → starts_over t e c k ≡ b →
+    t.consumer c ≡ Some k → consumer_settled t e c k (record k { own = own_after t e c k.place k.own }) ≡ u → u.place ≡ place.Bound r lo hi how →
+    WasBound t e c u
 was_bound_by t e c r lo hi how k u true over row is stands =
-    absurd (bound_line r lo hi how (sym (started_over t e c k (record k { own = own_after t e c k.place k.own }) over) ∙ (ap (λ (z : Consumer). z.place) is ∙ stands)))
+    absurd (bound_line r lo hi how
+    (sym (started_over t e c k (record k { own = own_after t e c k.place k.own }) over) ∙ (ap (λ (z : Consumer). z.place) is ∙ stands)))
 was_bound_by t e c r lo hi how k u false over row is stands =
     let q : Consumer = record k { own = own_after t e c k.place k.own } in
     let s : IsSettled t e c k q u = subst (IsSettled t e c k q) is (settled t e c k q over) in
@@ -80,7 +86,9 @@ was_bound_by t e c r lo hi how k u false over row is stands =
       own_is = s.own_is;
     }
 
-pub was_bound : (t : Tables) (now x c r lo : ℕ) (hi : Option ℕ) (how : BoundBy) (bytes : List ℕ) (acts : List Act) (o : Option Consumer) (u : Consumer) → IsQuietActs acts → t.consumer c ≡ o → consumer_after t (of_piece now x bytes acts) c o ≡ Some u → u.place ≡ place.Bound r lo hi how → WasBound t (of_piece now x bytes acts) c u
+pub was_bound : (t : Tables) (now x c r lo : ℕ) (hi : Option ℕ) (how : BoundBy) (bytes : List ℕ) (acts : List Act) (o : Option Consumer) (u : Consumer) →
+    IsQuietActs acts → t.consumer c ≡ o → consumer_after t (of_piece now x bytes acts) c o ≡ Some u → u.place ≡ place.Bound r lo hi how →
+    WasBound t (of_piece now x bytes acts) c u
 unfolding consumer_after
 was_bound t now x c r lo hi how bytes acts None u q row is place = absurd (let never : None ≡ Some u = is in cc)
 was_bound t now x c r lo hi how bytes acts (Some k) u q row is stands =

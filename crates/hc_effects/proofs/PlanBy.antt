@@ -26,7 +26,8 @@ pub data PlanBy (v : PlanView) : Plan → Type 0 where
   busy : (d : ℕ) (kept : Option ℕ) → v.class.bypassing ≡ false → PlanBy v (plan.Busy d kept)
   misses : PlanBy v plan.Miss
   passes_by : (n : Need) → route_of n ≡ route.Direct → PlanBy v (plan.Direct n)
-  fetches : (n : Need) → route_of n ≡ route.Turn → (n ≡ need.Validate → v.class.bypassing ≡ false) → (n ≡ need.Bypass → v.class.bypassing ≡ true) → v.class.disabled ≡ false → PlanBy v (plan.Fetch n)
+  fetches : (n : Need) → route_of n ≡ route.Turn → (n ≡ need.Validate → v.class.bypassing ≡ false) → (n ≡ need.Bypass → v.class.bypassing ≡ true) →
+      v.class.disabled ≡ false → PlanBy v (plan.Fetch n)
   joins : (why : Why) → v.class.disabled ≡ false → JoinsGroup v → PlanBy v (plan.Bind why None)
   reads : (why : Why) (span : Span) → v.class.disabled ≡ false → IsAlone v span None → PlanBy v (plan.Bind why (Some span))
   fills : (span hole : Span) → v.class.disabled ≡ false → (a : IsAlone v span (Some hole)) → a.s.least_bound ≡ None → PlanBy v (plan.FirstHole span hole)
@@ -44,15 +45,20 @@ vary_bypass : need.Vary ≡ need.Bypass → ⊥
 vary_bypass is = cc
 
 module _ (v : PlanView) (cached : v.class.disabled ≡ false) (plain : v.class.bypassing ≡ false) (s : Candidate) (current : v.current ≡ Some s) where
-  bound_by : (span hole : Span) (o : Option ℕ) → s.span ≡ wanted.Interval span → s.writer_group ≡ false → s.exclusive ≡ None → s.hole ≡ Some hole → s.least_bound ≡ o → PlanBy v (by_bound v span hole o)
-  bound_by span hole None at off free found nobody = fills span hole cached (record { s = s; current = current; wanted_is = at; unwritten = off; hole_is = found; nobody = free }) nobody
+  bound_by : (span hole : Span) (o : Option ℕ) → s.span ≡ wanted.Interval span → s.writer_group ≡ false → s.exclusive ≡ None → s.hole ≡ Some hole →
+      s.least_bound ≡ o → PlanBy v (by_bound v span hole o)
+  bound_by span hole None at off free found nobody =
+      fills span hole cached (record { s = s; current = current; wanted_is = at; unwritten = off; hole_is = found; nobody = free }) nobody
   bound_by span hole (Some d) at off free found nobody = busy d v.kept plain
 
-  hole_by : (why : Why) (span : Span) (o : Option Span) → s.span ≡ wanted.Interval span → s.writer_group ≡ false → s.exclusive ≡ None → s.hole ≡ o → PlanBy v (by_hole v s why span o)
-  hole_by why span None at off free found = reads why span cached (record { s = s; current = current; wanted_is = at; unwritten = off; hole_is = found; nobody = free })
+  hole_by : (why : Why) (span : Span) (o : Option Span) → s.span ≡ wanted.Interval span → s.writer_group ≡ false → s.exclusive ≡ None → s.hole ≡ o →
+      PlanBy v (by_hole v s why span o)
+  hole_by why span None at off free found =
+      reads why span cached (record { s = s; current = current; wanted_is = at; unwritten = off; hole_is = found; nobody = free })
   hole_by why span (Some hole) at off free found = bound_by span hole s.least_bound at off free found refl
 
-  exclusive_by : (why : Why) (span : Span) (o : Option ℕ) → s.span ≡ wanted.Interval span → s.writer_group ≡ false → s.exclusive ≡ o → PlanBy v (by_exclusive v s why span o)
+  exclusive_by : (why : Why) (span : Span) (o : Option ℕ) → s.span ≡ wanted.Interval span → s.writer_group ≡ false → s.exclusive ≡ o →
+      PlanBy v (by_exclusive v s why span o)
   exclusive_by why span None at off free = hole_by why span s.hole at off free refl
   exclusive_by why span (Some d) at off taken = busy d v.kept plain
 
@@ -62,7 +68,14 @@ module _ (v : PlanView) (cached : v.class.disabled ≡ false) (plain : v.class.b
   wanted_by why (wanted.Interval span) at = either (PlanBy v) s.writer_group _ _ (λ on. busy _ _ plain) (λ off. exclusive_by why span s.exclusive at off refl)
 
   on_by : (why : Why) → PlanBy v (plan_on v s why)
-  on_by why = either (PlanBy v) (is_none v.class.range && s.writer_group) _ _ (λ h. joins why cached (record { s = s; current = current; unranged = and_left (is_none v.class.range) s.writer_group h; writer_group = and_right (is_none v.class.range) s.writer_group h })) (λ h. wanted_by why s.span refl)
+  on_by why = either (PlanBy v) (is_none v.class.range && s.writer_group) _ _
+      (λ h. joins why cached (record {
+        s = s;
+        current = current;
+        unranged = and_left (is_none v.class.range) s.writer_group h;
+        writer_group =
+            and_right (is_none v.class.range) s.writer_group h;
+      })) (λ h. wanted_by why s.span refl)
 
   why_then : (o : Option Why) → PlanBy v (by_why v s o)
   why_then None = fetches need.Validate refl (λ is. plain) (λ is. absurd (validate_bypass is)) cached
@@ -70,13 +83,16 @@ module _ (v : PlanView) (cached : v.class.disabled ≡ false) (plain : v.class.b
 
 current_by : (v : PlanView) (o : Option Candidate) → v.class.disabled ≡ false → v.class.bypassing ≡ false → v.current ≡ o → PlanBy v (by_current v o)
 current_by v None cached plain is = fetches need.Miss refl (λ at. plain) (λ at. absurd (miss_bypass at)) cached
-current_by v (Some s) cached plain is = mix (PlanBy v) s.vary _ _ (why_then v cached plain s is (why_by v.kept s.allowed)) (fetches need.Vary refl (λ at. plain) (λ at. absurd (vary_bypass at)) cached)
+current_by v (Some s) cached plain is =
+    mix (PlanBy v) s.vary _ _ (why_then v cached plain s is (why_by v.kept s.allowed))
+    (fetches need.Vary refl (λ at. plain) (λ at. absurd (vary_bypass at)) cached)
 
 bare_by : (v : PlanView) → PlanBy v (bare_plan v)
 bare_by v =
     either (PlanBy v) v.class.disabled _ _ (λ on. passes_by need.Disabled refl) (λ cached.
     mix (PlanBy v) _ _ _ (turn _)
-    (either (PlanBy v) v.class.bypassing _ _ (λ on. fetches need.Bypass refl (λ is. absurd (bypass_is is)) (λ is. on) cached) (λ off. current_by v v.current cached off refl)))
+    (either (PlanBy v) v.class.bypassing _ _ (λ on. fetches need.Bypass refl (λ is. absurd (bypass_is is)) (λ is. on) cached)
+    (λ off. current_by v v.current cached off refl)))
 
 in_time_by : (v : PlanView) (p : Plan) → PlanBy v p → PlanBy v (in_time v p)
 in_time_by v (plan.Turn d) is = mix (PlanBy v) _ _ _ (passes_by need.TimedOut refl) (turn d)

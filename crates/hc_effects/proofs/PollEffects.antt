@@ -47,7 +47,8 @@ due_kept q due same idle = grind (arith, nat_tests)
 pub same_consumer : (t u : Tables) (c : ℕ) (k : Consumer) → u.consumer c ≡ Some k → with_consumer c (Some k) u ≡ u
 same_consumer t u c k row = grind (arith, nat_tests)
 
-module _ (limits : Limits) (t : Tables) (law : Lawful t) (now c want : ℕ) (k : Consumer) (row : t.consumer c ≡ Some k) (m : Move) (stays : Stays m) (is : move_of t now want c k ≡ m) where
+module _ (limits : Limits) (t : Tables) (law : Lawful t) (now c want : ℕ) (k : Consumer) (row : t.consumer c ≡ Some k) (m : Move) (stays : Stays m)
+    (is : move_of t now want c k ≡ m) where
   abbrev ev : Event
   ev = event.Poll c want
 
@@ -62,7 +63,9 @@ module _ (limits : Limits) (t : Tables) (law : Lawful t) (now c want : ℕ) (k :
   said_is = ap (λ (o : Option Consumer). acts_of c (poll_move t now want c o)) row ∙ ap (acts_of c) is
 
   closes_none : closing t (record { now = now; event = ev; acts = answer_acts t now ev NoFlaw ++ [] }) ≡ []
-  closes_none = closes_nothing t (record { now = now; event = ev; acts = answer_acts t now ev NoFlaw ++ [] }) (little t (record { now = now; event = ev; acts = answer_acts t now ev NoFlaw ++ [] }) c (nothing (answer_acts t now ev NoFlaw ++ []))) (ap (λ acts. leaver_in (acts ++ [])) said_is ∙ (mild c m stays).leaves)
+  closes_none = closes_nothing t (record { now = now; event = ev; acts = answer_acts t now ev NoFlaw ++ [] })
+      (little t (record { now = now; event = ev; acts = answer_acts t now ev NoFlaw ++ [] }) c (nothing (answer_acts t now ev NoFlaw ++ [])))
+      (ap (λ acts. leaver_in (acts ++ [])) said_is ∙ (mild c m stays).leaves)
 
   -- just what its move says
   pub acts_are : accepted_acts limits t now ev NoFlaw ≡ acts_of c m
@@ -73,19 +76,25 @@ module _ (limits : Limits) (t : Tables) (law : Lawful t) (now c want : ℕ) (k :
 
   -- where it bypasses nothing, nothing goes
   pub nothing_goes : bypass_key e ≡ None → (r : ℕ) (v : Representation) → t.representation r ≡ Some v → becomes_gone t e r v ≡ is_in [] r
-  nothing_goes plain r v there = let a = mild c m stays in goes_nothing t e c (nothing (acts_of c m)) r v plain (a.loses r) (a.misreads r) (a.closes r) (a.evicts r)
+  nothing_goes plain r v there = let a = mild c m stays in goes_nothing t e c (nothing (acts_of c m)) r v plain
+      (a.loses r) (a.misreads r) (a.closes r) (a.evicts r)
 
   module _ (rs : List ℕ) (goes : (r : ℕ) (v : Representation) → t.representation r ≡ Some v → becomes_gone t e r v ≡ is_in rs r) (q : Consumer) where
-    itself : consumer_acted t e c k ≡ q → q.due ≡ k.due → (reads q.place ≡ false → k.due ≡ None) → waits_for_any rs k.place ≡ false → consumer_after t e c (t.consumer c) ≡ Some q
+    itself : consumer_acted t e c k ≡ q → q.due ≡ k.due → (reads q.place ≡ false → k.due ≡ None) → waits_for_any rs k.place ≡ false →
+        consumer_after t e c (t.consumer c) ≡ Some q
     itself acted due idle unwaiting =
         ap (consumer_after t e c) row
-        ∙ (consumer_itself t e c (nothing (acts_of c m)) c k k q refl acted (loses_none t e c k.place (waits_as t e law rs goes c k row k.place refl ∙ unwaiting))
+        ∙ (consumer_itself t e c (nothing (acts_of c m)) c k k q refl acted
+        (loses_none t e c k.place (waits_as t e law rs goes c k row k.place refl ∙ unwaiting))
         ∙ ap Some (due_kept q k.due due idle))
 
     -- what it comes to: its consumer, exchanges, and whom it binds
-    pub poll_does : (o : ℕ) (os us : List ℕ) (xs : ℕ → Option Exchange) → opened_after (opening_in (acts_of c m)) t.opened ≡ o → openings_after (opening_in (acts_of c m)) t.openings ≡ os → to_front (binds t e) t.used ≡ us → ((x : ℕ) → exchange_after t e x (t.exchange x) ≡ xs x)
-        → consumer_acted t e c k ≡ q → q.due ≡ k.due → (reads q.place ≡ false → k.due ≡ None) → waits_for_any rs k.place ≡ false → waits_for_any rs q.place ≡ false
-        → Does limits t now ev NoFlaw (acts_of c m) (with_event now ev (let_all_go now rs (with_consumer c (Some q) (record t { opened = o; openings = os; used = us; exchange = xs }))))
+    pub poll_does : (o : ℕ) (os us : List ℕ) (xs : ℕ → Option Exchange) → opened_after (opening_in (acts_of c m)) t.opened ≡ o →
+        openings_after (opening_in (acts_of c m)) t.openings ≡ os → to_front (binds t e) t.used ≡ us → ((x : ℕ) → exchange_after t e x (t.exchange x) ≡ xs x)
+        → consumer_acted t e c k ≡ q → q.due ≡ k.due → (reads q.place ≡ false → k.due ≡ None) → waits_for_any rs k.place ≡ false →
+        waits_for_any rs q.place ≡ false
+        → Does limits t now ev NoFlaw (acts_of c m)
+        (with_event now ev (let_all_go now rs (with_consumer c (Some q) (record t { opened = o; openings = os; used = us; exchange = xs }))))
     poll_does o os us xs opened openings used exchange acted due idle unwaiting unwaits = record {
       acts_are = acts_are;
       tables_are =

@@ -41,7 +41,8 @@ data IsOpenedBy (c : ℕ) (o : Opening) : Move → Type 0 where
   opens : (x : ℕ) (n : Need) (request : Request) → o.c ≡ c → o.need ≡ n → o.x ≡ x → IsOpenedBy c o (Opens x n request)
 
 opened_by : (c : ℕ) (m : Move) (rest : List Act) (o : Opening) → opening_in rest ≡ None → opening_in (acts_of c m ++ rest) ≡ Some o → IsOpenedBy c o m
-opened_by c (Opens x n request) rest o none is = let same = some_inj _ o is in opens x n request (sym (ap (λ (q : Opening). q.c) same)) (sym (ap (λ (q : Opening). q.need) same)) (sym (ap (λ (q : Opening). q.x) same))
+opened_by c (Opens x n request) rest o none is = let same = some_inj _ o is in
+    opens x n request (sym (ap (λ (q : Opening). q.c) same)) (sym (ap (λ (q : Opening). q.need) same)) (sym (ap (λ (q : Opening). q.x) same))
 opened_by c _ rest o none is = absurd (let never : None ≡ Some o = rw none at is in cc)
 
 cond_none : {A : Type 0} (b : Bool) (o : Option A) → b ≡ true → cond b o None ≡ None → o ≡ None
@@ -54,10 +55,12 @@ no_cell f p n o is none = grind (arith, nat_tests)
 -- what isn't held of a lost one, for the one that goes on with it, hasn't come
 not_held : (c n p : ℕ) (v : Representation) → v.is_lost ≡ true → v.alone ≡ Some c → held_of_lost c p n (Some v) ≡ None → v.body p ≡ None
 not_held c n p v loss_acts alone none =
-    no_cell v.body p _ (v.body p) refl (cond_none (v.is_lost && is_number v.alone c) (stretch_to v.body v.reach p n) (and_true v.is_lost _ loss_acts (is_same v.alone c alone)) none)
+    no_cell v.body p _ (v.body p) refl
+    (cond_none (v.is_lost && is_number v.alone c) (stretch_to v.body v.reach p n) (and_true v.is_lost _ loss_acts (is_same v.alone c alone)) none)
 
 -- of what it is the exclusive writer of, what isn't stored or held hasn't come
-pub not_come : (t : Tables) (r c hi n : ℕ) (v : Representation) (k : Consumer) → Sound t → IsAtHole t r c hi v k → held_of_lost c (offset t k) n (Some v) ≡ None → IsExclusiveWriter t r v c → v.body (offset t k) ≡ None
+pub not_come : (t : Tables) (r c hi n : ℕ) (v : Representation) (k : Consumer) → Sound t → IsAtHole t r c hi v k →
+    held_of_lost c (offset t k) n (Some v) ≡ None → IsExclusiveWriter t r v c → v.body (offset t k) ≡ None
 not_come t r c hi n v k s at none (sound.first kept is) = sym ((s.rows r v at.row).store.all_stored kept (offset t k)) ∙ at.missing
 not_come t r c hi n v k s at none (sound.alone loss_acts is) = not_held c n (offset t k) v loss_acts is none
 
@@ -71,7 +74,8 @@ aim_bound t r c k place (sound.is_bound lo hi how is at) = rw at refl
 -- THE PREMISES
 
 module _ (t : Tables) (c : ℕ) (k : Consumer) (s : Sound t) (is_row : t.consumer c ≡ Some k) where
-  hole_absent_at : (from to r p : ℕ) (v : Representation) → OpensHole t c k from to → aim_of t (t.consumer c) ≡ Some r → t.representation r ≡ Some v → from ≤ p → p < to → v.body p ≡ None
+  hole_absent_at : (from to r p : ℕ) (v : Representation) → OpensHole t c k from to → aim_of t (t.consumer c) ≡ Some r → t.representation r ≡ Some v →
+      from ≤ p → p < to → v.body p ≡ None
   hole_absent_at from to r p v (tree.first q u span hole is aims row nobody found from_is to_is) aim at le lt =
       let same : q ≡ r = some_inj q r (sym aims ∙ (sym (aim_row t c k is_row) ∙ aim)) in
       let there : t.representation r ≡ Some u = ap t.representation (sym same) ∙ row in
@@ -83,7 +87,9 @@ module _ (t : Tables) (c : ℕ) (k : Consumer) (s : Sound t) (is_row : t.consume
       let same : q ≡ r = some_inj q r (sym (aim_bound t q c k k.place at_hole.is_reader) ∙ (sym (aim_row t c k is_row) ∙ aim)) in
       let there : t.representation r ≡ Some u = ap t.representation (sym same) ∙ at_hole.row in
       let one : u ≡ v = same_row (t.representation r) u v there at in
-      ap (λ (w : Representation). w.body p) (sym one) ∙ later_absent t q c hi u k s at_hole (not_come t q c hi n u k s at_hole none (has_exclusive_writer t q c hi u k s at_hole)) p (let a : from ≡ offset t k = from_is in omega arith) (rw to_is at lt)
+      ap (λ (w : Representation). w.body p) (sym one) ∙
+      later_absent t q c hi u k s at_hole (not_come t q c hi n u k s at_hole none (has_exclusive_writer t q c hi u k s at_hole)) p
+      (let a : from ≡ offset t k = from_is in omega arith) (rw to_is at lt)
 
   hole_alone_at : (from to r y : ℕ) → OpensHole t c k from to → aim_of t (t.consumer c) ≡ Some r → IsAbout t r y → ⊥
   hole_alone_at from to r y (tree.first q u span hole is aims row nobody found from_is to_is) aim about =
@@ -101,22 +107,28 @@ record Opened (t : Tables) (c : ℕ) (k : Consumer) (o : Opening) : Type 0 where
   next : o.x ≡ t.opened + 1
 
 opened_why : (t : Tables) (c : ℕ) (k : Consumer) (o : Opening) (m : Move) → FineMove t c k m → IsOpenedBy c o m → Opened t c k o
-opened_why t c k o _ (tree.opens x n request is_next why) (opens _ _ _ at needs number) = record { at = at; why = λ from to is. why from to (sym needs ∙ is); next = number ∙ is_next }
+opened_why t c k o _ (tree.opens x n request is_next why) (opens _ _ _ at needs number) =
+    record { at = at; why = λ from to is. why from to (sym needs ∙ is); next = number ∙ is_next }
 opened_why t c k o _ _ by = elim by [ ]
 
 abbrev poll_entry : Limits → Tables → ℕ → ℕ → ℕ → Flaw → Entry
 poll_entry limits t now c want flaw = record { now = now; event = event.Poll c want; acts = accepted_acts limits t now (event.Poll c want) flaw }
 
 module _ (limits : Limits) (t : Tables) (now c want : ℕ) (k : Consumer) (s : Sound t) (is_row : t.consumer c ≡ Some k) where
-  by_move : (o : Opening) (rest : List Act) → opening_in rest ≡ None → opening_in (acts_of c (poll_move t now want c (t.consumer c)) ++ rest) ≡ Some o → Opened t c k o
-  by_move o rest none is = opened_why t c k o (poll_move t now want c (Some k)) (fine_polled t c k s is_row now want) (opened_by c (poll_move t now want c (Some k)) rest o none (rw is_row at is))
+  by_move : (o : Opening) (rest : List Act) → opening_in rest ≡ None → opening_in (acts_of c (poll_move t now want c (t.consumer c)) ++ rest) ≡ Some o →
+      Opened t c k o
+  by_move o rest none is =
+      opened_why t c k o (poll_move t now want c (Some k)) (fine_polled t c k s is_row now want)
+      (opened_by c (poll_move t now want c (Some k)) rest o none (rw is_row at is))
 
-  by_poll : (flaw : Flaw) (xs : List ℕ) (o : Opening) → opening_in (poll_acts t now want c flaw ++ (map act.Close xs ++ loss_acts flaw)) ≡ Some o → Opened t c k o
+  by_poll : (flaw : Flaw) (xs : List ℕ) (o : Opening) → opening_in (poll_acts t now want c flaw ++ (map act.Close xs ++ loss_acts flaw)) ≡ Some o →
+      Opened t c k o
   by_poll NoFlaw xs o is = by_move o (map act.Close xs ++ []) (closes_open_none xs [] refl) is
   by_poll (Loses r kind) xs o is = by_move o (map act.Close xs ++ loss_acts (Loses r kind)) (closes_open_none xs (loss_acts (Loses r kind)) refl) is
   by_poll (Misreads r) xs o is = absurd (let never : None ≡ Some o = rw (closes_open_none xs [] refl) at is in cc)
 
-  in_hole : (o : Opening) (r p : ℕ) (v : Representation) → Opened t c k o → aim_of t (t.consumer c) ≡ Some r → t.representation r ≡ Some v → (n : Need) → o.need ≡ n → InHole n p → v.body p ≡ None
+  in_hole : (o : Opening) (r p : ℕ) (v : Representation) → Opened t c k o → aim_of t (t.consumer c) ≡ Some r → t.representation r ≡ Some v → (n : Need) →
+      o.need ≡ n → InHole n p → v.body p ≡ None
   in_hole o r p v opened aim at (need.Hole from to) is hole = hole_absent_at t c k s is_row from to r p v (opened.why from to is) aim at hole.0 hole.1
   in_hole o r p v opened aim at _ is hole = absurd hole
 
@@ -129,7 +141,8 @@ module _ (limits : Limits) (t : Tables) (now c want : ℕ) (k : Consumer) (s : S
   poll_well : (flaw : Flaw) → OpensWell t (poll_entry limits t now c want flaw)
   poll_well flaw = record {
     absent = λ o r v p is aim at hole. let opened = by_poll flaw (closed flaw) o is in in_hole o r p v opened (aim_at o r opened aim) at o.need refl hole;
-    alone = λ o r from to y is aim needs about. let opened = by_poll flaw (closed flaw) o is in hole_alone_at t c k s is_row from to r y (opened.why from to needs) (aim_at o r opened aim) about;
+    alone = λ o r from to y is aim needs about. let opened = by_poll flaw (closed flaw) o is in
+        hole_alone_at t c k s is_row from to r y (opened.why from to needs) (aim_at o r opened aim) about;
   }
 
   -- what a poll opens has the next number

@@ -13,7 +13,8 @@ pub data IsNear (t : Tables) (k : Consumer) : Move → Type 0 where
   waits : (wait : Wait) → IsNear t k (moves.Waits wait)
   asks : (x : ℕ) → source t k ≡ Some x → IsNear t k (Asks x)
   opens : (x : ℕ) (n : Need) (request : Request) → request.key ≡ k.request.key → IsNear t k (Opens x n request)
-  shows : (r : ℕ) (why : Why) (head : Response) (lo : ℕ) (hi : Option ℕ) → (reads k.place ≡ false → current t k.request.key ≡ Some r) → IsNear t k (Shows r why head lo hi)
+  shows : (r : ℕ) (why : Why) (head : Response) (lo : ℕ) (hi : Option ℕ) → (reads k.place ≡ false → current t k.request.key ≡ Some r) →
+      IsNear t k (Shows r why head lo hi)
   given : (run : Run) → IsNear t k (Gives run)
   ends : IsNear t k Ends
   fails : (cause : Cause) → IsNear t k (Fails cause)
@@ -32,7 +33,8 @@ module _ (t : Tables) (c : ℕ) (k : Consumer) where
   near_later hole (Some hi) = near_hole (bound_row t k) hole
 
   near_reading : (want : ℕ) → IsNear t k (reading t want c k)
-  near_reading want = reading_as (IsNear t k) nothing t want c k ends given (λ cause due. fails cause) (λ x from. waits_as (IsNear t k) nothing x (waits _) (asks x from) (t.exchange x)) (λ hole. near_later hole (hi_of t k.place))
+  near_reading want = reading_as (IsNear t k) nothing t want c k ends given (λ cause due. fails cause)
+      (λ x from. waits_as (IsNear t k) nothing x (waits _) (asks x from) (t.exchange x)) (λ hole. near_later hole (hi_of t k.place))
 
   -- PLANS
 

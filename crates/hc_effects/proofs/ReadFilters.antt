@@ -26,7 +26,8 @@ given o = option_map_or (λ (k : Consumer). k.given) o 0
 made_given : (c now : ℕ) (ev : Event) → given (consumer_made c now ev) ≡ 0
 made_given c now ev = grind (arith, nat_tests)
 
-given_after : (t : Tables) (e : Entry) (c : ℕ) (o : Option Consumer) → (o ≡ None → given_in c e.acts ≡ []) → given (consumer_after t e c o) ≡ given o + length (given_in c e.acts)
+given_after : (t : Tables) (e : Entry) (c : ℕ) (o : Option Consumer) → (o ≡ None → given_in c e.acts ≡ []) →
+    given (consumer_after t e c o) ≡ given o + length (given_in c e.acts)
 unfolding consumer_after
 given_after t e c None none =
     let no : length (given_in c e.acts) ≡ 0 = ap length (none refl) in
@@ -35,14 +36,16 @@ given_after t e c None none =
 given_after t e c (Some k) none =
     given_by (starts_over t e c k) t e c k (consumer_acted t e c (consumer_heard t e c e.event k)) ∙ (acted t e c k).given_is
 
-given_step : (limits : Limits) (t : Tables) (e : Entry) (c : ℕ) (b : Bool) → IsOwed limits t e → is_denied e.acts ≡ b → given ((after t e).consumer c) ≡ given (t.consumer c) + length (given_in c e.acts)
+given_step : (limits : Limits) (t : Tables) (e : Entry) (c : ℕ) (b : Bool) → IsOwed limits t e → is_denied e.acts ≡ b →
+    given ((after t e).consumer c) ≡ given (t.consumer c) + length (given_in c e.acts)
 unfolding after
 given_step limits t e c true owed denied =
     let no : length (given_in c e.acts) ≡ 0 = ap length (denied_gives c e.acts denied) in
     rw denied (let here : given (t.consumer c) ≡ given (t.consumer c) + length (given_in c e.acts) = omega arith in here)
 given_step limits t e c false owed denied = rw denied (given_after t e c (t.consumer c) (λ none. (far_owed limits t e c owed denied none).gives))
 
-offsets_are : (limits : Limits) (contents : Contents) (h : History) (c : ℕ) → IsRun limits contents h → given ((tables contents h).consumer c) ≡ length (given_of c h)
+offsets_are : (limits : Limits) (contents : Contents) (h : History) (c : ℕ) → IsRun limits contents h →
+    given ((tables contents h).consumer c) ≡ length (given_of c h)
 unfolding tables
 offsets_are limits contents h c run = by_entries limits contents (λ h. given ((tables contents h).consumer c) ≡ length (given_of c h)) refl (λ h e run before.
     let step = given_step limits (tables contents h) e c (is_denied e.acts) run.1 refl in
@@ -81,7 +84,8 @@ not_or a b = grind (arith, nat_tests)
 made_shown : (c now : ℕ) (ev : Event) → unshown (consumer_made c now ev) ≡ true
 made_shown c now ev = grind (arith, nat_tests)
 
-shown_after : (t : Tables) (e : Entry) (c : ℕ) (o : Option Consumer) → (o ≡ None → shows_in c e.acts ≡ false) → unshown (consumer_after t e c o) ≡ (unshown o && not (shows_in c e.acts))
+shown_after : (t : Tables) (e : Entry) (c : ℕ) (o : Option Consumer) → (o ≡ None → shows_in c e.acts ≡ false) →
+    unshown (consumer_after t e c o) ≡ (unshown o && not (shows_in c e.acts))
 unfolding consumer_after
 shown_after t e c None none = made_shown c e.now e.event ∙ sym (ap not (none refl))
 shown_after t e c (Some k) none =
@@ -91,17 +95,21 @@ shown_after t e c (Some k) none =
 and_none : (b : Bool) → b ≡ (b && true)
 and_none b = grind (arith, nat_tests)
 
-shown_step : (limits : Limits) (t : Tables) (e : Entry) (c : ℕ) (b : Bool) → IsOwed limits t e → is_denied e.acts ≡ b → unshown ((after t e).consumer c) ≡ (unshown (t.consumer c) && is_none (first (shown_in c e.acts)))
+shown_step : (limits : Limits) (t : Tables) (e : Entry) (c : ℕ) (b : Bool) → IsOwed limits t e → is_denied e.acts ≡ b →
+    unshown ((after t e).consumer c) ≡ (unshown (t.consumer c) && is_none (first (shown_in c e.acts)))
 unfolding after
 shown_step limits t e c true owed denied =
     let no : is_none (first (shown_in c e.acts)) ≡ true = ap (λ (xs : List Shown). is_none (first xs)) (denied_shows c e.acts denied) in
     rw denied (and_none (unshown (t.consumer c)) ∙ ap (λ b. unshown (t.consumer c) && b) (sym no))
 shown_step limits t e c false owed denied =
-    rw denied (shown_after t e c (t.consumer c) (λ none. (far_owed limits t e c owed denied none).shows) ∙ ap (λ b. unshown (t.consumer c) && b) (sym (shows_are c e.acts)))
+    rw denied (shown_after t e c (t.consumer c) (λ none. (far_owed limits t e c owed denied none).shows) ∙
+    ap (λ b. unshown (t.consumer c) && b) (sym (shows_are c e.acts)))
 
-shown_are : (limits : Limits) (contents : Contents) (h : History) (c : ℕ) → IsRun limits contents h → unshown ((tables contents h).consumer c) ≡ is_none (first (shown_of c h))
+shown_are : (limits : Limits) (contents : Contents) (h : History) (c : ℕ) → IsRun limits contents h →
+    unshown ((tables contents h).consumer c) ≡ is_none (first (shown_of c h))
 unfolding tables
-shown_are limits contents h c run = by_entries limits contents (λ h. unshown ((tables contents h).consumer c) ≡ is_none (first (shown_of c h))) refl (λ h e run before.
+shown_are limits contents h c run =
+    by_entries limits contents (λ h. unshown ((tables contents h).consumer c) ≡ is_none (first (shown_of c h))) refl (λ h e run before.
     shown_step limits (tables contents h) e c (is_denied e.acts) run.1 refl
     ∙ (ap (λ b. b && is_none (first (shown_in c e.acts))) before ∙ sym (none_of_both (shown_of c h) (shown_in c e.acts)))) h run
 

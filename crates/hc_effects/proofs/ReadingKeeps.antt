@@ -38,7 +38,9 @@ module _ (step : Step) where
 
   -- A READER WITH A HEAD STANDS WHERE IT STOOD
 
-  module _ (c x : ℕ) (k u : Consumer) (w z : Exchange) (row : IsRow t e c x k u) (mine : k.own ≡ Some x) (still : u.own ≡ Some x) (is_row : t.exchange x ≡ Some w) (headed : is_some w.head ≡ true) (after_row : now_on.exchange x ≡ Some z) (same : IsSame t e x w z) (opened : z.is_open ≡ true) where
+  module _ (c x : ℕ) (k u : Consumer) (w z : Exchange) (row : IsRow t e c x k u) (mine : k.own ≡ Some x) (still : u.own ≡ Some x)
+      (is_row : t.exchange x ≡ Some w) (headed : is_some w.head ≡ true) (after_row : now_on.exchange x ≡ Some z) (same : IsSame t e x w z)
+      (opened : z.is_open ≡ true) where
     -- it waits for no head
     no_waiter : (y : ℕ) (q : Exchange) → t.exchange y ≡ Some q → q.is_open ≡ true → q.head ≡ None → q.c ≡ c → ⊥
     no_waiter y q exchange_row on bare theirs =
@@ -79,7 +81,8 @@ module _ (step : Step) where
         by_row : (q : Option Exchange) → t.exchange y ≡ q → by_head t e c y response q k ≡ k
         by_row None exchange_row = refl
         by_row (Some q) exchange_row = elim (eq_cases q.c c) [
-          | inl hit ↦ absurd (let new = is_new limits t now flaw s ev goes y response q here exchange_row in no_waiter y q exchange_row new.is_open new.bare hit.1)
+          | inl hit ↦ absurd (let new = is_new limits t now flaw s ev goes y response q here exchange_row in
+              no_waiter y q exchange_row new.is_open new.bare hit.1)
           | inr off ↦ rw off.0 refl
         ]
     heard_same (event.Fault y) here = by_row (t.exchange y) refl
@@ -108,7 +111,8 @@ module _ (step : Step) where
         let by_poll = is_opened step p opens in
         let test : nat_eq p.c c ≡ true = grind (arith, nat_tests) in
         let h = consumer_heard t e c ev k in
-        let owned : (by_opening t c (opening_in e.acts) (waiting t e c h)).own ≡ Some p.x = ap (λ q. (by_opening t c q (waiting t e c h)).own) opens ∙ rw test refl in
+        let owned : (by_opening t c (opening_in e.acts) (waiting t e c h)).own ≡ Some p.x = ap (λ q. (by_opening t c q (waiting t e c h)).own) opens ∙
+        rw test refl in
         let is : own_after t e c h.place (Some p.x) ≡ Some x = ap (own_after t e c h.place) (sym owned) ∙ (ap (λ (q : Consumer). q.own) row.is ∙ still) in
         elim (after_by t e c x h.place (Some p.x) is) [
           | inl number ↦ none_some w (sym (new_number step p x opens (some_inj p.x x number)) ∙ is_row)
@@ -132,7 +136,9 @@ module _ (step : Step) where
 
       pub reader_stays : u.place ≡ k.place
       reader_stays =
-          let placed : (consumer_acted t e c k).place ≡ k.place = plain_place t e c k (leaves_in c e.acts) (showing_in e.acts) (opening_in e.acts) (wait_in c e.acts) stays_in (unopened t e c (waiting t e c k) (opening_in e.acts) no_opening) (waits_where t k (wait_in c e.acts) reported_not) (shows_on (showing_in e.acts)) in
+          let placed : (consumer_acted t e c k).place ≡ k.place =
+          plain_place t e c k (leaves_in c e.acts) (showing_in e.acts) (opening_in e.acts) (wait_in c e.acts) stays_in
+          (unopened t e c (waiting t e c k) (opening_in e.acts) no_opening) (waits_where t k (wait_in c e.acts) reported_not) (shows_on (showing_in e.acts)) in
           sym (ap (λ (q : Consumer). q.place) row.is) ∙ (ap (λ (h : Consumer). (consumer_acted t e c h).place) (heard_same ev refl) ∙ placed)
 
   -- AFTER AN ENTRY
@@ -149,7 +155,8 @@ module _ (step : Step) where
   pub head_some : (w z : Exchange) → z.head ≡ w.head → is_some z.head ≡ true → is_some w.head ≡ true
   head_some w z same headed = sym (ap (λ (p : Option Response). is_some p) same) ∙ headed
 
-  kept_reading : (c x : ℕ) (k u : Consumer) (w z : Exchange) → IsRow t e c x k u → k.own ≡ Some x → u.own ≡ Some x → t.exchange x ≡ Some w → now_on.exchange x ≡ Some z → IsSame t e x w z → z.is_open ≡ true → is_some z.head ≡ true → IsReading x u.place
+  kept_reading : (c x : ℕ) (k u : Consumer) (w z : Exchange) → IsRow t e c x k u → k.own ≡ Some x → u.own ≡ Some x → t.exchange x ≡ Some w →
+      now_on.exchange x ≡ Some z → IsSame t e x w z → z.is_open ≡ true → is_some z.head ≡ true → IsReading x u.place
   kept_reading c x k u w z row mine still is_row after_row same opened headed = by_heard same.heard_or
     where
       by_heard : ((z.head ≡ w.head) × (z.joined ≡ w.joined)) ⊎ IsHeaded t e x w z → IsReading x u.place
@@ -159,15 +166,21 @@ module _ (step : Step) where
           moved x k.place u.place (reader_stays c x k u w z row mine still is_row was after_row same opened reading) reading
       by_heard (inr got) = reading_as c x k u w z got.response (headed_as step c x k u w z got.response got.at row mine is_row after_row same opened)
 
-  by_from : (c x : ℕ) (u : Consumer) (z : Exchange) → u.own ≡ Some x → now_on.exchange x ≡ Some z → z.is_open ≡ true → is_some z.head ≡ true → ExchangeFrom t e x z → OwnFrom t e c x u → IsReading x u.place
-  by_from c x u z still after_row opened headed (exchange.was w is_row same) (own.kept k row mine heard) = kept_reading c x k u w z row mine still is_row after_row same opened headed
-  by_from c x u z still after_row opened headed (exchange.new p none opens here made) (own.kept k row mine heard) = absurd (false_true (ap is_some (sym none) ∙ o.there c x k row.row mine))
-  by_from c x u z still after_row opened headed (exchange.was w is_row same) (own.opened k p row opens here this) = absurd (none_some w (sym (new_number step p x opens this) ∙ is_row))
-  by_from c x u z still after_row opened headed (exchange.new q none opens here made) (own.opened k p row also mine this) = absurd (false_true (ap (λ (a : Exchange). is_some a.head) made ∙ headed))
+  by_from : (c x : ℕ) (u : Consumer) (z : Exchange) → u.own ≡ Some x → now_on.exchange x ≡ Some z → z.is_open ≡ true → is_some z.head ≡ true →
+      ExchangeFrom t e x z → OwnFrom t e c x u → IsReading x u.place
+  by_from c x u z still after_row opened headed (exchange.was w is_row same) (own.kept k row mine heard) =
+      kept_reading c x k u w z row mine still is_row after_row same opened headed
+  by_from c x u z still after_row opened headed (exchange.new p none opens here made) (own.kept k row mine heard) =
+      absurd (false_true (ap is_some (sym none) ∙ o.there c x k row.row mine))
+  by_from c x u z still after_row opened headed (exchange.was w is_row same) (own.opened k p row opens here this) =
+      absurd (none_some w (sym (new_number step p x opens this) ∙ is_row))
+  by_from c x u z still after_row opened headed (exchange.new q none opens here made) (own.opened k p row also mine this) =
+      absurd (false_true (ap (λ (a : Exchange). is_some a.head) made ∙ headed))
   by_from c x u z still after_row opened headed from (own.left k row l) =
       owners.bound l.r l.lo l.hi l.how (heard_at step c x k u (λ d want polls. unpolled d want polls (left_body c x _ l)) row ∙ l.at)
 
   -- Whose open exchange has a head reads.
-  pub reading_kept : (c x : ℕ) (u : Consumer) (z : Exchange) → now_on.consumer c ≡ Some u → u.own ≡ Some x → now_on.exchange x ≡ Some z → z.is_open ≡ true → is_some z.head ≡ true → IsReading x u.place
+  pub reading_kept : (c x : ℕ) (u : Consumer) (z : Exchange) → now_on.consumer c ≡ Some u → u.own ≡ Some x → now_on.exchange x ≡ Some z →
+      z.is_open ≡ true → is_some z.head ≡ true → IsReading x u.place
   reading_kept c x u z row still after_row opened headed =
       by_from c x u z still after_row opened headed (exchange_from t e x (t.exchange x) z refl after_row) (own_from t e c x (t.consumer c) u refl row still)

@@ -40,22 +40,37 @@ heard_same : (t : Tables) (e : Entry) (r : ℕ) (v : Representation) → IsHeard
 heard_same t e r v = record { key_is = refl; status_is = refl; lost_is = refl; alone_is = refl; gone_is = refl; writer_is = inl refl; total_is = inl refl }
 
 module _ (t : Tables) (e : Entry) (r : ℕ) (v : Representation) where
-  renewed_by : (x : ℕ) (response : Response) (w : Exchange) (b : Bool) → e.event ≡ event.Head x response → t.exchange x ≡ Some w → updates t e r w v ≡ true → (is_joining (case_at t e) && resumes t response w v) ≡ b → IsHeard t e r v (with_renewed_head t e x response w v)
+  renewed_by : (x : ℕ) (response : Response) (w : Exchange) (b : Bool) → e.event ≡ event.Head x response → t.exchange x ≡ Some w →
+      updates t e r w v ≡ true → (is_joining (case_at t e) && resumes t response w v) ≡ b → IsHeard t e r v (with_renewed_head t e x response w v)
   renewed_by x response w true at row up is = record {
     key_is = refl;
     status_is = refl;
     lost_is = refl;
     alone_is = refl;
     gone_is = refl;
-    writer_is = inr (record { x = x; response = response; w = w; at = at; row = row; renews = up; joins = left _ _ is; resumed = right _ _ is; writer_is = rw is refl });
+    writer_is = inr (record {
+      x = x;
+      response = response;
+      w = w;
+      at = at;
+      row = row;
+      renews = up;
+      joins = left _ _ is;
+      resumed = right _ _ is;
+      writer_is =
+          rw is refl;
+    });
     total_is = inl refl;
   }
-  renewed_by x response w false at row up is = record { key_is = refl; status_is = refl; lost_is = refl; alone_is = refl; gone_is = refl; writer_is = inl (rw is refl); total_is = inl refl }
+  renewed_by x response w false at row up is =
+      record { key_is = refl; status_is = refl; lost_is = refl; alone_is = refl; gone_is = refl; writer_is = inl (rw is refl); total_is = inl refl }
 
-  headed_by : (x : ℕ) (response : Response) (o : Option Exchange) → e.event ≡ event.Head x response → t.exchange x ≡ o → IsHeard t e r v (representation_after_head t e r x response o v)
+  headed_by : (x : ℕ) (response : Response) (o : Option Exchange) → e.event ≡ event.Head x response → t.exchange x ≡ o →
+      IsHeard t e r v (representation_after_head t e r x response o v)
   headed_by x response None at row = heard_same t e r v
   headed_by x response (Some w) at row = elim (bool_cases (updates t e r w v)) [
-    | inl up ↦ subst (λ (b : Bool). IsHeard t e r v (if b then with_renewed_head t e x response w v else v)) (sym up) (renewed_by x response w (is_joining (case_at t e) && resumes t response w v) at row up refl)
+    | inl up ↦ subst (λ (b : Bool). IsHeard t e r v (if b then with_renewed_head t e x response w v else v)) (sym up)
+        (renewed_by x response w (is_joining (case_at t e) && resumes t response w v) at row up refl)
     | inr off ↦ subst (λ (b : Bool). IsHeard t e r v (if b then with_renewed_head t e x response w v else v)) (sym off) (heard_same t e r v)
   ]
 
@@ -83,10 +98,12 @@ pub record IsKept (t : Tables) (e : Entry) (r : ℕ) (v u : Representation) : Ty
 
 pub data RepFrom (t : Tables) (e : Entry) (r : ℕ) (u : Representation) : Type 0 where
   was : (v : Representation) → IsKept t e r v u → RepFrom t e r u
-  founded : (response : Response) (w : Exchange) → t.representation r ≡ None → e.event ≡ event.Head r response → t.exchange r ≡ Some w → is_founding (case_at t e) ≡ true → new_representation r e response w ≡ u → RepFrom t e r u
+  founded : (response : Response) (w : Exchange) → t.representation r ≡ None → e.event ≡ event.Head r response → t.exchange r ≡ Some w →
+      is_founding (case_at t e) ≡ true → new_representation r e response w ≡ u → RepFrom t e r u
 
 module _ (t : Tables) (e : Entry) (r : ℕ) where
-  acted : (v z : Representation) → t.representation r ≡ Some v → IsHeard t e r v z → representation_acted t e r v (representation_heard t e r e.event v) ≡ representation_acted t e r v z → IsKept t e r v (representation_acted t e r v z)
+  acted : (v z : Representation) → t.representation r ≡ Some v → IsHeard t e r v z →
+      representation_acted t e r v (representation_heard t e r e.event v) ≡ representation_acted t e r v z → IsKept t e r v (representation_acted t e r v z)
   acted v z row h is = record {
     row = row;
     is = is;
@@ -97,7 +114,8 @@ module _ (t : Tables) (e : Entry) (r : ℕ) where
     total_is = h.total_is;
   }
 
-  founded_by : (x : ℕ) (response : Response) (o : Option Exchange) (u : Representation) → t.representation r ≡ None → e.event ≡ event.Head x response → t.exchange x ≡ o → (if is_founding (case_at t e) && x == r then option_map (new_representation r e response) o else None) ≡ Some u → RepFrom t e r u
+  founded_by : (x : ℕ) (response : Response) (o : Option Exchange) (u : Representation) → t.representation r ≡ None → e.event ≡ event.Head x response →
+      t.exchange x ≡ o → (if is_founding (case_at t e) && x == r then option_map (new_representation r e response) o else None) ≡ Some u → RepFrom t e r u
   founded_by x response o u none at row is = elim (bool_cases (is_founding (case_at t e))) [
     | inr off ↦ absurd (none_some u (rw off at is))
     | inl on ↦ elim (eq_cases x r) [
@@ -106,9 +124,12 @@ module _ (t : Tables) (e : Entry) (r : ℕ) where
     ]
   ]
     where
-      by_row : (o : Option Exchange) → t.exchange x ≡ o → option_map (new_representation r e response) o ≡ Some u → x ≡ r → is_founding (case_at t e) ≡ true → RepFrom t e r u
+      by_row : (o : Option Exchange) → t.exchange x ≡ o → option_map (new_representation r e response) o ≡ Some u → x ≡ r →
+          is_founding (case_at t e) ≡ true → RepFrom t e r u
       by_row None row is here on = absurd (none_some u is)
-      by_row (Some w) row is here on = founded response w none (at ∙ ap (λ n. event.Head n response) here) (sym (ap t.exchange here) ∙ row) on (some_inj (new_representation r e response w) u is)
+      by_row (Some w) row is here on =
+          founded response w none (at ∙ ap (λ n. event.Head n response) here) (sym (ap t.exchange here) ∙ row) on
+          (some_inj (new_representation r e response w) u is)
 
   new_from : (ev : Event) (u : Representation) → t.representation r ≡ None → e.event ≡ ev → founded_at t e r ev ≡ Some u → RepFrom t e r u
   new_from (event.Head x response) u none at is = founded_by x response (t.exchange x) u none at refl is
@@ -128,6 +149,7 @@ module _ (t : Tables) (e : Entry) (r : ℕ) where
   stays o there = grind (arith, nat_tests)
 
   -- what founds is there
-  pub founds : (response : Response) (w : Exchange) (o : Option Representation) → e.event ≡ event.Head r response → t.exchange r ≡ Some w → is_founding (case_at t e) ≡ true → is_some (representation_after t e r o) ≡ true
+  pub founds : (response : Response) (w : Exchange) (o : Option Representation) → e.event ≡ event.Head r response → t.exchange r ≡ Some w →
+      is_founding (case_at t e) ≡ true → is_some (representation_after t e r o) ≡ true
   unfolding representation_after
   founds response w o at row on = grind (arith, nat_tests)

@@ -30,8 +30,27 @@ pub record SaysLittle (t : Tables) (now : ℕ) (ev : Event) : Type 0 where
 
 pub says_little : (t : Tables) (now : ℕ) (ev : Event) → IsReceived ev → SaysLittle t now ev
 unfolding case_of
-says_little t now _ (pieces x bytes) = record { unasked = refl; says = λ flaw. refl; starts = λ cs. refl; last = λ n. refl; caseless = λ acts. refl; unfounded = λ acts r. refl; unmade = λ c. refl }
-says_little t now _ _ = record { unasked = refl; says = λ flaw. refl; starts = λ cs. refl; last = λ n. refl; caseless = λ acts. refl; unfounded = λ acts r. refl; unmade = λ c. refl }
+says_little t now _ (pieces x bytes) =
+    record {
+      unasked = refl;
+      says = λ flaw. refl;
+      starts = λ cs. refl;
+      last = λ n. refl;
+      caseless = λ acts. refl;
+      unfounded = λ acts r. refl;
+      unmade =
+          λ c. refl;
+    }
+says_little t now _ _ = record {
+  unasked = refl;
+  says = λ flaw. refl;
+  starts = λ cs. refl;
+  last = λ n. refl;
+  caseless = λ acts. refl;
+  unfounded =
+      λ acts r. refl;
+  unmade = λ c. refl;
+}
 
 module _ (t : Tables) (now : ℕ) (ev : Event) (reported : IsReceived ev) (flaw : Flaw) (xs : List ℕ) where
   -- THE ENTRY
@@ -71,12 +90,14 @@ module _ (t : Tables) (now : ℕ) (ev : Event) (reported : IsReceived ev) (flaw 
   none_closed : (b : Bool) → None ≡ (if b then option_map over None else None)
   none_closed b = grind (arith, nat_tests)
 
-  exchange_by : (y : ℕ) (w u : Exchange) → exchange_heard t e y ev w ≡ u → exchange_after t e y (Some w) ≡ (if is_in xs y then option_map over (Some u) else Some u)
+  exchange_by : (y : ℕ) (w u : Exchange) → exchange_heard t e y ev w ≡ u →
+      exchange_after t e y (Some w) ≡ (if is_in xs y then option_map over (Some u) else Some u)
   unfolding exchange_after
   exchange_by y w u heard = ap (λ (z : Exchange). Some (exchange_acted y e.acts z)) heard ∙ rw (asks_none y, closes_as y) (closed_if (is_in xs y) u)
 
   -- one of no event
-  pub exchange_other : (y : ℕ) → ((x : ℕ) → exchange_in ev ≡ Some x → nat_eq x y ≡ false) → exchange_after t e y (t.exchange y) ≡ (if is_in xs y then option_map over (t.exchange y) else t.exchange y)
+  pub exchange_other : (y : ℕ) → ((x : ℕ) → exchange_in ev ≡ Some x → nat_eq x y ≡ false) →
+      exchange_after t e y (t.exchange y) ≡ (if is_in xs y then option_map over (t.exchange y) else t.exchange y)
   exchange_other y other = by_row (t.exchange y)
     where
       by_row : (z : Option Exchange) → exchange_after t e y z ≡ (if is_in xs y then option_map over z else z)
@@ -84,9 +105,12 @@ module _ (t : Tables) (now : ℕ) (ev : Event) (reported : IsReceived ev) (flaw 
       by_row (Some w) = exchange_by y w w (unheard t e y w ev other)
 
   -- that of the event, and the others
-  pub exchange_one : (x : ℕ) (w u : Exchange) → exchange_in ev ≡ Some x → t.exchange x ≡ Some w → exchange_heard t e x ev w ≡ u → (y : ℕ) → exchange_after t e y (t.exchange y) ≡ (if is_in xs y then option_map over (if x == y then Some u else t.exchange y) else (if x == y then Some u else t.exchange y))
+  pub exchange_one : (x : ℕ) (w u : Exchange) → exchange_in ev ≡ Some x → t.exchange x ≡ Some w → exchange_heard t e x ev w ≡ u → (y : ℕ) →
+      exchange_after t e y (t.exchange y) ≡ (if is_in xs y then option_map over (if x == y then Some u else t.exchange y) else
+      (if x == y then Some u else t.exchange y))
   exchange_one x w u names row heard y = elim (eq_cases x y) [
-    | inl here ↦ rw here.0 (subst (λ z. exchange_after t e z (t.exchange z) ≡ (if is_in xs z then option_map over (Some u) else Some u)) here.1 (ap (exchange_after t e x) row ∙ exchange_by x w u heard))
+    | inl here ↦ rw here.0 (subst (λ z. exchange_after t e z (t.exchange z) ≡ (if is_in xs z then option_map over (Some u) else Some u)) here.1
+        (ap (exchange_after t e x) row ∙ exchange_by x w u heard))
     | inr other ↦ rw other.0 (exchange_other y (λ z is. ap (λ m. nat_eq m y) (number z is) ∙ other.0))
   ]
     where
@@ -100,7 +124,9 @@ module _ (t : Tables) (now : ℕ) (ev : Event) (reported : IsReceived ev) (flaw 
   no_case r (Some w) = rw (n.caseless e.acts) refl
 
   -- by a doom, a loss or an early end
-  pub goes_as : (r : ℕ) (v : Representation) → becomes_gone t e r v ≡ ((is_current t v.key r && is_key (doomed_key_of t e) v.key) || loses_in r (loss_acts flaw) || (ends_early t e r v && not (is_keepable v)))
+  pub goes_as : (r : ℕ) (v : Representation) →
+      becomes_gone t e r v ≡ ((is_current t v.key r && is_key (doomed_key_of t e) v.key) || loses_in
+      r (loss_acts flaw) || (ends_early t e r v && not (is_keepable v)))
   unfolding becomes_gone
   goes_as r v =
       rw (no_case r (exchange_at t ev), opens_none, loses_as r, misreads_none r, evicts_none r)
@@ -116,7 +142,8 @@ module _ (t : Tables) (now : ℕ) (ev : Event) (reported : IsReceived ev) (flaw 
   -- REPRESENTATIONS
 
   -- one that isn't lost
-  pub representation_by : (r : ℕ) (v u : Representation) (b : Bool) → representation_heard t e r ev v ≡ u → loses_in r (loss_acts flaw) ≡ false → becomes_gone t e r v ≡ b → representation_after t e r (Some v) ≡ (if b then option_map as_gone (Some u) else Some u)
+  pub representation_by : (r : ℕ) (v u : Representation) (b : Bool) → representation_heard t e r ev v ≡ u → loses_in r (loss_acts flaw) ≡ false →
+      becomes_gone t e r v ≡ b → representation_after t e r (Some v) ≡ (if b then option_map as_gone (Some u) else Some u)
   unfolding representation_after
   representation_by r v u b heard kept goes = ap (λ (z : Representation). Some (representation_acted t e r v z)) heard ∙ rw (loses_as r, kept, goes) (by_test b)
     where
@@ -125,7 +152,8 @@ module _ (t : Tables) (now : ℕ) (ev : Event) (reported : IsReceived ev) (flaw 
       by_test false = refl
 
   -- one that is lost, with which this one goes on
-  pub lost_by : (r : ℕ) (v u : Representation) (alone : Option ℕ) → representation_heard t e r ev v ≡ u → loses_in r (loss_acts flaw) ≡ true → v.is_lost ≡ false → becomes_gone t e r v ≡ true → goes_on_with t e r v ≡ alone → representation_after t e r (Some v) ≡ Some (as_gone (lost_to alone u))
+  pub lost_by : (r : ℕ) (v u : Representation) (alone : Option ℕ) → representation_heard t e r ev v ≡ u → loses_in r (loss_acts flaw) ≡ true →
+      v.is_lost ≡ false → becomes_gone t e r v ≡ true → goes_on_with t e r v ≡ alone → representation_after t e r (Some v) ≡ Some (as_gone (lost_to alone u))
   unfolding representation_after
   lost_by r v u alone heard loses kept goes goes_on = grind (arith, nat_tests)
 
@@ -137,20 +165,24 @@ module _ (t : Tables) (now : ℕ) (ev : Event) (reported : IsReceived ev) (flaw 
 
   -- to whom nothing becomes due, and whose writing isn't lost
   pub beside_same : (c : ℕ) (k : Consumer) → becomes_due t e c k ≡ None → IsSpared t e k.place → (reads k.place ≡ false → k.due ≡ None) → beside t e c k ≡ k
-  beside_same c k undue spared idle = ap (λ (o : Option ℕ). due_after t e c k (record k { own = o })) (own_stays t e c k.place k.own spared) ∙ due_stays t e c k undue idle
+  beside_same c k undue spared idle = ap (λ (o : Option ℕ). due_after t e c k (record k { own = o })) (own_stays t e c k.place k.own spared) ∙
+      due_stays t e c k undue idle
 
   module _ (law : Lawful t) (rs : List ℕ) (goes : (r : ℕ) (v : Representation) → t.representation r ≡ Some v → becomes_gone t e r v ≡ is_in rs r) where
     -- it starts over at a doom where it waits, or where that is let go for which it waits
-    pub starts_is : (c : ℕ) (k : Consumer) → t.consumer c ≡ Some k → starts_over t e c k ≡ ((is_key (doomed_key_of t e) k.request.key && waits_at t k.place) || waits_for_any rs k.place)
+    pub starts_is : (c : ℕ) (k : Consumer) → t.consumer c ≡ Some k →
+        starts_over t e c k ≡ ((is_key (doomed_key_of t e) k.request.key && waits_at t k.place) || waits_for_any rs k.place)
     starts_is c k row =
         starts_as t e c k (far c).fails (rw (n.caseless e.acts) refl)
         ∙ ap (λ b. (is_key (doomed_key_of t e) k.request.key && waits_at t k.place) || b) (waits_as t e law rs goes c k row k.place refl)
 
-    back_at : (c : ℕ) (k : Consumer) (b : Bool) → (if b then back_in_line now k else beside t e c k) ≡ (if b then back_in_line now (beside t e c k) else beside t e c k)
+    back_at : (c : ℕ) (k : Consumer) (b : Bool) →
+        (if b then back_in_line now k else beside t e c k) ≡ (if b then back_in_line now (beside t e c k) else beside t e c k)
     back_at c k b = grind (arith, nat_tests)
 
     -- who hears nothing, where nothing is doomed
-    pub consumer_by : doomed_key_of t e ≡ None → (c : ℕ) → ((k : Consumer) → t.consumer c ≡ Some k → consumer_heard t e c ev k ≡ k) → consumer_after t e c (t.consumer c) ≡ option_map (back_from_any now rs) (option_map (beside t e c) (t.consumer c))
+    pub consumer_by : doomed_key_of t e ≡ None → (c : ℕ) → ((k : Consumer) → t.consumer c ≡ Some k → consumer_heard t e c ev k ≡ k) →
+        consumer_after t e c (t.consumer c) ≡ option_map (back_from_any now rs) (option_map (beside t e c) (t.consumer c))
     consumer_by doomless c quiet = by_row (t.consumer c) refl
       where
         by_row : (z : Option Consumer) → t.consumer c ≡ z → consumer_after t e c z ≡ option_map (back_from_any now rs) (option_map (beside t e c) z)
@@ -187,9 +219,11 @@ module _ (t : Tables) (now : ℕ) (ev : Event) (reported : IsReceived ev) (flaw 
       })
       ∙ ap (with_event now ev) (sym (all_go_is now rs (record t { exchange = es; representation = vs; consumer = ks })))
 
-  module _ (limits : Limits) (law : Lawful t) (taken : denial t ev ≡ None) (s : Tables) (closes : closing t (record { now = now; event = ev; acts = loss_acts flaw }) ≡ xs) (tables : after_accepted t e ≡ with_event now ev s) where
+  module _ (limits : Limits) (law : Lawful t) (taken : denial t ev ≡ None) (s : Tables)
+      (closes : closing t (record { now = now; event = ev; acts = loss_acts flaw }) ≡ xs) (tables : after_accepted t e ≡ with_event now ev s) where
     acts_are : unevicting t now ev flaw ≡ e.acts
-    acts_are = rw n.unasked (ap (λ acts. loss_acts flaw ++ map act.Close (closing t (record { now = now; event = ev; acts = acts ++ loss_acts flaw }))) (n.says flaw) ∙ ap (λ ys. loss_acts flaw ++ map act.Close ys) closes)
+    acts_are = rw n.unasked (ap (λ acts. loss_acts flaw ++ map act.Close (closing t (record { now = now; event = ev; acts = acts ++ loss_acts flaw })))
+        (n.says flaw) ∙ ap (λ ys. loss_acts flaw ++ map act.Close ys) closes)
 
     abbrev es : List ℕ
     es = evicted limits t now ev
@@ -208,6 +242,8 @@ module _ (t : Tables) (now : ℕ) (ev : Event) (reported : IsReceived ev) (flaw 
         }
 
     -- nothing does where nothing is written
-    pub reported_plainly : write_in t (entry_without_acts now ev) ev ≡ None → Does limits t now ev flaw (loss_acts flaw ++ map act.Close xs) (with_event now ev s)
+    pub reported_plainly : write_in t (entry_without_acts now ev) ev ≡ None →
+        Does limits t now ev flaw (loss_acts flaw ++ map act.Close xs) (with_event now ev s)
     reported_plainly unwritten =
-        subst (λ ys. Does limits t now ev flaw (map act.Evicted ys ++ (loss_acts flaw ++ map act.Close xs)) (with_event now ev (let_all_go now ys s))) (evicts_nothing limits t now ev unwritten) reported_does
+        subst (λ ys. Does limits t now ev flaw (map act.Evicted ys ++ (loss_acts flaw ++ map act.Close xs)) (with_event now ev (let_all_go now ys s)))
+        (evicts_nothing limits t now ev unwritten) reported_does

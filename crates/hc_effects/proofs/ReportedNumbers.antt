@@ -28,7 +28,9 @@ number_early text (Some n) is = let small = (IsNumber-reported text n is).0 in o
 
 reported_early : (elements : List (List ℕ)) → EndsEarly (content_length_of elements)
 reported_early [] = tt
-reported_early (element ∷ elements) = if_early (all_spell (number_of element) (element ∷ elements)) (promised_or_bad (number_of element)) says.Bad (number_early element (number_of element) refl) tt
+reported_early (element ∷ elements) =
+    if_early (all_spell (number_of element) (element ∷ elements)) (promised_or_bad (number_of element)) says.Bad
+    (number_early element (number_of element) refl) tt
 
 -- a part that a text spells
 abbrev IsEarlyPart : ContentRange → Type 0
@@ -38,10 +40,12 @@ IsEarlyPart (range.Unsatisfied total) = Unit {0}
 spelled_early : (text : List ℕ) (part : ContentRange) → content_range_in text ≡ Some part → IsEarlyPart part
 spelled_early text (range.Unsatisfied total) is = tt
 spelled_early text (range.Part first last None) is =
-    let (unit, response, unit_is, (positions, length, (a, b, first_is, last_is, order, text_is), all, joined), whole) = content_range_in-some text (range.Part first last None) is in
+    let (unit, response, unit_is, (positions, length, (a, b, first_is, last_is, order, text_is), all, joined), whole) =
+    content_range_in-some text (range.Part first last None) is in
     (order, last_is.0, λ n no. absurd (none_some n no))
 spelled_early text (range.Part first last (Some total)) is =
-    let (unit, response, unit_is, (positions, length, (a, b, first_is, last_is, order, text_is), all, joined), whole) = content_range_in-some text (range.Part first last (Some total)) is in
+    let (unit, response, unit_is, (positions, length, (a, b, first_is, last_is, order, text_is), all, joined), whole) =
+    content_range_in-some text (range.Part first last (Some total)) is in
     (order, last_is.0, λ n same. let one : total ≡ n = some_inj total n same in let small = all.0.0 in omega arith)
 
 value_early : (o : Option (List ℕ)) (part : ContentRange) → option_and_then content_range_in o ≡ Some part → IsEarlyPart part
@@ -104,7 +108,8 @@ reports_off r status whole = grind (arith, nat_tests)
 whole_no_part : (need : Need) (request : Request) (response : Response) → brings_part response.status ≡ false → ReportsNoPart (length_of need request response)
 unfolding length_of
 whole_no_part need request response whole =
-    no_part_if (has_no_body request response.status) (says.Promised 0) _ tt (rw (reports_off (route_of need) response.status whole) (reported_no_part (elements_in (codes "content-length") response.fields)))
+    no_part_if (has_no_body request response.status) (says.Promised 0) _ tt
+    (rw (reports_off (route_of need) response.status whole) (reported_no_part (elements_in (codes "content-length") response.fields)))
 
 by_whole : (l : Length) (n : ℕ) → EndsEarly l → ReportsNoPart l → promise_of l ≡ Some n → n < 2 ^ 62
 by_whole l n early whole is = grind (arith, nat_tests)

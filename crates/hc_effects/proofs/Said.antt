@@ -25,7 +25,8 @@ lost_quiet _ = nothing_said
 
 closes_quiet : (xs : List ℕ) (rest : List Act) → IsQuietActs rest → IsQuietActs (map act.Close xs ++ rest)
 closes_quiet [] rest q = q
-closes_quiet (x ∷ xs) rest q = let p = closes_quiet xs rest q in record { opens = p.opens; waits = p.waits; shows = p.shows; showing = p.showing; gives = p.gives; leaves = p.leaves }
+closes_quiet (x ∷ xs) rest q = let p = closes_quiet xs rest q in
+    record { opens = p.opens; waits = p.waits; shows = p.shows; showing = p.showing; gives = p.gives; leaves = p.leaves }
 
 -- THE ACTS OF A MOVE
 
@@ -129,22 +130,31 @@ pub record LeavesBy (t : Tables) (ev : Event) (c : ℕ) : Type 0 where
 
 module _ (limits : Limits) (t : Tables) (now : ℕ) (flaw : Flaw) (s : Sound t) where
   -- of an event that isn't a poll nothing is said to any consumer
-  reported_quiet : (ev : Event) → IsQuietActs (map act.Evicted (evicted limits t now ev) ++ (loss_acts flaw ++ map act.Close (closing t (record { now = now; event = ev; acts = loss_acts flaw }))))
+  reported_quiet : (ev : Event) →
+      IsQuietActs (map act.Evicted (evicted limits t now ev) ++
+      (loss_acts flaw ++ map act.Close (closing t (record { now = now; event = ev; acts = loss_acts flaw }))))
   reported_quiet ev = quiet_acts (evicted limits t now ev) (closing t (record { now = now; event = ev; acts = loss_acts flaw })) flaw
 
   pub data IsSaid (ev : Event) (acts : List Act) : Type 0 where
     quiet : IsQuietActs acts → IsSaid ev acts
-    polled : (c want : ℕ) (k : Consumer) (rest : List Act) → IsPoll t ev c want k → IsQuietActs rest → acts ≡ acts_of c (move_of t now want c k) ++ rest → IsSaid ev acts
-    misread : (c want r : ℕ) (k : Consumer) (rest : List Act) → IsPoll t ev c want k → IsQuietActs rest → acts ≡ acts_of c (Fails (cause.StoreRead r)) ++ rest → IsSaid ev acts
+    polled : (c want : ℕ) (k : Consumer) (rest : List Act) → IsPoll t ev c want k → IsQuietActs rest → acts ≡ acts_of c (move_of t now want c k) ++ rest →
+        IsSaid ev acts
+    misread : (c want r : ℕ) (k : Consumer) (rest : List Act) → IsPoll t ev c want k → IsQuietActs rest → acts ≡ acts_of c (Fails (cause.StoreRead r)) ++
+        rest → IsSaid ev acts
 
-  poll_rest : (c want : ℕ) → IsQuietActs (map act.Close (closing t (record { now = now; event = event.Poll c want; acts = poll_acts t now want c flaw ++ loss_acts flaw })) ++ loss_acts flaw)
-  poll_rest c want = closes_quiet (closing t (record { now = now; event = event.Poll c want; acts = poll_acts t now want c flaw ++ loss_acts flaw })) (loss_acts flaw) (lost_quiet flaw)
+  poll_rest : (c want : ℕ) →
+      IsQuietActs (map act.Close (closing t (record { now = now; event = event.Poll c want; acts = poll_acts t now want c flaw ++ loss_acts flaw })) ++
+      loss_acts flaw)
+  poll_rest c want = closes_quiet (closing t (record { now = now; event = event.Poll c want; acts = poll_acts t now want c flaw ++ loss_acts flaw }))
+      (loss_acts flaw) (lost_quiet flaw)
 
-  by_flaw : (c want : ℕ) (k : Consumer) (rest : List Act) (f : Flaw) → t.consumer c ≡ Some k → IsQuietActs rest → IsSaid (event.Poll c want) (poll_acts t now want c f ++ rest)
+  by_flaw : (c want : ℕ) (k : Consumer) (rest : List Act) (f : Flaw) → t.consumer c ≡ Some k → IsQuietActs rest →
+      IsSaid (event.Poll c want) (poll_acts t now want c f ++ rest)
   by_flaw c want k rest (Misreads r) row q = misread c want r k rest (record { at = refl; row = row }) q refl
   by_flaw c want k rest _ row q = polled c want k rest (record { at = refl; row = row }) q (rw row refl)
 
-  by_row : (c want : ℕ) (o : Option Consumer) → t.consumer c ≡ o → is_live o ≡ true → IsSaid (event.Poll c want) (accepted_acts limits t now (event.Poll c want) flaw)
+  by_row : (c want : ℕ) (o : Option Consumer) → t.consumer c ≡ o → is_live o ≡ true →
+      IsSaid (event.Poll c want) (accepted_acts limits t now (event.Poll c want) flaw)
   by_row c want None row live = absurd (false_true live)
   by_row c want (Some k) row live = by_flaw c want k _ flaw row (poll_rest c want)
 
@@ -152,7 +162,8 @@ module _ (limits : Limits) (t : Tables) (now : ℕ) (flaw : Flaw) (s : Sound t) 
   pub is_said : (ev : Event) → denial t ev ≡ None → IsSaid ev (accepted_acts limits t now ev flaw)
   unfolding refusals.refusal_of
   is_said (event.Poll c want) goes = by_row c want (t.consumer c) refl (poll_live limits t now flaw s c want goes)
-  is_said (event.Cancel c) goes = quiet (closes_quiet (closing t (record { now = now; event = event.Cancel c; acts = loss_acts flaw })) (loss_acts flaw) (lost_quiet flaw))
+  is_said (event.Cancel c) goes =
+      quiet (closes_quiet (closing t (record { now = now; event = event.Cancel c; acts = loss_acts flaw })) (loss_acts flaw) (lost_quiet flaw))
   is_said ev goes = quiet (reported_quiet ev)
 
   opens_by : (ev : Event) (acts : List Act) (o : Opening) → IsSaid ev acts → opening_in acts ≡ Some o → OpensBy t now ev o
@@ -162,14 +173,27 @@ module _ (limits : Limits) (t : Tables) (now : ℕ) (flaw : Flaw) (s : Sound t) 
       by_same c want k poll all.0 all.1
     where
       by_same : (c want : ℕ) (k : Consumer) → IsPoll t ev c want k → o.c ≡ c → IsOpening o (move_of t now want c k) → OpensBy t now ev o
-      by_same c want k poll here move = record { want = want; k = k; poll = subst (λ d. IsPoll t ev d want k) (sym here) poll; move = subst (λ d. IsOpening o (move_of t now want d k)) (sym here) move }
+      by_same c want k poll here move =
+          record {
+            want = want;
+            k = k;
+            poll = subst (λ d. IsPoll t ev d want k) (sym here) poll;
+            move =
+                subst (λ d. IsOpening o (move_of t now want d k)) (sym here) move;
+          }
   opens_by ev acts o (misread c want r k rest poll q same) is = elim ((opening_said c rest q (Fails (cause.StoreRead r)) o (rw same at is)).1) [ ]
 
   shows_by : (ev : Event) (acts : List Act) (z : Showing) → IsSaid ev acts → showing_in acts ≡ Some z → ShowsBy t now ev z
   shows_by ev acts z (quiet q) is = absurd (none_some z (rw q.showing at is))
   shows_by ev acts z (polled c want k rest poll q same) is =
       let all = showing_said c rest q (move_of t now want c k) z (rw same at is) in
-      record { want = want; k = k; poll = subst (λ d. IsPoll t ev d want k) (sym all.0) poll; move = subst (λ d. IsShowing z (move_of t now want d k)) (sym all.0) all.1 }
+      record {
+        want = want;
+        k = k;
+        poll = subst (λ d. IsPoll t ev d want k) (sym all.0) poll;
+        move =
+            subst (λ d. IsShowing z (move_of t now want d k)) (sym all.0) all.1;
+      }
   shows_by ev acts z (misread c want r k rest poll q same) is = elim ((showing_said c rest q (Fails (cause.StoreRead r)) z (rw same at is)).1) [ ]
 
   waits_by : (ev : Event) (acts : List Act) (d : ℕ) (z : Wait) → IsSaid ev acts → wait_in d acts ≡ Some z → WaitsBy t now ev d z

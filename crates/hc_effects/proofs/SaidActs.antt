@@ -46,7 +46,9 @@ reported_loss rs xs flaw =
     ∙ (ap (λ b. has_loss (loss_acts flaw) || b) (all_lose xs) ∙ or_false (has_loss (loss_acts flaw))))
 
 module _ (limits : Limits) (t : Tables) (now : ℕ) (flaw : Flaw) (s : Sound t) where
-  reported_loses : (ev : Event) → has_loss (map act.Evicted (evicted limits t now ev) ++ (loss_acts flaw ++ map act.Close (closing t (record { now = now; event = ev; acts = loss_acts flaw })))) ≡ has_loss (loss_acts flaw)
+  reported_loses : (ev : Event) →
+      has_loss (map act.Evicted (evicted limits t now ev) ++
+      (loss_acts flaw ++ map act.Close (closing t (record { now = now; event = ev; acts = loss_acts flaw })))) ≡ has_loss (loss_acts flaw)
   reported_loses ev = reported_loss (evicted limits t now ev) (closing t (record { now = now; event = ev; acts = loss_acts flaw })) flaw
 
   -- the closings see what is lost
@@ -74,7 +76,8 @@ module _ (limits : Limits) (t : Tables) (now : ℕ) (flaw : Flaw) (s : Sound t) 
   move_leaves : (c d : ℕ) (m : Move) (f : Flaw) (rest : List Act) → leaver_in (acts_of c m ++ loss_acts f) ≡ Some d → leaves_in d (acts_of c m ++ rest) ≡ true
   move_leaves c d m f rest is = grind (arith, nat_tests)
 
-  poll_leaves : (c d want : ℕ) (f g : Flaw) (rest : List Act) → leaver_in (poll_acts t now want c f ++ loss_acts g) ≡ Some d → leaves_in d (poll_acts t now want c f ++ rest) ≡ true
+  poll_leaves : (c d want : ℕ) (f g : Flaw) (rest : List Act) → leaver_in (poll_acts t now want c f ++ loss_acts g) ≡ Some d → leaves_in
+      d (poll_acts t now want c f ++ rest) ≡ true
   poll_leaves c d want (Misreads r) g rest is = named c d (leaves_in d rest) is
   poll_leaves c d want _ g rest is = move_leaves c d (poll_move t now want c (t.consumer c)) g rest is
 
@@ -96,19 +99,24 @@ module _ (limits : Limits) (t : Tables) (now : ℕ) (flaw : Flaw) (s : Sound t) 
       by_test true is = let same : c ≡ d = grind (arith, nat_tests) in ap Some same
       by_test false is = absurd (false_true (rw (is, closes_leave d xs f) at h))
 
-  move_leaver : (c d : ℕ) (m : Move) (f g : Flaw) (xs : List ℕ) → leaves_in d (acts_of c m ++ (map act.Close xs ++ loss_acts f)) ≡ true → leaver_in (acts_of c m ++ loss_acts g) ≡ Some d
+  move_leaver : (c d : ℕ) (m : Move) (f g : Flaw) (xs : List ℕ) → leaves_in d (acts_of c m ++ (map act.Close xs ++ loss_acts f)) ≡ true → leaver_in
+      (acts_of c m ++ loss_acts g) ≡ Some d
   move_leaver c d Ends f g xs h = one_leaves c d xs f h
   move_leaver c d (Fails cause) f g xs h = one_leaves c d xs f h
   move_leaver c d _ f g xs h = absurd (false_true (sym (closes_leave d xs f) ∙ h))
 
-  poll_leaver : (c d want : ℕ) (z f g : Flaw) (xs : List ℕ) → leaves_in d (poll_acts t now want c z ++ (map act.Close xs ++ loss_acts f)) ≡ true → leaver_in (poll_acts t now want c z ++ loss_acts g) ≡ Some d
+  poll_leaver : (c d want : ℕ) (z f g : Flaw) (xs : List ℕ) → leaves_in d (poll_acts t now want c z ++ (map act.Close xs ++ loss_acts f)) ≡ true →
+      leaver_in (poll_acts t now want c z ++ loss_acts g) ≡ Some d
   poll_leaver c d want (Misreads r) f g xs h = one_leaves c d xs f h
   poll_leaver c d want _ f g xs h = move_leaver c d (poll_move t now want c (t.consumer c)) f g xs h
 
-  reported_leaves : (ev : Event) (d : ℕ) → leaves_in d (map act.Evicted (evicted limits t now ev) ++ (loss_acts flaw ++ map act.Close (closing t (record { now = now; event = ev; acts = loss_acts flaw })))) ≡ false
+  reported_leaves : (ev : Event) (d : ℕ) → leaves_in
+      d (map act.Evicted (evicted limits t now ev) ++
+      (loss_acts flaw ++ map act.Close (closing t (record { now = now; event = ev; acts = loss_acts flaw })))) ≡ false
   reported_leaves ev d = (quiet_acts (evicted limits t now ev) (closing t (record { now = now; event = ev; acts = loss_acts flaw })) flaw).leaves d
 
-  pub leaves_leaver : (ev : Event) (d : ℕ) → leaves_in d (accepted_acts limits t now ev flaw) ≡ true → leaver_by ev (before limits t now flaw s ev).acts ≡ Some d
+  pub leaves_leaver : (ev : Event) (d : ℕ) → leaves_in d (accepted_acts limits t now ev flaw) ≡ true →
+      leaver_by ev (before limits t now flaw s ev).acts ≡ Some d
   leaves_leaver (event.Poll c want) d h = poll_leaver c d want flaw flaw flaw (closing t (before limits t now flaw s (event.Poll c want))) h
   leaves_leaver (event.Cancel c) d h = absurd (false_true (sym (closes_leave d (closing t (before limits t now flaw s (event.Cancel c))) flaw) ∙ h))
   leaves_leaver ev d h = absurd (false_true (sym (reported_leaves ev d) ∙ h))

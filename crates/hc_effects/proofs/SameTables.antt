@@ -21,12 +21,30 @@ pub record AreSame (t s : Tables) : Type 0 where
   pub representation : (r : ℕ) → t.representation r ≡ s.representation r
   pub consumer : (c : ℕ) → t.consumer c ≡ s.consumer c
 
-made_of : (s : Tables) (m n v l o : ℕ) (ss os fs us : List ℕ) (x : ℕ → Option Exchange) (r : ℕ → Option Representation) (c : ℕ → Option Consumer) → m ≡ s.moment → n ≡ s.entries → v ≡ s.received → l ≡ s.last_start → ss ≡ s.starts → o ≡ s.opened → os ≡ s.openings → fs ≡ s.founded → us ≡ s.used → x ≡ s.exchange → r ≡ s.representation → c ≡ s.consumer
-    → record { moment = m; entries = n; received = v; last_start = l; starts = ss; opened = o; openings = os; founded = fs; used = us; exchange = x; representation = r; consumer = c } ≡ s
-made_of s m n v l o ss os fs us x r c is_m is_n is_v is_l is_ss is_o is_os is_fs is_us is_x is_r is_c = rw (is_m, is_n, is_v, is_l, is_ss, is_o, is_os, is_fs, is_us, is_x, is_r, is_c) refl
+made_of : (s : Tables) (m n v l o : ℕ) (ss os fs us : List ℕ) (x : ℕ → Option Exchange) (r : ℕ → Option Representation) (c : ℕ → Option Consumer) →
+    m ≡ s.moment → n ≡ s.entries → v ≡ s.received → l ≡ s.last_start → ss ≡ s.starts → o ≡ s.opened → os ≡ s.openings → fs ≡ s.founded → us ≡ s.used →
+    x ≡ s.exchange → r ≡ s.representation → c ≡ s.consumer
+    → record {
+      moment = m;
+      entries = n;
+      received = v;
+      last_start = l;
+      starts = ss;
+      opened = o;
+      openings = os;
+      founded = fs;
+      used = us;
+      exchange = x;
+      representation = r;
+      consumer = c;
+    } ≡ s
+made_of s m n v l o ss os fs us x r c is_m is_n is_v is_l is_ss is_o is_os is_fs is_us is_x is_r is_c =
+    rw (is_m, is_n, is_v, is_l, is_ss, is_o, is_os, is_fs, is_us, is_x, is_r, is_c) refl
 
 pub same_tables : (t s : Tables) → AreSame t s → t ≡ s
-same_tables t s a = made_of s t.moment t.entries t.received t.last_start t.opened t.starts t.openings t.founded t.used t.exchange t.representation t.consumer a.moment a.entries a.received a.last_start a.starts a.opened a.openings a.founded a.used (fun_ext a.exchange) (fun_ext a.representation) (fun_ext a.consumer)
+same_tables t s a = made_of s t.moment t.entries t.received t.last_start t.opened t.starts t.openings t.founded t.used t.exchange t.representation
+    t.consumer a.moment a.entries a.received a.last_start a.starts a.opened a.openings a.founded a.used (fun_ext a.exchange) (fun_ext a.representation)
+    (fun_ext a.consumer)
 
 -- SEVERAL AT ONCE
 
@@ -41,26 +59,36 @@ waits_for_any rs _ = false
 abbrev pub back_from_any : ℕ → List ℕ → Consumer → Consumer
 back_from_any now rs k = if waits_for_any rs k.place then back_in_line now k else k
 
-waits_one : (now q : ℕ) (rs : List ℕ) (k : Consumer) (b : Bool) (p : Place) → k.place ≡ p → waits_for q p ≡ b → back_from_any now rs (if b then back_in_line now k else k) ≡ (if b || waits_for_any rs p then back_in_line now k else k)
+waits_one : (now q : ℕ) (rs : List ℕ) (k : Consumer) (b : Bool) (p : Place) → k.place ≡ p → waits_for q p ≡ b →
+    back_from_any now rs (if b then back_in_line now k else k) ≡ (if b || waits_for_any rs p then back_in_line now k else k)
 waits_one now q rs k true p at is = refl
 waits_one now q rs k false p at is = rw at refl
 
 any_first : (q : ℕ) (rs : List ℕ) (p : Place) → (waits_for q p || waits_for_any rs p) ≡ waits_for_any (q ∷ rs) p
 any_first q rs p = grind (arith, nat_tests)
 
-back_first : (now q : ℕ) (rs : List ℕ) (o : Option Consumer) → option_map (back_from_any now rs) (option_map (back_from now q) o) ≡ option_map (back_from_any now (q ∷ rs)) o
+back_first : (now q : ℕ) (rs : List ℕ) (o : Option Consumer) →
+    option_map (back_from_any now rs) (option_map (back_from now q) o) ≡ option_map (back_from_any now (q ∷ rs)) o
 back_first now q rs None = refl
-back_first now q rs (Some k) = ap Some (waits_one now q rs k (waits_for q k.place) k.place refl refl ∙ ap (λ (b : Bool). if b then back_in_line now k else k) (any_first q rs k.place))
+back_first now q rs (Some k) =
+    ap Some (waits_one now q rs k (waits_for q k.place) k.place refl refl ∙ ap (λ (b : Bool). if b then back_in_line now k else k) (any_first q rs k.place))
 
-gone_first : (a b : Bool) (o : Option Representation) → (if b then option_map as_gone (if a then option_map as_gone o else o) else (if a then option_map as_gone o else o)) ≡ (if a || b then option_map as_gone o else o)
+gone_first : (a b : Bool) (o : Option Representation) →
+    (if b then option_map as_gone (if a then option_map as_gone o else o) else (if a then option_map as_gone o else o)) ≡ (if a || b then
+    option_map as_gone o else o)
 gone_first a b o = grind (arith, nat_tests)
 
-over_first : (a b : Bool) (o : Option Exchange) → (if b then option_map over (if a then option_map over o else o) else (if a then option_map over o else o)) ≡ (if a || b then option_map over o else o)
+over_first : (a b : Bool) (o : Option Exchange) →
+    (if b then option_map over (if a then option_map over o else o) else (if a then option_map over o else o)) ≡ (if a || b then option_map over o else o)
 over_first a b o = grind (arith, nat_tests)
 
 -- all that is let go at once
 abbrev pub without : ℕ → List ℕ → Tables → Tables
-without now rs t = record t { representation = λ q. if is_in rs q then option_map as_gone (t.representation q) else t.representation q; consumer = λ d. option_map (back_from_any now rs) (t.consumer d) }
+without now rs t = record t {
+  representation = λ q. if is_in rs q then option_map as_gone (t.representation q) else t.representation q;
+  consumer =
+      λ d. option_map (back_from_any now rs) (t.consumer d);
+}
 
 stays_mapped : (now : ℕ) (o : Option Consumer) → o ≡ option_map (back_from_any now []) o
 stays_mapped now o = grind (arith, nat_tests)

@@ -6,7 +6,9 @@ use Rattle.hc_event.specs.declared.event.Event.TheVariants as event
 use Rattle.hc_effects.proofs.{Basics.{number_is}, FailsReported.{fails_reported}, KeyActs.{test_some}, LeaveFrames.{IsPrefix, e, nothing, far, acts_left, loses_as, goes_by, leaves}, OfConsumers.{BringsNothing}, PieceKeeps.{eq_cases}, SameTables.{is_in, all_closed_is}, Untouched.{representation_frame, representation_absent}}
 use Rattle.hc_effects.proofs.LeaveFrames as front_of
 
-module _ (limits : Limits) (t : Tables) (law : Lawful t) (now c : ℕ) (k : Consumer) (row : t.consumer c ≡ Some k) (x : ℕ) (w : Exchange) (r : ℕ) (v : Representation) (kind : LostKind) (left : left_by t c k ≡ Some x) (is_row : t.exchange x ≡ Some w) (of_family : family x w ≡ r) (there : t.representation r ≡ Some v) (kept : v.is_lost ≡ false) where
+module _ (limits : Limits) (t : Tables) (law : Lawful t) (now c : ℕ) (k : Consumer) (row : t.consumer c ≡ Some k) (x : ℕ) (w : Exchange) (r : ℕ)
+    (v : Representation) (kind : LostKind) (left : left_by t c k ≡ Some x) (is_row : t.exchange x ≡ Some w) (of_family : family x w ≡ r)
+    (there : t.representation r ≡ Some v) (kept : v.is_lost ≡ false) where
   module _ (ev : Event) (front : List Act) (is : IsPrefix c ev None front) (says : answer_acts t now ev (Loses r kind) ≡ front) where
     abbrev flaw : Flaw
     flaw = Loses r kind
@@ -20,7 +22,8 @@ module _ (limits : Limits) (t : Tables) (law : Lawful t) (now c : ℕ) (k : Cons
     -- nothing else goes
     going_is : (q : ℕ) → is_number (going_with t (left_by t c k)) q ≡ true → r ≡ q
     going_is q on =
-        let going : (if is_unkeepable (t.representation x) then Some x else None) ≡ Some q = sym (ap (going_with t) left) ∙ number_is (going_with t (left_by t c k)) q on in
+        let going : (if is_unkeepable (t.representation x) then Some x else None) ≡ Some q = sym (ap (going_with t) left) ∙
+        number_is (going_with t (left_by t c k)) q on in
         let both = test_some (is_unkeepable (t.representation x)) (Some x) q going in
         sym of_family ∙ (by_row (t.representation x) refl both.0 ∙ some_is both.1)
       where
@@ -54,9 +57,13 @@ module _ (limits : Limits) (t : Tables) (law : Lawful t) (now c : ℕ) (k : Cons
         ap (λ (u : Representation). Some (representation_acted t it r v u)) (n.representation r v)
         ∙ rw (goes_so, loses, n.bodiless, kept) refl
 
-    rows : (q : ℕ) → representation_after t it q (t.representation q) ≡ (if is_in (r ∷ []) q then option_map as_gone (if r == q then Some (lost_to (exclusive t r v) v) else t.representation q) else (if r == q then Some (lost_to (exclusive t r v) v) else t.representation q))
+    rows : (q : ℕ) → representation_after t it q
+        (t.representation q) ≡ (if is_in (r ∷ []) q then
+        option_map as_gone (if r == q then Some (lost_to (exclusive t r v) v) else t.representation q) else
+        (if r == q then Some (lost_to (exclusive t r v) v) else t.representation q))
     rows q = elim (eq_cases r q) [
-      | inl here ↦ rw here.0 (subst (λ m. representation_after t it m (t.representation m) ≡ Some (as_gone (lost_to (exclusive t r v) v))) here.1 (ap (representation_after t it r) there ∙ lost_row))
+      | inl here ↦ rw here.0 (subst (λ m. representation_after t it m (t.representation m) ≡ Some (as_gone (lost_to (exclusive t r v) v))) here.1
+          (ap (representation_after t it r) there ∙ lost_row))
       | inr other ↦ rw other.0 (by_row (t.representation q) refl other.0)
     ]
       where
@@ -67,22 +74,32 @@ module _ (limits : Limits) (t : Tables) (law : Lawful t) (now c : ℕ) (k : Cons
             representation_frame t it q u (n.representation q u) (loses_as limits t law now c k row ev flaw None front is q ∙ rw apart refl)
             ∙ rw goes_not refl
 
-    pub seal_does : Does limits t now ev flaw (front ++ (map act.Close (x ∷ []) ++ (act.Lost r kind ∷ []))) (with_event now ev (let_go now r (with_representation r (Some (lost_to (exclusive t r v) v)) (with_leave c k t))))
+    pub seal_does : Does limits t now ev flaw (front ++ (map act.Close (x ∷ []) ++ (act.Lost r kind ∷ [])))
+        (with_event now ev (let_go now r (with_representation r (Some (lost_to (exclusive t r v) v)) (with_leave c k t))))
     seal_does = record {
-      acts_are = acts_left limits t law now c k row ev flaw None front is says ∙ ap (λ (z : Option ℕ). front ++ (map act.Close (with_item_first z []) ++ (act.Lost r kind ∷ []))) left;
+      acts_are = acts_left limits t law now c k row ev flaw None front is says ∙
+          ap (λ (z : Option ℕ). front ++ (map act.Close (with_item_first z []) ++ (act.Lost r kind ∷ []))) left;
       tables_are =
           ap (λ acts. after_accepted t (record { now = now; event = ev; acts = acts })) (acts_left limits t law now c k row ev flaw None front is says)
-          ∙ (leaves limits t law now c k row ev flaw None front is (r ∷ []) (λ q. if r == q then Some (lost_to (exclusive t r v) v) else t.representation q) goes rows stays
-          ∙ ap (λ (u : Tables). with_event now ev (let_go now r (with_representation r (Some (lost_to (exclusive t r v) v)) (with_consumer c (Some (as_over k)) u)))) (sym (all_closed_is (with_item_first (left_by t c k) []) t)));
+          ∙ (leaves limits t law now c k row ev flaw None front is (r ∷ [])
+          (λ q. if r == q then Some (lost_to (exclusive t r v) v) else t.representation q) goes rows stays
+          ∙ ap (λ (u : Tables). with_event now ev
+          (let_go now r (with_representation r (Some (lost_to (exclusive t r v) v)) (with_consumer c (Some (as_over k)) u))))
+          (sym (all_closed_is (with_item_first (left_by t c k) []) t)));
     }
 
-  pub seal_ends : (want : ℕ) → move_of t now want c k ≡ Ends → Does limits t now (event.Poll c want) (Loses r kind) (acts_of c Ends ++ (map act.Close (x ∷ []) ++ (act.Lost r kind ∷ [])))
+  pub seal_ends : (want : ℕ) → move_of t now want c k ≡ Ends →
+      Does limits t now (event.Poll c want) (Loses r kind) (acts_of c Ends ++ (map act.Close (x ∷ []) ++ (act.Lost r kind ∷ [])))
       (with_event now (event.Poll c want) (let_go now r (with_representation r (Some (lost_to (exclusive t r v) v)) (with_leave c k t))))
-  seal_ends want is = seal_does (event.Poll c want) (acts_of c Ends) (front_of.ends want) (ap (λ (o : Option Consumer). acts_of c (poll_move t now want c o)) row ∙ ap (acts_of c) is)
+  seal_ends want is = seal_does (event.Poll c want) (acts_of c Ends) (front_of.ends want)
+      (ap (λ (o : Option Consumer). acts_of c (poll_move t now want c o)) row ∙ ap (acts_of c) is)
 
-  pub seal_fails : (want : ℕ) (why : Cause) → move_of t now want c k ≡ Fails why → Does limits t now (event.Poll c want) (Loses r kind) (acts_of c (Fails why) ++ (map act.Close (x ∷ []) ++ (act.Lost r kind ∷ [])))
+  pub seal_fails : (want : ℕ) (why : Cause) → move_of t now want c k ≡ Fails why →
+      Does limits t now (event.Poll c want) (Loses r kind) (acts_of c (Fails why) ++ (map act.Close (x ∷ []) ++ (act.Lost r kind ∷ [])))
       (with_event now (event.Poll c want) (let_go now r (with_representation r (Some (lost_to (exclusive t r v) v)) (with_leave c k t))))
-  seal_fails want why is = seal_does (event.Poll c want) (acts_of c (Fails why)) (front_of.fails want why (fails_reported t now want c k why law.sound law.places row is)) (ap (λ (o : Option Consumer). acts_of c (poll_move t now want c o)) row ∙ ap (acts_of c) is)
+  seal_fails want why is =
+      seal_does (event.Poll c want) (acts_of c (Fails why)) (front_of.fails want why (fails_reported t now want c k why law.sound law.places row is))
+      (ap (λ (o : Option Consumer). acts_of c (poll_move t now want c o)) row ∙ ap (acts_of c) is)
 
   pub seal_cancels : Does limits t now (event.Cancel c) (Loses r kind) (act.Close x ∷ act.Lost r kind ∷ [])
       (with_event now (event.Cancel c) (let_go now r (with_representation r (Some (lost_to (exclusive t r v) v)) (with_leave c k t))))

@@ -41,11 +41,13 @@ module _ (step : Step) (m : Measures step.tables) (real : IsReal step.limits ste
   pub alone_is : (r : ℕ) (v p : Representation) → IsKept t e r v p → p.alone ≡ (if loses_in r e.acts && not v.is_lost then goes_on_with t e r v else v.alone)
   alone_is r v p kept = sym (ap (λ (q : Representation). q.alone) kept.is) ∙ by_test (loses_in r e.acts && not v.is_lost)
     where
-      by_test : (a : Bool) → (if a then goes_on_with t e r v else (Rattle.hc_model.specs.RepresentationRows.representation_heard t e r ev v).alone) ≡ (if a then goes_on_with t e r v else v.alone)
+      by_test : (a : Bool) → (if a then goes_on_with t e r v else (Rattle.hc_model.specs.RepresentationRows.representation_heard t e r ev v).alone) ≡
+          (if a then goes_on_with t e r v else v.alone)
       by_test true = refl
       by_test false = (rep.heard t e r v ev refl).alone_is
 
-  pub lost_alone : (r : ℕ) (v p : Representation) → t.representation r ≡ Some v → IsKept t e r v p → loses_in r e.acts ≡ true → (p.is_lost ≡ true) × (p.alone ≡ goes_on_with t e r v)
+  pub lost_alone : (r : ℕ) (v p : Representation) → t.representation r ≡ Some v → IsKept t e r v p → loses_in r e.acts ≡ true → (p.is_lost ≡ true) ×
+      (p.alone ≡ goes_on_with t e r v)
   lost_alone r v p there kept loses =
       let new = fresh step m real r v there loses in
       let test : (loses_in r e.acts && not v.is_lost) ≡ true = and_both _ _ loses (ap not new) in
@@ -64,7 +66,8 @@ module _ (step : Step) (m : Measures step.tables) (real : IsReal step.limits ste
 
       by_fills : Fills t e r v p → Covers p.stored lo hi
       by_fills (fills_by.still none body_is stored_is reach_is) d from_lo lt = ap (λ (f : Cells). is_some (f d)) stored_is ∙ all d from_lo lt
-      by_fills (fills_by.more x bytes w is body_is stored_is reach_is) d from_lo lt = ap (λ (f : Cells). is_some (f d)) stored_is ∙ by_kept (not (v.is_lost || loses_in r e.acts)) _ x bytes d from_lo lt
+      by_fills (fills_by.more x bytes w is body_is stored_is reach_is) d from_lo lt = ap (λ (f : Cells). is_some (f d)) stored_is ∙
+          by_kept (not (v.is_lost || loses_in r e.acts)) _ x bytes d from_lo lt
 
   -- an exchange that ends or is closed is over
   pub over : (x : ℕ) (w : Exchange) → t.exchange x ≡ Some w → (stops x ev ≡ true) ⊎ (closes_in x e.acts ≡ true) → is_open (now_on.exchange x) ≡ false
@@ -83,7 +86,8 @@ module _ (step : Step) (m : Measures step.tables) (real : IsReal step.limits ste
       by_test false off = refl
       by_test true on = let g = forward.is_on t e x w row in absurd (by_end g (sym (ap is_open g.row) ∙ on) ends)
 
-  module _ (r c lo : ℕ) (hi : Option ℕ) (how : BoundBy) (u : Consumer) (p : Representation) (after : now_on.representation r ≡ Some p) (after_row : now_on.consumer c ≡ Some u) (stands : u.place ≡ place.Bound r lo hi how) where
+  module _ (r c lo : ℕ) (hi : Option ℕ) (how : BoundBy) (u : Consumer) (p : Representation) (after : now_on.representation r ≡ Some p)
+      (after_row : now_on.consumer c ≡ Some u) (stands : u.place ≡ place.Bound r lo hi how) where
     abbrev Served : Type 0
     Served = IsServed now_on r p c u
 
@@ -110,7 +114,8 @@ module _ (step : Step) (m : Measures step.tables) (real : IsReal step.limits ste
         let w = (measures_kept step m).ends r c lo n how u p after_row (stands ∙ ap (λ q. place.Bound r lo q how) is) after in
         let same : w.total ≡ all.total = some_inj w.total all.total (sym w.known ∙ all.known) in
         let le : n ≤ w.total = w.ends in
-        rests_to n 0 (end_is (Some all.total) all.known ∙ ap (λ q. option_or q (Some all.total)) is) (λ d from_lo lt. all.covered d from_lo (omega arith)) (omega arith)
+        rests_to n 0 (end_is (Some all.total) all.known ∙ ap (λ q. option_or q (Some all.total)) is) (λ d from_lo lt. all.covered d from_lo (omega arith))
+        (omega arith)
 
     by_all : IsAll p → (z : Option ℕ) → hi ≡ z → Served
     by_all all z is = reads_rest (rest_by all z is)
@@ -120,7 +125,8 @@ module _ (step : Step) (m : Measures step.tables) (real : IsReal step.limits ste
 
     -- IT WAS BOUND
 
-    module _ (k : Consumer) (v : Representation) (row : IsRow t e c r lo hi how k u) (at : k.place ≡ place.Bound r lo hi how) (there : t.representation r ≡ Some v) (kept : IsKept t e r v p) (none_due : k.due ≡ None) (undue : becomes_due t e c k ≡ None) where
+    module _ (k : Consumer) (v : Representation) (row : IsRow t e c r lo hi how k u) (at : k.place ≡ place.Bound r lo hi how)
+        (there : t.representation r ≡ Some v) (kept : IsKept t e r v p) (none_due : k.due ≡ None) (undue : becomes_due t e c k ≡ None) where
       reader : IsBound t r c k
       reader = sound.is_bound lo hi how row.row at
 
@@ -137,7 +143,8 @@ module _ (step : Step) (m : Measures step.tables) (real : IsReal step.limits ste
       end_before = ap (hi_of t) at ∙ ap (λ q. option_or hi (Rattle.hc_model.specs.Currents.total_in q)) there
 
       end_by : (n : ℕ) (z : Option ℕ) → hi ≡ z → option_or hi v.head.total ≡ Some n → hi_of now_on u.place ≡ Some n
-      end_by n None is h = end_is (Some n) (known_kept step m r n v p kept (sym (ap (λ q. option_or q v.head.total) is) ∙ h)) ∙ ap (λ q. option_or q (Some n)) is
+      end_by n None is h = end_is (Some n) (known_kept step m r n v p kept (sym (ap (λ q. option_or q v.head.total) is) ∙ h)) ∙
+          ap (λ q. option_or q (Some n)) is
       end_by n (Some a) is h = end_is p.head.total refl ∙ (ap (λ q. option_or q p.head.total) is ∙ (sym (ap (λ q. option_or q v.head.total) is) ∙ h))
 
       pub still_rests : (n : ℕ) → hi_of t k.place ≡ Some n → Covers v.stored (offset t k) n → HasRest now_on p u
@@ -158,7 +165,8 @@ module _ (step : Step) (m : Measures step.tables) (real : IsReal step.limits ste
       shared_lost on x writer loses = elim (bool_cases (brings_body ev)) [
         | inl brings ↦
             let losing : loses_group t e r v ≡ true = and_both _ _ (and_both _ _ brings loses) on in
-            let loss : cause_by_loss t e c r (Some v) ≡ None = sym (ap (Rattle.hc_model.specs.Failures.cause_of_loss t e c) at ∙ ap (cause_by_loss t e c r) there) ∙ (undue_parts t e c k undue).loss in
+            let loss : cause_by_loss t e c r (Some v) ≡ None =
+            sym (ap (Rattle.hc_model.specs.Failures.cause_of_loss t e c) at ∙ ap (cause_by_loss t e c r) there) ∙ (undue_parts t e c k undue).loss in
             let is : survivor t r v ≡ Some c = number_is (survivor t r v) c (survives (loses_group t e r v) (is_number (survivor t r v) c) _ losing loss) in
             let all = lost_alone r v p there kept loses in
             alone_now all.0 (all.1 ∙ (rw losing is))
@@ -176,7 +184,8 @@ module _ (step : Step) (m : Measures step.tables) (real : IsReal step.limits ste
           let waits = waiter_of step R.x R.w R.row new.is_open new.bare in
           let grows = (s.rows r v there).growing x on writer in
           let g = grows.1 in
-          let hole = Rattle.hc_effects.proofs.HeadKeeps.is_join t (has_loss e.acts) R.w R.response (sym (ap Rattle.hc_model.specs.Cases.is_joining (case_is t e R.x R.response R.w R.at R.row)) ∙ R.joins) in
+          let hole = Rattle.hc_effects.proofs.HeadKeeps.is_join
+          t (has_loss e.acts) R.w R.response (sym (ap Rattle.hc_model.specs.Cases.is_joining (case_is t e R.x R.response R.w R.at R.row)) ∙ R.joins) in
           let about = sound.asks R.w hole.fills.from hole.fills.to R.row new.is_open new.bare hole.fills.need_is aim in
           let one : R.x ≡ x = s.one_about r R.x x about (writer_about t r x v s there on writer) in
           let same : R.w ≡ grows.0 = same_row (t.exchange x) R.w grows.0 (sym (ap t.exchange one) ∙ R.row) g.row in
@@ -237,19 +246,23 @@ module _ (step : Step) (m : Measures step.tables) (real : IsReal step.limits ste
     -- BY A POLL
 
     -- a poll loses no r of which an open exchange goes on
-    quiet_poll : (want d : ℕ) → ev ≡ event.Poll d want → (v : Representation) → t.representation r ≡ Some v → ((z : IsSealing step m real r) → ⊥) → loses_in r e.acts ≡ false
+    quiet_poll : (want d : ℕ) → ev ≡ event.Poll d want → (v : Representation) → t.representation r ≡ Some v → ((z : IsSealing step m real r) → ⊥) →
+        loses_in r e.acts ≡ false
     quiet_poll want d polls v there none = never_true (loses_in r e.acts) (λ loses. none (sealed_loss step m real r v there loses (ap brings_body polls)))
 
     -- AT A FIRST HOLE
 
-    opened : (k : Consumer) (q : Opening) → IsRow t e c r lo hi how k u → opening_in e.acts ≡ Some q → q.c ≡ c → bound t r ≡ [] → IsFirstHole t e c r lo hi how q (waiting t e c (consumer_heard t e c ev k)) → RepFrom t e r p → Served
+    opened : (k : Consumer) (q : Opening) → IsRow t e c r lo hi how k u → opening_in e.acts ≡ Some q → q.c ≡ c → bound t r ≡ [] →
+        IsFirstHole t e c r lo hi how q (waiting t e c (consumer_heard t e c ev k)) → RepFrom t e r p → Served
     opened k q row opens mine nobody hole (rep.founded response w none here exchange_row on made) = absurd (none_some hole.v (sym none ∙ hole.row))
     opened k q row opens mine nobody hole (rep.was v kept) =
         let by_poll = is_opened step q opens in
         let one : hole.v ≡ v = same_row (t.representation r) hole.v v hole.row kept.row in
         let not_gone : v.is_gone ≡ false = ap (λ (z : Representation). z.is_gone) (sym one) ∙ current_stays t _ r hole.v hole.current_is hole.row in
-        let quiet = quiet_poll by_poll.want q.c by_poll.at v kept.row (λ z. none_about t r z.y v s kept.row nobody (sound.headed z.w z.row z.was_open z.headed z.of_r (ap is_some kept.row))) in
-        first_now ((kept_alone r v p kept quiet).0 ∙ not_lost v not_gone (s.rows r v kept.row).store.lost_is_gone) (ap (λ g. came_alone now_on (place.Bound r lo hi g)) hole.by_is)
+        let quiet = quiet_poll by_poll.want q.c by_poll.at v kept.row
+        (λ z. none_about t r z.y v s kept.row nobody (sound.headed z.w z.row z.was_open z.headed z.of_r (ap is_some kept.row))) in
+        first_now ((kept_alone r v p kept quiet).0 ∙ not_lost v not_gone (s.rows r v kept.row).store.lost_is_gone)
+        (ap (λ g. came_alone now_on (place.Bound r lo hi g)) hole.by_is)
       where
         not_lost : (v : Representation) → v.is_gone ≡ false → (v.is_lost ≡ true → v.is_gone ≡ true) → v.is_lost ≡ false
         not_lost v off goes_too = grind (arith, nat_tests)
@@ -257,7 +270,8 @@ module _ (step : Step) (m : Measures step.tables) (real : IsReal step.limits ste
     -- BY ITS PLAN
 
     -- a poll that shows a head closes no writing
-    unclosed : (x : ℕ) (w : Exchange) (v : Representation) (z : Showing) → t.representation r ≡ Some v → IsGrowing t r v x w → leaves_in c e.acts ≡ false → showing_in e.acts ≡ Some z → z.c ≡ c → closes_in x e.acts ≡ true → ⊥
+    unclosed : (x : ℕ) (w : Exchange) (v : Representation) (z : Showing) → t.representation r ≡ Some v → IsGrowing t r v x w → leaves_in
+        c e.acts ≡ false → showing_in e.acts ≡ Some z → z.c ≡ c → closes_in x e.acts ≡ true → ⊥
     unclosed x w v z there g stays is mine shut = by_cause (had_to limits t now flaw s ev x w g.row shut)
       where
         shows : ShowsBy t now ev z
@@ -272,7 +286,8 @@ module _ (step : Step) (m : Measures step.tables) (real : IsReal step.limits ste
 
         lost_not : (n : ℕ) (q : Option Representation) → has_no_survivor t b x n q ≡ true → ⊥
         lost_not n None h = false_true h
-        lost_not n (Some a) h = let losing = and_right (is_number a.writer x) _ (and_left _ _ h) in false_true (sym (ap brings_body shows.poll.at) ∙ and_left _ _ (and_left _ _ losing))
+        lost_not n (Some a) h = let losing = and_right (is_number a.writer x) _ (and_left _ _ h) in
+            false_true (sym (ap brings_body shows.poll.at) ∙ and_left _ _ (and_left _ _ losing))
 
         poll_inj : (a d f g : ℕ) → event.Poll a f ≡ event.Poll d g → a ≡ d
         poll_inj a d f g is = cc
@@ -300,14 +315,16 @@ module _ (step : Step) (m : Measures step.tables) (real : IsReal step.limits ste
           ]
         ]
 
-    shown : (k : Consumer) (z : Showing) → IsRow t e c r lo hi how k u → showing_in e.acts ≡ Some z → IsShown t e c r lo hi how z (by_opening t c (opening_in e.acts) (waiting t e c (consumer_heard t e c ev k))).place → RepFrom t e r p → Served
+    shown : (k : Consumer) (z : Showing) → IsRow t e c r lo hi how k u → showing_in e.acts ≡ Some z →
+        IsShown t e c r lo hi how z (by_opening t c (opening_in e.acts) (waiting t e c (consumer_heard t e c ev k))).place → RepFrom t e r p → Served
     shown k z row is all from_rep = by_plan planned.shown_as from_rep
       where
         shows : ShowsBy t now ev z
         shows = showing_by limits t now flaw s ev goes z is
 
         planned : IsPlanned t now z.c k z
-        planned = planned_at limits t now flaw s ev goes z k (ap t.consumer all.at ∙ row.row) is (subst (λ d. reads (by_opening t d (opening_in e.acts) (waiting t e d (consumer_heard t e d ev k))).place ≡ false) (sym all.at) all.free)
+        planned = planned_at limits t now flaw s ev goes z k (ap t.consumer all.at ∙ row.row) is
+            (subst (λ d. reads (by_opening t d (opening_in e.acts) (waiting t e d (consumer_heard t e d ev k))).place ≡ false) (sym all.at) all.free)
 
         none_closed : (x : ℕ) (w : Exchange) (v : Representation) → t.representation r ≡ Some v → IsGrowing t r v x w → closes_in x e.acts ≡ false
         none_closed x w v there g = never_true (closes_in x e.acts) (λ shut. unclosed x w v z there g row.leaves is all.at shut)
@@ -321,12 +338,14 @@ module _ (step : Step) (m : Measures step.tables) (real : IsReal step.limits ste
             let g = grows.1 in
             let was = is_on t v x on writer in
             let shut = none_closed x grows.0 v there g in
-            let heard : (exchange_heard t e x ev grows.0).is_open ≡ true = ap (λ a. (exchange_heard t e x a grows.0).is_open) shows.poll.at ∙ (sym (ap is_open g.row) ∙ was.open_now) in
+            let heard : (exchange_heard t e x ev grows.0).is_open ≡ true = ap (λ a. (exchange_heard t e x a grows.0).is_open) shows.poll.at ∙
+            (sym (ap is_open g.row) ∙ was.open_now) in
             let still : is_open (now_on.exchange x) ≡ true = ap is_open (after_is t e x grows.0 (t.exchange x) g.row) ∙ and_both _ _ (ap not shut) heard in
             let quiet = quiet_poll shows.want z.c shows.poll.at v there (λ y.
             let number : y.y ≡ x = seals_one step m real r x v there (writer_about t r x v s there on writer) y in
             false_true (sym (subst (λ n. is_open (now_on.exchange n) ≡ false) number (over y.y y.w y.row y.ends)) ∙ still)) in
-            sound.shares (written_by now_on p x ((kept_alone r q p kept quiet).0 ∙ (ap (λ (a : Representation). a.is_lost) one ∙ was.kept)) (by_writer q kept one kept.writer_is) still)
+            sound.shares (written_by now_on p x ((kept_alone r q p kept quiet).0 ∙ (ap (λ (a : Representation). a.is_lost) one ∙ was.kept))
+            (by_writer q kept one kept.writer_is) still)
           where
             by_writer : (q : Representation) → IsKept t e r q p → q ≡ v → (p.writer ≡ q.writer) ⊎ IsResumed t e r q p.writer → p.writer ≡ Some x
             by_writer q kept one (inl same) = same ∙ (ap (λ (a : Representation). a.writer) one ∙ writer)
@@ -343,7 +362,8 @@ module _ (step : Step) (m : Measures step.tables) (real : IsReal step.limits ste
             by_test true covered = refl
             by_test false covered = absurd (let no = rw covered at none in false_true (ap is_none no))
 
-        rest_by : (v : Representation) (span : Span) → t.representation r ≡ Some v → Covers v.stored span.lo span.hi → z.lo ≡ span.lo → z.hi ≡ Some span.hi → RepFrom t e r p → Served
+        rest_by : (v : Representation) (span : Span) → t.representation r ≡ Some v → Covers v.stored span.lo span.hi → z.lo ≡ span.lo →
+            z.hi ≡ Some span.hi → RepFrom t e r p → Served
         rest_by v span there covered from_is to (rep.founded response w none here exchange_row founding made) = absurd (none_some v (sym none ∙ there))
         rest_by v span there covered from_is to (rep.was q kept) =
             let one : q ≡ v = same_row (t.representation r) q v kept.row there in
@@ -351,11 +371,14 @@ module _ (step : Step) (m : Measures step.tables) (real : IsReal step.limits ste
             let start : z.lo ≡ lo = all.from in
             let first : z.lo ≡ span.lo = from_is in
             let now_at : offset now_on u ≡ lo + u.given = offset_is in
-            reads_to span.hi span.lo (end_is p.head.total refl ∙ ap (λ a. option_or a p.head.total) (sym all.to ∙ to)) (stored_covers r span.lo span.hi q p kept all_q) (omega arith)
+            reads_to span.hi span.lo (end_is p.head.total refl ∙ ap (λ a. option_or a p.head.total) (sym all.to ∙ to))
+            (stored_covers r span.lo span.hi q p kept all_q) (omega arith)
 
         by_plan : ShownAs t now z.c k z.r z.lo z.hi → RepFrom t e r p → Served
-        by_plan (shown_as.joins v current_is there on from_is to) from_it = by_writer_group v (sym (ap t.representation all.of_r) ∙ there) on v.writer refl from_it
-        by_plan (shown_as.stored v span current_is there off wanted_is none from_is to) from_it = rest_by v span (sym (ap t.representation all.of_r) ∙ there) (covered_by v span none) from_is to from_it
+        by_plan (shown_as.joins v current_is there on from_is to) from_it =
+            by_writer_group v (sym (ap t.representation all.of_r) ∙ there) on v.writer refl from_it
+        by_plan (shown_as.stored v span current_is there off wanted_is none from_is to) from_it =
+            rest_by v span (sym (ap t.representation all.of_r) ∙ there) (covered_by v span none) from_is to from_it
 
     -- BY FOUNDING
 
@@ -363,7 +386,8 @@ module _ (step : Step) (m : Measures step.tables) (real : IsReal step.limits ste
     is_reached_zero None h = absurd (false_true h)
     is_reached_zero (Some n) h = let test : nat_eq n 0 ≡ true = h in let zero_is : n ≡ 0 = grind (arith, nat_tests) in ap Some zero_is
 
-    range_brings : (w : Exchange) (response : Response) → CaseBy (head_view t (has_loss e.acts) w response) case.FoundsRange → brings_part response.status ≡ true
+    range_brings : (w : Exchange) (response : Response) → CaseBy (head_view t (has_loss e.acts) w response) case.FoundsRange →
+        brings_part response.status ≡ true
     range_brings w response (cases.founds_range way status fits kept good) = status
 
     module _ (x : ℕ) (response : Response) (w : Exchange) (here : ev ≡ event.Head x response) (exchange_row : t.exchange x ≡ Some w) where
@@ -401,7 +425,8 @@ module _ (step : Step) (m : Measures step.tables) (real : IsReal step.limits ste
           ]
 
       -- where its exchange is over at once, it has no body
-      pub none_promised : is_refused (case_at t e) ≡ false → doomed_by_case (case_at t e) w response ≡ None → is_open (now_on.exchange x) ≡ false → promise_in w response ≡ Some 0
+      pub none_promised : is_refused (case_at t e) ≡ false → doomed_by_case (case_at t e) w response ≡ None → is_open (now_on.exchange x) ≡ false →
+          promise_in w response ≡ Some 0
       none_promised unrefused undoomed off = is_reached_zero (promise_in w response) (by_test (is_reached (promise_in w response) 0) refl)
         where
           self : nat_eq x x ≡ true
@@ -418,38 +443,51 @@ module _ (step : Step) (m : Measures step.tables) (real : IsReal step.limits ste
           by_test true reached = refl
           by_test false reached =
               let heard : (exchange_heard t e x ev w).is_open ≡ true = ap (λ z. (exchange_heard t e x z w).is_open) here ∙ rw (self, reached, was) refl in
-              let still : is_open (now_on.exchange x) ≡ true = ap is_open (after_is t e x w (t.exchange x) exchange_row) ∙ and_both _ _ (ap not (unshut (closes_in x e.acts) refl)) heard in
+              let still : is_open (now_on.exchange x) ≡ true = ap is_open (after_is t e x w (t.exchange x) exchange_row) ∙
+              and_both _ _ (ap not (unshut (closes_in x e.acts) refl)) heard in
               absurd (false_true (sym off ∙ still))
 
-      whole : (z : Exchange) (answer : Response) → x ≡ r → new_representation r e answer z ≡ p → response ≡ answer → brings_whole response.status ≡ true → is_refused (case_at t e) ≡ false → doomed_by_case (case_at t e) w response ≡ None → hi ≡ promise_in w response → Served
+      whole : (z : Exchange) (answer : Response) → x ≡ r → new_representation r e answer z ≡ p → response ≡ answer → brings_whole response.status ≡ true →
+          is_refused (case_at t e) ≡ false → doomed_by_case (case_at t e) w response ≡ None → hi ≡ promise_in w response → Served
       whole z answer of_r made same status unrefused undoomed to = elim (bool_cases (is_open (now_on.exchange x))) [
         | inl on ↦
             let other : brings_part answer.status ≡ false = ap (λ (a : Response). brings_part a.status) (sym same) ∙ whole_is_no_part response.status status in
             let writes : writer_at r answer ≡ Some r = rw other refl in
-            sound.shares (written_by now_on p r (sym (ap (λ (a : Representation). a.is_lost) made)) (sym (ap (λ (a : Representation). a.writer) made) ∙ writes) (ap (λ n. is_open (now_on.exchange n)) (sym of_r) ∙ on))
+            sound.shares (written_by now_on p r (sym (ap (λ (a : Representation). a.is_lost) made))
+            (sym (ap (λ (a : Representation). a.writer) made) ∙ writes) (ap (λ n. is_open (now_on.exchange n)) (sym of_r) ∙ on))
         | inr off ↦
             let none : hi ≡ Some 0 = to ∙ none_promised unrefused undoomed off in
             reads_to 0 0 (end_is p.head.total refl ∙ ap (λ a. option_or a p.head.total) none) (λ d from_lo lt. absurd (omega arith)) (omega arith)
       ]
 
-      part : (z : Exchange) (answer : Response) → new_representation r e answer z ≡ p → response ≡ answer → brings_part response.status ≡ true → how ≡ by.Founding → Served
+      part : (z : Exchange) (answer : Response) → new_representation r e answer z ≡ p → response ≡ answer → brings_part response.status ≡ true →
+          how ≡ by.Founding → Served
       part z answer made same status by_is =
-          let test : brings_part p.head.status ≡ true = sym (ap (λ (a : Representation). brings_part a.head.status) made) ∙ (ap (λ (a : Response). brings_part a.status) (sym same) ∙ status) in
+          let test : brings_part p.head.status ≡ true = sym (ap (λ (a : Representation). brings_part a.head.status) made) ∙
+          (ap (λ (a : Response). brings_part a.status) (sym same) ∙ status) in
           let status_is : brings_part (status_in (now_on.representation r)) ≡ true = ap (λ q. brings_part (status_in q)) after ∙ test in
           first_now (sym (ap (λ (a : Representation). a.is_lost) made)) (ap (λ g. came_alone now_on (place.Bound r lo hi g)) by_is ∙ status_is)
 
     head_inj : (a d : ℕ) (f g : Response) → event.Head a f ≡ event.Head d g → f ≡ g
     head_inj a d f g is = cc
 
-    founded_by : (k : Consumer) (x : ℕ) (response : Response) (w : Exchange) (g : Option HeadCase) → ev ≡ event.Head x response → t.exchange x ≡ Some w → x ≡ r → how ≡ by.Founding → case_at t e ≡ g → IsFounded t e c r lo hi how x response w k g → (z : Exchange) (answer : Response) → new_representation r e answer z ≡ p → response ≡ answer → Served
+    founded_by : (k : Consumer) (x : ℕ) (response : Response) (w : Exchange) (g : Option HeadCase) → ev ≡ event.Head x response → t.exchange x ≡ Some w →
+        x ≡ r → how ≡ by.Founding → case_at t e ≡ g → IsFounded t e c r lo hi how x response w k g → (z : Exchange) (answer : Response) →
+        new_representation r e answer z ≡ p → response ≡ answer → Served
     founded_by k x response w _ here exchange_row of_r by_is is (from.whole from_is to) z answer made same =
-        whole x response w here exchange_row z answer of_r made same (whole_brings t (has_loss e.acts) w response (case_of_head t e x response w case.FoundsWhole here exchange_row is)) (ap is_refused is) (ap (λ q. doomed_by_case q w response) is) to
+        whole x response w here exchange_row z answer of_r made same
+        (whole_brings t (has_loss e.acts) w response (case_of_head t e x response w case.FoundsWhole here exchange_row is)) (ap is_refused is)
+        (ap (λ q. doomed_by_case q w response) is) to
     founded_by k x response w _ here exchange_row of_r by_is is (from.replaced from_is to) z answer made same =
-        whole x response w here exchange_row z answer of_r made same (replaced_brings t (has_loss e.acts) w response (case_of_head t e x response w case.FirstReplaced here exchange_row is)) (ap is_refused is) (ap (λ q. doomed_by_case q w response) is) to
+        whole x response w here exchange_row z answer of_r made same
+        (replaced_brings t (has_loss e.acts) w response (case_of_head t e x response w case.FirstReplaced here exchange_row is)) (ap is_refused is)
+        (ap (λ q. doomed_by_case q w response) is) to
     founded_by k x response w _ here exchange_row of_r by_is is (from.part i) z answer made same =
-        part x response w here exchange_row z answer made same (range_brings w response (case_of_head t e x response w case.FoundsRange here exchange_row is)) by_is
+        part x response w here exchange_row z answer made same
+        (range_brings w response (case_of_head t e x response w case.FoundsRange here exchange_row is)) by_is
 
-    founded : (k : Consumer) (x : ℕ) (response : Response) (w : Exchange) → ev ≡ event.Head x response → t.exchange x ≡ Some w → x ≡ r → how ≡ by.Founding → IsFounded t e c r lo hi how x response w k (case_at t e) → RepFrom t e r p → Served
+    founded : (k : Consumer) (x : ℕ) (response : Response) (w : Exchange) → ev ≡ event.Head x response → t.exchange x ≡ Some w → x ≡ r →
+        how ≡ by.Founding → IsFounded t e c r lo hi how x response w k (case_at t e) → RepFrom t e r p → Served
     founded k x response w here exchange_row of_r by_is is (rep.was v kept) =
         absurd (none_some v (sym (is_new limits t now flaw s ev goes x response w here exchange_row).unfounded ∙ (ap t.representation of_r ∙ kept.row)))
     founded k x response w here exchange_row of_r by_is is (rep.founded answer z none also row_too on made) =
@@ -467,10 +505,13 @@ module _ (step : Step) (m : Measures step.tables) (real : IsReal step.limits ste
     by_way : u.due ≡ None → BoundFrom t e c r lo hi how u → RepFrom t e r p → Served
     by_way none (from.stays k row at) from_it = stays_by k row at none from_it
     by_way none (from.founds k x response w row here exchange_row mine of_r by_is all) from_it = founded k x response w here exchange_row of_r by_is all from_it
-    by_way none (from.opens k q row opens mine free way hole) from_it = opened k q row opens mine (open_free limits t now flaw s ev goes c r k q row.row opens mine free way hole.current_is) hole from_it
+    by_way none (from.opens k q row opens mine free way hole) from_it =
+        opened k q row opens mine (open_free limits t now flaw s ev goes c r k q row.row opens mine free way hole.current_is) hole from_it
     by_way none (from.shows k z row is all) from_it = shown k z row is all from_it
 
   -- Whoever is bound and has nothing due is served.
-  pub served_kept : (r c : ℕ) (p : Representation) (u : Consumer) → now_on.representation r ≡ Some p → IsBound now_on r c u → u.due ≡ None → IsServed now_on r p c u
+  pub served_kept : (r c : ℕ) (p : Representation) (u : Consumer) → now_on.representation r ≡ Some p → IsBound now_on r c u → u.due ≡ None →
+      IsServed now_on r p c u
   served_kept r c p u after (sound.is_bound lo hi how row stands) none =
-      by_way r c lo hi how u p after row stands none (bound_from t e c r lo hi how (t.consumer c) u refl row stands) (rep_from t e r (t.representation r) p refl after)
+      by_way r c lo hi how u p after row stands none (bound_from t e c r lo hi how (t.consumer c) u refl row stands)
+      (rep_from t e r (t.representation r) p refl after)

@@ -13,7 +13,9 @@ use Rattle.hc_rules.specs.Refusals as refusals
 use Rattle.hc_model.specs.Sound as sound
 use Rattle.hc_effects.proofs.{ApartKeeps.{is_on}, Basics.{false_true, number_yes}, Closed.{reversed}, Dues.{stop_none}, FewClosings.{ClosesLittle, closes_nothing}, Frames.{undoomed}, OfConsumers.{one_of, descends_once}, Once.{IsTaken, taken}, ExclusiveWriters.{writer_some}, PieceEffects.{it, piece_goes, piece_brings, rows_by, lost_row}, PieceKeeps.{eq_cases}, SameTables.{is_in, back_from_any, all_closed_is}, Stops.{writer_about}, Sums.{reverse_once}, Tests.{and_false}, ReportedFrames.{pieces, says_little, beside_same, consumer_by, reported_by, reported_does}, Untouched.{IsSpared, loss_spared}, ActParts.{leaver_lost}}
 
-module _ (limits : Limits) (t : Tables) (law : Lawful t) (now x : ℕ) (bytes : List ℕ) (w : Exchange) (row : t.exchange x ≡ Some w) (accepts : denial t (event.Piece x bytes) ≡ None) (r : ℕ) (v : Representation) (of_r : family x w ≡ r) (there : t.representation r ≡ Some v) (kind : LostKind) (on : is_written t v ≡ true) where
+module _ (limits : Limits) (t : Tables) (law : Lawful t) (now x : ℕ) (bytes : List ℕ) (w : Exchange) (row : t.exchange x ≡ Some w)
+    (accepts : denial t (event.Piece x bytes) ≡ None) (r : ℕ) (v : Representation) (of_r : family x w ≡ r) (there : t.representation r ≡ Some v)
+    (kind : LostKind) (on : is_written t v ≡ true) where
   abbrev ev : Rattle.hc_event.specs.declared.event.Event.Event
   ev = event.Piece x bytes
 
@@ -42,7 +44,8 @@ module _ (limits : Limits) (t : Tables) (law : Lawful t) (now x : ℕ) (bytes : 
     where
       by_writer : (o : Option ℕ) → v.writer ≡ o → o ≡ Some x
       by_writer None is = absurd (writer_some t v on is)
-      by_writer (Some y) is = ap Some (law.sound.one_about r y x (writer_about t r y v law.sound there on is) (sound.headed w row taken_so.is_open taken_so.headed of_r (ap is_some there)))
+      by_writer (Some y) is = ap Some
+          (law.sound.one_about r y x (writer_about t r y v law.sound there on is) (sound.headed w row taken_so.is_open taken_so.headed of_r (ap is_some there)))
 
   kept : v.is_lost ≡ false
   kept = (is_on t v x on writer_is).kept
@@ -87,9 +90,11 @@ module _ (limits : Limits) (t : Tables) (law : Lawful t) (now x : ℕ) (bytes : 
         spared q lo hi how u at is = loses_other q u (elim (eq_cases r q) [ inl same ↦ absurd (false_true (sym apart ∙ (ap (is_bound_place r) at ∙ (ap (λ n. nat_eq n r) (sym same.1) ∙ eqb-same r)))) | inr other ↦ other.0 ])
 
     -- who is goes on with the exchange, or fails
-    bound_by : (c lo : ℕ) (hi : Option ℕ) (how : BoundBy) (k : Consumer) → k.place ≡ place.Bound r lo hi how → option_map (beside t (e xs) c) (Some k) ≡ made c (Some k)
+    bound_by : (c lo : ℕ) (hi : Option ℕ) (how : BoundBy) (k : Consumer) → k.place ≡ place.Bound r lo hi how →
+        option_map (beside t (e xs) c) (Some k) ≡ made c (Some k)
     bound_by c lo hi how k at =
-        ap Some (parts (own_after t (e xs) c k.place k.own) (becomes_due t (e xs) c k) (reads k.place) (ap (λ p. own_after t (e xs) c p k.own) at ∙ own_is) (due_by c k ∙ (ap (cause_of_loss t (e xs) c) at ∙ cause_is)) (ap reads at))
+        ap Some (parts (own_after t (e xs) c k.place k.own) (becomes_due t (e xs) c k) (reads k.place)
+        (ap (λ p. own_after t (e xs) c p k.own) at ∙ own_is) (due_by c k ∙ (ap (cause_of_loss t (e xs) c) at ∙ cause_is)) (ap reads at))
         ∙ (by_test (is_detached_reader c) ∙ ap (λ a. Some (if a then left_with r detached_reader (Some x) c k else k)) (sym here))
       where
         here : is_bound_place r k.place ≡ true
@@ -98,16 +103,20 @@ module _ (limits : Limits) (t : Tables) (law : Lawful t) (now x : ℕ) (bytes : 
         own_is : left_to t (e xs) c r (t.representation r) k.own ≡ (if is_detached_reader c then Some x else k.own)
         own_is =
             ap (λ z. left_to t (e xs) c r z k.own) there
-            ∙ (ap (λ a. if a && is_detached_reader c then v.writer else k.own) (loses_it (map act.Close xs)) ∙ ap (λ o. if is_detached_reader c then o else k.own) writer_is)
+            ∙ (ap (λ a. if a && is_detached_reader c then v.writer else k.own) (loses_it (map act.Close xs)) ∙
+            ap (λ o. if is_detached_reader c then o else k.own) writer_is)
 
         cause_is : cause_by_loss t (e xs) c r (t.representation r) ≡ (if not (is_detached_reader c) then why else None)
         cause_is = ap (cause_by_loss t (e xs) c r) there ∙ ap (λ a. if a && not (is_detached_reader c) then why else None) (loses_it (map act.Close xs))
 
-        parts : (own : Option ℕ) (due : Option Cause) (reading : Bool) → own ≡ (if is_detached_reader c then Some x else k.own) → due ≡ (if not (is_detached_reader c) then why else None) → reading ≡ true
-            → record k { own = own; due = if reading then option_or k.due due else None } ≡ record k { own = if is_detached_reader c then Some x else k.own; due = option_or k.due (if not (is_detached_reader c) then why else None) }
+        parts : (own : Option ℕ) (due : Option Cause) (reading : Bool) → own ≡ (if is_detached_reader c then Some x else k.own) →
+            due ≡ (if not (is_detached_reader c) then why else None) → reading ≡ true
+            → record k { own = own; due = if reading then option_or k.due due else None } ≡ record k
+            { own = if is_detached_reader c then Some x else k.own; due = option_or k.due (if not (is_detached_reader c) then why else None) }
         parts own due reading p q h = rw (p, q, h) refl
 
-        by_test : (b : Bool) → Some (record k { own = if b then Some x else k.own; due = option_or k.due (if not b then why else None) }) ≡ Some (if b then record k { own = Some x } else record k { due = option_or k.due why })
+        by_test : (b : Bool) → Some (record k { own = if b then Some x else k.own; due = option_or k.due (if not b then why else None) }) ≡ Some
+            (if b then record k { own = Some x } else record k { due = option_or k.due why })
         by_test true = ap (λ (o : Option Cause). Some (record k { own = Some x; due = o })) (or_nothing k.due)
         by_test false = refl
 
@@ -143,16 +152,25 @@ module _ (limits : Limits) (t : Tables) (law : Lawful t) (now x : ℕ) (bytes : 
               let mine : r ≡ q = sym of_r ∙ (unjoined (law.owned.founders x w u row (ap t.representation same ∙ is)) ∙ same) in
               ap (λ b. b || false) (ap (nat_eq r) (sym mine) ∙ eqb-same r)
 
-      pub loses_shared : Does limits t now ev flaw (map act.Evicted es ++ (act.Lost r kind ∷ map act.Close xs)) (with_event now ev (let_all_go now es (let_go now r (after_by detached_reader (all_closed xs (with_exchange x (Some (with_piece bytes w)) t))))))
+      pub loses_shared : Does limits t now ev flaw (map act.Evicted es ++ (act.Lost r kind ∷ map act.Close xs))
+          (with_event now ev (let_all_go now es (let_go now r (after_by detached_reader (all_closed xs (with_exchange x (Some (with_piece bytes w)) t))))))
       loses_shared =
-          reported_does t now ev (pieces x bytes) flaw xs limits law accepts (let_go now r (after_by detached_reader (all_closed xs (with_exchange x (Some (with_piece bytes w)) t)))) closes
-          (reported_by t now ev (pieces x bytes) flaw xs (r ∷ []) (λ y. if is_in xs y then option_map over (if x == y then Some (with_piece bytes w) else t.exchange y) else (if x == y then Some (with_piece bytes w) else t.exchange y))
-          (λ q. if r == q then Some (lost_to detached_reader (with_stored_bytes false (front w) x bytes v)) else t.representation q) (λ c. made c (t.consumer c))
+          reported_does t now ev (pieces x bytes) flaw xs limits law accepts
+          (let_go now r (after_by detached_reader (all_closed xs (with_exchange x (Some (with_piece bytes w)) t)))) closes
+          (reported_by t now ev (pieces x bytes) flaw xs (r ∷ [])
+          (λ y. if is_in xs y then option_map over (if x == y then Some (with_piece bytes w) else t.exchange y) else
+          (if x == y then Some (with_piece bytes w) else t.exchange y))
+          (λ q. if r == q then Some (lost_to detached_reader (with_stored_bytes false (front w) x bytes v)) else t.representation q)
+          (λ c. made c (t.consumer c))
           (piece_brings limits t law now x bytes w row flaw xs)
-          (rows_by limits t law now x bytes w row flaw xs (r ∷ []) r v (lost_to detached_reader (with_stored_bytes false (front w) x bytes v)) of_r there goes (λ q apart. rw apart refl)
-          (lost_row limits t law now x bytes w row accepts r v of_r there kind kept xs detached_reader (rw (loses_it (map act.Close xs)) refl) (goes r v there ∙ rw (eqb-same r) refl) ∙ rw (eqb-same r) refl))
-          (λ c. consumer_by t now ev (pieces x bytes) flaw xs law (r ∷ []) goes (undoomed t (e xs) refl) c (λ k here. refl) ∙ ap (option_map (back_from_any now (r ∷ []))) (made_so c))
-          ∙ ap (λ (u : Tables). with_event now ev (let_go now r (after_by detached_reader u))) (sym (all_closed_is xs (with_exchange x (Some (with_piece bytes w)) t))))
+          (rows_by limits t law now x bytes w row flaw xs (r ∷ []) r v (lost_to detached_reader (with_stored_bytes false (front w) x bytes v)) of_r there
+          goes (λ q apart. rw apart refl)
+          (lost_row limits t law now x bytes w row accepts r v of_r there kind kept xs detached_reader (rw (loses_it (map act.Close xs)) refl)
+          (goes r v there ∙ rw (eqb-same r) refl) ∙ rw (eqb-same r) refl))
+          (λ c. consumer_by t now ev (pieces x bytes) flaw xs law (r ∷ []) goes (undoomed t (e xs) refl) c (λ k here. refl) ∙
+          ap (option_map (back_from_any now (r ∷ []))) (made_so c))
+          ∙ ap (λ (u : Tables). with_event now ev (let_go now r (after_by detached_reader u)))
+          (sym (all_closed_is xs (with_exchange x (Some (with_piece bytes w)) t))))
 
   -- ONE GOES ON
 
@@ -164,15 +182,20 @@ module _ (limits : Limits) (t : Tables) (law : Lawful t) (now x : ℕ) (bytes : 
       survives = λ y q. some_survives y q (t.representation q) refl;
     }
       where
-        some_survives : (y q : ℕ) (z : Option Representation) → t.representation q ≡ z → has_no_survivor t (record { now = now; event = ev; acts = loss_acts flaw }) y q z ≡ false
+        some_survives : (y q : ℕ) (z : Option Representation) → t.representation q ≡ z →
+            has_no_survivor t (record { now = now; event = ev; acts = loss_acts flaw }) y q z ≡ false
         some_survives y q z is = grind (arith, nat_tests)
 
     -- it has the exchange for its own, and the others fail
     pub goes_on : Does limits t now ev flaw (map act.Evicted (evicted limits t now ev) ++ (act.Lost r kind ∷ []))
-        (with_event now ev (let_all_go now (evicted limits t now ev) (let_go now r (with_representation r (Some (lost_to (Some d) (with_stored_bytes false (front w) x bytes v))) (group_lost r (Some d) (Some x) (with_exchange x (Some (with_piece bytes w)) t))))))
+        (with_event now ev (let_all_go now (evicted limits t now ev)
+        (let_go now r (with_representation r (Some (lost_to (Some d) (with_stored_bytes false (front w) x bytes v)))
+        (group_lost r (Some d) (Some x) (with_exchange x (Some (with_piece bytes w)) t))))))
     goes_on =
-        subst (λ (o : Option ℕ). Does limits t now ev flaw (map act.Evicted (evicted limits t now ev) ++ (act.Lost r kind ∷ [])) (with_event now ev (let_all_go now (evicted limits t now ev) (let_go now r (after_by o (with_exchange x (Some (with_piece bytes w)) t)))))) survives
-        (loses_shared [] (closes_nothing t (record { now = now; event = ev; acts = loss_acts flaw }) little (leaver_lost flaw)) (λ q shut. absurd (false_true shut)))
+        subst (λ (o : Option ℕ). Does limits t now ev flaw (map act.Evicted (evicted limits t now ev) ++ (act.Lost r kind ∷ []))
+        (with_event now ev (let_all_go now (evicted limits t now ev) (let_go now r (after_by o (with_exchange x (Some (with_piece bytes w)) t)))))) survives
+        (loses_shared [] (closes_nothing t (record { now = now; event = ev; acts = loss_acts flaw }) little (leaver_lost flaw))
+        (λ q shut. absurd (false_true shut)))
 
   -- NOBODY CAN
 
@@ -188,7 +211,10 @@ module _ (limits : Limits) (t : Tables) (law : Lawful t) (now x : ℕ) (bytes : 
 
     closes_it : closes_row t b x (t.exchange x) ≡ is_number left x
     closes_it =
-        let no_one : has_no_survivor t b x (family x w) (t.representation (family x w)) ≡ true = ap (λ n. has_no_survivor t b x n (t.representation n)) of_r ∙ (ap (has_no_survivor t b x r) there ∙ and_both _ _ (and_both _ _ (number_yes v.writer x writer_is) (loses_it [])) (ap (λ (o : Option ℕ). is_none o) nobody)) in
+        let no_one : has_no_survivor t b x (family x w) (t.representation (family x w)) ≡ true =
+        ap (λ n. has_no_survivor t b x n (t.representation n)) of_r ∙
+        (ap (has_no_survivor t b x r) there ∙
+        and_both _ _ (and_both _ _ (number_yes v.writer x writer_is) (loses_it [])) (ap (λ (o : Option ℕ). is_none o) nobody)) in
         ap (closes_row t b x) row
         ∙ rw ((says_little t now ev (pieces x bytes)).caseless (loss_acts flaw), undoomed t b refl, no_one, eqb-same x) (by_test (with_piece bytes w).is_open)
       where
@@ -210,20 +236,27 @@ module _ (limits : Limits) (t : Tables) (law : Lawful t) (now x : ℕ) (bytes : 
         some_writes q (Some u) is other = elim (eq_cases r q) [
           | inr apart ↦ and_false _ (is_none (survivor t q u)) (then_false (is_number u.writer y) (loses_group t (e []) q u) (loses_other [] q u apart.0))
           | inl same ↦
-              let writes : is_number u.writer y ≡ false = ap (λ (p : Representation). is_number p.writer y) (same_row (t.representation q) u v is (sym (ap t.representation same.1) ∙ there)) ∙ (ap (λ o. is_number o y) writer_is ∙ other) in
+              let writes : is_number u.writer y ≡ false =
+              ap (λ (p : Representation). is_number p.writer y) (same_row (t.representation q) u v is (sym (ap t.representation same.1) ∙ there)) ∙
+              (ap (λ o. is_number o y) writer_is ∙ other) in
               and_false _ (is_none (survivor t q u)) (and_false (is_number u.writer y) (loses_group t b q u) writes)
         ]
 
         by_row : (z : Option Exchange) → nat_eq x y ≡ false → closes_row t b y z ≡ is_number left y
         by_row None other = sym (off other)
         by_row (Some u) other =
-            rw ((says_little t now ev (pieces x bytes)).caseless (loss_acts flaw), undoomed t b refl, some_writes (family y u) (t.representation (family y u)) refl other) (sym (off other))
+            rw (
+              (says_little t now ev (pieces x bytes)).caseless (loss_acts flaw),
+              undoomed t b refl,
+              some_writes (family y u) (t.representation (family y u)) refl other,
+            ) (sym (off other))
 
     closing_is : closing t b ≡ unless_reached x bytes w
     unfolding closing
     closing_is =
         ap (λ (test : ℕ → Bool). filter test (reverse t.openings)) (fun_ext closes_as)
-        ∙ (one_of left (reverse t.openings) (reverse_once t.openings (descends_once (t.opened + 1) t.openings law.order.openings)) (λ y at. reversed y t.openings (law.sound.numbered.lists.opened y (is_there y (some_is (with_piece bytes w).is_open y at)))) ∙ left_is)
+        ∙ (one_of left (reverse t.openings) (reverse_once t.openings (descends_once (t.opened + 1) t.openings law.order.openings))
+        (λ y at. reversed y t.openings (law.sound.numbered.lists.opened y (is_there y (some_is (with_piece bytes w).is_open y at)))) ∙ left_is)
       where
         some_is : (a : Bool) (y : ℕ) → (if a then Some x else None) ≡ Some y → x ≡ y
         some_is true y at = some_inj x y at
@@ -237,7 +270,12 @@ module _ (limits : Limits) (t : Tables) (law : Lawful t) (now x : ℕ) (bytes : 
 
     -- all fail, and the exchange is closed that this piece leaves open
     pub all_fail : Does limits t now ev flaw (map act.Evicted (evicted limits t now ev) ++ (act.Lost r kind ∷ map act.Close (unless_reached x bytes w)))
-        (with_event now ev (let_all_go now (evicted limits t now ev) (let_go now r (with_representation r (Some (lost_to None (with_stored_bytes false (front w) x bytes v))) (group_lost r None (Some x) (all_closed (unless_reached x bytes w) (with_exchange x (Some (with_piece bytes w)) t)))))))
+        (with_event now ev (let_all_go now (evicted limits t now ev)
+        (let_go now r (with_representation r (Some (lost_to None (with_stored_bytes false (front w) x bytes v)))
+        (group_lost r None (Some x) (all_closed (unless_reached x bytes w) (with_exchange x (Some (with_piece bytes w)) t)))))))
     all_fail =
-        subst (λ (o : Option ℕ). Does limits t now ev flaw (map act.Evicted (evicted limits t now ev) ++ (act.Lost r kind ∷ map act.Close (unless_reached x bytes w))) (with_event now ev (let_all_go now (evicted limits t now ev) (let_go now r (after_by o (all_closed (unless_reached x bytes w) (with_exchange x (Some (with_piece bytes w)) t))))))) nobody
+        subst (λ (o : Option ℕ). Does limits t now ev flaw
+        (map act.Evicted (evicted limits t now ev) ++ (act.Lost r kind ∷ map act.Close (unless_reached x bytes w)))
+        (with_event now ev (let_all_go now (evicted limits t now ev)
+        (let_go now r (after_by o (all_closed (unless_reached x bytes w) (with_exchange x (Some (with_piece bytes w)) t))))))) nobody
         (loses_shared (unless_reached x bytes w) closing_is only_it)

@@ -8,7 +8,8 @@ use Rattle.hc_effects.proofs.{Basics.{false_true}, OfConsumers.{BringsNothing, b
 use Rattle.hc_effects.proofs.OfConsumers as event_of
 use Rattle.hc_effects.proofs.PollEffects as polls
 
-module _ (limits : Limits) (t : Tables) (law : Lawful t) (now c want : ℕ) (k : Consumer) (row : t.consumer c ≡ Some k) (r : ℕ) (why : Why) (head : Response) (lo : ℕ) (hi : Option ℕ) (is : move_of t now want c k ≡ Shows r why head lo hi) where
+module _ (limits : Limits) (t : Tables) (law : Lawful t) (now c want : ℕ) (k : Consumer) (row : t.consumer c ≡ Some k) (r : ℕ) (why : Why)
+    (head : Response) (lo : ℕ) (hi : Option ℕ) (is : move_of t now want c k ≡ Shows r why head lo hi) where
   abbrev e : Entry
   e = record { now = now; event = event.Poll c want; acts = acts_of c (Shows r why head lo hi) }
 
@@ -23,7 +24,8 @@ module _ (limits : Limits) (t : Tables) (law : Lawful t) (now c want : ℕ) (k :
     binds_none : to_front (binds t e) t.used ≡ t.used
     binds_none = let nobody : binds t e ≡ None = binds_as t e c nothing ∙ rw (row, reading) refl in ap (λ (z : Option ℕ). to_front z t.used) nobody
 
-    pub shows_reader : Does limits t now (event.Poll c want) NoFlaw (acts_of c (Shows r why head lo hi)) (with_event now (event.Poll c want) (with_consumer c (Some (record k { shown = true })) t))
+    pub shows_reader : Does limits t now (event.Poll c want) NoFlaw (acts_of c (Shows r why head lo hi))
+        (with_event now (event.Poll c want) (with_consumer c (Some (record k { shown = true })) t))
     shows_reader =
         poll_does limits t law now c want k row (Shows r why head lo hi) (polls.shows r why head lo hi) is []
         (nothing_goes limits t law now c want k row (Shows r why head lo hi) (polls.shows r why head lo hi) is refl)
@@ -39,7 +41,8 @@ module _ (limits : Limits) (t : Tables) (law : Lawful t) (now c want : ℕ) (k :
     binds_it : to_front (binds t e) t.used ≡ to_front (Some r) t.used
     binds_it = let it : binds t e ≡ Some r = binds_as t e c nothing ∙ rw (row, idle) refl in ap (λ (z : Option ℕ). to_front z t.used) it
 
-    pub shows_new : Does limits t now (event.Poll c want) NoFlaw (acts_of c (Shows r why head lo hi)) (with_event now (event.Poll c want) (used_last r (with_consumer c (Some (record k { place = place.Bound r lo hi by.Plan; shown = true })) t)))
+    pub shows_new : Does limits t now (event.Poll c want) NoFlaw (acts_of c (Shows r why head lo hi))
+        (with_event now (event.Poll c want) (used_last r (with_consumer c (Some (record k { place = place.Bound r lo hi by.Plan; shown = true })) t)))
     shows_new =
         poll_does limits t law now c want k row (Shows r why head lo hi) (polls.shows r why head lo hi) is []
         (nothing_goes limits t law now c want k row (Shows r why head lo hi) (polls.shows r why head lo hi) is refl)

@@ -29,7 +29,8 @@ pub record IsCandidate (t : Tables) (k : Consumer) (s : Candidate) : Type 0 wher
   pub exclusive_is : s.exclusive ≡ exclusive t r v
 
 module _ (t : Tables) (now c : ℕ) (k : Consumer) where
-  by_row : (r : ℕ) (o : Option Representation) (s : Candidate) → current t k.request.key ≡ Some r → t.representation r ≡ o → option_map (λ v. candidate t now r k.request v) o ≡ Some s → IsCandidate t k s
+  by_row : (r : ℕ) (o : Option Representation) (s : Candidate) → current t k.request.key ≡ Some r → t.representation r ≡ o →
+      option_map (λ v. candidate t now r k.request v) o ≡ Some s → IsCandidate t k s
   by_row r None s is row at = absurd (none_some s at)
   by_row r (Some v) s is row at =
       let same = some_inj (candidate t now r k.request v) s at in
@@ -56,8 +57,11 @@ module _ (t : Tables) (now c : ℕ) (k : Consumer) where
 
   -- it is shown r from lo to hi
   pub data ShownAs (r lo : ℕ) (hi : Option ℕ) : Type 0 where
-    joins : (v : Representation) → current t k.request.key ≡ Some r → t.representation r ≡ Some v → is_written t v ≡ true → lo ≡ 0 → hi ≡ v.head.total → ShownAs r lo hi
-    stored : (v : Representation) (span : Span) → current t k.request.key ≡ Some r → t.representation r ≡ Some v → is_written t v ≡ false → wanted_of (range_of k.request) v.head.total ≡ wanted.Interval span → first_hole v.stored v.reach span ≡ None → lo ≡ span.lo → hi ≡ Some span.hi → ShownAs r lo hi
+    joins : (v : Representation) → current t k.request.key ≡ Some r → t.representation r ≡ Some v → is_written t v ≡ true → lo ≡ 0 → hi ≡ v.head.total →
+        ShownAs r lo hi
+    stored : (v : Representation) (span : Span) → current t k.request.key ≡ Some r → t.representation r ≡ Some v → is_written t v ≡ false →
+        wanted_of (range_of k.request) v.head.total ≡ wanted.Interval span → first_hole v.stored v.reach span ≡ None → lo ≡ span.lo → hi ≡ Some span.hi →
+        ShownAs r lo hi
 
   -- where r isn't written for several, nobody writes it alone
   abbrev pub IsFreeOf : ℕ → Type 0
@@ -83,7 +87,8 @@ module _ (t : Tables) (now c : ℕ) (k : Consumer) where
     stored_shows q y ranged a b None is = absurd (nothing_shows is)
     stored_shows q y ranged a b (Some v) is = record { number = cc; from = cc; to = cc }
 
-    joined : (y : Why) (s : plans.JoinsGroup (plan_view t now c k)) (o : Option ℕ) → current t k.request.key ≡ o → binds_current t k y None o ≡ show → ShownAs r lo hi × IsFreeOf r
+    joined : (y : Why) (s : plans.JoinsGroup (plan_view t now c k)) (o : Option ℕ) → current t k.request.key ≡ o → binds_current t k y None o ≡ show →
+        ShownAs r lo hi × IsFreeOf r
     joined y j None at is = absurd (nothing_shows is)
     joined y j (Some q) at is =
         let a = candidate_is j.s j.current in
@@ -97,7 +102,8 @@ module _ (t : Tables) (now c : ℕ) (k : Consumer) where
           λ v there off. absurd (false_true (sym off ∙ (ap (is_written t) (same_row (t.representation r) v a.v there row) ∙ on))),
         )
 
-    read : (y : Why) (span : Span) (j : plans.IsAlone (plan_view t now c k) span None) (o : Option ℕ) → current t k.request.key ≡ o → binds_current t k y (Some span) o ≡ show → ShownAs r lo hi × IsFreeOf r
+    read : (y : Why) (span : Span) (j : plans.IsAlone (plan_view t now c k) span None) (o : Option ℕ) → current t k.request.key ≡ o →
+        binds_current t k y (Some span) o ≡ show → ShownAs r lo hi × IsFreeOf r
     read y span j None at is = absurd (nothing_shows is)
     read y span j (Some q) at is =
         let a = candidate_is j.s j.current in
@@ -106,8 +112,10 @@ module _ (t : Tables) (now c : ℕ) (k : Consumer) where
         let same : a.r ≡ r = sym one ∙ shown.number in
         let row : t.representation r ≡ Some a.v = ap t.representation (sym same) ∙ a.row in
         let hole : first_hole a.v.stored a.v.reach span ≡ None = sym (ap (hole_of a.v) j.wanted_is) ∙ (sym a.hole_is ∙ j.hole_is) in (
-          stored a.v span (at ∙ ap Some shown.number) row (sym a.writer_group_is ∙ j.unwritten) (sym a.span_is ∙ j.wanted_is) hole (sym shown.from) (sym shown.to),
-          λ v there off. ap (exclusive t r) (same_row (t.representation r) v a.v there row) ∙ (ap (λ n. exclusive t n a.v) (sym same) ∙ (sym a.exclusive_is ∙ j.nobody)),
+          stored a.v span (at ∙ ap Some shown.number) row (sym a.writer_group_is ∙ j.unwritten) (sym a.span_is ∙ j.wanted_is) hole (sym shown.from)
+              (sym shown.to),
+          λ v there off. ap (exclusive t r) (same_row (t.representation r) v a.v there row) ∙
+              (ap (λ n. exclusive t n a.v) (sym same) ∙ (sym a.exclusive_is ∙ j.nobody)),
         )
 
     cached_is : (plan_view t now c k).class.disabled ≡ false → is_disabled k.request ≡ false
@@ -128,14 +136,17 @@ module _ (t : Tables) (now c : ℕ) (k : Consumer) where
     unread : (p : Place) → reads p ≡ false → shows_at t k p ≡ Some show → ⊥
     unread p free is = grind (arith, nat_tests)
 
-    by_move : (want : ℕ) (m : Move) → MoveBy t now want c k m → m ≡ move_of t now want c k → m ≡ show → reads k.place ≡ false → (k.shown ≡ false) × (bound_to k.place ≡ None) × IsHeard t k × ((is_disabled k.request ≡ false) × ShownAs r lo hi × IsFreeOf r)
+    by_move : (want : ℕ) (m : Move) → MoveBy t now want c k m → m ≡ move_of t now want c k → m ≡ show → reads k.place ≡ false → (k.shown ≡ false) ×
+        (bound_to k.place ≡ None) × IsHeard t k × ((is_disabled k.request ≡ false) × ShownAs r lo hi × IsFreeOf r)
     by_move want m (by.shows _ shown at) here is free = absurd (unread k.place free (at ∙ ap Some is))
     by_move want _ (by.waits x own bare) here is free = absurd (let never : moves.Waits (wait.Head x) ≡ show = is in cc)
     by_move want _ (by.down why_down at) here is free = absurd (let never : Fails why_down ≡ show = is in cc)
     by_move want _ (by.over at) here is free = absurd (nothing_shows is)
     by_move want _ (by.reads shown heard) here is free =
-        absurd (let none : is_showing (move_of t now want c k) ≡ false = shown_shows t now want c k shown in let some : is_showing (move_of t now want c k) ≡ true = ap is_showing (sym here ∙ is) in let never : false ≡ true = sym none ∙ some in cc)
-    by_move want _ (by.plans shown bound none heard) here is free = (shown, bound, heard, by_plan (plan_of (plan_view t now c k)) (plan_by (plan_view t now c k)) is)
+        absurd (let none : is_showing (move_of t now want c k) ≡ false = shown_shows t now want c k shown in
+        let some : is_showing (move_of t now want c k) ≡ true = ap is_showing (sym here ∙ is) in let never : false ≡ true = sym none ∙ some in cc)
+    by_move want _ (by.plans shown bound none heard) here is free =
+        (shown, bound, heard, by_plan (plan_of (plan_view t now c k)) (plan_by (plan_view t now c k)) is)
 
   pub showing_is : (z : Showing) (m : Move) → IsShowing z m → (why : Why) × (head : Response) × (m ≡ Shows z.r why head z.lo z.hi)
   showing_is z _ (said.shows why head) = (why, head, refl)

@@ -33,7 +33,9 @@ later_shows t k hole (Some hi) = hole_as ShowsNone refl t k.request hole _ (λ v
 
 -- a step shows nothing
 step_shows : (t : Tables) (want c : ℕ) (k : Consumer) (s : ReadStep) → ShowsNone (step_move t want c k s)
-step_shows t want c k s = step_as ShowsNone refl t want c k refl (λ run. refl) s (λ cause. refl) (λ x. waits_as ShowsNone refl x refl refl (t.exchange x)) (λ hole at. later_shows t k hole _)
+step_shows t want c k s =
+    step_as ShowsNone refl t want c k refl (λ run. refl) s (λ cause. refl) (λ x. waits_as ShowsNone refl x refl refl (t.exchange x))
+    (λ hole at. later_shows t k hole _)
 
 -- a plan gives nothing
 plan_gives : (t : Tables) (k : Consumer) (p : Plan) → GivesNone (plan_move t k p)
@@ -54,7 +56,8 @@ pub shown_shows : (t : Tables) (now want c : ℕ) (k : Consumer) → k.shown ≡
 shown_shows t now want c k shown =
     let rest = or_shows (option_and_then (if_headless t) (own_open t k)) (by_place t now want c k k.place) (place_shows t now want c k k.place shown) in
     let none : shows_head t k ≡ None = cond_true k.shown None (shows_at t k k.place) shown in
-    ap (λ (o : Option Move). is_showing (or_else o (or_else (waits_for_head (option_and_then (if_headless t) (own_open t k))) (by_place t now want c k k.place)))) none ∙ rest
+    ap (λ (o : Option Move). is_showing
+    (or_else o (or_else (waits_for_head (option_and_then (if_headless t) (own_open t k))) (by_place t now want c k k.place)))) none ∙ rest
 
 -- whoever was shown none is given nothing
 place_gives : (t : Tables) (now want c : ℕ) (k : Consumer) (p : Place) → k.shown ≡ false → is_giving (by_place t now want c k p) ≡ false
@@ -85,15 +88,19 @@ pub record IsShownWell (t : Tables) (c : ℕ) (acts : List Act) : Type 0 where
   pub again : (k : Consumer) → t.consumer c ≡ Some k → k.shown ≡ true → shown_in c acts ≡ []
   pub before : (k : Consumer) → t.consumer c ≡ Some k → k.shown ≡ false → given_in c acts ≡ []
 
-well_move : (t : Tables) (now want c : ℕ) (o : Option Consumer) (rest : List Act) → t.consumer c ≡ o → shown_in c rest ≡ [] → given_in c rest ≡ [] → IsShownWell t c (acts_of c (poll_move t now want c o) ++ rest)
+well_move : (t : Tables) (now want c : ℕ) (o : Option Consumer) (rest : List Act) → t.consumer c ≡ o → shown_in c rest ≡ [] → given_in c rest ≡ [] →
+    IsShownWell t c (acts_of c (poll_move t now want c o) ++ rest)
 well_move t now want c None rest row shows gives = record { one = rw shows (omega arith); again = λ k is shown. shows; before = λ k is shown. gives }
 well_move t now want c (Some u) rest row shows gives = record {
   one = acts_show c c (move_of t now want c u) rest shows;
-  again = λ k is shown. acts_unshown c c (move_of t now want c u) rest (shown_shows t now want c u (ap (λ (z : Consumer). z.shown) (same_row (t.consumer c) u k row is) ∙ shown)) shows;
-  before = λ k is shown. acts_ungiven c c (move_of t now want c u) rest (unshown_gives t now want c u (ap (λ (z : Consumer). z.shown) (same_row (t.consumer c) u k row is) ∙ shown)) gives;
+  again = λ k is shown. acts_unshown c c (move_of t now want c u) rest
+      (shown_shows t now want c u (ap (λ (z : Consumer). z.shown) (same_row (t.consumer c) u k row is) ∙ shown)) shows;
+  before = λ k is shown. acts_ungiven c c (move_of t now want c u) rest
+      (unshown_gives t now want c u (ap (λ (z : Consumer). z.shown) (same_row (t.consumer c) u k row is) ∙ shown)) gives;
 }
 
-well_poll : (t : Tables) (now want c : ℕ) (flaw : Flaw) (rest : List Act) → shown_in c rest ≡ [] → given_in c rest ≡ [] → IsShownWell t c (poll_acts t now want c flaw ++ rest)
+well_poll : (t : Tables) (now want c : ℕ) (flaw : Flaw) (rest : List Act) → shown_in c rest ≡ [] → given_in c rest ≡ [] →
+    IsShownWell t c (poll_acts t now want c flaw ++ rest)
 well_poll t now want c (Misreads r) rest shows gives = record { one = rw shows (omega arith); again = λ k is shown. shows; before = λ k is shown. gives }
 well_poll t now want c _ rest shows gives = well_move t now want c (t.consumer c) rest refl shows gives
 
@@ -109,11 +116,17 @@ well_far t c acts f = record { one = rw (unshown_of c acts f) (omega arith); aga
 module _ (limits : Limits) (t : Tables) (now c : ℕ) (flaw : Flaw) where
   pub by_event : (event : Event) → IsShownWell t c (accepted_acts limits t now event flaw)
   by_event (event.Poll d want) = elim (eq_cases d c) [
-    | inr other ↦ well_far t c _ (far_poll t now want c d flaw _ other.0 (far_closes c (closing t (record { now = now; event = event.Poll d want; acts = poll_acts t now want d flaw ++ loss_acts flaw })) (loss_acts flaw) (far_lost c flaw)))
+    | inr other ↦ well_far t c _
+        (far_poll t now want c d flaw _ other.0
+        (far_closes c (closing t (record { now = now; event = event.Poll d want; acts = poll_acts t now want d flaw ++ loss_acts flaw })) (loss_acts flaw)
+        (far_lost c flaw)))
     | inl here ↦
-        let rest = map act.Close (closing t (record { now = now; event = event.Poll d want; acts = poll_acts t now want d flaw ++ loss_acts flaw })) ++ loss_acts flaw in
-        let f = far_closes c (closing t (record { now = now; event = event.Poll d want; acts = poll_acts t now want d flaw ++ loss_acts flaw })) (loss_acts flaw) (far_lost c flaw) in
+        let rest = map act.Close (closing t (record { now = now; event = event.Poll d want; acts = poll_acts t now want d flaw ++ loss_acts flaw })) ++
+        loss_acts flaw in
+        let f = far_closes c (closing t (record { now = now; event = event.Poll d want; acts = poll_acts t now want d flaw ++ loss_acts flaw }))
+        (loss_acts flaw) (far_lost c flaw) in
         subst (λ n. IsShownWell t c (poll_acts t now want n flaw ++ rest)) (sym here.1) (well_poll t now want c flaw rest (unshown_of c rest f) f.gives)
   ]
-  by_event (event.Cancel d) = well_far t c _ (far_closes c (closing t (record { now = now; event = event.Cancel d; acts = loss_acts flaw })) (loss_acts flaw) (far_lost c flaw))
+  by_event (event.Cancel d) =
+      well_far t c _ (far_closes c (closing t (record { now = now; event = event.Cancel d; acts = loss_acts flaw })) (loss_acts flaw) (far_lost c flaw))
   by_event ev = well_far t c _ (far_reported limits t now c flaw ev)

@@ -87,9 +87,11 @@ module _ (step : Step) where
       by_case _ _ = same refl
 
       headed_stays : Stays (place_by_case x response w k (case_at t e))
-      headed_stays = rw (case_is t e x response w here exchange_row) (by_case (head_case (head_view t (has_loss e.acts) w response)) (case_by (head_view t (has_loss e.acts) w response)))
+      headed_stays = rw (case_is t e x response w here exchange_row)
+          (by_case (head_case (head_view t (has_loss e.acts) w response)) (case_by (head_view t (has_loss e.acts) w response)))
 
-    head_stays : (x : ℕ) (response : Response) (z : Option Exchange) → ev ≡ event.Head x response → t.exchange x ≡ z → Stays (by_head t e c x response z k).place
+    head_stays : (x : ℕ) (response : Response) (z : Option Exchange) → ev ≡ event.Head x response → t.exchange x ≡ z →
+        Stays (by_head t e c x response z k).place
     head_stays x response None here exchange_row = same refl
     head_stays x response (Some w) here exchange_row = elim (eq_cases w.c c) [
       | inr off ↦ rw off.0 (same refl)
@@ -155,7 +157,9 @@ module _ (step : Step) where
     left_stays false p st = st
 
     acted_stays : Stays (consumer_acted t e c (consumer_heard t e c ev k)).place
-    acted_stays = left_stays (leaves_in c e.acts) _ (shows_stays _ (showing_in e.acts) refl (opens_stays (opening_in e.acts) refl (waits_stays (consumer_heard t e c ev k) (wait_in c e.acts) (heard_stays ev refl))))
+    acted_stays = left_stays (leaves_in c e.acts) _
+        (shows_stays _ (showing_in e.acts) refl
+        (opens_stays (opening_in e.acts) refl (waits_stays (consumer_heard t e c ev k) (wait_in c e.acts) (heard_stays ev refl))))
 
     settled_stays : (over : Bool) (q : Consumer) → Stays q.place → Stays (cond over (back_in_line e.now q) (due_after t e c k q)).place
     settled_stays true q st = idle tt
@@ -165,11 +169,14 @@ module _ (step : Step) where
     shown_stays u after =
         let on_row = is_kept t e c k row in
         let one : on_row.u ≡ u = same_row (now_on.consumer c) on_row.u u on_row.row after in
-        subst (λ (q : Consumer). Stays q.place) (on_row.is ∙ one) (settled_stays (starts_over t e c k) (consumer_acted t e c (consumer_heard t e c ev k)) acted_stays)
+        subst (λ (q : Consumer). Stays q.place) (on_row.is ∙ one)
+        (settled_stays (starts_over t e c k) (consumer_acted t e c (consumer_heard t e c ev k)) acted_stays)
 
   -- WHO IS SHOWN ONE
 
-  module _ (c want : ℕ) (k : Consumer) (row : t.consumer c ≡ Some k) (at : ev ≡ event.Poll c want) (r : ℕ) (why : Why) (head : Response) (lo : ℕ) (hi : Option ℕ) (move_is : move_of t now want c k ≡ Shows r why head lo hi) (reported : showing_in e.acts ≡ Some (record { c = c; r = r; lo = lo; hi = hi })) where
+  module _ (c want : ℕ) (k : Consumer) (row : t.consumer c ≡ Some k) (at : ev ≡ event.Poll c want) (r : ℕ) (why : Why) (head : Response) (lo : ℕ)
+      (hi : Option ℕ) (move_is : move_of t now want c k ≡ Shows r why head lo hi)
+      (reported : showing_in e.acts ≡ Some (record { c = c; r = r; lo = lo; hi = hi })) where
     one_move : (d n : ℕ) (q : Consumer) → ev ≡ event.Poll d n → t.consumer d ≡ Some q → (c ≡ d) × (move_of t now n d q ≡ Shows r why head lo hi)
     one_move d n q is there = grind (arith, nat_tests)
 
@@ -179,14 +186,16 @@ module _ (step : Step) where
 
     waits_none : (z : Option Wait) → wait_in c e.acts ≡ z → z ≡ None
     waits_none None is = refl
-    waits_none (Some z) is = absurd (let w = waiting_by limits t now flaw s ev goes c z is in waits_not z _ w.move (one_move c w.want w.k w.poll.at w.poll.row).1)
+    waits_none (Some z) is =
+        absurd (let w = waiting_by limits t now flaw s ev goes c z is in waits_not z _ w.move (one_move c w.want w.k w.poll.at w.poll.row).1)
 
     opens_not : (p : Opening) (m : Move) → IsOpening p m → m ≡ Shows r why head lo hi → ⊥
     opens_not p _ said.opens is = cc
 
     opens_none : (z : Option Opening) → opening_in e.acts ≡ z → z ≡ None
     opens_none None is = refl
-    opens_none (Some p) is = absurd (let w = opening_by limits t now flaw s ev goes p is in opens_not p _ w.move (one_move p.c w.want w.k w.poll.at w.poll.row).1)
+    opens_none (Some p) is =
+        absurd (let w = opening_by limits t now flaw s ev goes p is in opens_not p _ w.move (one_move p.c w.want w.k w.poll.at w.poll.row).1)
 
     abbrev lands : Place → Type 0
     lands q = Lands k.place q r lo hi
@@ -203,8 +212,10 @@ module _ (step : Step) where
         let heard : consumer_heard t e c ev k ≡ k = ap (λ v. consumer_heard t e c v k) at in
         let no_wait : wait_in c e.acts ≡ None = waits_none (wait_in c e.acts) refl in
         let no_opening : opening_in e.acts ≡ None = opens_none (opening_in e.acts) refl in
-        let waits : waiting_place t (consumer_heard t e c ev k) (wait_in c e.acts) ≡ k.place = ap (waiting_place t (consumer_heard t e c ev k)) no_wait ∙ ap (λ (q : Consumer). q.place) heard in
-        let opened_as : (by_opening t c (opening_in e.acts) (waiting t e c (consumer_heard t e c ev k))).place ≡ k.place = ap (λ z. (by_opening t c z (waiting t e c (consumer_heard t e c ev k))).place) no_opening ∙ waits in
+        let waits : waiting_place t (consumer_heard t e c ev k) (wait_in c e.acts) ≡ k.place = ap (waiting_place t (consumer_heard t e c ev k)) no_wait ∙
+        ap (λ (q : Consumer). q.place) heard in
+        let opened_as : (by_opening t c (opening_in e.acts) (waiting t e c (consumer_heard t e c ev k))).place ≡ k.place =
+        ap (λ z. (by_opening t c z (waiting t e c (consumer_heard t e c ev k))).place) no_opening ∙ waits in
         left_lands (leaves_in c e.acts) _ (rw reported (shown_lands _ opened_as))
 
     settled_lands : (over : Bool) (q : Consumer) → lands q.place → lands (cond over (back_in_line e.now q) (due_after t e c k q)).place
@@ -215,4 +226,5 @@ module _ (step : Step) where
     shown_at u after =
         let on_row = is_kept t e c k row in
         let one : on_row.u ≡ u = same_row (now_on.consumer c) on_row.u u on_row.row after in
-        subst (λ (q : Consumer). lands q.place) (on_row.is ∙ one) (settled_lands (starts_over t e c k) (consumer_acted t e c (consumer_heard t e c ev k)) acted_lands)
+        subst (λ (q : Consumer). lands q.place) (on_row.is ∙ one)
+        (settled_lands (starts_over t e c k) (consumer_acted t e c (consumer_heard t e c ev k)) acted_lands)

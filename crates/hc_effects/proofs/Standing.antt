@@ -32,7 +32,8 @@ module _ (limits : Limits) (t : Tables) (now : ℕ) (ev : Event) (flaw : Flaw) (
   far_answer _ (parts.reported silent) = far_evicted c (evicted limits t now ev) _ far_reported
   far_answer _ parts.asked = far_asked
 
-  far_if : (b : Bool) → IsFarFrom c (if b then answer_acts t now ev flaw ++ (close_acts t now ev flaw ++ loss_acts flaw) else loss_acts flaw ++ close_acts t now ev flaw)
+  far_if : (b : Bool) → IsFarFrom c (if b then answer_acts t now ev flaw ++ (close_acts t now ev flaw ++ loss_acts flaw) else loss_acts flaw ++
+      close_acts t now ev flaw)
   far_if true = far_asked
   far_if false = far_reported
 
@@ -68,7 +69,8 @@ module _ (t : Tables) (e : Entry) (c : ℕ) (k : Consumer) (far : IsFarFrom c e.
   acted = ap out (opened (opening_in e.acts) (waiting t e c k) refl ∙ waited) ∙ came_out
 
   -- who hears nothing
-  pub after_heard : consumer_heard t e c e.event k ≡ k → (z : Option Consumer) → z ≡ Some k → consumer_after t e c z ≡ Some (if starts_over t e c k then back_in_line e.now k else beside t e c k)
+  pub after_heard : consumer_heard t e c e.event k ≡ k → (z : Option Consumer) → z ≡ Some k →
+      consumer_after t e c z ≡ Some (if starts_over t e c k then back_in_line e.now k else beside t e c k)
   unfolding consumer_after
   after_heard quiet z is = grind (arith, nat_tests)
 
@@ -86,7 +88,8 @@ standing limits t now ev flaw _ frames.unevicting = (refl, refl)
 pub standers_stay : StandersStay
 standers_stay limits t now ev flaw e is c k row off =
     let same = standing limits t now ev flaw e is in
-    after_row t e c k (far_by limits t now ev flaw c (λ d want at. sym (ap (is_event_for t c) at) ∙ off) e is) (ap (is_event_for t c) same.1 ∙ off) (t.consumer c) row
+    after_row t e c k (far_by limits t now ev flaw c (λ d want at. sym (ap (is_event_for t c) at) ∙ off) e is) (ap (is_event_for t c) same.1 ∙ off)
+    (t.consumer c) row
     ∙ ap (λ moment. Some (if starts_over t e c k then back_in_line moment k else beside t e c k)) same.0
 
 -- WHY IT STARTS OVER
@@ -105,7 +108,8 @@ module _ (t : Tables) (e : Entry) (c : ℕ) (k : Consumer) (off : is_event_for t
   over_by h = elim (or_cases _ (loses_what_it_waits_for t e c k.place) h) [
     | inr loses ↦ lost_by k.place refl loses
     | inl first ↦ elim (or_cases _ (sends_back (case_at t e) && is_for (exchange_at t e.event) c) first) [
-      | inl doom ↦ frames.by_doom (key_is (doomed_key_of t e) k.request.key (and_left (is_key (doomed_key_of t e) k.request.key) _ doom)) (and_right (is_key (doomed_key_of t e) k.request.key) _ doom)
+      | inl doom ↦ frames.by_doom (key_is (doomed_key_of t e) k.request.key (and_left (is_key (doomed_key_of t e) k.request.key) _ doom))
+          (and_right (is_key (doomed_key_of t e) k.request.key) _ doom)
       | inr sent ↦ absurd (not_sent e.event refl (and_right (sends_back (case_at t e)) _ sent) (and_left (sends_back (case_at t e)) _ sent))
     ]
   ]
@@ -115,7 +119,8 @@ starting_over_is_caused t e c k off h = over_by t e c k off h
 
 -- WHAT BECOMES DUE TO IT
 
-module _ (t : Tables) (e : Entry) (c : ℕ) (k : Consumer) (o : reads k.place ≡ false → k.due ≡ None) (off : is_event_for t c e.event ≡ false) (spared : is_hit t e k ≡ false) where
+module _ (t : Tables) (e : Entry) (c : ℕ) (k : Consumer) (o : reads k.place ≡ false → k.due ≡ None) (off : is_event_for t c e.event ≡ false)
+    (spared : is_hit t e k ≡ false) where
   unlost_row : (r : ℕ) (z : Option Representation) → loses_row t e r z ≡ false → (cause_by_loss t e c r z ≡ None) × (left_to t e c r z k.own ≡ k.own)
   unlost_row r None quiet = (refl, refl)
   unlost_row r (Some v) quiet = (rw quiet refl, rw quiet refl)
@@ -145,11 +150,14 @@ module _ (t : Tables) (e : Entry) (c : ℕ) (k : Consumer) (o : reads k.place �
 pub readers_stay : ReadersStay
 readers_stay limits t now ev flaw e is o c k row off stays spared =
     let same = standing limits t now ev flaw e is in
-    standers_stay limits t now ev flaw e is c k row off ∙ ap Some (ap (λ b. if b then back_in_line now k else beside t e c k) stays ∙ beside_same t e c k (o.idle_due c k row) (ap (is_event_for t c) same.1 ∙ off) spared)
+    standers_stay limits t now ev flaw e is c k row off ∙
+    ap Some (ap (λ b. if b then back_in_line now k else beside t e c k) stays ∙
+    beside_same t e c k (o.idle_due c k row) (ap (is_event_for t c) same.1 ∙ off) spared)
 
 -- WHERE IT STANDS
 
-module _ (limits : Limits) (t : Tables) (now : ℕ) (ev : Event) (flaw : Flaw) (e : Entry) (is : IsEntry limits t now ev flaw e) (c : ℕ) (off : is_event_for t c ev ≡ false) where
+module _ (limits : Limits) (t : Tables) (now : ℕ) (ev : Event) (flaw : Flaw) (e : Entry) (is : IsEntry limits t now ev flaw e) (c : ℕ)
+    (off : is_event_for t c ev ≡ false) where
   -- who wasn't there isn't yet
   unmade : (z : Event) → is_event_for t c z ≡ false → consumer_made c e.now z ≡ None
   unmade (event.Start d request) other = rw other refl
@@ -160,7 +168,9 @@ module _ (limits : Limits) (t : Tables) (now : ℕ) (ev : Event) (flaw : Flaw) (
   none_after None none = unmade e.event (ap (is_event_for t c) (standing limits t now ev flaw e is).1 ∙ off)
   none_after (Some k) none = absurd (let no : Some k ≡ None = none in cc)
 
-  stood : (f : Option Consumer → Bool) (z : Option Consumer) → t.consumer c ≡ z → f None ≡ false → ((k : Consumer) → f (Some (back_in_line now k)) ≡ false) → ((k : Consumer) → f (Some (beside t e c k)) ≡ f (Some k)) → f ((after_accepted t e).consumer c) ≡ (f z && not (goes_back t e c z))
+  stood : (f : Option Consumer → Bool) (z : Option Consumer) → t.consumer c ≡ z → f None ≡ false →
+      ((k : Consumer) → f (Some (back_in_line now k)) ≡ false) → ((k : Consumer) → f (Some (beside t e c k)) ≡ f (Some k)) →
+      f ((after_accepted t e).consumer c) ≡ (f z && not (goes_back t e c z))
   stood f None row none back same = ap f (none_after (t.consumer c) row) ∙ (none ∙ sym (ap (λ b. b && not false) none))
   stood f (Some k) row none back same = ap f (standers_stay limits t now ev flaw e is c k row off) ∙ by_test (starts_over t e c k)
     where
@@ -186,7 +196,8 @@ pub bound_stay : BoundStay
 unfolding bound
 bound_stay t e s goes r same = ap (λ test. filter test (starts_after e.event t.starts)) (same_functions _ _ same) ∙ by_event e.event goes
   where
-    by_event : (z : Event) → denial t z ≡ None → filter (λ c. is_bound r (t.consumer c)) (starts_after z t.starts) ≡ filter (λ c. is_bound r (t.consumer c)) t.starts
+    by_event : (z : Event) → denial t z ≡ None →
+        filter (λ c. is_bound r (t.consumer c)) (starts_after z t.starts) ≡ filter (λ c. is_bound r (t.consumer c)) t.starts
     by_event (event.Start c request) taken =
         let none : t.consumer c ≡ None = s.numbered.lists.new_consumers c (starts_later t c request taken) in
         let off : is_bound r (t.consumer c) ≡ false = ap (is_bound r) none in
@@ -224,7 +235,8 @@ module _ (t : Tables) (e : Entry) (s : Sound t) (key : List ℕ) (other : Founds
       let p = usable_row u key n (u.representation n) refl passes in
       stayed_by n p.v p.of_key p.fresh (was_or_founded t e n (t.representation n) p.v refl p.row)
 
-  usable_after : (r : ℕ) (v : Representation) → v.key ≡ key → v.is_gone ≡ false → t.representation r ≡ Some v → becomes_gone t e r v ≡ false → is_usable key (u.representation r) ≡ true
+  usable_after : (r : ℕ) (v : Representation) → v.key ≡ key → v.is_gone ≡ false → t.representation r ≡ Some v → becomes_gone t e r v ≡ false →
+      is_usable key (u.representation r) ≡ true
   usable_after r v of_key fresh row stays =
       let kept = parts_are_kept t e r v row in
       let fresh_now : kept.u.is_gone ≡ false = kept.parts.gone ∙ rw (stays, fresh) refl in
@@ -247,7 +259,9 @@ module _ (t : Tables) (e : Entry) (s : Sound t) (key : List ℕ) (other : Founds
         let v = there.0 in
         let fresh = Rattle.hc_effects.proofs.PollKeeps.current_stays t key r v is there.1 in
         let off : becomes_gone t e r v ≡ false = sym (ap (goes_in t e r) there.1) ∙ stays in
-        rw stays (find_only (λ n. is_usable key (u.representation n)) u.founded r (among_after r (founds t e) (s.numbered.lists.founded r (ap is_some there.1))) (usable_after r v (current_key t key r v is there.1) fresh there.1 off) (λ n passes. sym (some_inj r n (sym is ∙ (stayed n passes).now_is))))
+        rw stays (find_only (λ n. is_usable key (u.representation n)) u.founded r
+        (among_after r (founds t e) (s.numbered.lists.founded r (ap is_some there.1)))
+        (usable_after r v (current_key t key r v is there.1) fresh there.1 off) (λ n passes. sym (some_inj r n (sym is ∙ (stayed n passes).now_is))))
   ]
 
 pub current_stays : CurrentStays
@@ -259,8 +273,10 @@ founded_is_current t e x response w at row none on =
     let self : nat_eq x x ≡ true = grind (arith, nat_tests) in
     let founds_it : founds t e ≡ Some x = rw on (ap exchange_in at) in
     let made : founded_at t e x (event.Head x response) ≡ Some (new_representation x e response w) = rw (on, self, row) refl in
-    let row_is : representation_after t e x (t.representation x) ≡ Some (new_representation x e response w) = ap (representation_after t e x) none ∙ (ap (founded_at t e x) at ∙ made) in
-    let passes : is_usable w.request.key (representation_after t e x (t.representation x)) ≡ true = ap (is_usable w.request.key) row_is ∙ by_key (bytes_eq w.request.key w.request.key) (bytes_eq-same w.request.key w.request.key refl) in
+    let row_is : representation_after t e x (t.representation x) ≡ Some (new_representation x e response w) = ap (representation_after t e x) none ∙
+    (ap (founded_at t e x) at ∙ made) in
+    let passes : is_usable w.request.key (representation_after t e x (t.representation x)) ≡ true = ap (is_usable w.request.key) row_is ∙
+    by_key (bytes_eq w.request.key w.request.key) (bytes_eq-same w.request.key w.request.key refl) in
     ap (λ z. find (λ n. is_usable w.request.key (representation_after t e n (t.representation n))) (with_item_first z t.founded)) founds_it ∙ rw passes refl
   where
     by_key : (b : Bool) → b ≡ true → (b && not false) ≡ true

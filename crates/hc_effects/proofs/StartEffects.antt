@@ -46,7 +46,8 @@ module _ (limits : Limits) (t : Tables) (law : Lawful t) (now c : ℕ) (request 
           founded = refl;
           used = binds_none t e c nothing refl refl;
           exchange = exchanges_stay t e c nothing (λ x. refl) (λ x. refl) refl;
-          representation = representations t e c nothing law (λ d other. far_closed d []) [] (λ r v there. goes_nothing t e c nothing r v refl refl refl refl refl) (λ r. refl);
+          representation = representations t e c nothing law (λ d other. far_closed d []) []
+              (λ r v there. goes_nothing t e c nothing r v refl refl refl refl refl) (λ r. refl);
           consumer = others t e c nothing law (λ d other. far_closed d []) [] (λ r v there. goes_nothing t e c nothing r v refl refl refl refl refl);
         }) (row goes) refl;
   }

@@ -8,15 +8,17 @@ use Rattle.hc_effects.proofs.WaitedAs.{IsForOthers}
 use Rattle.hc_effects.proofs.WaitedAs as waited
 
 module _ (t : Tables) (e : Entry) (c : ℕ) where
-  pub stays_by : (k : Consumer) → (loses_what_it_waits_for t e c k.place ≡ true → ⊥) → (is_key (doomed_key_of t e) k.request.key ≡ true → waits_at t k.place ≡ true → ⊥)
+  pub stays_by : (k : Consumer) → (loses_what_it_waits_for t e c k.place ≡ true → ⊥) →
+      (is_key (doomed_key_of t e) k.request.key ≡ true → waits_at t k.place ≡ true → ⊥)
       → (sends_back (case_at t e) ≡ true → is_for (exchange_at t e.event) c ≡ true → ⊥) → starts_over t e c k ≡ false
   unfolding starts_over
   stays_by k kept undoomed unsent = never_true _ (λ over. elim (or_cases _ (loses_what_it_waits_for t e c k.place) over) [
     | inr lost ↦ kept lost
-    | inl more ↦ elim (or_cases (is_key (doomed_key_of t e) k.request.key && waits_at t k.place) (sends_back (case_at t e) && is_for (exchange_at t e.event) c) more) [
-      | inl doom ↦ undoomed (and_left _ _ doom) (and_right _ _ doom)
-      | inr back ↦ unsent (and_left _ _ back) (and_right _ _ back)
-    ]
+    | inl more ↦ elim (or_cases (is_key (doomed_key_of t e) k.request.key && waits_at t k.place)
+        (sends_back (case_at t e) && is_for (exchange_at t e.event) c) more) [
+          | inl doom ↦ undoomed (and_left _ _ doom) (and_right _ _ doom)
+          | inr back ↦ unsent (and_left _ _ back) (and_right _ _ back)
+        ]
   ])
 
   -- its row after the step is what the acts make of it
@@ -32,7 +34,9 @@ module _ (t : Tables) (e : Entry) (c : ℕ) where
   unopened q z other = grind (arith, nat_tests)
 
   -- nor leaves, nor is moved by a wait or a showing: it stands where it stood
-  pub plain_place : (h : Consumer) (leaves : Bool) (shows : Option Showing) (opens : Option Opening) (waits : Option Wait) → leaves ≡ false → by_opening t c opens (record h { place = waiting_place t h waits }) ≡ record h { place = waiting_place t h waits } → waiting_place t h waits ≡ h.place → shown_place c shows h.place ≡ h.place
+  pub plain_place : (h : Consumer) (leaves : Bool) (shows : Option Showing) (opens : Option Opening) (waits : Option Wait) → leaves ≡ false →
+      by_opening t c opens (record h { place = waiting_place t h waits }) ≡ record h { place = waiting_place t h waits } →
+      waiting_place t h waits ≡ h.place → shown_place c shows h.place ≡ h.place
       → (if leaves then place.Over else shown_place c shows (by_opening t c opens (record h { place = waiting_place t h waits })).place) ≡ h.place
   plain_place h leaves shows opens waits stay none unmoved unshown = grind (arith, nat_tests)
 

@@ -34,7 +34,8 @@ pub record Stops (t : Tables) (now x : ℕ) (w : Exchange) (ev : Event) : Type 0
   pub headless : (c : ℕ) (acts : List Act) → cause_of_head t (record { now = now; event = ev; acts = acts }) c ev ≡ None
   pub longer : Representation → Representation
   pub itself : (v : Representation) (acts : List Act) → representation_heard t (record { now = now; event = ev; acts = acts }) x ev v ≡ longer v
-  pub other : (q : ℕ) (v : Representation) (acts : List Act) → nat_eq x q ≡ false → representation_heard t (record { now = now; event = ev; acts = acts }) q ev v ≡ v
+  pub other : (q : ℕ) (v : Representation) (acts : List Act) → nat_eq x q ≡ false →
+      representation_heard t (record { now = now; event = ev; acts = acts }) q ev v ≡ v
   pub early : Bool
   pub early_is : (q : ℕ) (z : Exchange) → t.exchange q ≡ Some z → stops_early z q ev ≡ (x == q && early)
 
@@ -117,9 +118,11 @@ module _ (t : Tables) (law : Lawful t) (x : ℕ) (w : Exchange) (row : t.exchang
     pub written : is_written t v ≡ true
     pub writer : v.writer ≡ Some x
 
-  shared_row : (k : Consumer) (q : ℕ) (z : Option Representation) → t.representation q ≡ z → is_bound_place q k.place ≡ true → group_in t z ≡ Some x → IsShared k
+  shared_row : (k : Consumer) (q : ℕ) (z : Option Representation) → t.representation q ≡ z → is_bound_place q k.place ≡ true → group_in t z ≡ Some x →
+      IsShared k
   shared_row k q None there bound_it is = absurd (none_some x is)
-  shared_row k q (Some v) there bound_it is = let both = test_some (is_written t v) v.writer x is in record { q = q; v = v; bound_it = bound_it; there = there; written = both.0; writer = both.1 }
+  shared_row k q (Some v) there bound_it is = let both = test_some (is_written t v) v.writer x is in
+      record { q = q; v = v; bound_it = bound_it; there = there; written = both.0; writer = both.1 }
 
   shared_of : (k : Consumer) (p : Place) → k.place ≡ p → shared_exchange t p ≡ Some x → IsShared k
   shared_of k (place.Bound q lo hi how) at is = shared_row k q (t.representation q) refl (ap (is_bound_place q) at ∙ eqb-same q) is
@@ -141,7 +144,8 @@ module _ (t : Tables) (law : Lawful t) (x : ℕ) (w : Exchange) (row : t.exchang
   own_source k mine = let opened : own_open t k ≡ Some x = own_open_is t k x (record { own = mine; w = w; row = row; opened = on }) in rw opened refl
 
   -- where one owns it, that one alone
-  pub reads_own : (c d : ℕ) (k z : Consumer) → t.consumer c ≡ Some k → k.own ≡ Some x → t.consumer d ≡ Some z → is_same_number (source t z) (Some x) ≡ nat_eq c d
+  pub reads_own : (c d : ℕ) (k z : Consumer) → t.consumer c ≡ Some k → k.own ≡ Some x → t.consumer d ≡ Some z →
+      is_same_number (source t z) (Some x) ≡ nat_eq c d
   reads_own c d k z here mine there = elim (eq_cases c d) [
     | inl same ↦
         let one : k ≡ z = same_row (t.consumer d) k z (sym (ap t.consumer same.1) ∙ here) there in
@@ -154,7 +158,8 @@ module _ (t : Tables) (law : Lawful t) (x : ℕ) (w : Exchange) (row : t.exchang
       not_it apart (shares s) = law.owned.apart s.q x c s.v k s.there s.written s.writer here mine
 
   -- where it is written for several, whoever is bound to that
-  pub reads_shared : (r : ℕ) (v : Representation) → t.representation r ≡ Some v → is_written t v ≡ true → v.writer ≡ Some x → (d : ℕ) (z : Consumer) → t.consumer d ≡ Some z → is_same_number (source t z) (Some x) ≡ is_bound_place r z.place
+  pub reads_shared : (r : ℕ) (v : Representation) → t.representation r ≡ Some v → is_written t v ≡ true → v.writer ≡ Some x → (d : ℕ) (z : Consumer) →
+      t.consumer d ≡ Some z → is_same_number (source t z) (Some x) ≡ is_bound_place r z.place
   reads_shared r v there written writer d z is_row = by_place z.place refl
     where
       -- both are of its family
@@ -174,14 +179,17 @@ module _ (t : Tables) (law : Lawful t) (x : ℕ) (w : Exchange) (row : t.exchang
       by_place : (p : Place) → z.place ≡ p → is_same_number (source t z) (Some x) ≡ is_bound_place r p
       by_place (place.Bound q lo hi how) at = elim (eq_cases q r) [
         | inl same ↦
-            ap (λ o. is_same_number o (Some x)) (source_is t r d x v z law.sound there (sound.is_bound lo hi how is_row (at ∙ ap (λ n. place.Bound n lo hi how) same.1)) written writer) ∙ (same_refl ∙ sym same.0)
+            ap (λ o. is_same_number o (Some x))
+            (source_is t r d x v z law.sound there (sound.is_bound lo hi how is_row (at ∙ ap (λ n. place.Bound n lo hi how) same.1)) written writer) ∙
+            (same_refl ∙ sym same.0)
         | inr apart ↦ other (place.Bound q lo hi how) at apart.0
       ]
       by_place p at = other p at refl
 
 -- THE TABLES
 
-module _ (limits : Limits) (t : Tables) (law : Lawful t) (now x : ℕ) (w : Exchange) (row : t.exchange x ≡ Some w) (on : w.is_open ≡ true) (ev : Event) (s : Stops t now x w ev) (flaw : Flaw) where
+module _ (limits : Limits) (t : Tables) (law : Lawful t) (now x : ℕ) (w : Exchange) (row : t.exchange x ≡ Some w) (on : w.is_open ≡ true) (ev : Event)
+    (s : Stops t now x w ev) (flaw : Flaw) where
   abbrev pub it : Entry
   it = reported.e t now ev s.is_reported flaw []
 
@@ -195,7 +203,8 @@ module _ (limits : Limits) (t : Tables) (law : Lawful t) (now x : ℕ) (w : Exch
   leaves_none = grind (arith, nat_tests)
 
   closes_none : closing t b ≡ []
-  closes_none = closes_nothing t b (quiet_closes t b ((says_little t now ev s.is_reported).caseless (loss_acts flaw)) (doomless (loss_acts flaw)) s.bodiless) leaves_none
+  closes_none = closes_nothing t b
+      (quiet_closes t b ((says_little t now ev s.is_reported).caseless (loss_acts flaw)) (doomless (loss_acts flaw)) s.bodiless) leaves_none
 
   -- what goes: what is lost, and what it founded, where that is early and can't be completed
   abbrev pub going : Option ℕ
@@ -204,7 +213,8 @@ module _ (limits : Limits) (t : Tables) (law : Lawful t) (now x : ℕ) (w : Exch
   pub goes_with : (q : ℕ) (v : Representation) → t.representation q ≡ Some v → becomes_gone t it q v ≡ (loses_in q (loss_acts flaw) || is_number going q)
   goes_with q v there =
       goes_as t now ev s.is_reported flaw [] q v
-      ∙ rw (doomless it.acts) (drop (is_current t v.key q) (loses_in q (loss_acts flaw)) (ends_early t it q v && not (is_keepable v)) ∙ ap (λ a. loses_in q (loss_acts flaw) || a) (early_by (t.exchange q) refl))
+      ∙ rw (doomless it.acts) (drop (is_current t v.key q) (loses_in q (loss_acts flaw)) (ends_early t it q v && not (is_keepable v)) ∙
+      ap (λ a. loses_in q (loss_acts flaw) || a) (early_by (t.exchange q) refl))
     where
       drop : (a c d : Bool) → ((a && false) || c || d) ≡ (c || d)
       drop a c d = grind (arith, nat_tests)
@@ -229,7 +239,8 @@ module _ (limits : Limits) (t : Tables) (law : Lawful t) (now x : ℕ) (w : Exch
 
       early_by : (z : Option Exchange) → t.exchange q ≡ z → (ends_early t it q v && not (is_keepable v)) ≡ is_number going q
       early_by None is =
-          let apart : nat_eq x q ≡ false = elim (eq_cases x q) [ inl same ↦ absurd (none_some w (sym is ∙ (sym (ap t.exchange same.1) ∙ row))) | inr other ↦ other.0 ] in
+          let apart : nat_eq x q ≡ false =
+          elim (eq_cases x q) [ inl same ↦ absurd (none_some w (sym is ∙ (sym (ap t.exchange same.1) ∙ row))) | inr other ↦ other.0 ] in
           ap (λ z. (brings_whole v.head.status && ends_founding it q z) && not (is_keepable v)) is
           ∙ (and_false (brings_whole v.head.status && false) (not (is_keepable v)) (then_false (brings_whole v.head.status) false refl) ∙ not_going apart)
       early_by (Some z) is =
@@ -238,7 +249,8 @@ module _ (limits : Limits) (t : Tables) (law : Lawful t) (now x : ℕ) (w : Exch
           ∙ elim (eq_cases x q) [
             | inl same ↦
                 let opened : z.is_open ≡ true = ap (λ (p : Exchange). p.is_open) (same_row (t.exchange q) z w is (sym (ap t.exchange same.1) ∙ row)) ∙ on in
-                rw (opened, same.0) (three (brings_whole v.head.status) s.early (not (is_keepable v)) ∙ (ap (λ a. if s.early then a else false) (going_is same.0 same.1) ∙ going_if s.early))
+                rw (opened, same.0) (three (brings_whole v.head.status) s.early (not (is_keepable v)) ∙
+                (ap (λ a. if s.early then a else false) (going_is same.0 same.1) ∙ going_if s.early))
             | inr apart ↦ rw apart.0 (none_off (brings_whole v.head.status) z.is_open s.early (not (is_keepable v)) ∙ not_going apart.0)
           ])
 
@@ -251,13 +263,18 @@ module _ (limits : Limits) (t : Tables) (law : Lawful t) (now x : ℕ) (w : Exch
   heard_is q v = grind (arith, nat_tests)
 
   -- what isn't lost
-  pub row_by : (q : ℕ) (g : Bool) (z : Option Representation) → t.representation q ≡ z → loses_in q (loss_acts flaw) ≡ false → ((v : Representation) → z ≡ Some v → becomes_gone t it q v ≡ g) → representation_after t it q z ≡ (if g then option_map as_gone (longer_row q z) else longer_row q z)
-  row_by q g None there kept goes = representation_none t now ev s.is_reported flaw [] q g ∙ ap (λ o. if g then option_map as_gone o else o) (none_longer (x == q))
+  pub row_by : (q : ℕ) (g : Bool) (z : Option Representation) → t.representation q ≡ z → loses_in q (loss_acts flaw) ≡ false →
+      ((v : Representation) → z ≡ Some v → becomes_gone t it q v ≡ g) →
+      representation_after t it q z ≡ (if g then option_map as_gone (longer_row q z) else longer_row q z)
+  row_by q g None there kept goes = representation_none t now ev s.is_reported flaw [] q g ∙
+      ap (λ o. if g then option_map as_gone o else o) (none_longer (x == q))
     where
       none_longer : (a : Bool) → None ≡ (if a then option_map s.longer None else None)
       none_longer true = refl
       none_longer false = refl
-  row_by q g (Some v) there kept goes = representation_by t now ev s.is_reported flaw [] q v (representation_heard t it q ev v) g refl kept (goes v refl) ∙ ap (λ o. if g then option_map as_gone o else o) (heard_is q v)
+  row_by q g (Some v) there kept goes =
+      representation_by t now ev s.is_reported flaw [] q v (representation_heard t it q ev v) g refl kept (goes v refl) ∙
+      ap (λ o. if g then option_map as_gone o else o) (heard_is q v)
 
   -- CONSUMERS
 
@@ -267,25 +284,33 @@ module _ (limits : Limits) (t : Tables) (law : Lawful t) (now x : ℕ) (w : Exch
   due_by : (c : ℕ) (k : Consumer) → becomes_due t it c k ≡ (if is_same_number (source t k) (Some x) then s.why else None)
   unfolding becomes_due
   due_by c k =
-      rw (loss_spared t it c k.place (spared k.place), s.headless c it.acts) (or_nothing (cause_of_stop t it k) ∙ (ap (λ o. if is_same_number (source t k) o then stop_cause t ev else None) s.names ∙ ap (λ o. if is_same_number (source t k) (Some x) then o else None) s.why_is))
+      rw (loss_spared t it c k.place (spared k.place), s.headless c it.acts)
+      (or_nothing (cause_of_stop t it k) ∙
+      (ap (λ o. if is_same_number (source t k) o then stop_cause t ev else None) s.names ∙
+      ap (λ o. if is_same_number (source t k) (Some x) then o else None) s.why_is))
 
   pub unhit : (c : ℕ) (k : Consumer) → t.consumer c ≡ Some k → is_same_number (source t k) (Some x) ≡ false → beside t it c k ≡ k
-  unhit c k here off = beside_same t now ev s.is_reported flaw [] c k (due_by c k ∙ ap (λ a. if a then s.why else None) off) (spared k.place) (law.owned.idle_due c k here)
+  unhit c k here off = beside_same t now ev s.is_reported flaw [] c k (due_by c k ∙ ap (λ a. if a then s.why else None) off) (spared k.place)
+      (law.owned.idle_due c k here)
 
   -- who reads from it fails by it, and nobody else
-  module _ (hit : ℕ → Bool) (hits : (c : ℕ) (k : Consumer) → t.consumer c ≡ Some k → is_same_number (source t k) (Some x) ≡ hit c) (reading : (c : ℕ) (k : Consumer) → t.consumer c ≡ Some k → hit c ≡ true → reads k.place ≡ true) where
+  module _ (hit : ℕ → Bool) (hits : (c : ℕ) (k : Consumer) → t.consumer c ≡ Some k → is_same_number (source t k) (Some x) ≡ hit c)
+      (reading : (c : ℕ) (k : Consumer) → t.consumer c ≡ Some k → hit c ≡ true → reads k.place ≡ true) where
     pub fails : (c : ℕ) → option_map (beside t it c) (t.consumer c) ≡ (if hit c then option_map (failing s.why) (t.consumer c) else t.consumer c)
     fails c = by_row (t.consumer c) refl
       where
         none_left : (a : Bool) → None ≡ (if a then option_map (failing s.why) None else None)
         none_left a = grind (arith, nat_tests)
 
-        parts : (k : Consumer) (own_now : Option ℕ) (due : Option Cause) (reads_it : Bool) → own_now ≡ k.own → due ≡ s.why → reads_it ≡ true → record k { own = own_now; due = if reads_it then option_or k.due due else None } ≡ failing s.why k
+        parts : (k : Consumer) (own_now : Option ℕ) (due : Option Cause) (reads_it : Bool) → own_now ≡ k.own → due ≡ s.why → reads_it ≡ true →
+            record k { own = own_now; due = if reads_it then option_or k.due due else None } ≡ failing s.why k
         parts k own_now due reads_it p q h = rw (p, q, h) refl
 
-        by_test : (k : Consumer) (a : Bool) → t.consumer c ≡ Some k → hit c ≡ a → Some (beside t it c k) ≡ (if a then option_map (failing s.why) (Some k) else Some k)
+        by_test : (k : Consumer) (a : Bool) → t.consumer c ≡ Some k → hit c ≡ a →
+            Some (beside t it c k) ≡ (if a then option_map (failing s.why) (Some k) else Some k)
         by_test k true here is =
-            ap Some (parts k (own_after t it c k.place k.own) (becomes_due t it c k) (reads k.place) (own_stays t it c k.place k.own (spared k.place)) (due_by c k ∙ ap (λ a. if a then s.why else None) (hits c k here ∙ is)) (reading c k here is))
+            ap Some (parts k (own_after t it c k.place k.own) (becomes_due t it c k) (reads k.place) (own_stays t it c k.place k.own (spared k.place))
+            (due_by c k ∙ ap (λ a. if a then s.why else None) (hits c k here ∙ is)) (reading c k here is))
         by_test k false here is = ap Some (unhit c k here (hits c k here ∙ is))
 
         by_row : (z : Option Consumer) → t.consumer c ≡ z → option_map (beside t it c) z ≡ (if hit c then option_map (failing s.why) z else z)
@@ -297,15 +322,20 @@ module _ (limits : Limits) (t : Tables) (law : Lawful t) (now x : ℕ) (w : Exch
   pub stop_does : denial t ev ≡ None → (rs : List ℕ) (vs : ℕ → Option Representation) (ks : ℕ → Option Consumer)
       → ((r : ℕ) → representation_after t it r (t.representation r) ≡ (if is_in rs r then option_map as_gone (vs r) else vs r))
       → ((c : ℕ) → consumer_after t it c (t.consumer c) ≡ option_map (back_from_any now rs) (ks c))
-      → Does limits t now ev flaw (loss_acts flaw ++ []) (with_event now ev (let_all_go now rs (record (with_exchange x (Some s.u) t) { representation = vs; consumer = ks })))
+      → Does limits t now ev flaw (loss_acts flaw ++ [])
+      (with_event now ev (let_all_go now rs (record (with_exchange x (Some s.u) t) { representation = vs; consumer = ks })))
   stop_does accepts rs vs ks rows consumers =
-      reported_plainly t now ev s.is_reported flaw [] limits law accepts (let_all_go now rs (record (with_exchange x (Some s.u) t) { representation = vs; consumer = ks })) closes_none
+      reported_plainly t now ev s.is_reported flaw [] limits law accepts
+      (let_all_go now rs (record (with_exchange x (Some s.u) t) { representation = vs; consumer = ks })) closes_none
       (reported_by t now ev s.is_reported flaw [] rs (with_exchange x (Some s.u) t).exchange vs ks
       (exchange_one t now ev s.is_reported flaw [] x w s.u s.names row (s.heard it.acts))
       rows consumers)
       s.unwritten
 
   -- where everybody hears nothing
-  pub others_by : (rs : List ℕ) → ((q : ℕ) (v : Representation) → t.representation q ≡ Some v → becomes_gone t it q v ≡ is_in rs q) → (ks : ℕ → Option Consumer) → (c : ℕ) → ((k : Consumer) → t.consumer c ≡ Some k → consumer_heard t it c ev k ≡ k) → option_map (beside t it c) (t.consumer c) ≡ ks c
+  pub others_by : (rs : List ℕ) → ((q : ℕ) (v : Representation) → t.representation q ≡ Some v → becomes_gone t it q v ≡ is_in rs q) →
+      (ks : ℕ → Option Consumer) → (c : ℕ) → ((k : Consumer) → t.consumer c ≡ Some k → consumer_heard t it c ev k ≡ k) →
+      option_map (beside t it c) (t.consumer c) ≡ ks c
       → consumer_after t it c (t.consumer c) ≡ option_map (back_from_any now rs) (ks c)
-  others_by rs goes ks c quiet same = consumer_by t now ev s.is_reported flaw [] law rs goes (doomless it.acts) c quiet ∙ ap (option_map (back_from_any now rs)) same
+  others_by rs goes ks c quiet same = consumer_by t now ev s.is_reported flaw [] law rs goes (doomless it.acts) c quiet ∙
+      ap (option_map (back_from_any now rs)) same

@@ -16,17 +16,20 @@ unfolding is_written
 writer_open t v x on writer = sym (ap (is_open_writer t) writer) ∙ and_right _ _ on
 
 -- the exchange of the writing is about the representation
-pub writer_about : (t : Tables) (r x : ℕ) (v : Representation) → Sound t → t.representation r ≡ Some v → is_written t v ≡ true → v.writer ≡ Some x → IsAbout t r x
+pub writer_about : (t : Tables) (r x : ℕ) (v : Representation) → Sound t → t.representation r ≡ Some v → is_written t v ≡ true → v.writer ≡ Some x →
+    IsAbout t r x
 writer_about t r x v s row on writer =
     let grows = (s.rows r v row).growing x on writer in
     let g = grows.1 in
     sound.headed grows.0 g.row (open_row (t.exchange x) grows.0 g.row (writer_open t v x on writer)) g.headed g.family_is (ap is_some row)
 
-shared_of : (t : Tables) (r c x : ℕ) (v : Representation) (k : Consumer) → t.representation r ≡ Some v → IsBound t r c k → is_written t v ≡ true → v.writer ≡ Some x → shared_exchange t k.place ≡ Some x
+shared_of : (t : Tables) (r c x : ℕ) (v : Representation) (k : Consumer) → t.representation r ≡ Some v → IsBound t r c k → is_written t v ≡ true →
+    v.writer ≡ Some x → shared_exchange t k.place ≡ Some x
 shared_of t r c x v k row (sound.is_bound lo hi how is place) on writer = rw (place, row, on) writer
 
 -- a member reads from the exchange of the writing
-pub source_is : (t : Tables) (r c x : ℕ) (v : Representation) (k : Consumer) → Sound t → t.representation r ≡ Some v → IsBound t r c k → is_written t v ≡ true → v.writer ≡ Some x → source t k ≡ Some x
+pub source_is : (t : Tables) (r c x : ℕ) (v : Representation) (k : Consumer) → Sound t → t.representation r ≡ Some v → IsBound t r c k →
+    is_written t v ≡ true → v.writer ≡ Some x → source t k ≡ Some x
 source_is t r c x v k s row reader on writer = by_own (own_open t k) refl
   where
     by_own : (o : Option ℕ) → own_open t k ≡ o → option_or (own_open t k) (shared_exchange t k.place) ≡ Some x
@@ -38,7 +41,8 @@ source_is t r c x v k s row reader on writer = by_own (own_open t k) refl
 -- THE LAST PIECE
 
 -- with the last promised piece, each position below the total is stored
-pub last_piece : (t : Tables) (r x total : ℕ) (bytes : List ℕ) (v : Representation) (w : Exchange) → IsGrowing t r v x w → v.head.total ≡ Some total → is_reached (promised_bytes w) (length (w.body ++ bytes)) ≡ true → Covers (cells_with (front w) x bytes v.stored) 0 total
+pub last_piece : (t : Tables) (r x total : ℕ) (bytes : List ℕ) (v : Representation) (w : Exchange) → IsGrowing t r v x w → v.head.total ≡ Some total →
+    is_reached (promised_bytes w) (length (w.body ++ bytes)) ≡ true → Covers (cells_with (front w) x bytes v.stored) 0 total
 last_piece t r x total bytes v w g known reached q lo lt = by_promise (promised_bytes w) refl
   where
     by_promise : (o : Option ℕ) → promised_bytes w ≡ o → is_some (cells_with (front w) x bytes v.stored q) ≡ true

@@ -96,7 +96,8 @@ append_once (y ∷ xs) x once new = ((λ among. by_side (append_among y xs (x �
 
 pub reverse_once : (xs : List ℕ) → AreOnce xs → AreOnce (reverse xs)
 reverse_once [] once = tt
-reverse_once (x ∷ xs) once = subst AreOnce (sym (reverse_is x xs)) (append_once (reverse xs) x (reverse_once xs once.1) (λ among. once.0 (reverse_among x xs among)))
+reverse_once (x ∷ xs) once =
+    subst AreOnce (sym (reverse_is x xs)) (append_once (reverse xs) x (reverse_once xs once.1) (λ among. once.0 (reverse_among x xs among)))
 
 pub reverse_sum : (f : ℕ → ℕ) (xs : List ℕ) → sum_by f (reverse xs) ≡ sum_by f xs
 reverse_sum f [] = refl
@@ -176,7 +177,8 @@ sum_some w (q ∷ qs) rs once within =
     let a : sum_by w (q ∷ qs) ≡ w q + sum_by w qs = sum_by-cons w q qs in
     let rest : sum_by w qs ≤ sum_by (among_of w qs) rs = sum_some w qs rs once.1 (λ z among. within z (inr among)) in
     let here : w q ≤ sum_by (only q (w q)) rs = only_has q (w q) rs (within q (inl refl)) in
-    let both : sum_by (only q (w q)) rs + sum_by (among_of w qs) rs ≤ sum_by (among_of w (q ∷ qs)) rs = sum_two (only q (w q)) (among_of w qs) (among_of w (q ∷ qs)) rs (λ r among. by_test r) in
+    let both : sum_by (only q (w q)) rs + sum_by (among_of w qs) rs ≤ sum_by (among_of w (q ∷ qs)) rs =
+    sum_two (only q (w q)) (among_of w qs) (among_of w (q ∷ qs)) rs (λ r among. by_test r) in
     omega arith
   where
     by_test : (r : ℕ) → only q (w q) r + among_of w qs r ≤ among_of w (q ∷ qs) r

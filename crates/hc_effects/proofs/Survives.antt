@@ -25,14 +25,18 @@ pub record GoesOn (t : Tables) (v : Representation) (k : Consumer) (writer : Opt
 
 -- IT STANDS WHERE WHAT IS STORED ENDS
 
-least_there : (t : Tables) (end c : ℕ) (ds : List ℕ) → least (map (λ (m : Member). m.c) (filter (stands_at end) (map (member t) ds))) ≡ Some c → stands_at end (member t c) ≡ true
+least_there : (t : Tables) (end c : ℕ) (ds : List ℕ) → least (map (λ (m : Member). m.c) (filter (stands_at end) (map (member t) ds))) ≡ Some c →
+    stands_at end (member t c) ≡ true
 least_there t end c [] h = absurd (none_some c h)
 least_there t end c (d ∷ ds) h = elim (bool_cases (stands_at end (member t d))) [
   | inr off ↦ least_there t end c ds (rw off at h)
   | inl on ↦ by_least (least (map (λ (m : Member). m.c) (filter (stands_at end) (map (member t) ds)))) refl on (rw on at h) (λ a is. least_there t end a ds is)
 ]
   where
-    by_least : (z : Option ℕ) → least (map (λ (m : Member). m.c) (filter (stands_at end) (map (member t) ds))) ≡ z → stands_at end (member t d) ≡ true → lesser (least (map (λ (m : Member). m.c) (filter (stands_at end) (map (member t) ds)))) d ≡ Some c → ((a : ℕ) → least (map (λ (m : Member). m.c) (filter (stands_at end) (map (member t) ds))) ≡ Some a → stands_at end (member t a) ≡ true) → stands_at end (member t c) ≡ true
+    by_least : (z : Option ℕ) → least (map (λ (m : Member). m.c) (filter (stands_at end) (map (member t) ds))) ≡ z → stands_at end (member t d) ≡ true →
+        lesser (least (map (λ (m : Member). m.c) (filter (stands_at end) (map (member t) ds)))) d ≡ Some c →
+        ((a : ℕ) → least (map (λ (m : Member). m.c) (filter (stands_at end) (map (member t) ds))) ≡ Some a → stands_at end (member t a) ≡ true) →
+        stands_at end (member t c) ≡ true
     by_least z is on h again = grind (arith, nat_tests)
 
 pub survivor_offset : (t : Tables) (r c : ℕ) (v : Representation) (k : Consumer) → t.consumer c ≡ Some k → survivor t r v ≡ Some c → offset t k ≡ v.reach
@@ -50,7 +54,10 @@ module _ (step : Step) (m : Measures step.tables) (real : IsReal step.limits ste
   abbrev now_on : Tables
   now_on = after_accepted t e
 
-  module _ (r c x lo : ℕ) (hi : Option ℕ) (how : BoundBy) (k u : Consumer) (v p : Representation) (row : t.consumer c ≡ Some k) (at : k.place ≡ place.Bound r lo hi how) (there : t.representation r ≡ Some v) (kept : IsKept t e r v p) (on : is_written t v ≡ true) (writer : v.writer ≡ Some x) (survives : survivor t r v ≡ Some c) (loses : loses_in r e.acts ≡ true) (brings_one : brings_body ev ≡ true) (after_row : now_on.consumer c ≡ Some u) where
+  module _ (r c x lo : ℕ) (hi : Option ℕ) (how : BoundBy) (k u : Consumer) (v p : Representation) (row : t.consumer c ≡ Some k)
+      (at : k.place ≡ place.Bound r lo hi how) (there : t.representation r ≡ Some v) (kept : IsKept t e r v p) (on : is_written t v ≡ true)
+      (writer : v.writer ≡ Some x) (survives : survivor t r v ≡ Some c) (loses : loses_in r e.acts ≡ true) (brings_one : brings_body ev ≡ true)
+      (after_row : now_on.consumer c ≡ Some u) where
     losing : loses_group t e r v ≡ true
     losing = and_both _ _ (and_both _ _ brings_one loses) on
 
@@ -62,18 +69,22 @@ module _ (step : Step) (m : Measures step.tables) (real : IsReal step.limits ste
       covered : (n : ℕ) → v.reach ≤ n → Covers p.body n (front z)
       ahead : (q : ℕ) → front z ≤ q → p.stored q ≡ p.body q
 
-    fronts : (w z : Exchange) → IsGrowing t r v x w → IsSame t e x w z → w.is_open ≡ true → IsHeld step m x w z → Brings t e x w z → Fills t e r v p → IsPrefix z
+    fronts : (w z : Exchange) → IsGrowing t r v x w → IsSame t e x w z → w.is_open ≡ true → IsHeld step m x w z → Brings t e x w z → Fills t e r v p →
+        IsPrefix z
     fronts w z g same opened keeps (fills_by.still none body_is) (fills_by.still none_of same_body stored_is reach_is) =
         let first : base z ≡ base w = keeps.base_is in
         let count : length z.body ≡ length w.body = ap (λ (b : List ℕ). length b) body_is in
         let was : front w ≡ v.reach = g.front_is in
         record {
           covered = λ n le q from_n lt. absurd (let below : q < front z = lt in omega arith);
-          ahead = λ q le. ap (λ (f : Cells). f q) stored_is ∙ ((s.rows r v there).store.all_stored (fresh step m real r v there loses) q ∙ sym (ap (λ (f : Cells). f q) same_body));
+          ahead = λ q le. ap (λ (f : Cells). f q) stored_is ∙
+              ((s.rows r v there).store.all_stored (fresh step m real r v there loses) q ∙ sym (ap (λ (f : Cells). f q) same_body));
         }
     fronts w z g same opened keeps (fills_by.still none body_is) (fills_by.more y bytes a is same_body stored_is reach_is) =
-        absurd (let it = one_piece step m x r y bytes w a v g.row opened g.headed g.family_is kept.row is in none bytes (is.at ∙ ap (λ n. event.Piece n bytes) it.0))
-    fronts w z g same opened keeps (fills_by.more bytes here body_is) (fills_by.still none_of same_body stored_is reach_is) = absurd (none_of x bytes w (record { at = here; row = g.row; of_r = g.family_is }))
+        absurd (let it = one_piece step m x r y bytes w a v g.row opened g.headed g.family_is kept.row is in
+        none bytes (is.at ∙ ap (λ n. event.Piece n bytes) it.0))
+    fronts w z g same opened keeps (fills_by.more bytes here body_is) (fills_by.still none_of same_body stored_is reach_is) =
+        absurd (none_of x bytes w (record { at = here; row = g.row; of_r = g.family_is }))
     fronts w z g same opened keeps (fills_by.more bytes here body_is) (fills_by.more y more a is same_body stored_is reach_is) =
         let it = one_piece step m x r y more w a v g.row opened g.headed g.family_is kept.row is in
         let bytes_same : bytes ≡ more = piece_bytes x y bytes more (sym here ∙ is.at) in
@@ -86,8 +97,12 @@ module _ (step : Step) (m : Measures step.tables) (real : IsReal step.limits ste
         let quiet : (v.is_lost || loses_in r e.acts) ≡ true = rw (new, loses) refl in
         let stored_now : p.stored ≡ v.stored = stored_is ∙ ap (λ b. if not b then cells_with (front a) y more v.stored else v.stored) quiet in
         record {
-          covered = λ n le q from_n lt. ap (λ (f : Cells). is_some (f q)) same_body ∙ (let below : q < front z = lt in let yes = inside-yes (front a) (length more) q (omega arith) (omega arith) in rw yes refl);
-          ahead = λ q le. ap (λ (f : Cells). f q) stored_now ∙ ((s.rows r v there).store.all_stored new q ∙ sym (ap (λ (f : Cells). f q) same_body ∙ (let past : front z ≤ q = le in let off = inside-past (front a) (length more) q (omega arith) in rw off refl)));
+          covered = λ n le q from_n lt. ap (λ (f : Cells). is_some (f q)) same_body ∙
+              (let below : q < front z = lt in let yes = inside-yes (front a) (length more) q (omega arith) (omega arith) in rw yes refl);
+          ahead = λ q le. ap (λ (f : Cells). f q) stored_now ∙
+              ((s.rows r v there).store.all_stored new q ∙
+              sym (ap (λ (f : Cells). f q) same_body ∙
+              (let past : front z ≤ q = le in let off = inside-past (front a) (length more) q (omega arith) in rw off refl)));
         }
       where
         piece_bytes : (a b : ℕ) (d f : List ℕ) → event.Piece a d ≡ event.Piece b f → d ≡ f
@@ -96,11 +111,15 @@ module _ (step : Step) (m : Measures step.tables) (real : IsReal step.limits ste
     pub survivor_alone : GoesOn now_on p u (Some x)
     survivor_alone =
         let waiterless = member_stays.no_waiter step c r lo hi how k v row at there on in
-        let st = bound_stays step c r lo hi how k row at waiterless (λ here. false_true (sym (ap brings_body here) ∙ brings_one)) (not_so (leaves_in c e.acts) (λ leaves. let got = leaving_by limits t now flaw s ev goes c leaves in unpolled c got.want got.poll.at)) in
+        let st = bound_stays step c r lo hi how k row at waiterless (λ here. false_true (sym (ap brings_body here) ∙ brings_one))
+        (not_so (leaves_in c e.acts) (λ leaves. let got = leaving_by limits t now flaw s ev goes c leaves in unpolled c got.want got.poll.at)) in
         let one : st.u ≡ u = same_row (now_on.consumer c) st.u u st.after after_row in
         let mine : is_number (survivor t r v) c ≡ true = number_yes (survivor t r v) c survives in
-        let left : (n : Option ℕ) → own_after t e c k.place n ≡ Some x = (λ n. ap (λ a. own_after t e c a n) at ∙ (ap (λ a. left_to t e c r a n) there ∙ (rw (losing, mine) writer))) in
-        let own_st : st.u.own ≡ Some x = sym (ap (λ (q : Consumer). q.own) st.is) ∙ (ap (λ (h : Consumer). own_after t e c h.place (by_opening t c (opening_in e.acts) (waiting t e c h)).own) st.heard_is ∙ left (by_opening t c (opening_in e.acts) (waiting t e c k)).own) in
+        let left : (n : Option ℕ) → own_after t e c k.place n ≡ Some x =
+        (λ n. ap (λ a. own_after t e c a n) at ∙ (ap (λ a. left_to t e c r a n) there ∙ (rw (losing, mine) writer))) in
+        let own_st : st.u.own ≡ Some x = sym (ap (λ (q : Consumer). q.own) st.is) ∙
+        (ap (λ (h : Consumer). own_after t e c h.place (by_opening t c (opening_in e.acts) (waiting t e c h)).own) st.heard_is ∙
+        left (by_opening t c (opening_in e.acts) (waiting t e c k)).own) in
         let grows = (s.rows r v there).growing x on writer in
         let g = grows.1 in
         let goes_on = forward.is_on t e x grows.0 g.row in
@@ -127,23 +146,32 @@ module _ (step : Step) (m : Measures step.tables) (real : IsReal step.limits ste
         still_headed w z g (inl still) = ap (λ (a : Option Response). is_some a) still.0 ∙ g.headed
         still_headed w z g (inr got) = ap (λ (a : Option Response). is_some a) got.head_is
 
-        by_heard : (w z : Exchange) → IsGrowing t r v x w → now_on.exchange x ≡ Some z → IsSame t e x w z → ((z.head ≡ w.head) × (z.joined ≡ w.joined)) ⊎ IsHeaded t e x w z → IsPrefix z
-        by_heard w z g after_x same (inl still) = fronts w z g same (sym (ap is_open g.row) ∙ (is_on t v x on writer).open_now) (held step m x w z same still.0 still.1) (brings t e x w z g.row after_x) (fills t e r v p kept)
+        by_heard : (w z : Exchange) → IsGrowing t r v x w → now_on.exchange x ≡ Some z → IsSame t e x w z →
+            ((z.head ≡ w.head) × (z.joined ≡ w.joined)) ⊎ IsHeaded t e x w z → IsPrefix z
+        by_heard w z g after_x same (inl still) =
+            fronts w z g same (sym (ap is_open g.row) ∙ (is_on t v x on writer).open_now) (held step m x w z same still.0 still.1)
+            (brings t e x w z g.row after_x) (fills t e r v p kept)
         by_heard w z g after_x same (inr got) =
             let none = (is_new limits t now flaw s ev goes x got.response w got.at g.row).bare in
             absurd (false_true (sym (ap (λ (a : Option Response). is_some a) none) ∙ g.headed))
 
   -- of any reader that survives
-  by_reader : (r c x : ℕ) (k u : Consumer) (v p : Representation) → IsBound t r c k → t.representation r ≡ Some v → IsKept t e r v p → is_written t v ≡ true → v.writer ≡ Some x → survivor t r v ≡ Some c → loses_in r e.acts ≡ true → brings_body ev ≡ true → now_on.consumer c ≡ Some u → GoesOn now_on p u (Some x)
-  by_reader r c x k u v p (sound.is_bound lo hi how row at) there kept on writer is loses brings_one after_row = survivor_alone r c x lo hi how k u v p row at there kept on writer is loses brings_one after_row
+  by_reader : (r c x : ℕ) (k u : Consumer) (v p : Representation) → IsBound t r c k → t.representation r ≡ Some v → IsKept t e r v p →
+      is_written t v ≡ true → v.writer ≡ Some x → survivor t r v ≡ Some c → loses_in r e.acts ≡ true → brings_body ev ≡ true →
+      now_on.consumer c ≡ Some u → GoesOn now_on p u (Some x)
+  by_reader r c x k u v p (sound.is_bound lo hi how row at) there kept on writer is loses brings_one after_row =
+      survivor_alone r c x lo hi how k u v p row at there kept on writer is loses brings_one after_row
 
-  by_writer : (r c : ℕ) (z : Option ℕ) (u : Consumer) (v p : Representation) → t.representation r ≡ Some v → IsKept t e r v p → loses_group t e r v ≡ true → v.writer ≡ z → survivor t r v ≡ Some c → now_on.consumer c ≡ Some u → GoesOn now_on p u z
+  by_writer : (r c : ℕ) (z : Option ℕ) (u : Consumer) (v p : Representation) → t.representation r ≡ Some v → IsKept t e r v p →
+      loses_group t e r v ≡ true → v.writer ≡ z → survivor t r v ≡ Some c → now_on.consumer c ≡ Some u → GoesOn now_on p u z
   by_writer r c None u v p there kept losing writer is after_row = absurd (writer_some t v (and_right _ _ losing) writer)
   by_writer r c (Some x) u v p there kept losing writer is after_row =
       let reader = reader_of t r c (survivor_bound t r c v is) in
-      by_reader r c x reader.0 u v p reader.1 there kept (and_right _ _ losing) writer is (and_right _ _ (and_left _ _ losing)) (and_left _ _ (and_left _ _ losing)) after_row
+      by_reader r c x reader.0 u v p reader.1 there kept (and_right _ _ losing) writer is (and_right _ _ (and_left _ _ losing))
+      (and_left _ _ (and_left _ _ losing)) after_row
 
-  pub goes_on : (r c : ℕ) (v p : Representation) (u : Consumer) → t.representation r ≡ Some v → loses_group t e r v ≡ true → survivor t r v ≡ Some c → now_on.representation r ≡ Some p → now_on.consumer c ≡ Some u → GoesOn now_on p u v.writer
+  pub goes_on : (r c : ℕ) (v p : Representation) (u : Consumer) → t.representation r ≡ Some v → loses_group t e r v ≡ true → survivor t r v ≡ Some c →
+      now_on.representation r ≡ Some p → now_on.consumer c ≡ Some u → GoesOn now_on p u v.writer
   goes_on r c v p u there losing is after after_row = by_rep (rep_from t e r (t.representation r) p refl after)
     where
       by_rep : RepFrom t e r p → GoesOn now_on p u v.writer
@@ -155,5 +183,7 @@ module _ (step : Step) (m : Measures step.tables) (real : IsReal step.limits ste
 -- Who survives goes on alone.
 pub survivors_go_on : SurvivorsGoOn
 survivors_go_on limits t e s o m owed not_denied r c v p u there losing is after after_row =
-    of_real limits t e (λ z. loses_group t z r v ≡ true → (after_accepted t z).representation r ≡ Some p → (after_accepted t z).consumer c ≡ Some u → IsAlone (after_accepted t z) p u) owed not_denied
-    (λ going real losing_now after_now row_now. (goes_on (step_of limits t e.now (flaw_in e.acts) s o e.event going) m real r c v p u there losing_now is after_now row_now).is) losing after after_row
+    of_real limits t e (λ z. loses_group t z r v ≡ true → (after_accepted t z).representation r ≡ Some p → (after_accepted t z).consumer c ≡ Some u →
+    IsAlone (after_accepted t z) p u) owed not_denied
+    (λ going real losing_now after_now row_now.
+    (goes_on (step_of limits t e.now (flaw_in e.acts) s o e.event going) m real r c v p u there losing_now is after_now row_now).is) losing after after_row

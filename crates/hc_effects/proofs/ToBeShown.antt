@@ -18,7 +18,9 @@ use Rattle.hc_effects.proofs.FoundBy as cases
 -- WHERE NOTHING IS SAID TO IT
 
 -- the place of a consumer to which no act says anything
-plain_place : (t : Tables) (c : ℕ) (h : Consumer) (leaves : Bool) (shows : Option Showing) (opens : Option Opening) (waits : Option Wait) → leaves ≡ false → shows ≡ None → opens ≡ None → waits ≡ None → (if leaves then place.Over else shown_place c shows (by_opening t c opens (record h { place = waiting_place t h waits })).place) ≡ h.place
+plain_place : (t : Tables) (c : ℕ) (h : Consumer) (leaves : Bool) (shows : Option Showing) (opens : Option Opening) (waits : Option Wait) →
+    leaves ≡ false → shows ≡ None → opens ≡ None → waits ≡ None →
+    (if leaves then place.Over else shown_place c shows (by_opening t c opens (record h { place = waiting_place t h waits })).place) ≡ h.place
 plain_place t c h leaves shows opens waits a b d f = rw (a, b, d, f) refl
 
 -- THE CASES OF A FIRST HOLE'S HEAD
@@ -46,7 +48,8 @@ module _ (step : Step) where
   turn_hole : route.Turn ≡ route.Hole → ⊥
   turn_hole h = cc
 
-  first_case : (w : Exchange) (response : Response) (c : HeadCase) → CaseBy (head_view t (has_loss e.acts) w response) c → route_of w.need ≡ route.Hole → was_shown (t.consumer w.c) ≡ false → FirstCase c
+  first_case : (w : Exchange) (response : Response) (c : HeadCase) → CaseBy (head_view t (has_loss e.acts) w response) c → route_of w.need ≡ route.Hole →
+      was_shown (t.consumer w.c) ≡ false → FirstCase c
   first_case w response _ (cases.direct_bad way h) hole off = absurd (direct_hole (sym way ∙ hole))
   first_case w response _ (cases.direct_taken way) hole off = absurd (direct_hole (sym way ∙ hole))
   first_case w response _ (cases.turn_bad way h) hole off = absurd (turn_hole (sym way ∙ hole))
@@ -81,12 +84,16 @@ module _ (step : Step) where
   waits_none unpolled c (Some p) is = let waits = waiting_by limits t now flaw s ev goes c p is in absurd (unpolled c waits.want waits.poll.at)
 
   -- so a consumer stands where the event left it
-  pub heard_place : (c r lo : ℕ) (hi : Option ℕ) (how : BoundBy) (k u : Consumer) → ((d want : ℕ) → ev ≡ event.Poll d want → ⊥) → IsRow t e c r lo hi how k u → u.place ≡ (consumer_heard t e c ev k).place
+  pub heard_place : (c r lo : ℕ) (hi : Option ℕ) (how : BoundBy) (k u : Consumer) → ((d want : ℕ) → ev ≡ event.Poll d want → ⊥) →
+      IsRow t e c r lo hi how k u → u.place ≡ (consumer_heard t e c ev k).place
   heard_place c r lo hi how k u unpolled row =
       sym (ap (λ (z : Consumer). z.place) row.is)
-      ∙ plain_place t c (consumer_heard t e c ev k) (leaves_in c e.acts) (showing_in e.acts) (opening_in e.acts) (wait_in c e.acts) row.leaves (shows_none unpolled (showing_in e.acts) refl) (opens_none unpolled (opening_in e.acts) refl) (waits_none unpolled c (wait_in c e.acts) refl)
+      ∙ plain_place t c (consumer_heard t e c ev k) (leaves_in c e.acts) (showing_in e.acts) (opening_in e.acts) (wait_in c e.acts) row.leaves
+      (shows_none unpolled (showing_in e.acts) refl) (opens_none unpolled (opening_in e.acts) refl) (waits_none unpolled c (wait_in c e.acts) refl)
 
-  module _ (c r lo y : ℕ) (hi : Option ℕ) (k u : Consumer) (row : IsRow t e c r lo hi (by.FirstHole y) k u) (stands : u.place ≡ place.Bound r lo hi (by.FirstHole y)) (at : k.place ≡ place.Bound r lo hi (by.FirstHole y)) (unshown : k.shown ≡ false) (after_row : now_on.consumer c ≡ Some u) (w : Exchange) (is : IsWaiter t c y k w) where
+  module _ (c r lo y : ℕ) (hi : Option ℕ) (k u : Consumer) (row : IsRow t e c r lo hi (by.FirstHole y) k u)
+      (stands : u.place ≡ place.Bound r lo hi (by.FirstHole y)) (at : k.place ≡ place.Bound r lo hi (by.FirstHole y)) (unshown : k.shown ≡ false)
+      (after_row : now_on.consumer c ≡ Some u) (w : Exchange) (is : IsWaiter t c y k w) where
     -- its exchange is for a hole of r
     hole_of : IsAwaiting y w k.place → (route_of w.need ≡ route.Hole) × (w.aim ≡ Some r)
     hole_of it0 = grind (arith, nat_tests)
@@ -105,18 +112,22 @@ module _ (step : Step) where
         and_both : {p q : Bool} → p ≡ true → q ≡ true → (p && q) ≡ true
         and_both {p} {q} a b = rw (a, b) refl
 
-    by_case : (response : Response) (g : HeadCase) → ev ≡ event.Head y response → case_at t e ≡ Some g → FirstCase g → u.place ≡ place_by_case y response w k (Some g) → IsToBeShown now_on u (by.FirstHole y)
-    by_case response _ here is_case bad placed = absurd (let no : place.Down (cause.BadHead y) ≡ place.Bound r lo hi (by.FirstHole y) = sym placed ∙ stands in cc)
+    by_case : (response : Response) (g : HeadCase) → ev ≡ event.Head y response → case_at t e ≡ Some g → FirstCase g →
+        u.place ≡ place_by_case y response w k (Some g) → IsToBeShown now_on u (by.FirstHole y)
+    by_case response _ here is_case bad placed =
+        absurd (let no : place.Down (cause.BadHead y) ≡ place.Bound r lo hi (by.FirstHole y) = sym placed ∙ stands in cc)
     by_case response _ here is_case joins placed =
         let on = is_on t e y w is.exchange_row in
         sound.joined y (ap has_joined on.row ∙ by_joined on.u on.same.heard_or (λ h. on.same.unheard h response here))
       where
         by_joined : (z : Exchange) → ((z.head ≡ w.head) × (z.joined ≡ w.joined)) ⊎ exchange.IsHeaded t e y w z → (z.head ≡ None → ⊥) → is_some z.joined ≡ true
         by_joined z (inl still) headed = absurd (headed (still.0 ∙ is.bare))
-        by_joined z (inr got) headed = ap (λ (q : Option ℕ). is_some q) (got.joined_is ∙ (ap (λ g. if is_joining g then w.aim else w.joined) is_case ∙ (hole_of is.at).1))
+        by_joined z (inr got) headed =
+            ap (λ (q : Option ℕ). is_some q) (got.joined_is ∙ (ap (λ g. if is_joining g then w.aim else w.joined) is_case ∙ (hole_of is.at).1))
     by_case response _ here is_case server_error placed = absurd (let no : place.Direct y ≡ place.Bound r lo hi (by.FirstHole y) = sym placed ∙ stands in cc)
     by_case response _ here is_case changed placed = absurd (sent_back here is_case)
-    by_case response _ here is_case replaced placed = absurd (let no : place.Bound y 0 _ by.Founding ≡ place.Bound r lo hi (by.FirstHole y) = sym placed ∙ stands in cc)
+    by_case response _ here is_case replaced placed =
+        absurd (let no : place.Bound y 0 _ by.Founding ≡ place.Bound r lo hi (by.FirstHole y) = sym placed ∙ stands in cc)
     by_case response _ here is_case passes_by placed = absurd (let no : place.Direct y ≡ place.Bound r lo hi (by.FirstHole y) = sym placed ∙ stands in cc)
 
     head_place : (response : Response) (z : Option Exchange) → z ≡ Some w → (by_head t e c y response z k).place ≡ place_by_case y response w k (case_at t e)
@@ -128,22 +139,27 @@ module _ (step : Step) where
         let is_case : case_at t e ≡ Some g = case_is t e y response w here is.exchange_row in
         let unshown_row : was_shown (t.consumer w.c) ≡ false = ap was_shown (ap t.consumer is.for_it ∙ is.row) ∙ unshown in
         let which : FirstCase g = first_case w response g (case_by (head_view t (has_loss e.acts) w response)) (hole_of is.at).0 unshown_row in
-        let heard : u.place ≡ (consumer_heard t e c ev k).place = heard_place c r lo hi (by.FirstHole y) k u (λ d want polls. let no : event.Head y response ≡ event.Poll d want = sym here ∙ polls in cc) row in
-        let placed : u.place ≡ place_by_case y response w k (Some g) = heard ∙ (ap (λ v. (consumer_heard t e c v k).place) here ∙ (head_place response (t.exchange y) is.exchange_row ∙ ap (place_by_case y response w k) is_case)) in
+        let heard : u.place ≡ (consumer_heard t e c ev k).place =
+        heard_place c r lo hi (by.FirstHole y) k u (λ d want polls. let no : event.Head y response ≡ event.Poll d want = sym here ∙ polls in cc) row in
+        let placed : u.place ≡ place_by_case y response w k (Some g) = heard ∙
+        (ap (λ v. (consumer_heard t e c v k).place) here ∙ (head_place response (t.exchange y) is.exchange_row ∙ ap (place_by_case y response w k) is_case)) in
         by_case response g here is_case which placed
 
     -- ANOTHER EVENT
 
     cancelled : ev ≡ event.Cancel c → ⊥
     cancelled here =
-        let heard : u.place ≡ (consumer_heard t e c ev k).place = heard_place c r lo hi (by.FirstHole y) k u (λ d want polls. let no : event.Cancel c ≡ event.Poll d want = sym here ∙ polls in cc) row in
+        let heard : u.place ≡ (consumer_heard t e c ev k).place =
+        heard_place c r lo hi (by.FirstHole y) k u (λ d want polls. let no : event.Cancel c ≡ event.Poll d want = sym here ∙ polls in cc) row in
         let over : (consumer_heard t e c (event.Cancel c) k).place ≡ place.Over = (let test : nat_eq c c ≡ true = grind (arith, nat_tests) in rw test refl) in
-        let no : place.Over ≡ place.Bound r lo hi (by.FirstHole y) = sym over ∙ (sym (ap (λ v. (consumer_heard t e c v k).place) here) ∙ (sym heard ∙ stands)) in cc
+        let no : place.Over ≡ place.Bound r lo hi (by.FirstHole y) = sym over ∙
+        (sym (ap (λ v. (consumer_heard t e c v k).place) here) ∙ (sym heard ∙ stands)) in cc
 
     own_of : (exchange_in ev ≡ Some y → ⊥) → u.own ≡ Some y
     own_of other =
         let same : consumer_heard t e c ev k ≡ k = heard_same step c y k w is ev refl other cancelled in
-        sym (ap (λ (z : Consumer). z.own) row.is) ∙ (ap (λ (h : Consumer). own_after t e c h.place (by_opening t c (opening_in e.acts) (waiting t e c h)).own) same ∙ own_acted step c y k w is)
+        sym (ap (λ (z : Consumer). z.own) row.is) ∙
+        (ap (λ (h : Consumer). own_after t e c h.place (by_opening t c (opening_in e.acts) (waiting t e c h)).own) same ∙ own_acted step c y k w is)
 
     others : (exchange_in ev ≡ Some y → ⊥) → IsToBeShown now_on u (by.FirstHole y)
     others other =
@@ -151,7 +167,8 @@ module _ (step : Step) where
         let un = is_untouched t e y w is.exchange_row other shut in
         let on : is_open (now_on.exchange y) ≡ true = ap is_open un.row ∙ (un.open_is ∙ is.was_open) in
         let own : own_open now_on u ≡ Some y = ap (option_and_then (if_open now_on)) (own_of other) ∙ ap (λ (v : Bool). if v then Some y else None) on in
-        let bare : is_headless (now_on.exchange y) ≡ true = ap is_headless un.row ∙ both un.u.is_open un.u.head (un.open_is ∙ is.was_open) (un.head_is ∙ is.bare) in
+        let bare : is_headless (now_on.exchange y) ≡ true = ap is_headless un.row ∙
+        both un.u.is_open un.u.head (un.open_is ∙ is.was_open) (un.head_is ∙ is.bare) in
         sound.waits y own bare
       where
         both : (a : Bool) (z : Option Response) → a ≡ true → z ≡ None → (a && is_none z) ≡ true
@@ -170,11 +187,15 @@ module _ (step : Step) where
 
     fault_place : ev ≡ event.Fault y → ⊥
     fault_place here =
-        let heard : u.place ≡ (consumer_heard t e c ev k).place = heard_place c r lo hi (by.FirstHole y) k u (λ d want polls. let no : event.Fault y ≡ event.Poll d want = sym here ∙ polls in cc) row in
-        let down : (by_fault c y (t.exchange y) k).place ≡ place.Down (cause.Net y) = ap (λ z. (by_fault c y z k).place) is.exchange_row ∙ (let number : nat_eq w.c c ≡ true = (let same : w.c ≡ c = is.for_it in grind (arith, nat_tests)) in put w.head k.shown number is.bare unshown) in
-        let no : place.Down (cause.Net y) ≡ place.Bound r lo hi (by.FirstHole y) = sym down ∙ (sym (ap (λ v. (consumer_heard t e c v k).place) here) ∙ (sym heard ∙ stands)) in cc
+        let heard : u.place ≡ (consumer_heard t e c ev k).place =
+        heard_place c r lo hi (by.FirstHole y) k u (λ d want polls. let no : event.Fault y ≡ event.Poll d want = sym here ∙ polls in cc) row in
+        let down : (by_fault c y (t.exchange y) k).place ≡ place.Down (cause.Net y) = ap (λ z. (by_fault c y z k).place) is.exchange_row ∙
+        (let number : nat_eq w.c c ≡ true = (let same : w.c ≡ c = is.for_it in grind (arith, nat_tests)) in put w.head k.shown number is.bare unshown) in
+        let no : place.Down (cause.Net y) ≡ place.Bound r lo hi (by.FirstHole y) = sym down ∙
+        (sym (ap (λ v. (consumer_heard t e c v k).place) here) ∙ (sym heard ∙ stands)) in cc
       where
-        put : (z : Option Response) (shown : Bool) → (w.c == c) ≡ true → z ≡ None → shown ≡ false → (if (w.c == c) && is_none z && not shown then record k { place = place.Down (cause.Net y) } else k).place ≡ place.Down (cause.Net y)
+        put : (z : Option Response) (shown : Bool) → (w.c == c) ≡ true → z ≡ None → shown ≡ false →
+            (if (w.c == c) && is_none z && not shown then record k { place = place.Down (cause.Net y) } else k).place ≡ place.Down (cause.Net y)
         put z shown number none off = rw (number, none, off) refl
 
     by_event : (v : Event) → ev ≡ v → IsToBeShown now_on u (by.FirstHole y)
@@ -215,47 +236,59 @@ module _ (step : Step) where
       let on = is_on t e y all.0 all.1 in
       ap has_joined on.row ∙ by_heard all.0 on.u all.1 all.2 on.same.heard_or
     where
-      by_heard : (w z : Exchange) → t.exchange y ≡ Some w → is_some w.joined ≡ true → ((z.head ≡ w.head) × (z.joined ≡ w.joined)) ⊎ exchange.IsHeaded t e y w z → is_some z.joined ≡ true
+      by_heard : (w z : Exchange) → t.exchange y ≡ Some w → is_some w.joined ≡ true →
+          ((z.head ≡ w.head) × (z.joined ≡ w.joined)) ⊎ exchange.IsHeaded t e y w z → is_some z.joined ≡ true
       by_heard w z row some (inl still) = ap (λ (q : Option ℕ). is_some q) still.1 ∙ some
       by_heard w z row some (inr got) =
           let new = is_new limits t now flaw s ev goes y got.response w got.at row in
           let none : w.joined ≡ None = (s.waits.headless y w row new.bare).1 in
           absurd (false_true (sym (ap (λ (q : Option ℕ). is_some q) none) ∙ some))
 
-  waits_still : (c r lo y : ℕ) (hi : Option ℕ) (k u : Consumer) → IsRow t e c r lo hi (by.FirstHole y) k u → u.place ≡ place.Bound r lo hi (by.FirstHole y) → k.place ≡ place.Bound r lo hi (by.FirstHole y) → k.shown ≡ false → now_on.consumer c ≡ Some u → is_headless (t.exchange y) ≡ true → IsToBeShown now_on u (by.FirstHole y)
+  waits_still : (c r lo y : ℕ) (hi : Option ℕ) (k u : Consumer) → IsRow t e c r lo hi (by.FirstHole y) k u →
+      u.place ≡ place.Bound r lo hi (by.FirstHole y) → k.place ≡ place.Bound r lo hi (by.FirstHole y) → k.shown ≡ false → now_on.consumer c ≡ Some u →
+      is_headless (t.exchange y) ≡ true → IsToBeShown now_on u (by.FirstHole y)
   waits_still c r lo y hi k u row stands at unshown after_row headless =
       let all = headless_parts (t.exchange y) headless in
       let f = o.first_own c r lo y hi k row.row at in
       let for_it : all.0.c ≡ c = ap (λ (z : Exchange). z.c) (same_row (t.exchange y) all.0 f.w all.1 f.row) ∙ f.for_it in
       let got = waiter_of step y all.0 all.1 all.2 all.3 in
       let one : got.0 ≡ k = same_row (t.consumer c) got.0 k (sym (ap t.consumer for_it) ∙ got.1.row) row.row in
-      still_waits c r lo y hi k u row stands at unshown after_row all.0 (subst (λ (z : Consumer). IsWaiter t c y z all.0) one (subst (λ d. IsWaiter t d y got.0 all.0) for_it got.1))
+      still_waits c r lo y hi k u row stands at unshown after_row all.0
+      (subst (λ (z : Consumer). IsWaiter t c y z all.0) one (subst (λ d. IsWaiter t d y got.0 all.0) for_it got.1))
 
-  stays_shown : (c r lo : ℕ) (hi : Option ℕ) (how : BoundBy) (k u : Consumer) → IsRow t e c r lo hi how k u → u.place ≡ place.Bound r lo hi how → k.place ≡ place.Bound r lo hi how → k.shown ≡ false → now_on.consumer c ≡ Some u → IsToBeShown t k how → IsToBeShown now_on u how
+  stays_shown : (c r lo : ℕ) (hi : Option ℕ) (how : BoundBy) (k u : Consumer) → IsRow t e c r lo hi how k u → u.place ≡ place.Bound r lo hi how →
+      k.place ≡ place.Bound r lo hi how → k.shown ≡ false → now_on.consumer c ≡ Some u → IsToBeShown t k how → IsToBeShown now_on u how
   stays_shown c r lo hi _ k u row stands at unshown after_row sound.founded = sound.founded
   stays_shown c r lo hi _ k u row stands at unshown after_row (sound.joined y joined) = sound.joined y (still_joined y joined)
-  stays_shown c r lo hi _ k u row stands at unshown after_row (sound.waits y own headless) = waits_still c r lo y hi k u row stands at unshown after_row headless
+  stays_shown c r lo hi _ k u row stands at unshown after_row (sound.waits y own headless) =
+      waits_still c r lo y hi k u row stands at unshown after_row headless
 
   -- what the acts and the event say of whether it was shown a head
-  shown_parts : (c r lo : ℕ) (hi : Option ℕ) (how : BoundBy) (k u : Consumer) → IsRow t e c r lo hi how k u → u.shown ≡ false → (shows_in c e.acts ≡ false) × (k.shown ≡ false)
+  shown_parts : (c r lo : ℕ) (hi : Option ℕ) (how : BoundBy) (k u : Consumer) → IsRow t e c r lo hi how k u → u.shown ≡ false →
+      (shows_in c e.acts ≡ false) × (k.shown ≡ false)
   shown_parts c r lo hi how k u row off =
       or_false (shows_in c e.acts) k.shown (sym (acted t e c k).shown_is ∙ (ap (λ (z : Consumer). z.shown) row.is ∙ off))
 
-  opened_waits : (c r lo y : ℕ) (hi : Option ℕ) (k u : Consumer) (p : Opening) → IsRow t e c r lo hi (by.FirstHole y) k u → opening_in e.acts ≡ Some p → p.c ≡ c → p.x ≡ y → bound_to (waiting t e c (consumer_heard t e c ev k)).place ≡ None → IsToBeShown now_on u (by.FirstHole y)
+  opened_waits : (c r lo y : ℕ) (hi : Option ℕ) (k u : Consumer) (p : Opening) → IsRow t e c r lo hi (by.FirstHole y) k u → opening_in e.acts ≡ Some p →
+      p.c ≡ c → p.x ≡ y → bound_to (waiting t e c (consumer_heard t e c ev k)).place ≡ None → IsToBeShown now_on u (by.FirstHole y)
   opened_waits c r lo y hi k u p row opens here same free =
       let opener = is_opener limits t now flaw s ev goes c k p row.row opens here in
       let made : now_on.exchange y ≡ Some (exchange_opened t e p) = opened_on t e y p (t.exchange y) (new_number step p y opens same) opens same in
       let number : nat_eq p.c c ≡ true = (let eq : p.c ≡ c = here in grind (arith, nat_tests)) in
-      let mine : (q : Consumer) → (by_opening t c (opening_in e.acts) q).own ≡ Some y = λ q. ap (λ z. (by_opening t c z q).own) opens ∙ (rw number (ap Some same)) in
+      let mine : (q : Consumer) → (by_opening t c (opening_in e.acts) q).own ≡ Some y = λ q. ap (λ z. (by_opening t c z q).own) opens ∙
+      (rw number (ap Some same)) in
       let free_place : bound_to k.place ≡ None = sym (ap bound_to opener.place_is) ∙ free in
-      let own : u.own ≡ Some y = sym (ap (λ (z : Consumer). z.own) row.is) ∙ (ap (λ (h : Consumer). own_after t e c h.place (by_opening t c (opening_in e.acts) (waiting t e c h)).own) opener.heard_is ∙ (unbound_own k.place _ free_place ∙ mine (waiting t e c k))) in
+      let own : u.own ≡ Some y = sym (ap (λ (z : Consumer). z.own) row.is) ∙
+      (ap (λ (h : Consumer). own_after t e c h.place (by_opening t c (opening_in e.acts) (waiting t e c h)).own) opener.heard_is ∙
+      (unbound_own k.place _ free_place ∙ mine (waiting t e c k))) in
       let open_now : own_open now_on u ≡ Some y = ap (option_and_then (if_open now_on)) own ∙ ap (λ (v : Bool). if v then Some y else None) (ap is_open made) in
       sound.waits y open_now (ap is_headless made)
     where
       unbound_own : (q : Place) (z : Option ℕ) → bound_to q ≡ None → own_after t e c q z ≡ z
       unbound_own q z none = grind (arith, nat_tests)
 
-  shown_from : (c r lo : ℕ) (hi : Option ℕ) (how : BoundBy) (u : Consumer) → now_on.consumer c ≡ Some u → u.place ≡ place.Bound r lo hi how → u.shown ≡ false → BoundFrom t e c r lo hi how u → IsToBeShown now_on u how
+  shown_from : (c r lo : ℕ) (hi : Option ℕ) (how : BoundBy) (u : Consumer) → now_on.consumer c ≡ Some u → u.place ≡ place.Bound r lo hi how →
+      u.shown ≡ false → BoundFrom t e c r lo hi how u → IsToBeShown now_on u how
   shown_from c r lo hi how u after_row stands off (bound.stays k row at) =
       let unshown = (shown_parts c r lo hi how k u row off).1 in
       stays_shown c r lo hi how k u row stands at unshown after_row (s.unshown c r lo hi how k row.row at unshown)
@@ -264,9 +297,12 @@ module _ (step : Step) where
       first_by how hole.by_is row stands
     where
       first_by : (g : BoundBy) → g ≡ by.FirstHole p.x → IsRow t e c r lo hi g k u → u.place ≡ place.Bound r lo hi g → IsToBeShown now_on u g
-      first_by g same row stands = subst (IsToBeShown now_on u) (sym same) (opened_waits c r lo p.x hi k u p (subst (λ z. IsRow t e c r lo hi z k u) same row) is here refl free)
+      first_by g same row stands =
+          subst (IsToBeShown now_on u) (sym same) (opened_waits c r lo p.x hi k u p (subst (λ z. IsRow t e c r lo hi z k u) same row) is here refl free)
   shown_from c r lo hi how u after_row stands off (bound.shows k z row is all) =
-      absurd (let shows : shows_in c e.acts ≡ true = ap (λ d. shows_in d e.acts) (sym all.at) ∙ shows_it e.acts z is in false_true (sym ((shown_parts c r lo hi how k u row off).0) ∙ shows))
+      absurd (let shows : shows_in c e.acts ≡ true = ap (λ d. shows_in d e.acts) (sym all.at) ∙ shows_it e.acts z is in
+      false_true (sym ((shown_parts c r lo hi how k u row off).0) ∙ shows))
 
-  pub unshown_kept : (c r lo : ℕ) (hi : Option ℕ) (how : BoundBy) (u : Consumer) → now_on.consumer c ≡ Some u → u.place ≡ place.Bound r lo hi how → u.shown ≡ false → IsToBeShown now_on u how
+  pub unshown_kept : (c r lo : ℕ) (hi : Option ℕ) (how : BoundBy) (u : Consumer) → now_on.consumer c ≡ Some u → u.place ≡ place.Bound r lo hi how →
+      u.shown ≡ false → IsToBeShown now_on u how
   unshown_kept c r lo hi how u row at off = shown_from c r lo hi how u row at off (bound_from t e c r lo hi how (t.consumer c) u refl row at)

@@ -7,7 +7,8 @@ use Rattle.hc_effects.proofs.{Basics.{false_true}, ConsumerEffects.{some_all}, K
 plain_turn : (n : Need) (request : Request) → n ≢ need.Bypass → bypassed_for n request.key ≡ None
 plain_turn n request other = grind (arith, nat_tests)
 
-module _ (limits : Limits) (t : Tables) (law : Lawful t) (now c want : ℕ) (k : Consumer) (row : t.consumer c ≡ Some k) (x : ℕ) (n : Need) (request : Request) (is : move_of t now want c k ≡ Opens x n request) (turns : route_of n ≡ route.Turn) where
+module _ (limits : Limits) (t : Tables) (law : Lawful t) (now c want : ℕ) (k : Consumer) (row : t.consumer c ≡ Some k) (x : ℕ) (n : Need)
+    (request : Request) (is : move_of t now want c k ≡ Opens x n request) (turns : route_of n ≡ route.Turn) where
   free : bound_to k.place ≡ None
   free = free_by t now c k n (why limits t law now c want k row x n request is).way (λ way. let never : route.Hole ≡ route.Turn = sym way ∙ turns in cc)
 
@@ -19,14 +20,16 @@ module _ (limits : Limits) (t : Tables) (law : Lawful t) (now c want : ℕ) (k :
 
   -- its consumer waits for its head, with the turn
   pub fetches : n ≢ need.Bypass → Does limits t now (event.Poll c want) NoFlaw (acts_of c (Opens x n request))
-      (with_event now (event.Poll c want) (with_consumer c (Some (record k { own = Some x; place = place.Turn x })) (with_opening x (just_opened now c n request (current t k.request.key)) t)))
+      (with_event now (event.Poll c want)
+      (with_consumer c (Some (record k { own = Some x; place = place.Turn x })) (with_opening x (just_opened now c n request (current t k.request.key)) t)))
   fetches other =
       about_current limits t law now c want k row x n request is free [] t.used (place.Turn x)
       (keeps_all limits t law now c want k row x n request is (plain_turn n request other))
       (binds_none limits t law now c want k row x n request is (ap is_hole turns))
       place_is (λ off. undue) (none_waits k.place) refl
 
-module _ (limits : Limits) (t : Tables) (law : Lawful t) (now c want : ℕ) (k : Consumer) (row : t.consumer c ≡ Some k) (x : ℕ) (request : Request) (is : move_of t now want c k ≡ Opens x need.Bypass request) where
+module _ (limits : Limits) (t : Tables) (law : Lawful t) (now c want : ℕ) (k : Consumer) (row : t.consumer c ≡ Some k) (x : ℕ) (request : Request)
+    (is : move_of t now want c k ≡ Opens x need.Bypass request) where
   abbrev it : Entry
   it = e limits t law now c want k row x need.Bypass request is
 
@@ -54,12 +57,21 @@ module _ (limits : Limits) (t : Tables) (law : Lawful t) (now c want : ℕ) (k :
 
   -- and what is current is let go
   pub bypasses : Does limits t now (event.Poll c want) NoFlaw (acts_of c (Opens x need.Bypass request))
-      (with_event now (event.Poll c want) (let_some_go now (current t k.request.key) (with_consumer c (Some (record k { own = Some x; place = place.Turn x })) (with_opening x (just_opened now c need.Bypass request (current t k.request.key)) t))))
+      (with_event now (event.Poll c want)
+      (let_some_go now (current t k.request.key)
+      (with_consumer c (Some (record k { own = Some x; place = place.Turn x }))
+      (with_opening x (just_opened now c need.Bypass request (current t k.request.key)) t))))
   bypasses =
-      let does = about_current limits t law now c want k row x need.Bypass request is (free limits t law now c want k row x need.Bypass request is refl) (with_item_first (current t k.request.key) []) t.used (place.Turn x)
+      let does = about_current limits t law now c want k row x need.Bypass request is (free limits t law now c want k row x need.Bypass request is refl)
+      (with_item_first (current t k.request.key) []) t.used (place.Turn x)
       goes (binds_none limits t law now c want k row x need.Bypass request is refl)
-      (place_is limits t law now c want k row x need.Bypass request is refl) (λ off. undue limits t law now c want k row x need.Bypass request is refl) (unwaiting k.place refl) refl in
+      (place_is limits t law now c want k row x need.Bypass request is refl) (λ off. undue limits t law now c want k row x need.Bypass request is refl)
+      (unwaiting k.place refl) refl in
       record {
         acts_are = does.acts_are;
-        tables_are = does.tables_are ∙ ap (with_event now (event.Poll c want)) (some_all now (current t k.request.key) (with_consumer c (Some (record k { own = Some x; place = place.Turn x })) (with_opening x (just_opened now c need.Bypass request (current t k.request.key)) t)));
+        tables_are = does.tables_are ∙
+            ap (with_event now (event.Poll c want))
+            (some_all now (current t k.request.key)
+            (with_consumer c (Some (record k { own = Some x; place = place.Turn x }))
+            (with_opening x (just_opened now c need.Bypass request (current t k.request.key)) t)));
       }

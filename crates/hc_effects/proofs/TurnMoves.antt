@@ -64,10 +64,15 @@ pub data Does (t : Tables) (c : ℕ) (k : Consumer) : Move → Type 0 where
   waits_body : (x : ℕ) → Does t c k (moves.Waits (wait.Body x))
   asks : (x : ℕ) → Does t c k (Asks x)
   past : (n : Need) (request : Request) → route_of n ≡ route.Direct → IsNew k → Does t c k (Opens (t.opened + 1) n request)
-  fetches : (n : Need) (request : Request) → route_of n ≡ route.Turn → IsNew k → Queues k → turn_with t k.request.key c ≡ c → (n ≡ need.Validate → (r : ℕ) × MayRead t k r) → (n ≡ need.Bypass → is_bypassing k.request ≡ true) → Does t c k (Opens (t.opened + 1) n request)
-  first : (n : Need) (request : Request) (r lo : ℕ) (hi : Option ℕ) → route_of n ≡ route.Hole → IsNew k → opened_place t (t.opened + 1) k route.Hole ≡ place.Bound r lo hi (by.FirstHole (t.opened + 1)) → Does t c k (Opens (t.opened + 1) n request)
-  later : (n : Need) (request : Request) (r lo : ℕ) (hi : Option ℕ) (how : BoundBy) → route_of n ≡ route.Hole → k.shown ≡ true → k.place ≡ place.Bound r lo hi how → Does t c k (Opens (t.opened + 1) n request)
-  shows : (r : ℕ) (why : Why) (head : Response) (lo : ℕ) (hi : Option ℕ) → ((q low y : ℕ) (high : Option ℕ) → k.place ≡ place.Bound q low high (by.FirstHole y) → has_joined (t.exchange y) ≡ true) → Does t c k (Shows r why head lo hi)
+  fetches : (n : Need) (request : Request) → route_of n ≡ route.Turn → IsNew k → Queues k → turn_with t k.request.key c ≡ c →
+      (n ≡ need.Validate → (r : ℕ) × MayRead t k r) → (n ≡ need.Bypass → is_bypassing k.request ≡ true) → Does t c k (Opens (t.opened + 1) n request)
+  first : (n : Need) (request : Request) (r lo : ℕ) (hi : Option ℕ) → route_of n ≡ route.Hole → IsNew k →
+      opened_place t (t.opened + 1) k route.Hole ≡ place.Bound r lo hi (by.FirstHole (t.opened + 1)) → Does t c k (Opens (t.opened + 1) n request)
+  later : (n : Need) (request : Request) (r lo : ℕ) (hi : Option ℕ) (how : BoundBy) → route_of n ≡ route.Hole → k.shown ≡ true →
+      k.place ≡ place.Bound r lo hi how → Does t c k (Opens (t.opened + 1) n request)
+  shows : (r : ℕ) (why : Why) (head : Response) (lo : ℕ) (hi : Option ℕ) →
+      ((q low y : ℕ) (high : Option ℕ) → k.place ≡ place.Bound q low high (by.FirstHole y) → has_joined (t.exchange y) ≡ true) →
+      Does t c k (Shows r why head lo hi)
   given : (run : Run) → Does t c k (Gives run)
   ends : Does t c k Ends
   fails : (cause : Cause) → Does t c k (Fails cause)
@@ -86,7 +91,8 @@ module _ (t : Tables) (c : ℕ) (k : Consumer) where
     does_later hole (Some hi) = later_row k.place hole (bound_row t k) refl refl
 
     does_reading : Does t c k (reading t want c k)
-    does_reading = reading_as (Does t c k) nothing t want c k ends given (λ cause due. fails cause) (λ x from. waits_as (Does t c k) nothing x (waits_body _) (asks x) (t.exchange x)) (λ hole. does_later hole (hi_of t k.place))
+    does_reading = reading_as (Does t c k) nothing t want c k ends given (λ cause due. fails cause)
+        (λ x from. waits_as (Does t c k) nothing x (waits_body _) (asks x) (t.exchange x)) (λ hole. does_later hole (hi_of t k.place))
 
   -- PLANS
 
@@ -101,7 +107,8 @@ module _ (t : Tables) (c : ℕ) (k : Consumer) where
       there : t.representation r ≡ Some v
       is : z ≡ candidate t now r k.request v
 
-    candidate_row : (r : ℕ) (o : Option Representation) (z : Candidate) → current t k.request.key ≡ Some r → t.representation r ≡ o → option_map (λ v. candidate t now r k.request v) o ≡ Some z → IsCandidate z
+    candidate_row : (r : ℕ) (o : Option Representation) (z : Candidate) → current t k.request.key ≡ Some r → t.representation r ≡ o →
+        option_map (λ v. candidate t now r k.request v) o ≡ Some z → IsCandidate z
     candidate_row r None z at there h = absurd (none_some z h)
     candidate_row r (Some v) z at there h = record { r = r; current_is = at; v = v; there = there; is = sym (some_inj _ z h) }
 
@@ -150,7 +157,8 @@ module _ (t : Tables) (c : ℕ) (k : Consumer) where
     bypass_is h = h
 
     -- a first hole binds to what is current
-    binds_first : (hole span : Span) (z : Candidate) → IsNew k → z.span ≡ wanted.Interval span → IsCandidate z → Does t c k (opens_hole t k.request (current_row t k) hole)
+    binds_first : (hole span : Span) (z : Candidate) → IsNew k → z.span ≡ wanted.Interval span → IsCandidate z →
+        Does t c k (opens_hole t k.request (current_row t k) hole)
     binds_first hole span z is_new at found =
         let wants : wanted_of (range_of k.request) found.v.head.total ≡ wanted.Interval span = ap (λ (y : Candidate). y.span) (sym found.is) ∙ at in
         let here : row_of t (current t k.request.key) ≡ Some found.v = ap (row_of t) found.current_is ∙ found.there in
@@ -165,8 +173,11 @@ module _ (t : Tables) (c : ℕ) (k : Consumer) where
     does_plan u _ (plans.waits_turn d other only back) = waits_turn d (asking u only) other (kept_none k.place back)
     does_plan u _ (plans.fetches n way queue turn_is varied bypass) =
         fetches n _ way (asking u queue.asks) (queueing queue) turn_is (λ is. may_read (varied is).1 (plain_is (varied is).0)) (λ is. bypass_is (bypass is))
-    does_plan u _ (plans.binds why span) = binds_as (Does t c k) nothing t k why span (current t k.request.key) (λ r head lo hi now. shows r why head lo hi (λ q low y high at. absurd (none_some q (sym u.bound ∙ ap bound_to at))))
-    does_plan u _ (plans.first span hole z only current_is at) = binds_first hole span z (asking u only) at (candidate_is (current t k.request.key) z refl current_is)
+    does_plan u _ (plans.binds why span) =
+        binds_as (Does t c k) nothing t k why span (current t k.request.key)
+        (λ r head lo hi now. shows r why head lo hi (λ q low y high at. absurd (none_some q (sym u.bound ∙ ap bound_to at))))
+    does_plan u _ (plans.first span hole z only current_is at) =
+        binds_first hole span z (asking u only) at (candidate_is (current t k.request.key) z refl current_is)
     does_plan u _ (plans.busy d kept queue plain varied) =
         let m = may_read varied (plain_is plain) in passes d m.0 (asking u queue.asks) (queueing queue) m.1
     does_plan u _ plans.misses = fails _
@@ -174,11 +185,13 @@ module _ (t : Tables) (c : ℕ) (k : Consumer) where
     does_planned : IsUnread k → Does t c k (planned_move t now c k)
     does_planned u = does_plan u (plan_of view) (plan_is view through)
 
-    by_shown : (want : ℕ) (b : Bool) → k.shown ≡ b → (b ≡ false → (bound_to k.place ≡ None) × Plans k.place) → Does t c k (if b then reading t want c k else planned_move t now c k)
+    by_shown : (want : ℕ) (b : Bool) → k.shown ≡ b → (b ≡ false → (bound_to k.place ≡ None) × Plans k.place) →
+        Does t c k (if b then reading t want c k else planned_move t now c k)
     by_shown want true shown free = does_reading want shown
     by_shown want false shown free = let both = free refl in does_planned (record { shown = shown; bound = both.0; plans = both.1 })
 
-    does_place : (want : ℕ) (p : Place) → k.place ≡ p → shows_head t k ≡ None → option_and_then (if_headless t) (own_open t k) ≡ None → Does t c k (by_place t now want c k p)
+    does_place : (want : ℕ) (p : Place) → k.place ≡ p → shows_head t k ≡ None → option_and_then (if_headless t) (own_open t k) ≡ None →
+        Does t c k (by_place t now want c k p)
     does_place want (place.Down cause) at none not_waiting = fails cause
     does_place want place.Over at none not_waiting = nothing
     does_place want (place.Bound r lo hi how) at none not_waiting =

@@ -25,9 +25,11 @@ module _ (t : Tables) (e : Entry) (c : ℕ) (k : Consumer) where
     kept : ComesFrom k.place
     plain : (p : Place) → IsPlain p → ComesFrom p
     turned : (o : Opening) → opening_in e.acts ≡ Some o → o.c ≡ c → route_of o.need ≡ route.Turn → ComesFrom (place.Turn o.x)
-    first_of : (o : Opening) (r lo : ℕ) (hi : Option ℕ) → opening_in e.acts ≡ Some o → o.c ≡ c → route_of o.need ≡ route.Hole → ComesFrom (place.Bound r lo hi (by.FirstHole o.x))
+    first_of : (o : Opening) (r lo : ℕ) (hi : Option ℕ) → opening_in e.acts ≡ Some o → o.c ≡ c → route_of o.need ≡ route.Hole →
+        ComesFrom (place.Bound r lo hi (by.FirstHole o.x))
     busy : (d r : ℕ) (keeps : Option ℕ) → wait_in c e.acts ≡ Some (wait.Busy d) → current t k.request.key ≡ Some r → ComesFrom (place.Passed r keeps)
-    validated : (x r : ℕ) (response : Response) (w : Exchange) → e.event ≡ event.Head x response → t.exchange x ≡ Some w → w.c ≡ c → case_at t e ≡ Some case.Validated → w.aim ≡ Some r → ComesFrom (place.Passed r (Some x))
+    validated : (x r : ℕ) (response : Response) (w : Exchange) → e.event ≡ event.Head x response → t.exchange x ≡ Some w → w.c ≡ c →
+        case_at t e ≡ Some case.Validated → w.aim ≡ Some r → ComesFrom (place.Passed r (Some x))
 
   from_if : (b : Bool) (q z : Consumer) → (b ≡ true → ComesFrom q.place) → ComesFrom z.place → ComesFrom (if b then q else z).place
   from_if true q z a h = a refl
@@ -37,11 +39,13 @@ module _ (t : Tables) (e : Entry) (c : ℕ) (k : Consumer) where
   founding x other (wanted.Interval span) p = plain _ tt
   founding x other _ p = plain other p
 
-  passes : (x : ℕ) (response : Response) (w : Exchange) (o : Option ℕ) → e.event ≡ event.Head x response → t.exchange x ≡ Some w → w.c ≡ c → case_at t e ≡ Some case.Validated → w.aim ≡ o → ComesFrom (passed_on x o)
+  passes : (x : ℕ) (response : Response) (w : Exchange) (o : Option ℕ) → e.event ≡ event.Head x response → t.exchange x ≡ Some w → w.c ≡ c →
+      case_at t e ≡ Some case.Validated → w.aim ≡ o → ComesFrom (passed_on x o)
   passes x response w None at row mine found is = plain place.Line tt
   passes x response w (Some r) at row mine found is = validated x r response w at row mine found is
 
-  by_case : (x : ℕ) (response : Response) (w : Exchange) (o : Option HeadCase) → e.event ≡ event.Head x response → t.exchange x ≡ Some w → w.c ≡ c → case_at t e ≡ o → ComesFrom (place_by_case x response w k o)
+  by_case : (x : ℕ) (response : Response) (w : Exchange) (o : Option HeadCase) → e.event ≡ event.Head x response → t.exchange x ≡ Some w → w.c ≡ c →
+      case_at t e ≡ o → ComesFrom (place_by_case x response w k o)
   by_case x response w (Some case.Validated) at row mine found = passes x response w w.aim at row mine found refl
   by_case x response w (Some case.FoundsWhole) at row mine found = plain _ tt
   by_case x response w (Some case.FirstReplaced) at row mine found = plain _ tt
@@ -62,7 +66,8 @@ module _ (t : Tables) (e : Entry) (c : ℕ) (k : Consumer) where
   by_case x response w (Some case.LaterJoins) at row mine found = kept
   by_case x response w (Some case.LaterChanged) at row mine found = kept
 
-  by_head_from : (x : ℕ) (response : Response) (o : Option Exchange) → e.event ≡ event.Head x response → t.exchange x ≡ o → ComesFrom (by_head t e c x response o k).place
+  by_head_from : (x : ℕ) (response : Response) (o : Option Exchange) → e.event ≡ event.Head x response → t.exchange x ≡ o →
+      ComesFrom (by_head t e c x response o k).place
   by_head_from x response None at row = kept
   by_head_from x response (Some w) at row = from_if (w.c == c) _ k (λ mine. by_case x response w (case_at t e) at row (eq_is w.c c mine) refl) kept
 
@@ -111,11 +116,13 @@ module _ (t : Tables) (e : Entry) (c : ℕ) (k : Consumer) where
     waits_from (Some (wait.Head x)) is = from
     waits_from (Some (wait.Body x)) is = from
 
-    hole_from : (o : Opening) (r : ℕ) (wants : Wanted) → opening_in e.acts ≡ Some o → o.c ≡ c → route_of o.need ≡ route.Hole → ComesFrom (bound_to_wanted r (by.FirstHole o.x) place.Line wants)
+    hole_from : (o : Opening) (r : ℕ) (wants : Wanted) → opening_in e.acts ≡ Some o → o.c ≡ c → route_of o.need ≡ route.Hole →
+        ComesFrom (bound_to_wanted r (by.FirstHole o.x) place.Line wants)
     hole_from o r (wanted.Interval span) is mine way = first_of o r span.lo (Some span.hi) is mine way
     hole_from o r _ is mine way = plain place.Line tt
 
-    holes_from : (o : Opening) (r : Option ℕ) (v : Option Representation) → opening_in e.acts ≡ Some o → o.c ≡ c → route_of o.need ≡ route.Hole → ComesFrom (place_for_hole o.x q.request r v)
+    holes_from : (o : Opening) (r : Option ℕ) (v : Option Representation) → opening_in e.acts ≡ Some o → o.c ≡ c → route_of o.need ≡ route.Hole →
+        ComesFrom (place_for_hole o.x q.request r v)
     holes_from o None v is mine way = plain place.Line tt
     holes_from o (Some r) None is mine way = plain place.Line tt
     holes_from o (Some r) (Some v) is mine way = hole_from o r (wanted_of (range_of q.request) v.head.total) is mine way
@@ -130,7 +137,8 @@ module _ (t : Tables) (e : Entry) (c : ℕ) (k : Consumer) where
 
     opening_from : (o : Option Opening) → opening_in e.acts ≡ o → ComesFrom (by_opening t c o q).place
     opening_from None is = from
-    opening_from (Some o) is = from_if (o.c == c) (with_opening t o q) q (λ mine. unless_from (bound_to q.place) _ (opened_from o (route_of o.need) is (eq_is o.c c mine) refl)) from
+    opening_from (Some o) is =
+        from_if (o.c == c) (with_opening t o q) q (λ mine. unless_from (bound_to q.place) _ (opened_from o (route_of o.need) is (eq_is o.c c mine) refl)) from
 
   shown_from : (p : Place) (o : Option Showing) → ComesFrom p → ComesFrom (shown_place c o p)
   shown_from p None from = from
@@ -167,7 +175,9 @@ module _ (t : Tables) (e : Entry) (c : ℕ) (k : Consumer) where
     pub request : z.request ≡ k.request
     pub shown : z.shown ≡ (shows_in c e.acts || k.shown)
 
-  settled_after : (b : Bool) → starts_over t e c k ≡ b → IsAfter (if b then back_in_line e.now (consumer_acted t e c (consumer_heard t e c e.event k)) else due_after t e c k (consumer_acted t e c (consumer_heard t e c e.event k)))
+  settled_after : (b : Bool) → starts_over t e c k ≡ b →
+      IsAfter (if b then back_in_line e.now (consumer_acted t e c (consumer_heard t e c e.event k)) else
+      due_after t e c k (consumer_acted t e c (consumer_heard t e c e.event k)))
   settled_after true over = let a = acted t e c k in record { from = plain place.Line tt; stays = is_plain tt; request = a.request_is; shown = a.shown_is }
   settled_after false over =
       let a = acted t e c k in

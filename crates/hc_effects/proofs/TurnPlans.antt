@@ -25,7 +25,8 @@ pub record IsQueueing (v : PlanView) : Type 0 where
 pub data Planned (v : PlanView) : Plan → Type 0 where
   past : (n : Need) → route_of n ≡ route.Direct → v.class.only ≡ false → Planned v (plan.Direct n)
   waits_turn : (d : ℕ) → (v.turn == v.c) ≡ false → v.class.only ≡ false → (v.passed ≡ true → v.kept ≡ None) → Planned v (plan.Turn d)
-  fetches : (n : Need) → route_of n ≡ route.Turn → IsQueueing v → v.turn ≡ v.c → (n ≡ need.Validate → (v.class.bypassing ≡ false) × IsVaried v) → (n ≡ need.Bypass → v.class.bypassing ≡ true) → Planned v (plan.Fetch n)
+  fetches : (n : Need) → route_of n ≡ route.Turn → IsQueueing v → v.turn ≡ v.c → (n ≡ need.Validate → (v.class.bypassing ≡ false) × IsVaried v) →
+      (n ≡ need.Bypass → v.class.bypassing ≡ true) → Planned v (plan.Fetch n)
   binds : (why : Why) (span : Option Span) → Planned v (plan.Bind why span)
   first : (span hole : Span) (s : Candidate) → v.class.only ≡ false → v.current ≡ Some s → s.span ≡ wanted.Interval span → Planned v (plan.FirstHole span hole)
   busy : (d : ℕ) (kept : Option ℕ) → IsQueueing v → v.class.bypassing ≡ false → IsVaried v → Planned v (plan.Busy d kept)
@@ -78,34 +79,43 @@ module _ (v : PlanView) (through : v.passed ≡ true → (v.class.bypassing ≡ 
       validates none = grind (arith, nat_tests)
 
       by_why_is : (o : Option Why) → why_by v.kept s.allowed ≡ o → Planned v (by_why v s o)
-      by_why_is None none = fetches need.Validate refl queueing (validates none) (λ is. (plain, varied)) (λ is. absurd (let no_one : need.Validate ≡ need.Bypass = is in cc))
+      by_why_is None none = fetches need.Validate refl queueing (validates none) (λ is. (plain, varied))
+          (λ is. absurd (let no_one : need.Validate ≡ need.Bypass = is in cc))
       by_why_is (Some why) some = mix (Planned v) _ _ _ (binds why None) (by_wanted_is why s.span refl)
 
-    by_vary : (s : Candidate) (b : Bool) → v.current ≡ Some s → s.vary ≡ b → v.class.bypassing ≡ false → Planned v (if b then by_why v s (why_by v.kept s.allowed) else plan.Fetch need.Vary)
+    by_vary : (s : Candidate) (b : Bool) → v.current ≡ Some s → s.vary ≡ b → v.class.bypassing ≡ false →
+        Planned v (if b then by_why v s (why_by v.kept s.allowed) else plan.Fetch need.Vary)
     by_vary s true current vary plain = by_why_is s current vary plain (why_by v.kept s.allowed) refl
     by_vary s false current vary plain =
         fetches need.Vary refl queueing (turn_or v.passed refl (λ passed.
         let t = (through passed).1 in
         let same : t.s ≡ s = (let is : Some t.s ≡ Some s = sym t.current ∙ current in cc) in
-        never_true s.vary (ap (λ (z : Candidate). z.vary) (sym same) ∙ t.vary) vary)) (λ is. absurd (let no_one : need.Vary ≡ need.Validate = is in cc)) (λ is. absurd (let no_one : need.Vary ≡ need.Bypass = is in cc))
+        never_true s.vary (ap (λ (z : Candidate). z.vary) (sym same) ∙ t.vary) vary)) (λ is. absurd (let no_one : need.Vary ≡ need.Validate = is in cc))
+        (λ is. absurd (let no_one : need.Vary ≡ need.Bypass = is in cc))
 
     by_current_is : (o : Option Candidate) → v.current ≡ o → v.class.bypassing ≡ false → Planned v (by_current v o)
     by_current_is None none plain =
-        fetches need.Miss refl queueing (turn_or v.passed refl (λ passed. let t = (through passed).1 in never_none v.current t.s t.current none)) (λ is. absurd (let no_one : need.Miss ≡ need.Validate = is in cc)) (λ is. absurd (let no_one : need.Miss ≡ need.Bypass = is in cc))
+        fetches need.Miss refl queueing (turn_or v.passed refl (λ passed. let t = (through passed).1 in never_none v.current t.s t.current none))
+        (λ is. absurd (let no_one : need.Miss ≡ need.Validate = is in cc)) (λ is. absurd (let no_one : need.Miss ≡ need.Bypass = is in cc))
     by_current_is (Some s) some plain = by_vary s s.vary some refl plain
 
     by_class : (b : Bool) → v.class.bypassing ≡ b → Planned v (if b then plan.Fetch need.Bypass else by_current v v.current)
     by_class true bypass =
-        fetches need.Bypass refl queueing (turn_or v.passed refl (λ passed. never_true v.class.bypassing bypass (through passed).0)) (λ is. absurd (let no_one : need.Bypass ≡ need.Validate = is in cc)) (λ _. bypass)
+        fetches need.Bypass refl queueing (turn_or v.passed refl (λ passed. never_true v.class.bypassing bypass (through passed).0))
+        (λ is. absurd (let no_one : need.Bypass ≡ need.Validate = is in cc)) (λ _. bypass)
     by_class false is = by_current_is v.current refl is
 
-  by_queue : (b : Bool) → IsQueueing v → queues v ≡ b → Planned v (if b then plan.Turn v.turn else if v.class.bypassing then plan.Fetch need.Bypass else by_current v v.current)
+  by_queue : (b : Bool) → IsQueueing v → queues v ≡ b →
+      Planned v (if b then plan.Turn v.turn else if v.class.bypassing then plan.Fetch need.Bypass else by_current v v.current)
   by_queue true queueing is =
       let let_back : (not v.passed || is_back v) ≡ true = and_left _ _ (and_left _ _ is) in
-      waits_turn v.turn (not_same (v.turn == v.c) (and_then (not v.passed || is_back v) _ (and_left _ _ is))) queueing.asks (λ passed. kept_none v.passed v.kept (is_none (allowed_by v.current)) passed let_back)
+      waits_turn v.turn (not_same (v.turn == v.c) (and_then (not v.passed || is_back v) _ (and_left _ _ is))) queueing.asks
+      (λ passed. kept_none v.passed v.kept (is_none (allowed_by v.current)) passed let_back)
   by_queue false queueing is = by_class queueing is v.class.bypassing refl
 
-  bare_is : (b : Bool) → v.class.only ≡ false → v.class.disabled ≡ b → Planned v (if b then plan.Direct need.Disabled else if queues v then plan.Turn v.turn else if v.class.bypassing then plan.Fetch need.Bypass else by_current v v.current)
+  bare_is : (b : Bool) → v.class.only ≡ false → v.class.disabled ≡ b →
+      Planned v (if b then plan.Direct need.Disabled else if queues v then plan.Turn v.turn else if v.class.bypassing then plan.Fetch need.Bypass else
+      by_current v v.current)
   bare_is true asks is = past need.Disabled refl asks
   bare_is false asks is = by_queue (queues v) (record { cached = is; asks = asks }) refl
 

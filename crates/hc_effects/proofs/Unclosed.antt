@@ -52,16 +52,22 @@ in_poll t now want c x (Misreads r) rest h = h
 in_poll t now want c x _ rest h = in_move x c (poll_move t now want c (t.consumer c)) rest h
 
 module _ (limits : Limits) (t : Tables) (now : ℕ) (flaw : Flaw) (s : Sound t) where
-  reported : (ev : Event) (x : ℕ) → closes_in x (map act.Evicted (evicted limits t now ev) ++ (loss_acts flaw ++ map act.Close (closing t (record { now = now; event = ev; acts = loss_acts flaw })))) ≡ true → Among x (closing t (record { now = now; event = ev; acts = loss_acts flaw }))
-  reported ev x h = in_all x (closing t (record { now = now; event = ev; acts = loss_acts flaw })) (in_lost x flaw _ (in_evicted x (evicted limits t now ev) _ h))
+  reported : (ev : Event) (x : ℕ) → closes_in
+      x (map act.Evicted (evicted limits t now ev) ++
+      (loss_acts flaw ++ map act.Close (closing t (record { now = now; event = ev; acts = loss_acts flaw })))) ≡ true →
+      Among x (closing t (record { now = now; event = ev; acts = loss_acts flaw }))
+  reported ev x h = in_all x (closing t (record { now = now; event = ev; acts = loss_acts flaw }))
+      (in_lost x flaw _ (in_evicted x (evicted limits t now ev) _ h))
 
   closed_by : (ev : Event) (x : ℕ) → closes_in x (accepted_acts limits t now ev flaw) ≡ true → Among x (closing t (before limits t now flaw s ev))
-  closed_by (event.Poll c want) x h = in_closes x (closing t (before limits t now flaw s (event.Poll c want))) (loss_acts flaw) (in_poll t now want c x flaw _ h) (lost_closes x flaw)
+  closed_by (event.Poll c want) x h =
+      in_closes x (closing t (before limits t now flaw s (event.Poll c want))) (loss_acts flaw) (in_poll t now want c x flaw _ h) (lost_closes x flaw)
   closed_by (event.Cancel c) x h = in_closes x (closing t (before limits t now flaw s (event.Cancel c))) (loss_acts flaw) h (lost_closes x flaw)
   closed_by ev x h = reported ev x h
 
   -- what is closed had to be
-  pub had_to : (ev : Event) (x : ℕ) (w : Exchange) → t.exchange x ≡ Some w → closes_in x (accepted_acts limits t now ev flaw) ≡ true → must_close t (before limits t now flaw s ev) x w ≡ true
+  pub had_to : (ev : Event) (x : ℕ) (w : Exchange) → t.exchange x ≡ Some w → closes_in x (accepted_acts limits t now ev flaw) ≡ true →
+      must_close t (before limits t now flaw s ev) x w ≡ true
   unfolding closing
   had_to ev x w row h =
       let test = among_test x (λ y. closes_row t (before limits t now flaw s ev) y (t.exchange y)) (reverse t.openings) (closed_by ev x h) in
@@ -74,13 +80,18 @@ module _ (limits : Limits) (t : Tables) (now : ℕ) (flaw : Flaw) (s : Sound t) 
   -- and there
   pub had_row : (ev : Event) (x : ℕ) → closes_in x (accepted_acts limits t now ev flaw) ≡ true → t.exchange x ≡ None → ⊥
   unfolding closing
-  had_row ev x h none = none_test ev x (t.exchange x) (among_test x (λ y. closes_row t (before limits t now flaw s ev) y (t.exchange y)) (reverse t.openings) (closed_by ev x h)) none
+  had_row ev x h none = none_test ev x (t.exchange x)
+      (among_test x (λ y. closes_row t (before limits t now flaw s ev) y (t.exchange y)) (reverse t.openings) (closed_by ev x h)) none
 
-  row_test : (ev : Event) (x : ℕ) (w : Exchange) (o : Option Exchange) → o ≡ Some w → closes_row t (before limits t now flaw s ev) x o ≡ true → (exchange_heard t (before limits t now flaw s ev) x ev w).is_open ≡ true
+  row_test : (ev : Event) (x : ℕ) (w : Exchange) (o : Option Exchange) → o ≡ Some w → closes_row t (before limits t now flaw s ev) x o ≡ true →
+      (exchange_heard t (before limits t now flaw s ev) x ev w).is_open ≡ true
   row_test ev x w None is h = absurd (false_true h)
-  row_test ev x w (Some z) is h = let same : z ≡ w = (let is_it : Some z ≡ Some w = is in cc) in ap (λ (q : Exchange). (exchange_heard t (before limits t now flaw s ev) x ev q).is_open) (sym same) ∙ and_right _ _ h
+  row_test ev x w (Some z) is h = let same : z ≡ w = (let is_it : Some z ≡ Some w = is in cc) in
+      ap (λ (q : Exchange). (exchange_heard t (before limits t now flaw s ev) x ev q).is_open) (sym same) ∙ and_right _ _ h
 
   -- and the event left it open
-  pub had_open : (ev : Event) (x : ℕ) (w : Exchange) → t.exchange x ≡ Some w → closes_in x (accepted_acts limits t now ev flaw) ≡ true → (exchange_heard t (before limits t now flaw s ev) x ev w).is_open ≡ true
+  pub had_open : (ev : Event) (x : ℕ) (w : Exchange) → t.exchange x ≡ Some w → closes_in x (accepted_acts limits t now ev flaw) ≡ true →
+      (exchange_heard t (before limits t now flaw s ev) x ev w).is_open ≡ true
   unfolding closing
-  had_open ev x w row h = row_test ev x w (t.exchange x) row (among_test x (λ y. closes_row t (before limits t now flaw s ev) y (t.exchange y)) (reverse t.openings) (closed_by ev x h))
+  had_open ev x w row h = row_test ev x w (t.exchange x) row
+      (among_test x (λ y. closes_row t (before limits t now flaw s ev) y (t.exchange y)) (reverse t.openings) (closed_by ev x h))

@@ -20,7 +20,8 @@ two_off a = grind (arith, nat_tests)
 and_open : (d o h f : Bool) → (((d && (o && h)) && f) && o) ≡ ((d && (o && h)) && f)
 and_open d o h f = grind (arith, nat_tests)
 
-module _ (limits : Limits) (t : Tables) (law : Lawful t) (now x : ℕ) (response : Response) (goes : denial t (event.Head x response) ≡ None) (w : Exchange) (row : t.exchange x ≡ Some w) (k : Consumer) (asker : t.consumer w.c ≡ Some k) (unsafe : changes w response ≡ true) where
+module _ (limits : Limits) (t : Tables) (law : Lawful t) (now x : ℕ) (response : Response) (goes : denial t (event.Head x response) ≡ None) (w : Exchange)
+    (row : t.exchange x ≡ Some w) (k : Consumer) (asker : t.consumer w.c ≡ Some k) (unsafe : changes w response ≡ true) where
   abbrev ev : Event
   ev = event.Head x response
 
@@ -28,7 +29,9 @@ module _ (limits : Limits) (t : Tables) (law : Lawful t) (now x : ℕ) (response
   abbrev key : List ℕ
   key = w.request.key
 
-  module _ (g : HeadCase) (is : head_case (head_view t false w response) ≡ g) (dooms : doomed_by_case (Some g) w response ≡ Some key) (past : k.place ≡ place.Direct x) (unfounding : is_founding (Some g) ≡ false) (unupdating : is_updating (Some g) ≡ false) (unjoining : is_joining (Some g) ≡ false) (stays : sends_back (Some g) ≡ false) (fine : cause_by_case (Some g) x ≡ None)
+  module _ (g : HeadCase) (is : head_case (head_view t false w response) ≡ g) (dooms : doomed_by_case (Some g) w response ≡ Some key)
+      (past : k.place ≡ place.Direct x) (unfounding : is_founding (Some g) ≡ false) (unupdating : is_updating (Some g) ≡ false)
+      (unjoining : is_joining (Some g) ≡ false) (stays : sends_back (Some g) ≡ false) (fine : cause_by_case (Some g) x ≡ None)
       (also : Option ℕ) (refuses : (if is_refused (Some g) && not (is_reached (promise_in w response) 0) then Some x else None) ≡ also) where
     -- what is closed
     abbrev xs : List ℕ
@@ -81,7 +84,16 @@ module _ (limits : Limits) (t : Tables) (law : Lawful t) (now x : ℕ) (response
         here_by a c d = grind (arith, nat_tests)
 
         at_x : closes_row t b x (t.exchange x) ≡ (is_number also x || is_awaited t key x (t.exchange x))
-        at_x = rw (row, is_b, eqb-same x, doomed_b, unawaited, no_member x (family x w), (new limits t law now x response goes w row).is_open, refuses_here (is_refused (Some g) && not (is_reached (promise_in w response) 0)) refuses)
+        at_x = rw (
+          row,
+          is_b,
+          eqb-same x,
+          doomed_b,
+          unawaited,
+          no_member x (family x w),
+          (new limits t law now x response goes w row).is_open,
+          refuses_here (is_refused (Some g) && not (is_reached (promise_in w response) 0)) refuses,
+        )
             (here_by (is_refused (Some g)) (not (is_reached (promise_in w response) 0)) (bytes_eq key w.request.key && is_none w.head))
 
         apart_by : (a d o h f : Bool) → (((a && false) || ((d && (o && h)) && f) || false || false) && o) ≡ ((d && (o && h)) && f)
@@ -90,7 +102,8 @@ module _ (limits : Limits) (t : Tables) (law : Lawful t) (now x : ℕ) (response
 
         by_row : (o : Option Exchange) → nat_eq x y ≡ false → closes_row t b y o ≡ (is_number also y || is_awaited t key y o)
         by_row None apart = rw (refuses_other y apart (is_refused (Some g) && not (is_reached (promise_in w response) 0)) refuses) refl
-        by_row (Some u) apart = rw (is_b, apart, doomed_b, no_member y (family y u), refuses_other y apart (is_refused (Some g) && not (is_reached (promise_in w response) 0)) refuses)
+        by_row (Some u) apart = rw
+            (is_b, apart, doomed_b, no_member y (family y u), refuses_other y apart (is_refused (Some g) && not (is_reached (promise_in w response) 0)) refuses)
             (apart_by (is_refused (Some g)) (bytes_eq key u.request.key) u.is_open (is_none u.head) (awaits (t.consumer u.c) y))
 
     closing_is : closing t b ≡ xs
@@ -99,14 +112,17 @@ module _ (limits : Limits) (t : Tables) (law : Lawful t) (now x : ℕ) (response
 
     acts_are : accepted_acts limits t now ev NoFlaw ≡ map act.Close xs
     acts_are =
-        ap (λ rs. map act.Evicted rs ++ map act.Close (closing t b)) (evicts_none limits t law now x response goes w row (ap (λ h. is_founding (Some h)) is ∙ unfounding))
+        ap (λ rs. map act.Evicted rs ++ map act.Close (closing t b))
+        (evicts_none limits t law now x response goes w row (ap (λ h. is_founding (Some h)) is ∙ unfounding))
         ∙ ap (λ ys. map act.Close ys) closing_is
 
     spared_it : (p : Place) → IsSpared t it p
     spared_it p = λ r lo hi how v at there. spared_as t now x response [] NoFlaw xs r v refl
 
     unclosed : (r : ℕ) (v : Representation) → t.representation r ≡ Some v → is_in xs r ≡ false
-    unclosed = awaited_apart t key law.sound also (λ y at. ap t.representation (sym (is_x y (is_refused (Some g) && not (is_reached (promise_in w response) 0)) (refuses ∙ at))) ∙ (new limits t law now x response goes w row).unfounded)
+    unclosed = awaited_apart t key law.sound also
+        (λ y at. ap t.representation (sym (is_x y (is_refused (Some g) && not (is_reached (promise_in w response) 0)) (refuses ∙ at))) ∙
+        (new limits t law now x response goes w row).unfounded)
       where
         is_x : (y : ℕ) (c : Bool) → (if c then Some x else None) ≡ Some y → x ≡ y
         is_x y true at = some_inj x y at
@@ -116,7 +132,8 @@ module _ (limits : Limits) (t : Tables) (law : Lawful t) (now x : ℕ) (response
     rs = with_item_first (current t key) []
 
     -- just what is current goes
-    goes_as_it : ((r : ℕ) → goes_by_case t it r (Some g) w ≡ false) → (r : ℕ) (v : Representation) → t.representation r ≡ Some v → becomes_gone t it r v ≡ is_in rs r
+    goes_as_it : ((r : ℕ) → goes_by_case t it r (Some g) w ≡ false) → (r : ℕ) (v : Representation) → t.representation r ≡ Some v →
+        becomes_gone t it r v ≡ is_in rs r
     goes_as_it none r v there =
         goes_as t now x response [] NoFlaw xs w row g is_it r v (unclosed r v there)
         ∙ (rw (doomed_it, none r) (three_off (is_current t v.key r && bytes_eq key v.key))
@@ -138,12 +155,17 @@ module _ (limits : Limits) (t : Tables) (law : Lawful t) (now x : ℕ) (response
 
       asks : (q : Consumer) → heard t now x response [] NoFlaw xs w g k ≡ q → consumer_after t it w.c (t.consumer w.c) ≡ Some q
       asks q same =
-          asker_goes_on t now x response [] NoFlaw xs w row g is_it k asker (waiter limits t law now x response goes w row k asker).at (undue limits t law now x response goes w row k asker)
-          (rw past (then_false (is_key (doomed_key_of t it) k.request.key) false refl)) (spared_it k.place) (spared_it (heard t now x response [] NoFlaw xs w g k).place) stays fine
+          asker_goes_on t now x response [] NoFlaw xs w row g is_it k asker (waiter limits t law now x response goes w row k asker).at
+          (undue limits t law now x response goes w row k asker)
+          (rw past (then_false (is_key (doomed_key_of t it) k.request.key) false refl)) (spared_it k.place)
+          (spared_it (heard t now x response [] NoFlaw xs w g k).place) stays fine
           ∙ ap Some same
 
       -- who waits for the key starts over, what is awaited is closed, and what is current is let go
-      dooms_key : (q : Consumer) → heard t now x response [] NoFlaw xs w g k ≡ q → waits_for_any rs q.place ≡ false → Does limits t now ev NoFlaw (map act.Close xs) (with_event now ev (let_some_go now (current t key) (with_consumer w.c (Some q) (all_closed xs (with_answer now x response w.joined w (woken now key t))))))
+      dooms_key : (q : Consumer) → heard t now x response [] NoFlaw xs w g k ≡ q → waits_for_any rs q.place ≡ false →
+          Does limits t now ev NoFlaw (map act.Close xs)
+          (with_event now ev (let_some_go now (current t key)
+          (with_consumer w.c (Some q) (all_closed xs (with_answer now x response w.joined w (woken now key t))))))
       dooms_key q same unwaiting = record {
         acts_are = acts_are;
         tables_are =
@@ -152,12 +174,14 @@ module _ (limits : Limits) (t : Tables) (law : Lawful t) (now x : ℕ) (response
               joins = ap (λ o. if is_joining o then w.aim else w.joined) is_it ∙ rw unjoining refl;
               founded = rw unfounding refl;
               used = rw unfounding refl;
-              representation = λ r. row_by t now x response [] NoFlaw xs w row g is_it rs (goes_as_it none) r (rw unfounding refl) (λ v there. (rw (is_it, unupdating) refl, refl));
+              representation = λ r. row_by t now x response [] NoFlaw xs w row g is_it rs (goes_as_it none) r (rw unfounding refl)
+                  (λ v there. (rw (is_it, unupdating) refl, refl));
               asker = asks q same;
               unwaiting = unwaiting;
               others = others_are;
             })
-            ∙ ap (with_event now ev) (some_all now (current t key) (with_consumer w.c (Some q) (all_closed xs (with_answer now x response w.joined w (woken now key t))))));
+            ∙ ap (with_event now ev)
+            (some_all now (current t key) (with_consumer w.c (Some q) (all_closed xs (with_answer now x response w.joined w (woken now key t))))));
       }
 
   -- what its consumer reads is past the store
@@ -183,19 +207,26 @@ module _ (limits : Limits) (t : Tables) (law : Lawful t) (now x : ℕ) (response
       (with_event now ev (let_some_go now (current t key) (all_closed (awaited_and t key None) (with_answer now x response w.joined w (woken now key t)))))
   dooms_taken is =
       let past = direct_place (direct_way (case_as is)) in
-      subst (λ (s : Tables). Does limits t now ev NoFlaw (map act.Close (awaited_and t key None)) (with_event now ev (let_some_go now (current t key) s))) (same_consumer t (all_closed (awaited_and t key None) (with_answer now x response w.joined w (woken now key t))) w.c k (stays_so past))
+      subst (λ (s : Tables). Does limits t now ev NoFlaw (map act.Close (awaited_and t key None)) (with_event now ev (let_some_go now (current t key) s)))
+      (same_consumer t (all_closed (awaited_and t key None) (with_answer now x response w.joined w (woken now key t))) w.c k (stays_so past))
       (dooms_key case.DirectTaken is (rw unsafe refl) past refl refl refl refl refl None refl (λ r. refl) k refl (rw past refl))
     where
       by_waiting : (b : Bool) → k.place ≡ place.Direct x → Some (if b && waits_at t k.place then back_in_line now k else k) ≡ Some k
       by_waiting true past = rw past refl
       by_waiting false past = refl
 
-      stays_so : k.place ≡ place.Direct x → (all_closed (awaited_and t key None) (with_answer now x response w.joined w (woken now key t))).consumer w.c ≡ Some k
-      stays_so past = ap (λ (s : Tables). s.consumer w.c) (all_closed_is (awaited_and t key None) (with_answer now x response w.joined w (woken now key t))) ∙ (ap (option_map (sent_back t now key)) asker ∙ by_waiting (bytes_eq key k.request.key) past)
+      stays_so : k.place ≡ place.Direct x →
+          (all_closed (awaited_and t key None) (with_answer now x response w.joined w (woken now key t))).consumer w.c ≡ Some k
+      stays_so past = ap (λ (s : Tables). s.consumer w.c)
+          (all_closed_is (awaited_and t key None) (with_answer now x response w.joined w (woken now key t))) ∙
+          (ap (option_map (sent_back t now key)) asker ∙ by_waiting (bytes_eq key k.request.key) past)
 
   -- a bad head puts its consumer down too
   pub dooms_bad : head_case (head_view t false w response) ≡ case.DirectBad → Does limits t now ev NoFlaw (map act.Close (awaited_and t key (Some x)))
-      (with_event now ev (let_some_go now (current t key) (with_consumer w.c (Some (record k { place = place.Down (cause.BadHead x) })) (all_closed (awaited_and t key (Some x)) (with_answer now x response w.joined w (woken now key t))))))
+      (with_event now ev (let_some_go now (current t key)
+      (with_consumer w.c (Some (record k { place = place.Down (cause.BadHead x) }))
+      (all_closed (awaited_and t key (Some x)) (with_answer now x response w.joined w (woken now key t))))))
   dooms_bad is =
       let from = bad_way (case_as is) in
-      dooms_key case.DirectBad is (rw unsafe refl) (direct_place from.0) refl refl refl refl refl (Some x) (rw (stays_open w response from.1) refl) (λ r. refl) (record k { place = place.Down (cause.BadHead x) }) refl refl
+      dooms_key case.DirectBad is (rw unsafe refl) (direct_place from.0) refl refl refl refl refl (Some x) (rw (stays_open w response from.1) refl)
+      (λ r. refl) (record k { place = place.Down (cause.BadHead x) }) refl refl

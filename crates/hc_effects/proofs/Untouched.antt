@@ -23,10 +23,12 @@ acted_by t e c k q = record q {
 -- EXCHANGES
 
 -- the event brings nothing of it
-pub unheard : (t : Tables) (e : Entry) (y : ℕ) (w : Exchange) (ev : Event) → ((x : ℕ) → exchange_in ev ≡ Some x → nat_eq x y ≡ false) → exchange_heard t e y ev w ≡ w
+pub unheard : (t : Tables) (e : Entry) (y : ℕ) (w : Exchange) (ev : Event) → ((x : ℕ) → exchange_in ev ≡ Some x → nat_eq x y ≡ false) →
+    exchange_heard t e y ev w ≡ w
 unheard t e y w ev other = grind (arith, nat_tests)
 
-pub exchange_stays : (t : Tables) (e : Entry) (y : ℕ) (w : Exchange) → exchange_heard t e y e.event w ≡ w → asks_in y e.acts ≡ false → closes_in y e.acts ≡ false
+pub exchange_stays : (t : Tables) (e : Entry) (y : ℕ) (w : Exchange) → exchange_heard t e y e.event w ≡ w → asks_in y e.acts ≡ false → closes_in
+    y e.acts ≡ false
     → exchange_after t e y (Some w) ≡ Some w
 unfolding exchange_after
 exchange_stays t e y w heard asks closes = ap (λ (u : Exchange). Some (exchange_acted y e.acts u)) heard ∙ rw (asks, closes) refl
@@ -49,7 +51,8 @@ pub representation_frame : (t : Tables) (e : Entry) (r : ℕ) (v : Representatio
 unfolding representation_after
 representation_frame t e r v heard lossless = grind (arith, nat_tests)
 
-pub representation_stays : (t : Tables) (e : Entry) (r : ℕ) (v : Representation) → representation_heard t e r e.event v ≡ v → loses_in r e.acts ≡ false → becomes_gone t e r v ≡ false
+pub representation_stays : (t : Tables) (e : Entry) (r : ℕ) (v : Representation) → representation_heard t e r e.event v ≡ v → loses_in r e.acts ≡ false →
+    becomes_gone t e r v ≡ false
     → representation_after t e r (Some v) ≡ Some v
 representation_stays t e r v heard lossless stays = representation_frame t e r v heard lossless ∙ rw stays refl
 
@@ -61,10 +64,12 @@ representation_absent t e r none = none
 
 -- no writing that it reads with others is lost
 abbrev pub IsSpared : Tables → Entry → Place → Type 0
-IsSpared t e p = (r lo : ℕ) (hi : Option ℕ) (how : BoundBy) (v : Representation) → p ≡ place.Bound r lo hi how → t.representation r ≡ Some v → loses_group t e r v ≡ false
+IsSpared t e p = (r lo : ℕ) (hi : Option ℕ) (how : BoundBy) (v : Representation) → p ≡ place.Bound r lo hi how → t.representation r ≡ Some v →
+    loses_group t e r v ≡ false
 
 pub spared_bodiless : (t : Tables) (e : Entry) (p : Place) → brings_body e.event ≡ false → IsSpared t e p
-spared_bodiless t e p bodiless = λ r lo hi how v at row. and_false (brings_body e.event && loses_in r e.acts) (is_written t v) (and_false (brings_body e.event) (loses_in r e.acts) bodiless)
+spared_bodiless t e p bodiless =
+    λ r lo hi how v at row. and_false (brings_body e.event && loses_in r e.acts) (is_written t v) (and_false (brings_body e.event) (loses_in r e.acts) bodiless)
 
 -- its own exchange stays its own
 pub own_stays : (t : Tables) (e : Entry) (c : ℕ) (p : Place) (own : Option ℕ) → IsSpared t e p → own_after t e c p own ≡ own
@@ -80,10 +85,13 @@ goes_from t e (place.Passed r kept) = goes_in t e r (t.representation r)
 goes_from t e _ = false
 
 -- who doesn't fail, and whose head doesn't send it back, starts over where its key is doomed while it waits, or what it waits for becomes gone
-pub starts_as : (t : Tables) (e : Entry) (c : ℕ) (k : Consumer) → fails_in c e.acts ≡ false → (sends_back (case_at t e) && is_for (exchange_at t e.event) c) ≡ false
+pub starts_as : (t : Tables) (e : Entry) (c : ℕ) (k : Consumer) → fails_in c e.acts ≡ false →
+    (sends_back (case_at t e) && is_for (exchange_at t e.event) c) ≡ false
     → starts_over t e c k ≡ ((is_key (doomed_key_of t e) k.request.key && waits_at t k.place) || goes_from t e k.place)
 unfolding starts_over
-starts_as t e c k fails sends = three (is_key (doomed_key_of t e) k.request.key && waits_at t k.place) (sends_back (case_at t e) && is_for (exchange_at t e.event) c) (loses_what_it_waits_for t e c k.place) (goes_from t e k.place) sends (by_place k.place)
+starts_as t e c k fails sends =
+    three (is_key (doomed_key_of t e) k.request.key && waits_at t k.place) (sends_back (case_at t e) && is_for (exchange_at t e.event) c)
+    (loses_what_it_waits_for t e c k.place) (goes_from t e k.place) sends (by_place k.place)
   where
     three : (a b d f : Bool) → b ≡ false → d ≡ f → (a || b || d) ≡ (a || f)
     three true b d f off same = refl
@@ -111,9 +119,11 @@ module _ (t : Tables) (e : Entry) (c : ℕ) (k : Consumer) (x : ℕ) (w : Exchan
   apart_from is unstopped = grind (arith, nat_tests)
 
 -- a piece and a doom say nothing of any consumer, and an end but that what it reads stops
-pub apart_piece : (t : Tables) (now x : ℕ) (bytes : List ℕ) (acts : List Act) (c : ℕ) (k : Consumer) → IsApart t (record { now = now; event = event.Piece x bytes; acts = acts }) c k
+pub apart_piece : (t : Tables) (now x : ℕ) (bytes : List ℕ) (acts : List Act) (c : ℕ) (k : Consumer) →
+    IsApart t (record { now = now; event = event.Piece x bytes; acts = acts }) c k
 unfolding case_of
-apart_piece t now x bytes acts c k = record { heard = refl; stops = stop_none t (record { now = now; event = event.Piece x bytes; acts = acts }) k refl; heads = refl; sends = refl }
+apart_piece t now x bytes acts c k =
+    record { heard = refl; stops = stop_none t (record { now = now; event = event.Piece x bytes; acts = acts }) k refl; heads = refl; sends = refl }
 
 -- no failure becomes due by the loss of a writing that it doesn't read
 pub loss_spared : (t : Tables) (e : Entry) (c : ℕ) (p : Place) → IsSpared t e p → cause_of_loss t e c p ≡ None
@@ -122,7 +132,8 @@ loss_spared t e c p spared = grind (arith, nat_tests)
 pub undue_apart : (t : Tables) (e : Entry) (c : ℕ) (k : Consumer) → IsApart t e c k → IsSpared t e k.place → becomes_due t e c k ≡ None
 undue_apart t e c k apart spared = undue_of t e c k (record { stop = apart.stops; loss = loss_spared t e c k.place spared; head = apart.heads })
 
-module _ (t : Tables) (e : Entry) (c : ℕ) (k : Consumer) (said : IsFarFrom c e.acts) (spared : IsSpared t e k.place) (heard : consumer_heard t e c e.event k ≡ k) where
+module _ (t : Tables) (e : Entry) (c : ℕ) (k : Consumer) (said : IsFarFrom c e.acts) (spared : IsSpared t e k.place)
+    (heard : consumer_heard t e c e.event k ≡ k) where
   opening_stays : (o : Option Opening) → opening_in e.acts ≡ o → by_opening t c o k ≡ k
   opening_stays None is = refl
   opening_stays (Some o) is = rw (said.opens o is) refl
@@ -134,27 +145,35 @@ module _ (t : Tables) (e : Entry) (c : ℕ) (k : Consumer) (said : IsFarFrom c e
   waiting_stays : waiting t e c k ≡ k
   waiting_stays = ap (λ o. record k { place = waiting_place t k o }) said.waits
 
-  same_parts : (p : Place) (own : Option ℕ) (shown : Bool) (given : ℕ) → p ≡ k.place → own ≡ k.own → shown ≡ k.shown → given ≡ k.given → record k { place = p; own = own; shown = shown; given = given } ≡ k
+  same_parts : (p : Place) (own : Option ℕ) (shown : Bool) (given : ℕ) → p ≡ k.place → own ≡ k.own → shown ≡ k.shown → given ≡ k.given →
+      record k { place = p; own = own; shown = shown; given = given } ≡ k
   same_parts p own shown given a b d f = rw (a, b, d, f) refl
 
   pub acted_stays : consumer_acted t e c k ≡ k
   acted_stays =
-      let q_is : by_opening t c (opening_in e.acts) (waiting t e c k) ≡ k = ap (by_opening t c (opening_in e.acts)) waiting_stays ∙ opening_stays (opening_in e.acts) refl in
+      let q_is : by_opening t c (opening_in e.acts) (waiting t e c k) ≡ k = ap (by_opening t c (opening_in e.acts)) waiting_stays ∙
+      opening_stays (opening_in e.acts) refl in
       ap (acted_by t e c k) q_is
-      ∙ same_parts _ _ _ _ (rw said.leaves (showing_stays (showing_in e.acts) refl)) (own_stays t e c k.place k.own spared) (rw said.shows refl) (ap (λ bytes. k.given + length bytes) said.given ∙ plus_none k.given)
+      ∙ same_parts _ _ _ _ (rw said.leaves (showing_stays (showing_in e.acts) refl)) (own_stays t e c k.place k.own spared) (rw said.shows refl)
+      (ap (λ bytes. k.given + length bytes) said.given ∙ plus_none k.given)
 
   -- it stays, or starts over
-  pub consumer_frame : becomes_due t e c k ≡ None → (reads k.place ≡ false → k.due ≡ None) → consumer_after t e c (Some k) ≡ Some (if starts_over t e c k then back_in_line e.now k else k)
+  pub consumer_frame : becomes_due t e c k ≡ None → (reads k.place ≡ false → k.due ≡ None) →
+      consumer_after t e c (Some k) ≡ Some (if starts_over t e c k then back_in_line e.now k else k)
   unfolding consumer_after
   consumer_frame undue idle =
-      ap Some (ap (consumer_settled t e c k) (ap (consumer_acted t e c) heard ∙ acted_stays) ∙ ap (λ (q : Consumer). if starts_over t e c k then back_in_line e.now k else q) (due_stays t e c k undue idle))
+      ap Some (ap (consumer_settled t e c k) (ap (consumer_acted t e c) heard ∙ acted_stays) ∙
+      ap (λ (q : Consumer). if starts_over t e c k then back_in_line e.now k else q) (due_stays t e c k undue idle))
 
-  pub consumer_stays : becomes_due t e c k ≡ None → (reads k.place ≡ false → k.due ≡ None) → starts_over t e c k ≡ false → consumer_after t e c (Some k) ≡ Some k
+  pub consumer_stays : becomes_due t e c k ≡ None → (reads k.place ≡ false → k.due ≡ None) → starts_over t e c k ≡ false →
+      consumer_after t e c (Some k) ≡ Some k
   consumer_stays undue idle goes_on = consumer_frame undue idle ∙ rw goes_on refl
 
 -- whom nothing is said of stays, or starts over exactly where its key is doomed while it waits, or what it waits for becomes gone
-pub consumer_apart : (t : Tables) (e : Entry) (c : ℕ) (k : Consumer) → IsFarFrom c e.acts → IsSpared t e k.place → IsApart t e c k → (reads k.place ≡ false → k.due ≡ None)
-    → consumer_after t e c (Some k) ≡ Some (if (is_key (doomed_key_of t e) k.request.key && waits_at t k.place) || goes_from t e k.place then back_in_line e.now k else k)
+pub consumer_apart : (t : Tables) (e : Entry) (c : ℕ) (k : Consumer) → IsFarFrom c e.acts → IsSpared t e k.place → IsApart t e c k →
+    (reads k.place ≡ false → k.due ≡ None)
+    → consumer_after t e c (Some k) ≡ Some
+    (if (is_key (doomed_key_of t e) k.request.key && waits_at t k.place) || goes_from t e k.place then back_in_line e.now k else k)
 consumer_apart t e c k said spared apart idle =
     consumer_frame t e c k said spared apart.heard (undue_apart t e c k apart spared) idle
     ∙ ap (λ (b : Bool). Some (if b then back_in_line e.now k else k)) (starts_as t e c k said.fails apart.sends)

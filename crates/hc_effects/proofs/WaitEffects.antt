@@ -12,12 +12,15 @@ use Rattle.hc_effects.proofs.Said as said
 use Rattle.hc_effects.proofs.WaitedAs as waited
 
 -- who was shown nothing, has nothing to be shown and waits for no head has no failure due
-pub unread_undue : (t : Tables) (law : Lawful t) (c : ℕ) (k : Consumer) → t.consumer c ≡ Some k → bound_to k.place ≡ None → shows_at t k k.place ≡ None → k.due ≡ None
+pub unread_undue : (t : Tables) (law : Lawful t) (c : ℕ) (k : Consumer) → t.consumer c ≡ Some k → bound_to k.place ≡ None → shows_at t k k.place ≡ None →
+    k.due ≡ None
 unread_undue t law c k row free none = by_place k.place refl
   where
-    by_head : (x : ℕ) (w : Exchange) (o : Option Response) → t.exchange x ≡ Some w → w.head ≡ o → k.place ≡ place.Direct x → (w.head ≡ None → k.due ≡ None) → k.due ≡ None
+    by_head : (x : ℕ) (w : Exchange) (o : Option Response) → t.exchange x ≡ Some w → w.head ≡ o → k.place ≡ place.Direct x →
+        (w.head ≡ None → k.due ≡ None) → k.due ≡ None
     by_head x w None is head at bare = bare head
-    by_head x w (Some response) is head at bare = absurd (some_none _ (sym (ap (shows_direct t x) is ∙ ap (shows_answer t x w) head) ∙ (sym (ap (shows_at t k) at) ∙ none)))
+    by_head x w (Some response) is head at bare =
+        absurd (some_none _ (sym (ap (shows_direct t x) is ∙ ap (shows_answer t x w) head) ∙ (sym (ap (shows_at t k) at) ∙ none)))
 
     by_place : (p : Place) → k.place ≡ p → k.due ≡ None
     by_place (place.Direct x) at = let p = law.places.direct c x k row at in by_head x p.w p.w.head p.row refl at (λ bare. (p.unheard bare).undue)
@@ -29,7 +32,8 @@ module _ (limits : Limits) (t : Tables) (law : Lawful t) (now c want : ℕ) (k :
   e w = record { now = now; event = event.Poll c want; acts = acts_of c (moves.Waits w) }
 
   undue : (w : Wait) → IsForOthers w → move_of t now want c k ≡ moves.Waits w → k.due ≡ None
-  undue w others is = let why = waited_as t now c k w others want law.sound row (subst (WaitsAs w) (sym is) said.waits) in unread_undue t law c k row why.free why.none
+  undue w others is = let why = waited_as t now c k w others want law.sound row (subst (WaitsAs w) (sym is) said.waits) in
+      unread_undue t law c k row why.free why.none
 
   idle : (w : Wait) → move_of t now want c k ≡ moves.Waits w → reads (waiting_place t k (Some w)) ≡ false → k.due ≡ None
   idle (wait.Turn d) is off = undue (wait.Turn d) (waited.turn d) is
@@ -41,7 +45,8 @@ module _ (limits : Limits) (t : Tables) (law : Lawful t) (now c want : ℕ) (k :
 
   -- it stands where it is to wait
   pub waits : (w : Wait) → move_of t now want c k ≡ moves.Waits w
-      → Does limits t now (event.Poll c want) NoFlaw (acts_of c (moves.Waits w)) (with_event now (event.Poll c want) (with_consumer c (Some (record k { place = waiting_place t k (Some w) })) t))
+      → Does limits t now (event.Poll c want) NoFlaw (acts_of c (moves.Waits w))
+      (with_event now (event.Poll c want) (with_consumer c (Some (record k { place = waiting_place t k (Some w) })) t))
   waits w is =
       let nothing = brings_nothing t now c (event.Poll c want) (acts_of c (moves.Waits w)) (event_of.polls want) in
       poll_does limits t law now c want k row (moves.Waits w) (polls.waits w) is []
@@ -57,5 +62,7 @@ module _ (limits : Limits) (t : Tables) (law : Lawful t) (now c want : ℕ) (k :
       let does = waits w is in
       record {
         acts_are = does.acts_are;
-        tables_are = does.tables_are ∙ (ap (λ (p : Place). with_event now (event.Poll c want) (with_consumer c (Some (record k { place = p })) t)) stays ∙ ap (with_event now (event.Poll c want)) (same_consumer t t c k row));
+        tables_are = does.tables_are ∙
+            (ap (λ (p : Place). with_event now (event.Poll c want) (with_consumer c (Some (record k { place = p })) t)) stays ∙
+            ap (with_event now (event.Poll c want)) (same_consumer t t c k row));
       }

@@ -54,7 +54,8 @@ module _ (t : Tables) (now c : ℕ) (k : Consumer) where
     later_waits hole (Some hi) is = hole_waits k.request (bound_row t k) hole is
 
     step_waits : (want : ℕ) (s : ReadStep) → Other (step_move t want c k s)
-    step_waits want s = step_as Other (λ is. cc) t want c k (λ is. cc) (λ run is. cc) s (λ cause is. cc) (λ x. waits_as Other (λ is. cc) x (λ is. body_other x z others (wait_inj (wait.Body x) is)) (λ is. cc) (t.exchange x)) (λ hole at. later_waits hole _)
+    step_waits want s = step_as Other (λ is. cc) t want c k (λ is. cc) (λ run is. cc) s (λ cause is. cc)
+        (λ x. waits_as Other (λ is. cc) x (λ is. body_other x z others (wait_inj (wait.Body x) is)) (λ is. cc) (t.exchange x)) (λ hole at. later_waits hole _)
 
     binds_waits : (why : Why) (span : Option Span) (o : Option ℕ) → Other (binds_current t k why span o)
     binds_waits why span o = binds_as Other (λ is. cc) t k why span o (λ r head lo hi now is. cc)
@@ -84,7 +85,17 @@ module _ (t : Tables) (now c : ℕ) (k : Consumer) where
     by_move want _ (by.down why at) is = absurd (let never : Fails why ≡ wait_it = is in cc)
     by_move want _ (by.over at) is = absurd (let never : Nothing ≡ wait_it = is in cc)
     by_move want _ (by.reads shown heard) is = absurd (step_waits want (read_step (read_view t want c k)) is)
-    by_move want _ (by.plans shown free none heard) is = record { heard = heard; free = free; unshown = shown; none = none; plain = by_plan (plan_of (plan_view t now c k)) (plan_by (plan_view t now c k)) is; plan_is = busy_is is; turn_is = turn_at (plan_of (plan_view t now c k)) is }
+    by_move want _ (by.plans shown free none heard) is =
+        record {
+          heard = heard;
+          free = free;
+          unshown = shown;
+          none = none;
+          plain =
+              by_plan (plan_of (plan_view t now c k)) (plan_by (plan_view t now c k)) is;
+          plan_is = busy_is is;
+          turn_is = turn_at (plan_of (plan_view t now c k)) is;
+        }
 
     by_as : (m : Move) → WaitsAs z m → m ≡ wait_it
     by_as m it1 = grind (arith, nat_tests)

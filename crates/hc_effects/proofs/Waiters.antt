@@ -36,11 +36,24 @@ module _ (step : Step) where
   pub waiter_of : (y : ℕ) (w : Exchange) → t.exchange y ≡ Some w → w.is_open ≡ true → w.head ≡ None → (k : Consumer) × IsWaiter t w.c y k w
   waiter_of y w row on bare =
       let a = o.waiting y w row on bare in
-      let p = o.opener y w row in
-      (a.k, record { row = a.row; exchange_row = row; for_it = refl; own = a.own; was_open = on; bare = bare; key_is = p.key_is ∙ ap (λ (z : Consumer). z.request.key) (same_row (t.consumer w.c) p.k a.k p.row a.row); at = a.at })
+      let p = o.opener y w row in (
+        a.k,
+        record {
+          row = a.row;
+          exchange_row = row;
+          for_it = refl;
+          own = a.own;
+          was_open = on;
+          bare = bare;
+          key_is = p.key_is ∙
+              ap (λ (z : Consumer). z.request.key) (same_row (t.consumer w.c) p.k a.k p.row a.row);
+          at = a.at;
+        },
+      )
 
   -- who is that consumer
-  pub waiter_as : (c y : ℕ) (k : Consumer) (w : Exchange) → t.consumer c ≡ Some k → t.exchange y ≡ Some w → w.c ≡ c → w.is_open ≡ true → w.head ≡ None → IsWaiter t c y k w
+  pub waiter_as : (c y : ℕ) (k : Consumer) (w : Exchange) → t.consumer c ≡ Some k → t.exchange y ≡ Some w → w.c ≡ c → w.is_open ≡ true → w.head ≡ None →
+      IsWaiter t c y k w
   waiter_as c y k w k_row row mine on bare =
       let got = waiter_of y w row on bare in
       let one : got.0 ≡ k = same_row (t.consumer c) got.0 k (sym (ap t.consumer mine) ∙ got.1.row) k_row in
@@ -136,7 +149,8 @@ module _ (step : Step) where
         let hole = hole_is w.need way in
         sound.asks w hole.from hole.to is.exchange_row is.was_open is.bare hole.is (aim ∙ ap Some same.number)
 
-    pub unwritten : (r lo : ℕ) (hi : Option ℕ) (how : BoundBy) (v : Representation) (x : Option ℕ) → k.place ≡ place.Bound r lo hi how → t.representation r ≡ Some v → is_written t v ≡ true → v.writer ≡ x → ⊥
+    pub unwritten : (r lo : ℕ) (hi : Option ℕ) (how : BoundBy) (v : Representation) (x : Option ℕ) → k.place ≡ place.Bound r lo hi how →
+        t.representation r ≡ Some v → is_written t v ≡ true → v.writer ≡ x → ⊥
     unwritten r lo hi how v None at row on writer = writer_some t v on writer
     unwritten r lo hi how v (Some x) at row on writer =
         let one : x ≡ y = s.one_about r x y (writer_about t r x v s row on writer) (asks_about r lo hi how at is.at) in
@@ -145,11 +159,13 @@ module _ (step : Step) where
         let same : grows.0 ≡ w = same_row (t.exchange y) grows.0 w (sym (ap t.exchange one) ∙ g.row) is.exchange_row in
         false_true (sym (ap is_some (ap (λ (z : Exchange). z.head) same ∙ is.bare)) ∙ g.headed)
 
-    left_by : (r lo : ℕ) (hi : Option ℕ) (how : BoundBy) (z : Option Representation) → k.place ≡ place.Bound r lo hi how → t.representation r ≡ z → left_to t e c r z (Some y) ≡ Some y
+    left_by : (r lo : ℕ) (hi : Option ℕ) (how : BoundBy) (z : Option Representation) → k.place ≡ place.Bound r lo hi how → t.representation r ≡ z →
+        left_to t e c r z (Some y) ≡ Some y
     left_by r lo hi how None at row = refl
     left_by r lo hi how (Some v) at row = elim (bool_cases (loses_group t e r v && is_number (survivor t r v) c)) [
       | inr off ↦ rw off refl
-      | inl on ↦ absurd (let losing : loses_group t e r v ≡ true = and_left (loses_group t e r v) (is_number (survivor t r v) c) on in unwritten r lo hi how v v.writer at row (and_right _ _ losing) refl)
+      | inl on ↦ absurd (let losing : loses_group t e r v ≡ true = and_left (loses_group t e r v) (is_number (survivor t r v) c) on in
+          unwritten r lo hi how v v.writer at row (and_right _ _ losing) refl)
     ]
 
     pub own_stays : (p : Place) → k.place ≡ p → own_after t e c p (Some y) ≡ Some y
@@ -162,7 +178,8 @@ module _ (step : Step) where
     -- what the acts leave it
     pub own_acted : own_after t e c k.place (by_opening t c (opening_in e.acts) (waiting t e c k)).own ≡ Some y
     own_acted =
-        let opened : (by_opening t c (opening_in e.acts) (waiting t e c k)).own ≡ Some y = ap (λ (q : Consumer). q.own) (opening_stays (waiting t e c k) (opening_in e.acts) refl) ∙ is.own in
+        let opened : (by_opening t c (opening_in e.acts) (waiting t e c k)).own ≡ Some y =
+        ap (λ (q : Consumer). q.own) (opening_stays (waiting t e c k) (opening_in e.acts) refl) ∙ is.own in
         ap (own_after t e c k.place) opened ∙ own_stays k.place refl
 
     -- a fault before a head for it is that of its exchange
@@ -212,8 +229,10 @@ module _ (step : Step) where
     unfolding starts_over
     doomed_over h =
         let keyed : is_key (doomed_key_of t b) w.request.key ≡ true = and_left _ _ (and_left _ (awaits (t.consumer w.c) y) h) in
-        let key : is_key (doomed_key_of t e) k.request.key ≡ true = ap (λ z. is_key z k.request.key) doomed_same ∙ (sym (ap (is_key (doomed_key_of t b)) is.key_is) ∙ keyed) in
-        let waits : is_number (awaited_exchange k.place) y ≡ true = sym (ap (λ z. awaits z y) (ap t.consumer is.for_it ∙ is.row)) ∙ and_right _ (awaits (t.consumer w.c) y) h in
+        let key : is_key (doomed_key_of t e) k.request.key ≡ true = ap (λ z. is_key z k.request.key) doomed_same ∙
+        (sym (ap (is_key (doomed_key_of t b)) is.key_is) ∙ keyed) in
+        let waits : is_number (awaited_exchange k.place) y ≡ true = sym (ap (λ z. awaits z y) (ap t.consumer is.for_it ∙ is.row)) ∙
+        and_right _ (awaits (t.consumer w.c) y) h in
         or_left _ _ (or_left _ _ (and_both _ _ key (waits_place k.place (number_is (awaited_exchange k.place) y waits))))
 
     lost_by : (r : ℕ) (z : Option Representation) → z ≡ None → has_no_survivor t b y r z ≡ true → ⊥
@@ -230,7 +249,8 @@ module _ (step : Step) where
     refused_by _ h other = false_true h
 
     -- as long as it neither leaves nor starts over, nor is its head refused, its own exchange isn't closed
-    pub unclosed_unless : ((is_refused (case_at t b) && brings_head y ev) ≡ true → ⊥) → (ev ≡ event.Cancel c → ⊥) → leaves_in c e.acts ≡ false → starts_over t e c k ≡ false → closes_in y e.acts ≡ false
+    pub unclosed_unless : ((is_refused (case_at t b) && brings_head y ev) ≡ true → ⊥) → (ev ≡ event.Cancel c → ⊥) → leaves_in c e.acts ≡ false →
+        starts_over t e c k ≡ false → closes_in y e.acts ≡ false
     unclosed_unless unrefused cancels stays over = not_so (closes_in y e.acts) (λ closed. by_cause (had_to limits t now flaw s ev y w is.exchange_row closed))
       where
         by_cause : must_close t b y w ≡ true → ⊥
@@ -246,11 +266,13 @@ module _ (step : Step) where
         ]
 
     -- so an event of another exchange leaves it open
-    pub unclosed : (exchange_in ev ≡ Some y → ⊥) → (ev ≡ event.Cancel c → ⊥) → leaves_in c e.acts ≡ false → starts_over t e c k ≡ false → closes_in y e.acts ≡ false
+    pub unclosed : (exchange_in ev ≡ Some y → ⊥) → (ev ≡ event.Cancel c → ⊥) → leaves_in c e.acts ≡ false → starts_over t e c k ≡ false → closes_in
+        y e.acts ≡ false
     unclosed other = unclosed_unless (λ refused. refused_by ev (and_right _ _ refused) other)
 
   -- who waits for a hole of r has nothing due, and is the exclusive writer
-  pub waits_undue : (r c x lo : ℕ) (hi : Option ℕ) (how : BoundBy) (v : Representation) (k : Consumer) (w : Exchange) → IsWaiter t c x k w → k.place ≡ place.Bound r lo hi how → t.representation r ≡ Some v → (k.due ≡ None) × IsExclusiveWriter t r v c
+  pub waits_undue : (r c x lo : ℕ) (hi : Option ℕ) (how : BoundBy) (v : Representation) (k : Consumer) (w : Exchange) → IsWaiter t c x k w →
+      k.place ≡ place.Bound r lo hi how → t.representation r ≡ Some v → (k.due ≡ None) × IsExclusiveWriter t r v c
   waits_undue r c x lo hi how v k w is at there = by_had (s.writes.had r x v there (asks_about c x k w is r lo hi how at is.at))
     where
       by_had : sound.IsHad t r v x → (k.due ≡ None) × IsExclusiveWriter t r v c

@@ -48,7 +48,8 @@ module _ (step : Step) where
     awaited_at : (p : Place) → k.place ≡ p → IsAwaiting y w p → waits_at t p ≡ true → awaited_exchange p ≡ Some y
     awaited_at p at (owners.direct way stands) waits = absurd (false_true (sym (ap (waits_at t) stands) ∙ waits))
     awaited_at p at (owners.turn way stands) waits = ap awaited_exchange stands
-    awaited_at p at (owners.hole r lo hi how way aim stands) waits = ap awaited_exchange stands ∙ by_how how (at ∙ stands) (sym (ap (waits_at t) stands) ∙ waits)
+    awaited_at p at (owners.hole r lo hi how way aim stands) waits = ap awaited_exchange stands ∙
+        by_how how (at ∙ stands) (sym (ap (waits_at t) stands) ∙ waits)
       where
         by_how : (g : BoundBy) → k.place ≡ place.Bound r lo hi g → waits_at t (place.Bound r lo hi g) ≡ true → awaited_exchange (place.Bound r lo hi g) ≡ Some y
         by_how (by.FirstHole z) at h =
@@ -63,9 +64,11 @@ module _ (step : Step) where
     doomed_must : is_key (doomed_key_of t e) k.request.key ≡ true → waits_at t k.place ≡ true → ⊥
     doomed_must key waits =
         let at_it : awaited_exchange k.place ≡ Some y = awaited_at k.place refl is.at waits in
-        let keyed : is_key (doomed_key_of t b) w.request.key ≡ true = ap (is_key (doomed_key_of t b)) is.key_is ∙ (ap (λ z. is_key z k.request.key) (sym (doomed_same step)) ∙ key) in
+        let keyed : is_key (doomed_key_of t b) w.request.key ≡ true = ap (is_key (doomed_key_of t b)) is.key_is ∙
+        (ap (λ z. is_key z k.request.key) (sym (doomed_same step)) ∙ key) in
         let bare : is_headless (Some w) ≡ true = sym (ap is_headless is.exchange_row) ∙ headless_is step c y k w is in
-        let awaiting : awaits (t.consumer w.c) y ≡ true = ap (λ z. awaits z y) (ap t.consumer is.for_it ∙ is.row) ∙ number_yes (awaited_exchange k.place) y at_it in
+        let awaiting : awaits (t.consumer w.c) y ≡ true = ap (λ z. awaits z y) (ap t.consumer is.for_it ∙ is.row) ∙
+        number_yes (awaited_exchange k.place) y at_it in
         let doomed_it : is_doomed t b y w ≡ true = and_both _ _ (and_both _ _ keyed bare) awaiting in
         not_must (or_left _ _ (or_left _ _ (or_right _ _ doomed_it)))
 
@@ -130,7 +133,10 @@ module _ (step : Step) where
         let same : consumer_heard t e c ev k ≡ k = heard_same step c y k w is ev refl other not_cancelled in
         let q = consumer_acted t e c (consumer_heard t e c ev k) in
         let made : due_after t e c k q ≡ on.u = sym (settled t e c k q stays_on) ∙ on.is in
-        let placed : (consumer_acted t e c k).place ≡ k.place = plain_place t e c k (leaves_in c e.acts) (showing_in e.acts) (opening_in e.acts) (wait_in c e.acts) stays_in (opening_stays step c y k w is (waiting t e c k) (opening_in e.acts) refl) (waits_where t k (wait_in c e.acts) reported_not) (shows_on (showing_in e.acts) refl) in
+        let placed : (consumer_acted t e c k).place ≡ k.place =
+        plain_place t e c k (leaves_in c e.acts) (showing_in e.acts) (opening_in e.acts) (wait_in c e.acts) stays_in
+        (opening_stays step c y k w is (waiting t e c k) (opening_in e.acts) refl) (waits_where t k (wait_in c e.acts) reported_not)
+        (shows_on (showing_in e.acts) refl) in
         record {
           u = on.u;
           row = on.row;
@@ -145,9 +151,11 @@ module _ (step : Step) where
   piece_refused x bytes w row bare h = grind (arith, nat_tests)
 
   -- no event is of an exchange that waits for its head and goes on waiting
-  pub unmet : (v : Event) (x : ℕ) (w u : Exchange) → ev ≡ v → t.exchange x ≡ Some w → IsSame t e x w u → u.is_open ≡ true → u.head ≡ None → exchange_in v ≡ Some x → ⊥
+  pub unmet : (v : Event) (x : ℕ) (w u : Exchange) → ev ≡ v → t.exchange x ≡ Some w → IsSame t e x w u → u.is_open ≡ true → u.head ≡ None → exchange_in
+      v ≡ Some x → ⊥
   unmet (event.Head z response) x w u at row same on bare h = same.unheard bare response (at ∙ ap (λ n. event.Head n response) (some_inj z x h))
-  unmet (event.Piece z bytes) x w u at row same on bare h = piece_refused x bytes w row (same.bare bare) (sym (ap (denial t) (at ∙ ap (λ n. event.Piece n bytes) (some_inj z x h))) ∙ goes)
+  unmet (event.Piece z bytes) x w u at row same on bare h =
+      piece_refused x bytes w row (same.bare bare) (sym (ap (denial t) (at ∙ ap (λ n. event.Piece n bytes) (some_inj z x h))) ∙ goes)
   unmet (event.End z) x w u at row same on bare h = same.unended on (at ∙ ap event.End (some_inj z x h))
   unmet (event.Fault z) x w u at row same on bare h = same.unfaulted on (at ∙ ap event.Fault (some_inj z x h))
   unmet _ x w u at row same on bare h = none_some x h
@@ -155,7 +163,8 @@ module _ (step : Step) where
   awaiting_same : (x : ℕ) (w u : Exchange) (p q : Place) → u.need ≡ w.need → u.aim ≡ w.aim → q ≡ p → IsAwaiting x w p → IsAwaiting x u q
   awaiting_same x w u p q need_is aim_is same (owners.direct way stands) = owners.direct (ap route_of need_is ∙ way) (same ∙ stands)
   awaiting_same x w u p q need_is aim_is same (owners.turn way stands) = owners.turn (ap route_of need_is ∙ way) (same ∙ stands)
-  awaiting_same x w u p q need_is aim_is same (owners.hole r lo hi how way aim stands) = owners.hole r lo hi how (ap route_of need_is ∙ way) (aim_is ∙ aim) (same ∙ stands)
+  awaiting_same x w u p q need_is aim_is same (owners.hole r lo hi how way aim stands) =
+      owners.hole r lo hi how (ap route_of need_is ∙ way) (aim_is ∙ aim) (same ∙ stands)
 
   was_waiting : (x : ℕ) (w u : Exchange) → t.exchange x ≡ Some w → IsSame t e x w u → u.is_open ≡ true → u.head ≡ None → Awaits now_on x u
   was_waiting x w u row same on bare =
@@ -172,8 +181,13 @@ module _ (step : Step) where
   new_waiting p opens stand =
       let by_poll = opening_by limits t now flaw s ev goes p opens in
       let way = opened_as t now p.c by_poll.k by_poll.want p s by_poll.poll.row by_poll.move in
-      let move_is : poll_move t now by_poll.want p.c (t.consumer p.c) ≡ Opens p.x p.need p.request = ap (poll_move t now by_poll.want p.c) by_poll.poll.row ∙ opening_is t now p.c by_poll.k p (move_of t now by_poll.want p.c by_poll.k) by_poll.move in
-      subst (λ v. (denial t v ≡ None) → opening_in (entry_of limits t now v flaw).acts ≡ Some p → may_stand limits t (entry_of limits t now v flaw) ≡ true → Awaits (after_accepted t (entry_of limits t now v flaw)) p.x (exchange_opened t (entry_of limits t now v flaw) p)) (sym by_poll.poll.at) (λ going opening standing. new_awaits limits t now flaw s o p.c by_poll.want going p by_poll.k refl opening by_poll.poll.row way move_is standing) goes opens stand
+      let move_is : poll_move t now by_poll.want p.c (t.consumer p.c) ≡ Opens p.x p.need p.request =
+      ap (poll_move t now by_poll.want p.c) by_poll.poll.row ∙ opening_is t now p.c by_poll.k p (move_of t now by_poll.want p.c by_poll.k) by_poll.move in
+      subst (λ v. (denial t v ≡ None) → opening_in (entry_of limits t now v flaw).acts ≡ Some p →
+      may_stand limits t (entry_of limits t now v flaw) ≡ true →
+      Awaits (after_accepted t (entry_of limits t now v flaw)) p.x (exchange_opened t (entry_of limits t now v flaw) p)) (sym by_poll.poll.at)
+      (λ going opening standing. new_awaits limits t now flaw s o p.c by_poll.want going p by_poll.k refl opening by_poll.poll.row way move_is standing)
+      goes opens stand
 
   waiting_from : (x : ℕ) (u : Exchange) → may_stand limits t e ≡ true → u.is_open ≡ true → u.head ≡ None → ExchangeFrom t e x u → Awaits now_on x u
   waiting_from x u stand on bare (exchange.was w row same) = was_waiting x w u row same on bare

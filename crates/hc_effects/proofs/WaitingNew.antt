@@ -30,14 +30,17 @@ module _ (limits : Limits) (t : Tables) (now : ℕ) (flaw : Flaw) (s : Sound t) 
   abbrev now_on : Tables
   now_on = after_accepted t e
 
-  module _ (p : Opening) (k : Consumer) (here : p.c ≡ c) (opens : opening_in e.acts ≡ Some p) (row : t.consumer c ≡ Some k) (way : OpenedAs t now c k p.need p.request) (move_is : poll_move t now want c (t.consumer c) ≡ Opens p.x p.need p.request) (stand : may_stand limits t e ≡ true) where
+  module _ (p : Opening) (k : Consumer) (here : p.c ≡ c) (opens : opening_in e.acts ≡ Some p) (row : t.consumer c ≡ Some k)
+      (way : OpenedAs t now c k p.need p.request) (move_is : poll_move t now want c (t.consumer c) ≡ Opens p.x p.need p.request)
+      (stand : may_stand limits t e ≡ true) where
     -- WHAT IT WAITED FOR STAYS
 
     founding_not : (r : ℕ) (z : Option Exchange) → ends_founding e r z ≡ true → ⊥
     founding_not r None h = false_true h
     founding_not r (Some w) h = false_true (sym (closes_none limits t now flaw s c want p here opens move_is r) ∙ and_right w.is_open (closes_in r e.acts) h)
 
-    doom_not : (r : ℕ) (v : Representation) (kept : Option ℕ) → k.place ≡ place.Passed r kept → (is_key (doomed_key_of t e) v.key || is_key (bypass_key e) v.key) ≡ true → ⊥
+    doom_not : (r : ℕ) (v : Representation) (kept : Option ℕ) → k.place ≡ place.Passed r kept →
+        (is_key (doomed_key_of t e) v.key || is_key (bypass_key e) v.key) ≡ true → ⊥
     doom_not r v kept at h = elim (or_cases (is_key (doomed_key_of t e) v.key) _ h) [
       | inl doom ↦ false_true (sym (ap (λ z. is_key z v.key) (doomed_not limits t now flaw s c want p here opens move_is)) ∙ doom)
       | inr bypass ↦
@@ -90,7 +93,9 @@ module _ (limits : Limits) (t : Tables) (now : ℕ) (flaw : Flaw) (s : Sound t) 
     own_stays : (q : Place) (z : Option ℕ) → own_after t e c q z ≡ z
     own_stays q z = grind (arith, nat_tests)
 
-    opened_is : (q : Consumer) → by_opening t c (opening_in e.acts) q ≡ record q { own = Some p.x; place = unless_bound (bound_to q.place) q.place (opened_place t p.x q (route_of p.need)) }
+    opened_is : (q : Consumer) →
+        by_opening t c (opening_in e.acts) q ≡ record q
+        { own = Some p.x; place = unless_bound (bound_to q.place) q.place (opened_place t p.x q (route_of p.need)) }
     opened_is q = ap (λ z. by_opening t c z q) opens ∙ rw same_c refl
 
     -- where it stands
@@ -103,7 +108,8 @@ module _ (limits : Limits) (t : Tables) (now : ℕ) (flaw : Flaw) (s : Sound t) 
     acted_place : (consumer_acted t e c k).place ≡ stands_at
     acted_place =
         let opener = is_opener limits t now flaw s ev goes c k p row opens here in
-        placed (leaves_in c e.acts) (showing_in e.acts) (by_opening t c (opening_in e.acts) (waiting t e c k)).place (leaves_none limits t now flaw s c want p here opens move_is c) (shows_none limits t now flaw s c want p here opens move_is)
+        placed (leaves_in c e.acts) (showing_in e.acts) (by_opening t c (opening_in e.acts) (waiting t e c k)).place
+        (leaves_none limits t now flaw s c want p here opens move_is c) (shows_none limits t now flaw s c want p here opens move_is)
         ∙ (ap (λ (q : Consumer). q.place) (opened_is (waiting t e c k))
         ∙ ap (λ q. unless_bound (bound_to q) q (opened_place t p.x k (route_of p.need))) opener.place_is)
 
@@ -115,7 +121,9 @@ module _ (limits : Limits) (t : Tables) (now : ℕ) (flaw : Flaw) (s : Sound t) 
     free_place : (way_of : Route) → bound_to k.place ≡ None → route_of p.need ≡ way_of → stands_at ≡ opened_place t p.x k way_of
     free_place way_of free at = rw (free, at) refl
 
-    first_place : (r : ℕ) (v : Representation) (span : Span) → current t k.request.key ≡ Some r → t.representation r ≡ Some v → wanted_of (range_of k.request) v.head.total ≡ wanted.Interval span → opened_place t p.x k route.Hole ≡ place.Bound r span.lo (Some span.hi) (by.FirstHole p.x)
+    first_place : (r : ℕ) (v : Representation) (span : Span) → current t k.request.key ≡ Some r → t.representation r ≡ Some v →
+        wanted_of (range_of k.request) v.head.total ≡ wanted.Interval span →
+        opened_place t p.x k route.Hole ≡ place.Bound r span.lo (Some span.hi) (by.FirstHole p.x)
     first_place r v span is there want_is = rw (is, there, want_is) refl
 
     bound_place : (r lo : ℕ) (hi : Option ℕ) (how : BoundBy) → k.place ≡ place.Bound r lo hi how → stands_at ≡ place.Bound r lo hi how
@@ -128,7 +136,8 @@ module _ (limits : Limits) (t : Tables) (now : ℕ) (flaw : Flaw) (s : Sound t) 
     awaits_by (opened.passes_by free way) = owners.direct way (free_place route.Direct free way)
     awaits_by (opened.fetches free way cached) = owners.turn way (free_place route.Turn free way)
     awaits_by (opened.fills r v span hole free way is there want_is found need_is cached) =
-        owners.hole r span.lo (Some span.hi) (by.FirstHole p.x) way (aim_is ∙ (aim_free t k.request.key k.place free ∙ is)) (free_place route.Hole free way ∙ first_place r v span is there want_is)
+        owners.hole r span.lo (Some span.hi) (by.FirstHole p.x) way (aim_is ∙ (aim_free t k.request.key k.place free ∙ is))
+        (free_place route.Hole free way ∙ first_place r v span is there want_is)
     awaits_by (opened.goes_on r lo hi how at way) =
         owners.hole r lo hi how way (aim_is ∙ ap (aim_from t k.request.key) at) (bound_place r lo hi how at)
 

@@ -11,7 +11,8 @@ part_some : (o : Option Span) (span : Span) → ((z : Span) → o ≡ Some z →
 part_some None span proper is = absurd (let no : wanted.Unsatisfiable ≡ wanted.Interval span = is in cc)
 part_some (Some z) span proper is = let same : z ≡ span = cc in subst (λ (q : Span). q.lo < q.hi) same (proper z refl)
 
-pub wanted_some : (range : Option RangeSpec) (o : Option ℕ) (span : Span) → is_some range ≡ true → ((asked : RangeSpec) → range ≡ Some asked → IsInOrder asked) → wanted_of range o ≡ wanted.Interval span → span.lo < span.hi
+pub wanted_some : (range : Option RangeSpec) (o : Option ℕ) (span : Span) → is_some range ≡ true →
+    ((asked : RangeSpec) → range ≡ Some asked → IsInOrder asked) → wanted_of range o ≡ wanted.Interval span → span.lo < span.hi
 wanted_some range None span on order is = absurd (let no : wanted.TotalUnknown ≡ wanted.Interval span = is in cc)
 wanted_some None (Some n) span on order is = absurd (false_true on)
 wanted_some (Some asked) (Some n) span on order is = part_some (resolved_span asked n) span (λ z found. resolved_some asked n z (order asked refl) found) is

@@ -58,7 +58,8 @@ held_is t r v s row why = ap (held_in t r) row ∙ rw (held_yes t r v s row why)
 -- it weighs no more than this, where this is so for each reason
 pub held_most : (t : Tables) (r n : ℕ) (v : Representation) → t.representation r ≡ Some v → (IsHeld t r v → weight_of v.size ≤ n) → held t r ≤ n
 held_most t r n v row most = elim (bool_cases (is_held t r v)) [
-  | inl on ↦ let is : held t r ≡ weight_of v.size = ap (held_in t r) row ∙ rw on refl in let le : weight_of v.size ≤ n = most (held_why t r v row on) in omega arith
+  | inl on ↦ let is : held t r ≡ weight_of v.size = ap (held_in t r) row ∙ rw on refl in let le : weight_of v.size ≤ n = most (held_why t r v row on) in
+      omega arith
   | inr off ↦ let is : held t r ≡ 0 = ap (held_in t r) row ∙ rw off refl in omega arith
 ]
 
@@ -116,7 +117,8 @@ module _ (t : Tables) (e : Entry) (r : ℕ) (v : Representation) where
       by_test true = refl
       by_test false = refl
 
-  pieced_size : (x : ℕ) (bytes : List ℕ) (o : Option Exchange) → e.event ≡ event.Piece x bytes → t.exchange x ≡ o → Sized (representation_after_piece e r x bytes o v)
+  pieced_size : (x : ℕ) (bytes : List ℕ) (o : Option Exchange) → e.event ≡ event.Piece x bytes → t.exchange x ≡ o →
+      Sized (representation_after_piece e r x bytes o v)
   pieced_size x bytes None at row = inl refl
   pieced_size x bytes (Some w) at row = elim (eq_cases (family x w) r) [
     | inr off ↦ rw off.0 (inl refl)
@@ -124,7 +126,8 @@ module _ (t : Tables) (e : Entry) (r : ℕ) (v : Representation) where
   ]
     where
       by_kept : (b : Bool) → not (v.is_lost || loses_in r e.acts) ≡ b → family x w ≡ r → Sized (with_stored_bytes b (front w) x bytes v)
-      by_kept true is of_r = let both = or_false v.is_lost (loses_in r e.acts) is in inr (record { x = x; bytes = bytes; w = w; at = at; row = row; of_r = of_r; kept = both.0; quiet = both.1; size_is = refl })
+      by_kept true is of_r = let both = or_false v.is_lost (loses_in r e.acts) is in
+          inr (record { x = x; bytes = bytes; w = w; at = at; row = row; of_r = of_r; kept = both.0; quiet = both.1; size_is = refl })
       by_kept false is of_r = inl refl
 
   ended_size : (n : ℕ) (b : Bool) → (if b then with_total_if_none n v else v).size ≡ v.size
@@ -138,7 +141,8 @@ module _ (t : Tables) (e : Entry) (r : ℕ) (v : Representation) where
 
   acted_size : (z : Representation) → Sized z → Sized (representation_acted t e r v z)
   acted_size z (inl same) = inl same
-  acted_size z (inr f) = inr (record { x = f.x; bytes = f.bytes; w = f.w; at = f.at; row = f.row; of_r = f.of_r; kept = f.kept; quiet = f.quiet; size_is = f.size_is })
+  acted_size z (inr f) = inr
+      (record { x = f.x; bytes = f.bytes; w = f.w; at = f.at; row = f.row; of_r = f.of_r; kept = f.kept; quiet = f.quiet; size_is = f.size_is })
 
   pub sized : (p : Representation) → IsKept t e r v p → (p.size ≡ v.size) ⊎ IsFilled t e r v p
   sized p kept = subst Sized kept.is (acted_size _ (heard_size e.event refl))
@@ -199,7 +203,9 @@ module _ (t : Tables) (e : Entry) (r : ℕ) (lossless : has_loss e.acts ≡ fals
         | inr never ↦ absurd (false_true never)
         | inl d ↦ elim (or_cases _ (goes_by_head t e0 r) d) [
           | inr by_head ↦ or_left _ _ (or_left _ _ (or_left _ _ (or_right _ _ (sym by_head_same ∙ by_head))))
-          | inl doom ↦ or_left _ _ (or_left _ _ (or_left _ _ (or_left _ _ (by_doom (is_current t v.key r) (is_key (doomed_key_of t e0) v.key) (ap (λ q. is_key q v.key) (sym doomed_same)) doom))))
+          | inl doom ↦ or_left _ _
+              (or_left _ _ (or_left _ _
+              (or_left _ _ (by_doom (is_current t v.key r) (is_key (doomed_key_of t e0) v.key) (ap (λ q. is_key q v.key) (sym doomed_same)) doom))))
         ]
       ]
     ]
@@ -209,5 +215,6 @@ module _ (t : Tables) (e : Entry) (r : ℕ) (lossless : has_loss e.acts ≡ fals
       both true k f h = rw (f refl) h
       both false k f h = absurd (false_true h)
 
-      by_doom : (a b : Bool) → is_key (doomed_key_of t e) v.key ≡ b → (a && (b || false)) ≡ true → (a && (is_key (doomed_key_of t e) v.key || is_key (Rattle.hc_model.specs.Dooms.bypass_key e) v.key)) ≡ true
+      by_doom : (a b : Bool) → is_key (doomed_key_of t e) v.key ≡ b → (a && (b || false)) ≡ true →
+          (a && (is_key (doomed_key_of t e) v.key || is_key (Rattle.hc_model.specs.Dooms.bypass_key e) v.key)) ≡ true
       by_doom a b is h = grind (arith, nat_tests)

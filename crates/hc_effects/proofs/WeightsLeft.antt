@@ -43,16 +43,19 @@ module _ (now : ℕ) (rs : List ℕ) (t : Tables) (may : MayLetGo t) where
   none_in : (r : ℕ) (b : Bool) → weight_in left r (if b then option_map as_gone None else None) ≡ 0
   none_in r b = grind (arith, nat_tests)
 
-  some_in : (r : ℕ) (b : Bool) (v : Representation) → weight_in left r (if b then option_map as_gone (Some v) else Some v) ≡ (if is_current left v.key r || not (length (bound left r) == 0) then weight_of v.size else 0)
+  some_in : (r : ℕ) (b : Bool) (v : Representation) → weight_in
+      left r (if b then option_map as_gone (Some v) else Some v) ≡ (if is_current left v.key r || not (length (bound left r) == 0) then weight_of v.size else 0)
   some_in r b v = grind (arith, nat_tests)
 
   -- what it weighs still
-  weight_left : (r : ℕ) (v : Representation) → t.representation r ≡ Some v → weight_now left r ≡ (if (is_current t v.key r && not (is_in rs r)) || not (length (bound t r) == 0) then weight_of v.size else 0)
+  weight_left : (r : ℕ) (v : Representation) → t.representation r ≡ Some v →
+      weight_now left r ≡ (if (is_current t v.key r && not (is_in rs r)) || not (length (bound t r) == 0) then weight_of v.size else 0)
   unfolding current
   weight_left r v there =
       ap (weight_in left r) (row_left r ∙ ap (λ o. if tables.is_in rs r then option_map as_gone o else o) there)
       ∙ (some_in r (tables.is_in rs r) v
-      ∙ (ap (λ b. if b || not (length (bound left r) == 0) then weight_of v.size else 0) (current_all now rs t may v.key r ∙ ap (λ b. is_current t v.key r && not b) (same_in rs r))
+      ∙ (ap (λ b. if b || not (length (bound left r) == 0) then weight_of v.size else 0)
+      (current_all now rs t may v.key r ∙ ap (λ b. is_current t v.key r && not b) (same_in rs r))
       ∙ ap (λ cs. if (is_current t v.key r && not (is_in rs r)) || not (length cs == 0) then weight_of v.size else 0) (bound_all now rs t may r)))
 
   weight_none : (r : ℕ) → t.representation r ≡ None → weight_now left r ≡ 0
@@ -67,11 +70,13 @@ module _ (now : ℕ) (rs : List ℕ) (t : Tables) (may : MayLetGo t) where
     where
       by_row : (o : Option Representation) → t.representation r ≡ o → weight_now left r ≤ weight_in t r o
       by_row None there = let none : weight_now left r ≡ 0 = weight_none r there in omega arith
-      by_row (Some v) there = subst (λ n. n ≤ weight_in t r (Some v)) (sym (weight_left r v there)) (less (is_current t v.key r) (not (is_in rs r)) (not (length (bound t r) == 0)) (weight_of v.size))
+      by_row (Some v) there = subst (λ n. n ≤ weight_in t r (Some v)) (sym (weight_left r v there))
+          (less (is_current t v.key r) (not (is_in rs r)) (not (length (bound t r) == 0)) (weight_of v.size))
 
   pub all_weigh_less : weights_now left ≤ weights_now t
   all_weigh_less =
-      let fewer : sum_by (weight_now left) t.founded ≤ sum_by (weight_now t) t.founded = sum_le (weight_now left) (weight_now t) t.founded (λ r among. weighs_less r) in
+      let fewer : sum_by (weight_now left) t.founded ≤ sum_by (weight_now t) t.founded =
+      sum_le (weight_now left) (weight_now t) t.founded (λ r among. weighs_less r) in
       let same : weights_now left ≡ sum_by (weight_now left) t.founded = ap (sum_by (weight_now left)) founded_left in
       omega arith
 
@@ -104,21 +109,25 @@ module _ (now : ℕ) (rs : List ℕ) (t : Tables) (may : MayLetGo t) where
     pub weigh_less : weights_now left + sum_by (weight_now t) rs ≤ weights_now t
     weigh_less =
         let some : sum_by (weight_now t) rs ≤ sum_by (among_of (weight_now t) rs) t.founded = sum_some (weight_now t) rs t.founded once there in
-        let both : sum_by (weight_now left) t.founded + sum_by (among_of (weight_now t) rs) t.founded ≤ sum_by (weight_now t) t.founded = sum_two (weight_now left) (among_of (weight_now t) rs) (weight_now t) t.founded (λ r among. each_less r) in
+        let both : sum_by (weight_now left) t.founded + sum_by (among_of (weight_now t) rs) t.founded ≤ sum_by (weight_now t) t.founded =
+        sum_two (weight_now left) (among_of (weight_now t) rs) (weight_now t) t.founded (λ r among. each_less r) in
         let same : weights_now left ≡ sum_by (weight_now left) t.founded = ap (sum_by (weight_now left)) founded_left in
         omega arith
 
 -- WHERE WHAT IS IDLE GAVE WAY
 
-gives_from : (limits : Limits) (used : ℕ) (write : Write) (ws : List ℕ) (count : ℕ) → room_of limits used write ws ≡ room.After count → gives_way limits.max_total (used + grown_by write) ws ≡ Some count
+gives_from : (limits : Limits) (used : ℕ) (write : Write) (ws : List ℕ) (count : ℕ) → room_of limits used write ws ≡ room.After count →
+    gives_way limits.max_total (used + grown_by write) ws ≡ Some count
 unfolding room_of
 gives_from limits used write ws count is = grind (arith, nat_tests)
 
 -- the write fits then
-pub fits_after : (limits : Limits) (now : ℕ) (t : Tables) (write : Write) (count : ℕ) → MayMakeRoom t → room_now limits t write ≡ room.After count → weights_now (let_all_go now (giving_way limits t write) t) + grown_by write ≤ limits.max_total
+pub fits_after : (limits : Limits) (now : ℕ) (t : Tables) (write : Write) (count : ℕ) → MayMakeRoom t → room_now limits t write ≡ room.After count →
+    weights_now (let_all_go now (giving_way limits t write) t) + grown_by write ≤ limits.max_total
 fits_after limits now t write count may is =
     let gives = gives_from limits (weights_now t) write (map (weight_now t) (idle_now t)) count is in
-    let enough : weights_now t + grown_by write ≤ limits.max_total + sum_by (weight_now t) (take count (idle_now t)) = gives_enough limits.max_total (weights_now t + grown_by write) count (weight_now t) (idle_now t) gives in
+    let enough : weights_now t + grown_by write ≤ limits.max_total + sum_by (weight_now t) (take count (idle_now t)) =
+    gives_enough limits.max_total (weights_now t + grown_by write) count (weight_now t) (idle_now t) gives in
     let once : AreOnce (idle_now t) = filter_once (λ r. is_idle t r (t.representation r)) (reverse t.used) (reverse_once t.used may.used) in
     let fewer : weights_now (let_all_go now (take count (idle_now t)) t) + sum_by (weight_now t) (take count (idle_now t)) ≤ weights_now t =
     weigh_less now (take count (idle_now t)) t may.may (take_once count (idle_now t) once)
@@ -139,13 +148,17 @@ all_heavy t (r ∷ rs) = elim (bool_cases (is_idle t r (t.representation r))) [
 ]
 
 -- one to a slot, and two to a piece
-pub one_gives_way : (limits : Limits) (t : Tables) (write : Write) (count : ℕ) → weights_now t ≤ limits.max_total → grown_by write ≤ 32768 → room_now limits t write ≡ room.After count → count ≤ 1
+pub one_gives_way : (limits : Limits) (t : Tables) (write : Write) (count : ℕ) → weights_now t ≤ limits.max_total → grown_by write ≤ 32768 →
+    room_now limits t write ≡ room.After count → count ≤ 1
 one_gives_way limits t write count fits small is =
-    one_gives limits.max_total (weights_now t + grown_by write) count (map (weight_now t) (idle_now t)) (all_heavy t (reverse t.used)) (omega arith) (gives_from limits (weights_now t) write (map (weight_now t) (idle_now t)) count is)
+    one_gives limits.max_total (weights_now t + grown_by write) count (map (weight_now t) (idle_now t)) (all_heavy t (reverse t.used)) (omega arith)
+    (gives_from limits (weights_now t) write (map (weight_now t) (idle_now t)) count is)
 
-pub two_give_way : (limits : Limits) (t : Tables) (write : Write) (count : ℕ) → weights_now t ≤ limits.max_total → grown_by write ≤ 65536 → room_now limits t write ≡ room.After count → count ≤ 2
+pub two_give_way : (limits : Limits) (t : Tables) (write : Write) (count : ℕ) → weights_now t ≤ limits.max_total → grown_by write ≤ 65536 →
+    room_now limits t write ≡ room.After count → count ≤ 2
 two_give_way limits t write count fits small is =
-    two_give limits.max_total (weights_now t + grown_by write) count (map (weight_now t) (idle_now t)) (all_heavy t (reverse t.used)) (omega arith) (gives_from limits (weights_now t) write (map (weight_now t) (idle_now t)) count is)
+    two_give limits.max_total (weights_now t + grown_by write) count (map (weight_now t) (idle_now t)) (all_heavy t (reverse t.used)) (omega arith)
+    (gives_from limits (weights_now t) write (map (weight_now t) (idle_now t)) count is)
 
 -- WHERE A CONSUMER ISN'T BOUND ANY MORE
 
@@ -164,7 +177,8 @@ module _ (c : ℕ) (z : Consumer) (t : Tables) (unbound : (r : ℕ) → is_bound
 
   some_was : (r : ℕ) → has_some (bound (with_consumer c (Some z) t) r) ≡ true → has_some (bound t r) ≡ true
   unfolding bound
-  some_was r some = filters_less (λ d. is_bound r (t.consumer d)) (λ d. is_bound r ((with_consumer c (Some z) t).consumer d)) t.starts (λ d on. bound_was r d on) some
+  some_was r some = filters_less (λ d. is_bound r (t.consumer d)) (λ d. is_bound r ((with_consumer c (Some z) t).consumer d)) t.starts
+      (λ d on. bound_was r d on) some
 
   fewer : (a b d : Bool) (n : ℕ) → (b ≡ true → d ≡ true) → (if a || b then n else 0) ≤ (if a || d then n else 0)
   fewer a b d n into = grind (arith, nat_tests)
@@ -175,7 +189,8 @@ module _ (c : ℕ) (z : Consumer) (t : Tables) (unbound : (r : ℕ) → is_bound
     where
       by_row : (o : Option Representation) → weight_in (with_consumer c (Some z) t) r o ≤ weight_in t r o
       by_row None = omega arith
-      by_row (Some v) = fewer (is_current t v.key r) (not (length (bound (with_consumer c (Some z) t) r) == 0)) (not (length (bound t r) == 0)) (weight_of v.size)
+      by_row (Some v) = fewer (is_current t v.key r) (not (length (bound (with_consumer c (Some z) t) r) == 0)) (not (length (bound t r) == 0))
+          (weight_of v.size)
           (λ on. some_length (bound t r) ∙ some_was r (sym (some_length (bound (with_consumer c (Some z) t) r)) ∙ on))
 
   pub all_weigh_apart : weights_now (with_consumer c (Some z) t) ≤ weights_now t

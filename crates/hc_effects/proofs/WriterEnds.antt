@@ -35,7 +35,10 @@ module _ (step : Step) (m : Measures step.tables) (real : IsReal step.limits ste
   pub loses_same : (r : ℕ) → loses_in r b.acts ≡ loses_in r e.acts
   loses_same r = (said_closes 0 r t now ev flaw (answer_acts t now ev flaw) (loss_acts flaw) (said_is t now ev flaw)).loses ∙ sym (loses_flaw step m real r ev)
 
-  module _ (r c x lo : ℕ) (hi : Option ℕ) (how : BoundBy) (k u : Consumer) (v p : Representation) (row : IsRow t e c r lo hi how k u) (at : k.place ≡ place.Bound r lo hi how) (stands : u.place ≡ place.Bound r lo hi how) (there : t.representation r ≡ Some v) (on : is_written t v ≡ true) (writer : v.writer ≡ Some x) (undue : becomes_due t e c k ≡ None) (kept : IsKept t e r v p) (calm : (loses_in r e.acts ≡ false) ⊎ (brings_body ev ≡ false)) where
+  module _ (r c x lo : ℕ) (hi : Option ℕ) (how : BoundBy) (k u : Consumer) (v p : Representation) (row : IsRow t e c r lo hi how k u)
+      (at : k.place ≡ place.Bound r lo hi how) (stands : u.place ≡ place.Bound r lo hi how) (there : t.representation r ≡ Some v)
+      (on : is_written t v ≡ true) (writer : v.writer ≡ Some x) (undue : becomes_due t e c k ≡ None) (kept : IsKept t e r v p)
+      (calm : (loses_in r e.acts ≡ false) ⊎ (brings_body ev ≡ false)) where
     reader : IsBound t r c k
     reader = sound.is_bound lo hi how row.row at
 
@@ -43,7 +46,8 @@ module _ (step : Step) (m : Measures step.tables) (real : IsReal step.limits ste
 
     cancels_not : ev ≡ event.Cancel c → ⊥
     cancels_not here =
-        let heard : u.place ≡ (consumer_heard t e c ev k).place = heard_place step c r lo hi how k u (λ d want polls. let no : event.Cancel c ≡ event.Poll d want = sym here ∙ polls in cc) row in
+        let heard : u.place ≡ (consumer_heard t e c ev k).place =
+        heard_place step c r lo hi how k u (λ d want polls. let no : event.Cancel c ≡ event.Poll d want = sym here ∙ polls in cc) row in
         let over : (consumer_heard t e c (event.Cancel c) k).place ≡ place.Over = (let test : nat_eq c c ≡ true = grind (arith, nat_tests) in rw test refl) in
         let no : place.Over ≡ place.Bound r lo hi how = sym over ∙ (sym (ap (λ z. (consumer_heard t e c z k).place) here) ∙ (sym heard ∙ stands)) in cc
 
@@ -69,7 +73,8 @@ module _ (step : Step) (m : Measures step.tables) (real : IsReal step.limits ste
 
       lost_not : has_no_survivor t b x (family x w) (t.representation (family x w)) ≡ true → ⊥
       lost_not h =
-          let here : has_no_survivor t b x r (Some v) ≡ true = sym (ap (λ n. has_no_survivor t b x n (t.representation n)) g.family_is ∙ ap (has_no_survivor t b x r) there) ∙ h in
+          let here : has_no_survivor t b x r (Some v) ≡ true =
+          sym (ap (λ n. has_no_survivor t b x n (t.representation n)) g.family_is ∙ ap (has_no_survivor t b x r) there) ∙ h in
           losing_not (and_right (is_number v.writer x) _ (and_left _ _ here))
 
       own_is : (l : ℕ) (q : Consumer) (z : Option ℕ) → t.consumer l ≡ Some q → q.own ≡ z → option_and_then (if_open t) z ≡ Some x → q.own ≡ Some x
@@ -88,17 +93,22 @@ module _ (step : Step) (m : Measures step.tables) (real : IsReal step.limits ste
 
       among_bound : Among c (bound t r)
       unfolding bound
-      among_bound = among_filter c (λ d. is_bound r (t.consumer d)) t.starts (ap (is_bound r) row.row ∙ (ap (λ (z : Place). Rattle.hc_model.specs.Reading.is_bound_place r z) at ∙ (let test : nat_eq r r ≡ true = grind (arith, nat_tests) in test))) (s.numbered.lists.started c (ap (λ (z : Option Consumer). is_some z) row.row))
+      among_bound = among_filter c (λ d. is_bound r (t.consumer d)) t.starts
+          (ap (is_bound r) row.row ∙
+          (ap (λ (z : Place). Rattle.hc_model.specs.Reading.is_bound_place r z) at ∙ (let test : nat_eq r r ≡ true = grind (arith, nat_tests) in test)))
+          (s.numbered.lists.started c (ap (λ (z : Option Consumer). is_some z) row.row))
 
       last_is : (l : ℕ) (z : Place) → shared_exchange t z ≡ Some x → is_last_reader t l z ≡ true → c ≡ l
-      last_is l (place.Bound q a d g_by) h all = all_same l c (bound t r) (ap (λ n. list_all (λ z. z == l) (bound t n)) (sym (writes_r q (t.representation q) refl h)) ∙ all) among_bound
+      last_is l (place.Bound q a d g_by) h all =
+          all_same l c (bound t r) (ap (λ n. list_all (λ z. z == l) (bound t n)) (sym (writes_r q (t.representation q) refl h)) ∙ all) among_bound
       last_is l _ h all = absurd (none_some x h)
 
       left_row : (l : ℕ) (z : Option Consumer) → t.consumer l ≡ z → is_left_by t x l z ≡ true → c ≡ l
       left_row l None row h = absurd (false_true h)
       left_row l (Some q) row h = elim (or_cases (is_number (own_open t q) x) _ h) [
         | inl own ↦ absurd (o.apart r x l v q there on writer row (own_is l q q.own row refl (number_is (own_open t q) x own)))
-        | inr group ↦ last_is l q.place (number_is (shared_exchange t q.place) x (and_left _ (is_last_reader t l q.place) group)) (and_right _ (is_last_reader t l q.place) group)
+        | inr group ↦ last_is l q.place (number_is (shared_exchange t q.place) x (and_left _ (is_last_reader t l q.place) group))
+            (and_right _ (is_last_reader t l q.place) group)
       ]
 
       left_not : (z : Option ℕ) → leaver b ≡ z → is_left t x z ≡ true → ⊥
@@ -125,7 +135,8 @@ module _ (step : Step) (m : Measures step.tables) (real : IsReal step.limits ste
       stop_is_none : exchange_in ev ≡ Some x → stop_cause t ev ≡ None
       stop_is_none brings =
           let from_x : source t k ≡ Some x = source_is t r c x v k s there reader on writer in
-          let test : is_same_number (source t k) (exchange_in ev) ≡ true = ap (λ z. is_same_number z (exchange_in ev)) from_x ∙ (ap (is_same_number (Some x)) brings ∙ (let self : nat_eq x x ≡ true = grind (arith, nat_tests) in self)) in
+          let test : is_same_number (source t k) (exchange_in ev) ≡ true = ap (λ z. is_same_number z (exchange_in ev)) from_x ∙
+          (ap (is_same_number (Some x)) brings ∙ (let self : nat_eq x x ≡ true = grind (arith, nat_tests) in self)) in
           let none : (if is_same_number (source t k) (exchange_in ev) then stop_cause t ev else None) ≡ None = (undue_parts t e c k undue).stop in
           sym (ap (λ (a : Bool). if a then stop_cause t ev else None) test) ∙ none
 

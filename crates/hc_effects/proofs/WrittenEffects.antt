@@ -17,7 +17,9 @@ use Rattle.hc_effects.proofs.FoundBy as cases
 pub by_turn : {z : HeadView} → CaseBy z case.NotValidated → (route_of z.need ≡ route.Turn) × (z.status ≡ 304)
 by_turn (cases.not_validated way status) = (way, status)
 
-module _ (limits : Limits) (t : Tables) (law : Lawful t) (now x : ℕ) (response : Response) (goes : denial t (event.Head x response) ≡ None) (w : Exchange) (row : t.exchange x ≡ Some w) (k : Consumer) (asker : t.consumer w.c ≡ Some k) (r : ℕ) (v : Representation) (aim : w.aim ≡ Some r) (there : t.representation r ≡ Some v)
+module _ (limits : Limits) (t : Tables) (law : Lawful t) (now x : ℕ) (response : Response) (goes : denial t (event.Head x response) ≡ None) (w : Exchange)
+    (row : t.exchange x ≡ Some w) (k : Consumer) (asker : t.consumer w.c ≡ Some k) (r : ℕ) (v : Representation) (aim : w.aim ≡ Some r)
+    (there : t.representation r ≡ Some v)
     (kind : LostKind) (on : is_written t v ≡ true) (is : head_case (head_view t true w response) ≡ case.NotValidated) where
   abbrev ev : Event
   ev = event.Head x response
@@ -76,16 +78,19 @@ module _ (limits : Limits) (t : Tables) (law : Lawful t) (now x : ℕ) (response
           elim (eq_cases x y) [
             | inl same ↦ absurd (
                 let mine : u ≡ w = same_row (t.exchange x) u w (ap t.exchange same.1 ∙ here) row in
-                let bare : is_some z.w.head ≡ false = ap (λ (q : Exchange). is_some q.head) (one ∙ mine) ∙ ap is_some (new limits t law now x response goes w row).bare in
+                let bare : is_some z.w.head ≡ false = ap (λ (q : Exchange). is_some q.head) (one ∙ mine) ∙
+                ap is_some (new limits t law now x response goes w row).bare in
                 false_true (sym bare ∙ z.headed))
             | inr other ↦ rw other.0 (sym (ap (λ (q : Exchange). q.is_open) one) ∙ z.is_open)
           ]
 
       must_as : (u : Exchange) → t.exchange y ≡ Some u → must_close t b y u ≡ is_number (closed_with t b law r v there losing_b) y
-      must_as u here = rw (is_b, doomless_b, no_survivor_as t b law r v there losing_b only_b y u here) (or_off (is_number (closed_with t b law r v there losing_b) y))
+      must_as u here = rw (is_b, doomless_b, no_survivor_as t b law r v there losing_b only_b y u here)
+          (or_off (is_number (closed_with t b law r v there losing_b) y))
 
       by_row : (o : Option Exchange) → t.exchange y ≡ o → closes_row t b y o ≡ is_number (closed_with t b law r v there losing_b) y
-      by_row None none = sym (not_so (is_number (closed_with t b law r v there losing_b) y) (λ named. none_some _ (sym none ∙ closed_row t b law r v there losing_b y (number_is (closed_with t b law r v there losing_b) y named))))
+      by_row None none = sym (not_so (is_number (closed_with t b law r v there losing_b) y)
+          (λ named. none_some _ (sym none ∙ closed_row t b law r v there losing_b y (number_is (closed_with t b law r v there losing_b) y named))))
       by_row (Some u) here =
           ap (λ z. z && (exchange_heard t b y ev u).is_open) (must_as u here)
           ∙ and_so (is_number (closed_with t b law r v there losing_b) y) (exchange_heard t b y ev u).is_open (opened u here)
@@ -94,14 +99,17 @@ module _ (limits : Limits) (t : Tables) (law : Lawful t) (now x : ℕ) (response
   unfolding closing
   closing_is =
       ap (λ (test : ℕ → Bool). filter test (reverse t.openings)) (fun_ext closing_row)
-      ∙ one_of (closed_with t b law r v there losing_b) (reverse t.openings) (reverse_once t.openings (descends_once (t.opened + 1) t.openings law.order.openings)) (λ y at. reversed y t.openings (law.sound.numbered.lists.opened y (ap is_some (closed_row t b law r v there losing_b y at))))
+      ∙ one_of (closed_with t b law r v there losing_b) (reverse t.openings)
+      (reverse_once t.openings (descends_once (t.opened + 1) t.openings law.order.openings))
+      (λ y at. reversed y t.openings (law.sound.numbered.lists.opened y (ap is_some (closed_row t b law r v there losing_b y at))))
 
   by_case : (route_of w.need ≡ route.Turn) × (response.status ≡ 304)
   by_case = by_turn (subst (CaseBy (head_view t true w response)) is (case_by (head_view t true w response)))
 
   acts_are : accepted_acts limits t now ev flaw ≡ act.Lost r kind ∷ map act.Close xs
   acts_are =
-      ap (λ rs. map act.Evicted rs ++ (act.Lost r kind ∷ map act.Close (closing t b))) (evicts_none limits t law now x response goes w row (unchanged_founds (head_view t false w response) by_case.1))
+      ap (λ rs. map act.Evicted rs ++ (act.Lost r kind ∷ map act.Close (closing t b)))
+      (evicts_none limits t law now x response goes w row (unchanged_founds (head_view t false w response) by_case.1))
       ∙ ap (λ ys. act.Lost r kind ∷ map act.Close ys) closing_is
 
   -- WHAT GOES
@@ -113,38 +121,51 @@ module _ (limits : Limits) (t : Tables) (law : Lawful t) (now x : ℕ) (response
   goes_it q u here = elim (eq_cases r q) [
     | inl same ↦ goes_lost t now x response [] flaw xs w row case.NotValidated is_it q u (rw same.0 refl) ∙ rw same.0 refl
     | inr other ↦
-        let unclosed : is_in xs q ≡ false = in_one (closed_with t b law r v there losing_b) q ∙ not_so (is_number (closed_with t b law r v there losing_b) q) (λ named.
+        let unclosed : is_in xs q ≡ false = in_one (closed_with t b law r v there losing_b) q ∙
+        not_so (is_number (closed_with t b law r v there losing_b) q) (λ named.
         other.1 (closed_apart t b law r v there losing_b q u (number_is (closed_with t b law r v there losing_b) q named) here)) in
         goes_by t now x response [] flaw xs w row case.NotValidated is_it q u unclosed doomless_it ∙ rw (aim, other.0) refl
   ]
 
-  lost_row : representation_after t it r (t.representation r) ≡ (if is_in rs r then option_map as_gone (Some (lost_to (survivor t r v) v)) else Some (lost_to (survivor t r v) v))
+  lost_row : representation_after t it r (t.representation r) ≡ (if is_in rs r then option_map as_gone (Some (lost_to (survivor t r v) v)) else
+      Some (lost_to (survivor t r v) v))
   lost_row =
-      row_loses t now x response [] flaw xs w row case.NotValidated is_it r v there (survivor t r v) kept (rw (eqb-same r) refl) (goes_on_as t it law r v there losing_it) (goes_it r v there ∙ rw (eqb-same r) refl)
+      row_loses t now x response [] flaw xs w row case.NotValidated is_it r v there (survivor t r v) kept (rw (eqb-same r) refl)
+      (goes_on_as t it law r v there losing_it) (goes_it r v there ∙ rw (eqb-same r) refl)
       ∙ rw (eqb-same r) refl
 
-  rows : (q : ℕ) → representation_after t it q (t.representation q) ≡ (if is_in rs q then option_map as_gone (if r == q then Some (lost_to (survivor t r v) v) else t.representation q) else (if r == q then Some (lost_to (survivor t r v) v) else t.representation q))
-  rows = rows_but t now x response [] flaw xs w row case.NotValidated is_it rs goes_it r (Some (lost_to (survivor t r v) v)) lost_row (λ q other. refl) (λ q u other here. (rw is_it refl, rw other refl))
+  rows : (q : ℕ) → representation_after t it q
+      (t.representation q) ≡ (if is_in rs q then option_map as_gone (if r == q then Some (lost_to (survivor t r v) v) else t.representation q) else
+      (if r == q then Some (lost_to (survivor t r v) v) else t.representation q))
+  rows = rows_but t now x response [] flaw xs w row case.NotValidated is_it rs goes_it r (Some (lost_to (survivor t r v) v)) lost_row (λ q other. refl)
+      (λ q u other here. (rw is_it refl, rw other refl))
 
   -- WHO READS IT
 
   spared_at : (p : Place) → is_bound_place r p ≡ false → IsSpared t it p
   spared_at p off = grind (arith, nat_tests)
 
-  others : (d : ℕ) → nat_eq w.c d ≡ false → consumer_after t it d (t.consumer d) ≡ option_map (back_from_any now rs) (option_map (if_bound r (left_with r (survivor t r v) v.writer d)) (t.consumer d))
+  others : (d : ℕ) → nat_eq w.c d ≡ false →
+      consumer_after t it d (t.consumer d) ≡ option_map (back_from_any now rs)
+      (option_map (if_bound r (left_with r (survivor t r v) v.writer d)) (t.consumer d))
   others d other = by_row (t.consumer d) refl
     where
-      stays : (u : Consumer) (lo : ℕ) (hi : Option ℕ) (how : BoundBy) → u.place ≡ place.Bound r lo hi how → (a : Bool) → back_from_any now rs (if a then record u { own = v.writer } else record u { due = option_or u.due (Some (cause.StoreWrite r)) }) ≡ (if a then record u { own = v.writer } else record u { due = option_or u.due (Some (cause.StoreWrite r)) })
+      stays : (u : Consumer) (lo : ℕ) (hi : Option ℕ) (how : BoundBy) → u.place ≡ place.Bound r lo hi how → (a : Bool) →
+          back_from_any now rs (if a then record u { own = v.writer } else record u { due = option_or u.due (Some (cause.StoreWrite r)) }) ≡ (if a then
+          record u { own = v.writer } else record u { due = option_or u.due (Some (cause.StoreWrite r)) })
       stays u lo hi how at true = let off : waits_for_any rs u.place ≡ false = ap (waits_for_any rs) at in rw off refl
       stays u lo hi how at false = let off : waits_for_any rs u.place ≡ false = ap (waits_for_any rs) at in rw off refl
 
-      member : (u : Consumer) → t.consumer d ≡ Some u → is_bound_place r u.place ≡ true → IsBound t r d u → consumer_after t it d (Some u) ≡ Some (back_from_any now rs (if_bound r (left_with r (survivor t r v) v.writer d) u))
+      member : (u : Consumer) → t.consumer d ≡ Some u → is_bound_place r u.place ≡ true → IsBound t r d u →
+          consumer_after t it d (Some u) ≡ Some (back_from_any now rs (if_bound r (left_with r (survivor t r v) v.writer d) u))
       member u here reads (sound.is_bound lo hi how there_it at) =
-          member_as t it law r v there losing_it d lo hi how u at (quiet_acts [] xs flaw) (apart t now x response [] flaw xs w row case.NotValidated is_it d u other) (far t now x response [] flaw xs d).fails doomless_it
+          member_as t it law r v there losing_it d lo hi how u at (quiet_acts [] xs flaw)
+          (apart t now x response [] flaw xs w row case.NotValidated is_it d u other) (far t now x response [] flaw xs d).fails doomless_it
           ∙ (ap Some (sym (stays u lo hi how at (is_number (survivor t r v) d)))
           ∙ ap (λ (q : Bool). Some (back_from_any now rs (if q then left_with r (survivor t r v) v.writer d u else u))) (sym reads))
 
-      by_row : (o : Option Consumer) → t.consumer d ≡ o → consumer_after t it d o ≡ option_map (back_from_any now rs) (option_map (if_bound r (left_with r (survivor t r v) v.writer d)) o)
+      by_row : (o : Option Consumer) → t.consumer d ≡ o →
+          consumer_after t it d o ≡ option_map (back_from_any now rs) (option_map (if_bound r (left_with r (survivor t r v) v.writer d)) o)
       by_row None here = consumer_absent t it d refl
       by_row (Some u) here = elim (bool_cases (is_bound_place r u.place)) [
         | inl reads ↦ member u here reads (bound_at t r d u u.place here refl reads)
@@ -164,16 +185,22 @@ module _ (limits : Limits) (t : Tables) (law : Lawful t) (now x : ℕ) (response
       by_await (owners.hole q lo hi how way aimed stands) = absurd (let no : route.Hole ≡ route.Turn = sym way ∙ by_case.0 in cc)
 
   asks : consumer_after t it w.c (t.consumer w.c) ≡ Some (back_in_line now k)
-  asks = asker_goes_back t now x response [] flaw xs w row case.NotValidated is_it k asker (waiter limits t law now x response goes w row k asker).at (undue limits t law now x response goes w row k asker) (rw doomless_it refl) (spared_at k.place turned_from) (spared_at k.place turned_from) refl
+  asks = asker_goes_back t now x response [] flaw xs w row case.NotValidated is_it k asker (waiter limits t law now x response goes w row k asker).at
+      (undue limits t law now x response goes w row k asker) (rw doomless_it refl) (spared_at k.place turned_from) (spared_at k.place turned_from) refl
 
   -- one of those who read it goes on, and its consumer stands in the line again
   pub validated_lost_written : Does limits t now ev flaw (act.Lost r kind ∷ map act.Close xs)
-      (with_event now ev (let_go now r (with_consumer w.c (Some (back_in_line now k)) (all_closed xs (with_answer now x response w.joined w (group_lost r (survivor t r v) v.writer (with_representation r (Some (lost_to (survivor t r v) v)) t)))))))
+      (with_event now ev (let_go now r
+      (with_consumer w.c (Some (back_in_line now k))
+      (all_closed xs (with_answer now x response w.joined w
+      (group_lost r (survivor t r v) v.writer (with_representation r (Some (lost_to (survivor t r v) v)) t)))))))
   validated_lost_written = record {
     acts_are = acts_are;
     tables_are =
         ap (λ acts. after_accepted t (record { now = now; event = ev; acts = acts })) acts_are
-        ∙ after_head t now x response [] flaw xs w row case.NotValidated is_it rs t.founded t.used (with_representation r (Some (lost_to (survivor t r v) v)) t).representation (group_lost r (survivor t r v) v.writer t).consumer w.joined (back_in_line now k) (record {
+        ∙ after_head t now x response [] flaw xs w row case.NotValidated is_it rs t.founded t.used
+        (with_representation r (Some (lost_to (survivor t r v) v)) t).representation (group_lost r (survivor t r v) v.writer t).consumer w.joined
+        (back_in_line now k) (record {
           joins = ap (λ o. if is_joining o then w.aim else w.joined) is_it;
           founded = refl;
           used = refl;

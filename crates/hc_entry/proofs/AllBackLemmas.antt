@@ -36,7 +36,13 @@ kept-in c d l is = elim (cases_Bool (eqb c d)) [
       let same = eqb-true c d on in
       rw (has-with itself d c (without itself c l.in_line), on) (sym (ap (λ (k : ℕ). is_in k l) (sym same) ∙ is))
   | inr off ↦
-      rw (has-with itself d c (without itself c l.in_line), has-without itself d c l.in_line, has-without itself d c l.passed, has-without itself d c l.away, off) refl
+      rw (
+        has-with itself d c (without itself c l.in_line),
+        has-without itself d c l.in_line,
+        has-without itself d c l.passed,
+        has-without itself d c l.away,
+        off,
+      ) refl
 ]
 
 -- the place of another one is earlier
@@ -51,7 +57,8 @@ earlier i c l there k d below has off = elim (cases_eq k i) [
 pub back-next : (i c : ℕ) (old l : Line) → AreBackBelow i old l → consumer_at l i ≡ Some c → is_in c l ≡ true → AreBackBelow (i + 1) old (come_back c l)
 back-next i c old l was there is = record {
   same = λ d. kept-in c d l is ∙ was.same d;
-  ascending = is_sorted-with itself c (without itself c l.in_line) (is_sorted-filter itself (λ (x : ℕ). not (numbered itself c x)) l.in_line was.ascending) (gone c l.in_line);
+  ascending = is_sorted-with itself c (without itself c l.in_line)
+      (is_sorted-filter itself (λ (x : ℕ). not (numbered itself c x)) l.in_line was.ascending) (gone c l.in_line);
   places = was.places;
   free = rw was.free refl;
   back = λ k d below has. elim (cases_Bool (eqb c d)) [
@@ -158,7 +165,8 @@ still-held c (Some d) cs is out = elim (cases_Bool (eqb d c)) [
   | inr off ↦ rw off refl
 ]
 
-pub passed-back-next : (i c : ℕ) (old l : Line) → ArePassedBackBelow i old l → consumer_at l i ≡ Some c → is_among c l.passed ≡ true → ArePassedBackBelow (i + 1) old (come_back c l)
+pub passed-back-next : (i c : ℕ) (old l : Line) → ArePassedBackBelow i old l → consumer_at l i ≡ Some c → is_among c l.passed ≡ true →
+    ArePassedBackBelow (i + 1) old (come_back c l)
 passed-back-next i c old l was there is = record {
   orderly = orderly-back c l was.orderly;
   same = λ d. elim (cases_Bool (eqb c d)) [
@@ -170,7 +178,8 @@ passed-back-next i c old l was there is = record {
         rw (has-with itself d c (without itself c l.in_line), has-without itself d c l.in_line, has-without itself d c l.passed, off) (was.same d)
   ];
   away = without-absent c l.away was.orderly.away (was.orderly.passed_or_away c is) ∙ was.away;
-  holder = still-held c l.holder l.in_line was.orderly.holder (turned-false (is_among c l.in_line) (is_among c l.passed) (was.orderly.in_line_or_passed c) is) ∙ was.holder;
+  holder = still-held c l.holder l.in_line was.orderly.holder
+      (turned-false (is_among c l.in_line) (is_among c l.passed) (was.orderly.in_line_or_passed c) is) ∙ was.holder;
   places = was.places;
   back = λ k d below has. elim (cases_Bool (eqb c d)) [
     | inl on ↦ ap (λ (n : ℕ). is_among n (without itself c l.passed)) (sym (eqb-true c d on)) ∙ gone c l.passed
@@ -182,7 +191,8 @@ passed-back-next i c old l was there is = record {
   either false = refl
 
 -- nobody at the place, or one that didn't pass
-pub passed-back-stays : (i : ℕ) (old l : Line) → ArePassedBackBelow i old l → ((d : ℕ) → consumer_at l i ≡ Some d → is_among d l.passed ≡ false) → ArePassedBackBelow (i + 1) old l
+pub passed-back-stays : (i : ℕ) (old l : Line) → ArePassedBackBelow i old l → ((d : ℕ) → consumer_at l i ≡ Some d → is_among d l.passed ≡ false) →
+    ArePassedBackBelow (i + 1) old l
 passed-back-stays i old l was out = record {
   orderly = was.orderly;
   same = was.same;
@@ -199,7 +209,8 @@ pub passed-back-all : (n : ℕ) (old l : Line) → IsOrderly old → ArePassedBa
 passed-back-all n old l o was placed = same-line l (passed_back old) in_line passed was.away was.holder was.places where
   out : (d : ℕ) → is_among d l.passed ≡ true → is_among d l.passed ≡ false
   out d is =
-      let inside : is_in d old ≡ true = within (is_among d old.in_line || is_among d old.passed) (is_among d old.away) (sym (was.same d) ∙ rw is (either (is_among d l.in_line))) in
+      let inside : is_in d old ≡ true = within
+      (is_among d old.in_line || is_among d old.passed) (is_among d old.away) (sym (was.same d) ∙ rw is (either (is_among d l.in_line))) in
       let (k, below, there) = placed d inside in
       was.back k d below (ap (λ (s : List (Option ℕ)). consumer_at (record l { places = s }) k) was.places ∙ there)
     where

@@ -64,14 +64,16 @@ pub line-changes : (bytes key : List ℕ) (old new : Rows) (row : KeyRow) (l : L
     → UpdatesBy is_same (has_bytes bytes) old new (Some (record { line = l; current = row.current })) → RowChanges (on_line f) key old new
 line-changes bytes key old new row l f same is e commutes change =
     row-changes bytes old new (Some (record { line = l; current = row.current })) change key same (on_line f)
-    (ap (λ (x : Line). kept_in x row.current) e ∙ (commutes ∙ ap (λ (o : Option KeyRow). on_line f (kept_by o)) (sym (row-there bytes key old (Some row) same is))))
+    (ap (λ (x : Line). kept_in x row.current) e ∙
+    (commutes ∙ ap (λ (o : Option KeyRow). on_line f (kept_by o)) (sym (row-there bytes key old (Some row) same is))))
 
 module _ (f : Kept → Kept) (key : List ℕ) (old new : Rows) (change : RowChanges f key old new) where
   pub kept-here : rows_of new key ≡ f (rows_of old key)
   kept-here = change.changes key ∙ rw ((bytes_eq-Decides key key).1 refl) refl
 
   -- where nothing is kept then, its row may go
-  pub changes-gone : (gone : Rows) → rows_of new key ≡ nothing → row_at gone key ≡ None → ((k : List ℕ) → bytes_eq key k ≡ false → row_at gone k ≡ row_at new k) → RowChanges f key old gone
+  pub changes-gone : (gone : Rows) → rows_of new key ≡ nothing → row_at gone key ≡ None →
+      ((k : List ℕ) → bytes_eq key k ≡ false → row_at gone k ≡ row_at new k) → RowChanges f key old gone
   changes-gone gone none absent others = record {
     changes = λ k. elim (cases_Bool (bytes_eq key k)) [
       | inl on ↦

@@ -31,7 +31,8 @@ stands-with c (Some d) cs in_line = elim (cases_Bool (eqb c d)) [
 ]
 
 -- who has the turn stands in line
-pub stands-held : (c : ℕ) (h : Option ℕ) (cs : List ℕ) → is_sorted itself cs ≡ true → stands h cs ≡ true → holder_or h (least cs) ≡ Some c → is_among c cs ≡ true
+pub stands-held : (c : ℕ) (h : Option ℕ) (cs : List ℕ) → is_sorted itself cs ≡ true → stands h cs ≡ true → holder_or h (least cs) ≡ Some c →
+    is_among c cs ≡ true
 stands-held c (Some d) cs up in_line is = let e : d ≡ c = cc in ap (λ k. is_among k cs) (sym e) ∙ in_line
 stands-held c None cs up in_line is = first cs (sym (least-ascending cs up) ∙ is) where
   first : (ds : List ℕ) → first_of ds ≡ Some c → is_among c ds ≡ true

@@ -153,7 +153,8 @@ is_sorted-merged (d ∷ ds) cs up rise apart =
     is_sorted-with itself d (union_of ds cs) tail (among-merged d ds cs ∙ or-false (is_among d ds) (is_among d cs) out (apart d (first_in d ds)))
 
 pub is_sorted-passed : (l : Line) → IsOrderly l → is_sorted itself (passed_back l).in_line ≡ true
-is_sorted-passed l o = is_sorted-merged l.passed l.in_line o.passed o.in_line (λ c is. flip (is_among c l.in_line) (is_among c l.passed) (o.in_line_or_passed c) is)
+is_sorted-passed l o = is_sorted-merged l.passed l.in_line o.passed o.in_line
+    (λ c is. flip (is_among c l.in_line) (is_among c l.passed) (o.in_line_or_passed c) is)
 
 pub is_sorted-all : (l : Line) → IsOrderly l → is_sorted itself (all_back l).in_line ≡ true
 is_sorted-all l o =
@@ -163,16 +164,17 @@ is_sorted-all l o =
 
 -- all who stand in it are in line
 pub among-all : (c : ℕ) (l : Line) → is_among c (all_back l).in_line ≡ is_in c l
-among-all c l = rw (among-merged c l.away (union_of l.passed l.in_line), among-merged c l.passed l.in_line) (turned (is_among c l.in_line) (is_among c l.passed) (is_among c l.away)) where
-  turned : (i p a : Bool) → a || (p || i) ≡ ((i || p) || a)
-  turned true true true = refl
-  turned true true false = refl
-  turned true false true = refl
-  turned true false false = refl
-  turned false true true = refl
-  turned false true false = refl
-  turned false false true = refl
-  turned false false false = refl
+among-all c l = rw (among-merged c l.away (union_of l.passed l.in_line), among-merged c l.passed l.in_line)
+    (turned (is_among c l.in_line) (is_among c l.passed) (is_among c l.away)) where
+      turned : (i p a : Bool) → a || (p || i) ≡ ((i || p) || a)
+      turned true true true = refl
+      turned true true false = refl
+      turned true false true = refl
+      turned true false false = refl
+      turned false true true = refl
+      turned false true false = refl
+      turned false false true = refl
+      turned false false false = refl
 
 pub orderly-all : (l : Line) → IsOrderly l → IsOrderly (all_back l)
 orderly-all l o = record {
@@ -198,7 +200,8 @@ orderly-passed-back l o = record {
   passed = refl;
   away = o.away;
   in_line_or_passed = λ c is. refl;
-  in_line_or_away = λ c is. from (is_among c l.passed) (is_among c l.in_line) (o.passed_or_away c) (o.in_line_or_away c) (sym (among-merged c l.passed l.in_line) ∙ is);
+  in_line_or_away = λ c is. from (is_among c l.passed) (is_among c l.in_line) (o.passed_or_away c) (o.in_line_or_away c)
+      (sym (among-merged c l.passed l.in_line) ∙ is);
   passed_or_away = λ c is. absurd (cc);
   holder = stands-merged l.holder l.passed l.in_line o.holder;
 } where

@@ -78,7 +78,8 @@ among-standing s d (e ∷ es) apart =
       | inl on ↦
           let is = eqb-true e.0 d on in
           let back = eq-eqb d e.0 (sym is) in
-          let out : is_among d (standing s es) ≡ false = tail ∙ (ap (λ (k : ℕ). stands_at s (seat_of es k)) (sym is) ∙ ap (stands_at s) (absent-key e.0 es apart.0)) in
+          let out : is_among d (standing s es) ≡ false = tail ∙
+          (ap (λ (k : ℕ). stands_at s (seat_of es k)) (sym is) ∙ ap (stands_at s) (absent-key e.0 es apart.0)) in
           elim (cases_Bool (is_same_stand e.1.stand s)) [
             | inl here ↦ rw (here, back, has-with itself d e.0 (standing s es), here, on) refl
             | inr off ↦ rw (off, back, off) out
@@ -104,14 +105,15 @@ standing-is_sorted s (e ∷ es) apart = elim (cases_Bool (is_same_stand e.1.stan
 -- who is in the line has a seat
 pub seat-in : (c : ℕ) (es : List (ℕ × Seated)) → IsDistinct nat_eq (keys_of es)
     → is_some (seat_of es c) ≡ is_among c (standing stand.InLine es) || is_among c (standing stand.Passed es) || is_among c (standing stand.Away es)
-seat-in c es up = rw (among-standing stand.InLine c es up, among-standing stand.Passed c es up, among-standing stand.Away c es up) (somewhere (seat_of es c)) where
-  somewhere : (o : Option Seated) → is_some o ≡ stands_at stand.InLine o || stands_at stand.Passed o || stands_at stand.Away o
-  somewhere None = refl
-  somewhere (Some seat) = each seat.stand where
-    each : (s : Stand) → true ≡ is_same_stand s stand.InLine || is_same_stand s stand.Passed || is_same_stand s stand.Away
-    each stand.InLine = refl
-    each stand.Passed = refl
-    each stand.Away = refl
+seat-in c es up = rw (among-standing stand.InLine c es up, among-standing stand.Passed c es up, among-standing stand.Away c es up)
+    (somewhere (seat_of es c)) where
+      somewhere : (o : Option Seated) → is_some o ≡ stands_at stand.InLine o || stands_at stand.Passed o || stands_at stand.Away o
+      somewhere None = refl
+      somewhere (Some seat) = each seat.stand where
+        each : (s : Stand) → true ≡ is_same_stand s stand.InLine || is_same_stand s stand.Passed || is_same_stand s stand.Away
+        each stand.InLine = refl
+        each stand.Passed = refl
+        each stand.Away = refl
 
 -- One consumer's seat changes.
 pub record Reseats (c : ℕ) (w : Option Seated) (old new : List (ℕ × Seated)) : Type 0 where
@@ -181,15 +183,18 @@ module _ (es : List (ℕ × Seated)) (places playing : List (Option ℕ)) (h : O
   place-seat k c has = let (seat, is, e) = was.seated k c has in rw is refl
 
   -- a change of one consumer leaves the others' places in the tournament
-  called-other : (new : List (ℕ × Seated)) (c : ℕ) (w : Option Seated) (change : Reseats c w es new) (o : Option ℕ) → (o ≡ Some c → ⊥) → seat_in_line new o ≡ seat_in_line es o
+  called-other : (new : List (ℕ × Seated)) (c : ℕ) (w : Option Seated) (change : Reseats c w es new) (o : Option ℕ) → (o ≡ Some c → ⊥) →
+      seat_in_line new o ≡ seat_in_line es o
   called-other new c w change None off = refl
   called-other new c w change (Some d) off =
       let other : eqb c d ≡ false = ne_eqb c d (λ e. off (ap Some (sym e))) in
       ap (called_from d) (elsewhere c w es new change d other)
 
-  holds-new : (new : List (ℕ × Seated)) (c : ℕ) (w : Option Seated) (change : Reseats c w es new) → stands (holder_without c h) (standing stand.InLine new) ≡ true
+  holds-new : (new : List (ℕ × Seated)) (c : ℕ) (w : Option Seated) (change : Reseats c w es new) →
+      stands (holder_without c h) (standing stand.InLine new) ≡ true
   holds-new new c w change = elim (cases_Bool (stands_at stand.InLine w)) [
-    | inl on ↦ rw (standing-comes c w es new change was.distinct stand.InLine on) (stands-with c (holder_without c h) (without itself c (standing stand.InLine es)) (stands-left c h (standing stand.InLine es) was.holds))
+    | inl on ↦ rw (standing-comes c w es new change was.distinct stand.InLine on)
+        (stands-with c (holder_without c h) (without itself c (standing stand.InLine es)) (stands-left c h (standing stand.InLine es) was.holds))
     | inr off ↦ rw (standing-leaves c w es new change was.distinct stand.InLine off) (stands-left c h (standing stand.InLine es) was.holds)
   ]
 
@@ -206,7 +211,8 @@ module _ (es : List (ℕ × Seated)) (places playing : List (Option ℕ)) (h : O
     moved-placed d x has = elim (cases_Bool (eqb c d)) [
       | inl on ↦
           let same = eqb-true c d on in
-          let there : seat_of new d ≡ Some (record { place = p; stand = s }) = ap (seat_of new) (sym same) ∙ here c (Some (record { place = p; stand = s })) es new change in
+          let there : seat_of new d ≡ Some (record { place = p; stand = s }) = ap (seat_of new) (sym same) ∙
+          here c (Some (record { place = p; stand = s })) es new change in
           let eq = same_seat (seat_of new d) x (record { place = p; stand = s }) has there in
           ap (λ (y : Seated). at places y.place) eq ∙ (at_place ∙ ap Some same)
       | inr off ↦ was.placed d x (sym (elsewhere c (Some (record { place = p; stand = s })) es new change d off) ∙ has)
@@ -228,14 +234,16 @@ module _ (es : List (ℕ × Seated)) (places playing : List (Option ℕ)) (h : O
       | inl on ↦
           ap (at (set playing p (called_at s c))) on
           ∙ (get_or-set_same playing p (called_at s c) None (was.room p c at_place)
-          ∙ sym (ap (λ (j : ℕ). seat_in_line new (at places j)) on ∙ (ap (seat_in_line new) at_place ∙ ap (called_from c) (here c (Some (record { place = p; stand = s })) es new change))))
+          ∙ sym (ap (λ (j : ℕ). seat_in_line new (at places j)) on ∙
+          (ap (seat_in_line new) at_place ∙ ap (called_from c) (here c (Some (record { place = p; stand = s })) es new change))))
       | inr off ↦
           get_or-set_other playing p k (called_at s c) None off
           ∙ (was.plays k
           ∙ sym (called-other new c (Some (record { place = p; stand = s })) change (at places k) (λ has. off (one_place c seat k is has ∙ e))))
     ]
 
-    pub seated-moved : (playing' : List (Option ℕ)) (h' : Option ℕ) → playing' ≡ set playing p (called_at s c) → h' ≡ holder_without c h → IsSeated new places playing' h'
+    pub seated-moved : (playing' : List (Option ℕ)) (h' : Option ℕ) → playing' ≡ set playing p (called_at s c) → h' ≡ holder_without c h →
+        IsSeated new places playing' h'
     seated-moved playing' h' plays holder = record {
       distinct = change.distinct;
       placed = moved-placed;
@@ -286,7 +294,8 @@ module _ (es : List (ℕ × Seated)) (places playing : List (Option ℕ)) (h : O
         | inr past ↦ let none = get_or_past xs i None past in absurd (cc)
       ]
 
-    pub seated-left : (places' playing' : List (Option ℕ)) (h' : Option ℕ) → places' ≡ set places seat.place None → playing' ≡ set playing seat.place None → h' ≡ holder_without c h
+    pub seated-left : (places' playing' : List (Option ℕ)) (h' : Option ℕ) → places' ≡ set places seat.place None →
+        playing' ≡ set playing seat.place None → h' ≡ holder_without c h
         → IsSeated new places' playing' h'
     seated-left places' playing' h' cleared plays holder = record {
       distinct = change.distinct;
@@ -339,7 +348,8 @@ module _ (es : List (ℕ × Seated)) (places playing : List (Option ℕ)) (h : O
           rw off (ap (λ (l : List (Option ℕ)). Some d ∷ l) (cleared os p has (λ k at_k. let h = only (suc k) at_k in omega arith)))
 
   -- one more is in line, at a place that nobody had
-  module _ (c p : ℕ) (absent : seat_of es c ≡ None) (new : List (ℕ × Seated)) (change : Reseats c (Some (record { place = p; stand = stand.InLine })) es new) where
+  module _ (c p : ℕ) (absent : seat_of es c ≡ None) (new : List (ℕ × Seated))
+      (change : Reseats c (Some (record { place = p; stand = stand.InLine })) es new) where
     absent-among : (s : Stand) → is_among c (standing s es) ≡ false
     absent-among s = among-standing s c es was.distinct ∙ ap (stands_at s) absent
 
@@ -353,7 +363,8 @@ module _ (es : List (ℕ × Seated)) (places playing : List (Option ℕ)) (h : O
         standing-leaves c (Some (record { place = p; stand = stand.InLine })) es new change was.distinct s out
         ∙ without-none itself c (standing s es) (absent-among s)
 
-    module _ (places' playing1 : List (Option ℕ)) (vacant : at places p ≡ None) (there : at places' p ≡ Some c) (others : (k : ℕ) → (k ≡ p → ⊥) → at places' k ≡ at places k)
+    module _ (places' playing1 : List (Option ℕ)) (vacant : at places p ≡ None) (there : at places' p ≡ Some c)
+        (others : (k : ℕ) → (k ≡ p → ⊥) → at places' k ≡ at places k)
         (same : (k : ℕ) → at playing1 k ≡ at playing k) (kept : length playing ≤ length playing1) (fits : p < length playing1) where
       not_at : (k d : ℕ) → at places k ≡ Some d → k ≡ p → ⊥
       not_at k d has e = let none = ap (at places) e ∙ vacant in absurd (cc)
@@ -376,7 +387,8 @@ module _ (es : List (ℕ × Seated)) (places playing : List (Option ℕ)) (h : O
             ∙ (same k
             ∙ (was.plays k
             ∙ sym (ap (seat_in_line new) (others k off)
-            ∙ called-other new c (Some (record { place = p; stand = stand.InLine })) change (at places k) (λ has. let no = not_c k c has in eqb-false c c no refl))))
+            ∙ called-other new c (Some (record { place = p; stand = stand.InLine })) change (at places k)
+            (λ has. let no = not_c k c has in eqb-false c c no refl))))
       ]
 
       pub seated-entered : (playing' : List (Option ℕ)) → playing' ≡ set playing1 p (Some c) → IsSeated new places' playing' h
@@ -385,7 +397,8 @@ module _ (es : List (ℕ × Seated)) (places playing : List (Option ℕ)) (h : O
         placed = λ d x has. elim (cases_Bool (eqb c d)) [
           | inl on ↦
               let e = eqb-true c d on in
-              let mine : seat_of new d ≡ Some (record { place = p; stand = stand.InLine }) = ap (seat_of new) (sym e) ∙ here c (Some (record { place = p; stand = stand.InLine })) es new change in
+              let mine : seat_of new d ≡ Some (record { place = p; stand = stand.InLine }) = ap (seat_of new) (sym e) ∙
+              here c (Some (record { place = p; stand = stand.InLine })) es new change in
               let eq = same_seat (seat_of new d) x (record { place = p; stand = stand.InLine }) has mine in
               ap (λ (y : Seated). at places' y.place) eq ∙ (there ∙ ap Some e)
           | inr off ↦
@@ -395,8 +408,12 @@ module _ (es : List (ℕ × Seated)) (places playing : List (Option ℕ)) (h : O
         seated = λ k d has. elim (cases_eq k p) [
           | inl on ↦
               let mine = ap (at places') on ∙ there in
-              let e = same_consumer (at places' k) c d mine has in
-              (record { place = p; stand = stand.InLine }, ap (seat_of new) (sym e) ∙ here c (Some (record { place = p; stand = stand.InLine })) es new change, sym on)
+              let e = same_consumer (at places' k) c d mine has in (
+                record { place = p; stand = stand.InLine },
+                ap (seat_of new) (sym e) ∙
+                    here c (Some (record { place = p; stand = stand.InLine })) es new change,
+                sym on,
+              )
           | inr off ↦
               let before = sym (others k off) ∙ has in
               let (x, is, at_k) = was.seated k d before in
@@ -431,7 +448,8 @@ module _ (es : List (ℕ × Seated)) (places playing : List (Option ℕ)) (h : O
       seated_so c (Some x) has some = elim (cases_Bool (is_same_stand x.stand stand.InLine)) [
         | inl on ↦
             let e : c ≡ d = let h = rw on at some in cc in
-            among-standing stand.InLine d es was.distinct ∙ (ap (λ (n : ℕ). stands_at stand.InLine (seat_of es n)) (sym e) ∙ (ap (stands_at stand.InLine) has ∙ on))
+            among-standing stand.InLine d es was.distinct ∙
+            (ap (λ (n : ℕ). stands_at stand.InLine (seat_of es n)) (sym e) ∙ (ap (stands_at stand.InLine) has ∙ on))
         | inr off ↦ let h = rw off at some in absurd (cc)
       ]
 
@@ -464,21 +482,44 @@ line_of es places h = record {
   places = places;
 }
 
-module _ (es : List (ℕ × Seated)) (places : List (Option ℕ)) (h : Option ℕ) (up : IsDistinct nat_eq (keys_of es)) (c p : ℕ) (new : List (ℕ × Seated)) (h' : Option ℕ) (holder : h' ≡ holder_without c h) where
+module _ (es : List (ℕ × Seated)) (places : List (Option ℕ)) (h : Option ℕ) (up : IsDistinct nat_eq (keys_of es)) (c p : ℕ) (new : List (ℕ × Seated))
+    (h' : Option ℕ) (holder : h' ≡ holder_without c h) where
   pub line-moved : (s : Stand) → Reseats c (Some (record { place = p; stand = s })) es new → line_of new places h' ≡ moved_to s c (line_of es places h)
   line-moved stand.InLine change =
       let w : Option Seated = Some (record { place = p; stand = stand.InLine }) in
-      rw (standing-comes c w es new change up stand.InLine refl, standing-leaves c w es new change up stand.Passed refl, standing-leaves c w es new change up stand.Away refl, holder) refl
+      rw (
+        standing-comes c w es new change up stand.InLine refl,
+        standing-leaves c w es new change up stand.Passed refl,
+        standing-leaves c w es new change up stand.Away refl,
+        holder,
+      ) refl
   line-moved stand.Passed change =
       let w : Option Seated = Some (record { place = p; stand = stand.Passed }) in
-      rw (standing-leaves c w es new change up stand.InLine refl, standing-comes c w es new change up stand.Passed refl, standing-leaves c w es new change up stand.Away refl, holder) refl
+      rw (
+        standing-leaves c w es new change up stand.InLine refl,
+        standing-comes c w es new change up stand.Passed refl,
+        standing-leaves c w es new change up stand.Away refl,
+        holder,
+      ) refl
   line-moved stand.Away change =
       let w : Option Seated = Some (record { place = p; stand = stand.Away }) in
-      rw (standing-leaves c w es new change up stand.InLine refl, standing-leaves c w es new change up stand.Passed refl, standing-comes c w es new change up stand.Away refl, holder) refl
+      rw (
+        standing-leaves c w es new change up stand.InLine refl,
+        standing-leaves c w es new change up stand.Passed refl,
+        standing-comes c w es new change up stand.Away refl,
+        holder,
+      ) refl
 
-  pub line-left : (places' : List (Option ℕ)) → places' ≡ map (holder_without c) places → Reseats c None es new → line_of new places' h' ≡ left_by c (line_of es places h)
+  pub line-left : (places' : List (Option ℕ)) → places' ≡ map (holder_without c) places → Reseats c None es new →
+      line_of new places' h' ≡ left_by c (line_of es places h)
   line-left places' left change =
-      rw (standing-leaves c None es new change up stand.InLine refl, standing-leaves c None es new change up stand.Passed refl, standing-leaves c None es new change up stand.Away refl, holder, left) refl
+      rw (
+        standing-leaves c None es new change up stand.InLine refl,
+        standing-leaves c None es new change up stand.Passed refl,
+        standing-leaves c None es new change up stand.Away refl,
+        holder,
+        left,
+      ) refl
 
 -- who isn't in the line has no seat
 pub no-seat : (c : ℕ) (es : List (ℕ × Seated)) → IsDistinct nat_eq (keys_of es)

@@ -25,7 +25,8 @@ stand-seat c es places h up =
         each stand.Away = refl
 
 -- there are as many consumers as seats that are taken
-pub count-standing : (es : List (ℕ × Seated)) → length (standing stand.InLine es) + length (standing stand.Passed es) + length (standing stand.Away es) ≡ length es
+pub count-standing : (es : List (ℕ × Seated)) →
+    length (standing stand.InLine es) + length (standing stand.Passed es) + length (standing stand.Away es) ≡ length es
 count-standing [] = refl
 count-standing (e ∷ es) = each e.1.stand (count-standing es) where
   each : (s : Stand) → length (standing stand.InLine es) + length (standing stand.Passed es) + length (standing stand.Away es) ≡ length es
@@ -69,7 +70,8 @@ orderly-seated es places playing h was = record {
   passed_or_away = λ c is. apart stand.Passed stand.Away (λ s on. passed_away s on) c is;
   holder = was.holds;
 } where
-  apart : (s t : Stand) → ((x : Stand) → is_same_stand x s ≡ true → is_same_stand x t ≡ false) → (c : ℕ) → is_among c (standing s es) ≡ true → is_among c (standing t es) ≡ false
+  apart : (s t : Stand) → ((x : Stand) → is_same_stand x s ≡ true → is_same_stand x t ≡ false) → (c : ℕ) → is_among c (standing s es) ≡ true →
+      is_among c (standing t es) ≡ false
   apart s t off c is = among-standing t c es was.distinct ∙ other (seat_of es c) (sym (among-standing s c es was.distinct) ∙ is) where
     other : (o : Option Seated) → stands_at s o ≡ true → stands_at t o ≡ false
     other None none = refl

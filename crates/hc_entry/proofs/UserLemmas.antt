@@ -52,7 +52,8 @@ module _ (way : BoundKind) where
   pub bound_as-map : (other : BoundKind) (c : ℕ) (cs : List ℕ)
       → list_any (λ (b : Bound). eqb b.c c && is_same_kind b.kind other) (map (bound_as way) cs) ≡ is_same_kind way other && has itself c cs
   bound_as-map other c [] = sym (and_false (is_same_kind way other))
-  bound_as-map other c (d ∷ cs) = ap (λ (b : Bool). (eqb d c && is_same_kind way other) || b) (bound_as-map other c cs) ∙ spread (eqb d c) (is_same_kind way other) (has itself c cs)
+  bound_as-map other c (d ∷ cs) = ap (λ (b : Bool). (eqb d c && is_same_kind way other) || b) (bound_as-map other c cs) ∙
+      spread (eqb d c) (is_same_kind way other) (has itself c cs)
 
   pub unshared-map : (cs : List ℕ) → is_same_kind way kind.Shared ≡ false → map without_sharing (map (bound_as way) cs) ≡ map (bound_as way) cs
   unshared-map [] off = refl
@@ -107,14 +108,16 @@ least-ascending (c ∷ cs) up = least-above c cs up
 pub least_bound-map : (way : BoundKind) (cs : List ℕ) → is_sorted itself cs ≡ true → least_bound (map (bound_as way) cs) ≡ first_of cs
 least_bound-map way cs up = ap least (numbers-map way cs) ∙ least-ascending cs up
 
-pub least_of-same : (way other : BoundKind) (cs : List ℕ) → is_same_kind way other ≡ true → is_sorted itself cs ≡ true → least_of other (map (bound_as way) cs) ≡ first_of cs
+pub least_of-same : (way other : BoundKind) (cs : List ℕ) → is_same_kind way other ≡ true → is_sorted itself cs ≡ true →
+    least_of other (map (bound_as way) cs) ≡ first_of cs
 least_of-same way other cs same up = ap (λ (l : List Bound). least (numbers l)) (filter-same way other cs same) ∙ least_bound-map way cs up
 
 pub least_of-other : (way other : BoundKind) (cs : List ℕ) → is_same_kind way other ≡ false → least_of other (map (bound_as way) cs) ≡ None
 least_of-other way other cs off = ap (λ (l : List Bound). least (numbers l)) (filter-other way other cs off)
 
 -- how one more may be bound
-pub admission-map : (way : BoundKind) (cs : List ℕ) (ranged holes : Bool) → is_sorted itself cs ≡ true → admission_by way (first_of cs) ranged holes ≡ admission_of (map (bound_as way) cs) ranged holes
+pub admission-map : (way : BoundKind) (cs : List ℕ) (ranged holes : Bool) → is_sorted itself cs ≡ true →
+    admission_by way (first_of cs) ranged holes ≡ admission_of (map (bound_as way) cs) ranged holes
 unfolding admission_of
 admission-map way [] ranged true up = refl
 admission-map way [] ranged false up = refl
@@ -122,7 +125,11 @@ admission-map kind.Shared (c ∷ cs) ranged holes up = rw (least_of-same kind.Sh
 admission-map kind.Exclusive (c ∷ cs) ranged holes up =
     rw (least_of-other kind.Exclusive kind.Shared (c ∷ cs) refl, least_of-same kind.Exclusive kind.Exclusive (c ∷ cs) refl up) refl
 admission-map kind.Reader (c ∷ cs) ranged true up =
-    rw (least_of-other kind.Reader kind.Shared (c ∷ cs) refl, least_of-other kind.Reader kind.Exclusive (c ∷ cs) refl, least_bound-map kind.Reader (c ∷ cs) up) refl
+    rw (
+      least_of-other kind.Reader kind.Shared (c ∷ cs) refl,
+      least_of-other kind.Reader kind.Exclusive (c ∷ cs) refl,
+      least_bound-map kind.Reader (c ∷ cs) up,
+    ) refl
 admission-map kind.Reader (c ∷ cs) ranged false up =
     rw (least_of-other kind.Reader kind.Shared (c ∷ cs) refl, least_of-other kind.Reader kind.Exclusive (c ∷ cs) refl) refl
 
@@ -134,27 +141,34 @@ map-kind way other cs all = elim (all-map way other cs all) [
 ]
 
 -- what is admitted is as the others are
-pub are_all-admitted : (way : BoundKind) (cs : List ℕ) (ranged holes : Bool) (other : BoundKind) → kind_by (admission_by way (first_of cs) ranged holes) ≡ Some other
+pub are_all-admitted : (way : BoundKind) (cs : List ℕ) (ranged holes : Bool) (other : BoundKind) →
+    kind_by (admission_by way (first_of cs) ranged holes) ≡ Some other
     → are_all other (map (bound_as way) cs) ≡ true
 are_all-admitted way [] ranged holes other by = refl
 are_all-admitted kind.Shared (c ∷ cs) true holes other by = absurd (cc)
-are_all-admitted kind.Shared (c ∷ cs) false holes other by = let e : kind.Shared ≡ other = cc in ap (λ (k : BoundKind). are_all k (map (bound_as kind.Shared) (c ∷ cs))) (sym e) ∙ all-same kind.Shared kind.Shared (c ∷ cs) refl
+are_all-admitted kind.Shared (c ∷ cs) false holes other by = let e : kind.Shared ≡ other = cc in
+    ap (λ (k : BoundKind). are_all k (map (bound_as kind.Shared) (c ∷ cs))) (sym e) ∙ all-same kind.Shared kind.Shared (c ∷ cs) refl
 are_all-admitted kind.Exclusive (c ∷ cs) ranged holes other by = absurd (cc)
 are_all-admitted kind.Reader (c ∷ cs) ranged true other by = absurd (cc)
-are_all-admitted kind.Reader (c ∷ cs) ranged false other by = let e : kind.Reader ≡ other = cc in ap (λ (k : BoundKind). are_all k (map (bound_as kind.Reader) (c ∷ cs))) (sym e) ∙ all-same kind.Reader kind.Reader (c ∷ cs) refl
+are_all-admitted kind.Reader (c ∷ cs) ranged false other by = let e : kind.Reader ≡ other = cc in
+    ap (λ (k : BoundKind). are_all k (map (bound_as kind.Reader) (c ∷ cs))) (sym e) ∙ all-same kind.Reader kind.Reader (c ∷ cs) refl
 
 -- an exclusive writer is admitted where nobody is bound
-pub alone-admitted : (way : BoundKind) (cs : List ℕ) (ranged holes : Bool) (other : BoundKind) → kind_by (admission_by way (first_of cs) ranged holes) ≡ Some other
+pub alone-admitted : (way : BoundKind) (cs : List ℕ) (ranged holes : Bool) (other : BoundKind) →
+    kind_by (admission_by way (first_of cs) ranged holes) ≡ Some other
     → is_same_kind other kind.Exclusive ≡ true → map (bound_as way) cs ≡ []
 alone-admitted way [] ranged holes other by on = refl
 alone-admitted kind.Shared (c ∷ cs) true holes other by on = absurd (cc)
-alone-admitted kind.Shared (c ∷ cs) false holes other by on = absurd (let e : kind.Shared ≡ other = cc in let never : false ≡ true = ap (λ (k : BoundKind). is_same_kind k kind.Exclusive) e ∙ on in cc)
+alone-admitted kind.Shared (c ∷ cs) false holes other by on =
+    absurd (let e : kind.Shared ≡ other = cc in let never : false ≡ true = ap (λ (k : BoundKind). is_same_kind k kind.Exclusive) e ∙ on in cc)
 alone-admitted kind.Exclusive (c ∷ cs) ranged holes other by on = absurd (cc)
 alone-admitted kind.Reader (c ∷ cs) ranged true other by on = absurd (cc)
-alone-admitted kind.Reader (c ∷ cs) ranged false other by on = absurd (let e : kind.Reader ≡ other = cc in let never : false ≡ true = ap (λ (k : BoundKind). is_same_kind k kind.Exclusive) e ∙ on in cc)
+alone-admitted kind.Reader (c ∷ cs) ranged false other by on =
+    absurd (let e : kind.Reader ≡ other = cc in let never : false ≡ true = ap (λ (k : BoundKind). is_same_kind k kind.Exclusive) e ∙ on in cc)
 
 pub made : (r : ℕ) (gone : Bool) (bound other : List Bound) (spare more : ℕ) → bound ≡ other → spare ≡ more
-    → let whole : Users = record { r = r; bound = bound; spare = spare; gone = gone } in let after : Users = record { r = r; bound = other; spare = more; gone = gone } in whole ≡ after
+    → let whole : Users = record { r = r; bound = bound; spare = spare; gone = gone } in let after : Users =
+    record { r = r; bound = other; spare = more; gone = gone } in whole ≡ after
 made r gone bound other spare more same room = rw (same, room) refl
 
 pub settled-writer : (c : ℕ) (u : Users) → is_bound_as kind.Exclusive c u ≡ true → users_without_writer c u ≡ rebound kind.Reader c u

@@ -7,8 +7,10 @@ IsOpaque-leading [] = refl
 IsOpaque-leading (b ∷ text) =
     elim (cases_Bool (is_etagc b)) [
       | inl allowed ↦
-          let more : prefix_len is_etagc (b ∷ text) ≡ suc (prefix_len is_etagc text) = cond-true (is_etagc b) (1 + prefix_len is_etagc text) 0 allowed ∙ omega arith in
-          ap (λ (n : ℕ). list_all is_etagc (take n (b ∷ text))) more ∙ and_from (is_etagc b) (list_all is_etagc (take (prefix_len is_etagc text) text)) allowed (IsOpaque-leading text)
+          let more : prefix_len is_etagc (b ∷ text) ≡ suc (prefix_len is_etagc text) = cond-true (is_etagc b) (1 + prefix_len is_etagc text) 0 allowed ∙
+          omega arith in
+          ap (λ (n : ℕ). list_all is_etagc (take n (b ∷ text))) more ∙
+          and_from (is_etagc b) (list_all is_etagc (take (prefix_len is_etagc text) text)) allowed (IsOpaque-leading text)
       | inr barred ↦ ap (λ (n : ℕ). list_all is_etagc (take n (b ∷ text))) (cond-false (is_etagc b) (1 + prefix_len is_etagc text) 0 barred)
     ]
 

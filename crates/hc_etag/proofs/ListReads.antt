@@ -19,7 +19,8 @@ no_quote b may = by_test (eqb b quote) refl
     by_test true is = absurd (let never : false ≡ true = sym (ap is_etagc (eqb-true b quote is)) ∙ may in cc)
 
 -- the rest of a tag, from behind some bytes of it
-within_quotes : (weak : Bool) (opaque seen text : List ℕ) → IsOpaque opaque → tags_from (Within weak seen) (opaque ++ quote ∷ text) ≡ with_tag (weak, seen ++ opaque) (tags_from (Between false) text)
+within_quotes : (weak : Bool) (opaque seen text : List ℕ) → IsOpaque opaque →
+    tags_from (Within weak seen) (opaque ++ quote ∷ text) ≡ with_tag (weak, seen ++ opaque) (tags_from (Between false) text)
 within_quotes weak [] seen text is = ap (λ (o : List ℕ). with_tag (weak, o) (tags_from (Between false) text)) (sym (append-nil seen))
 within_quotes weak (b ∷ opaque) seen text is =
     let parts = and_parts (is_etagc b) (list_all is_etagc opaque) is in
@@ -75,7 +76,8 @@ at_end BehindSlash tags h = nothing_listed tags h
 at_end (Within weak seen) tags h = nothing_listed tags h
 
 -- a whole tag, from its first byte on
-whole_tag : (weak : Bool) (text after : List ℕ) (tags : List (Bool × List ℕ)) (q : EndsTag weak [] after tags) → text ≡ tag_text weak q.opaque ++ q.rest → SpellsTags true text tags
+whole_tag : (weak : Bool) (text after : List ℕ) (tags : List (Bool × List ℕ)) (q : EndsTag weak [] after tags) → text ≡ tag_text weak q.opaque ++ q.rest →
+    SpellsTags true text tags
 whole_tag weak text after tags q is =
     subst (λ (l : List ℕ). SpellsTags true l tags) (sym is)
     (subst (SpellsTags true (tag_text weak q.opaque ++ q.rest)) (sym q.tags_is) (tag weak q.opaque q.rest q.later q.is_opaque q.spelled))
@@ -94,19 +96,23 @@ module _ (b : ℕ) (text : List ℕ) (tags : List (Bool × List ℕ)) (behind : 
       ∙ ap (λ (l : List ℕ). 87 ∷ 47 ∷ quote ∷ l) (q.text_is ∙ sym (append_assoc q.opaque (quote ∷ []) q.rest)))
 
   by_first : (may_come x y : Bool) → eqb b quote ≡ x → eqb b 87 ≡ y
-      → (if may_come && x then tags_from (Within false []) text else if may_come && y then tags_from BehindW text else None) ≡ Some tags → SpellsTags may_come (b ∷ text) tags
+      → (if may_come && x then tags_from (Within false []) text else if may_come && y then tags_from BehindW text else None) ≡ Some tags →
+      SpellsTags may_come (b ∷ text) tags
   by_first true true y is _ h = strong_first is (behind (Within false []) tags h)
   by_first true false true _ is h = weak_first is (behind BehindW tags h)
   by_first true false false _ _ h = nothing_listed tags h
   by_first false x y _ _ h = nothing_listed tags h
 
   by_comma : (may_come x : Bool) → eqb b comma ≡ x
-      → (if x then tags_from (Between true) text else if may_come && eqb b quote then tags_from (Within false []) text else if may_come && eqb b 87 then tags_from BehindW text else None) ≡ Some tags → SpellsTags may_come (b ∷ text) tags
-  by_comma may_come true is h = subst (λ (n : ℕ). SpellsTags may_come (n ∷ text) tags) (sym (eqb-true b comma is)) (separator may_come text tags (behind (Between true) tags h))
+      → (if x then tags_from (Between true) text else if may_come && eqb b quote then tags_from (Within false []) text else if may_come && eqb b 87 then
+      tags_from BehindW text else None) ≡ Some tags → SpellsTags may_come (b ∷ text) tags
+  by_comma may_come true is h =
+      subst (λ (n : ℕ). SpellsTags may_come (n ∷ text) tags) (sym (eqb-true b comma is)) (separator may_come text tags (behind (Between true) tags h))
   by_comma may_come false off h = by_first may_come (eqb b quote) (eqb b 87) refl refl h
 
   by_blank : (may_come x : Bool) → is_blank b ≡ x
-      → (if x then tags_from (Between may_come) text else if eqb b comma then tags_from (Between true) text else if may_come && eqb b quote then tags_from (Within false []) text else if may_come && eqb b 87 then tags_from BehindW text else None) ≡ Some tags → SpellsTags may_come (b ∷ text) tags
+      → (if x then tags_from (Between may_come) text else if eqb b comma then tags_from (Between true) text else if may_come && eqb b quote then
+      tags_from (Within false []) text else if may_come && eqb b 87 then tags_from BehindW text else None) ≡ Some tags → SpellsTags may_come (b ∷ text) tags
   by_blank may_come true is h = blank may_come b text tags is (behind (Between may_come) tags h)
   by_blank may_come false off h = by_comma may_come (eqb b comma) refl h
 
@@ -119,7 +125,8 @@ module _ (b : ℕ) (text : List ℕ) (tags : List (Bool × List ℕ)) (behind : 
   by_opening false off h = nothing_listed tags h
 
   -- the second quote
-  at_quote : (weak : Bool) (seen : List ℕ) → eqb b quote ≡ true → (o : Option (List (Bool × List ℕ))) → tags_from (Between false) text ≡ o → with_tag (weak, seen) o ≡ Some tags → EndsTag weak seen (b ∷ text) tags
+  at_quote : (weak : Bool) (seen : List ℕ) → eqb b quote ≡ true → (o : Option (List (Bool × List ℕ))) → tags_from (Between false) text ≡ o →
+      with_tag (weak, seen) o ≡ Some tags → EndsTag weak seen (b ∷ text) tags
   at_quote weak seen is None rest h = nothing_listed tags h
   at_quote weak seen is (Some later) rest h =
       let same : (weak, seen) ∷ later ≡ tags = cc in
@@ -144,12 +151,14 @@ module _ (b : ℕ) (text : List ℕ) (tags : List (Bool × List ℕ)) (behind : 
     spelled = q.spelled;
   }
 
-  by_byte : (weak : Bool) (seen : List ℕ) (x : Bool) → is_etagc b ≡ x → (if x then tags_from (Within weak (seen ++ b ∷ [])) text else None) ≡ Some tags → EndsTag weak seen (b ∷ text) tags
+  by_byte : (weak : Bool) (seen : List ℕ) (x : Bool) → is_etagc b ≡ x → (if x then tags_from (Within weak (seen ++ b ∷ [])) text else None) ≡ Some tags →
+      EndsTag weak seen (b ∷ text) tags
   by_byte weak seen true may h = one_more weak seen may (behind (Within weak (seen ++ b ∷ [])) tags h)
   by_byte weak seen false off h = nothing_listed tags h
 
   by_quote : (weak : Bool) (seen : List ℕ) (x : Bool) → eqb b quote ≡ x
-      → (if x then with_tag (weak, seen) (tags_from (Between false) text) else if is_etagc b then tags_from (Within weak (seen ++ b ∷ [])) text else None) ≡ Some tags → EndsTag weak seen (b ∷ text) tags
+      → (if x then with_tag (weak, seen) (tags_from (Between false) text) else if is_etagc b then tags_from (Within weak (seen ++ b ∷ [])) text else
+      None) ≡ Some tags → EndsTag weak seen (b ∷ text) tags
   by_quote weak seen true is h = at_quote weak seen is (tags_from (Between false) text) refl h
   by_quote weak seen false off h = by_byte weak seen (is_etagc b) refl h
 

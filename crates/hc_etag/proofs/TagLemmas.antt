@@ -37,7 +37,8 @@ pub data Begins (may_come : Bool) (b : ℕ) (text : List ℕ) (tags : List (Bool
   with_comma : b ≡ comma → SpellsTags true text tags → Begins may_come b text tags
   with_tag : may_come ≡ true → FirstTag (b ∷ text) tags → Begins may_come b text tags
 
-begins : {may_come : Bool} {t : List ℕ} {tags : List (Bool × List ℕ)} → SpellsTags may_come t tags → (b : ℕ) (text : List ℕ) → t ≡ b ∷ text → Begins may_come b text tags
+begins : {may_come : Bool} {t : List ℕ} {tags : List (Bool × List ℕ)} → SpellsTags may_come t tags → (b : ℕ) (text : List ℕ) → t ≡ b ∷ text →
+    Begins may_come b text tags
 begins (ends m) b text e = cc
 begins (blank m c t tags is_b spelled) b text e =
     let first : c ≡ b = cc in
@@ -61,7 +62,8 @@ first_byte : (weak : Bool) (opaque rest : List ℕ) → (get_or (tag_text weak o
 first_byte true opaque rest = inl refl
 first_byte false opaque rest = inr refl
 
-first_plain : (b : ℕ) (text : List ℕ) (weak : Bool) (opaque rest : List ℕ) → b ∷ text ≡ tag_text weak opaque ++ rest → (is_blank b ≡ false) × (eqb b comma ≡ false)
+first_plain : (b : ℕ) (text : List ℕ) (weak : Bool) (opaque rest : List ℕ) → b ∷ text ≡ tag_text weak opaque ++ rest → (is_blank b ≡ false) ×
+    (eqb b comma ≡ false)
 first_plain b text weak opaque rest e =
     let P : ℕ → Type 0 = λ n. (is_blank n ≡ false) × (eqb n comma ≡ false) in
     let same : b ≡ get_or (tag_text weak opaque ++ rest) 0 0 = ap (λ (l : List ℕ). get_or l 0 0) e in
@@ -70,29 +72,35 @@ first_plain b text weak opaque rest e =
       | inr q ↦ subst P (sym (same ∙ q)) (refl, refl)
     ]
 
-after_blank_by : {may_come : Bool} {b : ℕ} {text : List ℕ} {tags : List (Bool × List ℕ)} → is_blank b ≡ true → Begins may_come b text tags → SpellsTags may_come text tags
+after_blank_by : {may_come : Bool} {b : ℕ} {text : List ℕ} {tags : List (Bool × List ℕ)} → is_blank b ≡ true → Begins may_come b text tags →
+    SpellsTags may_come text tags
 after_blank_by is_b (with_blank h spelled) = spelled
 after_blank_by is_b (with_comma h spelled) = absurd (both_ways (is_blank comma) refl (ap is_blank (sym h) ∙ is_b))
 after_blank_by {b = b} {text = text} is_b (with_tag h f) = absurd (both_ways (is_blank b) (first_plain b text f.weak f.opaque f.rest f.text_is).0 is_b)
 
-pub after_blank : (may_come : Bool) (b : ℕ) (text : List ℕ) (tags : List (Bool × List ℕ)) → is_blank b ≡ true → SpellsTags may_come (b ∷ text) tags → SpellsTags may_come text tags
+pub after_blank : (may_come : Bool) (b : ℕ) (text : List ℕ) (tags : List (Bool × List ℕ)) → is_blank b ≡ true → SpellsTags may_come (b ∷ text) tags →
+    SpellsTags may_come text tags
 after_blank may_come b text tags is_b spelled = after_blank_by is_b (begins spelled b text refl)
 
 after_comma_by : {may_come : Bool} {b : ℕ} {text : List ℕ} {tags : List (Bool × List ℕ)} → b ≡ comma → Begins may_come b text tags → SpellsTags true text tags
 after_comma_by is_c (with_blank h spelled) = absurd (both_ways (is_blank comma) refl (ap is_blank (sym is_c) ∙ h))
 after_comma_by is_c (with_comma h spelled) = spelled
-after_comma_by {b = b} {text = text} is_c (with_tag h f) = absurd (both_ways (eqb b comma) (first_plain b text f.weak f.opaque f.rest f.text_is).1 (ap (λ (n : ℕ). eqb n comma) is_c))
+after_comma_by {b = b} {text = text} is_c (with_tag h f) =
+    absurd (both_ways (eqb b comma) (first_plain b text f.weak f.opaque f.rest f.text_is).1 (ap (λ (n : ℕ). eqb n comma) is_c))
 
-pub after_comma : (may_come : Bool) (b : ℕ) (text : List ℕ) (tags : List (Bool × List ℕ)) → b ≡ comma → SpellsTags may_come (b ∷ text) tags → SpellsTags true text tags
+pub after_comma : (may_come : Bool) (b : ℕ) (text : List ℕ) (tags : List (Bool × List ℕ)) → b ≡ comma → SpellsTags may_come (b ∷ text) tags →
+    SpellsTags true text tags
 after_comma may_come b text tags is_c spelled = after_comma_by is_c (begins spelled b text refl)
 
-at_tag_by : {may_come : Bool} {b : ℕ} {text : List ℕ} {tags : List (Bool × List ℕ)} → is_blank b ≡ false → b ≢ comma → Begins may_come b text tags → (may_come ≡ true) × FirstTag (b ∷ text) tags
+at_tag_by : {may_come : Bool} {b : ℕ} {text : List ℕ} {tags : List (Bool × List ℕ)} → is_blank b ≡ false → b ≢ comma → Begins may_come b text tags →
+    (may_come ≡ true) × FirstTag (b ∷ text) tags
 at_tag_by {b = b} no_b no_c (with_blank h spelled) = absurd (both_ways (is_blank b) no_b h)
 at_tag_by no_b no_c (with_comma h spelled) = absurd (no_c h)
 at_tag_by no_b no_c (with_tag h f) = (h, f)
 
 -- a byte that is neither a blank nor a comma begins a tag, where one may come
-pub at_tag : (may_come : Bool) (b : ℕ) (text : List ℕ) (tags : List (Bool × List ℕ)) → is_blank b ≡ false → b ≢ comma → SpellsTags may_come (b ∷ text) tags → (may_come ≡ true) × FirstTag (b ∷ text) tags
+pub at_tag : (may_come : Bool) (b : ℕ) (text : List ℕ) (tags : List (Bool × List ℕ)) → is_blank b ≡ false → b ≢ comma →
+    SpellsTags may_come (b ∷ text) tags → (may_come ≡ true) × FirstTag (b ∷ text) tags
 at_tag may_come b text tags no_b no_c spelled = at_tag_by no_b no_c (begins spelled b text refl)
 
 -- the steps of a reader
@@ -117,7 +125,8 @@ read_blank text read may_come rest b after e is_b so_far = record {
 pub read_comma : (text : List ℕ) (read : List (Bool × List ℕ)) (may_come : Bool) (rest : List ℕ) (b : ℕ) (after : List ℕ) → rest ≡ b ∷ after → b ≡ comma
     → IsReadUpTo text read may_come rest → IsReadUpTo text read true after
 read_comma text read may_come rest b after e is_c so_far = record {
-  up = λ tags spelled. so_far.up tags (subst (λ (l : List ℕ). SpellsTags may_come l tags) (sym (e ∙ ap (λ (n : ℕ). n ∷ after) is_c)) (separator may_come after tags spelled));
+  up = λ tags spelled. so_far.up tags
+      (subst (λ (l : List ℕ). SpellsTags may_come l tags) (sym (e ∙ ap (λ (n : ℕ). n ∷ after) is_c)) (separator may_come after tags spelled));
   down = λ all spelled.
       let d = so_far.down all spelled in
       (d.0, after_comma may_come b after d.0 is_c (subst (λ (l : List ℕ). SpellsTags may_come l d.0) e d.1), d.2);
@@ -141,7 +150,8 @@ pub read_tag : (text : List ℕ) (read : List (Bool × List ℕ)) (rest : List �
 read_tag text read rest b after weak opaque left e no_b no_c is_opaque rest_is so_far = record {
   up = λ tags spelled.
       subst (SpellsTags true text) (sym (append_assoc read ((weak, opaque) ∷ []) tags))
-      (so_far.up ((weak, opaque) ∷ tags) (subst (λ (l : List ℕ). SpellsTags true l ((weak, opaque) ∷ tags)) (sym rest_is) (tag weak opaque left tags is_opaque spelled)));
+      (so_far.up ((weak, opaque) ∷ tags)
+      (subst (λ (l : List ℕ). SpellsTags true l ((weak, opaque) ∷ tags)) (sym rest_is) (tag weak opaque left tags is_opaque spelled)));
   down = λ all spelled.
       let d = so_far.down all spelled in
       let f = at_tag true b after d.0 no_b no_c (subst (λ (l : List ℕ). SpellsTags true l d.0) e d.1) in

@@ -35,7 +35,8 @@ spells-quoted (b ∷ c ∷ rest) h =
 pub strong_in-some : (text opaque : List ℕ) → strong_in text ≡ Some opaque → SpellsTag text false opaque
 unfolding strong_in
 strong_in-some text opaque h = elim (cases_Bool (is_quoted text)) [
-  | inl is ↦ let e : Some (inner text) ≡ Some opaque = rw is at h in let same : inner text ≡ opaque = cc in subst (SpellsTag text false) same (spells-quoted text is)
+  | inl is ↦ let e : Some (inner text) ≡ Some opaque = rw is at h in let same : inner text ≡ opaque = cc in
+      subst (SpellsTag text false) same (spells-quoted text is)
   | inr isnt ↦ let e : None ≡ Some opaque = rw isnt at h in absurd (cc)
 ]
 
@@ -61,7 +62,8 @@ quoted-spelled opaque all =
     let size = length-spelled opaque in
     let before : length text - 1 ≡ suc (length opaque) = omega arith in
     let long : leb 2 (length text) ≡ true = le-leb 2 (length text) (omega arith) in
-    let ends : eqb (get_or text (length text - 1) 0) 34 ≡ true = ap (λ (k : ℕ). eqb (get_or text k 0) 34) before ∙ ap (λ (q : ℕ). eqb q 34) (last-spelled opaque) in
+    let ends : eqb (get_or text (length text - 1) 0) 34 ≡ true = ap (λ (k : ℕ). eqb (get_or text k 0) 34) before ∙
+    ap (λ (q : ℕ). eqb q 34) (last-spelled opaque) in
     let within : list_all is_etagc (inner text) ≡ true = ap (list_all is_etagc) (inner-spelled opaque) ∙ all in
     let two = and_from (leb 2 (length text)) true long refl in
     let three = and_from (leb 2 (length text) && true) (eqb (get_or text (length text - 1) 0) 34) two ends in

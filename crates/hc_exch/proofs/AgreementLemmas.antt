@@ -18,7 +18,8 @@ without-same x xs = has-without itself x x xs ∙ rw (eq-eqb x x refl) refl
 
 -- the lists are as before but for one, which stands where it belongs
 agrees-at : (x : ℕ) (w v : Wished) (t : Table) → AgreesBut x w t → ((y : ℕ) → y ≢ x → is_among y v.wanted ≡ is_among y w.wanted)
-    → ((y : ℕ) → y ≢ x → is_among y v.idle ≡ is_among y w.idle) → is_among x v.wanted ≡ is_wanted (t x).running → is_among x v.idle ≡ is_idle (t x).running → Agrees v t
+    → ((y : ℕ) → y ≢ x → is_among y v.idle ≡ is_among y w.idle) → is_among x v.wanted ≡ is_wanted (t x).running →
+    is_among x v.idle ≡ is_idle (t x).running → Agrees v t
 agrees-at x w v t h wanted idle at_wanted at_idle =
     record {
       wanted = λ y. elim (cases_Bool (eqb y x)) [
@@ -46,7 +47,8 @@ agrees-rests x w t o h is off =
     agrees-at x w (rests x w) t h (λ y ne. without-other x y w.wanted ne) (λ y ne. with-other x y w.idle ne)
     (without-same x w.wanted ∙ sym (ap is_wanted is ∙ off)) (with-same x w.idle ∙ sym (ap is_idle is ∙ ap not off))
 
-pub agrees-wanted : (x : ℕ) (w : Wished) (t : Table) (o : Open) → AgreesBut x w t → (t x).running ≡ Some o → is_wanted (Some o) ≡ true → is_among x w.idle ≡ false → Agrees w t
+pub agrees-wanted : (x : ℕ) (w : Wished) (t : Table) (o : Open) → AgreesBut x w t → (t x).running ≡ Some o → is_wanted (Some o) ≡ true →
+    is_among x w.idle ≡ false → Agrees w t
 agrees-wanted x w t o h is on not_idle =
     agrees-at x w w t h (λ y ne. refl) (λ y ne. refl)
     (elim (cases_Bool (is_among x w.wanted)) [
@@ -57,7 +59,11 @@ agrees-wanted x w t o h is on not_idle =
 
 pub agrees-same : (w : Wished) (t u : Table) → ((y : ℕ) → u y ≡ t y) → Agrees w t → Agrees w u
 agrees-same w t u same h =
-    record { wanted = λ y. h.wanted y ∙ ap (λ (k : Known). is_wanted k.running) (sym (same y)); idle = λ y. h.idle y ∙ ap (λ (k : Known). is_idle k.running) (sym (same y)) }
+    record {
+      wanted = λ y. h.wanted y ∙ ap (λ (k : Known). is_wanted k.running) (sym (same y));
+      idle = λ y. h.idle y ∙
+          ap (λ (k : Known). is_idle k.running) (sym (same y));
+    }
 
 once : (o : Option Open) → is_wanted o ≡ true → is_idle o ≡ false
 once None on = refl

@@ -11,7 +11,8 @@ drop-none (suc n) = refl
 pub some_left : (pieces : List (List ℕ)) (read : ℕ) (taken all : List ℕ) (count : ℕ) → taken ++ drop read (bytes_of_pieces pieces) ≡ all
     → length taken < count → count ≤ length all → 0 < length pieces
 some_left [] read taken all count is few there =
-    absurd (let same : length all ≡ length taken = sym (ap length is) ∙ (ap (λ (l : List ℕ). length (taken ++ l)) (drop-none read) ∙ ap length (append-nil taken)) in omega arith)
+    absurd (let same : length all ≡ length taken = sym (ap length is) ∙
+    (ap (λ (l : List ℕ). length (taken ++ l)) (drop-none read) ∙ ap length (append-nil taken)) in omega arith)
 some_left (piece ∷ pieces) read taken all count is few there = omega arith
 
 -- what is taken, where it is as long as it is to be
@@ -38,7 +39,8 @@ first-joined : (pieces : List (List ℕ)) → first_length pieces ≤ length (by
 first-joined [] = omega arith
 first-joined (p ∷ pieces) = let h = length-append p (bytes_of_pieces pieces) in omega arith
 
-pub IsCounted-push : (pieces : List (List ℕ)) (read left : ℕ) (piece : List ℕ) (now : List (List ℕ)) (count : ℕ) → IsCounted pieces read left → now ≡ pieces ++ piece ∷ []
+pub IsCounted-push : (pieces : List (List ℕ)) (read left : ℕ) (piece : List ℕ) (now : List (List ℕ)) (count : ℕ) → IsCounted pieces read left →
+    now ≡ pieces ++ piece ∷ []
     → length piece ≡ count → IsCounted now read (left + count)
 IsCounted-push pieces read left piece now count h is len =
     record {

@@ -25,7 +25,8 @@ agrees-rows w old now same h = agrees-same w (rows_of old) (rows_of now) (rows-s
 
 -- one changed and the others stayed
 pub tidy-changes : (next x : ℕ) (f : Known → Known) (old mid now : Rows) → IsTidy next old → Changes f x (rows_of old) (rows_of mid)
-    → ((y : ℕ) → rows_of now y ≡ rows_of mid y) → ((y : ℕ) → y ≢ x → get nat_eq mid y ≡ get nat_eq old y) → ((y : ℕ) → y ≢ x → get nat_eq now y ≡ get nat_eq mid y)
+    → ((y : ℕ) → rows_of now y ≡ rows_of mid y) → ((y : ℕ) → y ≢ x → get nat_eq mid y ≡ get nat_eq old y) →
+    ((y : ℕ) → y ≢ x → get nat_eq now y ≡ get nat_eq mid y)
     → keeps (get nat_eq now x) ≡ true → (next ≤ x → f (rows_of old x) ≡ unknown) → fits (f (rows_of old x)) ≡ true → IsTidy next now
 tidy-changes next x f old mid now h change same first second keep new fit =
     record {
@@ -54,7 +55,8 @@ module _ (c : ℕ) (role : Role) (need : Need) (request : Request) (moment : ℕ
   pub agrees-launched : (x : ℕ) (w : Wished) (old now : Rows) → Agrees w (rows_of old) → rows_of old x ≡ unknown
       → Changes (with_new_exchange c role need request moment) x (rows_of old) (rows_of now) → Agrees (wants_more x w) (rows_of now)
   agrees-launched x w old now h new change =
-      let but = agrees_but-new x w (rows_of old) (rows_of now) h new (changes-other (with_new_exchange c role need request moment) x (rows_of old) (rows_of now) change) in
+      let but = agrees_but-new x w (rows_of old) (rows_of now) h new
+      (changes-other (with_new_exchange c role need request moment) x (rows_of old) (rows_of now) change) in
       agrees-wanted x (wants_more x w) (rows_of now) (exchange_at_opening c role need request moment) but
       (ap (λ (k : Known). k.running) (changes-same (with_new_exchange c role need request moment) x (rows_of old) (rows_of now) change))
       refl (h.idle x ∙ ap (λ (k : Known). is_idle k.running) new)
@@ -68,9 +70,11 @@ module _ (c : ℕ) (role : Role) (need : Need) (request : Request) (moment : ℕ
           | inl on ↦ let e = eqb-true y x on in rw e (keeps-by (get nat_eq now x) (ap (λ (k : Known). is_some k.running) at))
           | inr off ↦ ap keeps (others y (eqb-false y x off)) ∙ h.keeps y
         ];
-        new = λ y le. let ne : y ≢ x = λ e. absurd (omega arith) in changes-other (with_new_exchange c role need request moment) x (rows_of old) (rows_of now) change y ne ∙ h.new y (omega arith);
+        new = λ y le. let ne : y ≢ x = λ e. absurd (omega arith) in
+            changes-other (with_new_exchange c role need request moment) x (rows_of old) (rows_of now) change y ne ∙ h.new y (omega arith);
         counted = λ y. elim (cases_Bool (eqb y x)) [
           | inl on ↦ let e = eqb-true y x on in rw e (ap fits at)
-          | inr off ↦ ap fits (changes-other (with_new_exchange c role need request moment) x (rows_of old) (rows_of now) change y (eqb-false y x off)) ∙ h.counted y
+          | inr off ↦ ap fits (changes-other (with_new_exchange c role need request moment) x (rows_of old) (rows_of now) change y (eqb-false y x off)) ∙
+              h.counted y
         ];
       }

@@ -41,7 +41,8 @@ module _ (f : Cells) (at x : ℕ) (bytes : List ℕ) (fit : Fit f at bytes) wher
         let high = here.2 in
         let under : q - at < length bytes = omega arith in
         let place : at + (q - at) ≡ q = omega arith in
-        let same : byte ≡ slice_index bytes (q - at) = fit.same (q - at) (record { byte = byte; x = y }) under (subst (λ (p : ℕ). f p ≡ Some (record { byte = byte; x = y })) (sym place) is) in
+        let same : byte ≡ slice_index bytes (q - at) =
+        fit.same (q - at) (record { byte = byte; x = y }) under (subst (λ (p : ℕ). f p ≡ Some (record { byte = byte; x = y })) (sym place) is) in
         (x, is_new q here.0 ∙ ap (λ (b : ℕ). Some (record { byte = b; x = x })) (sym same))
     | inr off ↦ (y, is_old q off.0 ∙ is)
   ]
@@ -58,8 +59,12 @@ module _ (f : Cells) (at x : ℕ) (bytes : List ℕ) (fit : Fit f at bytes) wher
     each = λ i lt. (x, one i lt (inside-cases at (length bytes) (at + i)));
   }
     where
-      one : (i : ℕ) → i < length bytes → ((inside at (length bytes) (at + i) ≡ true) × (at ≤ at + i) × (at + i < at + length bytes)) ⊎ ((inside at (length bytes) (at + i) ≡ false) × ((at + i < at) ⊎ (at + length bytes ≤ at + i))) → g (at + i) ≡ Some (record { byte = slice_index bytes i; x = x })
-      one i lt (inl here) = let same : at + i - at ≡ i = omega arith in is_new (at + i) here.0 ∙ ap (λ (k : ℕ). Some (record { byte = slice_index bytes k; x = x })) same
+      one : (i : ℕ) → i < length bytes →
+          ((inside at (length bytes) (at + i) ≡ true) × (at ≤ at + i) × (at + i < at + length bytes)) ⊎
+          ((inside at (length bytes) (at + i) ≡ false) × ((at + i < at) ⊎ (at + length bytes ≤ at + i))) →
+          g (at + i) ≡ Some (record { byte = slice_index bytes i; x = x })
+      one i lt (inl here) = let same : at + i - at ≡ i = omega arith in is_new (at + i) here.0 ∙
+          ap (λ (k : ℕ). Some (record { byte = slice_index bytes k; x = x })) same
       one i lt (inr off) = absurd (elim off.1 [ inl less ↦ omega arith | inr more ↦ omega arith ])
 
   -- where what was given is, or what was there
@@ -89,13 +94,15 @@ module _ (f : Cells) (at x : ℕ) (bytes : List ℕ) (fit : Fit f at bytes) wher
     still_stops = let less : written < at = omega arith in is_old written (inside-before at (length bytes) written less) ∙ k.stops
 
     -- they are kept
-    pub kept_new : Updates nat_cmp ahead after at (Some bytes) → ((other : List ℕ) → get nat_cmp ahead at ≡ Some other → length other ≤ length bytes) → KeepsAll after written g
+    pub kept_new : Updates nat_cmp ahead after at (Some bytes) → ((other : List ℕ) → get nat_cmp ahead at ≡ Some other → length other ≤ length bytes) →
+        KeepsAll after written g
     kept_new updates longer = record { keeps = record { covers = covers_over 0 written k.keeps.covers; stand = stand; all = all }; stops = still_stops }
       where
         stand : (q : ℕ) (others : List ℕ) → get nat_cmp after q ≡ Some others → Stand g q others
         stand q others there = elim (same_or_not q at) [
           | inl same ↦
-              let own : Some bytes ≡ Some others = sym (map-own ahead after at (Some bytes) updates) ∙ subst (λ (z : ℕ). get nat_cmp after z ≡ Some others) same there in
+              let own : Some bytes ≡ Some others = sym (map-own ahead after at (Some bytes) updates) ∙
+              subst (λ (z : ℕ). get nat_cmp after z ≡ Some others) same there in
               subst (λ (z : ℕ). Stand g z others) (sym same) (subst (Stand g at) (some_inj bytes others own) these_stand)
           | inr apart ↦ over q others (k.keeps.stand q others (sym (map-other ahead after at (Some bytes) updates q apart) ∙ there))
         ]
@@ -107,7 +114,13 @@ module _ (f : Cells) (at x : ℕ) (bytes : List ℕ) (fit : Fit f at bytes) wher
               let long = longer it.bytes other in
               let low = it.inside.0 in let high = it.inside.1 in
               record { at = at; bytes = bytes; there = map-own ahead after at (Some bytes) updates; inside = (omega arith, omega arith) }
-          | inr apart ↦ record { at = it.at; bytes = it.bytes; there = map-other ahead after at (Some bytes) updates it.at apart ∙ it.there; inside = it.inside }
+          | inr apart ↦ record {
+            at = it.at;
+            bytes = it.bytes;
+            there = map-other ahead after at (Some bytes) updates it.at apart ∙ it.there;
+            inside =
+                it.inside;
+          }
         ]
 
         all : (p : ℕ) (cell : Cell) → written ≤ p → g p ≡ Some cell → IsAhead after p
@@ -138,7 +151,9 @@ bytes_from f at bytes stand k (suc n) is =
     let under : k < length bytes = omega arith in
     let place : at + (k + 1) ≡ at + k + 1 = omega arith in
     let next : k + 1 ≡ suc k = omega arith in
-    let rest : bytes_on f (at + k + 1) n ≡ drop (suc k) bytes = subst (λ (q : ℕ). bytes_on f q n ≡ drop (suc k) bytes) place (subst (λ (j : ℕ). bytes_on f (at + (k + 1)) n ≡ drop j bytes) next (bytes_from f at bytes stand (k + 1) n (omega arith))) in
+    let rest : bytes_on f (at + k + 1) n ≡ drop (suc k) bytes =
+    subst (λ (q : ℕ). bytes_on f q n ≡ drop (suc k) bytes) place
+    (subst (λ (j : ℕ). bytes_on f (at + (k + 1)) n ≡ drop j bytes) next (bytes_from f at bytes stand (k + 1) n (omega arith))) in
     let here = stand.each k under in
     ap (λ (q : Option Cell). byte_before q (bytes_on f (at + k + 1) n)) here.1
     ∙ (ap (λ (more : List ℕ). slice_index bytes k ∷ more) rest ∙ sym (drop-cons bytes k 0 under))
@@ -175,12 +190,14 @@ appends_more f a b c first second third one two =
 
 -- some of these bytes are past the end of what was written
 module _ (f : Cells) (ahead : Ahead) (written at : ℕ) (bytes : List ℕ) (k : KeepsBut ahead written f at bytes) where
-  pub written_on : (now : ℕ) (before after : List ℕ) → written - at < length bytes → now ≡ at + length bytes → after ≡ before ++ drop (written - at) bytes → Keeps ahead now f × Appends f written now before after
+  pub written_on : (now : ℕ) (before after : List ℕ) → written - at < length bytes → now ≡ at + length bytes → after ≡ before ++
+      drop (written - at) bytes → Keeps ahead now f × Appends f written now before after
   written_on now before after some is text =
       let begins = k.begins in
       let place : at + (written - at) ≡ written = omega arith in
       let new : bytes_on f written (length bytes - (written - at)) ≡ drop (written - at) bytes =
-      subst (λ (q : ℕ). bytes_on f q (length bytes - (written - at)) ≡ drop (written - at) bytes) place (bytes_from f at bytes k.these (written - at) (length bytes - (written - at)) (omega arith)) in
+      subst (λ (q : ℕ). bytes_on f q (length bytes - (written - at)) ≡ drop (written - at) bytes) place
+      (bytes_from f at bytes k.these (written - at) (length bytes - (written - at)) (omega arith)) in
       let from_here : Covers f at now = λ p low high. (let under : p - at < length bytes = omega arith in
       let spot : at + (p - at) ≡ p = omega arith in
       let here = k.these.each (p - at) under in
@@ -200,7 +217,8 @@ module _ (f : Cells) (ahead : Ahead) (written at : ℕ) (bytes : List ℕ) (k : 
 
 -- WHAT IS NEXT
 
-pub taken : (f : Cells) (ahead after : Ahead) (written at : ℕ) (bytes : List ℕ) → Keeps ahead written f → at ≤ written → get nat_cmp ahead at ≡ Some bytes → Updates nat_cmp ahead after at None → KeepsBut after written f at bytes
+pub taken : (f : Cells) (ahead after : Ahead) (written at : ℕ) (bytes : List ℕ) → Keeps ahead written f → at ≤ written →
+    get nat_cmp ahead at ≡ Some bytes → Updates nat_cmp ahead after at None → KeepsBut after written f at bytes
 taken f ahead after written at bytes k begins there updates = record {
   covers = k.covers;
   stand = stand;
@@ -224,10 +242,12 @@ taken f ahead after written at bytes k begins there updates = record {
     ]
 
 -- none begins before or where what was written ends
-stops_by : (f : Cells) (ahead : Ahead) (written : ℕ) → Keeps ahead written f → ((q : ℕ) (others : List ℕ) → get nat_cmp ahead q ≡ Some others → written < q) → KeepsAll ahead written f
+stops_by : (f : Cells) (ahead : Ahead) (written : ℕ) → Keeps ahead written f →
+    ((q : ℕ) (others : List ℕ) → get nat_cmp ahead q ≡ Some others → written < q) → KeepsAll ahead written f
 stops_by f ahead written k later = record {
   keeps = k;
-  stops = none_or (f written) (λ cell is. (let it = k.all written cell (omega arith) is in let low = it.inside.0 in let high = later it.at it.bytes it.there in omega arith));
+  stops = none_or (f written)
+      (λ cell is. (let it = k.all written cell (omega arith) is in let low = it.inside.0 in let high = later it.at it.bytes it.there in omega arith));
 }
 
 pub none_left : (f : Cells) (ahead : Ahead) (written : ℕ) → Keeps ahead written f → (0 < btree_map_len ahead → ⊥) → KeepsAll ahead written f
@@ -247,10 +267,12 @@ pub some_taken : (ahead after : Ahead) (written at : ℕ) (bytes : List ℕ) (re
     → IfSome result (λ (next : ℕ × List ℕ). (f : Cells) → Keeps ahead written f → KeepsBut after written f next.0 next.1)
 some_taken ahead after written at bytes None there le least value updates = tt
 some_taken ahead after written at bytes (Some p) there le least value updates =
-    λ f k. taken f ahead after written p.0 p.1 k (let low : p.0 ≤ at = le_from_not_gt p.0 at (least at (is_there (get nat_cmp ahead at) bytes there)) in omega arith) value updates
+    λ f k. taken f ahead after written p.0 p.1 k (let low : p.0 ≤ at = le_from_not_gt p.0 at (least at (is_there (get nat_cmp ahead at) bytes there)) in
+    omega arith) value updates
 
 -- where these bytes end
-pub end_is : (written at len now : ℕ) → at ≤ written → written - at < len → at + len ≤ 2 ^ 62 → now ≡ min (written + (len - (written - at))) (2 ^ 64 - 1) → now ≡ at + len
+pub end_is : (written at len now : ℕ) → at ≤ written → written - at < len → at + len ≤ 2 ^ 62 → now ≡ min
+    (written + (len - (written - at))) (2 ^ 64 - 1) → now ≡ at + len
 end_is written at len now begins some below is = omega arith
 
 pub on_map : {A E : Type 0} {P Q : Type 0} (r : Result A E) → (P → Q) → OnOk r P → OnOk r Q

@@ -7,7 +7,8 @@ use Rattle.hc_fetch.specs.{declared.plan.FetchPlan.{FetchPlan}, Bounds.{IsPlan},
 
 one_within : (first last : ℕ) → first < 2 ^ 64 → last < 2 ^ 64 → IsWithinLimits (fields_for (Some (first, last)))
 one_within first last low high =
-    let long : length (codes "bytes=" ++ decimal first ++ codes "-" ++ decimal last) ≤ 60 = simp length-append (omega (arith, short-decimal first low, short-decimal last high)) in
+    let long : length (codes "bytes=" ++ decimal first ++ codes "-" ++ decimal last) ≤ 60 =
+    simp length-append (omega (arith, short-decimal first low, short-decimal last high)) in
     record { few = omega arith; small = omega (arith, long) }
 
 none_within : IsWithinLimits (fields_for None)
@@ -29,5 +30,6 @@ part_within plan total i is low few =
     let product : (i - 1) * plan.size ≤ 1000 * 2 ^ 40 = mul-le (i - 1) plan.size 1000 (2 ^ 40) (omega (arith, few)) is.size in (
       omega (arith, few),
       is.target,
-      one_within ((i - 1) * plan.size) (last_position plan total i) (omega (arith, product)) (last_small (i == part_count plan total) total i plan.size low few is.size),
+      one_within ((i - 1) * plan.size) (last_position plan total i) (omega (arith, product))
+          (last_small (i == part_count plan total) total i plan.size low few is.size),
     )

@@ -45,7 +45,8 @@ all_go : (limits : Limits) → may_begin limits no_contents ≡ true → (xs h :
 all_go limits may xs h run r f stand =
     by_later_entries limits no_contents (λ h. Stands (tables no_contents h) r f) (λ h e run before. one_goes limits may e h run r f before) xs h run stand
 
-started_goes : (limits : Limits) → may_begin limits no_contents ≡ true → (plan : FetchPlan) (now : ℕ) (h : History) → IsRun limits no_contents (started plan now h) → Goes h (started plan now h)
+started_goes : (limits : Limits) → may_begin limits no_contents ≡ true → (plan : FetchPlan) (now : ℕ) (h : History) →
+    IsRun limits no_contents (started plan now h) → Goes h (started plan now h)
 started_goes limits may plan now [] run r f stand = one_goes limits may _ [] run r f stand
 started_goes limits may plan now (e ∷ h) run r f stand = stand
 
@@ -104,11 +105,13 @@ pub record IsGathered (plan : FetchPlan) (f : History) : Type 0 where
   pub there : (head : Head) → first_head f ≡ Some head → Stands (tables no_contents (cache_history plan f)) head.r (gathered f)
   pub none : first_head f ≡ None → (r : ℕ) → Stands (tables no_contents (cache_history plan f)) r (gathered f)
 
-gathered_more : (limits : Limits) (plan : FetchPlan) (e : Entry) (f : History) → IsFetchRun limits plan (e ∷ f) → IsGathered plan f → (was : Option Head) → first_head f ≡ was
+gathered_more : (limits : Limits) (plan : FetchPlan) (e : Entry) (f : History) → IsFetchRun limits plan (e ∷ f) → IsGathered plan f →
+    (was : Option Head) → first_head f ≡ was
     → (r : ℕ) → ((head : Head) → was ≡ Some head → head.r ≡ r) → Stands (tables no_contents (cache_history plan (e ∷ f))) r (gathered (e ∷ f))
 gathered_more limits plan e f q so_far None is r of =
     goes_behind limits plan e f q r (gathered (e ∷ f))
-    (gathers_there (tables no_contents (before limits plan e f q)) r e.acts (gathered f) (gives_none limits plan e f q is r) (goes_there limits plan e f q r (gathered f) (so_far.none is r)))
+    (gathers_there (tables no_contents (before limits plan e f q)) r e.acts (gathered f) (gives_none limits plan e f q is r)
+    (goes_there limits plan e f q r (gathered f) (so_far.none is r)))
 gathered_more limits plan e f q so_far (Some head) is r of =
     let there = goes_there limits plan e f q head.r (gathered f) (so_far.there head is) in
     subst (λ (z : ℕ). Stands (tables no_contents (cache_history plan (e ∷ f))) z (gathered (e ∷ f))) (of head refl)
@@ -131,7 +134,8 @@ gathered_there limits plan [] q = record {
 gathered_there limits plan (e ∷ f) q =
     let so_far = gathered_there limits plan f (earlier limits plan e f q) in
     record {
-      there = λ head is. gathered_more limits plan e f q so_far (first_head f) refl head.r (λ z was. first_stays (first_head f) (first_in (heads_in e.acts)) z head is was);
+      there = λ head is. gathered_more limits plan e f q so_far (first_head f) refl head.r
+          (λ z was. first_stays (first_head f) (first_in (heads_in e.acts)) z head is was);
       none = λ is r. gathered_more limits plan e f q so_far (first_head f) refl r (λ z was. first_none (first_head f) (first_in (heads_in e.acts)) z r is was);
     }
 
@@ -142,13 +146,16 @@ unfolding written_of
 writes_the_body limits plan f q head is =
     written_held (tables no_contents (cache_history plan f)) head.r (gathered f) 0 (given_end f) ((gathered_there limits plan f q).there head is)
 
-gathered_stays : (limits : Limits) (plan : FetchPlan) (e : Entry) (f : History) → IsFetchRun limits plan (e ∷ f) → (was : Option Head) → first_head f ≡ was → IsPartOf (gathered f) (gathered (e ∷ f))
+gathered_stays : (limits : Limits) (plan : FetchPlan) (e : Entry) (f : History) → IsFetchRun limits plan (e ∷ f) → (was : Option Head) →
+    first_head f ≡ was → IsPartOf (gathered f) (gathered (e ∷ f))
 gathered_stays limits plan e f q None is =
     let so_far = gathered_there limits plan f (earlier limits plan e f q) in
-    gathers_on (tables no_contents (before limits plan e f q)) 0 e.acts (gathered f) (gives_none limits plan e f q is 0) (goes_there limits plan e f q 0 (gathered f) (so_far.none is 0))
+    gathers_on (tables no_contents (before limits plan e f q)) 0 e.acts (gathered f) (gives_none limits plan e f q is 0)
+    (goes_there limits plan e f q 0 (gathered f) (so_far.none is 0))
 gathered_stays limits plan e f q (Some head) is =
     let so_far = gathered_there limits plan f (earlier limits plan e f q) in
-    gathers_on (tables no_contents (before limits plan e f q)) head.r e.acts (gathered f) (gives_of limits plan e f q head is) (goes_there limits plan e f q head.r (gathered f) (so_far.there head is))
+    gathers_on (tables no_contents (before limits plan e f q)) head.r e.acts (gathered f) (gives_of limits plan e f q head is)
+    (goes_there limits plan e f q head.r (gathered f) (so_far.there head is))
 
 pub writes_on_with_more : WritesOn
 unfolding written_of

@@ -12,7 +12,8 @@ other_as None head = refl
 other_as (Some first) head = refl
 
 -- the first consumer is shown neither the whole, nor a part where there is to be one part
-pub fits_part : (plan : FetchPlan) (before : Option Head) (head : Head) → head.c ≡ 1 → (head.status ≡ 200 → ⊥) → (plan.parts ≡ 1 → ⊥) → is_some (total_of head) ≡ fits plan before head
+pub fits_part : (plan : FetchPlan) (before : Option Head) (head : Head) → head.c ≡ 1 → (head.status ≡ 200 → ⊥) → (plan.parts ≡ 1 → ⊥) →
+    is_some (total_of head) ≡ fits plan before head
 fits_part plan before head one other several =
     let c_one : (head.c == 1) ≡ true = grind (arith, nat_tests, one) in
     let off : (head.status == 200) ≡ false = grind (arith, nat_tests, other) in
@@ -20,7 +21,8 @@ fits_part plan before head one other several =
     rw (c_one, off, more) refl
 
 module _ (plan : FetchPlan) (before : Option Head) (head : Head) (first : Option First) (is : first ≡ first_as before) where
-  pub decides_other : (fit : Bool) (result : Option FetchEnded) → fit ≡ fits plan before head → fit ≡ true → result ≡ by_first first head.c head.r → result ≡ by_head plan before head
+  pub decides_other : (fit : Bool) (result : Option FetchEnded) → fit ≡ fits plan before head → fit ≡ true → result ≡ by_first first head.c head.r →
+      result ≡ by_head plan before head
   decides_other fit result fit_is fits_it result_is =
       result_is ∙ (ap (λ (q : Option First). by_first q head.c head.r) is ∙ (other_as before head
       ∙ ap (λ (b : Bool). if b then by_other head before else Some (ended.Status head.c head.status)) (sym fits_it ∙ fit_is)))

@@ -49,10 +49,12 @@ module _ (t : Tables) (s : Sound t) (m : Measures t) (b : Places t) where
   row_before r n p None cell row ends is = direct_before r n p (t.exchange r) cell refl ends is
   row_before r n p (Some v) cell row ends is = stored_before r n p v cell row ends is
 
-pub before_end : (limits : Limits) (contents : Contents) (h : History) → may_begin limits contents ≡ true → IsRun limits contents h → (r n p : ℕ) (cell : Cell) → end_of (tables contents h) r ≡ Some n → body_of (tables contents h) r p ≡ Some cell → p < n
+pub before_end : (limits : Limits) (contents : Contents) (h : History) → may_begin limits contents ≡ true → IsRun limits contents h →
+    (r n p : ℕ) (cell : Cell) → end_of (tables contents h) r ≡ Some n → body_of (tables contents h) r p ≡ Some cell → p < n
 before_end limits contents h may run r n p cell ends is =
     let c = carried limits contents h may run in
-    row_before (tables contents h) c.is_sound c.is_measured (places_in_runs limits contents h may run) r n p ((tables contents h).representation r) cell refl ends is
+    row_before (tables contents h) c.is_sound c.is_measured (places_in_runs limits contents h may run) r n p ((tables contents h).representation r) cell
+    refl ends is
 
 -- IT STAYS
 
@@ -85,7 +87,8 @@ module _ (limits : Limits) (t : Tables) (now : ℕ) (flaw : Flaw) (s : Sound t) 
       record { w = on.u; row = on.row; headed = by_head on.u.head refl }
     where
       by_head : (z : Option Response) → (is_on t e r h.w h.row).u.head ≡ z → is_some z ≡ true
-      by_head None none = let was : h.w.head ≡ None = (is_on t e r h.w h.row).same.bare none in absurd (false_true (sym (ap (λ (q : Option Response). is_some q) was) ∙ h.headed))
+      by_head None none = let was : h.w.head ≡ None = (is_on t e r h.w h.row).same.bare none in
+          absurd (false_true (sym (ap (λ (q : Option Response). is_some q) was) ∙ h.headed))
       by_head (Some response) some = refl
 
   -- what has its head founds nothing more
@@ -102,7 +105,9 @@ module _ (limits : Limits) (t : Tables) (now : ℕ) (flaw : Flaw) (s : Sound t) 
 
   known_kept : KnownHead t r → (q : Option Representation) → t.representation r ≡ q → KnownHead now_on r
   known_kept known None row isnt = headed_kept (known row)
-  known_kept known (Some v) row none = absurd (false_true (sym (ap (λ (q : Option Representation). is_some q) none) ∙ rep.stays t e r (t.representation r) (ap (λ (q : Option Representation). is_some q) row)))
+  known_kept known (Some v) row none =
+      absurd (false_true (sym (ap (λ (q : Option Representation). is_some q) none) ∙
+      rep.stays t e r (t.representation r) (ap (λ (q : Option Representation). is_some q) row)))
 
   row_kept : KnownEnd t r n → (q : Option Representation) → t.representation r ≡ q → KnownEnd now_on r n
   row_kept known None row =
@@ -115,7 +120,8 @@ module _ (limits : Limits) (t : Tables) (now : ℕ) (flaw : Flaw) (s : Sound t) 
       }
   row_kept known (Some v) row =
       let was : total_in (t.representation r) ≡ Some n = ap total_in row ∙ (sym (ap (end_by t r) row) ∙ known.ends) in
-      let still : total_in (now_on.representation r) ≡ Some n = hi_stays limits t now flaw s ev going a (place.Bound r 0 None by.Founding) n (λ y is. absurd (bound_direct r y is)) was in
+      let still : total_in (now_on.representation r) ≡ Some n =
+      hi_stays limits t now flaw s ev going a (place.Bound r 0 None by.Founding) n (λ y is. absurd (bound_direct r y is)) was in
       record {
         ends = total_end now_on r n (now_on.representation r) refl still;
         headed = λ none. absurd (none_some n (sym (ap total_in none) ∙ still));
@@ -124,27 +130,37 @@ module _ (limits : Limits) (t : Tables) (now : ℕ) (flaw : Flaw) (s : Sound t) 
 denied_end : (t : Tables) (e : Entry) (r n : ℕ) → KnownEnd t r n → KnownEnd (after_denied t e) r n
 denied_end t e r n known = record { ends = known.ends; headed = λ none. let h = known.headed none in record { w = h.w; row = h.row; headed = h.headed } }
 
-end_by_denial : (limits : Limits) (contents : Contents) (h : History) (e : Entry) → may_begin limits contents ≡ true → IsRun limits contents (e ∷ h) → (r n : ℕ) → KnownEnd (tables contents h) r n → (b : Bool) → is_denied e.acts ≡ b → KnownEnd (tables contents (e ∷ h)) r n
-end_by_denial limits contents h e may run r n known true denied = subst (λ (u : Tables). KnownEnd u r n) (denied_tables contents h e denied) (denied_end (tables contents h) e r n known)
+end_by_denial : (limits : Limits) (contents : Contents) (h : History) (e : Entry) → may_begin limits contents ≡ true → IsRun limits contents (e ∷ h) →
+    (r n : ℕ) → KnownEnd (tables contents h) r n → (b : Bool) → is_denied e.acts ≡ b → KnownEnd (tables contents (e ∷ h)) r n
+end_by_denial limits contents h e may run r n known true denied =
+    subst (λ (u : Tables). KnownEnd u r n) (denied_tables contents h e denied) (denied_end (tables contents h) e r n known)
 end_by_denial limits contents h e may run r n known false taken =
     let t = tables contents h in
     let c = carried limits contents h may run.0 in
     subst (λ (u : Tables). KnownEnd u r n) (next_tables contents h e taken)
-    (of_real limits t e (λ z. KnownEnd (after_accepted t z) r n) run.1 taken (λ going real. row_kept limits t e.now (flaw_in e.acts) c.is_sound e.event going (fallback limits contents h may run.0) r n known (t.representation r) refl))
+    (of_real limits t e (λ z. KnownEnd (after_accepted t z) r n) run.1 taken
+    (λ going real. row_kept limits t e.now (flaw_in e.acts) c.is_sound e.event going (fallback limits contents h may run.0) r n known (t.representation r)
+    refl))
 
-pub end_kept : (limits : Limits) (contents : Contents) (h : History) (e : Entry) → may_begin limits contents ≡ true → IsRun limits contents (e ∷ h) → (r n : ℕ) → KnownEnd (tables contents h) r n → KnownEnd (tables contents (e ∷ h)) r n
+pub end_kept : (limits : Limits) (contents : Contents) (h : History) (e : Entry) → may_begin limits contents ≡ true → IsRun limits contents (e ∷ h) →
+    (r n : ℕ) → KnownEnd (tables contents h) r n → KnownEnd (tables contents (e ∷ h)) r n
 end_kept limits contents h e may run r n known = end_by_denial limits contents h e may run r n known (is_denied e.acts) refl
 
 denied_head : (t : Tables) (e : Entry) (r : ℕ) → KnownHead t r → KnownHead (after_denied t e) r
 denied_head t e r known none = let h = known none in record { w = h.w; row = h.row; headed = h.headed }
 
-head_by_denial : (limits : Limits) (contents : Contents) (h : History) (e : Entry) → may_begin limits contents ≡ true → IsRun limits contents (e ∷ h) → (r : ℕ) → KnownHead (tables contents h) r → (b : Bool) → is_denied e.acts ≡ b → KnownHead (tables contents (e ∷ h)) r
-head_by_denial limits contents h e may run r known true denied = subst (λ (u : Tables). KnownHead u r) (denied_tables contents h e denied) (denied_head (tables contents h) e r known)
+head_by_denial : (limits : Limits) (contents : Contents) (h : History) (e : Entry) → may_begin limits contents ≡ true → IsRun limits contents (e ∷ h) →
+    (r : ℕ) → KnownHead (tables contents h) r → (b : Bool) → is_denied e.acts ≡ b → KnownHead (tables contents (e ∷ h)) r
+head_by_denial limits contents h e may run r known true denied =
+    subst (λ (u : Tables). KnownHead u r) (denied_tables contents h e denied) (denied_head (tables contents h) e r known)
 head_by_denial limits contents h e may run r known false taken =
     let t = tables contents h in
     let c = carried limits contents h may run.0 in
     subst (λ (u : Tables). KnownHead u r) (next_tables contents h e taken)
-    (of_real limits t e (λ z. KnownHead (after_accepted t z) r) run.1 taken (λ going real. known_kept limits t e.now (flaw_in e.acts) c.is_sound e.event going (fallback limits contents h may run.0) r 0 known (t.representation r) refl))
+    (of_real limits t e (λ z. KnownHead (after_accepted t z) r) run.1 taken
+    (λ going real. known_kept limits t e.now (flaw_in e.acts) c.is_sound e.event going (fallback limits contents h may run.0) r 0 known
+    (t.representation r) refl))
 
-pub head_kept : (limits : Limits) (contents : Contents) (h : History) (e : Entry) → may_begin limits contents ≡ true → IsRun limits contents (e ∷ h) → (r : ℕ) → KnownHead (tables contents h) r → KnownHead (tables contents (e ∷ h)) r
+pub head_kept : (limits : Limits) (contents : Contents) (h : History) (e : Entry) → may_begin limits contents ≡ true → IsRun limits contents (e ∷ h) →
+    (r : ℕ) → KnownHead (tables contents h) r → KnownHead (tables contents (e ∷ h)) r
 head_kept limits contents h e may run r known = head_by_denial limits contents h e may run r known (is_denied e.acts) refl

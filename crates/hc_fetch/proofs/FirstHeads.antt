@@ -36,7 +36,8 @@ module _ (p : FetchPlan) (now : ℕ) where
     misses = λ x w row. absurd (none_some w row);
     nothing = λ k row free. refl;
     good = λ x k w response row stands there head. absurd (none_some w there);
-    first = λ k r lo hi how row stands. absurd (let no : place.Line ≡ place.Bound r lo hi how = ap (λ (z : Consumer). z.place) (some_inj k0 k row) ∙ stands in cc);
+    first = λ k r lo hi how row stands. absurd (let no : place.Line ≡ place.Bound r lo hi how = ap (λ (z : Consumer). z.place) (some_inj k0 k row) ∙
+        stands in cc);
     parts = λ r v row status. absurd (none_some v row);
   }
 
@@ -45,11 +46,15 @@ module _ (p : FetchPlan) (now : ℕ) where
 
 -- AN EVENT
 
-lone_by : (limits : Limits) (p : FetchPlan) → IsPlan p → (h : History) (e : Entry) → may_begin limits no_contents ≡ true → IsRun limits no_contents (e ∷ h) → IsLone p (tables no_contents h) → is_foreign e.event ≡ false → shows_in 1 e.acts ≡ false → (b : Bool) → is_denied e.acts ≡ b → IsLone p (tables no_contents (e ∷ h))
-lone_by limits p plan_is h e may run l own unshown true denied = subst (IsLone p) (denied_tables no_contents h e denied) (lone_denied p (tables no_contents h) e l)
+lone_by : (limits : Limits) (p : FetchPlan) → IsPlan p → (h : History) (e : Entry) → may_begin limits no_contents ≡ true →
+    IsRun limits no_contents (e ∷ h) → IsLone p (tables no_contents h) → is_foreign e.event ≡ false → shows_in 1 e.acts ≡ false → (b : Bool) →
+    is_denied e.acts ≡ b → IsLone p (tables no_contents (e ∷ h))
+lone_by limits p plan_is h e may run l own unshown true denied =
+    subst (IsLone p) (denied_tables no_contents h e denied) (lone_denied p (tables no_contents h) e l)
 lone_by limits p plan_is h e may run l own unshown false taken =
     subst (IsLone p) (next_tables no_contents h e taken)
-    (lone_kept limits p plan_is (tables no_contents h) e (record { owed = run.1; not_denied = taken }) (carried limits no_contents h may run.0) (aims_in_runs limits no_contents h may run.0) (passed_in_runs limits no_contents h may run.0) l own unshown)
+    (lone_kept limits p plan_is (tables no_contents h) e (record { owed = run.1; not_denied = taken }) (carried limits no_contents h may run.0)
+    (aims_in_runs limits no_contents h may run.0) (passed_in_runs limits no_contents h may run.0) l own unshown)
 
 unshown_in : (acts : List Act) → first_in (heads_in acts) ≡ None → shows_in 1 acts ≡ false
 unshown_in [] none = refl
@@ -96,7 +101,8 @@ none_starts p f e none = by_decision (is_none (decided_by p f e.acts) && is_none
     by_decision true = ap (start_by_head p e.now) none
     by_decision false = refl
 
-pub lone_before : (limits : Limits) (p : FetchPlan) → IsPlan p → (f : History) → IsFetchRun limits p f → has_foreign f ≡ false → first_head f ≡ None → (now : ℕ) → IsLone p (tables no_contents (started p now (cache_history p f)))
+pub lone_before : (limits : Limits) (p : FetchPlan) → IsPlan p → (f : History) → IsFetchRun limits p f → has_foreign f ≡ false → first_head f ≡ None →
+    (now : ℕ) → IsLone p (tables no_contents (started p now (cache_history p f)))
 lone_before limits p plan_is [] q own none now = started_lone p now
 lone_before limits p plan_is (e ∷ f) q own none now =
     let before = started p e.now (cache_history p f) in
@@ -173,7 +179,8 @@ module _ (t : Tables) (now r status : ℕ) (why : Why) (fields : List (List ℕ 
   shower_of ev flaw _ (parts.misreads d want q here is) (inr h) = absurd h
 
   pub shower : (limits : Limits) (ev : Event) (flaw : Flaw) → Says it (Rattle.hc_model.specs.Answers.accepted_acts limits t now ev flaw) → IsShower ev
-  shower limits ev flaw h = shower_of ev flaw (answer_acts t now ev flaw) (said_is t now ev flaw) (by_said limits t now ev flaw it (next.shows 1 r why status fields lo hi) h)
+  shower limits ev flaw h =
+      shower_of ev flaw (answer_acts t now ev flaw) (said_is t now ev flaw) (by_said limits t now ev flaw it (next.shows 1 r why status fields lo hi) h)
 
 -- WHAT IS SHOWN FIRST
 
@@ -196,7 +203,15 @@ among (act.Shown d r why status fields lo hi ∷ acts) head is = elim (eq_cases 
       let made : Head = record { c = d; r = r; status = status; fields = fields } in
       let same : made ≡ head = some_inj made head (rw mine.0 at is) in
       subst (λ (z : Head). IsAmong z (act.Shown d r why status fields lo hi ∷ acts)) same
-      (record { why = why; lo = lo; hi = hi; says = inl (ap (λ n. act.Shown n r why status fields lo hi) mine.1); rest = shown_in 1 acts; shown = rw mine.0 refl })
+      (record {
+        why = why;
+        lo = lo;
+        hi = hi;
+        says = inl (ap (λ n. act.Shown n r why status fields lo hi) mine.1);
+        rest = shown_in 1 acts;
+        shown =
+            rw mine.0 refl;
+      })
   | inr other ↦ later (act.Shown d r why status fields lo hi) acts head (rw other.0 refl) (among acts head (rw other.0 at is))
 ]
 among (act.Opened x d need request ∷ acts) head is = later (act.Opened x d need request) acts head refl (among acts head is)
@@ -210,7 +225,8 @@ among (act.Denied refusal ∷ acts) head is = later (act.Denied refusal) acts he
 among (act.Lost r kind ∷ acts) head is = later (act.Lost r kind) acts head refl (among acts head is)
 among (act.Evicted r ∷ acts) head is = later (act.Evicted r) acts head refl (among acts head is)
 
-module _ (limits : Limits) (p : FetchPlan) (plan_is : IsPlan p) (h : History) (e : Entry) (may : may_begin limits no_contents ≡ true) (run : IsRun limits no_contents (e ∷ h)) (l : IsLone p (tables no_contents h)) (head : Head) (m : IsAmong head e.acts) where
+module _ (limits : Limits) (p : FetchPlan) (plan_is : IsPlan p) (h : History) (e : Entry) (may : may_begin limits no_contents ≡ true)
+    (run : IsRun limits no_contents (e ∷ h)) (l : IsLone p (tables no_contents h)) (head : Head) (m : IsAmong head e.acts) where
   abbrev t : Tables
   t = tables no_contents h
 
@@ -226,10 +242,13 @@ module _ (limits : Limits) (p : FetchPlan) (plan_is : IsPlan p) (h : History) (e
       let accepted = taken (is_denied e.acts) refl in
       let c = carried limits no_contents h may run.0 in
       let owed : IsTaken limits t e = record { owed = run.1; not_denied = accepted } in
-      let g = shower t e.now head.r head.status m.why head.fields m.lo m.hi limits e.event (flaw_in e.acts) (subst (Says (act.Shown 1 head.r m.why head.status head.fields m.lo m.hi)) (acts_are limits t e run.1 accepted) m.says) in
+      let g = shower t e.now head.r head.status m.why head.fields m.lo m.hi limits e.event (flaw_in e.acts)
+      (subst (Says (act.Shown 1 head.r m.why head.status head.fields m.lo m.hi)) (acts_are limits t e run.1 accepted) m.says) in
       let aims = aims_in_runs limits no_contents h may run.0 in
       let passed = passed_in_runs limits no_contents h may run.0 in
       let at = lone.shown_at limits p plan_is t e owed c aims passed l g.k g.row g.want (Shows head.r m.why g.head m.lo m.hi) g.move_is refl in
-      let facts = first_shown p t c (places_in_runs limits no_contents h may run.0) (parts_in_runs limits no_contents h may run.0) l g.k g.row head.r m.why g.head m.lo m.hi
+      let facts = first_shown p t c (places_in_runs limits no_contents h may run.0) (parts_in_runs limits no_contents h may run.0) l g.k g.row head.r
+      m.why g.head m.lo m.hi
       (λ q a y d stands. not_first limits p plan_is t e owed c aims passed l g.k g.row q a y d stands) g.k.place refl at in
-      subst (λ n. FirstShown t head.r m.lo m.hi n head.fields) g.status_is (subst (λ (z : List (List ℕ × List ℕ)). FirstShown t head.r m.lo m.hi g.head.status z) g.fields_are facts)
+      subst (λ n. FirstShown t head.r m.lo m.hi n head.fields) g.status_is
+      (subst (λ (z : List (List ℕ × List ℕ)). FirstShown t head.r m.lo m.hi g.head.status z) g.fields_are facts)

@@ -25,7 +25,8 @@ heads_fit plan (one ∷ heads) head is shown = by_number (heads_fit plan heads h
     some : (a b : Head) → Some a ≡ Some b → a ≡ b
     some a b is = cc
 
-    by_number : (by_heads plan None heads ≡ None → first_in heads ≡ Some head → fits_first plan head ≡ true) → (b : Bool) → (one.c == 1) ≡ b → fits_first plan head ≡ true
+    by_number : (by_heads plan None heads ≡ None → first_in heads ≡ Some head → fits_first plan head ≡ true) → (b : Bool) → (one.c == 1) ≡ b →
+        fits_first plan head ≡ true
     by_number others true own =
         let same : one ≡ head = some one head (ap (λ (b : Bool). if b then Some one else first_in heads) (sym own) ∙ shown) in
         let fit : fits plan None one ≡ true = unfit (fits plan None one) (by_other one None) _ here in
@@ -41,10 +42,14 @@ first_fits plan (e ∷ f) head is shown = by_first (first_fits plan f head) (fir
     heads : by_heads plan (first_head f) (heads_in e.acts) ≡ None
     heads = no_heads_decide plan f e.acts (decides_nothing plan e f is)
 
-    by_first : (is_undecided plan f ≡ true → first_head f ≡ Some head → fits_first plan head ≡ true) → (q : Option Head) → first_head f ≡ q → fits_first plan head ≡ true
-    by_first before None was = heads_fit plan (heads_in e.acts) head (ap (λ (q : Option Head). by_heads plan q (heads_in e.acts)) (sym was) ∙ heads) (ap (λ (q : Option Head). option_or q (first_in (heads_in e.acts))) (sym was) ∙ shown)
+    by_first : (is_undecided plan f ≡ true → first_head f ≡ Some head → fits_first plan head ≡ true) → (q : Option Head) → first_head f ≡ q →
+        fits_first plan head ≡ true
+    by_first before None was =
+        heads_fit plan (heads_in e.acts) head (ap (λ (q : Option Head). by_heads plan q (heads_in e.acts)) (sym was) ∙ heads)
+        (ap (λ (q : Option Head). option_or q (first_in (heads_in e.acts))) (sym was) ∙ shown)
     by_first before (Some first) was =
-        before (and_right (is_none (decided_by plan f e.acts)) (is_undecided plan f) is) (was ∙ (ap (λ (q : Option Head). option_or q (first_in (heads_in e.acts))) (sym was) ∙ shown))
+        before (and_right (is_none (decided_by plan f e.acts)) (is_undecided plan f) is)
+        (was ∙ (ap (λ (q : Option Head). option_or q (first_in (heads_in e.acts))) (sym was) ∙ shown))
 
 -- WHETHER IT IS DONE
 
@@ -55,20 +60,25 @@ by_total (Some total) ended n some = refl
 no_whole : (plan : FetchPlan) (total : Bool) → (false || (not (plan.parts == 1) && total)) ≡ true → total ≡ true
 no_whole plan total is = and_right (not (plan.parts == 1)) total is
 
-done_head : (plan : FetchPlan) (head : Head) (ended : Bool) (n : ℕ) → fits_first plan head ≡ true → (b : Bool) → (head.status == 200) ≡ b → is_done_at (total_of head) ended n ≡ (if b then ended else is_all (total_of head) n)
+done_head : (plan : FetchPlan) (head : Head) (ended : Bool) (n : ℕ) → fits_first plan head ≡ true → (b : Bool) → (head.status == 200) ≡ b →
+    is_done_at (total_of head) ended n ≡ (if b then ended else is_all (total_of head) n)
 done_head plan head ended n fit true whole =
     let off : (head.status == 206) ≡ false = grind (arith, nat_tests, whole) in
     ap (λ (b : Bool). is_done_at (if b then total_by (Rattle.hc_rules.specs.RangeTexts.content_range_of head.fields) else None) ended n) off
 done_head plan head ended n fit false part =
-    by_total (total_of head) ended n (no_whole plan (is_some (total_of head)) (ap (λ (b : Bool). b || (not (plan.parts == 1) && is_some (total_of head))) (sym part) ∙ fit))
+    by_total (total_of head) ended n
+    (no_whole plan (is_some (total_of head)) (ap (λ (b : Bool). b || (not (plan.parts == 1) && is_some (total_of head))) (sym part) ∙ fit))
 
-done_as : (plan : FetchPlan) (f : History) (q : Option Head) (n : ℕ) → first_head f ≡ q → is_undecided plan f ≡ true → is_done_with (first_as q) (has_ended 1 f) n ≡ is_done_by q f n
+done_as : (plan : FetchPlan) (f : History) (q : Option Head) (n : ℕ) → first_head f ≡ q → is_undecided plan f ≡ true →
+    is_done_with (first_as q) (has_ended 1 f) n ≡ is_done_by q f n
 done_as plan f None n shown undecided = refl
 done_as plan f (Some head) n shown undecided = done_head plan head (has_ended 1 f) n (first_fits plan f head undecided shown) (head.status == 200) refl
 
-pub done_so : (u : Fetching) (f : History) → StandsForFetch u f → is_done_with u.first u.has_ended u.gathered.written ≡ is_done_by (first_head f) f (length (written_of f))
+pub done_so : (u : Fetching) (f : History) → StandsForFetch u f →
+    is_done_with u.first u.has_ended u.gathered.written ≡ is_done_by (first_head f) f (length (written_of f))
 done_so u f stand =
-    rw (stand.so_far.first, stand.so_far.ended, stand.so_far.heard.written) (done_as u.plan f (first_head f) (length (written_of f)) refl stand.so_far.undecided)
+    rw (stand.so_far.first, stand.so_far.ended, stand.so_far.heard.written)
+    (done_as u.plan f (first_head f) (length (written_of f)) refl stand.so_far.undecided)
 
 pub ended_so : (u : Fetching) (f : History) (b : Bool) → StandsForFetch u f → b ≡ is_done_with u.first u.has_ended u.gathered.written
     → (if b then ended.Done u.gathered.written else ended.Unfinished u.gathered.written) ≡ ended_with f

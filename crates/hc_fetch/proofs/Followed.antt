@@ -17,7 +17,8 @@ use Rattle.hc_fetch.specs.declared.ended.FetchEnded.TheVariants as ended
 use Rattle.hc_fetch.specs.Steps as steps
 use Rattle.hc_fetch.proofs.{Bodies.{writes_the_body}, Shows.{was_undecided}}
 
-pub fetched : (limits : Limits) (plan : FetchPlan) (f : History) → IsRun limits no_contents (cache_history plan f) → is_undecided_before plan f ≡ true → failures f ≡ 0 → has_foreign f ≡ false → IsFetched limits plan f
+pub fetched : (limits : Limits) (plan : FetchPlan) (f : History) → IsRun limits no_contents (cache_history plan f) → is_undecided_before plan f ≡ true →
+    failures f ≡ 0 → has_foreign f ≡ false → IsFetched limits plan f
 fetched limits plan f run before sound own = record {
   run = run;
   reads = runs_read_whole limits no_contents (cache_history plan f) (begins_well limits) run;
@@ -46,7 +47,8 @@ last_is h f text_is before_is =
     let joined : written_of f ≡ written_before f ++ last_text h = sym text_is ∙ (last_joined h ∙ ap (λ (l : List ℕ). l ++ last_text h) before_is) in
     sym (ap (drop (length (written_before f))) joined ∙ drop_front (written_before f) (last_text h))
 
-pub all_joined : (h : courses.History) (f : History) → text_of h ≡ written_of f → text_before h ≡ written_before f → written_before f ++ written_last f ≡ written_of f
+pub all_joined : (h : courses.History) (f : History) → text_of h ≡ written_of f → text_before h ≡ written_before f → written_before f ++
+    written_last f ≡ written_of f
 all_joined h f text_is before_is =
     ap (λ (l : List ℕ). written_before f ++ l) (sym (last_is h f text_is before_is))
     ∙ (ap (λ (l : List ℕ). l ++ last_text h) (sym before_is) ∙ (sym (last_joined h) ∙ text_is))
@@ -59,7 +61,8 @@ abbrev pub over : Fetching → Bool
 over s = is_some s.decided
 
 module _ (limits : Limits) (plan : FetchPlan) where
-  open_of : (u : Fetching) (f : History) → HasHeard u f → u.plan ≡ plan → limits_in u.cache ≡ limits → is_undecided_before plan f ≡ true → IsFetched limits plan f
+  open_of : (u : Fetching) (f : History) → HasHeard u f → u.plan ≡ plan → limits_in u.cache ≡ limits → is_undecided_before plan f ≡ true →
+      IsFetched limits plan f
   open_of u f heard plan_is limits_is before =
       let run : IsRun limits no_contents (cache_history plan f) =
       subst (λ (l : Limits). IsRun l no_contents (cache_history plan f)) limits_is
@@ -79,7 +82,8 @@ module _ (limits : Limits) (plan : FetchPlan) where
         let limits_now : limits_in u.cache ≡ limits = a.limits ∙ limits_is in
         let stands = hears.goes_on open_is in
         let undecided : is_undecided plan (e ∷ f) ≡ true = subst (λ (p : FetchPlan). is_undecided p (e ∷ f) ≡ true) plan_now stands.so_far.undecided in
-        at_open (e ∷ f) (open_of u (e ∷ f) hears.heard plan_now limits_now (was_undecided plan (e ∷ f) undecided)) (ap (λ (l : List Timed). l ++ timed ∷ []) are)
+        at_open (e ∷ f) (open_of u (e ∷ f) hears.heard plan_now limits_now (was_undecided plan (e ∷ f) undecided))
+        (ap (λ (l : List Timed). l ++ timed ∷ []) are)
         (ap (λ (l : List ℕ). l ++ text) text_is ∙ hears.writes) text_is stands plan_now limits_now
     by_decision f stand are text_is plan_is limits_is a (Some by) decided_is =
         let e : Entry = record { now = timed.now; event = timed.event; acts = a.acts } in
@@ -92,14 +96,20 @@ module _ (limits : Limits) (plan : FetchPlan) where
     one_more : (number : ℕ) → IsAt limits plan t h → over t ≡ false → Reports t number timed.now timed.event text u → IsAt limits plan u (reported ∷ h)
     one_more number (at_open f is_fetched are text_is before_is stand plan_is limits_is) is_open (steps.foreign foreign none decided) =
         let same : t.count ≡ length f = stand.count in
-        at_foreign f timed is_fetched (subst (λ (p : FetchPlan). is_undecided p f ≡ true) plan_is stand.so_far.undecided) (all_joined h f text_is before_is) (ap (λ (l : List Timed). l ++ timed ∷ []) are)
+        at_foreign f timed is_fetched (subst (λ (p : FetchPlan). is_undecided p f ≡ true) plan_is stand.so_far.undecided)
+        (all_joined h f text_is before_is) (ap (λ (l : List Timed). l ++ timed ∷ []) are)
         (ap (λ (l : List ℕ). text_of h ++ l) none ∙ (Rattle.std.proofs.lemmas.List.append-nil (text_of h) ∙ text_is)) text_is foreign
         (decided ∙ ap (λ (n : ℕ). Some (ended.Foreign (n + 1))) same)
-    one_more number (at_open f is_fetched are text_is before_is stand plan_is limits_is) is_open (steps.answered heard a) = by_decision f stand are text_is plan_is limits_is a u.decided refl
-    one_more number (at_decision e f by is_fetched are text_is before_is undecided decides decided) is_open reports = absurd (true_false (sym (ap is_some decided) ∙ is_open))
-    one_more number (at_foreign f next is_fetched undecided joined are text_is before_is foreign decided) is_open reports = absurd (true_false (sym (ap is_some decided) ∙ is_open))
+    one_more number (at_open f is_fetched are text_is before_is stand plan_is limits_is) is_open (steps.answered heard a) =
+        by_decision f stand are text_is plan_is limits_is a u.decided refl
+    one_more number (at_decision e f by is_fetched are text_is before_is undecided decides decided) is_open reports =
+        absurd (true_false (sym (ap is_some decided) ∙ is_open))
+    one_more number (at_foreign f next is_fetched undecided joined are text_is before_is foreign decided) is_open reports =
+        absurd (true_false (sym (ap is_some decided) ∙ is_open))
 
-  pub followed : (s u : Fetching) (h : courses.History) → StandsForFetch s [] → s.plan ≡ plan → limits_in s.cache ≡ limits → Leads Reports over 0 s h u → IsAt limits plan u h
-  followed s u _ new plan_is limits_is courses.nothing = at_open [] (open_of s [] new.so_far.heard plan_is limits_is refl) refl none_written refl new plan_is limits_is
+  pub followed : (s u : Fetching) (h : courses.History) → StandsForFetch s [] → s.plan ≡ plan → limits_in s.cache ≡ limits → Leads Reports over 0 s h u →
+      IsAt limits plan u h
+  followed s u _ new plan_is limits_is courses.nothing =
+      at_open [] (open_of s [] new.so_far.heard plan_is limits_is refl) refl none_written refl new plan_is limits_is
   followed s u _ new plan_is limits_is (courses.more h e t v leads is_open reports) =
       one_more t u e.timed e.text h (0 + length h + 1) (followed s t h new plan_is limits_is leads) is_open reports

@@ -56,8 +56,10 @@ less t r a acts gives c x at bytes says = gives c x at bytes (inr says)
 pub gathers_there : (t : Tables) (r : ℕ) (acts : List Act) (f : Cells) → GivesOf t r acts → Stands t r f → Stands t r (gathered_in acts f)
 gathers_there t r [] f gives stand = stand
 gathers_there t r (act.Given c x at bytes ∷ acts) f gives stand =
-    gathers_there t r acts (cells_with at x bytes f) (less t r (act.Given c x at bytes) acts gives) (one_stands t r x at bytes f (gives c x at bytes (inl refl)) stand)
-gathers_there t r (act.Shown c s why status fields lo hi ∷ acts) f gives stand = gathers_there t r acts f (less t r (act.Shown c s why status fields lo hi) acts gives) stand
+    gathers_there t r acts (cells_with at x bytes f) (less t r (act.Given c x at bytes) acts gives)
+    (one_stands t r x at bytes f (gives c x at bytes (inl refl)) stand)
+gathers_there t r (act.Shown c s why status fields lo hi ∷ acts) f gives stand =
+    gathers_there t r acts f (less t r (act.Shown c s why status fields lo hi) acts gives) stand
 gathers_there t r (a ∷ acts) f gives stand = gathers_there t r acts f (less t r a acts gives) stand
 
 pub gathers_on : (t : Tables) (r : ℕ) (acts : List Act) (f : Cells) → GivesOf t r acts → Stands t r f → IsPartOf f (gathered_in acts f)
@@ -86,7 +88,8 @@ one_held t r p cell there zero below = let place : p + 0 + 0 ≡ p = omega arith
 one_held t r p cell there (suc k) below = absurd (omega arith)
 
 -- a byte before bytes
-held_more : (t : Tables) (r p : ℕ) (q : Option Cell) (bytes : List ℕ) → ((cell : Cell) → q ≡ Some cell → body_of t r p ≡ Some cell) → Holds t r (p + 1) bytes → Holds t r p (byte_before q bytes)
+held_more : (t : Tables) (r p : ℕ) (q : Option Cell) (bytes : List ℕ) → ((cell : Cell) → q ≡ Some cell → body_of t r p ≡ Some cell) →
+    Holds t r (p + 1) bytes → Holds t r p (byte_before q bytes)
 held_more t r p None bytes there rest i lt = absurd (omega arith)
 held_more t r p (Some cell) bytes there rest zero lt = (cell.x, one_held t r p cell (there cell refl))
 held_more t r p (Some cell) bytes there rest (suc i) lt =

@@ -18,14 +18,16 @@ use Rattle.hc_fetch.proofs.{Overs.{written_long, writes_more}, Positions.{all_fi
 -- WHEN THE OTHERS START
 
 starts_by : (plan : FetchPlan) (now : ℕ) (was : Option Head) (decides : Option FetchEnded) (shown : Option Head)
-    → (if is_none decides && is_none was then start_by_head plan now shown else []) ≡ start_by_total plan now (total_to_start (is_some (first_as was)) decides (first_as (option_or was shown)))
+    → (if is_none decides && is_none was then start_by_head plan now shown else []) ≡ start_by_total plan now
+    (total_to_start (is_some (first_as was)) decides (first_as (option_or was shown)))
 starts_by plan now None None None = refl
 starts_by plan now None None (Some head) = refl
 starts_by plan now (Some first) None shown = refl
 starts_by plan now None (Some by) shown = refl
 starts_by plan now (Some first) (Some by) shown = refl
 
-pub starts_as : (plan : FetchPlan) (e : Entry) (f : History) (was now : Option First) (decides : Option FetchEnded) → was ≡ first_as (first_head f) → decides ≡ decided_by plan f e.acts
+pub starts_as : (plan : FetchPlan) (e : Entry) (f : History) (was now : Option First) (decides : Option FetchEnded) → was ≡ first_as (first_head f) →
+    decides ≡ decided_by plan f e.acts
     → now ≡ first_as (first_head (e ∷ f)) → starts_behind plan f e ≡ start_by_total plan e.now (total_to_start (is_some was) decides now)
 starts_as plan e f was now decides was_is decides_is now_is =
     ap (λ (d : Option FetchEnded). if is_none d && is_none (first_head f) then start_by_head plan e.now (first_in (heads_in e.acts)) else []) (sym decides_is)
@@ -33,7 +35,8 @@ starts_as plan e f was now decides was_is decides_is now_is =
     ∙ (ap (λ (q : Option First). start_by_total plan e.now (total_to_start (is_some q) decides (first_as (first_head (e ∷ f))))) (sym was_is)
     ∙ ap (λ (q : Option First). start_by_total plan e.now (total_to_start (is_some was) decides q)) (sym now_is)))
 
-pub none_to_start : (was : Bool) (decides : Option FetchEnded) (first : Option First) (total : ℕ) → Some total ≡ total_to_start was decides first → (was ≡ false) × (total_in first ≡ Some total)
+pub none_to_start : (was : Bool) (decides : Option FetchEnded) (first : Option First) (total : ℕ) → Some total ≡ total_to_start was decides first →
+    (was ≡ false) × (total_in first ≡ Some total)
 none_to_start false None first total is = (refl, sym is)
 none_to_start false (Some by) first total is = absurd (none_some total (sym is))
 none_to_start true decides first total is = absurd (none_some total (sym is))
@@ -47,7 +50,8 @@ or_if false true = refl
 or_if false false = refl
 
 module _ (s t v : Fetching) (now : ℕ) (event : Event) (acts : List Act) (text : List ℕ) (decides : Option FetchEnded)
-    (step : Steps s t now event acts) (takes : Takes t v acts [] text (by_failure acts) decides) (own : is_foreign event ≡ false) (small : bytes_received s.cache + received_in event < 2 ^ 61) where
+    (step : Steps s t now event acts) (takes : Takes t v acts [] text (by_failure acts) decides) (own : is_foreign event ≡ false)
+    (small : bytes_received s.cache + received_in event < 2 ^ 61) where
   abbrev pub e : Entry
   e = record { now = now; event = event; acts = acts }
 
@@ -74,11 +78,14 @@ module _ (s t v : Fetching) (now : ℕ) (event : Event) (acts : List Act) (text 
     starts_are = starts_as s.plan e f s.first v.first decides h.first decides_is first_is
 
     -- with the starts that the code makes
-    pub as_run : (u : Fetching) → StandsFor u.cache no_contents (start_by_total s.plan now (total_to_start (is_some s.first) decides v.first) ++ (e ∷ started s.plan now (cache_history s.plan f)))
+    pub as_run : (u : Fetching) →
+        StandsFor u.cache no_contents
+        (start_by_total s.plan now (total_to_start (is_some s.first) decides v.first) ++ (e ∷ started s.plan now (cache_history s.plan f)))
         → StandsFor u.cache no_contents (cache_history s.plan (e ∷ f))
     as_run u stands = subst (λ (xs : History). StandsFor u.cache no_contents (xs ++ (e ∷ started s.plan now (cache_history s.plan f)))) (sym starts_are) stands
 
-    module _ (u : Fetching) (stands : StandsFor u.cache no_contents (cache_history s.plan (e ∷ f))) (rest : KeepsRest v u) (received : bytes_received u.cache ≡ bytes_received v.cache) where
+    module _ (u : Fetching) (stands : StandsFor u.cache no_contents (cache_history s.plan (e ∷ f))) (rest : KeepsRest v u)
+        (received : bytes_received u.cache ≡ bytes_received v.cache) where
       run : IsFetchRun (limits_in u.cache) s.plan (e ∷ f)
       run = record { begins = stands.begins; run = stands.run; undecided_before = h.undecided }
 
@@ -96,7 +103,8 @@ module _ (s t v : Fetching) (now : ℕ) (event : Event) (acts : List Act) (text 
 
       writes : written_of f ++ text ≡ written_of (e ∷ f)
       writes =
-          writes_more t.gathered.ahead v.gathered.ahead t.gathered.written v.gathered.written e f text fit keeps_then (takes.keeps (gathered f) keeps_then fit) (takes.text (gathered f) keeps_then fit)
+          writes_more t.gathered.ahead v.gathered.ahead t.gathered.written v.gathered.written e f text fit keeps_then
+          (takes.keeps (gathered f) keeps_then fit) (takes.text (gathered f) keeps_then fit)
 
       plan_is : u.plan ≡ s.plan
       plan_is = rest.plan ∙ (takes.others.plan ∙ step.rest.plan)
@@ -105,7 +113,8 @@ module _ (s t v : Fetching) (now : ℕ) (event : Event) (acts : List Act) (text 
       came_now =
           let before : History = started s.plan now (cache_history s.plan f) in
           let total : Option ℕ = total_to_start (is_some s.first) decides v.first in
-          let same : (tables no_contents (cache_history s.plan (e ∷ f))).received ≡ (tables no_contents (start_by_total s.plan now total ++ (e ∷ before))).received =
+          let same : (tables no_contents (cache_history s.plan (e ∷ f))).received ≡
+          (tables no_contents (start_by_total s.plan now total ++ (e ∷ before))).received =
           ap (λ (xs : History). (tables no_contents (xs ++ (e ∷ before))).received) starts_are in
           let starts = total_brings s.plan now total (e ∷ before) in
           let one = brings now event acts before in
@@ -172,12 +181,15 @@ module _ (s t v : Fetching) (now : ℕ) (event : Event) (acts : List Act) (text 
     received = same_cache;
     few = few_then;
     hears = λ f h count. hears_more f h count v
-        (as_run f h count v (subst (λ (q : Option ℕ). StandsFor v.cache no_contents (start_by_total s.plan now q ++ (e ∷ started s.plan now (cache_history s.plan f)))) none (stands_then f h count)))
+        (as_run f h count v (subst
+        (λ (q : Option ℕ). StandsFor v.cache no_contents (start_by_total s.plan now q ++ (e ∷ started s.plan now (cache_history s.plan f)))) none
+        (stands_then f h count)))
         same_rest refl;
   }
 
   -- the others start behind it
-  pub answered_with : (u : Fetching) (total : ℕ) → Some total ≡ total_to_start (is_some s.first) decides v.first → 1 ≤ s.count → Starts v u now total (part_count v.plan total) → IsAnswered s u now event text decides
+  pub answered_with : (u : Fetching) (total : ℕ) → Some total ≡ total_to_start (is_some s.first) decides v.first → 1 ≤ s.count →
+      Starts v u now total (part_count v.plan total) → IsAnswered s u now event text decides
   answered_with u total is some starts = record {
     acts = acts;
     plan = starts.rest.plan ∙ plan_then;
@@ -217,13 +229,16 @@ module _ (s t v : Fetching) (now : ℕ) (event : Event) (acts : List Act) (text 
       no_head None off = refl
       no_head (Some head) off = absurd (true_false off)
 
-      stands_so : (f : History) (h : HasHeardOpen s f) → s.count ≡ length f + 1 → StandsFor u.cache no_contents (start_by_total s.plan now (total_to_start (is_some s.first) decides v.first) ++ (e ∷ started s.plan now (cache_history s.plan f)))
+      stands_so : (f : History) (h : HasHeardOpen s f) → s.count ≡ length f + 1 →
+          StandsFor u.cache no_contents
+          (start_by_total s.plan now (total_to_start (is_some s.first) decides v.first) ++ (e ∷ started s.plan now (cache_history s.plan f)))
       stands_so f h count =
           let none : first_head f ≡ None = no_head (first_head f) (sym (ap is_some h.first) ∙ parts.0) in
           let has : HasStarted (e ∷ started s.plan now (cache_history s.plan f)) 1 = started_on e _ 1 own (one_started_before s.plan now f h.heard.own none) in
           let on = starts.stands (e ∷ started s.plan now (cache_history s.plan f)) (stands_then f h count) has in
           subst (λ (q : Option ℕ). StandsFor u.cache no_contents (start_by_total s.plan now q ++ (e ∷ started s.plan now (cache_history s.plan f)))) is
-          (subst (λ (p : FetchPlan). StandsFor u.cache no_contents (start_by_total p now (Some total) ++ (e ∷ started s.plan now (cache_history s.plan f)))) plan_then on)
+          (subst (λ (p : FetchPlan). StandsFor u.cache no_contents
+          (start_by_total p now (Some total) ++ (e ∷ started s.plan now (cache_history s.plan f)))) plan_then on)
 
 -- WHAT THE STEP TELLS
 
@@ -253,12 +268,14 @@ open_as s t f same h = record {
   ended = same.ended ∙ h.ended;
 }
 
-pub reports_so : (s t u w : Fetching) (now : ℕ) (event : Event) (text : List ℕ) (decides : Option FetchEnded) → SameHeard s t → t.count ≡ s.count + 1 → IsAnswered t u now event text decides
+pub reports_so : (s t u w : Fetching) (now : ℕ) (event : Event) (text : List ℕ) (decides : Option FetchEnded) → SameHeard s t → t.count ≡ s.count + 1 →
+    IsAnswered t u now event text decides
     → SameHeard u w → w.count ≡ u.count → w.decided ≡ decides → Answers s now event text w
 reports_so s t u w now event text decides before counted a after count_is decided_is = record {
   acts = a.acts;
   plan = after.plan ∙ (a.plan ∙ before.plan);
-  limits = (let later : limits_in w.cache ≡ limits_in u.cache = rw after.cache refl in let earlier : limits_in t.cache ≡ limits_in s.cache = rw before.cache refl in later ∙ (a.limits ∙ earlier));
+  limits = (let later : limits_in w.cache ≡ limits_in u.cache = rw after.cache refl in let earlier : limits_in t.cache ≡ limits_in s.cache =
+      rw before.cache refl in later ∙ (a.limits ∙ earlier));
   hears = hears;
 }
   where
@@ -273,7 +290,10 @@ reports_so s t u w now event text decides before counted a after count_is decide
           goes_on = λ none. record {
             so_far = record {
               heard = heard;
-              undecided = subst (λ (p : FetchPlan). is_undecided p (record { now = now; event = event; acts = a.acts } ∷ f) ≡ true) (sym (after.plan ∙ (a.plan ∙ before.plan))) (and_both (is_none (decided_by s.plan f a.acts)) (is_undecided s.plan f) (ap is_none (sym (decided_is ∙ decides_so) ∙ none)) stand.so_far.undecided);
+              undecided = subst (λ (p : FetchPlan). is_undecided p (record { now = now; event = event; acts = a.acts } ∷ f) ≡ true)
+                  (sym (after.plan ∙ (a.plan ∙ before.plan)))
+                  (and_both (is_none (decided_by s.plan f a.acts)) (is_undecided s.plan f) (ap is_none (sym (decided_is ∙ decides_so) ∙ none))
+                  stand.so_far.undecided);
               first = after.first ∙ q.first;
               ended = after.ended ∙ q.ended;
             };
@@ -285,12 +305,21 @@ reports_so s t u w now event text decides before counted a after count_is decide
 
 -- WHERE IT BEGINS
 
-pub new_stands : (u : Fetching) → StandsFor u.cache no_contents [] → KeepsAll u.gathered.ahead u.gathered.written nothing → u.gathered.written ≡ 0 → u.first ≡ None → u.has_ended ≡ false → u.count ≡ 0 → u.decided ≡ None
+pub new_stands : (u : Fetching) → StandsFor u.cache no_contents [] → KeepsAll u.gathered.ahead u.gathered.written nothing → u.gathered.written ≡ 0 →
+    u.first ≡ None → u.has_ended ≡ false → u.count ≡ 0 → u.decided ≡ None
     → StandsForFetch u []
 unfolding written_of
 new_stands u stands keeps written first ended count open_is = record {
   so_far = record {
-    heard = record { stands = stands; sound = refl; own = refl; received = (let none = received_none in omega (arith, none)); keeps = keeps; written = written };
+    heard = record {
+      stands = stands;
+      sound = refl;
+      own = refl;
+      received = (let none = received_none in omega (arith, none));
+      keeps = keeps;
+      written =
+          written;
+    };
     undecided = refl;
     first = first;
     ended = ended;

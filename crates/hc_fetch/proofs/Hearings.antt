@@ -27,7 +27,8 @@ decides_cons : (plan : FetchPlan) (first : Option Head) (a : Act) (acts : List A
     ≡ option_or (by_heads plan first (heads_in (a ∷ []))) (by_heads plan (option_or first (first_in (heads_in (a ∷ [])))) (heads_in acts))
 decides_cons plan first (act.Shown c r why status fields lo hi) acts =
     let head : Head = record { c = c; r = r; status = status; fields = fields } in
-    ap (λ (q : Option FetchEnded). option_or q (by_heads plan (option_or first (first_in (head ∷ []))) (heads_in acts))) (sym (or_none (by_head plan first head)))
+    ap (λ (q : Option FetchEnded). option_or q (by_heads plan (option_or first (first_in (head ∷ []))) (heads_in acts)))
+    (sym (or_none (by_head plan first head)))
 decides_cons plan first a acts = ap (λ (q : Option Head). by_heads plan q (heads_in acts)) (sym (or_none first))
 
 one_first : (head : Head) (heads : List Head) → first_in (head ∷ heads) ≡ option_or (first_in (head ∷ [])) (first_in heads)
@@ -92,7 +93,8 @@ takes_then s t u a acts one two three was by result here rest = record {
       ∙ ap (λ (q : Option FetchEnded). option_or was q) (sym (decides_cons s.plan first a acts)))));
   first = λ first is.
       rest.first (option_or first (first_in (heads_in (a ∷ [])))) (here.first first is)
-      ∙ ap first_as (or_assoc first (first_in (heads_in (a ∷ []))) (first_in (heads_in acts)) ∙ ap (λ (q : Option Head). option_or first q) (sym (first_cons a acts)));
+      ∙ ap first_as (or_assoc first (first_in (heads_in (a ∷ []))) (first_in (heads_in acts)) ∙
+      ap (λ (q : Option Head). option_or first q) (sym (first_cons a acts)));
   stays = λ some. (let same = here.stays some in rest.stays (ap is_some same ∙ some) ∙ same);
   ended =
       rest.ended
@@ -121,14 +123,17 @@ no_more acts i past = drop_all i acts past
 -- WHAT ONE ACT DOES
 
 -- nothing of what it gathered changes
-same_gathered : (s u : Fetching) (g : Cells) → u.gathered ≡ s.gathered → KeepsAll s.gathered.ahead s.gathered.written g → KeepsAll u.gathered.ahead u.gathered.written g
+same_gathered : (s u : Fetching) (g : Cells) → u.gathered ≡ s.gathered → KeepsAll s.gathered.ahead s.gathered.written g →
+    KeepsAll u.gathered.ahead u.gathered.written g
 same_gathered s u g same k = subst (λ (z : Gathered). KeepsAll z.ahead z.written g) (sym same) k
 
 same_written : (s u : Fetching) (g : Cells) (text : List ℕ) → u.gathered ≡ s.gathered → Appends g s.gathered.written u.gathered.written text text
 same_written s u g text same = subst (λ (z : Gathered). Appends g s.gathered.written z.written text text) (sym same) (appends_none g s.gathered.written text)
 
-pub takes_shown : (s u : Fetching) (c r : ℕ) (why : Why) (status : ℕ) (fields : List (List ℕ × List ℕ)) (lo : ℕ) (hi : Option ℕ) (text : List ℕ) (decides : Option FetchEnded)
-    → Sees s u (record { c = c; r = r; status = status; fields = fields }) decides → Takes s u (act.Shown c r why status fields lo hi ∷ []) text text None decides
+pub takes_shown : (s u : Fetching) (c r : ℕ) (why : Why) (status : ℕ) (fields : List (List ℕ × List ℕ)) (lo : ℕ) (hi : Option ℕ) (text : List ℕ)
+    (decides : Option FetchEnded)
+    → Sees s u (record { c = c; r = r; status = status; fields = fields }) decides →
+    Takes s u (act.Shown c r why status fields lo hi ∷ []) text text None decides
 takes_shown s u c r why status fields lo hi text decides sees = record {
   others = sees.others;
   decides = λ first is. sees.decides first is ∙ sym (or_none (by_head s.plan first (record { c = c; r = r; status = status; fields = fields })));
@@ -143,7 +148,8 @@ takes_shown s u c r why status fields lo hi text decides sees = record {
 pub data IsOther : Act → Type 0 where
   other : (a : Act) → heads_in (a ∷ []) ≡ [] → ends_in 1 (a ∷ []) ≡ false → ((g : Cells) → gathered_in (a ∷ []) g ≡ g) → IsOther a
 
-pub is_other : (a : Act) → ((c r : ℕ) (why : Why) (status : ℕ) (fields : List (List ℕ × List ℕ)) (lo : ℕ) (hi : Option ℕ) → a ≡ act.Shown c r why status fields lo hi → ⊥)
+pub is_other : (a : Act) →
+    ((c r : ℕ) (why : Why) (status : ℕ) (fields : List (List ℕ × List ℕ)) (lo : ℕ) (hi : Option ℕ) → a ≡ act.Shown c r why status fields lo hi → ⊥)
     → ((c x at : ℕ) (bytes : List ℕ) → a ≡ act.Given c x at bytes → ⊥) → ((c : ℕ) → a ≡ act.Ended c → ⊥) → IsOther a
 is_other (act.Shown c r why status fields lo hi) shown given ended = absurd (shown c r why status fields lo hi refl)
 is_other (act.Given c x at bytes) shown given ended = absurd (given c x at bytes refl)
@@ -153,7 +159,8 @@ is_other a shown given ended = other a refl refl (λ g. refl)
 -- A HEAD
 
 -- the first consumer was shown one before, or it is another's
-pub sees_same : (s : Fetching) (head : Head) (decides : Option FetchEnded) → ((first : Option Head) → s.first ≡ first_as first → decides ≡ by_head s.plan first head)
+pub sees_same : (s : Fetching) (head : Head) (decides : Option FetchEnded) →
+    ((first : Option Head) → s.first ≡ first_as first → decides ≡ by_head s.plan first head)
     → (head.c ≡ 1 → s.first ≡ None → ⊥) → Sees s s head decides
 sees_same s head decides by seen = record {
   others = record { plan = refl; cache = refl; moment = refl; count = refl; decided = refl };
@@ -164,14 +171,17 @@ sees_same s head decides by seen = record {
   stays = λ some. refl;
 }
   where
-    same : (first : Option Head) → s.first ≡ first_as first → (b : Bool) → (head.c == 1) ≡ b → first_as first ≡ first_as (option_or first (first_in (head ∷ [])))
+    same : (first : Option Head) → s.first ≡ first_as first → (b : Bool) → (head.c == 1) ≡ b →
+        first_as first ≡ first_as (option_or first (first_in (head ∷ [])))
     same None is true own = absurd (seen (grind (arith, nat_tests, own)) is)
     same None is false off = ap (λ (b : Bool). first_as (if b then Some head else None)) (sym off)
     same (Some first) is b own = refl
 
 -- it is the first consumer's first one
-pub sees_new : (s u : Fetching) (head : Head) (decides : Option FetchEnded) → ((first : Option Head) → s.first ≡ first_as first → decides ≡ by_head s.plan first head)
-    → head.c ≡ 1 → s.first ≡ None → u.first ≡ first_as (Some head) → KeepsOthers s u → u.has_ended ≡ s.has_ended → u.gathered ≡ s.gathered → Sees s u head decides
+pub sees_new : (s u : Fetching) (head : Head) (decides : Option FetchEnded) →
+    ((first : Option Head) → s.first ≡ first_as first → decides ≡ by_head s.plan first head)
+    → head.c ≡ 1 → s.first ≡ None → u.first ≡ first_as (Some head) → KeepsOthers s u → u.has_ended ≡ s.has_ended → u.gathered ≡ s.gathered →
+    Sees s u head decides
 sees_new s u head decides by own none first_is others ended gathered = record {
   others = others;
   ended = ended;
@@ -191,8 +201,10 @@ sees_new s u head decides by own none first_is others ended gathered = record {
 -- BYTES, AND AN END
 
 pub takes_given : (s u : Fetching) (c x at : ℕ) (bytes before after : List ℕ) → KeepsOthers s u → u.first ≡ s.first → u.has_ended ≡ s.has_ended
-    → ((f : Cells) (y : ℕ) → KeepsAll s.gathered.ahead s.gathered.written f → Fit f at bytes → KeepsAll u.gathered.ahead u.gathered.written (cells_with at y bytes f))
-    → ((f : Cells) (y : ℕ) → KeepsAll s.gathered.ahead s.gathered.written f → Fit f at bytes → Appends (cells_with at y bytes f) s.gathered.written u.gathered.written before after)
+    → ((f : Cells) (y : ℕ) → KeepsAll s.gathered.ahead s.gathered.written f → Fit f at bytes →
+    KeepsAll u.gathered.ahead u.gathered.written (cells_with at y bytes f))
+    → ((f : Cells) (y : ℕ) → KeepsAll s.gathered.ahead s.gathered.written f → Fit f at bytes →
+    Appends (cells_with at y bytes f) s.gathered.written u.gathered.written before after)
     → Takes s u (act.Given c x at bytes ∷ []) before after None None
 takes_given s u c x at bytes before after others first ended keeps text = record {
   others = others;
@@ -208,7 +220,8 @@ if_self : (b : Bool) → b ≡ (if b then true else false)
 if_self true = refl
 if_self false = refl
 
-pub takes_ended : (s u : Fetching) (c : ℕ) (text : List ℕ) → KeepsOthers s u → u.first ≡ s.first → u.gathered ≡ s.gathered → u.has_ended ≡ (s.has_ended || (c == 1)) → Takes s u (act.Ended c ∷ []) text text None None
+pub takes_ended : (s u : Fetching) (c : ℕ) (text : List ℕ) → KeepsOthers s u → u.first ≡ s.first → u.gathered ≡ s.gathered →
+    u.has_ended ≡ (s.has_ended || (c == 1)) → Takes s u (act.Ended c ∷ []) text text None None
 takes_ended s u c text others first gathered ended = record {
   others = others;
   decides = λ head is. refl;

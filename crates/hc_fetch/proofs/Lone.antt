@@ -56,10 +56,12 @@ in_line_some key (Some k) is = (k, refl)
 module _ (t : Tables) (key : List ℕ) (only : (c : ℕ) (k : Consumer) → t.consumer c ≡ Some k → c ≡ 1) where
   line_ones : AllOne (line t key)
   unfolding line
-  line_ones = filter_ones (λ c. is_in_line key (t.consumer c)) t.starts (λ c passes. let there = in_line_some key (t.consumer c) passes in only c there.0 there.1)
+  line_ones = filter_ones (λ c. is_in_line key (t.consumer c)) t.starts
+      (λ c passes. let there = in_line_some key (t.consumer c) passes in only c there.0 there.1)
 
   pub turn_is : turn_with t key 1 ≡ 1
-  turn_is = one_turn (holder t key) (least (1 ∷ line t key)) (found_one (λ c. holds_turn (t.consumer c)) (line t key) line_ones) (least_ones (1 ∷ line t key) (refl, line_ones))
+  turn_is = one_turn (holder t key) (least (1 ∷ line t key)) (found_one (λ c. holds_turn (t.consumer c)) (line t key) line_ones)
+      (least_ones (1 ∷ line t key) (refl, line_ones))
 
 -- ITS REQUEST
 
@@ -68,8 +70,13 @@ module _ (p : FetchPlan) (is : IsPlan p) where
   reads_range =
       let size = is.size in
       let small : p.size - 1 < 2 ^ 62 = omega (arith, size) in
-      asked_in-spelled (codes "bytes=" ++ decimal 0 ++ codes "-" ++ decimal (p.size - 1)) (FromTo 0 (p.size - 1))
-      (codes "bytes=", decimal 0 ++ codes "-" ++ decimal (p.size - 1), refl, (decimal 0, decimal (p.size - 1), IsNumber-decimal 0 (omega arith), IsNumber-decimal (p.size - 1) small, omega arith, refl), refl)
+      asked_in-spelled (codes "bytes=" ++ decimal 0 ++ codes "-" ++ decimal (p.size - 1)) (FromTo 0 (p.size - 1)) (
+        codes "bytes=",
+        decimal 0 ++ codes "-" ++ decimal (p.size - 1),
+        refl,
+        (decimal 0, decimal (p.size - 1), IsNumber-decimal 0 (omega arith), IsNumber-decimal (p.size - 1) small, omega arith, refl),
+        refl,
+      )
 
   cached_by : (b : Bool) → is_disabled (request_of p (fields_for (if b then None else Some (0, p.size - 1)))) ≡ false
   unfolding is_disabled
@@ -105,7 +112,8 @@ other_way : (b : Bool) (x y : Plan) → b ≡ false → (if b then x else y) ≡
 other_way true x y is = absurd (let no : true ≡ false = is in cc)
 other_way false x y is = refl
 
-module _ (t : Tables) (now : ℕ) (k : Consumer) (nothing : current t k.request.key ≡ None) (turn : turn_with t k.request.key 1 ≡ 1) (cache : is_disabled k.request ≡ false) (origin : is_only k.request ≡ false) (stored : is_bypassing k.request ≡ false) where
+module _ (t : Tables) (now : ℕ) (k : Consumer) (nothing : current t k.request.key ≡ None) (turn : turn_with t k.request.key 1 ≡ 1)
+    (cache : is_disabled k.request ≡ false) (origin : is_only k.request ≡ false) (stored : is_bypassing k.request ≡ false) where
   abbrev v : PlanView
   v = plan_view t now 1 k
 

@@ -5,7 +5,7 @@
 -- does where it was free (`place_after`). So where it is free after an entry it was before, and nothing was founded
 -- (`free_before`): what is current stays or goes.
 use Rattle.std.{proofs.Common.{◌≡◌, ◌⊎◌, inl, inr, ℕ, ◌+◌, ◌<◌, ◌^◌, List, Bool, true, false, Option, Some, None, refl, ap, sym, ◌∙◌, subst}, specs.{Prelude.{◌==◌, ◌&&◌, ◌||◌, not, nat_eq, nat_le, is_none, is_some, if◌then◌else◌}, Option.{option_and_then, option_or}}}
-use Rattle.hc_text.proofs.Basics.{and_left, and_right, bool_cases, either, not_some as none_some, or_cases, some_inj}
+use Rattle.hc_text.proofs.Basics.{and_left, and_right, bool_cases, either, not_some as none_some, or_cases, some_inj, eq_is as status_is}
 use Rattle.hc_effects.proofs.Vocabulary.{brings_part, brings_whole, Opening, opening_in, leaves_in, shows_in, Cause, Need, Wait, Why, Event, Request, Response, BoundBy, Place, content_range_of, HeadCase, HeadView, Wanted, Limits, head_case, turn_case, case_on, fits_to_found, fits_part, length_of, is_bad, route_of, is_disabled, is_only, is_bypassing, range_of, wanted_of, Showing, showing_in, wait_in, has_loss, Aims, case_at, case_of, head_view, is_founding, fits_asker, bound_to_wanted, place_by_case, consumer_heard, by_head, by_fault, waiting_place, waiting, opened_place, unless_bound, by_opening, shown_place, consumer_acted, consumer_settled, consumer_made, consumer_after, current, denial, doomed_key_of, doomed_in, is_key, Entry, is_headless, exchange_at, is_for, flaw_in, founded_total, total_of_part, Move, Nothing, Opens, Shows, Fails, shows_stored, IsPast, IsAwaiting, Passed, move_of, shows_head, shows_at, shows_bound, shows_direct, shows_answer, has_joined, or_else, waits_for_head, if_headless, by_place, own_open, bound_to, Tables, Exchange, Representation, Consumer, new_representation, length_in, starts_over, waits_at, sends_back, loses_what_it_waits_for, after_accepted, after_denied, cause, need, wait, event, place, range, case, wanted}
 use Rattle.hc_event.specs.declared.place.BoundBy.TheVariants as by
 use Rattle.hc_range.specs.declared.range.{RangeSpec.{RangeSpec}, ContentRange.{ContentRange}}
@@ -47,7 +47,8 @@ pub record IsLone (p : FetchPlan) (t : Tables) : Type 0 where
   pub unshown : (k : Consumer) → t.consumer 1 ≡ Some k → k.shown ≡ false
   pub misses : (x : ℕ) (w : Exchange) → t.exchange x ≡ Some w → w.need ≡ need.Miss
   pub nothing : (k : Consumer) → t.consumer 1 ≡ Some k → is_free k.place ≡ true → current t k.request.key ≡ None
-  pub good : (x : ℕ) (k : Consumer) (w : Exchange) (response : Response) → t.consumer 1 ≡ Some k → k.place ≡ place.Direct x → t.exchange x ≡ Some w → w.head ≡ Some response
+  pub good : (x : ℕ) (k : Consumer) (w : Exchange) (response : Response) → t.consumer 1 ≡ Some k → k.place ≡ place.Direct x → t.exchange x ≡ Some w →
+      w.head ≡ Some response
       → is_bad (length_of w.need w.request response) ≡ false
   pub first : (k : Consumer) (r lo : ℕ) (hi : Option ℕ) (how : BoundBy) → t.consumer 1 ≡ Some k → k.place ≡ place.Bound r lo hi how → lo ≡ 0
   pub parts : (r : ℕ) (v : Representation) → t.representation r ≡ Some v → brings_part v.head.status ≡ true → IsPart t v
@@ -105,11 +106,14 @@ turn_miss v plain =
     either (IsMissCase v) v.bad case.TurnBad _ (λ on. refused) (λ good.
     either (IsMissCase v) (v.status == 304 && v.conditional && v.selects && not v.lost) case.Validated _
     (λ on. absurd (true_false (sym (and_right (v.status == 304) v.conditional (and_left _ v.selects (and_left _ (not v.lost) on))) ∙ plain))) (λ other.
-    either (IsMissCase v) (v.status == 304 && v.conditional) case.NotValidated _ (λ on. absurd (true_false (sym (and_right (v.status == 304) v.conditional on) ∙ plain))) (λ unasked.
+    either (IsMissCase v) (v.status == 304 && v.conditional) case.NotValidated _
+    (λ on. absurd (true_false (sym (and_right (v.status == 304) v.conditional on) ∙ plain))) (λ unasked.
     either (IsMissCase v) (nat_le 500 v.status) case.TurnServerError _ (λ on. server_error good) (λ low.
-    either (IsMissCase v) (brings_whole v.status && v.storable && not v.lost) case.FoundsWhole _ (λ on. founds_whole (and_left (brings_whole v.status) v.storable (and_left _ (not v.lost) on))) (λ another.
+    either (IsMissCase v) (brings_whole v.status && v.storable && not v.lost) case.FoundsWhole _
+    (λ on. founds_whole (and_left (brings_whole v.status) v.storable (and_left _ (not v.lost) on))) (λ another.
     either (IsMissCase v) (brings_part v.status && v.storable && v.fits && not v.lost) case.FoundsRange case.PassesBy
-    (λ on. founds_part good (and_left (brings_part v.status) v.storable (and_left _ v.fits (and_left _ (not v.lost) on))) (and_right _ v.fits (and_left _ (not v.lost) on))) (λ on. passes_by good))))))
+    (λ on. founds_part good (and_left (brings_part v.status) v.storable (and_left _ v.fits (and_left _ (not v.lost) on)))
+    (and_right _ v.fits (and_left _ (not v.lost) on))) (λ on. passes_by good))))))
 
 miss_case : (v : HeadView) → v.need ≡ need.Miss → v.conditional ≡ false → IsMissCase v (head_case v)
 unfolding head_case
@@ -142,7 +146,8 @@ behind_is z _ (said.asks x is) = ap is_for_others is
 behind_is z _ (said.opens x n request is) = ap is_for_others is
 
 -- nothing is founded but by the head of an exchange that is there
-unfounded_head : (t : Tables) (e : Entry) (x : ℕ) (response : Response) → e.event ≡ event.Head x response → t.exchange x ≡ None → is_founding (case_at t e) ≡ false
+unfounded_head : (t : Tables) (e : Entry) (x : ℕ) (response : Response) → e.event ≡ event.Head x response → t.exchange x ≡ None →
+    is_founding (case_at t e) ≡ false
 unfolding case_of
 unfounded_head t e x response at none = ap (λ (v : Event). is_founding (case_of t (has_loss e.acts) v)) at ∙ rw none refl
 
@@ -166,7 +171,8 @@ unfounded t e v at is = ap (λ (z : Event). is_founding (case_of t (has_loss e.a
 
 -- ONE ENTRY
 
-module _ (limits : Limits) (p : FetchPlan) (plan_is : IsPlan p) (t : Tables) (e : Entry) (owed : IsTaken limits t e) (c : IsCarried t) (aims : Aims t) (passed : Passed t) (l : IsLone p t) (k : Consumer) (row : t.consumer 1 ≡ Some k) where
+module _ (limits : Limits) (p : FetchPlan) (plan_is : IsPlan p) (t : Tables) (e : Entry) (owed : IsTaken limits t e) (c : IsCarried t) (aims : Aims t)
+    (passed : Passed t) (l : IsLone p t) (k : Consumer) (row : t.consumer 1 ≡ Some k) where
   not_passed : (r : ℕ) (kept : Option ℕ) → k.place ≡ place.Passed r kept → ⊥
   not_passed r kept at = none_some r (sym (l.nothing k row (ap is_free at)) ∙ (passed.waits 1 r kept k row at).current_is)
 
@@ -177,7 +183,8 @@ module _ (limits : Limits) (p : FetchPlan) (plan_is : IsPlan p) (t : Tables) (e 
 
   plans_it : is_free k.place ≡ true → Rattle.hc_model.specs.Planning.planned_move t e.now 1 k ≡ Opens (t.opened + 1) need.Miss k.request
   plans_it free =
-      planned t e.now k (l.nothing k row free) (turn_is t k.request.key l.only) (ap is_disabled (l.asks k row) ∙ cached p plan_is) (ap is_only (l.asks k row) ∙ asks_origin p plan_is)
+      planned t e.now k (l.nothing k row free) (turn_is t k.request.key l.only) (ap is_disabled (l.asks k row) ∙ cached p plan_is)
+      (ap is_only (l.asks k row) ∙ asks_origin p plan_is)
       (ap is_bypassing (l.asks k row) ∙ plain p plan_is)
 
   -- what it does by a poll
@@ -203,7 +210,8 @@ module _ (limits : Limits) (p : FetchPlan) (plan_is : IsPlan p) (t : Tables) (e 
   plans_at (place.Passed r kept) at out free none heard = ap is_free at
   plans_at (place.Turn x) at out free none heard = ap is_free at
   plans_at (place.Bound r lo hi how) at out free none heard = absurd (some_none r (sym (ap bound_to at) ∙ free))
-  plans_at (place.Direct x) at out free none heard = absurd (past_shown x (c.is_owned.past 1 x k row at (l.unshown k row)) (sym (ap (shows_at t k) at) ∙ none) heard)
+  plans_at (place.Direct x) at out free none heard =
+      absurd (past_shown x (c.is_owned.past 1 x k row at (l.unshown k row)) (sym (ap (shows_at t k) at) ∙ none) heard)
   plans_at (place.Down why) at out free none heard = absurd (true_false out)
   plans_at place.Over at out free none heard = absurd (true_false out)
 
@@ -213,7 +221,8 @@ module _ (limits : Limits) (p : FetchPlan) (plan_is : IsPlan p) (t : Tables) (e 
   from_move want _ out (by_move.down why at) = fails why
   from_move want _ out (by_move.over at) = nothing
   from_move want _ out (by_move.reads on heard) = absurd (true_false (sym on ∙ l.unshown k row))
-  from_move want _ out (by_move.plans unshown free none heard) = let fr = plans_at k.place refl out free none heard in subst LoneMove (sym (plans_it fr)) (fetches fr)
+  from_move want _ out (by_move.plans unshown free none heard) = let fr = plans_at k.place refl out free none heard in
+      subst LoneMove (sym (plans_it fr)) (fetches fr)
 
   waits_or : (o : Option ℕ) (m : Move) → LoneMove m → LoneMove (or_else (waits_for_head o) m)
   waits_or None m is = is
@@ -228,7 +237,8 @@ module _ (limits : Limits) (p : FetchPlan) (plan_is : IsPlan p) (t : Tables) (e 
       let heads : shows_head t k ≡ None = ap (λ b. if b then None else shows_at t k k.place) (l.unshown k row) ∙ (ap (shows_at t k) at ∙ none) in
       let waiting_for = option_and_then (if_headless t) (own_open t k) in
       let same : move_of t e.now want 1 k ≡ or_else (waits_for_head waiting_for) (by_place t e.now want 1 k q) =
-      ap (λ o. or_else o (or_else (waits_for_head waiting_for) (by_place t e.now want 1 k k.place))) heads ∙ ap (λ z. or_else (waits_for_head waiting_for) (by_place t e.now want 1 k z)) at in
+      ap (λ o. or_else o (or_else (waits_for_head waiting_for) (by_place t e.now want 1 k k.place))) heads ∙
+      ap (λ z. or_else (waits_for_head waiting_for) (by_place t e.now want 1 k z)) at in
       subst LoneMove (sym same) (waits_or waiting_for (by_place t e.now want 1 k q) is)
 
   move_at : (want : ℕ) (q : Place) → k.place ≡ q → LoneMove (move_of t e.now want 1 k)
@@ -293,9 +303,16 @@ module _ (limits : Limits) (p : FetchPlan) (plan_is : IsPlan p) (t : Tables) (e 
       let by = opening_by limits t e.now (flaw_in e.acts) c.is_sound e.event going o (sym (ap opening_in acts) ∙ is) in
       let one : o.c ≡ 1 = l.only o.c by.k by.poll.row in
       let same : by.k ≡ k = same_row o.c by.k by.poll.row in
-      let move : IsOpening o (move_of t e.now by.want 1 k) = subst (λ (q : Consumer). IsOpening o (move_of t e.now by.want 1 q)) same (subst (λ n. IsOpening o (move_of t e.now by.want n by.k)) one by.move) in
+      let move : IsOpening o (move_of t e.now by.want 1 k) =
+      subst (λ (q : Consumer). IsOpening o (move_of t e.now by.want 1 q)) same (subst (λ n. IsOpening o (move_of t e.now by.want n by.k)) one by.move) in
       let made = opens_as (move_of t e.now by.want 1 k) (lone_move by.want) (opening_is o _ move) in
-      record { need_is = opened_need o _ move (t.opened + 1) need.Miss k.request made.0; free = made.1; want = by.want; polled = by.poll.at ∙ ap (λ n. event.Poll n by.want) one }
+      record {
+        need_is = opened_need o _ move (t.opened + 1) need.Miss k.request made.0;
+        free = made.1;
+        want = by.want;
+        polled = by.poll.at ∙
+            ap (λ n. event.Poll n by.want) one;
+      }
 
   waits_own : (z : Wait) → wait_in 1 e.acts ≡ Some z → is_for_others z ≡ false
   waits_own z is =
@@ -316,7 +333,8 @@ module _ (limits : Limits) (p : FetchPlan) (plan_is : IsPlan p) (t : Tables) (e 
     as_before : q ≡ k.place → off → PlaceAfter q
     turns : is_free k.place ≡ true → off → ((x : ℕ) → q ≡ place.Direct x → ⊥) → BeginsFirst q → PlaceAfter q
     reads_now : is_free q ≡ false → ((x : ℕ) → q ≡ place.Direct x → ⊥) → BeginsFirst q → PlaceAfter q
-    goes_past : (x : ℕ) (response : Response) (w : Exchange) → e.event ≡ event.Head x response → t.exchange x ≡ Some w → is_bad (length_of w.need w.request response) ≡ false → q ≡ place.Direct x → PlaceAfter q
+    goes_past : (x : ℕ) (response : Response) (w : Exchange) → e.event ≡ event.Head x response → t.exchange x ≡ Some w →
+        is_bad (length_of w.need w.request response) ≡ false → q ≡ place.Direct x → PlaceAfter q
 
   turn_direct : (x y : ℕ) → place.Turn x ≡ place.Direct y → ⊥
   turn_direct x y is = cc
@@ -349,28 +367,34 @@ module _ (limits : Limits) (p : FetchPlan) (plan_is : IsPlan p) (t : Tables) (e 
   is_bound r lo hi how first = reads_now refl (bound_apart r lo hi how) (λ q a b d is. sym (place_inj r lo hi how q a b d is).from ∙ first)
 
   -- what is said of a head of the first consumer's exchange
-  of_case : (x : ℕ) (response : Response) (w : Exchange) → e.event ≡ event.Head x response → t.exchange x ≡ Some w → (g : HeadCase) → IsMissCase (head_view t (has_loss e.acts) w response) g → PlaceAfter (place_by_case x response w k (Some g))
+  of_case : (x : ℕ) (response : Response) (w : Exchange) → e.event ≡ event.Head x response → t.exchange x ≡ Some w → (g : HeadCase) →
+      IsMissCase (head_view t (has_loss e.acts) w response) g → PlaceAfter (place_by_case x response w k (Some g))
   of_case x response w at there _ refused = reads_now refl (down_apart (cause.BadHead x)) (down_first (cause.BadHead x))
   of_case x response w at there _ (server_error good) = goes_past x response w at there good refl
   of_case x response w at there _ (founds_whole status) = is_bound x 0 _ by.Founding refl
   of_case x response w at there _ (founds_part good status fits) = by_wanted (wanted_of (range_of k.request) (founded_total w response)) refl
     where
       by_wanted : (z : Wanted) → wanted_of (range_of k.request) (founded_total w response) ≡ z → PlaceAfter (bound_to_wanted x by.Founding (place.Direct x) z)
-      by_wanted (wanted.Interval span) is = is_bound x span.lo (Some span.hi) by.Founding (wanted_first (range_of k.request) (founded_total w response) span (subst IsFirstRange (sym (ap range_of (l.asks k row))) (first_range p plan_is)) is)
+      by_wanted (wanted.Interval span) is =
+          is_bound x span.lo (Some span.hi) by.Founding
+          (wanted_first (range_of k.request) (founded_total w response) span (subst IsFirstRange (sym (ap range_of (l.asks k row))) (first_range p plan_is)) is)
       by_wanted wanted.TotalUnknown is = goes_past x response w at there good refl
       by_wanted wanted.Unsatisfiable is = goes_past x response w at there good refl
   of_case x response w at there _ (passes_by good) = goes_past x response w at there good refl
 
-  miss_is : (x : ℕ) (response : Response) (w : Exchange) → t.exchange x ≡ Some w → IsMissCase (head_view t (has_loss e.acts) w response) (head_case (head_view t (has_loss e.acts) w response))
+  miss_is : (x : ℕ) (response : Response) (w : Exchange) → t.exchange x ≡ Some w →
+      IsMissCase (head_view t (has_loss e.acts) w response) (head_case (head_view t (has_loss e.acts) w response))
   miss_is x response w there = let miss = l.misses x w there in miss_case (head_view t (has_loss e.acts) w response) miss (rw miss refl)
 
-  of_head : (x : ℕ) (response : Response) (o : Option Exchange) → e.event ≡ event.Head x response → t.exchange x ≡ o → PlaceAfter (by_head t e 1 x response o k).place
+  of_head : (x : ℕ) (response : Response) (o : Option Exchange) → e.event ≡ event.Head x response → t.exchange x ≡ o →
+      PlaceAfter (by_head t e 1 x response o k).place
   of_head x response None at there = as_before refl (unfounded_head t e x response at there)
   of_head x response (Some w) at there =
       let op = c.is_owned.opener x w there in
       let mine : w.c ≡ 1 = l.only w.c op.k op.row in
       let test : nat_eq w.c 1 ≡ true = rw mine refl in
-      rw (test, case_is t e x response w at there) (of_case x response w at there (head_case (head_view t (has_loss e.acts) w response)) (miss_is x response w there))
+      rw (test, case_is t e x response w at there)
+      (of_case x response w at there (head_case (head_view t (has_loss e.acts) w response)) (miss_is x response w there))
 
   of_fault : (x : ℕ) (o : Option Exchange) → off → PlaceAfter (by_fault 1 x o k).place
   of_fault x None still = as_before refl still
@@ -433,7 +457,8 @@ module _ (limits : Limits) (p : FetchPlan) (plan_is : IsPlan p) (t : Tables) (e 
   left_by false q is = is
 
   acted_place : shows_in 1 e.acts ≡ false → PlaceAfter (consumer_acted t e 1 h).place
-  acted_place unshown = left_by (leaves_in 1 e.acts) _ (shown_by unshown (showing_in e.acts) (by_opening t 1 (opening_in e.acts) w1).place refl (opened_by (opening_in e.acts) refl))
+  acted_place unshown = left_by (leaves_in 1 e.acts) _
+      (shown_by unshown (showing_in e.acts) (by_opening t 1 (opening_in e.acts) w1).place refl (opened_by (opening_in e.acts) refl))
 
   -- who starts over was free
   waits_free : (q : Place) → k.place ≡ q → waits_at t q ≡ true → is_free k.place ≡ true
@@ -454,7 +479,8 @@ module _ (limits : Limits) (p : FetchPlan) (plan_is : IsPlan p) (t : Tables) (e 
   unsent_miss v _ (founds_part good status fits) is = false_true is
   unsent_miss v _ (passes_by good) is = false_true is
 
-  undoomed_miss : (v : HeadView) (g : HeadCase) (w : Exchange) (response : Response) → IsMissCase v g → Rattle.hc_model.specs.Dooms.doomed_by_case (Some g) w response ≡ None
+  undoomed_miss : (v : HeadView) (g : HeadCase) (w : Exchange) (response : Response) → IsMissCase v g →
+      Rattle.hc_model.specs.Dooms.doomed_by_case (Some g) w response ≡ None
   undoomed_miss v _ w response refused = refl
   undoomed_miss v _ w response (server_error good) = refl
   undoomed_miss v _ w response (founds_whole status) = refl
@@ -465,7 +491,8 @@ module _ (limits : Limits) (p : FetchPlan) (plan_is : IsPlan p) (t : Tables) (e 
   unfolding case_of
   unsent (event.Head x response) at is = by_row (t.exchange x) refl is
     where
-      by_row : (o : Option Exchange) → t.exchange x ≡ o → sends_back (Rattle.std.specs.Option.option_map (λ (w : Exchange). head_case (head_view t (has_loss e.acts) w response)) o) ≡ true → ⊥
+      by_row : (o : Option Exchange) → t.exchange x ≡ o →
+          sends_back (Rattle.std.specs.Option.option_map (λ (w : Exchange). head_case (head_view t (has_loss e.acts) w response)) o) ≡ true → ⊥
       by_row None there h = false_true h
       by_row (Some w) there h = unsent_miss (head_view t (has_loss e.acts) w response) _ (miss_is x response w there) h
   unsent (event.Start d request) at is = false_true is
@@ -494,8 +521,11 @@ module _ (limits : Limits) (p : FetchPlan) (plan_is : IsPlan p) (t : Tables) (e 
       by_row None there = unfounded_head t e x response at there
       by_row (Some w) there =
           let miss = miss_is x response w there in
-          let none : Rattle.hc_model.specs.Dooms.doomed_by_case (case_at t e) w response ≡ None = ap (λ (g : Option HeadCase). Rattle.hc_model.specs.Dooms.doomed_by_case g w response) (case_is t e x response w at there) ∙ undoomed_miss (head_view t (has_loss e.acts) w response) _ w response miss in
-          let some : Rattle.hc_model.specs.Dooms.doomed_by_case (case_at t e) w response ≡ Some z = sym (ap (Rattle.hc_model.specs.Dooms.doomed_by_head t e response) there) ∙ is in
+          let none : Rattle.hc_model.specs.Dooms.doomed_by_case (case_at t e) w response ≡ None =
+          ap (λ (g : Option HeadCase). Rattle.hc_model.specs.Dooms.doomed_by_case g w response) (case_is t e x response w at there) ∙
+          undoomed_miss (head_view t (has_loss e.acts) w response) _ w response miss in
+          let some : Rattle.hc_model.specs.Dooms.doomed_by_case (case_at t e) w response ≡ Some z =
+          sym (ap (Rattle.hc_model.specs.Dooms.doomed_by_head t e response) there) ∙ is in
           absurd (none_some z (sym none ∙ some))
   undoomed (event.Start d request) at o is key = unfounded t e _ at refl
   undoomed (event.Poll d want) at o is key = unfounded t e _ at refl
@@ -514,11 +544,16 @@ module _ (limits : Limits) (p : FetchPlan) (plan_is : IsPlan p) (t : Tables) (e 
         | inr lost ↦ absurd (unlost k.place refl lost)
         | inl more ↦ elim (or_cases (doomed && waits_at t k.place) sent more) [
           | inr back ↦ absurd (unsent e.event refl (and_left (sends_back (case_of t (has_loss e.acts) e.event)) (is_for (exchange_at t e.event) 1) back))
-          | inl doom ↦ (waits_free k.place refl (and_right doomed (waits_at t k.place) doom), undoomed e.event refl (doomed_in t e e.event) refl (and_left doomed (waits_at t k.place) doom))
+          | inl doom ↦ (
+            waits_free k.place refl (and_right doomed (waits_at t k.place) doom),
+            undoomed e.event refl (doomed_in t e e.event) refl (and_left doomed (waits_at t k.place) doom),
+          )
         ]
       ]
 
-  settled_by : shows_in 1 e.acts ≡ false → (b : Bool) → starts_over t e 1 k ≡ b → PlaceAfter (if b then Rattle.hc_model.specs.ConsumerRows.back_in_line e.now (consumer_acted t e 1 h) else Rattle.hc_model.specs.ConsumerRows.due_after t e 1 k (consumer_acted t e 1 h)).place
+  settled_by : shows_in 1 e.acts ≡ false → (b : Bool) → starts_over t e 1 k ≡ b →
+      PlaceAfter (if b then Rattle.hc_model.specs.ConsumerRows.back_in_line e.now (consumer_acted t e 1 h) else
+      Rattle.hc_model.specs.ConsumerRows.due_after t e 1 k (consumer_acted t e 1 h)).place
   settled_by unshown true over = let all = over_free over in turns all.0 all.1 line_direct line_first
   settled_by unshown false over = acted_place unshown
 
@@ -531,7 +566,8 @@ module _ (limits : Limits) (p : FetchPlan) (plan_is : IsPlan p) (t : Tables) (e 
   free_by q (reads_now isnt apart first) free = absurd (true_false (sym free ∙ isnt))
   free_by q (goes_past x response w at there good is) free = absurd (false_true (ap is_free (sym is) ∙ free))
 
-  free_before : shows_in 1 e.acts ≡ false → (u : Consumer) → consumer_settled t e 1 k (consumer_acted t e 1 h) ≡ u → is_free u.place ≡ true → (is_free k.place ≡ true) × off
+  free_before : shows_in 1 e.acts ≡ false → (u : Consumer) → consumer_settled t e 1 k (consumer_acted t e 1 h) ≡ u → is_free u.place ≡ true →
+      (is_free k.place ≡ true) × off
   free_before unshown u is free = free_by u.place (place_after unshown u is) free
 
   -- it goes past the store by a head that isn't bad
@@ -547,11 +583,14 @@ module _ (limits : Limits) (p : FetchPlan) (plan_is : IsPlan p) (t : Tables) (e 
       miss = l.misses x w there
 
       by_way : IsAwaiting x w k.place → ⊥
-      by_way (owners.direct way stood) = let no : Rattle.hc_rules.specs.declared.need.Route.TheVariants.Turn ≡ Rattle.hc_rules.specs.declared.need.Route.TheVariants.Direct = sym (ap route_of miss) ∙ way in cc
+      by_way (owners.direct way stood) =
+          let no : Rattle.hc_rules.specs.declared.need.Route.TheVariants.Turn ≡ Rattle.hc_rules.specs.declared.need.Route.TheVariants.Direct =
+          sym (ap route_of miss) ∙ way in cc
       by_way (owners.turn way stood) = turn_direct x x (sym stood ∙ stands)
       by_way (owners.hole r lo hi how way aim stood) = bound_apart r lo hi how x (sym stood ∙ stands)
 
-  good_was : (x : ℕ) (u : Exchange) (response : Response) → k.place ≡ place.Direct x → ExchangeFrom t e x u → u.head ≡ Some response → is_bad (length_of u.need u.request response) ≡ false
+  good_was : (x : ℕ) (u : Exchange) (response : Response) → k.place ≡ place.Direct x → ExchangeFrom t e x u → u.head ≡ Some response →
+      is_bad (length_of u.need u.request response) ≡ false
   good_was x u response stands (exchange.was w there alike) head = by_head_of alike.heard_or
     where
       by_head_of : ((u.head ≡ w.head) × (u.joined ≡ w.joined)) ⊎ IsHeaded t e x w u → is_bad (length_of u.need u.request response) ≡ false
@@ -563,7 +602,8 @@ module _ (limits : Limits) (p : FetchPlan) (plan_is : IsPlan p) (t : Tables) (e 
       by_past (owners.answered w there some) = absurd (none_some w (sym none ∙ there))
       by_past (owners.waits w own there on bare) = absurd (none_some w (sym none ∙ there))
 
-  good_new : (x y : ℕ) (reported response : Response) (w u : Exchange) → e.event ≡ event.Head y reported → t.exchange y ≡ Some w → is_bad (length_of w.need w.request reported) ≡ false → y ≡ x → ExchangeFrom t e x u → u.head ≡ Some response
+  good_new : (x y : ℕ) (reported response : Response) (w u : Exchange) → e.event ≡ event.Head y reported → t.exchange y ≡ Some w →
+      is_bad (length_of w.need w.request reported) ≡ false → y ≡ x → ExchangeFrom t e x u → u.head ≡ Some response
       → is_bad (length_of u.need u.request response) ≡ false
   good_new x y reported response w u at there good here (exchange.was z row_x alike) head = by_head_of alike.heard_or
     where
@@ -578,7 +618,8 @@ module _ (limits : Limits) (p : FetchPlan) (plan_is : IsPlan p) (t : Tables) (e 
           let one : reported ≡ headed.response = head_inj y x reported headed.response (sym at ∙ headed.at) in
           let two : headed.response ≡ response = some_inj headed.response response (sym headed.head_is ∙ head) in
           rw (alike.need_is, alike.request_is, z_is) (subst (λ (q : Response). is_bad (length_of w.need w.request q) ≡ false) (one ∙ two) good)
-  good_new x y reported response w u at there good here (exchange.new o none opens is made) head = absurd (none_some w (sym none ∙ (ap t.exchange (sym here) ∙ there)))
+  good_new x y reported response w u at there good here (exchange.new o none opens is made) head =
+      absurd (none_some w (sym none ∙ (ap t.exchange (sym here) ∙ there)))
 
   direct_same : (y x : ℕ) → place.Direct y ≡ place.Direct x → y ≡ x
   direct_same y x is = cc
@@ -589,15 +630,18 @@ module _ (limits : Limits) (p : FetchPlan) (plan_is : IsPlan p) (t : Tables) (e 
   first_by q (reads_now isnt apart first) r lo hi how stands = first r lo hi how stands
   first_by q (goes_past y reported w at there good is) r lo hi how stands = absurd (bound_apart r lo hi how y (sym stands ∙ is))
 
-  good_by : (x : ℕ) (q : Place) (u : Exchange) (response : Response) → PlaceAfter q → q ≡ place.Direct x → ExchangeFrom t e x u → u.head ≡ Some response → is_bad (length_of u.need u.request response) ≡ false
+  good_by : (x : ℕ) (q : Place) (u : Exchange) (response : Response) → PlaceAfter q → q ≡ place.Direct x → ExchangeFrom t e x u → u.head ≡ Some response →
+      is_bad (length_of u.need u.request response) ≡ false
   good_by x q u response (as_before is still) stands from head = good_was x u response (sym is ∙ stands) from head
   good_by x q u response (turns was still apart first) stands from head = absurd (apart x stands)
   good_by x q u response (reads_now isnt apart first) stands from head = absurd (apart x stands)
-  good_by x q u response (goes_past y reported w at there good is) stands from head = good_new x y reported response w u at there good (direct_same y x (sym is ∙ stands)) from head
+  good_by x q u response (goes_past y reported w at there good is) stands from head =
+      good_new x y reported response w u at there good (direct_same y x (sym is ∙ stands)) from head
 
 -- AFTER AN ENTRY
 
-module _ (limits : Limits) (p : FetchPlan) (plan_is : IsPlan p) (t : Tables) (e : Entry) (owed : IsTaken limits t e) (c : IsCarried t) (aims : Aims t) (passed : Passed t) (l : IsLone p t) (own : is_foreign e.event ≡ false) (unshown : shows_in 1 e.acts ≡ false) where
+module _ (limits : Limits) (p : FetchPlan) (plan_is : IsPlan p) (t : Tables) (e : Entry) (owed : IsTaken limits t e) (c : IsCarried t) (aims : Aims t)
+    (passed : Passed t) (l : IsLone p t) (own : is_foreign e.event ≡ false) (unshown : shows_in 1 e.acts ≡ false) where
   abbrev now_on : Tables
   now_on = after_accepted t e
 
@@ -627,7 +671,8 @@ module _ (limits : Limits) (p : FetchPlan) (plan_is : IsPlan p) (t : Tables) (e 
   need_was : (x : ℕ) (u : Exchange) → ExchangeFrom t e x u → u.need ≡ need.Miss
   need_was x u (exchange.was w there alike) = alike.need_is ∙ l.misses x w there
   need_was x u (exchange.new o none opens here made) =
-      let by = opening_by limits t e.now (flaw_in e.acts) c.is_sound e.event (goes limits t e owed.owed owed.not_denied) o (sym (ap opening_in (acts_are limits t e owed.owed owed.not_denied)) ∙ opens) in
+      let by = opening_by limits t e.now (flaw_in e.acts) c.is_sound e.event (goes limits t e owed.owed owed.not_denied) o
+      (sym (ap opening_in (acts_are limits t e owed.owed owed.not_denied)) ∙ opens) in
       let one : o.c ≡ 1 = l.only o.c by.k by.poll.row in
       let m = opens_missed limits p plan_is t e owed c aims passed l by.k (sym (ap t.consumer one) ∙ by.poll.row) o opens in
       sym (ap (λ (z : Exchange). z.need) made) ∙ m.need_is
@@ -648,7 +693,8 @@ module _ (limits : Limits) (p : FetchPlan) (plan_is : IsPlan p) (t : Tables) (e 
       by_total (inr over) = over.total_is ∙ ap (λ (q : Option ℕ). option_or q (Some (length_in (t.exchange r)))) part.total
 
   -- a part is founded for a range, and tells the length of the whole
-  total_reported : (o : Option RangeSpec) (response : Response) (w : Exchange) → brings_part response.status ≡ true → fits_to_found o response ≡ true → (n : ℕ) × (founded_total w response ≡ Some n)
+  total_reported : (o : Option RangeSpec) (response : Response) (w : Exchange) → brings_part response.status ≡ true → fits_to_found o response ≡ true →
+      (n : ℕ) × (founded_total w response ≡ Some n)
   total_reported None response w status fits = absurd (false_true fits)
   total_reported (Some asked) response w status fits = by_range (content_range_of response.fields) refl (and_right _ _ fits)
     where
@@ -665,7 +711,8 @@ module _ (limits : Limits) (p : FetchPlan) (plan_is : IsPlan p) (t : Tables) (e 
   fits_some None response fits = absurd (false_true fits)
   fits_some (Some asked) response fits = refl
 
-  part_founded : (r : ℕ) (response : Response) (w : Exchange) → e.event ≡ event.Head r response → t.exchange r ≡ Some w → brings_part response.status ≡ true → is_founding (case_at t e) ≡ true → (g : HeadCase) → IsMissCase (head_view t (has_loss e.acts) w response) g
+  part_founded : (r : ℕ) (response : Response) (w : Exchange) → e.event ≡ event.Head r response → t.exchange r ≡ Some w →
+      brings_part response.status ≡ true → is_founding (case_at t e) ≡ true → (g : HeadCase) → IsMissCase (head_view t (has_loss e.acts) w response) g
       → case_at t e ≡ Some g → IsPart now_on (new_representation r e response w)
   part_founded r response w at there status on _ refused is = absurd (false_true (sym (ap is_founding is) ∙ on))
   part_founded r response w at there status on _ (server_error good) is = absurd (false_true (sym (ap is_founding is) ∙ on))
@@ -682,7 +729,8 @@ module _ (limits : Limits) (p : FetchPlan) (plan_is : IsPlan p) (t : Tables) (e 
         ranged = λ u row.
             let was = was_there 1 u row in
             let same : op.k ≡ was.k = some_inj op.k was.k (sym op.row ∙ (ap t.consumer (l.only w.c op.k op.row) ∙ was.row)) in
-            ap (λ (q : Request). is_some (range_of q)) ((is_after t e 1 was.k u was.row row).request ∙ ap (λ (z : Consumer). z.request) (sym same)) ∙ fits_some (range_of op.k.request) response fit;
+            ap (λ (q : Request). is_some (range_of q)) ((is_after t e 1 was.k u was.row row).request ∙ ap (λ (z : Consumer). z.request) (sym same)) ∙
+            fits_some (range_of op.k.request) response fit;
       }
 
   part_from : (r : ℕ) (u : Representation) → RepFrom t e r u → brings_part u.head.status ≡ true → IsPart now_on u
@@ -690,7 +738,8 @@ module _ (limits : Limits) (p : FetchPlan) (plan_is : IsPlan p) (t : Tables) (e 
   part_from r u (rep.founded response w none at there on made) status =
       let miss = l.misses r w there in
       subst (IsPart now_on) made
-      (part_founded r response w at there (ap (λ (z : Representation). brings_part z.head.status) made ∙ status) on _ (miss_case (head_view t (has_loss e.acts) w response) miss (rw miss refl)) (case_is t e r response w at there))
+      (part_founded r response w at there (ap (λ (z : Representation). brings_part z.head.status) made ∙ status) on _
+      (miss_case (head_view t (has_loss e.acts) w response) miss (rw miss refl)) (case_is t e r response w at there))
 
   pub lone_kept : IsLone p now_on
   lone_kept = record {
@@ -703,17 +752,29 @@ module _ (limits : Limits) (p : FetchPlan) (plan_is : IsPlan p) (t : Tables) (e 
         let was = free_before limits p plan_is t e owed c aims passed l w.k w.row unshown u w.is free in
         let same : u.request ≡ w.k.request = (is_after t e 1 w.k u w.row row).request in
         ap (λ (q : Request). current now_on q.key) same
-        ∙ (current_stays t e c.is_sound w.k.request.key (founds_none was.1 w.k.request.key) ∙ ap (Rattle.hc_model.specs.Frames.unless_gone t e) (l.nothing w.k w.row was.0));
+        ∙ (current_stays t e c.is_sound w.k.request.key (founds_none was.1 w.k.request.key) ∙
+        ap (Rattle.hc_model.specs.Frames.unless_gone t e) (l.nothing w.k w.row was.0));
     good = λ x u w response row stands there head.
         let was = was_there 1 u row in
-        good_by limits p plan_is t e owed c aims passed l was.k was.row x u.place w response (place_after limits p plan_is t e owed c aims passed l was.k was.row unshown u was.is) stands (exchange_from t e x (t.exchange x) w refl there) head;
+        good_by limits p plan_is t e owed c aims passed l was.k was.row x u.place w response
+        (place_after limits p plan_is t e owed c aims passed l was.k was.row unshown u was.is) stands (exchange_from t e x (t.exchange x) w refl there) head;
     first = λ u r lo hi how row stands.
         let was = was_there 1 u row in
-        first_by limits p plan_is t e owed c aims passed l was.k was.row u.place (place_after limits p plan_is t e owed c aims passed l was.k was.row unshown u was.is) r lo hi how stands;
+        first_by limits p plan_is t e owed c aims passed l was.k was.row u.place
+        (place_after limits p plan_is t e owed c aims passed l was.k was.row unshown u was.is) r lo hi how stands;
     parts = λ r u row status. part_from r u (rep_from t e r (t.representation r) u refl row) status;
   }
 
 -- a denied entry leaves it
 pub lone_denied : (p : FetchPlan) (t : Tables) (e : Entry) → IsLone p t → IsLone p (after_denied t e)
 unfolding current
-lone_denied p t e l = record { only = l.only; asks = l.asks; unshown = l.unshown; misses = l.misses; nothing = l.nothing; good = l.good; first = l.first; parts = λ r v row status. let part = l.parts r v row status in record { n = part.n; total = part.total; small = part.small; ranged = part.ranged } }
+lone_denied p t e l = record {
+  only = l.only;
+  asks = l.asks;
+  unshown = l.unshown;
+  misses = l.misses;
+  nothing = l.nothing;
+  good = l.good;
+  first = l.first;
+  parts = λ r v row status. let part = l.parts r v row status in record { n = part.n; total = part.total; small = part.small; ranged = part.ranged };
+}

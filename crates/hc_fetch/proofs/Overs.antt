@@ -38,7 +38,8 @@ covers_same f g lo hi over covers p low high =
     let there = over p here.0.byte here.0.x here.1 in
     ap is_some there.1
 
-pub appends_over : (acts : List Act) (g : Cells) (from to : ℕ) (before after : List ℕ) → AllFit acts g → Appends g from to before after → Appends (gathered_in acts g) from to before after
+pub appends_over : (acts : List Act) (g : Cells) (from to : ℕ) (before after : List ℕ) → AllFit acts g → Appends g from to before after →
+    Appends (gathered_in acts g) from to before after
 appends_over acts g from to before after fit a =
     let over = over_all acts g fit in
     record {
@@ -62,7 +63,8 @@ given_below_in (act.Given c x at bytes ∷ acts) g n ends p cell is =
     new : EndBy (cells_with at x bytes g) (max (at + length bytes) n)
     new p cell is = elim (inside-cases at (length bytes) p) [
       | inl here ↦ let high = here.2 in omega (arith, high)
-      | inr off ↦ let less = ends p cell (sym (ap (λ (b : Bool). if b then Some (record { byte = slice_index bytes (p - at); x = x }) else g p) off.0) ∙ is) in omega (arith, less)
+      | inr off ↦ let less = ends p cell (sym (ap (λ (b : Bool). if b then Some (record { byte = slice_index bytes (p - at); x = x }) else g p) off.0) ∙
+          is) in omega (arith, less)
     ]
 given_below_in (a ∷ acts) g n ends p cell is = given_below_in acts g n ends p cell is
 
@@ -111,7 +113,8 @@ module _ (ahead : Ahead) (w : ℕ) (f : History) (k : KeepsAll ahead w (gathered
   written_long = sym (ap length written_is ∙ covered_long (gathered f) 0 w from_zero)
 
 -- with one event more
-pub writes_more : (one two : Ahead) (w v : ℕ) (e : Entry) (f : History) (text : List ℕ) → AllFit e.acts (gathered f) → KeepsAll one w (gathered f) → KeepsAll two v (gathered (e ∷ f))
+pub writes_more : (one two : Ahead) (w v : ℕ) (e : Entry) (f : History) (text : List ℕ) → AllFit e.acts (gathered f) → KeepsAll one w (gathered f) →
+    KeepsAll two v (gathered (e ∷ f))
     → Appends (gathered (e ∷ f)) w v [] text → written_of f ++ text ≡ written_of (e ∷ f)
 writes_more one two w v e f text fit before after appends =
     let up_to = appends.up_to in
@@ -120,7 +123,8 @@ writes_more one two w v e f text fit before after appends =
     let less : Covers (gathered (e ∷ f)) 0 (0 + w) = λ p low high. after.keeps.covers p low (omega arith) in
     let joined = bytes_join (gathered (e ∷ f)) 0 w appends.count less in
     let place : 0 + w ≡ w = omega arith in
-    let more : bytes_on (gathered (e ∷ f)) (0 + w) appends.count ≡ text = ap (λ (p : ℕ). bytes_on (gathered (e ∷ f)) p appends.count) place ∙ sym appends.text in
+    let more : bytes_on (gathered (e ∷ f)) (0 + w) appends.count ≡ text = ap (λ (p : ℕ). bytes_on (gathered (e ∷ f)) p appends.count) place ∙
+    sym appends.text in
     ap (λ (l : List ℕ). l ++ text) (written_is one w f before ∙ same)
     ∙ (ap (λ (l : List ℕ). bytes_on (gathered (e ∷ f)) 0 w ++ l) (sym more)
     ∙ (sym joined ∙ (ap (bytes_on (gathered (e ∷ f)) 0) up_to ∙ sym (written_is two v (e ∷ f) after))))

@@ -17,7 +17,8 @@ by_exchange : (t : Tables) (r p : ℕ) (cell : Cell) (q : Option Exchange) → t
 by_exchange t r p cell None row n is = absurd (none_some cell is)
 by_exchange t r p cell (Some w) row n is = let under = answer_below r p w cell is in let le = n.fronts r w row in omega (arith, under, le)
 
-by_row : (t : Tables) (r p : ℕ) (cell : Cell) (q : Option Representation) → t.representation r ≡ q → Numbers t → ((v : Representation) → t.representation r ≡ Some v → EndsBy v.reach v.body)
+by_row : (t : Tables) (r p : ℕ) (cell : Cell) (q : Option Representation) → t.representation r ≡ q → Numbers t →
+    ((v : Representation) → t.representation r ≡ Some v → EndsBy v.reach v.body)
     → cell_by t r p q ≡ Some cell → p < most t
 by_row t r p cell None row n ends is = by_exchange t r p cell (t.exchange r) refl n is
 by_row t r p cell (Some v) row n ends is = elim (cases_lt p v.reach) [
@@ -25,12 +26,14 @@ by_row t r p cell (Some v) row n ends is = elim (cases_lt p v.reach) [
   | inr past ↦ absurd (none_some cell (sym (ends v row p past) ∙ is))
 ]
 
-pub below_most : (limits : Limits) (h : History) → may_begin limits no_contents ≡ true → AreShort no_contents → IsRun limits no_contents h → (tables no_contents h).received ≤ 2 ^ 62
+pub below_most : (limits : Limits) (h : History) → may_begin limits no_contents ≡ true → AreShort no_contents → IsRun limits no_contents h →
+    (tables no_contents h).received ≤ 2 ^ 62
     → (r p : ℕ) (cell : Cell) → body_of (tables no_contents h) r p ≡ Some cell → p < 2 ^ 62
 below_most limits h may short run few r p cell is =
     let law = lawful_in_runs limits no_contents h may run in
     let numbers = numbers_in_runs limits no_contents h may short run in
-    let under = by_row (tables no_contents h) r p cell ((tables no_contents h).representation r) refl numbers (λ v row. (law.sound.rows r v row).store.ends) is in
+    let under = by_row (tables no_contents h) r p cell ((tables no_contents h).representation r) refl numbers
+    (λ v row. (law.sound.rows r v row).store.ends) is in
     omega (arith, under, few)
 
 -- WHAT IS GIVEN
@@ -52,11 +55,13 @@ module _ (t : Tables) (r : ℕ) (low : (p : ℕ) (cell : Cell) → body_of t r p
   fits (act.Given c x at bytes ∷ acts) g some gives stand =
       let given = gives c x at bytes (inl refl) in (
         one_fits x at bytes g (some c x at bytes (inl refl)) given stand,
-        fits acts (cells_with at x bytes g) (λ d y to more says. some d y to more (inr says)) (λ d y to more says. gives d y to more (inr says)) (one_stands t r x at bytes g given stand),
+        fits acts (cells_with at x bytes g) (λ d y to more says. some d y to more (inr says)) (λ d y to more says. gives d y to more (inr says))
+            (one_stands t r x at bytes g given stand),
       )
   fits (a ∷ acts) g some gives stand = fits acts g (λ d y to more says. some d y to more (inr says)) (λ d y to more says. gives d y to more (inr says)) stand
 
-module _ (limits : Limits) (plan : FetchPlan) (e : Entry) (f : History) (q : IsFetchRun limits plan (e ∷ f)) (short : AreShort no_contents) (few : (tables no_contents (before limits plan e f q)).received ≤ 2 ^ 62) where
+module _ (limits : Limits) (plan : FetchPlan) (e : Entry) (f : History) (q : IsFetchRun limits plan (e ∷ f)) (short : AreShort no_contents)
+    (few : (tables no_contents (before limits plan e f q)).received ≤ 2 ^ 62) where
   some_given : GivesSome e.acts
   some_given c x at bytes says = (gives_next limits no_contents (before limits plan e f q) e q.begins (run_on limits plan e f q) c x at bytes says).2.some
 
@@ -66,10 +71,12 @@ module _ (limits : Limits) (plan : FetchPlan) (e : Entry) (f : History) (q : IsF
   by_first : (was : Rattle.std.specs.Prelude.Option Head) → first_head f ≡ was → AllFit e.acts (gathered f)
   by_first None is =
       let so_far = (gathered_there limits plan f (earlier limits plan e f q)).none is 0 in
-      fits (tables no_contents (before limits plan e f q)) 0 (low 0) e.acts (gathered f) some_given (gives_none limits plan e f q is 0) (goes_there limits plan e f q 0 (gathered f) so_far)
+      fits (tables no_contents (before limits plan e f q)) 0 (low 0) e.acts (gathered f) some_given (gives_none limits plan e f q is 0)
+      (goes_there limits plan e f q 0 (gathered f) so_far)
   by_first (Some head) is =
       let so_far = (gathered_there limits plan f (earlier limits plan e f q)).there head is in
-      fits (tables no_contents (before limits plan e f q)) head.r (low head.r) e.acts (gathered f) some_given (gives_of limits plan e f q head is) (goes_there limits plan e f q head.r (gathered f) so_far)
+      fits (tables no_contents (before limits plan e f q)) head.r (low head.r) e.acts (gathered f) some_given (gives_of limits plan e f q head is)
+      (goes_there limits plan e f q head.r (gathered f) so_far)
 
   pub all_fit : AllFit e.acts (gathered f)
   all_fit = by_first (first_head f) refl

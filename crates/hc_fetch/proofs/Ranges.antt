@@ -15,9 +15,11 @@ digit c h = grind (arith, nat_tests)
 last : (n : ℕ) → n < 2 ^ 64 → is_blank (slice_index (decimal n) (length (decimal n) - 1)) ≡ false
 last n h =
     let filled = some n h in
-    digit (slice_index (decimal n) (length (decimal n) - 1)) (digit_at (decimal n) (length (decimal n) - 1) (decimal_is_IsNumeral n (omega (arith, h))).0.1 (omega arith))
+    digit (slice_index (decimal n) (length (decimal n) - 1))
+    (digit_at (decimal n) (length (decimal n) - 1) (decimal_is_IsNumeral n (omega (arith, h))).0.1 (omega arith))
 
-ends : (front : List ℕ) (n : ℕ) → n < 2 ^ 64 → 0 < length front → list_all is_value_byte front ≡ true → is_blank (slice_index front 0) ≡ false → is_own_value (front ++ decimal n) ≡ true
+ends : (front : List ℕ) (n : ℕ) → n < 2 ^ 64 → 0 < length front → list_all is_value_byte front ≡ true → is_blank (slice_index front 0) ≡ false →
+    is_own_value (front ++ decimal n) ≡ true
 ends front n h longer bytes first =
     let filled = some n h in
     let all : list_all is_value_byte (front ++ decimal n) ≡ true = list_all-append is_value_byte front (decimal n) ∙ rw (bytes, values n h) refl in
@@ -25,7 +27,8 @@ ends front n h longer bytes first =
     let begins : slice_index (front ++ decimal n) 0 ≡ slice_index front 0 = get_or_append_left front (decimal n) 0 0 longer in
     let place : length (front ++ decimal n) - 1 - length front ≡ length (decimal n) - 1 = omega arith in
     let at_end : slice_index (front ++ decimal n) (length (front ++ decimal n) - 1) ≡ slice_index (decimal n) (length (decimal n) - 1) =
-    get_or-append_right front (decimal n) (length front) (length (front ++ decimal n) - 1) 0 refl (omega arith) ∙ ap (λ (i : ℕ). slice_index (decimal n) i) place in
+    get_or-append_right front (decimal n) (length front) (length (front ++ decimal n) - 1) 0 refl (omega arith) ∙
+    ap (λ (i : ℕ). slice_index (decimal n) i) place in
     rw all (or_right (length (front ++ decimal n) == 0)
     (not (is_blank (slice_index (front ++ decimal n) 0) || is_blank (slice_index (front ++ decimal n) (length (front ++ decimal n) - 1))))
     (rw (begins, at_end, first, last n h) refl))

@@ -50,7 +50,8 @@ pub record ReportsPart (status : ℕ) (fields : List (List ℕ × List ℕ)) (to
   pub last : ℕ
   pub reported : content_range_of fields ≡ Some (range.Part 0 last (Some total))
 
-reported_by : (status : ℕ) (fields : List (List ℕ × List ℕ)) (total : ℕ) (o : Option ContentRange) → status ≡ 206 → content_range_of fields ≡ o → total_by o ≡ Some total → ReportsPart status fields total
+reported_by : (status : ℕ) (fields : List (List ℕ × List ℕ)) (total : ℕ) (o : Option ContentRange) → status ≡ 206 → content_range_of fields ≡ o →
+    total_by o ≡ Some total → ReportsPart status fields total
 reported_by status fields total None at is h = absurd (none_some total h)
 reported_by status fields total (Some (range.Unsatisfied n)) at is h = absurd (none_some total h)
 reported_by status fields total (Some (range.Part first last n)) at is h = elim (bool_cases (first == 0)) [
@@ -64,7 +65,8 @@ reported_by status fields total (Some (range.Part first last n)) at is h = elim 
 pub gives_part : (head : Head) (total : ℕ) → total_of head ≡ Some total → ReportsPart head.status head.fields total
 gives_part head total is = elim (bool_cases (head.status == 206)) [
   | inr off ↦ absurd (none_some total (rw off at is))
-  | inl on ↦ reported_by head.status head.fields total (content_range_of head.fields) (let test : nat_eq head.status 206 ≡ true = on in grind (arith, nat_tests)) refl (rw on at is)
+  | inl on ↦ reported_by head.status head.fields total (content_range_of head.fields)
+      (let test : nat_eq head.status 206 ≡ true = on in grind (arith, nat_tests)) refl (rw on at is)
 ]
 
 -- WHAT IS SHOWN
@@ -81,19 +83,23 @@ record ShowsAs (a : ℕ) (b : Response) (d : ℕ) (f : Option ℕ) (r : ℕ) (he
   from : d ≡ lo
   to : f ≡ hi
 
-shows_inj : (a : ℕ) (y : Why) (b : Response) (d : ℕ) (f : Option ℕ) (r : ℕ) (why : Why) (head : Response) (lo : ℕ) (hi : Option ℕ) → Some (Shows a y b d f) ≡ Some (Shows r why head lo hi) → ShowsAs a b d f r head lo hi
-shows_inj a y b d f r why head lo hi is = let same : Shows a y b d f ≡ Shows r why head lo hi = some_inj _ _ is in record { number = cc; answer = cc; from = cc; to = cc }
+shows_inj : (a : ℕ) (y : Why) (b : Response) (d : ℕ) (f : Option ℕ) (r : ℕ) (why : Why) (head : Response) (lo : ℕ) (hi : Option ℕ) →
+    Some (Shows a y b d f) ≡ Some (Shows r why head lo hi) → ShowsAs a b d f r head lo hi
+shows_inj a y b d f r why head lo hi is = let same : Shows a y b d f ≡ Shows r why head lo hi = some_inj _ _ is in
+    record { number = cc; answer = cc; from = cc; to = cc }
 
 whole_not_part : (n : ℕ) → n ≡ 200 → n ≡ 206 → ⊥
 whole_not_part n a b = omega arith
 
-module _ (p : FetchPlan) (t : Tables) (c : IsCarried t) (b : Places t) (parts : Parts t) (l : IsLone p t) (k : Consumer) (row : t.consumer 1 ≡ Some k) (r : ℕ) (why : Why) (head : Response) (lo : ℕ) (hi : Option ℕ) where
+module _ (p : FetchPlan) (t : Tables) (c : IsCarried t) (b : Places t) (parts : Parts t) (l : IsLone p t) (k : Consumer) (row : t.consumer 1 ≡ Some k)
+    (r : ℕ) (why : Why) (head : Response) (lo : ℕ) (hi : Option ℕ) where
   abbrev show : Move
   show = Shows r why head lo hi
 
   -- PAST THE STORE
 
-  answered : (x : ℕ) (w : Exchange) (o : Option Response) → k.place ≡ place.Direct x → t.exchange x ≡ Some w → t.representation x ≡ None → w.head ≡ o → shows_answer t x w o ≡ Some show → FirstShown t r lo hi head.status head.fields
+  answered : (x : ℕ) (w : Exchange) (o : Option Response) → k.place ≡ place.Direct x → t.exchange x ≡ Some w → t.representation x ≡ None → w.head ≡ o →
+      shows_answer t x w o ≡ Some show → FirstShown t r lo hi head.status head.fields
   answered x w None at there bare headed is = absurd (none_some show is)
   answered x w (Some response) at there bare headed is =
       let same = shows_inj x (why_is.Fetched x) response (base w) (hi_of t (place.Direct x)) r why head lo hi is in
@@ -107,7 +113,11 @@ module _ (p : FetchPlan) (t : Tables) (c : IsCarried t) (b : Places t) (parts : 
       miss way = let no : route.Turn ≡ route.Direct = sym (ap route_of (l.misses x w there)) ∙ way in cc
 
       ends : (n : ℕ) → hi_of t (place.Direct x) ≡ Some n → KnownEnd t x n
-      ends n is = record { ends = ap (end_by t x) bare ∙ is; headed = λ none. record { w = w; row = there; headed = ap (λ (o : Option Response). is_some o) headed } }
+      ends n is = record {
+        ends = ap (end_by t x) bare ∙ is;
+        headed =
+            λ none. record { w = w; row = there; headed = ap (λ (o : Option Response). is_some o) headed };
+      }
 
       first : response.status ≡ 200 → base w ≡ 0
       first status =
@@ -117,9 +127,12 @@ module _ (p : FetchPlan) (t : Tables) (c : IsCarried t) (b : Places t) (parts : 
       part_of_it : (total : ℕ) → ReportsPart response.status response.fields total → (n : ℕ) × KnownEnd t x n × (n ≤ total)
       part_of_it total reports =
           let good = l.good x k w response row at there headed in
-          let within = part_within w.need w.request response 0 reports.last total miss (partial_brings response.status reports.status_is) reports.reported good in
-          let reported : end_in (t.exchange x) ≡ Some (base w + within.n) = ap end_in there ∙ ap (λ q. end_of_direct q w) (ap (λ (o : Option Response). promise_of (Rattle.hc_model.specs.Exchanges.length_by w o)) headed ∙ within.promise) in
-          let first_is : base w ≡ base_of (length_of w.need w.request response) = ap (λ (o : Option Response). base_of (Rattle.hc_model.specs.Exchanges.length_by w o)) headed in
+          let within = part_within
+          w.need w.request response 0 reports.last total miss (partial_brings response.status reports.status_is) reports.reported good in
+          let reported : end_in (t.exchange x) ≡ Some (base w + within.n) = ap end_in there ∙
+          ap (λ q. end_of_direct q w) (ap (λ (o : Option Response). promise_of (Rattle.hc_model.specs.Exchanges.length_by w o)) headed ∙ within.promise) in
+          let first_is : base w ≡ base_of (length_of w.need w.request response) =
+          ap (λ (o : Option Response). base_of (Rattle.hc_model.specs.Exchanges.length_by w o)) headed in
           let ends_by = within.ends in
           (base w + within.n, ends (base w + within.n) reported, omega arith)
 
@@ -153,7 +166,9 @@ module _ (p : FetchPlan) (t : Tables) (c : IsCarried t) (b : Places t) (parts : 
     begins = l.first k q a d by.Founding row at
 
     -- a part is shown of what was founded with one
-    shown_part : (rg : Bool) (h n : Option ℕ) → ranged ≡ rg → top ≡ h → v.head.total ≡ n → (total : ℕ) → ReportsPart (shown_as (part_of rg (span_to a h) n) n (with_age (why_is.Fetched q) v.head.fields)).status (shown_as (part_of rg (span_to a h) n) n (with_age (why_is.Fetched q) v.head.fields)).fields total
+    shown_part : (rg : Bool) (h n : Option ℕ) → ranged ≡ rg → top ≡ h → v.head.total ≡ n → (total : ℕ) →
+        ReportsPart (shown_as (part_of rg (span_to a h) n) n (with_age (why_is.Fetched q) v.head.fields)).status
+        (shown_as (part_of rg (span_to a h) n) n (with_age (why_is.Fetched q) v.head.fields)).fields total
         → (m : ℕ) × KnownEnd t q m × (m ≤ total)
     shown_part false h n is up known total reports = absurd (whole_not_part 200 refl reports.status_is)
     shown_part true None n is up known total reports = absurd (whole_not_part 200 refl reports.status_is)
@@ -174,7 +189,10 @@ module _ (p : FetchPlan) (t : Tables) (c : IsCarried t) (b : Places t) (parts : 
         let span : Span = record { lo = a; hi = h } in
         let within : IsWithin span n = record { not_empty = some; within = omega arith; small = omega arith } in
         let reads : content_range_of (with_range span n (with_age (why_is.Fetched q) v.head.fields)) ≡ Some (range.Part a (h - 1) (Some n)) =
-        ap (option_and_then content_range_in) (only_one (codes "content-range") (content_range_text span n) (with_one (codes "content-length") (decimal (h - a)) (with_age (why_is.Fetched q) v.head.fields))) ∙ content_range_in-spelled (content_range_text span n) (range.Part a (h - 1) (Some n)) (content_range_text_spells span n within) in
+        ap (option_and_then content_range_in)
+        (only_one (codes "content-range") (content_range_text span n)
+        (with_one (codes "content-length") (decimal (h - a)) (with_age (why_is.Fetched q) v.head.fields))) ∙
+        content_range_in-spelled (content_range_text span n) (range.Part a (h - 1) (Some n)) (content_range_text_spells span n within) in
         let two : Some (range.Part a (h - 1) (Some n)) ≡ Some (range.Part 0 reports.last (Some total)) = sym reads ∙ reports.reported in
         let last : n ≡ total = part_total a (h - 1) 0 reports.last n total two in
         (n, total_ends n known, omega arith)
@@ -182,7 +200,8 @@ module _ (p : FetchPlan) (t : Tables) (c : IsCarried t) (b : Places t) (parts : 
         bound_at : (o : Option ℕ) → d ≡ o → brings_part v.head.status ≡ true → (m : ℕ) × (d ≡ Some m)
         bound_at (Some m) is status = (m, is)
         bound_at None is status =
-            let came : Rattle.hc_model.specs.Writers.came_alone t (place.Bound q a d by.Founding) ≡ true = ap (λ (o : Option Representation). brings_part (Rattle.hc_model.specs.Writers.status_in o)) there ∙ status in
+            let came : Rattle.hc_model.specs.Writers.came_alone t (place.Bound q a d by.Founding) ≡ true =
+            ap (λ (o : Option Representation). brings_part (Rattle.hc_model.specs.Writers.status_in o)) there ∙ status in
             absurd (false_true (sym (ap (λ o. is_some o) is) ∙ c.is_sound.writes.known_end q 1 a d by.Founding k row at came))
 
         part_total : (i j x y m z : ℕ) → Some (range.Part i j (Some m)) ≡ Some (range.Part x y (Some z)) → m ≡ z
@@ -200,7 +219,8 @@ module _ (p : FetchPlan) (t : Tables) (c : IsCarried t) (b : Places t) (parts : 
               let part = l.parts q v there on in
               let own : is_ranged k ≡ true = part.ranged k row in
               let test : ranged ≡ true = rw (own, on) refl in
-              let is_part : shown.status ≡ 206 = ap (λ b. status_by b top v.head.total) test ∙ (ap (λ o. status_by true o v.head.total) up ∙ ap (λ o. status_by true (Some n) o) part.total) in
+              let is_part : shown.status ≡ 206 = ap (λ b. status_by b top v.head.total) test ∙
+              (ap (λ o. status_by true o v.head.total) up ∙ ap (λ o. status_by true (Some n) o) part.total) in
               absurd (whole_not_part shown.status status is_part)
         ]
 
@@ -210,20 +230,24 @@ module _ (p : FetchPlan) (t : Tables) (c : IsCarried t) (b : Places t) (parts : 
         let same = shows_inj q (why_is.Fetched q) shown a top r why head lo hi made in
         subst (λ z. FirstShown t z lo hi head.status head.fields) same.number (record {
           known = λ none. absurd (none_some v (sym none ∙ there));
-          part = λ total reports. shown_part ranged top v.head.total refl refl refl total (subst (λ (z : Response). ReportsPart z.status z.fields total) (sym same.answer) reports);
+          part = λ total reports. shown_part ranged top v.head.total refl refl refl total
+              (subst (λ (z : Response). ReportsPart z.status z.fields total) (sym same.answer) reports);
           whole = λ status. (sym same.from ∙ begins, λ n to. shown_whole d refl (ap (λ (z : Response). z.status) same.answer ∙ status) n (same.to ∙ to));
         })
       where
         shows_row : t.representation q ≡ t.representation q → shows_at t k (place.Bound q a d by.Founding) ≡ Some (Shows q (why_is.Fetched q) shown a top)
-        shows_row same = ap (λ (o : Option Representation). Some (shows_stored q (why_is.Fetched q) (is_ranged k && brings_part (Rattle.hc_model.specs.Writers.status_in o)) a top o)) there
+        shows_row same = ap (λ (o : Option Representation). Some
+            (shows_stored q (why_is.Fetched q) (is_ranged k && brings_part (Rattle.hc_model.specs.Writers.status_in o)) a top o)) there
 
-  bound_shown : (q a : ℕ) (d : Option ℕ) → k.place ≡ place.Bound q a d by.Founding → shows_at t k (place.Bound q a d by.Founding) ≡ Some show → FirstShown t r lo hi head.status head.fields
+  bound_shown : (q a : ℕ) (d : Option ℕ) → k.place ≡ place.Bound q a d by.Founding → shows_at t k (place.Bound q a d by.Founding) ≡ Some show →
+      FirstShown t r lo hi head.status head.fields
   bound_shown q a d at is =
       let there = some_row (t.representation q) (c.is_sound.numbered.bound_to q 1 k (sound.is_bound a d by.Founding row at)) in
       stored_shown q a d at there.0 there.1 is
 
   -- what it is shown where it stands
-  pub first_shown : ((q a y : ℕ) (d : Option ℕ) → k.place ≡ place.Bound q a d (by.FirstHole y) → ⊥) → (z : Place) → k.place ≡ z → shows_at t k z ≡ Some show → FirstShown t r lo hi head.status head.fields
+  pub first_shown : ((q a y : ℕ) (d : Option ℕ) → k.place ≡ place.Bound q a d (by.FirstHole y) → ⊥) → (z : Place) → k.place ≡ z →
+      shows_at t k z ≡ Some show → FirstShown t r lo hi head.status head.fields
   first_shown unholed place.Line at is = absurd (none_some show is)
   first_shown unholed (place.Passed q kept) at is = absurd (none_some show is)
   first_shown unholed (place.Turn x) at is = absurd (none_some show is)

@@ -55,7 +55,8 @@ same : (head before : Head) (b : Bool) (d : FetchEnded) → (head.r == before.r)
 same head before true d tests is = grind (arith, tests, Rattle.std.proofs.lemmas.Bool.Decides.nat_tests)
 same head before false d tests is = absurd (some_none d is)
 
-head_first : (plan : FetchPlan) (first more : Option Head) (head : Head) → by_head plan first head ≡ None → IsFirst (option_or first (option_or (first_in (head ∷ [])) more)) head.r
+head_first : (plan : FetchPlan) (first more : Option Head) (head : Head) → by_head plan first head ≡ None →
+    IsFirst (option_or first (option_or (first_in (head ∷ [])) more)) head.r
 head_first plan (Some before) more head is =
     let other : by_other head (Some before) ≡ None = fit (fits plan (Some before) head) (by_other head (Some before)) _ is in
     record { head = before; is = refl; of = sym (same head before (head.r == before.r) _ refl other) }
@@ -86,16 +87,20 @@ module _ (plan : FetchPlan) (first : Option Head) (head : Head) (heads : List He
   rest_none = none_right (by_head plan first head) (by_heads plan behind heads) is
 
   here : IsFirst (option_or first (first_in (head ∷ heads))) head.r
-  here = subst (λ (q : Option Head). IsFirst (option_or first q) head.r) (first_cons head heads) (head_first plan first (first_in heads) head (none_left (by_head plan first head) (by_heads plan behind heads) is))
+  here = subst (λ (q : Option Head). IsFirst (option_or first q) head.r) (first_cons head heads)
+      (head_first plan first (first_in heads) head (none_left (by_head plan first head) (by_heads plan behind heads) is))
 
   joined : option_or behind (first_in heads) ≡ option_or first (first_in (head ∷ heads))
   joined = or_assoc first (first_in (head ∷ [])) (first_in heads) ∙ ap (λ (q : Option Head). option_or first q) (first_cons head heads)
 
-  one_more : (b : Bool) (s : Shown) (shown : List Shown) → head.r ≡ s.r → AllFirst (option_or behind (first_in heads)) shown → AllFirst (option_or first (first_in (head ∷ heads))) (if b then s ∷ shown else shown)
-  one_more true s shown of rest = (subst (IsFirst (option_or first (first_in (head ∷ heads)))) of here, subst (λ (q : Option Head). AllFirst q shown) joined rest)
+  one_more : (b : Bool) (s : Shown) (shown : List Shown) → head.r ≡ s.r → AllFirst (option_or behind (first_in heads)) shown →
+      AllFirst (option_or first (first_in (head ∷ heads))) (if b then s ∷ shown else shown)
+  one_more true s shown of rest =
+      (subst (IsFirst (option_or first (first_in (head ∷ heads)))) of here, subst (λ (q : Option Head). AllFirst q shown) joined rest)
   one_more false s shown of rest = subst (λ (q : Option Head). AllFirst q shown) joined rest
 
-pub all_first : (plan : FetchPlan) (first : Option Head) (c : ℕ) (acts : List Act) → by_heads plan first (heads_in acts) ≡ None → AllFirst (option_or first (first_in (heads_in acts))) (shown_in c acts)
+pub all_first : (plan : FetchPlan) (first : Option Head) (c : ℕ) (acts : List Act) → by_heads plan first (heads_in acts) ≡ None →
+    AllFirst (option_or first (first_in (heads_in acts))) (shown_in c acts)
 all_first plan None c [] is = tt
 all_first plan (Some head) c [] is = tt
 all_first plan first c (act.Shown d r why status fields lo hi ∷ acts) is =
@@ -120,7 +125,8 @@ parts_silent : (plan : FetchPlan) (now total n : ℕ) → IsSilent (parts_start 
 parts_silent plan now total zero = tt
 parts_silent plan now total (suc n) = by_first (n == 0) (parts_silent plan now total n)
   where
-    by_first : (b : Bool) → IsSilent (parts_start plan now total n) → IsSilent (if b then [] else entry_without_acts now (Rattle.hc_fetch.specs.Plans.part_start plan total (n + 1)) ∷ parts_start plan now total n)
+    by_first : (b : Bool) → IsSilent (parts_start plan now total n) →
+        IsSilent (if b then [] else entry_without_acts now (Rattle.hc_fetch.specs.Plans.part_start plan total (n + 1)) ∷ parts_start plan now total n)
     by_first true rest = tt
     by_first false rest = (refl, rest)
 
@@ -169,7 +175,8 @@ pub shown_first : (plan : FetchPlan) (c : ℕ) (f : History) → is_undecided pl
 shown_first plan c [] is = tt
 shown_first plan c (e ∷ f) is =
     let heads = all_first plan (first_head f) c e.acts (no_heads_decide plan f e.acts (decides_nothing plan e f is)) in
-    let before = all_stay (first_head f) (first_in (heads_in e.acts)) (shown_of c (cache_history plan f)) (shown_first plan c f (was_undecided plan (e ∷ f) is)) in
+    let before = all_stay (first_head f) (first_in (heads_in e.acts)) (shown_of c (cache_history plan f))
+    (shown_first plan c f (was_undecided plan (e ∷ f) is)) in
     let shown : shown_of c (cache_history plan (e ∷ f)) ≡ shown_of c (cache_history plan f) ++ shown_in c e.acts =
     silent_shows c (starts_behind plan f e) (e ∷ started plan e.now (cache_history plan f)) (starts_silent plan f e)
     ∙ ap (λ (xs : List Shown). xs ++ shown_in c e.acts) (started_shows plan e.now c (cache_history plan f)) in
@@ -177,7 +184,9 @@ shown_first plan c (e ∷ f) is =
     (all_both (first_head (e ∷ f)) (shown_of c (cache_history plan f)) (shown_in c e.acts) before heads)
 
 -- who reads behind such events, before the next one
-pub reads_first : (plan : FetchPlan) (now c : ℕ) (f : History) (s : Shown) → is_undecided plan f ≡ true → shown_of c (started plan now (cache_history plan f)) ≡ s ∷ [] → IsFirst (first_head f) s.r
+pub reads_first : (plan : FetchPlan) (now c : ℕ) (f : History) (s : Shown) → is_undecided plan f ≡ true →
+    shown_of c (started plan now (cache_history plan f)) ≡ s ∷ [] → IsFirst (first_head f) s.r
 reads_first plan now c f s is shown =
-    let all : AllFirst (first_head f) (s ∷ []) = subst (AllFirst (first_head f)) (sym (started_shows plan now c (cache_history plan f)) ∙ shown) (shown_first plan c f is) in
+    let all : AllFirst (first_head f) (s ∷ []) =
+    subst (AllFirst (first_head f)) (sym (started_shows plan now c (cache_history plan f)) ∙ shown) (shown_first plan c f is) in
     all.0

@@ -19,7 +19,8 @@ use Rattle.hc_core.proofs.Stepping.{received_after}
 abbrev Counts : Tables → ℕ → Type 0
 Counts t n = (t.last_start ≤ n) × (length t.starts ≤ n)
 
-own_counts : (t : Tables) (n : ℕ) (ev : Event) → is_foreign ev ≡ false → Counts t n → (last_start_after ev t.last_start ≤ n) × (length (starts_after ev t.starts) ≤ n)
+own_counts : (t : Tables) (n : ℕ) (ev : Event) → is_foreign ev ≡ false → Counts t n → (last_start_after ev t.last_start ≤ n) ×
+    (length (starts_after ev t.starts) ≤ n)
 own_counts t n (event.Start c request) own counts = absurd (false_true (sym own))
 own_counts t n ev own counts = counts
 
@@ -31,7 +32,8 @@ counts_on t e n own counts = by_denial (is_denied e.acts)
     by_denial true = counts
     by_denial false = own_counts t n e.event own counts
 
-counts_start : (t : Tables) (now c : ℕ) (request : Request) (n : ℕ) → c ≤ n + 1 → Counts t n → Counts (after t (entry_without_acts now (event.Start c request))) (n + 1)
+counts_start : (t : Tables) (now c : ℕ) (request : Request) (n : ℕ) → c ≤ n + 1 → Counts t n →
+    Counts (after t (entry_without_acts now (event.Start c request))) (n + 1)
 unfolding after
 counts_start t now c request n le counts = let low = counts.0 in let few = counts.1 in (omega (arith, le), omega (arith, few))
 
@@ -39,9 +41,11 @@ pub started_on : (e : Entry) (h : History) (n : ℕ) → is_foreign e.event ≡ 
 unfolding tables
 started_on e h n own has = let q = counts_on (tables no_contents h) e n own (has.last, has.starts) in record { last = q.0; starts = q.1 }
 
-pub started_more : (now c : ℕ) (request : Request) (h : History) (n : ℕ) → c ≤ n + 1 → HasStarted h n → HasStarted (entry_without_acts now (event.Start c request) ∷ h) (n + 1)
+pub started_more : (now c : ℕ) (request : Request) (h : History) (n : ℕ) → c ≤ n + 1 → HasStarted h n →
+    HasStarted (entry_without_acts now (event.Start c request) ∷ h) (n + 1)
 unfolding tables
-started_more now c request h n le has = let q = counts_start (tables no_contents h) now c request n le (has.last, has.starts) in record { last = q.0; starts = q.1 }
+started_more now c request h n le has = let q = counts_start (tables no_contents h) now c request n le (has.last, has.starts) in
+    record { last = q.0; starts = q.1 }
 
 pub none_started : HasStarted [] 0
 unfolding tables
@@ -77,7 +81,8 @@ one_started plan (e ∷ f) own none =
     let here = started_on e (started plan e.now (cache_history plan f)) 1 both.0 (first_started plan e.now (cache_history plan f) before) in
     subst (λ (xs : History). HasStarted (xs ++ (e ∷ started plan e.now (cache_history plan f))) 1) (sym (none_behind plan f e heads.1)) here
 
-pub one_started_before : (plan : FetchPlan) (now : ℕ) (f : History) → has_foreign f ≡ false → first_head f ≡ None → HasStarted (started plan now (cache_history plan f)) 1
+pub one_started_before : (plan : FetchPlan) (now : ℕ) (f : History) → has_foreign f ≡ false → first_head f ≡ None →
+    HasStarted (started plan now (cache_history plan f)) 1
 one_started_before plan now f own none = first_started plan now (cache_history plan f) (one_started plan f own none)
 
 -- HOW MANY BYTES CAME
@@ -90,21 +95,25 @@ received_on : (e : Entry) (h : History) → (tables no_contents (e ∷ h)).recei
 unfolding tables
 received_on e h = received_after (tables no_contents h) e
 
-pub brings : (now : ℕ) (ev : Event) (acts : List Rattle.hc_event.specs.declared.act.Act.Act) (h : History) → (tables no_contents (record { now = now; event = ev; acts = acts } ∷ h)).received ≡ (tables no_contents h).received + counting.received_in ev
+pub brings : (now : ℕ) (ev : Event) (acts : List Rattle.hc_event.specs.declared.act.Act.Act) (h : History) →
+    (tables no_contents (record { now = now; event = ev; acts = acts } ∷ h)).received ≡ (tables no_contents h).received + counting.received_in ev
 brings now ev acts h = received_on (record { now = now; event = ev; acts = acts }) h ∙ ap (λ (n : ℕ). (tables no_contents h).received + n) (same_received ev)
 
-pub starts_bring : (plan : FetchPlan) (now total n : ℕ) (h : History) → (tables no_contents (parts_start plan now total n ++ h)).received ≡ (tables no_contents h).received
+pub starts_bring : (plan : FetchPlan) (now total n : ℕ) (h : History) →
+    (tables no_contents (parts_start plan now total n ++ h)).received ≡ (tables no_contents h).received
 starts_bring plan now total zero h = refl
 starts_bring plan now total (suc n) h = by_first (n == 0) (starts_bring plan now total n h)
   where
     by_first : (b : Bool) → (tables no_contents (parts_start plan now total n ++ h)).received ≡ (tables no_contents h).received
-        → (tables no_contents ((if b then [] else entry_without_acts now (part_start plan total (n + 1)) ∷ parts_start plan now total n) ++ h)).received ≡ (tables no_contents h).received
+        → (tables no_contents ((if b then [] else entry_without_acts now (part_start plan total (n + 1)) ∷ parts_start plan now total n) ++ h)).received ≡
+        (tables no_contents h).received
     by_first true rest = refl
     by_first false rest =
         let one = received_on (entry_without_acts now (part_start plan total (n + 1))) (parts_start plan now total n ++ h) in
         omega (arith, one, rest)
 
-pub total_brings : (plan : FetchPlan) (now : ℕ) (total : Option ℕ) (h : History) → (tables no_contents (start_by_total plan now total ++ h)).received ≡ (tables no_contents h).received
+pub total_brings : (plan : FetchPlan) (now : ℕ) (total : Option ℕ) (h : History) →
+    (tables no_contents (start_by_total plan now total ++ h)).received ≡ (tables no_contents h).received
 total_brings plan now None h = refl
 total_brings plan now (Some total) h = starts_bring plan now total (part_count plan total) h
 

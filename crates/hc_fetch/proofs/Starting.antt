@@ -14,18 +14,21 @@ use Rattle.hc_fetch.proofs.{Started.{few_live, none_started, started_more}, Star
 
 -- ONE START
 
-module _ {B : Type 0} {g : Ghosts B} (s u : Cache B g) (now c : ℕ) (request : Request) (acts : List Act) (answered : Answers s u now (event.Start c request) acts) (sound : failures_in acts ≡ 0) where
+module _ {B : Type 0} {g : Ghosts B} (s u : Cache B g) (now c : ℕ) (request : Request) (acts : List Act)
+    (answered : Answers s u now (event.Start c request) acts) (sound : failures_in acts ≡ 0) where
   abbrev entry : Entry
   entry = record { now = now; event = event.Start c request; acts = acts }
 
-  pub own_start : (h : History) (n : ℕ) → StandsFor s no_contents h → HasStarted h n → n + 1 ≡ c → n < 1024 → StandsFor u no_contents (entry_without_acts now (event.Start c request) ∷ h)
+  pub own_start : (h : History) (n : ℕ) → StandsFor s no_contents h → HasStarted h n → n + 1 ≡ c → n < 1024 →
+      StandsFor u no_contents (entry_without_acts now (event.Start c request) ∷ h)
   own_start h n stands has next few =
       let on : StandsFor u no_contents (entry ∷ h) = answered.stands no_contents h stands in
       let owed : IsOwed (limits_in s) (tables no_contents h) entry = subst (λ (l : Limits). IsOwed l (tables no_contents h) entry) answered.limits on.run.1 in
       let law = lawful_in_runs (limits_in s) no_contents h stands.begins stands.run in
       let last = has.last in
       let live = few_live h n has in
-      let silent : acts ≡ [] = start_silent (limits_in s) (tables no_contents h) entry c request law owed sound refl (omega (arith, last, next)) (omega (arith, live, few)) in
+      let silent : acts ≡ [] =
+      start_silent (limits_in s) (tables no_contents h) entry c request law owed sound refl (omega (arith, last, next)) (omega (arith, live, few)) in
       subst (λ (l : List Act). StandsFor u no_contents (record { now = now; event = event.Start c request; acts = l } ∷ h)) silent on
 
 -- THE FIRST ONE
@@ -35,18 +38,22 @@ same_appended plan now [] e h = refl
 same_appended plan now (x ∷ xs) e h = refl
 
 -- it started before
-pub started_before : (plan : FetchPlan) (now count : ℕ) (f : History) → 1 < count → count ≡ length f + 1 → cache_history plan f ≡ started plan now (cache_history plan f)
+pub started_before : (plan : FetchPlan) (now count : ℕ) (f : History) → 1 < count → count ≡ length f + 1 →
+    cache_history plan f ≡ started plan now (cache_history plan f)
 started_before plan now count [] more is = absurd (omega (arith, more, is))
 started_before plan now count (e ∷ f) more is = sym (same_appended plan now (starts_behind plan f e) e (started plan e.now (cache_history plan f)))
 
-pub begins_first : {B : Type 0} {g : Ghosts B} (s u : Cache B g) (plan : FetchPlan) (now count : ℕ) (acts : List Act) → Answers s u now (first_start plan) acts → failures_in acts ≡ 0 → count ≤ 1
+pub begins_first : {B : Type 0} {g : Ghosts B} (s u : Cache B g) (plan : FetchPlan) (now count : ℕ) (acts : List Act) →
+    Answers s u now (first_start plan) acts → failures_in acts ≡ 0 → count ≤ 1
     → (f : History) → StandsFor s no_contents (cache_history plan f) → count ≡ length f + 1 → StandsFor u no_contents (started plan now (cache_history plan f))
-begins_first s u plan now count acts answered sound one [] stands is = own_start s u now 1 (request_of plan (first_fields plan)) acts answered sound [] 0 stands none_started (omega arith) (omega arith)
+begins_first s u plan now count acts answered sound one [] stands is =
+    own_start s u now 1 (request_of plan (first_fields plan)) acts answered sound [] 0 stands none_started (omega arith) (omega arith)
 begins_first s u plan now count acts answered sound one (e ∷ f) stands is = absurd (omega (arith, one, is))
 
 -- THE OTHERS
 
-pub parts_next : (plan : FetchPlan) (now total n : ℕ) → 1 ≤ n → parts_start plan now total (n + 1) ≡ entry_without_acts now (part_start plan total (n + 1)) ∷ parts_start plan now total n
+pub parts_next : (plan : FetchPlan) (now total n : ℕ) → 1 ≤ n →
+    parts_start plan now total (n + 1) ≡ entry_without_acts now (part_start plan total (n + 1)) ∷ parts_start plan now total n
 parts_next plan now total n some =
     let off : (n == 0) ≡ false = grind (arith, nat_tests, some) in
     let next : suc n ≡ n + 1 = omega arith in
@@ -62,8 +69,10 @@ parts_few plan now total (suc n) few =
 all_started : (plan : FetchPlan) (now total : ℕ) (h : History) → HasStarted h 1 → (n : ℕ) → HasStarted (parts_start plan now total (n + 1) ++ h) (n + 1)
 all_started plan now total h has zero = subst (λ (xs : History). HasStarted (xs ++ h) 1) (sym (parts_few plan now total 1 (omega arith))) has
 all_started plan now total h has (suc n) =
-    let next = started_more now (n + 1 + 1) (request_of plan (fields_for (Some ((n + 1 + 1 - 1) * plan.size, last_position plan total (n + 1 + 1))))) (parts_start plan now total (n + 1) ++ h) (n + 1) (omega arith) (all_started plan now total h has n) in
-    let one : HasStarted (parts_start plan now total (n + 1 + 1) ++ h) (n + 1 + 1) = subst (λ (xs : History). HasStarted (xs ++ h) (n + 1 + 1)) (sym (parts_next plan now total (n + 1) (omega arith))) next in
+    let next = started_more now (n + 1 + 1) (request_of plan (fields_for (Some ((n + 1 + 1 - 1) * plan.size, last_position plan total (n + 1 + 1)))))
+    (parts_start plan now total (n + 1) ++ h) (n + 1) (omega arith) (all_started plan now total h has n) in
+    let one : HasStarted (parts_start plan now total (n + 1 + 1) ++ h) (n + 1 + 1) =
+    subst (λ (xs : History). HasStarted (xs ++ h) (n + 1 + 1)) (sym (parts_next plan now total (n + 1) (omega arith))) next in
     let place : n + 1 + 1 ≡ suc n + 1 = omega arith in
     subst (λ (k : ℕ). HasStarted (parts_start plan now total k ++ h) k) place one
 
@@ -91,7 +100,8 @@ others_on s t u one two = record {
 }
 
 -- one more starts
-pub starts_next : (s t u : Fetching) (now total count part : ℕ) (acts : List Act) → StartsOn s t now total count part → part < count + 1 → count ≤ 1000 → KeepsRest t u → Answers t.cache u.cache now (part_start s.plan total part) acts → failures_in acts ≡ 0
+pub starts_next : (s t u : Fetching) (now total count part : ℕ) (acts : List Act) → StartsOn s t now total count part → part < count + 1 → count ≤ 1000 →
+    KeepsRest t u → Answers t.cache u.cache now (part_start s.plan total part) acts → failures_in acts ≡ 0
     → last_moment u.cache ≡ now → bytes_received u.cache ≡ bytes_received t.cache → StartsOn s u now total count (part + 1)
 starts_next s t u now total count part acts q under few rest answered sound moment received = record {
   rest = others_on s t u q.rest rest;
@@ -111,10 +121,13 @@ starts_next s t u now total count part acts q under few rest answered sound mome
         let whole : part - 1 + 1 ≡ part = omega (arith, some) in
         let started : HasStarted (parts_start s.plan now total (part - 1) ++ h) (part - 1) =
         subst (λ (k : ℕ). HasStarted (parts_start s.plan now total k ++ h) k) place (all_started s.plan now total h has n) in
-        let on = own_start t.cache u.cache now part (request_of s.plan (fields_for (Some ((part - 1) * s.plan.size, last_position s.plan total part)))) acts answered sound (parts_start s.plan now total (part - 1) ++ h) (part - 1) (q.stands h stands has) started whole (omega (arith, under, few)) in
-        let one : parts_start s.plan now total (part - 1 + 1) ≡ entry_without_acts now (part_start s.plan total (part - 1 + 1)) ∷ parts_start s.plan now total (part - 1) = parts_next s.plan now total (part - 1) (omega (arith, some)) in
+        let on = own_start t.cache u.cache now part (request_of s.plan (fields_for (Some ((part - 1) * s.plan.size, last_position s.plan total part))))
+        acts answered sound (parts_start s.plan now total (part - 1) ++ h) (part - 1) (q.stands h stands has) started whole (omega (arith, under, few)) in
+        let one : parts_start s.plan now total (part - 1 + 1) ≡ entry_without_acts now (part_start s.plan total (part - 1 + 1)) ∷
+        parts_start s.plan now total (part - 1) = parts_next s.plan now total (part - 1) (omega (arith, some)) in
         let same : parts_start s.plan now total part ≡ entry_without_acts now (part_start s.plan total part) ∷ parts_start s.plan now total (part - 1) =
-        subst (λ (k : ℕ). parts_start s.plan now total k ≡ entry_without_acts now (part_start s.plan total k) ∷ parts_start s.plan now total (part - 1)) whole one in
+        subst (λ (k : ℕ). parts_start s.plan now total k ≡ entry_without_acts now (part_start s.plan total k) ∷ parts_start s.plan now total (part - 1))
+        whole one in
         let back : part ≡ part + 1 - 1 = omega arith in
         subst (λ (k : ℕ). StandsFor u.cache no_contents (parts_start s.plan now total k ++ h)) back
         (subst (λ (xs : History). StandsFor u.cache no_contents (xs ++ h)) (sym same) on)
@@ -128,13 +141,16 @@ all_starts s u now total count part q few past = record {
   few = (let more = q.few in let within = q.within in omega (arith, more, within, few));
 }
   where
-    by_count : (n : ℕ) → count ≡ n → (h : History) → StandsFor u.cache no_contents (parts_start s.plan now total (part - 1) ++ h) → StandsFor u.cache no_contents (parts_start s.plan now total count ++ h)
+    by_count : (n : ℕ) → count ≡ n → (h : History) → StandsFor u.cache no_contents (parts_start s.plan now total (part - 1) ++ h) →
+        StandsFor u.cache no_contents (parts_start s.plan now total count ++ h)
     by_count zero none h here =
         let within = q.within in
         let some = q.some in
         let place : part - 1 ≡ 1 = omega (arith, within, some, none) in
-        let one : StandsFor u.cache no_contents (parts_start s.plan now total 1 ++ h) = subst (λ (k : ℕ). StandsFor u.cache no_contents (parts_start s.plan now total k ++ h)) place here in
-        subst (λ (xs : History). StandsFor u.cache no_contents (xs ++ h)) (parts_few s.plan now total 1 (omega arith) ∙ sym (parts_few s.plan now total count (omega (arith, none)))) one
+        let one : StandsFor u.cache no_contents (parts_start s.plan now total 1 ++ h) =
+        subst (λ (k : ℕ). StandsFor u.cache no_contents (parts_start s.plan now total k ++ h)) place here in
+        subst (λ (xs : History). StandsFor u.cache no_contents (xs ++ h))
+        (parts_few s.plan now total 1 (omega arith) ∙ sym (parts_few s.plan now total count (omega (arith, none)))) one
     by_count (suc n) is h here =
         let within = q.within in
         let place : part - 1 ≡ count = omega (arith, within, past, is) in
@@ -156,14 +172,16 @@ begins_none s now more moment few = record {
   few = (let one = few.0 in let two = few.1 in (omega (arith, one, more), omega (arith, two, more)));
 }
 
-pub begins_one : (s u : Fetching) (now : ℕ) (acts : List Act) → s.count ≡ 1 → AreFew (steps s.cache) (s.count - 1) s.first → KeepsRest s u → Answers s.cache u.cache now (first_start s.plan) acts → failures_in acts ≡ 0
+pub begins_one : (s u : Fetching) (now : ℕ) (acts : List Act) → s.count ≡ 1 → AreFew (steps s.cache) (s.count - 1) s.first → KeepsRest s u →
+    Answers s.cache u.cache now (first_start s.plan) acts → failures_in acts ≡ 0
     → last_moment u.cache ≡ now → bytes_received u.cache ≡ bytes_received s.cache → Begins s u now
 begins_one s u now acts one few rest answered sound moment received = record {
   rest = rest;
   stands = λ f behind. begins_first s.cache u.cache s.plan now s.count acts answered sound (omega (arith, one)) f behind.0 behind.1;
   moment = omega (arith, moment);
   received = received;
-  few = (let none = few.1 in let number = answered.number in let least = least_allowed s.first in (omega (arith, none, number, least, one), omega (arith, none, number, one)));
+  few = (let none = few.1 in let number = answered.number in let least = least_allowed s.first in
+      (omega (arith, none, number, least, one), omega (arith, none, number, one)));
 }
 
 -- COUNTS

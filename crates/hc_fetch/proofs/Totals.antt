@@ -28,7 +28,8 @@ short_total head = by_status (head.status == 206)
     by_status true = by_range head.fields (content_range_of head.fields) refl
     by_status false = refl
 
-pub short_start : (was : Bool) (decides : Option FetchEnded) (first : Option First) (total : ℕ) → Some total ≡ total_to_start was decides first → is_short (total_in first) ≡ true → total < 2 ^ 62
+pub short_start : (was : Bool) (decides : Option FetchEnded) (first : Option First) (total : ℕ) → Some total ≡ total_to_start was decides first →
+    is_short (total_in first) ≡ true → total < 2 ^ 62
 short_start was decides first total is short =
     let same : is_short (total_in first) ≡ nat_lt total (2 ^ 62) = ap is_short (none_to_start was decides first total is).1 in
     let under : nat_lt total (2 ^ 62) ≡ true = sym same ∙ short in

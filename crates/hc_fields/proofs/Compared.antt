@@ -15,11 +15,19 @@ defers Equal rest h = refl
 defers Greater rest h = cc
 
 -- a lowered byte and its counterpart decide, and else what follows them
-pub lowered_at : (name bytes : List ℕ) (i : ℕ) (o : Ordering) → i < length name → i < length bytes → o ≡ nat_cmp (to_ascii_lowercase (get_or name i 0)) (get_or bytes i 0) → slice_cmp nat_cmp (drop i (lowercase name)) (drop i bytes) ≡ ordering_then o (slice_cmp nat_cmp (drop (i + 1) (lowercase name)) (drop (i + 1) bytes))
+pub lowered_at : (name bytes : List ℕ) (i : ℕ) (o : Ordering) → i < length name → i < length bytes →
+    o ≡ nat_cmp (to_ascii_lowercase (get_or name i 0)) (get_or bytes i 0) → slice_cmp nat_cmp (drop i (lowercase name)) (drop i bytes) ≡ ordering_then
+    o (slice_cmp nat_cmp (drop (i + 1) (lowercase name)) (drop (i + 1) bytes))
 lowered_at name bytes i o name_lt bytes_lt is =
     let len = length-map name to_ascii_lowercase in
     let next : i + 1 ≡ suc i = omega arith in
-    rw (next, drop-cons (lowercase name) i 0 (omega (arith, len, name_lt)), drop-cons bytes i 0 bytes_lt, get_or-map to_ascii_lowercase name i 0 0 name_lt, is) refl
+    rw (
+      next,
+      drop-cons (lowercase name) i 0 (omega (arith, len, name_lt)),
+      drop-cons bytes i 0 bytes_lt,
+      get_or-map to_ascii_lowercase name i 0 0 name_lt,
+      is,
+    ) refl
 
 nat_cmp-suc : (a b : ℕ) → nat_cmp a b ≡ nat_cmp (suc a) (suc b)
 nat_cmp-suc a b = grind (arith, nat_tests)
@@ -35,13 +43,15 @@ compared_end (x ∷ xs) [] (suc i) e = absurd (omega arith)
 compared_end (x ∷ xs) (y ∷ ys) zero e = absurd (omega arith)
 compared_end (x ∷ xs) (y ∷ ys) (suc i) e = compared_end xs ys i (omega arith) ∙ nat_cmp-suc (length xs) (length ys)
 
-pub lowered_end : (name bytes : List ℕ) (i : ℕ) → i ≡ min (length name) (length bytes) → slice_cmp nat_cmp (drop i (lowercase name)) (drop i bytes) ≡ nat_cmp (length name) (length bytes)
+pub lowered_end : (name bytes : List ℕ) (i : ℕ) → i ≡ min (length name) (length bytes) →
+    slice_cmp nat_cmp (drop i (lowercase name)) (drop i bytes) ≡ nat_cmp (length name) (length bytes)
 lowered_end name bytes i is =
     let len = length-map name to_ascii_lowercase in
     compared_end (lowercase name) bytes i (omega (arith, len, is)) ∙ ap (λ (n : ℕ). nat_cmp n (length bytes)) len
 
 -- bytes that are each that of the lowered name are the name
-pub lowered_same : (name bytes : List ℕ) → length name ≡ length bytes → ((k : ℕ) → k < length name → to_ascii_lowercase (get_or name k 0) ≡ get_or bytes k 0) → bytes_eq bytes (lowercase name) ≡ true
+pub lowered_same : (name bytes : List ℕ) → length name ≡ length bytes →
+    ((k : ℕ) → k < length name → to_ascii_lowercase (get_or name k 0) ≡ get_or bytes k 0) → bytes_eq bytes (lowercase name) ≡ true
 lowered_same name bytes len same =
     let lower = length-map name to_ascii_lowercase in
     (bytes_eq-Decides bytes (lowercase name)).1
@@ -50,7 +60,8 @@ lowered_same name bytes len same =
     sym (get_or-map to_ascii_lowercase name k 0 0 within ∙ same k within)))
 
 -- bytes with another one aren't
-pub lowered_other : (name bytes : List ℕ) (k : ℕ) → k < length name → to_ascii_lowercase (get_or name k 0) ≢ get_or bytes k 0 → bytes_eq bytes (lowercase name) ≡ false
+pub lowered_other : (name bytes : List ℕ) (k : ℕ) → k < length name → to_ascii_lowercase (get_or name k 0) ≢ get_or bytes k 0 →
+    bytes_eq bytes (lowercase name) ≡ false
 lowered_other name bytes k lt other =
     false_from_ne_true _ (λ e.
     let same : bytes ≡ lowercase name = (bytes_eq-Decides bytes (lowercase name)).0 e in

@@ -55,7 +55,8 @@ sorted-put name value (f ∷ fs) sorted =
     elim (cases_Bool (comes_before name f.0)) [
       | inl before ↦
           let all = after_rest name f fs before sorted in
-          let none = list_all-weaker (λ (g : Pair). comes_before name g.0) (λ (g : Pair). not (comes_before g.0 name)) (λ g h. to_not g.0 name (one_way name g.0 h)) (f ∷ fs) all in
+          let none = list_all-weaker (λ (g : Pair). comes_before name g.0) (λ (g : Pair). not (comes_before g.0 name))
+          (λ g h. to_not g.0 name (one_way name g.0 h)) (f ∷ fs) all in
           rw before (and_from _ _ none sorted)
       | inr after ↦
           let rest = list_all-put (λ (g : Pair). not (comes_before g.0 f.0)) name value fs (to_not name f.0 after) both.0 in
@@ -81,7 +82,8 @@ pub length-parts : (name : List ℕ) (fs : List Pair) → length (filter (has_na
 length-parts name fs = length-filter_both (has_name name) (λ (f : Pair). not (has_name name f)) (λ _. refl) fs
 
 -- a list stays one where a field of its own is put, and where the fields of a name go
-pub IsFieldList-put : (name value : List ℕ) (fs : List Pair) → IsFieldList fs → IsField (name, value) → length fs < 80 → size_of fs + length name + length value ≤ 49152 → IsFieldList (field_list_with name value fs)
+pub IsFieldList-put : (name value : List ℕ) (fs : List Pair) → IsFieldList fs → IsField (name, value) → length fs < 80 →
+    size_of fs + length name + length value ≤ 49152 → IsFieldList (field_list_with name value fs)
 IsFieldList-put name value fs list field few small =
     let length_is = length-put name value fs in
     let size_is = size_of-put name value fs in
@@ -106,7 +108,8 @@ IsFieldList-without name fs list =
     }
 
 -- one field takes the place of those of its name
-pub put-without : (name value : List ℕ) (fs : List Pair) → is_sorted fs ≡ true → field_list_with name value (without name fs) ≡ take (start_of name fs) fs ++ (name, value) ∷ drop (end_of name fs) fs
+pub put-without : (name value : List ℕ) (fs : List Pair) → is_sorted fs ≡ true →
+    field_list_with name value (without name fs) ≡ take (start_of name fs) fs ++ (name, value) ∷ drop (end_of name fs) fs
 put-without name value [] sorted = refl
 put-without name value (f ∷ fs) sorted =
     let both = sorted_rest f fs sorted in
@@ -121,7 +124,12 @@ put-without name value (f ∷ fs) sorted =
                 rw (start_of-stop name f fs same.not_before, end_of-more name f fs same.not_after, same.equal)
                 (rw (start_of-none name fs none) at (put-without name value fs both.1))
             | inr after ↦
-                rw (start_of-stop name f fs after.not_before, end_of-stop name f fs after.gt, without-after name (f ∷ fs) (after_rest name f fs after.gt sorted), after.gt) refl
+                rw (
+                  start_of-stop name f fs after.not_before,
+                  end_of-stop name f fs after.gt,
+                  without-after name (f ∷ fs) (after_rest name f fs after.gt sorted),
+                  after.gt,
+                ) refl
           ]
     ]
 
@@ -133,7 +141,8 @@ pub has_name-other : (name other value : List ℕ) → other ≢ name → has_na
 has_name-other name other value differ =
     false_from_ne_true _ (λ e. differ (sym ((bytes_eq-Decides name other).0 e)))
 
-pub values_of-put_same : (name value : List ℕ) (fs : List Pair) → is_sorted fs ≡ true → values_of name (field_list_with name value fs) ≡ values_of name fs ++ value ∷ []
+pub values_of-put_same : (name value : List ℕ) (fs : List Pair) → is_sorted fs ≡ true →
+    values_of name (field_list_with name value fs) ≡ values_of name fs ++ value ∷ []
 values_of-put_same name value [] sorted = rw (has_name-own name value) refl
 values_of-put_same name value (f ∷ fs) sorted =
     let rest = values_of-put_same name value fs (sorted_rest f fs sorted).1 in

@@ -22,7 +22,8 @@ abbrev pub NoneAfter : List ℕ → List Pair → Type 0
 NoneAfter name fs = list_all (λ (f : Pair). not (comes_before name f.0)) fs ≡ true
 
 -- the last name tells for all
-pub none_after-last : (name : List ℕ) (fs : List Pair) (last : Pair) → is_sorted fs ≡ true → slice_get fs (length fs - 1) ≡ Some last → not (comes_before name last.0) ≡ list_all (λ (f : Pair). not (comes_before name f.0)) fs
+pub none_after-last : (name : List ℕ) (fs : List Pair) (last : Pair) → is_sorted fs ≡ true → slice_get fs (length fs - 1) ≡ Some last →
+    not (comes_before name last.0) ≡ list_all (λ (f : Pair). not (comes_before name f.0)) fs
 none_after-last name fs last sorted is =
     let within = slice_get_within fs (length fs - 1) last is in
     let at = get_or_from_slice_get fs (length fs - 1) last last is in

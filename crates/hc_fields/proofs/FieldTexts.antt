@@ -59,7 +59,8 @@ pub record Rest (done fs : List Pair) (rest after : List ℕ) : Type 0 where
   pub list_is : fs ≡ done ++ more
   pub text_is : rest ≡ fields_text more ++ after
 
-pub rest_of : (done fs : List Pair) (rest after : List ℕ) → All IsField done → All IsField fs → length done ≤ length fs → fields_text done ++ rest ≡ fields_text fs ++ after → Rest done fs rest after
+pub rest_of : (done fs : List Pair) (rest after : List ℕ) → All IsField done → All IsField fs → length done ≤ length fs → fields_text done ++
+    rest ≡ fields_text fs ++ after → Rest done fs rest after
 rest_of [] fs rest after all_done all_fs le same = record { more = fs; list_is = refl; text_is = same }
 rest_of (d ∷ done) [] rest after all_done all_fs le same = absurd (omega arith)
 rest_of (d ∷ done) (f ∷ fs) rest after all_done all_fs le same =
@@ -74,7 +75,8 @@ rest_of (d ∷ done) (f ∷ fs) rest after all_done all_fs le same =
       text_is = others.text_is;
     }
 
-pub fields_once : (fs gs : List Pair) (r s : List ℕ) → All IsField fs → All IsField gs → length fs ≡ length gs → fields_text fs ++ r ≡ fields_text gs ++ s → (fs ≡ gs) × (r ≡ s)
+pub fields_once : (fs gs : List Pair) (r s : List ℕ) → All IsField fs → All IsField gs → length fs ≡ length gs → fields_text fs ++ r ≡ fields_text gs ++
+    s → (fs ≡ gs) × (r ≡ s)
 fields_once fs gs r s all_fs all_gs len same =
     let rest = rest_of fs gs r s all_fs all_gs (omega arith) same in
     let none : rest.more ≡ [] =
@@ -82,7 +84,8 @@ fields_once fs gs r s all_fs all_gs len same =
     (sym (rw (none, append-nil fs) at rest.list_is), rw none at rest.text_is)
 
 -- the field that a list has behind some of its own
-module _ (done : List Pair) (count : ℕ) (rest text : List ℕ) (list : IsFieldList done) (more : length done < count) (is : fields_text done ++ rest ≡ text) (fs : List Pair) (after : List ℕ) (h : IsListOf count fs) (same : fields_text fs ++ after ≡ text) where
+module _ (done : List Pair) (count : ℕ) (rest text : List ℕ) (list : IsFieldList done) (more : length done < count) (is : fields_text done ++ rest ≡ text)
+    (fs : List Pair) (after : List ℕ) (h : IsListOf count fs) (same : fields_text fs ++ after ≡ text) where
   pub record Next : Type 0 where
     pub field : Pair
     pub others : List Pair
@@ -108,7 +111,9 @@ module _ (done : List Pair) (count : ℕ) (rest text : List ℕ) (list : IsField
       next_field left.more left.list_is left.text_is
 
 -- a text that goes on with no field that makes a list
-pub no_next : (done : List Pair) (count : ℕ) (rest text : List ℕ) → IsFieldList done → length done < count → fields_text done ++ rest ≡ text → ((f : Pair) (more : List ℕ) → IsFieldList (done ++ f ∷ []) → field_text f ++ more ≢ rest) → (fs : List Pair) (after : List ℕ) → IsListOf count fs → fields_text fs ++ after ≢ text
+pub no_next : (done : List Pair) (count : ℕ) (rest text : List ℕ) → IsFieldList done → length done < count → fields_text done ++ rest ≡ text →
+    ((f : Pair) (more : List ℕ) → IsFieldList (done ++ f ∷ []) → field_text f ++ more ≢ rest) → (fs : List Pair) (after : List ℕ) → IsListOf count fs →
+    fields_text fs ++ after ≢ text
 no_next done count rest text list more is none fs after h same =
     let n = next done count rest text list more is fs after h same in
     let whole : IsFieldList ((done ++ n.field ∷ []) ++ n.others) =

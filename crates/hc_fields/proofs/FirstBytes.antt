@@ -14,7 +14,8 @@ position-none p xs nowhere =
     let end : position_or_len p xs ≡ length xs = position_or_len_is p xs (length xs) 0 (omega arith) nowhere (λ lt. absurd (omega (arith, lt))) in
     rw (end, le-ltb (length xs) (length xs) (omega arith)) refl
 
-pub position-some : (p : ℕ → Bool) (xs : List ℕ) (i : ℕ) → i < length xs → ((k : ℕ) → k < i → p (get_or xs k 0) ≡ false) → p (get_or xs i 0) ≡ true → Some i ≡ position p xs
+pub position-some : (p : ℕ → Bool) (xs : List ℕ) (i : ℕ) → i < length xs → ((k : ℕ) → k < i → p (get_or xs k 0) ≡ false) → p (get_or xs i 0) ≡ true →
+    Some i ≡ position p xs
 position-some p xs i within before at =
     let place : position_or_len p xs ≡ i = position_or_len_is p xs i 0 (omega arith) before (λ lt. at) in
     rw (place, lt-ltb i (length xs) within) refl

@@ -10,7 +10,8 @@ fields_text-append (f ∷ fs) gs = rw (fields_text-append fs gs) (sym (append_as
 pub fields_text-push : (fs : List Pair) (f : Pair) → fields_text (fs ++ f ∷ []) ≡ fields_text fs ++ field_text f
 fields_text-push fs f = fields_text-append fs (f ∷ []) ∙ ap (λ (t : List ℕ). fields_text fs ++ t) (append-nil (field_text f))
 
-pub fields_text-more : (text : List ℕ) (marks : List Mark) (i : ℕ) (d : Mark) → i < length marks → fields_text (fields_at text (take (i + 1) marks)) ≡ fields_text (fields_at text (take i marks)) ++ field_text (field_at text (get_or marks i d))
+pub fields_text-more : (text : List ℕ) (marks : List Mark) (i : ℕ) (d : Mark) → i < length marks →
+    fields_text (fields_at text (take (i + 1) marks)) ≡ fields_text (fields_at text (take i marks)) ++ field_text (field_at text (get_or marks i d))
 fields_text-more text marks i d lt =
     rw (map_more (field_at text) marks i d lt) (fields_text-push (fields_at text (take i marks)) (field_at text (get_or marks i d)))
 

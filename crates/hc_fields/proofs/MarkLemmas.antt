@@ -33,7 +33,8 @@ IsLineAt-grown text more mark line =
       has_name = has_name;
       has_value = has_value;
       within = omega (arith, length-append text more);
-      line = range-grown text more mark.start (mark.end + 1) (omega arith) (omega arith) ∙ (line.line ∙ ap field_text (sym (field_at-grown text more mark line)));
+      line = range-grown text more mark.start (mark.end + 1) (omega arith) (omega arith) ∙
+          (line.line ∙ ap field_text (sym (field_at-grown text more mark line)));
     }
 
 pub lines-grown : (text more : List ℕ) (marks : List Mark) → All (IsLineAt text) marks → All (IsLineAt (text ++ more)) marks
@@ -71,7 +72,8 @@ module _ (text name value : List ℕ) where
       let first : slice_range (text ++ field_text (name, value)) mark.start mark.colon ≡ name =
       rw name_stands (range-behind text name (codes ": " ++ (value ++ 10 ∷ [])) mark.start mark.colon refl refl) in
       let second : slice_range (text ++ field_text (name, value)) (mark.colon + 2) mark.end ≡ value =
-      rw value_stands (range-behind (text ++ (name ++ codes ": ")) value (10 ∷ []) (mark.colon + 2) mark.end (omega (arith, length-append text (name ++ codes ": "), length-append name (codes ": "))) (omega arith)) in
+      rw value_stands (range-behind (text ++ (name ++ codes ": ")) value (10 ∷ []) (mark.colon + 2) mark.end
+      (omega (arith, length-append text (name ++ codes ": "), length-append name (codes ": "))) (omega arith)) in
       rw (first, second) refl
 
   pub IsLineAt-new : IsLineAt (text ++ field_text (name, value)) mark
@@ -81,40 +83,53 @@ module _ (text name value : List ℕ) where
         has_name = omega arith;
         has_value = omega arith;
         within = omega (arith, length-append text (field_text (name, value)), len);
-        line = rw field_at-new (ap (λ (l : List ℕ). slice_range l mark.start (mark.end + 1)) (ap (λ (l : List ℕ). text ++ l) (sym (append-nil (field_text (name, value))))) ∙ range-behind text (field_text (name, value)) [] mark.start (mark.end + 1) refl (omega (arith, len)));
+        line = rw field_at-new (ap (λ (l : List ℕ). slice_range l mark.start (mark.end + 1))
+            (ap (λ (l : List ℕ). text ++ l) (sym (append-nil (field_text (name, value))))) ∙
+            range-behind text (field_text (name, value)) [] mark.start (mark.end + 1) refl (omega (arith, len)));
       }
 
 -- the marks with one in the place of those from i up to j, in a text with its line at the end
 abbrev pub marks_with : List Mark → ℕ → ℕ → Mark → List Mark
 marks_with marks i j m = take i marks ++ m ∷ drop j marks
 
-pub fields_at-with : (text name value : List ℕ) (marks : List Mark) (i j : ℕ) → All (IsLineAt text) marks → fields_at (text ++ field_text (name, value)) (marks_with marks i j (mark text name value)) ≡ take i (fields_at text marks) ++ (name, value) ∷ drop j (fields_at text marks)
+pub fields_at-with : (text name value : List ℕ) (marks : List Mark) (i j : ℕ) → All (IsLineAt text) marks →
+    fields_at (text ++ field_text (name, value)) (marks_with marks i j (mark text name value)) ≡ take i (fields_at text marks) ++ (name, value) ∷
+    drop j (fields_at text marks)
 fields_at-with text name value marks i j lines =
     let line = field_text (name, value) in
     let grown = fields_at-grown text line marks lines in
     map-append (field_at (text ++ line)) (take i marks) (mark text name value ∷ drop j marks)
     ∙ rw (field_at-new text name value, ← take-map (field_at (text ++ line)) i marks, ← drop-map (field_at (text ++ line)) j marks, grown) refl
 
-pub lines-with : (text name value : List ℕ) (marks : List Mark) (i j : ℕ) → All (IsLineAt text) marks → All (IsLineAt (text ++ field_text (name, value))) (marks_with marks i j (mark text name value))
+pub lines-with : (text name value : List ℕ) (marks : List Mark) (i j : ℕ) → All (IsLineAt text) marks →
+    All (IsLineAt (text ++ field_text (name, value))) (marks_with marks i j (mark text name value))
 lines-with text name value marks i j lines =
     let line = field_text (name, value) in
     let P : Mark → Type 0 = IsLineAt (text ++ line) in
     let grown = lines-grown text line marks lines in
-    All-append P (take i marks) (mark text name value ∷ drop j marks) (All-take P i marks grown) (All-cons P (mark text name value) (drop j marks) (IsLineAt-new text name value) (All-drop P j marks grown))
+    All-append P (take i marks) (mark text name value ∷ drop j marks) (All-take P i marks grown)
+    (All-cons P (mark text name value) (drop j marks) (IsLineAt-new text name value) (All-drop P j marks grown))
 
 -- one more line at the end, with its mark
-pub push_fields : (text name value : List ℕ) (marks : List Mark) → All (IsLineAt text) marks → fields_at (text ++ field_text (name, value)) (marks ++ mark text name value ∷ []) ≡ fields_at text marks ++ (name, value) ∷ []
+pub push_fields : (text name value : List ℕ) (marks : List Mark) → All (IsLineAt text) marks →
+    fields_at (text ++ field_text (name, value)) (marks ++ mark text name value ∷ []) ≡ fields_at text marks ++ (name, value) ∷ []
 push_fields text name value marks lines =
     map-append (field_at (text ++ field_text (name, value))) marks (mark text name value ∷ [])
     ∙ rw (field_at-new text name value, fields_at-grown text (field_text (name, value)) marks lines) refl
 
-pub push_lines : (text name value : List ℕ) (marks : List Mark) → All (IsLineAt text) marks → All (IsLineAt (text ++ field_text (name, value))) (marks ++ mark text name value ∷ [])
+pub push_lines : (text name value : List ℕ) (marks : List Mark) → All (IsLineAt text) marks →
+    All (IsLineAt (text ++ field_text (name, value))) (marks ++ mark text name value ∷ [])
 push_lines text name value marks lines =
     let P : Mark → Type 0 = IsLineAt (text ++ field_text (name, value)) in
-    All-append P marks (mark text name value ∷ []) (lines-grown text (field_text (name, value)) marks lines) (All-cons P (mark text name value) [] (IsLineAt-new text name value) (All-nil P))
+    All-append P marks (mark text name value ∷ []) (lines-grown text (field_text (name, value)) marks lines)
+    (All-cons P (mark text name value) [] (IsLineAt-new text name value) (All-nil P))
 
 -- one more line is packed
-pub packed_more : (text : List ℕ) (marks : List Mark) (i : ℕ) (d : Mark) (lines : List ℕ) (places : List Mark) (new_lines : List ℕ) (new_places : List Mark) (name value : List ℕ) → i < length marks → IsPacked text (take i marks) lines places → name ≡ (field_at text (get_or marks i d)).0 → value ≡ (field_at text (get_or marks i d)).1 → new_lines ≡ lines ++ field_text (field_at text (get_or marks i d)) → new_places ≡ places ++ mark_of (length lines) (length name) (length value) ∷ [] → IsPacked text (take (i + 1) marks) new_lines new_places
+pub packed_more : (text : List ℕ) (marks : List Mark) (i : ℕ) (d : Mark) (lines : List ℕ) (places : List Mark) (new_lines : List ℕ)
+    (new_places : List Mark) (name value : List ℕ) → i < length marks → IsPacked text (take i marks) lines places →
+    name ≡ (field_at text (get_or marks i d)).0 → value ≡ (field_at text (get_or marks i d)).1 → new_lines ≡ lines ++
+    field_text (field_at text (get_or marks i d)) → new_places ≡ places ++ mark_of (length lines) (length name) (length value) ∷ [] →
+    IsPacked text (take (i + 1) marks) new_lines new_places
 packed_more text marks i d lines places new_lines new_places name value lt packed name_is value_is lines_are places_are =
     let f = field_at text (get_or marks i d) in
     let field : field_at text (get_or marks i d) ≡ (name, value) = rw (name_is, value_is) refl in
@@ -124,5 +139,6 @@ packed_more text marks i d lines places new_lines new_places name value lt packe
     record {
       same = rw (own, places_are, whole) (push_fields lines name value places packed.lines_at ∙ rw packed.same refl);
       lines_at = rw (own, places_are) (push_lines lines name value places packed.lines_at);
-      text_is = rw (own, whole, fields_text-push (fields_at text (take i marks)) (name, value)) (ap (λ (l : List ℕ). l ++ field_text (name, value)) packed.text_is);
+      text_is = rw (own, whole, fields_text-push (fields_at text (take i marks)) (name, value))
+          (ap (λ (l : List ℕ). l ++ field_text (name, value)) packed.text_is);
     }

@@ -27,13 +27,16 @@ module _ (text : List ℕ) (marks : List Mark) (read : Read) (is : IsRead text m
   text-done = ap (λ (l : List ℕ). l ++ drop read.len text) (sym is.lines) ∙ take-append-drop read.len text
 
   -- no list of lines goes on where none follows that makes a list
-  pub none_next : (count : ℕ) → length marks < count → ((f : Pair) (after : List ℕ) → IsFieldList (done ++ f ∷ []) → field_text f ++ after ≡ drop read.len text → ⊥) → (fs : List Pair) (after : List ℕ) → IsListOf count fs → fields_text fs ++ after ≡ text → ⊥
+  pub none_next : (count : ℕ) → length marks < count →
+      ((f : Pair) (after : List ℕ) → IsFieldList (done ++ f ∷ []) → field_text f ++ after ≡ drop read.len text → ⊥) → (fs : List Pair) (after : List ℕ) →
+      IsListOf count fs → fields_text fs ++ after ≡ text → ⊥
   none_next count more none =
       no_next done count (drop read.len text) text is.marked.list (omega (arith, length-done, more)) text-done none
 
   module _ (name value : List ℕ) (field : IsField (name, value)) (begins : BeginsWith (field_text (name, value)) (drop read.len text)) where
     -- a field whose line follows is the one that was read
-    pub same_next : (f : Pair) (after : List ℕ) → IsFieldList (done ++ f ∷ []) → IsField f → field_text f ++ after ≡ drop read.len text → IsFieldList (done ++ (name, value) ∷ [])
+    pub same_next : (f : Pair) (after : List ℕ) → IsFieldList (done ++ f ∷ []) → IsField f → field_text f ++ after ≡ drop read.len text →
+        IsFieldList (done ++ (name, value) ∷ [])
     same_next f after list own same =
         let once = field_once f (name, value) after _ (IsLine-field f own) (IsLine-field (name, value) field) (same ∙ sym begins) in
         rw once.0 at list
@@ -70,7 +73,9 @@ module _ (text : List ℕ) (marks : List Mark) (read : Read) (is : IsRead text m
         let line = field_text (name, value) in
         omega (arith, is.within, ap length begins, length-append line (drop (length line) (drop read.len text)), length-drop read.len text)
 
-    pub IsRead-push : length marks < 80 → read.size + length name + length value ≤ 49152 → NoneAfter name done → (new_marks : List Mark) (next : Read) → new_marks ≡ marks ++ mark_of read.len (length name) (length value) ∷ [] → next.len ≡ read.len + length (field_text (name, value)) → next.size ≡ read.size + length name + length value → IsRead text new_marks next
+    pub IsRead-push : length marks < 80 → read.size + length name + length value ≤ 49152 → NoneAfter name done → (new_marks : List Mark) (next : Read) →
+        new_marks ≡ marks ++ mark_of read.len (length name) (length value) ∷ [] → next.len ≡ read.len + length (field_text (name, value)) →
+        next.size ≡ read.size + length name + length value → IsRead text new_marks next
     IsRead-push few small last new_marks next marks_are len_is size_is =
         let front : length (take read.len text) ≡ read.len = length-take-le read.len text is.within in
         let marks_new : new_marks ≡ marks ++ mark_of (length (take read.len text)) (length name) (length value) ∷ [] = rw front marks_are in

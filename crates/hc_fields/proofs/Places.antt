@@ -24,7 +24,8 @@ abbrev pub IsAscending : (Pair → Bool) → List Pair → Type 0
 IsAscending test fs =
     (i j : ℕ) → i ≤ j → j < length fs → test (get_or fs j ([], [])) ≡ false → test (get_or fs i ([], [])) ≡ false
 
-pub searched_right : (test : Pair → Bool) (fs : List Pair) (low middle high : ℕ) → IsAscending test fs → Searched test fs low high → middle < high → test (get_or fs middle ([], [])) ≡ false → Searched test fs (middle + 1) high
+pub searched_right : (test : Pair → Bool) (fs : List Pair) (low middle high : ℕ) → IsAscending test fs → Searched test fs low high → middle < high →
+    test (get_or fs middle ([], [])) ≡ false → Searched test fs (middle + 1) high
 searched_right test fs low middle high ascending s lt here =
     let within = s.within in
     record {
@@ -34,7 +35,8 @@ searched_right test fs low middle high ascending s lt here =
       passes = s.passes;
     }
 
-pub searched_left : (test : Pair → Bool) (fs : List Pair) (low middle high : ℕ) → IsAscending test fs → Searched test fs low high → low ≤ middle → middle < high → test (get_or fs middle ([], [])) ≡ true → Searched test fs low middle
+pub searched_left : (test : Pair → Bool) (fs : List Pair) (low middle high : ℕ) → IsAscending test fs → Searched test fs low high → low ≤ middle →
+    middle < high → test (get_or fs middle ([], [])) ≡ true → Searched test fs low middle
 searched_left test fs low middle high ascending s le lt here =
     let within = s.within in
     record {
@@ -72,7 +74,8 @@ before_start name fs k lt =
     one_way (get_or fs k ([], [])).0 name (not-false _ (fails_before_first (not_before name) fs k ([], []) lt))
 
 -- the field at a mark of the list
-pub nth_is : (text : List ℕ) (marks : List Mark) (i : ℕ) (d : Mark) → i < length marks → get_or (fields_at text marks) i ([], []) ≡ field_at text (get_or marks i d)
+pub nth_is : (text : List ℕ) (marks : List Mark) (i : ℕ) (d : Mark) → i < length marks →
+    get_or (fields_at text marks) i ([], []) ≡ field_at text (get_or marks i d)
 nth_is text marks i d lt = get_or-map (field_at text) marks i d ([], []) lt
 
 is_gt-reverse : (o : Ordering) → is_gt (ordering_reverse o) ≡ is_lt o
@@ -148,7 +151,8 @@ narrowed_present name fs low high found sorted n le on =
       | inl before ↦ before
       | inr after ↦
           let inside : end_of name fs < length fs = omega (arith, after, order, le, lt) in
-          absurd (both_ways _ (ascending_end name fs sorted (end_of name fs) high (omega (arith, after, order, le)) lt both.1) (passes_at_first (is_behind name) fs ([], []) inside))
+          absurd (both_ways _ (ascending_end name fs sorted (end_of name fs) high (omega (arith, after, order, le)) lt both.1)
+          (passes_at_first (is_behind name) fs ([], []) inside))
     ]
 
 -- a field of a name doesn't come after it
@@ -164,12 +168,14 @@ other-behind name fs k sorted past lt other =
     elim (cases_names (get_or fs k ([], [])).0 name) [
       | inl before ↦
           let fails : not_before name (get_or fs k ([], [])) ≡ false = rw before.lt refl in
-          absurd (both_ways _ (ascending_start name fs sorted (start_of name fs) k (omega (arith, past)) lt fails) (passes_at_first (not_before name) fs ([], []) (omega (arith, past, lt))))
+          absurd (both_ways _ (ascending_start name fs sorted (start_of name fs) k (omega (arith, past)) lt fails)
+          (passes_at_first (not_before name) fs ([], []) (omega (arith, past, lt))))
       | inr more ↦ elim more [ inl same ↦ absurd (both_ways _ other same.equal) | inr after ↦ after.gt ]
     ]
 
 -- the first field that has the name
-pub first-named : (name : List ℕ) (fs : List Pair) (i : ℕ) → i ≡ position_or_len (has_name name) fs → i < length fs → has_name name (get_or fs i ([], [])) ≡ true
+pub first-named : (name : List ℕ) (fs : List Pair) (i : ℕ) → i ≡ position_or_len (has_name name) fs → i < length fs →
+    has_name name (get_or fs i ([], [])) ≡ true
 first-named name fs i is lt = rw is (passes_at_first (has_name name) fs ([], []) (rw is at lt))
 
 -- the fields of a name end behind it
@@ -179,11 +185,13 @@ before_end name fs k sorted is lt =
     elim (cases_lt k (end_of name fs)) [
       | inl before ↦ before
       | inr after ↦
-          absurd (both_ways _ (ascending_end name fs sorted (end_of name fs) k after lt (named-not_behind name (get_or fs k ([], [])) here)) (passes_at_first (is_behind name) fs ([], []) (omega (arith, after, lt))))
+          absurd (both_ways _ (ascending_end name fs sorted (end_of name fs) k after lt (named-not_behind name (get_or fs k ([], [])) here))
+          (passes_at_first (is_behind name) fs ([], []) (omega (arith, after, lt))))
     ]
 
 -- and it is the first that doesn't come before the name
-pub first_is_start : (name : List ℕ) (fs : List Pair) (i : ℕ) → is_sorted fs ≡ true → i ≡ position_or_len (has_name name) fs → i < length fs → i ≡ start_of name fs
+pub first_is_start : (name : List ℕ) (fs : List Pair) (i : ℕ) → is_sorted fs ≡ true → i ≡ position_or_len (has_name name) fs → i < length fs →
+    i ≡ start_of name fs
 first_is_start name fs i sorted is lt =
     let same : (get_or fs i ([], [])).0 ≡ name = (bytes_eq-Decides (get_or fs i ([], [])).0 name).0 (first-named name fs i is lt) in
     sym (position_or_len_is (not_before name) fs i ([], []) (omega (arith, lt))

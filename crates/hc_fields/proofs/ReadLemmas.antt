@@ -46,7 +46,8 @@ module _ (p : ℕ → Bool) where
       list_all-take xs i (omega (arith, at.0)) at.2
 
   -- what stands behind the bytes of the kind
-  pub behind-kind : (xs ys text : List ℕ) (e i : ℕ) → position other text ≡ Some i → list_all p xs ≡ true → p e ≡ false → xs ++ e ∷ ys ≡ text → drop i text ≡ e ∷ ys
+  pub behind-kind : (xs ys text : List ℕ) (e i : ℕ) → position other text ≡ Some i → list_all p xs ≡ true → p e ≡ false → xs ++ e ∷ ys ≡ text →
+      drop i text ≡ e ∷ ys
   behind-kind xs ys text e i some all fails is =
       let at : length xs ≡ i = same_Some _ _ (sym (position-other xs ys text e all fails is) ∙ some) in
       rw (← is) (drop_at xs (e ∷ ys) i at)
@@ -68,14 +69,16 @@ lacks-kind p e (x ∷ xs) fails all =
     ]
 
 -- a line whose name the text begins with goes on as the text does
-pub cut_behind : (f : Pair) (name rest after text : List ℕ) → IsCut f → list_all is_lower_byte name ≡ true → name ++ 58 ∷ 32 ∷ rest ≡ text → field_text f ++ after ≡ text → f.1 ++ 10 ∷ after ≡ rest
+pub cut_behind : (f : Pair) (name rest after text : List ℕ) → IsCut f → list_all is_lower_byte name ≡ true → name ++ 58 ∷ 32 ∷ rest ≡ text →
+    field_text f ++ after ≡ text → f.1 ++ 10 ∷ after ≡ rest
 cut_behind f name rest after text cut all is same =
     let apart = sym (field_apart f after) ∙ (same ∙ sym is) in
     let once = cut_once 58 f.0 _ name _ (lacks-kind is_lower_byte 58 f.0 colon_ends cut.0) (lacks-kind is_lower_byte 58 name colon_ends all) apart in
     cc once.1
 
 -- name and value make a line
-pub begins_with_line : (name value rest after text : List ℕ) → name ++ 58 ∷ 32 ∷ rest ≡ text → value ++ 10 ∷ after ≡ rest → BeginsWith (field_text (name, value)) text
+pub begins_with_line : (name value rest after text : List ℕ) → name ++ 58 ∷ 32 ∷ rest ≡ text → value ++ 10 ∷ after ≡ rest →
+    BeginsWith (field_text (name, value)) text
 begins_with_line name value rest after text is value_is =
     let whole : field_text (name, value) ++ after ≡ text =
     field_apart (name, value) after ∙ (rw value_is is) in
@@ -110,7 +113,8 @@ lowercase_lower (b ∷ bytes) tokens same =
     let first : to_ascii_lowercase b ≡ b = cc in
     let rest : lowercase bytes ≡ bytes = cc in
     let token : is_token_byte b ≡ true = All-head (λ x. IsTrue (is_token_byte x)) b bytes tokens in
-    and_from _ _ (and_from _ _ token (not_from_false _ (upper_differs b first))) (lowercase_lower bytes (All-tail (λ x. IsTrue (is_token_byte x)) b bytes tokens) rest)
+    and_from _ _ (and_from _ _ token (not_from_false _ (upper_differs b first)))
+    (lowercase_lower bytes (All-tail (λ x. IsTrue (is_token_byte x)) b bytes tokens) rest)
 
 pub IsCut-field : (f : Pair) → IsField f → IsCut f
 IsCut-field f h = (lowercase_lower f.0 h.is_name.1 h.is_lower, (and_parts _ _ h.is_value).0)

@@ -27,7 +27,8 @@ list_all-filter p q (f ∷ fs) all =
       | inr fails ↦ rw fails rest
     ]
 
-pub list_all-put : (q : Pair → Bool) (name value : List ℕ) (fs : List Pair) → q (name, value) ≡ true → list_all q fs ≡ true → list_all q (field_list_with name value fs) ≡ true
+pub list_all-put : (q : Pair → Bool) (name value : List ℕ) (fs : List Pair) → q (name, value) ≡ true → list_all q fs ≡ true →
+    list_all q (field_list_with name value fs) ≡ true
 list_all-put q name value [] here all = and_from (q (name, value)) true here refl
 list_all-put q name value (f ∷ fs) here all =
     let both = and_parts (q f) (list_all q fs) all in
@@ -92,14 +93,16 @@ pub record IsParted (name : List ℕ) (fs : List Pair) : Type 0 where
   pub end_is : end_of name fs ≡ start_of name fs + length (filter (has_name name) fs)
 
 -- the order goes on behind the first field
-pub sorted_rest : (f : Pair) (fs : List Pair) → is_sorted (f ∷ fs) ≡ true → (list_all (λ (g : Pair). not (comes_before g.0 f.0)) fs ≡ true) × (is_sorted fs ≡ true)
+pub sorted_rest : (f : Pair) (fs : List Pair) → is_sorted (f ∷ fs) ≡ true → (list_all (λ (g : Pair). not (comes_before g.0 f.0)) fs ≡ true) ×
+    (is_sorted fs ≡ true)
 sorted_rest f fs h = and_parts _ _ h
 
 -- behind a field that comes after the name all do
 pub after_rest : (name : List ℕ) (f : Pair) (fs : List Pair) → comes_before name f.0 ≡ true → is_sorted (f ∷ fs) ≡ true → AllAfter name (f ∷ fs)
 after_rest name f fs gt sorted =
     and_from _ _ gt
-    (list_all-weaker (λ (g : Pair). not (comes_before g.0 f.0)) (λ (g : Pair). comes_before name g.0) (λ g h. before_upto name f.0 g.0 gt (not_before g.0 f.0 h)) fs (sorted_rest f fs sorted).0)
+    (list_all-weaker (λ (g : Pair). not (comes_before g.0 f.0)) (λ (g : Pair). comes_before name g.0)
+    (λ g h. before_upto name f.0 g.0 gt (not_before g.0 f.0 h)) fs (sorted_rest f fs sorted).0)
 
 pub is_parted : (name : List ℕ) (fs : List Pair) → is_sorted fs ≡ true → IsParted name fs
 is_parted name [] sorted = record { named = refl; others = refl; end_is = refl }
@@ -119,7 +122,8 @@ is_parted name (f ∷ fs) sorted =
                 let none : NoneBefore name fs = rw same.same at both.0 in
                 let zero = start_of-none name fs none in
                 record {
-                  named = rw (start_of-stop name f fs same.not_before, end_of-more name f fs same.not_after, same.equal) (ap (λ (l : List Pair). f ∷ l) (rw zero at rest.named));
+                  named = rw (start_of-stop name f fs same.not_before, end_of-more name f fs same.not_after, same.equal)
+                      (ap (λ (l : List Pair). f ∷ l) (rw zero at rest.named));
                   others = rw (start_of-stop name f fs same.not_before, end_of-more name f fs same.not_after, same.equal) (rw zero at rest.others);
                   end_is = rw (start_of-stop name f fs same.not_before, end_of-more name f fs same.not_after, same.equal) (omega (arith, rest.end_is, zero));
                 }

@@ -31,10 +31,20 @@ length-day_name_rest : (n : ℕ) → length (day_name_rest n) ≤ 6
 length-day_name_rest n = short_at 6 days_ends (n - 1) short-days_ends
 
 abbrev months : List (List ℕ)
-months = codes "Jan" ∷ codes "Feb" ∷ codes "Mar" ∷ codes "Apr" ∷ codes "May" ∷ codes "Jun" ∷ codes "Jul" ∷ codes "Aug" ∷ codes "Sep" ∷ codes "Oct" ∷ codes "Nov" ∷ codes "Dec" ∷ []
+months = codes "Jan" ∷ codes "Feb" ∷ codes "Mar" ∷ codes "Apr" ∷ codes "May" ∷ codes "Jun" ∷ codes "Jul" ∷ codes "Aug" ∷ codes "Sep" ∷ codes "Oct" ∷
+    codes "Nov" ∷ codes "Dec" ∷ []
 
 short-months : AreShort 3 months
-short-months = (omega arith, (omega arith, (omega arith, (omega arith, (omega arith, (omega arith, (omega arith, (omega arith, (omega arith, (omega arith, (omega arith, (omega arith, tt))))))))))))
+short-months = (
+  omega arith,
+  (
+    omega arith,
+    (
+      omega arith,
+      (omega arith, (omega arith, (omega arith, (omega arith, (omega arith, (omega arith, (omega arith, (omega arith, (omega arith, tt))))))))),
+    ),
+  ),
+)
 
 length-month_name : (n : ℕ) → length (month_name n) ≤ 3
 length-month_name n = short_at 3 months (n - 1) short-months

@@ -56,7 +56,8 @@ allowed-right head request now =
     either P (is_older a asked.max_age) _ _ (λ _. tt) (λ not_older.
     either P (lacks l a asked.min_fresh) _ _ (λ _. tt) (λ not_lacking.
     let plain : (request.load ≢ load.Validate) × (asked.max_age ≢ Some 0) = no_validation request.load asked.max_age free in
-    let needs : NeedsNone head request now = record { loaded = plain.0; asked = plain.1; stored = stored; young = young a asked.max_age not_older; long = long l a asked.min_fresh not_lacking } in
+    let needs : NeedsNone head request now =
+    record { loaded = plain.0; asked = plain.1; stored = stored; young = young a asked.max_age not_older; long = long l a asked.min_fresh not_lacking } in
     either P (ltb a l) _ _ (λ below. (needs, refl, refl, ltb-lt a l below)) (λ past.
     either P said.must_revalidate _ _ (λ _. tt) (λ free_of.
     let stale = ltb-le a l past in

@@ -19,10 +19,12 @@ use Rattle.hc_front.proofs.Watchings.{core_is, watched_live, one_and_others, oth
 
 -- WHAT THE ACTS TELL OF THE STORE
 
-flaw_reported : (request : Request) (a : Act) (acts others : List Act) → flaw_in acts ≡ flaw_in others → flaw_in (act_shown request a ∷ acts) ≡ flaw_in (a ∷ others)
+flaw_reported : (request : Request) (a : Act) (acts others : List Act) → flaw_in acts ≡ flaw_in others → flaw_in (act_shown request a ∷ acts) ≡ flaw_in
+    (a ∷ others)
 flaw_reported request (act.Shown c r why status fields lo hi) acts others same = by_test (is_not_modified request status fields)
   where
-    by_test : (b : Bool) → flaw_in ((if b then act.Shown c r why 304 (fields_of_304 fields) 0 (Some 0) else act.Shown c r why status fields lo hi) ∷ acts) ≡ flaw_in others
+    by_test : (b : Bool) → flaw_in
+        ((if b then act.Shown c r why 304 (fields_of_304 fields) 0 (Some 0) else act.Shown c r why status fields lo hi) ∷ acts) ≡ flaw_in others
     by_test true = same
     by_test false = same
 flaw_reported request (act.Failed c why) acts others same = ap (flaw_by why) same
@@ -68,7 +70,8 @@ failures_ended c acts = ap failing (flaw_ended c acts)
 
 module _ {B : Type 0} {g : Ghosts B} where
   law_of : (s : Front B g) (contents : Contents) (f : FrontHistory) → FrontStands s contents f → Lawful (fronted contents f).core
-  law_of s contents f stands = subst Lawful (sym (core_is contents f)) (lawful_in_runs (core.limits_in s.cache) contents (core_of contents f) stands.cache.begins stands.cache.run)
+  law_of s contents f stands =
+      subst Lawful (sym (core_is contents f)) (lawful_in_runs (core.limits_in s.cache) contents (core_of contents f) stands.cache.begins stands.cache.run)
 
   module _ (s u : Front B g) (now : ℕ) (ev asked : Event) (heard : List Act) (answered : Answers s.cache u.cache now asked heard) where
     abbrev e : FrontEntry
@@ -80,7 +83,8 @@ module _ {B : Type 0} {g : Ghosts B} where
 
     -- and this is kept of each consumer
     unfoldable pub AreKept : Type 0
-    AreKept = (contents : Contents) (f : FrontHistory) → FrontStands s contents f → IsOwed (limits_in u) (fronted contents f).core (core_entry (fronted contents f) e)
+    AreKept = (contents : Contents) (f : FrontHistory) → FrontStands s contents f →
+        IsOwed (limits_in u) (fronted contents f).core (core_entry (fronted contents f) e)
         → (c : ℕ) → watched_in u.watches c ≡ (front_after (fronted contents f) e).watched c
 
     module _ (contents : Contents) (f : FrontHistory) (stands : FrontStands s contents f) (hand : handed (fronted contents f) ev ≡ asked) where
@@ -96,14 +100,16 @@ module _ {B : Type 0} {g : Ghosts B} where
       unfolding fronted
       stands_on kept = record { cache = cache_stands; watched = kept }
 
-    pub answers : (acts : List Act) → IsHanded → ((contents : Contents) (f : FrontHistory) → FrontStands s contents f → acts ≡ reported (fronted contents f) ev heard) → AreKept
+    pub answers : (acts : List Act) → IsHanded →
+        ((contents : Contents) (f : FrontHistory) → FrontStands s contents f → acts ≡ reported (fronted contents f) ev heard) → AreKept
         → failures_in acts ≡ failures_in heard → FrontAnswers s u now ev acts
     unfolding IsHanded AreKept
     answers acts hand reports kept same = record {
       heard = heard;
       limits = answered.limits;
       reported_are = reports;
-      stands = λ contents f stands. stands_on contents f stands (hand contents f stands) (kept contents f stands (is_owed contents f stands (hand contents f stands)));
+      stands = λ contents f stands. stands_on contents f stands (hand contents f stands)
+          (kept contents f stands (is_owed contents f stands (hand contents f stands)));
       counted = (let counted = answered.counted in omega (arith, counted, same));
       number = answered.number;
     }
@@ -111,25 +117,29 @@ module _ {B : Type 0} {g : Ghosts B} where
   -- WHICH WAY
 
   -- what is kept stays where a map stays
-  stays_kept : (s u : Front B g) → u.watches ≡ s.watches → (contents : Contents) (f : FrontHistory) → FrontStands s contents f → (c : ℕ) → watched_in u.watches c ≡ (fronted contents f).watched c
+  stays_kept : (s u : Front B g) → u.watches ≡ s.watches → (contents : Contents) (f : FrontHistory) → FrontStands s contents f → (c : ℕ) → watched_in
+      u.watches c ≡ (fronted contents f).watched c
   stays_kept s u same contents f stands c = ap (λ (w : Watches). watched_in w c) same ∙ stands.watched c
 
   -- one changes
   changes_kept : (s u : Front B g) (d : ℕ) (value : Option Watched) → ChangesAt d value s.watches u.watches → (next : ℕ → Option Watched)
-      → (contents : Contents) (f : FrontHistory) → FrontStands s contents f → value ≡ next d → ((c : ℕ) → nat_eq c d ≡ false → (fronted contents f).watched c ≡ next c) → (c : ℕ) → watched_in u.watches c ≡ next c
+      → (contents : Contents) (f : FrontHistory) → FrontStands s contents f → value ≡ next d →
+      ((c : ℕ) → nat_eq c d ≡ false → (fronted contents f).watched c ≡ next c) → (c : ℕ) → watched_in u.watches c ≡ next c
   changes_kept s u d value changes next contents f stands own others =
       one_and_others d (λ c. watched_in u.watches c ≡ next c) (changes.at ∙ own) (λ c far. changes.others c far ∙ (stands.watched c ∙ others c far))
 
   module _ (s u : Front B g) (now : ℕ) (heard : List Act) where
     -- an event that names no consumer
     pub passes : (ev : Event) → Answers s.cache u.cache now ev heard → u.watches ≡ s.watches
-        → ((c : ℕ) (request : Request) → ev ≡ event.Start c request → ⊥) → ((c want : ℕ) → ev ≡ event.Poll c want → ⊥) → ((c : ℕ) → ev ≡ event.Cancel c → ⊥) → FrontAnswers s u now ev heard
+        → ((c : ℕ) (request : Request) → ev ≡ event.Start c request → ⊥) → ((c want : ℕ) → ev ≡ event.Poll c want → ⊥) →
+        ((c : ℕ) → ev ≡ event.Cancel c → ⊥) → FrontAnswers s u now ev heard
     unfolding IsHanded AreKept
     passes ev answered same no_start no_poll no_cancel =
         answers s u now ev ev heard answered heard
         (λ contents f stands. as_it_is (fronted contents f) ev refl)
         (λ contents f stands. as_reported (fronted contents f) ev refl)
-        (λ contents f stands is c. stays_kept s u same contents f stands c ∙ others_keep (limits_in u) (fronted contents f) (law_of s contents f stands) (watched_live contents f) now ev heard is no_start no_poll no_cancel c)
+        (λ contents f stands is c. stays_kept s u same contents f stands c ∙
+        others_keep (limits_in u) (fronted contents f) (law_of s contents f stands) (watched_live contents f) now ev heard is no_start no_poll no_cancel c)
         refl
       where
         as_it_is : (t : Fronted) (z : Event) → ev ≡ z → handed t ev ≡ ev
@@ -153,14 +163,16 @@ module _ {B : Type 0} {g : Ghosts B} where
         as_reported t (event.Doom key) at = sym (ap (λ (y : Event). reported t y heard) at)
 
     -- who is cancelled
-    pub cancels : (d : ℕ) → Answers s.cache u.cache now (event.Cancel d) heard → ChangesAt d None s.watches u.watches → FrontAnswers s u now (event.Cancel d) heard
+    pub cancels : (d : ℕ) → Answers s.cache u.cache now (event.Cancel d) heard → ChangesAt d None s.watches u.watches →
+        FrontAnswers s u now (event.Cancel d) heard
     unfolding IsHanded AreKept
     cancels d answered changes =
         answers s u now (event.Cancel d) (event.Cancel d) heard answered heard
         (λ contents f stands. refl) (λ contents f stands. refl)
         (λ contents f stands is.
         let law = law_of s contents f stands in
-        changes_kept s u d None changes (front_after (fronted contents f) (record { now = now; event = event.Cancel d; acts = heard })).watched contents f stands
+        changes_kept s u d None changes (front_after (fronted contents f) (record { now = now; event = event.Cancel d; acts = heard })).watched contents f
+        stands
         (cancels_own (limits_in u) (fronted contents f) law (watched_live contents f) now d heard is)
         (cancels_others (limits_in u) (fronted contents f) law (watched_live contents f) now d heard is))
         refl
@@ -170,39 +182,48 @@ module _ {B : Type 0} {g : Ghosts B} where
     module _ (d : ℕ) (request : Request) where
       -- of a request that isn't watched
       pub starts_unwatched : Answers s.cache u.cache now (event.Start d request) heard → u.watches ≡ s.watches
-          → ((contents : Contents) (f : FrontHistory) → FrontStands s contents f → is_watched (fronted contents f).core request ≡ false) → FrontAnswers s u now (event.Start d request) heard
+          → ((contents : Contents) (f : FrontHistory) → FrontStands s contents f → is_watched (fronted contents f).core request ≡ false) →
+          FrontAnswers s u now (event.Start d request) heard
       unfolding IsHanded AreKept
       starts_unwatched answered same off =
           answers s u now (event.Start d request) (event.Start d request) heard answered heard
-          (λ contents f stands. handed_as_it_is (limits_in u) (fronted contents f) (law_of s contents f stands) (watched_live contents f) now d request heard (off contents f stands))
+          (λ contents f stands. handed_as_it_is (limits_in u) (fronted contents f) (law_of s contents f stands) (watched_live contents f) now d request
+          heard (off contents f stands))
           (λ contents f stands. refl)
           (λ contents f stands is c. stays_kept s u same contents f stands c
-          ∙ unwatched_start (limits_in u) (fronted contents f) (law_of s contents f stands) (watched_live contents f) now d request heard is (off contents f stands) c)
+          ∙ unwatched_start (limits_in u) (fronted contents f) (law_of s contents f stands) (watched_live contents f) now d request heard is
+          (off contents f stands) c)
           refl
 
       -- of one that is, and is denied
       pub starts_denied : Answers s.cache u.cache now (event.Start d (unconditioned request)) heard → u.watches ≡ s.watches → is_denied heard ≡ true
-          → ((contents : Contents) (f : FrontHistory) → FrontStands s contents f → is_watched (fronted contents f).core request ≡ true) → FrontAnswers s u now (event.Start d request) heard
+          → ((contents : Contents) (f : FrontHistory) → FrontStands s contents f → is_watched (fronted contents f).core request ≡ true) →
+          FrontAnswers s u now (event.Start d request) heard
       unfolding IsHanded AreKept
       starts_denied answered same denied on =
           answers s u now (event.Start d request) (event.Start d (unconditioned request)) heard answered heard
-          (λ contents f stands. handed_without (limits_in u) (fronted contents f) (law_of s contents f stands) (watched_live contents f) now d request heard (on contents f stands))
+          (λ contents f stands. handed_without (limits_in u) (fronted contents f) (law_of s contents f stands) (watched_live contents f) now d request
+          heard (on contents f stands))
           (λ contents f stands. refl)
           (λ contents f stands is c. stays_kept s u same contents f stands c
           ∙ denied_start (limits_in u) (fronted contents f) (law_of s contents f stands) (watched_live contents f) now d request heard is denied c)
           refl
 
       -- of one that is, and goes on
-      pub starts_on : Answers s.cache u.cache now (event.Start d (unconditioned request)) heard → ChangesAt d (Some (newly request)) s.watches u.watches → is_denied heard ≡ false
-          → ((contents : Contents) (f : FrontHistory) → FrontStands s contents f → is_watched (fronted contents f).core request ≡ true) → FrontAnswers s u now (event.Start d request) heard
+      pub starts_on : Answers s.cache u.cache now (event.Start d (unconditioned request)) heard → ChangesAt d (Some (newly request)) s.watches u.watches →
+          is_denied heard ≡ false
+          → ((contents : Contents) (f : FrontHistory) → FrontStands s contents f → is_watched (fronted contents f).core request ≡ true) →
+          FrontAnswers s u now (event.Start d request) heard
       unfolding IsHanded AreKept
       starts_on answered changes accepted on =
           answers s u now (event.Start d request) (event.Start d (unconditioned request)) heard answered heard
-          (λ contents f stands. handed_without (limits_in u) (fronted contents f) (law_of s contents f stands) (watched_live contents f) now d request heard (on contents f stands))
+          (λ contents f stands. handed_without (limits_in u) (fronted contents f) (law_of s contents f stands) (watched_live contents f) now d request
+          heard (on contents f stands))
           (λ contents f stands. refl)
           (λ contents f stands is.
           let law = law_of s contents f stands in
-          changes_kept s u d (Some (newly request)) changes (front_after (fronted contents f) (record { now = now; event = event.Start d request; acts = heard })).watched contents f stands
+          changes_kept s u d (Some (newly request)) changes
+          (front_after (fronted contents f) (record { now = now; event = event.Start d request; acts = heard })).watched contents f stands
           (starts_watched (limits_in u) (fronted contents f) law (watched_live contents f) now d request heard is (on contents f stands) accepted)
           (start_others (limits_in u) (fronted contents f) law (watched_live contents f) now d request heard is))
           refl
@@ -211,7 +232,8 @@ module _ {B : Type 0} {g : Ghosts B} where
 
     module _ (d want : ℕ) where
       -- of who isn't under watch
-      pub polls_unwatched : Answers s.cache u.cache now (event.Poll d want) heard → u.watches ≡ s.watches → watched_in s.watches d ≡ None → FrontAnswers s u now (event.Poll d want) heard
+      pub polls_unwatched : Answers s.cache u.cache now (event.Poll d want) heard → u.watches ≡ s.watches → watched_in s.watches d ≡ None →
+          FrontAnswers s u now (event.Poll d want) heard
       unfolding IsHanded AreKept is_ending
       polls_unwatched answered same none =
           answers s u now (event.Poll d want) (event.Poll d want) heard answered heard
@@ -219,15 +241,20 @@ module _ {B : Type 0} {g : Ghosts B} where
           (λ contents f stands. rw (nothing contents f stands) refl)
           (λ contents f stands is.
           let law = law_of s contents f stands in
-          one_and_others d (λ c. watched_in u.watches c ≡ (front_after (fronted contents f) (record { now = now; event = event.Poll d want; acts = heard })).watched c)
-          (stays_kept s u same contents f stands d ∙ (nothing contents f stands ∙ poll_none (limits_in u) (fronted contents f) law (watched_live contents f) now d want heard is (nothing contents f stands)))
-          (λ c far. stays_kept s u same contents f stands c ∙ poll_others (limits_in u) (fronted contents f) law (watched_live contents f) now d want heard is c far))
+          one_and_others d (λ c. watched_in
+          u.watches c ≡ (front_after (fronted contents f) (record { now = now; event = event.Poll d want; acts = heard })).watched c)
+          (stays_kept s u same contents f stands d ∙
+          (nothing contents f stands ∙
+          poll_none (limits_in u) (fronted contents f) law (watched_live contents f) now d want heard is (nothing contents f stands)))
+          (λ c far. stays_kept s u same contents f stands c ∙
+          poll_others (limits_in u) (fronted contents f) law (watched_live contents f) now d want heard is c far))
           refl
         where
           nothing : (contents : Contents) (f : FrontHistory) → FrontStands s contents f → (fronted contents f).watched d ≡ None
           nothing contents f stands = sym (stands.watched d) ∙ none
 
-      ending_is : (b : Bool) → is_ending (watched_in s.watches d) want ≡ b → (contents : Contents) (f : FrontHistory) → FrontStands s contents f → is_ending ((fronted contents f).watched d) want ≡ b
+      ending_is : (b : Bool) → is_ending (watched_in s.watches d) want ≡ b → (contents : Contents) (f : FrontHistory) → FrontStands s contents f →
+          is_ending ((fronted contents f).watched d) want ≡ b
       ending_is b is contents f stands = ap (λ (o : Option Watched). is_ending o want) (sym (stands.watched d)) ∙ is
 
       -- of who was told that its copy holds
@@ -240,25 +267,31 @@ module _ {B : Type 0} {g : Ghosts B} where
           (λ contents f stands. rw (ending_is true ending contents f stands) refl)
           (λ contents f stands is.
           let law = law_of s contents f stands in
-          changes_kept s u d None changes (front_after (fronted contents f) (record { now = now; event = event.Poll d want; acts = heard })).watched contents f stands
+          changes_kept s u d None changes (front_after (fronted contents f) (record { now = now; event = event.Poll d want; acts = heard })).watched
+          contents f stands
           (poll_ends (limits_in u) (fronted contents f) law (watched_live contents f) now d want heard is (ending_is true ending contents f stands))
           (poll_others (limits_in u) (fronted contents f) law (watched_live contents f) now d want heard is))
           (failures_ended d heard)
 
       -- of who is under watch
-      module _ (w : Watched) (kept : watched_in s.watches d ≡ Some w) (other : is_ending (watched_in s.watches d) want ≡ false) (answered : Answers s.cache u.cache now (event.Poll d want) heard) where
+      module _ (w : Watched) (kept : watched_in s.watches d ≡ Some w) (other : is_ending (watched_in s.watches d) want ≡ false)
+          (answered : Answers s.cache u.cache now (event.Poll d want) heard) where
         row : (contents : Contents) (f : FrontHistory) → FrontStands s contents f → (fronted contents f).watched d ≡ Some w
         row contents f stands = sym (stands.watched d) ∙ kept
 
-        own_row : (contents : Contents) (f : FrontHistory) (stands : FrontStands s contents f) → IsOwed (limits_in u) (fronted contents f).core (core_entry (fronted contents f) (record { now = now; event = event.Poll d want; acts = heard })) → (leaves shown : Bool)
+        own_row : (contents : Contents) (f : FrontHistory) (stands : FrontStands s contents f) →
+            IsOwed (limits_in u) (fronted contents f).core
+            (core_entry (fronted contents f) (record { now = now; event = event.Poll d want; acts = heard })) → (leaves shown : Bool)
             → leaves_in d heard ≡ leaves → list_any (is_satisfying w.request) heard ≡ shown
             → settled leaves shown (Some w) ≡ (front_after (fronted contents f) (record { now = now; event = event.Poll d want; acts = heard })).watched d
         own_row contents f stands is true shown leaves_so shown_so =
             poll_leaves (limits_in u) (fronted contents f) (law_of s contents f stands) (watched_live contents f) now d want heard is leaves_so
         own_row contents f stands is false true leaves_so shown_so =
-            poll_satisfies (limits_in u) (fronted contents f) (law_of s contents f stands) (watched_live contents f) now d want heard is w (row contents f stands) (ending_is false other contents f stands) leaves_so shown_so
+            poll_satisfies (limits_in u) (fronted contents f) (law_of s contents f stands) (watched_live contents f) now d want heard is w
+            (row contents f stands) (ending_is false other contents f stands) leaves_so shown_so
         own_row contents f stands is false false leaves_so shown_so =
-            poll_goes_on (limits_in u) (fronted contents f) (law_of s contents f stands) (watched_live contents f) now d want heard is w (row contents f stands) (ending_is false other contents f stands) leaves_so shown_so
+            poll_goes_on (limits_in u) (fronted contents f) (law_of s contents f stands) (watched_live contents f) now d want heard is w
+            (row contents f stands) (ending_is false other contents f stands) leaves_so shown_so
 
         pub polls_on : ChangesAt d (settled (leaves_in d heard) (list_any (is_satisfying w.request) heard) (Some w)) s.watches u.watches
             → FrontAnswers s u now (event.Poll d want) (map (act_shown w.request) heard)
@@ -269,7 +302,8 @@ module _ {B : Type 0} {g : Ghosts B} where
             (λ contents f stands. rw (ending_is false other contents f stands, row contents f stands) refl)
             (λ contents f stands is.
             let law = law_of s contents f stands in
-            changes_kept s u d (settled (leaves_in d heard) (list_any (is_satisfying w.request) heard) (Some w)) changes (front_after (fronted contents f) (record { now = now; event = event.Poll d want; acts = heard })).watched contents f stands
+            changes_kept s u d (settled (leaves_in d heard) (list_any (is_satisfying w.request) heard) (Some w)) changes
+            (front_after (fronted contents f) (record { now = now; event = event.Poll d want; acts = heard })).watched contents f stands
             (own_row contents f stands is (leaves_in d heard) (list_any (is_satisfying w.request) heard) refl refl)
             (poll_others (limits_in u) (fronted contents f) law (watched_live contents f) now d want heard is))
             (failures_reported w.request heard)

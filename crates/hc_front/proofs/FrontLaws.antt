@@ -43,14 +43,17 @@ none_by t acts c (event.End x) off = refl
 none_by t acts c (event.Fault x) off = refl
 none_by t acts c (event.Doom key) off = refl
 
-none_stays : (o : Option Consumer) (t : Tables) (acts : List Act) (c : ℕ) (ev : Event) (before : Option Watched) → before ≡ None → starts_external ev ≡ false → while_live o (watched_by t acts c ev before) ≡ None
-none_stays o t acts c ev before none off = ap (λ (w : Option Watched). while_live o (watched_by t acts c ev w)) none ∙ (ap (while_live o) (none_by t acts c ev off) ∙ none_live o)
+none_stays : (o : Option Consumer) (t : Tables) (acts : List Act) (c : ℕ) (ev : Event) (before : Option Watched) → before ≡ None →
+    starts_external ev ≡ false → while_live o (watched_by t acts c ev before) ≡ None
+none_stays o t acts c ev before none off = ap (λ (w : Option Watched). while_live o (watched_by t acts c ev w)) none ∙
+    (ap (while_live o) (none_by t acts c ev off) ∙ none_live o)
 
 nobody_watched : (contents : Contents) (f : FrontHistory) → HasNoneExternal f → (c : ℕ) → (fronted contents f).watched c ≡ None
 unfolding fronted front_after
 nobody_watched contents [] none c = refl
 nobody_watched contents (e ∷ f) none c =
-    none_stays ((after (fronted contents f).core (core_entry (fronted contents f) e)).consumer c) (fronted contents f).core e.acts c e.event ((fronted contents f).watched c) (nobody_watched contents f none.0 c) none.1
+    none_stays ((after (fronted contents f).core (core_entry (fronted contents f) e)).consumer c) (fronted contents f).core e.acts c e.event
+    ((fronted contents f).watched c) (nobody_watched contents f none.0 c) none.1
 
 handed_on : (t : Fronted) (ev : Event) → ((c : ℕ) → t.watched c ≡ None) → starts_external ev ≡ false → handed t ev ≡ ev
 unfolding is_ending
@@ -74,7 +77,8 @@ reported_on t (event.End x) acts none = refl
 reported_on t (event.Fault x) acts none = refl
 reported_on t (event.Doom key) acts none = refl
 
-entry_on : (t : Fronted) (e : FrontEntry) → ((c : ℕ) → t.watched c ≡ None) → starts_external e.event ≡ false → record { now = e.now; event = e.event; acts = reported t e.event e.acts } ≡ core_entry t e
+entry_on : (t : Fronted) (e : FrontEntry) → ((c : ℕ) → t.watched c ≡ None) → starts_external e.event ≡ false →
+    record { now = e.now; event = e.event; acts = reported t e.event e.acts } ≡ core_entry t e
 entry_on t e none off =
     let F : List Act → Entry = λ acts. record { now = e.now; event = e.event; acts = acts } in
     let G : Event → Entry = λ ev. record { now = e.now; event = ev; acts = e.acts } in

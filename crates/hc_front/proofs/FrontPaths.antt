@@ -72,8 +72,10 @@ without_within c request is = (
   is.0,
   is.1,
   record {
-    few = (let few = is.2.few in let a = length-without (codes "if-none-match") request.fields in let b = length-without (codes "if-modified-since") (without (codes "if-none-match") request.fields) in omega arith);
-    small = (let small = is.2.small in let a = size_of-without (codes "if-none-match") request.fields in let b = size_of-without (codes "if-modified-since") (without (codes "if-none-match") request.fields) in omega arith);
+    few = (let few = is.2.few in let a = length-without (codes "if-none-match") request.fields in let b =
+        length-without (codes "if-modified-since") (without (codes "if-none-match") request.fields) in omega arith);
+    small = (let small = is.2.small in let a = size_of-without (codes "if-none-match") request.fields in let b =
+        size_of-without (codes "if-modified-since") (without (codes "if-none-match") request.fields) in omega arith);
   },
 )
 
@@ -108,7 +110,8 @@ watched_none t request None is none =
 watched_none t request (Some kind) is none = absurd (let never : false ≡ true = none in cc)
 
 -- something is: it is if it is on condition of a copy
-pub watched_some : (t : Tables) (request : Request) (kind : Option Kind) → kind ≡ kind_for t request.key → is_none kind ≡ false → is_external request ≡ is_watched t request
+pub watched_some : (t : Tables) (request : Request) (kind : Option Kind) → kind ≡ kind_for t request.key → is_none kind ≡ false →
+    is_external request ≡ is_watched t request
 unfolding is_watched
 watched_some t request (Some kind) is some =
     let on : is_some (current t request.key) ≡ true = sym (kind_some t request.key) ∙ sym (ap is_some is) in
@@ -127,43 +130,62 @@ module _ {B : Type 0} {g : Ghosts B} (s u : Front B g) (now : ℕ) (before out :
       → (contents : Contents) (f : FrontHistory) → FrontStands s contents f → is_watched (fronted contents f).core request ≡ b
   front_so request b so contents f stands = ap (λ (t : Tables). is_watched t request) (core_is contents f) ∙ so contents (core_of contents f) stands.cache
 
-  module _ (ev : Event) (moment : last_moment u ≡ now) (received : bytes_received u ≡ bytes_received s + received_in ev) (ready : core.has_failed u.cache ≡ false) where
+  module _ (ev : Event) (moment : last_moment u ≡ now) (received : bytes_received u ≡ bytes_received s + received_in ev)
+      (ready : core.has_failed u.cache ≡ false) where
     -- by the acts of the cache, whatever it was asked
     stepped : (asked : Event) (q : core.Steps s.cache u.cache before out now asked) → FrontAnswers s u now ev q.acts → HasStepped s u before out now ev
     stepped asked q a = record { steps = record { acts = q.acts; reported = q.reported; answered = a }; moment = moment; received = received; ready = ready }
 
-    pub has_passed : core.Steps s.cache u.cache before out now ev → u.watches ≡ s.watches → ((c : ℕ) (request : Request) → ev ≡ event.Start c request → ⊥) → ((c want : ℕ) → ev ≡ event.Poll c want → ⊥) → ((c : ℕ) → ev ≡ event.Cancel c → ⊥)
+    pub has_passed : core.Steps s.cache u.cache before out now ev → u.watches ≡ s.watches →
+        ((c : ℕ) (request : Request) → ev ≡ event.Start c request → ⊥) → ((c want : ℕ) → ev ≡ event.Poll c want → ⊥) → ((c : ℕ) → ev ≡ event.Cancel c → ⊥)
         → HasStepped s u before out now ev
     has_passed q same no_start no_poll no_cancel = stepped ev q (passes s u now q.acts ev q.answered same no_start no_poll no_cancel)
 
   module _ (moment : last_moment u ≡ now) (ready : core.has_failed u.cache ≡ false) (received : bytes_received u ≡ bytes_received s + 0) where
-    pub has_cancelled : (d : ℕ) → core.Steps s.cache u.cache before out now (event.Cancel d) → ChangesAt d None s.watches u.watches → HasStepped s u before out now (event.Cancel d)
+    pub has_cancelled : (d : ℕ) → core.Steps s.cache u.cache before out now (event.Cancel d) → ChangesAt d None s.watches u.watches →
+        HasStepped s u before out now (event.Cancel d)
     has_cancelled d q changes = stepped (event.Cancel d) moment received ready (event.Cancel d) q (cancels s u now q.acts d q.answered changes)
 
     module _ (d : ℕ) (request : Request) where
       pub has_started : core.Steps s.cache u.cache before out now (event.Start d request) → u.watches ≡ s.watches
-          → ((contents : Contents) (h : History) → StandsFor s.cache contents h → is_watched (tables contents h) request ≡ false) → HasStepped s u before out now (event.Start d request)
-      has_started q same off = stepped (event.Start d request) moment received ready (event.Start d request) q (starts_unwatched s u now q.acts d request q.answered same (front_so request false off))
+          → ((contents : Contents) (h : History) → StandsFor s.cache contents h → is_watched (tables contents h) request ≡ false) →
+          HasStepped s u before out now (event.Start d request)
+      has_started q same off =
+          stepped (event.Start d request) moment received ready (event.Start d request) q
+          (starts_unwatched s u now q.acts d request q.answered same (front_so request false off))
 
       pub has_denied : (q : core.Steps s.cache u.cache before out now (event.Start d (unconditioned request))) → u.watches ≡ s.watches → is_denied q.acts ≡ true
-          → ((contents : Contents) (h : History) → StandsFor s.cache contents h → is_watched (tables contents h) request ≡ true) → HasStepped s u before out now (event.Start d request)
-      has_denied q same denied on = stepped (event.Start d request) moment received ready (event.Start d (unconditioned request)) q (starts_denied s u now q.acts d request q.answered same denied (front_so request true on))
+          → ((contents : Contents) (h : History) → StandsFor s.cache contents h → is_watched (tables contents h) request ≡ true) →
+          HasStepped s u before out now (event.Start d request)
+      has_denied q same denied on =
+          stepped (event.Start d request) moment received ready (event.Start d (unconditioned request)) q
+          (starts_denied s u now q.acts d request q.answered same denied (front_so request true on))
 
-      pub has_watched : (between : List Act) (q : core.Steps s.cache u.cache before between now (event.Start d (unconditioned request))) → out ≡ between → ChangesAt d (Some (newly request)) s.watches u.watches → is_denied q.acts ≡ false
-          → ((contents : Contents) (h : History) → StandsFor s.cache contents h → is_watched (tables contents h) request ≡ true) → HasStepped s u before out now (event.Start d request)
+      pub has_watched : (between : List Act) (q : core.Steps s.cache u.cache before between now (event.Start d (unconditioned request))) → out ≡ between →
+          ChangesAt d (Some (newly request)) s.watches u.watches → is_denied q.acts ≡ false
+          → ((contents : Contents) (h : History) → StandsFor s.cache contents h → is_watched (tables contents h) request ≡ true) →
+          HasStepped s u before out now (event.Start d request)
       has_watched between q same changes accepted on = record {
-        steps = record { acts = q.acts; reported = same ∙ q.reported; answered = starts_on s u now q.acts d request q.answered changes accepted (front_so request true on) };
+        steps = record {
+          acts = q.acts;
+          reported = same ∙ q.reported;
+          answered =
+              starts_on s u now q.acts d request q.answered changes accepted (front_so request true on);
+        };
         moment = moment;
         received = received;
         ready = ready;
       }
 
     module _ (d want : ℕ) where
-      pub has_polled : core.Steps s.cache u.cache before out now (event.Poll d want) → u.watches ≡ s.watches → watched_in s.watches d ≡ None → HasStepped s u before out now (event.Poll d want)
-      has_polled q same none = stepped (event.Poll d want) moment received ready (event.Poll d want) q (polls_unwatched s u now q.acts d want q.answered same none)
+      pub has_polled : core.Steps s.cache u.cache before out now (event.Poll d want) → u.watches ≡ s.watches → watched_in s.watches d ≡ None →
+          HasStepped s u before out now (event.Poll d want)
+      has_polled q same none =
+          stepped (event.Poll d want) moment received ready (event.Poll d want) q (polls_unwatched s u now q.acts d want q.answered same none)
 
       -- by its end, which stands behind what the cache appended
-      pub has_ended : (between : List Act) → core.Steps s.cache u.cache before between now (event.Cancel d) → out ≡ between ++ act.Ended d ∷ [] → is_ending (watched_in s.watches d) want ≡ true
+      pub has_ended : (between : List Act) → core.Steps s.cache u.cache before between now (event.Cancel d) → out ≡ between ++ act.Ended d ∷ [] →
+          is_ending (watched_in s.watches d) want ≡ true
           → ChangesAt d None s.watches u.watches → HasStepped s u before out now (event.Poll d want)
       has_ended between q pushed ending changes = record {
         steps = record {
@@ -177,13 +199,16 @@ module _ {B : Type 0} {g : Ghosts B} (s u : Front B g) (now : ℕ) (before out :
       }
 
       -- by what was heard apart, and told
-      pub has_reported : (w : Watched) (heard : List Act) → core.Steps s.cache u.cache [] heard now (event.Poll d want) → out ≡ before ++ map (act_shown w.request) heard → watched_in s.watches d ≡ Some w → is_ending (watched_in s.watches d) want ≡ false
-          → ChangesAt d (settled (leaves_in d heard) (list_any (is_satisfying w.request) heard) (Some w)) s.watches u.watches → HasStepped s u before out now (event.Poll d want)
+      pub has_reported : (w : Watched) (heard : List Act) → core.Steps s.cache u.cache [] heard now (event.Poll d want) → out ≡ before ++
+          map (act_shown w.request) heard → watched_in s.watches d ≡ Some w → is_ending (watched_in s.watches d) want ≡ false
+          → ChangesAt d (settled (leaves_in d heard) (list_any (is_satisfying w.request) heard) (Some w)) s.watches u.watches →
+          HasStepped s u before out now (event.Poll d want)
       has_reported w heard q reported kept other changes = record {
         steps = record {
           acts = map (act_shown w.request) heard;
           reported = reported;
-          answered = polls_on s u now heard d want w kept other (subst (core.Answers s.cache u.cache now (event.Poll d want)) (sym q.reported) q.answered) changes;
+          answered = polls_on s u now heard d want w kept other (subst (core.Answers s.cache u.cache now (event.Poll d want)) (sym q.reported) q.answered)
+              changes;
         };
         moment = moment;
         received = received;
@@ -192,35 +217,48 @@ module _ {B : Type 0} {g : Ghosts B} (s u : Front B g) (now : ℕ) (before out :
 
   -- THE SAME, OF AN EVENT THAT IS SO
 
-  pub cancelled_at : (ev : Event) (d : ℕ) → ev ≡ event.Cancel d → core.Steps s.cache u.cache before out now ev → last_moment u ≡ now → core.has_failed u.cache ≡ false → bytes_received u ≡ bytes_received s + received_in ev
+  pub cancelled_at : (ev : Event) (d : ℕ) → ev ≡ event.Cancel d → core.Steps s.cache u.cache before out now ev → last_moment u ≡ now →
+      core.has_failed u.cache ≡ false → bytes_received u ≡ bytes_received s + received_in ev
       → ChangesAt d None s.watches u.watches → HasStepped s u before out now ev
   cancelled_at ev d at =
-      subst (λ (z : Event). core.Steps s.cache u.cache before out now z → last_moment u ≡ now → core.has_failed u.cache ≡ false → bytes_received u ≡ bytes_received s + received_in z → ChangesAt d None s.watches u.watches → HasStepped s u before out now z) (sym at)
+      subst (λ (z : Event). core.Steps s.cache u.cache before out now z → last_moment u ≡ now → core.has_failed u.cache ≡ false →
+      bytes_received u ≡ bytes_received s + received_in z → ChangesAt d None s.watches u.watches → HasStepped s u before out now z) (sym at)
       (λ q moment ready received changes. has_cancelled moment ready received d q changes)
 
-  pub started_at : (ev : Event) (d : ℕ) (request : Request) → ev ≡ event.Start d request → core.Steps s.cache u.cache before out now ev → last_moment u ≡ now → core.has_failed u.cache ≡ false → bytes_received u ≡ bytes_received s + received_in ev
-      → u.watches ≡ s.watches → ((contents : Contents) (h : History) → StandsFor s.cache contents h → is_watched (tables contents h) request ≡ false) → HasStepped s u before out now ev
+  pub started_at : (ev : Event) (d : ℕ) (request : Request) → ev ≡ event.Start d request → core.Steps s.cache u.cache before out now ev →
+      last_moment u ≡ now → core.has_failed u.cache ≡ false → bytes_received u ≡ bytes_received s + received_in ev
+      → u.watches ≡ s.watches → ((contents : Contents) (h : History) → StandsFor s.cache contents h → is_watched (tables contents h) request ≡ false) →
+      HasStepped s u before out now ev
   started_at ev d request at =
-      subst (λ (z : Event). core.Steps s.cache u.cache before out now z → last_moment u ≡ now → core.has_failed u.cache ≡ false → bytes_received u ≡ bytes_received s + received_in z → u.watches ≡ s.watches → ((contents : Contents) (h : History) → StandsFor s.cache contents h → is_watched (tables contents h) request ≡ false) → HasStepped s u before out now z) (sym at)
+      subst (λ (z : Event). core.Steps s.cache u.cache before out now z → last_moment u ≡ now → core.has_failed u.cache ≡ false →
+      bytes_received u ≡ bytes_received s + received_in z → u.watches ≡ s.watches →
+      ((contents : Contents) (h : History) → StandsFor s.cache contents h → is_watched (tables contents h) request ≡ false) →
+      HasStepped s u before out now z) (sym at)
       (λ q moment ready received same off. has_started moment ready received d request q same off)
 
-  pub polled_at : (ev : Event) (d want : ℕ) → ev ≡ event.Poll d want → core.Steps s.cache u.cache before out now ev → last_moment u ≡ now → core.has_failed u.cache ≡ false → bytes_received u ≡ bytes_received s + received_in ev
+  pub polled_at : (ev : Event) (d want : ℕ) → ev ≡ event.Poll d want → core.Steps s.cache u.cache before out now ev → last_moment u ≡ now →
+      core.has_failed u.cache ≡ false → bytes_received u ≡ bytes_received s + received_in ev
       → u.watches ≡ s.watches → watched_in s.watches d ≡ None → HasStepped s u before out now ev
   polled_at ev d want at =
-      subst (λ (z : Event). core.Steps s.cache u.cache before out now z → last_moment u ≡ now → core.has_failed u.cache ≡ false → bytes_received u ≡ bytes_received s + received_in z → u.watches ≡ s.watches → watched_in s.watches d ≡ None → HasStepped s u before out now z) (sym at)
+      subst (λ (z : Event). core.Steps s.cache u.cache before out now z → last_moment u ≡ now → core.has_failed u.cache ≡ false →
+      bytes_received u ≡ bytes_received s + received_in z → u.watches ≡ s.watches → watched_in s.watches d ≡ None → HasStepped s u before out now z) (sym at)
       (λ q moment ready received same none. has_polled moment ready received d want q same none)
 
-  pub reported_at : (ev : Event) (d want : ℕ) → ev ≡ event.Poll d want → (heard : List Act) → core.Steps s.cache u.cache [] heard now ev → last_moment u ≡ now → core.has_failed u.cache ≡ false → bytes_received u ≡ bytes_received s + received_in ev
+  pub reported_at : (ev : Event) (d want : ℕ) → ev ≡ event.Poll d want → (heard : List Act) → core.Steps s.cache u.cache [] heard now ev →
+      last_moment u ≡ now → core.has_failed u.cache ≡ false → bytes_received u ≡ bytes_received s + received_in ev
       → (w : Watched) → out ≡ before ++ map (act_shown w.request) heard → watched_in s.watches d ≡ Some w → is_ending (watched_in s.watches d) want ≡ false
       → ChangesAt d (settled (leaves_in d heard) (list_any (is_satisfying w.request) heard) (Some w)) s.watches u.watches → HasStepped s u before out now ev
   reported_at ev d want at heard =
-      subst (λ (z : Event). core.Steps s.cache u.cache [] heard now z → last_moment u ≡ now → core.has_failed u.cache ≡ false → bytes_received u ≡ bytes_received s + received_in z
+      subst (λ (z : Event). core.Steps s.cache u.cache [] heard now z → last_moment u ≡ now → core.has_failed u.cache ≡ false →
+      bytes_received u ≡ bytes_received s + received_in z
       → (w : Watched) → out ≡ before ++ map (act_shown w.request) heard → watched_in s.watches d ≡ Some w → is_ending (watched_in s.watches d) want ≡ false
-      → ChangesAt d (settled (leaves_in d heard) (list_any (is_satisfying w.request) heard) (Some w)) s.watches u.watches → HasStepped s u before out now z) (sym at)
+      → ChangesAt d (settled (leaves_in d heard) (list_any (is_satisfying w.request) heard) (Some w)) s.watches u.watches →
+      HasStepped s u before out now z) (sym at)
       (λ q moment ready received w reported kept other changes. has_reported moment ready received d want w heard q reported kept other changes)
 
   -- the same, by what the code found in what it heard
-  pub settled_at : (ev : Event) (d want : ℕ) → ev ≡ event.Poll d want → (heard : List Act) → core.Steps s.cache u.cache [] heard now ev → last_moment u ≡ now → core.has_failed u.cache ≡ false → bytes_received u ≡ bytes_received s + received_in ev
+  pub settled_at : (ev : Event) (d want : ℕ) → ev ≡ event.Poll d want → (heard : List Act) → core.Steps s.cache u.cache [] heard now ev →
+      last_moment u ≡ now → core.has_failed u.cache ≡ false → bytes_received u ≡ bytes_received s + received_in ev
       → (w : Watched) → out ≡ before ++ map (act_shown w.request) heard → watched_in s.watches d ≡ Some w → is_ending (watched_in s.watches d) want ≡ false
       → (leaves shown : Bool) (l : List Act) → l ≡ heard → leaves ≡ list_any (is_leaving d) l → shown ≡ list_any (is_satisfying w.request) heard
       → ChangesAt d (settled leaves shown (watched_in s.watches d)) s.watches u.watches → HasStepped s u before out now ev

@@ -54,7 +54,8 @@ module _ {B : Type 0} {g : Ghosts B} where
       each = λ contents before stands.
           let led = q.each contents before stands in
           record {
-            reported = ap (λ (x : steps.Entry). x ∷ answered_of contents (q.heard ++ before)) (entry_reported contents (q.heard ++ before) led.stands) ∙ ap (λ (l : steps.History). e ∷ l) led.reported;
+            reported = ap (λ (x : steps.Entry). x ∷ answered_of contents (q.heard ++ before)) (entry_reported contents (q.heard ++ before) led.stands) ∙
+                ap (λ (l : steps.History). e ∷ l) led.reported;
             stands = a.stands contents (q.heard ++ before) led.stands;
           };
     }
@@ -69,7 +70,8 @@ module _ {B : Type 0} {g : Ghosts B} where
   }
   led s _ _ (more h e t u leads answered) = one_more s t u h e (led s t h leads) answered
 
-  goes_on : (s u : Front B g) (h : steps.History) (q : Led s u h) (contents : Contents) (before : FrontHistory) → FrontStands s contents before → GoesOn s u h q.heard contents before
+  goes_on : (s u : Front B g) (h : steps.History) (q : Led s u h) (contents : Contents) (before : FrontHistory) → FrontStands s contents before →
+      GoesOn s u h q.heard contents before
   goes_on s u h q contents before stood =
       let led = q.each contents before stood in
       record {
@@ -87,10 +89,12 @@ module _ {B : Type 0} {g : Ghosts B} where
       record { heard = q.heard; events_are = are; goes_on = goes_on s u h q; counted = q.counted; number = q.number }
 
   -- how far they were stepped, they were replayed
-  replays_so : (s u : Front B g) (out out' : Option (List ℕ)) (how : How) (events : List Timed) → Steps answers spent s u out out' how events → ReplaysFront s u out out' how events
+  replays_so : (s u : Front B g) (out out' : Option (List ℕ)) (how : How) (events : List Timed) → Steps answers spent s u out out' how events →
+      ReplaysFront s u out out' how events
   replays_so s u out out' _ events (steps.wholly h are leads taken) = replays.wholly h (replayed s u events h are leads) taken
   replays_so s u out out' _ events (steps.up_to_last h are leads taken) = replays.up_to_last h (replayed s u events h are leads) taken
   replays_so s u out out' _ events (steps.up_to_want h last are leads taken led) = replays.up_to_want h last (replayed s last events h are leads) taken led
 
-  pub replays_all : (s u : Front B g) (moment : ℕ) (left left' out out' : Option (List ℕ)) (e : Ended) → Ends (Steps answers spent s u out out') moment left left' e → Ends (ReplaysFront s u out out') moment left left' e
+  pub replays_all : (s u : Front B g) (moment : ℕ) (left left' out out' : Option (List ℕ)) (e : Ended) →
+      Ends (Steps answers spent s u out out') moment left left' e → Ends (ReplaysFront s u out out') moment left left' e
   replays_all s u moment left left' out out' e ends = ends_so _ _ (replays_so s u out out') moment left left' e ends

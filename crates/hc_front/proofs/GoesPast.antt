@@ -42,10 +42,13 @@ disabled_by false false false d e on = absurd (let no : false ≡ true = on in c
 past : (request : Request) → is_external request ≡ true → is_disabled request ≡ true
 unfolding is_external is_disabled
 past request on =
-    disabled_by (not (is_get request)) (disables request.load) (has_condition request.fields) (of_request request.fields).no_store (is_none (ranges_read (ranges_in request.fields)))
-    (conditions (has_field (codes "if-match") request.fields) (has_field (codes "if-unmodified-since") request.fields) (has_field (codes "if-range") request.fields)
+    disabled_by (not (is_get request)) (disables request.load) (has_condition request.fields) (of_request request.fields).no_store
+    (is_none (ranges_read (ranges_in request.fields)))
+    (conditions (has_field (codes "if-match") request.fields) (has_field (codes "if-unmodified-since") request.fields)
+    (has_field (codes "if-range") request.fields)
     (has_field (codes "if-none-match") request.fields) (has_field (codes "if-modified-since") request.fields)
-    (about (is_get request) (not (disables request.load)) (not (asks_more request.fields)) (is_about_copy request.fields) (are_tags (none_match_of request.fields)) (is_date_or_absent request.fields) on))
+    (about (is_get request) (not (disables request.load)) (not (asks_more request.fields)) (is_about_copy request.fields)
+    (are_tags (none_match_of request.fields)) (is_date_or_absent request.fields) on))
 
 -- ITS POLL
 
@@ -65,7 +68,8 @@ no_size : (limits : Limits) (t : Tables) (now c want : ℕ) → size_flaw limits
 unfolding room_for
 no_size limits t now c want = refl
 
-answered : (limits : Limits) (t : Tables) (e : Entry) (acts : List Act) → IsOwed limits t e → is_denied e.acts ≡ false → failures_in e.acts ≡ 0 → size_flaw limits t e.now e.event ≡ NoFlaw
+answered : (limits : Limits) (t : Tables) (e : Entry) (acts : List Act) → IsOwed limits t e → is_denied e.acts ≡ false → failures_in e.acts ≡ 0 →
+    size_flaw limits t e.now e.event ≡ NoFlaw
     → accepted_acts limits t e.now e.event NoFlaw ≡ acts → e.acts ≡ acts
 unfolding answer owed
 answered limits t e acts is on sound none are =
@@ -83,7 +87,8 @@ reported_on : (t : Fronted) (c want : ℕ) (acts : List Act) → t.watched c ≡
 unfolding is_ending
 reported_on t c want acts none = rw none refl
 
-module _ (limits : Limits) (t : Fronted) (law : Lawful t.core) (e : FrontEntry) (is : IsOwed limits t.core (core_entry t e)) (c want since : ℕ) (request : Request) where
+module _ (limits : Limits) (t : Fronted) (law : Lawful t.core) (e : FrontEntry) (is : IsOwed limits t.core (core_entry t e)) (c want since : ℕ)
+    (request : Request) where
   goes_on : t.watched c ≡ None → t.core.consumer c ≡ Some (new_consumer since request) → is_external request ≡ true → is_only request ≡ false
       → e.event ≡ event.Poll c want → is_denied e.acts ≡ false → failures_in e.acts ≡ 0
       → reported t e.event e.acts ≡ acts_of c (Opens (t.core.opened + 1) need.Disabled request)
@@ -91,7 +96,8 @@ module _ (limits : Limits) (t : Fronted) (law : Lawful t.core) (e : FrontEntry) 
       let acts = acts_of c (Opens (t.core.opened + 1) need.Disabled request) in
       let hand : handed t e.event ≡ event.Poll c want = ap (handed t) at ∙ handed_on t c want none in
       let move = opens t.core e.now c want since request on off in
-      let are = polls.acts_are limits t.core law e.now c want (new_consumer since request) row (Opens (t.core.opened + 1) need.Disabled request) (polls.opens (t.core.opened + 1) need.Disabled request) move in
+      let are = polls.acts_are limits t.core law e.now c want (new_consumer since request) row (Opens (t.core.opened + 1) need.Disabled request)
+      (polls.opens (t.core.opened + 1) need.Disabled request) move in
       let all : e.acts ≡ acts = answered limits t.core (core_entry t e) acts is accepted sound
       (ap (size_flaw limits t.core e.now) hand ∙ no_size limits t.core e.now c want)
       (ap (λ (z : Event). accepted_acts limits t.core e.now z NoFlaw) hand ∙ are) in

@@ -21,10 +21,12 @@ use Rattle.hc_core.proofs.NobodyLive.{over_by as over_is}
 
 -- WHAT THE FRONT TELLS OF BYTES
 
-gives_as : (c : ℕ) (request : Request) (a : Act) (acts others : List Act) → given_in c acts ≡ given_in c others → given_in c (act_shown request a ∷ acts) ≡ given_in c (a ∷ others)
+gives_as : (c : ℕ) (request : Request) (a : Act) (acts others : List Act) → given_in c acts ≡ given_in c others → given_in
+    c (act_shown request a ∷ acts) ≡ given_in c (a ∷ others)
 gives_as c request (act.Shown d r why status fields lo hi) acts others same = by_test (is_not_modified request status fields)
   where
-    by_test : (b : Bool) → given_in c ((if b then act.Shown d r why 304 (fields_of_304 fields) 0 (Some 0) else act.Shown d r why status fields lo hi) ∷ acts) ≡ given_in c others
+    by_test : (b : Bool) → given_in
+        c ((if b then act.Shown d r why 304 (fields_of_304 fields) 0 (Some 0) else act.Shown d r why status fields lo hi) ∷ acts) ≡ given_in c others
     by_test true = same
     by_test false = same
 gives_as c request (act.Given d x at bytes) acts others same = ap (λ (l : List ℕ). if nat_eq d c then bytes ++ l else l) same
@@ -133,7 +135,8 @@ module _ (limits : Limits) (t : Tables) (e : Entry) (is : IsOwed limits t e) whe
     by_move moves.Ends on = never _ (rest_quiet request ys flaw) on
     by_move (moves.Fails why) on = never _ (rest_quiet request ys flaw) on
 
-    by_flaw : (now want : ℕ) (z : Flaw) → list_any (is_satisfying request) (poll_acts t now want c z ++ rest) ≡ true → ShowsAlone c (poll_acts t now want c z ++ rest)
+    by_flaw : (now want : ℕ) (z : Flaw) → list_any (is_satisfying request) (poll_acts t now want c z ++ rest) ≡ true →
+        ShowsAlone c (poll_acts t now want c z ++ rest)
     by_flaw now want NoFlaw on = by_move (poll_move t now want c (t.consumer c)) on
     by_flaw now want (Loses r kind) on = by_move (poll_move t now want c (t.consumer c)) on
     by_flaw now want (Misreads r) on = never _ (rest_quiet request ys flaw) on
@@ -148,13 +151,17 @@ module _ (limits : Limits) (t : Tables) (e : Entry) (is : IsOwed limits t e) whe
       by_test : (b : Bool) → is_denied e.acts ≡ b → ShowsAlone c e.acts
       by_test true denied = never _ (denied_quiet request e.acts (is_denial e.acts denied)) on
       by_test false accepted =
-          let all : e.acts ≡ accepted_acts limits t e.now (event.Poll c want) (flaw_in e.acts) = acts_are limits t e is accepted ∙ ap (λ (z : Event). accepted_acts limits t e.now z (flaw_in e.acts)) at in
+          let all : e.acts ≡ accepted_acts limits t e.now (event.Poll c want) (flaw_in e.acts) = acts_are limits t e is accepted ∙
+          ap (λ (z : Event). accepted_acts limits t e.now z (flaw_in e.acts)) at in
           subst (ShowsAlone c) (sym all)
-          (by_flaw c request (closing t (record { now = e.now; event = event.Poll c want; acts = poll_acts t e.now want c (flaw_in e.acts) ++ loss_acts (flaw_in e.acts) })) (flaw_in e.acts) e.now want (flaw_in e.acts)
+          (by_flaw c request (closing t
+          (record { now = e.now; event = event.Poll c want; acts = poll_acts t e.now want c (flaw_in e.acts) ++ loss_acts (flaw_in e.acts) }))
+          (flaw_in e.acts) e.now want (flaw_in e.acts)
           (sym (ap (list_any (is_satisfying request)) all) ∙ on))
 
 -- nothing was given before the first head
-ungiven_before : (limits : Limits) (contents : Contents) (c : ℕ) (e : Entry) (f : History) → IsRun limits contents (e ∷ f) → 1 ≤ length (shown_in c e.acts) → given_of c f ≡ []
+ungiven_before : (limits : Limits) (contents : Contents) (c : ℕ) (e : Entry) (f : History) → IsRun limits contents (e ∷ f) →
+    1 ≤ length (shown_in c e.acts) → given_of c f ≡ []
 ungiven_before limits contents c e f run some =
     let all : length (shown_of c f ++ shown_in c e.acts) ≤ 1 = (one_head_is_shown limits contents (e ∷ f) run c).0 in
     let sum = length-append (shown_of c f) (shown_in c e.acts) in
@@ -193,12 +200,14 @@ module _ (limits : Limits) (t : Fronted) (law : Lawful t.core) (alive : (c : ℕ
   unfolding is_ending
   ending w want on off = by_both w.satisfied want on off
 
-  quiet_poll : (c d n want : ℕ) (w : Watched) → t.watched c ≡ Some w → w.satisfied ≡ true → (b : Bool) → is_ending (t.watched d) n ≡ b → (if b then event.Cancel d else event.Poll d n) ≡ event.Poll c want → want ≡ 0
+  quiet_poll : (c d n want : ℕ) (w : Watched) → t.watched c ≡ Some w → w.satisfied ≡ true → (b : Bool) → is_ending (t.watched d) n ≡ b →
+      (if b then event.Cancel d else event.Poll d n) ≡ event.Poll c want → want ≡ 0
   quiet_poll c d n want w kept on true ends at = absurd (let no : event.Cancel d ≡ event.Poll c want = at in cc)
   quiet_poll c d n want w kept on false goes_on at =
       let same : d ≡ c = ap polled_by at in
       let count : n ≡ want = ap wanted_by at in
-      ending w want on (ap (λ (o : Option Watched). is_ending o want) (sym kept) ∙ (ap (λ (z : ℕ). is_ending (t.watched z) want) (sym same) ∙ (ap (is_ending (t.watched d)) (sym count) ∙ goes_on)))
+      ending w want on (ap (λ (o : Option Watched). is_ending o want) (sym kept) ∙
+      (ap (λ (z : ℕ). is_ending (t.watched z) want) (sym same) ∙ (ap (is_ending (t.watched d)) (sym count) ∙ goes_on)))
 
   start_no_poll : (c d want : ℕ) (request other : Request) (b : Bool) → (if b then event.Start d other else event.Start d request) ≡ event.Poll c want → ⊥
   start_no_poll c d want request other true at = let no : event.Start d other ≡ event.Poll c want = at in cc
@@ -217,7 +226,8 @@ module _ (limits : Limits) (t : Fronted) (law : Lawful t.core) (alive : (c : ℕ
   -- it is given nothing
   polls_live : (c want : ℕ) → handed t e.event ≡ event.Poll c want → is_denied e.acts ≡ false → is_live (t.core.consumer c) ≡ true
   unfolding refusals.refusal_of
-  polls_live c want at on = poll_live limits t.core e.now (flaw_in e.acts) law.sound c want (sym (ap (denial t.core) at) ∙ goes limits t.core (core_entry t e) is on)
+  polls_live c want at on =
+      poll_live limits t.core e.now (flaw_in e.acts) law.sound c want (sym (ap (denial t.core) at) ∙ goes limits t.core (core_entry t e) is on)
 
   quiet : (c : ℕ) → IsQuiet t c → given_in c e.acts ≡ []
   quiet c (satisfied w kept on) =
@@ -248,7 +258,8 @@ module _ (limits : Limits) (t : Fronted) (law : Lawful t.core) (alive : (c : ℕ
         | inr on ↦ row_after c k ((after t.core (core_entry t e)).consumer c) (sym (on.1 ∙ ap (consumer_after t.core (core_entry t e) c) row))
       ]
 
-  is_over : (c : ℕ) (q : Consumer) → (after t.core (core_entry t e)).consumer c ≡ Some q → is_live ((after t.core (core_entry t e)).consumer c) ≡ false → IsQuiet (front_after t e) c
+  is_over : (c : ℕ) (q : Consumer) → (after t.core (core_entry t e)).consumer c ≡ Some q → is_live ((after t.core (core_entry t e)).consumer c) ≡ false →
+      IsQuiet (front_after t e) c
   unfolding front_after
   is_over c q row dead = over q row (over_is q.place (sym (ap is_live row) ∙ dead))
 
@@ -263,7 +274,8 @@ module _ (limits : Limits) (t : Fronted) (law : Lawful t.core) (alive : (c : ℕ
 
   -- WHO STARTS IS NEW
 
-  by_watch : (d : ℕ) (request : Request) (b : Bool) → is_watched t.core request ≡ b → (other : Request) × (handed t (event.Start d request) ≡ event.Start d other)
+  by_watch : (d : ℕ) (request : Request) (b : Bool) → is_watched t.core request ≡ b → (other : Request) ×
+      (handed t (event.Start d request) ≡ event.Start d other)
   by_watch d request true is_so = (unconditioned request, rw is_so refl)
   by_watch d request false is_so = (request, rw is_so refl)
 
@@ -336,11 +348,13 @@ module _ (limits : Limits) (contents : Contents) (may : may_begin limits content
   law_of : (f : FrontHistory) → IsRun limits contents (core_of contents f) → Lawful (fronted contents f).core
   law_of f run = subst Lawful (sym (core_is contents f)) (lawful_in_runs limits contents (core_of contents f) may run)
 
-  owed_of : (e : FrontEntry) (f : FrontHistory) → IsRun limits contents (core_of contents (e ∷ f)) → IsOwed limits (fronted contents f).core (core_entry (fronted contents f) e)
+  owed_of : (e : FrontEntry) (f : FrontHistory) → IsRun limits contents (core_of contents (e ∷ f)) →
+      IsOwed limits (fronted contents f).core (core_entry (fronted contents f) e)
   owed_of e f run = subst (λ (t : Tables). IsOwed limits t (core_entry (fronted contents f) e)) (sym (core_is contents f)) run.1
 
   -- what was given stays all
-  none_later : (later f : FrontHistory) (c : ℕ) → IsRun limits contents (core_of contents (later ++ f)) → IsQuiet (fronted contents f) c → given_of c (core_of contents f) ≡ []
+  none_later : (later f : FrontHistory) (c : ℕ) → IsRun limits contents (core_of contents (later ++ f)) → IsQuiet (fronted contents f) c →
+      given_of c (core_of contents f) ≡ []
       → (given_of c (core_of contents (later ++ f)) ≡ []) × IsQuiet (fronted contents (later ++ f)) c
   unfolding fronted
   none_later [] f c run is none = (none, is)
@@ -374,7 +388,8 @@ module _ (limits : Limits) (contents : Contents) (may : may_begin limits content
     unfolding is_ending
     not_satisfied u want off = rw off refl
 
-    by_flag : (u : Watched) (want : ℕ) (b : Bool) → u.satisfied ≡ b → t.watched c ≡ Some u → e.event ≡ event.Poll c want → (u.satisfied || list_any (is_satisfying u.request) e.acts) ≡ true → Since e t c
+    by_flag : (u : Watched) (want : ℕ) (b : Bool) → u.satisfied ≡ b → t.watched c ≡ Some u → e.event ≡ event.Poll c want →
+        (u.satisfied || list_any (is_satisfying u.request) e.acts) ≡ true → Since e t c
     by_flag u want true is_so kept at any = was u kept is_so
     by_flag u want false off kept at any =
         let goes_on : is_ending (t.watched c) want ≡ false = ap (λ (o : Option Watched). is_ending o want) kept ∙ not_satisfied u want off in
@@ -387,7 +402,8 @@ module _ (limits : Limits) (contents : Contents) (may : may_begin limits content
         let same : record u { satisfied = u.satisfied || list_any (is_satisfying u.request) e.acts } ≡ w = cc in
         by_flag u want u.satisfied refl kept at (ap (λ (z : Watched). z.satisfied) same ∙ on)
 
-    own_or_not : (d want : ℕ) (b : Bool) → nat_eq d c ≡ b → e.event ≡ event.Poll d want → (if b then watched_polled e.acts (t.watched c) else t.watched c) ≡ Some w → Since e t c
+    own_or_not : (d want : ℕ) (b : Bool) → nat_eq d c ≡ b → e.event ≡ event.Poll d want →
+        (if b then watched_polled e.acts (t.watched c) else t.watched c) ≡ Some w → Since e t c
     own_or_not d want true here at kept =
         let same : d ≡ c = grind (arith, nat_tests) in
         by_poll want (t.watched c) refl (at ∙ ap (λ (z : ℕ). event.Poll z want) same) kept
@@ -410,16 +426,19 @@ module _ (limits : Limits) (contents : Contents) (may : may_begin limits content
         by_test true g = g
         by_test false g = absurd (let no : None ≡ Some w = g in cc)
 
-  by_since : (e : FrontEntry) (f : FrontHistory) (c : ℕ) → IsRun limits contents (core_of contents (e ∷ f)) → ((u : Watched) → (fronted contents f).watched c ≡ Some u → u.satisfied ≡ true → given_of c (core_of contents f) ≡ [])
+  by_since : (e : FrontEntry) (f : FrontHistory) (c : ℕ) → IsRun limits contents (core_of contents (e ∷ f)) →
+      ((u : Watched) → (fronted contents f).watched c ≡ Some u → u.satisfied ≡ true → given_of c (core_of contents f) ≡ [])
       → Since e (fronted contents f) c → given_of c (core_of contents (e ∷ f)) ≡ []
   by_since e f c run before (was u there so) =
       ap (λ (l : List ℕ). l ++ given_in c e.acts) (before u there so)
       ∙ quiet limits (fronted contents f) (law_of f run.0) (watched_live contents f) e (owed_of e f run) c (satisfied u there so)
   by_since e f c run before (shown want request at any) =
       let alone = shows_alone limits (fronted contents f).core (core_entry (fronted contents f) e) (owed_of e f run) c want request at any in
-      ap (λ (l : List ℕ). l ++ given_in c e.acts) (ungiven_before limits contents c (core_entry (fronted contents f) e) (core_of contents f) run alone.some) ∙ alone.given
+      ap (λ (l : List ℕ). l ++ given_in c e.acts)
+      (ungiven_before limits contents c (core_entry (fronted contents f) e) (core_of contents f) run alone.some) ∙ alone.given
 
-  none_before : (f : FrontHistory) (c : ℕ) (w : Watched) → IsRun limits contents (core_of contents f) → (fronted contents f).watched c ≡ Some w → w.satisfied ≡ true → given_of c (core_of contents f) ≡ []
+  none_before : (f : FrontHistory) (c : ℕ) (w : Watched) → IsRun limits contents (core_of contents f) → (fronted contents f).watched c ≡ Some w →
+      w.satisfied ≡ true → given_of c (core_of contents f) ≡ []
   unfolding fronted front_after
   none_before [] c w run kept on = refl
   none_before (e ∷ f) c w run kept on =

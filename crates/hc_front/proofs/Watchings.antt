@@ -32,7 +32,8 @@ while_some o x w h = by_test (is_live o) refl h
     by_test true is g = is
     by_test false off g = absurd (let never : None ≡ Some w = g in cc)
 
-pub watched_live : (contents : Contents) (f : FrontHistory) (c : ℕ) (w : Watched) → (fronted contents f).watched c ≡ Some w → is_live ((fronted contents f).core.consumer c) ≡ true
+pub watched_live : (contents : Contents) (f : FrontHistory) (c : ℕ) (w : Watched) → (fronted contents f).watched c ≡ Some w →
+    is_live ((fronted contents f).core.consumer c) ≡ true
 unfolding fronted front_after
 watched_live contents [] c w h = absurd (let never : None ≡ Some w = h in cc)
 watched_live contents (e ∷ f) c w h = while_some _ _ w h
@@ -70,7 +71,8 @@ whom _ = 0
 
 -- WHO STARTS IS NEW
 
-by_refusal : (late many : Bool) (n : ℕ) → (if late then Some (refusal.NotRising n) else if many then Some refusal.TooManyConsumers else None) ≡ None → late ≡ false
+by_refusal : (late many : Bool) (n : ℕ) → (if late then Some (refusal.NotRising n) else if many then Some refusal.TooManyConsumers else None) ≡ None →
+    late ≡ false
 by_refusal true many n h = absurd (some_none _ h)
 by_refusal false many n h = refl
 
@@ -103,7 +105,8 @@ module _ (limits : Limits) (t : Fronted) (law : Lawful t.core) (alive : (c : ℕ
     stays c other stay = while_keeps _ (t.watched c) (λ w kept. stays_live t.core entry c other stay (alive c w kept))
 
     -- who isn't spoken of keeps what it has
-    pub keeps : (c : ℕ) → watched_by t.core heard c ev (t.watched c) ≡ t.watched c → (handed t ev ≡ event.Cancel c → ⊥) → ((want : ℕ) → handed t ev ≡ event.Poll c want → ⊥)
+    pub keeps : (c : ℕ) → watched_by t.core heard c ev (t.watched c) ≡ t.watched c → (handed t ev ≡ event.Cancel c → ⊥) →
+        ((want : ℕ) → handed t ev ≡ event.Poll c want → ⊥)
         → t.watched c ≡ (front_after t e).watched c
     unfolding front_after
     keeps c same no_cancel no_poll = sym (ap (while_live ((after t.core entry).consumer c)) same ∙ stays c no_cancel (quiet c no_poll))
@@ -115,7 +118,8 @@ module _ (limits : Limits) (t : Fronted) (law : Lawful t.core) (alive : (c : ℕ
 
     -- WHAT NAMES NO CONSUMER
 
-    pub others_keep : ((c : ℕ) (request : Request) → ev ≡ event.Start c request → ⊥) → ((c want : ℕ) → ev ≡ event.Poll c want → ⊥) → ((c : ℕ) → ev ≡ event.Cancel c → ⊥)
+    pub others_keep : ((c : ℕ) (request : Request) → ev ≡ event.Start c request → ⊥) → ((c want : ℕ) → ev ≡ event.Poll c want → ⊥) →
+        ((c : ℕ) → ev ≡ event.Cancel c → ⊥)
         → (c : ℕ) → t.watched c ≡ (front_after t e).watched c
     others_keep no_start no_poll no_cancel c = by_event ev refl
       where
@@ -123,11 +127,26 @@ module _ (limits : Limits) (t : Fronted) (law : Lawful t.core) (alive : (c : ℕ
         by_event (event.Start d request) at = absurd (no_start d request at)
         by_event (event.Poll d want) at = absurd (no_poll d want at)
         by_event (event.Cancel d) at = absurd (no_cancel d at)
-        by_event (event.Head x response) at = keeps c (ap (λ z. watched_by t.core heard c z (t.watched c)) at) (λ h. let never : event.Head x response ≡ event.Cancel c = sym (ap (handed t) at) ∙ h in cc) (λ want h. let never : event.Head x response ≡ event.Poll c want = sym (ap (handed t) at) ∙ h in cc)
-        by_event (event.Piece x bytes) at = keeps c (ap (λ z. watched_by t.core heard c z (t.watched c)) at) (λ h. let never : event.Piece x bytes ≡ event.Cancel c = sym (ap (handed t) at) ∙ h in cc) (λ want h. let never : event.Piece x bytes ≡ event.Poll c want = sym (ap (handed t) at) ∙ h in cc)
-        by_event (event.End x) at = keeps c (ap (λ z. watched_by t.core heard c z (t.watched c)) at) (λ h. let never : event.End x ≡ event.Cancel c = sym (ap (handed t) at) ∙ h in cc) (λ want h. let never : event.End x ≡ event.Poll c want = sym (ap (handed t) at) ∙ h in cc)
-        by_event (event.Fault x) at = keeps c (ap (λ z. watched_by t.core heard c z (t.watched c)) at) (λ h. let never : event.Fault x ≡ event.Cancel c = sym (ap (handed t) at) ∙ h in cc) (λ want h. let never : event.Fault x ≡ event.Poll c want = sym (ap (handed t) at) ∙ h in cc)
-        by_event (event.Doom key) at = keeps c (ap (λ z. watched_by t.core heard c z (t.watched c)) at) (λ h. let never : event.Doom key ≡ event.Cancel c = sym (ap (handed t) at) ∙ h in cc) (λ want h. let never : event.Doom key ≡ event.Poll c want = sym (ap (handed t) at) ∙ h in cc)
+        by_event (event.Head x response) at =
+            keeps c (ap (λ z. watched_by t.core heard c z (t.watched c)) at)
+            (λ h. let never : event.Head x response ≡ event.Cancel c = sym (ap (handed t) at) ∙ h in cc)
+            (λ want h. let never : event.Head x response ≡ event.Poll c want = sym (ap (handed t) at) ∙ h in cc)
+        by_event (event.Piece x bytes) at =
+            keeps c (ap (λ z. watched_by t.core heard c z (t.watched c)) at)
+            (λ h. let never : event.Piece x bytes ≡ event.Cancel c = sym (ap (handed t) at) ∙ h in cc)
+            (λ want h. let never : event.Piece x bytes ≡ event.Poll c want = sym (ap (handed t) at) ∙ h in cc)
+        by_event (event.End x) at =
+            keeps c (ap (λ z. watched_by t.core heard c z (t.watched c)) at)
+            (λ h. let never : event.End x ≡ event.Cancel c = sym (ap (handed t) at) ∙ h in cc)
+            (λ want h. let never : event.End x ≡ event.Poll c want = sym (ap (handed t) at) ∙ h in cc)
+        by_event (event.Fault x) at =
+            keeps c (ap (λ z. watched_by t.core heard c z (t.watched c)) at)
+            (λ h. let never : event.Fault x ≡ event.Cancel c = sym (ap (handed t) at) ∙ h in cc)
+            (λ want h. let never : event.Fault x ≡ event.Poll c want = sym (ap (handed t) at) ∙ h in cc)
+        by_event (event.Doom key) at =
+            keeps c (ap (λ z. watched_by t.core heard c z (t.watched c)) at)
+            (λ h. let never : event.Doom key ≡ event.Cancel c = sym (ap (handed t) at) ∙ h in cc)
+            (λ want h. let never : event.Doom key ≡ event.Poll c want = sym (ap (handed t) at) ∙ h in cc)
 
 -- a cancelled one is gone, and nobody else
 module _ (limits : Limits) (t : Fronted) (law : Lawful t.core) (alive : (c : ℕ) (w : Watched) → t.watched c ≡ Some w → is_live (t.core.consumer c) ≡ true)
@@ -135,7 +154,8 @@ module _ (limits : Limits) (t : Fronted) (law : Lawful t.core) (alive : (c : ℕ
   pub cancels_own : IsOwed limits t.core (core_entry t (record { now = now; event = event.Cancel d; acts = heard })) → None ≡ (front_after t (record { now = now; event = event.Cancel d; acts = heard })).watched d
   cancels_own is = gone limits t law alive now (event.Cancel d) heard is d (cancelled_over limits t.core _ law is d refl)
 
-  pub cancels_others : IsOwed limits t.core (core_entry t (record { now = now; event = event.Cancel d; acts = heard })) → (c : ℕ) → nat_eq c d ≡ false → t.watched c ≡ (front_after t (record { now = now; event = event.Cancel d; acts = heard })).watched c
+  pub cancels_others : IsOwed limits t.core (core_entry t (record { now = now; event = event.Cancel d; acts = heard })) → (c : ℕ) → nat_eq c d ≡ false →
+      t.watched c ≡ (front_after t (record { now = now; event = event.Cancel d; acts = heard })).watched c
   cancels_others is c far =
       keeps limits t law alive now (event.Cancel d) heard is c refl
       (λ h. let same : d ≡ c = ap whom h in both_ways (nat_eq c d) far (ap (nat_eq c) same ∙ itself c))
@@ -192,7 +212,8 @@ module _ (limits : Limits) (t : Fronted) (law : Lawful t.core) (alive : (c : ℕ
     denied_start denied c =
         kept_by_start c
         (not_new (nat_eq d c) (not (is_denied heard)) (is_watched t.core request) (Some (newly request)) (t.watched c)
-        (and_off (nat_eq d c) (not (is_denied heard)) (is_watched t.core request) (and_off_left (not (is_denied heard)) (is_watched t.core request) (ap not denied))))
+        (and_off (nat_eq d c) (not (is_denied heard)) (is_watched t.core request)
+        (and_off_left (not (is_denied heard)) (is_watched t.core request) (ap not denied))))
 
     pub start_others : (c : ℕ) → nat_eq c d ≡ false → t.watched c ≡ (front_after t started).watched c
     start_others c far =
@@ -230,7 +251,8 @@ module _ (limits : Limits) (t : Fronted) (law : Lawful t.core) (alive : (c : ℕ
   pub handed_cancel : is_ending (t.watched d) want ≡ true → handed t (event.Poll d want) ≡ event.Cancel d
   handed_cancel on = rw on refl
 
-  names : (b : Bool) → is_ending (t.watched d) want ≡ b → (c : ℕ) → nat_eq c d ≡ false → ((handed t (event.Poll d want) ≡ event.Cancel c → ⊥)) × ((n : ℕ) → handed t (event.Poll d want) ≡ event.Poll c n → ⊥)
+  names : (b : Bool) → is_ending (t.watched d) want ≡ b → (c : ℕ) → nat_eq c d ≡ false → ((handed t (event.Poll d want) ≡ event.Cancel c → ⊥)) ×
+      ((n : ℕ) → handed t (event.Poll d want) ≡ event.Poll c n → ⊥)
   names true on c far = (
     λ h. let same : d ≡ c = ap whom (sym (handed_cancel on) ∙ h) in both_ways (nat_eq c d) far (ap (nat_eq c) same ∙ itself c),
     λ n h. let never : event.Cancel d ≡ event.Poll c n = sym (handed_cancel on) ∙ h in cc,
@@ -253,7 +275,8 @@ module _ (limits : Limits) (t : Fronted) (law : Lawful t.core) (alive : (c : ℕ
     pub poll_none : t.watched d ≡ None → None ≡ (front_after t polled).watched d
     unfolding front_after
     poll_none none =
-        sym (ap (while_live ((after t.core (core_entry t polled)).consumer d)) (none_row none) ∙ while_keeps ((after t.core (core_entry t polled)).consumer d) nothing (λ w is. absurd (let never : None ≡ Some w = is in cc)))
+        sym (ap (while_live ((after t.core (core_entry t polled)).consumer d)) (none_row none) ∙
+        while_keeps ((after t.core (core_entry t polled)).consumer d) nothing (λ w is. absurd (let never : None ≡ Some w = is in cc)))
 
     -- it ended it
     pub poll_ends : is_ending (t.watched d) want ≡ true → None ≡ (front_after t polled).watched d
@@ -263,7 +286,8 @@ module _ (limits : Limits) (t : Fronted) (law : Lawful t.core) (alive : (c : ℕ
     pub poll_leaves : leaves_in d heard ≡ true → None ≡ (front_after t polled).watched d
     poll_leaves on = gone limits t law alive now (event.Poll d want) heard is d (reported_over limits t.core _ law is d on)
 
-    poll_live : (w : Watched) → t.watched d ≡ Some w → is_ending (t.watched d) want ≡ false → leaves_in d heard ≡ false → is_live ((after t.core (core_entry t polled)).consumer d) ≡ true
+    poll_live : (w : Watched) → t.watched d ≡ Some w → is_ending (t.watched d) want ≡ false → leaves_in d heard ≡ false →
+        is_live ((after t.core (core_entry t polled)).consumer d) ≡ true
     poll_live w kept off stay =
         stays_live t.core (core_entry t polled) d
         (λ h. let never : event.Poll d want ≡ event.Cancel d = sym (handed_poll off) ∙ h in cc)
@@ -289,10 +313,12 @@ module _ (limits : Limits) (t : Fronted) (law : Lawful t.core) (alive : (c : ℕ
     polled_row w kept off stay = rw (poll_live w kept off stay, itself d, kept) refl
 
     -- it was shown that its copy holds, or wasn't
-    pub poll_satisfies : (w : Watched) → t.watched d ≡ Some w → is_ending (t.watched d) want ≡ false → leaves_in d heard ≡ false → list_any (is_satisfying w.request) heard ≡ true
+    pub poll_satisfies : (w : Watched) → t.watched d ≡ Some w → is_ending (t.watched d) want ≡ false → leaves_in d heard ≡ false →
+        list_any (is_satisfying w.request) heard ≡ true
         → satisfied_now (Some w) ≡ (front_after t polled).watched d
     poll_satisfies w kept off stay shown = sym (polled_row w kept off stay ∙ on_shown w (list_any (is_satisfying w.request) heard) shown)
 
-    pub poll_goes_on : (w : Watched) → t.watched d ≡ Some w → is_ending (t.watched d) want ≡ false → leaves_in d heard ≡ false → list_any (is_satisfying w.request) heard ≡ false
+    pub poll_goes_on : (w : Watched) → t.watched d ≡ Some w → is_ending (t.watched d) want ≡ false → leaves_in d heard ≡ false →
+        list_any (is_satisfying w.request) heard ≡ false
         → Some w ≡ (front_after t polled).watched d
     poll_goes_on w kept off stay other = sym (polled_row w kept off stay ∙ on_other w (list_any (is_satisfying w.request) heard) other)

@@ -16,7 +16,8 @@ leaves_in-any c (act.Failed d cause ∷ acts) = ap (λ (b : Bool). d == c || b) 
 leaves_in-any c (_ ∷ acts) = leaves_in-any c acts
 
 -- those of which no act says so
-pub still_open-any : (acts : List Act) (exchanges : List Exchange) → filter (λ (e : Exchange). not (list_any (closes e.x) acts)) exchanges ≡ still_open acts exchanges
+pub still_open-any : (acts : List Act) (exchanges : List Exchange) →
+    filter (λ (e : Exchange). not (list_any (closes e.x) acts)) exchanges ≡ still_open acts exchanges
 still_open-any acts [] = refl
 still_open-any acts (e ∷ exchanges) = rw (closes_in-any e.x acts, still_open-any acts exchanges) refl
 

@@ -30,7 +30,8 @@ brought_short x (owes.Bytes at hi) b brings =
     subst (λ (z : Brought). IsShort z.event) (sym brings) short
 
 brought_within_limits : (x : ℕ) (owed : Owed) (b : Brought) → Brings x owed b → IsEventWithinLimits b.event
-brought_within_limits x (owes.Answer request) b brings = subst (λ (z : Brought). IsEventWithinLimits z.event) (sym brings.2) (within_limits_answer request brings.0 brings.1)
+brought_within_limits x (owes.Answer request) b brings =
+    subst (λ (z : Brought). IsEventWithinLimits z.event) (sym brings.2) (within_limits_answer request brings.0 brings.1)
 brought_within_limits x (owes.Bytes at hi) b brings =
     let all = length-origin at (next_length at hi) in
     let short : length (origin_bytes at (next_length at hi)) ≤ 65536 = omega arith in
@@ -102,14 +103,17 @@ goes_on wanted s u made small is =
     let after = made_fine (onward s) u (round wanted s) made (action_fine wanted (onward s) (action_of (draw_below 100 s.draws)) small) is in
     record { later = after.later; short = after.short; within_limits = after.within_limits }
 
-pub short_made : {E : Type 0} (wanted : List ℕ) (s u : State) (r : Result (Option Event) E) → s.last + 1 < 2 ^ 62 → IfOk r (λ made. IsRound wanted s made u) → IfOk r IsShortIfMade
+pub short_made : {E : Type 0} (wanted : List ℕ) (s u : State) (r : Result (Option Event) E) → s.last + 1 < 2 ^ 62 →
+    IfOk r (λ made. IsRound wanted s made u) → IfOk r IsShortIfMade
 short_made wanted s u (Ok (Some e)) small is = (goes_on wanted s u (Some e) small is).short e refl
 short_made wanted s u _ small is = tt
 
-pub within_limits_made : {E : Type 0} (wanted : List ℕ) (s u : State) (r : Result (Option Event) E) → s.last + 1 < 2 ^ 62 → IfOk r (λ made. IsRound wanted s made u) → IfOk r IsWithinLimitsIfMade
+pub within_limits_made : {E : Type 0} (wanted : List ℕ) (s u : State) (r : Result (Option Event) E) → s.last + 1 < 2 ^ 62 →
+    IfOk r (λ made. IsRound wanted s made u) → IfOk r IsWithinLimitsIfMade
 within_limits_made wanted s u (Ok (Some e)) small is = (goes_on wanted s u (Some e) small is).within_limits e refl
 within_limits_made wanted s u _ small is = tt
 
-pub later_made : {E : Type 0} (wanted : List ℕ) (s u : State) (r : Result (Option Event) E) → s.last + 1 < 2 ^ 62 → is_err r ≡ false → IfOk r (λ made. IsRound wanted s made u) → s.moment ≤ u.moment
+pub later_made : {E : Type 0} (wanted : List ℕ) (s u : State) (r : Result (Option Event) E) → s.last + 1 < 2 ^ 62 → is_err r ≡ false →
+    IfOk r (λ made. IsRound wanted s made u) → s.moment ≤ u.moment
 later_made wanted s u (Err e) small ok is = absurd (let never : true ≡ false = ok in cc)
 later_made wanted s u (Ok made) small ok is = (goes_on wanted s u made small is).later

@@ -26,7 +26,8 @@ in_small : (text : List ℕ) (n : ℕ) → size_in text ≡ Some n → n ≤ 104
 in_small text n is =
     let parts = then_some (bytes_eq text (decimal (digits_value 10 text)) && nat_le (digits_value 10 text) 1048576) (Some (digits_value 10 text)) n is in
     let same : digits_value 10 text ≡ n = some_is (digits_value 10 text) n parts.1 in
-    let small : nat_le (digits_value 10 text) 1048576 ≡ true = both (bytes_eq text (decimal (digits_value 10 text))) (nat_le (digits_value 10 text) 1048576) parts.0 in
+    let small : nat_le (digits_value 10 text) 1048576 ≡ true =
+    both (bytes_eq text (decimal (digits_value 10 text))) (nat_le (digits_value 10 text) 1048576) parts.0 in
     subst (λ (m : ℕ). m ≤ 1048576) same (grind (arith, nat_tests, small))
 
 asked_small : (request : Request) (n : ℕ) → size_asked request ≡ Some n → n ≤ 1048576
@@ -38,7 +39,8 @@ asked_small request n is =
 
 -- a field more
 one_more : (name value : List ℕ) (fields : FieldPairs) (count size more : ℕ) → length fields ≤ count → size_of fields ≤ size → length name + length value ≤ more
-    → (length (with_one (Rattle.http_header.specs.Token.lowercase name) value fields) ≤ count + 1) × (size_of (with_one (Rattle.http_header.specs.Token.lowercase name) value fields) ≤ size + more)
+    → (length (with_one (Rattle.http_header.specs.Token.lowercase name) value fields) ≤ count + 1) ×
+    (size_of (with_one (Rattle.http_header.specs.Token.lowercase name) value fields) ≤ size + more)
 one_more name value fields count size more few small short =
     let longer = length-with_one (Rattle.http_header.specs.Token.lowercase name) value fields in
     let larger = size_of-with_one name value fields in
@@ -55,7 +57,8 @@ module _ (n : ℕ) (fits : n ≤ 1048576) where
   within_limits_common = let size = size-common n n_fits in record { few = omega arith; small = omega (arith, size) }
 
   with_length_small : (m : ℕ) → m < 2 ^ 64 → (length (with_length (Some m) (common n)) ≤ 4) × (size_of (with_length (Some m) (common n)) ≤ 140)
-  with_length_small m small = let short = short-decimal m small in one_more (codes "content-length") (decimal m) (common n) 3 100 40 (omega arith) (size-common n n_fits) (omega (arith, short))
+  with_length_small m small = let short = short-decimal m small in
+      one_more (codes "content-length") (decimal m) (common n) 3 100 40 (omega arith) (size-common n n_fits) (omega (arith, short))
 
   range_short : (span : Span) → span.lo ≤ n → span.hi ≤ n → length (content_range_text span n) ≤ 68
   range_short span lo hi =
@@ -68,17 +71,22 @@ module _ (n : ℕ) (fits : n ≤ 1048576) where
       let length_fits : span.hi - span.lo < 2 ^ 64 = omega (arith, hi, fits) in
       let (few, small) = with_length_small (span.hi - span.lo) length_fits in
       let short = range_short span lo hi in
-      within_limits (part n span).response.fields 5 240 (one_more (codes "content-range") (content_range_text span n) (with_length (Some (span.hi - span.lo)) (common n)) 4 140 100 few small (omega (arith, short))) (omega arith) (omega arith)
+      within_limits (part n span).response.fields 5 240
+      (one_more (codes "content-range") (content_range_text span n) (with_length (Some (span.hi - span.lo)) (common n)) 4 140 100 few small
+      (omega (arith, short))) (omega arith) (omega arith)
 
   within_limits_unsatisfied : IsWithinLimits (unsatisfied_answer n).response.fields
   within_limits_unsatisfied =
       let (few, small) = with_length_small 0 (omega arith) in
       let digits = short-decimal n n_fits in
       let short : length (codes "bytes */" ++ decimal n) ≤ 60 = simp length-append (omega (arith, digits)) in
-      within_limits (unsatisfied_answer n).response.fields 5 240 (one_more (codes "content-range") (codes "bytes */" ++ decimal n) (with_length (Some 0) (common n)) 4 140 100 few small (omega (arith, short))) (omega arith) (omega arith)
+      within_limits (unsatisfied_answer n).response.fields 5 240
+      (one_more (codes "content-range") (codes "bytes */" ++ decimal n) (with_length (Some 0) (common n)) 4 140 100 few small (omega (arith, short)))
+      (omega arith) (omega arith)
 
   -- what is resolved ends within the length
-  first_in : (lo hi : ℕ) (b : Bool) → nat_lt lo n ≡ b → hi ≤ n → IsWithinLimits (cut_by n (if b then Some (record { lo = lo; hi = hi }) else None)).response.fields
+  first_in : (lo hi : ℕ) (b : Bool) → nat_lt lo n ≡ b → hi ≤ n →
+      IsWithinLimits (cut_by n (if b then Some (record { lo = lo; hi = hi }) else None)).response.fields
   first_in lo hi true below within = within_limits_part (record { lo = lo; hi = hi }) (grind (arith, nat_tests, below)) within
   first_in lo hi false off within = within_limits_unsatisfied
 
@@ -104,9 +112,11 @@ pub within_limits_answer : (request : Request) (answer : Answer) → IsOriginAns
 within_limits_answer request answer is = by_size (size_asked request) refl is
   where
     by_size : (o : Option ℕ) → size_asked request ≡ o → IsAnswerOf o request.fields answer → IsWithinLimits answer.response.fields
-    by_size None at same = subst (λ (z : Answer). IsWithinLimits z.response.fields) (sym same) (record { few = omega arith; small = omega (arith, short-decimal 0 (omega arith)) })
+    by_size None at same = subst (λ (z : Answer). IsWithinLimits z.response.fields) (sym same)
+        (record { few = omega arith; small = omega (arith, short-decimal 0 (omega arith)) })
     by_size (Some n) at (listed, o, read, same) =
-        subst (λ (z : Answer). IsWithinLimits z.response.fields) (sym same) (within_limits_by n (asked_small request n at) listed (may_cut (decimal n) request.fields) o)
+        subst (λ (z : Answer). IsWithinLimits z.response.fields) (sym same)
+        (within_limits_by n (asked_small request n at) listed (may_cut (decimal n) request.fields) o)
 
 -- THE REQUESTS
 
@@ -115,7 +125,9 @@ unfolding draw_below
 drawn_below n s some = mod-lt (state_after_draw s / 2 ^ 33) some
 
 pub within_limits_request : (s : ℕ) → IsWithinLimits (drawn_request s).fields
-within_limits_request s = by_draw (made.size_of (draw_below 8 s)) (state_after_draw s) (let below = drawn_below 8 s (omega arith) in (omega arith, omega (arith, below))) (draw_below 4 (state_after_draw s) == 0)
+within_limits_request s =
+    by_draw (made.size_of (draw_below 8 s)) (state_after_draw s) (let below = drawn_below 8 s (omega arith) in (omega arith, omega (arith, below)))
+    (draw_below 4 (state_after_draw s) == 0)
   where
     by_draw : (size d : ℕ) → (0 < size) × (size ≤ 8000) → (b : Bool) → IsWithinLimits (if b then range_from (draw_below size (state_after_draw d)) else [])
     by_draw size d (some, small) true =

@@ -29,4 +29,11 @@ range-never_refused e fields text l empty is h refused =
     let first = subst (λ (f : List (List ℕ × List ℕ)). Refuses e f (codes "range") text) empty refused in
     let this = subst (λ (t : List ℕ). Refuses e [] (codes "range") t) is first in
     never_refused e (codes "range") (range_text l) []
-    (record { name = IsToken-range; value = own-range l h; short = omega (arith, short-range l h); few = omega arith; small = omega (arith, short-range l h) }) this
+    (record {
+      name = IsToken-range;
+      value = own-range l h;
+      short = omega (arith, short-range l h);
+      few = omega arith;
+      small =
+          omega (arith, short-range l h);
+    }) this

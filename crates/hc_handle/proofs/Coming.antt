@@ -36,12 +36,14 @@ code_two refused.Full is = absurd (omega (arith, is))
 code_two refused.Late is = absurd (omega (arith, is))
 code_two refused.BadText is = absurd (omega (arith, is))
 
-owed_of : (why : Option CallRefusal) (made given : Made) (e : CallRefusal) → Makes made given → (e ≡ refused.NoMemory → ⊥) → IsOwed why given e → code_of e ≡ owed_in why made
+owed_of : (why : Option CallRefusal) (made given : Made) (e : CallRefusal) → Makes made given → (e ≡ refused.NoMemory → ⊥) → IsOwed why given e →
+    code_of e ≡ owed_in why made
 owed_of (Some why) made given e makes other is = ap code_of is
 owed_of None made (Err w) e makes other is = ap code_of is ∙ ap (owed_in None) (sym (makes (λ memory. other (is ∙ memory))))
 owed_of None made (Ok event) e makes other is = absurd (other is)
 
-pub comes_some : (s u : Session) (now : ℕ) (made given : Made) (result : Result (Unit {0}) CallRefusal) → Makes made given → IsAnswered s u now given result → Comes (Some s) (Some u) now made (answer_code result)
+pub comes_some : (s u : Session) (now : ℕ) (made given : Made) (result : Result (Unit {0}) CallRefusal) → Makes made given →
+    IsAnswered s u now given result → Comes (Some s) (Some u) now made (answer_code result)
 comes_some s u now made (Ok event) (Ok done) makes h = record {
   done = λ zero. subst (λ (m : Made). HasAnswered s u now m) (sym makes) h.1;
   owed = λ other. rw (h.0, makes) refl;
@@ -64,5 +66,6 @@ comes_none now made = record {
   kept = λ some other. refl;
 }
 
-pub comes_at : (s s' u u' : Option Session) (now : ℕ) (made : Made) (code code' : ℕ) → s ≡ s' → u ≡ u' → code ≡ code' → Comes s' u' now made code' → Comes s u now made code
+pub comes_at : (s s' u u' : Option Session) (now : ℕ) (made : Made) (code code' : ℕ) → s ≡ s' → u ≡ u' → code ≡ code' → Comes s' u' now made code' →
+    Comes s u now made code
 comes_at s s' u u' now made code code' s_is u_is code_is h = rw (s_is, u_is, code_is) h

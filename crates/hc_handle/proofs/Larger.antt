@@ -7,7 +7,8 @@ le_more : (n a b : ℕ) → a ≤ b → nat_le n a ≡ true → nat_le n b ≡ t
 le_more n a b more is = grind (arith, nat_tests)
 
 module _ (a b : Limits) (contents : Contents) (entry : a.max_entry ≤ b.max_entry) where
-  good_more : (earlier : List Content) (item : Content) (later : List Content) → is_good a contents earlier item later ≡ true → is_good b contents earlier item later ≡ true
+  good_more : (earlier : List Content) (item : Content) (later : List Content) → is_good a contents earlier item later ≡ true →
+      is_good b contents earlier item later ≡ true
   good_more earlier item later is =
       let head = and_parts _ _ is in
       let fits = and_parts _ _ head.0 in

@@ -92,5 +92,6 @@ module _ {M : Type 1} {𝓤 : Ura M} {𝓛 : Logic 𝓤} {K : Type 0} {Γ : List
 
   pub pointer_none : K → Step K 𝓛 (‵ (S.own_val (record { at = null_ptr; session = None }) (vstruct (vcons null vnil) ∷ [])) ∷ Γ) G Γ G
   pointer_none t = step (λ s.
-      nothing t $ nothing t $ feq_i t (List Val) (null ∷ []) (null ∷ []) refl $ fjoin t $ feq_i t (List Val) (vstruct (vcons null vnil) ∷ []) (vstruct (vcons null vnil) ∷ []) refl $ fjoin t $
+      nothing t $ nothing t $ feq_i t (List Val) (null ∷ []) (null ∷ []) refl $ fjoin
+      t $ feq_i t (List Val) (vstruct (vcons null vnil) ∷ []) (vstruct (vcons null vnil) ∷ []) refl $ fjoin t $
       fpack t (Valss (RawPtr ∷ [])) (within (shape pointer.the_type) (null_ptr, tt) (vstruct (vcons null vnil) ∷ [])) (null ∷ [], tt) $ fjoin t $ s)

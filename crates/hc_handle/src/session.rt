@@ -98,7 +98,11 @@ impl Session {
     }
 
     /// Answers an event, if it is one.
-    pub(crate) fn answer(&mut self, now: u64, given: Result<Event, CallRefusal>) -> Result<(), CallRefusal>
+    pub(crate) fn answer(
+        &mut self,
+        now: u64,
+        given: Result<Event, CallRefusal>,
+    ) -> Result<(), CallRefusal>
         requires { IfOk given (λ e. IsEventWithinLimits e) }
         ensures { IsAnswered self.old self.new now given result }
     {
@@ -156,7 +160,11 @@ impl Session {
     }
 
     /// Copies the first bytes of the image of what the cache has, as many as fit, and says how many it has in all.
-    pub(crate) fn copy_image(&mut self, alloc: Global, into: &mut [u8]) -> Result<usize, CallRefusal>
+    pub(crate) fn copy_image(
+        &mut self,
+        alloc: Global,
+        into: &mut [u8],
+    ) -> Result<usize, CallRefusal>
         ensures { IsCopied self.old self.new into.new result }
     {
         if self.spent {

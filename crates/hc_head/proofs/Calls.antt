@@ -25,16 +25,20 @@ pub no_call : (text : List ℕ) → ((h : RequestHead) (rest : List ℕ) → ¬ 
 no_call text none = bad_call text (λ head x. none head [] x.reads)
 
 -- no bytes can follow that make it a head
-pub never_call : (text : List ℕ) → ((more : List ℕ) (h : RequestHead) (rest : List ℕ) → ¬ (ReadsRequest (text ++ more) h rest)) → CallsFor text (Err error.BadHead)
+pub never_call : (text : List ℕ) → ((more : List ℕ) (h : RequestHead) (rest : List ℕ) → ¬ (ReadsRequest (text ++ more) h rest)) →
+    CallsFor text (Err error.BadHead)
 never_call text never = bad_call text (λ head x. never [] head [] (subst (λ (t : List ℕ). ReadsRequest t head []) (sym (append-nil text)) x.reads))
 
-pub over_call : (text : List ℕ) → ((more : List ℕ) (h : RequestHead) (rest : List ℕ) → ReadsRequest (text ++ more) h rest → 64 < length h.fields) → CallsFor text (Err error.BadHead)
+pub over_call : (text : List ℕ) → ((more : List ℕ) (h : RequestHead) (rest : List ℕ) → ReadsRequest (text ++ more) h rest → 64 < length h.fields) →
+    CallsFor text (Err error.BadHead)
 over_call text over =
     bad_call text (λ head x.
     omega (arith, x.few, over [] head [] (rw (append-nil text) x.reads)))
 
-pub whole_call : (text : List ℕ) (len : ℕ) (method target : List ℕ) (minor : ℕ) (fields : List (List ℕ × List ℕ)) (h : RequestHead) (result : Result WireRequest MsgError)
-    → ReadsRequest text h (drop len text) → length text ≤ len → length h.fields ≤ 64 → method ≡ h.method → target ≡ h.target → minor ≡ h.minor → fields ≡ fields_of h.fields
+pub whole_call : (text : List ℕ) (len : ℕ) (method target : List ℕ) (minor : ℕ) (fields : List (List ℕ × List ℕ)) (h : RequestHead)
+    (result : Result WireRequest MsgError)
+    → ReadsRequest text h (drop len text) → length text ≤ len → length h.fields ≤ 64 → method ≡ h.method → target ≡ h.target → minor ≡ h.minor →
+    fields ≡ fields_of h.fields
     → Gives result (asked_of method target minor fields) → CallsFor text result
 whole_call text len method target minor fields h result reads whole few method_is target_is minor_is fields_are gives =
     let same : asked_of method target minor fields ≡ asked_of h.method h.target h.minor (fields_of h.fields) =

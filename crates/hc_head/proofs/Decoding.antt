@@ -31,7 +31,9 @@ head_lines ends text end fs last plain fields = search (arith, blank_lines, fiel
 abbrev pub request_text : RequestHead → List ℕ
 request_text h = h.method ++ 32 ∷ (h.target ++ 32 ∷ print_version h.minor)
 
-request_read : (h : RequestHead) → IsRequestHead h → request_with h.blank (record { text = request_text h; end = h.line_end }) (record { fields = h.fields; last = h.last }) (minor_of (behind 32 (behind 32 (request_text h)))) ≡ Some h
+request_read : (h : RequestHead) → IsRequestHead h →
+    request_with h.blank (record { text = request_text h; end = h.line_end }) (record { fields = h.fields; last = h.last })
+    (minor_of (behind 32 (behind 32 (request_text h)))) ≡ Some h
 request_read h is =
     let methods = list_all-from_AllPass is_token_byte h.method is.method.1 in
     let targets = list_all-from_AllPass is_uri_byte h.target is.target.1 in
@@ -45,7 +47,8 @@ request_read h is =
     let token = token_true h.method is.method.0 methods in
     let some : nat_lt 0 (length h.target) ≡ true = lt-ltb 0 (length h.target) is.target.0 in
     let utf8 = is_utf8-from_IsUtf8 h.target is.target_text in
-    let behind_both : minor_of (behind 32 (behind 32 (request_text h))) ≡ Some h.minor = ap (λ (t : List ℕ). minor_of (behind 32 t)) rest ∙ ap minor_of version ∙ minor in
+    let behind_both : minor_of (behind 32 (behind 32 (request_text h))) ≡ Some h.minor = ap (λ (t : List ℕ). minor_of (behind 32 t)) rest ∙
+    ap minor_of version ∙ minor in
     let own : before 32 (behind 32 (request_text h)) ≡ h.target = ap (before 32) rest ∙ target in
     let holds : is_request h.method h.target ≡ true = rw (token, some, targets, utf8) refl in
     rw (behind_both, method, own, holds) refl
@@ -63,7 +66,8 @@ request_layout h =
 pub request_reads : (text : List ℕ) (h : RequestHead) → ReadsRequest text h [] → request_head text ≡ Some h
 request_reads text h reads =
     let is = reads.0 in
-    let layout : text ≡ print_blank h.blank ++ (request_text h ++ (print_end h.line_end ++ print_section h.fields h.last)) = reads.1 ∙ append-nil (print_request h) ∙ request_layout h in
+    let layout : text ≡ print_blank h.blank ++ (request_text h ++ (print_end h.line_end ++ print_section h.fields h.last)) = reads.1 ∙
+    append-nil (print_request h) ∙ request_layout h in
     let lines = head_lines h.blank (request_text h) h.line_end h.fields h.last (request_plain h is) is.fields in
     let first : Line = record { text = request_text h; end = h.line_end } in
     let more = map field_line h.fields ++ record { text = []; end = h.last } ∷ [] in
@@ -87,7 +91,8 @@ some_version text minor is = omega (arith, ap length is)
 request_make : (blank : List LineEnd) (line : Line) (section : Section) (h : RequestHead) → All IsField section.fields
     → request_with blank line section (minor_of (behind 32 (behind 32 line.text))) ≡ Some h → IsRequestLine blank line section h
 request_make blank line section h fields found = by (minor_of (behind 32 (behind 32 line.text))) refl found where
-  by : (minor : Option ℕ) → minor_of (behind 32 (behind 32 line.text)) ≡ minor → request_with blank line section minor ≡ Some h → IsRequestLine blank line section h
+  by : (minor : Option ℕ) → minor_of (behind 32 (behind 32 line.text)) ≡ minor → request_with blank line section minor ≡ Some h →
+      IsRequestLine blank line section h
   by None is found = absurd (not_some h found)
   by (Some minor) is found =
       let method = before 32 line.text in
@@ -96,12 +101,14 @@ request_make blank line section h fields found = by (minor_of (behind 32 (behind
       let holds = if_passes (is_request method target) _ h found in
       let version = minor_make (behind 32 rest) minor is in
       let second : rest ≡ target ++ 32 ∷ behind 32 rest = cut_makes 32 rest (cut_within 32 rest (some_version (behind 32 rest) minor version.1)) in
-      let first : line.text ≡ method ++ 32 ∷ rest = cut_makes 32 line.text (cut_within 32 line.text (omega (arith, ap length second, length-append target (32 ∷ behind 32 rest)))) in
+      let first : line.text ≡ method ++ 32 ∷ rest =
+      cut_makes 32 line.text (cut_within 32 line.text (omega (arith, ap length second, length-append target (32 ∷ behind 32 rest)))) in
       let outer = and_parts ((is_token method && nat_lt 0 (length target)) && list_all is_uri_byte target) (is_utf8 target) holds.0 in
       let inner = and_parts (is_token method && nat_lt 0 (length target)) (list_all is_uri_byte target) outer.0 in
       let parts = and_parts (is_token method) (nat_lt 0 (length target)) inner.0 in
       let token = and_parts (nat_lt 0 (length method)) (list_all is_token_byte method) parts.0 in
-      let made : RequestHead = record { blank = blank; method = method; target = target; minor = minor; line_end = line.end; fields = section.fields; last = section.last } in
+      let made : RequestHead =
+      record { blank = blank; method = method; target = target; minor = minor; line_end = line.end; fields = section.fields; last = section.last } in
       subst (IsRequestLine blank line section) (some_same made h holds.1) (record {
         is = record {
           method = (ltb-true 0 (length method) token.0, AllPass-from_list_all is_token_byte method token.1);
@@ -117,7 +124,8 @@ request_make blank line section h fields found = by (minor_of (behind 32 (behind
         last_is = refl;
       })
 
-made_request : (text : List ℕ) (blank : List LineEnd) (lines : List Line) (h : RequestHead) → text ≡ print_blank blank ++ flat_map print_line lines → request_by blank lines ≡ Some h → ReadsRequest text h []
+made_request : (text : List ℕ) (blank : List LineEnd) (lines : List Line) (h : RequestHead) → text ≡ print_blank blank ++ flat_map print_line lines →
+    request_by blank lines ≡ Some h → ReadsRequest text h []
 made_request text blank [] h is found = absurd (not_some h found)
 made_request text blank (line ∷ lines) h is found =
     let section = bound_from (λ s. request_with blank line s (minor_of (behind 32 (behind 32 line.text)))) (section_of lines) h found in
@@ -139,7 +147,11 @@ asked_by text (Some h) is =
     let reads = request_prints text h is in
     elim (cases_Bool (nat_lt 64 (length h.fields))) [
       | inl many ↦ (let over = ltb-true 64 (length h.fields) many in
-          rw many (inr (λ head x. let same = request_unique text head h [] [] x.reads reads in omega (arith, over, ap (λ (k : RequestHead). length k.fields) same.0, x.few), refl)))
+          rw many (inr (
+            λ head x. let same = request_unique text head h [] [] x.reads reads in
+                omega (arith, over, ap (λ (k : RequestHead). length k.fields) same.0, x.few),
+            refl,
+          )))
       | inr few ↦ rw few (inl (h, record { reads = reads; few = ltb-false 64 (length h.fields) few }, refl))
     ]
 
@@ -156,7 +168,8 @@ reason_read : (reason : Option (List ℕ)) → AllPass is_value_byte (reason_phr
 reason_read None all = refl
 reason_read (Some phrase) all = let values = list_all-from_AllPass is_value_byte phrase all in rw values refl
 
-reason_make : (text : List ℕ) (reason : Option (List ℕ)) → reason_of text ≡ Some reason → AllPass is_value_byte (reason_phrase reason) × (text ≡ print_reason reason)
+reason_make : (text : List ℕ) (reason : Option (List ℕ)) → reason_of text ≡ Some reason → AllPass is_value_byte (reason_phrase reason) ×
+    (text ≡ print_reason reason)
 reason_make [] reason h =
     let same : None ≡ reason = some_same None reason h in
     subst (λ (r : Option (List ℕ)). AllPass is_value_byte (reason_phrase r) × ([] ≡ print_reason r)) same (λ k d lt. absurd (omega arith), refl)
@@ -189,7 +202,8 @@ reason_plain (Some phrase) all = all_plain is_value_byte refl refl phrase (list_
 
 response_plain : (h : ResponseHead) → IsResponseHead h → list_all is_plain (response_line h) ≡ true
 response_plain h is =
-    let tail = plain_append h.digits (print_reason h.reason) (digits_plain h.digits (list_all-from_AllPass is_ascii_digit h.digits is.digits.1)) (reason_plain h.reason is.reason) in
+    let tail = plain_append h.digits (print_reason h.reason) (digits_plain h.digits (list_all-from_AllPass is_ascii_digit h.digits is.digits.1))
+    (reason_plain h.reason is.reason) in
     plain_append (print_version h.minor) (32 ∷ (h.digits ++ print_reason h.reason)) (version_plain h.minor is.minor) tail
 
 response_layout : (h : ResponseHead) → print_response h ≡ print_blank h.blank ++ (response_line h ++ (print_end h.line_end ++ print_section h.fields h.last))
@@ -199,7 +213,8 @@ response_layout h =
 pub response_reads : (text : List ℕ) (h : ResponseHead) → ReadsResponse text h [] → response_head text ≡ Some h
 response_reads text h reads =
     let is = reads.0 in
-    let layout : text ≡ print_blank h.blank ++ (response_line h ++ (print_end h.line_end ++ print_section h.fields h.last)) = reads.1 ∙ append-nil (print_response h) ∙ response_layout h in
+    let layout : text ≡ print_blank h.blank ++ (response_line h ++ (print_end h.line_end ++ print_section h.fields h.last)) = reads.1 ∙
+    append-nil (print_response h) ∙ response_layout h in
     let lines = head_lines h.blank (response_line h) h.line_end h.fields h.last (response_plain h is) is.fields in
     let first : Line = record { text = response_line h; end = h.line_end } in
     let more = map field_line h.fields ++ record { text = []; end = h.last } ∷ [] in
@@ -212,7 +227,8 @@ response_reads text h reads =
 split_at : (n : ℕ) (text : List ℕ) → text ≡ take n text ++ drop n text
 split_at n text = sym (take-append-drop n text)
 
-line_parts : (text version digits tail : List ℕ) → take 8 text ≡ version → take 1 (drop 8 text) ≡ 32 ∷ [] → take 3 (drop 9 text) ≡ digits → drop 12 text ≡ tail → text ≡ version ++ 32 ∷ (digits ++ tail)
+line_parts : (text version digits tail : List ℕ) → take 8 text ≡ version → take 1 (drop 8 text) ≡ 32 ∷ [] → take 3 (drop 9 text) ≡ digits →
+    drop 12 text ≡ tail → text ≡ version ++ 32 ∷ (digits ++ tail)
 line_parts text version digits tail v s d t = grind (arith, nat_tests)
 
 pub record IsResponseLine (blank : List LineEnd) (line : Line) (section : Section) (h : ResponseHead) : Type 0 where
@@ -223,8 +239,10 @@ pub record IsResponseLine (blank : List LineEnd) (line : Line) (section : Sectio
   pub fields_are : section.fields ≡ h.fields
   pub last_is : section.last ≡ h.last
 
-response_make : (blank : List LineEnd) (line : Line) (section : Section) (h : ResponseHead) (minor : ℕ) → All IsField section.fields → has_status line.text ≡ true
-    → minor_of (take 8 line.text) ≡ Some minor → option_map (response_with blank line section minor) (reason_of (drop 12 line.text)) ≡ Some h → IsResponseLine blank line section h
+response_make : (blank : List LineEnd) (line : Line) (section : Section) (h : ResponseHead) (minor : ℕ) → All IsField section.fields →
+    has_status line.text ≡ true
+    → minor_of (take 8 line.text) ≡ Some minor → option_map (response_with blank line section minor) (reason_of (drop 12 line.text)) ≡ Some h →
+    IsResponseLine blank line section h
 response_make blank line section h minor fields status minors found =
     let reason = mapped_from (response_with blank line section minor) (reason_of (drop 12 line.text)) h found in
     let version = minor_make (take 8 line.text) minor minors in
@@ -240,17 +258,21 @@ response_make blank line section h minor fields status minors found =
         fields = fields;
       };
       blank_is = refl;
-      text_is = line_parts line.text (print_version minor) digits (print_reason reason.0) version.1 ((bytes_eq-Decides (take 1 (drop 8 line.text)) (codes " ")).0 parts.0) refl phrase.1;
+      text_is = line_parts line.text (print_version minor) digits (print_reason reason.0) version.1
+          ((bytes_eq-Decides (take 1 (drop 8 line.text)) (codes " ")).0 parts.0) refl phrase.1;
       end_is = refl;
       fields_are = refl;
       last_is = refl;
     })
 
-made_response : (text : List ℕ) (blank : List LineEnd) (lines : List Line) (h : ResponseHead) → text ≡ print_blank blank ++ flat_map print_line lines → response_by blank lines ≡ Some h → ReadsResponse text h []
+made_response : (text : List ℕ) (blank : List LineEnd) (lines : List Line) (h : ResponseHead) → text ≡ print_blank blank ++ flat_map print_line lines →
+    response_by blank lines ≡ Some h → ReadsResponse text h []
 made_response text blank [] h is found = absurd (not_some h found)
 made_response text blank (line ∷ lines) h is found =
     let status = if_passes (has_status line.text) _ h found in
-    let section = bound_from (λ s. option_and_then (λ minor. option_map (response_with blank line s minor) (reason_of (drop 12 line.text))) (minor_of (take 8 line.text))) (section_of lines) h status.1 in
+    let section = bound_from
+    (λ s. option_and_then (λ minor. option_map (response_with blank line s minor) (reason_of (drop 12 line.text))) (minor_of (take 8 line.text)))
+    (section_of lines) h status.1 in
     let minor = bound_from (λ n. option_map (response_with blank line section.0 n) (reason_of (drop 12 line.text))) (minor_of (take 8 line.text)) h section.2 in
     let behind_it = section_make lines section.0 section.1 in
     let made = response_make blank line section.0 h minor.0 behind_it.fields status.0 minor.1 minor.2 in (
@@ -270,7 +292,11 @@ heard_by no_body text (Some h) is =
     let reads = response_prints text h is in
     elim (cases_Bool (nat_lt 64 (length h.fields))) [
       | inl many ↦ (let over = ltb-true 64 (length h.fields) many in
-          rw many (inr (λ head x. let same = response_unique text head h [] [] x.reads reads in omega (arith, over, ap (λ (k : ResponseHead). length k.fields) same.0, x.few), refl)))
+          rw many (inr (
+            λ head x. let same = response_unique text head h [] [] x.reads reads in
+                omega (arith, over, ap (λ (k : ResponseHead). length k.fields) same.0, x.few),
+            refl,
+          )))
       | inr few ↦ rw few (inl (h, record { reads = reads; few = ltb-false 64 (length h.fields) few }, refl))
     ]
 

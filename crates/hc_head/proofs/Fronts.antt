@@ -14,12 +14,21 @@ pub front_head : (held room : ℕ) (scan : Scan) (piece : List ℕ) (n : ℕ) �
 front_head held room scan piece n len past h =
     let front = front_len h.front h.rest piece room h.whole in
     let short = length-take room piece in (
-      record { front = h.front; rest = h.rest ++ drop room piece; whole = front_end h.front h.rest piece room h.whole; len = h.len; open_before = h.open_before; ends = h.ends },
+      record {
+        front = h.front;
+        rest = h.rest ++ drop room piece;
+        whole = front_end h.front h.rest piece room h.whole;
+        len = h.len;
+        open_before =
+            h.open_before;
+        ends = h.ends;
+      },
       omega (arith, front, short, h.len),
       omega (arith, front, short, h.len),
     )
 
-pub front_long : (held room : ℕ) (scan next : Scan) (piece : List ℕ) → held + room ≡ 32768 → room < length piece → StaysOpen scan (take room piece) next → IsLong held scan piece
+pub front_long : (held room : ℕ) (scan next : Scan) (piece : List ℕ) → held + room ≡ 32768 → room < length piece → StaysOpen scan (take room piece) next →
+    IsLong held scan piece
 front_long held room scan next piece len past h = record {
   front = take room piece;
   rest = drop room piece;

@@ -119,10 +119,12 @@ pub small_request : (h : RequestHead) → size_of (fields_of h.fields) ≤ lengt
 unfolding print_request
 small_request h = simp length-append (omega (arith, size_fields h.fields))
 
-pub small_headers : (headers : List Header) (h : ResponseHead) (text rest : List ℕ) → map header_parts headers ≡ map name_and_value h.fields → ReadsResponse text h rest → length text ≤ 32768
+pub small_headers : (headers : List Header) (h : ResponseHead) (text rest : List ℕ) → map header_parts headers ≡ map name_and_value h.fields →
+    ReadsResponse text h rest → length text ≤ 32768
     → size_of (fields_in headers) ≤ 32768
 small_headers headers h text rest same reads short = search (arith, small_response, length-append)
 
-pub small_asked : (headers : List Header) (h : RequestHead) (text rest : List ℕ) → map header_parts headers ≡ map name_and_value h.fields → ReadsRequest text h rest → length text ≤ 32768
+pub small_asked : (headers : List Header) (h : RequestHead) (text rest : List ℕ) → map header_parts headers ≡ map name_and_value h.fields →
+    ReadsRequest text h rest → length text ≤ 32768
     → size_of (fields_in headers) ≤ 32768
 small_asked headers h text rest same reads short = search (arith, small_request, length-append)

@@ -46,7 +46,8 @@ no_space bytes h = all_not is_token_byte 32 refl bytes h
 field_read : (f : Field) → IsField f → field_of (field_line f) ≡ Some f
 field_read f h = search (arith, no_colon, token_all, cut_has, cut_before, cut_behind, token_true, value_all)
 
-pub section_read : (fs : List Field) (last : LineEnd) → All IsField fs → section_of (map field_line fs ++ record { text = []; end = last } ∷ []) ≡ Some (record { fields = fs; last = last })
+pub section_read : (fs : List Field) (last : LineEnd) → All IsField fs →
+    section_of (map field_line fs ++ record { text = []; end = last } ∷ []) ≡ Some (record { fields = fs; last = last })
 section_read [] last h = refl
 section_read (f ∷ []) last h = let one = field_read f (All-head IsField f [] h) in ap (option_map (with_field (record { fields = []; last = last }))) one
 section_read (f ∷ g ∷ fs) last h =
@@ -54,7 +55,8 @@ section_read (f ∷ g ∷ fs) last h =
     let rest = section_read (g ∷ fs) last (All-tail IsField f (g ∷ fs) h) in
     grind (arith, nat_tests)
 
-pub section_lines : (fs : List Field) (last : LineEnd) → All IsField fs → lines_behind [] (print_section fs last) ≡ Some (map field_line fs ++ record { text = []; end = last } ∷ [])
+pub section_lines : (fs : List Field) (last : LineEnd) → All IsField fs →
+    lines_behind [] (print_section fs last) ≡ Some (map field_line fs ++ record { text = []; end = last } ∷ [])
 section_lines [] last h = ap (lines_behind []) (sym (append-nil (print_end last))) ∙ line_printed [] last [] [] refl refl
 section_lines (f ∷ fs) last h =
     let field = All-head IsField f fs h in
@@ -100,7 +102,8 @@ section_make (line ∷ next ∷ lines) section h =
     let behind_it = section_make (next ∷ lines) rest.0 rest.1 in
     subst (IsMade (line ∷ next ∷ lines)) made.2 (record {
       fields = All-cons IsField made.0 rest.0.fields field.0 behind_it.fields;
-      printed = ap (λ (t : List ℕ). t ++ flat_map print_line (next ∷ lines)) field.1 ∙ ap (λ (t : List ℕ). print_field made.0 ++ t) behind_it.printed ∙ sym (append_assoc (print_field made.0) (flat_map print_field rest.0.fields) (print_end rest.0.last));
+      printed = ap (λ (t : List ℕ). t ++ flat_map print_line (next ∷ lines)) field.1 ∙ ap (λ (t : List ℕ). print_field made.0 ++ t) behind_it.printed ∙
+          sym (append_assoc (print_field made.0) (flat_map print_field rest.0.fields) (print_end rest.0.last));
     })
 
 -- EMPTY LINES
@@ -108,7 +111,8 @@ section_make (line ∷ next ∷ lines) section h =
 abbrev pub empty_line : LineEnd → Line
 empty_line end = record { text = []; end = end }
 
-pub blank_lines : (ends : List LineEnd) (rest : List ℕ) (lines : List Line) → lines_behind [] rest ≡ Some lines → lines_behind [] (print_blank ends ++ rest) ≡ Some (map empty_line ends ++ lines)
+pub blank_lines : (ends : List LineEnd) (rest : List ℕ) (lines : List Line) → lines_behind [] rest ≡ Some lines →
+    lines_behind [] (print_blank ends ++ rest) ≡ Some (map empty_line ends ++ lines)
 blank_lines [] rest lines h = h
 blank_lines (end ∷ ends) rest lines h =
     ap (lines_behind []) (append_assoc (print_end end) (print_blank ends) rest)
@@ -118,14 +122,17 @@ pub blank_read : (ends : List LineEnd) (line : Line) (lines : List Line) → is_
 blank_read [] line lines h = rw h refl
 blank_read (end ∷ ends) line lines h = ap (λ (es : List LineEnd). end ∷ es) (blank_read ends line lines h)
 
-pub behind_read : (ends : List LineEnd) (line : Line) (lines : List Line) → is_empty line ≡ false → behind_blank (map empty_line ends ++ line ∷ lines) ≡ line ∷ lines
+pub behind_read : (ends : List LineEnd) (line : Line) (lines : List Line) → is_empty line ≡ false →
+    behind_blank (map empty_line ends ++ line ∷ lines) ≡ line ∷ lines
 behind_read [] line lines h = rw h refl
 behind_read (end ∷ ends) line lines h = behind_read ends line lines h
 
 pub blank_make : (lines : List Line) → flat_map print_line lines ≡ print_blank (blank_in lines) ++ flat_map print_line (behind_blank lines)
 blank_make [] = refl
 blank_make (line ∷ lines) = elim (cases_Bool (is_empty line)) [
-  | inl hit ↦ rw hit (ap (λ (t : List ℕ). (t ++ print_end line.end) ++ flat_map print_line lines) (empty_text line hit) ∙ ap (λ (t : List ℕ). print_end line.end ++ t) (blank_make lines) ∙ sym (append_assoc (print_end line.end) (print_blank (blank_in lines)) (flat_map print_line (behind_blank lines))))
+  | inl hit ↦ rw hit (ap (λ (t : List ℕ). (t ++ print_end line.end) ++ flat_map print_line lines) (empty_text line hit) ∙
+      ap (λ (t : List ℕ). print_end line.end ++ t) (blank_make lines) ∙
+      sym (append_assoc (print_end line.end) (print_blank (blank_in lines)) (flat_map print_line (behind_blank lines))))
   | inr miss ↦ rw miss refl
 ]
 

@@ -5,26 +5,33 @@ use Rattle.hc_head.specs.{declared.fields.Leaving.{Leaving}, Rules.{is_within_li
 use Rattle.httparse.specs.declared.borrowed.Header.{Header}
 
 -- the field at a place, and those behind it
-pub fields_from : (headers : List Header) (i : ℕ) (d : Header) → i < length headers → fields_in (drop i headers) ≡ field_in (get_or headers i d) ∷ fields_in (drop (i + 1) headers)
+pub fields_from : (headers : List Header) (i : ℕ) (d : Header) → i < length headers → fields_in (drop i headers) ≡ field_in (get_or headers i d) ∷
+    fields_in (drop (i + 1) headers)
 fields_from headers i d lt = ap fields_in (drop_more headers i d lt)
 
-any_cons : (test : List ℕ × List ℕ → Bool) (headers : List Header) (i : ℕ) (d : Header) (total : Bool) → i < length headers → list_any test (fields_in (drop i headers)) ≡ total
+any_cons : (test : List ℕ × List ℕ → Bool) (headers : List Header) (i : ℕ) (d : Header) (total : Bool) → i < length headers →
+    list_any test (fields_in (drop i headers)) ≡ total
     → (test (field_in (get_or headers i d)) || list_any test (fields_in (drop (i + 1) headers))) ≡ total
 any_cons test headers i d total lt all = ap (list_any test) (sym (fields_from headers i d lt)) ∙ all
 
-pub any_next : (test : List ℕ × List ℕ → Bool) (headers : List Header) (i : ℕ) (d : Header) (is total : Bool) → i < length headers → is ≡ test (field_in (get_or headers i d)) → is ≡ false
+pub any_next : (test : List ℕ × List ℕ → Bool) (headers : List Header) (i : ℕ) (d : Header) (is total : Bool) → i < length headers →
+    is ≡ test (field_in (get_or headers i d)) → is ≡ false
     → list_any test (fields_in (drop i headers)) ≡ total → list_any test (fields_in (drop (i + 1) headers)) ≡ total
 any_next test headers i d is total lt reported miss all = rw (sym reported ∙ miss) at (any_cons test headers i d total lt all)
 
-pub any_here : (test : List ℕ × List ℕ → Bool) (headers : List Header) (i : ℕ) (d : Header) (is total : Bool) → i < length headers → is ≡ test (field_in (get_or headers i d)) → is ≡ true
+pub any_here : (test : List ℕ × List ℕ → Bool) (headers : List Header) (i : ℕ) (d : Header) (is total : Bool) → i < length headers →
+    is ≡ test (field_in (get_or headers i d)) → is ≡ true
     → list_any test (fields_in (drop i headers)) ≡ total → true ≡ total
 any_here test headers i d is total lt reported hit all = rw (sym reported ∙ hit) at (any_cons test headers i d total lt all)
 
 -- no value is long where the fields are within limits
-pub within_limits_at : (headers : List Header) (i : ℕ) (d : Header) → i < length headers → is_within_limits (fields_in headers) ≡ true → length (get_or headers i d).value.now ≤ 8192
+pub within_limits_at : (headers : List Header) (i : ℕ) (d : Header) → i < length headers → is_within_limits (fields_in headers) ≡ true →
+    length (get_or headers i d).value.now ≤ 8192
 within_limits_at [] i d lt h = absurd (omega arith)
-within_limits_at (x ∷ headers) zero d lt h = leb-true (length x.value.now) 8192 (and_parts (nat_le (length x.value.now) 8192) (is_within_limits (fields_in headers)) h).0
-within_limits_at (x ∷ headers) (suc i) d lt h = within_limits_at headers i d (omega arith) (and_parts (nat_le (length x.value.now) 8192) (is_within_limits (fields_in headers)) h).1
+within_limits_at (x ∷ headers) zero d lt h =
+    leb-true (length x.value.now) 8192 (and_parts (nat_le (length x.value.now) 8192) (is_within_limits (fields_in headers)) h).0
+within_limits_at (x ∷ headers) (suc i) d lt h =
+    within_limits_at headers i d (omega arith) (and_parts (nat_le (length x.value.now) 8192) (is_within_limits (fields_in headers)) h).1
 
 put_more : (p : List ℕ × List ℕ → Bool) (f : List ℕ × List ℕ) (sorted fields : List (List ℕ × List ℕ))
     → put_all (put_all sorted (filter p (f ∷ []))) (filter p fields) ≡ put_all sorted (filter p (f ∷ fields))

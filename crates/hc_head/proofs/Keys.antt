@@ -35,7 +35,8 @@ unfolding key_of
 read_key_is text own read same utf8 is =
     rw (is_utf8-from_IsUtf8 text utf8) (ap (λ (t : List ℕ). key_in (parse_url None t)) (sym same) ∙ ap key_in is)
 
-pub key_given : (result : Result (Option (List ℕ)) NoMemory) (text : List ℕ) (url : Parts) → IfOk result (λ key. key ≡ own_key url) → key_of text ≡ own_key url → IfOk result (λ key. key ≡ key_of text)
+pub key_given : (result : Result (Option (List ℕ)) NoMemory) (text : List ℕ) (url : Parts) → IfOk result (λ key. key ≡ own_key url) →
+    key_of text ≡ own_key url → IfOk result (λ key. key ≡ key_of text)
 key_given result text url h same = grind (arith, nat_tests)
 
 pub target_text : (text : List ℕ) → is_target text ≡ true → IsUtf8 text

@@ -80,7 +80,8 @@ line_printed text end rest lines h is =
 line_made : (text : List ℕ) → print_line (line_of text) ≡ text ++ 10 ∷ []
 line_made text = elim (cases_Bool (bytes_eq (drop (length text - 1) text) (13 ∷ []))) [
   | inl hit ↦ (let last : drop (length text - 1) text ≡ 13 ∷ [] = (bytes_eq-Decides (drop (length text - 1) text) (13 ∷ [])).0 hit in
-      rw hit (ap (λ (l : List ℕ). front text ++ (l ++ 10 ∷ [])) (sym last) ∙ sym (append_assoc (front text) (drop (length text - 1) text) (10 ∷ [])) ∙ ap (λ (l : List ℕ). l ++ 10 ∷ []) (take-append-drop (length text - 1) text)))
+      rw hit (ap (λ (l : List ℕ). front text ++ (l ++ 10 ∷ [])) (sym last) ∙ sym (append_assoc (front text) (drop (length text - 1) text) (10 ∷ [])) ∙
+      ap (λ (l : List ℕ). l ++ 10 ∷ []) (take-append-drop (length text - 1) text)))
   | inr miss ↦ rw miss refl
 ]
 
@@ -112,7 +113,8 @@ cut_behind b word rest h =
     ∙ drop_at (word ++ b ∷ []) rest _ (simp length-append (omega (arith, cut_len b word rest h)))
 
 pub cut_has : (b : ℕ) (word rest : List ℕ) → list_all (is_not b) word ≡ true → has_byte b (word ++ b ∷ rest) ≡ true
-cut_has b word rest h = lt-ltb (prefix_len (is_not b) (word ++ b ∷ rest)) (length (word ++ b ∷ rest)) (simp length-append (omega (arith, cut_len b word rest h)))
+cut_has b word rest h = lt-ltb (prefix_len (is_not b) (word ++ b ∷ rest)) (length (word ++ b ∷ rest))
+    (simp length-append (omega (arith, cut_len b word rest h)))
 
 -- and the text that it was cut from
 pub cut_makes : (b : ℕ) (text : List ℕ) → prefix_len (is_not b) text < length text → text ≡ before b text ++ b ∷ behind b text

@@ -38,6 +38,8 @@ no_option all name present plain h = no_option_in all name present plain all h
 pub there_at : (headers : List Header) (i : ℕ) (d : Header) → i < length headers → is_there (lowercase (get_or headers i d).name.now) (fields_in headers) ≡ true
 there_at [] i d lt = absurd (omega arith)
 there_at (x ∷ headers) zero d lt =
-    or_left (has_name (lowercase x.name.now) (field_in x)) (is_there (lowercase x.name.now) (fields_in headers)) ((bytes_eq-Decides (lowercase x.name.now) (lowercase x.name.now)).1 refl)
+    or_left (has_name (lowercase x.name.now) (field_in x)) (is_there (lowercase x.name.now) (fields_in headers))
+    ((bytes_eq-Decides (lowercase x.name.now) (lowercase x.name.now)).1 refl)
 there_at (x ∷ headers) (suc i) d lt =
-    or_right (has_name (lowercase (get_or headers i d).name.now) (field_in x)) (is_there (lowercase (get_or headers i d).name.now) (fields_in headers)) (there_at headers i d (omega arith))
+    or_right (has_name (lowercase (get_or headers i d).name.now) (field_in x)) (is_there (lowercase (get_or headers i d).name.now) (fields_in headers))
+    (there_at headers i d (omega arith))

@@ -9,22 +9,27 @@ pub bad_reply : (reported : Bool) (text : List ℕ) → ((head : ResponseHead) �
 bad_reply reported text none = record { heard = Refuses error.BadHead; hears = inl refl; comes = inr (none, refl) }
 
 -- a head that ends before the text
-pub short_reply : (reported : Bool) (text : List ℕ) (len : ℕ) (h : ResponseHead) → ReadsResponse text h (drop len text) → len < length text → RepliesTo reported text (Err error.BadHead)
+pub short_reply : (reported : Bool) (text : List ℕ) (len : ℕ) (h : ResponseHead) → ReadsResponse text h (drop len text) → len < length text →
+    RepliesTo reported text (Err error.BadHead)
 short_reply reported text len h reads short =
     bad_reply reported text (λ head x.
     omega (arith, ap length (response_unique text head h [] (drop len text) x.reads reads).1, length-drop len text))
 
 -- a head with too many fields
-pub full_reply : (reported : Bool) (text rest : List ℕ) (h : ResponseHead) → ReadsResponse text h rest → 64 < length h.fields → RepliesTo reported text (Err error.BadHead)
+pub full_reply : (reported : Bool) (text rest : List ℕ) (h : ResponseHead) → ReadsResponse text h rest → 64 < length h.fields →
+    RepliesTo reported text (Err error.BadHead)
 full_reply reported text rest h reads many =
     bad_reply reported text (λ head x.
     let same = response_unique text head h [] rest x.reads reads in
     omega (arith, ap (λ (k : ResponseHead). length k.fields) same.0, x.few))
 
-pub no_reply : (reported : Bool) (text : List ℕ) → ((h : ResponseHead) (rest : List ℕ) → ¬ (ReadsResponse text h rest)) → RepliesTo reported text (Err error.BadHead)
+pub no_reply : (reported : Bool) (text : List ℕ) → ((h : ResponseHead) (rest : List ℕ) → ¬ (ReadsResponse text h rest)) →
+    RepliesTo reported text (Err error.BadHead)
 no_reply reported text none = bad_reply reported text (λ head x. none head [] x.reads)
 
-pub over_reply : (reported : Bool) (text : List ℕ) → ((more : List ℕ) (h : ResponseHead) (rest : List ℕ) → ReadsResponse (text ++ more) h rest → 64 < length h.fields) → RepliesTo reported text (Err error.BadHead)
+pub over_reply : (reported : Bool) (text : List ℕ) →
+    ((more : List ℕ) (h : ResponseHead) (rest : List ℕ) → ReadsResponse (text ++ more) h rest → 64 < length h.fields) →
+    RepliesTo reported text (Err error.BadHead)
 over_reply reported text over =
     bad_reply reported text (λ head x.
     omega (arith, x.few, over [] head [] (rw (append-nil text) x.reads)))

@@ -21,11 +21,14 @@ use Rattle.hc_head.proofs.HeadFacts.{is_token, own_value, small_request, small_r
 one_size : (f : List ℕ × List ℕ) (fields : List (List ℕ × List ℕ)) → size_of (f ∷ fields) ≡ length f.0 + length f.1 + size_of fields
 one_size f fields = sum_by-cons (λ (g : List ℕ × List ℕ). length g.0 + length g.1) f fields
 
-own_field : (f : Field) → grammar.IsField f → length (grammar.field_value f) ≤ 8192 → length f.name + length (grammar.field_value f) ≤ 49152 → IsField (lowercase_field (name_and_value f))
+own_field : (f : Field) → grammar.IsField f → length (grammar.field_value f) ≤ 8192 → length f.name + length (grammar.field_value f) ≤ 49152 →
+    IsField (lowercase_field (name_and_value f))
 own_field f h short small =
-    IsField-lowered 0 0 f.name (grammar.field_value f) (record { is_name = is_token f.name h.name; is_value = own_value f.raw h.raw; has_place = omega arith; is_short = short; fits = omega arith })
+    IsField-lowered 0 0 f.name (grammar.field_value f)
+    (record { is_name = is_token f.name h.name; is_value = own_value f.raw h.raw; has_place = omega arith; is_short = short; fits = omega arith })
 
-pub own_fields : (fs : List Field) → All grammar.IsField fs → is_within_limits (fields_of fs) ≡ true → size_of (fields_of fs) ≤ 49152 → All IsField (fields_of fs)
+pub own_fields : (fs : List Field) → All grammar.IsField fs → is_within_limits (fields_of fs) ≡ true → size_of (fields_of fs) ≤ 49152 →
+    All IsField (fields_of fs)
 own_fields [] h short small = λ k d lt. absurd (omega arith)
 own_fields (f ∷ fs) h short small =
     let parts = and_parts (nat_le (length (grammar.field_value f)) 8192) (is_within_limits (fields_of fs)) short in
@@ -35,7 +38,8 @@ own_fields (f ∷ fs) h short small =
     All-cons IsField (lowercase_field (name_and_value f)) (fields_of fs) here (own_fields fs (All-tail grammar.IsField f fs h) parts.1 (omega (arith, size)))
 
 -- put one behind another
-put_spelled : (fields sorted : List (List ℕ × List ℕ)) → IsFieldList sorted → All IsField fields → length sorted + length fields ≤ 64 → size_of sorted + size_of fields ≤ 32768 → AreSpelledFields (put_all sorted fields)
+put_spelled : (fields sorted : List (List ℕ × List ℕ)) → IsFieldList sorted → All IsField fields → length sorted + length fields ≤ 64 →
+    size_of sorted + size_of fields ≤ 32768 → AreSpelledFields (put_all sorted fields)
 put_spelled [] sorted list all few small = record { list = list; within_limits = record { few = omega arith; small = omega arith } }
 put_spelled (f ∷ fields) sorted list all few small =
     let bytes = size_of-put f.0 f.1 sorted in
@@ -48,17 +52,20 @@ filter_few : (p : List ℕ × List ℕ → Bool) (fields : List (List ℕ × Lis
 filter_few p fields = omega (arith, length-filter_both p (λ (f : List ℕ × List ℕ). not (p f)) (λ _. refl) fields)
 
 filter_small : (p : List ℕ × List ℕ → Bool) (fields : List (List ℕ × List ℕ)) → size_of (filter p fields) ≤ size_of fields
-filter_small p fields = omega (arith, sum_by-filter_both p (λ (f : List ℕ × List ℕ). not (p f)) (λ _. refl) (λ (g : List ℕ × List ℕ). length g.0 + length g.1) fields)
+filter_small p fields = omega
+    (arith, sum_by-filter_both p (λ (f : List ℕ × List ℕ). not (p f)) (λ _. refl) (λ (g : List ℕ × List ℕ). length g.0 + length g.1) fields)
 
 fields_count : (fs : List Field) → length (fields_of fs) ≡ length fs
 fields_count [] = refl
 fields_count (f ∷ fs) = ap suc (fields_count fs)
 
-pub kept_spelled : (leaving : Leaving) (fs : List Field) → All grammar.IsField fs → is_within_limits (fields_of fs) ≡ true → length fs ≤ 64 → size_of (fields_of fs) ≤ 32768 → AreSpelledFields (kept_of leaving (fields_of fs))
+pub kept_spelled : (leaving : Leaving) (fs : List Field) → All grammar.IsField fs → is_within_limits (fields_of fs) ≡ true → length fs ≤ 64 →
+    size_of (fields_of fs) ≤ 32768 → AreSpelledFields (kept_of leaving (fields_of fs))
 kept_spelled leaving fs h short few small =
     let fields = fields_of fs in
     let p = is_kept leaving fields in
-    put_spelled (filter p fields) [] IsFieldList-nil (All-filter p IsField fields (own_fields fs h short (omega arith))) (omega (arith, filter_few p fields, fields_count fs)) (omega (arith, filter_small p fields))
+    put_spelled (filter p fields) [] IsFieldList-nil (All-filter p IsField fields (own_fields fs h short (omega arith)))
+    (omega (arith, filter_few p fields, fields_count fs)) (omega (arith, filter_small p fields))
 
 -- what is granted
 none_some : (found : Option (List ℕ)) (key : List ℕ) → found ≡ None → found ≡ Some key → ⊥
@@ -93,7 +100,8 @@ pub record IsGranted (method target : List ℕ) (minor : ℕ) (fields : List (Li
   pub key_is : is_target key ≡ true
   pub is : request ≡ request_of method minor fields key
 
-keyed : (method target : List ℕ) (minor : ℕ) (fields : List (List ℕ × List ℕ)) (request : WireRequest) (found : Option (List ℕ)) → found ≡ option_and_then key_of (asked_text target fields)
+keyed : (method target : List ℕ) (minor : ℕ) (fields : List (List ℕ × List ℕ)) (request : WireRequest) (found : Option (List ℕ)) → found ≡ option_and_then
+    key_of (asked_text target fields)
     → Grants request ≡ with_key method minor fields found → (key : List ℕ) × (is_target key ≡ true) × (request ≡ request_of method minor fields key)
 keyed method target minor fields request None is h = absurd (refused_granted BadHead request h)
 keyed method target minor fields request (Some key) is h = elim (cases_Bool (may_have_body fields)) [
@@ -102,7 +110,8 @@ keyed method target minor fields request (Some key) is h = elim (cases_Bool (may
       (key, asked_target (asked_text target fields) key (sym is), cc))
 ]
 
-granted_by : (method target : List ℕ) (minor : ℕ) (fields : List (List ℕ × List ℕ)) (request : WireRequest) → Grants request ≡ asked_of method target minor fields → IsGranted method target minor fields request
+granted_by : (method target : List ℕ) (minor : ℕ) (fields : List (List ℕ × List ℕ)) (request : WireRequest) →
+    Grants request ≡ asked_of method target minor fields → IsGranted method target minor fields request
 unfolding asked_of
 granted_by method target minor fields request h = elim (cases_Bool (is_within_limits fields)) [
   | inr far ↦ absurd (refused_granted BadHead request (rw far at h))
@@ -110,7 +119,8 @@ granted_by method target minor fields request h = elim (cases_Bool (is_within_li
     | inl connect ↦ absurd (refused_granted UnsupportedMethod request (rw (within, connect) at h))
     | inr other ↦ elim (cases_Bool (nat_lt 15 (length method))) [
       | inl long ↦ absurd (refused_granted BadHead request (rw (within, other, long) at h))
-      | inr short ↦ (let keys = keyed method target minor fields request (option_and_then key_of (asked_text target fields)) refl (rw (within, other, short) at h) in
+      | inr short ↦ (let keys =
+          keyed method target minor fields request (option_and_then key_of (asked_text target fields)) refl (rw (within, other, short) at h) in
           record { short_values = within; other = other; short = ltb-false 15 (length method) short; key = keys.0; key_is = keys.1; is = keys.2 })
     ]
   ]
@@ -125,7 +135,12 @@ granted_spelled text request long (inl x) =
     let len : length text ≡ length (print_request head) = ap length x.1.reads.1 ∙ length-append (print_request head) [] ∙ omega arith in
     let token = is_token head.method x.1.reads.0.method in
     subst (λ (r : WireRequest). IsSpelledRequest r.request) (sym granted.is) (record {
-      method = record { token = list_all-from_AllPass header.is_token_byte head.method token.1; some = omega (arith, token.0); short = granted.short; other = granted.other };
+      method = record {
+        token = list_all-from_AllPass header.is_token_byte head.method token.1;
+        some = omega (arith, token.0);
+        short = granted.short;
+        other = granted.other;
+      };
       key = granted.key_is;
       fields = kept_spelled Address head.fields x.1.reads.0.fields granted.short_values x.1.few (omega (arith, len, small));
     })
@@ -140,18 +155,21 @@ pub record IsShown (reported : Bool) (status : ℕ) (fields : List (List ℕ × 
   pub high : status ≤ 599
   pub is : response ≡ record { status = status; fields = kept_of (left_out framing) fields }
 
-framed : (status : ℕ) (fields : List (List ℕ × List ℕ)) (response : Response) (framing : Framing) (found : Option Framing) → Shows response framing ≡ with_framing status fields found
+framed : (status : ℕ) (fields : List (List ℕ × List ℕ)) (response : Response) (framing : Framing) (found : Option Framing) →
+    Shows response framing ≡ with_framing status fields found
     → response ≡ record { status = status; fields = kept_of (left_out framing) fields }
 framed status fields response framing found h = grind (arith, nat_tests)
 
 skipped_shown : (response : Response) (framing : Framing) → Shows response framing ≡ Skips → ⊥
 skipped_shown response framing h = cc
 
-shown_by : (reported : Bool) (status : ℕ) (fields : List (List ℕ × List ℕ)) (response : Response) (framing : Framing) → Shows response framing ≡ heard_of reported status fields → IsShown reported status fields response framing
+shown_by : (reported : Bool) (status : ℕ) (fields : List (List ℕ × List ℕ)) (response : Response) (framing : Framing) →
+    Shows response framing ≡ heard_of reported status fields → IsShown reported status fields response framing
 unfolding heard_of
 shown_by reported status fields response framing h = search arith
 
-pub shown_spelled : (no_body : Bool) (text : List ℕ) (response : Response) (framing : Framing) → length text ≤ 32768 → IsHeardIn no_body text (Shows response framing) → IsSpelledResponse response
+pub shown_spelled : (no_body : Bool) (text : List ℕ) (response : Response) (framing : Framing) → length text ≤ 32768 →
+    IsHeardIn no_body text (Shows response framing) → IsSpelledResponse response
 shown_spelled no_body text response framing long (inr x) = absurd (refused_shown BadHead response framing x.1)
 shown_spelled no_body text response framing long (inl x) =
     let head = x.0 in

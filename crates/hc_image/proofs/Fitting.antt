@@ -41,14 +41,16 @@ few_runs n x (run ∷ runs) h =
     let most = right_max n (max (run.at + length run.bytes) (last_end runs)) in
     omega (arith, place, some, more, most)
 
-given_out : (contents : Contents) (earlier : List Content) (r : ℕ) (later : List Content) (run : Run) → is_own_run contents earlier r later run ≡ true → run.x < contents.next_exchange
+given_out : (contents : Contents) (earlier : List Content) (r : ℕ) (later : List Content) (run : Run) → is_own_run contents earlier r later run ≡ true →
+    run.x < contents.next_exchange
 given_out contents earlier r later run own =
     let outer = and_parts _ _ own in
     let inner = and_parts _ _ outer.0 in
     let given = and_parts _ _ inner.0 in
     below run.x contents.next_exchange given.1
 
-module _ (contents : Contents) (earlier : List Content) (r : ℕ) (later : List Content) (total : ℕ) (next : contents.next_exchange ≤ 2 ^ 60) (small : total < 2 ^ 62) where
+module _ (contents : Contents) (earlier : List Content) (r : ℕ) (later : List Content) (total : ℕ) (next : contents.next_exchange ≤ 2 ^ 60)
+    (small : total < 2 ^ 62) where
   run_has : (run : Run) → is_own_run contents earlier r later run ≡ true → run.at + length run.bytes ≤ total → HasRunText run
   run_has run own end =
       let x : run.x < contents.next_exchange = given_out contents earlier r later run own in
@@ -70,7 +72,8 @@ module _ (limits : Limits) (contents : Contents) (next : contents.next_exchange 
   ends_by item (Some total) small h =
       let both = and_parts _ _ h in (total, small total refl, within (last_end item.runs) total both.0)
 
-  item_has : (earlier : List Content) (item : Content) (later : List Content) → IsHead item.head → is_good limits contents earlier item later ≡ true → HasItemText item
+  item_has : (earlier : List Content) (item : Content) (later : List Content) → IsHead item.head → is_good limits contents earlier item later ≡ true →
+      HasItemText item
   item_has earlier item later own h =
       let head = and_parts _ _ h in
       let most = and_parts _ _ head.0 in
@@ -91,23 +94,27 @@ module _ (limits : Limits) (contents : Contents) (next : contents.next_exchange 
         runs = runs_have contents earlier item.r later end.0 next end.1 item.runs runs.1 end.2;
       }
 
-  items_have : (earlier : List Content) (items : List coded.Content) → are_good limits contents earlier (map plain_item items) ≡ true → All HasItemText (map plain_item items)
+  items_have : (earlier : List Content) (items : List coded.Content) → are_good limits contents earlier (map plain_item items) ≡ true →
+      All HasItemText (map plain_item items)
   items_have earlier [] h = All-nil HasItemText
   items_have earlier (item ∷ items) h =
       let both = and_parts _ _ h in
-      All-cons HasItemText (plain_item item) (map plain_item items) (item_has earlier (plain_item item) (map plain_item items) item.head.own both.0) (items_have (plain_item item ∷ earlier) items both.1)
+      All-cons HasItemText (plain_item item) (map plain_item items) (item_has earlier (plain_item item) (map plain_item items) item.head.own both.0)
+      (items_have (plain_item item ∷ earlier) items both.1)
 
 -- each weighs 32,768 at least
 weighed : (items : List Content) → length items * 32768 ≤ weights_of items
 weighed [] = omega arith
 weighed (item ∷ items) =
     let more = weighed items in
-    let both : weights_of (item ∷ items) ≡ (32768 + bytes_in item.runs) + weights_of items = sum_by-cons (λ (i : Content). 32768 + bytes_in i.runs) item items in
+    let both : weights_of (item ∷ items) ≡ (32768 + bytes_in item.runs) + weights_of items =
+    sum_by-cons (λ (i : Content). 32768 + bytes_in i.runs) item items in
     omega (arith, more, both)
 
 -- ALL
 
-pub image_of_good : (limits : Limits) (contents : coded_contents.Contents) → limits.max_total < 2 ^ 64 → may_begin limits (plain_contents contents) ≡ true → HasImage (plain_contents contents)
+pub image_of_good : (limits : Limits) (contents : coded_contents.Contents) → limits.max_total < 2 ^ 64 → may_begin
+    limits (plain_contents contents) ≡ true → HasImage (plain_contents contents)
 unfolding may_begin
 image_of_good limits contents total h =
     let weight = and_parts _ _ h in

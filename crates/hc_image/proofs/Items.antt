@@ -21,9 +21,11 @@ module _ (item : Content) (part after old : List ℕ) (spells : SpellsItem part 
       (record { key = spells.has_text.key; numbers = record { r = spells.has_text.r; count = spells.has_text.count } }) whole
 
   module _ (line : ItemLine) (mid : List ℕ) (has : HasItemLine line) (taken : line_text line ++ mid ≡ old) where
-    pub after_line : SameLine item.key line.key item.r line.numbers.r (length item.runs) line.numbers.count (spells.head_text ++ (runs_text item.runs ++ after)) mid
+    pub after_line : SameLine item.key line.key item.r line.numbers.r (length item.runs) line.numbers.count
+        (spells.head_text ++ (runs_text item.runs ++ after)) mid
     after_line =
-        line_once item.key line.key item.r line.numbers.r (length item.runs) line.numbers.count _ mid spells.has_text.key has.key spells.has_text.r has.numbers.r spells.has_text.count has.numbers.count (whole ∙ sym taken)
+        line_once item.key line.key item.r line.numbers.r (length item.runs) line.numbers.count _ mid spells.has_text.key has.key spells.has_text.r
+        has.numbers.r spells.has_text.count has.numbers.count (whole ∙ sym taken)
 
     pub no_head : ((head : Head) (text more : List ℕ) → SpellsHead text head → text ++ more ≢ mid) → ⊥
     no_head none = none item.head spells.head_text _ (spells.has_text.head, spells.is_record) after_line.rest
@@ -33,7 +35,8 @@ module _ (item : Content) (part after old : List ℕ) (spells : SpellsItem part 
       after_head =
           let own = spells.is_record in
           let other = spelled.1 in
-          let same_text = ap (λ (l : List ℕ). l ++ (runs_text item.runs ++ after)) own.1 ∙ (after_line.rest ∙ (sym read ∙ ap (λ (l : List ℕ). l ++ left) (sym other.1))) in
+          let same_text = ap (λ (l : List ℕ). l ++ (runs_text item.runs ++ after)) own.1 ∙
+          (after_line.rest ∙ (sym read ∙ ap (λ (l : List ℕ). l ++ left) (sym other.1))) in
           (head_once item.head head own.0 other.0 (runs_text item.runs ++ after) left spells.has_text.head spelled.0 same_text).1
 
       pub no_runs_left : ((runs : List Run) (more : List ℕ) → AreRuns line.numbers.count runs → runs_text runs ++ more ≢ left) → ⊥
@@ -41,7 +44,8 @@ module _ (item : Content) (part after old : List ℕ) (spells : SpellsItem part 
           none item.runs after (record { each = spells.has_text.runs; count_is = after_line.count }) after_head
 
 -- an item whose parts were taken
-pub item_read : (line : ItemLine) (head : Head) (runs : List Run) (text old mid left rest : List ℕ) → HasItemLine line → line_text line ++ mid ≡ old → SpellsHead text head → text ++ left ≡ mid → AreRuns line.numbers.count runs → runs_text runs ++ rest ≡ left
+pub item_read : (line : ItemLine) (head : Head) (runs : List Run) (text old mid left rest : List ℕ) → HasItemLine line → line_text line ++ mid ≡ old →
+    SpellsHead text head → text ++ left ≡ mid → AreRuns line.numbers.count runs → runs_text runs ++ rest ≡ left
     → (part : List ℕ) × SpellsItem part (record { key = line.key; r = line.numbers.r; head = head; runs = runs }) × (part ++ rest ≡ old)
 item_read line head runs text old mid left rest has taken spelled read are is =
     let count = are.count_is in

@@ -19,9 +19,11 @@ use Rattle.hc_image.specs.{Images.{HasRunText, run_line, run_text, runs_text, it
 -- RECORDS
 
 -- a record before other bytes, part by part
-pub record_apart : (v : Version) (a : Head) (r : List ℕ) → spelling v a ++ r ≡ first_text (first_of v a) ++ (tag_line v (joining_text a.joining) ++ (fields_text a.vary_fields ++ (fields_text a.fields ++ r)))
+pub record_apart : (v : Version) (a : Head) (r : List ℕ) → spelling v a ++ r ≡ first_text (first_of v a) ++
+    (tag_line v (joining_text a.joining) ++ (fields_text a.vary_fields ++ (fields_text a.fields ++ r)))
 record_apart v a r =
-    ap (λ (l : List ℕ). l ++ r) (spelling-parts v a) ∙ regroup (first_text (first_of v a)) (tag_line v (joining_text a.joining)) (fields_text a.vary_fields) (fields_text a.fields)
+    ap (λ (l : List ℕ). l ++ r) (spelling-parts v a) ∙
+    regroup (first_text (first_of v a)) (tag_line v (joining_text a.joining)) (fields_text a.vary_fields) (fields_text a.fields)
   where
     regroup : (f t g h : List ℕ) → (f ++ (t ++ (g ++ h))) ++ r ≡ f ++ (t ++ (g ++ (h ++ r)))
     regroup f t g h = simp append_assoc
@@ -30,7 +32,9 @@ pub head_once : (a b : Head) (v w : Version) (r s : List ℕ) → IsHead a → I
 head_once a b v w r s own_a own_b same =
     let whole = sym (record_apart v a r) ∙ (same ∙ record_apart w b s) in
     let first = first_once (first_of v a) (first_of w b) _ _ (AreFirst-of v a own_a) (AreFirst-of w b own_b) whole in
-    let tags = tag_once w (joining_text a.joining) (joining_text b.joining) (fields_text a.vary_fields ++ (fields_text a.fields ++ r)) (fields_text b.vary_fields ++ (fields_text b.fields ++ s)) (lacks-own a own_a v _ refl) (lacks-own b own_b w _ refl) (rw first.version at first.numbers.rest) in
+    let tags = tag_once w (joining_text a.joining) (joining_text b.joining) (fields_text a.vary_fields ++ (fields_text a.fields ++ r))
+    (fields_text b.vary_fields ++ (fields_text b.fields ++ s)) (lacks-own a own_a v _ refl) (lacks-own b own_b w _ refl)
+    (rw first.version at first.numbers.rest) in
     let vary = fields_once a.vary_fields b.vary_fields _ _ own_a.vary_list.fields own_b.vary_list.fields first.numbers.vary_count tags.1 in
     let last = fields_once a.fields b.fields r s own_a.list.fields own_b.list.fields first.numbers.count vary.1 in
     let texts : spelling v a ≡ spelling w b =
@@ -43,10 +47,12 @@ numbers_small head own = (AreFirst-of First head own).numbers
 
 -- RUNS
 
-run_apart : (x at count : ℕ) (bytes r : List ℕ) → (run_line x at count ++ (bytes ++ 10 ∷ [])) ++ r ≡ codes "run " ++ (number_and_end 32 x ++ (number_and_end 32 at ++ (number_and_end 10 count ++ (bytes ++ 10 ∷ r))))
+run_apart : (x at count : ℕ) (bytes r : List ℕ) → (run_line x at count ++ (bytes ++ 10 ∷ [])) ++ r ≡ codes "run " ++
+    (number_and_end 32 x ++ (number_and_end 32 at ++ (number_and_end 10 count ++ (bytes ++ 10 ∷ r))))
 run_apart x at count bytes r = simp append_assoc
 
-pub run_line_apart : (x at count : ℕ) (r : List ℕ) → run_line x at count ++ r ≡ codes "run " ++ (number_and_end 32 x ++ (number_and_end 32 at ++ (number_and_end 10 count ++ r)))
+pub run_line_apart : (x at count : ℕ) (r : List ℕ) → run_line x at count ++ r ≡ codes "run " ++
+    (number_and_end 32 x ++ (number_and_end 32 at ++ (number_and_end 10 count ++ r)))
 run_line_apart x at count r = simp append_assoc
 
 abbrev make_run : ℕ → ℕ → List ℕ → Run
@@ -75,7 +81,8 @@ pub record RunsRest (done runs : List Run) (rest after : List ℕ) : Type 0 wher
   pub list_is : runs ≡ done ++ more
   pub text_is : rest ≡ runs_text more ++ after
 
-pub runs_rest : (done runs : List Run) (rest after : List ℕ) → All HasRunText done → All HasRunText runs → length done ≤ length runs → runs_text done ++ rest ≡ runs_text runs ++ after → RunsRest done runs rest after
+pub runs_rest : (done runs : List Run) (rest after : List ℕ) → All HasRunText done → All HasRunText runs → length done ≤ length runs → runs_text done ++
+    rest ≡ runs_text runs ++ after → RunsRest done runs rest after
 runs_rest [] runs rest after all_done all_runs le same = record { more = runs; list_is = refl; text_is = same }
 runs_rest (d ∷ done) [] rest after all_done all_runs le same = absurd (omega arith)
 runs_rest (d ∷ done) (f ∷ runs) rest after all_done all_runs le same =
@@ -88,7 +95,8 @@ runs_rest (d ∷ done) (f ∷ runs) rest after all_done all_runs le same =
       text_is = others.text_is;
     }
 
-pub runs_once : (us vs : List Run) (r s : List ℕ) → All HasRunText us → All HasRunText vs → length us ≡ length vs → runs_text us ++ r ≡ runs_text vs ++ s → (us ≡ vs) × (r ≡ s)
+pub runs_once : (us vs : List Run) (r s : List ℕ) → All HasRunText us → All HasRunText vs → length us ≡ length vs → runs_text us ++ r ≡ runs_text vs ++
+    s → (us ≡ vs) × (r ≡ s)
 runs_once us vs r s all_us all_bs len same =
     let rest = runs_rest us vs r s all_us all_bs (omega arith) same in
     let none : rest.more ≡ [] =
@@ -105,7 +113,8 @@ lacks-target key h =
     let word = and_parts _ _ inner.0 in
     (and_parts _ _ word.0).1
 
-pub item_apart : (key : List ℕ) (r count : ℕ) (rest : List ℕ) → item_line key r count ++ rest ≡ codes "item " ++ (key ++ 32 ∷ (number_and_end 32 r ++ (number_and_end 10 count ++ rest)))
+pub item_apart : (key : List ℕ) (r count : ℕ) (rest : List ℕ) → item_line key r count ++ rest ≡ codes "item " ++
+    (key ++ 32 ∷ (number_and_end 32 r ++ (number_and_end 10 count ++ rest)))
 item_apart key r count rest = simp append_assoc
 
 -- a line of an item
@@ -115,7 +124,8 @@ pub record SameLine (k l : List ℕ) (n m i j : ℕ) (s t : List ℕ) : Type 0 w
   pub count : i ≡ j
   pub rest : s ≡ t
 
-pub line_once : (k l : List ℕ) (n m i j : ℕ) (s t : List ℕ) → is_target k ≡ true → is_target l ≡ true → IsSmall n → IsSmall m → IsSmall i → IsSmall j → item_line k n i ++ s ≡ item_line l m j ++ t → SameLine k l n m i j s t
+pub line_once : (k l : List ℕ) (n m i j : ℕ) (s t : List ℕ) → is_target k ≡ true → is_target l ≡ true → IsSmall n → IsSmall m → IsSmall i → IsSmall j →
+    item_line k n i ++ s ≡ item_line l m j ++ t → SameLine k l n m i j s t
 line_once k l n m i j s t target_k target_l small_n small_m small_i small_j same =
     let apart = sym (item_apart k n i s) ∙ (same ∙ item_apart l m j t) in
     let keys = cut_once 32 k _ l _ (lacks-target k target_k) (lacks-target l target_l) (append_cancel_left (codes "item ") _ _ apart) in
@@ -127,7 +137,8 @@ abbrev make_item : List ℕ → ℕ → Head → List Run → Content
 make_item key r head runs = record { key = key; r = r; head = head; runs = runs }
 
 -- the text of an item before other bytes
-pub item_parts : (p : List ℕ) (a : Content) (r : List ℕ) (h : SpellsItem p a) → p ++ r ≡ item_line a.key a.r (length a.runs) ++ (h.head_text ++ (runs_text a.runs ++ r))
+pub item_parts : (p : List ℕ) (a : Content) (r : List ℕ) (h : SpellsItem p a) → p ++ r ≡ item_line a.key a.r (length a.runs) ++
+    (h.head_text ++ (runs_text a.runs ++ r))
 item_parts p a r h =
     ap (λ (l : List ℕ). l ++ r) (sym h.text_is) ∙ regroup (item_line a.key a.r (length a.runs)) h.head_text (runs_text a.runs)
   where
@@ -142,7 +153,8 @@ item_once p q a b r s spells_a spells_b same =
     let line = line_once a.key b.key a.r b.r (length a.runs) (length b.runs) _ _ has_a.key has_b.key has_a.r has_b.r has_a.count has_b.count apart in
     let record_a = spells_a.is_record in
     let record_b = spells_b.is_record in
-    let records = ap (λ (l : List ℕ). l ++ (runs_text a.runs ++ r)) record_a.1 ∙ (line.rest ∙ ap (λ (l : List ℕ). l ++ (runs_text b.runs ++ s)) (sym record_b.1)) in
+    let records = ap (λ (l : List ℕ). l ++ (runs_text a.runs ++ r)) record_a.1 ∙
+    (line.rest ∙ ap (λ (l : List ℕ). l ++ (runs_text b.runs ++ s)) (sym record_b.1)) in
     let heads = head_once a.head b.head record_a.0 record_b.0 _ _ has_a.head has_b.head records in
     let runs = runs_once a.runs b.runs r s has_a.runs has_b.runs line.count heads.1 in
     let items : make_item a.key a.r a.head a.runs ≡ make_item b.key b.r b.head b.runs = rw (line.key, line.r, heads.0, runs.0) refl in
@@ -156,12 +168,14 @@ pub record ItemsRest (done items : List Content) (rest after : List ℕ) : Type 
   pub list_is : items ≡ done ++ more
   pub text_is : rest ≡ text ++ after
 
-pub items_rest : (p q : List ℕ) (done items : List Content) (rest after : List ℕ) → SpellsItems p done → SpellsItems q items → length done ≤ length items → p ++ rest ≡ q ++ after → ItemsRest done items rest after
+pub items_rest : (p q : List ℕ) (done items : List Content) (rest after : List ℕ) → SpellsItems p done → SpellsItems q items →
+    length done ≤ length items → p ++ rest ≡ q ++ after → ItemsRest done items rest after
 items_rest p q [] items rest after spells_p spells_q le same =
     record { more = items; text = q; spells = spells_q; list_is = refl; text_is = ap (λ (l : List ℕ). l ++ rest) (sym spells_p) ∙ same }
 items_rest p q (d ∷ done) [] rest after spells_p spells_q le same = absurd (omega arith)
 items_rest p q (d ∷ done) (f ∷ items) rest after spells_p spells_q le same =
-    let apart = sym (append_assoc spells_p.0 spells_p.1 rest) ∙ (ap (λ (l : List ℕ). l ++ rest) spells_p.4 ∙ (same ∙ (ap (λ (l : List ℕ). l ++ after) (sym spells_q.4) ∙ append_assoc spells_q.0 spells_q.1 after))) in
+    let apart = sym (append_assoc spells_p.0 spells_p.1 rest) ∙
+    (ap (λ (l : List ℕ). l ++ rest) spells_p.4 ∙ (same ∙ (ap (λ (l : List ℕ). l ++ after) (sym spells_q.4) ∙ append_assoc spells_q.0 spells_q.1 after))) in
     let first = item_once spells_p.0 spells_q.0 d f _ _ spells_p.2 spells_q.2 apart in
     let others = items_rest spells_p.1 spells_q.1 done items rest after spells_p.3 spells_q.3 (omega arith) first.1 in
     record {
@@ -172,7 +186,8 @@ items_rest p q (d ∷ done) (f ∷ items) rest after spells_p spells_q le same =
       text_is = others.text_is;
     }
 
-pub items_once : (p q : List ℕ) (us vs : List Content) (r s : List ℕ) → SpellsItems p us → SpellsItems q vs → length us ≡ length vs → p ++ r ≡ q ++ s → (us ≡ vs) × (r ≡ s)
+pub items_once : (p q : List ℕ) (us vs : List Content) (r s : List ℕ) → SpellsItems p us → SpellsItems q vs → length us ≡ length vs → p ++ r ≡ q ++ s →
+    (us ≡ vs) × (r ≡ s)
 items_once p q us vs r s spells_p spells_q len same =
     let rest = items_rest p q us vs r s spells_p spells_q (omega arith) same in
     let none : rest.more ≡ [] =
@@ -182,7 +197,8 @@ items_once p q us vs r s spells_p spells_q len same =
 
 -- IMAGES
 
-pub lines_apart : (now last next count : ℕ) (r : List ℕ) → lines_of now last next count ++ r ≡ (codes "image 1" ++ 10 ∷ []) ++ (number_and_end 32 now ++ (number_and_end 32 last ++ (number_and_end 32 next ++ (number_and_end 10 count ++ r))))
+pub lines_apart : (now last next count : ℕ) (r : List ℕ) → lines_of now last next count ++ r ≡ (codes "image 1" ++ 10 ∷ []) ++
+    (number_and_end 32 now ++ (number_and_end 32 last ++ (number_and_end 32 next ++ (number_and_end 10 count ++ r))))
 lines_apart now last next count r = simp append_assoc
 
 abbrev make_contents : ℕ → ℕ → ℕ → List Content → Contents
@@ -195,13 +211,15 @@ image_once p q a b r s spells_a spells_b same =
     let front_a = ap (λ (l : List ℕ). l ++ r) (sym spells_a.text_is) ∙ append_assoc (first_lines a) spells_a.item_texts r in
     let front_b = ap (λ (l : List ℕ). l ++ s) (sym spells_b.text_is) ∙ append_assoc (first_lines b) spells_b.item_texts s in
     let whole = sym front_a ∙ (same ∙ front_b) in
-    let apart = sym (lines_apart a.now a.last_consumer a.next_exchange (length a.items) _) ∙ (whole ∙ lines_apart b.now b.last_consumer b.next_exchange (length b.items) _) in
+    let apart = sym (lines_apart a.now a.last_consumer a.next_exchange (length a.items) _) ∙
+    (whole ∙ lines_apart b.now b.last_consumer b.next_exchange (length b.items) _) in
     let now = ended_once 32 a.now b.now _ _ (omega arith) has_a.now has_b.now (append_cancel_left (codes "image 1" ++ 10 ∷ []) _ _ apart) in
     let last = ended_once 32 a.last_consumer b.last_consumer _ _ (omega arith) has_a.last has_b.last now.1 in
     let next = ended_once 32 a.next_exchange b.next_exchange _ _ (omega arith) has_a.next has_b.next last.1 in
     let count = ended_once 10 (length a.items) (length b.items) _ _ (omega arith) has_a.count has_b.count next.1 in
     let items = items_once spells_a.item_texts spells_b.item_texts a.items b.items r s spells_a.items spells_b.items count.0 count.1 in
-    let contents : make_contents a.now a.last_consumer a.next_exchange a.items ≡ make_contents b.now b.last_consumer b.next_exchange b.items = rw (now.0, last.0, next.0, items.0) refl in
+    let contents : make_contents a.now a.last_consumer a.next_exchange a.items ≡ make_contents b.now b.last_consumer b.next_exchange b.items =
+    rw (now.0, last.0, next.0, items.0) refl in
     (contents, items.1)
 
 -- what stands behind a number that was taken
@@ -209,7 +227,8 @@ pub behind : (e n m : ℕ) (r s text : List ℕ) → e < 48 → IsSmall n → Is
 behind e n m r s text below small_n small_m is_n is_m = (ended_once e n m r s below small_n small_m (is_n ∙ sym is_m)).1
 
 -- the count in a line of a run, and what stands behind the line
-pub run_line_once : (x y at bt i j : ℕ) (r s : List ℕ) → IsSmall x → IsSmall y → IsSmall at → IsSmall bt → IsSmall i → IsSmall j → run_line x at i ++ r ≡ run_line y bt j ++ s → (i ≡ j) × (r ≡ s)
+pub run_line_once : (x y at bt i j : ℕ) (r s : List ℕ) → IsSmall x → IsSmall y → IsSmall at → IsSmall bt → IsSmall i → IsSmall j → run_line x at i ++
+    r ≡ run_line y bt j ++ s → (i ≡ j) × (r ≡ s)
 run_line_once x y at bt i j r s small_x small_y small_at small_bt small_i small_j same =
     let apart = sym (run_line_apart x at i r) ∙ (same ∙ run_line_apart y bt j s) in
     let one = ended_once 32 x y _ _ (omega arith) small_x small_y (append_cancel_left (codes "run ") _ _ apart) in

@@ -26,7 +26,8 @@ module _ (contents : Contents) (image rest text : List ℕ) (spells : SpellsImag
     after_lines : (length contents.items ≡ first.count) × (spells.item_texts ++ rest ≡ mid)
     after_lines =
         let has = spells.has_lines in
-        let apart = sym (lines_apart contents.now contents.last_consumer contents.next_exchange (length contents.items) (spells.item_texts ++ rest)) ∙ (whole ∙ (sym taken ∙ lines_apart first.now first.last_consumer first.next_exchange first.count mid)) in
+        let apart = sym (lines_apart contents.now contents.last_consumer contents.next_exchange (length contents.items) (spells.item_texts ++ rest)) ∙
+        (whole ∙ (sym taken ∙ lines_apart first.now first.last_consumer first.next_exchange first.count mid)) in
         let one = ended_once 32 contents.now first.now _ _ (omega arith) has.now small.now (append_cancel_left (codes "image 1" ++ 10 ∷ []) _ _ apart) in
         let two = ended_once 32 contents.last_consumer first.last_consumer _ _ (omega arith) has.last small.last one.1 in
         let three = ended_once 32 contents.next_exchange first.next_exchange _ _ (omega arith) has.next small.next two.1 in
@@ -36,7 +37,9 @@ module _ (contents : Contents) (image rest text : List ℕ) (spells : SpellsImag
     no_items_left none = none contents.items spells.item_texts rest (spells.items, after_lines.0) after_lines.1
 
 -- an image whose parts were taken
-module _ (first : FirstLines) (items : List coded.Content) (part mid rest text left : List ℕ) (small : AreSmall first) (taken : lines_text first ++ mid ≡ text) (spells : SpellsMany first.count part (map plain_item items)) (is : part ++ rest ≡ mid) (left_is : left ≡ rest) where
+module _ (first : FirstLines) (items : List coded.Content) (part mid rest text left : List ℕ) (small : AreSmall first)
+    (taken : lines_text first ++ mid ≡ text) (spells : SpellsMany first.count part (map plain_item items)) (is : part ++ rest ≡ mid)
+    (left_is : left ≡ rest) where
   abbrev read_contents : coded_contents.Contents
   read_contents = record { now = first.now; last_consumer = first.last_consumer; next_exchange = first.next_exchange; items = items }
 

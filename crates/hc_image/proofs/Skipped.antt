@@ -36,14 +36,17 @@ field_line : (f : Pair) (more after : List ℕ) → (field_text f ++ more) ++ af
 field_line f more after = simp append_assoc
 
 -- the line that was taken is that of the field at this place
-skip_at : (fields : List Pair) (i : ℕ) (after rest line new : List ℕ) → All IsField fields → i < length fields → fields_text (drop i fields) ++ after ≡ rest → lacks 10 line ≡ true → line ++ 10 ∷ new ≡ rest → fields_text (drop (suc i) fields) ++ after ≡ new
+skip_at : (fields : List Pair) (i : ℕ) (after rest line new : List ℕ) → All IsField fields → i < length fields → fields_text (drop i fields) ++
+    after ≡ rest → lacks 10 line ≡ true → line ++ 10 ∷ new ≡ rest → fields_text (drop (suc i) fields) ++ after ≡ new
 skip_at [] i after rest line new all lt is lacking taken = absurd (omega arith)
 skip_at (f ∷ fields) zero after rest line new all lt is lacking taken =
-    (cut_once 10 (line_of f) (fields_text fields ++ after) line new (lacks-field f (All-head IsField f fields all)) lacking (sym (field_line f (fields_text fields) after) ∙ (is ∙ sym taken))).1
+    (cut_once 10 (line_of f) (fields_text fields ++ after) line new (lacks-field f (All-head IsField f fields all)) lacking
+    (sym (field_line f (fields_text fields) after) ∙ (is ∙ sym taken))).1
 skip_at (f ∷ fields) (suc i) after rest line new all lt is lacking taken =
     skip_at fields i after rest line new (All-tail IsField f fields all) (omega arith) is lacking taken
 
-pub skip_next : (fields : List Pair) (i : ℕ) (after rest line new : List ℕ) → All IsField fields → i < length fields → fields_text (drop i fields) ++ after ≡ rest → lacks 10 line ≡ true → line ++ 10 ∷ new ≡ rest → fields_text (drop (i + 1) fields) ++ after ≡ new
+pub skip_next : (fields : List Pair) (i : ℕ) (after rest line new : List ℕ) → All IsField fields → i < length fields → fields_text (drop i fields) ++
+    after ≡ rest → lacks 10 line ≡ true → line ++ 10 ∷ new ≡ rest → fields_text (drop (i + 1) fields) ++ after ≡ new
 skip_next fields i after rest line new all lt is lacking taken =
     let next : i + 1 ≡ suc i = omega arith in
     rw next (skip_at fields i after rest line new all lt is lacking taken)
@@ -64,7 +67,8 @@ lacks-replicate (suc n) b h = lacks-append 10 (b ∷ []) (replicate n b) h (lack
 lacks-total : (total : Option ℕ) → IsSmallTotal total → lacks 10 (total_text total) ≡ true
 lacks-total None small = refl
 lacks-total (Some n) small =
-    lacks-append 10 (replicate (20 - length (decimal n)) 48) (decimal n) (lacks-replicate (20 - length (decimal n)) 48 refl) (lacks-decimal 10 n (omega arith) (small n refl))
+    lacks-append 10 (replicate (20 - length (decimal n)) 48) (decimal n) (lacks-replicate (20 - length (decimal n)) 48 refl)
+    (lacks-decimal 10 n (omega arith) (small n refl))
 
 -- the line of kind and length, without its line feed
 abbrev pub seal_of : Head → List ℕ
@@ -91,15 +95,18 @@ abbrev pub later_of : Version → Head → List ℕ → List ℕ
 later_of v head after =
     tag_line v (joining_text head.joining) ++ (fields_text head.vary_fields ++ (fields_text head.fields ++ after))
 
-pub record_lines : (v : Version) (head : Head) (after : List ℕ) → spelling v head ++ after ≡ version_text v ++ 10 ∷ (seal_of head ++ 10 ∷ (head_numbers head ++ later_of v head after))
+pub record_lines : (v : Version) (head : Head) (after : List ℕ) → spelling v head ++ after ≡ version_text v ++ 10 ∷
+    (seal_of head ++ 10 ∷ (head_numbers head ++ later_of v head after))
 record_lines v head after = by_version v
   where
-    regroup : (u s n t f g : List ℕ) → ((u ++ 10 ∷ []) ++ ((s ++ 10 ∷ []) ++ (n ++ (t ++ (f ++ g))))) ++ after ≡ u ++ 10 ∷ (s ++ 10 ∷ (n ++ (t ++ (f ++ (g ++ after)))))
+    regroup : (u s n t f g : List ℕ) → ((u ++ 10 ∷ []) ++ ((s ++ 10 ∷ []) ++ (n ++ (t ++ (f ++ g))))) ++ after ≡ u ++ 10 ∷
+        (s ++ 10 ∷ (n ++ (t ++ (f ++ (g ++ after)))))
     regroup u s n t f g = simp append_assoc
 
     by_version : (w : Version) → spelling w head ++ after ≡ version_text w ++ 10 ∷ (seal_of head ++ 10 ∷ (head_numbers head ++ later_of w head after))
     by_version First = regroup (codes "record 1") (seal_of head) (head_numbers head) [] (fields_text head.vary_fields) (fields_text head.fields)
-    by_version Second = regroup (codes "record 2") (seal_of head) (head_numbers head) (tag_line Second (joining_text head.joining)) (fields_text head.vary_fields) (fields_text head.fields)
+    by_version Second = regroup (codes "record 2") (seal_of head) (head_numbers head) (tag_line Second (joining_text head.joining))
+        (fields_text head.vary_fields) (fields_text head.fields)
 
 -- a record at the front of a text
 module _ (v : Version) (head : Head) (after text : List ℕ) (own : IsHead head) (same : spelling v head ++ after ≡ text) where
@@ -135,6 +142,9 @@ pub no_tag : (head : Head) (after rest : List ℕ) → lacks 10 rest ≡ true �
 no_tag head after rest lacking same =
     lacks-not 10 (codes "tag " ++ joining_text head.joining) after (ap (lacks 10) (sym (tag_apart (joining_text head.joining) after) ∙ same) ∙ lacking)
 
-pub after_tag : (head : Head) (after rest line new : List ℕ) → IsHead head → tag_line Second (joining_text head.joining) ++ after ≡ rest → lacks 10 line ≡ true → line ++ 10 ∷ new ≡ rest → new ≡ after
+pub after_tag : (head : Head) (after rest line new : List ℕ) → IsHead head → tag_line Second (joining_text head.joining) ++ after ≡ rest →
+    lacks 10 line ≡ true → line ++ 10 ∷ new ≡ rest → new ≡ after
 after_tag head after rest line new own same lacking taken =
-    sym (cut_once 10 (codes "tag " ++ joining_text head.joining) after line new (lacks-append 10 (codes "tag ") (joining_text head.joining) refl (lacks-own_tag head own)) lacking (sym (tag_apart (joining_text head.joining) after) ∙ (same ∙ sym taken))).1
+    sym (cut_once 10 (codes "tag " ++ joining_text head.joining) after line new
+    (lacks-append 10 (codes "tag ") (joining_text head.joining) refl (lacks-own_tag head own)) lacking
+    (sym (tag_apart (joining_text head.joining) after) ∙ (same ∙ sym taken))).1

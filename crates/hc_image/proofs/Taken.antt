@@ -4,7 +4,8 @@ use Rattle.hc_text.specs.{Numbers.{IsPlain}, Texts.{IsSmall, lacks}}
 use Rattle.hc_text.proofs.Cuts.{cut_once, lacks-decimal}
 use Rattle.hc_record.specs.{Lines.{number_and_end}, Reading.{Takes}}
 
-pub number_taken : (e : ℕ) (old new text : List ℕ) (read : Option ℕ) → e < 48 → lacks e text ≡ true → text ++ e ∷ new ≡ old → IfSome read (IsPlain text) → IfNone read ((n : ℕ) → ¬ (IsPlain text n)) → Takes (number_and_end e) IsSmall old new read
+pub number_taken : (e : ℕ) (old new text : List ℕ) (read : Option ℕ) → e < 48 → lacks e text ≡ true → text ++ e ∷ new ≡ old → IfSome read (IsPlain text) →
+    IfNone read ((n : ℕ) → ¬ (IsPlain text n)) → Takes (number_and_end e) IsSmall old new read
 number_taken e old new text None below lacking is found none = λ n after small same.
     let cut = cut_once e (decimal n) after text new (lacks-decimal e n below small) lacking (sym (append_assoc (decimal n) (e ∷ []) after) ∙ (same ∙ sym is)) in
     none n (small, sym cut.0)

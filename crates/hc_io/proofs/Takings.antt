@@ -16,7 +16,8 @@ takes_more (Some old) (Some mid) new a b f g = let e : mid ≡ old ++ a = cc in 
 rest-all : (xs : List ℕ) (at : ℕ) → take (length xs - at) (drop at xs) ≡ drop at xs
 rest-all xs at = grind (arith, common_steps)
 
-pub takes_next : (old mid new : Option (List ℕ)) (xs : List ℕ) (at n : ℕ) → Takes old mid (take at xs) → Takes mid new (take n (take (length xs - at) (drop at xs))) → Takes old new (take (at + n) xs)
+pub takes_next : (old mid new : Option (List ℕ)) (xs : List ℕ) (at n : ℕ) → Takes old mid (take at xs) →
+    Takes mid new (take n (take (length xs - at) (drop at xs))) → Takes old new (take (at + n) xs)
 takes_next old mid new xs at n f g = rw (take-add at n xs) (takes_more old mid new (take at xs) (take n (drop at xs)) f (rw (rest-all xs at) at g))
 
 pub within_next : (xs : List ℕ) (at n : ℕ) → at < length xs → n ≤ length (take (length xs - at) (drop at xs)) → at + n ≤ length xs

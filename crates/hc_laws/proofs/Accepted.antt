@@ -22,7 +22,8 @@ module _ (limits : Limits) (t : Tables) (e : Entry) (is : IsOwed limits t e) whe
 opened_as : (w : Exchange) → w.is_open ≡ true → as_open (Some w) ≡ Some (open_exchange w)
 opened_as w h = rw h refl
 
-module _ (limits : Limits) (t : Tables) (e : Entry) (is : IsOwed limits t e) (x : ℕ) (w : Exchange) (row : t.exchange x ≡ Some w) (runs : w.is_open ≡ true) where
+module _ (limits : Limits) (t : Tables) (e : Entry) (is : IsOwed limits t e) (x : ℕ) (w : Exchange) (row : t.exchange x ≡ Some w)
+    (runs : w.is_open ≡ true) where
   row_behind : denial t e.event ≡ None → (after t e).exchange x ≡ Some (exchange_acted x e.acts (exchange_heard t e x e.event w))
   unfolding exchange_after
   row_behind none = ap (λ (u : Tables). u.exchange x) (after_is limits t e is none) ∙ ap (exchange_after t e x) row
@@ -38,7 +39,8 @@ module _ (limits : Limits) (t : Tables) (e : Entry) (is : IsOwed limits t e) (x 
   -- so does its end, where it has its head
   end_goes : e.event ≡ event.End x → is_some w.head ≡ true → denial t e.event ≡ None
   unfolding refusals.refusal_of
-  end_goes at headed = ap (denial t) at ∙ (ap (λ (o : Option Exchange). refusals.end_refusal (as_open o)) row ∙ (ap refusals.end_refusal (opened_as w runs) ∙ rw headed refl))
+  end_goes at headed = ap (denial t) at ∙
+      (ap (λ (o : Option Exchange). refusals.end_refusal (as_open o)) row ∙ (ap refusals.end_refusal (opened_as w runs) ∙ rw headed refl))
 
   pub end_closes : e.event ≡ event.End x → is_some w.head ≡ true → is_open ((after t e).exchange x) ≡ false
   end_closes at headed = grind (arith, nat_tests, is_open, row_behind, end_goes, shut_by, itself)
@@ -57,7 +59,8 @@ module _ (limits : Limits) (t : Tables) (e : Entry) (is : IsOwed limits t e) (x 
 
 -- STARTS
 
-module _ (limits : Limits) (t : Tables) (e : Entry) (is : IsOwed limits t e) (c : ℕ) (request : Request) (at : e.event ≡ event.Start c request) (later : t.last_start < c) (few : live t < 1024) where
+module _ (limits : Limits) (t : Tables) (e : Entry) (is : IsOwed limits t e) (c : ℕ) (request : Request) (at : e.event ≡ event.Start c request)
+    (later : t.last_start < c) (few : live t < 1024) where
   start_goes : denial t e.event ≡ None
   unfolding refusals.refusal_of
   start_goes = grind (arith, nat_tests)

@@ -29,7 +29,8 @@ module _ (t : Tables) (now c : ℕ) (k : Consumer) where
       let there = some_row (t.representation r) (current_there t k.request.key r is) in
       absurd (some_none (candidate t now r k.request there.0) (sym (ap (option_map (λ v. candidate t now r k.request v)) there.1) ∙ none))
 
-  missed_from : (n : Need) → n ≡ need.Miss → Way t now c k n → (bound_to k.place ≡ None → Asked (plan_view t now c k) n) → aim_from t k.request.key k.place ≡ None
+  missed_from : (n : Need) → n ≡ need.Miss → Way t now c k n → (bound_to k.place ≡ None → Asked (plan_view t now c k) n) →
+      aim_from t k.request.key k.place ≡ None
   missed_from n is way asked = grind (arith, nat_tests, unbound, aim_free, none_current, current)
 
 -- EACH ENTRY
@@ -50,7 +51,8 @@ module _ (limits : Limits) (t : Tables) (now : ℕ) (flaw : Flaw) (s : Sound t) 
   missed_by x z is (exchange.new o none opens here made) =
       let by = opening_by limits t now flaw s ev goes o opens in
       let op = opened_as t now o.c by.k by.want o s by.poll.row by.move in
-      sym (ap (λ (q : Exchange). q.aim) made) ∙ (ap (aim_of t) by.poll.row ∙ missed_from t now o.c by.k o.need (ap (λ (q : Exchange). q.need) made ∙ is) op.way op.asked)
+      sym (ap (λ (q : Exchange). q.aim) made) ∙
+      (ap (aim_of t) by.poll.row ∙ missed_from t now o.c by.k o.need (ap (λ (q : Exchange). q.need) made ∙ is) op.way op.asked)
 
   names_kept : Names limits (after_accepted t e)
   names_kept = record {
@@ -59,7 +61,10 @@ module _ (limits : Limits) (t : Tables) (now : ℕ) (flaw : Flaw) (s : Sound t) 
   }
 
 names : OfRunsIn Names
-names = in_runs Names (λ limits contents may. record { about = λ x w row about. absurd (none_some w row); missed = λ x w row is. absurd (none_some w row) }) (λ limits t e later a. record { about = a.about; missed = a.missed }) (λ limits t now flaw later c a ev goes real. names_kept limits t now flaw c.is_sound ev goes a)
+names = in_runs Names (λ limits contents may. record
+    { about = λ x w row about. absurd (none_some w row); missed = λ x w row is. absurd (none_some w row) })
+    (λ limits t e later a. record { about = a.about; missed = a.missed })
+    (λ limits t now flaw later c a ev goes real. names_kept limits t now flaw c.is_sound ev goes a)
 
 -- IN RUNS
 

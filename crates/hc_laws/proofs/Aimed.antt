@@ -7,7 +7,8 @@ use Rattle.hc_effects.proofs.BoundFrom as from
 use Rattle.hc_effects.proofs.ExchangeFrom as exchange
 
 pub record IsAimed (t : Tables) : Type 0 where
-  pub first : (c r lo y : ℕ) (hi : Option ℕ) (k : Consumer) (w : Exchange) → t.consumer c ≡ Some k → k.place ≡ place.Bound r lo hi (by.FirstHole y) → t.exchange y ≡ Some w → w.aim ≡ Some r
+  pub first : (c r lo y : ℕ) (hi : Option ℕ) (k : Consumer) (w : Exchange) → t.consumer c ≡ Some k → k.place ≡ place.Bound r lo hi (by.FirstHole y) →
+      t.exchange y ≡ Some w → w.aim ≡ Some r
   pub joins : (x q : ℕ) (w : Exchange) → t.exchange x ≡ Some w → w.joined ≡ Some q → w.aim ≡ Some q
 
 joined_if : (b : Bool) (aim : Option ℕ) (q : ℕ) → cond b aim None ≡ Some q → aim ≡ Some q
@@ -38,18 +39,21 @@ module _ (step : Step) (a : IsAimed step.tables) where
       let on = is_on t e y w row in
       sym (ap (λ (q : Exchange). q.aim) (same_row (now_on.exchange y) on.u z on.row after)) ∙ (on.same.aim_is ∙ is)
 
-  first_by : (c r lo y : ℕ) (hi : Option ℕ) (u : Consumer) (z : Exchange) → now_on.exchange y ≡ Some z → BoundFrom t e c r lo hi (by.FirstHole y) u → z.aim ≡ Some r
+  first_by : (c r lo y : ℕ) (hi : Option ℕ) (u : Consumer) (z : Exchange) → now_on.exchange y ≡ Some z → BoundFrom t e c r lo hi (by.FirstHole y) u →
+      z.aim ≡ Some r
   first_by c r lo y hi u z after (from.stays k row at) =
       let f = o.first_own c r lo y hi k row.row at in
       aim_on y r f.w z f.row after (a.first c r lo y hi k f.w row.row at f.row)
-  first_by c r lo y hi u z after (from.founds k x response w row here exchange_row mine of_r by_is all) = absurd (let no : by.FirstHole y ≡ by.Founding = by_is in cc)
+  first_by c r lo y hi u z after (from.founds k x response w row here exchange_row mine of_r by_is all) =
+      absurd (let no : by.FirstHole y ≡ by.Founding = by_is in cc)
   first_by c r lo y hi u z after (from.opens k p row opens mine free way hole) =
       let op = is_opener limits t now flaw s ev goes c k p row.row opens mine in
       let same : p.x ≡ y = cc in
       let made : now_on.exchange y ≡ Some (exchange_opened t e p) = opened_on t e y p (t.exchange y) (new_number step p y opens same) opens same in
       let unbound : bound_to k.place ≡ None = sym (ap bound_to op.place_is) ∙ free in
       let asked : (waiting t e c (consumer_heard t e c ev k)).request ≡ k.request = ap (λ (q : Consumer). q.request) op.heard_is in
-      let aims : aim_of t (t.consumer p.c) ≡ Some r = ap (aim_of t) (ap t.consumer mine ∙ row.row) ∙ (aim_free t k.request.key k.place unbound ∙ (sym (ap (λ (q : Request). current t q.key) asked) ∙ hole.current_is)) in
+      let aims : aim_of t (t.consumer p.c) ≡ Some r = ap (aim_of t) (ap t.consumer mine ∙ row.row) ∙
+      (aim_free t k.request.key k.place unbound ∙ (sym (ap (λ (q : Request). current t q.key) asked) ∙ hole.current_is)) in
       sym (ap (λ (q : Exchange). q.aim) (same_row (now_on.exchange y) (exchange_opened t e p) z made after)) ∙ aims
   first_by c r lo y hi u z after (from.shows k p row is all) = absurd (let no : by.FirstHole y ≡ by.Plan = all.by_is in cc)
 

@@ -16,9 +16,12 @@ use Rattle.hc_laws.proofs.{DeniedKeeps.{written_same}, Lone.{AreLone, IsResting,
 lone_denied : (t : Tables) (e : Entry) → AreLone t → AreLone (after_denied t e)
 lone_denied t e was = record { lone = by_first }
   where
-    by_first : (r c d : ℕ) (v : Representation) (k u : Consumer) → t.representation r ≡ Some v → v.is_lost ≡ false → is_written (after_denied t e) v ≡ false → IsFirst (after_denied t e) r c → t.consumer c ≡ Some k → k.due ≡ None → IsBound (after_denied t e) r d u → (d ≡ c → ⊥) → IsResting (after_denied t e) v k
+    by_first : (r c d : ℕ) (v : Representation) (k u : Consumer) → t.representation r ≡ Some v → v.is_lost ≡ false →
+        is_written (after_denied t e) v ≡ false → IsFirst (after_denied t e) r c → t.consumer c ≡ Some k → k.due ≡ None →
+        IsBound (after_denied t e) r d u → (d ≡ c → ⊥) → IsResting (after_denied t e) v k
     by_first r c d v k u row fresh off (sound.first q lo hi how q_row at alone) k_row none (sound.is_bound a b f u_row at_u) apart =
-        let i = was.lone r c d v k u row fresh (sym (written_same t e v) ∙ off) (sound.first q lo hi how q_row at alone) k_row none (sound.is_bound a b f u_row at_u) apart in
+        let i = was.lone r c d v k u row fresh (sym (written_same t e v) ∙ off) (sound.first q lo hi how q_row at alone) k_row none
+        (sound.is_bound a b f u_row at_u) apart in
         record { unowned = i.unowned; rest = record { hi = i.rest.hi; end = i.rest.end; covered = i.rest.covered } }
 
 lone_in_runs : OfRuns AreLone
@@ -38,11 +41,13 @@ none_passes test c (d ∷ ds) one absent = elim (bool_cases (test d)) [
 ]
 
 -- of numbers in order c alone passes
-one_passes : (test : ℕ → Bool) (n c : ℕ) (ds : List ℕ) → Descends n ds → ((d : ℕ) → test d ≡ true → d ≡ c) → test c ≡ true → Among c ds → filter test ds ≡ c ∷ []
+one_passes : (test : ℕ → Bool) (n c : ℕ) (ds : List ℕ) → Descends n ds → ((d : ℕ) → test d ≡ true → d ≡ c) → test c ≡ true → Among c ds →
+    filter test ds ≡ c ∷ []
 one_passes test n c [] down one passes there = absurd there
 one_passes test n c (d ∷ ds) down one passes (inl here) =
     let on : test d ≡ true = ap test here ∙ passes in
-    rw on (rw (none_passes test c ds one (λ there. let less : c < d = all_below d c ds down.1 there in let same : d ≡ c = here in absurd (omega arith))) (ap (λ z. z ∷ []) here))
+    rw on (rw (none_passes test c ds one (λ there. let less : c < d = all_below d c ds down.1 there in let same : d ≡ c = here in absurd (omega arith)))
+    (ap (λ z. z ∷ []) here))
 one_passes test n c (d ∷ ds) down one passes (inr there) = elim (bool_cases (test d)) [
   | inl on ↦ let less : c < d = all_below d c ds down.1 there in let same : d ≡ c = one d on in absurd (omega arith)
   | inr off ↦ rw off (one_passes test d c ds down.1 one passes there)
@@ -56,9 +61,11 @@ module _ (t : Tables) (s : Sound t) (lone : AreLone t) (order : InOrder t) where
       false_true (sym (rw (i.unowned, i.rest.end, enough) refl) ∙ more)
 
   -- nobody else is
-  others_not : (r c d : ℕ) (v : Representation) → t.representation r ≡ Some v → v.is_lost ≡ false → IsExclusive t r c v → (u : Consumer) → IsBound t r d u → (d ≡ c → ⊥) → ⊥
+  others_not : (r c d : ℕ) (v : Representation) → t.representation r ≡ Some v → v.is_lost ≡ false → IsExclusive t r c v → (u : Consumer) →
+      IsBound t r d u → (d ≡ c → ⊥) → ⊥
   others_not r c d v row fresh x u other apart =
-      resting_not v x.k (stored_ends t r v (s.rows r v row)) (lone.lone r c d v x.k u row fresh x.unwritten x.first (row_is x.reader) x.none_due other apart) x.more
+      resting_not v x.k (stored_ends t r v (s.rows r v row))
+      (lone.lone r c d v x.k u row fresh x.unwritten x.first (row_is x.reader) x.none_due other apart) x.more
     where
       row_is : IsBound t r c x.k → t.consumer c ≡ Some x.k
       row_is (sound.is_bound lo hi how is at) = is
@@ -76,9 +83,12 @@ module _ (t : Tables) (s : Sound t) (lone : AreLone t) (order : InOrder t) where
       ]
 
       bound_is : IsExclusive t r c v → (k : Consumer) → IsBound t r c k → bound t r ≡ c ∷ []
-      bound_is x k (sound.is_bound lo hi how k_row at) = one_passes (λ d. is_bound r (t.consumer d)) (t.last_start + 1) c t.starts order.starts (is_c x) (ap (is_bound r) k_row ∙ (ap (is_bound_place r) at ∙ eq-refl r)) (s.numbered.lists.started c (ap (λ (z : Option Consumer). is_some z) k_row))
+      bound_is x k (sound.is_bound lo hi how k_row at) =
+          one_passes (λ d. is_bound r (t.consumer d)) (t.last_start + 1) c t.starts order.starts (is_c x)
+          (ap (is_bound r) k_row ∙ (ap (is_bound_place r) at ∙ eq-refl r)) (s.numbered.lists.started c (ap (λ (z : Option Consumer). is_some z) k_row))
 
-  writes_by : (r c : ℕ) (v : Representation) (k : Consumer) → t.representation r ≡ Some v → v.is_lost ≡ false → is_written t v ≡ false → IsFirst t r c → t.consumer c ≡ Some k → k.due ≡ None → (exclusive t r v ≡ Some c) ↔ (has_more t v k ≡ true)
+  writes_by : (r c : ℕ) (v : Representation) (k : Consumer) → t.representation r ≡ Some v → v.is_lost ≡ false → is_written t v ≡ false → IsFirst t r c →
+      t.consumer c ≡ Some k → k.due ≡ None → (exclusive t r v ≡ Some c) ↔ (has_more t v k ≡ true)
   writes_by r c v k row fresh off (sound.first q lo hi how q_row at alone) k_row none = (to, back)
     where
       same : q ≡ k
@@ -96,10 +106,13 @@ module _ (t : Tables) (s : Sound t) (lone : AreLone t) (order : InOrder t) where
       back : has_more t v k ≡ true → exclusive t r v ≡ Some c
       back more =
           let stands : k.place ≡ place.Bound r lo hi how = ap (λ (z : Consumer). z.place) (sym same) ∙ at in
-          exclusive_is t r c v k s (sound.is_bound lo hi how k_row stands) off (all_three (came_alone t k.place) (is_none k.due) (has_more t v k) (ap (came_alone t) stands ∙ alone) (ap (λ (z : Option Cause). is_none z) none) more)
+          exclusive_is t r c v k s (sound.is_bound lo hi how k_row stands) off
+          (all_three (came_alone t k.place) (is_none k.due) (has_more t v k) (ap (came_alone t) stands ∙ alone)
+          (ap (λ (z : Option Cause). is_none z) none) more)
 
   alone_by : Alone t
   alone_by = record { is_only = only_by; writes = writes_by }
 
 pub alone_in_runs : OfRuns Alone
-alone_in_runs limits contents h may run = alone_by (tables contents h) (carried limits contents h may run).is_sound (lone_in_runs limits contents h may run) (order_in_runs limits contents h may run)
+alone_in_runs limits contents h may run =
+    alone_by (tables contents h) (carried limits contents h may run).is_sound (lone_in_runs limits contents h may run) (order_in_runs limits contents h may run)

@@ -53,12 +53,14 @@ asks_from : (t : Tables) (k : Consumer) (x : ℕ) (m : Move) → IsNear t k m �
 asks_from t k x _ (near.asks y from) is = from ∙ ap Some (let same : y ≡ x = cc in same)
 asks_from t k x _ _ is = cc
 
-module _ (t : Tables) (s : Sound t) (o : Owners t) (turns : Turns t) (now c want x : ℕ) (k : Consumer) (w : Exchange) (row : t.consumer c ≡ Some k) (w_row : t.exchange x ≡ Some w) (bare : w.head ≡ None) where
+module _ (t : Tables) (s : Sound t) (o : Owners t) (turns : Turns t) (now c want x : ℕ) (k : Consumer) (w : Exchange) (row : t.consumer c ≡ Some k)
+    (w_row : t.exchange x ≡ Some w) (bare : w.head ≡ None) where
   -- a writing for several has its head
   shared_not : (v : Representation) (r : ℕ) → t.representation r ≡ Some v → is_written t v ≡ true → v.writer ≡ Some x → ⊥
   shared_not v r there on writer =
       let g = (s.rows r v there).growing x on writer in
-      false_true (sym (ap (λ (z : Option Response). is_some z) bare) ∙ (ap (λ (z : Exchange). is_some z.head) (same_row (t.exchange x) w g.0 w_row g.1.row) ∙ g.1.headed))
+      false_true (sym (ap (λ (z : Option Response). is_some z) bare) ∙
+      (ap (λ (z : Exchange). is_some z.head) (same_row (t.exchange x) w g.0 w_row g.1.row) ∙ g.1.headed))
 
   group_not : (r : ℕ) (q : Option Representation) → t.representation r ≡ q → group_in t q ≡ Some x → ⊥
   group_not r None there is = none_some x is
@@ -80,7 +82,9 @@ module _ (t : Tables) (s : Sound t) (o : Owners t) (turns : Turns t) (now c want
       let it = turns.awaited x w w_row headless in
       let c_is : w.c ≡ c = o.one w.c c x it.k k it.row row it.own is.own in
       let one : it.k ≡ k = same_row (t.consumer c) it.k k (sym (ap t.consumer c_is) ∙ it.row) row in
-      let waits : poll_move t now want c (Some k) ≡ moves.Waits (wait.Head x) = subst (λ n. poll_move t now want n (Some k) ≡ moves.Waits (wait.Head x)) c_is (subst (λ (q : Consumer). poll_move t now want w.c (Some q) ≡ moves.Waits (wait.Head x)) one (polls_head t s turns x w w_row headless now want)) in
+      let waits : poll_move t now want c (Some k) ≡ moves.Waits (wait.Head x) =
+      subst (λ n. poll_move t now want n (Some k) ≡ moves.Waits (wait.Head x)) c_is
+      (subst (λ (q : Consumer). poll_move t now want w.c (Some q) ≡ moves.Waits (wait.Head x)) one (polls_head t s turns x w w_row headless now want)) in
       let no : moves.Waits (wait.Head x) ≡ Asks x = sym waits ∙ asks in
       cc
 
@@ -119,10 +123,13 @@ module _ (limits : Limits) (t : Tables) (e : Entry) (taken : IsTaken limits t e)
 
     unasked : (ev : Event) → e.event ≡ ev → asks_in x e.acts ≡ false
     unfolding refusals.refusal_of
-    unasked (event.Poll c want) at = polled c want (t.consumer c) at refl (poll_live limits t e.now (flaw_in e.acts) s c want (sym (ap (denial t) at) ∙ goes limits t e taken.owed taken.not_denied))
+    unasked (event.Poll c want) at =
+        polled c want (t.consumer c) at refl
+        (poll_live limits t e.now (flaw_in e.acts) s c want (sym (ap (denial t) at) ∙ goes limits t e taken.owed taken.not_denied))
     unasked (event.Cancel c) at =
         ap (asks_in x) (acts_is limits t e taken ∙ ap (λ z. accepted_acts limits t e.now z (flaw_in e.acts)) at)
-        ∙ ((asks_closed x 0 (closing t (record { now = e.now; event = event.Cancel c; acts = loss_acts (flaw_in e.acts) })) _).asks ∙ (asks_loss x 0 (flaw_in e.acts)).asks)
+        ∙ ((asks_closed x 0 (closing t (record { now = e.now; event = event.Cancel c; acts = loss_acts (flaw_in e.acts) })) _).asks ∙
+        (asks_loss x 0 (flaw_in e.acts)).asks)
     unasked v at = (reported_quiet limits t e taken x 0 (ap (λ z. answer_acts t e.now z (flaw_in e.acts)) at) (ap is_asking at)).asks
 
   made_unasked : (x : ℕ) (q : Option Opening) (z : Exchange) → exchange_made t e x q ≡ Some z → z.asked ≡ false
@@ -150,7 +157,8 @@ module _ (limits : Limits) (t : Tables) (e : Entry) (taken : IsTaken limits t e)
   head_bare x response w at row =
       head_opens w (sym (ap (λ z. head_refusal (as_open z)) row) ∙ (sym (ap (denial t) at) ∙ goes limits t e taken.owed taken.not_denied))
 
-  heard_anew : (x : ℕ) (w : Exchange) (ev : Event) → e.event ≡ ev → t.exchange x ≡ Some w → brings_body ev ≡ true → exchange_in ev ≡ Some x → (exchange_heard t e x ev w).asked ≡ false
+  heard_anew : (x : ℕ) (w : Exchange) (ev : Event) → e.event ≡ ev → t.exchange x ≡ Some w → brings_body ev ≡ true → exchange_in ev ≡ Some x →
+      (exchange_heard t e x ev w).asked ≡ false
   heard_anew x w (event.Head y response) at row brings is = elim (eq_cases y x) [
     | inr off ↦ absurd (off.1 (some_inj y x is))
     | inl here ↦ rw here.0 (are.bare x w row (head_none w (head_bare x response w (at ∙ ap (λ n. event.Head n response) here.1) row)))
@@ -162,16 +170,20 @@ module _ (limits : Limits) (t : Tables) (e : Entry) (taken : IsTaken limits t e)
   heard_anew x w _ at row brings is = absurd (false_true brings)
 
   quiet_at : (x : ℕ) (ev : Event) → e.event ≡ ev → brings_body ev ≡ true → asks_in x e.acts ≡ false
-  quiet_at x (event.Head y response) at brings = (reported_quiet limits t e taken x 0 (ap (λ z. answer_acts t e.now z (flaw_in e.acts)) at) (ap is_asking at)).asks
-  quiet_at x (event.Piece y bytes) at brings = (reported_quiet limits t e taken x 0 (ap (λ z. answer_acts t e.now z (flaw_in e.acts)) at) (ap is_asking at)).asks
+  quiet_at x (event.Head y response) at brings =
+      (reported_quiet limits t e taken x 0 (ap (λ z. answer_acts t e.now z (flaw_in e.acts)) at) (ap is_asking at)).asks
+  quiet_at x (event.Piece y bytes) at brings =
+      (reported_quiet limits t e taken x 0 (ap (λ z. answer_acts t e.now z (flaw_in e.acts)) at) (ap is_asking at)).asks
   quiet_at x _ at brings = absurd (false_true brings)
 
-  anew_by : (x : ℕ) (q : Option Exchange) (z : Exchange) → brings_body e.event ≡ true → exchange_in e.event ≡ Some x → t.exchange x ≡ q → exchange_after t e x q ≡ Some z → z.asked ≡ false
+  anew_by : (x : ℕ) (q : Option Exchange) (z : Exchange) → brings_body e.event ≡ true → exchange_in e.event ≡ Some x → t.exchange x ≡ q →
+      exchange_after t e x q ≡ Some z → z.asked ≡ false
   unfolding exchange_after
   anew_by x None z brings is row after = made_unasked x (opening_in e.acts) z after
   anew_by x (Some w) z brings is row after =
       let same = some_inj (exchange_acted x e.acts (exchange_heard t e x e.event w)) z after in
-      sym (ap (λ (a : Exchange). a.asked) same) ∙ (ap (λ b. b || (exchange_heard t e x e.event w).asked) (quiet_at x e.event refl brings) ∙ heard_anew x w e.event refl row brings is)
+      sym (ap (λ (a : Exchange). a.asked) same) ∙
+      (ap (λ b. b || (exchange_heard t e x e.event w).asked) (quiet_at x e.event refl brings) ∙ heard_anew x w e.event refl row brings is)
 
   asks_anew : (x : ℕ) (z : Exchange) → brings_body e.event ≡ true → exchange_in e.event ≡ Some x → u.exchange x ≡ Some z → z.asked ≡ false
   asks_anew x z brings is after = anew_by x (t.exchange x) z brings is refl after
@@ -182,12 +194,14 @@ pub unasked_in_runs : OfRuns AreUnasked
 unasked_in_runs = in_runs_with (λ limits t. AreUnasked t) (λ limits t. IsTurned t) turned_in_runs
     (λ limits contents may. record { bare = λ x w row bare. absurd (none_some w row) })
     (λ limits t e later are. record { bare = are.bare })
-    (λ limits t now flaw ev s turned are. unasked_kept limits t (entry_of limits t now ev flaw) (record { owed = s.owed; not_denied = s.real.taken }) s.before.is_sound s.before.is_owned turned.turns are)
+    (λ limits t now flaw ev s turned are. unasked_kept limits t (entry_of limits t now ev flaw) (record { owed = s.owed; not_denied = s.real.taken })
+    s.before.is_sound s.before.is_owned turned.turns are)
 
 pub asks_anew_in_runs : OfHistories AsksAnew
 asks_anew_in_runs limits contents [] may run = tt
 asks_anew_in_runs limits contents (e ∷ h) may run = λ x w accepted brings is after.
     let t = tables contents h in
     let c = carried limits contents h may run.0 in
-    asks_anew limits t e (record { owed = run.1; not_denied = accepted }) c.is_sound c.is_owned (turned_in_runs limits contents h may run.0).turns (unasked_in_runs limits contents h may run.0) x w brings is
+    asks_anew limits t e (record { owed = run.1; not_denied = accepted }) c.is_sound c.is_owned (turned_in_runs limits contents h may run.0).turns
+    (unasked_in_runs limits contents h may run.0) x w brings is
     (ap (λ (u : Tables). u.exchange x) (next_tables contents h e accepted) ∙ after)

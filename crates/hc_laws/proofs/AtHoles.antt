@@ -31,7 +31,8 @@ module _ (limits : Limits) (t : Tables) (e : Entry) (taken : IsTaken limits t e)
 
   -- IT WAITED
 
-  waited : (x r lo : ℕ) (z w : Exchange) (q : Consumer) → WaitsShown u x r lo z q → (row : t.exchange x ≡ Some w) (bare : is_headless (Some w) ≡ true) → z ≡ exchange_acted x e.acts (exchange_heard t e x e.event w) → keeps.Stays t e x w (exchange_heard t e x e.event w) → InHole z.need (lo + q.given)
+  waited : (x r lo : ℕ) (z w : Exchange) (q : Consumer) → WaitsShown u x r lo z q → (row : t.exchange x ≡ Some w) (bare : is_headless (Some w) ≡ true) →
+      z ≡ exchange_acted x e.acts (exchange_heard t e x e.event w) → keeps.Stays t e x w (exchange_heard t e x e.event w) → InHole z.need (lo + q.given)
   waited x r lo z w q waits row bare is stays =
       let same = same_exchange t e x e.event w in
       let need_is : z.need ≡ w.need = ap (λ (a : Exchange). a.need) is ∙ same.need_is in
@@ -60,15 +61,20 @@ module _ (limits : Limits) (t : Tables) (e : Entry) (taken : IsTaken limits t e)
   in_hole n from to p is le lt = subst (λ (z : Need). InHole z p) (sym is) (le, lt)
 
   -- it begins where its consumer stands, and isn't empty
-  ahead : (c r lo : ℕ) (hi : Option ℕ) (how : BoundBy) (k : Consumer) (n : Need) (hole : IsHole n) → t.consumer c ≡ Some k → k.place ≡ place.Bound r lo hi how → OpensHole t c k hole.from hole.to → InHole n (offset t k)
+  ahead : (c r lo : ℕ) (hi : Option ℕ) (how : BoundBy) (k : Consumer) (n : Need) (hole : IsHole n) → t.consumer c ≡ Some k →
+      k.place ≡ place.Bound r lo hi how → OpensHole t c k hole.from hole.to → InHole n (offset t k)
   ahead c r lo hi how k n hole row at (tree.first q v span gap is aims there nobody found from_is to_is) =
-      absurd (bound_some t r c k s.numbered (sound.is_bound lo hi how row at) (ap (bound t) (some_inj r q (sym (ap (aim_from t k.request.key) at) ∙ aims)) ∙ nobody))
+      absurd (bound_some t r c k s.numbered (sound.is_bound lo hi how row at)
+      (ap (bound t) (some_inj r q (sym (ap (aim_from t k.request.key) at) ∙ aims)) ∙ nobody))
   ahead c r lo hi how k n hole row at (tree.later q end most v stands none from_is to_is) = grind (arith, nat_tests, hole_some, in_hole)
 
-  later_bound : (c r lo x : ℕ) (hi : Option ℕ) (how : BoundBy) (k : Consumer) (n : Need) → k.shown ≡ true → unless_bound (bound_to k.place) k.place (opened_place t x k (route_of n)) ≡ place.Bound r lo hi how → OpensFor t c k x n → (route_of n ≡ route.Hole) × (k.place ≡ place.Bound r lo hi how)
+  later_bound : (c r lo x : ℕ) (hi : Option ℕ) (how : BoundBy) (k : Consumer) (n : Need) → k.shown ≡ true →
+      unless_bound (bound_to k.place) k.place (opened_place t x k (route_of n)) ≡ place.Bound r lo hi how → OpensFor t c k x n →
+      (route_of n ≡ route.Hole) × (k.place ≡ place.Bound r lo hi how)
   later_bound c r lo x hi how k n shown at it10 = grind (arith, nat_tests)
 
-  opened : (x r lo : ℕ) (z : Exchange) (q : Consumer) (o : Opening) → WaitsShown u x r lo z q → opening_in e.acts ≡ Some o → z ≡ exchange_opened t e o → InHole z.need (lo + q.given)
+  opened : (x r lo : ℕ) (z : Exchange) (q : Consumer) (o : Opening) → WaitsShown u x r lo z q → opening_in e.acts ≡ Some o → z ≡ exchange_opened t e o →
+      InHole z.need (lo + q.given)
   opened x r lo z q o waits is made =
       let it = opened_at limits t e taken s turns o is in
       let a = opener_after limits t e taken s turns o is in
@@ -78,24 +84,37 @@ module _ (limits : Limits) (t : Tables) (e : Entry) (taken : IsTaken limits t e)
       let by = opens_here o is in
       let same : by.k ≡ it.k = same_row (t.consumer o.c) by.k it.k by.poll.row it.row in
       let hole = hole_is o.need both.0 in
-      let why : OpensHole t o.c it.k hole.from hole.to = subst (λ (k : Consumer). OpensHole t o.c k hole.from hole.to) same (opens_hole t o.c by.k o e.now by.want s by.poll.row by.move hole.from hole.to hole.is) in
-      let stands : offset t it.k ≡ lo + q.given = ap (λ p. lo_of t p + it.k.given) both.1 ∙ ap (λ n. lo + n) (sym a.2.given ∙ ap (λ (k : Consumer). k.given) mine) in
-      subst (λ n. InHole n (lo + q.given)) (sym (ap (λ (w : Exchange). w.need) made)) (subst (InHole o.need) stands (ahead o.c r lo waits.hi waits.how it.k o.need hole it.row both.1 why))
+      let why : OpensHole t o.c it.k hole.from hole.to =
+      subst (λ (k : Consumer). OpensHole t o.c k hole.from hole.to) same
+      (opens_hole t o.c by.k o e.now by.want s by.poll.row by.move hole.from hole.to hole.is) in
+      let stands : offset t it.k ≡ lo + q.given = ap (λ p. lo_of t p + it.k.given) both.1 ∙
+      ap (λ n. lo + n) (sym a.2.given ∙ ap (λ (k : Consumer). k.given) mine) in
+      subst (λ n. InHole n (lo + q.given)) (sym (ap (λ (w : Exchange). w.need) made))
+      (subst (InHole o.need) stands (ahead o.c r lo waits.hi waits.how it.k o.need hole it.row both.1 why))
 
-  by_headless : (x r lo : ℕ) (z : Exchange) (q : Consumer) → WaitsShown u x r lo z q → WasHeadless limits t e taken s one turns x z → InHole z.need (lo + q.given)
+  by_headless : (x r lo : ℕ) (z : Exchange) (q : Consumer) → WaitsShown u x r lo z q → WasHeadless limits t e taken s one turns x z →
+      InHole z.need (lo + q.given)
   by_headless x r lo z q waits (keeps.was w row bare is stays) = waited x r lo z w q waits row bare is stays
   by_headless x r lo z q waits (keeps.new o is here made) = opened x r lo z q o waits is made
 
   at_holes_kept : AreAtHoles u
-  at_holes_kept = record { stand = λ x r lo z q waits. by_headless x r lo z q waits (was_headless limits t e taken s one turns x (t.exchange x) z refl waits.row waits.headless) }
+  at_holes_kept = record {
+    stand =
+        λ x r lo z q waits. by_headless x r lo z q waits (was_headless limits t e taken s one turns x (t.exchange x) z refl waits.row waits.headless);
+  }
 
 -- IN RUNS
 
 at_holes_denied : (t : Tables) (e : Entry) → AreAtHoles t → AreAtHoles (after_denied t e)
-at_holes_denied t e are = record { stand = λ x r lo w k waits. are.stand x r lo w k (record { row = waits.row; headless = waits.headless; its = waits.its; shown = waits.shown; hi = waits.hi; how = waits.how; at = waits.at }) }
+at_holes_denied t e are =
+    record {
+      stand = λ x r lo w k waits. are.stand x r lo w k
+          (record { row = waits.row; headless = waits.headless; its = waits.its; shown = waits.shown; hi = waits.hi; how = waits.how; at = waits.at });
+    }
 
 pub at_holes_in_runs : OfRuns AreAtHoles
 at_holes_in_runs = in_runs_with (λ limits t. AreAtHoles t) (λ limits t. IsTurned t) turned_in_runs
     (λ limits contents may. record { stand = λ x r lo w k waits. absurd (none_some w waits.row) })
     (λ limits t e later are. at_holes_denied t e are)
-    (λ limits t now flaw ev s turned are. at_holes_kept limits t (entry_of limits t now ev flaw) (record { owed = s.owed; not_denied = s.real.taken }) s.before.is_sound turned.one turned.turns are)
+    (λ limits t now flaw ev s turned are. at_holes_kept limits t (entry_of limits t now ev flaw) (record { owed = s.owed; not_denied = s.real.taken })
+    s.before.is_sound turned.one turned.turns are)

@@ -20,7 +20,8 @@ record IsLoaded (contents : Contents) (r : ℕ) (v : Representation) : Type 0 wh
   found : item_of contents r ≡ Some item
   row : representation_of_content item ≡ v
 
-is_loaded : (contents : Contents) (r : ℕ) (o : Option Content) (v : Representation) → item_of contents r ≡ o → option_map representation_of_content o ≡ Some v → IsLoaded contents r v
+is_loaded : (contents : Contents) (r : ℕ) (o : Option Content) (v : Representation) → item_of contents r ≡ o →
+    option_map representation_of_content o ≡ Some v → IsLoaded contents r v
 is_loaded contents r o v found is = grind (arith, nat_tests)
 
 -- nothing is behind the last of some runs
@@ -31,18 +32,21 @@ ends_all (run ∷ runs) p le =
     let rest : last_end runs ≤ p = omega arith in
     rw (inside-past run.at (length run.bytes) p here) (ends_all runs p rest)
 
-found_among : (items : List Content) (r : ℕ) (item : Content) → find (λ (i : Content). nat_eq i.r r) items ≡ Some item → Among r (map (λ (i : Content). i.r) items)
+found_among : (items : List Content) (r : ℕ) (item : Content) → find (λ (i : Content). nat_eq i.r r) items ≡ Some item →
+    Among r (map (λ (i : Content). i.r) items)
 found_among [] r item is = absurd (let never : None ≡ Some item = is in cc)
 found_among (i ∷ items) r item is = elim (bool_cases (nat_eq i.r r)) [
   | inl here ↦ inl (eq_reports i.r r here)
   | inr other ↦ inr (found_among items r item (rw other at is))
 ]
 
-some_among : (contents : Contents) (r : ℕ) (o : Option Content) → item_of contents r ≡ o → is_some (option_map representation_of_content o) ≡ true → Among r (map (λ (i : Content). i.r) contents.items)
+some_among : (contents : Contents) (r : ℕ) (o : Option Content) → item_of contents r ≡ o → is_some (option_map representation_of_content o) ≡ true →
+    Among r (map (λ (i : Content). i.r) contents.items)
 some_among contents r None found some = absurd (false_true some)
 some_among contents r (Some item) found some = found_among contents.items r item found
 
-new_none : (contents : Contents) → IsStart contents → (r : ℕ) (o : Option Content) → item_of contents r ≡ o → contents.next_exchange - 1 < r → option_map representation_of_content o ≡ None
+new_none : (contents : Contents) → IsStart contents → (r : ℕ) (o : Option Content) → item_of contents r ≡ o → contents.next_exchange - 1 < r →
+    option_map representation_of_content o ≡ None
 new_none contents start r o found past = grind (arith, nat_tests)
 
 no_first : (contents : Contents) (r c : ℕ) → IsFirst (first_tables contents) r c → ⊥
@@ -53,7 +57,8 @@ none_about contents r x it3 = grind (arith, nat_tests)
 
 not_written : (contents : Contents) (r : ℕ) (v : Representation) → IsLoaded contents r v → is_written (first_tables contents) v ≡ true → ⊥
 unfolding is_written
-not_written contents r v l on = let never : is_written (first_tables contents) (representation_of_content l.item) ≡ true = ap (is_written (first_tables contents)) l.row ∙ on in false_true never
+not_written contents r v l on = let never : is_written (first_tables contents) (representation_of_content l.item) ≡ true =
+    ap (is_written (first_tables contents)) l.row ∙ on in false_true never
 
 sound_row : (contents : Contents) (r : ℕ) (v : Representation) → IsLoaded contents r v → IsSoundRepresentation (first_tables contents) r v
 sound_row contents r v l = grind (arith, nat_tests, ends_all, none_some)

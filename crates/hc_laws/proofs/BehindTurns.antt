@@ -35,7 +35,8 @@ module _ (v : PlanView) where
 
   why_fine : (s : Candidate) (o : Option Why) → Fine (by_why v s o)
   why_fine s None = other_fine _ refl
-  why_fine s (Some why) = mix Fine (is_none v.class.range && s.writer_group) (plan.Bind why None) _ (other_fine (plan.Bind why None) refl) (wanted_fine s why s.span)
+  why_fine s (Some why) = mix Fine (is_none v.class.range && s.writer_group) (plan.Bind why None) _ (other_fine (plan.Bind why None) refl)
+      (wanted_fine s why s.span)
 
   current_fine : (o : Option Candidate) → Fine (by_current v o)
   current_fine None = other_fine _ refl

@@ -18,14 +18,19 @@ still_rests t e v k rest = record { hi = rest.hi; end = rest.end; covered = rest
 
 pub beside_denied : AfterDenials IsBeside
 beside_denied t e i = record {
-  covered = λ r c x v k w there exclusive_writer reader none own row. i.covered r c x v k w there (was_exclusive_writer t e r c v exclusive_writer) (was_bound t e r c k reader) none own row;
-  rested = λ r c v k there fresh first reader none own off. still_rests t e v k (i.rested r c v k there fresh (was_first t e r c first) (was_bound t e r c k reader) none own (sym (written_same t e v) ∙ off));
+  covered = λ r c x v k w there exclusive_writer reader none own row. i.covered r c x v k w there (was_exclusive_writer t e r c v exclusive_writer)
+      (was_bound t e r c k reader) none own row;
+  rested = λ r c v k there fresh first reader none own off. still_rests t e v k
+      (i.rested r c v k there fresh (was_first t e r c first) (was_bound t e r c k reader) none own (sym (written_same t e v) ∙ off));
   cached = i.cached;
 }
 
-pub beside_kept : (limits : Limits) (t : Tables) (now : ℕ) (flaw : Flaw) → Sound t → Owners t → Measures t → IsBeside t → (ev : Event) → denial t ev ≡ None → IsReal limits t now ev flaw → IsBeside (after_accepted t (entry_of limits t now ev flaw))
+pub beside_kept : (limits : Limits) (t : Tables) (now : ℕ) (flaw : Flaw) → Sound t → Owners t → Measures t → IsBeside t → (ev : Event) →
+    denial t ev ≡ None → IsReal limits t now ev flaw → IsBeside (after_accepted t (entry_of limits t now ev flaw))
 beside_kept limits t now flaw s o m i ev goes real = record {
-  covered = λ r c x v k w there exclusive_writer reader none own row. covered_kept (step_of limits t now flaw s o ev goes) m i real r c x v k w there exclusive_writer reader none own row;
-  rested = λ r c v k there fresh first reader none own off. rested_kept (step_of limits t now flaw s o ev goes) m i real r c v k there fresh first reader none own off;
+  covered = λ r c x v k w there exclusive_writer reader none own row. covered_kept (step_of limits t now flaw s o ev goes) m i real r c x v k w there
+      exclusive_writer reader none own row;
+  rested = λ r c v k there fresh first reader none own off. rested_kept (step_of limits t now flaw s o ev goes) m i real r c v k there fresh first reader
+      none own off;
   cached = λ c k row at. cached_kept (step_of limits t now flaw s o ev goes) i c k row at;
 }

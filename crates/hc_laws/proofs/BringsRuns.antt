@@ -17,10 +17,12 @@ use Rattle.hc_laws.proofs.{OriginRuns.{origins_in_runs}, RunFacts.{in_runs_with}
 use Rattle.hc_effects.proofs.RepFrom as rep
 
 -- what comes behind the bytes of w
-pub more_bytes : (w : Exchange) (bytes : List ℕ) (p : ℕ) → base w ≤ p → front w ≤ p → slice_index (w.body ++ bytes) (p - base w) ≡ slice_index bytes (p - front w)
+pub more_bytes : (w : Exchange) (bytes : List ℕ) (p : ℕ) → base w ≤ p → front w ≤ p →
+    slice_index (w.body ++ bytes) (p - base w) ≡ slice_index bytes (p - front w)
 more_bytes w bytes p low past = get_or-append_right w.body bytes (p - base w) 0 (omega arith) ∙ ap (slice_index bytes) (omega arith)
 
-pub old_bytes : (w : Exchange) (bytes : List ℕ) (p : ℕ) → base w ≤ p → p < front w → slice_index (w.body ++ bytes) (p - base w) ≡ slice_index w.body (p - base w)
+pub old_bytes : (w : Exchange) (bytes : List ℕ) (p : ℕ) → base w ≤ p → p < front w →
+    slice_index (w.body ++ bytes) (p - base w) ≡ slice_index w.body (p - base w)
 old_bytes w bytes p low under = let lt : p - base w < length w.body = omega arith in get_or-append w.body bytes 0 (p - base w) lt
 
 -- a cell of x is told by its byte
@@ -40,7 +42,8 @@ module _ (step : Step) (m : Measures step.tables) (g : Origins step.tables) (was
   pub base_same : (x : ℕ) (w z : Exchange) → t.exchange x ≡ Some w → is_some w.head ≡ true → IsSame t e x w z → base z ≡ base w
   base_same x w z row headed same = elim same.heard_or [
     | inl still ↦ ap base_of (length_same w z same.need_is same.request_is still.0)
-    | inr got ↦ absurd (false_true (sym (ap (λ (q : Option Response). is_some q) (is_new limits t now flaw s ev goes x got.response w got.at row).bare) ∙ headed))
+    | inr got ↦ absurd (false_true (sym (ap (λ (q : Option Response). is_some q) (is_new limits t now flaw s ev goes x got.response w got.at row).bare) ∙
+        headed))
   ]
 
   -- WHAT IS FROM IT
@@ -49,7 +52,8 @@ module _ (step : Step) (m : Measures step.tables) (g : Origins step.tables) (was
   came_headed r x w row (origins.begun none) = absurd (none_some w (sym none ∙ row))
   came_headed r x w row (origins.came q q_row headed of_r) = ap (λ (a : Exchange). is_some a.head) (same_row (t.exchange x) w q row q_row) ∙ headed
 
-  module _ (r x p : ℕ) (cell : Cell) (u : Representation) (z : Exchange) (after : now_on.representation r ≡ Some u) (there : u.body p ≡ Some cell) (from : cell.x ≡ x) (after_x : now_on.exchange x ≡ Some z) where
+  module _ (r x p : ℕ) (cell : Cell) (u : Representation) (z : Exchange) (after : now_on.representation r ≡ Some u) (there : u.body p ≡ Some cell)
+      (from : cell.x ≡ x) (after_x : now_on.exchange x ≡ Some z) where
     old_cell : (v : Representation) → t.representation r ≡ Some v → v.body p ≡ Some cell → ExchangeFrom t e x z → (base z ≤ p) × (p < front z)
     old_cell v row here (exchange.new q none opens number made) =
         let most : x ≤ t.opened = (g.given_out r x (origins.has_byte p cell v row here from)).1 in
@@ -61,11 +65,14 @@ module _ (step : Step) (m : Measures step.tables) (g : Origins step.tables) (was
         by_brings within.0 within.1 (base_same x w z w_row headed same) (brings t e x w z w_row after_x)
       where
         by_brings : base w ≤ p → p < front w → base z ≡ base w → fills_by.Brings t e x w z → (base z ≤ p) × (p < front z)
-        by_brings low under first (fills_by.still none body_is) = let count : length z.body ≡ length w.body = ap (λ (b : List ℕ). length b) body_is in (omega arith, omega arith)
-        by_brings low under first (fills_by.more bytes here_too body_is) = let count : length z.body ≡ length w.body + length bytes = ap (λ (b : List ℕ). length b) body_is ∙ length-append w.body bytes in (omega arith, omega arith)
+        by_brings low under first (fills_by.still none body_is) = let count : length z.body ≡ length w.body = ap (λ (b : List ℕ). length b) body_is in
+            (omega arith, omega arith)
+        by_brings low under first (fills_by.more bytes here_too body_is) = let count : length z.body ≡ length w.body + length bytes =
+            ap (λ (b : List ℕ). length b) body_is ∙ length-append w.body bytes in (omega arith, omega arith)
 
     -- it comes with this piece
-    new_cell : (bytes : List ℕ) (w : Exchange) → IsPiece t e r x bytes w → front w ≤ p → p < front w + length bytes → ExchangeFrom t e x z → (base z ≤ p) × (p < front z)
+    new_cell : (bytes : List ℕ) (w : Exchange) → IsPiece t e r x bytes w → front w ≤ p → p < front w + length bytes → ExchangeFrom t e x z →
+        (base z ≤ p) × (p < front z)
     new_cell bytes w is low under (exchange.new q none opens number made) = absurd (none_some w (sym none ∙ is.row))
     new_cell bytes w is low under (exchange.was a a_row same) =
         by_brings (subst (λ (q : Exchange). IsSame t e x q z) (same_row (t.exchange x) a w a_row is.row) same) (brings t e x w z is.row after_x)
@@ -83,7 +90,8 @@ module _ (step : Step) (m : Measures step.tables) (g : Origins step.tables) (was
             by_heard (inr got) = absurd (let no : event.Piece x bytes ≡ event.Head x got.response = sym is.at ∙ got.at in cc)
 
     by_fills : (v : Representation) → t.representation r ≡ Some v → Fills t e r v u → (base z ≤ p) × (p < front z)
-    by_fills v row (fills_by.still none body stored reach) = old_cell v row (sym (ap (λ f. f p) body) ∙ there) (exchange_from t e x (t.exchange x) z refl after_x)
+    by_fills v row (fills_by.still none body stored reach) =
+        old_cell v row (sym (ap (λ f. f p) body) ∙ there) (exchange_from t e x (t.exchange x) z refl after_x)
     by_fills v row (fills_by.more y bytes a is body stored reach) = elim (inside-cases (front a) (length bytes) p) [
       | inl in_it ↦
           let at : cells_with (front a) y bytes v.body p ≡ Some cell = sym (ap (λ f. f p) body) ∙ there in
@@ -103,7 +111,8 @@ module _ (step : Step) (m : Measures step.tables) (g : Origins step.tables) (was
 
   -- WHAT IT BROUGHT
 
-  module _ (x p : ℕ) (w z : Exchange) (u : Representation) (row : t.exchange x ≡ Some w) (after_x : now_on.exchange x ≡ Some z) (same : IsSame t e x w z) (still_head : z.head ≡ w.head) (still_joined : z.joined ≡ w.joined) (headed : is_some w.head ≡ true) (low : base z ≤ p) (under : p < front z) where
+  module _ (x p : ℕ) (w z : Exchange) (u : Representation) (row : t.exchange x ≡ Some w) (after_x : now_on.exchange x ≡ Some z) (same : IsSame t e x w z)
+      (still_head : z.head ≡ w.head) (still_joined : z.joined ≡ w.joined) (headed : is_some w.head ≡ true) (low : base z ≤ p) (under : p < front z) where
     abbrev r : ℕ
     r = family x w
 
@@ -115,9 +124,11 @@ module _ (step : Step) (m : Measures step.tables) (g : Origins step.tables) (was
     old_there v there lt = was.stands x p w v row headed there (let same_base : base z ≡ base w = first in omega arith) lt
 
     -- no piece comes over it
-    not_over : (v : Representation) (y : ℕ) (bytes : List ℕ) (a : Exchange) → t.representation r ≡ Some v → IsPiece t e r y bytes a → p < front w → (front a ≤ p) → p < front a + length bytes → ⊥
+    not_over : (v : Representation) (y : ℕ) (bytes : List ℕ) (a : Exchange) → t.representation r ≡ Some v → IsPiece t e r y bytes a → p < front w →
+        (front a ≤ p) → p < front a + length bytes → ⊥
     not_over v y bytes a there is lt from to =
-        let absent : v.body p ≡ None = delivers_once t s y bytes a v (sym (ap (denial t) is.at) ∙ goes) is.row (ap t.representation is.of_r ∙ there) p from to in
+        let absent : v.body p ≡ None =
+        delivers_once t s y bytes a v (sym (ap (denial t) is.at) ∙ goes) is.row (ap t.representation is.of_r ∙ there) p from to in
         none_some (cell_from x w p) (sym absent ∙ old_there v there lt)
 
     kept_there : (v : Representation) → t.representation r ≡ Some v → Fills t e r v u → p < front w → u.body p ≡ Some (cell_from x w p)
@@ -131,7 +142,8 @@ module _ (step : Step) (m : Measures step.tables) (g : Origins step.tables) (was
     by_still v there kept (fills_by.still none body_is) =
         let same_base : base z ≡ base w = first in
         let count : length z.body ≡ length w.body = ap (λ (b : List ℕ). length b) body_is in
-        kept_there v there (fills t e r v u kept) (omega arith) ∙ cell_is x _ _ (ap (λ (b : List ℕ). slice_index b (p - base w)) (sym body_is) ∙ ap (λ n. slice_index z.body (p - n)) (sym first))
+        kept_there v there (fills t e r v u kept) (omega arith) ∙
+        cell_is x _ _ (ap (λ (b : List ℕ). slice_index b (p - base w)) (sym body_is) ∙ ap (λ n. slice_index z.body (p - n)) (sym first))
     by_still v there kept (fills_by.more bytes here body_is) = elim (inside-cases (front w) (length bytes) p) [
       | inr off ↦ old_one off.1
       | inl in_it ↦ by_fills in_it.0 in_it.1 (fills t e r v u kept)
@@ -141,7 +153,8 @@ module _ (step : Step) (m : Measures step.tables) (g : Origins step.tables) (was
         byte_is = ap (λ (b : List ℕ). slice_index b (p - base z)) body_is ∙ ap (λ n. slice_index (w.body ++ bytes) (p - n)) first
 
         old_one : (p < front w) ⊎ (front w + length bytes ≤ p) → u.body p ≡ Some (cell_from x z p)
-        old_one (inl lt) = kept_there v there (fills t e r v u kept) lt ∙ cell_is x _ _ (sym (old_bytes w bytes p (let same_base : base z ≡ base w = first in omega arith) lt) ∙ sym byte_is)
+        old_one (inl lt) = kept_there v there (fills t e r v u kept) lt ∙
+            cell_is x _ _ (sym (old_bytes w bytes p (let same_base : base z ≡ base w = first in omega arith) lt) ∙ sym byte_is)
         old_one (inr past) =
             let same_base : base z ≡ base w = first in
             let count : length z.body ≡ length w.body + length bytes = ap (λ (b : List ℕ). length b) body_is ∙ length-append w.body bytes in
@@ -152,7 +165,9 @@ module _ (step : Step) (m : Measures step.tables) (g : Origins step.tables) (was
         by_fills in_it from (fills_by.more y other a is body stored reach) =
             let both : (y ≡ x) × (other ≡ bytes) = (cc, cc) in
             let one : a ≡ w = same_row (t.exchange x) a w (sym (ap t.exchange both.0) ∙ is.row) row in
-            let body_at : u.body p ≡ cells_with (front w) x bytes v.body p = ap (λ f. f p) body ∙ (ap (λ n. cells_with (front a) n other v.body p) both.0 ∙ (ap (λ b. cells_with (front a) x b v.body p) both.1 ∙ ap (λ (q : Exchange). cells_with (front q) x bytes v.body p) one)) in
+            let body_at : u.body p ≡ cells_with (front w) x bytes v.body p = ap (λ f. f p) body ∙
+            (ap (λ n. cells_with (front a) n other v.body p) both.0 ∙
+            (ap (λ b. cells_with (front a) x b v.body p) both.1 ∙ ap (λ (q : Exchange). cells_with (front q) x bytes v.body p) one)) in
             body_at ∙ (rw in_it refl ∙ cell_is x _ _ (sym (more_bytes w bytes p (let same_base : base z ≡ base w = first in omega arith) from) ∙ sym byte_is))
 
     -- what it is of was there
@@ -163,19 +178,23 @@ module _ (step : Step) (m : Measures step.tables) (g : Origins step.tables) (was
         by_joined : (j : Option ℕ) → w.joined ≡ j → u.body p ≡ Some (cell_from x z p)
         by_joined (Some n) joined =
             let of_n : r ≡ n = ap (λ (a : Option ℕ). unwrap_or a x) joined in
-            absurd (false_true (sym (ap (λ (a : Option Representation). is_some a) none) ∙ (ap (λ a. is_some (t.representation a)) of_n ∙ s.numbered.names.joined x n w row joined)))
+            absurd (false_true (sym (ap (λ (a : Option Representation). is_some a) none) ∙
+            (ap (λ a. is_some (t.representation a)) of_n ∙ s.numbered.names.joined x n w row joined)))
         by_joined None alone =
-            let bare = (is_new limits t now flaw s ev goes x response w (here ∙ ap (λ n. event.Head n response) (ap (λ (a : Option ℕ). unwrap_or a x) alone)) row).bare in
+            let bare = (is_new limits t now flaw s ev goes x response w
+            (here ∙ ap (λ n. event.Head n response) (ap (λ (a : Option ℕ). unwrap_or a x) alone)) row).bare in
             absurd (false_true (sym (ap (λ (a : Option Response). is_some a) bare) ∙ headed))
 
-  stands_by : (x p : ℕ) (z : Exchange) (u : Representation) → now_on.exchange x ≡ Some z → is_some z.head ≡ true → now_on.representation (family x z) ≡ Some u → base z ≤ p → p < front z → ExchangeFrom t e x z → u.body p ≡ Some (cell_from x z p)
+  stands_by : (x p : ℕ) (z : Exchange) (u : Representation) → now_on.exchange x ≡ Some z → is_some z.head ≡ true →
+      now_on.representation (family x z) ≡ Some u → base z ≤ p → p < front z → ExchangeFrom t e x z → u.body p ≡ Some (cell_from x z p)
   stands_by x p z u after_x headed after low under (exchange.new q none opens number made) =
       let empty : length z.body ≡ 0 = ap (λ (a : Exchange). length a.body) (sym made) in
       absurd (omega arith)
   stands_by x p z u after_x headed after low under (exchange.was w row same) = elim same.heard_or [
     | inl still ↦
         let fam : family x z ≡ family x w = ap (λ (a : Option ℕ). unwrap_or a x) still.1 in
-        by_rep x p w z u row after_x same still.0 still.1 (ap (λ (a : Option Response). is_some a) (sym still.0) ∙ headed) low under (rep_from t e (family x w) (t.representation (family x w)) u refl (ap now_on.representation (sym fam) ∙ after))
+        by_rep x p w z u row after_x same still.0 still.1 (ap (λ (a : Option Response). is_some a) (sym still.0) ∙ headed) low under
+        (rep_from t e (family x w) (t.representation (family x w)) u refl (ap now_on.representation (sym fam) ∙ after))
     | inr got ↦
         let bare = (is_new limits t now flaw s ev goes x got.response w got.at row).bare in
         let empty : length z.body ≡ 0 = ap (λ (b : List ℕ). length b) (got.body_is ∙ (s.waits.headless x w row bare).0) in

@@ -38,10 +38,12 @@ module _ (v : PlanView) where
     wanted_fine : (why : Why) (w : Wanted) → s.span ≡ w → Fine (by_wanted v s why w)
     wanted_fine why wanted.TotalUnknown at = busy_least s.least_bound refl (inl at)
     wanted_fine why wanted.Unsatisfiable at = λ d kept is. absurd (let never : plan.Direct _ ≡ plan.Busy d kept = is in cc)
-    wanted_fine why (wanted.Interval span) at = either Fine s.writer_group _ _ (λ on. busy_least s.least_bound refl (inr on)) (λ off. exclusive_fine why span s.exclusive refl)
+    wanted_fine why (wanted.Interval span) at =
+        either Fine s.writer_group _ _ (λ on. busy_least s.least_bound refl (inr on)) (λ off. exclusive_fine why span s.exclusive refl)
 
     on_fine : (why : Why) → Fine (plan_on v s why)
-    on_fine why = mix Fine (is_none v.class.range && s.writer_group) _ _ (λ d kept is. absurd (let never : plan.Bind why None ≡ plan.Busy d kept = is in cc)) (wanted_fine why s.span refl)
+    on_fine why = mix Fine (is_none v.class.range && s.writer_group) _ _
+        (λ d kept is. absurd (let never : plan.Bind why None ≡ plan.Busy d kept = is in cc)) (wanted_fine why s.span refl)
 
     why_fine : (o : Option Why) → Fine (by_why v s o)
     why_fine None = λ d kept is. absurd (let never : plan.Fetch _ ≡ plan.Busy d kept = is in cc)
@@ -49,7 +51,8 @@ module _ (v : PlanView) where
 
   current_fine : (o : Option Candidate) → v.current ≡ o → Fine (by_current v o)
   current_fine None current = λ d kept is. absurd (let never : plan.Fetch _ ≡ plan.Busy d kept = is in cc)
-  current_fine (Some s) current = mix Fine s.vary _ _ (why_fine s current (why_by v.kept s.allowed)) (λ d kept is. absurd (let never : plan.Fetch _ ≡ plan.Busy d kept = is in cc))
+  current_fine (Some s) current =
+      mix Fine s.vary _ _ (why_fine s current (why_by v.kept s.allowed)) (λ d kept is. absurd (let never : plan.Fetch _ ≡ plan.Busy d kept = is in cc))
 
   bare_fine : Fine (bare_plan v)
   bare_fine =

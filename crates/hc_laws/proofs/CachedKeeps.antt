@@ -29,7 +29,8 @@ module _ (step : Step) (i : IsBeside step.tables) where
 
   -- WHAT IS OPENED
 
-  opens_cached : (p : Opening) (c : ℕ) (k : Consumer) → opening_in e.acts ≡ Some p → p.c ≡ c → t.consumer c ≡ Some k → (route_of p.need ≡ route.Direct → ⊥) → is_disabled k.request ≡ false
+  opens_cached : (p : Opening) (c : ℕ) (k : Consumer) → opening_in e.acts ≡ Some p → p.c ≡ c → t.consumer c ≡ Some k →
+      (route_of p.need ≡ route.Direct → ⊥) → is_disabled k.request ≡ false
   opens_cached p c k is mine row past =
       let by_poll = is_opened step p is in
       grind (arith, nat_tests)
@@ -44,18 +45,23 @@ module _ (step : Step) (i : IsBeside step.tables) where
 
   -- BOUND
 
-  awaits_cached : (c x : ℕ) (k : Consumer) (w : Exchange) → t.consumer c ≡ Some k → (route_of w.need ≡ route.Direct → ⊥) → IsAwaiting x w k.place → is_disabled k.request ≡ false
+  awaits_cached : (c x : ℕ) (k : Consumer) (w : Exchange) → t.consumer c ≡ Some k → (route_of w.need ≡ route.Direct → ⊥) → IsAwaiting x w k.place →
+      is_disabled k.request ≡ false
   awaits_cached c x k w row past it6 = grind (arith, nat_tests)
 
-  founds_cached : (c x : ℕ) (response : Response) (w : Exchange) (k : Consumer) → ev ≡ event.Head x response → t.exchange x ≡ Some w → w.c ≡ c → t.consumer c ≡ Some k → is_founding (case_at t e) ≡ true → is_disabled k.request ≡ false
+  founds_cached : (c x : ℕ) (response : Response) (w : Exchange) (k : Consumer) → ev ≡ event.Head x response → t.exchange x ≡ Some w → w.c ≡ c →
+      t.consumer c ≡ Some k → is_founding (case_at t e) ≡ true → is_disabled k.request ≡ false
   founds_cached c x response w k here exchange_row mine row founding =
       let new = is_new limits t now flaw s ev goes x response w here exchange_row in
       let got = waiter_of step x w exchange_row new.is_open new.bare in
       let one : got.0 ≡ k = same_row (t.consumer c) got.0 k (sym (ap t.consumer mine) ∙ got.1.row) row in
       let view = head_view t (has_loss e.acts) w response in
-      awaits_cached c x k w row (founds_way view (head_case view) (founding_by view (sym (ap is_founding (case_is t e x response w here exchange_row)) ∙ founding))) (subst (λ (z : Consumer). IsAwaiting x w z.place) one got.1.at)
+      awaits_cached c x k w row
+      (founds_way view (head_case view) (founding_by view (sym (ap is_founding (case_is t e x response w here exchange_row)) ∙ founding)))
+      (subst (λ (z : Consumer). IsAwaiting x w z.place) one got.1.at)
 
-  bound_cached : (c r lo : ℕ) (hi : Option ℕ) (how : BoundBy) (u k : Consumer) → t.consumer c ≡ Some k → BoundFrom t e c r lo hi how u → is_disabled k.request ≡ false
+  bound_cached : (c r lo : ℕ) (hi : Option ℕ) (how : BoundBy) (u k : Consumer) → t.consumer c ≡ Some k → BoundFrom t e c r lo hi how u →
+      is_disabled k.request ≡ false
   bound_cached c r lo hi how u k there (from.stays z row at) = grind (arith, nat_tests)
   bound_cached c r lo hi how u k there (from.founds z x response w row here exchange_row mine of_r by_is all) =
       founds_cached c x response w k here exchange_row mine there (founding_is t e c r lo hi how x response w z (case_at t e) all)
@@ -65,7 +71,8 @@ module _ (step : Step) (i : IsBeside step.tables) where
 
   -- EITHER
 
-  was_cached : (c : ℕ) (k u : Consumer) (p : Place) → t.consumer c ≡ Some k → now_on.consumer c ≡ Some u → u.place ≡ p → is_cached_place p ≡ true → is_disabled k.request ≡ false
+  was_cached : (c : ℕ) (k u : Consumer) (p : Place) → t.consumer c ≡ Some k → now_on.consumer c ≡ Some u → u.place ≡ p → is_cached_place p ≡ true →
+      is_disabled k.request ≡ false
   was_cached c k u (place.Turn x) row after at on = turn_from c k u.place row (is_after t e c k u row after).from x at
   was_cached c k u (place.Bound r lo hi how) row after at on = bound_cached c r lo hi how u k row (bound_from t e c r lo hi how (t.consumer c) u refl after at)
   was_cached c k u _ row after at on = absurd (false_true on)
@@ -74,11 +81,13 @@ module _ (step : Step) (i : IsBeside step.tables) where
   unfolding consumer_after
   made_not c u none after on = false_true (sym (ap is_cached_place (starts_line c now ev u (ap (consumer_after t e c) (sym none) ∙ after))) ∙ on)
 
-  by_row : (c : ℕ) (u : Consumer) (z : Option Consumer) → t.consumer c ≡ z → now_on.consumer c ≡ Some u → is_cached_place u.place ≡ true → is_disabled u.request ≡ false
+  by_row : (c : ℕ) (u : Consumer) (z : Option Consumer) → t.consumer c ≡ z → now_on.consumer c ≡ Some u → is_cached_place u.place ≡ true →
+      is_disabled u.request ≡ false
   by_row c u None row after on = absurd (made_not c u row after on)
   by_row c u (Some k) row after on =
       let kept = is_kept t e c k row in
-      ap is_disabled (sym (ap (λ (q : Consumer). q.request) (same_row (now_on.consumer c) kept.u u kept.row after)) ∙ kept.request_is) ∙ was_cached c k u u.place row after refl on
+      ap is_disabled (sym (ap (λ (q : Consumer). q.request) (same_row (now_on.consumer c) kept.u u kept.row after)) ∙ kept.request_is) ∙
+      was_cached c k u u.place row after refl on
 
   pub cached_kept : (c : ℕ) (u : Consumer) → now_on.consumer c ≡ Some u → is_cached_place u.place ≡ true → is_disabled u.request ≡ false
   cached_kept c u after on = by_row c u (t.consumer c) refl after on

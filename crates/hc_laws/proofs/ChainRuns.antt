@@ -11,12 +11,14 @@ use Rattle.hc_effects.proofs.WaitedAs as waited
 
 module _ (t : Tables) (s : Sound t) (places : Places t) (endings : Endings t) (unended : Unended t) (w : WaitsEnd t) where
   -- it ends where the chain goes on from each consumer that it waits for
-  goes_on : (GoesOn : ℕ → Type 0) (m : Move) → Goes t m → ((d : ℕ) → m ≡ moves.Waits (wait.Turn d) → GoesOn d) → ((d : ℕ) → m ≡ moves.Waits (wait.Busy d) → GoesOn d) → MoveEnds GoesOn t m
+  goes_on : (GoesOn : ℕ → Type 0) (m : Move) → Goes t m → ((d : ℕ) → m ≡ moves.Waits (wait.Turn d) → GoesOn d) →
+      ((d : ℕ) → m ≡ moves.Waits (wait.Busy d) → GoesOn d) → MoveEnds GoesOn t m
   goes_on GoesOn m goes turn busy = grind (arith, nat_tests)
 
   module _ (now : ℕ) where
     -- whatever its polls are, by its row
-    polls_by : (ends : Move → Type 0) (d : ℕ) (u : Consumer) → t.consumer d ≡ Some u → is_live_place u.place ≡ true → ((want : ℕ) → 0 < want → ends (move_of t now want d u)) → PollsEnd ends t now d
+    polls_by : (ends : Move → Type 0) (d : ℕ) (u : Consumer) → t.consumer d ≡ Some u → is_live_place u.place ≡ true →
+        ((want : ℕ) → 0 < want → ends (move_of t now want d u)) → PollsEnd ends t now d
     polls_by ends d u row live polls = grind (arith, nat_tests)
 
     -- WHO READS
@@ -34,14 +36,16 @@ module _ (t : Tables) (s : Sound t) (places : Places t) (endings : Endings t) (u
         (λ a is. absurd (nobody.turn a is)) (λ a is. absurd (nobody.busy a is))
 
     -- whom a busy one waits for reads
-    busy_polls : (ends : Move → Type 0) → ((r d : ℕ) (u : Consumer) → IsBound t r d u → (want : ℕ) → 0 < want → ends (move_of t now want d u)) → (c want d : ℕ) (k : Consumer) → t.consumer c ≡ Some k → move_of t now want c k ≡ moves.Waits (wait.Busy d) → PollsEnd ends t now d
+    busy_polls : (ends : Move → Type 0) → ((r d : ℕ) (u : Consumer) → IsBound t r d u → (want : ℕ) → 0 < want → ends (move_of t now want d u)) →
+        (c want d : ℕ) (k : Consumer) → t.consumer c ≡ Some k → move_of t now want c k ≡ moves.Waits (wait.Busy d) → PollsEnd ends t now d
     busy_polls ends readers c want d k row is =
         let who = w.busy_reads now c want d k row is in
         polls_by ends d who.1 (reader_row who.0 d who.1 who.2) (reader_live who.0 d who.1 who.2) (readers who.0 d who.1 who.2)
 
     -- WHO HAS THE TURN
 
-    holder_ends : (d : ℕ) (u : Consumer) → t.consumer d ≡ Some u → is_live_place u.place ≡ true → turn t u.request.key ≡ Some d → (want : ℕ) → 0 < want → ChainEnds 1 t now (move_of t now want d u)
+    holder_ends : (d : ℕ) (u : Consumer) → t.consumer d ≡ Some u → is_live_place u.place ≡ true → turn t u.request.key ≡ Some d → (want : ℕ) → 0 < want →
+        ChainEnds 1 t now (move_of t now want d u)
     holder_ends d u row live has want many =
         goes_on (λ a. PollsEnd (ChainEnds 0 t now) t now a) (move_of t now want d u) (live_goes t s places endings unended d u row now want many live)
         (λ a is. absurd (w.turn_goes now d want a u row has is))
@@ -54,7 +58,8 @@ module _ (t : Tables) (s : Sound t) (places : Places t) (endings : Endings t) (u
       turn_polls d is =
           let queued = waited_as t now c k (wait.Turn d) (waited.turn d) want s row (subst (WaitsAs (wait.Turn d)) (sym is) said.waits) in
           let behind = behind_turn (plan_view t now c k) d (queued.turn_is d refl) in
-          let has : turn t k.request.key ≡ Some d = turn_without t k.request.key c d behind.turn_is (subst (λ n. nat_eq n c ≡ false) behind.turn_is behind.other) in
+          let has : turn t k.request.key ≡ Some d =
+          turn_without t k.request.key c d behind.turn_is (subst (λ n. nat_eq n c ≡ false) behind.turn_is behind.other) in
           let stands : StandsInLine t k.request.key d = turn_stands t k.request.key d has in
           polls_by (ChainEnds 1 t now) d stands.k stands.row stands.live
           (holder_ends d stands.k stands.row stands.live (ap (turn t) stands.of_key ∙ has))
@@ -75,4 +80,5 @@ module _ (t : Tables) (s : Sound t) (places : Places t) (endings : Endings t) (u
 -- Waits end, in every run.
 pub chains_in_runs : OfRuns ChainsEnd
 chains_in_runs limits contents h may run =
-    chains_end (tables contents h) (runs_are_sound limits contents h may run) (places_in_runs limits contents h may run) (endings_in_runs limits contents h may run) (unended_in_runs limits contents h may run) (waits_in_runs limits contents h may run)
+    chains_end (tables contents h) (runs_are_sound limits contents h may run) (places_in_runs limits contents h may run)
+    (endings_in_runs limits contents h may run) (unended_in_runs limits contents h may run) (waits_in_runs limits contents h may run)

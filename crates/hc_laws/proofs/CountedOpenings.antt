@@ -25,6 +25,7 @@ openings_counted limits contents h may run =
     (λ h e run later denied before. omega (arith, before))
     (λ h now flaw ev run s before.
     let t = tables contents h in
-    let one : (after_accepted t (entry_of limits t now ev flaw)).opened ≤ t.opened + 1 = one_at_most limits t s.before.is_sound (entry_of limits t now ev flaw) s.owed s.real.taken in
+    let one : (after_accepted t (entry_of limits t now ev flaw)).opened ≤ t.opened + 1 =
+    one_at_most limits t s.before.is_sound (entry_of limits t now ev flaw) s.owed s.real.taken in
     omega (arith, before, one))
     h run

@@ -29,11 +29,14 @@ pub record IsPartFrom (response : Response) (lo : ℕ) : Type 0 where
 begins_by : (first last : ℕ) (span : Span) (q : Option Span) → begins_at q first last ≡ true → wanted_part q ≡ wanted.Interval span → first ≡ span.lo
 begins_by first last span q h is = grind (arith, nat_tests)
 
-module _ (k : Consumer) (w : Exchange) (response : Response) (lo : ℕ) (hi : Option ℕ) (status : brings_part response.status ≡ true) (i : IsInterval (wanted_of (range_of k.request) (founded_total w response)) lo hi) where
-  part_by : (asked : RangeSpec) (z : Option ContentRange) → range_of k.request ≡ Some asked → content_range_of response.fields ≡ z → fits_part asked z ≡ true → IsPartFrom response lo
+module _ (k : Consumer) (w : Exchange) (response : Response) (lo : ℕ) (hi : Option ℕ) (status : brings_part response.status ≡ true)
+    (i : IsInterval (wanted_of (range_of k.request) (founded_total w response)) lo hi) where
+  part_by : (asked : RangeSpec) (z : Option ContentRange) → range_of k.request ≡ Some asked → content_range_of response.fields ≡ z →
+      fits_part asked z ≡ true → IsPartFrom response lo
   part_by asked (Some (range.Part first last (Some total))) is at h =
       let reported : founded_total w response ≡ Some total = rw (status, at) refl in
-      let wants : wanted_part (resolved_span asked total) ≡ wanted.Interval i.span = sym (ap (λ q. wanted_of q (founded_total w response)) is ∙ ap (wanted_of (Some asked)) reported) ∙ i.wanted_is in
+      let wants : wanted_part (resolved_span asked total) ≡ wanted.Interval i.span =
+      sym (ap (λ q. wanted_of q (founded_total w response)) is ∙ ap (wanted_of (Some asked)) reported) ∙ i.wanted_is in
       record { first = first; last = last; total = total; reported = at; starts = begins_by first last i.span (resolved_span asked total) h wants ∙ i.from }
   part_by asked _ is at h = absurd (false_true h)
 
@@ -55,16 +58,20 @@ module _ (step : Step) where
 
   -- WHAT ITS HEAD FOUNDS
 
-  module _ (c r lo : ℕ) (hi : Option ℕ) (how : BoundBy) (x : ℕ) (response : Response) (w z : Exchange) (k : Consumer) (here : ev ≡ event.Head x response) (exchange_row : t.exchange x ≡ Some w) (mine : w.c ≡ c) (row : t.consumer c ≡ Some k) (same : IsSame t e x w z) (got : IsHeaded t e x w z) where
+  module _ (c r lo : ℕ) (hi : Option ℕ) (how : BoundBy) (x : ℕ) (response : Response) (w z : Exchange) (k : Consumer) (here : ev ≡ event.Head x response)
+      (exchange_row : t.exchange x ≡ Some w) (mine : w.c ≡ c) (row : t.consumer c ≡ Some k) (same : IsSame t e x w z) (got : IsHeaded t e x w z) where
     abbrev view : Rattle.hc_rules.specs.declared.heads.HeadView.HeadView
     view = head_view t (has_loss e.acts) w response
 
     from_base : base_of (length_of w.need w.request response) ≤ lo → front z ≤ lo
     from_base le =
         let answer : got.response ≡ response = head_inj x x got.response response (sym got.at ∙ here) in
-        let reported_is : length_by z z.head ≡ length_of w.need w.request response = ap (length_by z) got.head_is ∙ (ap (λ (n : Need). length_of n z.request got.response) same.need_is ∙ (ap (λ (q : Request). length_of w.need q got.response) same.request_is ∙ ap (length_of w.need w.request) answer)) in
+        let reported_is : length_by z z.head ≡ length_of w.need w.request response = ap (length_by z) got.head_is ∙
+        (ap (λ (n : Need). length_of n z.request got.response) same.need_is ∙
+        (ap (λ (q : Request). length_of w.need q got.response) same.request_is ∙ ap (length_of w.need w.request) answer)) in
         let first : base z ≡ base_of (length_of w.need w.request response) = ap base_of reported_is in
-        let empty : z.body ≡ [] = got.body_is ∙ (s.waits.headless x w exchange_row (is_new limits t now flaw s ev goes x response w here exchange_row).bare).0 in
+        let empty : z.body ≡ [] = got.body_is ∙
+        (s.waits.headless x w exchange_row (is_new limits t now flaw s ev goes x response w here exchange_row).bare).0 in
         grind (arith, nat_tests)
 
     whole : brings_whole response.status ≡ true → front z ≤ lo
@@ -73,25 +80,34 @@ module _ (step : Step) where
     part : CaseBy view case.FoundsRange → IsInterval (wanted_of (range_of k.request) (founded_total w response)) lo hi → front z ≤ lo
     part (founds_range way status fits kept good) i =
         let p = fits_by k w response lo hi status i (range_of k.request) refl (sym (ap (λ q. fits_asker q response) (ap t.consumer mine ∙ row)) ∙ fits) in
-        let le : base_of (length_of w.need w.request response) ≤ p.first = base_by p.first p.last _ (part_reported w.need w.request response p.first p.last p.total (λ past. let no : route.Turn ≡ route.Direct = sym way ∙ past in cc) status p.reported good) in
+        let le : base_of (length_of w.need w.request response) ≤ p.first =
+        base_by p.first p.last _
+        (part_reported w.need w.request response p.first p.last p.total (λ past. let no : route.Turn ≡ route.Direct = sym way ∙ past in cc) status
+        p.reported good) in
         from_base (omega arith)
 
     by_founded : (g : Option HeadCase) → case_at t e ≡ g → IsFounded t e c r lo hi how x response w k g → front z ≤ lo
     by_founded _ is (from.whole a b) = whole (whole_brings t (has_loss e.acts) w response (case_of_head t e x response w case.FoundsWhole here exchange_row is))
-    by_founded _ is (from.replaced a b) = whole (replaced_brings t (has_loss e.acts) w response (case_of_head t e x response w case.FirstReplaced here exchange_row is))
+    by_founded _ is (from.replaced a b) =
+        whole (replaced_brings t (has_loss e.acts) w response (case_of_head t e x response w case.FirstReplaced here exchange_row is))
     by_founded _ is (from.part i) = part (case_of_head t e x response w case.FoundsRange here exchange_row is) i
 
     -- and no later, where it is open then
     from_part : (first last : ℕ) (l : Length) → first ≡ lo → (promise_of l ≡ Some 0 → ⊥) → IsReceived first last l → lo ≤ base_of l
     from_part first last l starts unmet it5 = grind (arith, nat_tests)
 
-    part_from : (promise_of (length_of w.need w.request response) ≡ Some 0 → ⊥) → CaseBy view case.FoundsRange → IsInterval (wanted_of (range_of k.request) (founded_total w response)) lo hi → lo ≤ front z
+    part_from : (promise_of (length_of w.need w.request response) ≡ Some 0 → ⊥) → CaseBy view case.FoundsRange →
+        IsInterval (wanted_of (range_of k.request) (founded_total w response)) lo hi → lo ≤ front z
     part_from unmet (founds_range way status fits kept good) i =
         let p = fits_by k w response lo hi status i (range_of k.request) refl (sym (ap (λ q. fits_asker q response) (ap t.consumer mine ∙ row)) ∙ fits) in
-        let le : lo ≤ base_of (length_of w.need w.request response) = from_part p.first p.last _ p.starts unmet (part_reported w.need w.request response p.first p.last p.total (λ past. let no : route.Turn ≡ route.Direct = sym way ∙ past in cc) status p.reported good) in
+        let le : lo ≤ base_of (length_of w.need w.request response) =
+        from_part p.first p.last _ p.starts unmet
+        (part_reported w.need w.request response p.first p.last p.total (λ past. let no : route.Turn ≡ route.Direct = sym way ∙ past in cc) status
+        p.reported good) in
         grind (arith, nat_tests)
 
-    begins_by_case : (promise_of (length_of w.need w.request response) ≡ Some 0 → ⊥) → (g : Option HeadCase) → case_at t e ≡ g → IsFounded t e c r lo hi how x response w k g → lo ≤ front z
+    begins_by_case : (promise_of (length_of w.need w.request response) ≡ Some 0 → ⊥) → (g : Option HeadCase) → case_at t e ≡ g →
+        IsFounded t e c r lo hi how x response w k g → lo ≤ front z
     begins_by_case unmet _ is (from.whole a b) = let zero_is : lo ≡ 0 = a in omega arith
     begins_by_case unmet _ is (from.replaced a b) = let zero_is : lo ≡ 0 = a in omega arith
     begins_by_case unmet _ is (from.part i) = part_from unmet (case_of_head t e x response w case.FoundsRange here exchange_row is) i
@@ -110,7 +126,9 @@ module _ (step : Step) where
       let at : hole.lo ≡ absent_from v.stored v.reach span.lo span.hi = ap (λ (a : Span). a.lo) (first_hole_is v.stored v.reach span hole found) in
       some_of (v.stored d) (first_before is_none v.stored span.lo (min span.hi v.reach - span.lo) d from_lo (omega arith))
 
-  module _ (c r lo : ℕ) (hi : Option ℕ) (how : BoundBy) (k u : Consumer) (q : Opening) (row : IsRow t e c r lo hi how k u) (opens : opening_in e.acts ≡ Some q) (mine : q.c ≡ c) (free : bound_to (waiting t e c (consumer_heard t e c ev k)).place ≡ None) (way : route_of q.need ≡ route.Hole) (hole : IsFirstHole t e c r lo hi how q (waiting t e c (consumer_heard t e c ev k))) where
+  module _ (c r lo : ℕ) (hi : Option ℕ) (how : BoundBy) (k u : Consumer) (q : Opening) (row : IsRow t e c r lo hi how k u)
+      (opens : opening_in e.acts ≡ Some q) (mine : q.c ≡ c) (free : bound_to (waiting t e c (consumer_heard t e c ev k)).place ≡ None)
+      (way : route_of q.need ≡ route.Hole) (hole : IsFirstHole t e c r lo hi how q (waiting t e c (consumer_heard t e c ev k))) where
     stored_body : (v : Representation) (a b : ℕ) → t.representation r ≡ Some v → v.is_gone ≡ false → Covers v.stored a b → Covers v.body a b
     stored_body v a b there not_gone all d from_a lt = by_test v.is_lost refl
       where
@@ -121,7 +139,9 @@ module _ (step : Step) where
     abbrev FillsFrom : Representation → Type 0
     FillsFrom v = (lo ≤ hole_start q.need) × Covers v.body lo (hole_start q.need)
 
-    filled : (v : Representation) (span gap : Span) → t.representation r ≡ Some v → v.is_gone ≡ false → wanted_of (range_of k.request) v.head.total ≡ wanted.Interval span → first_hole v.stored v.reach span ≡ Some gap → q.need ≡ need.Hole gap.lo gap.hi → wanted_of (range_of k.request) v.head.total ≡ wanted.Interval hole.interval.span → FillsFrom v
+    filled : (v : Representation) (span gap : Span) → t.representation r ≡ Some v → v.is_gone ≡ false →
+        wanted_of (range_of k.request) v.head.total ≡ wanted.Interval span → first_hole v.stored v.reach span ≡ Some gap →
+        q.need ≡ need.Hole gap.lo gap.hi → wanted_of (range_of k.request) v.head.total ≡ wanted.Interval hole.interval.span → FillsFrom v
     filled v span gap there not_gone wants found need_is also =
         let start : hole_start q.need ≡ gap.lo = ap hole_start need_is in
         let same : span.lo ≡ hole.interval.span.lo = ap (λ (a : Span). a.lo) (interval_inj span hole.interval.span (sym wants ∙ also)) in
@@ -138,15 +158,18 @@ module _ (step : Step) where
         let number : a ≡ r = some_inj a r (sym is_current ∙ (sym (ap (λ (z : Request). current t z.key) request_is) ∙ hole.current_is)) in
         let one : v ≡ hole.v = same_row (t.representation r) v hole.v (sym (ap t.representation number) ∙ v_row) hole.row in
         let not_gone = current_stays t _ r hole.v hole.current_is hole.row in
-        let also : wanted_of (range_of k.request) hole.v.head.total ≡ wanted.Interval hole.interval.span = sym (ap (λ (z : Request). wanted_of (range_of z) hole.v.head.total) request_is) ∙ hole.interval.wanted_is in
-        filled hole.v span gap hole.row not_gone (sym (ap (λ (z : Representation). wanted_of (range_of k.request) z.head.total) one) ∙ wants) (sym (ap (λ (z : Representation). first_hole z.stored z.reach span) one) ∙ found) need_is also
+        let also : wanted_of (range_of k.request) hole.v.head.total ≡ wanted.Interval hole.interval.span =
+        sym (ap (λ (z : Request). wanted_of (range_of z) hole.v.head.total) request_is) ∙ hole.interval.wanted_is in
+        filled hole.v span gap hole.row not_gone (sym (ap (λ (z : Representation). wanted_of (range_of k.request) z.head.total) one) ∙ wants)
+        (sym (ap (λ (z : Representation). first_hole z.stored z.reach span) one) ∙ found) need_is also
 
     fills : FillsFrom hole.v
     fills =
         let opener = is_opener limits t now flaw s ev goes c k q row.row opens mine in
         let by_poll = is_opened step q opens in
         let one : by_poll.k ≡ k = same_row (t.consumer c) by_poll.k k (sym (ap t.consumer mine) ∙ by_poll.row) row.row in
-        let way_k : opened.Way t now c k q.need = subst (λ (z : Consumer). opened.Way t now c z q.need) one (subst (λ d. opened.Way t now d by_poll.k q.need) mine by_poll.way.way) in
+        let way_k : opened.Way t now c k q.need =
+        subst (λ (z : Consumer). opened.Way t now c z q.need) one (subst (λ d. opened.Way t now d by_poll.k q.need) mine by_poll.way.way) in
         by_way row.row way_k opener.heard_is (sym (ap bound_to opener.place_is) ∙ free)
 
     pub hole_begins : lo ≤ hole_start q.need

@@ -64,7 +64,8 @@ module _ (t : Tables) (e : Entry) where
   to_be_shown k _ (sound.waits y own bare) = sound.waits y own bare
 
   growing : (r x : ℕ) (v : Representation) → ((w : Exchange) × IsGrowing t r v x w) → (w : Exchange) × IsGrowing u r v x w
-  growing r x v all = let g = all.1 in (all.0, record { row = g.row; family_is = g.family_is; headed = g.headed; front_is = g.front_is; whole = g.whole; promise = g.promise })
+  growing r x v all = let g = all.1 in
+      (all.0, record { row = g.row; family_is = g.family_is; headed = g.headed; front_is = g.front_is; whole = g.whole; promise = g.promise })
 
   goes_alone : (v : Representation) (k : Consumer) → IsAlone t v k → IsAlone u v k
   goes_alone v k a = record { x = a.x; w = a.w; own = a.own; row = a.row; covered = a.covered; ahead = a.ahead }

@@ -22,7 +22,8 @@ module _ (step : Step) (m : Measures step.tables) (real : IsReal step.limits ste
     survives : loses_group t e r v ≡ true → survivor t r v ≡ Some c → ExclusiveWriterFrom r c v
 
   -- who goes on with what is lost now
-  pub loss_from : (r c : ℕ) (v p : Representation) → t.representation r ≡ Some v → IsKept t e r v p → loses_in r e.acts ≡ true → p.alone ≡ Some c → ExclusiveWriterFrom r c v
+  pub loss_from : (r c : ℕ) (v p : Representation) → t.representation r ≡ Some v → IsKept t e r v p → loses_in r e.acts ≡ true → p.alone ≡ Some c →
+      ExclusiveWriterFrom r c v
   loss_from r c v p there kept loses is =
       let goes_on : goes_on_with t e r v ≡ Some c = sym (lost_alone step m real r v p there kept loses).1 ∙ is in
       elim (bool_cases (loses_group t e r v)) [
@@ -30,22 +31,27 @@ module _ (step : Step) (m : Measures step.tables) (real : IsReal step.limits ste
         | inr off ↦ wrote (fresh step m real r v there loses) loses (exclusive_parts t r c v (rw off at goes_on))
       ]
 
-  pub alone_from : (r c : ℕ) (v p : Representation) → t.representation r ≡ Some v → IsKept t e r v p → p.is_lost ≡ true → p.alone ≡ Some c → ExclusiveWriterFrom r c v
+  pub alone_from : (r c : ℕ) (v p : Representation) → t.representation r ≡ Some v → IsKept t e r v p → p.is_lost ≡ true → p.alone ≡ Some c →
+      ExclusiveWriterFrom r c v
   alone_from r c v p there kept lost is = elim (bool_cases (loses_in r e.acts)) [
     | inl loses ↦ loss_from r c v p there kept loses is
     | inr quiet ↦ let all = kept_alone step m real r v p kept quiet in alone (sym all.0 ∙ lost) quiet (sym all.1 ∙ is)
   ]
 
-  pub exclusive_writer_from : (r c lo : ℕ) (hi : Option ℕ) (how : BoundBy) (k u : Consumer) (v p : Representation) → t.consumer c ≡ Some k → k.place ≡ place.Bound r lo hi how → t.representation r ≡ Some v → IsKept t e r v p → now_on.consumer c ≡ Some u → u.place ≡ place.Bound r lo hi how → IsExclusiveWriter now_on r p c → ExclusiveWriterFrom r c v
+  pub exclusive_writer_from : (r c lo : ℕ) (hi : Option ℕ) (how : BoundBy) (k u : Consumer) (v p : Representation) → t.consumer c ≡ Some k →
+      k.place ≡ place.Bound r lo hi how → t.representation r ≡ Some v → IsKept t e r v p → now_on.consumer c ≡ Some u →
+      u.place ≡ place.Bound r lo hi how → IsExclusiveWriter now_on r p c → ExclusiveWriterFrom r c v
   exclusive_writer_from r c lo hi how k u v p row at there kept after_row stands (sound.alone lost is) = alone_from r c v p there kept lost is
   exclusive_writer_from r c lo hi how k u v p row at there kept after_row stands (sound.first fresh_now (sound.first q a d g q_row q_at came)) =
       let one : q ≡ u = same_row (now_on.consumer c) q u q_row after_row in
-      let came_now : came_alone now_on (place.Bound r lo hi how) ≡ true = subst (λ z. came_alone now_on z ≡ true) (sym q_at ∙ (ap (λ (z : Consumer). z.place) one ∙ stands)) came in
+      let came_now : came_alone now_on (place.Bound r lo hi how) ≡ true =
+      subst (λ z. came_alone now_on z ≡ true) (sym q_at ∙ (ap (λ (z : Consumer). z.place) one ∙ stands)) came in
       let parts = or_false (loses_in r e.acts) v.is_lost (sym kept.lost_is ∙ fresh_now) in
       first parts.1 parts.0 (sound.first k lo hi how row at (sym (came_kept limits t now flaw s ev goes r lo hi how (ap is_some there)) ∙ came_now))
 
   -- but for who survives, it was the exclusive writer
-  pub had_exclusive_writer : (r c : ℕ) (v : Representation) → ExclusiveWriterFrom r c v → IsExclusiveWriter t r v c ⊎ ((loses_group t e r v ≡ true) × (survivor t r v ≡ Some c))
+  pub had_exclusive_writer : (r c : ℕ) (v : Representation) → ExclusiveWriterFrom r c v →
+      IsExclusiveWriter t r v c ⊎ ((loses_group t e r v ≡ true) × (survivor t r v ≡ Some c))
   had_exclusive_writer r c v (first fresh_was quiet is) = inl (sound.first fresh_was is)
   had_exclusive_writer r c v (alone lost quiet is) = inl (sound.alone lost is)
   had_exclusive_writer r c v (wrote fresh_was loses x) = inl (sound.first fresh_was x.first)

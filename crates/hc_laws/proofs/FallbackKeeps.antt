@@ -64,7 +64,8 @@ module _ (t : Tables) (e : Entry) (x : ℕ) where
   shut_after None u before h over = opened_shut (opening_in e.acts) u h over
   shut_after (Some w) u before h over =
       let made : exchange_acted x e.acts (exchange_heard t e x e.event w) ≡ u = some_inj _ u h in
-      let shut : (exchange_heard t e x e.event w).is_open ≡ false = heard_shut t e x e.event w (before w refl) (ap (λ (z : Exchange). z.is_ended) made ∙ over) in
+      let shut : (exchange_heard t e x e.event w).is_open ≡ false =
+      heard_shut t e x e.event w (before w refl) (ap (λ (z : Exchange). z.is_ended) made ∙ over) in
       sym (ap (λ (z : Exchange). z.is_open) made) ∙ and_none (not (closes_in x e.acts)) _ shut
 
 -- AT AN ENTRY
@@ -91,7 +92,8 @@ module _ (step : Step) where
     pub reported : shown_in c e.acts ≡ record { r = r; why = why; lo = lo; hi = hi } ∷ []
     pub lands : Lands k.place u.place r lo hi
 
-  pub landing_by : (c : ℕ) (k u : Consumer) → t.consumer c ≡ Some k → now_on.consumer c ≡ Some u → shows_in c e.acts ≡ true → ToOne t now c ev e.acts → IsLanding c k u
+  pub landing_by : (c : ℕ) (k u : Consumer) → t.consumer c ≡ Some k → now_on.consumer c ≡ Some u → shows_in c e.acts ≡ true → ToOne t now c ev e.acts →
+      IsLanding c k u
   landing_by c k u row after on (acts_to.quiet gives shows off) = absurd (false_true (sym off ∙ on))
   landing_by c k u row after on (acts_to.gives want q run at there is gives shows off) = absurd (false_true (sym off ∙ on))
   landing_by c k u row after on (acts_to.shows want q r why head lo hi at there is gives shows showing) =
@@ -111,7 +113,8 @@ module _ (step : Step) where
 
   pub landing : (c : ℕ) (k u : Consumer) → t.consumer c ≡ Some k → now_on.consumer c ≡ Some u → k.shown ≡ false → u.shown ≡ true → IsLanding c k u
   landing c k u row after off on =
-      landing_by c k u row after (sym (or_right (shows_in c e.acts) k.shown off) ∙ (sym (is_after t e c k u row after).shown ∙ on)) (to_one t now c limits flaw ev)
+      landing_by c k u row after (sym (or_right (shows_in c e.acts) k.shown off) ∙ (sym (is_after t e c k u row after).shown ∙ on))
+      (to_one t now c limits flaw ev)
 
   -- an exchange that has its head keeps it
   pub head_stays : (y : ℕ) → IsHeadedRow t y → IsHeadedRow now_on y
@@ -125,7 +128,8 @@ module _ (step : Step) where
   idle_not p q is i never = never (subst IsIdle is i)
 
   -- who stands at an answer past the store and is shown a head is shown that, which is there
-  module _ (c y want r lo : ℕ) (why : Why) (head : Response) (hi : Option ℕ) (k : Consumer) (row : t.consumer c ≡ Some k) (at : k.place ≡ place.Direct y) (off : k.shown ≡ false) (is : move_of t now want c k ≡ Shows r why head lo hi) where
+  module _ (c y want r lo : ℕ) (why : Why) (head : Response) (hi : Option ℕ) (k : Consumer) (row : t.consumer c ≡ Some k) (at : k.place ≡ place.Direct y)
+      (off : k.shown ≡ false) (is : move_of t now want c k ≡ Shows r why head lo hi) where
     unheard : (w : Exchange) → k.own ≡ Some y → t.exchange y ≡ Some w → w.is_open ≡ true → w.head ≡ None → IsHeard t k → ⊥
     unheard w mine there opened bare heard =
         let own : own_open t k ≡ Some y = rw (mine, there, opened) refl in
@@ -135,7 +139,8 @@ module _ (step : Step) where
     bare_shows : (w : Exchange) (m : Move) → t.exchange y ≡ Some w → w.head ≡ None → shows_at t k k.place ≡ Some m → ⊥
     bare_shows w m there bare shows = none_some m (sym (ap (shows_at t k) at ∙ (ap (shows_direct t y) there ∙ ap (shows_answer t y w) bare)) ∙ shows)
 
-    by_waits : (w : Exchange) → k.own ≡ Some y → t.exchange y ≡ Some w → w.is_open ≡ true → w.head ≡ None → (m : Move) → MoveBy t now want c k m → m ≡ Shows r why head lo hi → ⊥
+    by_waits : (w : Exchange) → k.own ≡ Some y → t.exchange y ≡ Some w → w.is_open ≡ true → w.head ≡ None → (m : Move) → MoveBy t now want c k m →
+        m ≡ Shows r why head lo hi → ⊥
     by_waits w mine there opened bare m (by_move.shows _ unshown shows) same = bare_shows w m there bare shows
     by_waits w mine there opened bare _ (by_move.reads shown heard) same = false_true (sym off ∙ shown)
     by_waits w mine there opened bare _ (by_move.plans unshown free none heard) same = unheard w mine there opened bare heard
@@ -149,7 +154,8 @@ module _ (step : Step) where
     shown_headed = past_headed (o.past c y k row at off)
 
   module _ (stand : may_stand limits t (entry_of limits t now ev flaw) ≡ true) (a : IsFallback t) where
-    headed_by : (c y : ℕ) (u : Consumer) (b : Bool) (k : Consumer) → t.consumer c ≡ Some k → k.shown ≡ b → now_on.consumer c ≡ Some u → u.place ≡ place.Direct y → u.shown ≡ true → IsHeadedRow now_on y
+    headed_by : (c y : ℕ) (u : Consumer) (b : Bool) (k : Consumer) → t.consumer c ≡ Some k → k.shown ≡ b → now_on.consumer c ≡ Some u →
+        u.place ≡ place.Direct y → u.shown ≡ true → IsHeadedRow now_on y
     headed_by c y u true k row shown after at on = by_place (shown_stays step a c k row shown u after)
       where
         by_place : StaysOrIdle k.place u.place → IsHeadedRow now_on y
@@ -159,16 +165,19 @@ module _ (step : Step) where
         let l = landing c k u row after off on in
         by_lands l.want l.r l.lo l.why l.head l.hi l.move_is l.lands
       where
-        by_lands : (want r lo : ℕ) (why : Why) (head : Response) (hi : Option ℕ) → move_of t now want c k ≡ Shows r why head lo hi → Lands k.place u.place r lo hi → IsHeadedRow now_on y
+        by_lands : (want r lo : ℕ) (why : Why) (head : Response) (hi : Option ℕ) → move_of t now want c k ≡ Shows r why head lo hi →
+            Lands k.place u.place r lo hi → IsHeadedRow now_on y
         by_lands want r lo why head hi move_is (stands.back i) = absurd (idle_not (place.Direct y) u.place at i (λ z. z))
         by_lands want r lo why head hi move_is (stands.stays old is) = head_stays y (shown_headed c y want r lo why head hi k row (sym is ∙ at) off move_is)
         by_lands want r lo why head hi move_is (stands.planned free is) = absurd (let no : place.Bound r lo hi by.Plan ≡ place.Direct y = sym is ∙ at in cc)
 
-    headed_row : (c y : ℕ) (u : Consumer) (q : Option Consumer) → t.consumer c ≡ q → now_on.consumer c ≡ Some u → u.place ≡ place.Direct y → u.shown ≡ true → IsHeadedRow now_on y
+    headed_row : (c y : ℕ) (u : Consumer) (q : Option Consumer) → t.consumer c ≡ q → now_on.consumer c ≡ Some u → u.place ≡ place.Direct y →
+        u.shown ≡ true → IsHeadedRow now_on y
     headed_row c y u None none after at on = absurd (false_true (sym (new_unshown t e c (t.consumer c) u none after) ∙ on))
     headed_row c y u (Some k) row after at on = headed_by c y u k.shown k row refl after at on
 
-    unturned_by : (c x : ℕ) (u : Consumer) (b : Bool) (k : Consumer) → t.consumer c ≡ Some k → k.shown ≡ b → now_on.consumer c ≡ Some u → u.place ≡ place.Turn x → u.shown ≡ true → ⊥
+    unturned_by : (c x : ℕ) (u : Consumer) (b : Bool) (k : Consumer) → t.consumer c ≡ Some k → k.shown ≡ b → now_on.consumer c ≡ Some u →
+        u.place ≡ place.Turn x → u.shown ≡ true → ⊥
     unturned_by c x u true k row shown after at on = by_place (shown_stays step a c k row shown u after)
       where
         by_place : StaysOrIdle k.place u.place → ⊥

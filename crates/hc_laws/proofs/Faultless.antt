@@ -20,13 +20,16 @@ lacks (room.After count) = false
 lacks _ = true
 
 module _ (limits : Limits) (t : Tables) (e : Entry) where
-  by_row : (x : ℕ) (response : Response) (q : Option Exchange) → head_writes t (lossless e) x response q ≡ head_writes t (entry_without_acts e.now e.event) x response q
+  by_row : (x : ℕ) (response : Response) (q : Option Exchange) →
+      head_writes t (lossless e) x response q ≡ head_writes t (entry_without_acts e.now e.event) x response q
   by_row x response None = refl
   by_row x response (Some w) =
-      ap (λ z. if is_founding z then Some x else if may_validate t w response || is_joining z then w.aim else None) (ap (λ b. case_of t b e.event) (no_loss e.acts))
+      ap (λ z. if is_founding z then Some x else if may_validate t w response || is_joining z then w.aim else None)
+      (ap (λ b. case_of t b e.event) (no_loss e.acts))
 
   -- a head or a piece writes the same whatever is lost, and nothing else needs room
-  written_by : (ev : Event) → e.event ≡ ev → lacks (room_for limits t e.now ev) ≡ true → written_in t (lossless e) ev ≡ written_in t (entry_without_acts e.now e.event) ev
+  written_by : (ev : Event) → e.event ≡ ev → lacks (room_for limits t e.now ev) ≡ true → written_in t (lossless e) ev ≡ written_in
+      t (entry_without_acts e.now e.event) ev
   unfolding room_for
   written_by (event.Head x response) at none = by_row x response (t.exchange x)
   written_by (event.Piece x bytes) at none = refl
@@ -83,7 +86,8 @@ module _ (limits : Limits) (t : Tables) (e : Entry) where
   sane_by false none = refl
   sane_by true none = absurd (let no_one : ◌≡◌ {A = ℕ} 1 0 = none in cc)
 
-  same_acts : IsOwed limits t e → failures_in e.acts ≡ 0 → (q : Option Refusal) → denial t e.event ≡ q → answer limits t e.now e.event (flaw_in e.acts) ≡ answer limits t e.now e.event sizes
+  same_acts : IsOwed limits t e → failures_in e.acts ≡ 0 → (q : Option Refusal) → denial t e.event ≡ q →
+      answer limits t e.now e.event (flaw_in e.acts) ≡ answer limits t e.now e.event sizes
   unfolding answer may_stand
   same_acts is none (Some refusal) denied =
       ap (λ z. denied_or z (accepted_acts limits t e.now e.event (flaw_in e.acts))) denied
@@ -91,7 +95,8 @@ module _ (limits : Limits) (t : Tables) (e : Entry) where
   same_acts is none None goes = ap (λ f. denied_or (denial t e.event) (accepted_acts limits t e.now e.event f)) (by_flaw (flaw_in e.acts) (sane_by _ none) may)
     where
       accepted : is_denied e.acts ≡ false
-      accepted = ap is_denied (is.acts ∙ ap (λ z. denied_or z (accepted_acts limits t e.now e.event (flaw_in e.acts))) goes) ∙ undenied limits t e.now e.event (flaw_in e.acts)
+      accepted = ap is_denied (is.acts ∙ ap (λ z. denied_or z (accepted_acts limits t e.now e.event (flaw_in e.acts))) goes) ∙
+          undenied limits t e.now e.event (flaw_in e.acts)
 
       may : may_be limits t e (flaw_in e.acts) ≡ true
       may = elim (or_cases (is_denied e.acts) (may_be limits t e (flaw_in e.acts)) is.flaw) [

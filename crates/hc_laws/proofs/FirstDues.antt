@@ -21,7 +21,8 @@ module _ (step : Step) where
 
   -- IDLE CONSUMERS
 
-  idle_by : (q u : Consumer) (cause : Option Cause) (over reading : Bool) → reads q.place ≡ reading → (cond over (back_in_line e.now q) (record q { due = if reading then cause else None })) ≡ u → reads u.place ≡ false → u.due ≡ None
+  idle_by : (q u : Consumer) (cause : Option Cause) (over reading : Bool) → reads q.place ≡ reading →
+      (cond over (back_in_line e.now q) (record q { due = if reading then cause else None })) ≡ u → reads u.place ≡ false → u.due ≡ None
   idle_by q u cause true reading at is idle = sym (ap (λ (z : Consumer). z.due) is)
   idle_by q u cause false true at is idle = absurd (false_true (sym idle ∙ (sym (ap (λ (z : Consumer). reads z.place) is) ∙ at)))
   idle_by q u cause false false at is idle = sym (ap (λ (z : Consumer). z.due) is)
@@ -36,7 +37,8 @@ module _ (step : Step) where
   idle_row : (c : ℕ) (z : Option Consumer) (u : Consumer) → consumer_after t e c z ≡ Some u → reads u.place ≡ false → u.due ≡ None
   unfolding consumer_after
   idle_row c None u is idle = started c ev u is
-  idle_row c (Some k) u is idle = let q = consumer_acted t e c (consumer_heard t e c ev k) in idle_by q u (option_or k.due (becomes_due t e c k)) (starts_over t e c k) (reads q.place) refl (some_inj _ u is) idle
+  idle_row c (Some k) u is idle = let q = consumer_acted t e c (consumer_heard t e c ev k) in
+      idle_by q u (option_or k.due (becomes_due t e c k)) (starts_over t e c k) (reads q.place) refl (some_inj _ u is) idle
 
   pub idle_kept : (c : ℕ) (u : Consumer) → now_on.consumer c ≡ Some u → reads u.place ≡ false → u.due ≡ None
   idle_kept c u row idle = idle_row c (t.consumer c) u row idle
@@ -64,7 +66,8 @@ module _ (step : Step) where
   -- A READER BESIDE THE FIRST ONE
 
   -- what isn't lost after the entry wasn't before
-  pub unlost : (r : ℕ) (v u : Representation) → t.representation r ≡ Some v → now_on.representation r ≡ Some u → u.is_lost ≡ false → (v.is_lost ≡ false) × (loses_in r e.acts ≡ false)
+  pub unlost : (r : ℕ) (v u : Representation) → t.representation r ≡ Some v → now_on.representation r ≡ Some u → u.is_lost ≡ false → (v.is_lost ≡ false) ×
+      (loses_in r e.acts ≡ false)
   unlost r v u row after kept = by_from (rep_from t e r (t.representation r) u refl after)
     where
       by_from : RepFrom t e r u → (v.is_lost ≡ false) × (loses_in r e.acts ≡ false)
@@ -84,7 +87,9 @@ module _ (step : Step) where
       by_open true on = is ∙ (let h1 : Some y ≡ Some x = rw (is, on) at h in h1)
       by_open false off = absurd (none_some x (rw (is, off) at h))
 
-  module _ (r c d : ℕ) (v : Representation) (k u : Consumer) (there : t.representation r ≡ Some v) (fresh : v.is_lost ≡ false) (kept : loses_in r e.acts ≡ false) (first : IsFirst t r c) (reader_c : IsBound t r c k) (none_c : k.due ≡ None) (undue_c : becomes_due t e c k ≡ None) (reader_d : IsBound t r d u) (apart : d ≡ c → ⊥) where
+  module _ (r c d : ℕ) (v : Representation) (k u : Consumer) (there : t.representation r ≡ Some v) (fresh : v.is_lost ≡ false)
+      (kept : loses_in r e.acts ≡ false) (first : IsFirst t r c) (reader_c : IsBound t r c k) (none_c : k.due ≡ None)
+      (undue_c : becomes_due t e c k ≡ None) (reader_d : IsBound t r d u) (apart : d ≡ c → ⊥) where
     -- another reader has no open exchange of its own
     no_own : (x : ℕ) → own_open t u ≡ Some x → ⊥
     no_own x own = elim (s.writes.had r x v there (s.writes.own_about r d x u reader_d own)) [
@@ -95,7 +100,8 @@ module _ (step : Step) where
         by_exclusive_writer : (g : ℕ) (z : Consumer) → IsBound t r g z → own_open t z ≡ Some x → IsExclusiveWriter t r v g → ⊥
         by_exclusive_writer g z reader theirs (sound.alone lost is) = false_true (sym fresh ∙ lost)
         by_exclusive_writer g z reader theirs (sound.first kept_too is) =
-            apart (o.one d g x u z (row_of r d u reader_d) (row_of r g z reader) (own_of u x u.own refl own) (own_of z x z.own refl theirs) ∙ s.writes.one_first r g c is first)
+            apart (o.one d g x u z (row_of r d u reader_d) (row_of r g z reader) (own_of u x u.own refl own) (own_of z x z.own refl theirs) ∙
+            s.writes.one_first r g c is first)
 
     no_waiter : (x : ℕ) (w : Exchange) → t.exchange x ≡ Some w → w.is_open ≡ true → w.head ≡ None → w.c ≡ d → ⊥
     no_waiter x w row opened bare mine =
@@ -103,7 +109,8 @@ module _ (step : Step) where
         let one : got.0 ≡ u = same_row (t.consumer d) got.0 u (sym (ap t.consumer mine) ∙ got.1.row) (row_of r d u reader_d) in
         no_own x (sym (ap (own_open t) one) ∙ own_open_is step w.c x got.0 w got.1)
 
-    head_by : (x : ℕ) (response : Response) (z : Option Exchange) → ev ≡ event.Head x response → t.exchange x ≡ z → (if is_for z d then cause_by_case (case_at t e) x else None) ≡ None
+    head_by : (x : ℕ) (response : Response) (z : Option Exchange) → ev ≡ event.Head x response → t.exchange x ≡ z →
+        (if is_for z d then cause_by_case (case_at t e) x else None) ≡ None
     head_by x response None here row = refl
     head_by x response (Some w) here row = elim (eq_cases w.c d) [
       | inr off ↦ rw off.0 refl
@@ -115,7 +122,8 @@ module _ (step : Step) where
     head_none _ here = refl
 
     loss_none : IsBound t r d u → cause_of_loss t e d u.place ≡ None
-    loss_none (sound.is_bound lo hi how row at) = loss_at t e d r lo hi how u v at there (not_so _ (λ h. false_true (sym kept ∙ and_right _ _ (and_left _ _ h))))
+    loss_none (sound.is_bound lo hi how row at) =
+        loss_at t e d r lo hi how u v at there (not_so _ (λ h. false_true (sym kept ∙ and_right _ _ (and_left _ _ h))))
 
     -- what stops for it stops for the first one
     source_same : (z y : Option ℕ) → own_open t u ≡ z → is_written t v ≡ true → v.writer ≡ y → (source t u ≡ source t k)

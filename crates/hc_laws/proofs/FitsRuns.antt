@@ -45,8 +45,14 @@ module _ (step : Step) (m : Measures step.tables) (f : Fits step.limits step.tab
   if_some true q x h = (refl, h)
   if_some false q x h = absurd (none_some x h)
 
-  founded_row : (x : ℕ) (response : Response) (w : Exchange) → ev ≡ event.Head x response → t.exchange x ≡ Some w → is_founding (case_at t e) ≡ true → IsFounded x
-  founded_row x response w here row on = record { none = (is_new limits t now flaw s ev goes x response w here row).unfounded; there = rep.founds t e x response w (t.representation x) here row on }
+  founded_row : (x : ℕ) (response : Response) (w : Exchange) → ev ≡ event.Head x response → t.exchange x ≡ Some w → is_founding (case_at t e) ≡ true →
+      IsFounded x
+  founded_row x response w here row on =
+      record {
+        none = (is_new limits t now flaw s ev goes x response w here row).unfounded;
+        there =
+            rep.founds t e x response w (t.representation x) here row on;
+      }
 
   founded_by : (z : Event) → ev ≡ z → (x : ℕ) → founds t e ≡ Some x → IsFounded x
   unfolding case_of
@@ -59,9 +65,12 @@ module _ (step : Step) (m : Measures step.tables) (f : Fits step.limits step.tab
       number = some_inj y x (sym (ap exchange_in here) ∙ both.1)
 
       by_row : (q : Option Exchange) → t.exchange y ≡ q → IsFounded x
-      by_row None row = absurd (false_true (sym (ap is_founding (ap (case_of t (has_loss e.acts)) here ∙ ap (λ z. option_map (λ w. head_case (head_view t (has_loss e.acts) w response)) z) row)) ∙ both.0))
+      by_row None row = absurd
+          (false_true (sym (ap is_founding
+          (ap (case_of t (has_loss e.acts)) here ∙ ap (λ z. option_map (λ w. head_case (head_view t (has_loss e.acts) w response)) z) row)) ∙ both.0))
       by_row (Some w) row = subst IsFounded number (founded_row y response w here row both.0)
-  founded_by _ here x is = absurd (false_true (sym (ap (λ z. is_founding (case_of t (has_loss e.acts) z)) here) ∙ (if_some (is_founding (case_at t e)) (exchange_in ev) x is).0))
+  founded_by _ here x is =
+      absurd (false_true (sym (ap (λ z. is_founding (case_of t (has_loss e.acts) z)) here) ∙ (if_some (is_founding (case_at t e)) (exchange_in ev) x is).0))
 
   once_by : (z : Option ℕ) → founds t e ≡ z → AreOnce (with_item_first z t.founded)
   once_by None is = f.once
@@ -90,7 +99,8 @@ module _ (step : Step) (m : Measures step.tables) (f : Fits step.limits step.tab
 
   by_opening_among : (z : Option Opening) (r : ℕ) → binds_by_opening t z ≡ Some r → Among r t.founded
   by_opening_among None r is = absurd (none_some r is)
-  by_opening_among (Some q) r is = current_among t q.request.key r (if_some (is_hole (route_of q.need) && not (was_shown (t.consumer q.c))) (current t q.request.key) r is).1
+  by_opening_among (Some q) r is =
+      current_among t q.request.key r (if_some (is_hole (route_of q.need) && not (was_shown (t.consumer q.c))) (current t q.request.key) r is).1
 
   unless_is : (b : Bool) (n r : ℕ) → (if b then None else Some n) ≡ Some r → (b ≡ false) × (n ≡ r)
   unless_is true n r h = absurd (none_some r h)
@@ -102,7 +112,8 @@ module _ (step : Step) (m : Measures step.tables) (f : Fits step.limits step.tab
       let both = unless_is (is_reading (t.consumer a.c)) a.r r is in
       let by_poll = showing_by limits t now flaw s ev goes a shows in
       let free : reads by_poll.k.place ≡ false = sym (ap is_reading by_poll.poll.row) ∙ both.0 in
-      let planned = planned_at limits t now flaw s ev goes a by_poll.k by_poll.poll.row shows (ap reads (shown_place_is limits t now flaw s ev goes a by_poll.k shows) ∙ free) in
+      let planned = planned_at limits t now flaw s ev goes a by_poll.k by_poll.poll.row shows
+      (ap reads (shown_place_is limits t now flaw s ev goes a by_poll.k shows) ∙ free) in
       subst (λ n. Among n t.founded) both.1 (by_shown by_poll.k planned.shown_as)
     where
       by_shown : (k : Consumer) → ShownAs t now a.c k a.r a.lo a.hi → Among a.r t.founded
@@ -146,7 +157,9 @@ module _ (step : Step) (m : Measures step.tables) (f : Fits step.limits step.tab
 
   founded_used_by : (z : Option ℕ) → founds t e ≡ z → (r : ℕ) → Among r (with_item_first z t.founded) → Among r now_on.used
   founded_used_by None is r among = still_used (binds t e) r (f.founded_used r among)
-  founded_used_by (Some x) is r (inl here) = subst (λ n. Among n now_on.used) here (front_used x (binds t e) (ap (λ z. option_or z (option_or (binds_by_opening t (opening_in e.acts)) (binds_by_showing t (showing_in e.acts)))) is))
+  founded_used_by (Some x) is r (inl here) =
+      subst (λ n. Among n now_on.used) here
+      (front_used x (binds t e) (ap (λ z. option_or z (option_or (binds_by_opening t (opening_in e.acts)) (binds_by_showing t (showing_in e.acts)))) is))
   founded_used_by (Some x) is r (inr there) = still_used (binds t e) r (f.founded_used r there)
 
   pub fits_kept : Fits limits now_on
@@ -163,7 +176,8 @@ module _ (step : Step) (m : Measures step.tables) (f : Fits step.limits step.tab
 
 pub fits_denied : (limits : Limits) (t : Tables) (e : Entry) → Fits limits t → Fits limits (after_denied t e)
 unfolding current bound
-fits_denied limits t e f = record { within = f.within; once = f.once; rows = f.rows; used_once = f.used_once; used_founded = f.used_founded; founded_used = f.founded_used }
+fits_denied limits t e f =
+    record { within = f.within; once = f.once; rows = f.rows; used_once = f.used_once; used_founded = f.used_founded; founded_used = f.founded_used }
 
 -- AT THE BEGINNING
 
@@ -182,8 +196,10 @@ held_item contents r item = elim (bool_cases (is_held (first_tables contents) r 
 
 module _ (limits : Limits) (contents : Contents) where
   -- the number of an item is said by no earlier one
-  own_number : (earlier : List Content) (item : Content) (later : List Content) → is_good limits contents earlier item later ≡ true → list_any (says item.r) earlier ≡ false
-  own_number earlier item later good = not_true (list_any (says item.r) earlier) (and_right _ _ (and_left _ _ (and_right _ _ (and_left _ _ (and_left _ _ (and_left _ _ (and_left _ _ good)))))))
+  own_number : (earlier : List Content) (item : Content) (later : List Content) → is_good limits contents earlier item later ≡ true →
+      list_any (says item.r) earlier ≡ false
+  own_number earlier item later good =
+      not_true (list_any (says item.r) earlier) (and_right _ _ (and_left _ _ (and_right _ _ (and_left _ _ (and_left _ _ (and_left _ _ (and_left _ _ good)))))))
 
   any_says : (n : ℕ) (es : List Content) → list_any (of_number n) es ≡ true → list_any (says n) es ≡ true
   any_says n [] h = absurd (false_true h)
@@ -196,30 +212,40 @@ module _ (limits : Limits) (contents : Contents) where
       by_test true rest = refl
       by_test false rest = rest
 
-  not_later : (n : ℕ) (earlier later : List Content) → are_good limits contents earlier later ≡ true → list_any (of_number n) earlier ≡ true → Among n (numbers later) → ⊥
+  not_later : (n : ℕ) (earlier later : List Content) → are_good limits contents earlier later ≡ true → list_any (of_number n) earlier ≡ true →
+      Among n (numbers later) → ⊥
   not_later n earlier [] good has among = absurd among
   not_later n earlier (b ∷ rest) good has (inl here) =
       false_true (sym (own_number earlier b rest (and_left _ _ good)) ∙ any_says b.r earlier (ap (λ k. list_any (of_number k) earlier) here ∙ has))
-  not_later n earlier (b ∷ rest) good has (inr there) = not_later n (b ∷ earlier) rest (and_right _ _ good) (or_right (of_number n b) (list_any (of_number n) earlier) has) there
+  not_later n earlier (b ∷ rest) good has (inr there) =
+      not_later n (b ∷ earlier) rest (and_right _ _ good) (or_right (of_number n b) (list_any (of_number n) earlier) has) there
 
   self_number : (item : Content) (earlier : List Content) → list_any (of_number item.r) (item ∷ earlier) ≡ true
   self_number item earlier = let self : nat_eq item.r item.r ≡ true = grind (arith, nat_tests) in rw self refl
 
   once_items : (earlier items : List Content) → are_good limits contents earlier items ≡ true → AreOnce (numbers items)
   once_items earlier [] good = tt
-  once_items earlier (item ∷ later) good = ((λ among. not_later item.r (item ∷ earlier) later (and_right _ _ good) (self_number item earlier) among), once_items (item ∷ earlier) later (and_right _ _ good))
+  once_items earlier (item ∷ later) good = (
+    (λ among. not_later item.r (item ∷ earlier) later (and_right _ _ good) (self_number item earlier) among),
+    once_items (item ∷ earlier) later (and_right _ _ good),
+  )
 
   -- what the items come to weighs no more than they do
-  sum_items : (find_in : ℕ → Option Content) (earlier items : List Content) → are_good limits contents earlier items ≡ true → ((n : ℕ) → Among n (numbers items) → find_in n ≡ find (of_number n) items) → sum_by (λ n. loaded_held contents n (find_in n)) (numbers items) ≤ sum_by weight_at items
+  sum_items : (find_in : ℕ → Option Content) (earlier items : List Content) → are_good limits contents earlier items ≡ true →
+      ((n : ℕ) → Among n (numbers items) → find_in n ≡ find (of_number n) items) →
+      sum_by (λ n. loaded_held contents n (find_in n)) (numbers items) ≤ sum_by weight_at items
   sum_items find_in earlier [] good found = omega arith
   sum_items find_in earlier (item ∷ later) good found =
-      let a : sum_by (λ n. loaded_held contents n (find_in n)) (item.r ∷ numbers later) ≡ loaded_held contents item.r (find_in item.r) + sum_by (λ n. loaded_held contents n (find_in n)) (numbers later) = sum_by-cons (λ n. loaded_held contents n (find_in n)) item.r (numbers later) in
+      let a : sum_by (λ n. loaded_held contents n (find_in n)) (item.r ∷ numbers later) ≡ loaded_held contents item.r (find_in item.r) + sum_by
+      (λ n. loaded_held contents n (find_in n)) (numbers later) = sum_by-cons (λ n. loaded_held contents n (find_in n)) item.r (numbers later) in
       let b : sum_by weight_at (item ∷ later) ≡ weight_at item + sum_by weight_at later = sum_by-cons weight_at item later in
       let self : nat_eq item.r item.r ≡ true = grind (arith, nat_tests) in
       let first : find_in item.r ≡ Some item = found item.r (inl refl) ∙ rw self refl in
       let here : loaded_held contents item.r (find_in item.r) ≡ loaded_held contents item.r (Some item) = ap (loaded_held contents item.r) first in
       let most : loaded_held contents item.r (Some item) ≤ weight_of (bytes_in item.runs) = held_item contents item.r item in
-      let rest : sum_by (λ n. loaded_held contents n (find_in n)) (numbers later) ≤ sum_by weight_at later = sum_items find_in (item ∷ earlier) later (and_right _ _ good) (λ n among. found n (inr among) ∙ later_found n (λ same. not_later n (item ∷ earlier) later (and_right _ _ good) (by_same n same) among)) in
+      let rest : sum_by (λ n. loaded_held contents n (find_in n)) (numbers later) ≤ sum_by weight_at later = sum_items find_in
+      (item ∷ earlier) later (and_right _ _ good)
+      (λ n among. found n (inr among) ∙ later_found n (λ same. not_later n (item ∷ earlier) later (and_right _ _ good) (by_same n same) among)) in
       omega arith
     where
       by_same : (n : ℕ) → item.r ≡ n → list_any (of_number n) (item ∷ earlier) ≡ true
@@ -253,17 +279,21 @@ module _ (limits : Limits) (contents : Contents) where
         founded_used = λ r among. among;
       }
     where
-      weigh : are_good limits contents [] contents.items ≡ true → nat_le (weights_of contents.items) limits.max_total ≡ true → total (first_tables contents) ≤ limits.max_total
+      weigh : are_good limits contents [] contents.items ≡ true → nat_le (weights_of contents.items) limits.max_total ≡ true →
+          total (first_tables contents) ≤ limits.max_total
       weigh good test =
-          let turned : total (first_tables contents) ≡ sum_by (held (first_tables contents)) (numbers contents.items) = reverse_sum (held (first_tables contents)) (numbers contents.items) in
-          let most : sum_by (held (first_tables contents)) (numbers contents.items) ≤ sum_by weight_at contents.items = sum_items (λ n. find (of_number n) contents.items) [] contents.items good (λ n among. refl) in
+          let turned : total (first_tables contents) ≡ sum_by (held (first_tables contents)) (numbers contents.items) =
+          reverse_sum (held (first_tables contents)) (numbers contents.items) in
+          let most : sum_by (held (first_tables contents)) (numbers contents.items) ≤ sum_by weight_at contents.items =
+          sum_items (λ n. find (of_number n) contents.items) [] contents.items good (λ n among. refl) in
           let fits : weights_of contents.items ≤ limits.max_total = grind (arith, nat_tests) in
           omega arith
 
 -- IN RUNS
 
 pub fits : OfRunsIn Fits
-fits = in_runs Fits (λ limits contents may. fits_begin limits contents may) (λ limits t e later f. fits_denied limits t e f) (λ limits t now flaw later c f ev goes real. fits_kept (step_of limits t now flaw c.is_sound c.is_owned ev goes) c.is_measured f real)
+fits = in_runs Fits (λ limits contents may. fits_begin limits contents may) (λ limits t e later f. fits_denied limits t e f)
+    (λ limits t now flaw later c f ev goes real. fits_kept (step_of limits t now flaw c.is_sound c.is_owned ev goes) c.is_measured f real)
 
 -- All that is stored fits the limit.
 pub fits_in_runs : FitsInRuns
@@ -275,14 +305,18 @@ fits_in_runs limits contents may h e run =
 count_none : (acts : List Act) → IsDenied acts → count_evicted acts ≡ 0
 count_none _ (owed_acts.denied refusal) = refl
 
-few_by : (limits : Limits) (t : Tables) (e : Entry) (b : Bool) → is_denied e.acts ≡ b → IsOwed limits t e → total t ≤ limits.max_total → IsSmallPiece e.event → count_evicted e.acts ≤ 2
+few_by : (limits : Limits) (t : Tables) (e : Entry) (b : Bool) → is_denied e.acts ≡ b → IsOwed limits t e → total t ≤ limits.max_total →
+    IsSmallPiece e.event → count_evicted e.acts ≤ 2
 few_by limits t e true denied owed within small = let none : count_evicted e.acts ≡ 0 = count_none e.acts (is_denial e.acts denied) in omega arith
 few_by limits t e false not_denied owed within small =
     let most : weights t (entry_without_acts e.now e.event) ≤ total t = weights_most t (entry_without_acts e.now e.event) in
-    let few : count_evicted (accepted_acts limits t e.now e.event (flaw_in e.acts)) ≤ 2 = few_give_way limits t e.now e.event (flaw_in e.acts) (omega arith) small in
-    let same : count_evicted e.acts ≡ count_evicted (accepted_acts limits t e.now e.event (flaw_in e.acts)) = ap count_evicted (acts_are limits t e owed not_denied) in
+    let few : count_evicted (accepted_acts limits t e.now e.event (flaw_in e.acts)) ≤ 2 =
+    few_give_way limits t e.now e.event (flaw_in e.acts) (omega arith) small in
+    let same : count_evicted e.acts ≡ count_evicted (accepted_acts limits t e.now e.event (flaw_in e.acts)) =
+    ap count_evicted (acts_are limits t e owed not_denied) in
     omega arith
 
 -- An entry evicts at most two.
 pub few_in_runs : FewInRuns
-few_in_runs limits contents may h e run small = few_by limits (tables contents h) e (is_denied e.acts) refl run.1 (fits limits contents h may run.0).within small
+few_in_runs limits contents may h e run small =
+    few_by limits (tables contents h) e (is_denied e.acts) refl run.1 (fits limits contents h may run.0).within small

@@ -15,7 +15,8 @@ module _ (step : Step) (m : Measures step.tables) (real : IsReal step.limits ste
   abbrev now_on : Tables
   now_on = after_accepted t e
 
-  module _ (r : ℕ) (response : Response) (w : Exchange) (p : Representation) (here : ev ≡ event.Head r response) (row : t.exchange r ≡ Some w) (founding : is_founding (case_at t e) ≡ true) (made : new_representation r e response w ≡ p) (after : now_on.representation r ≡ Some p) where
+  module _ (r : ℕ) (response : Response) (w : Exchange) (p : Representation) (here : ev ≡ event.Head r response) (row : t.exchange r ≡ Some w)
+      (founding : is_founding (case_at t e) ≡ true) (made : new_representation r e response w ≡ p) (after : now_on.representation r ≡ Some p) where
     -- a whole answer is written for several from now on, or has no byte; a part has a length, and fits
     pub data FoundedAs : Type 0 where
       comes : is_written now_on p ≡ true → p.writer ≡ Some r → brings_whole response.status ≡ true → FoundedAs
@@ -25,14 +26,20 @@ module _ (step : Step) (m : Measures step.tables) (real : IsReal step.limits ste
     total_is : p.head.total ≡ founded_total w response
     total_is = sym (ap (λ (q : Representation). q.head.total) made)
 
-    whole : (g : HeadCase) → case_at t e ≡ Some g → brings_whole response.status ≡ true → (is_refused (Some g) ≡ false) × (doomed_by_case (Some g) w response ≡ None) → ((q : Option ℕ) × (place_by_case r response w (waiter_of step r w row (is_new limits t now flaw s ev goes r response w here row).is_open (is_new limits t now flaw s ev goes r response w here row).bare).0 (Some g) ≡ place.Bound r 0 q by.Founding)) → FoundedAs
+    whole : (g : HeadCase) → case_at t e ≡ Some g → brings_whole response.status ≡ true → (is_refused (Some g) ≡ false) ×
+        (doomed_by_case (Some g) w response ≡ None) →
+        ((q : Option ℕ) × (place_by_case r response w
+        (waiter_of step r w row (is_new limits t now flaw s ev goes r response w here row).is_open
+        (is_new limits t now flaw s ev goes r response w here row).bare).0 (Some g) ≡ place.Bound r 0 q by.Founding)) → FoundedAs
     whole g is status plain placed = elim (bool_cases (is_open (now_on.exchange r))) [
       | inl on ↦ comes (written_by now_on p r (sym (ap (λ (q : Representation). q.is_lost) made)) writer on) writer status
       | inr off ↦
           let new = is_new limits t now flaw s ev goes r response w here row in
           let got = waiter_of step r w row new.is_open new.bare in
           let st = head_stands step real.stand w.c r response w got.0 got.1 here (or_left _ _ founding) in
-          let promise : promise_in w response ≡ Some 0 = none_promised step m real r w.c 0 placed.0 by.Founding st.0 p after st.1 (st.2 ∙ (ap (place_by_case r response w got.0) is ∙ placed.1)) r response w here row (ap is_refused is ∙ plain.0) (ap (λ q. doomed_by_case q w response) is ∙ plain.1) off in
+          let promise : promise_in w response ≡ Some 0 =
+          none_promised step m real r w.c 0 placed.0 by.Founding st.0 p after st.1 (st.2 ∙ (ap (place_by_case r response w got.0) is ∙ placed.1)) r
+          response w here row (ap is_refused is ∙ plain.0) (ap (λ q. doomed_by_case q w response) is ∙ plain.1) off in
           empty status (total_is ∙ (rw other refl ∙ promise))
     ]
       where

@@ -16,14 +16,16 @@ module _ (step : Step) where
   now_on = after_accepted t e
 
   -- what founds doesn't join
-  founds_alone : (r : ℕ) (response : Response) (w : Exchange) → ev ≡ event.Head r response → t.exchange r ≡ Some w → is_founding (case_at t e) ≡ true → is_joining (case_at t e) ≡ false
+  founds_alone : (r : ℕ) (response : Response) (w : Exchange) → ev ≡ event.Head r response → t.exchange r ≡ Some w → is_founding (case_at t e) ≡ true →
+      is_joining (case_at t e) ≡ false
   founds_alone r response w here row on = grind (arith, nat_tests)
 
   -- an exchange without a head joined nothing
   bare_joined : (r : ℕ) (response : Response) (w : Exchange) → ev ≡ event.Head r response → t.exchange r ≡ Some w → w.joined ≡ None
   bare_joined r response w here row = (s.waits.headless r w row (is_new limits t now flaw s ev goes r response w here row).bare).1
 
-  was_founder : (r : ℕ) (w u : Exchange) (v : Representation) → t.exchange r ≡ Some w → ((u.head ≡ w.head) × (u.joined ≡ w.joined)) ⊎ IsHeaded t e r w u → RepFrom t e r v → u.joined ≡ None
+  was_founder : (r : ℕ) (w u : Exchange) (v : Representation) → t.exchange r ≡ Some w → ((u.head ≡ w.head) × (u.joined ≡ w.joined)) ⊎ IsHeaded t e r w u →
+      RepFrom t e r v → u.joined ≡ None
   was_founder r w u v row (inl still) (rep.was q kept) = still.1 ∙ o.founders r w q row kept.row
   was_founder r w u v row (inl still) (rep.founded response z none here also on made) = still.1 ∙ bare_joined r response w here row
   was_founder r w u v row (inr got) (rep.was q kept) =

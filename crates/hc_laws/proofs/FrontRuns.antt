@@ -20,7 +20,8 @@ use Rattle.hc_effects.proofs.PartReported as reported
 poll_head : (x c want : ℕ) (response : Response) → event.Head x response ≡ event.Poll c want → ⊥
 poll_head x c want response is = cc
 
-module _ (step : Step) (m : Measures step.tables) (i : IsBeside step.tables) (f : Fronts step.tables) (real : IsReal step.limits step.tables step.now step.event step.flaw) where
+module _ (step : Step) (m : Measures step.tables) (i : IsBeside step.tables) (f : Fronts step.tables)
+    (real : IsReal step.limits step.tables step.now step.event step.flaw) where
   open step use {limits, tables as t, now, flaw, sound as s, owners as o, event as ev, accepted as goes}
 
   abbrev e : Entry
@@ -29,7 +30,9 @@ module _ (step : Step) (m : Measures step.tables) (i : IsBeside step.tables) (f 
   abbrev now_on : Tables
   now_on = after_accepted t e
 
-  module _ (r c x lo : ℕ) (hi : Option ℕ) (how : BoundBy) (u : Consumer) (z : Exchange) (after_row : now_on.consumer c ≡ Some u) (stands : u.place ≡ place.Bound r lo hi how) (none : u.due ≡ None) (owned : u.own ≡ Some x) (after_x : now_on.exchange x ≡ Some z) (opened : z.is_open ≡ true) where
+  module _ (r c x lo : ℕ) (hi : Option ℕ) (how : BoundBy) (u : Consumer) (z : Exchange) (after_row : now_on.consumer c ≡ Some u)
+      (stands : u.place ≡ place.Bound r lo hi how) (none : u.due ≡ None) (owned : u.own ≡ Some x) (after_x : now_on.exchange x ≡ Some z)
+      (opened : z.is_open ≡ true) where
     abbrev Begins : Type 0
     Begins = lo ≤ goes_on_at z z.head
 
@@ -39,12 +42,15 @@ module _ (step : Step) (m : Measures step.tables) (i : IsBeside step.tables) (f 
       grows base_is = by_brings (brings t e x w z w_row after_x)
         where
           by_brings : Brings t e x w z → front w ≤ front z
-          by_brings (fills_by.still none_of body_is) = let count : length z.body ≡ length w.body = ap (λ (b : List ℕ). length b) body_is in let first : base z ≡ base w = base_is in omega arith
-          by_brings (fills_by.more bytes here body_is) = let longer : length z.body ≡ length w.body + length bytes = ap (λ (b : List ℕ). length b) body_is ∙ length-append w.body bytes in let first : base z ≡ base w = base_is in omega arith
+          by_brings (fills_by.still none_of body_is) = let count : length z.body ≡ length w.body = ap (λ (b : List ℕ). length b) body_is in
+              let first : base z ≡ base w = base_is in omega arith
+          by_brings (fills_by.more bytes here body_is) = let longer : length z.body ≡ length w.body + length bytes =
+              ap (λ (b : List ℕ). length b) body_is ∙ length-append w.body bytes in let first : base z ≡ base w = base_is in omega arith
 
     -- ITS OWN EXCHANGE STAYS
 
-    module _ (k : Consumer) (row : IsRow t e c r lo hi how k u) (at : k.place ≡ place.Bound r lo hi how) (mine : k.own ≡ Some x) (w : Exchange) (w_row : t.exchange x ≡ Some w) (same : IsSame t e x w z) where
+    module _ (k : Consumer) (row : IsRow t e c r lo hi how k u) (at : k.place ≡ place.Bound r lo hi how) (mine : k.own ≡ Some x) (w : Exchange)
+        (w_row : t.exchange x ≡ Some w) (same : IsSame t e x w z) where
       was : lo ≤ goes_on_at w w.head
       was = f.begins c r lo x hi how k w row.row at (none_before step m i real r c lo hi how k u row at stands none) mine w_row (same.was_open opened)
 
@@ -69,12 +75,15 @@ module _ (step : Step) (m : Measures step.tables) (i : IsBeside step.tables) (f 
           let now_at : goes_on_at z z.head ≡ front z = headed_at z (Some got.response) got.head_is refl in
           let join = joined step r c x lo hi how k u w z row at stands none mine w_row same got in
           let start : hole_start w.need ≡ join.fills.from = ap hole_start join.fills.need_is in
-          let first : base z ≡ base_of (Rattle.hc_rules.specs.Lengths.length_of w.need w.request got.response) = ap base_of (length_is step r c x lo hi how k u w z row at stands none mine w_row same got) in
-          let begins = by_reported join.fills.from join.fills.last (Rattle.hc_rules.specs.Lengths.length_of w.need w.request got.response) (unmet step x w z got.response got.at w_row after_x same opened) (reported_is step r c x lo hi how k u w z row at stands none mine w_row same got) in
+          let first : base z ≡ base_of (Rattle.hc_rules.specs.Lengths.length_of w.need w.request got.response) =
+          ap base_of (length_is step r c x lo hi how k u w z row at stands none mine w_row same got) in
+          let begins = by_reported join.fills.from join.fills.last (Rattle.hc_rules.specs.Lengths.length_of w.need w.request got.response)
+          (unmet step x w z got.response got.at w_row after_x same opened) (reported_is step r c x lo hi how k u w z row at stands none mine w_row same got) in
           let before = was in
           omega (arith, before, was_at, now_at, start, first, begins)
         where
-          by_reported : (from last : ℕ) (l : Rattle.hc_rules.specs.declared.length.Length.Length) → (Rattle.hc_rules.specs.Lengths.promise_of l ≡ Some 0 → ⊥) → reported.IsReceived from last l → from ≤ base_of l
+          by_reported : (from last : ℕ) (l : Rattle.hc_rules.specs.declared.length.Length.Length) →
+              (Rattle.hc_rules.specs.Lengths.promise_of l ≡ Some 0 → ⊥) → reported.IsReceived from last l → from ≤ base_of l
           by_reported from last l unmet_it (reported.none is) = absurd (unmet_it (ap Rattle.hc_rules.specs.Lengths.promise_of is))
           by_reported from last l unmet_it (reported.part is) = let first : base_of l ≡ from = ap base_of is in omega (arith, first)
 
@@ -123,8 +132,11 @@ module _ (step : Step) (m : Measures step.tables) (i : IsBeside step.tables) (f 
               let same : IsSame t e x w z = subst (IsSame t e x w) (same_row (now_on.exchange x) on.u z on.row after_x) on.same in
               by_heard w g stood same same.heard_or
             where
-              by_heard : {q : ℕ} {v : Representation} (w : Exchange) → sound.IsGrowing t q v x w → offset t k ≡ v.reach → (same : IsSame t e x w z) → ((z.head ≡ w.head) × (z.joined ≡ w.joined)) ⊎ IsHeaded t e x w z → Begins
-              by_heard w g stood same (inr got) = absurd (false_true (sym (ap (λ (a : Option Response). is_some a) (is_new limits t now flaw s ev goes x got.response w got.at g.row).bare) ∙ g.headed))
+              by_heard : {q : ℕ} {v : Representation} (w : Exchange) → sound.IsGrowing t q v x w → offset t k ≡ v.reach → (same : IsSame t e x w z) →
+                  ((z.head ≡ w.head) × (z.joined ≡ w.joined)) ⊎ IsHeaded t e x w z → Begins
+              by_heard w g stood same (inr got) =
+                  absurd (false_true (sym (ap (λ (a : Option Response). is_some a)
+                  (is_new limits t now flaw s ev goes x got.response w got.at g.row).bare) ∙ g.headed))
               by_heard w g stood same (inl stays) =
                   let now_at : goes_on_at z z.head ≡ front z = headed_at z z.head refl (ap (λ (a : Option Response). is_some a) stays.0 ∙ g.headed) in
                   let more = grows w g.row (ap base_of (length_same w z same.need_is same.request_is stays.0)) in
@@ -139,7 +151,8 @@ module _ (step : Step) (m : Measures step.tables) (i : IsBeside step.tables) (f 
 
     -- IT FOUNDS
 
-    founded : (k : Consumer) (y : ℕ) (response : Response) (w : Exchange) → IsRow t e c r lo hi how k u → ev ≡ event.Head y response → t.exchange y ≡ Some w → w.c ≡ c → y ≡ r → IsFounded t e c r lo hi how y response w k (case_at t e) → OwnFrom t e c x u → Begins
+    founded : (k : Consumer) (y : ℕ) (response : Response) (w : Exchange) → IsRow t e c r lo hi how k u → ev ≡ event.Head y response →
+        t.exchange y ≡ Some w → w.c ≡ c → y ≡ r → IsFounded t e c r lo hi how y response w k (case_at t e) → OwnFrom t e c x u → Begins
     founded k y response w row here w_row mine of_r all own_of = by_own own_of
       where
         new : Rattle.hc_effects.proofs.FirstKeeps.IsNew limits t now flaw s ev goes y w
@@ -171,18 +184,24 @@ module _ (step : Step) (m : Measures step.tables) (i : IsBeside step.tables) (f 
                 by_heard same same.heard_or
 
         by_own : OwnFrom t e c x u → Begins
-        by_own (own.kept q q_row theirs heard_theirs) = by_number (some_inj x y (sym (ap (λ (a : Consumer). a.own) (same_row (t.consumer c) k q row.row q_row.row) ∙ theirs) ∙ own_k))
-        by_own (own.opened q p q_row opens theirs this) = let by_poll = is_opened step p opens in absurd (poll_head y p.c by_poll.want response (sym here ∙ by_poll.at))
+        by_own (own.kept q q_row theirs heard_theirs) =
+            by_number (some_inj x y (sym (ap (λ (a : Consumer). a.own) (same_row (t.consumer c) k q row.row q_row.row) ∙ theirs) ∙ own_k))
+        by_own (own.opened q p q_row opens theirs this) = let by_poll = is_opened step p opens in
+            absurd (poll_head y p.c by_poll.want response (sym here ∙ by_poll.at))
         by_own (own.left q q_row l) =
             let one : q ≡ k = same_row (t.consumer c) q k q_row.row row.row in
-            let placed : u.place ≡ (consumer_heard t e c ev k).place = heard_place step c r lo hi how k u (λ d want polls. poll_head y d want response (sym here ∙ polls)) row in
-            let at_l : (consumer_heard t e c ev k).place ≡ place.Bound l.r l.lo l.hi l.how = ap (λ (a : Consumer). (consumer_heard t e c ev a).place) (sym one) ∙ l.at in
+            let placed : u.place ≡ (consumer_heard t e c ev k).place =
+            heard_place step c r lo hi how k u (λ d want polls. poll_head y d want response (sym here ∙ polls)) row in
+            let at_l : (consumer_heard t e c ev k).place ≡ place.Bound l.r l.lo l.hi l.how =
+            ap (λ (a : Consumer). (consumer_heard t e c ev a).place) (sym one) ∙ l.at in
             let number : l.r ≡ r = (place_inj l.r l.lo l.hi l.how r lo hi how (sym at_l ∙ (sym placed ∙ stands))).number in
             absurd (none_some l.v (sym (sym (ap t.representation of_r) ∙ new.unfounded) ∙ (sym (ap t.representation number) ∙ l.row)))
 
     -- ITS FIRST HOLE IS OPENED
 
-    opens_first : (k : Consumer) (q : Opening) → IsRow t e c r lo hi how k u → opening_in e.acts ≡ Some q → q.c ≡ c → bound_to (waiting t e c (consumer_heard t e c ev k)).place ≡ None → route_of q.need ≡ route.Hole → IsFirstHole t e c r lo hi how q (waiting t e c (consumer_heard t e c ev k)) → Begins
+    opens_first : (k : Consumer) (q : Opening) → IsRow t e c r lo hi how k u → opening_in e.acts ≡ Some q → q.c ≡ c →
+        bound_to (waiting t e c (consumer_heard t e c ev k)).place ≡ None → route_of q.need ≡ route.Hole →
+        IsFirstHole t e c r lo hi how q (waiting t e c (consumer_heard t e c ev k)) → Begins
     opens_first k q row opens mine free way hole =
         let made = opened_row step m i real x q z opens (own_opened step m i real c x k u q row.is opens mine owned) after_x in
         let start : goes_on_at z z.head ≡ hole_start q.need = ap (λ (a : Exchange). goes_on_at a a.head) (sym made) in
@@ -191,11 +210,13 @@ module _ (step : Step) (m : Measures step.tables) (i : IsBeside step.tables) (f 
 
     -- IT IS SHOWN WHAT IS CURRENT
 
-    shown : (k : Consumer) (a : Showing) → IsRow t e c r lo hi how k u → showing_in e.acts ≡ Some a → IsShown t e c r lo hi how a (by_opening t c (opening_in e.acts) (waiting t e c (consumer_heard t e c ev k))).place → OwnFrom t e c x u → Begins
+    shown : (k : Consumer) (a : Showing) → IsRow t e c r lo hi how k u → showing_in e.acts ≡ Some a →
+        IsShown t e c r lo hi how a (by_opening t c (opening_in e.acts) (waiting t e c (consumer_heard t e c ev k))).place → OwnFrom t e c x u → Begins
     shown k a row is all own_of = by_own own_of
       where
         planned : IsPlanned t now a.c k a
-        planned = planned_at limits t now flaw s ev goes a k (ap t.consumer all.at ∙ row.row) is (subst (λ d. reads (by_opening t d (opening_in e.acts) (waiting t e d (consumer_heard t e d ev k))).place ≡ false) (sym all.at) all.free)
+        planned = planned_at limits t now flaw s ev goes a k (ap t.consumer all.at ∙ row.row) is
+            (subst (λ d. reads (by_opening t d (opening_in e.acts) (waiting t e d (consumer_heard t e d ev k))).place ≡ false) (sym all.at) all.free)
 
         shows : ShowsBy t now ev a
         shows = showing_by limits t now flaw s ev goes a is
@@ -212,15 +233,20 @@ module _ (step : Step) (m : Measures step.tables) (i : IsBeside step.tables) (f 
             by_head w.0 w.1 (g.same.was_open (ap (λ (q : Exchange). q.is_open) (same_row (now_on.exchange x) g.u z g.row after_x) ∙ opened)) w.0.head refl
           where
             headless_not : {Q : Type 0} (w : Exchange) → t.exchange x ≡ Some w → w.is_open ≡ true → w.head ≡ None → Q
-            headless_not w w_row was_open bare = absurd (none_some x (sym planned.heard ∙ (ap (option_and_then (if_headless t)) (own_open_is t k x (record { own = mine; w = w; row = w_row; opened = was_open })) ∙ (let headless : is_headless (t.exchange x) ≡ true = rw (w_row, was_open, bare) refl in rw headless refl))))
+            headless_not w w_row was_open bare =
+                absurd (none_some x (sym planned.heard ∙
+                (ap (option_and_then (if_headless t)) (own_open_is t k x (record { own = mine; w = w; row = w_row; opened = was_open })) ∙
+                (let headless : is_headless (t.exchange x) ≡ true = rw (w_row, was_open, bare) refl in rw headless refl))))
 
             by_head : {Q : Type 0} (w : Exchange) → t.exchange x ≡ Some w → w.is_open ≡ true → (a : Option Response) → w.head ≡ a → Q
             by_head w w_row was_open None at = headless_not w w_row was_open at
-            by_head w w_row was_open (Some response) at = reading_not (o.reading c x k w row.row mine w_row was_open (ap (λ (a : Option Response). is_some a) at))
+            by_head w w_row was_open (Some response) at =
+                reading_not (o.reading c x k w row.row mine w_row was_open (ap (λ (a : Option Response). is_some a) at))
 
         by_own : OwnFrom t e c x u → Begins
         by_own (own.kept q q_row theirs heard_theirs) = not_mine (ap (λ (a : Consumer). a.own) (same_row (t.consumer c) k q row.row q_row.row) ∙ theirs)
-        by_own (own.opened q p q_row opens theirs this) = absurd (none_some p (sym (opens_none limits t now flaw s ev goes a shows (opening_in e.acts) refl) ∙ opens))
+        by_own (own.opened q p q_row opens theirs this) =
+            absurd (none_some p (sym (opens_none limits t now flaw s ev goes a shows (opening_in e.acts) refl) ∙ opens))
         by_own (own.left q q_row l) = absurd (false_true (sym (ap brings_body shows.poll.at) ∙ and_left _ _ (and_left _ _ l.loses)))
 
     begins_by : BoundFrom t e c r lo hi how u → OwnFrom t e c x u → Begins
@@ -232,7 +258,8 @@ module _ (step : Step) (m : Measures step.tables) (i : IsBeside step.tables) (f 
   fronts_kept : Fronts now_on
   fronts_kept = record {
     begins = λ c r lo x hi how u z after at none owned after_x opened.
-        begins_by r c x lo hi how u z after at none owned after_x opened (bound_from t e c r lo hi how (t.consumer c) u refl after at) (own_from t e c x (t.consumer c) u refl after owned);
+        begins_by r c x lo hi how u z after at none owned after_x opened (bound_from t e c r lo hi how (t.consumer c) u refl after at)
+        (own_from t e c x (t.consumer c) u refl after owned);
   }
 
 -- IN RUNS
@@ -244,7 +271,8 @@ has_fronts : OfRunsIn HasFronts
 has_fronts = in_runs HasFronts
     (λ limits contents may. record { fronts = record { begins = λ c r lo x hi how k w row at none mine there opened. absurd (none_some k row) } })
     (λ limits t e later h. record { fronts = record { begins = h.fronts.begins } })
-    (λ limits t now flaw later c h ev goes real. record { fronts = fronts_kept (step_of limits t now flaw c.is_sound c.is_owned ev goes) c.is_measured c.beside h.fronts real })
+    (λ limits t now flaw later c h ev goes real. record
+    { fronts = fronts_kept (step_of limits t now flaw c.is_sound c.is_owned ev goes) c.is_measured c.beside h.fronts real })
 
 pub fronts_in_runs : OfRuns Fronts
 fronts_in_runs limits contents h may run = (has_fronts limits contents h may run).fronts

@@ -9,9 +9,11 @@ use Rattle.hc_laws.proofs.{ReadAs.{IsRead}, ReadEnds.{bounded}, ReadJoined.{join
 
 -- what was given of the body that was shown
 pub record AreCovered (t : Tables) : Type 0 where
-  pub covered : (c r lo : ℕ) (hi : Option ℕ) (how : BoundBy) (k : Consumer) (v : Representation) → t.consumer c ≡ Some k → k.place ≡ place.Bound r lo hi how → t.representation r ≡ Some v → Covers v.body lo (lo + k.given)
+  pub covered : (c r lo : ℕ) (hi : Option ℕ) (how : BoundBy) (k : Consumer) (v : Representation) → t.consumer c ≡ Some k →
+      k.place ≡ place.Bound r lo hi how → t.representation r ≡ Some v → Covers v.body lo (lo + k.given)
 
-held_there : (t : Tables) (r lo : ℕ) (bytes : List ℕ) (v : Representation) → t.representation r ≡ Some v → Holds t r lo bytes → Covers v.body lo (lo + length bytes)
+held_there : (t : Tables) (r lo : ℕ) (bytes : List ℕ) (v : Representation) → t.representation r ≡ Some v → Holds t r lo bytes →
+    Covers v.body lo (lo + length bytes)
 held_there t r lo bytes v there holds p from to =
     let got = holds (p - lo) (omega arith) in
     grind (arith, nat_tests)
@@ -20,7 +22,8 @@ module _ (limits : Limits) (contents : Contents) (h : History) (may : may_begin 
   abbrev after_h : Tables
   after_h = tables contents h
 
-  by_shown : (c r lo : ℕ) (hi : Option ℕ) (how : BoundBy) (k : Consumer) (v : Representation) → after_h.consumer c ≡ Some k → k.place ≡ place.Bound r lo hi how → after_h.representation r ≡ Some v → (b : Bool) → k.shown ≡ b → Covers v.body lo (lo + k.given)
+  by_shown : (c r lo : ℕ) (hi : Option ℕ) (how : BoundBy) (k : Consumer) (v : Representation) → after_h.consumer c ≡ Some k →
+      k.place ≡ place.Bound r lo hi how → after_h.representation r ≡ Some v → (b : Bool) → k.shown ≡ b → Covers v.body lo (lo + k.given)
   by_shown c r lo hi how k v row at there false off = grind (arith, nat_tests, bounded)
   by_shown c r lo hi how k v row at there true on =
       let z = shown_one limits contents h run c k row on in
@@ -30,13 +33,17 @@ module _ (limits : Limits) (contents : Contents) (h : History) (may : may_begin 
       let from : z.0.lo ≡ lo = sym read.from ∙ ap (lo_of after_h) at in
       let count = (is_reported limits contents h run).count c k row in
       let holds = joined.held c z.0 z.1 in
-      subst (λ n. Covers v.body lo (lo + n)) (sym count) (held_there after_h r lo (given_of c h) v there (subst (λ n. Holds after_h r n (given_of c h)) from (subst (λ n. Holds after_h n z.0.lo (given_of c h)) of_r holds)))
+      subst (λ n. Covers v.body lo (lo + n)) (sym count)
+      (held_there after_h r lo (given_of c h) v there
+      (subst (λ n. Holds after_h r n (given_of c h)) from (subst (λ n. Holds after_h n z.0.lo (given_of c h)) of_r holds)))
 
 covered_in_runs : OfRuns AreCovered
-covered_in_runs limits contents h may run = record { covered = λ c r lo hi how k v row at there. by_shown limits contents h may run c r lo hi how k v row at there k.shown refl }
+covered_in_runs limits contents h may run =
+    record { covered = λ c r lo hi how k v row at there. by_shown limits contents h may run c r lo hi how k v row at there k.shown refl }
 
 module _ (t : Tables) (s : Sound t) (m : Measures t) (b : IsBounded t) (a : AreCovered t) where
-  reaches_by : (c r lo : ℕ) (hi : Option ℕ) (how : BoundBy) (k : Consumer) (v : Representation) → t.consumer c ≡ Some k → k.place ≡ place.Bound r lo hi how → t.representation r ≡ Some v → (k.given ≡ 0) ⊎ (lo + k.given ≤ v.reach)
+  reaches_by : (c r lo : ℕ) (hi : Option ℕ) (how : BoundBy) (k : Consumer) (v : Representation) → t.consumer c ≡ Some k →
+      k.place ≡ place.Bound r lo hi how → t.representation r ≡ Some v → (k.given ≡ 0) ⊎ (lo + k.given ≤ v.reach)
   reaches_by c r lo hi how k v row at there = elim (bool_cases (nat_lt 0 k.given)) [
     | inr none ↦ let zero : k.given ≤ 0 = grind (arith, nat_tests) in inl (omega arith)
     | inl some ↦
@@ -44,12 +51,14 @@ module _ (t : Tables) (s : Sound t) (m : Measures t) (b : IsBounded t) (a : AreC
         let last = a.covered c r lo hi how k v row at there (lo + k.given - 1) (omega arith) (omega arith) in
         elim (bool_cases (nat_lt (lo + k.given - 1) v.reach)) [
           | inl under ↦ let lt : lo + k.given - 1 < v.reach = grind (arith, nat_tests) in inr (omega arith)
-          | inr past ↦ let over : v.reach ≤ lo + k.given - 1 = grind (arith, nat_tests) in absurd (false_true (sym (ap (λ (q : Option Cell). is_some q) ((s.rows r v there).store.ends _ over)) ∙ last))
+          | inr past ↦ let over : v.reach ≤ lo + k.given - 1 = grind (arith, nat_tests) in
+              absurd (false_true (sym (ap (λ (q : Option Cell). is_some q) ((s.rows r v there).store.ends _ over)) ∙ last))
         ]
   ]
 
   -- who reads up to an end that isn't known reads from the first position on
-  within_by : (c r lo n : ℕ) (hi : Option ℕ) (how : BoundBy) (k : Consumer) (v : Representation) → t.consumer c ≡ Some k → k.place ≡ place.Bound r lo hi how → t.representation r ≡ Some v → option_or hi (total_in (t.representation r)) ≡ Some n → IsWithin lo k.given n
+  within_by : (c r lo n : ℕ) (hi : Option ℕ) (how : BoundBy) (k : Consumer) (v : Representation) → t.consumer c ≡ Some k →
+      k.place ≡ place.Bound r lo hi how → t.representation r ≡ Some v → option_or hi (total_in (t.representation r)) ≡ Some n → IsWithin lo k.given n
   within_by c r lo n hi how k v row at there is = grind (arith, nat_tests)
 
   given_by : Given t

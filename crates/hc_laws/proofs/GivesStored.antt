@@ -13,7 +13,9 @@ use Rattle.hc_model.specs.Sound as sound
 use Rattle.hc_effects.proofs.{AboutKeeps.{own_open_of}, Basics.{some_row}, GivenNext.{given_next}, Givers.{some_want}, Owed.{goes}}
 use Rattle.hc_laws.proofs.{AtHoles.{AreAtHoles, at_holes_in_runs}, InRuns.{turned_in_runs}, SoundRuns.{carried}, TurnFacts.{moves_on, misreads, IsTaken, AtPoll, at_poll, behind}}
 
-module _ (t : Tables) (s : Sound t) (o : Owners t) (turns : Turns t) (are : AreAtHoles t) (c r lo : ℕ) (hi : Option ℕ) (how : BoundBy) (k : Consumer) (v : Representation) (row : t.consumer c ≡ Some k) (shown : k.shown ≡ true) (at : k.place ≡ place.Bound r lo hi how) (there : t.representation r ≡ Some v) (stored : is_some (v.stored (offset t k)) ≡ true) where
+module _ (t : Tables) (s : Sound t) (o : Owners t) (turns : Turns t) (are : AreAtHoles t) (c r lo : ℕ) (hi : Option ℕ) (how : BoundBy) (k : Consumer)
+    (v : Representation) (row : t.consumer c ≡ Some k) (shown : k.shown ≡ true) (at : k.place ≡ place.Bound r lo hi how)
+    (there : t.representation r ≡ Some v) (stored : is_some (v.stored (offset t k)) ≡ true) where
   -- IT WAITS FOR NO HEAD
 
   -- nothing has come of the hole for which its exchange asks
@@ -22,13 +24,15 @@ module _ (t : Tables) (s : Sound t) (o : Owners t) (turns : Turns t) (are : AreA
   asks_not x w w_row bare own (sound.asks q from to q_row on none need_is aim_is) =
       let it = turns.awaited x w w_row bare in
       let c_is : w.c ≡ c = o.one w.c c x it.k k it.row row it.own own in
-      let inside : InHole w.need (lo + k.given) = are.stand x r lo w k (record { row = w_row; headless = bare; its = ap t.consumer c_is ∙ row; shown = shown; hi = hi; how = how; at = at }) in
+      let inside : InHole w.need (lo + k.given) =
+      are.stand x r lo w k (record { row = w_row; headless = bare; its = ap t.consumer c_is ∙ row; shown = shown; hi = hi; how = how; at = at }) in
       grind (arith, nat_tests)
 
   unwaited : (x : ℕ) → own_open t k ≡ Some x → is_headless (t.exchange x) ≡ true → ⊥
   unwaited x own bare =
       let is = own_open_of t k x own in
-      asks_not x is.w is.row (sym (ap (λ (z : Option Exchange). is_headless z) is.row) ∙ bare) is.own (s.writes.own_about r c x k (sound.is_bound lo hi how row at) own)
+      asks_not x is.w is.row (sym (ap (λ (z : Option Exchange). is_headless z) is.row) ∙ bare) is.own
+      (s.writes.own_about r c x k (sound.is_bound lo hi how row at) own)
 
   no_head : (q : Option ℕ) → own_open t k ≡ q → option_and_then (if_headless t) q ≡ None
   no_head q own = grind (arith, nat_tests, bool_cases, unwaited)
@@ -43,7 +47,8 @@ module _ (t : Tables) (s : Sound t) (o : Owners t) (turns : Turns t) (are : AreA
   reads = ap (λ p. row_of t (bound_to p)) at ∙ there
 
   ahead_some : (n : ℕ) → is_some (stored_ahead t k n) ≡ true
-  ahead_some n = ap (λ z. is_some (option_and_then (stored_from (offset t k) n) z)) reads ∙ stretch_some v.stored (offset t k) _ (v.stored (offset t k)) refl stored
+  ahead_some n = ap (λ z. is_some (option_and_then (stored_from (offset t k) n) z)) reads ∙
+      stretch_some v.stored (offset t k) _ (v.stored (offset t k)) refl stored
 
   module _ (now want : ℕ) (many : 0 < want) (before : IfSome (hi_of t k.place) (λ end. offset t k < end)) where
     abbrev rest : ReadStep
@@ -77,19 +82,24 @@ module _ (t : Tables) (s : Sound t) (o : Owners t) (turns : Turns t) (are : AreA
 
 -- THE ACTS
 
-module _ (limits : Limits) (t : Tables) (e : Entry) (taken : IsTaken limits t e) (s : Sound t) (o : Owners t) (turns : Turns t) (are : AreAtHoles t) (c want : ℕ) (polls : e.event ≡ event.Poll c want) (faultless : failures_in e.acts ≡ 0) (k : Consumer) (row : t.consumer c ≡ Some k) where
+module _ (limits : Limits) (t : Tables) (e : Entry) (taken : IsTaken limits t e) (s : Sound t) (o : Owners t) (turns : Turns t) (are : AreAtHoles t)
+    (c want : ℕ) (polls : e.event ≡ event.Poll c want) (faultless : failures_in e.acts ≡ 0) (k : Consumer) (row : t.consumer c ≡ Some k) where
   given_one : (run : Run) → 0 < length run.bytes → e.acts ≡ acts_of c (Gives run) ++ behind limits t e taken → 0 < length (given_in c e.acts)
   given_one run some all = grind (arith, nat_tests, behind, length, length-append)
 
-  by_poll : (v : Representation) (r lo : ℕ) (hi : Option ℕ) (how : BoundBy) → k.shown ≡ true → k.place ≡ place.Bound r lo hi how → t.representation r ≡ Some v → is_some (v.stored (offset t k)) ≡ true → IfSome (hi_of t k.place) (λ end. offset t k < end) → AtPoll limits t e taken c k → 0 < length (given_in c e.acts)
+  by_poll : (v : Representation) (r lo : ℕ) (hi : Option ℕ) (how : BoundBy) → k.shown ≡ true → k.place ≡ place.Bound r lo hi how →
+      t.representation r ≡ Some v → is_some (v.stored (offset t k)) ≡ true → IfSome (hi_of t k.place) (λ end. offset t k < end) →
+      AtPoll limits t e taken c k → 0 < length (given_in c e.acts)
   by_poll v r lo hi how shown at there stored before (moves_on more m also m_is does all saw) =
       let many : 0 < more = some_want t c more e.event (goes limits t e taken.owed taken.not_denied) also in
       let given = is_given t s o turns are c r lo hi how k v row shown at there stored e.now more many before in
       given_one given.run given.some (all ∙ ap (λ z. acts_of c z ++ behind limits t e taken) (m_is ∙ given.move))
   by_poll v r lo hi how shown at there stored before (misreads more q also all saw) = grind (arith, nat_tests)
 
-  by_place_of : (v : Representation) (p : Place) → k.place ≡ p → k.shown ≡ true → row_of t (bound_to p) ≡ Some v → is_some (v.stored (offset t k)) ≡ true → IfSome (hi_of t k.place) (λ end. offset t k < end) → 0 < length (given_in c e.acts)
-  by_place_of v (place.Bound r lo hi how) at shown there stored before = by_poll v r lo hi how shown at there stored before (at_poll limits t e taken c want k s turns row polls)
+  by_place_of : (v : Representation) (p : Place) → k.place ≡ p → k.shown ≡ true → row_of t (bound_to p) ≡ Some v →
+      is_some (v.stored (offset t k)) ≡ true → IfSome (hi_of t k.place) (λ end. offset t k < end) → 0 < length (given_in c e.acts)
+  by_place_of v (place.Bound r lo hi how) at shown there stored before =
+      by_poll v r lo hi how shown at there stored before (at_poll limits t e taken c want k s turns row polls)
   by_place_of v _ at shown there stored before = absurd (none_some v there)
 
 -- Who has its next byte stored is given some by a poll, in every run.
@@ -99,5 +109,6 @@ gives_stored_in_runs limits contents (e ∷ h) may run = λ c want polls accepte
     let t = tables contents h in
     let kept = carried limits contents h may run.0 in
     let turned = turned_in_runs limits contents h may run.0 in
-    by_place_of limits t e (record { owed = run.1; not_denied = accepted }) kept.is_sound kept.is_owned turned.turns (at_holes_in_runs limits contents h may run.0) c want polls faultless has.k has.row
+    by_place_of limits t e (record { owed = run.1; not_denied = accepted }) kept.is_sound kept.is_owned turned.turns
+    (at_holes_in_runs limits contents h may run.0) c want polls faultless has.k has.row
     has.v has.k.place refl has.shown has.reads has.stored has.before

@@ -39,7 +39,8 @@ turns_go t s turns now c want d k row has is = turn_goes t c d k _ (does_polled 
 bound_goes : (t : Tables) (c r : ℕ) (k : Consumer) (m : Move) → Does t c k m → bound_to k.place ≡ Some r → waits_for m ≡ false
 bound_goes t c r k m it5 bound = grind (arith, nat_tests)
 
-readers_by : (t : Tables) (s : Sound t) (turns : Turns t) (now c want r : ℕ) (k : Consumer) → t.consumer c ≡ Some k → bound_to k.place ≡ Some r → WaitsForNobody t now want c k
+readers_by : (t : Tables) (s : Sound t) (turns : Turns t) (now c want r : ℕ) (k : Consumer) → t.consumer c ≡ Some k → bound_to k.place ≡ Some r →
+    WaitsForNobody t now want c k
 readers_by t s turns now c want r k row bound =
     let goes = bound_goes t c r k _ (does_polled t c k s turns row now want) bound in
     record {

@@ -22,7 +22,8 @@ any_of test (n ∷ ns) h = elim (bool_cases (test n)) [ inl on ↦ (n, on) | inr
 
 module _ (t : Tables) (s : Sound t) where
   -- one without a head brings nothing of what is there
-  pub brings_headed : (x r : ℕ) (w : Exchange) (v : Representation) → t.exchange x ≡ Some w → t.representation r ≡ Some v → family x w ≡ r → is_some w.head ≡ true
+  pub brings_headed : (x r : ℕ) (w : Exchange) (v : Representation) → t.exchange x ≡ Some w → t.representation r ≡ Some v → family x w ≡ r →
+      is_some w.head ≡ true
   brings_headed x r w v row there of_r = elim (bool_cases (is_some w.head)) [
     | inl headed ↦ headed
     | inr off ↦
@@ -43,7 +44,8 @@ module _ (t : Tables) (s : Sound t) where
   pub grows_by : (r x : ℕ) → Grows t x r → is_growing t r ≡ true
   grows_by r x g =
       let test : nat_eq (family x g.w) r ≡ true = grind (arith, nat_tests) in
-      any_some (λ y. brings_to r y (t.exchange y)) x t.openings (s.numbered.lists.opened x (ap (λ (q : Option Exchange). is_some q) g.row)) (ap (brings_to r x) g.row ∙ rw (g.is_open, test) refl)
+      any_some (λ y. brings_to r y (t.exchange y)) x t.openings (s.numbered.lists.opened x (ap (λ (q : Option Exchange). is_some q) g.row))
+      (ap (brings_to r x) g.row ∙ rw (g.is_open, test) refl)
 
   about_of : (r x : ℕ) (v : Representation) → t.representation r ≡ Some v → Grows t x r → IsAbout t r x
   about_of r x v there g = sound.headed g.w g.row g.is_open g.headed g.of_r (ap (λ (q : Option Representation). is_some q) there)
@@ -52,7 +54,8 @@ module _ (t : Tables) (s : Sound t) where
     coming_by : (r : ℕ) (v : Representation) → t.representation r ≡ Some v → v.is_gone ≡ false → v.head.total ≡ None → IsComing t r v
     coming_by r v there not_gone none = by_writer v.writer refl
       where
-        by_growing : (x : ℕ) → is_written t v ≡ true → brings_whole v.head.status ≡ true → v.writer ≡ Some x → ((w : Exchange) × sound.IsGrowing t r v x w) → IsComing t r v
+        by_growing : (x : ℕ) → is_written t v ≡ true → brings_whole v.head.status ≡ true → v.writer ≡ Some x →
+            ((w : Exchange) × sound.IsGrowing t r v x w) → IsComing t r v
         by_growing x written status writer all = by_measure (m.brings x all.0 v all.1.row opened all.1.headed (ap t.representation all.1.family_is ∙ there))
           where
             opened : all.0.is_open ≡ true
@@ -108,7 +111,8 @@ module _ (limits : Limits) (t : Tables) (now : ℕ) (flaw : Flaw) (s : Sound t) 
           let hole = is_join t (has_loss e.acts) w got.response (sym (ap is_joining (case_is t e y got.response w got.at row)) ∙ joins) in
           let aimed = is_aimed t w got.response hole in
           let joined : g.w.joined ≡ Some aimed.r = got.joined_is ∙ (ap (λ (b : Bool). if b then w.aim else w.joined) joins ∙ aimed.aim) in
-          sound.asks w hole.fills.from hole.fills.to row new.is_open new.bare hole.fills.need_is (aimed.aim ∙ ap Some (sym (ap (λ (q : Option ℕ). unwrap_or q y) joined) ∙ g.of_r))
+          sound.asks w hole.fills.from hole.fills.to row new.is_open new.bare hole.fills.need_is
+          (aimed.aim ∙ ap Some (sym (ap (λ (q : Option ℕ). unwrap_or q y) joined) ∙ g.of_r))
       | inr other ↦
           let alone : g.w.joined ≡ None = got.joined_is ∙ (ap (λ (b : Bool). if b then w.aim else w.joined) other ∙ (s.waits.headless y w row new.bare).1) in
           absurd (none_some v (sym new.unfounded ∙ (ap t.representation (sym (ap (λ (q : Option ℕ). unwrap_or q y) alone) ∙ g.of_r) ∙ there)))
@@ -119,7 +123,8 @@ module _ (limits : Limits) (t : Tables) (now : ℕ) (flaw : Flaw) (s : Sound t) 
 
     was_about : ExchangeFrom t e y g.w → IsAbout t r y
     was_about (exchange.was w row same) = elim same.heard_or [
-      | inl still ↦ sound.headed w row (same.was_open g.is_open) (ap (λ (q : Option Response). is_some q) (sym still.0) ∙ g.headed) (ap (λ (q : Option ℕ). unwrap_or q y) (sym still.1) ∙ g.of_r) (ap (λ (q : Option Representation). is_some q) there)
+      | inl still ↦ sound.headed w row (same.was_open g.is_open) (ap (λ (q : Option Response). is_some q) (sym still.0) ∙ g.headed)
+          (ap (λ (q : Option ℕ). unwrap_or q y) (sym still.1) ∙ g.of_r) (ap (λ (q : Option Representation). is_some q) there)
       | inr got ↦ by_headed w row got
     ]
     was_about (exchange.new q none opens here made) = absurd (false_true (ap (λ (z : Exchange). is_some z.head) made ∙ g.headed))
@@ -130,7 +135,8 @@ module _ (limits : Limits) (t : Tables) (now : ℕ) (flaw : Flaw) (s : Sound t) 
     | inl on ↦
         let row = some_row (now_on.representation r) (stays t e r (t.representation r) (ap (λ (q : Option Representation). is_some q) there)) in
         let other = grower_by now_on later r row.0 row.1 on in
-        let one : other.0 ≡ x = s.one_about r other.0 x (was_about r other.0 v there other.1 (exchange_from t e other.0 (t.exchange other.0) other.1.w refl other.1.row)) (about_of t s r x v there g) in
+        let one : other.0 ≡ x = s.one_about r other.0 x
+        (was_about r other.0 v there other.1 (exchange_from t e other.0 (t.exchange other.0) other.1.w refl other.1.row)) (about_of t s r x v there g) in
         absurd (false_true (sym off ∙ (ap (λ n. is_open (now_on.exchange n)) (sym one) ∙ (ap is_open other.1.row ∙ other.1.is_open))))
   ]
 
@@ -147,4 +153,6 @@ stops_in_runs limits contents h e may run = by_denial (is_denied e.acts) refl
         let c = carried limits contents h may run.0 in
         let later : Sound (after_accepted (tables contents h) e) = subst Sound (sym same) (carried limits contents (e ∷ h) may run).is_sound in
         subst (StopsGrowing (tables contents h)) same
-        (of_real limits (tables contents h) e (λ z. Sound (after_accepted (tables contents h) z) → StopsGrowing (tables contents h) (after_accepted (tables contents h) z)) run.1 accepted (λ going real sound_then. stops_by limits (tables contents h) e.now (flaw_in e.acts) c.is_sound e.event going sound_then) later)
+        (of_real limits (tables contents h) e
+        (λ z. Sound (after_accepted (tables contents h) z) → StopsGrowing (tables contents h) (after_accepted (tables contents h) z)) run.1 accepted
+        (λ going real sound_then. stops_by limits (tables contents h) e.now (flaw_in e.acts) c.is_sound e.event going sound_then) later)

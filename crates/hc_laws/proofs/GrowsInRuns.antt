@@ -35,7 +35,8 @@ module _ (limits : Limits) (t : Tables) (now : ℕ) (flaw : Flaw) (s : Sound t) 
   abbrev now_on : Tables
   now_on = after_accepted t e
 
-  module _ (x p : ℕ) (w z : Exchange) (cell : Cell) (row : t.exchange x ≡ Some w) (same : IsSame t e x w z) (after_x : now_on.exchange x ≡ Some z) (b : IsByte x p w cell) where
+  module _ (x p : ℕ) (w z : Exchange) (cell : Cell) (row : t.exchange x ≡ Some w) (same : IsSame t e x w z) (after_x : now_on.exchange x ≡ Some z)
+      (b : IsByte x p w cell) where
     -- it has its head
     headed : w.head ≡ None → ⊥
     headed bare = grind (arith, nat_tests)
@@ -49,7 +50,8 @@ module _ (limits : Limits) (t : Tables) (now : ℕ) (flaw : Flaw) (s : Sound t) 
     by_brings first (fills_by.more bytes here body_is) =
         let longer : length z.body ≡ length w.body + length bytes = ap (λ (a : List ℕ). length a) body_is ∙ length-append w.body bytes in
         let inside : p - base w < length w.body = omega arith in
-        let byte : slice_index z.body (p - base z) ≡ slice_index w.body (p - base w) = ap (λ (a : List ℕ). slice_index a (p - base z)) body_is ∙ (ap (λ n. slice_index (w.body ++ bytes) (p - n)) first ∙ get_or-append w.body bytes 0 (p - base w) inside) in
+        let byte : slice_index z.body (p - base z) ≡ slice_index w.body (p - base w) = ap (λ (a : List ℕ). slice_index a (p - base z)) body_is ∙
+        (ap (λ n. slice_index (w.body ++ bytes) (p - n)) first ∙ get_or-append w.body bytes 0 (p - base w) inside) in
         cell_of x p z (omega arith) (omega arith) ∙ (ap (λ n. Some (record { byte = n; x = x })) byte ∙ ap Some (sym b.is))
 
     -- and isn't founded
@@ -62,15 +64,18 @@ module _ (limits : Limits) (t : Tables) (now : ℕ) (flaw : Flaw) (s : Sound t) 
     still_past None after none = ap (direct_cell x p) after_x ∙ (by_brings (base_same same.heard_or) (brings t e x w z row after_x))
     still_past (Some q) after none = absurd (none_founded q none (rep_from t e x (t.representation x) q refl after))
 
-  direct_grows : (r p : ℕ) (q : Option Exchange) (cell : Cell) → t.representation r ≡ None → t.exchange r ≡ q → direct_cell r p q ≡ Some cell → cell_by now_on r p (now_on.representation r) ≡ Some cell
+  direct_grows : (r p : ℕ) (q : Option Exchange) (cell : Cell) → t.representation r ≡ None → t.exchange r ≡ q → direct_cell r p q ≡ Some cell →
+      cell_by now_on r p (now_on.representation r) ≡ Some cell
   direct_grows r p None cell none row h = absurd (none_some cell h)
   direct_grows r p (Some w) cell none row h =
       let g = is_on t e r w row in
       still_past r p w g.u cell row g.same g.row (byte_of r p w cell h) (now_on.representation r) refl none
 
-  kept_grows : (r p : ℕ) (v : Representation) (q : Option Representation) (cell : Cell) → t.representation r ≡ Some v → now_on.representation r ≡ q → v.body p ≡ Some cell → cell_by now_on r p q ≡ Some cell
+  kept_grows : (r p : ℕ) (v : Representation) (q : Option Representation) (cell : Cell) → t.representation r ≡ Some v → now_on.representation r ≡ q →
+      v.body p ≡ Some cell → cell_by now_on r p q ≡ Some cell
   kept_grows r p v None cell there after h =
-      absurd (let stands : is_some (now_on.representation r) ≡ true = rep.stays t e r (t.representation r) (ap is_some there) in false_true (sym (ap is_some after) ∙ stands))
+      absurd (let stands : is_some (now_on.representation r) ≡ true = rep.stays t e r (t.representation r) (ap is_some there) in
+      false_true (sym (ap is_some after) ∙ stands))
   kept_grows r p v (Some q) cell there after h = bodies_are_kept limits t now flaw s ev goes r p cell v q there after h
 
   cell_grows : (r p : ℕ) (q : Option Representation) (cell : Cell) → t.representation r ≡ q → cell_by t r p q ≡ Some cell → body_of now_on r p ≡ Some cell
@@ -83,12 +88,14 @@ module _ (limits : Limits) (t : Tables) (now : ℕ) (flaw : Flaw) (s : Sound t) 
 denied_grows : (t : Tables) (e : Entry) → Grows t (after_denied t e)
 denied_grows t e r at x bytes delivers n lt = delivers n lt
 
-by_denial : (limits : Limits) (contents : Contents) (h : History) (e : Entry) (b : Bool) → is_denied e.acts ≡ b → Sound (tables contents h) → IsOwed limits (tables contents h) e → Grows (tables contents h) (tables contents (e ∷ h))
+by_denial : (limits : Limits) (contents : Contents) (h : History) (e : Entry) (b : Bool) → is_denied e.acts ≡ b → Sound (tables contents h) →
+    IsOwed limits (tables contents h) e → Grows (tables contents h) (tables contents (e ∷ h))
 by_denial limits contents h e true denied s owed = subst (Grows (tables contents h)) (denied_tables contents h e denied) (denied_grows (tables contents h) e)
 by_denial limits contents h e false accepted s owed =
     let t = tables contents h in
     subst (Grows t) (next_tables contents h e accepted)
-    (of_real limits t e (λ z. Grows t (after_accepted t z)) owed accepted (λ going real. grows limits t e.now (Rattle.hc_model.specs.Flaws.flaw_in e.acts) s e.event going))
+    (of_real limits t e (λ z. Grows t (after_accepted t z)) owed accepted
+    (λ going real. grows limits t e.now (Rattle.hc_model.specs.Flaws.flaw_in e.acts) s e.event going))
 
 -- What a body has stays, at each entry of a run.
 pub bodies_grow_in_runs : BodiesGrowInRuns

@@ -33,14 +33,16 @@ some_span : (x : Option Span) (first last : ℕ) → begins_at x first last ≡ 
 some_span None first last h = absurd (false_true h)
 some_span (Some span) first last h = (span, refl)
 
-part_by : (k : Consumer) (w : Exchange) (response : Response) (asked : RangeSpec) (z : Option ContentRange) → range_of k.request ≡ Some asked → brings_part response.status ≡ true → content_range_of response.fields ≡ z → fits_part asked z ≡ true → IsWantedPart k w response
+part_by : (k : Consumer) (w : Exchange) (response : Response) (asked : RangeSpec) (z : Option ContentRange) → range_of k.request ≡ Some asked →
+    brings_part response.status ≡ true → content_range_of response.fields ≡ z → fits_part asked z ≡ true → IsWantedPart k w response
 part_by k w response asked (Some (range.Part first last (Some total))) is status at h =
     let span = some_span (resolved_span asked total) first last h in
     let reported : founded_total w response ≡ Some total = rw (status, at) refl in
     record { span = span.0; wanted_is = ap (λ q. wanted_of q (founded_total w response)) is ∙ (ap (wanted_of (Some asked)) reported ∙ ap wanted_part span.1) }
 part_by k w response asked _ is status at h = absurd (false_true h)
 
-fits_by : (k : Consumer) (w : Exchange) (response : Response) (z : Option RangeSpec) → range_of k.request ≡ z → brings_part response.status ≡ true → fits_to_found z response ≡ true → IsWantedPart k w response
+fits_by : (k : Consumer) (w : Exchange) (response : Response) (z : Option RangeSpec) → range_of k.request ≡ z → brings_part response.status ≡ true →
+    fits_to_found z response ≡ true → IsWantedPart k w response
 fits_by k w response None is status h = absurd (false_true h)
 fits_by k w response (Some asked) is status h = part_by k w response asked (content_range_of response.fields) is status refl (and_right _ _ h)
 
@@ -53,7 +55,8 @@ module _ (step : Step) (m : Measures step.tables) (real : IsReal step.limits ste
   abbrev now_on : Tables
   now_on = after_accepted t e
 
-  module _ (x : ℕ) (w z : Exchange) (is_row : t.exchange x ≡ Some w) (same : IsSame t e x w z) (after_x : now_on.exchange x ≡ Some z) (on : z.is_open ≡ true) (got : IsHeaded t e x w z) where
+  module _ (x : ℕ) (w z : Exchange) (is_row : t.exchange x ≡ Some w) (same : IsSame t e x w z) (after_x : now_on.exchange x ≡ Some z)
+      (on : z.is_open ≡ true) (got : IsHeaded t e x w z) where
     new_parts : (w.is_open ≡ true) × (w.head ≡ None)
     new_parts = let new = is_new limits t now flaw s ev goes x got.response w got.at is_row in (new.is_open, new.bare)
 
@@ -77,7 +80,8 @@ module _ (step : Step) (m : Measures step.tables) (real : IsReal step.limits ste
 
     no_opening : (a : Option Opening) → opening_in e.acts ≡ a → a ≡ None
     no_opening None is = refl
-    no_opening (Some q) is = let opened = is_opened step q is in absurd (let no : event.Head x got.response ≡ event.Poll q.c opened.want = sym got.at ∙ opened.at in cc)
+    no_opening (Some q) is = let opened = is_opened step q is in
+        absurd (let no : event.Head x got.response ≡ event.Poll q.c opened.want = sym got.at ∙ opened.at in cc)
 
     -- WHO KEEPS IT
 
@@ -95,7 +99,8 @@ module _ (step : Step) (m : Measures step.tables) (real : IsReal step.limits ste
       u_is =
           let going = is_kept t e w.c k waiter.row in
           let one : going.u ≡ u = same_row (now_on.consumer w.c) going.u u going.row u_row in
-          settled step m real w.c k (consumer_acted t e w.c (consumer_heard t e w.c ev k)) u (starts_over t e w.c k) refl (stays_on step real.stand w.c x got.response w k waiter got.at binds) (going.is ∙ one)
+          settled step m real w.c k (consumer_acted t e w.c (consumer_heard t e w.c ev k)) u (starts_over t e w.c k) refl
+          (stays_on step real.stand w.c x got.response w k waiter got.at binds) (going.is ∙ one)
 
       heard_own : (consumer_heard t e w.c ev k).own ≡ Some x
       heard_own = ap (λ (q : Consumer). q.own) heard_is ∙ rw unshared waiter.own
@@ -107,7 +112,9 @@ module _ (step : Step) (m : Measures step.tables) (real : IsReal step.limits ste
       opened_own = ap (λ a. (by_opening t w.c a (waiting t e w.c (consumer_heard t e w.c ev k))).own) (no_opening (opening_in e.acts) refl) ∙ heard_own
 
       own_if : own_after t e w.c (place_by_case x got.response w k (case_at t e)) (Some x) ≡ Some x → u.own ≡ Some x
-      own_if stays = sym (ap (λ (q : Consumer). q.own) u_is) ∙ (ap (λ a. own_after t e w.c a (by_opening t w.c (opening_in e.acts) (waiting t e w.c (consumer_heard t e w.c ev k))).own) heard_place ∙ (ap (own_after t e w.c (place_by_case x got.response w k (case_at t e))) opened_own ∙ stays))
+      own_if stays = sym (ap (λ (q : Consumer). q.own) u_is) ∙
+          (ap (λ a. own_after t e w.c a (by_opening t w.c (opening_in e.acts) (waiting t e w.c (consumer_heard t e w.c ev k))).own) heard_place ∙
+          (ap (own_after t e w.c (place_by_case x got.response w k (case_at t e))) opened_own ∙ stays))
 
       no_head : cause_of_head t e w.c ev ≡ None
       no_head = ap (cause_of_head t e w.c) got.at ∙ by_test (is_for (t.exchange x) w.c)
@@ -118,7 +125,8 @@ module _ (step : Step) (m : Measures step.tables) (real : IsReal step.limits ste
 
     -- JOINED
 
-    module _ (r : ℕ) (v p : Representation) (joins : is_joining (case_at t e) ≡ true) (aim : w.aim ≡ Some r) (kept : IsKept t e r v p) (after : now_on.representation r ≡ Some p) where
+    module _ (r : ℕ) (v p : Representation) (joins : is_joining (case_at t e) ≡ true) (aim : w.aim ≡ Some r) (kept : IsKept t e r v p)
+        (after : now_on.representation r ≡ Some p) where
       join_binds : (is_founding (case_at t e) || is_joining (case_at t e)) ≡ true
       join_binds = or_right _ _ joins
 
@@ -138,12 +146,14 @@ module _ (step : Step) (m : Measures step.tables) (real : IsReal step.limits ste
           let number : is_number w.aim r ≡ true = ap (λ a. is_number a r) aim ∙ (let test : nat_eq r r ≡ true = grind (arith, nat_tests) in test) in
           let updates_it : updates t e r w v ≡ true = and_both _ _ (and_both _ _ (updating (case_at t e) joins) number) (ap not quiet) in
           let writes : (with_renewed_head t e x got.response w v).writer ≡ Some x = rw (joins, resumed) refl in
-          let heard_row : (representation_heard t e r ev v).writer ≡ Some x = ap (λ a. (representation_heard t e r a v).writer) got.at ∙ (ap (λ a. (representation_after_head t e r x got.response a v).writer) is_row ∙ (rw updates_it writes)) in
+          let heard_row : (representation_heard t e r ev v).writer ≡ Some x = ap (λ a. (representation_heard t e r a v).writer) got.at ∙
+          (ap (λ a. (representation_after_head t e r x got.response a v).writer) is_row ∙ (rw updates_it writes)) in
           let writer : p.writer ≡ Some x = sym (ap (λ (q : Representation). q.writer) kept.is) ∙ heard_row in
           let parts = or_false v.is_lost (loses_in r e.acts) quiet in
           sound.shared (written_by now_on p x (kept.lost_is ∙ rw (parts.0, parts.1) refl) writer (ap is_open after_x ∙ on)) writer
 
-      unshared_by : (g : Option HeadCase) → is_joining g ≡ true → is_resumed t e got.response w (row_of t w.aim) ≡ false → becomes_shared t e got.response w g ≡ false
+      unshared_by : (g : Option HeadCase) → is_joining g ≡ true → is_resumed t e got.response w (row_of t w.aim) ≡ false →
+          becomes_shared t e got.response w g ≡ false
       unshared_by (Some case.FirstJoins) h off = off
       unshared_by (Some case.LaterJoins) h off = off
       unshared_by _ h off = absurd (false_true h)
@@ -151,25 +161,33 @@ module _ (step : Step) (m : Measures step.tables) (real : IsReal step.limits ste
       kept_had : becomes_shared t e got.response w (case_at t e) ≡ false → IsHad now_on r p x
       kept_had unshared =
           let at : k.place ≡ place.Bound r stood.0 stood.1 stood.2 = stood.3 in
-          let off : is_written t v ≡ false = not_so _ (λ written. unwritten step w.c x k w waiter r stood.0 stood.1 stood.2 v v.writer at kept.row written refl) in
+          let off : is_written t v ≡ false =
+          not_so _ (λ written. unwritten step w.c x k w waiter r stood.0 stood.1 stood.2 v v.writer at kept.row written refl) in
           let exclusive_writers = waits_undue step r w.c x stood.0 stood.1 stood.2 v k w waiter at kept.row in
-          let placed : place_by_case x got.response w k (case_at t e) ≡ place.Bound r stood.0 stood.1 stood.2 = joins_place step real.stand x got.response w k (case_at t e) joins ∙ at in
+          let placed : place_by_case x got.response w k (case_at t e) ≡ place.Bound r stood.0 stood.1 stood.2 =
+          joins_place step real.stand x got.response w k (case_at t e) joins ∙ at in
           let unlosing : loses_group t e r v ≡ false = not_so _ (λ h. false_true (sym off ∙ and_right _ _ h)) in
-          let stays : own_after t e w.c (place_by_case x got.response w k (case_at t e)) (Some x) ≡ Some x = ap (λ a. own_after t e w.c a (Some x)) placed ∙ (ap (λ a. left_to t e w.c r a (Some x)) kept.row ∙ rw unlosing refl) in
-          own_had step m real r w.c x stood.0 stood.1 stood.2 k (u join_binds unshared) v p waiter.row at kept.row kept (own_open_is t k x (record { own = waiter.own; w = w; row = is_row; opened = waiter.was_open })) exclusive_writers.0 off exclusive_writers.1 (u_row join_binds unshared) (u_place join_binds unshared ∙ placed) w z same after_x on (u_is join_binds unshared) (own_if join_binds unshared stays) (no_head join_binds unshared)
+          let stays : own_after t e w.c (place_by_case x got.response w k (case_at t e)) (Some x) ≡ Some x =
+          ap (λ a. own_after t e w.c a (Some x)) placed ∙ (ap (λ a. left_to t e w.c r a (Some x)) kept.row ∙ rw unlosing refl) in
+          own_had step m real r w.c x stood.0 stood.1 stood.2 k (u join_binds unshared) v p waiter.row at kept.row kept
+          (own_open_is t k x (record { own = waiter.own; w = w; row = is_row; opened = waiter.was_open })) exclusive_writers.0 off exclusive_writers.1
+          (u_row join_binds unshared) (u_place join_binds unshared ∙ placed) w z same after_x on (u_is join_binds unshared)
+          (own_if join_binds unshared stays) (no_head join_binds unshared)
 
       joined_had : IsHad now_on r p x
       joined_had = elim (bool_cases (is_resumed t e got.response w (row_of t w.aim))) [
         | inr off ↦ kept_had (unshared_by (case_at t e) joins off)
         | inl resumed ↦
-            let at_v : (resumes t got.response w v && not (v.is_lost || has_loss e.acts)) ≡ true = sym (ap (is_resumed t e got.response w) (ap (row_of t) aim ∙ kept.row)) ∙ resumed in
+            let at_v : (resumes t got.response w v && not (v.is_lost || has_loss e.acts)) ≡ true =
+            sym (ap (is_resumed t e got.response w) (ap (row_of t) aim ∙ kept.row)) ∙ resumed in
             let quiet = or_false v.is_lost (has_loss e.acts) (not_true (v.is_lost || has_loss e.acts) (and_right _ _ at_v)) in
             resumed_had (and_left _ _ at_v) (both_false v.is_lost (loses_in r e.acts) quiet.0 (lossless_none r e.acts quiet.1))
       ]
 
     -- FOUNDED
 
-    module _ (p : Representation) (founding : is_founding (case_at t e) ≡ true) (made : new_representation x e got.response w ≡ p) (after : now_on.representation x ≡ Some p) where
+    module _ (p : Representation) (founding : is_founding (case_at t e) ≡ true) (made : new_representation x e got.response w ≡ p)
+        (after : now_on.representation x ≡ Some p) where
       found_binds : (is_founding (case_at t e) || is_joining (case_at t e)) ≡ true
       found_binds = or_left _ _ founding
 
@@ -179,18 +197,25 @@ module _ (step : Step) (m : Measures step.tables) (real : IsReal step.limits ste
           let writer : p.writer ≡ Some x = sym (ap (λ (q : Representation). q.writer) made) ∙ rw off refl in
           sound.shared (written_by now_on p x (sym (ap (λ (q : Representation). q.is_lost) made)) writer (ap is_open after_x ∙ on)) writer
 
-      part_had : case_at t e ≡ Some case.FoundsRange → brings_part got.response.status ≡ true → fits_asker (t.consumer w.c) got.response ≡ true → IsHad now_on x p x
+      part_had : case_at t e ≡ Some case.FoundsRange → brings_part got.response.status ≡ true → fits_asker (t.consumer w.c) got.response ≡ true →
+          IsHad now_on x p x
       part_had is status fits =
           let part = fits_by k w got.response (range_of k.request) refl status (sym (ap (λ q. fits_asker q got.response) waiter.row) ∙ fits) in
-          let placed : place_by_case x got.response w k (case_at t e) ≡ place.Bound x part.span.lo (Some part.span.hi) by.Founding = ap (place_by_case x got.response w k) is ∙ ap (bound_to_wanted x by.Founding (place.Direct x)) part.wanted_is in
+          let placed : place_by_case x got.response w k (case_at t e) ≡ place.Bound x part.span.lo (Some part.span.hi) by.Founding =
+          ap (place_by_case x got.response w k) is ∙ ap (bound_to_wanted x by.Founding (place.Direct x)) part.wanted_is in
           let unshared : becomes_shared t e got.response w (case_at t e) ≡ false = ap (becomes_shared t e got.response w) is in
-          let stays : own_after t e w.c (place_by_case x got.response w k (case_at t e)) (Some x) ≡ Some x = ap (λ a. own_after t e w.c a (Some x)) placed ∙ ap (λ a. left_to t e w.c x a (Some x)) unfounded in
+          let stays : own_after t e w.c (place_by_case x got.response w k (case_at t e)) (Some x) ≡ Some x =
+          ap (λ a. own_after t e w.c a (Some x)) placed ∙ ap (λ a. left_to t e w.c x a (Some x)) unfounded in
           let undue = founder_undue step real.stand x w.c got.response w k got.at is_row founding waiter waiter.at in
           let stands : (u found_binds unshared).place ≡ place.Bound x part.span.lo (Some part.span.hi) by.Founding = u_place found_binds unshared ∙ placed in
-          let none = due_none t e w.c k (consumer_acted t e w.c (consumer_heard t e w.c ev k)) (u found_binds unshared) (u_is found_binds unshared) (ap reads stands) undue.0 undue.1 in
-          let alone : came_alone now_on (place.Bound x part.span.lo (Some part.span.hi) by.Founding) ≡ true = ap (λ q. brings_part (status_in q)) after ∙ (sym (ap (λ (q : Representation). brings_part q.head.status) made) ∙ status) in
-          sound.own w.c (u found_binds unshared) (sound.is_bound part.span.lo (Some part.span.hi) by.Founding (u_row found_binds unshared) stands) (own_open_is now_on (u found_binds unshared) x (record { own = own_if found_binds unshared stays; w = z; row = after_x; opened = on })) none
-          (sound.first (sym (ap (λ (q : Representation). q.is_lost) made)) (sound.first (u found_binds unshared) part.span.lo (Some part.span.hi) by.Founding (u_row found_binds unshared) stands alone))
+          let none = due_none t e w.c k (consumer_acted t e w.c (consumer_heard t e w.c ev k)) (u found_binds unshared) (u_is found_binds unshared)
+          (ap reads stands) undue.0 undue.1 in
+          let alone : came_alone now_on (place.Bound x part.span.lo (Some part.span.hi) by.Founding) ≡ true = ap (λ q. brings_part (status_in q)) after ∙
+          (sym (ap (λ (q : Representation). brings_part q.head.status) made) ∙ status) in
+          sound.own w.c (u found_binds unshared) (sound.is_bound part.span.lo (Some part.span.hi) by.Founding (u_row found_binds unshared) stands)
+          (own_open_is now_on (u found_binds unshared) x (record { own = own_if found_binds unshared stays; w = z; row = after_x; opened = on })) none
+          (sound.first (sym (ap (λ (q : Representation). q.is_lost) made))
+          (sound.first (u found_binds unshared) part.span.lo (Some part.span.hi) by.Founding (u_row found_binds unshared) stands alone))
 
       by_case : (g : HeadCase) → FoundingBy (head_view t (has_loss e.acts) w got.response) g → case_at t e ≡ Some g → IsHad now_on x p x
       by_case _ (cases.whole way h l) is = whole_had h
@@ -198,7 +223,8 @@ module _ (step : Step) (m : Measures step.tables) (real : IsReal step.limits ste
       by_case _ (cases.replaced way h l) is = whole_had h
 
       founded_had : IsHad now_on x p x
-      founded_had = by_case (head_case (head_view t (has_loss e.acts) w got.response)) (founding_by (head_view t (has_loss e.acts) w got.response) (sym (ap is_founding case_here) ∙ founding)) case_here
+      founded_had = by_case (head_case (head_view t (has_loss e.acts) w got.response))
+          (founding_by (head_view t (has_loss e.acts) w got.response) (sym (ap is_founding case_here) ∙ founding)) case_here
 
     -- EITHER
 
@@ -207,12 +233,15 @@ module _ (step : Step) (m : Measures step.tables) (real : IsReal step.limits ste
     own_by r p here after (founded response y none also row_too founding made) =
         let answer : response ≡ got.response = cc in
         let one : y ≡ w = same_row (t.exchange x) y w (sym (ap t.exchange here) ∙ row_too) is_row in
-        let made_x : new_representation x e got.response w ≡ p = ap (λ (a : Exchange). new_representation x e got.response a) (sym one) ∙ (ap (λ (a : Response). new_representation x e a y) (sym answer) ∙ (ap (λ (n : ℕ). new_representation n e response y) (sym here) ∙ made)) in
+        let made_x : new_representation x e got.response w ≡ p = ap (λ (a : Exchange). new_representation x e got.response a) (sym one) ∙
+        (ap (λ (a : Response). new_representation x e a y) (sym answer) ∙ (ap (λ (n : ℕ). new_representation n e response y) (sym here) ∙ made)) in
         subst (λ n. IsHad now_on n p x) (sym here) (founded_had p founding made_x (sym (ap now_on.representation here) ∙ after))
 
-    join_by : (r : ℕ) (p : Representation) → is_joining (case_at t e) ≡ true → w.aim ≡ Some r → now_on.representation r ≡ Some p → RepFrom t e r p → IsHad now_on r p x
+    join_by : (r : ℕ) (p : Representation) → is_joining (case_at t e) ≡ true → w.aim ≡ Some r → now_on.representation r ≡ Some p → RepFrom t e r p →
+        IsHad now_on r p x
     join_by r p joins aim after (was v kept) = joined_had r v p joins aim kept after
-    join_by r p joins aim after (founded response y none also row_too founding made) = absurd (false_true (sym (ap is_some none) ∙ s.numbered.names.aims x r w is_row aim))
+    join_by r p joins aim after (founded response y none also row_too founding made) =
+        absurd (false_true (sym (ap is_some none) ∙ s.numbered.names.aims x r w is_row aim))
 
     aim_some : (a : Option ℕ) → w.aim ≡ a → is_joining (case_at t e) ≡ true → (q : ℕ) × (w.aim ≡ Some q)
     aim_some None aim joins =
@@ -225,7 +254,8 @@ module _ (step : Step) (m : Measures step.tables) (real : IsReal step.limits ste
       | inl joins ↦
           let aim = aim_some w.aim refl joins in
           let joined : (if is_joining (case_at t e) then w.aim else w.joined) ≡ Some aim.0 = rw joins aim.1 in
-          join_by r p joins (aim.1 ∙ ap Some (sym (ap (λ (n : Option ℕ). unwrap_or n x) (got.joined_is ∙ joined)) ∙ of_r)) after (rep_from t e r (t.representation r) p refl after)
+          join_by r p joins (aim.1 ∙ ap Some (sym (ap (λ (n : Option ℕ). unwrap_or n x) (got.joined_is ∙ joined)) ∙ of_r)) after
+          (rep_from t e r (t.representation r) p refl after)
       | inr off ↦
           let joined : (if is_joining (case_at t e) then w.aim else w.joined) ≡ None = rw off ((s.waits.headless x w is_row new_parts.1).1) in
           own_by r p (sym (sym (ap (λ (n : Option ℕ). unwrap_or n x) (got.joined_is ∙ joined)) ∙ of_r)) after (rep_from t e r (t.representation r) p refl after)
@@ -233,23 +263,28 @@ module _ (step : Step) (m : Measures step.tables) (real : IsReal step.limits ste
 
   -- AFTER AN ENTRY
 
-  headed_by : (r x : ℕ) (z : Exchange) (p : Representation) → now_on.exchange x ≡ Some z → z.is_open ≡ true → is_some z.head ≡ true → family x z ≡ r → now_on.representation r ≡ Some p → ExchangeFrom t e x z → IsHad now_on r p x
+  headed_by : (r x : ℕ) (z : Exchange) (p : Representation) → now_on.exchange x ≡ Some z → z.is_open ≡ true → is_some z.head ≡ true → family x z ≡ r →
+      now_on.representation r ≡ Some p → ExchangeFrom t e x z → IsHad now_on r p x
   headed_by r x z p after_x on some of_r after (exchange.new q none opens here made) = absurd (false_true (ap (λ (a : Exchange). is_some a.head) made ∙ some))
   headed_by r x z p after_x on some of_r after (exchange.was w row same) = by_heard same.heard_or
     where
       still : (z.head ≡ w.head) → family x w ≡ r → RepFrom t e r p → IsHad now_on r p x
-      still head_is fam (was v kept) = was_headed step m real r x w z v p kept.row kept row (sym (ap (λ (a : Option Response). is_some a) head_is) ∙ some) fam same after_x on
-      still head_is fam (founded response y none here also founding made) = absurd (founder_not step m x r w response y row (sym (ap (λ (a : Option Response). is_some a) head_is) ∙ some) fam none here also)
+      still head_is fam (was v kept) =
+          was_headed step m real r x w z v p kept.row kept row (sym (ap (λ (a : Option Response). is_some a) head_is) ∙ some) fam same after_x on
+      still head_is fam (founded response y none here also founding made) =
+          absurd (founder_not step m x r w response y row (sym (ap (λ (a : Option Response). is_some a) head_is) ∙ some) fam none here also)
 
       by_heard : ((z.head ≡ w.head) × (z.joined ≡ w.joined)) ⊎ IsHeaded t e x w z → IsHad now_on r p x
       by_heard (inl all) = still all.0 (sym (ap (λ (n : Option ℕ). unwrap_or n x) all.1) ∙ of_r) (rep_from t e r (t.representation r) p refl after)
       by_heard (inr got) = now_headed x w z row same after_x on got r p of_r after
 
-  bare_by : (r x : ℕ) (z : Exchange) (p : Representation) → now_on.exchange x ≡ Some z → z.is_open ≡ true → z.head ≡ None → z.aim ≡ Some r → route_of z.need ≡ route.Hole → now_on.representation r ≡ Some p → ExchangeFrom t e x z → IsHad now_on r p x
+  bare_by : (r x : ℕ) (z : Exchange) (p : Representation) → now_on.exchange x ≡ Some z → z.is_open ≡ true → z.head ≡ None → z.aim ≡ Some r →
+      route_of z.need ≡ route.Hole → now_on.representation r ≡ Some p → ExchangeFrom t e x z → IsHad now_on r p x
   bare_by r x z p after_x on bare aim hole after (exchange.was w row same) = bare_had step m real r x w z p row same after_x on bare aim hole after
   bare_by r x z p after_x on bare aim hole after (exchange.new q none opens here made) = new_had step m real r x q z p opens made after_x on bare aim hole after
 
   -- An open exchange about a representation is that of its writing, or of the one the exclusive writer.
   pub had_kept : (r x : ℕ) (p : Representation) → now_on.representation r ≡ Some p → IsAbout now_on r x → IsHad now_on r p x
   had_kept r x p after (sound.headed z row on some of_r there) = headed_by r x z p row on some of_r after (exchange_from t e x (t.exchange x) z refl row)
-  had_kept r x p after (sound.asks z from_at to_at row on bare needs aim) = bare_by r x z p row on bare aim (ap route_of needs) after (exchange_from t e x (t.exchange x) z refl row)
+  had_kept r x p after (sound.asks z from_at to_at row on bare needs aim) =
+      bare_by r x z p row on bare aim (ap route_of needs) after (exchange_from t e x (t.exchange x) z refl row)

@@ -7,10 +7,12 @@ use Rattle.hc_effects.proofs.RepFrom.{IsKept}
 module _ (t : Tables) (e : Entry) (r : ℕ) (v : Representation) where
   pub data HeadFrom (u : Representation) : Type 0 where
     still : u.head ≡ v.head → HeadFrom u
-    updated : (x : ℕ) (response : Response) (w : Exchange) → e.event ≡ event.Head x response → t.exchange x ≡ Some w → u.head ≡ updated_head e.now response w v.head → HeadFrom u
+    updated : (x : ℕ) (response : Response) (w : Exchange) → e.event ≡ event.Head x response → t.exchange x ≡ Some w →
+        u.head ≡ updated_head e.now response w v.head → HeadFrom u
     reported : (n : ℕ) → u.head ≡ record v.head { total = option_or v.head.total (Some n) } → HeadFrom u
 
-  headed_from : (x : ℕ) (response : Response) (o : Option Exchange) → e.event ≡ event.Head x response → t.exchange x ≡ o → HeadFrom (representation_after_head t e r x response o v)
+  headed_from : (x : ℕ) (response : Response) (o : Option Exchange) → e.event ≡ event.Head x response → t.exchange x ≡ o →
+      HeadFrom (representation_after_head t e r x response o v)
   headed_from x response None here row = still refl
   headed_from x response (Some w) here row = by_test (updates t e r w v)
     where

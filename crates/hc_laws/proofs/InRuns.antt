@@ -61,7 +61,8 @@ module _ (limits : Limits) (contents : Contents) (may : may_begin limits content
       let held = turned_in_runs limits contents h may run.0 in
       barrier_is_kept limits contents h e (sound_run h run.0) held.one held.turns before run.1)
 
-  others_stay : (h : History) (e : Entry) → IsRun limits contents (e ∷ h) → is_denied e.acts ≡ false → KeepsOthers (tables contents h) (tables contents (e ∷ h)) e
+  others_stay : (h : History) (e : Entry) → IsRun limits contents (e ∷ h) → is_denied e.acts ≡ false →
+      KeepsOthers (tables contents h) (tables contents (e ∷ h)) e
   others_stay h e run accepted =
       let held = turned_in_runs limits contents h may run.0 in
       subst (λ u. KeepsOthers (tables contents h) u e) (next_tables contents h e accepted)
@@ -71,7 +72,8 @@ pub one_key_in_runs : OfRuns IsOfOneKey
 one_key_in_runs limits contents h may run = (turned_in_runs limits contents h may run).one
 
 pub turns_in_runs : OfRuns HasOneTurn
-turns_in_runs limits contents h may run = let held = turned_in_runs limits contents h may run in turns_are_one (tables contents h) (runs_are_sound limits contents h may run) held.one held.turns
+turns_in_runs limits contents h may run = let held = turned_in_runs limits contents h may run in
+    turns_are_one (tables contents h) (runs_are_sound limits contents h may run) held.one held.turns
 
 pub dooms_in_runs : DoomsInRuns
 dooms_in_runs limits contents h may run = (barred limits contents may h run).founded

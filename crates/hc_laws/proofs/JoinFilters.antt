@@ -46,7 +46,9 @@ none_if b xs none = grind (arith, nat_tests)
 no_more : (o : Option ℕ) (b : Bool) (xs : List ℕ) → xs ≡ [] → o ≡ option_or o (first (if b then xs else []))
 no_more o b xs none = sym (ap (option_or o) (none_if b xs none) ∙ or_none o)
 
-heard_joined : (t : Tables) (e : Entry) (x : ℕ) (w : Exchange) (ev : Event) → t.exchange x ≡ Some w → denial t ev ≡ None → (w.head ≡ None → w.joined ≡ None) → (exchange_heard t e x ev w).joined ≡ option_or w.joined (first (if is_joining (case_at t e) then joining_in t x ev (Some w) else []))
+heard_joined : (t : Tables) (e : Entry) (x : ℕ) (w : Exchange) (ev : Event) → t.exchange x ≡ Some w → denial t ev ≡ None →
+    (w.head ≡ None → w.joined ≡ None) →
+    (exchange_heard t e x ev w).joined ≡ option_or w.joined (first (if is_joining (case_at t e) then joining_in t x ev (Some w) else []))
 unfolding refusals.refusal_of
 heard_joined t e x w (event.Head y response) row h late = grind (arith, nat_tests)
 heard_joined t e x w (event.Piece y bytes) row h late = grind (arith, nat_tests)
@@ -58,20 +60,25 @@ heard_joined t e x w _ row h late = no_more w.joined _ _ refl
 no_joining : (t : Tables) (x : ℕ) (ev : Event) → joining_in t x ev None ≡ []
 no_joining t x ev = grind (arith, nat_tests)
 
-joined_after : (t : Tables) (e : Entry) (x : ℕ) (o : Option Exchange) → t.exchange x ≡ o → denial t e.event ≡ None → JoinsLate o → joined (exchange_after t e x o) ≡ option_or (joined o) (first (if is_joining (case_at t e) then joining_in t x e.event o else []))
+joined_after : (t : Tables) (e : Entry) (x : ℕ) (o : Option Exchange) → t.exchange x ≡ o → denial t e.event ≡ None → JoinsLate o →
+    joined (exchange_after t e x o) ≡ option_or (joined o) (first (if is_joining (case_at t e) then joining_in t x e.event o else []))
 unfolding exchange_after
-joined_after t e x None row h late = made_joined t e x (opening_in e.acts) ∙ sym (none_if (is_joining (case_at t e)) (joining_in t x e.event None) (no_joining t x e.event))
+joined_after t e x None row h late = made_joined t e x (opening_in e.acts) ∙
+    sym (none_if (is_joining (case_at t e)) (joining_in t x e.event None) (no_joining t x e.event))
 joined_after t e x (Some w) row h late = heard_joined t e x w e.event row h late
 
-joined_step : (limits : Limits) (t : Tables) (e : Entry) (x : ℕ) (b : Bool) → IsOwed limits t e → is_denied e.acts ≡ b → JoinsLate (t.exchange x) → joined ((after t e).exchange x) ≡ option_or (joined (t.exchange x)) (first (if_accepted e (joining_at x t e)))
+joined_step : (limits : Limits) (t : Tables) (e : Entry) (x : ℕ) (b : Bool) → IsOwed limits t e → is_denied e.acts ≡ b → JoinsLate (t.exchange x) →
+    joined ((after t e).exchange x) ≡ option_or (joined (t.exchange x)) (first (if_accepted e (joining_at x t e)))
 unfolding after
 joined_step limits t e x true owed denied late = rw denied (sym (or_none _))
 joined_step limits t e x false owed denied late = rw denied (joined_after t e x (t.exchange x) refl (goes limits t e owed denied) late)
 
-joins_are : (limits : Limits) (contents : Contents) (h : History) (x : ℕ) → IsRun limits contents h → joined ((tables contents h).exchange x) ≡ joined_of contents x h
+joins_are : (limits : Limits) (contents : Contents) (h : History) (x : ℕ) → IsRun limits contents h →
+    joined ((tables contents h).exchange x) ≡ joined_of contents x h
 unfolding tables
 joins_are limits contents h x run = by_entries limits contents (λ h. joined ((tables contents h).exchange x) ≡ joined_of contents x h) refl (λ h e run before.
-    first_more (each_after (λ t e. if_accepted e (joining_at x t e)) contents h) (if_accepted e (joining_at x (tables contents h) e)) _ _ before (joined_step limits (tables contents h) e x (is_denied e.acts) run.1 refl (joins_late contents h x))) h run
+    first_more (each_after (λ t e. if_accepted e (joining_at x t e)) contents h) (if_accepted e (joining_at x (tables contents h) e)) _ _ before
+    (joined_step limits (tables contents h) e x (is_denied e.acts) run.1 refl (joins_late contents h x))) h run
 
 pub exchanges_are_filtered : ExchangesAreFiltered
 exchanges_are_filtered limits contents h run = record {

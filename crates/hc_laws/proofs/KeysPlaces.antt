@@ -46,20 +46,25 @@ mute_evicted (r ∷ rs) rest mute = let m = mute_evicted rs rest mute in record 
 
 -- a head is shown by a poll, which then opens nothing and lets nobody wait; who reads nothing is shown what is current
 pub data IsShowing (t : Tables) (ev : Event) (s : Showing) (acts : List Act) : Type 0 where
-  showing : (want : ℕ) (k : Consumer) → ev ≡ event.Poll s.c want → t.consumer s.c ≡ Some k → (reads k.place ≡ false → current t k.request.key ≡ Some s.r) → opening_in acts ≡ None → ((d : ℕ) → wait_in d acts ≡ None) → IsShowing t ev s acts
+  showing : (want : ℕ) (k : Consumer) → ev ≡ event.Poll s.c want → t.consumer s.c ≡ Some k →
+      (reads k.place ≡ false → current t k.request.key ≡ Some s.r) → opening_in acts ≡ None → ((d : ℕ) → wait_in d acts ≡ None) → IsShowing t ev s acts
 
-shown_move : (t : Tables) (ev : Event) (c want : ℕ) (k : Consumer) (m : Move) (rest : List Act) (s : Showing) → ev ≡ event.Poll c want → t.consumer c ≡ Some k → IsNear t k m → IsMute rest → showing_in (acts_of c m ++ rest) ≡ Some s → IsShowing t ev s (acts_of c m ++ rest)
+shown_move : (t : Tables) (ev : Event) (c want : ℕ) (k : Consumer) (m : Move) (rest : List Act) (s : Showing) → ev ≡ event.Poll c want →
+    t.consumer c ≡ Some k → IsNear t k m → IsMute rest → showing_in (acts_of c m ++ rest) ≡ Some s → IsShowing t ev s (acts_of c m ++ rest)
 shown_move t ev c want k _ rest s at row (polls.shows r why head lo hi now) mute h =
     let is = some_inj _ s h in
     let c_is : c ≡ s.c = ap (λ (q : Showing). q.c) is in
-    showing want k (at ∙ ap (λ d. event.Poll d want) c_is) (ap t.consumer (sym c_is) ∙ row) (λ none. now none ∙ ap (λ (q : Showing). Some q.r) is) mute.opens mute.waits
+    showing want k (at ∙ ap (λ d. event.Poll d want) c_is) (ap t.consumer (sym c_is) ∙ row) (λ none. now none ∙ ap (λ (q : Showing). Some q.r) is)
+    mute.opens mute.waits
 shown_move t ev c want k _ rest s at row _ mute h = absurd (none_some s (sym mute.shows ∙ h))
 
-shown_said : (t : Tables) (now : ℕ) (ev : Event) (flaw : Flaw) (acts rest : List Act) (s : Showing) → IsSaid t now ev flaw acts → IsMute rest → showing_in (acts ++ rest) ≡ Some s → IsShowing t ev s (acts ++ rest)
+shown_said : (t : Tables) (now : ℕ) (ev : Event) (flaw : Flaw) (acts rest : List Act) (s : Showing) → IsSaid t now ev flaw acts → IsMute rest → showing_in
+    (acts ++ rest) ≡ Some s → IsShowing t ev s (acts ++ rest)
 shown_said t now ev flaw _ rest s (parts.does c want k m at row does near) mute h = shown_move t ev c want k m rest s at row near mute h
 shown_said t now ev flaw _ rest s _ mute h = absurd (none_some s (sym mute.shows ∙ h))
 
-shown_by : (limits : Limits) (t : Tables) (now : ℕ) (ev : Event) (flaw : Flaw) (acts : List Act) (s : Showing) → IsAnswer limits t now ev flaw acts → showing_in acts ≡ Some s → IsShowing t ev s acts
+shown_by : (limits : Limits) (t : Tables) (now : ℕ) (ev : Event) (flaw : Flaw) (acts : List Act) (s : Showing) → IsAnswer limits t now ev flaw acts →
+    showing_in acts ≡ Some s → IsShowing t ev s acts
 shown_by limits t now ev flaw _ s (parts.reported silent) h =
     let seen : Entry = record { now = now; event = ev; acts = answer_acts t now ev flaw ++ loss_acts flaw } in
     absurd (none_some s (sym (mute_evicted (evicted limits t now ev) _ (mute_loss flaw _ (mute_closes (closing t seen)))).shows ∙ h))
@@ -67,7 +72,8 @@ shown_by limits t now ev flaw _ s parts.asked h =
     let seen : Entry = record { now = now; event = ev; acts = answer_acts t now ev flaw ++ loss_acts flaw } in
     shown_said t now ev flaw (answer_acts t now ev flaw) _ s (said_is t now ev flaw) (mute_closed (closing t seen) _ (mute_lost flaw)) h
 
-pub shown_is : (limits : Limits) (t : Tables) (now : ℕ) (ev : Event) (flaw : Flaw) (s : Showing) → showing_in (accepted_acts limits t now ev flaw) ≡ Some s → IsShowing t ev s (accepted_acts limits t now ev flaw)
+pub shown_is : (limits : Limits) (t : Tables) (now : ℕ) (ev : Event) (flaw : Flaw) (s : Showing) → showing_in
+    (accepted_acts limits t now ev flaw) ≡ Some s → IsShowing t ev s (accepted_acts limits t now ev flaw)
 shown_is limits t now ev flaw s h = shown_by limits t now ev flaw _ s (answer_is limits t now ev flaw) h
 
 -- PLACES
@@ -120,13 +126,15 @@ module _ (limits : Limits) (t : Tables) (now : ℕ) (flaw : Flaw) (s : Sound t) 
         let has = one.exchanges.aims x r w at is in
         representation_stays t e r k.request.key (has.0, has.1, has.2 ∙ same)
 
-    founded_row : (x : ℕ) (w : Exchange) (response : Response) (o : Option Representation) → ev ≡ event.Head x response → t.exchange x ≡ Some w → is_founding (case_at t e) ≡ true → t.representation x ≡ o → HasRow u x w.request.key
+    founded_row : (x : ℕ) (w : Exchange) (response : Response) (o : Option Representation) → ev ≡ event.Head x response → t.exchange x ≡ Some w →
+        is_founding (case_at t e) ≡ true → t.representation x ≡ o → HasRow u x w.request.key
     unfolding representation_after
     founded_row x w response (Some v) at is founding there = representation_stays t e x w.request.key (v, there, one.exchanges.founded x w v is there)
     founded_row x w response None at is founding there =
         (new_representation x e response w, ap (representation_after t e x) there ∙ (ap (founded_at t e x) at ∙ rw (founding, eq-refl x, is) refl), refl)
 
-    founded : (x : ℕ) (w : Exchange) (response : Response) → ev ≡ event.Head x response → t.exchange x ≡ Some w → w.request.key ≡ k.request.key → is_founding (case_at t e) ≡ true → P x
+    founded : (x : ℕ) (w : Exchange) (response : Response) → ev ≡ event.Head x response → t.exchange x ≡ Some w → w.request.key ≡ k.request.key →
+        is_founding (case_at t e) ≡ true → P x
     founded x w response at is same founding =
         let has = founded_row x w response (t.representation x) at is founding refl in
         (has.0, has.1, has.2 ∙ same)
@@ -135,12 +143,14 @@ module _ (limits : Limits) (t : Tables) (now : ℕ) (flaw : Flaw) (s : Sound t) 
     to_wanted r how other (wanted.Interval span) has p = has
     to_wanted r how other _ has p = p
 
-    by_case : (x : ℕ) (w : Exchange) (response : Response) (o : Option HeadCase) → ev ≡ event.Head x response → t.exchange x ≡ Some w → w.request.key ≡ k.request.key → case_at t e ≡ o → PlaceIs P (place_by_case x response w k o)
+    by_case : (x : ℕ) (w : Exchange) (response : Response) (o : Option HeadCase) → ev ≡ event.Head x response → t.exchange x ≡ Some w →
+        w.request.key ≡ k.request.key → case_at t e ≡ o → PlaceIs P (place_by_case x response w k o)
     by_case x w response (Some case.Validated) at is same found = of_aim x w w.aim is same refl
     by_case x w response (Some case.FoundsWhole) at is same found = founded x w response at is same (ap is_founding found)
     by_case x w response (Some case.FirstReplaced) at is same found = founded x w response at is same (ap is_founding found)
     by_case x w response (Some case.FoundsRange) at is same found =
-        to_wanted x by.Founding (place.Direct x) (wanted_of (range_of k.request) (founded_total w response)) (founded x w response at is same (ap is_founding found)) tt
+        to_wanted x by.Founding (place.Direct x) (wanted_of (range_of k.request) (founded_total w response))
+        (founded x w response at is same (ap is_founding found)) tt
     by_case x w response (Some case.DirectBad) at is same found = tt
     by_case x w response (Some case.TurnBad) at is same found = tt
     by_case x w response (Some case.FirstBad) at is same found = tt
@@ -174,7 +184,8 @@ module _ (limits : Limits) (t : Tables) (now : ℕ) (flaw : Flaw) (s : Sound t) 
 
     fault_keyed : (x : ℕ) (o : Option Exchange) → IsKeyed (by_fault c x o k)
     fault_keyed x None = itself
-    fault_keyed x (Some w) = keyed_if (w.c == c && is_none w.head && not k.shown) _ k (λ mine. record { place = tt; own = owned k.own refl; request = refl }) itself
+    fault_keyed x (Some w) =
+        keyed_if (w.c == c && is_none w.head && not k.shown) _ k (λ mine. record { place = tt; own = owned k.own refl; request = refl }) itself
 
     heard_keyed : (f : Event) → ev ≡ f → IsKeyed (consumer_heard t e c f k)
     heard_keyed (event.Head x response) at = head_keyed x response (t.exchange x) at refl
@@ -247,7 +258,8 @@ module _ (limits : Limits) (t : Tables) (now : ℕ) (flaw : Flaw) (s : Sound t) 
     own_keyed _ own has is = is
 
     -- what it is shown, where it read nothing
-    shown_keyed : (p : Place) (o : Option Showing) → showing_in e.acts ≡ o → PlaceIs P p → (reads p ≡ false → (z : Showing) → showing_in e.acts ≡ Some z → z.c ≡ c → P z.r) → PlaceIs P (shown_place c o p)
+    shown_keyed : (p : Place) (o : Option Showing) → showing_in e.acts ≡ o → PlaceIs P p →
+        (reads p ≡ false → (z : Showing) → showing_in e.acts ≡ Some z → z.c ≡ c → P z.r) → PlaceIs P (shown_place c o p)
     shown_keyed p None is named_so now = named_so
     shown_keyed p (Some z) is named_so now = by_tests (z.c == c) (reads p) refl refl
       where
@@ -278,7 +290,8 @@ module _ (limits : Limits) (t : Tables) (now : ℕ) (flaw : Flaw) (s : Sound t) 
         let h = heard_keyed ev refl in
         let o = opening_keyed (waiting t e c heard) (waiting_keyed heard h) (opening_in e.acts) refl in
         record {
-          place = left_or (leaves_in c e.acts) (shown_place c (showing_in e.acts) opened.place) (shown_keyed opened.place (showing_in e.acts) refl o.place (λ none z is mine. shown_now z mine none (shown_is limits t now ev flaw z is)));
+          place = left_or (leaves_in c e.acts) (shown_place c (showing_in e.acts) opened.place)
+              (shown_keyed opened.place (showing_in e.acts) refl o.place (λ none z is mine. shown_now z mine none (shown_is limits t now ev flaw z is)));
           own = own_keyed heard.place opened.own h.place o.own;
           request = o.request;
         }
@@ -343,7 +356,8 @@ module _ (limits : Limits) (t : Tables) (now : ℕ) (flaw : Flaw) (s : Sound t) 
   place_row r key p q same is = subst (λ z. PlaceIs (λ r. HasRow u r key) z) same is
 
   bound_names : (r c : ℕ) (z : Consumer) → IsBound u r c z → HasRow u r z.request.key
-  bound_names r c z (is_bound lo hi how row at) = place_row r z.request.key z.place (place.Bound r lo hi how) at (names_its_key c (t.consumer c) z refl row).place
+  bound_names r c z (is_bound lo hi how row at) =
+      place_row r z.request.key z.place (place.Bound r lo hi how) at (names_its_key c (t.consumer c) z refl row).place
 
   own_names : (x : ℕ) (key : List ℕ) (o p : Option ℕ) → o ≡ p → OwnIs (λ x. HasExchange u x key) o → OwnIs (λ x. HasExchange u x key) p
   own_names x key o p same is = subst (λ z. OwnIs (λ x. HasExchange u x key) z) same is
@@ -364,7 +378,8 @@ module _ (limits : Limits) (t : Tables) (now : ℕ) (flaw : Flaw) (s : Sound t) 
 
   -- EXCHANGES
 
-  opener_kept : (d : ℕ) (key : List ℕ) (k : Consumer) → t.consumer d ≡ Some k → key ≡ k.request.key → (z : Consumer) × (u.consumer d ≡ Some z) × (key ≡ z.request.key)
+  opener_kept : (d : ℕ) (key : List ℕ) (k : Consumer) → t.consumer d ≡ Some k → key ≡ k.request.key → (z : Consumer) × (u.consumer d ≡ Some z) ×
+      (key ≡ z.request.key)
   opener_kept d key k row same = let z = consumer_stays d k row in (z.0, z.1, same ∙ z.2)
 
   opener_of : (x : ℕ) (z : Exchange) → keeps.WasExchange t e x z → (k : Consumer) × (u.consumer z.c ≡ Some k) × (z.request.key ≡ k.request.key)
@@ -377,7 +392,8 @@ module _ (limits : Limits) (t : Tables) (now : ℕ) (flaw : Flaw) (s : Sound t) 
       by_opening_of (keeps.opening want k at row same) =
           opener_kept z.c z.request.key k (ap (λ (y : Exchange). t.consumer y.c) made ∙ row) (ap (λ (y : Exchange). y.request.key) made ∙ same)
 
-  aim_row : (r : ℕ) (k : Consumer) (place : Place) (c : ℕ) → t.consumer c ≡ Some k → k.place ≡ place → aim_from t k.request.key place ≡ Some r → HasRow u r k.request.key
+  aim_row : (r : ℕ) (k : Consumer) (place : Place) (c : ℕ) → t.consumer c ≡ Some k → k.place ≡ place → aim_from t k.request.key place ≡ Some r →
+      HasRow u r k.request.key
   aim_row r k (place.Bound q lo hi how) c row at is =
       subst (λ n. HasRow u n k.request.key) (some_inj q r is) (representation_stays t e q k.request.key (one.consumers.bound q c k (is_bound lo hi how row at)))
   aim_row r k _ c row at is = now_current c k row r is
@@ -389,7 +405,8 @@ module _ (limits : Limits) (t : Tables) (now : ℕ) (flaw : Flaw) (s : Sound t) 
 
   aims_of : (x r : ℕ) (z : Exchange) → keeps.WasExchange t e x z → z.aim ≡ Some r → HasRow u r z.request.key
   aims_of x r z (keeps.was w row same) is =
-      representation_stays t e r z.request.key (let has = one.exchanges.aims x r w row (sym same.aim_is ∙ is) in (has.0, has.1, has.2 ∙ ap (λ (q : Request). q.key) (sym same.request_is)))
+      representation_stays t e r z.request.key
+      (let has = one.exchanges.aims x r w row (sym same.aim_is ∙ is) in (has.0, has.1, has.2 ∙ ap (λ (q : Request). q.key) (sym same.request_is)))
   aims_of x r z (keeps.new o is here made none) aims =
       let has = aim_of_new r o (opened_is limits t now ev flaw o is) (ap (λ (y : Exchange). y.aim) (sym made) ∙ aims) in
       (has.0, has.1, has.2 ∙ ap (λ (y : Exchange). y.request.key) (sym made))
@@ -400,7 +417,8 @@ module _ (limits : Limits) (t : Tables) (now : ℕ) (flaw : Flaw) (s : Sound t) 
 
   joined_of : (x r : ℕ) (z : Exchange) → keeps.WasExchange t e x z → z.joined ≡ Some r → HasRow u r z.request.key
   joined_of x r z (keeps.was w row same) is =
-      representation_stays t e r z.request.key (let has = joined_was x r w z row same.joined_is is in (has.0, has.1, has.2 ∙ ap (λ (q : Request). q.key) (sym same.request_is)))
+      representation_stays t e r z.request.key
+      (let has = joined_was x r w z row same.joined_is is in (has.0, has.1, has.2 ∙ ap (λ (q : Request). q.key) (sym same.request_is)))
   joined_of x r z (keeps.new o is here made none) joins = absurd (none_some r (ap (λ (y : Exchange). y.joined) (sym made) ∙ joins))
 
   founded_of : (r : ℕ) (z : Exchange) (v : Representation) → keeps.WasExchange t e r z → keeps.WasRow t e r v → v.key ≡ z.request.key
@@ -413,7 +431,8 @@ module _ (limits : Limits) (t : Tables) (now : ℕ) (flaw : Flaw) (s : Sound t) 
       absurd (none_some old (sym (s.numbered.lists.new_representations r (omega arith)) ∙ there))
   founded_of r z v (keeps.new o is here made none) (keeps.new_row response y there key writes) = absurd (none_some y (sym none ∙ there))
 
-  writer_was : (r x : ℕ) (old v : Representation) → t.representation r ≡ Some old → v.key ≡ old.key → keeps.WasWriter t e r old v → v.writer ≡ Some x → (w : Exchange) × (t.exchange x ≡ Some w) × (w.request.key ≡ v.key)
+  writer_was : (r x : ℕ) (old v : Representation) → t.representation r ≡ Some old → v.key ≡ old.key → keeps.WasWriter t e r old v → v.writer ≡ Some x →
+      (w : Exchange) × (t.exchange x ≡ Some w) × (w.request.key ≡ v.key)
   writer_was r x old v there key (keeps.kept same) is = let w = one.exchanges.writers r x old there (sym same ∙ is) in (w.0, w.1, sym (key ∙ w.2))
   writer_was r x old v there key (keeps.resumed y w row aim same) is =
       (w, ap t.exchange (sym (some_inj y x (sym same ∙ is))) ∙ row, sym (key ∙ aims_key t y r w old one.exchanges row aim there))
@@ -424,7 +443,8 @@ module _ (limits : Limits) (t : Tables) (now : ℕ) (flaw : Flaw) (s : Sound t) 
 
   writer_by : (r x : ℕ) (v : Representation) → keeps.WasRow t e r v → v.writer ≡ Some x → (w : Exchange) × (t.exchange x ≡ Some w) × (w.request.key ≡ v.key)
   writer_by r x v (keeps.was_row old there key writes) is = writer_was r x old v there key writes is
-  writer_by r x v (keeps.new_row response w row key writes) is = (w, writer_new r x response.status w row (brings_part response.status) (sym writes ∙ is), sym key)
+  writer_by r x v (keeps.new_row response w row key writes) is =
+      (w, writer_new r x response.status w row (brings_part response.status) (sym writes ∙ is), sym key)
 
   writer_of : (r x : ℕ) (v : Representation) → keeps.WasRow t e r v → v.writer ≡ Some x → (w : Exchange) × (u.exchange x ≡ Some w) × (v.key ≡ w.request.key)
   writer_of r x v was is =
@@ -436,7 +456,8 @@ module _ (limits : Limits) (t : Tables) (now : ℕ) (flaw : Flaw) (s : Sound t) 
     opener = λ x z row. opener_of x z (keeps.exchange_was t e x (t.exchange x) z refl row);
     aims = λ x r z row is. aims_of x r z (keeps.exchange_was t e x (t.exchange x) z refl row) is;
     joined = λ x r z row is. joined_of x r z (keeps.exchange_was t e x (t.exchange x) z refl row) is;
-    founded = λ r z v row there. founded_of r z v (keeps.exchange_was t e r (t.exchange r) z refl row) (keeps.representation_was t e r (t.representation r) v refl there);
+    founded = λ r z v row there. founded_of r z v (keeps.exchange_was t e r (t.exchange r) z refl row)
+        (keeps.representation_was t e r (t.representation r) v refl there);
     writers = λ r x v there is. writer_of r x v (keeps.representation_was t e r (t.representation r) v refl there) is;
   }
 

@@ -72,7 +72,8 @@ module _ (f : Cells) (reach total : ℕ) (ends : EndsBy reach f) (tight : (m : �
           let b : bytes ≡ size_below f reach = count_is in
           let most : size_below f reach ≤ reach = below_most f reach in
           let up : reach ≤ size = by_reach (covers_all f reach 0 size (and_right (nat_lt 0 size) (covers f reach 0 size) h)) in
-          and_both _ _ (let over : 0 < size = grind (arith, nat_tests) in let less : 0 < bytes = omega arith in grind (arith, nat_tests)) (eq_yes last bytes (omega arith))
+          and_both _ _ (let over : 0 < size = grind (arith, nat_tests) in let less : 0 < bytes = omega arith in grind (arith, nat_tests))
+          (eq_yes last bytes (omega arith))
         where
           by_reach : Covers f 0 size → reach ≤ size
           by_reach all = elim (bool_cases (nat_lt size reach)) [
@@ -88,9 +89,11 @@ module _ (f : Cells) (reach total : ℕ) (ends : EndsBy reach f) (tight : (m : �
           let same : last ≡ bytes = eq_is last bytes (and_right (nat_lt 0 bytes) (last == bytes) h) in
           let a : last ≡ reach = last_is in
           let b : bytes ≡ size_below f reach = count_is in
-          let first : nat_lt 0 size ≡ true = (let over : 0 < bytes = grind (arith, nat_tests) in let less : 0 < size = omega arith in grind (arith, nat_tests)) in
+          let first : nat_lt 0 size ≡ true =
+          (let over : 0 < bytes = grind (arith, nat_tests) in let less : 0 < size = omega arith in grind (arith, nat_tests)) in
           and_both _ _ first (covers_yes f reach 0 size ends (λ p lo hi. full same p lo (omega arith)))
 
   -- The kind is that of the runs.
-  pub kind_right : (size : ℕ) → size ≡ size_below f reach → same_kind (kind_by (covers f reach 0 total) (nat_lt 0 size && covers f reach 0 size)) (kind_of_runs (runs_from f 0 reach) total) ≡ true
+  pub kind_right : (size : ℕ) → size ≡ size_below f reach →
+      same_kind (kind_by (covers f reach 0 total) (nat_lt 0 size && covers f reach 0 size)) (kind_of_runs (runs_from f 0 reach) total) ≡ true
   kind_right size is = rw (complete_same, front_same size is) (same_self (kind_of_runs (runs_from f 0 reach) total))

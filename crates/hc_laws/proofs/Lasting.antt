@@ -73,7 +73,8 @@ module _ (step : Step) (m : Measures step.tables) where
 
       enough : ev ≡ event.End r → (n : ℕ) → promised_bytes w ≡ Some n → n ≤ length w.body
       enough here n is =
-          let short : ((r == r) && is_below (length w.body) (Some n)) ≡ false = sym (ap (λ q. (r == r) && is_below (length w.body) q) is) ∙ (sym (ap (stops_early w r) here) ∙ unended.0) in
+          let short : ((r == r) && is_below (length w.body) (Some n)) ≡ false = sym (ap (λ q. (r == r) && is_below (length w.body) q) is) ∙
+          (sym (ap (stops_early w r) here) ∙ unended.0) in
           grind (arith, nat_tests)
 
       pub lasting : (is_open (now_on.exchange r) ≡ true) ⊎ IsAll p

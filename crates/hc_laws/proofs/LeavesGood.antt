@@ -148,8 +148,11 @@ module _ (limits : Limits) (t : Tables) (g : IsSettled limits t) where
             let same : n ≡ length_is = some_inj n length_is is in
             let last : last_end item.runs ≡ v.reach = last_is v.stored v.reach length_is ends tight within in
             let most : v.reach ≤ length_is = within in
-            let kinds : same_kind (kind_of t r v) (kind_of_runs item.runs length_is) ≡ true = ap (λ k. same_kind k (kind_of_runs item.runs length_is)) kind_is ∙ kind_right v.stored v.reach length_is ends tight within v.size (g.sizes.counted r v i.row) in
-            and_both _ _ (let le : last_end item.runs ≤ n = omega arith in grind (arith, nat_tests)) (ap (λ k. same_kind (kind_of t r v) (kind_of_runs item.runs k)) same ∙ kinds)
+            let kinds : same_kind (kind_of t r v) (kind_of_runs item.runs length_is) ≡ true =
+            ap (λ k. same_kind k (kind_of_runs item.runs length_is)) kind_is ∙ kind_right v.stored v.reach length_is ends tight within
+            v.size (g.sizes.counted r v i.row) in
+            and_both _ _ (let le : last_end item.runs ≤ n = omega arith in grind (arith, nat_tests))
+            (ap (λ k. same_kind (kind_of t r v) (kind_of_runs item.runs k)) same ∙ kinds)
 
     -- ITS NUMBERS
 
@@ -192,7 +195,8 @@ module _ (limits : Limits) (t : Tables) (g : IsSettled limits t) where
         whole_kind : (n : ℕ) → v.head.total ≡ Some n → Covers v.stored 0 n → is_whole (kind_of t r v) ≡ true
         whole_kind n is covered =
             let same : n ≡ length_is = some_inj n length_is (sym is ∙ known.1) in
-            let all : covers v.stored v.reach 0 length_is ≡ true = covers_yes v.stored v.reach 0 length_is ends (λ p lo hi. covered p lo (let up : p < length_is = hi in omega arith)) in
+            let all : covers v.stored v.reach 0 length_is ≡ true =
+            covers_yes v.stored v.reach 0 length_is ends (λ p lo hi. covered p lo (let up : p < length_is = hi in omega arith)) in
             ap is_whole kind_is ∙ rw all refl
 
         one_whole : IsOfOne t v → is_whole (kind_of t r v) ≡ true
@@ -240,7 +244,8 @@ module _ (limits : Limits) (t : Tables) (g : IsSettled limits t) where
   AllOther r [] = Unit {0}
   AllOther r (a ∷ items) = IsOther r a × AllOther r items
 
-  none_of : (r : ℕ) (test : Content → Bool) (items : List Content) → AllOther r items → ((a : Content) → IsOther r a → test a ≡ false) → list_any test items ≡ false
+  none_of : (r : ℕ) (test : Content → Bool) (items : List Content) → AllOther r items → ((a : Content) → IsOther r a → test a ≡ false) →
+      list_any test items ≡ false
   none_of r test [] all none = refl
   none_of r test (a ∷ items) all none = rw (none a all.0, none_of r test items all.1 none) refl
 
@@ -249,14 +254,17 @@ module _ (limits : Limits) (t : Tables) (g : IsSettled limits t) where
     other_key a o = elim (bool_cases (bytes_eq a.key i.v.key)) [
       | inr off ↦ off
       | inl same ↦
-          absurd (o.other (s.one_current o.q r o.idle.v i.v o.idle.row i.row o.idle.not_gone i.not_gone (ap (λ (z : Content). z.key) o.is ∙ same_bytes a.key i.v.key same)))
+          absurd (o.other (s.one_current o.q r o.idle.v i.v o.idle.row i.row o.idle.not_gone i.not_gone
+          (ap (λ (z : Content). z.key) o.is ∙ same_bytes a.key i.v.key same)))
     ]
 
     -- says no number of r
     unsaid : (x : ℕ) (a : Content) (o : IsOther r a) → (x ≢ o.q) → (HasByte t o.q x → ⊥) → says x a ≡ false
-    unsaid x a o apart none = subst (λ (z : Content). says x z ≡ false) o.is (by_parts (o.q == x) (list_any (is_of x) (runs_from o.idle.v.stored 0 o.idle.v.reach)) refl refl)
+    unsaid x a o apart none =
+        subst (λ (z : Content). says x z ≡ false) o.is (by_parts (o.q == x) (list_any (is_of x) (runs_from o.idle.v.stored 0 o.idle.v.reach)) refl refl)
       where
-        by_parts : (b c : Bool) → (o.q == x) ≡ b → list_any (is_of x) (runs_from o.idle.v.stored 0 o.idle.v.reach) ≡ c → ((o.q == x) || list_any (is_of x) (runs_from o.idle.v.stored 0 o.idle.v.reach)) ≡ false
+        by_parts : (b c : Bool) → (o.q == x) ≡ b → list_any (is_of x) (runs_from o.idle.v.stored 0 o.idle.v.reach) ≡ c →
+            ((o.q == x) || list_any (is_of x) (runs_from o.idle.v.stored 0 o.idle.v.reach)) ≡ false
         by_parts true c same any = let test : nat_eq o.q x ≡ true = same in let is : o.q ≡ x = grind (arith, nat_tests) in absurd (apart (sym is))
         by_parts false true same any = absurd (none (byte_of o.q o.idle x any))
         by_parts false false same any = rw (same, any) refl
@@ -284,11 +292,14 @@ module _ (limits : Limits) (t : Tables) (g : IsSettled limits t) where
         (and_both _ _ (given r i r (in_range r i)) (not_by (list_any (says r) earlier) (none_of r (says r) earlier before row_unsaid)))
         (all_of (is_own_run left earlier r later) (item r i).runs (λ run any. by_run run.x (byte_of r i run.x any)))
       where
-        by_run : (x : ℕ) → HasByte t r x → (is_given_out left x && not (list_any (says x) earlier) && (r == x || not (list_any (λ (other : Content). other.r == x) later))) ≡ true
+        by_run : (x : ℕ) → HasByte t r x →
+            (is_given_out left x && not (list_any (says x) earlier) && (r == x || not (list_any (λ (other : Content). other.r == x) later))) ≡ true
         by_run x mine =
             and_both _ _
-            (and_both _ _ (given r i x (g.origins.given_out r x mine)) (not_by (list_any (says x) earlier) (none_of r (says x) earlier before (run_unsaid x mine))))
-            (or_right (r == x) _ (not_by (list_any (λ (other : Content). other.r == x) later) (none_of r (λ (other : Content). other.r == x) later after (not_numbered x mine))))
+            (and_both _ _ (given r i x (g.origins.given_out r x mine))
+            (not_by (list_any (says x) earlier) (none_of r (says x) earlier before (run_unsaid x mine))))
+            (or_right (r == x) _ (not_by (list_any (λ (other : Content). other.r == x) later)
+            (none_of r (λ (other : Content). other.r == x) later after (not_numbered x mine))))
 
     good_item : (earlier later : List Content) → AllOther r earlier → AllOther r later → is_good limits left earlier (item r i) later ≡ true
     good_item earlier later before after =
@@ -319,13 +330,15 @@ module _ (limits : Limits) (t : Tables) (g : IsSettled limits t) where
   abbrev BeforeAll : List Content → List ℕ → Type 0
   BeforeAll earlier rs = (r : ℕ) → Among r rs → AllOther r earlier
 
-  all_good : (earlier : List Content) (rs : List ℕ) → AllIdle rs → AreOnce rs → BeforeAll earlier rs → are_good limits left earlier (filter_map (content_at t) rs) ≡ true
+  all_good : (earlier : List Content) (rs : List ℕ) → AllIdle rs → AreOnce rs → BeforeAll earlier rs →
+      are_good limits left earlier (filter_map (content_at t) rs) ≡ true
   all_good earlier [] idle once before = refl
   all_good earlier (r ∷ rs) idle once before =
       let i = idle.0 in
       let made : content_at t r ≡ Some (content_of t r i.v) = ap (option_map (content_of t r)) i.row in
       let first = good_item r i earlier (filter_map (content_at t) rs) (before r (inl refl)) (others_of r rs idle.1 once.0) in
-      let rest = all_good (item r i ∷ earlier) rs idle.1 once.1 (λ q among. (record { q = r; idle = i; is = refl; other = λ same. once.0 (subst (λ n. Among n rs) (sym same) among) }, before q (inr among))) in
+      let rest = all_good (item r i ∷ earlier) rs idle.1 once.1
+      (λ q among. (record { q = r; idle = i; is = refl; other = λ same. once.0 (subst (λ n. Among n rs) (sym same) among) }, before q (inr among))) in
       rw made (and_both _ _ first rest)
 
   -- what they weigh
@@ -334,9 +347,11 @@ module _ (limits : Limits) (t : Tables) (g : IsSettled limits t) where
   weights_is (r ∷ rs) idle =
       let i = idle.0 in
       let made : content_at t r ≡ Some (content_of t r i.v) = ap (option_map (content_of t r)) i.row in
-      let sum : weights_of (item r i ∷ filter_map (content_at t) rs) ≡ weight_of (bytes_in (item r i).runs) + weights_of (filter_map (content_at t) rs) = sum_by-cons (λ (a : Content). weight_of (bytes_in a.runs)) (item r i) (filter_map (content_at t) rs) in
+      let sum : weights_of (item r i ∷ filter_map (content_at t) rs) ≡ weight_of (bytes_in (item r i).runs) + weights_of (filter_map (content_at t) rs) =
+      sum_by-cons (λ (a : Content). weight_of (bytes_in a.runs)) (item r i) (filter_map (content_at t) rs) in
       let all : sum_by (held t) (r ∷ rs) ≡ held t r + sum_by (held t) rs = sum_by-cons (held t) r rs in
-      rw made (sum ∙ (plus (weight_of (bytes_in (item r i).runs)) (held t r) (weights_of (filter_map (content_at t) rs)) (sum_by (held t) rs) (weighs r i) (weights_is rs idle.1) ∙ sym all))
+      rw made (sum ∙ (plus (weight_of (bytes_in (item r i).runs)) (held t r) (weights_of (filter_map (content_at t) rs)) (sum_by (held t) rs) (weighs r i)
+      (weights_is rs idle.1) ∙ sym all))
     where
       plus : (a b c d : ℕ) → a ≡ b → c ≡ d → a + c ≡ b + d
       plus a b c d p q = omega arith
@@ -357,8 +372,10 @@ module _ (limits : Limits) (t : Tables) (g : IsSettled limits t) where
   weights_fit : weights_of left.items ≤ limits.max_total
   weights_fit =
       let is : weights_of left.items ≡ sum_by (held t) (idle_now t) = weights_is (idle_now t) (all_idle (reverse t.used)) in
-      let some : sum_by (held t) (idle_now t) ≤ sum_by (among_of (held t) (idle_now t)) t.founded = sum_some (held t) (idle_now t) t.founded once_idle idle_founded in
-      let most : sum_by (among_of (held t) (idle_now t)) t.founded ≤ sum_by (held t) t.founded = sum_le (among_of (held t) (idle_now t)) (held t) t.founded (λ r among. by_test r (is_in (idle_now t) r)) in
+      let some : sum_by (held t) (idle_now t) ≤ sum_by (among_of (held t) (idle_now t)) t.founded =
+      sum_some (held t) (idle_now t) t.founded once_idle idle_founded in
+      let most : sum_by (among_of (held t) (idle_now t)) t.founded ≤ sum_by (held t) t.founded =
+      sum_le (among_of (held t) (idle_now t)) (held t) t.founded (λ r among. by_test r (is_in (idle_now t) r)) in
       omega arith
     where
       by_test : (r : ℕ) (b : Bool) → (if b then held t r else 0) ≤ held t r

@@ -14,11 +14,14 @@ Starts c (event.Start d request) = d ≡ c
 Starts c _ = ⊥
 
 -- the rows behind an entry: as they were, or as an accepted one leaves them
-pub consumer_behind : (t : Tables) (e : Entry) (c : ℕ) → ((after t e).consumer c ≡ t.consumer c) ⊎ ((is_denied e.acts ≡ false) × ((after t e).consumer c ≡ consumer_after t e c (t.consumer c)))
+pub consumer_behind : (t : Tables) (e : Entry) (c : ℕ) →
+    ((after t e).consumer c ≡ t.consumer c) ⊎ ((is_denied e.acts ≡ false) × ((after t e).consumer c ≡ consumer_after t e c (t.consumer c)))
 unfolding after
 consumer_behind t e c = by_test (is_denied e.acts) refl
   where
-    by_test : (b : Bool) → is_denied e.acts ≡ b → ((if b then after_denied t e else after_accepted t e).consumer c ≡ t.consumer c) ⊎ ((is_denied e.acts ≡ false) × ((if b then after_denied t e else after_accepted t e).consumer c ≡ consumer_after t e c (t.consumer c)))
+    by_test : (b : Bool) → is_denied e.acts ≡ b →
+        ((if b then after_denied t e else after_accepted t e).consumer c ≡ t.consumer c) ⊎
+        ((is_denied e.acts ≡ false) × ((if b then after_denied t e else after_accepted t e).consumer c ≡ consumer_after t e c (t.consumer c)))
     by_test b is = grind (arith, nat_tests)
 
 made_live : (c now : ℕ) (ev : Event) → is_live (consumer_made c now ev) ≡ true → Starts c ev
@@ -36,12 +39,14 @@ module _ (limits : Limits) (t : Tables) (e : Entry) (law : Lawful t) (is : IsOwe
   entry_is : is_denied e.acts ≡ false → e ≡ record { now = e.now; event = e.event; acts = accepted_acts limits t e.now e.event (flaw_in e.acts) }
   entry_is goes_on = ap (λ acts. record { now = e.now; event = e.event; acts = acts }) (acts_are limits t e is goes_on)
 
-  pub dead_stays : (c : ℕ) (k : Consumer) → is_denied e.acts ≡ false → t.consumer c ≡ Some k → k.place ≡ place.Over → is_live (consumer_after t e c (t.consumer c)) ≡ false
+  pub dead_stays : (c : ℕ) (k : Consumer) → is_denied e.acts ≡ false → t.consumer c ≡ Some k → k.place ≡ place.Over →
+      is_live (consumer_after t e c (t.consumer c)) ≡ false
   dead_stays c k on row over =
       ap (λ (z : Entry). is_live (consumer_after t z c (t.consumer c))) (entry_is on)
       ∙ stays_over (step_of limits t e.now (flaw_in e.acts) law.sound law.owned e.event (goes limits t e is on)) c k row over
 
-  by_row : (c : ℕ) (o : Option Consumer) → is_denied e.acts ≡ false → t.consumer c ≡ o → is_live (consumer_after t e c (t.consumer c)) ≡ true → (is_live (t.consumer c) ≡ true) ⊎ Starts c e.event
+  by_row : (c : ℕ) (o : Option Consumer) → is_denied e.acts ≡ false → t.consumer c ≡ o → is_live (consumer_after t e c (t.consumer c)) ≡ true →
+      (is_live (t.consumer c) ≡ true) ⊎ Starts c e.event
   unfolding consumer_after
   by_row c o on row live = grind (arith, nat_tests, made_live, over_or_live, dead_stays)
 

@@ -88,10 +88,12 @@ module _ (t : Tables) (s : Sound t) (places : Places t) (endings : Endings t) (u
 
   module _ (now : ℕ) where
     -- what is current is there
-    current_there : (z : Candidate) → (plan_view t now c k).current ≡ Some z → (r : ℕ) × (current t k.request.key ≡ Some r) × (is_some (t.representation r) ≡ true)
+    current_there : (z : Candidate) → (plan_view t now c k).current ≡ Some z → (r : ℕ) × (current t k.request.key ≡ Some r) ×
+        (is_some (t.representation r) ≡ true)
     current_there z is = let a = candidate_is t now c k z is in (a.r, a.current_is, ap (λ (o : Option Representation). is_some o) a.row)
 
-    binds_goes : (z : Candidate) → (plan_view t now c k).current ≡ Some z → (why : Why) (span : Option Span) → Fine (binds_current t k why span (current t k.request.key))
+    binds_goes : (z : Candidate) → (plan_view t now c k).current ≡ Some z → (why : Why) (span : Option Span) →
+        Fine (binds_current t k why span (current t k.request.key))
     binds_goes z is why span = grind (arith, nat_tests)
 
     fills_goes : (z : Candidate) → (plan_view t now c k).current ≡ Some z → (hole : Span) → Fine (opens_hole t k.request (current_row t k) hole)
@@ -109,7 +111,8 @@ module _ (t : Tables) (s : Sound t) (places : Places t) (endings : Endings t) (u
   gives_goes o there = grind (arith, nat_tests)
 
   -- whatever is wanted of what is stored, there is some of it or none
-  stored_same : (n m : ℕ) (o : Option Representation) → is_some (option_and_then (stored_from (offset t k) n) o) ≡ is_some (option_and_then (stored_from (offset t k) m) o)
+  stored_same : (n m : ℕ) (o : Option Representation) →
+      is_some (option_and_then (stored_from (offset t k) n) o) ≡ is_some (option_and_then (stored_from (offset t k) m) o)
   stored_same n m None = refl
   stored_same n m (Some v) = stretch_same v.stored (offset t k) _ _
 
@@ -117,11 +120,13 @@ module _ (t : Tables) (s : Sound t) (places : Places t) (endings : Endings t) (u
   lost_same f reach p n m true = stretch_same f p _ _
   lost_same f reach p n m false = refl
 
-  held_lost : (n m : ℕ) (o : Option Representation) → is_some (Rattle.hc_model.specs.Steps.held_of_lost c (offset t k) n o) ≡ is_some (Rattle.hc_model.specs.Steps.held_of_lost c (offset t k) m o)
+  held_lost : (n m : ℕ) (o : Option Representation) →
+      is_some (Rattle.hc_model.specs.Steps.held_of_lost c (offset t k) n o) ≡ is_some (Rattle.hc_model.specs.Steps.held_of_lost c (offset t k) m o)
   held_lost n m None = refl
   held_lost n m (Some v) = lost_same v.body v.reach (offset t k) n m (v.is_lost && is_number v.alone c)
 
-  held_past : (x n m : ℕ) (o : Option Exchange) → 0 < m → is_some (held_of_exchange x (offset t k) n o) ≡ true → is_some (held_of_exchange x (offset t k) m o) ≡ true
+  held_past : (x n m : ℕ) (o : Option Exchange) → 0 < m → is_some (held_of_exchange x (offset t k) n o) ≡ true →
+      is_some (held_of_exchange x (offset t k) m o) ≡ true
   held_past x n m None many some = some
   held_past x n m (Some w) many some = run_same x (offset t k) n m (drop (offset t k - base w) w.body) many some
 
@@ -180,15 +185,18 @@ module _ (t : Tables) (s : Sound t) (places : Places t) (endings : Endings t) (u
             unowned r (unended.alone r c lo z u k has is row (at ∙ ap (λ (o : Option ℕ). place.Bound r lo o z) e.0) e.1 undue)
         unknown_not u has unknown (sound.writes (sound.first kept (sound.first q a b g q_row q_at alone))) =
             let one : q ≡ k = same_row (t.consumer c) q k q_row row in
-            let same : came_alone t (place.Bound r lo hi z) ≡ true = subst (λ (p : Place). came_alone t p ≡ true) (sym q_at ∙ (ap (λ (y : Consumer). y.place) one ∙ at)) alone in
+            let same : came_alone t (place.Bound r lo hi z) ≡ true =
+            subst (λ (p : Place). came_alone t p ≡ true) (sym q_at ∙ (ap (λ (y : Consumer). y.place) one ∙ at)) alone in
             false_true (sym (ap (λ (o : Option ℕ). is_some o) ((no_end u has unknown).0)) ∙ s.writes.known_end r c lo hi z k row at same)
 
         later_goes : (hole : Span) (o : Option ℕ) → hi_of t k.place ≡ o → Fine (later_hole t k hole o)
         later_goes hole None unknown = absurd (let u = there in unknown_not u.0 u.1 unknown (s.writes.served r c u.0 k u.1 reader undue))
-        later_goes hole (Some hi) is = opens_goes k.request (bound_row t k) hole (ap (λ (p : Place). is_some (row_of t (bound_to p))) at ∙ s.numbered.bound_to r c k reader)
+        later_goes hole (Some hi) is =
+            opens_goes k.request (bound_row t k) hole (ap (λ (p : Place). is_some (row_of t (bound_to p))) at ∙ s.numbered.bound_to r c k reader)
 
       -- and of who reads past the store there is more, up to its end
-      module _ (x : ℕ) (at : k.place ≡ place.Direct x) (before : is_at_end (hi_of t k.place) (offset t k) ≡ false) (nothing : is_some (run_held_for t c k want) ≡ false) where
+      module _ (x : ℕ) (at : k.place ≡ place.Direct x) (before : is_at_end (hi_of t k.place) (offset t k) ≡ false)
+          (nothing : is_some (run_held_for t c k want) ≡ false) where
         past : ReadsPast t c x k
         past = places.direct c x k row at
 
@@ -208,16 +216,20 @@ module _ (t : Tables) (s : Sound t) (places : Places t) (endings : Endings t) (u
         holds =
             let first : lo_of t k.place ≡ base past.w = lo_is in
             let less : offset t k < front past.w = ahead in
-            let rest : length (drop (offset t k - base past.w) past.w.body) ≡ length past.w.body - (offset t k - base past.w) = length-drop (offset t k - base past.w) past.w.body in
-            let count : length (take want (drop (offset t k - base past.w) past.w.body)) ≡ min want (length (drop (offset t k - base past.w) past.w.body)) = length-take want (drop (offset t k - base past.w) past.w.body) in
+            let rest : length (drop (offset t k - base past.w) past.w.body) ≡ length past.w.body - (offset t k - base past.w) =
+            length-drop (offset t k - base past.w) past.w.body in
+            let count : length (take want (drop (offset t k - base past.w) past.w.body)) ≡ min
+            want (length (drop (offset t k - base past.w) past.w.body)) = length-take want (drop (offset t k - base past.w) past.w.body) in
             let some : 0 < length (take want (drop (offset t k - base past.w) past.w.body)) = omega arith in
             ap (λ (p : Place). is_some (held_at t c (offset t k) want p)) at
-            ∙ (ap (λ (o : Option Exchange). is_some (held_of_exchange x (offset t k) want o)) past.row ∙ run_some x (offset t k) (take want (drop (offset t k - base past.w) past.w.body)) some)
+            ∙ (ap (λ (o : Option Exchange). is_some (held_of_exchange x (offset t k) want o)) past.row ∙
+            run_some x (offset t k) (take want (drop (offset t k - base past.w) past.w.body)) some)
 
         never : ⊥
         never = false_true (sym nothing ∙ holds)
 
-      hole_goes : is_at_end (hi_of t k.place) (offset t k) ≡ false → is_some (run_held_for t c k want) ≡ false → (hole : Span) → IsReader → Fine (later_hole t k hole (hi_of t k.place))
+      hole_goes : is_at_end (hi_of t k.place) (offset t k) ≡ false → is_some (run_held_for t c k want) ≡ false → (hole : Span) → IsReader →
+          Fine (later_hole t k hole (hi_of t k.place))
       hole_goes before nothing hole (is_bound r lo hi z at) = later_goes r lo hi z at hole (hi_of t k.place) refl
       hole_goes before nothing hole (is_past x at) = absurd (never x at before nothing)
 
@@ -239,7 +251,8 @@ module _ (t : Tables) (s : Sound t) (places : Places t) (endings : Endings t) (u
       held_goes true some = gives_goes (run_held_for t c k (most t want k)) (held_same want (most t want k) k.place some_most some)
       held_goes false nothing = due_goes v.due refl nothing
 
-      stored_goes_on : (o : Option ℕ) → option_map end_of (stored_ahead t k want) ≡ o → GoesStep (stored_or v.hi o (held_or v.held (fails_or v.due (waits_or v.source (readings.opens v)))))
+      stored_goes_on : (o : Option ℕ) → option_map end_of (stored_ahead t k want) ≡ o →
+          GoesStep (stored_or v.hi o (held_or v.held (fails_or v.due (waits_or v.source (readings.opens v)))))
       stored_goes_on None none = held_goes v.held refl
       stored_goes_on (Some end) some = gives_goes _ (stored_same _ want (bound_row t k) ∙ run_there (stored_ahead t k want) some)
         where

@@ -79,7 +79,8 @@ module _ (step : Step) where
     unheard : (x : ℕ) (w : Exchange) → t.exchange x ≡ Some w → w.c ≡ c → w.is_open ≡ true → w.head ≡ None → ⊥
     unheard x w w_row mine on bare = unawaited x w (waiter_as step c x k w row w_row mine on bare).at
 
-    put : starts_over t e c k ≡ false → now_on.consumer c ≡ Some (if starts_over t e c k then back_in_line now k else beside t e c k) → is_live (now_on.consumer c) ≡ false
+    put : starts_over t e c k ≡ false → now_on.consumer c ≡ Some (if starts_over t e c k then back_in_line now k else beside t e c k) →
+        is_live (now_on.consumer c) ≡ false
     put stays is = ap is_live is ∙ (rw stays (ap is_live_place over))
 
     caused : StartsOverBy t e k → ⊥
@@ -88,7 +89,8 @@ module _ (step : Step) where
 
     -- at another's event
     apart : is_event_for t c ev ≡ false → is_live (now_on.consumer c) ≡ false
-    apart off = put (not_so (starts_over t e c k) (λ h. caused (starting_over_is_caused t e c k off h))) (standers_stay limits t now ev flaw e frames.whole c k row off)
+    apart off = put (not_so (starts_over t e c k) (λ h. caused (starting_over_is_caused t e c k off h)))
+        (standers_stay limits t now ev flaw e frames.whole c k row off)
 
     -- at a fault of an exchange that was opened for it, which others read by now
     unsent : (x : ℕ) → ev ≡ event.Fault x → starts_over t e c k ≡ false
@@ -111,7 +113,8 @@ module _ (step : Step) where
     faulted : (x : ℕ) → ev ≡ event.Fault x → is_for (t.exchange x) c ≡ true → is_live (now_on.consumer c) ≡ false
     faulted x here mine =
         let far = far_by limits t now ev flaw c (λ d want at. let no : event.Fault x ≡ event.Poll d want = sym here ∙ at in cc) e frames.whole in
-        put (unsent x here) (after_heard t e c k far (ap (λ (z : Event). consumer_heard t e c z k) here ∙ quiet x (t.exchange x) refl here mine) (t.consumer c) row)
+        put (unsent x here) (after_heard t e c k far (ap (λ (z : Event). consumer_heard t e c z k) here ∙ quiet x (t.exchange x) refl here mine)
+        (t.consumer c) row)
 
     polled : (d want : ℕ) → denial t (event.Poll d want) ≡ None → is_live (t.consumer d) ≡ true
     unfolding refusals.refusal_of
@@ -191,7 +194,8 @@ few : OfRunsIn IsFew
 few = in_runs IsFew
     (λ limits contents may. record { starts = tt; few = omega arith })
     (λ limits t e later f. record { starts = f.starts; few = f.few })
-    (λ limits t now flaw later c f ev goes real. record { starts = starts_on t ev goes f.starts; few = few_kept (step_of limits t now flaw c.is_sound c.is_owned ev goes) f.starts f.few })
+    (λ limits t now flaw later c f ev goes real. record
+    { starts = starts_on t ev goes f.starts; few = few_kept (step_of limits t now flaw c.is_sound c.is_owned ev goes) f.starts f.few })
 
 pub few_in_runs : OfRuns FewLive
 few_in_runs limits contents h may run = record { few = (few limits contents h may run).few }

@@ -18,7 +18,8 @@ use Rattle.hc_laws.proofs.{BringsRuns.{brings_in_runs}, DueAhead.{IsAhead, AreAh
 tails_denied : (t : Tables) (e : Entry) → AreTails t → AreTails (after_denied t e)
 tails_denied t e was = record { tail = by_reader }
   where
-    by_reader : (r c x : ℕ) (v : Representation) (k : Consumer) (w : Exchange) → t.representation r ≡ Some v → v.alone ≡ Some c → IsBound (after_denied t e) r c k → k.own ≡ Some x → t.exchange x ≡ Some w → IsTail (after_denied t e) r v k x w
+    by_reader : (r c x : ℕ) (v : Representation) (k : Consumer) (w : Exchange) → t.representation r ≡ Some v → v.alone ≡ Some c →
+        IsBound (after_denied t e) r c k → k.own ≡ Some x → t.exchange x ≡ Some w → IsTail (after_denied t e) r v k x w
     by_reader r c x v k w there alone (sound.is_bound lo hi how row at) own w_row =
         let a = was.tail r c x v k w there alone (sound.is_bound lo hi how row at) own w_row in
         record { from = a.from; after_base = a.after_base; within = a.within; stored = a.stored; unstored = a.unstored; of_r = a.of_r }
@@ -27,12 +28,14 @@ tails_in_runs : OfRuns AreTails
 tails_in_runs = in_runs_with (λ limits t. AreTails t) (λ limits t. Unit {0}) (λ limits contents h may run. tt)
     (λ limits contents may. record { tail = λ r c x v k w there alone reader own row. absurd (none_some w row) })
     (λ limits t e later was. tails_denied t e was)
-    (λ limits t now flaw ev s all was. let c = s.before in tails_kept (step_of limits t now flaw c.is_sound c.is_owned ev s.going) c.is_measured c.beside s.real was s.sound_then)
+    (λ limits t now flaw ev s all was. let c = s.before in
+    tails_kept (step_of limits t now flaw c.is_sound c.is_owned ev s.going) c.is_measured c.beside s.real was s.sound_then)
 
 ahead_denied : (t : Tables) (e : Entry) → AreAhead t → AreAhead (after_denied t e)
 ahead_denied t e was = record { ahead = by_reader }
   where
-    by_reader : (r c : ℕ) (v : Representation) (k : Consumer) → t.representation r ≡ Some v → v.alone ≡ Some c → IsBound (after_denied t e) r c k → IsAhead (after_denied t e) v k
+    by_reader : (r c : ℕ) (v : Representation) (k : Consumer) → t.representation r ≡ Some v → v.alone ≡ Some c → IsBound (after_denied t e) r c k →
+        IsAhead (after_denied t e) v k
     by_reader r c v k there alone (sound.is_bound lo hi how row at) =
         let a = was.ahead r c v k there alone (sound.is_bound lo hi how row at) in
         record { x = a.x; w = a.w; own = a.own; row = a.row; covered = a.covered }
@@ -41,14 +44,16 @@ ahead_in_runs : OfRuns AreAhead
 ahead_in_runs = in_runs_with (λ limits t. AreAhead t) (λ limits t. Unit {0}) (λ limits contents h may run. tt)
     (λ limits contents may. record { ahead = λ r c v k there alone reader. unbound contents r c k reader })
     (λ limits t e later was. ahead_denied t e was)
-    (λ limits t now flaw ev s all was. let c = s.before in ahead_kept (step_of limits t now flaw c.is_sound c.is_owned ev s.going) c.is_measured c.beside s.real was s.sound_then)
+    (λ limits t now flaw ev s all was. let c = s.before in
+    ahead_kept (step_of limits t now flaw c.is_sound c.is_owned ev s.going) c.is_measured c.beside s.real was s.sound_then)
   where
     unbound : {A : Type 0} (contents : Contents) (r c : ℕ) (k : Consumer) → IsBound (first_tables contents) r c k → A
     unbound contents r c k (sound.is_bound lo hi how row at) = absurd (none_some k row)
 
 -- ONE STRETCH
 
-module _ (f : Cells) (x : ℕ) (w : Exchange) (from : ℕ) (low : base w ≤ from) (came : (q : ℕ) → from ≤ q → q < front w → f q ≡ Some (cell_from x w q)) (only : (q : ℕ) (cell : Cell) → f q ≡ Some cell → cell.x ≡ x → q < front w) where
+module _ (f : Cells) (x : ℕ) (w : Exchange) (from : ℕ) (low : base w ≤ from) (came : (q : ℕ) → from ≤ q → q < front w → f q ≡ Some (cell_from x w q))
+    (only : (q : ℕ) (cell : Cell) → f q ≡ Some cell → cell.x ≡ x → q < front w) where
   past_end : (p n : ℕ) → front w ≤ p → bytes_from f x p n ≡ []
   past_end p zero past = refl
   past_end p (suc n) past = by_cell (f p) refl
@@ -57,7 +62,8 @@ module _ (f : Cells) (x : ℕ) (w : Exchange) (from : ℕ) (low : base w ≤ fro
       by_cell None is = refl
       by_cell (Some cell) is = elim (bool_cases (cell.x == x)) [
         | inr off ↦ rw off refl
-        | inl on ↦ let test : nat_eq cell.x x ≡ true = on in let same : cell.x ≡ x = grind (arith, nat_tests) in let lt : p < front w = only p cell is same in absurd (omega arith)
+        | inl on ↦ let test : nat_eq cell.x x ≡ true = on in let same : cell.x ≡ x = grind (arith, nat_tests) in let lt : p < front w =
+            only p cell is same in absurd (omega arith)
       ]
 
   -- the bytes of x from there on are those that it brought
@@ -73,8 +79,10 @@ module _ (f : Cells) (x : ℕ) (w : Exchange) (from : ℕ) (low : base w ≤ fro
         let inside : p - base w < length w.body = omega arith in
         let next : p + 1 - base w ≡ suc (p - base w) = omega arith in
         let rest = bytes_are n (p + 1) (omega arith) in
-        let first : bytes_from f x p (suc n) ≡ slice_index w.body (p - base w) ∷ bytes_from f x (p + 1) n = ap (λ o. goes_on x o (bytes_from f x (p + 1) n)) (came p ge lt) ∙ (let test = eq-refl x in rw test refl) in
-        first ∙ (ap (λ b. slice_index w.body (p - base w) ∷ b) (rest ∙ ap (λ i. take n (drop i w.body)) next) ∙ sym (ap (take (suc n)) (drop-cons w.body (p - base w) 0 inside)))
+        let first : bytes_from f x p (suc n) ≡ slice_index w.body (p - base w) ∷ bytes_from f x (p + 1) n =
+        ap (λ o. goes_on x o (bytes_from f x (p + 1) n)) (came p ge lt) ∙ (let test = eq-refl x in rw test refl) in
+        first ∙ (ap (λ b. slice_index w.body (p - base w) ∷ b) (rest ∙ ap (λ i. take n (drop i w.body)) next) ∙
+        sym (ap (take (suc n)) (drop-cons w.body (p - base w) 0 inside)))
   ]
 
 -- as many as there are, and no more
@@ -101,7 +109,9 @@ run_some x o (b ∷ bytes) some = refl
 -- HELD
 
 module _ (t : Tables) (s : Sound t) (brings : Brings t) (tails : AreTails t) (ahead_of : AreAhead t) where
-  module _ (r c x lo : ℕ) (hi : Option ℕ) (how : BoundBy) (v : Representation) (k : Consumer) (w : Exchange) (there : t.representation r ≡ Some v) (is_alone : v.alone ≡ Some c) (row : t.consumer c ≡ Some k) (at : k.place ≡ place.Bound r lo hi how) (own : k.own ≡ Some x) (w_row : t.exchange x ≡ Some w) where
+  module _ (r c x lo : ℕ) (hi : Option ℕ) (how : BoundBy) (v : Representation) (k : Consumer) (w : Exchange) (there : t.representation r ≡ Some v)
+      (is_alone : v.alone ≡ Some c) (row : t.consumer c ≡ Some k) (at : k.place ≡ place.Bound r lo hi how) (own : k.own ≡ Some x)
+      (w_row : t.exchange x ≡ Some w) where
     reader : IsBound t r c k
     reader = sound.is_bound lo hi how row at
 
@@ -141,7 +151,8 @@ module _ (t : Tables) (s : Sound t) (brings : Brings t) (tails : AreTails t) (ah
     -- nothing came there
     unheld : v.body o ≡ None → drop (o - base w) w.body ≡ [] → (n : ℕ) → run_held_for t c k n ≡ run_of x o (take n (drop (o - base w) w.body))
     unfolding stretch
-    unheld absent rest n = held_is n ∙ (ap (stretch_of v.body o (min n (v.reach - o))) absent ∙ sym (ap (λ b. run_of x o (take n b)) rest ∙ ap (run_of x o) (take_none n)))
+    unheld absent rest n = held_is n ∙
+        (ap (stretch_of v.body o (min n (v.reach - o))) absent ∙ sym (ap (λ b. run_of x o (take n b)) rest ∙ ap (run_of x o) (take_none n)))
 
     past : front w ≤ o → (n : ℕ) → v.stored o ≡ None → run_held_for t c k n ≡ run_of x o (take n (drop (o - base w) w.body))
     past over n missing = unheld (sym (tail.stored o (omega arith) (inr over)) ∙ missing) (drop_of_length-le w.body (omega arith)) n
@@ -160,7 +171,8 @@ module _ (t : Tables) (s : Sound t) (brings : Brings t) (tails : AreTails t) (ah
               sym (tail.stored o (omega arith) (inr (omega arith))) ∙ missing
         ]
 
-    inside : Covers v.body o (front w) → o < front w → (n : ℕ) → 0 < n → v.stored o ≡ None → run_held_for t c k n ≡ run_of x o (take n (drop (o - base w) w.body))
+    inside : Covers v.body o (front w) → o < front w → (n : ℕ) → 0 < n → v.stored o ≡ None →
+        run_held_for t c k n ≡ run_of x o (take n (drop (o - base w) w.body))
     unfolding stretch
     inside all under n some missing =
         let low : tail.from ≤ o = begins under missing in
@@ -169,9 +181,12 @@ module _ (t : Tables) (s : Sound t) (brings : Brings t) (tails : AreTails t) (ah
         let count : length rest ≡ length w.body - (o - base w) = length-drop (o - base w) w.body in
         let after_base : base w ≤ tail.from = tail.after_base in
         let ends : front w ≤ v.reach = reached low under in
-        let bytes : bytes_from v.body x o m ≡ take n rest = bytes_are v.body x w tail.from after_base came (λ q cell is same. (brings.only r x q cell w v there is same w_row).1) m o low ∙ take_most n (v.reach - o) rest (omega arith) in
+        let bytes : bytes_from v.body x o m ≡ take n rest =
+        bytes_are v.body x w tail.from after_base came (λ q cell is same. (brings.only r x q cell w v there is same w_row).1) m o low ∙
+        take_most n (v.reach - o) rest (omega arith) in
         let taken : length (take n rest) ≡ min n (length rest) = length-take n rest in
-        held_is n ∙ (ap (stretch_of v.body o m) (came o low under) ∙ (ap (λ (b : List ℕ). Some (record { x = x; at = o; bytes = b })) bytes ∙ sym (run_some x o (take n rest) (omega arith))))
+        held_is n ∙ (ap (stretch_of v.body o m) (came o low under) ∙
+        (ap (λ (b : List ℕ). Some (record { x = x; at = o; bytes = b })) bytes ∙ sym (run_some x o (take n rest) (omega arith))))
       where
         -- what came there and isn't stored is held
         begins : o < front w → v.stored o ≡ None → tail.from ≤ o
@@ -187,7 +202,8 @@ module _ (t : Tables) (s : Sound t) (brings : Brings t) (tails : AreTails t) (ah
           | inl on ↦ let under_reach : front w - 1 < v.reach = grind (arith, nat_tests) in omega arith
           | inr off ↦
               let over : v.reach ≤ front w - 1 = grind (arith, nat_tests) in
-              absurd (none_some (cell_from x w (front w - 1)) (sym ((s.rows r v there).store.ends (front w - 1) over) ∙ came (front w - 1) (omega arith) (omega arith)))
+              absurd (none_some (cell_from x w (front w - 1))
+              (sym ((s.rows r v there).store.ends (front w - 1) over) ∙ came (front w - 1) (omega arith) (omega arith)))
         ]
 
     -- all is there up to its front, or it brought nothing
@@ -217,4 +233,6 @@ module _ (t : Tables) (s : Sound t) (brings : Brings t) (tails : AreTails t) (ah
           holds_own r c a.x lo hi how v k a.w there alone row at a.own a.row
 
 pub losses_in_runs : OfRuns Losses
-losses_in_runs limits contents h may run = losses_by (tables contents h) (carried limits contents h may run).is_sound (brings_in_runs limits contents h may run) (tails_in_runs limits contents h may run) (ahead_in_runs limits contents h may run)
+losses_in_runs limits contents h may run =
+    losses_by (tables contents h) (carried limits contents h may run).is_sound (brings_in_runs limits contents h may run)
+    (tails_in_runs limits contents h may run) (ahead_in_runs limits contents h may run)

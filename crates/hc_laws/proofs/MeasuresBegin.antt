@@ -10,7 +10,8 @@ use Rattle.hc_sparse.specs.{Cells.{cells_with, Cells}, Runs.{cells_of, end_of}, 
 use Rattle.hc_effects.proofs.Vocabulary.{Limits, may_begin, are_good, is_good, ascend_from, is_kind_right, Content, Contents, Measures, Representation, first_tables, representation_of_content, last_end}
 use Rattle.hc_effects.proofs.PieceKeeps.{eq_cases}
 
-written_some : (at x p : ℕ) (bytes : List ℕ) (f : Cells) → ((p < at) ⊎ (at + length bytes ≤ p) → is_some (f p) ≡ true) → is_some (cells_with at x bytes f p) ≡ true
+written_some : (at x p : ℕ) (bytes : List ℕ) (f : Cells) → ((p < at) ⊎ (at + length bytes ≤ p) → is_some (f p) ≡ true) →
+    is_some (cells_with at x bytes f p) ≡ true
 written_some at x p bytes f old = grind (arith, nat_tests)
 
 which : (a b n : ℕ) → max a b ≡ n + 1 → (b ≡ n + 1) ⊎ (a ≡ n + 1)
@@ -22,9 +23,11 @@ ends_tight n a x [] good ends = absurd (omega arith)
 ends_tight n a x (run ∷ runs) good ends =
     let rest : ascend_from (end_of run) run.x runs ≡ true = and_right _ _ good in
     let bytes : 0 < length run.bytes = grind (arith, nat_tests) in
-    written_some run.at run.x n run.bytes (cells_of runs) (λ off. by_side run off bytes (which (end_of run) (last_end runs) n ends) (ends_tight n (end_of run) run.x runs rest))
+    written_some run.at run.x n run.bytes (cells_of runs)
+    (λ off. by_side run off bytes (which (end_of run) (last_end runs) n ends) (ends_tight n (end_of run) run.x runs rest))
   where
-    by_side : (run : Run) → (n < run.at) ⊎ (run.at + length run.bytes ≤ n) → 0 < length run.bytes → (last_end runs ≡ n + 1) ⊎ (end_of run ≡ n + 1) → (last_end runs ≡ n + 1 → is_some (cells_of runs n) ≡ true) → is_some (cells_of runs n) ≡ true
+    by_side : (run : Run) → (n < run.at) ⊎ (run.at + length run.bytes ≤ n) → 0 < length run.bytes → (last_end runs ≡ n + 1) ⊎ (end_of run ≡ n + 1) →
+        (last_end runs ≡ n + 1 → is_some (cells_of runs n) ≡ true) → is_some (cells_of runs n) ≡ true
     by_side run off bytes it3 again = grind (arith, nat_tests)
 
 abbrev pub of_number : ℕ → Content → Bool
@@ -54,14 +57,16 @@ module _ (limits : Limits) (contents : Contents) where
     unfolding may_begin
     good = and_left _ _ (and_left _ _ (and_left _ _ (and_left _ _ (and_left _ _ may))))
 
-    tight_of : (r n : ℕ) (z : Option Content) (v : Representation) → find (of_number r) contents.items ≡ z → option_map representation_of_content z ≡ Some v → v.reach ≡ n + 1 → is_some (v.body n) ≡ true
+    tight_of : (r n : ℕ) (z : Option Content) (v : Representation) → find (of_number r) contents.items ≡ z →
+        option_map representation_of_content z ≡ Some v → v.reach ≡ n + 1 → is_some (v.body n) ≡ true
     tight_of r n None v found is ends = absurd (none_some v is)
     tight_of r n (Some item) v found is ends =
         let same : representation_of_content item ≡ v = some_inj (representation_of_content item) v is in
         let l = laid r item [] contents.items good found in
         ap (λ (q : Representation). is_some (q.body n)) (sym same) ∙ ends_tight n 0 0 item.runs l.rise (ap (λ (q : Representation). q.reach) same ∙ ends)
 
-    within_of : (r total : ℕ) (z : Option Content) (v : Representation) → find (of_number r) contents.items ≡ z → option_map representation_of_content z ≡ Some v → v.head.total ≡ Some total → v.reach ≤ total
+    within_of : (r total : ℕ) (z : Option Content) (v : Representation) → find (of_number r) contents.items ≡ z →
+        option_map representation_of_content z ≡ Some v → v.head.total ≡ Some total → v.reach ≤ total
     within_of r total None v found is known = absurd (none_some v is)
     within_of r total (Some item) v found is known =
         let same : representation_of_content item ≡ v = some_inj (representation_of_content item) v is in

@@ -73,7 +73,8 @@ module _ (t : Tables) (e : Entry) (was : AreShortRows t) (p : Places t) (q : Pla
   grows : most t ≤ most now_on
   grows = omega arith
 
-  ended_total : (r n : ℕ) (v : Representation) (o : Option ℕ) → t.representation r ≡ Some v → v.head.total ≡ o → option_or o (Some (length_in (t.exchange r))) ≡ Some n → n < too_long t
+  ended_total : (r n : ℕ) (v : Representation) (o : Option ℕ) → t.representation r ≡ Some v → v.head.total ≡ o →
+      option_or o (Some (length_in (t.exchange r))) ≡ Some n → n < too_long t
   ended_total r n v (Some a) row known is = was.totals r n v row (known ∙ is)
   ended_total r n v None row unknown is = by_row (t.exchange r) refl (some_inj _ n is)
     where
@@ -119,7 +120,8 @@ module _ (t : Tables) (e : Entry) (was : AreShortRows t) (p : Places t) (q : Pla
   reach_by r u (rep.was v kept) = by_fills (fills t e r v u kept)
     where
       by_fills : Fills t e r v u → u.reach ≤ most now_on
-      by_fills (fills_by.still none body stored reach) = let le : v.reach ≤ most t = was.reaches r v kept.row in let same : u.reach ≡ v.reach = reach in omega (arith, grows)
+      by_fills (fills_by.still none body stored reach) = let le : v.reach ≤ most t = was.reaches r v kept.row in let same : u.reach ≡ v.reach = reach in
+          omega (arith, grows)
       by_fills (fills_by.more x bytes w is body stored reach) =
           let le : v.reach ≤ most t = was.reaches r v kept.row in
           let ends : front w + length bytes ≤ most now_on = piece_ends x bytes w is.row is.at in
@@ -133,7 +135,8 @@ module _ (t : Tables) (e : Entry) (was : AreShortRows t) (p : Places t) (q : Pla
 
 -- IN RUNS
 
-short_in_runs : (limits : Limits) (contents : Contents) (h : History) → may_begin limits contents ≡ true → AreShort contents → IsRun limits contents h → AreShortRows (tables contents h)
+short_in_runs : (limits : Limits) (contents : Contents) (h : History) → may_begin limits contents ≡ true → AreShort contents → IsRun limits contents h →
+    AreShortRows (tables contents h)
 short_in_runs limits contents h may short run =
     along limits contents (λ t h. AreShortRows t) may
     (begun_short limits contents may short)
@@ -177,4 +180,5 @@ module _ (t : Tables) (s : Sound t) (m : Measures t) (b : IsBounded t) (p : Plac
 pub numbers_in_runs : NumbersInRuns
 numbers_in_runs limits contents h may short run =
     let c = carried limits contents h may run in
-    numbers_by (tables contents h) c.is_sound c.is_measured (bounded limits contents h may run) (places_in_runs limits contents h may run) (short_in_runs limits contents h may short run)
+    numbers_by (tables contents h) c.is_sound c.is_measured (bounded limits contents h may run) (places_in_runs limits contents h may run)
+    (short_in_runs limits contents h may short run)

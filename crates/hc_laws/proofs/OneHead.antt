@@ -17,24 +17,29 @@ both_none : {A : Type 0} (xs ys : List A) → xs ≡ [] → ys ≡ [] → (xs ++
 both_none xs ys a b = rw (a, b) refl
 
 -- an entry that shows nothing more, and gives nothing where none was shown
-well_quiet : (shown more : List Shown) (given bytes : List ℕ) → IsWell shown given → more ≡ [] → (shown ≡ [] → bytes ≡ []) → IsWell (shown ++ more) (given ++ bytes)
+well_quiet : (shown more : List Shown) (given bytes : List ℕ) → IsWell shown given → more ≡ [] → (shown ≡ [] → bytes ≡ []) →
+    IsWell (shown ++ more) (given ++ bytes)
 well_quiet shown more given bytes w none quiet = grind (arith, nat_tests, length-append, length, append_none, both_none)
 
 -- one where none was shown before, and that gives nothing
-well_first : (shown more : List Shown) (given bytes : List ℕ) → IsWell shown given → shown ≡ [] → length more ≤ 1 → bytes ≡ [] → IsWell (shown ++ more) (given ++ bytes)
+well_first : (shown more : List Shown) (given bytes : List ℕ) → IsWell shown given → shown ≡ [] → length more ≤ 1 → bytes ≡ [] →
+    IsWell (shown ++ more) (given ++ bytes)
 well_first shown more given bytes w none few quiet = grind (arith, nat_tests)
 
-module _ (limits : Limits) (contents : Contents) (h : History) (e : Entry) (c : ℕ) (run : IsRun limits contents h) (owed : IsOwed limits (tables contents h) e) where
+module _ (limits : Limits) (contents : Contents) (h : History) (e : Entry) (c : ℕ) (run : IsRun limits contents h)
+    (owed : IsOwed limits (tables contents h) e) where
   abbrev t : Tables
   t = tables contents h
 
   filtered : (o : Option Consumer) → t.consumer c ≡ o → option_map_or (λ (k : Consumer). not k.shown) o true ≡ is_none (first (shown_of c h))
-  filtered o row = ap (λ (z : Option Consumer). option_map_or (λ (k : Consumer). not k.shown) z true) (sym row) ∙ (consumers_are_filtered limits contents h run).shown c
+  filtered o row = ap (λ (z : Option Consumer). option_map_or (λ (k : Consumer). not k.shown) z true) (sym row) ∙
+      (consumers_are_filtered limits contents h run).shown c
 
   acts_well : is_denied e.acts ≡ false → IsShownWell t c e.acts
   acts_well accepted = subst (IsShownWell t c) (sym (acts_are limits t e owed accepted)) (by_event limits t e.now c (flaw_in e.acts) e.event)
 
-  by_shown : (k : Consumer) (b : Bool) → t.consumer c ≡ Some k → k.shown ≡ b → is_denied e.acts ≡ false → IsWell (shown_of c h) (given_of c h) → IsWell (shown_of c h ++ shown_in c e.acts) (given_of c h ++ given_in c e.acts)
+  by_shown : (k : Consumer) (b : Bool) → t.consumer c ≡ Some k → k.shown ≡ b → is_denied e.acts ≡ false → IsWell (shown_of c h) (given_of c h) →
+      IsWell (shown_of c h ++ shown_in c e.acts) (given_of c h ++ given_in c e.acts)
   by_shown k true row shown accepted w =
       well_quiet (shown_of c h) (shown_in c e.acts) (given_of c h) (given_in c e.acts) w ((acts_well accepted).again k row shown) (λ none.
       absurd (let no : false ≡ true = (sym (ap not shown) ∙ (filtered (Some k) row ∙ ap (λ (xs : List Shown). is_none (first xs)) none)) in cc))
@@ -42,14 +47,17 @@ module _ (limits : Limits) (contents : Contents) (h : History) (e : Entry) (c : 
       let none : shown_of c h ≡ [] = no_first (shown_of c h) (sym (filtered (Some k) row) ∙ ap not shown) in
       well_first (shown_of c h) (shown_in c e.acts) (given_of c h) (given_in c e.acts) w none (acts_well accepted).one ((acts_well accepted).before k row shown)
 
-  by_row : (o : Option Consumer) → t.consumer c ≡ o → is_denied e.acts ≡ false → IsWell (shown_of c h) (given_of c h) → IsWell (shown_of c h ++ shown_in c e.acts) (given_of c h ++ given_in c e.acts)
+  by_row : (o : Option Consumer) → t.consumer c ≡ o → is_denied e.acts ≡ false → IsWell (shown_of c h) (given_of c h) →
+      IsWell (shown_of c h ++ shown_in c e.acts) (given_of c h ++ given_in c e.acts)
   by_row None row accepted w =
       let far = far_owed limits t e c owed accepted row in
       well_quiet (shown_of c h) (shown_in c e.acts) (given_of c h) (given_in c e.acts) w (unshown_of c e.acts far) (λ none. far.gives)
   by_row (Some k) row accepted w = by_shown k k.shown row refl accepted w
 
-  by_denial : (b : Bool) → is_denied e.acts ≡ b → IsWell (shown_of c h) (given_of c h) → IsWell (shown_of c h ++ shown_in c e.acts) (given_of c h ++ given_in c e.acts)
-  by_denial true denied w = well_quiet (shown_of c h) (shown_in c e.acts) (given_of c h) (given_in c e.acts) w (denied_shows c e.acts denied) (λ none. denied_gives c e.acts denied)
+  by_denial : (b : Bool) → is_denied e.acts ≡ b → IsWell (shown_of c h) (given_of c h) →
+      IsWell (shown_of c h ++ shown_in c e.acts) (given_of c h ++ given_in c e.acts)
+  by_denial true denied w =
+      well_quiet (shown_of c h) (shown_in c e.acts) (given_of c h) (given_in c e.acts) w (denied_shows c e.acts denied) (λ none. denied_gives c e.acts denied)
   by_denial false denied w = by_row (t.consumer c) refl denied w
 
 well : (limits : Limits) (contents : Contents) (h : History) (c : ℕ) → IsRun limits contents h → IsWell (shown_of c h) (given_of c h)

@@ -19,10 +19,14 @@ came (Some w) absent = (w, refl)
 
 comes : (t : Tables) (ev : Event) (x : ℕ) → denial t ev ≡ None → exchange_in ev ≡ Some x → (w : Exchange) × (t.exchange x ≡ Some w)
 unfolding refusals.refusal_of
-comes t (event.Head y response) x goes is = came (t.exchange x) (λ none. never _ (sym (ap (λ o. head_refusal (as_open o)) (ap t.exchange (some_inj y x is) ∙ none)) ∙ goes))
-comes t (event.Piece y bytes) x goes is = came (t.exchange x) (λ none. never _ (sym (ap (λ o. piece_refusal (as_open o) (length bytes)) (ap t.exchange (some_inj y x is) ∙ none)) ∙ goes))
-comes t (event.End y) x goes is = came (t.exchange x) (λ none. never _ (sym (ap (λ o. end_refusal (as_open o)) (ap t.exchange (some_inj y x is) ∙ none)) ∙ goes))
-comes t (event.Fault y) x goes is = came (t.exchange x) (λ none. never _ (sym (ap (λ o. fault_refusal (as_open o)) (ap t.exchange (some_inj y x is) ∙ none)) ∙ goes))
+comes t (event.Head y response) x goes is =
+    came (t.exchange x) (λ none. never _ (sym (ap (λ o. head_refusal (as_open o)) (ap t.exchange (some_inj y x is) ∙ none)) ∙ goes))
+comes t (event.Piece y bytes) x goes is =
+    came (t.exchange x) (λ none. never _ (sym (ap (λ o. piece_refusal (as_open o) (length bytes)) (ap t.exchange (some_inj y x is) ∙ none)) ∙ goes))
+comes t (event.End y) x goes is =
+    came (t.exchange x) (λ none. never _ (sym (ap (λ o. end_refusal (as_open o)) (ap t.exchange (some_inj y x is) ∙ none)) ∙ goes))
+comes t (event.Fault y) x goes is =
+    came (t.exchange x) (λ none. never _ (sym (ap (λ o. fault_refusal (as_open o)) (ap t.exchange (some_inj y x is) ∙ none)) ∙ goes))
 comes t _ x goes is = absurd (let no_one : None ≡ Some x = is in cc)
 
 may_of : (limits : Limits) (t : Tables) (e : Entry) → is_denied e.acts ≡ false → may_stand limits t e ≡ true → may_be limits t e (flaw_in e.acts) ≡ true
@@ -33,7 +37,8 @@ may_of limits t e accepted stands = rw accepted at stands
 other_exchange : (t : Tables) (ev : Event) (x : ℕ) (w : Exchange) → t.exchange x ≡ Some w → concerns_exchange t ev x ≡ false → IsOther t ev w.request.key
 other_exchange t ev x w row h = sym (ap (is_of_key (key_of t ev)) (ap (option_map (λ (w : Exchange). w.request.key)) row)) ∙ h
 
-other_representation : (t : Tables) (ev : Event) (r : ℕ) (v : Representation) → t.representation r ≡ Some v → concerns_representation t ev r ≡ false → IsOther t ev v.key
+other_representation : (t : Tables) (ev : Event) (r : ℕ) (v : Representation) → t.representation r ≡ Some v → concerns_representation t ev r ≡ false →
+    IsOther t ev v.key
 other_representation t ev r v row h = sym (ap (is_of_key (key_of t ev)) (ap (option_map (λ (v : Representation). v.key)) row)) ∙ h
 
 other_consumer : (t : Tables) (ev : Event) (c : ℕ) (k : Consumer) → t.consumer c ≡ Some k → concerns_consumer t ev c ≡ false → IsOther t ev k.request.key
@@ -44,7 +49,8 @@ evicted_is (Some u) (Some z) v is gone =
     some_inj z (record v { is_gone = true }) gone ∙ ap (λ (y : Representation). record y { is_gone = true }) (sym (some_inj u v is))
 evicted_is _ _ v is gone = cc
 
-module _ (limits : Limits) (t : Tables) (e : Entry) (exchanges : ExchangeKeys t) (consumers : ConsumerKeys t) (owed : IsOwed limits t e) (accepted : is_denied e.acts ≡ false) where
+module _ (limits : Limits) (t : Tables) (e : Entry) (exchanges : ExchangeKeys t) (consumers : ConsumerKeys t) (owed : IsOwed limits t e)
+    (accepted : is_denied e.acts ≡ false) where
   far_entry : IsFarEntry t e
   far_entry =
       let acts_is = acts_are limits t e owed accepted in
@@ -64,10 +70,12 @@ module _ (limits : Limits) (t : Tables) (e : Entry) (exchanges : ExchangeKeys t)
   opened_key =
       acts.opens_key limits t e (flaw_in e.acts) exchanges consumers (acts_are limits t e owed accepted) refl (may_of limits t e accepted owed.flaw)
 
-  gone_row : (r : ℕ) → concerns_representation t e.event r ≡ false → evicts_in r e.acts ≡ true → IsEvicted (t.representation r) (representation_after t e r (t.representation r))
+  gone_row : (r : ℕ) → concerns_representation t e.event r ≡ false → evicts_in r e.acts ≡ true →
+      IsEvicted (t.representation r) (representation_after t e r (t.representation r))
   gone_row r other gone =
       let row = far_entry.evicted r gone in
-      evicted_is _ _ row.0 row.1 (representation_row t e exchanges consumers far_entry r row.0 row.1 (other_representation t e.event r row.0 row.1 other) true gone)
+      evicted_is _ _ row.0 row.1
+      (representation_row t e exchanges consumers far_entry r row.0 row.1 (other_representation t e.event r row.0 row.1 other) true gone)
 
   -- WHAT IS NEW
 
@@ -84,16 +92,19 @@ module _ (limits : Limits) (t : Tables) (e : Entry) (exchanges : ExchangeKeys t)
   exchange_new x w None is made = new_exchange x w (opening_in e.acts) refl made
   exchange_new x w (Some u) is made = absurd (never u is)
 
-  founded_row : (x r : ℕ) (response : Response) (v : Representation) (b : Bool) (o : Option Exchange) → e.event ≡ event.Head x response → t.exchange x ≡ o → (if b then option_map (new_representation r e response) o else None) ≡ Some v → key_of t e.event ≡ Some v.key
+  founded_row : (x r : ℕ) (response : Response) (v : Representation) (b : Bool) (o : Option Exchange) → e.event ≡ event.Head x response →
+      t.exchange x ≡ o → (if b then option_map (new_representation r e response) o else None) ≡ Some v → key_of t e.event ≡ Some v.key
   founded_row x r response v true (Some w) at row made =
-      ap (key_of t) at ∙ (ap (option_map (λ (w : Exchange). w.request.key)) row ∙ ap (λ (u : Representation). Some u.key) (some_inj (new_representation r e response w) v made))
+      ap (key_of t) at ∙ (ap (option_map (λ (w : Exchange). w.request.key)) row ∙
+      ap (λ (u : Representation). Some u.key) (some_inj (new_representation r e response w) v made))
   founded_row x r response v _ _ at row made = cc
 
   founded_key : (r : ℕ) (v : Representation) (ev : Event) → e.event ≡ ev → founded_at t e r ev ≡ Some v → key_of t e.event ≡ Some v.key
   founded_key r v (event.Head x response) at made = founded_row x r response v (is_founding (case_at t e) && x == r) (t.exchange x) at refl made
   founded_key r v _ at made = absurd (none_some v made)
 
-  representation_new : (r : ℕ) (v : Representation) (o : Option Representation) → o ≡ None → representation_after t e r o ≡ Some v → key_of t e.event ≡ Some v.key
+  representation_new : (r : ℕ) (v : Representation) (o : Option Representation) → o ≡ None → representation_after t e r o ≡ Some v →
+      key_of t e.event ≡ Some v.key
   unfolding representation_after
   representation_new r v None is made = founded_key r v e.event refl made
   representation_new r v (Some u) is made = absurd (never u is)
@@ -116,7 +127,8 @@ law_of_one_key limits t e exchanges consumers owed accepted =
     let far = far_entry limits t e exchanges consumers owed accepted in
     record {
       exchanges = λ x w row other. exchange_stays t e exchanges consumers far x w row (other_exchange t e.event x w row other);
-      representations = λ r v row other stays. representation_row t e exchanges consumers far r v row (other_representation t e.event r v row other) false stays;
+      representations = λ r v row other stays. representation_row t e exchanges consumers far r v row (other_representation t e.event r v row other) false
+          stays;
       evicted = λ r other gone. gone_row limits t e exchanges consumers owed accepted r other gone;
       consumers = λ c k row other stays. consumer_row t e exchanges consumers far c k row (other_consumer t e.event c k row other) false stays;
       losers = λ c k row other over. consumer_row t e exchanges consumers far c k row (other_consumer t e.event c k row other) true over;

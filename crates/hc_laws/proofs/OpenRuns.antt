@@ -33,11 +33,14 @@ module _ (t : Tables) (s : Sound t) (w : Whose t) where
     own_from k own = ap (λ q. option_or q (shared_exchange t k.place)) (own_open_is t k x (record { own = own; w = z; row = row; opened = on }))
 
     -- of the members of a writing for several none has another of its own
-    member_from : (r c : ℕ) (v : Representation) (k : Consumer) → t.representation r ≡ Some v → is_written t v ≡ true → v.writer ≡ Some x → IsBound t r c k → source t k ≡ Some x
+    member_from : (r c : ℕ) (v : Representation) (k : Consumer) → t.representation r ≡ Some v → is_written t v ≡ true → v.writer ≡ Some x →
+        IsBound t r c k → source t k ≡ Some x
     member_from r c v k there written writer reader = by_own (own_open t k) refl
       where
         about : IsAbout t r x
-        about = let g = (s.rows r v there).growing x written writer in sound.headed g.0 g.1.row (ap (λ (q : Exchange). q.is_open) (same_row (t.exchange x) g.0 z g.1.row row) ∙ on) g.1.headed g.1.family_is (ap (λ (q : Option Representation). is_some q) there)
+        about = let g = (s.rows r v there).growing x written writer in
+            sound.headed g.0 g.1.row (ap (λ (q : Exchange). q.is_open) (same_row (t.exchange x) g.0 z g.1.row row) ∙ on) g.1.headed g.1.family_is
+            (ap (λ (q : Option Representation). is_some q) there)
 
         shared : IsBound t r c k → shared_exchange t k.place ≡ Some x
         shared (sound.is_bound lo hi how its at) = rw (at, there, written) writer
@@ -53,8 +56,16 @@ module _ (t : Tables) (s : Sound t) (w : Whose t) where
         (c, record { k = k; row = bound_row (family x z) c k reader; live = bound_live (family x z) c k reader; from = own_from k own })
     reader_by (whose.shared v there written writer) =
         let d = some_among (bound t (family x z)) (s.writes.has_bound (family x z) v there written) in
-        let k = reader_of t (family x z) d.0 d.1 in
-        (d.0, record { k = k.0; row = bound_row (family x z) d.0 k.0 k.1; live = bound_live (family x z) d.0 k.0 k.1; from = member_from (family x z) d.0 v k.0 there written writer k.1 })
+        let k = reader_of t (family x z) d.0 d.1 in (
+          d.0,
+          record {
+            k = k.0;
+            row = bound_row (family x z) d.0 k.0 k.1;
+            live = bound_live (family x z) d.0 k.0 k.1;
+            from =
+                member_from (family x z) d.0 v k.0 there written writer k.1;
+          },
+        )
 
   open_row : (x : ℕ) (q : Option Exchange) → t.exchange x ≡ q → is_open q ≡ true → (c : ℕ) × IsReader t x c
   open_row x None row on = absurd (false_true on)
@@ -100,7 +111,8 @@ others_stay x q (y ∷ ys) other there = elim (eq_cases y x) [
 pub no_more : (n : ℕ) (xs ys : List ℕ) → Descends n xs → ((x : ℕ) → Among x xs → Among x ys) → length xs ≤ length ys
 no_more n [] ys d all = omega arith
 no_more n (x ∷ xs) ys d all =
-    let rest : length xs ≤ length (without x ys) = no_more x xs (without x ys) d.1 (λ q there. others_stay x q ys (λ same. apart q there same) (all q (inr there))) in
+    let rest : length xs ≤ length (without x ys) =
+    no_more x xs (without x ys) d.1 (λ q there. others_stay x q ys (λ same. apart q there same) (all q (inr there))) in
     let count : length ys ≡ suc (length (without x ys)) = one_fewer x ys (all x (inl refl)) in
     omega arith
   where

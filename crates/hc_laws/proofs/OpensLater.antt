@@ -19,7 +19,8 @@ pub record OpensLater (t : Tables) (c : ℕ) (k : Consumer) (n : Need) : Type 0 
 module _ (step : Step) where
   open step use {limits, tables as t, now, flaw, sound as s, event as ev, accepted as goes}
 
-  pub opens_later : (c r lo : ℕ) (hi : Option ℕ) (how : BoundBy) (k : Consumer) (p : Opening) → t.consumer c ≡ Some k → k.place ≡ place.Bound r lo hi how → opening_in (entry_of limits t now ev flaw).acts ≡ Some p → p.c ≡ c → OpensLater t c k p.need
+  pub opens_later : (c r lo : ℕ) (hi : Option ℕ) (how : BoundBy) (k : Consumer) (p : Opening) → t.consumer c ≡ Some k →
+      k.place ≡ place.Bound r lo hi how → opening_in (entry_of limits t now ev flaw).acts ≡ Some p → p.c ≡ c → OpensLater t c k p.need
   opens_later c r lo hi how k p row at opens mine =
       let poll = is_opened step p opens in
       let one : poll.k ≡ k = same_row (t.consumer c) poll.k k (sym (ap t.consumer mine) ∙ poll.row) row in
@@ -27,8 +28,10 @@ module _ (step : Step) where
     where
       by_hole : (hole : IsHole p.need) → OpensHole t c k hole.from hole.to → OpensLater t c k p.need
       by_hole hole (first q v span gap current_is aims q_row nobody found from_is to_is) =
-          absurd (bound_some t r c k s.numbered (sound.is_bound lo hi how row at) (ap (bound t) (some_inj r q (sym (ap (aim_from t k.request.key) at) ∙ aims)) ∙ nobody))
-      by_hole hole (later q end n v at_hole unheld from_is to_is) = record { hole = hole; r = q; end = end; most = n; v = v; at_hole = at_hole; unheld = unheld; from_is = from_is }
+          absurd (bound_some t r c k s.numbered (sound.is_bound lo hi how row at)
+          (ap (bound t) (some_inj r q (sym (ap (aim_from t k.request.key) at) ∙ aims)) ∙ nobody))
+      by_hole hole (later q end n v at_hole unheld from_is to_is) =
+          record { hole = hole; r = q; end = end; most = n; v = v; at_hole = at_hole; unheld = unheld; from_is = from_is }
 
       by_way : opened.Way t now c k p.need → OpensLater t c k p.need
       by_way (opened.goes_on y b d g there way) =

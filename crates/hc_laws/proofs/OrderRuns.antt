@@ -13,18 +13,24 @@ pub descends_more : (n m : ℕ) (xs : List ℕ) → n ≤ m → Descends n xs �
 descends_more n m [] le d = tt
 descends_more n m (x ∷ xs) le d = (let lt : x < n = d.0 in omega arith, d.1)
 
-pub starts_on : (t : Tables) (ev : Event) → denial t ev ≡ None → Descends (t.last_start + 1) t.starts → Descends (last_start_after ev t.last_start + 1) (starts_after ev t.starts)
-starts_on t (event.Start c request) goes d = let lt : t.last_start < c = starts_later t c request goes in (omega arith, descends_more (t.last_start + 1) c t.starts (omega arith) d)
+pub starts_on : (t : Tables) (ev : Event) → denial t ev ≡ None → Descends (t.last_start + 1) t.starts →
+    Descends (last_start_after ev t.last_start + 1) (starts_after ev t.starts)
+starts_on t (event.Start c request) goes d = let lt : t.last_start < c = starts_later t c request goes in
+    (omega arith, descends_more (t.last_start + 1) c t.starts (omega arith) d)
 starts_on t _ goes d = d
 
-openings_on : (t : Tables) (z : Option Opening) → ((o : Opening) → z ≡ Some o → o.x ≡ t.opened + 1) → Descends (t.opened + 1) t.openings → Descends (opened_after z t.opened + 1) (openings_after z t.openings)
+openings_on : (t : Tables) (z : Option Opening) → ((o : Opening) → z ≡ Some o → o.x ≡ t.opened + 1) → Descends (t.opened + 1) t.openings →
+    Descends (opened_after z t.opened + 1) (openings_after z t.openings)
 openings_on t z next d = grind (arith, nat_tests)
 
-ascends_kept : (limits : Limits) (t : Tables) (now : ℕ) (flaw : Flaw) → Sound t → Ascends limits t → (ev : Event) → denial t ev ≡ None → Ascends limits (after_accepted t (entry_of limits t now ev flaw))
+ascends_kept : (limits : Limits) (t : Tables) (now : ℕ) (flaw : Flaw) → Sound t → Ascends limits t → (ev : Event) → denial t ev ≡ None →
+    Ascends limits (after_accepted t (entry_of limits t now ev flaw))
 ascends_kept limits t now flaw s d ev goes = grind (arith, nat_tests, starts_on, openings_on, opens_next)
 
 is_sorted : OfRunsIn Ascends
-is_sorted = in_runs Ascends (λ limits contents may. record { starts = tt; openings = tt }) (λ limits t e later d. record { starts = d.starts; openings = d.openings }) (λ limits t now flaw later c d ev goes real. ascends_kept limits t now flaw c.is_sound d ev goes)
+is_sorted = in_runs Ascends (λ limits contents may. record { starts = tt; openings = tt })
+    (λ limits t e later d. record { starts = d.starts; openings = d.openings })
+    (λ limits t now flaw later c d ev goes real. ascends_kept limits t now flaw c.is_sound d ev goes)
 
 pub order_in_runs : OfRuns InOrder
 order_in_runs limits contents h may run =

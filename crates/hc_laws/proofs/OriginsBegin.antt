@@ -56,9 +56,11 @@ module _ (limits : Limits) (contents : Contents) where
     fresh : list_any (says x) earlier ≡ false
     alone : nat_eq r x ≡ false → list_any (of_number x) later ≡ false
 
-  run_alone : (x : ℕ) (earlier : List Content) (item : Content) (later : List Content) → is_good limits contents earlier item later ≡ true → has_run x item ≡ true → SaysAlone item.r x earlier later
+  run_alone : (x : ℕ) (earlier : List Content) (item : Content) (later : List Content) → is_good limits contents earlier item later ≡ true →
+      has_run x item ≡ true → SaysAlone item.r x earlier later
   run_alone x earlier item later good has =
-      by_run (one_of (is_own_run contents earlier item.r later) x item.runs (and_right _ _ (and_right _ _ (and_left _ _ (and_left _ _ (and_left _ _ (and_left _ _ good)))))) has)
+      by_run (one_of (is_own_run contents earlier item.r later) x item.runs
+      (and_right _ _ (and_right _ _ (and_left _ _ (and_left _ _ (and_left _ _ (and_left _ _ good)))))) has)
     where
       by_run : OneOf (is_own_run contents earlier item.r later) x → SaysAlone item.r x earlier later
       by_run a = rw (← a.from) (record {
@@ -74,7 +76,8 @@ module _ (limits : Limits) (contents : Contents) where
   says_row : (x : ℕ) (item : Content) → item.r ≡ x → says x item ≡ true
   says_row x item same = let test : nat_eq item.r x ≡ true = grind (arith, nat_tests) in rw test refl
 
-  given : (r x : ℕ) (a : Content) (earlier items : List Content) → are_good limits contents earlier items ≡ true → find (of_number r) items ≡ Some a → has_run x a ≡ true → is_given_out contents x ≡ true
+  given : (r x : ℕ) (a : Content) (earlier items : List Content) → are_good limits contents earlier items ≡ true → find (of_number r) items ≡ Some a →
+      has_run x a ≡ true → is_given_out contents x ≡ true
   given r x a earlier [] good is has = absurd (none_some a is)
   given r x a earlier (item ∷ later) good is has = elim (eq_cases item.r r) [
     | inl here ↦ (run_alone x earlier item later (and_left _ _ good) (ap (has_run x) (some_inj item a (rw here.0 at is)) ∙ has)).given
@@ -82,7 +85,8 @@ module _ (limits : Limits) (contents : Contents) where
   ]
 
   -- a number that is said by one that stands later is said by no earlier one
-  not_before : (q x : ℕ) (b : Content) (earlier items : List Content) → are_good limits contents earlier items ≡ true → find (of_number q) items ≡ Some b → has_run x b ≡ true → list_any (says x) earlier ≡ false
+  not_before : (q x : ℕ) (b : Content) (earlier items : List Content) → are_good limits contents earlier items ≡ true →
+      find (of_number q) items ≡ Some b → has_run x b ≡ true → list_any (says x) earlier ≡ false
   not_before q x b earlier [] good is has = absurd (none_some b is)
   not_before q x b earlier (item ∷ later) good is has = elim (eq_cases item.r q) [
     | inl here ↦ (run_alone x earlier item later (and_left _ _ good) (ap (has_run x) (some_inj item b (rw here.0 at is)) ∙ has)).fresh
@@ -90,21 +94,25 @@ module _ (limits : Limits) (contents : Contents) where
   ]
 
   -- and so it is by no item that stands before
-  said_before : (q x : ℕ) (a b : Content) (earlier later : List Content) → are_good limits contents (a ∷ earlier) later ≡ true → find (of_number q) later ≡ Some b → has_run x b ≡ true → says x a ≡ true → ⊥
+  said_before : (q x : ℕ) (a b : Content) (earlier later : List Content) → are_good limits contents (a ∷ earlier) later ≡ true →
+      find (of_number q) later ≡ Some b → has_run x b ≡ true → says x a ≡ true → ⊥
   said_before q x a b earlier later good is has said =
       false_true (sym ((or_false (says x a) (list_any (says x) earlier) (not_before q x b (a ∷ earlier) later good is has)).0) ∙ said)
 
-  one_item : (r q x : ℕ) (a b : Content) (earlier items : List Content) → are_good limits contents earlier items ≡ true → find (of_number r) items ≡ Some a → find (of_number q) items ≡ Some b → has_run x a ≡ true → has_run x b ≡ true → r ≡ q
+  one_item : (r q x : ℕ) (a b : Content) (earlier items : List Content) → are_good limits contents earlier items ≡ true →
+      find (of_number r) items ≡ Some a → find (of_number q) items ≡ Some b → has_run x a ≡ true → has_run x b ≡ true → r ≡ q
   one_item r q x a b earlier [] good is also has too = absurd (none_some a is)
   one_item r q x a b earlier (item ∷ later) good is also has too = elim (eq_cases item.r r) [
     | inl here ↦ elim (eq_cases item.r q) [
       | inl there ↦ sym here.1 ∙ there.1
       | inr off ↦
-          absurd (said_before q x item b earlier later (and_right _ _ good) (rw off.0 at also) too (says_run x item (ap (has_run x) (some_inj item a (rw here.0 at is)) ∙ has)))
+          absurd (said_before q x item b earlier later (and_right _ _ good) (rw off.0 at also) too
+          (says_run x item (ap (has_run x) (some_inj item a (rw here.0 at is)) ∙ has)))
     ]
     | inr off ↦ elim (eq_cases item.r q) [
       | inl there ↦
-          absurd (said_before r x item a earlier later (and_right _ _ good) (rw off.0 at is) has (says_run x item (ap (has_run x) (some_inj item b (rw there.0 at also)) ∙ too)))
+          absurd (said_before r x item a earlier later (and_right _ _ good) (rw off.0 at is) has
+          (says_run x item (ap (has_run x) (some_inj item b (rw there.0 at also)) ∙ too)))
       | inr other ↦ one_item r q x a b (item ∷ earlier) later (and_right _ _ good) (rw off.0 at is) (rw other.0 at also) has too
     ]
   ]
@@ -116,14 +124,16 @@ module _ (limits : Limits) (contents : Contents) where
     | inr off ↦ or_right (of_number x item) (list_any (of_number x) items) (found_any x b items (rw off at is))
   ]
 
-  own_item : (r x : ℕ) (a b : Content) (earlier items : List Content) → are_good limits contents earlier items ≡ true → find (of_number r) items ≡ Some a → find (of_number x) items ≡ Some b → has_run x a ≡ true → x ≡ r
+  own_item : (r x : ℕ) (a b : Content) (earlier items : List Content) → are_good limits contents earlier items ≡ true →
+      find (of_number r) items ≡ Some a → find (of_number x) items ≡ Some b → has_run x a ≡ true → x ≡ r
   own_item r x a b earlier [] good is also has = absurd (none_some a is)
   own_item r x a b earlier (item ∷ later) good is also has = elim (eq_cases item.r r) [
     | inl here ↦ elim (eq_cases item.r x) [
       | inl there ↦ sym there.1 ∙ here.1
       | inr off ↦
           let one : item ≡ a = some_inj item a (rw here.0 at is) in
-          absurd (false_true (sym ((run_alone x earlier item later (and_left _ _ good) (ap (has_run x) one ∙ has)).alone off.0) ∙ found_any x b later (rw off.0 at also)))
+          absurd (false_true (sym ((run_alone x earlier item later (and_left _ _ good) (ap (has_run x) one ∙ has)).alone off.0) ∙
+          found_any x b later (rw off.0 at also)))
     ]
     | inr off ↦ elim (eq_cases item.r x) [
       | inl there ↦ absurd (said_before r x item a earlier later (and_right _ _ good) (rw off.0 at is) has (says_row x item there.1))
@@ -142,12 +152,14 @@ module _ (limits : Limits) (contents : Contents) where
     pub found : item_at r ≡ Some item
     pub has : has_run x item ≡ true
 
-  loaded_byte : (r x p : ℕ) (cell : Cell) (v : Representation) (z : Option Content) → item_at r ≡ z → option_map representation_of_content z ≡ Some v → v.body p ≡ Some cell → cell.x ≡ x → IsLoadedByte r x
+  loaded_byte : (r x p : ℕ) (cell : Cell) (v : Representation) (z : Option Content) → item_at r ≡ z → option_map representation_of_content z ≡ Some v →
+      v.body p ≡ Some cell → cell.x ≡ x → IsLoadedByte r x
   loaded_byte r x p cell v None found row there from = absurd (none_some v row)
   loaded_byte r x p cell v (Some item) found row there from = record {
     item = item;
     found = found;
-    has = ap (λ n. has_run n item) (sym from) ∙ of_run item.runs p cell (ap (λ (q : Representation). q.body p) (some_inj (representation_of_content item) v row) ∙ there);
+    has = ap (λ n. has_run n item) (sym from) ∙
+        of_run item.runs p cell (ap (λ (q : Representation). q.body p) (some_inj (representation_of_content item) v row) ∙ there);
   }
 
   pub byte_of : (r x : ℕ) → HasByte (first_tables contents) r x → IsLoadedByte r x
@@ -177,5 +189,6 @@ module _ (limits : Limits) (contents : Contents) where
       given_out = λ r x has. let b = byte_of r x has in range x (given r x b.item [] contents.items good b.found b.has);
       delivered = λ r x has. origins.begun refl;
       one = λ r q x a b. let c = byte_of r x a in let d = byte_of q x b in one_item r q x c.item d.item [] contents.items good c.found d.found c.has d.has;
-      own = λ r x has there. let b = byte_of r x has in let i = row_item x (item_at x) refl there in own_item r x b.item i.0 [] contents.items good b.found i.1 b.has;
+      own = λ r x has there. let b = byte_of r x has in let i = row_item x (item_at x) refl there in
+          own_item r x b.item i.0 [] contents.items good b.found i.1 b.has;
     }

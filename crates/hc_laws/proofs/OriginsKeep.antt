@@ -26,7 +26,8 @@ module _ (t : Tables) (e : Entry) where
     pub is : IsPiece t e r x bytes w
 
   -- a byte was there, or comes with a piece
-  by_fill : (r x p : ℕ) (cell : Cell) (v u : Representation) → t.representation r ≡ Some v → u.body p ≡ Some cell → cell.x ≡ x → Fills t e r v u → HasByte t r x ⊎ Brought r x
+  by_fill : (r x p : ℕ) (cell : Cell) (v u : Representation) → t.representation r ≡ Some v → u.body p ≡ Some cell → cell.x ≡ x → Fills t e r v u →
+      HasByte t r x ⊎ Brought r x
   by_fill r x p cell v u row there from (fill.still none body stored reach) = inl (origins.has_byte p cell v row (sym (ap (λ f. f p) body) ∙ there) from)
   by_fill r x p cell v u row there from (fill.more y bytes w is body stored reach) = elim (inside-cases (front w) (length bytes) p) [
     | inl here ↦
@@ -90,14 +91,17 @@ module _ (step : Step) (m : Measures step.tables) (g : Origins step.tables) wher
     where
       by_from : ExchangeFrom t e x u → ⊥
       by_from (exchange.was w at same) = none_some w (sym none ∙ at)
-      by_from (exchange.new z at opening here is) = let next : z.x ≡ t.opened + 1 = opens_next limits t now flaw s ev z goes opening in let same : z.x ≡ x = here in omega arith
+      by_from (exchange.new z at opening here is) = let next : z.x ≡ t.opened + 1 = opens_next limits t now flaw s ev z goes opening in
+          let same : z.x ≡ x = here in omega arith
 
   still : (r x : ℕ) → x ≤ t.opened → MayDeliver t r x → MayDeliver now_on r x
   still r x most (origins.begun none) = none_still r x most none (now_on.exchange x) refl
   still r x most (origins.came w row headed of_r) = by_head (is_on t e x w row).same.heard_or
     where
-      by_head : (((is_on t e x w row).u.head ≡ w.head) × ((is_on t e x w row).u.joined ≡ w.joined)) ⊎ exchange.IsHeaded t e x w (is_on t e x w row).u → MayDeliver now_on r x
-      by_head (inl same) = origins.came (is_on t e x w row).u (is_on t e x w row).row (ap is_some same.0 ∙ headed) (ap (λ (z : Option ℕ). unwrap_or z x) same.1 ∙ of_r)
+      by_head : (((is_on t e x w row).u.head ≡ w.head) × ((is_on t e x w row).u.joined ≡ w.joined)) ⊎ exchange.IsHeaded t e x w (is_on t e x w row).u →
+          MayDeliver now_on r x
+      by_head (inl same) = origins.came (is_on t e x w row).u (is_on t e x w row).row (ap is_some same.0 ∙ headed)
+          (ap (λ (z : Option ℕ). unwrap_or z x) same.1 ∙ of_r)
       by_head (inr h) = absurd (false_true (sym (ap is_some (is_new limits t now flaw s ev goes x h.response w h.at row).bare) ∙ headed))
 
   -- of one family
@@ -112,12 +116,14 @@ module _ (step : Step) (m : Measures step.tables) (g : Origins step.tables) wher
 
   headless_none : (r x : ℕ) (w : Exchange) → t.exchange x ≡ Some w → w.head ≡ None → MayDeliver t r x → ⊥
   headless_none r x w row bare (origins.begun none) = none_some w (sym none ∙ row)
-  headless_none r x w row bare (origins.came z at headed of_r) = false_true (sym (ap is_some (ap (λ (q : Exchange). q.head) (same_row (t.exchange x) z w at row) ∙ bare)) ∙ headed)
+  headless_none r x w row bare (origins.came z at headed of_r) =
+      false_true (sym (ap is_some (ap (λ (q : Exchange). q.head) (same_row (t.exchange x) z w at row) ∙ bare)) ∙ headed)
 
   own_by : (r x : ℕ) (u : Representation) → HasByte now_on r x → HasByte t r x ⊎ Brought t e r x → RepFrom t e x u → x ≡ r
   own_by r x u has (inl a) (rep.was v kept) = g.own r x a (some_there (t.representation x) v kept.row)
   own_by r x u has (inr b) (rep.was v kept) = sym (ap (λ (z : Option ℕ). unwrap_or z x) (o.founders x b.w v b.is.row kept.row)) ∙ b.is.of_r
-  own_by r x u has from (rep.founded response w none at row on is) = absurd (headless_none r x w row (is_new limits t now flaw s ev goes x response w at row).bare (before r x from).way)
+  own_by r x u has from (rep.founded response w none at row on is) =
+      absurd (headless_none r x w row (is_new limits t now flaw s ev goes x response w at row).bare (before r x from).way)
 
   own_row : (r x : ℕ) (z : Option Representation) → HasByte now_on r x → now_on.representation x ≡ z → is_some z ≡ true → x ≡ r
   own_row r x None has row there = absurd (false_true there)
@@ -133,7 +139,8 @@ module _ (step : Step) (m : Measures step.tables) (g : Origins step.tables) wher
 
   opened_by : (x : ℕ) (u : Exchange) → ExchangeFrom t e x u → 0 < x
   opened_by x u (exchange.was w row same) = g.opened x (some_there (t.exchange x) w row)
-  opened_by x u (exchange.new z none opening here is) = let next : z.x ≡ t.opened + 1 = opens_next limits t now flaw s ev z goes opening in let same : z.x ≡ x = here in omega arith
+  opened_by x u (exchange.new z none opening here is) = let next : z.x ≡ t.opened + 1 = opens_next limits t now flaw s ev z goes opening in
+      let same : z.x ≡ x = here in omega arith
 
   opened_row : (x : ℕ) (z : Option Exchange) → now_on.exchange x ≡ z → is_some z ≡ true → 0 < x
   opened_row x None row there = absurd (false_true there)
@@ -143,7 +150,8 @@ module _ (step : Step) (m : Measures step.tables) (g : Origins step.tables) wher
   origins_kept = record {
     founded = λ r there. founded_row r (now_on.representation r) refl there;
     opened = λ x there. opened_row x (now_on.exchange x) refl there;
-    given_out = λ r x has. let b = known r x has in let most : x ≤ t.opened = b.most in let more : t.opened ≤ now_on.opened = opened_more (opening_in e.acts) refl in (b.positive, omega arith);
+    given_out = λ r x has. let b = known r x has in let most : x ≤ t.opened = b.most in let more : t.opened ≤ now_on.opened =
+        opened_more (opening_in e.acts) refl in (b.positive, omega arith);
     delivered = λ r x has. let b = known r x has in still r x b.most b.way;
     one = λ r q x a b. one_by r q x (from_before t e r x a) (from_before t e q x b);
     own = λ r x has there. own_row r x (now_on.representation x) has refl there;

@@ -34,7 +34,8 @@ room_flaw z o = grind (arith, nat_tests)
 lost_flaw : (flaw : Flaw) (xs : List ℕ) → IsOfSize flaw → flaw_in (loss_acts flaw ++ map act.Close xs) ≡ flaw
 lost_flaw flaw xs of_size = grind (arith, nat_tests, closes_flaw)
 
-move_flaw : (c : ℕ) (m : Move) (rest : List Act) → ((r : ℕ) → m ≡ Fails (cause.StoreRead r) → ⊥) → flaw_in rest ≡ NoFlaw → flaw_in (acts_of c m ++ rest) ≡ NoFlaw
+move_flaw : (c : ℕ) (m : Move) (rest : List Act) → ((r : ℕ) → m ≡ Fails (cause.StoreRead r) → ⊥) → flaw_in rest ≡ NoFlaw → flaw_in
+    (acts_of c m ++ rest) ≡ NoFlaw
 move_flaw c m rest other none = grind (arith, nat_tests)
 
 module _ (limits : Limits) (t : Tables) (now : ℕ) (s : Sound t) (places : Places t) where
@@ -76,19 +77,23 @@ module _ (limits : Limits) (t : Tables) (now : ℕ) (acts : List Act) where
     beside : written_representation t (entry ev) ≡ Some r
     kept : is_kept (t.representation r) ≡ true
 
-  may_by : (ev : Event) (z : Room) → room_for limits t now ev ≡ z → (lacks z ≡ true → IsLosable ev) → may_be limits t (entry ev) (flaw_by_room z (written_representation t (entry_without_acts now ev))) ≡ true
+  may_by : (ev : Event) (z : Room) → room_for limits t now ev ≡ z → (lacks z ≡ true → IsLosable ev) →
+      may_be limits t (entry ev) (flaw_by_room z (written_representation t (entry_without_acts now ev))) ≡ true
   may_by ev z is losable = grind (arith, nat_tests)
 
 -- A HEAD THAT FOUNDS
 
-founding_writes : (t : Tables) (e : Entry) (x : ℕ) (response : Response) (w : Exchange) → e.event ≡ event.Head x response → t.exchange x ≡ Some w → is_founding (case_of t false e.event) ≡ true → head_writes t (lossless e) x response (t.exchange x) ≡ Some x
+founding_writes : (t : Tables) (e : Entry) (x : ℕ) (response : Response) (w : Exchange) → e.event ≡ event.Head x response → t.exchange x ≡ Some w →
+    is_founding (case_of t false e.event) ≡ true → head_writes t (lossless e) x response (t.exchange x) ≡ Some x
 founding_writes t e x response w at row founds = grind (arith, nat_tests, lossless, no_loss)
 
 module _ (limits : Limits) (t : Tables) (now : ℕ) (acts : List Act) (s : Sound t) where
   abbrev bare : Event → Entry
   bare ev = entry_without_acts now ev
 
-  by_founding : (x : ℕ) (response : Response) (w : Exchange) → t.exchange x ≡ Some w → w.head ≡ None → (b : Bool) → is_founding (case_of t false (event.Head x response)) ≡ b → lacks (room_by limits t (bare (event.Head x response)) (if b then Some write.Slot else None)) ≡ true → IsLosable limits t now acts (event.Head x response)
+  by_founding : (x : ℕ) (response : Response) (w : Exchange) → t.exchange x ≡ Some w → w.head ≡ None → (b : Bool) →
+      is_founding (case_of t false (event.Head x response)) ≡ b →
+      lacks (room_by limits t (bare (event.Head x response)) (if b then Some write.Slot else None)) ≡ true → IsLosable limits t now acts (event.Head x response)
   unfolding written_representation
   by_founding x response w row none false founds lacking = absurd (false_true lacking)
   by_founding x response w row none true founds lacking = record {
@@ -98,13 +103,18 @@ module _ (limits : Limits) (t : Tables) (now : ℕ) (acts : List Act) (s : Sound
     kept = ap is_kept (s.numbered.names.unfounded x w row none);
   }
 
-  by_head : (x : ℕ) (response : Response) (q : Option Exchange) → t.exchange x ≡ q → head_refusal (as_open q) ≡ None → lacks (room_by limits t (bare (event.Head x response)) (if is_founding (case_of t false (event.Head x response)) then Some write.Slot else None)) ≡ true → IsLosable limits t now acts (event.Head x response)
+  by_head : (x : ℕ) (response : Response) (q : Option Exchange) → t.exchange x ≡ q → head_refusal (as_open q) ≡ None →
+      lacks (room_by limits t (bare (event.Head x response)) (if is_founding (case_of t false (event.Head x response)) then Some write.Slot else None)) ≡
+      true → IsLosable limits t now acts (event.Head x response)
   by_head x response None row goes lacking = let never : Some refusal.NoExchange ≡ None = goes in cc
-  by_head x response (Some w) row goes lacking = by_founding x response w row (headless w goes) (is_founding (case_of t false (event.Head x response))) refl lacking
+  by_head x response (Some w) row goes lacking =
+      by_founding x response w row (headless w goes) (is_founding (case_of t false (event.Head x response))) refl lacking
 
   -- A PIECE
 
-  by_lost : (x : ℕ) (bytes : List ℕ) (w : Exchange) (v : Representation) → t.exchange x ≡ Some w → t.representation (family x w) ≡ Some v → (b : Bool) → v.is_lost ≡ b → lacks (room_by limits t (bare (event.Piece x bytes)) (if b then None else Some (write.Piece v.size (length bytes)))) ≡ true → IsLosable limits t now acts (event.Piece x bytes)
+  by_lost : (x : ℕ) (bytes : List ℕ) (w : Exchange) (v : Representation) → t.exchange x ≡ Some w → t.representation (family x w) ≡ Some v → (b : Bool) →
+      v.is_lost ≡ b → lacks (room_by limits t (bare (event.Piece x bytes)) (if b then None else Some (write.Piece v.size (length bytes)))) ≡ true →
+      IsLosable limits t now acts (event.Piece x bytes)
   unfolding written_representation
   by_lost x bytes w v row there true lost lacking = absurd (false_true lacking)
   by_lost x bytes w v row there false lost lacking =
@@ -112,11 +122,15 @@ module _ (limits : Limits) (t : Tables) (now : ℕ) (acts : List Act) (s : Sound
       ap (piece_writes t x) row ∙ (ap (unless_lost (family x w)) there ∙ ap (λ b. if b then None else Some (family x w)) lost) in
       record { r = family x w; without = writes; beside = writes; kept = ap is_kept there ∙ ap not lost }
 
-  by_stored : (x : ℕ) (bytes : List ℕ) (w : Exchange) (p : Option Representation) → t.exchange x ≡ Some w → t.representation (family x w) ≡ p → lacks (room_by limits t (bare (event.Piece x bytes)) (option_and_then (piece_write (length bytes)) p)) ≡ true → IsLosable limits t now acts (event.Piece x bytes)
+  by_stored : (x : ℕ) (bytes : List ℕ) (w : Exchange) (p : Option Representation) → t.exchange x ≡ Some w → t.representation (family x w) ≡ p →
+      lacks (room_by limits t (bare (event.Piece x bytes)) (option_and_then (piece_write (length bytes)) p)) ≡ true →
+      IsLosable limits t now acts (event.Piece x bytes)
   by_stored x bytes w None row there lacking = absurd (false_true lacking)
   by_stored x bytes w (Some v) row there lacking = by_lost x bytes w v row there v.is_lost refl lacking
 
-  by_piece : (x : ℕ) (bytes : List ℕ) (q : Option Exchange) → t.exchange x ≡ q → lacks (room_by limits t (bare (event.Piece x bytes)) (option_and_then (write_of_piece t x (length bytes)) q)) ≡ true → IsLosable limits t now acts (event.Piece x bytes)
+  by_piece : (x : ℕ) (bytes : List ℕ) (q : Option Exchange) → t.exchange x ≡ q →
+      lacks (room_by limits t (bare (event.Piece x bytes)) (option_and_then (write_of_piece t x (length bytes)) q)) ≡ true →
+      IsLosable limits t now acts (event.Piece x bytes)
   by_piece x bytes None row lacking = absurd (false_true lacking)
   by_piece x bytes (Some w) row lacking = by_stored x bytes w (t.representation (family x w)) row refl lacking
 

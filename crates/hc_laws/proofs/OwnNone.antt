@@ -67,4 +67,5 @@ module _ (t : Tables) (e : Entry) (c : ℕ) where
   own_none k u made none =
       let h = consumer_heard t e c e.event k in
       let acted : own_after t e c h.place (by_opening t c (opening_in e.acts) (waiting t e c h)).own ≡ None = ap (λ (z : Consumer). z.own) made ∙ none in
-      heard_none e.event k refl (opened_none (opening_in e.acts) (waiting t e c h) (after_none h.place (by_opening t c (opening_in e.acts) (waiting t e c h)).own acted))
+      heard_none e.event k refl
+      (opened_none (opening_in e.acts) (waiting t e c h) (after_none h.place (by_opening t c (opening_in e.acts) (waiting t e c h)).own acted))

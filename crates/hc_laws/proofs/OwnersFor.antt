@@ -17,7 +17,8 @@ use Rattle.hc_laws.proofs.RunFacts.{in_runs}
 pub record AreFor (limits : Limits) (t : Tables) : Type 0 where
   pub owner : (c x : ℕ) (k : Consumer) (w : Exchange) → t.consumer c ≡ Some k → k.own ≡ Some x → t.exchange x ≡ Some w → IsOwner t x w c
 
-module _ (step : Step) (m : Measures step.tables) (was : AreFor step.limits step.tables) (real : IsReal step.limits step.tables step.now step.event step.flaw) where
+module _ (step : Step) (m : Measures step.tables) (was : AreFor step.limits step.tables)
+    (real : IsReal step.limits step.tables step.now step.event step.flaw) where
   open step use {limits, tables as t, now, flaw, sound as s, owners as o, event as ev, accepted as goes}
 
   abbrev e : Entry
@@ -41,7 +42,8 @@ module _ (step : Step) (m : Measures step.tables) (was : AreFor step.limits step
     is_opener mine = whose.opener (same.c_is ∙ mine)
 
     -- with its head it still is of the family that it was of, or it was its consumer's
-    stays_alone : (v : Representation) → t.representation (family x w) ≡ Some v → ((p : Representation) → IsKept t e (family x w) v p → p.alone ≡ Some c) → family x z ≡ family x w → IsOwner now_on x z c
+    stays_alone : (v : Representation) → t.representation (family x w) ≡ Some v →
+        ((p : Representation) → IsKept t e (family x w) v p → p.alone ≡ Some c) → family x z ≡ family x w → IsOwner now_on x z c
     stays_alone v there alone family_is =
         let on = kept_row (family x w) v there in
         whose.alone on.0 (ap now_on.representation family_is ∙ on.1) (alone on.0 on.2)
@@ -53,7 +55,8 @@ module _ (step : Step) (m : Measures step.tables) (was : AreFor step.limits step
           let waits = o.waiting x w row new.is_open new.bare in
           o.one w.c c x waits.k k waits.row k_row waits.own own
 
-      still_alone : (v : Representation) → t.representation (family x w) ≡ Some v → v.alone ≡ Some c → (p : Representation) → IsKept t e (family x w) v p → p.alone ≡ Some c
+      still_alone : (v : Representation) → t.representation (family x w) ≡ Some v → v.alone ≡ Some c → (p : Representation) →
+          IsKept t e (family x w) v p → p.alone ≡ Some c
       still_alone v there alone p kept = elim (bool_cases (loses_in (family x w) e.acts)) [
         | inr quiet ↦ (kept_alone step m real (family x w) v p kept quiet).1 ∙ alone
         | inl loses ↦ absurd (none_some c (sym ((s.rows (family x w) v there).store.nobody_alone (fresh step m real (family x w) v there loses)) ∙ alone))
@@ -86,22 +89,29 @@ module _ (step : Step) (m : Measures step.tables) (was : AreFor step.limits step
           let of_r : family x w ≡ i.r = ap (family x) (sym one) ∙ g.1.family_is in
           let headed : is_some w.head ≡ true = ap (λ (q : Exchange). is_some q.head) (sym one) ∙ g.1.headed in
           elim same.heard_or [
-            | inl still ↦ stays_alone i.v (ap t.representation of_r ∙ i.row) (λ q kept. left_alone q (subst (λ n. IsKept t e n i.v q) of_r kept)) (ap (λ (q : Option ℕ). unwrap_or q x) still.1)
-            | inr came ↦ absurd (false_true (sym (ap (λ (q : Option Response). is_some q) (is_new limits t now flaw s ev goes x came.response w came.at row).bare) ∙ headed))
+            | inl still ↦ stays_alone i.v (ap t.representation of_r ∙ i.row) (λ q kept. left_alone q (subst (λ n. IsKept t e n i.v q) of_r kept))
+                (ap (λ (q : Option ℕ). unwrap_or q x) still.1)
+            | inr came ↦ absurd (false_true
+                (sym (ap (λ (q : Option Response). is_some q) (is_new limits t now flaw s ev goes x came.response w came.at row).bare) ∙ headed))
           ]
 
   by_from : (c x : ℕ) (u : Consumer) (z : Exchange) → OwnFrom t e c x u → ExchangeFrom t e x z → IsOwner now_on x z c
   by_from c x u z (own_by.kept k its own heard) (exchange.was w row same) = kept_owner c x u w z row same k its.row own (was.owner c x k w its.row own row)
-  by_from c x u z (own_by.kept k its own heard) (exchange.new q none opens here made) = absurd (false_true (sym (ap (λ (y : Option Exchange). is_some y) none) ∙ o.there c x k its.row own))
+  by_from c x u z (own_by.kept k its own heard) (exchange.new q none opens here made) =
+      absurd (false_true (sym (ap (λ (y : Option Exchange). is_some y) none) ∙ o.there c x k its.row own))
   by_from c x u z (own_by.opened k q its opens mine number) (exchange.was w row same) = absurd (none_some w (sym (new_number step q x opens number) ∙ row))
-  by_from c x u z (own_by.opened k q its opens mine number) (exchange.new p none also here made) = whose.opener (ap (λ (y : Exchange). y.c) (sym made) ∙ (ap (λ (y : Opening). y.c) (same_row (opening_in e.acts) p q also opens) ∙ mine))
+  by_from c x u z (own_by.opened k q its opens mine number) (exchange.new p none also here made) =
+      whose.opener (ap (λ (y : Exchange). y.c) (sym made) ∙ (ap (λ (y : Opening). y.c) (same_row (opening_in e.acts) p q also opens) ∙ mine))
   by_from c x u z (own_by.left k its i) (exchange.was w row same) = left_owner c x u w z row same _ i
   by_from c x u z (own_by.left k its i) (exchange.new p none opens here made) =
       let g = (s.rows i.r i.v i.row).growing x (and_right _ _ i.loses) i.writer_is in
       absurd (none_some g.0 (sym none ∙ g.1.row))
 
   for_kept : AreFor limits now_on
-  for_kept = record { owner = λ c x u z after own after_row. by_from c x u z (own_from t e c x (t.consumer c) u refl after own) (exchange_from t e x (t.exchange x) z refl after_row) }
+  for_kept = record {
+    owner =
+        λ c x u z after own after_row. by_from c x u z (own_from t e c x (t.consumer c) u refl after own) (exchange_from t e x (t.exchange x) z refl after_row);
+  }
 
 for_denied : (limits : Limits) (t : Tables) (e : Entry) → AreFor limits t → AreFor limits (after_denied t e)
 for_denied limits t e was = record { owner = λ c x k w row own exchange_row. by_owner x w c (was.owner c x k w row own exchange_row) }
@@ -111,4 +121,6 @@ for_denied limits t e was = record { owner = λ c x k w row own exchange_row. by
     by_owner x w c (whose.alone v there alone) = whose.alone v there alone
 
 pub owners_for : OfRunsIn AreFor
-owners_for = in_runs AreFor (λ limits contents may. record { owner = λ c x k w row. absurd (none_some k row) }) (λ limits t e later was. for_denied limits t e was) (λ limits t now flaw later c was ev goes real. for_kept (step_of limits t now flaw c.is_sound c.is_owned ev goes) c.is_measured was real)
+owners_for = in_runs AreFor (λ limits contents may. record { owner = λ c x k w row. absurd (none_some k row) })
+    (λ limits t e later was. for_denied limits t e was)
+    (λ limits t now flaw later c was ev goes real. for_kept (step_of limits t now flaw c.is_sound c.is_owned ev goes) c.is_measured was real)

@@ -5,7 +5,8 @@ use Rattle.hc_effects.proofs.Vocabulary.{Event, Limits, denial, Contents, Flaw, 
 use Rattle.hc_effects.proofs.{ApartKeeps.{apart_kept}, OwnersKeep.{openers_kept, there_kept, one_kept, first_kept, writers_kept}, PastKeeps.{past_kept}, ReadingKeeps.{reading_kept}, WaitingKeeps.{waiting_kept}, Step.{step_of}}
 use Rattle.hc_laws.proofs.{FirstDueKeeps.{first_due_kept}, FirstDues.{idle_kept}, Founders.{founders_kept}, PassedKeeps.{passed_kept}, KeysPlaces.{loaded_writer}}
 
-pub owners_kept : (limits : Limits) (t : Tables) (now : ℕ) (flaw : Flaw) → Sound t → Owners t → (ev : Event) → denial t ev ≡ None → may_stand limits t (entry_of limits t now ev flaw) ≡ true → Owners (after_accepted t (entry_of limits t now ev flaw))
+pub owners_kept : (limits : Limits) (t : Tables) (now : ℕ) (flaw : Flaw) → Sound t → Owners t → (ev : Event) → denial t ev ≡ None →
+    may_stand limits t (entry_of limits t now ev flaw) ≡ true → Owners (after_accepted t (entry_of limits t now ev flaw))
 owners_kept limits t now flaw s o ev goes stand = record {
   opener = λ x u row. openers_kept (step_of limits t now flaw s o ev goes) x u row;
   there = λ c x u row is. there_kept (step_of limits t now flaw s o ev goes) c x u row is;
@@ -19,7 +20,8 @@ owners_kept limits t now flaw s o ev goes stand = record {
   reading = λ c x u z row own also opened headed. reading_kept (step_of limits t now flaw s o ev goes) c x u z row own also opened headed;
   past = λ c x u row at off. past_kept (step_of limits t now flaw s o ev goes) stand c x u row at off;
   idle_due = λ c u row idle. idle_kept (step_of limits t now flaw s o ev goes) c u row idle;
-  first_due = λ r c d v k u after kept is_first row none reader. first_due_kept (step_of limits t now flaw s o ev goes) r c d v k u after kept is_first row none reader;
+  first_due = λ r c d v k u after kept is_first row none reader. first_due_kept (step_of limits t now flaw s o ev goes) r c d v k u after kept is_first
+      row none reader;
 }
 
 pub owners_begun : (contents : Contents) → Owners (first_tables contents)

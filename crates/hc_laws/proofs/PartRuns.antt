@@ -16,7 +16,8 @@ use Rattle.hc_rules.proofs.Statuses.{whole_is_no_part, whole_or_part}
 
 -- A RANGE THAT IS READ
 
-interval_some : (request : Request) (o : Option ℕ) (lo hi : ℕ) → is_some (range_of request) ≡ true → IsInterval (wanted_of (range_of request) o) lo (Some hi) → lo < hi
+interval_some : (request : Request) (o : Option ℕ) (lo hi : ℕ) → is_some (range_of request) ≡ true →
+    IsInterval (wanted_of (range_of request) o) lo (Some hi) → lo < hi
 interval_some request o lo hi on i =
     let lt : i.span.lo < i.span.hi = wanted_some (range_of request) o i.span on (range_order request) i.wanted_is in
     let last : i.span.hi ≡ hi = some_inj i.span.hi hi i.to in
@@ -24,7 +25,8 @@ interval_some request o lo hi on i =
 
 -- AN ENTRY
 
-range_brings : (t : Tables) (lost : Bool) (w : Exchange) (response : Response) → CaseBy (head_view t lost w response) case.FoundsRange → brings_part response.status ≡ true
+range_brings : (t : Tables) (lost : Bool) (w : Exchange) (response : Response) → CaseBy (head_view t lost w response) case.FoundsRange →
+    brings_part response.status ≡ true
 range_brings t lost w response (founds_range way status fits kept good) = status
 
 whole_total : (w : Exchange) (response : Response) → brings_whole response.status ≡ true → founded_total w response ≡ promise_in w response
@@ -56,13 +58,15 @@ module _ (limits : Limits) (t : Tables) (now : ℕ) (flaw : Flaw) (s : Sound t) 
   first_by c r lo hi y u on (from.founds k x response w row here exchange_row mine of_r by_is all) = absurd (hole_founding y by_is)
   first_by c r lo hi y u on (from.opens k o row is mine free way hole) =
       let h = waiting t e c (consumer_heard t e c ev k) in
-      interval_some h.request hole.v.head.total lo hi (ranged h u (request_is c r lo (Some hi) (by.FirstHole y) k u row ∙ sym (heard_same t e c ev k).request_is) on) hole.interval
+      interval_some h.request hole.v.head.total lo hi
+      (ranged h u (request_is c r lo (Some hi) (by.FirstHole y) k u row ∙ sym (heard_same t e c ev k).request_is) on) hole.interval
   first_by c r lo hi y u on (from.shows k z row is all) = absurd cc
 
   -- WHO FOUNDED
 
   -- the row of what an exchange founds
-  founded_row : (r x : ℕ) (response : Response) (w : Exchange) (v : Representation) → ev ≡ event.Head x response → t.exchange x ≡ Some w → x ≡ r → now_on.representation r ≡ Some v → (v.head.status ≡ response.status) × (v.head.total ≡ founded_total w response)
+  founded_row : (r x : ℕ) (response : Response) (w : Exchange) (v : Representation) → ev ≡ event.Head x response → t.exchange x ≡ Some w → x ≡ r →
+      now_on.representation r ≡ Some v → (v.head.status ≡ response.status) × (v.head.total ≡ founded_total w response)
   founded_row r x response w v here row of_r there = by_from (rep_from t e r (t.representation r) v refl there)
     where
       none : t.representation r ≡ None
@@ -78,7 +82,8 @@ module _ (limits : Limits) (t : Tables) (now : ℕ) (flaw : Flaw) (s : Sound t) 
           (status ∙ ap (λ (q : Response). q.status) same, total ∙ (ap (λ (q : Exchange). founded_total q answer) one ∙ ap (founded_total w) same))
 
   -- what was there keeps its status, and its length where that is known
-  kept_row : (r : ℕ) (v u : Representation) → t.representation r ≡ Some v → now_on.representation r ≡ Some u → (u.head.status ≡ v.head.status) × ((n : ℕ) → v.head.total ≡ Some n → u.head.total ≡ Some n)
+  kept_row : (r : ℕ) (v u : Representation) → t.representation r ≡ Some v → now_on.representation r ≡ Some u → (u.head.status ≡ v.head.status) ×
+      ((n : ℕ) → v.head.total ≡ Some n → u.head.total ≡ Some n)
   kept_row r v u row there = by_from (rep_from t e r (t.representation r) u refl there)
     where
       by_from : RepFrom t e r u → (u.head.status ≡ v.head.status) × ((n : ℕ) → v.head.total ≡ Some n → u.head.total ≡ Some n)
@@ -92,13 +97,16 @@ module _ (limits : Limits) (t : Tables) (now : ℕ) (flaw : Flaw) (s : Sound t) 
           )
       by_from (rep.founded answer z absent at exchange on is) = absurd (none_some v (sym absent ∙ row))
 
-  was_there : (c r lo hi : ℕ) (k : Consumer) → t.consumer c ≡ Some k → k.place ≡ place.Bound r lo (Some hi) by.Founding → (v : Representation) × (t.representation r ≡ Some v)
+  was_there : (c r lo hi : ℕ) (k : Consumer) → t.consumer c ≡ Some k → k.place ≡ place.Bound r lo (Some hi) by.Founding → (v : Representation) ×
+      (t.representation r ≡ Some v)
   was_there c r lo hi k row at = some_row (t.representation r) (s.numbered.bound_to r c k (sound.is_bound lo (Some hi) by.Founding row at))
 
-  part_by : (c r lo hi : ℕ) (u : Consumer) (v : Representation) → now_on.representation r ≡ Some v → brings_part v.head.status ≡ true → is_ranged u ≡ true → BoundFrom t e c r lo (Some hi) by.Founding u → lo < hi
+  part_by : (c r lo hi : ℕ) (u : Consumer) (v : Representation) → now_on.representation r ≡ Some v → brings_part v.head.status ≡ true →
+      is_ranged u ≡ true → BoundFrom t e c r lo (Some hi) by.Founding u → lo < hi
   part_by c r lo hi u v there status on (from.stays k row at) =
       let was = was_there c r lo hi k row.row at in
-      p.founded c r lo hi k was.0 row.row at was.1 (sym (ap brings_part (kept_row r was.0 v was.1 there).0) ∙ status) (ranged k u (request_is c r lo (Some hi) by.Founding k u row) on)
+      p.founded c r lo hi k was.0 row.row at was.1 (sym (ap brings_part (kept_row r was.0 v was.1 there).0) ∙ status)
+      (ranged k u (request_is c r lo (Some hi) by.Founding k u row) on)
   part_by c r lo hi u v there status on (from.founds k x response w row here exchange_row mine of_r by_is all) = by_case (case_at t e) refl all
     where
       never : brings_whole response.status ≡ true → lo < hi
@@ -106,12 +114,14 @@ module _ (limits : Limits) (t : Tables) (now : ℕ) (flaw : Flaw) (s : Sound t) 
 
       by_case : (g : Option HeadCase) → case_at t e ≡ g → IsFounded t e c r lo (Some hi) by.Founding x response w k g → lo < hi
       by_case _ is (from.whole a b) = never (whole_brings t (has_loss e.acts) w response (case_of_head t e x response w case.FoundsWhole here exchange_row is))
-      by_case _ is (from.replaced a b) = never (replaced_brings t (has_loss e.acts) w response (case_of_head t e x response w case.FirstReplaced here exchange_row is))
+      by_case _ is (from.replaced a b) =
+          never (replaced_brings t (has_loss e.acts) w response (case_of_head t e x response w case.FirstReplaced here exchange_row is))
       by_case _ is (from.part i) = interval_some k.request _ lo hi (ranged k u (request_is c r lo (Some hi) by.Founding k u row) on) i
   part_by c r lo hi u v there status on (from.opens k o row is mine free way hole) = absurd (hole_founding o.x (sym hole.by_is))
   part_by c r lo hi u v there status on (from.shows k z row is all) = absurd (founding_plan all.by_is)
 
-  whole_by : (c r lo hi : ℕ) (u : Consumer) (v : Representation) → now_on.representation r ≡ Some v → brings_part v.head.status ≡ false → BoundFrom t e c r lo (Some hi) by.Founding u → v.head.total ≡ Some hi
+  whole_by : (c r lo hi : ℕ) (u : Consumer) (v : Representation) → now_on.representation r ≡ Some v → brings_part v.head.status ≡ false →
+      BoundFrom t e c r lo (Some hi) by.Founding u → v.head.total ≡ Some hi
   whole_by c r lo hi u v there status (from.stays k row at) =
       let was = was_there c r lo hi k row.row at in
       let kept = kept_row r was.0 v was.1 there in
@@ -122,17 +132,24 @@ module _ (limits : Limits) (t : Tables) (now : ℕ) (flaw : Flaw) (s : Sound t) 
       founded = founded_row r x response w v here exchange_row of_r there
 
       by_case : (g : Option HeadCase) → case_at t e ≡ g → IsFounded t e c r lo (Some hi) by.Founding x response w k g → v.head.total ≡ Some hi
-      by_case _ is (from.whole a b) = founded.1 ∙ (whole_total w response (whole_brings t (has_loss e.acts) w response (case_of_head t e x response w case.FoundsWhole here exchange_row is)) ∙ sym b)
-      by_case _ is (from.replaced a b) = founded.1 ∙ (whole_total w response (replaced_brings t (has_loss e.acts) w response (case_of_head t e x response w case.FirstReplaced here exchange_row is)) ∙ sym b)
-      by_case _ is (from.part i) = absurd (false_true (sym status ∙ (ap brings_part founded.0 ∙ range_brings t (has_loss e.acts) w response (case_of_head t e x response w case.FoundsRange here exchange_row is))))
+      by_case _ is (from.whole a b) = founded.1 ∙
+          (whole_total w response (whole_brings t (has_loss e.acts) w response (case_of_head t e x response w case.FoundsWhole here exchange_row is)) ∙ sym b)
+      by_case _ is (from.replaced a b) = founded.1 ∙
+          (whole_total w response (replaced_brings t (has_loss e.acts) w response (case_of_head t e x response w case.FirstReplaced here exchange_row is))
+          ∙ sym b)
+      by_case _ is (from.part i) =
+          absurd (false_true (sym status ∙
+          (ap brings_part founded.0 ∙ range_brings t (has_loss e.acts) w response (case_of_head t e x response w case.FoundsRange here exchange_row is))))
   whole_by c r lo hi u v there status (from.opens k o row is mine free way hole) = absurd (hole_founding o.x (sym hole.by_is))
   whole_by c r lo hi u v there status (from.shows k z row is all) = absurd (founding_plan all.by_is)
 
   parts_kept : Parts now_on
   parts_kept = record {
     first = λ c r lo hi y u after at on. first_by c r lo hi y u on (bound_from t e c r lo (Some hi) (by.FirstHole y) (t.consumer c) u refl after at);
-    founded = λ c r lo hi u v after at there status on. part_by c r lo hi u v there status on (bound_from t e c r lo (Some hi) by.Founding (t.consumer c) u refl after at);
-    whole = λ c r lo hi u v after at there status. whole_by c r lo hi u v there status (bound_from t e c r lo (Some hi) by.Founding (t.consumer c) u refl after at);
+    founded = λ c r lo hi u v after at there status on. part_by c r lo hi u v there status on
+        (bound_from t e c r lo (Some hi) by.Founding (t.consumer c) u refl after at);
+    whole = λ c r lo hi u v after at there status. whole_by c r lo hi u v there status
+        (bound_from t e c r lo (Some hi) by.Founding (t.consumer c) u refl after at);
   }
 
 -- IN RUNS

@@ -27,7 +27,8 @@ module _ (step : Step) (c q : ℕ) (kept : Option ℕ) (k : Consumer) (row : ste
 
   pub data PassedFrom : Type 0 where
     stood : k.place ≡ at → PassedFrom
-    validates : (x : ℕ) (response : Response) (w : Exchange) → ev ≡ event.Head x response → t.exchange x ≡ Some w → w.c ≡ c → case_at t e ≡ Some case.Validated → w.aim ≡ Some q → kept ≡ Some x → PassedFrom
+    validates : (x : ℕ) (response : Response) (w : Exchange) → ev ≡ event.Head x response → t.exchange x ≡ Some w → w.c ≡ c →
+        case_at t e ≡ Some case.Validated → w.aim ≡ Some q → kept ≡ Some x → PassedFrom
     busies : (d : ℕ) → wait_in c e.acts ≡ Some (wait.Busy d) → kept ≡ kept_by h.place → current t h.request.key ≡ Some q → PassedFrom
 
   passed_inj : (r : ℕ) (o : Option ℕ) → place.Passed r o ≡ at → (r ≡ q) × (o ≡ kept)
@@ -47,16 +48,20 @@ module _ (step : Step) (c q : ℕ) (kept : Option ℕ) (k : Consumer) (row : ste
 
   -- THE HEAD OF ITS EXCHANGE
 
-  validated : (x : ℕ) (response : Response) (w : Exchange) (z : Option ℕ) → ev ≡ event.Head x response → t.exchange x ≡ Some w → w.c ≡ c → case_at t e ≡ Some case.Validated → w.aim ≡ z → passed_on x z ≡ at → PassedFrom
+  validated : (x : ℕ) (response : Response) (w : Exchange) (z : Option ℕ) → ev ≡ event.Head x response → t.exchange x ≡ Some w → w.c ≡ c →
+      case_at t e ≡ Some case.Validated → w.aim ≡ z → passed_on x z ≡ at → PassedFrom
   validated x response w None here there mine is aim p = absurd (line_passed p)
-  validated x response w (Some r) here there mine is aim p = let same = passed_inj r (Some x) p in validates x response w here there mine is (aim ∙ ap Some same.0) (sym same.1)
+  validated x response w (Some r) here there mine is aim p = let same = passed_inj r (Some x) p in
+      validates x response w here there mine is (aim ∙ ap Some same.0) (sym same.1)
 
-  placed : (x : ℕ) (response : Response) (w : Exchange) (g : Option HeadCase) → ev ≡ event.Head x response → t.exchange x ≡ Some w → w.c ≡ c → case_at t e ≡ g → place_by_case x response w k g ≡ at → PassedFrom
+  placed : (x : ℕ) (response : Response) (w : Exchange) (g : Option HeadCase) → ev ≡ event.Head x response → t.exchange x ≡ Some w → w.c ≡ c →
+      case_at t e ≡ g → place_by_case x response w k g ≡ at → PassedFrom
   placed x response w None here there mine is p = before p
   placed x response w (Some case.DirectTaken) here there mine is p = before p
   placed x response w (Some case.Validated) here there mine is p = validated x response w w.aim here there mine is refl p
   placed x response w (Some case.NotValidated) here there mine is p = before p
-  placed x response w (Some case.FoundsRange) here there mine is p = absurd (direct_passed x (wanted_passed x by.Founding (place.Direct x) (wanted_of (range_of k.request) (founded_total w response)) p))
+  placed x response w (Some case.FoundsRange) here there mine is p =
+      absurd (direct_passed x (wanted_passed x by.Founding (place.Direct x) (wanted_of (range_of k.request) (founded_total w response)) p))
   placed x response w (Some case.FirstJoins) here there mine is p = before p
   placed x response w (Some case.FirstChanged) here there mine is p = before p
   placed x response w (Some case.LaterBad) here there mine is p = before p
@@ -64,7 +69,8 @@ module _ (step : Step) (c q : ℕ) (kept : Option ℕ) (k : Consumer) (row : ste
   placed x response w (Some case.LaterChanged) here there mine is p = before p
   placed x response w _ here there mine is p = cc
 
-  headed : (x : ℕ) (response : Response) (z : Option Exchange) → ev ≡ event.Head x response → t.exchange x ≡ z → (by_head t e c x response z k).place ≡ at → PassedFrom
+  headed : (x : ℕ) (response : Response) (z : Option Exchange) → ev ≡ event.Head x response → t.exchange x ≡ z →
+      (by_head t e c x response z k).place ≡ at → PassedFrom
   headed x response None here there is = before is
   headed x response (Some w) here there is = elim (eq_cases w.c c) [
     | inr other ↦ before (rw other.0 at is)
@@ -110,7 +116,8 @@ module _ (step : Step) (c q : ℕ) (kept : Option ℕ) (k : Consumer) (row : ste
   passed_before u is stands =
       let acted = settled (consumer_acted t e c h) u (starts_over t e c k) is stands in
       let unshown = stays (shown_place c (showing_in e.acts) (by_opening t c (opening_in e.acts) (waiting t e c h)).place) (leaves_in c e.acts) acted in
-      waits (wait_in c e.acts) refl (opened (waiting t e c h) (opening_in e.acts) (shown (by_opening t c (opening_in e.acts) (waiting t e c h)).place (showing_in e.acts) unshown))
+      waits (wait_in c e.acts) refl
+      (opened (waiting t e c h) (opening_in e.acts) (shown (by_opening t c (opening_in e.acts) (waiting t e c h)).place (showing_in e.acts) unshown))
 
 module _ (step : Step) where
   open step use {limits, tables as t, now, flaw, event as ev}
@@ -126,10 +133,12 @@ module _ (step : Step) where
     pub row : t.consumer c ≡ Some k
     pub from : PassedFrom step c q kept k row
 
-  by_row : (c q : ℕ) (kept : Option ℕ) (z : Option Consumer) (u : Consumer) → t.consumer c ≡ z → consumer_after t made_e c z ≡ Some u → u.place ≡ place.Passed q kept → IsPassedRow c q kept
+  by_row : (c q : ℕ) (kept : Option ℕ) (z : Option Consumer) (u : Consumer) → t.consumer c ≡ z → consumer_after t made_e c z ≡ Some u →
+      u.place ≡ place.Passed q kept → IsPassedRow c q kept
   unfolding consumer_after
   by_row c q kept None u row is stands = absurd (started c q kept ev u is stands)
   by_row c q kept (Some k) u row is stands = record { k = k; row = row; from = passed_before step c q kept k row u (some_inj _ u is) stands }
 
-  pub passed_from : (c q : ℕ) (kept : Option ℕ) (u : Consumer) → (after_accepted t made_e).consumer c ≡ Some u → u.place ≡ place.Passed q kept → IsPassedRow c q kept
+  pub passed_from : (c q : ℕ) (kept : Option ℕ) (u : Consumer) → (after_accepted t made_e).consumer c ≡ Some u → u.place ≡ place.Passed q kept →
+      IsPassedRow c q kept
   passed_from c q kept u row stands = by_row c q kept (t.consumer c) u refl row stands

@@ -24,7 +24,8 @@ module _ (step : Step) where
   plain_as : (c : ℕ) (u k : Consumer) → t.consumer c ≡ Some u → t.consumer c ≡ Some k → is_bypassing u.request ≡ false → is_bypassing k.request ≡ false
   plain_as c u k at row plain = sym (ap (λ (z : Consumer). is_bypassing z.request) (same_row (t.consumer c) u k at row)) ∙ plain
 
-  validated : (c x : ℕ) (response : Response) (w : Exchange) (k : Consumer) → t.consumer c ≡ Some k → ev ≡ event.Head x response → t.exchange x ≡ Some w → w.c ≡ c → case_at t e ≡ Some case.Validated → is_bypassing k.request ≡ false
+  validated : (c x : ℕ) (response : Response) (w : Exchange) (k : Consumer) → t.consumer c ≡ Some k → ev ≡ event.Head x response → t.exchange x ≡ Some w →
+      w.c ≡ c → case_at t e ≡ Some case.Validated → is_bypassing k.request ≡ false
   validated c x response w k row here there mine is =
       let asks : w.need ≡ need.Validate = validated_need t (has_loss e.acts) w response (case_of_head t e x response w case.Validated here there is) in
       let opener = o.opener x w there in
@@ -33,12 +34,14 @@ module _ (step : Step) where
   busy : (c d : ℕ) (k : Consumer) → t.consumer c ≡ Some k → wait_in c e.acts ≡ Some (wait.Busy d) → is_bypassing k.request ≡ false
   busy c d k row is =
       let by_poll = waiting_by limits t now flaw s ev goes c (wait.Busy d) is in
-      plain_as c by_poll.k k by_poll.poll.row row ((waited_as t now c by_poll.k (wait.Busy d) (waited.busy d) by_poll.want s by_poll.poll.row by_poll.move).plain d refl)
+      plain_as c by_poll.k k by_poll.poll.row row
+      ((waited_as t now c by_poll.k (wait.Busy d) (waited.busy d) by_poll.want s by_poll.poll.row by_poll.move).plain d refl)
 
   plain_before : (c q : ℕ) (kept : Option ℕ) (k : Consumer) (row : t.consumer c ≡ Some k) → PassedFrom step c q kept k row → is_bypassing k.request ≡ false
   plain_before c q kept k row it5 = grind (arith, nat_tests, validated, busy)
 
-  pub passed_kept : (c q : ℕ) (kept : Option ℕ) (u : Consumer) → (after_accepted t e).consumer c ≡ Some u → u.place ≡ place.Passed q kept → is_bypassing u.request ≡ false
+  pub passed_kept : (c q : ℕ) (kept : Option ℕ) (u : Consumer) → (after_accepted t e).consumer c ≡ Some u → u.place ≡ place.Passed q kept →
+      is_bypassing u.request ≡ false
   passed_kept c q kept u row stands =
       let before = passed_from step c q kept u row stands in
       let on = is_kept t e c before.k before.row in

@@ -9,7 +9,14 @@ module _ (t : Tables) (o : Owners t) (turns : Turns t) (places : Places t) (stan
   waits_by : (c r : ℕ) (kept : Option ℕ) (k : Consumer) → t.consumer c ≡ Some k → k.place ≡ place.Passed r kept → WaitsForCurrent t r k
   waits_by c r kept k row at =
       let p = turns.passed c r kept k row at in
-      record { v = p.v; row = p.row; key_is = current_key t k.request.key r p.v p.current_is p.row; not_gone = current_stays t k.request.key r p.v p.current_is p.row; current_is = p.current_is }
+      record {
+        v = p.v;
+        row = p.row;
+        key_is = current_key t k.request.key r p.v p.current_is p.row;
+        not_gone =
+            current_stays t k.request.key r p.v p.current_is p.row;
+        current_is = p.current_is;
+      }
 
   -- what is its own and not open is over
   over_by : (x : ℕ) (w : Exchange) (k : Consumer) (b : Bool) → k.own ≡ Some x → t.exchange x ≡ Some w → own_open t k ≡ None → w.is_open ≡ b → b ≡ false
@@ -19,10 +26,18 @@ module _ (t : Tables) (o : Owners t) (turns : Turns t) (places : Places t) (stan
   kept_by c r x k row at =
       let own : k.own ≡ Some x = subst (λ p. Stands p k.own k.request) at (stands.stands c k row) in
       let there = some_row (t.exchange x) (o.there c x k row own) in
-      record { own = own; w = there.0; row = there.1; over = over_by x there.0 k there.0.is_open own there.1 (places.passed c r (Some x) k row at).unowned refl }
+      record {
+        own = own;
+        w = there.0;
+        row = there.1;
+        over =
+            over_by x there.0 k there.0.is_open own there.1 (places.passed c r (Some x) k row at).unowned refl;
+      }
 
   passed_by : Passed t
   passed_by = record { waits = waits_by; kept = kept_by; unkept = λ c r k row at. subst (λ p. Stands p k.own k.request) at (stands.stands c k row) }
 
 pub passed_in_runs : OfRuns Passed
-passed_in_runs limits contents h may run = passed_by (tables contents h) (owners_in_runs limits contents h may run) (turned_in_runs limits contents h may run).turns (places_in_runs limits contents h may run) (known_in_runs limits contents h may run).standing
+passed_in_runs limits contents h may run =
+    passed_by (tables contents h) (owners_in_runs limits contents h may run) (turned_in_runs limits contents h may run).turns
+    (places_in_runs limits contents h may run) (known_in_runs limits contents h may run).standing

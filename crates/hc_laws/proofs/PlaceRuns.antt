@@ -37,8 +37,10 @@ known_begun contents = record {
 known_denied : (t : Tables) (e : Entry) → IsKnown t → IsKnown (after_denied t e)
 known_denied t e known = record {
   owned = record {
-    direct = λ c x k row at. let i = known.owned.direct c x k row at in record { its = record { w = i.its.w; row = i.its.row; for_it = i.its.for_it; own = i.its.own }; unjoined = i.unjoined };
-    turn = λ c x k row at. let i = known.owned.turn c x k row at in record { its = record { w = i.its.w; row = i.its.row; for_it = i.its.for_it; own = i.its.own }; is_open = i.is_open };
+    direct = λ c x k row at. let i = known.owned.direct c x k row at in
+        record { its = record { w = i.its.w; row = i.its.row; for_it = i.its.for_it; own = i.its.own }; unjoined = i.unjoined };
+    turn = λ c x k row at. let i = known.owned.turn c x k row at in
+        record { its = record { w = i.its.w; row = i.its.row; for_it = i.its.for_it; own = i.its.own }; is_open = i.is_open };
   };
   reads = record { read = λ x w row on headed none. let r = known.reads.read x w row on headed none in record { k = r.k; row = r.row; place_is = r.place_is } };
   readers = record { shown = known.readers.shown };
@@ -55,7 +57,13 @@ record IsBefore (t : Tables) : Type 0 where
   bounded : IsBounded t
 
 before : OfRuns IsBefore
-before limits contents h may run = record { fallback = fallback limits contents h may run; turns = (turned_in_runs limits contents h may run).turns; bounded = bounded limits contents h may run }
+before limits contents h may run =
+    record {
+      fallback = fallback limits contents h may run;
+      turns = (turned_in_runs limits contents h may run).turns;
+      bounded =
+          bounded limits contents h may run;
+    }
 
 pub known_in_runs : OfRuns IsKnown
 known_in_runs = in_runs_with (λ limits t. IsKnown t) (λ limits t. IsBefore t) before
@@ -162,14 +170,17 @@ module _ (t : Tables) (s : Sound t) (o : Owners t) (a : IsFallback t) (b : IsBou
           headless = bare;
           idle = idle_by (unshown_by (λ r. subst IsReader at r)) (ap reads at);
         }
-        by_head (Some response) is = absurd (turn_reading x k.place at (o.reading c x k i.its.w row i.its.own i.its.row i.is_open (ap (λ (q : Option Response). is_some q) is)))
+        by_head (Some response) is =
+            absurd (turn_reading x k.place at (o.reading c x k i.its.w row i.its.own i.its.row i.is_open (ap (λ (q : Option Response). is_some q) is)))
 
     -- of an exchange without a head it was shown none, and that has no body
     unheard : (x : ℕ) (w : Exchange) → t.exchange x ≡ Some w → w.head ≡ None → k.place ≡ place.Direct x → IsUnheard w k
     unheard x w exchange_row bare at = by_past (o.past c x k row at off)
       where
         bare_not : (q : Exchange) → t.exchange x ≡ Some q → is_some q.head ≡ true → ⊥
-        bare_not q there headed = false_true (sym (ap (λ (z : Option Response). is_some z) (ap (λ (z : Exchange). z.head) (same_row (t.exchange x) q w there exchange_row) ∙ bare)) ∙ headed)
+        bare_not q there headed =
+            false_true (sym (ap (λ (z : Option Response). is_some z)
+            (ap (λ (z : Exchange). z.head) (same_row (t.exchange x) q w there exchange_row) ∙ bare)) ∙ headed)
 
         off : k.shown ≡ false
         off = never_true k.shown (λ on. let h = a.apart.headed c x k row at on in bare_not h.w h.row h.headed)
@@ -177,7 +188,8 @@ module _ (t : Tables) (s : Sound t) (o : Owners t) (a : IsFallback t) (b : IsBou
         by_past : IsPast t x k → IsUnheard w k
         by_past (owners.answered q there headed) = absurd (bare_not q there headed)
         by_past (owners.waits q mine there on empty) = record {
-          past = direct_route x w k.place at (awaiting x w mine exchange_row (sym (ap (λ (z : Exchange). z.is_open) (same_row (t.exchange x) q w there exchange_row)) ∙ on) bare);
+          past = direct_route x w k.place at
+              (awaiting x w mine exchange_row (sym (ap (λ (z : Exchange). z.is_open) (same_row (t.exchange x) q w there exchange_row)) ∙ on) bare);
           is_open = sym (ap (λ (z : Exchange). z.is_open) (same_row (t.exchange x) q w there exchange_row)) ∙ on;
           unshown = off;
           empty = (s.waits.headless x w exchange_row bare).0;
@@ -187,7 +199,18 @@ module _ (t : Tables) (s : Sound t) (o : Owners t) (a : IsFallback t) (b : IsBou
     reads_past : (x : ℕ) → k.place ≡ place.Direct x → ReadsPast t c x k
     reads_past x at =
         let i = known.owned.direct c x k row at in
-        record { w = i.its.w; row = i.its.row; for_it = i.its.for_it; own = i.its.own; unjoined = i.unjoined; unfounded = a.apart.unfounded c x k row at; given = known.past.given c x k i.its.w row at i.its.row; unheard = λ bare. unheard x i.its.w i.its.row bare at; undue = λ on. known.past.undue c x k i.its.w row at i.its.row on }
+        record {
+          w = i.its.w;
+          row = i.its.row;
+          for_it = i.its.for_it;
+          own = i.its.own;
+          unjoined = i.unjoined;
+          unfounded = a.apart.unfounded c x k row at;
+          given = known.past.given c x k i.its.w row at i.its.row;
+          unheard = λ bare. unheard x i.its.w i.its.row bare at;
+          undue =
+              λ on. known.past.undue c x k i.its.w row at i.its.row on;
+        }
 
   stands_at : (c : ℕ) (k : Consumer) → t.consumer c ≡ Some k → (p : Place) → k.place ≡ p → Stands p k.own k.request
   stands_at c k row p at = subst (λ z. Stands z k.own k.request) at (known.standing.stands c k row)
@@ -219,7 +242,8 @@ module _ (t : Tables) (s : Sound t) (o : Owners t) (a : IsFallback t) (b : IsBou
 pub places_in_runs : OfRuns Places
 places_in_runs limits contents h may run =
     let c = carried limits contents h may run in
-    places_by (tables contents h) c.is_sound c.is_owned (fallback limits contents h may run) (bounded limits contents h may run) (turned_in_runs limits contents h may run).turns c.beside (known_in_runs limits contents h may run)
+    places_by (tables contents h) c.is_sound c.is_owned (fallback limits contents h may run) (bounded limits contents h may run)
+    (turned_in_runs limits contents h may run).turns c.beside (known_in_runs limits contents h may run)
 
 pub endings_in_runs : OfRuns Endings
 endings_in_runs limits contents h may run = record {

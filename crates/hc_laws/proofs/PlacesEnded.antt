@@ -17,7 +17,8 @@ abbrev pub IsAllCome : Exchange → Type 0
 IsAllCome w = end_of_direct (promised_bytes w) w ≡ Some (front w)
 
 pub record AreEnded (t : Tables) : Type 0 where
-  pub past : (c x : ℕ) (k : Consumer) (w : Exchange) → t.consumer c ≡ Some k → k.place ≡ place.Direct x → t.exchange x ≡ Some w → w.is_open ≡ false → k.due ≡ None → IsAllCome w
+  pub past : (c x : ℕ) (k : Consumer) (w : Exchange) → t.consumer c ≡ Some k → k.place ≡ place.Direct x → t.exchange x ≡ Some w → w.is_open ≡ false →
+      k.due ≡ None → IsAllCome w
 
 -- as many bytes as were promised
 reported_come : (w : Exchange) (n : ℕ) → promised_bytes w ≡ Some n → n ≡ length w.body → IsAllCome w
@@ -48,7 +49,8 @@ acted_come x acts w came = by_promise (promised_bytes w) came
     by_promise None h = h
     by_promise (Some n) h = h
 
-module _ (step : Step) (m : Measures step.tables) (a : IsFallback step.tables) (bounds : IsBounded step.tables) (g : AreOwn step.tables) (ended : AreEnded step.tables) where
+module _ (step : Step) (m : Measures step.tables) (a : IsFallback step.tables) (bounds : IsBounded step.tables) (g : AreOwn step.tables)
+    (ended : AreEnded step.tables) where
   open step use {limits, tables as t, now, flaw, sound as s, event as ev, accepted as goes}
 
   abbrev e : Entry
@@ -61,7 +63,8 @@ module _ (step : Step) (m : Measures step.tables) (a : IsFallback step.tables) (
   abbrev now_on : Tables
   now_on = after_accepted t e
 
-  module _ (c y : ℕ) (k u : Consumer) (f : IsFrom t e c y k u) (stands : u.place ≡ place.Direct y) (w : Exchange) (row : t.exchange y ≡ Some w) (mine : w.c ≡ c) where
+  module _ (c y : ℕ) (k u : Consumer) (f : IsFrom t e c y k u) (stands : u.place ≡ place.Direct y) (w : Exchange) (row : t.exchange y ≡ Some w)
+      (mine : w.c ≡ c) where
     own_test : (w.c == c) ≡ true
     own_test = elim (eq_cases w.c c) [
       | inl hit ↦ hit.0
@@ -69,19 +72,22 @@ module _ (step : Step) (m : Measures step.tables) (a : IsFallback step.tables) (
     ]
 
     heard_at : (v : Event) → ((d want : ℕ) → ev ≡ event.Poll d want → ⊥) → ev ≡ v → (consumer_heard t e c v k).place ≡ place.Direct y
-    heard_at v unpolled here = sym (ap (λ z. (consumer_heard t e c z k).place) here) ∙ (sym (heard_place step c 0 0 None by.Plan k u unpolled (record { row = f.row; stays = f.stays; leaves = f.leaves; is = f.is })) ∙ stands)
+    heard_at v unpolled here = sym (ap (λ z. (consumer_heard t e c z k).place) here) ∙
+        (sym (heard_place step c 0 0 None by.Plan k u unpolled (record { row = f.row; stays = f.stays; leaves = f.leaves; is = f.is })) ∙ stands)
 
     -- IT ISN'T CLOSED
 
     cancelled : ev ≡ event.Cancel c → ⊥
     cancelled here = elim (eq_cases c c) [
-      | inl hit ↦ over_direct y (rw hit.0 at (heard_at (event.Cancel c) (λ d want polls. let no : event.Cancel c ≡ event.Poll d want = sym here ∙ polls in cc) here))
+      | inl hit ↦ over_direct y
+          (rw hit.0 at (heard_at (event.Cancel c) (λ d want polls. let no : event.Cancel c ≡ event.Poll d want = sym here ∙ polls in cc) here))
       | inr off ↦ off.1 refl
     ]
 
     head_left : (response : Response) → ev ≡ event.Head y response → is_refused (case_at t e) ≡ false
     head_left response here =
-        let at : (by_head t e c y response (t.exchange y) k).place ≡ place.Direct y = heard_at (event.Head y response) (λ d want polls. head_poll step a g y d want response (sym here ∙ polls)) here in
+        let at : (by_head t e c y response (t.exchange y) k).place ≡ place.Direct y =
+        heard_at (event.Head y response) (λ d want polls. head_poll step a g y d want response (sym here ∙ polls)) here in
         let there : (by_head t e c y response (Some w) k).place ≡ place.Direct y = ap (λ z. (by_head t e c y response z k).place) (sym row) ∙ at in
         (left_past step a g c y response k w here row mine f.row y (rw own_test at there)).4
 
@@ -91,7 +97,8 @@ module _ (step : Step) (m : Measures step.tables) (a : IsFallback step.tables) (
         by_event : (v : Event) → ev ≡ v → brings_head y v ≡ true → ⊥
         by_event (event.Head x response) here test =
             let same : x ≡ y = grind (arith, nat_tests) in
-            false_true (sym (head_left response (here ∙ ap (λ n. event.Head n response) same)) ∙ (ap is_refused (case_same step) ∙ and_left _ (brings_head y ev) h))
+            false_true (sym (head_left response (here ∙ ap (λ n. event.Head n response) same)) ∙
+            (ap is_refused (case_same step) ∙ and_left _ (brings_head y ev) h))
         by_event _ here test = false_true test
 
     module _ (at : k.place ≡ place.Direct y) where
@@ -99,7 +106,8 @@ module _ (step : Step) (m : Measures step.tables) (a : IsFallback step.tables) (
       own = (g.direct c y k f.row at).its.own
 
       family_is : family y w ≡ y
-      family_is = let all = g.direct c y k f.row at in ap (λ (q : Option ℕ). unwrap_or q y) (ap (λ (q : Exchange). q.joined) (same_row (t.exchange y) w all.its.w row all.its.row) ∙ all.unjoined)
+      family_is = let all = g.direct c y k f.row at in
+          ap (λ (q : Option ℕ). unwrap_or q y) (ap (λ (q : Exchange). q.joined) (same_row (t.exchange y) w all.its.w row all.its.row) ∙ all.unjoined)
 
       awaits_not : awaits (t.consumer w.c) y ≡ false
       awaits_not = ap (λ z. awaits z y) (ap t.consumer mine ∙ f.row) ∙ ap (λ p. is_number (awaited_exchange p) y) at
@@ -158,8 +166,10 @@ module _ (step : Step) (m : Measures step.tables) (a : IsFallback step.tables) (
       head_come : (response : Response) → ev ≡ event.Head y response → (with_head t e response w).is_open ≡ false → IsAllCome (with_head t e response w)
       head_come response here off =
           let new = is_new limits t now flaw s ev goes y response w here row in
-          let reached : is_reached (promise_in w response) 0 ≡ true = by_test _ (sym (ap (λ q. not (is_reached (promise_in w response) 0) && q) new.is_open) ∙ off) in
-          reached_come (with_head t e response w) (ap (λ (xs : List ℕ). is_reached (promise_in w response) (length xs)) ((s.waits.headless y w row new.bare).0) ∙ reached)
+          let reached : is_reached (promise_in w response) 0 ≡ true =
+          by_test _ (sym (ap (λ q. not (is_reached (promise_in w response) 0) && q) new.is_open) ∙ off) in
+          reached_come (with_head t e response w)
+          (ap (λ (xs : List ℕ). is_reached (promise_in w response) (length xs)) ((s.waits.headless y w row new.bare).0) ∙ reached)
         where
           by_test : (q : Bool) → (not q && true) ≡ false → q ≡ true
           by_test true h = refl
@@ -192,7 +202,9 @@ module _ (step : Step) (m : Measures step.tables) (a : IsFallback step.tables) (
           ]
 
       fault_not : ev ≡ event.Fault y → w.is_open ≡ true → ⊥
-      fault_not here on = none_some _ (sym (sym (ap (stop_cause t) here) ∙ stop_none (stood_at (λ response is. let no : event.Fault y ≡ event.Head y response = sym here ∙ is in cc)) on (ap exchange_in here)))
+      fault_not here on = none_some _
+          (sym (sym (ap (stop_cause t) here) ∙
+          stop_none (stood_at (λ response is. let no : event.Fault y ≡ event.Head y response = sym here ∙ is in cc)) on (ap exchange_in here)))
 
       all_come : (v : Event) → ev ≡ v → (exchange_heard t e y v w).is_open ≡ false → IsAllCome (exchange_heard t e y v w)
       all_come (event.Start d request) here off = was_over (λ response is. let no : event.Start d request ≡ event.Head y response = sym here ∙ is in cc) off
@@ -229,9 +241,11 @@ module _ (step : Step) (m : Measures step.tables) (a : IsFallback step.tables) (
         by_from c y from.0 u z after stands from.1 after_row off none (exchange_from t e y (t.exchange y) z refl after_row);
   }
     where
-      by_from : (c y : ℕ) (k u : Consumer) (z : Exchange) → now_on.consumer c ≡ Some u → u.place ≡ place.Direct y → IsFrom t e c y k u → now_on.exchange y ≡ Some z → z.is_open ≡ false → u.due ≡ None → ExchangeFrom t e y z → IsAllCome z
+      by_from : (c y : ℕ) (k u : Consumer) (z : Exchange) → now_on.consumer c ≡ Some u → u.place ≡ place.Direct y → IsFrom t e c y k u →
+          now_on.exchange y ≡ Some z → z.is_open ≡ false → u.due ≡ None → ExchangeFrom t e y z → IsAllCome z
       by_from c y k u z after stands f after_row off none (exchange.was w row same) =
           let i = owned.direct c y u after stands in
           let mine : w.c ≡ c = sym same.c_is ∙ (ap (λ (q : Exchange). q.c) (same_row (now_on.exchange y) z i.its.w after_row i.its.row) ∙ i.its.for_it) in
           still_come c y k u f stands w row mine none z after_row off
-      by_from c y k u z after stands f after_row off none (exchange.new q before opens here made) = absurd (false_true (sym off ∙ ap (λ (w : Exchange). w.is_open) (sym made)))
+      by_from c y k u z after stands f after_row off none (exchange.new q before opens here made) =
+          absurd (false_true (sym off ∙ ap (λ (w : Exchange). w.is_open) (sym made)))

@@ -130,7 +130,8 @@ module _ (step : Step) (a : IsFallback step.tables) (g : AreOwn step.tables) whe
   pub own_is : (c : ℕ) (k u : Consumer) → FreeRow c k u → Unopened c → u.own ≡ own_after t e c (consumer_heard t e c ev k).place (consumer_heard t e c ev k).own
   own_is c k u row none =
       let h = consumer_heard t e c ev k in
-      sym (ap (λ (z : Consumer). z.own) row.is) ∙ ap (λ (q : Consumer). own_after t e c h.place q.own) (opening_stays c (waiting t e c h) (opening_in e.acts) refl none)
+      sym (ap (λ (z : Consumer). z.own) row.is) ∙
+      ap (λ (q : Consumer). own_after t e c h.place q.own) (opening_stays c (waiting t e c h) (opening_in e.acts) refl none)
 
   -- only a poll opens
   pub unopened : ((d want : ℕ) → ev ≡ event.Poll d want → ⊥) → (c : ℕ) → Unopened c
@@ -141,7 +142,8 @@ module _ (step : Step) (a : IsFallback step.tables) (g : AreOwn step.tables) whe
   waits_not y k w mine row on bare heard =
       let own : own_open t k ≡ Some y = rw (mine, row, on) refl in
       let headless : is_headless (t.exchange y) ≡ true = rw (row, on, bare) refl in
-      let waits : option_and_then (if_headless t) (own_open t k) ≡ Some y = ap (option_and_then (if_headless t)) own ∙ ap (λ b. cond b (Some y) None) headless in
+      let waits : option_and_then (if_headless t) (own_open t k) ≡ Some y = ap (option_and_then (if_headless t)) own ∙
+      ap (λ b. cond b (Some y) None) headless in
       some_none y (sym waits ∙ heard)
 
   pub past_not : (y : ℕ) (k : Consumer) → k.place ≡ place.Direct y → shows_at t k k.place ≡ None → IsHeard t k → IsPast t y k → ⊥
@@ -162,7 +164,8 @@ module _ (step : Step) (a : IsFallback step.tables) (g : AreOwn step.tables) whe
 
   -- ITS HEAD
 
-  module _ (c x : ℕ) (response : Response) (k : Consumer) (w : Exchange) (here : ev ≡ event.Head x response) (exchange_row : t.exchange x ≡ Some w) (mine : w.c ≡ c) (row : t.consumer c ≡ Some k) where
+  module _ (c x : ℕ) (response : Response) (k : Consumer) (w : Exchange) (here : ev ≡ event.Head x response) (exchange_row : t.exchange x ≡ Some w)
+      (mine : w.c ≡ c) (row : t.consumer c ≡ Some k) where
     got : (q : Consumer) × IsWaiter t w.c x q w
     got = let new = is_new limits t now flaw s ev goes x response w here exchange_row in waiter_of step x w exchange_row new.is_open new.bare
 
@@ -243,7 +246,8 @@ module _ (step : Step) (a : IsFallback step.tables) (g : AreOwn step.tables) whe
     pub turn_left : (y : ℕ) → place_by_case x response w k (case_at t e) ≡ place.Turn y → starts_over t e c k ≡ false → ⊥
     unfolding starts_over
     turn_left y is stays =
-        let sends : sends_back (case_at t e) ≡ true = ap sends_back case_here ∙ turn_by y (head_case view) (case_by view) (sym (ap (place_by_case x response w k) case_here) ∙ is) in
+        let sends : sends_back (case_at t e) ≡ true = ap sends_back case_here ∙
+        turn_by y (head_case view) (case_by view) (sym (ap (place_by_case x response w k) case_here) ∙ is) in
         let it : is_for (exchange_at t ev) c ≡ true = ap (λ v. is_for (exchange_at t v) c) here ∙ (ap (λ q. is_for q c) exchange_row ∙ mine_test) in
         false_true (sym (or_false _ _ ((or_false _ _ stays).0)).1 ∙ and_both _ _ sends it)
       where
@@ -263,20 +267,29 @@ module _ (step : Step) (a : IsFallback step.tables) (g : AreOwn step.tables) whe
   stood : (c y : ℕ) (k : Consumer) (v : Event) → t.consumer c ≡ Some k → k.place ≡ place.Direct y → (consumer_heard t e c v k).own ≡ k.own → HeardPast c y k v
   stood c y k v row at same = let all = g.direct c y k row at in record { its = all.its; unjoined = all.unjoined; stays = same }
 
-  head_past : (c x y : ℕ) (response : Response) (k : Consumer) (z : Option Exchange) → t.consumer c ≡ Some k → ev ≡ event.Head x response → t.exchange x ≡ z → (by_head t e c x response z k).place ≡ place.Direct y → (by_head t e c x response z k).own ≡ (consumer_heard t e c (event.Head x response) k).own → HeardPast c y k (event.Head x response)
+  head_past : (c x y : ℕ) (response : Response) (k : Consumer) (z : Option Exchange) → t.consumer c ≡ Some k → ev ≡ event.Head x response →
+      t.exchange x ≡ z → (by_head t e c x response z k).place ≡ place.Direct y →
+      (by_head t e c x response z k).own ≡ (consumer_heard t e c (event.Head x response) k).own → HeardPast c y k (event.Head x response)
   head_past c x y response k None row here exchange_row at same = stood c y k (event.Head x response) row at (sym same)
   head_past c x y response k (Some w) row here exchange_row at same = elim (eq_cases w.c c) [
     | inr off ↦ stood c y k (event.Head x response) row (rw off.0 at at) (sym same ∙ rw off.0 refl)
     | inl hit ↦
         let left = left_past c x response k w here exchange_row hit.1 row y (rw hit.0 at at) in
         record {
-          its = record { w = w; row = ap t.exchange (sym left.0) ∙ exchange_row; for_it = hit.1; own = head_own c x response k w here exchange_row hit.1 row ∙ ap Some left.0 };
+          its = record {
+            w = w;
+            row = ap t.exchange (sym left.0) ∙ exchange_row;
+            for_it = hit.1;
+            own =
+                head_own c x response k w here exchange_row hit.1 row ∙ ap Some left.0;
+          };
           unjoined = (s.waits.headless x w exchange_row ((is_new limits t now flaw s ev goes x response w here exchange_row).bare)).1;
           stays = sym same ∙ rw (hit.0, left.1) refl;
         }
   ]
 
-  fault_past : (c x y : ℕ) (z : Option Exchange) (k : Consumer) → (by_fault c x z k).place ≡ place.Direct y → (k.place ≡ place.Direct y) × ((by_fault c x z k).own ≡ k.own)
+  fault_past : (c x y : ℕ) (z : Option Exchange) (k : Consumer) → (by_fault c x z k).place ≡ place.Direct y → (k.place ≡ place.Direct y) ×
+      ((by_fault c x z k).own ≡ k.own)
   fault_past c x y None k at = (at, refl)
   fault_past c x y (Some w) k at = elim (bool_cases (w.c == c && is_none w.head && not k.shown)) [
     | inl hit ↦ absurd (down_direct _ y (rw hit at at))
@@ -294,7 +307,8 @@ module _ (step : Step) (a : IsFallback step.tables) (g : AreOwn step.tables) whe
 
   -- IT STAYS JOINED TO NOTHING
 
-  kept_past : (c y : ℕ) (k u : Consumer) (i : IsOwn t c y k) → i.w.joined ≡ None → ((response : Response) → ev ≡ event.Head y response → is_joining (case_at t e) ≡ false) → u.own ≡ Some y → IsOwnPast now_on c y u
+  kept_past : (c y : ℕ) (k u : Consumer) (i : IsOwn t c y k) → i.w.joined ≡ None →
+      ((response : Response) → ev ≡ event.Head y response → is_joining (case_at t e) ≡ false) → u.own ≡ Some y → IsOwnPast now_on c y u
   kept_past c y k u i unjoined joins own =
       let on = is_on t e y i.w i.row in
       record {
@@ -307,17 +321,20 @@ module _ (step : Step) (a : IsFallback step.tables) (g : AreOwn step.tables) whe
       by_heard z (inr got) = got.joined_is ∙ (ap (λ b. if b then i.w.aim else i.w.joined) (joins got.response got.at) ∙ unjoined)
 
   -- a head of its own exchange leaves it there
-  head_unjoined : (c y : ℕ) (k : Consumer) (response : Response) (i : IsOwn t c y k) → t.consumer c ≡ Some k → ev ≡ event.Head y response → (consumer_heard t e c ev k).place ≡ place.Direct y → is_joining (case_at t e) ≡ false
+  head_unjoined : (c y : ℕ) (k : Consumer) (response : Response) (i : IsOwn t c y k) → t.consumer c ≡ Some k → ev ≡ event.Head y response →
+      (consumer_heard t e c ev k).place ≡ place.Direct y → is_joining (case_at t e) ≡ false
   head_unjoined c y k response i row here at = by_row (t.exchange y) i.row (sym (ap (λ v. (consumer_heard t e c v k).place) here) ∙ at)
     where
       by_row : (z : Option Exchange) → z ≡ Some i.w → (by_head t e c y response z k).place ≡ place.Direct y → is_joining (case_at t e) ≡ false
       by_row None none at = absurd (none_some i.w none)
       by_row (Some w) is at = elim (eq_cases w.c c) [
-        | inl hit ↦ (left_past c y response k i.w here i.row i.for_it row y (subst (λ q. place_by_case y response q k (case_at t e) ≡ place.Direct y) (some_inj w i.w is) (rw hit.0 at at))).2
+        | inl hit ↦ (left_past c y response k i.w here i.row i.for_it row y
+            (subst (λ q. place_by_case y response q k (case_at t e) ≡ place.Direct y) (some_inj w i.w is) (rw hit.0 at at))).2
         | inr off ↦ absurd (off.1 (ap (λ (q : Exchange). q.c) (some_inj w i.w is) ∙ i.for_it))
       ]
 
-  opened_own : (c y : ℕ) (k u : Consumer) (p : Opening) → (d want : ℕ) → ev ≡ event.Poll d want → FreeRow c k u → opening_in e.acts ≡ Some p → p.c ≡ c → p.x ≡ y → u.own ≡ Some y
+  opened_own : (c y : ℕ) (k u : Consumer) (p : Opening) → (d want : ℕ) → ev ≡ event.Poll d want → FreeRow c k u → opening_in e.acts ≡ Some p → p.c ≡ c →
+      p.x ≡ y → u.own ≡ Some y
   opened_own c y k u p d want here row opens mine number =
       let h = consumer_heard t e c ev k in
       sym (ap (λ (z : Consumer). z.own) row.is)
@@ -350,7 +367,8 @@ module _ (step : Step) (a : IsFallback step.tables) (g : AreOwn step.tables) whe
   by_poll c y k u d want here row (past.stood at) =
       let i = g.direct c y k row.row at in
       kept_past c y k u i.its i.unjoined (λ response is. absurd (head_poll y d want response (sym is ∙ here)))
-      (own_is c k u row (past_unopened c y k row.row at) ∙ (own_poll d want here c _ _ ∙ (ap (λ (q : Consumer). q.own) (ap (λ v. consumer_heard t e c v k) here) ∙ i.its.own)))
+      (own_is c k u row (past_unopened c y k row.row at) ∙
+      (own_poll d want here c _ _ ∙ (ap (λ (q : Consumer). q.own) (ap (λ v. consumer_heard t e c v k) here) ∙ i.its.own)))
 
   by_other : (c y : ℕ) (k u : Consumer) → ((d want : ℕ) → ev ≡ event.Poll d want → ⊥) → FreeRow c k u → u.place ≡ place.Direct y → IsOwnPast now_on c y u
   by_other c y k u unpolled row stands =
@@ -379,19 +397,22 @@ module _ (step : Step) (a : IsFallback step.tables) (g : AreOwn step.tables) whe
   made c _ u h = absurd (none_some u h)
 
   -- who wasn't there has just started
-  pub new_is : (c : ℕ) (q : Option Consumer) (u : Consumer) → q ≡ None → consumer_after t e c q ≡ Some u → (request : Request) × (new_consumer e.now request ≡ u)
+  pub new_is : (c : ℕ) (q : Option Consumer) (u : Consumer) → q ≡ None → consumer_after t e c q ≡ Some u → (request : Request) ×
+      (new_consumer e.now request ≡ u)
   unfolding consumer_after
   new_is c None u none h = made c ev u h
   new_is c (Some k) u none h = absurd (some_none k none)
 
-  pub settled : (c : ℕ) (k u : Consumer) → t.consumer c ≡ Some k → now_on.consumer c ≡ Some u → starts_over t e c k ≡ false → due_after t e c k (consumer_acted t e c (consumer_heard t e c ev k)) ≡ u
+  pub settled : (c : ℕ) (k u : Consumer) → t.consumer c ≡ Some k → now_on.consumer c ≡ Some u → starts_over t e c k ≡ false →
+      due_after t e c k (consumer_acted t e c (consumer_heard t e c ev k)) ≡ u
   settled c k u row after stays =
       let on = is_kept t e c k row in
       let all : consumer_settled t e c k (consumer_acted t e c (consumer_heard t e c ev k)) ≡ u = on.is ∙ same_row (now_on.consumer c) on.u u on.row after in
       rw stays at all
 
   -- the event leaves it the turn
-  heard_turn : (c y : ℕ) (k : Consumer) (v : Event) → t.consumer c ≡ Some k → ev ≡ v → starts_over t e c k ≡ false → (consumer_heard t e c v k).place ≡ place.Turn y → consumer_heard t e c v k ≡ k
+  heard_turn : (c y : ℕ) (k : Consumer) (v : Event) → t.consumer c ≡ Some k → ev ≡ v → starts_over t e c k ≡ false →
+      (consumer_heard t e c v k).place ≡ place.Turn y → consumer_heard t e c v k ≡ k
   heard_turn c y k (event.Head x response) row here stays at = by_row (t.exchange x) refl at
     where
       by_row : (z : Option Exchange) → t.exchange x ≡ z → (by_head t e c x response z k).place ≡ place.Turn y → by_head t e c x response z k ≡ k
@@ -415,7 +436,8 @@ module _ (step : Step) (a : IsFallback step.tables) (g : AreOwn step.tables) whe
   heard_turn c y k _ row here stays at = refl
 
   -- an open exchange of who has the turn has no head
-  pub turn_bare : (c y : ℕ) (k : Consumer) (w : Exchange) → t.consumer c ≡ Some k → k.place ≡ place.Turn y → k.own ≡ Some y → t.exchange y ≡ Some w → w.is_open ≡ true → w.head ≡ None
+  pub turn_bare : (c y : ℕ) (k : Consumer) (w : Exchange) → t.consumer c ≡ Some k → k.place ≡ place.Turn y → k.own ≡ Some y → t.exchange y ≡ Some w →
+      w.is_open ≡ true → w.head ≡ None
   turn_bare c y k w row at own exchange_row on = by_head_of w.head refl
     where
       reading_not : IsReading y k.place → ⊥
@@ -466,12 +488,14 @@ module _ (step : Step) (a : IsFallback step.tables) (g : AreOwn step.tables) whe
 
     headed_not : (response : Response) → ev ≡ event.Head y response → ⊥
     headed_not response here =
-        by_row (t.exchange y) i.its.row (sym (ap (λ v. (consumer_heard t e c v k).place) here) ∙ heard_at (λ d want is. false_true (ap is_poll (sym here ∙ is))))
+        by_row (t.exchange y) i.its.row
+        (sym (ap (λ v. (consumer_heard t e c v k).place) here) ∙ heard_at (λ d want is. false_true (ap is_poll (sym here ∙ is))))
       where
         by_row : (z : Option Exchange) → z ≡ Some i.its.w → (by_head t e c y response z k).place ≡ place.Turn y → ⊥
         by_row None none is = none_some i.its.w none
         by_row (Some w) same is = elim (eq_cases w.c c) [
-          | inl hit ↦ turn_left c y response k i.its.w here i.its.row i.its.for_it row.row y (subst (λ q. place_by_case y response q k (case_at t e) ≡ place.Turn y) (some_inj w i.its.w same) (rw hit.0 at is)) row.stays
+          | inl hit ↦ turn_left c y response k i.its.w here i.its.row i.its.for_it row.row y
+              (subst (λ q. place_by_case y response q k (case_at t e) ≡ place.Turn y) (some_inj w i.its.w same) (rw hit.0 at is)) row.stays
           | inr off ↦ off.1 (ap (λ (q : Exchange). q.c) (some_inj w i.its.w same) ∙ i.its.for_it)
         ]
 
@@ -480,7 +504,8 @@ module _ (step : Step) (a : IsFallback step.tables) (g : AreOwn step.tables) whe
 
     faulted_not : ev ≡ event.Fault y → ⊥
     faulted_not here =
-        by_row (t.exchange y) i.its.row (sym (ap (λ v. (consumer_heard t e c v k).place) here) ∙ heard_at (λ d want is. false_true (ap is_poll (sym here ∙ is))))
+        by_row (t.exchange y) i.its.row
+        (sym (ap (λ v. (consumer_heard t e c v k).place) here) ∙ heard_at (λ d want is. false_true (ap is_poll (sym here ∙ is))))
       where
         by_row : (z : Option Exchange) → z ≡ Some i.its.w → (by_fault c y z k).place ≡ place.Turn y → ⊥
         by_row None none is = none_some i.its.w none
@@ -497,7 +522,8 @@ module _ (step : Step) (a : IsFallback step.tables) (g : AreOwn step.tables) whe
 
     end_refused : denial t (event.End y) ≡ None → ⊥
     unfolding refusals.refusal_of
-    end_refused h = let b : i.its.w.head ≡ None = bare in let on : i.its.w.is_open ≡ true = i.is_open in let there : t.exchange y ≡ Some i.its.w = i.its.row in never _ (rw (there, on, b) at h)
+    end_refused h = let b : i.its.w.head ≡ None = bare in let on : i.its.w.is_open ≡ true = i.is_open in let there : t.exchange y ≡ Some i.its.w =
+        i.its.row in never _ (rw (there, on, b) at h)
 
     not_its : (v : Event) → ev ≡ v → exchange_in v ≡ Some y → ⊥
     not_its (event.Head x response) here is = headed_not response (here ∙ ap (λ n. event.Head n response) (some_inj x y is))
@@ -517,11 +543,13 @@ module _ (step : Step) (a : IsFallback step.tables) (g : AreOwn step.tables) whe
           is_open = un.open_is ∙ i.is_open;
         }
 
-  turn_step : (c : ℕ) (k u : Consumer) → t.consumer c ≡ Some k → now_on.consumer c ≡ Some u → (p : Place) → StaysOrPlain t e c k p → (y : ℕ) → p ≡ place.Turn y → FreeRow c k u
+  turn_step : (c : ℕ) (k u : Consumer) → t.consumer c ≡ Some k → now_on.consumer c ≡ Some u → (p : Place) → StaysOrPlain t e c k p → (y : ℕ) →
+      p ≡ place.Turn y → FreeRow c k u
   turn_step c k u row after p (places.stayed stays leaves) y is = record { row = row; stays = stays; leaves = leaves; is = settled c k u row after stays }
   turn_step c k u row after p (places.is_plain plain) y is = absurd (subst places.IsPlain is plain)
 
-  turn_from : (c y : ℕ) (k u : Consumer) → FreeRow c k u → u.place ≡ place.Turn y → (p : Place) → ComesFrom t e c k p → p ≡ place.Turn y → IsOwnTurn now_on c y u
+  turn_from : (c y : ℕ) (k u : Consumer) → FreeRow c k u → u.place ≡ place.Turn y → (p : Place) → ComesFrom t e c k p → p ≡ place.Turn y →
+      IsOwnTurn now_on c y u
   unfolding opened_row
   turn_from c y k u row stands _ (places.kept) is = turn_on c y k u row stands is
   turn_from c y k u row stands _ (places.plain p plain) is = absurd (subst places.IsPlain is plain)

@@ -31,7 +31,8 @@ module _ (step : Step) (a : IsFallback step.tables) (g : AreOwn step.tables) whe
 
   -- WHO READS IT ALREADY
 
-  module _ (c y : ℕ) (k : Consumer) (w : Exchange) (row : t.consumer c ≡ Some k) (at : k.place ≡ place.Direct y) (is_row : t.exchange y ≡ Some w) (headed : is_some w.head ≡ true) where
+  module _ (c y : ℕ) (k : Consumer) (w : Exchange) (row : t.consumer c ≡ Some k) (at : k.place ≡ place.Direct y) (is_row : t.exchange y ≡ Some w)
+      (headed : is_some w.head ≡ true) where
     mine : k.own ≡ Some y
     mine = (g.direct c y k row at).its.own
 
@@ -39,11 +40,13 @@ module _ (step : Step) (a : IsFallback step.tables) (g : AreOwn step.tables) whe
     no_waiter x q exchange_row on bare theirs =
         let got = waiter_of step x q exchange_row on bare in
         let one : got.0 ≡ k = same_row (t.consumer c) got.0 k (sym (ap t.consumer theirs) ∙ got.1.row) row in
-        let it : q ≡ w = same_row (t.exchange y) q w (sym (ap t.exchange (some_inj x y (sym got.1.own ∙ (ap (λ (p : Consumer). p.own) one ∙ mine)))) ∙ exchange_row) is_row in
+        let it : q ≡ w = same_row (t.exchange y) q w (sym (ap t.exchange (some_inj x y (sym got.1.own ∙ (ap (λ (p : Consumer). p.own) one ∙ mine)))) ∙
+        exchange_row) is_row in
         false_true (sym (ap (λ (p : Option Response). is_some p) bare) ∙ (ap (λ (p : Exchange). is_some p.head) it ∙ headed))
 
     head_not : (x : ℕ) (response : Response) (q : Exchange) → ev ≡ event.Head x response → t.exchange x ≡ Some q → q.c ≡ c → ⊥
-    head_not x response q here exchange_row theirs = let new = is_new limits t now flaw s ev goes x response q here exchange_row in no_waiter x q exchange_row new.is_open new.bare theirs
+    head_not x response q here exchange_row theirs = let new = is_new limits t now flaw s ev goes x response q here exchange_row in
+        no_waiter x q exchange_row new.is_open new.bare theirs
 
     sent_by : (v : Event) → ev ≡ v → sends_back (case_of t (has_loss e.acts) v) ≡ true → is_for (exchange_at t v) c ≡ true → ⊥
     unfolding case_of
@@ -71,7 +74,8 @@ module _ (step : Step) (a : IsFallback step.tables) (g : AreOwn step.tables) whe
     heard_own : (v : Event) → ev ≡ v → ((consumer_heard t e c v k).own ≡ k.own) × (bound_to (consumer_heard t e c v k).place ≡ None)
     heard_own (event.Head x response) here = by_row (t.exchange x) refl
       where
-        by_row : (z : Option Exchange) → t.exchange x ≡ z → ((by_head t e c x response z k).own ≡ k.own) × (bound_to (by_head t e c x response z k).place ≡ None)
+        by_row : (z : Option Exchange) → t.exchange x ≡ z → ((by_head t e c x response z k).own ≡ k.own) ×
+            (bound_to (by_head t e c x response z k).place ≡ None)
         by_row None exchange_row = (refl, free)
         by_row (Some q) exchange_row = elim (eq_cases q.c c) [
           | inl hit ↦ absurd (head_not x response q here exchange_row hit.1)
@@ -100,7 +104,8 @@ module _ (step : Step) (a : IsFallback step.tables) (g : AreOwn step.tables) whe
           let h = consumer_heard t e c ev k in
           let all = heard_own ev refl in
           sym (ap (λ (z : Consumer). z.own) its.is)
-          ∙ (ap (λ (q : Consumer). own_after t e c h.place q.own) (opening_stays step a g c (waiting t e c h) (opening_in e.acts) refl (past_unopened step a g c y k row at))
+          ∙ (ap (λ (q : Consumer). own_after t e c h.place q.own)
+          (opening_stays step a g c (waiting t e c h) (opening_in e.acts) refl (past_unopened step a g c y k row at))
           ∙ (own_free step a g c h.place h.own all.1 ∙ (all.0 ∙ mine)))
 
       pub goes_on : (z : Exchange) → now_on.exchange y ≡ Some z → IsSame t e y w z → z.is_open ≡ true → u.place ≡ place.Direct y
@@ -108,7 +113,8 @@ module _ (step : Step) (a : IsFallback step.tables) (g : AreOwn step.tables) whe
 
   -- WHOSE HEAD COMES
 
-  module _ (x : ℕ) (w z : Exchange) (response : Response) (here : ev ≡ event.Head x response) (is_row : t.exchange x ≡ Some w) (after_row : now_on.exchange x ≡ Some z) (same : IsSame t e x w z) (opened : z.is_open ≡ true) where
+  module _ (x : ℕ) (w z : Exchange) (response : Response) (here : ev ≡ event.Head x response) (is_row : t.exchange x ≡ Some w)
+      (after_row : now_on.exchange x ≡ Some z) (same : IsSame t e x w z) (opened : z.is_open ≡ true) where
     got : (q : Consumer) × IsWaiter t w.c x q w
     got = let new = is_new limits t now flaw s ev goes x response w here is_row in waiter_of step x w is_row new.is_open new.bare
 
@@ -144,7 +150,8 @@ module _ (step : Step) (a : IsFallback step.tables) (g : AreOwn step.tables) whe
 
     sends_by : (q : HeadCase) → CaseBy view q → case_at t e ≡ Some q → sends_back (Some q) ≡ false
     sends_by _ (not_validated way h) is = absurd (not_unmodified step x w z response here is_row after_row same opened h)
-    sends_by _ (first_changed way off) is = absurd (not_refused step x w z response here is_row after_row same opened (ap Rattle.hc_model.specs.Closings.is_refused is))
+    sends_by _ (first_changed way off) is =
+        absurd (not_refused step x w z response here is_row after_row same opened (ap Rattle.hc_model.specs.Closings.is_refused is))
     sends_by _ _ is = refl
 
     unsent : sends_back (case_at t e) ≡ false
@@ -168,10 +175,12 @@ module _ (step : Step) (a : IsFallback step.tables) (g : AreOwn step.tables) whe
       reads_it (head.direct is) = is
       reads_it (head.founds lo hi how is on unjoined) =
           let there : is_some (now_on.representation x) ≡ true = later.numbered.bound_to x w.c u (sound.is_bound lo hi how after is) in
-          absurd (false_true (sym (ap (λ (q : Option Representation). is_some q) (sym (ap now_on.representation (ap (λ (q : Option ℕ). unwrap_or q x) unjoined)) ∙ none)) ∙ there))
+          absurd (false_true (sym (ap (λ (q : Option Representation). is_some q)
+          (sym (ap now_on.representation (ap (λ (q : Option ℕ). unwrap_or q x) unjoined)) ∙ none)) ∙ there))
       reads_it (head.joins r lo hi how was is aim on joined) =
           let there : is_some (now_on.representation r) ≡ true = later.numbered.bound_to r w.c u (sound.is_bound lo hi how after is) in
-          absurd (false_true (sym (ap (λ (q : Option Representation). is_some q) (sym (ap now_on.representation (ap (λ (q : Option ℕ). unwrap_or q x) joined)) ∙ none)) ∙ there))
+          absurd (false_true (sym (ap (λ (q : Option Representation). is_some q)
+          (sym (ap now_on.representation (ap (λ (q : Option ℕ). unwrap_or q x) joined)) ∙ none)) ∙ there))
 
       pub read_now : u.place ≡ place.Direct x
       read_now = reads_it (headed_as step w.c x k u w z response here its_row got.1.own is_row after_row same opened)
@@ -180,18 +189,22 @@ module _ (step : Step) (a : IsFallback step.tables) (g : AreOwn step.tables) whe
 
   module _ (later : Sound now_on) (reads : AreRead t) where
     none_before : (r : ℕ) → now_on.representation r ≡ None → t.representation r ≡ None
-    none_before r none = none_or (t.representation r) (λ v row. false_true (sym (ap (λ (q : Option Representation). is_some q) none) ∙ rep.stays t e r (t.representation r) (ap (λ (q : Option Representation). is_some q) row)))
+    none_before r none = none_or (t.representation r)
+        (λ v row. false_true (sym (ap (λ (q : Option Representation). is_some q) none) ∙
+        rep.stays t e r (t.representation r) (ap (λ (q : Option Representation). is_some q) row)))
 
     on_as : (x c : ℕ) (z : Exchange) (k u : Consumer) → z.c ≡ c → now_on.consumer c ≡ Some u → u.place ≡ place.Direct x → IsReadPast now_on x z
     on_as x c z k u c_is after at = record { k = u; row = ap now_on.consumer c_is ∙ after; place_is = at }
 
-    was_read : (x : ℕ) (w z : Exchange) → t.exchange x ≡ Some w → now_on.exchange x ≡ Some z → IsSame t e x w z → z.is_open ≡ true → is_some z.head ≡ true → now_on.representation (family x z) ≡ None → IsReadPast now_on x z
+    was_read : (x : ℕ) (w z : Exchange) → t.exchange x ≡ Some w → now_on.exchange x ≡ Some z → IsSame t e x w z → z.is_open ≡ true →
+        is_some z.head ≡ true → now_on.representation (family x z) ≡ None → IsReadPast now_on x z
     was_read x w z row after_row same opened headed none = by_heard same.heard_or
       where
         by_heard : ((z.head ≡ w.head) × (z.joined ≡ w.joined)) ⊎ IsHeaded t e x w z → IsReadPast now_on x z
         by_heard (inl all) =
             let had : is_some w.head ≡ true = sym (ap (λ (q : Option Response). is_some q) all.0) ∙ headed in
-            let r = reads.read x w row (same.was_open opened) had (none_before (family x w) (sym (ap now_on.representation (ap (λ (q : Option ℕ). unwrap_or q x) all.1)) ∙ none)) in
+            let r = reads.read x w row (same.was_open opened) had
+            (none_before (family x w) (sym (ap now_on.representation (ap (λ (q : Option ℕ). unwrap_or q x) all.1)) ∙ none)) in
             let on = is_kept t e w.c r.k r.row in
             on_as x w.c z r.k on.u same.c_is on.row (goes_on w.c x r.k w r.row r.place_is row had on.u on.row z after_row same opened)
         by_heard (inr came) =
@@ -199,9 +212,13 @@ module _ (step : Step) (a : IsFallback step.tables) (g : AreOwn step.tables) whe
             let on = is_kept t e w.c it.0 it.1.row in
             on_as x w.c z it.0 on.u same.c_is on.row (read_now x w z came.response came.at row after_row same opened later on.u on.row none)
 
-    by_from : (x : ℕ) (z : Exchange) → ExchangeFrom t e x z → now_on.exchange x ≡ Some z → z.is_open ≡ true → is_some z.head ≡ true → now_on.representation (family x z) ≡ None → IsReadPast now_on x z
+    by_from : (x : ℕ) (z : Exchange) → ExchangeFrom t e x z → now_on.exchange x ≡ Some z → z.is_open ≡ true → is_some z.head ≡ true →
+        now_on.representation (family x z) ≡ None → IsReadPast now_on x z
     by_from x z (exchange.was w row same) after_row opened headed none = was_read x w z row after_row same opened headed none
     by_from x z (exchange.new p before opens here made) after_row opened headed none = absurd (false_true (ap (λ (q : Exchange). is_some q.head) made ∙ headed))
 
     pub read_kept : AreRead now_on
-    read_kept = record { read = λ x z after_row opened headed none. by_from x z (exchange_from t e x (t.exchange x) z refl after_row) after_row opened headed none }
+    read_kept = record {
+      read =
+          λ x z after_row opened headed none. by_from x z (exchange_from t e x (t.exchange x) z refl after_row) after_row opened headed none;
+    }

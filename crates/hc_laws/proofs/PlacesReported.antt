@@ -51,7 +51,8 @@ module _ (t : Tables) (e : Entry) (c : ℕ) where
   unfolding becomes_due
   becomes_reported k = grind (arith, nat_tests, cause_or, cause_if, stop_reported, loss_reported, head_reported)
 
-  due_reported : (b : Bool) (k q : Consumer) → is_failed_read k.due ≡ false → is_failed_read (if b then back_in_line e.now q else due_after t e c k q).due ≡ false
+  due_reported : (b : Bool) (k q : Consumer) → is_failed_read k.due ≡ false →
+      is_failed_read (if b then back_in_line e.now q else due_after t e c k q).due ≡ false
   due_reported true k q reported = refl
   due_reported false k q reported = cause_if (reads q.place) _ (cause_or k.due _ reported (becomes_reported k))
 
@@ -81,7 +82,8 @@ module _ (t : Tables) (e : Entry) (c : ℕ) where
 
   opens_reported : (z : Option Opening) (h : Consumer) → Reported h.place → Reported (by_opening t c z h).place
   opens_reported None h reported = reported
-  opens_reported (Some o) h reported = row_if (o.c == c) _ h (unless_reported (bound_to h.place) h.place _ reported (route_reported o.x h (route_of o.need))) reported
+  opens_reported (Some o) h reported =
+      row_if (o.c == c) _ h (unless_reported (bound_to h.place) h.place _ reported (route_reported o.x h (route_of o.need))) reported
 
   shown_reported : (z : Option Showing) (p : Place) → Reported p → Reported (shown_place c z p)
   shown_reported z p reported = grind (arith, nat_tests)
@@ -120,7 +122,8 @@ module _ (t : Tables) (e : Entry) (reported : AreReported t) where
 
   received_from : (x : ℕ) (z : Exchange) → (after_accepted t e).exchange x ≡ Some z → ExchangeFrom t e x z → length z.body ≤ t.received + received_in e.event
   received_from x z after (exchange.was w row same) = received_by x w z row (brings t e x w z row after)
-  received_from x z after (exchange.new o none opens here made_is) = let zero : length z.body ≡ 0 = sym (ap (λ (w : Exchange). length w.body) made_is) in omega arith
+  received_from x z after (exchange.new o none opens here made_is) = let zero : length z.body ≡ 0 = sym (ap (λ (w : Exchange). length w.body) made_is) in
+      omega arith
 
   pub reported_kept : AreReported (after_accepted t e)
   reported_kept = record {
@@ -133,5 +136,6 @@ module _ (t : Tables) (e : Entry) (reported : AreReported t) where
   reported_denied = grind (arith, nat_tests)
 
 -- the cause of who is to be told a failure
-pub down_reported : (t : Tables) → AreReported t → (c : ℕ) (why : Cause) (k : Consumer) → t.consumer c ≡ Some k → k.place ≡ place.Down why → is_failed_read (Some why) ≡ false
+pub down_reported : (t : Tables) → AreReported t → (c : ℕ) (why : Cause) (k : Consumer) → t.consumer c ≡ Some k → k.place ≡ place.Down why →
+    is_failed_read (Some why) ≡ false
 down_reported t reported c why k row at = sym (ap fails_read at) ∙ reported.down c k row

@@ -54,7 +54,8 @@ module _ (step : Step) (a : IsFallback step.tables) (g : AreOwn step.tables) (tu
       direct_not : route_of w.need ≡ route.Direct → IsAwaiting x w k.place → ⊥
       direct_not way (owners.direct it stands) =
           let h = a.apart.headed c x k row stands shown in
-          false_true (sym (ap (λ (q : Option Response). is_some q) (ap (λ (q : Exchange). q.head) (same_row (t.exchange x) h.w w h.row exchange_row) ∙ got.1.bare)) ∙ h.headed)
+          false_true (sym (ap (λ (q : Option Response). is_some q)
+          (ap (λ (q : Exchange). q.head) (same_row (t.exchange x) h.w w h.row exchange_row) ∙ got.1.bare)) ∙ h.headed)
       direct_not way (owners.turn it stands) = let no : route.Turn ≡ route.Direct = sym it ∙ way in cc
       direct_not way (owners.hole r lo hi how it aim stands) = let no : route.Hole ≡ route.Direct = sym it ∙ way in cc
 
@@ -70,7 +71,8 @@ module _ (step : Step) (a : IsFallback step.tables) (g : AreOwn step.tables) (tu
       by_way route.Turn is = absurd (turn_not is at)
       by_way route.Hole is =
           let was : was_shown (t.consumer w.c) ≡ true = ap was_shown (ap t.consumer mine ∙ row) ∙ shown in
-          subst (λ b. Leaves (if b then later_case view else first_case view)) (sym was) (mix Leaves view.bad _ _ (refl, refl) (mix Leaves view.joins _ _ (refl, refl) (refl, refl)))
+          subst (λ b. Leaves (if b then later_case view else first_case view)) (sym was)
+          (mix Leaves view.bad _ _ (refl, refl) (mix Leaves view.joins _ _ (refl, refl) (refl, refl)))
 
       leaves : Leaves (head_case view)
       unfolding head_case
@@ -124,7 +126,8 @@ module _ (step : Step) (a : IsFallback step.tables) (g : AreOwn step.tables) (tu
 
     -- WHERE IT STANDS
 
-    head_reader : (x : ℕ) (response : Response) (z : Option Exchange) → ev ≡ event.Head x response → t.exchange x ≡ z → IsReader (by_head t e c x response z k).place
+    head_reader : (x : ℕ) (response : Response) (z : Option Exchange) → ev ≡ event.Head x response → t.exchange x ≡ z →
+        IsReader (by_head t e c x response z k).place
     head_reader x response None here exchange_row = reader
     head_reader x response (Some w) here exchange_row = elim (eq_cases w.c c) [
       | inr off ↦ rw off.0 reader
@@ -151,7 +154,8 @@ module _ (step : Step) (a : IsFallback step.tables) (g : AreOwn step.tables) (tu
     reported_not q others reported =
         let by_poll = waiting_by limits t now flaw s ev goes c q reported in
         let one : by_poll.k ≡ k = same_row (t.consumer c) by_poll.k k by_poll.poll.row row in
-        false_true (sym (waited_as t now c k q others by_poll.want s row (subst (λ (p : Consumer). WaitsAs q (move_of t now by_poll.want c p)) one by_poll.move)).unshown ∙ shown)
+        false_true (sym (waited_as t now c k q others by_poll.want s row
+        (subst (λ (p : Consumer). WaitsAs q (move_of t now by_poll.want c p)) one by_poll.move)).unshown ∙ shown)
 
     waits_reader : (h : Consumer) (q : Option Wait) → wait_in c e.acts ≡ q → IsReader h.place → IsReader (waiting_place t h q)
     waits_reader h (Some (wait.Turn d)) reported on = absurd (reported_not (wait.Turn d) (turn d) reported)
@@ -186,17 +190,22 @@ module _ (step : Step) (a : IsFallback step.tables) (g : AreOwn step.tables) (tu
     shown_reader : (u : Consumer) → now_on.consumer c ≡ Some u → IsReader u.place
     shown_reader u after =
         subst (λ (q : Consumer). IsReader q.place) (settled step a g c k u row after not_over)
-        (left_reader (leaves_in c e.acts) _ (shows_reader _ (showing_in e.acts) refl (opens_reader (opening_in e.acts) refl (waits_reader (consumer_heard t e c ev k) (wait_in c e.acts) refl (heard_reader ev refl)))))
+        (left_reader (leaves_in c e.acts) _
+        (shows_reader _ (showing_in e.acts) refl
+        (opens_reader (opening_in e.acts) refl (waits_reader (consumer_heard t e c ev k) (wait_in c e.acts) refl (heard_reader ev refl)))))
 
   -- WHO IS SHOWN ONE
 
   module _ (taken : IsTaken limits t e) (c : ℕ) (k : Consumer) (row : t.consumer c ≡ Some k) where
-    module _ (want r lo : ℕ) (hi : Option ℕ) (why : Why) (head : Response) (at : ev ≡ event.Poll c want) (all : e.acts ≡ acts_of c (Shows r why head lo hi) ++ behind limits t e taken) (saw : (seen limits t e taken).acts ≡ acts_of c (Shows r why head lo hi) ++ loss_acts (flaw_in e.acts)) where
+    module _ (want r lo : ℕ) (hi : Option ℕ) (why : Why) (head : Response) (at : ev ≡ event.Poll c want)
+        (all : e.acts ≡ acts_of c (Shows r why head lo hi) ++ behind limits t e taken)
+        (saw : (seen limits t e taken).acts ≡ acts_of c (Shows r why head lo hi) ++ loss_acts (flaw_in e.acts)) where
       nobody : leaver_in (seen limits t e taken).acts ≡ None
       nobody = ap leaver_in saw ∙ leaver_lost (flaw_in e.acts)
 
       stays_there : (q : ℕ) (v : Representation) → becomes_gone t e q v ≡ false
-      stays_there q v = goes_none limits t e taken c want at nobody q v (ap bypassed_by (ap opening_in all ∙ opens_behind limits t e taken)) (ap (misreads_in q) all ∙ misreads_behind limits t e taken q)
+      stays_there q v = goes_none limits t e taken c want at nobody q v (ap bypassed_by (ap opening_in all ∙ opens_behind limits t e taken))
+          (ap (misreads_in q) all ∙ misreads_behind limits t e taken q)
 
       goes_not : (q : ℕ) (z : Option Representation) → goes_in t e q z ≡ false
       goes_not q None = refl
@@ -229,7 +238,9 @@ module _ (step : Step) (a : IsFallback step.tables) (g : AreOwn step.tables) (tu
       lands : (u : Consumer) → now_on.consumer c ≡ Some u → IsReader u.place
       lands u after =
           subst (λ (q : Consumer). IsReader q.place) (settled step a g c k u row after stays)
-          (left_or (leaves_in c e.acts) _ (subst (λ z. IsReader (shown_place c z (by_opening t c (opening_in e.acts) (waiting t e c (consumer_heard t e c ev k))).place)) (sym showing) (shown_by _)))
+          (left_or (leaves_in c e.acts) _
+          (subst (λ z. IsReader (shown_place c z (by_opening t c (opening_in e.acts) (waiting t e c (consumer_heard t e c ev k))).place)) (sym showing)
+          (shown_by _)))
         where
           left_or : (leaves : Bool) (p : Place) → IsReader p → IsReader (if leaves then place.Over else p)
           left_or true p on = tt
@@ -246,10 +257,12 @@ module _ (step : Step) (a : IsFallback step.tables) (g : AreOwn step.tables) (tu
           | inr before ↦ absurd (false_true (sym off ∙ before))
         ]
 
-        by_poll : (want r lo : ℕ) (hi : Option ℕ) (why : Why) (head : Response) → ev ≡ event.Poll c want → move_of t now want c k ≡ Shows r why head lo hi → AtPoll limits t e taken c k → IsReader u.place
+        by_poll : (want r lo : ℕ) (hi : Option ℕ) (why : Why) (head : Response) → ev ≡ event.Poll c want →
+            move_of t now want c k ≡ Shows r why head lo hi → AtPoll limits t e taken c k → IsReader u.place
         by_poll want r lo hi why head at move_is (moves_on n m here m_is does all saw) =
             let is : m ≡ Shows r why head lo hi = m_is ∙ (sym (ap (λ z. move_of t now z c k) cc) ∙ move_is) in
-            lands want r lo hi why head at (all ∙ ap (λ z. acts_of c z ++ behind limits t e taken) is) (saw ∙ ap (λ z. acts_of c z ++ loss_acts (flaw_in e.acts)) is) u after
+            lands want r lo hi why head at (all ∙ ap (λ z. acts_of c z ++ behind limits t e taken) is)
+            (saw ∙ ap (λ z. acts_of c z ++ loss_acts (flaw_in e.acts)) is) u after
         by_poll want r lo hi why head at move_is (misreads n q here all saw) =
             absurd (false_true (sym (ap (shows_in c) all ∙ (far_behind limits t e taken c).shows) ∙ shows))
 

@@ -28,7 +28,8 @@ pub record AreStanding (t : Tables) : Type 0 where
   pub stands : (c : ℕ) (k : Consumer) → t.consumer c ≡ Some k → Stands k.place k.own k.request
 
 -- who is bound may own anything
-any_bound : (r lo : ℕ) (hi : Option ℕ) (how : BoundBy) (own other : Option ℕ) (request : Request) → Stands (place.Bound r lo hi how) own request → Stands (place.Bound r lo hi how) other request
+any_bound : (r lo : ℕ) (hi : Option ℕ) (how : BoundBy) (own other : Option ℕ) (request : Request) → Stands (place.Bound r lo hi how) own request →
+    Stands (place.Bound r lo hi how) other request
 any_bound r lo hi (by.FirstHole y) own other request st = st
 any_bound r lo hi _ own other request st = tt
 
@@ -65,7 +66,8 @@ turn_reported : (t : Tables) (c d : ℕ) (k : Consumer) (m : Move) → Does t c 
 turn_reported t c d k _ (waits_turn z is_new other back) is = (is_new, back)
 turn_reported t c d k _ _ is = absurd (false_true (ap is_turn is))
 
-busy_reported : (t : Tables) (c d : ℕ) (k : Consumer) (m : Move) → Does t c k m → m ≡ moves.Waits (wait.Busy d) → IsNew k × ((r : ℕ) × (current t k.request.key ≡ Some r))
+busy_reported : (t : Tables) (c d : ℕ) (k : Consumer) (m : Move) → Does t c k m → m ≡ moves.Waits (wait.Busy d) → IsNew k ×
+    ((r : ℕ) × (current t k.request.key ≡ Some r))
 busy_reported t c d k _ (passes z r is_new queues may) is = (is_new, (r, may.current))
 busy_reported t c d k _ _ is = absurd (false_true (ap is_busy is))
 
@@ -79,7 +81,8 @@ busy_waits d _ said.waits = refl
 busy_waits d _ (said.asks x is) = absurd (let no : wait.Busy d ≡ wait.Body x = is in cc)
 busy_waits d _ (said.opens x n request is) = absurd (let no : wait.Busy d ≡ wait.Head x = is in cc)
 
-module _ (step : Step) (a : IsFallback step.tables) (g : AreOwn step.tables) (turns : Turns step.tables) (readers : AreReaders step.tables) (was : AreStanding step.tables) where
+module _ (step : Step) (a : IsFallback step.tables) (g : AreOwn step.tables) (turns : Turns step.tables) (readers : AreReaders step.tables)
+    (was : AreStanding step.tables) where
   open step use {limits, tables as t, now, flaw, sound as s, owners as o, event as ev, accepted as goes}
 
   abbrev e : Entry
@@ -106,7 +109,8 @@ module _ (step : Step) (a : IsFallback step.tables) (g : AreOwn step.tables) (tu
     awaits : (x : ℕ) (w : Exchange) → t.exchange x ≡ Some w → is_headless (Some w) ≡ true → w.c ≡ c → StandsFor x k (route_of w.need) × (k.own ≡ Some x)
     awaits x w exchange_row bare mine =
         let it = turns.awaited x w exchange_row bare in
-        subst (λ (q : Consumer). StandsFor x q (route_of w.need) × (q.own ≡ Some x)) (same_row (t.consumer c) it.k k (sym (ap t.consumer mine) ∙ it.row) row) (it.stands, it.own)
+        subst (λ (q : Consumer). StandsFor x q (route_of w.need) × (q.own ≡ Some x))
+        (same_row (t.consumer c) it.k k (sym (ap t.consumer mine) ∙ it.row) row) (it.stands, it.own)
 
     asks_or_shown : (x : ℕ) (w : Exchange) → t.exchange x ≡ Some w → is_headless (Some w) ≡ true → w.c ≡ c → (is_only k.request ≡ false) ⊎ (k.shown ≡ true)
     asks_or_shown x w exchange_row bare mine = by_stands x (route_of w.need) (awaits x w exchange_row bare mine).0
@@ -165,7 +169,8 @@ module _ (step : Step) (a : IsFallback step.tables) (g : AreOwn step.tables) (tu
             | inr shown ↦ subst (λ p. On p own_then) (sym (head_same step a g turns readers c k row shown x response w here exchange_row mine)) kept_there
           ]
 
-    row_stands : (x : ℕ) (response : Response) (z : Option Exchange) → ev ≡ event.Head x response → t.exchange x ≡ z → On (by_head t e c x response z k).place (by_head t e c x response z k).own
+    row_stands : (x : ℕ) (response : Response) (z : Option Exchange) → ev ≡ event.Head x response → t.exchange x ≡ z →
+        On (by_head t e c x response z k).place (by_head t e c x response z k).own
     row_stands x response None here exchange_row = st
     row_stands x response (Some w) here exchange_row = elim (eq_cases w.c c) [
       | inr off ↦ rw off.0 st
@@ -178,7 +183,8 @@ module _ (step : Step) (a : IsFallback step.tables) (g : AreOwn step.tables) (tu
       | inr off ↦ rw off st
       | inl hit ↦
           let on = fault_open_of step x w (sym (ap (denial t) here) ∙ goes) exchange_row in
-          elim (asks_or_shown x w exchange_row (bare_is w on (none_by w.head (and_right (w.c == c) _ (and_left _ (not k.shown) hit)))) (grind (arith, nat_tests))) [
+          elim (asks_or_shown x w exchange_row (bare_is w on (none_by w.head (and_right (w.c == c) _ (and_left _ (not k.shown) hit))))
+          (grind (arith, nat_tests))) [
             | inl asks ↦ rw hit asks
             | inr shown ↦ absurd (false_true (sym (ap not shown) ∙ and_right _ (not k.shown) hit))
           ]
@@ -232,7 +238,8 @@ module _ (step : Step) (a : IsFallback step.tables) (g : AreOwn step.tables) (tu
       does_so : Does t c k (move_of t now at_it.want c k)
       does_so = does_polled t c k s turns row now at_it.want
 
-    passed_stands : (q : Option ℕ) (r : ℕ) → current t k.request.key ≡ Some r → q ≡ kept_by k.place → (KeptNone k.place → k.own ≡ None) → On (passed_by q (current t k.request.key)) k.own
+    passed_stands : (q : Option ℕ) (r : ℕ) → current t k.request.key ≡ Some r → q ≡ kept_by k.place → (KeptNone k.place → k.own ≡ None) →
+        On (passed_by q (current t k.request.key)) k.own
     passed_stands q r is kept none = subst (λ z. On (passed_by q z) k.own) (sym is) (by_kept q kept)
       where
         kept_own : (x : ℕ) (p : Place) → Some x ≡ kept_by p → On p k.own → k.own ≡ Some x
@@ -249,7 +256,8 @@ module _ (step : Step) (a : IsFallback step.tables) (g : AreOwn step.tables) (tu
         unowned both.0 (wait.Turn d) (waited_as t now c k (wait.Turn d) (turn d) _ s row (waits_as (wait.Turn d) reported)) both.1
     waits_stands (Some (wait.Busy d)) reported =
         let both = busy_reported t c d k _ (does_so (wait.Busy d) reported) (busy_waits d _ (waits_as (wait.Busy d) reported)) in
-        passed_stands (kept_by k.place) both.1.0 both.1.1 refl (unowned both.0 (wait.Busy d) (waited_as t now c k (wait.Busy d) (busy d) _ s row (waits_as (wait.Busy d) reported)))
+        passed_stands (kept_by k.place) both.1.0 both.1.1 refl
+        (unowned both.0 (wait.Busy d) (waited_as t now c k (wait.Busy d) (busy d) _ s row (waits_as (wait.Busy d) reported)))
     waits_stands _ reported = st
 
     module _ (d want : ℕ) (here : ev ≡ event.Poll d want) where
@@ -262,16 +270,21 @@ module _ (step : Step) (a : IsFallback step.tables) (g : AreOwn step.tables) (tu
       stood_stands : On stood.place stood.own
       stood_stands = subst (λ (q : Consumer). On (waiting_place t q (wait_in c e.acts)) q.own) (sym heard_is) (waits_stands (wait_in c e.acts) refl)
 
-      by_why : (p : Opening) → stood.place ≡ k.place → OpensFor t c k p.x p.need → On (unless_bound (bound_to stood.place) stood.place (opened_place t p.x stood (route_of p.need))) (Some p.x)
+      by_why : (p : Opening) → stood.place ≡ k.place → OpensFor t c k p.x p.need →
+          On (unless_bound (bound_to stood.place) stood.place (opened_place t p.x stood (route_of p.need))) (Some p.x)
       by_why p same (past way new) = let free : bound_to stood.place ≡ None = ap bound_to same ∙ new.bound in rw (free, way) new.asks
-      by_why p same (fetches way new queues turn_is varied bypass) = let free : bound_to stood.place ≡ None = ap bound_to same ∙ new.bound in rw (free, way) new.asks
+      by_why p same (fetches way new queues turn_is varied bypass) = let free : bound_to stood.place ≡ None = ap bound_to same ∙ new.bound in
+          rw (free, way) new.asks
       by_why p same (first r lo hi way new bound) =
           let free : bound_to stood.place ≡ None = ap bound_to same ∙ new.bound in
-          let there : opened_place t p.x stood route.Hole ≡ place.Bound r lo hi (by.FirstHole p.x) = ap (λ (q : Consumer). opened_place t p.x q route.Hole) heard_is ∙ bound in
-          subst (λ z. On z (Some p.x)) (sym (ap (λ z. unless_bound z stood.place (opened_place t p.x stood (route_of p.need))) free ∙ (ap (opened_place t p.x stood) way ∙ there))) new.asks
+          let there : opened_place t p.x stood route.Hole ≡ place.Bound r lo hi (by.FirstHole p.x) =
+          ap (λ (q : Consumer). opened_place t p.x q route.Hole) heard_is ∙ bound in
+          subst (λ z. On z (Some p.x))
+          (sym (ap (λ z. unless_bound z stood.place (opened_place t p.x stood (route_of p.need))) free ∙ (ap (opened_place t p.x stood) way ∙ there))) new.asks
       by_why p same (later r lo hi how way shown at) =
           let there : stood.place ≡ place.Bound r lo hi how = same ∙ at in
-          subst (λ z. On z (Some p.x)) (sym (unless_same (bound_to stood.place) r stood.place _ (ap bound_to there) ∙ there)) (any_bound r lo hi how k.own (Some p.x) k.request (subst (λ z. On z k.own) at st))
+          subst (λ z. On z (Some p.x)) (sym (unless_same (bound_to stood.place) r stood.place _ (ap bound_to there) ∙ there))
+          (any_bound r lo hi how k.own (Some p.x) k.request (subst (λ z. On z k.own) at st))
 
       opens_stands : (z : Option Opening) → opening_in e.acts ≡ z → On (by_opening t c z stood).place (by_opening t c z stood).own
       opens_stands None is = stood_stands
@@ -281,7 +294,8 @@ module _ (step : Step) (a : IsFallback step.tables) (g : AreOwn step.tables) (tu
             let op = is_opener limits t now flaw s ev goes c k p row is mine.1 in
             let it = opened_at limits t e taken s turns p is in
             let one : it.k ≡ k = same_row (t.consumer c) it.k k (sym (ap t.consumer mine.1) ∙ it.row) row in
-            let why : OpensFor t c k p.x p.need = subst (λ n. OpensFor t n k p.x p.need) mine.1 (subst (λ (q : Consumer). OpensFor t p.c q p.x p.need) one it.why) in
+            let why : OpensFor t c k p.x p.need =
+            subst (λ n. OpensFor t n k p.x p.need) mine.1 (subst (λ (q : Consumer). OpensFor t p.c q p.x p.need) one it.why) in
             rw mine.0 (by_why p op.place_is why)
       ]
 
@@ -299,12 +313,14 @@ module _ (step : Step) (a : IsFallback step.tables) (g : AreOwn step.tables) (tu
       acted_stands : On (consumer_acted t e c (consumer_heard t e c ev k)).place (consumer_acted t e c (consumer_heard t e c ev k)).own
       acted_stands =
           let q = by_opening t c (opening_in e.acts) stood in
-          subst (λ z. On (consumer_acted t e c (consumer_heard t e c ev k)).place z) (sym (own_poll step a g d want here c (consumer_heard t e c ev k).place q.own))
+          subst (λ z. On (consumer_acted t e c (consumer_heard t e c ev k)).place z)
+          (sym (own_poll step a g d want here c (consumer_heard t e c ev k).place q.own))
           (left_stands (leaves_in c e.acts) _ q.own (shows_stands q.place q.own (showing_in e.acts) (opens_stands (opening_in e.acts) refl)))
 
     -- AFTER IT
 
-    went_on : (u : Consumer) → starts_over t e c k ≡ false → due_after t e c k (consumer_acted t e c (consumer_heard t e c ev k)) ≡ u → (b : Bool) → leaves_in c e.acts ≡ b → On u.place u.own
+    went_on : (u : Consumer) → starts_over t e c k ≡ false → due_after t e c k (consumer_acted t e c (consumer_heard t e c ev k)) ≡ u → (b : Bool) →
+        leaves_in c e.acts ≡ b → On u.place u.own
     went_on u stays is b leaves = elim (poll_of ev) [
       | inl poll ↦ subst (λ (q : Consumer). On q.place q.own) is (acted_stands poll.0 poll.1 poll.2)
       | inr unpolled ↦ by_left b leaves unpolled
@@ -316,7 +332,8 @@ module _ (step : Step) (a : IsFallback step.tables) (g : AreOwn step.tables) (tu
             let over : u.place ≡ place.Over = sym (ap (λ (q : Consumer). q.place) is) ∙ rw on refl in
             subst (λ p. On p u.own) (sym over) tt
 
-    settled_stands : (u : Consumer) (b : Bool) → starts_over t e c k ≡ b → consumer_settled t e c k (consumer_acted t e c (consumer_heard t e c ev k)) ≡ u → On u.place u.own
+    settled_stands : (u : Consumer) (b : Bool) → starts_over t e c k ≡ b →
+        consumer_settled t e c k (consumer_acted t e c (consumer_heard t e c ev k)) ≡ u → On u.place u.own
     settled_stands u true over is = subst (λ (q : Consumer). On q.place q.own) (rw over at is) refl
     settled_stands u false stays is = went_on u stays (rw stays at is) (leaves_in c e.acts) refl
 
@@ -324,7 +341,8 @@ module _ (step : Step) (a : IsFallback step.tables) (g : AreOwn step.tables) (tu
     kept_stands u after =
         let on = is_kept t e c k row in
         let one : on.u ≡ u = same_row (now_on.consumer c) on.u u on.row after in
-        subst (λ r. Stands u.place u.own r) (sym (ap (λ (q : Consumer). q.request) (sym one) ∙ on.request_is)) (settled_stands u (starts_over t e c k) refl (on.is ∙ one))
+        subst (λ r. Stands u.place u.own r) (sym (ap (λ (q : Consumer). q.request) (sym one) ∙ on.request_is))
+        (settled_stands u (starts_over t e c k) refl (on.is ∙ one))
 
   module _ (taken : IsTaken limits t e) where
     by_row : (c : ℕ) (u : Consumer) (q : Option Consumer) → t.consumer c ≡ q → now_on.consumer c ≡ Some u → Stands u.place u.own u.request

@@ -21,11 +21,13 @@ pub below_past : (f : Cells) (n m : ℕ) → EndsBy n f → n ≤ m → size_bel
 unfolding size_below
 below_past f n zero ends le = let same : n ≡ zero = omega arith in rw same refl
 below_past f n (suc m) ends le = elim (bool_cases (nat_le n m)) [
-  | inl under ↦ let low : n ≤ m = grind (arith, nat_tests) in let rest : size_below f m ≡ size_below f n = below_past f n m ends low in rw (ends m low) (omega arith)
+  | inl under ↦ let low : n ≤ m = grind (arith, nat_tests) in let rest : size_below f m ≡ size_below f n = below_past f n m ends low in
+      rw (ends m low) (omega arith)
   | inr over ↦ let same : n ≡ suc m = (let past : m < n = grind (arith, nat_tests) in omega arith) in rw same refl
 ]
 
-pub below_written : (f : Cells) (from x : ℕ) (bytes : List ℕ) (n : ℕ) → AreAbsent f from (from + length bytes) → size_below (cells_with from x bytes f) n ≡ size_below f n + (min n (from + length bytes) - from)
+pub below_written : (f : Cells) (from x : ℕ) (bytes : List ℕ) (n : ℕ) → AreAbsent f from (from + length bytes) →
+    size_below (cells_with from x bytes f) n ≡ size_below f n + (min n (from + length bytes) - from)
 unfolding size_below
 below_written f from x bytes zero absent = omega arith
 below_written f from x bytes (suc n) absent =
@@ -36,7 +38,8 @@ below_written f from x bytes (suc n) absent =
     ]
 
 -- written where nothing was, up to the farther of both ends
-pub below_put : (f : Cells) (from x n : ℕ) (bytes : List ℕ) → EndsBy n f → AreAbsent f from (from + length bytes) → size_below (cells_with from x bytes f) (max n (from + length bytes)) ≡ size_below f n + length bytes
+pub below_put : (f : Cells) (from x n : ℕ) (bytes : List ℕ) → EndsBy n f → AreAbsent f from (from + length bytes) →
+    size_below (cells_with from x bytes f) (max n (from + length bytes)) ≡ size_below f n + length bytes
 below_put f from x n bytes ends absent = grind (arith, nat_tests, below_written, length, below_past)
 
 -- RUNS THAT RISE
@@ -57,7 +60,8 @@ bytes_below n x (run ∷ runs) good =
     let rest : bytes_in runs ≡ size_below (cells_of runs) (last_end runs) = bytes_below (end_of run) run.x runs later in
     let sum : bytes_in (run ∷ runs) ≡ length run.bytes + bytes_in runs = sum_by-cons (λ (r : Run). length r.bytes) run runs in
     let put = below_put (cells_of runs) run.at run.x (last_end runs) run.bytes (ends_all runs) (λ p lo hi. before_run (end_of run) run.x p runs later hi) in
-    sum ∙ (turned (length run.bytes) (bytes_in runs) ∙ (ap (λ k. k + length run.bytes) rest ∙ (sym put ∙ ap (size_below (cells_of (run ∷ runs))) (omega arith))))
+    sum ∙ (turned (length run.bytes) (bytes_in runs) ∙
+    (ap (λ k. k + length run.bytes) rest ∙ (sym put ∙ ap (size_below (cells_of (run ∷ runs))) (omega arith))))
   where
     turned : (a b : ℕ) → a + b ≡ b + a
     turned a b = omega arith
@@ -67,7 +71,8 @@ bytes_below n x (run ∷ runs) good =
 pub below_most : (f : Cells) (n : ℕ) → size_below f n ≤ n
 unfolding size_below
 below_most f zero = omega arith
-below_most f (suc n) = let rest = below_most f n in elim (is_some (f n)) as (λ b. cond b 1 0 + size_below f n ≤ suc n) [ true ↦ omega arith | false ↦ omega arith ]
+below_most f (suc n) = let rest = below_most f n in
+    elim (is_some (f n)) as (λ b. cond b 1 0 + size_below f n ≤ suc n) [ true ↦ omega arith | false ↦ omega arith ]
 
 -- where each is there, all count
 pub full_below : (f : Cells) (n : ℕ) → Covers f 0 n → size_below f n ≡ n

@@ -67,11 +67,16 @@ module _ (limits : Limits) (t : Tables) (now : ℕ) (flaw : Flaw) (s : Sound t) 
       by_total (inr over) = over.total_is ∙ ended_total v.head.total _ n is
 
   total_from : (r n : ℕ) (v u : Representation) → t.representation r ≡ Some v → v.head.total ≡ Some n → RepFrom t e r u → u.head.total ≡ Some n
-  total_from r n v u row is (rep.was z kept) = kept_total r n z u (ap (λ (q : Representation). q.head.total) (same_row (t.representation r) z v kept.row row) ∙ is) kept
+  total_from r n v u row is (rep.was z kept) =
+      kept_total r n z u (ap (λ (q : Representation). q.head.total) (same_row (t.representation r) z v kept.row row) ∙ is) kept
   total_from r n v u row is (rep.founded response w none here also on made) = absurd (none_some v (sym none ∙ row))
 
-  total_after : (r n : ℕ) (v : Representation) (q : Option Representation) → t.representation r ≡ Some v → v.head.total ≡ Some n → now_on.representation r ≡ q → total_in q ≡ Some n
-  total_after r n v None row is after = absurd (let on : is_some (now_on.representation r) ≡ true = rep.stays t e r (t.representation r) (ap (λ (z : Option Representation). is_some z) row) in false_true (sym (ap (λ (z : Option Representation). is_some z) after) ∙ on))
+  total_after : (r n : ℕ) (v : Representation) (q : Option Representation) → t.representation r ≡ Some v → v.head.total ≡ Some n →
+      now_on.representation r ≡ q → total_in q ≡ Some n
+  total_after r n v None row is after =
+      absurd (let on : is_some (now_on.representation r) ≡ true =
+      rep.stays t e r (t.representation r) (ap (λ (z : Option Representation). is_some z) row) in
+      false_true (sym (ap (λ (z : Option Representation). is_some z) after) ∙ on))
   total_after r n v (Some u) row is after = total_from r n v u row is (rep_from t e r (t.representation r) u refl after)
 
   total_stays : (r n : ℕ) (q : Option Representation) → t.representation r ≡ q → total_in q ≡ Some n → total_in (now_on.representation r) ≡ Some n
@@ -121,7 +126,8 @@ module _ (limits : Limits) (t : Tables) (now : ℕ) (flaw : Flaw) (s : Sound t) 
     hi_direct n is =
         let on = is_on t e y h.w h.row in
         let reported = reported_same on.u on.same in
-        ap end_in on.row ∙ (ap (λ q. end_of_direct q on.u) (ap promise_of reported) ∙ end_by (promised_bytes h.w) on.u n on.row (ap base_of reported) (sym (ap end_in h.row) ∙ is))
+        ap end_in on.row ∙ (ap (λ q. end_of_direct q on.u) (ap promise_of reported) ∙
+        end_by (promised_bytes h.w) on.u n on.row (ap base_of reported) (sym (ap end_in h.row) ∙ is))
 
   pub lo_stays : (p : Place) → HasHead t p → lo_of now_on p ≡ lo_of t p
   lo_stays (place.Direct y) has = lo_direct y (has y refl)
@@ -173,7 +179,9 @@ module _ (t : Tables) (now c want r lo : ℕ) (why : Why) (head : Response) (hi 
 
   answer_part : (y : ℕ) (w : Exchange) (z : Option Response) → shows_answer t y w z ≡ Some show → IsPart y (base w) (hi_of t (place.Direct y))
   answer_part y w None is = absurd (none_some show is)
-  answer_part y w (Some response) is = let same : Shows y (Rattle.hc_event.specs.declared.act.Why.TheVariants.Fetched y) response (base w) (hi_of t (place.Direct y)) ≡ show = some_inj _ show is in record { number = cc; from = cc; to = cc }
+  answer_part y w (Some response) is =
+      let same : Shows y (Rattle.hc_event.specs.declared.act.Why.TheVariants.Fetched y) response (base w) (hi_of t (place.Direct y)) ≡ show =
+      some_inj _ show is in record { number = cc; from = cc; to = cc }
 
   direct_part : (y : ℕ) (z : Option Exchange) → t.exchange y ≡ z → shows_direct t y z ≡ Some show → IsPart y (base_in (t.exchange y)) (hi_of t (place.Direct y))
   direct_part y None row is = absurd (none_some show is)
@@ -186,10 +194,22 @@ module _ (t : Tables) (now c want r lo : ℕ) (why : Why) (head : Response) (hi 
   read_by : (p : Place) → k.place ≡ p → shows_at t k p ≡ Some show → IsRead t k as_shown
   read_by (place.Bound q a b how) at is =
       let p = bound_part q a (hi_of t k.place) how is in
-      record { number = ap read_of at ∙ ap Some p.number; from = ap (lo_of t) at ∙ p.from; to = λ n known. p.to ∙ known; open_end = λ none q1 a1 b1 how1 at1. or_none b1 _ (sym (ap (hi_of t) at1) ∙ (p.to ∙ none)) }
+      record {
+        number = ap read_of at ∙ ap Some p.number;
+        from = ap (lo_of t) at ∙ p.from;
+        to = λ n known. p.to ∙ known;
+        open_end =
+            λ none q1 a1 b1 how1 at1. or_none b1 _ (sym (ap (hi_of t) at1) ∙ (p.to ∙ none));
+      }
   read_by (place.Direct y) at is =
       let p = direct_part y (t.exchange y) refl is in
-      record { number = ap read_of at ∙ ap Some p.number; from = ap (lo_of t) at ∙ p.from; to = λ n known. ap (hi_of t) at ∙ (p.to ∙ known); open_end = λ none q1 a1 b1 how1 at1. absurd (let no : place.Direct y ≡ place.Bound q1 a1 b1 how1 = sym at ∙ at1 in cc) }
+      record {
+        number = ap read_of at ∙ ap Some p.number;
+        from = ap (lo_of t) at ∙ p.from;
+        to = λ n known. ap (hi_of t) at ∙ (p.to ∙ known);
+        open_end =
+            λ none q1 a1 b1 how1 at1. absurd (let no : place.Direct y ≡ place.Bound q1 a1 b1 how1 = sym at ∙ at1 in cc);
+      }
   read_by _ at is = absurd (none_some show is)
 
   shows_some : (y : ℕ) → k.place ≡ place.Direct y → IsHeadedRow t y → shows_at t k k.place ≡ None → ⊥
@@ -197,28 +217,34 @@ module _ (t : Tables) (now c want r lo : ℕ) (why : Why) (head : Response) (hi 
     where
       by_head : (z : Option Response) → is_some z ≡ true → shows_answer t y h.w z ≡ None → ⊥
       by_head None headed is = false_true headed
-      by_head (Some response) headed is = let no : Some (Shows y (Rattle.hc_event.specs.declared.act.Why.TheVariants.Fetched y) response (base h.w) (hi_of t (place.Direct y))) ≡ None = is in cc
+      by_head (Some response) headed is =
+          let no : Some (Shows y (Rattle.hc_event.specs.declared.act.Why.TheVariants.Fetched y) response (base h.w) (hi_of t (place.Direct y))) ≡ None =
+          is in cc
 
-  unplanned : (p : Place) → k.place ≡ p → reads p ≡ true → bound_to k.place ≡ None → ((y : ℕ) → k.place ≡ place.Direct y → IsHeadedRow t y) → shows_at t k k.place ≡ None → ⊥
+  unplanned : (p : Place) → k.place ≡ p → reads p ≡ true → bound_to k.place ≡ None → ((y : ℕ) → k.place ≡ place.Direct y → IsHeadedRow t y) →
+      shows_at t k k.place ≡ None → ⊥
   unplanned (place.Bound q a b how) at old free headed none = none_some q (sym free ∙ ap bound_to at)
   unplanned (place.Direct y) at old free headed none = shows_some y at (headed y at) none
   unplanned _ at old free headed none = false_true old
 
-  by_moves : (m : Move) → MoveBy t now want c k m → m ≡ show → k.shown ≡ false → reads k.place ≡ true → ((y : ℕ) → k.place ≡ place.Direct y → IsHeadedRow t y) → IsRead t k as_shown
+  by_moves : (m : Move) → MoveBy t now want c k m → m ≡ show → k.shown ≡ false → reads k.place ≡ true →
+      ((y : ℕ) → k.place ≡ place.Direct y → IsHeadedRow t y) → IsRead t k as_shown
   by_moves m (by_move.shows _ unshown at) is off old headed = read_by k.place refl (at ∙ ap Some is)
   by_moves _ (by_move.reads shown heard) is off old headed = absurd (false_true (sym off ∙ shown))
   by_moves _ (by_move.plans unshown free none heard) is off old headed = absurd (unplanned k.place refl old free headed none)
   by_moves _ _ is off old headed = cc
 
   -- who is shown a head where it reads is shown what it reads
-  pub shown_read : Sound t → t.consumer c ≡ Some k → move_of t now want c k ≡ show → k.shown ≡ false → reads k.place ≡ true → ((y : ℕ) → k.place ≡ place.Direct y → IsHeadedRow t y) → IsRead t k as_shown
+  pub shown_read : Sound t → t.consumer c ≡ Some k → move_of t now want c k ≡ show → k.shown ≡ false → reads k.place ≡ true →
+      ((y : ℕ) → k.place ≡ place.Direct y → IsHeadedRow t y) → IsRead t k as_shown
   shown_read s row is off old headed = by_moves (move_of t now want c k) (move_by t now want c k s row) is off old headed
 
 module _ (step : Step) (a : IsFallback step.tables) where
   open step use {limits, tables as t, now, flaw, sound as s, event as ev, accepted as goes}
 
   -- who is shown a head reads what it is shown
-  pub landed_read : (c : ℕ) (k u : Consumer) → t.consumer c ≡ Some k → k.shown ≡ false → reads u.place ≡ true → (l : IsLanding step c k u) → IsRead (after_accepted t (entry_of limits t now ev flaw)) u (record { r = l.r; why = l.why; lo = l.lo; hi = l.hi })
+  pub landed_read : (c : ℕ) (k u : Consumer) → t.consumer c ≡ Some k → k.shown ≡ false → reads u.place ≡ true → (l : IsLanding step c k u) →
+      IsRead (after_accepted t (entry_of limits t now ev flaw)) u (record { r = l.r; why = l.why; lo = l.lo; hi = l.hi })
   landed_read c k u row off old l = by_lands l.lands
     where
       place_hi : (r q lo a : ℕ) (hi b : Option ℕ) (how g : BoundBy) → place.Bound r lo hi how ≡ place.Bound q a b g → hi ≡ b
@@ -233,12 +259,16 @@ module _ (step : Step) (a : IsFallback step.tables) where
       idle_not (place.Direct y) i on = i
       idle_not _ i on = false_true on
 
-      by_lands : Lands k.place u.place l.r l.lo l.hi → IsRead (after_accepted t (entry_of limits t now ev flaw)) u (record { r = l.r; why = l.why; lo = l.lo; hi = l.hi })
+      by_lands : Lands k.place u.place l.r l.lo l.hi →
+          IsRead (after_accepted t (entry_of limits t now ev flaw)) u (record { r = l.r; why = l.why; lo = l.lo; hi = l.hi })
       by_lands (stands.back i) = absurd (idle_not u.place i old)
-      by_lands (stands.stays reading same) = read_kept limits t now flaw s ev goes a k u _ same head_at (shown_read t now c l.want l.r l.lo l.why l.head l.hi k s row l.move_is off reading head_at)
+      by_lands (stands.stays reading same) =
+          read_kept limits t now flaw s ev goes a k u _ same head_at
+          (shown_read t now c l.want l.r l.lo l.why l.head l.hi k s row l.move_is off reading head_at)
       by_lands (stands.planned free is) = record {
         number = ap read_of is;
         from = ap (lo_of (after_accepted t (entry_of limits t now ev flaw))) is;
-        to = λ n known. ap (hi_of (after_accepted t (entry_of limits t now ev flaw))) is ∙ ap (λ (z : Option ℕ). option_or z (total_in ((after_accepted t (entry_of limits t now ev flaw)).representation l.r))) known;
+        to = λ n known. ap (hi_of (after_accepted t (entry_of limits t now ev flaw))) is ∙
+            ap (λ (z : Option ℕ). option_or z (total_in ((after_accepted t (entry_of limits t now ev flaw)).representation l.r))) known;
         open_end = λ none q1 a1 b1 how1 at1. sym (place_hi l.r q1 l.lo a1 l.hi b1 by.Plan how1 (sym is ∙ at1)) ∙ none;
       }

@@ -64,7 +64,8 @@ module _ (t : Tables) (now c want : ℕ) (k : Consumer) where
   by_held true is = gives_ends _ is
   by_held false is = by_due view.due is
 
-  by_stored : (o : Option ℕ) → step_move t want c k (stored_or (hi_of t k.place) o (held_or view.held (fails_or view.due (waits_or view.source (opens view))))) ≡ Ends → ⊥
+  by_stored : (o : Option ℕ) →
+      step_move t want c k (stored_or (hi_of t k.place) o (held_or view.held (fails_or view.due (waits_or view.source (opens view))))) ≡ Ends → ⊥
   by_stored None is = by_held view.held is
   by_stored (Some end) is = gives_ends _ is
 
@@ -77,10 +78,13 @@ module _ (t : Tables) (now c want : ℕ) (k : Consumer) where
 
 -- WHERE IT STANDS
 
-module _ (t : Tables) (c : ℕ) (k : Consumer) (s : Sound t) (m : Measures t) (b : IsBounded t) (row : t.consumer c ≡ Some k) (apart : (y : ℕ) → k.place ≡ place.Direct y → t.representation y ≡ None) (z : Shown) (given : List ℕ) (count : k.given ≡ length given) (holds : Holds t z.r z.lo given) (read : IsRead t k z) where
+module _ (t : Tables) (c : ℕ) (k : Consumer) (s : Sound t) (m : Measures t) (b : IsBounded t) (row : t.consumer c ≡ Some k)
+    (apart : (y : ℕ) → k.place ≡ place.Direct y → t.representation y ≡ None) (z : Shown) (given : List ℕ) (count : k.given ≡ length given)
+    (holds : Holds t z.r z.lo given) (read : IsRead t k z) where
   -- the last byte that it was given is there
   last_there : 0 < k.given → is_some (body_of t z.r (z.lo + (k.given - 1))) ≡ true
-  last_there some = ap (λ p. is_some (body_of t z.r p)) (sym (omega arith)) ∙ ap (λ (q : Option Cell). is_some q) ((holds (k.given - 1) (omega arith)).1 0 (omega arith))
+  last_there some = ap (λ p. is_some (body_of t z.r p)) (sym (omega arith)) ∙
+      ap (λ (q : Option Cell). is_some q) ((holds (k.given - 1) (omega arith)).1 0 (omega arith))
 
   below_reach : (r n p : ℕ) (v : Representation) → t.representation r ≡ Some v → v.head.total ≡ Some n → is_some (body_of t r p) ≡ true → p < n
   below_reach r n p v there known some = grind (arith, nat_tests)
@@ -94,7 +98,8 @@ module _ (t : Tables) (c : ℕ) (k : Consumer) (s : Sound t) (m : Measures t) (b
   came_of : (y : ℕ) (w : Exchange) → z.r ≡ y → z.lo ≡ base w → t.representation y ≡ None → t.exchange y ≡ Some w → k.given ≤ length w.body
   came_of y w same first none there = grind (arith, nat_tests, bool_cases, last_there, cell_below)
 
-  direct_end : (y n : ℕ) (w : Exchange) (q : Option ℕ) → t.exchange y ≡ Some w → promised_bytes w ≡ q → k.given ≤ length w.body → end_of_direct q w ≡ Some n → base w + k.given ≤ n
+  direct_end : (y n : ℕ) (w : Exchange) (q : Option ℕ) → t.exchange y ≡ Some w → promised_bytes w ≡ q → k.given ≤ length w.body →
+      end_of_direct q w ≡ Some n → base w + k.given ≤ n
   direct_end y n w q there promise few is = grind (arith, nat_tests)
 
   direct_by : (y n : ℕ) (q : Option Exchange) → k.place ≡ place.Direct y → t.exchange y ≡ q → end_in q ≡ Some n → offset t k ≤ n
@@ -156,7 +161,8 @@ module _ (t : Tables) (now c : ℕ) where
   ender : (limits : Limits) (ev : Event) (flaw : Flaw) → Says it (accepted_acts limits t now ev flaw) → IsEnder ev
   ender limits ev flaw h = ender_of ev flaw (answer_acts t now ev flaw) (said_is t now ev flaw) (by_said limits t now ev flaw it (next.ends c) h)
 
-module _ (limits : Limits) (contents : Contents) (h : History) (e : Entry) (may : may_begin limits contents ≡ true) (run : IsRun limits contents (e ∷ h)) (c : ℕ) where
+module _ (limits : Limits) (contents : Contents) (h : History) (e : Entry) (may : may_begin limits contents ≡ true) (run : IsRun limits contents (e ∷ h))
+    (c : ℕ) where
   abbrev t : Tables
   t = tables contents h
 
@@ -170,8 +176,13 @@ module _ (limits : Limits) (contents : Contents) (h : History) (e : Entry) (may 
       let j = joined_in_runs limits contents h may run.0 in
       let reports = is_reported limits contents h run.0 in
       let read = j.read c g.k one.0 g.row one.1 (hi_reads t g.k.place known.0 known.1) in
-      let there = is_end t c g.k all.is_sound all.is_measured (bounded limits contents h may run.0) g.row (λ y at. (fallback limits contents h may run.0).apart.unfounded c y g.k g.row at) one.0 (given_of c h) (reports.count c g.k g.row) (j.held c one.0 one.1) read past in
-      (one.0, append_none (shown_of c h) ∙ one.1, subst (λ (xs : List ℕ). IsEnd t one.0.r one.0.hi (one.0.lo + length xs)) (sym (append_none (given_of c h))) there)
+      let there = is_end t c g.k all.is_sound all.is_measured (bounded limits contents h may run.0) g.row
+      (λ y at. (fallback limits contents h may run.0).apart.unfounded c y g.k g.row at) one.0 (given_of c h) (reports.count c g.k g.row)
+      (j.held c one.0 one.1) read past in (
+        one.0,
+        append_none (shown_of c h) ∙ one.1,
+        subst (λ (xs : List ℕ). IsEnd t one.0.r one.0.hi (one.0.lo + length xs)) (sym (append_none (given_of c h))) there,
+      )
 
   denied_not : (acts : List Act) → IsDenied acts → Says (act.Ended c) acts → ⊥
   denied_not acts it1 it2 = grind (arith, nat_tests)

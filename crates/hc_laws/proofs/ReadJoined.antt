@@ -42,8 +42,11 @@ holds_more t r at xs ys hx hy i lt = elim (bool_cases (nat_lt i (length xs))) [
       let under : i - length xs < length ys = omega arith in
       let got = hy (i - length xs) under in
       let place : at + length xs + (i - length xs) ≡ at + i = omega arith in
-      let byte : slice_index (xs ++ ys) i ≡ slice_index ys (i - length xs) = get_or-append_right xs ys i 0 over in
-      (got.0, subst (λ p. Delivers t r p got.0 (slice_index (xs ++ ys) i ∷ [])) place (subst (λ b. Delivers t r (at + length xs + (i - length xs)) got.0 (b ∷ [])) (sym byte) got.1))
+      let byte : slice_index (xs ++ ys) i ≡ slice_index ys (i - length xs) = get_or-append_right xs ys i 0 over in (
+        got.0,
+        subst (λ p. Delivers t r p got.0 (slice_index (xs ++ ys) i ∷ [])) place
+            (subst (λ b. Delivers t r (at + length xs + (i - length xs)) got.0 (b ∷ [])) (sym byte) got.1),
+      )
 ]
 
 -- what one exchange delivered
@@ -72,7 +75,8 @@ pub record IsReceived (t : Tables) (shown : ℕ → List Shown) (given : ℕ →
   pub ungiven : (c : ℕ) → shown c ≡ [] → given c ≡ []
   pub count : (c : ℕ) (k : Consumer) → t.consumer c ≡ Some k → k.given ≡ length (given c)
 
-module _ (step : Step) (a : IsFallback step.tables) (shown : ℕ → List Shown) (given : ℕ → List ℕ) (reported : IsReceived step.tables shown given) (joined : IsJoined step.tables shown given) where
+module _ (step : Step) (a : IsFallback step.tables) (shown : ℕ → List Shown) (given : ℕ → List ℕ) (reported : IsReceived step.tables shown given)
+    (joined : IsJoined step.tables shown given) where
   open step use {limits, tables as t, now, flaw, sound as s, owners as o, event as ev, accepted as goes}
 
   abbrev e : Entry
@@ -93,7 +97,8 @@ module _ (step : Step) (a : IsFallback step.tables) (shown : ℕ → List Shown)
 
     -- READING
 
-    shown_on : (k u : Consumer) (z : Shown) → t.consumer c ≡ Some k → now_on.consumer c ≡ Some u → shown c ≡ z ∷ [] → k.shown ≡ true → reads u.place ≡ true → IsRead now_on u z
+    shown_on : (k u : Consumer) (z : Shown) → t.consumer c ≡ Some k → now_on.consumer c ≡ Some u → shown c ≡ z ∷ [] → k.shown ≡ true →
+        reads u.place ≡ true → IsRead now_on u z
     shown_on k u z row after was on reading_on = by_place (shown_stays step a c k row on u after)
       where
         idle_not : (p : Place) → stands.IsIdle p → reads p ≡ true → ⊥
@@ -104,15 +109,20 @@ module _ (step : Step) (a : IsFallback step.tables) (shown : ℕ → List Shown)
 
         by_place : StaysOrIdle k.place u.place → IsRead now_on u z
         by_place (stands.idle i) = absurd (idle_not u.place i reading_on)
-        by_place (stands.same is) = read_kept limits t now flaw s ev goes a k u z is (λ y at. a.apart.headed c y k row at on) (joined.read c k z row was (sym (ap reads is) ∙ reading_on))
+        by_place (stands.same is) =
+            read_kept limits t now flaw s ev goes a k u z is (λ y at. a.apart.headed c y k row at on)
+            (joined.read c k z row was (sym (ap reads is) ∙ reading_on))
 
     was_shown : (k : Consumer) (z : Shown) (b : Bool) → k.shown ≡ b → t.consumer c ≡ Some k → shown c ≡ z ∷ [] → k.shown ≡ true
     was_shown k z true on row was = on
     was_shown k z false off row was = absurd (nil_cons z [] (sym (reported.unshown c k row off) ∙ was))
 
-    read_by : (k u : Consumer) (z : Shown) → t.consumer c ≡ Some k → now_on.consumer c ≡ Some u → (shown c ++ shown_in c e.acts) ≡ z ∷ [] → reads u.place ≡ true → ToOne t now c ev e.acts → IsRead now_on u z
-    read_by k u z row after is on (acts_to.quiet none quiet off) = let was = quiet_shown z quiet is in shown_on k u z row after was (was_shown k z k.shown refl row was) on
-    read_by k u z row after is on (acts_to.gives want q run at there move none quiet off) = let was = quiet_shown z quiet is in shown_on k u z row after was (was_shown k z k.shown refl row was) on
+    read_by : (k u : Consumer) (z : Shown) → t.consumer c ≡ Some k → now_on.consumer c ≡ Some u → (shown c ++ shown_in c e.acts) ≡ z ∷ [] →
+        reads u.place ≡ true → ToOne t now c ev e.acts → IsRead now_on u z
+    read_by k u z row after is on (acts_to.quiet none quiet off) = let was = quiet_shown z quiet is in
+        shown_on k u z row after was (was_shown k z k.shown refl row was) on
+    read_by k u z row after is on (acts_to.gives want q run at there move none quiet off) = let was = quiet_shown z quiet is in
+        shown_on k u z row after was (was_shown k z k.shown refl row was) on
     read_by k u z row after is on (acts_to.shows want q r why head lo hi at there move none some showing) =
         let parts = front_none (shown c) (record { r = r; why = why; lo = lo; hi = hi }) z (sym (ap (λ xs. shown c ++ xs) some) ∙ is) in
         by_shown parts.0 parts.1
@@ -122,11 +132,13 @@ module _ (step : Step) (a : IsFallback step.tables) (shown : ℕ → List Shown)
           | inl already ↦
               absurd (nil_cons _ [] (sym ((Rattle.hc_effects.proofs.ShownOnce.by_event limits t now c flaw ev).again k row already) ∙ some))
           | inr off ↦
-              let l = landing_by step c k u row after (Rattle.hc_effects.proofs.Said.shows_it e.acts (record { c = c; r = r; lo = lo; hi = hi }) showing) (acts_to.shows want q r why head lo hi at there move none some showing) in
+              let l = landing_by step c k u row after (Rattle.hc_effects.proofs.Said.shows_it e.acts (record { c = c; r = r; lo = lo; hi = hi }) showing)
+              (acts_to.shows want q r why head lo hi at there move none some showing) in
               subst (IsRead now_on u) (one_inj _ _ (sym l.reported ∙ some) ∙ same) (landed_read step a c k u row off on l)
         ]
 
-    read_row : (q : Option Consumer) (u : Consumer) (z : Shown) → t.consumer c ≡ q → now_on.consumer c ≡ Some u → (shown c ++ shown_in c e.acts) ≡ z ∷ [] → reads u.place ≡ true → ToOne t now c ev e.acts → IsRead now_on u z
+    read_row : (q : Option Consumer) (u : Consumer) (z : Shown) → t.consumer c ≡ q → now_on.consumer c ≡ Some u → (shown c ++ shown_in c e.acts) ≡ z ∷
+        [] → reads u.place ≡ true → ToOne t now c ev e.acts → IsRead now_on u z
     read_row (Some k) u z row after is on one = read_by k u z row after is on one
     read_row None u z row after is on (acts_to.quiet none quiet off) = absurd (nil_cons z [] (sym (reported.absent c row) ∙ quiet_shown z quiet is))
     read_row None u z row after is on (acts_to.gives want q run at there move none quiet off) = absurd (none_some q (sym row ∙ there))
@@ -154,10 +166,12 @@ module _ (step : Step) (a : IsFallback step.tables) (shown : ℕ → List Shown)
         at_some None is le = absurd (none_some m is)
         at_some (Some hi) is le = let one : hi ≡ m = some_inj hi m is in omega arith
 
-    pub next_of : (want : ℕ) (k : Consumer) (run : Run) (z : Shown) → ev ≡ event.Poll c want → t.consumer c ≡ Some k → move_of t now want c k ≡ Gives run → shown c ≡ z ∷ [] → IsNextOf z run
+    pub next_of : (want : ℕ) (k : Consumer) (run : Run) (z : Shown) → ev ≡ event.Poll c want → t.consumer c ≡ Some k →
+        move_of t now want c k ≡ Gives run → shown c ≡ z ∷ [] → IsNextOf z run
     next_of want k run z at row move was =
         let on = was_shown k z k.shown refl row was in
-        let g = given_next t want c k run s (some_want t c want ev goes at) (λ x stood. a.apart.unfounded c x k row stood) (gives_of t now c want k run (move_of t now want c k) (move_by t now want c k s row) move on) in
+        let g = given_next t want c k run s (some_want t c want ev goes at) (λ x stood. a.apart.unfounded c x k row stood)
+        (gives_of t now c want k run (move_of t now want c k) (move_by t now want c k s row) move on) in
         let read = joined.read c k z row was (read_reads k.place g.0 g.1.number) in
         let count : k.given ≡ length (given c) = reported.count c k row in
         record {
@@ -176,13 +190,15 @@ module _ (step : Step) (a : IsFallback step.tables) (shown : ℕ → List Shown)
         subst (Holds now_on z.r z.lo) (sym all) (holds_grow t now_on z.r z.lo (given c) grown (joined.held c z (quiet_shown z quiet is)))
     held_by z is (acts_to.shows want q r why head lo hi at there move none some showing) =
         let parts = front_none (shown c) (record { r = r; why = why; lo = lo; hi = hi }) z (sym (ap (λ xs. shown c ++ xs) some) ∙ is) in
-        subst (Holds now_on z.r z.lo) (sym (ap (λ xs. given c ++ xs) none ∙ (append_none (given c) ∙ reported.ungiven c parts.0))) (λ i lt. absurd (let no : i < 0 = lt in omega arith))
+        subst (Holds now_on z.r z.lo) (sym (ap (λ xs. given c ++ xs) none ∙ (append_none (given c) ∙ reported.ungiven c parts.0)))
+        (λ i lt. absurd (let no : i < 0 = lt in omega arith))
     held_by z is (acts_to.gives want k run at there move bytes quiet off) =
         let was = quiet_shown z quiet is in
         let next = next_of want k run z at there move was in
         let more : Holds now_on z.r run.at run.bytes = holds_of now_on z.r run.at run.x run.bytes (grown z.r run.at run.x run.bytes next.delivered) in
         let before = holds_grow t now_on z.r z.lo (given c) grown (joined.held c z was) in
-        subst (λ xs. Holds now_on z.r z.lo (given c ++ xs)) (sym bytes) (holds_more now_on z.r z.lo (given c) run.bytes before (subst (λ p. Holds now_on z.r p run.bytes) next.at_is more))
+        subst (λ xs. Holds now_on z.r z.lo (given c ++ xs)) (sym bytes)
+        (holds_more now_on z.r z.lo (given c) run.bytes before (subst (λ p. Holds now_on z.r p run.bytes) next.at_is more))
 
   joined_on : IsJoined now_on (λ c. shown c ++ shown_in c e.acts) (λ c. given c ++ given_in c e.acts)
   joined_on = record {
@@ -207,13 +223,16 @@ module _ (limits : Limits) (contents : Contents) (h : History) (run : IsRun limi
     absent = λ c row. shown_is c None row refl;
     unshown = λ c k row off. shown_is c (Some k) row (ap not off);
     ungiven = λ c none. (one_head_is_shown limits contents h run c).1 none;
-    count = λ c k row. sym (ap (λ (z : Option Consumer). option_map_or (λ (q : Consumer). q.given) z 0) row) ∙ (consumers_are_filtered limits contents h run).offsets c;
+    count = λ c k row. sym (ap (λ (z : Option Consumer). option_map_or (λ (q : Consumer). q.given) z 0) row) ∙
+        (consumers_are_filtered limits contents h run).offsets c;
   }
 
-denied_joined : (contents : Contents) (h : History) (e : Entry) → is_denied e.acts ≡ true → Joined contents h → IsJoined (after_denied (tables contents h) e) (λ c. shown_of c (e ∷ h)) (λ c. given_of c (e ∷ h))
+denied_joined : (contents : Contents) (h : History) (e : Entry) → is_denied e.acts ≡ true → Joined contents h →
+    IsJoined (after_denied (tables contents h) e) (λ c. shown_of c (e ∷ h)) (λ c. given_of c (e ∷ h))
 denied_joined contents h e denied j = record {
   read = λ c k z row was on. let r = j.read c k z row (old_shown c z was) on in record { number = r.number; from = r.from; to = r.to; open_end = r.open_end };
-  held = λ c z was. subst (Holds (tables contents h) z.r z.lo) (sym (ap (λ xs. given_of c h ++ xs) (denied_gives c e.acts denied) ∙ append_none (given_of c h))) (j.held c z (old_shown c z was));
+  held = λ c z was. subst (Holds (tables contents h) z.r z.lo)
+      (sym (ap (λ xs. given_of c h ++ xs) (denied_gives c e.acts denied) ∙ append_none (given_of c h))) (j.held c z (old_shown c z was));
 }
   where
     old_shown : (c : ℕ) (z : Shown) → shown_of c (e ∷ h) ≡ z ∷ [] → shown_of c h ≡ z ∷ []
@@ -224,7 +243,8 @@ joined_in_runs limits contents h may run =
     along limits contents (λ t h. IsJoined t (λ c. shown_of c h) (λ c. given_of c h)) may
     (record { read = λ c k z row was on. absurd (nil_cons z [] was); held = λ c z was. absurd (nil_cons z [] was) })
     (λ h e run later denied j. denied_joined contents h e denied j)
-    (λ h now flaw ev run s j. joined_on (step_of limits (tables contents h) now flaw s.before.is_sound s.before.is_owned ev s.going) (fallback limits contents h may run) (λ c. shown_of c h) (λ c. given_of c h) (is_reported limits contents h run) j)
+    (λ h now flaw ev run s j. joined_on (step_of limits (tables contents h) now flaw s.before.is_sound s.before.is_owned ev s.going)
+    (fallback limits contents h may run) (λ c. shown_of c h) (λ c. given_of c h) (is_reported limits contents h run) j)
     h run
 
 -- What a consumer was given, joined, is of the body that it was shown.

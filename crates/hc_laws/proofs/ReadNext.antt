@@ -96,7 +96,8 @@ module _ (t : Tables) (now c x at : ℕ) (bytes : List ℕ) where
   of_move d _ (inl is) = cc
   of_move d _ (inr h) = absurd h
 
-  giver_by : (ev : Event) (d want : ℕ) (k : Consumer) (m : Move) → ev ≡ event.Poll d want → t.consumer d ≡ Some k → m ≡ move_of t now want d k → GivesAs d m → IsGiver ev
+  giver_by : (ev : Event) (d want : ℕ) (k : Consumer) (m : Move) → ev ≡ event.Poll d want → t.consumer d ≡ Some k → m ≡ move_of t now want d k →
+      GivesAs d m → IsGiver ev
   giver_by ev d want k _ here row is (gives_it same) = record {
     want = want;
     k = k;
@@ -125,25 +126,31 @@ module _ (limits : Limits) (contents : Contents) (h : History) (run : IsRun limi
   pub shown_one : (c : ℕ) (k : Consumer) → (tables contents h).consumer c ≡ Some k → k.shown ≡ true → (z : Shown) × (shown_of c h ≡ z ∷ [])
   shown_one c k row on =
       let all = (consumers_are_filtered limits contents h run).shown c in
-      let some : is_none (first (shown_of c h)) ≡ false = sym all ∙ (ap (λ (z : Option Consumer). option_map_or (λ (q : Consumer). not q.shown) z true) row ∙ ap not on) in
+      let some : is_none (first (shown_of c h)) ≡ false = sym all ∙
+      (ap (λ (z : Option Consumer). option_map_or (λ (q : Consumer). not q.shown) z true) row ∙ ap not on) in
       one_shown (shown_of c h) some (one_head_is_shown limits contents h run c).0
 
 some_of : (bytes : List ℕ) → 0 < length bytes → length bytes ≢ 0
 some_of bytes lt is = omega arith
 
-module _ (limits : Limits) (contents : Contents) (h : History) (e : Entry) (may : may_begin limits contents ≡ true) (run : IsRun limits contents (e ∷ h)) (c x at : ℕ) (bytes : List ℕ) where
+module _ (limits : Limits) (contents : Contents) (h : History) (e : Entry) (may : may_begin limits contents ≡ true) (run : IsRun limits contents (e ∷ h))
+    (c x at : ℕ) (bytes : List ℕ) where
   abbrev t : Tables
   t = tables contents h
 
   shown_giver : (g : IsGiver t e.now c x at bytes e.event) (b : Bool) → g.k.shown ≡ b → g.k.shown ≡ true
   shown_giver g true on = on
-  shown_giver g false off = absurd (let none : is_giving (move_of t e.now g.want c g.k) ≡ false = unshown_gives t e.now g.want c g.k off in let no : true ≡ false = sym (ap is_giving g.move_is) ∙ none in cc)
+  shown_giver g false off =
+      absurd (let none : is_giving (move_of t e.now g.want c g.k) ≡ false = unshown_gives t e.now g.want c g.k off in let no : true ≡ false =
+      sym (ap is_giving g.move_is) ∙ none in cc)
 
   by_giver : is_denied e.acts ≡ false → IsGiver t e.now c x at bytes e.event → ReadsAct contents h e.now [] (act.Given c x at bytes)
   by_giver accepted_it g =
       let k = carried limits contents h may run.0 in
       let one = shown_one limits contents h run.0 c g.k g.row (shown_giver g g.k.shown refl) in
-      let next = next_of (step_of limits t e.now (flaw_in e.acts) k.is_sound k.is_owned e.event (goes limits t e run.1 accepted_it)) (fallback limits contents h may run.0) (λ d. shown_of d h) (λ d. given_of d h) (is_reported limits contents h run.0) (joined_in_runs limits contents h may run.0) c g.want g.k (record { x = x; at = at; bytes = bytes }) one.0 g.is_poll g.row g.move_is one.1 in (
+      let next = next_of (step_of limits t e.now (flaw_in e.acts) k.is_sound k.is_owned e.event (goes limits t e run.1 accepted_it))
+      (fallback limits contents h may run.0) (λ d. shown_of d h) (λ d. given_of d h) (is_reported limits contents h run.0)
+      (joined_in_runs limits contents h may run.0) c g.want g.k (record { x = x; at = at; bytes = bytes }) one.0 g.is_poll g.row g.move_is one.1 in (
         one.0,
         append_none (shown_of c h) ∙ one.1,
         record {
@@ -159,7 +166,9 @@ module _ (limits : Limits) (contents : Contents) (h : History) (e : Entry) (may 
 
   by_denial : (b : Bool) → is_denied e.acts ≡ b → Says (act.Given c x at bytes) e.acts → ReadsAct contents h e.now [] (act.Given c x at bytes)
   by_denial true denied says = absurd (denied_not e.acts (is_denial e.acts denied) says)
-  by_denial false accepted_it says = by_giver accepted_it (giver t e.now c x at bytes limits e.event (flaw_in e.acts) (subst (Says (act.Given c x at bytes)) (acts_are limits t e run.1 accepted_it) says))
+  by_denial false accepted_it says =
+      by_giver accepted_it (giver t e.now c x at bytes limits e.event (flaw_in e.acts)
+      (subst (Says (act.Given c x at bytes)) (acts_are limits t e run.1 accepted_it) says))
 
 -- What a consumer is given is next in the body that it was shown, and within its end.
 pub gives_next : GivesNext

@@ -62,7 +62,8 @@ module _ (limits : Limits) (contents : Contents) (h : History) (e : Entry) (may 
   unshown_of c want k m true on is shows = absurd (false_true (sym (shown_shows t e.now want c k on) ∙ (ap is_showing is ∙ shows)))
 
   module _ (c want : ℕ) (k : Consumer) (row : t.consumer c ≡ Some k) (rest : List Act) (quiet : AreUnread rest) where
-    by_move : (m : Move) → move_of t e.now want c k ≡ m → ((a : Act) → Says a (acts_of c m ++ rest) → Says a e.acts) → ReadsActs contents h e.now [] (acts_of c m ++ rest)
+    by_move : (m : Move) → move_of t e.now want c k ≡ m → ((a : Act) → Says a (acts_of c m ++ rest) → Says a e.acts) →
+        ReadsActs contents h e.now [] (acts_of c m ++ rest)
     by_move Nothing is says = acts_unread contents h e.now [] rest quiet
     by_move (moves.Waits w) is says = acts_unread contents h e.now [] (act.Pending c w ∷ rest) (tt, quiet)
     by_move (Asks x) is says = acts_unread contents h e.now [] (act.Ask x ∷ act.Pending c (wait.Body x) ∷ rest) (tt, (tt, quiet))
@@ -70,20 +71,27 @@ module _ (limits : Limits) (contents : Contents) (h : History) (e : Entry) (may 
     by_move (Shows r why head lo hi) is says =
         let reported = is_reported limits contents h run.0 in
         let none = reported.unshown c k row (unshown_of c want k (Shows r why head lo hi) k.shown refl is refl) in
-        let reason = reason_holds limits contents h may run.0 e.now c r lo hi why head k row (shown_why t e.now c k r lo hi why head want (runs_are_sound limits contents h may run.0) row is) in
+        let reason = reason_holds limits contents h may run.0 e.now c r lo hi why head k row
+        (shown_why t e.now c k r lo hi why head want (runs_are_sound limits contents h may run.0) row is) in
         ((append_none (shown_of c h) ∙ none, append_none (given_of c h) ∙ (reported.ungiven c none), reason), acts_unread contents h e.now _ rest quiet)
-    by_move (Gives given) is says = (gives_next limits contents h e may run c given.x given.at given.bytes (says _ (inl refl)), acts_unread contents h e.now _ rest quiet)
+    by_move (Gives given) is says =
+        (gives_next limits contents h e may run c given.x given.at given.bytes (says _ (inl refl)), acts_unread contents h e.now _ rest quiet)
     by_move Ends is says = (ends_well limits contents h e may run c (says _ (inl refl)), acts_unread contents h e.now _ rest quiet)
     by_move (Fails why) is says = acts_unread contents h e.now [] (act.Failed c why ∷ rest) (tt, quiet)
 
-  by_said : (acts rest : List Act) → AreUnread rest → IsSaid t e.now e.event flaw acts → ((a : Act) → Says a (acts ++ rest) → Says a e.acts) → ReadsActs contents h e.now [] (acts ++ rest)
+  by_said : (acts rest : List Act) → AreUnread rest → IsSaid t e.now e.event flaw acts → ((a : Act) → Says a (acts ++ rest) → Says a e.acts) →
+      ReadsActs contents h e.now [] (acts ++ rest)
   by_said _ rest quiet (parts.silent) says = acts_unread contents h e.now [] rest quiet
   by_said _ rest quiet (parts.does c want k m here row is near) says = by_move c want k row rest quiet m (sym is) says
   by_said _ rest quiet (parts.misreads c want r here is) says = acts_unread contents h e.now [] (act.Failed c (cause.StoreRead r) ∷ rest) (tt, quiet)
 
   by_answer : (acts : List Act) → IsAnswer limits t e.now e.event flaw acts → ((a : Act) → Says a acts → Says a e.acts) → ReadsActs contents h e.now [] acts
-  by_answer _ (parts.reported none) says = acts_unread contents h e.now [] _ (both_unread _ _ (evicts_unread (evicted limits t e.now e.event)) (both_unread _ _ (lost_unread flaw) (closes_unread _)))
-  by_answer _ (parts.asked) says = by_said (answer_acts t e.now e.event flaw) (close_acts t e.now e.event flaw ++ loss_acts flaw) (both_unread _ _ (closes_unread _) (lost_unread flaw)) (said_is t e.now e.event flaw) says
+  by_answer _ (parts.reported none) says =
+      acts_unread contents h e.now [] _
+      (both_unread _ _ (evicts_unread (evicted limits t e.now e.event)) (both_unread _ _ (lost_unread flaw) (closes_unread _)))
+  by_answer _ (parts.asked) says =
+      by_said (answer_acts t e.now e.event flaw) (close_acts t e.now e.event flaw ++ loss_acts flaw)
+      (both_unread _ _ (closes_unread _) (lost_unread flaw)) (said_is t e.now e.event flaw) says
 
   denied_reads : (acts : List Act) → IsDenied acts → ReadsActs contents h e.now [] acts
   denied_reads _ (owed_acts.denied refusal) = (tt, tt)
@@ -92,7 +100,8 @@ module _ (limits : Limits) (contents : Contents) (h : History) (e : Entry) (may 
   by_denial true denied = denied_reads e.acts (is_denial e.acts denied)
   by_denial false taken =
       let acts = acts_are limits t e run.1 taken in
-      subst (ReadsActs contents h e.now []) (sym acts) (by_answer (accepted_acts limits t e.now e.event flaw) (answer_is limits t e.now e.event flaw) (λ a says. subst (Says a) (sym acts) says))
+      subst (ReadsActs contents h e.now []) (sym acts)
+      (by_answer (accepted_acts limits t e.now e.event flaw) (answer_is limits t e.now e.event flaw) (λ a says. subst (Says a) (sym acts) says))
 
   entry_reads : ReadsActs contents h e.now [] e.acts
   entry_reads = by_denial (is_denied e.acts) refl

@@ -29,7 +29,8 @@ abbrev ByAge : Option Why → Type 0
 ByAge None = Unit {0}
 ByAge (Some why) = IsByAge why
 
-allowed_age : (no_cache must_revalidate : Bool) (asked : Directives) (load : Load) (age life : ℕ) → ByAge (allowed_by no_cache must_revalidate asked load age life)
+allowed_age : (no_cache must_revalidate : Bool) (asked : Directives) (load : Load) (age life : ℕ) →
+    ByAge (allowed_by no_cache must_revalidate asked load age life)
 allowed_age no_cache must_revalidate asked load age life =
     mix ByAge (is_validate load || is_zero asked.max_age) None _ tt
     (mix ByAge no_cache None _ tt
@@ -42,7 +43,8 @@ allowed_age no_cache must_revalidate asked load age life =
 
 by_age : (head : Head) (request : Request) (now : ℕ) (why : Why) → allowed head request now ≡ Some why → IsByAge why
 by_age head request now why is =
-    subst ByAge is (allowed_age (of_response head.fields).no_cache (of_response head.fields).must_revalidate (of_request request.fields) request.load (age head now) (lifetime head))
+    subst ByAge is (allowed_age (of_response head.fields).no_cache (of_response head.fields).must_revalidate (of_request request.fields) request.load
+    (age head now) (lifetime head))
 
 -- AIMS IN RUNS
 
@@ -75,17 +77,21 @@ module _ (step : Step) (turns : Turns step.tables) (selected : ℕ → ℕ → B
   kept_place p x is = grind (arith, nat_tests)
 
   -- it kept it where it stands, as what it waits for is current
-  stood_busy : (c r x d : ℕ) (k : Consumer) → t.consumer c ≡ Some k → Rattle.hc_model.specs.ActFilters.wait_in c e.acts ≡ Some (wait.Busy d) → Some x ≡ kept_by (consumer_heard t e c ev k).place → current t (consumer_heard t e c ev k).request.key ≡ Some r → k.place ≡ place.Passed r (Some x)
+  stood_busy : (c r x d : ℕ) (k : Consumer) → t.consumer c ≡ Some k → Rattle.hc_model.specs.ActFilters.wait_in c e.acts ≡ Some (wait.Busy d) →
+      Some x ≡ kept_by (consumer_heard t e c ev k).place → current t (consumer_heard t e c ev k).request.key ≡ Some r → k.place ≡ place.Passed r (Some x)
   stood_busy c r x d k row reported kept is =
-      let heard : consumer_heard t e c ev k ≡ k = ap (λ v. consumer_heard t e c v k) (waiting_by limits t now flaw s ev goes c (wait.Busy d) reported).poll.at in
+      let heard : consumer_heard t e c ev k ≡ k =
+      ap (λ v. consumer_heard t e c v k) (waiting_by limits t now flaw s ev goes c (wait.Busy d) reported).poll.at in
       let had = kept_place k.place x (ap (λ (q : Consumer). kept_by q.place) (sym heard) ∙ sym kept) in
       let waits = turns.passed c had.0 (Some x) k row had.1 in
       had.1 ∙ ap (λ n. place.Passed n (Some x)) (some_inj had.0 r (sym waits.current_is ∙ (sym (ap (λ (q : Consumer). current t q.request.key) heard) ∙ is)))
 
-  chosen_by : (c r x : ℕ) (k : Consumer) (row : t.consumer c ≡ Some k) → is_denied e.acts ≡ false → PassedFrom step c r (Some x) k row → (selects_at t e x r || selected x r) ≡ true
+  chosen_by : (c r x : ℕ) (k : Consumer) (row : t.consumer c ≡ Some k) → is_denied e.acts ≡ false → PassedFrom step c r (Some x) k row →
+      (selects_at t e x r || selected x r) ≡ true
   chosen_by c r x k row taken (stood at) = or_right (selects_at t e x r) (selected x r) (g.chosen c r x k row at)
   chosen_by c r x k row taken (validates y response w here there mine is aim kept) = grind (arith, nat_tests)
-  chosen_by c r x k row taken (busies d reported kept is) = or_right (selects_at t e x r) (selected x r) (g.chosen c r x k row (stood_busy c r x d k row reported kept is))
+  chosen_by c r x k row taken (busies d reported kept is) =
+      or_right (selects_at t e x r) (selected x r) (g.chosen c r x k row (stood_busy c r x d k row reported kept is))
 
   asker_by : (c r x : ℕ) (k : Consumer) (row : t.consumer c ≡ Some k) → PassedFrom step c r (Some x) k row → IsFor now_on x c
   asker_by c r x k row (stood at) = for_on x c (g.asker c r x k row at)
@@ -102,7 +108,8 @@ module _ (step : Step) (turns : Turns step.tables) (selected : ℕ → ℕ → B
 abbrev Keeps : Contents → History → Type 0
 Keeps contents h = IsKeeping (tables contents h) (λ x r. has_selected contents x r h)
 
-denied_keeping : (contents : Contents) (h : History) (e : Entry) → Keeps contents h → IsKeeping (after_denied (tables contents h) e) (λ x r. has_selected contents x r (e ∷ h))
+denied_keeping : (contents : Contents) (h : History) (e : Entry) → Keeps contents h →
+    IsKeeping (after_denied (tables contents h) e) (λ x r. has_selected contents x r (e ∷ h))
 denied_keeping contents h e g = record {
   chosen = λ c r x k row at. or_right (selects_at (tables contents h) e x r) (has_selected contents x r h) (g.chosen c r x k row at);
   asker = λ c r x k row at. let f = g.asker c r x k row at in record { w = f.w; row = f.row; for_it = f.for_it };
@@ -113,12 +120,15 @@ keeps limits contents h may run =
     along limits contents (λ t h. IsKeeping t (λ x r. has_selected contents x r h)) may
     (record { chosen = λ c r x k row at. absurd (none_some k row); asker = λ c r x k row at. absurd (none_some k row) })
     (λ h e run later denied g. denied_keeping contents h e g)
-    (λ h now flaw ev run s g. keeping_on (step_of limits (tables contents h) now flaw s.before.is_sound s.before.is_owned ev s.going) (turned_in_runs limits contents h may run).turns (λ x r. has_selected contents x r h) g s.real.taken)
+    (λ h now flaw ev run s g. keeping_on (step_of limits (tables contents h) now flaw s.before.is_sound s.before.is_owned ev s.going)
+    (turned_in_runs limits contents h may run).turns (λ x r. has_selected contents x r h) g s.real.taken)
     h run
 
 -- THE REASONS
 
-module _ (limits : Limits) (contents : Contents) (h : History) (may : may_begin limits contents ≡ true) (run : IsRun limits contents h) (now c r lo : ℕ) (hi : Option ℕ) (why : Why) (head : Rattle.hc_event.specs.declared.event.Response.Response) (k : Consumer) (row : (tables contents h).consumer c ≡ Some k) where
+module _ (limits : Limits) (contents : Contents) (h : History) (may : may_begin limits contents ≡ true) (run : IsRun limits contents h) (now c r lo : ℕ)
+    (hi : Option ℕ) (why : Why) (head : Rattle.hc_event.specs.declared.event.Response.Response) (k : Consumer)
+    (row : (tables contents h).consumer c ≡ Some k) where
   abbrev t : Tables
   t = tables contents h
 
@@ -126,7 +136,8 @@ module _ (limits : Limits) (contents : Contents) (h : History) (may : may_begin 
   opening_is : (x : ℕ) → IsFor t x c → option_map (λ (z : Opened). z.c) (opening_of x h) ≡ Some c
   opening_is x f =
       let all = (exchanges_are_filtered limits contents h run).openings x in
-      ap (option_map (λ (z : Opened). z.c)) (sym all) ∙ (ap (λ (q : Option Exchange). option_map (λ (z : Opened). z.c) (option_map opened_in q)) f.row ∙ ap Some f.for_it)
+      ap (option_map (λ (z : Opened). z.c)) (sym all) ∙
+      (ap (λ (q : Option Exchange). option_map (λ (z : Opened). z.c) (option_map opened_in q)) f.row ∙ ap Some f.for_it)
 
   joined_is : (x q : ℕ) (w : Exchange) → t.exchange x ≡ Some w → w.joined ≡ Some q → joined_of contents x h ≡ Some q
   joined_is x q w there is =
@@ -135,7 +146,8 @@ module _ (limits : Limits) (contents : Contents) (h : History) (may : may_begin 
   request_is : request_of c h ≡ Some k.request
   request_is = sym ((consumers_are_filtered limits contents h run).requests c) ∙ ap (option_map (λ (q : Consumer). q.request)) row
 
-  first_joins : (y q : ℕ) (w : Exchange) (z : Option ℕ) → t.exchange y ≡ Some w → w.joined ≡ z → is_some z ≡ true → w.aim ≡ Some r → is_number (joined_of contents y h) r ≡ true
+  first_joins : (y q : ℕ) (w : Exchange) (z : Option ℕ) → t.exchange y ≡ Some w → w.joined ≡ z → is_some z ≡ true → w.aim ≡ Some r →
+      is_number (joined_of contents y h) r ≡ true
   first_joins y q w z there is joined aim = grind (arith, nat_tests, some_inj, aimed, joined_is, same_number)
 
   allows_by : (v : Representation) (y : Why) → t.representation r ≡ Some v → allowed v.head k.request now ≡ Some y → IsByAge y → IsReason contents h now c r y
@@ -149,7 +161,8 @@ module _ (limits : Limits) (contents : Contents) (h : History) (may : may_begin 
   reason_holds (shown_for.first a y b at joined is) =
       let f = (carried limits contents h may run).is_owned.first_own c r a y b k row at in
       let aim = (aimed limits contents h may run).first c r a y b k f.w row at f.row in
-      subst (IsReason contents h now c r) (sym is) (opening_is y f, or_left _ _ (first_joins y r f.w f.w.joined f.row refl (sym (ap has_joined f.row) ∙ joined) aim))
+      subst (IsReason contents h now c r) (sym is)
+      (opening_is y f, or_left _ _ (first_joins y r f.w f.w.joined f.row refl (sym (ap has_joined f.row) ∙ joined) aim))
   reason_holds (shown_for.allows v there is) = allows_by v why there is (by_age v.head k.request now why is)
   reason_holds (shown_for.keeps x kept is why_it) =
       let had = kept_place_of k.place x kept in

@@ -39,17 +39,22 @@ still kept v u body stored lost = record { body_is = body; stored_is = stored �
 still_if : (b kept : Bool) (v u : Representation) → IsHeard kept [] v u → IsHeard kept [] v (cond b u v)
 still_if b kept v u is = grind (arith, nat_tests)
 
-headed_row : (t : Tables) (e : Entry) (r x : ℕ) (response : Response) (kept : Bool) (o : Option Exchange) (v : Representation) → IsHeard kept [] v (representation_after_head t e r x response o v)
+headed_row : (t : Tables) (e : Entry) (r x : ℕ) (response : Response) (kept : Bool) (o : Option Exchange) (v : Representation) →
+    IsHeard kept [] v (representation_after_head t e r x response o v)
 headed_row t e r x response kept None v = still kept v v refl refl refl
-headed_row t e r x response kept (Some w) v = still_if (updates t e r w v) kept v (with_renewed_head t e x response w v) (still kept v (with_renewed_head t e x response w v) refl refl refl)
+headed_row t e r x response kept (Some w) v =
+    still_if (updates t e r w v) kept v (with_renewed_head t e x response w v) (still kept v (with_renewed_head t e x response w v) refl refl refl)
 
-pieced_row : (e : Entry) (r x : ℕ) (bytes : List ℕ) (o : Option Exchange) (v : Representation) → IsHeard (not (v.is_lost || loses_in r e.acts)) (piece_by r x bytes o (Some v)) v (representation_after_piece e r x bytes o v)
+pieced_row : (e : Entry) (r x : ℕ) (bytes : List ℕ) (o : Option Exchange) (v : Representation) →
+    IsHeard (not (v.is_lost || loses_in r e.acts)) (piece_by r x bytes o (Some v)) v (representation_after_piece e r x bytes o v)
 pieced_row e r x bytes o v = grind (arith, nat_tests)
 
-heard_row : (t : Tables) (e : Entry) (r : ℕ) (v : Representation) (ev : Event) → t.representation r ≡ Some v → IsHeard (not (v.is_lost || loses_in r e.acts)) (piece_in t r ev) v (representation_heard t e r ev v)
+heard_row : (t : Tables) (e : Entry) (r : ℕ) (v : Representation) (ev : Event) → t.representation r ≡ Some v →
+    IsHeard (not (v.is_lost || loses_in r e.acts)) (piece_in t r ev) v (representation_heard t e r ev v)
 heard_row t e r v (event.Head x response) row = headed_row t e r x response _ (t.exchange x) v
 heard_row t e r v (event.Piece x bytes) row = rw row (pieced_row e r x bytes (t.exchange x) v)
-heard_row t e r v (event.End x) row = still_if (x == r) _ v (with_total_if_none (length_in (t.exchange x)) v) (still _ v (with_total_if_none (length_in (t.exchange x)) v) refl refl refl)
+heard_row t e r v (event.End x) row =
+    still_if (x == r) _ v (with_total_if_none (length_in (t.exchange x)) v) (still _ v (with_total_if_none (length_in (t.exchange x)) v) refl refl refl)
 heard_row t e r v _ row = still _ v v refl refl refl
 
 -- WHAT A ROW HAS
@@ -76,7 +81,8 @@ module _ (contents : Contents) (r : ℕ) (h : History) (e : Entry) where
   either_same b xs = grind (arith, nat_tests)
 
   stored_denied : is_denied e.acts ≡ true → stored_of contents r (e ∷ h) ≡ stored_of contents r h
-  stored_denied denied = rw denied (ap (λ (runs : List Run). stored_of contents r h ++ runs) (either_same (was_lost contents r (e ∷ h)) []) ∙ append-nil (stored_of contents r h))
+  stored_denied denied = rw denied (ap (λ (runs : List Run). stored_of contents r h ++ runs) (either_same (was_lost contents r (e ∷ h)) []) ∙
+      append-nil (stored_of contents r h))
 
   stored_lost : was_lost contents r (e ∷ h) ≡ true → stored_of contents r (e ∷ h) ≡ stored_of contents r h
   stored_lost lost = rw lost (append-nil (stored_of contents r h))
@@ -95,19 +101,25 @@ module _ (contents : Contents) (r : ℕ) (h : History) (e : Entry) where
       }
 
   -- what is stored after an accepted one, where something is lost at it or before
-  stored_by : (v : Representation) (a b : Bool) → is_denied e.acts ≡ false → IsFilteredRow contents r h v → was_lost contents r (e ∷ h) ≡ (a || b) → (p : ℕ) → (if not (b || a) then over (piece_in t r e.event) v.stored else v.stored) p ≡ over (stored_of contents r (e ∷ h)) (begun_with contents r) p
+  stored_by : (v : Representation) (a b : Bool) → is_denied e.acts ≡ false → IsFilteredRow contents r h v → was_lost contents r (e ∷ h) ≡ (a || b) →
+      (p : ℕ) → (if not (b || a) then over (piece_in t r e.event) v.stored else v.stored) p ≡ over (stored_of contents r (e ∷ h)) (begun_with contents r) p
   stored_by v a b accepted row is p = grind (arith, nat_tests, over_same, stored_lost, over, over_at, over_append)
 
   -- an accepted one adds its piece, which is stored where nothing of it was lost
-  accepted_filtered : (v u : Representation) → is_denied e.acts ≡ false → t.representation r ≡ Some v → IsFilteredRow contents r h v → IsHeard (not (v.is_lost || loses_in r e.acts)) (piece_in t r e.event) v u → IsFilteredRow contents r (e ∷ h) (representation_acted t e r v u)
+  accepted_filtered : (v u : Representation) → is_denied e.acts ≡ false → t.representation r ≡ Some v → IsFilteredRow contents r h v →
+      IsHeard (not (v.is_lost || loses_in r e.acts)) (piece_in t r e.event) v u → IsFilteredRow contents r (e ∷ h) (representation_acted t e r v u)
   accepted_filtered v u accepted at row heard =
       let lost_now : was_lost contents r (e ∷ h) ≡ (loses_in r e.acts || v.is_lost) = rw (at, sym row.lost) refl in
       record {
         body = λ p.
             let here : u.body p ≡ over (piece_in t r e.event) v.body p = ap (λ (f : Cells). f p) heard.body_is in
-            let added : over (piece_in t r e.event) v.body p ≡ over (piece_in t r e.event) (over (pieces_of contents r h) (begun_with contents r)) p = over_at (piece_in t r e.event) v.body (over (pieces_of contents r h) (begun_with contents r)) p row.body in
-            let joined : over (pieces_of contents r h ++ piece_in t r e.event) (begun_with contents r) p ≡ over (piece_in t r e.event) (over (pieces_of contents r h) (begun_with contents r)) p = ap (λ (f : Cells). f p) (over_append (pieces_of contents r h) (piece_in t r e.event) (begun_with contents r)) in
-            here ∙ (added ∙ (sym joined ∙ sym (over_same (pieces_of contents r (e ∷ h)) (pieces_of contents r h ++ piece_in t r e.event) p (rw accepted refl))));
+            let added : over (piece_in t r e.event) v.body p ≡ over (piece_in t r e.event) (over (pieces_of contents r h) (begun_with contents r)) p =
+            over_at (piece_in t r e.event) v.body (over (pieces_of contents r h) (begun_with contents r)) p row.body in
+            let joined : over (pieces_of contents r h ++ piece_in t r e.event) (begun_with contents r) p ≡ over (piece_in t r e.event)
+            (over (pieces_of contents r h) (begun_with contents r)) p =
+            ap (λ (f : Cells). f p) (over_append (pieces_of contents r h) (piece_in t r e.event) (begun_with contents r)) in
+            here ∙ (added ∙ (sym joined ∙
+            sym (over_same (pieces_of contents r (e ∷ h)) (pieces_of contents r h ++ piece_in t r e.event) p (rw accepted refl))));
         stored = λ p. ap (λ (f : Cells). f p) heard.stored_is ∙ stored_by v (loses_in r e.acts) v.is_lost accepted row lost_now p;
         lost = ap (λ b. loses_in r e.acts || b) heard.lost_is ∙ sym lost_now;
       }
@@ -129,7 +141,8 @@ module _ (contents : Contents) (r : ℕ) (h : History) (e : Entry) where
   unfounded_still : t.representation r ≡ None → IsUnfounded contents r h → IsUnfounded contents r (e ∷ h)
   unfounded_still none row = grind (arith, nat_tests, accepted_none, either_same)
 
-  founded_filtered : (v : Representation) → t.representation r ≡ None → IsUnfounded contents r h → v.body ≡ nothing → v.stored ≡ nothing → v.is_lost ≡ false → IsFilteredRow contents r (e ∷ h) v
+  founded_filtered : (v : Representation) → t.representation r ≡ None → IsUnfounded contents r h → v.body ≡ nothing → v.stored ≡ nothing →
+      v.is_lost ≡ false → IsFilteredRow contents r (e ∷ h) v
   founded_filtered v none row body stored lost = grind (arith, nat_tests, unfounded_still, over_same)
 
 -- what is founded is empty
@@ -146,26 +159,31 @@ founded_empty t e r _ = tt
 
 -- AFTER AN ENTRY
 
-founded_row : (contents : Contents) (r : ℕ) (h : History) (e : Entry) (o : Option Representation) → (tables contents h).representation r ≡ None → IsUnfounded contents r h → IsEmpty o → IsRow contents r (e ∷ h) o
+founded_row : (contents : Contents) (r : ℕ) (h : History) (e : Entry) (o : Option Representation) → (tables contents h).representation r ≡ None →
+    IsUnfounded contents r h → IsEmpty o → IsRow contents r (e ∷ h) o
 founded_row contents r h e None none row empty = unfounded_still contents r h e none row
 founded_row contents r h e (Some v) none row empty = founded_filtered contents r h e v none row empty.0 empty.1 empty.2
 
-row_denied : (contents : Contents) (r : ℕ) (h : History) (e : Entry) (o : Option Representation) → (tables contents h).representation r ≡ o → is_denied e.acts ≡ true → IsRow contents r h o → IsRow contents r (e ∷ h) o
+row_denied : (contents : Contents) (r : ℕ) (h : History) (e : Entry) (o : Option Representation) → (tables contents h).representation r ≡ o →
+    is_denied e.acts ≡ true → IsRow contents r h o → IsRow contents r (e ∷ h) o
 row_denied contents r h e None at denied row = unfounded_still contents r h e at row
 row_denied contents r h e (Some v) at denied row = denied_filtered contents r h e v denied row
 
-row_accepted : (contents : Contents) (r : ℕ) (h : History) (e : Entry) (o : Option Representation) → (tables contents h).representation r ≡ o → is_denied e.acts ≡ false → IsRow contents r h o → IsRow contents r (e ∷ h) (representation_after (tables contents h) e r o)
+row_accepted : (contents : Contents) (r : ℕ) (h : History) (e : Entry) (o : Option Representation) → (tables contents h).representation r ≡ o →
+    is_denied e.acts ≡ false → IsRow contents r h o → IsRow contents r (e ∷ h) (representation_after (tables contents h) e r o)
 unfolding representation_after
 row_accepted contents r h e o at accepted row = grind (arith, nat_tests, founded_row, tables, founded_empty, accepted_filtered, heard_row)
 
-row_after : (contents : Contents) (r : ℕ) (h : History) (e : Entry) (b : Bool) → is_denied e.acts ≡ b → IsRow contents r h ((tables contents h).representation r) → IsRow contents r (e ∷ h) ((after (tables contents h) e).representation r)
+row_after : (contents : Contents) (r : ℕ) (h : History) (e : Entry) (b : Bool) → is_denied e.acts ≡ b →
+    IsRow contents r h ((tables contents h).representation r) → IsRow contents r (e ∷ h) ((after (tables contents h) e).representation r)
 unfolding after
 row_after contents r h e true denied row = rw denied (row_denied contents r h e ((tables contents h).representation r) refl denied row)
 row_after contents r h e false denied row = rw denied (row_accepted contents r h e ((tables contents h).representation r) refl denied row)
 
 -- AT THE BEGINNING
 
-begun_row : (contents : Contents) (r : ℕ) (o : Option Content) → (first_tables contents).representation r ≡ option_map representation_of_content o → IsRow contents r [] (option_map representation_of_content o)
+begun_row : (contents : Contents) (r : ℕ) (o : Option Content) → (first_tables contents).representation r ≡ option_map representation_of_content o →
+    IsRow contents r [] (option_map representation_of_content o)
 begun_row contents r o is = grind (arith, nat_tests)
 
 rows_are : (contents : Contents) (h : History) (r : ℕ) → IsRow contents r h ((tables contents h).representation r)
@@ -173,7 +191,8 @@ unfolding tables
 rows_are contents [] r = begun_row contents r (find (λ (item : Content). item.r == r) contents.items) refl
 rows_are contents (e ∷ h) r = row_after contents r h e (is_denied e.acts) refl (rows_are contents h r)
 
-row_is : (contents : Contents) (r : ℕ) (h : History) (o : Option Representation) (v : Representation) → IsRow contents r h o → o ≡ Some v → IsFilteredRow contents r h v
+row_is : (contents : Contents) (r : ℕ) (h : History) (o : Option Representation) (v : Representation) → IsRow contents r h o → o ≡ Some v →
+    IsFilteredRow contents r h v
 row_is contents r h o v row is = grind (arith, nat_tests)
 
 pub runs_are_filtered : RunsAreFiltered

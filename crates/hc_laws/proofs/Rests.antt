@@ -28,7 +28,9 @@ not_head : (request : Request) → bytes_eq request.method (codes "GET") ≡ tru
 not_head request get = ap (λ (a : List ℕ). bytes_eq a (codes "HEAD")) ((bytes_eq-Decides request.method (codes "GET")).0 get)
 
 -- a part that isn't bad, of which a body comes, promises a byte
-promises_some : (n : Need) (request : Request) (response : Response) (first last total : ℕ) → route_of n ≡ route.Hole → is_head request ≡ false → brings_part response.status ≡ true → content_range_of response.fields ≡ Some (range.Part first last (Some total)) → is_bad (length_of n request response) ≡ false → promise_of (length_of n request response) ≡ Some 0 → ⊥
+promises_some : (n : Need) (request : Request) (response : Response) (first last total : ℕ) → route_of n ≡ route.Hole → is_head request ≡ false →
+    brings_part response.status ≡ true → content_range_of response.fields ≡ Some (range.Part first last (Some total)) →
+    is_bad (length_of n request response) ≡ false → promise_of (length_of n request response) ≡ Some 0 → ⊥
 unfolding length_of
 promises_some n request response first last total way plain status part good none =
     let a = part_not_204 response.status status in
@@ -37,8 +39,10 @@ promises_some n request response first last total way plain status part good non
     let said = content_length_of (elements_in (codes "content-length") response.fields) in
     by_test (agrees said (last + 1 - first)) (rw (plain, a, b, way, status, part) at good) (rw (plain, a, b, way, status, part) at none)
   where
-    by_test : (b : Bool) → is_bad (if b then lengths.Part first (last + 1 - first) else lengths.Bad) ≡ false → promise_of (if b then lengths.Part first (last + 1 - first) else lengths.Bad) ≡ Some 0 → ⊥
-    by_test true g p = let order = part_order response.fields first last total part in let is_sorted : first ≤ last = order.is_sorted in let zero_is : last + 1 - first ≡ 0 = some_inj (last + 1 - first) 0 p in absurd (omega arith)
+    by_test : (b : Bool) → is_bad (if b then lengths.Part first (last + 1 - first) else lengths.Bad) ≡ false →
+        promise_of (if b then lengths.Part first (last + 1 - first) else lengths.Bad) ≡ Some 0 → ⊥
+    by_test true g p = let order = part_order response.fields first last total part in let is_sorted : first ≤ last = order.is_sorted in
+        let zero_is : last + 1 - first ≡ 0 = some_inj (last + 1 - first) 0 p in absurd (omega arith)
     by_test false g p = true_false g
 
 joining_plain : (g : Option HeadCase) (w : Exchange) (response : Response) → is_joining g ≡ true → (is_refused g ≡ false) × (doomed_by_case g w response ≡ None)
@@ -55,7 +59,9 @@ module _ (step : Step) (m : Measures step.tables) (i : IsBeside step.tables) (re
   abbrev now_on : Tables
   now_on = after_accepted t e
 
-  module _ (r c lo : ℕ) (hi : Option ℕ) (how : BoundBy) (u : Consumer) (p : Representation) (after : now_on.representation r ≡ Some p) (after_row : now_on.consumer c ≡ Some u) (stands : u.place ≡ place.Bound r lo hi how) (fresh_now : p.is_lost ≡ false) (came : came_alone now_on (place.Bound r lo hi how) ≡ true) (none : u.due ≡ None) (unowned : u.own ≡ None) (unwritten : is_written now_on p ≡ false) where
+  module _ (r c lo : ℕ) (hi : Option ℕ) (how : BoundBy) (u : Consumer) (p : Representation) (after : now_on.representation r ≡ Some p)
+      (after_row : now_on.consumer c ≡ Some u) (stands : u.place ≡ place.Bound r lo hi how) (fresh_now : p.is_lost ≡ false)
+      (came : came_alone now_on (place.Bound r lo hi how) ≡ true) (none : u.due ≡ None) (unowned : u.own ≡ None) (unwritten : is_written now_on p ≡ false) where
     abbrev Rested : Type 0
     Rested = HasRest now_on p u
 
@@ -77,11 +83,13 @@ module _ (step : Step) (m : Measures step.tables) (i : IsBeside step.tables) (re
 
         by_had : IsHad now_on r p x → ⊥
         by_had (sound.shared on writer) = false_true (sym unwritten ∙ on)
-        by_had (sound.own d q reader owned none_due exclusive_writer) = by_row d q reader (one_first_kept limits t now flaw s ev goes r d c (by_exclusive_writer d exclusive_writer) first_now) owned
+        by_had (sound.own d q reader owned none_due exclusive_writer) =
+            by_row d q reader (one_first_kept limits t now flaw s ev goes r d c (by_exclusive_writer d exclusive_writer) first_now) owned
 
     -- IT WAS BOUND
 
-    module _ (k : Consumer) (v : Representation) (row : IsRow t e c r lo hi how k u) (at : k.place ≡ place.Bound r lo hi how) (there : t.representation r ≡ Some v) (kept : IsKept t e r v p) where
+    module _ (k : Consumer) (v : Representation) (row : IsRow t e c r lo hi how k u) (at : k.place ≡ place.Bound r lo hi how)
+        (there : t.representation r ≡ Some v) (kept : IsKept t e r v p) where
       parts : (loses_in r e.acts ≡ false) × (v.is_lost ≡ false)
       parts = or_false (loses_in r e.acts) v.is_lost (sym kept.lost_is ∙ fresh_now)
 
@@ -92,7 +100,8 @@ module _ (step : Step) (m : Measures step.tables) (i : IsBeside step.tables) (re
       by_writer_group : is_written t v ≡ true → (z : Option ℕ) → v.writer ≡ z → Rested
       by_writer_group on None writer = absurd (writer_some t v on writer)
       by_writer_group on (Some x) writer = elim (bool_cases (is_open (now_on.exchange x))) [
-        | inr off ↦ rest_by step m real r c lo hi how u p after after_row stands (all_stored step m real r c x lo hi how k u v p row at stands there on writer before.1 kept (inl parts.0) off) hi refl
+        | inr off ↦ rest_by step m real r c lo hi how u p after after_row stands
+            (all_stored step m real r c x lo hi how k u v p row at stands there on writer before.1 kept (inl parts.0) off) hi refl
         | inl still ↦ absurd (false_true (sym unwritten ∙ written_by now_on p x fresh_now (by_writer kept.writer_is) still))
       ]
         where
@@ -106,18 +115,22 @@ module _ (step : Step) (m : Measures step.tables) (i : IsBeside step.tables) (re
         | inl on ↦ by_writer_group on v.writer refl
         | inr off ↦
             let came_was : came_alone t (place.Bound r lo hi how) ≡ true = sym (came_kept limits t now flaw s ev goes r lo hi how (ap is_some there)) ∙ came in
-            let rest = i.rested r c v k there parts.1 (sound.first k lo hi how row.row at came_was) (sound.is_bound lo hi how row.row at) before.0 none_own off in
+            let rest = i.rested r c v k there parts.1 (sound.first k lo hi how row.row at came_was) (sound.is_bound lo hi how row.row at) before.0
+            none_own off in
             still_rests step m real r c lo hi how u p after after_row stands k v row at there kept before.0 before.1 rest.hi rest.end rest.covered
       ]
 
       -- its exchange is written together from now on: it goes on, since it promises bytes
       shared_not : IsShared t e c → ⊥
       shared_not sh = elim (bool_cases (is_open (now_on.exchange sh.x))) [
-        | inl still ↦ about_not sh.x (sound.headed g.u g.row (sym (ap is_open g.row) ∙ still) (ap (λ (a : Option Response). is_some a) got.head_is) fam (ap is_some after))
+        | inl still ↦ about_not sh.x
+            (sound.headed g.u g.row (sym (ap is_open g.row) ∙ still) (ap (λ (a : Option Response). is_some a) got.head_is) fam (ap is_some after))
         | inr off ↦
             let plain = joining_plain (case_at t e) sh.w sh.response joins in
-            let none_is : promise_in sh.w sh.response ≡ Some 0 = none_promised step m real r c lo hi how u p after after_row stands sh.x sh.response sh.w sh.at sh.row plain.0 plain.1 off in
-            promises_some sh.w.need sh.w.request got.response joined.fills.from joined.fills.last joined.fills.total way.0 unheaded joined.fills.status joined.fills.part joined.good (ap (λ a. promise_of (length_of sh.w.need sh.w.request a)) answer ∙ none_is)
+            let none_is : promise_in sh.w sh.response ≡ Some 0 =
+            none_promised step m real r c lo hi how u p after after_row stands sh.x sh.response sh.w sh.at sh.row plain.0 plain.1 off in
+            promises_some sh.w.need sh.w.request got.response joined.fills.from joined.fills.last joined.fills.total way.0 unheaded joined.fills.status
+            joined.fills.part joined.good (ap (λ a. promise_of (length_of sh.w.need sh.w.request a)) answer ∙ none_is)
       ]
         where
           g : IsOn t e sh.x sh.w
@@ -151,7 +164,8 @@ module _ (step : Step) (m : Measures step.tables) (i : IsBeside step.tables) (re
               let opener = o.opener sh.x sh.w sh.row in
               let one : opener.k ≡ k = same_row (t.consumer c) opener.k k (sym (ap t.consumer sh.mine) ∙ opener.row) row.row in
               let cached : is_disabled k.request ≡ false = i.cached c k row.row (ap Rattle.hc_effects.proofs.Beside.is_cached_place at) in
-              ap (λ (a : MethodName). bytes_eq a (codes "HEAD")) (opener.method_is ∙ ap (λ (q : Consumer). q.request.method) one) ∙ not_head k.request (get_of k.request cached)
+              ap (λ (a : MethodName). bytes_eq a (codes "HEAD")) (opener.method_is ∙ ap (λ (q : Consumer). q.request.method) one) ∙
+              not_head k.request (get_of k.request cached)
 
       was_bound : Rested
       was_bound = by_own (own_none t e c k u row.is unowned)
@@ -162,7 +176,8 @@ module _ (step : Step) (m : Measures step.tables) (i : IsBeside step.tables) (re
 
     -- IT FOUNDS A PART, AND KEEPS ITS EXCHANGE
 
-    founded_not : (k : Consumer) (x : ℕ) (response : Response) (w : Exchange) → IsRow t e c r lo hi how k u → ev ≡ event.Head x response → t.exchange x ≡ Some w → w.c ≡ c → x ≡ r → how ≡ by.Founding → IsFounded t e c r lo hi how x response w k (case_at t e) → ⊥
+    founded_not : (k : Consumer) (x : ℕ) (response : Response) (w : Exchange) → IsRow t e c r lo hi how k u → ev ≡ event.Head x response →
+        t.exchange x ≡ Some w → w.c ≡ c → x ≡ r → how ≡ by.Founding → IsFounded t e c r lo hi how x response w k (case_at t e) → ⊥
     founded_not k x response w row here exchange_row mine of_r by_is all = by_own (own_none t e c k u row.is unowned)
       where
         new : Rattle.hc_effects.proofs.FirstKeeps.IsNew limits t now flaw s ev goes x w
@@ -170,15 +185,18 @@ module _ (step : Step) (m : Measures step.tables) (i : IsBeside step.tables) (re
 
         status : brings_part response.status ≡ true
         status =
-            let founding : brings_part (status_in (now_on.representation r)) ≡ true = subst (λ (b : BoundBy). came_alone now_on (place.Bound r lo hi b) ≡ true) by_is came in
-            founded_came limits t now flaw s ev goes x lo hi response (now_on.representation x) here new.unfounded refl (subst (λ q. brings_part (status_in (now_on.representation q)) ≡ true) (sym of_r) founding)
+            let founding : brings_part (status_in (now_on.representation r)) ≡ true =
+            subst (λ (b : BoundBy). came_alone now_on (place.Bound r lo hi b) ≡ true) by_is came in
+            founded_came limits t now flaw s ev goes x lo hi response (now_on.representation x) here new.unfounded refl
+            (subst (λ q. brings_part (status_in (now_on.representation q)) ≡ true) (sym of_r) founding)
 
         no_whole : brings_whole response.status ≡ true → ⊥
         no_whole is = whole_or_part response.status is status
 
         unshared : (g : Option HeadCase) → case_at t e ≡ g → IsFounded t e c r lo hi how x response w k g → becomes_shared t e response w g ≡ false
         unshared _ is (from.whole a b) = absurd (no_whole (whole_brings t _ w response (case_of_head t e x response w case.FoundsWhole here exchange_row is)))
-        unshared _ is (from.replaced a b) = absurd (no_whole (replaced_brings t _ w response (case_of_head t e x response w case.FirstReplaced here exchange_row is)))
+        unshared _ is (from.replaced a b) =
+            absurd (no_whole (replaced_brings t _ w response (case_of_head t e x response w case.FirstReplaced here exchange_row is)))
         unshared _ is (from.part a) = refl
 
         head_same : (a d : ℕ) (f h : Response) → event.Head a f ≡ event.Head d h → (a ≡ d) × (f ≡ h)
@@ -187,11 +205,14 @@ module _ (step : Step) (m : Measures step.tables) (i : IsBeside step.tables) (re
         by_own : (k.own ≡ None) ⊎ IsShared t e c → ⊥
         by_own (inl none_own) =
             let all = waiter_of step x w exchange_row new.is_open new.bare in
-            none_some x (sym none_own ∙ (ap (λ (q : Consumer). q.own) (sym (same_row (t.consumer c) all.0 k (sym (ap t.consumer mine) ∙ all.1.row) row.row)) ∙ all.1.own))
+            none_some x (sym none_own ∙
+            (ap (λ (q : Consumer). q.own) (sym (same_row (t.consumer c) all.0 k (sym (ap t.consumer mine) ∙ all.1.row) row.row)) ∙ all.1.own))
         by_own (inr sh) =
             let same = head_same sh.x x sh.response response (sym sh.at ∙ here) in
             let one : sh.w ≡ w = same_row (t.exchange x) sh.w w (sym (ap t.exchange same.0) ∙ sh.row) exchange_row in
-            let shared : becomes_shared t e response w (case_at t e) ≡ true = ap (λ (a : Exchange). becomes_shared t e response a (case_at t e)) (sym one) ∙ (ap (λ (a : Response). becomes_shared t e a sh.w (case_at t e)) (sym same.1) ∙ sh.shared) in
+            let shared : becomes_shared t e response w (case_at t e) ≡ true =
+            ap (λ (a : Exchange). becomes_shared t e response a (case_at t e)) (sym one) ∙
+            (ap (λ (a : Response). becomes_shared t e a sh.w (case_at t e)) (sym same.1) ∙ sh.shared) in
             false_true (sym (unshared (case_at t e) refl all) ∙ shared)
 
     -- WHAT IS OPENED FOR IT IS ITS OWN
@@ -209,14 +230,19 @@ module _ (step : Step) (m : Measures step.tables) (i : IsBeside step.tables) (re
 
     by_way : BoundFrom t e c r lo hi how u → RepFrom t e r p → Rested
     by_way (from.stays k row at) (was v kept) = was_bound k v row at kept.row kept
-    by_way (from.stays k row at) (founded response w none_there here exchange_row on made) = absurd (let there = s.numbered.bound_to r c k (sound.is_bound lo hi how row.row at) in false_true (sym (ap is_some none_there) ∙ there))
-    by_way (from.founds k x response w row here exchange_row mine of_r by_is all) from_rep = absurd (founded_not k x response w row here exchange_row mine of_r by_is all)
+    by_way (from.stays k row at) (founded response w none_there here exchange_row on made) =
+        absurd (let there = s.numbered.bound_to r c k (sound.is_bound lo hi how row.row at) in false_true (sym (ap is_some none_there) ∙ there))
+    by_way (from.founds k x response w row here exchange_row mine of_r by_is all) from_rep =
+        absurd (founded_not k x response w row here exchange_row mine of_r by_is all)
     by_way (from.opens k q row opens mine free way hole) from_rep = absurd (opens_not k q row opens mine)
     by_way (from.shows k z row is all) from_rep = absurd (false_true (subst (λ w. came_alone now_on (place.Bound r lo hi w) ≡ true) all.by_is came))
 
   -- Who became bound as the only one has the rest, where it has no exchange and nobody writes.
-  pub rested_kept : (r c : ℕ) (p : Representation) (u : Consumer) → now_on.representation r ≡ Some p → p.is_lost ≡ false → IsFirst now_on r c → IsBound now_on r c u → u.due ≡ None → u.own ≡ None → is_written now_on p ≡ false → HasRest now_on p u
+  pub rested_kept : (r c : ℕ) (p : Representation) (u : Consumer) → now_on.representation r ≡ Some p → p.is_lost ≡ false → IsFirst now_on r c →
+      IsBound now_on r c u → u.due ≡ None → u.own ≡ None → is_written now_on p ≡ false → HasRest now_on p u
   rested_kept r c p u after fresh (sound.first q a d g q_row q_at came) (sound.is_bound lo hi how after_row stands) none unowned unwritten =
       let one : q ≡ u = same_row (now_on.consumer c) q u q_row after_row in
-      let came_now : came_alone now_on (place.Bound r lo hi how) ≡ true = subst (λ z. came_alone now_on z ≡ true) (sym q_at ∙ (ap (λ (z : Consumer). z.place) one ∙ stands)) came in
-      by_way r c lo hi how u p after after_row stands fresh came_now none unowned unwritten (bound_from t e c r lo hi how (t.consumer c) u refl after_row stands) (rep_from t e r (t.representation r) p refl after)
+      let came_now : came_alone now_on (place.Bound r lo hi how) ≡ true =
+      subst (λ z. came_alone now_on z ≡ true) (sym q_at ∙ (ap (λ (z : Consumer). z.place) one ∙ stands)) came in
+      by_way r c lo hi how u p after after_row stands fresh came_now none unowned unwritten
+      (bound_from t e c r lo hi how (t.consumer c) u refl after_row stands) (rep_from t e r (t.representation r) p refl after)

@@ -17,21 +17,28 @@ pub record IsStep (limits : Limits) (t : Tables) (now : ℕ) (flaw : Flaw) (ev :
 module _ (limits : Limits) (contents : Contents) (P : Tables → History → Type 0) where
   -- a denied entry leaves it
   abbrev pub DeniesOn : Type 0
-  DeniesOn = (h : History) (e : Entry) → IsRun limits contents h → (tables contents h).moment ≤ e.now → is_denied e.acts ≡ true → P (tables contents h) h → P (after_denied (tables contents h) e) (e ∷ h)
+  DeniesOn = (h : History) (e : Entry) → IsRun limits contents h → (tables contents h).moment ≤ e.now → is_denied e.acts ≡ true →
+      P (tables contents h) h → P (after_denied (tables contents h) e) (e ∷ h)
 
   -- an accepted entry keeps it
   abbrev pub KeepsOn : Type 0
-  KeepsOn = (h : History) (now : ℕ) (flaw : Flaw) (ev : Event) → IsRun limits contents h → IsStep limits (tables contents h) now flaw ev → P (tables contents h) h → P (after_accepted (tables contents h) (entry_of limits (tables contents h) now ev flaw)) (entry_of limits (tables contents h) now ev flaw ∷ h)
+  KeepsOn = (h : History) (now : ℕ) (flaw : Flaw) (ev : Event) → IsRun limits contents h → IsStep limits (tables contents h) now flaw ev →
+      P (tables contents h) h →
+      P (after_accepted (tables contents h) (entry_of limits (tables contents h) now ev flaw)) (entry_of limits (tables contents h) now ev flaw ∷ h)
 
   module _ (may : may_begin limits contents ≡ true) (begins : P (first_tables contents) []) (denies : DeniesOn) (keeps : KeepsOn) where
-    step : (h : History) (e : Entry) (b : Bool) → is_denied e.acts ≡ b → IsRun limits contents h → Sound (after (tables contents h) e) → IsOwed limits (tables contents h) e → P (tables contents h) h → P (after (tables contents h) e) (e ∷ h)
+    step : (h : History) (e : Entry) (b : Bool) → is_denied e.acts ≡ b → IsRun limits contents h → Sound (after (tables contents h) e) →
+        IsOwed limits (tables contents h) e → P (tables contents h) h → P (after (tables contents h) e) (e ∷ h)
     unfolding after
     step h e true denied run sound_next owed holds = rw denied (denies h e run owed.later denied holds)
     step h e false not_denied run sound_next owed holds =
         let t = tables contents h in
         let sound_now : Sound (after_accepted t e) = rw not_denied at sound_next in
-        rw not_denied (of_real limits t e (λ z. IsOwed limits t z → Sound (after_accepted t z) → P (after_accepted t z) (z ∷ h)) owed not_denied (λ going real owes then_sound.
-        keeps h e.now (flaw_in e.acts) e.event run (record { later = owed.later; before = carried limits contents h may run; going = going; real = real; owed = owes; sound_then = then_sound }) holds) owed sound_now)
+        rw not_denied (of_real limits t e (λ z. IsOwed limits t z → Sound (after_accepted t z) → P (after_accepted t z) (z ∷ h)) owed not_denied
+        (λ going real owes then_sound.
+        keeps h e.now (flaw_in e.acts) e.event run
+        (record { later = owed.later; before = carried limits contents h may run; going = going; real = real; owed = owes; sound_then = then_sound })
+        holds) owed sound_now)
 
     pub along : (h : History) → IsRun limits contents h → P (tables contents h) h
     unfolding tables
@@ -49,11 +56,13 @@ module _ (P : Limits → Tables → Type 0) where
 
   -- an accepted entry of a run keeps it
   abbrev pub Keeps : Type 0
-  Keeps = (limits : Limits) (t : Tables) (now : ℕ) (flaw : Flaw) → t.moment ≤ now → IsCarried t → P limits t → (ev : Event) → denial t ev ≡ None → IsReal limits t now ev flaw → P limits (after_accepted t (entry_of limits t now ev flaw))
+  Keeps = (limits : Limits) (t : Tables) (now : ℕ) (flaw : Flaw) → t.moment ≤ now → IsCarried t → P limits t → (ev : Event) → denial t ev ≡ None →
+      IsReal limits t now ev flaw → P limits (after_accepted t (entry_of limits t now ev flaw))
 
   -- and so where the tables before have what each run gives them
   abbrev pub KeepsWith : (Limits → Tables → Type 0) → Type 0
-  KeepsWith Q = (limits : Limits) (t : Tables) (now : ℕ) (flaw : Flaw) (ev : Event) → IsStep limits t now flaw ev → Q limits t → P limits t → P limits (after_accepted t (entry_of limits t now ev flaw))
+  KeepsWith Q = (limits : Limits) (t : Tables) (now : ℕ) (flaw : Flaw) (ev : Event) → IsStep limits t now flaw ev → Q limits t → P limits t →
+      P limits (after_accepted t (entry_of limits t now ev flaw))
 
   module _ (Q : Limits → Tables → Type 0) (known : OfRunsIn Q) (begins : Begins) (denies : Denies) (keeps : KeepsWith Q) where
     pub in_runs_with : OfRunsIn P

@@ -43,7 +43,8 @@ pub bytes_from : (f : Cells) (p n : ℕ) → size_below f (p + n) ≡ size_below
 bytes_from f p zero = let same : p + zero ≡ p = omega arith in rw same (omega arith)
 bytes_from f p (suc n) = ap (size_below f) (omega arith) ∙ (bytes_from f (p + 1) n ∙ by_cell (f p) (next_below f p))
   where
-    by_cell : (z : Option Cell) → size_below f (p + 1) ≡ cond (is_some z) 1 0 + size_below f p → size_below f (p + 1) + bytes_in (runs_from f (p + 1) n) ≡ size_below f p + bytes_in (with_place p z (runs_from f (p + 1) n))
+    by_cell : (z : Option Cell) → size_below f (p + 1) ≡ cond (is_some z) 1 0 + size_below f p → size_below f (p + 1) + bytes_in
+        (runs_from f (p + 1) n) ≡ size_below f p + bytes_in (with_place p z (runs_from f (p + 1) n))
     by_cell None next = omega (arith, next)
     by_cell (Some cell) next = let more = with_bytes p cell (runs_from f (p + 1) n) in omega (arith, next, more)
 
@@ -159,10 +160,12 @@ pub of_cell : (f : Cells) (x p n : ℕ) → list_any (is_of x) (runs_from f p n)
 of_cell f x p zero h = absurd (false_true h)
 of_cell f x p (suc n) h = by_cell (f p) refl h (of_cell f x (p + 1) n)
   where
-    by_cell : (z : Option Cell) → f p ≡ z → list_any (is_of x) (with_place p z (runs_from f (p + 1) n)) ≡ true → (list_any (is_of x) (runs_from f (p + 1) n) ≡ true → HasCell f x) → HasCell f x
+    by_cell : (z : Option Cell) → f p ≡ z → list_any (is_of x) (with_place p z (runs_from f (p + 1) n)) ≡ true →
+        (list_any (is_of x) (runs_from f (p + 1) n) ≡ true → HasCell f x) → HasCell f x
     by_cell None is h again = again h
     by_cell (Some cell) is h again = elim (bool_cases (cell.x == x)) [
-      | inl here ↦ let test : nat_eq cell.x x ≡ true = here in let same : cell.x ≡ x = grind (arith, nat_tests) in record { p = p; cell = cell; there = is; from = same }
+      | inl here ↦ let test : nat_eq cell.x x ≡ true = here in let same : cell.x ≡ x = grind (arith, nat_tests) in
+          record { p = p; cell = cell; there = is; from = same }
       | inr off ↦ again (rw off at (with_of x p cell (runs_from f (p + 1) n) h))
     ]
 

@@ -9,7 +9,8 @@ use Rattle.hc_effects.proofs.ConsumerFilters.{requests_are}
 -- REQUESTS
 
 -- P of a request, where each event of a history is Q, and so a start has a request of which P holds
-module _ (P : Request → Type 0) (Q : Event → Type 0) (R : History → Type 0) (of_start : (c : ℕ) (request : Request) → Q (event.Start c request) → P request) (of_entry : (e : Entry) (h : History) → R (e ∷ h) → R h × Q e.event) where
+module _ (P : Request → Type 0) (Q : Event → Type 0) (R : History → Type 0)
+    (of_start : (c : ℕ) (request : Request) → Q (event.Start c request) → P request) (of_entry : (e : Entry) (h : History) → R (e ∷ h) → R h × Q e.event) where
   -- of each of them
   abbrev Each : List Request → Type 0
   Each [] = Unit {0}
@@ -42,7 +43,8 @@ module _ (P : Request → Type 0) (Q : Event → Type 0) (R : History → Type 0
 
 pub requests_are_within_limits : RequestsStayWithinLimits
 requests_are_within_limits contents h within_limits =
-    of_consumers (λ request. IsWithinLimits request.fields) HasFieldsWithinLimits FieldsAreWithinLimits (λ c request few. few) (λ e h all. all) contents h within_limits
+    of_consumers (λ request. IsWithinLimits request.fields) HasFieldsWithinLimits FieldsAreWithinLimits (λ c request few. few) (λ e h all. all) contents h
+    within_limits
 
 pub requests_are_for_targets : RequestsStayForTargets
 requests_are_for_targets contents h starts =

@@ -22,15 +22,20 @@ counts_if b v u old new = grind (arith, nat_tests)
 kept_parts : (lost loses : Bool) → not (lost || loses) ≡ true → lost ≡ false
 kept_parts lost loses h = grind (arith, nat_tests)
 
-filled_counts : (b : Bool) (at x : ℕ) (bytes : List ℕ) (v : Representation) → IsStored v → Counts v → (b ≡ true → AreAbsent v.stored at (at + length bytes)) → Counts (with_stored_bytes b at x bytes v)
-filled_counts true at x bytes v store old absent = ap (λ n. n + length bytes) old ∙ sym (below_put v.stored at x v.reach bytes (stored_ends v store) (absent refl))
-filled_counts false at x bytes v store old absent = old ∙ sym (below_past v.stored v.reach (max v.reach (at + length bytes)) (stored_ends v store) (omega arith))
+filled_counts : (b : Bool) (at x : ℕ) (bytes : List ℕ) (v : Representation) → IsStored v → Counts v →
+    (b ≡ true → AreAbsent v.stored at (at + length bytes)) → Counts (with_stored_bytes b at x bytes v)
+filled_counts true at x bytes v store old absent = ap (λ n. n + length bytes) old ∙
+    sym (below_put v.stored at x v.reach bytes (stored_ends v store) (absent refl))
+filled_counts false at x bytes v store old absent = old ∙
+    sym (below_past v.stored v.reach (max v.reach (at + length bytes)) (stored_ends v store) (omega arith))
 
 module _ (t : Tables) (e : Entry) (s : Sound t) (goes : denial t e.event ≡ None) where
-  absent_at : (r x : ℕ) (bytes : List ℕ) (w : Exchange) (v : Representation) → e.event ≡ event.Piece x bytes → t.exchange x ≡ Some w → family x w ≡ r → t.representation r ≡ Some v → v.is_lost ≡ false → AreAbsent v.stored (front w) (front w + length bytes)
+  absent_at : (r x : ℕ) (bytes : List ℕ) (w : Exchange) (v : Representation) → e.event ≡ event.Piece x bytes → t.exchange x ≡ Some w → family x w ≡ r →
+      t.representation r ≡ Some v → v.is_lost ≡ false → AreAbsent v.stored (front w) (front w + length bytes)
   absent_at r x bytes w v at row of_r there kept p lo hi = grind (arith, nat_tests, delivers_once)
 
-  piece_counts : (r x : ℕ) (bytes : List ℕ) (o : Option Exchange) (v : Representation) → e.event ≡ event.Piece x bytes → t.exchange x ≡ o → t.representation r ≡ Some v → Counts v → Counts (representation_after_piece e r x bytes o v)
+  piece_counts : (r x : ℕ) (bytes : List ℕ) (o : Option Exchange) (v : Representation) → e.event ≡ event.Piece x bytes → t.exchange x ≡ o →
+      t.representation r ≡ Some v → Counts v → Counts (representation_after_piece e r x bytes o v)
   piece_counts r x bytes None v at row there old = old
   piece_counts r x bytes (Some w) v at row there old = counts_if (family x w == r) v _ old (λ of_r.
       filled_counts (not (v.is_lost || loses_in r e.acts)) (front w) x bytes v (s.rows r v there).store old
@@ -53,7 +58,8 @@ pub record IsSized (limits : Limits) (t : Tables) : Type 0 where
   pub fits : Fits limits t
   pub sizes : Sizes limits t
 
-module _ (limits : Limits) (t : Tables) (now : ℕ) (flaw : Flaw) (c : IsCarried t) (g : IsSized limits t) (ev : Event) (goes : denial t ev ≡ None) (real : IsReal limits t now ev flaw) where
+module _ (limits : Limits) (t : Tables) (now : ℕ) (flaw : Flaw) (c : IsCarried t) (g : IsSized limits t) (ev : Event) (goes : denial t ev ≡ None)
+    (real : IsReal limits t now ev flaw) where
   abbrev e : Entry
   e = entry_of limits t now ev flaw
 
@@ -61,7 +67,8 @@ module _ (limits : Limits) (t : Tables) (now : ℕ) (flaw : Flaw) (c : IsCarried
   small_by r u (was v kept) = elim (sized t e r v u kept) [
     | inl same ↦ let old : v.size ≤ limits.max_entry = g.sizes.small r v kept.row in let is : u.size ≡ v.size = same in omega arith
     | inr with_stored_bytes ↦
-        let most : v.size + length with_stored_bytes.bytes ≤ limits.max_entry = stored_small (step_of limits t now flaw c.is_sound c.is_owned ev goes) c.is_measured g.fits real r v u kept.row with_stored_bytes in
+        let most : v.size + length with_stored_bytes.bytes ≤ limits.max_entry =
+        stored_small (step_of limits t now flaw c.is_sound c.is_owned ev goes) c.is_measured g.fits real r v u kept.row with_stored_bytes in
         omega arith
   ]
   small_by r u (founded response w none at row on is) = let zero_is : 0 ≡ u.size = ap (λ (z : Representation). z.size) is in omega arith
@@ -84,7 +91,8 @@ abbrev of_number : ℕ → Content → Bool
 of_number r item = item.r == r
 
 module _ (limits : Limits) (contents : Contents) where
-  small_item : (r : ℕ) (a : Content) (earlier items : List Content) → are_good limits contents earlier items ≡ true → find (of_number r) items ≡ Some a → bytes_in a.runs ≤ limits.max_entry
+  small_item : (r : ℕ) (a : Content) (earlier items : List Content) → are_good limits contents earlier items ≡ true → find (of_number r) items ≡ Some a →
+      bytes_in a.runs ≤ limits.max_entry
   small_item r a earlier [] good is = absurd (none_some a is)
   small_item r a earlier (item ∷ later) good is = elim (eq_cases item.r r) [
     | inl here ↦
@@ -100,11 +108,14 @@ module _ (limits : Limits) (contents : Contents) where
     unfolding may_begin
     good = and_left _ _ (and_left _ _ (and_left _ _ (and_left _ _ (and_left _ _ may))))
 
-    counts_of : (r : ℕ) (z : Option Content) (v : Representation) → find (of_number r) contents.items ≡ z → option_map representation_of_content z ≡ Some v → Counts v
+    counts_of : (r : ℕ) (z : Option Content) (v : Representation) → find (of_number r) contents.items ≡ z →
+        option_map representation_of_content z ≡ Some v → Counts v
     counts_of r None v found row = absurd (none_some v row)
-    counts_of r (Some item) v found row = subst Counts (some_inj (representation_of_content item) v row) (bytes_below 0 0 item.runs (ascending_item limits contents may r item found))
+    counts_of r (Some item) v found row =
+        subst Counts (some_inj (representation_of_content item) v row) (bytes_below 0 0 item.runs (ascending_item limits contents may r item found))
 
-    small_of : (r : ℕ) (z : Option Content) (v : Representation) → find (of_number r) contents.items ≡ z → option_map representation_of_content z ≡ Some v → v.size ≤ limits.max_entry
+    small_of : (r : ℕ) (z : Option Content) (v : Representation) → find (of_number r) contents.items ≡ z →
+        option_map representation_of_content z ≡ Some v → v.size ≤ limits.max_entry
     small_of r z v found row = grind (arith, nat_tests, none_some, some_inj, small_item, good)
 
     begun_sized : IsSized limits (first_tables contents)
@@ -119,7 +130,8 @@ module _ (limits : Limits) (contents : Contents) where
 -- IN RUNS
 
 pub sized_runs : OfRunsIn IsSized
-sized_runs = in_runs IsSized (λ limits contents may. begun_sized limits contents may) (λ limits t e later g. denied_sized limits t e g) (λ limits t now flaw later c g ev goes real. sized_kept limits t now flaw c g ev goes real)
+sized_runs = in_runs IsSized (λ limits contents may. begun_sized limits contents may) (λ limits t e later g. denied_sized limits t e g)
+    (λ limits t now flaw later c g ev goes real. sized_kept limits t now flaw c g ev goes real)
 
 pub sizes_in_runs : OfRunsIn Sizes
 sizes_in_runs limits contents h may run = (sized_runs limits contents h may run).sizes

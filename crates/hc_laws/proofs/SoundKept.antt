@@ -9,7 +9,8 @@ abbrev pub GoAlone : Tables → Type 0
 GoAlone t = (r c : ℕ) (v : Representation) (k : Consumer) → t.representation r ≡ Some v → v.alone ≡ Some c → IsBound t r c k → k.due ≡ None → IsAlone t v k
 
 -- Each field of soundness but the last stays.
-pub sound_kept : (limits : Limits) (t : Tables) (now : ℕ) (flaw : Flaw) → Sound t → Owners t → Measures t → (ev : Event) → denial t ev ≡ None → IsReal limits t now ev flaw → GoAlone (after_accepted t (entry_of limits t now ev flaw)) → Sound (after_accepted t (entry_of limits t now ev flaw))
+pub sound_kept : (limits : Limits) (t : Tables) (now : ℕ) (flaw : Flaw) → Sound t → Owners t → Measures t → (ev : Event) → denial t ev ≡ None →
+    IsReal limits t now ev flaw → GoAlone (after_accepted t (entry_of limits t now ev flaw)) → Sound (after_accepted t (entry_of limits t now ev flaw))
 sound_kept limits t now flaw s o m ev goes real alone = record {
   numbered = record {
     lists = numbers_are_kept limits t now flaw s ev goes;

@@ -18,9 +18,11 @@ accepted_carried limits t e c owed not_denied =
     let going = goes limits t e owed not_denied in
     let same : entry_of limits t e.now e.event (flaw_in e.acts) ≡ e = ap (λ (acts : List Act). record e { acts = acts }) (sym acts) in
     let stand : may_stand limits t (entry_of limits t e.now e.event (flaw_in e.acts)) ≡ true = ap (may_stand limits t) same ∙ owed.flaw in
-    let real : IsReal limits t e.now e.event (flaw_in e.acts) = record { stand = stand; shown = ap flaw_in (sym acts); taken = ap is_denied (sym acts) ∙ not_denied } in
+    let real : IsReal limits t e.now e.event (flaw_in e.acts) =
+    record { stand = stand; shown = ap flaw_in (sym acts); taken = ap is_denied (sym acts) ∙ not_denied } in
     subst (λ (z : Entry). IsCarried (after_accepted t z)) same (record {
-      is_sound = sound_kept limits t e.now (flaw_in e.acts) c.is_sound c.is_owned c.is_measured e.event going real (go_alone (step_of limits t e.now (flaw_in e.acts) c.is_sound c.is_owned e.event going) c.is_measured c.beside real);
+      is_sound = sound_kept limits t e.now (flaw_in e.acts) c.is_sound c.is_owned c.is_measured e.event going real
+          (go_alone (step_of limits t e.now (flaw_in e.acts) c.is_sound c.is_owned e.event going) c.is_measured c.beside real);
       is_owned = owners_kept limits t e.now (flaw_in e.acts) c.is_sound c.is_owned e.event going stand;
       is_measured = measures_kept (step_of limits t e.now (flaw_in e.acts) c.is_sound c.is_owned e.event going) c.is_measured;
       beside = beside_kept limits t e.now (flaw_in e.acts) c.is_sound c.is_owned c.is_measured c.beside e.event going real;
@@ -28,14 +30,26 @@ accepted_carried limits t e c owed not_denied =
 
 step : (limits : Limits) (t : Tables) (e : Entry) (b : Bool) → is_denied e.acts ≡ b → IsCarried t → IsOwed limits t e → IsCarried (after t e)
 unfolding after
-step limits t e true denied c owed = rw denied (record { is_sound = denied_sound t e c.is_sound; is_owned = denied_owners t e c.is_owned; is_measured = denied_measures t e c.is_measured; beside = beside_denied t e c.beside })
+step limits t e true denied c owed =
+    rw denied (record {
+      is_sound = denied_sound t e c.is_sound;
+      is_owned = denied_owners t e c.is_owned;
+      is_measured = denied_measures t e c.is_measured;
+      beside = beside_denied t e c.beside;
+    })
 step limits t e false denied c owed = rw denied (accepted_carried limits t e c owed denied)
 
 pub carried : OfRuns IsCarried
 unfolding tables
 carried limits contents h may run =
     by_entries limits contents (λ h. IsCarried (tables contents h))
-    (record { is_sound = begun_sound contents (starts limits contents may); is_owned = owners_begun contents; is_measured = measures_begin limits contents may; beside = beside_begun contents })
+    (record {
+      is_sound = begun_sound contents (starts limits contents may);
+      is_owned = owners_begun contents;
+      is_measured = measures_begin
+          limits contents may;
+      beside = beside_begun contents;
+    })
     (λ h e run before. step limits (tables contents h) e (is_denied e.acts) refl before run.1) h run
 
 -- Every run is sound.

@@ -13,44 +13,55 @@ has_key key other = bytes_eq other.key key
 
 module _ (limits : Limits) (contents : Contents) where
   -- a good item has a number that was given out, and its key is that of no earlier one
-  good_parts : (earlier : List Content) (item : Content) (later : List Content) → is_good limits contents earlier item later ≡ true → (is_given_out contents item.r ≡ true) × (list_any (has_key item.key) earlier ≡ false)
+  good_parts : (earlier : List Content) (item : Content) (later : List Content) → is_good limits contents earlier item later ≡ true →
+      (is_given_out contents item.r ≡ true) × (list_any (has_key item.key) earlier ≡ false)
   good_parts earlier item later good =
       let two = and_left _ _ (and_left _ _ (and_left _ _ (and_left _ _ good))) in
       (and_left _ _ (and_left _ _ (and_right _ _ two)), not_true (list_any (has_key item.key) earlier) (and_right _ _ (and_left _ _ two)))
 
-  numbered : (r : ℕ) (a : Content) (earlier items : List Content) → are_good limits contents earlier items ≡ true → find (of_number r) items ≡ Some a → (is_given_out contents a.r ≡ true) × (a.r ≡ r)
+  numbered : (r : ℕ) (a : Content) (earlier items : List Content) → are_good limits contents earlier items ≡ true → find (of_number r) items ≡ Some a →
+      (is_given_out contents a.r ≡ true) × (a.r ≡ r)
   numbered r a earlier [] good is = absurd (none_some a is)
   numbered r a earlier (item ∷ later) good is = elim (eq_cases item.r r) [
     | inl here ↦
-        let same : item ≡ a = some_inj item a (rw here.0 at is) in
-        (ap (λ (z : Content). is_given_out contents z.r) (sym same) ∙ (good_parts earlier item later (and_left _ _ good)).0, ap (λ (z : Content). z.r) (sym same) ∙ here.1)
+        let same : item ≡ a = some_inj item a (rw here.0 at is) in (
+          ap (λ (z : Content). is_given_out contents z.r) (sym same) ∙ (good_parts earlier item later (and_left _ _ good)).0,
+          ap (λ (z : Content). z.r) (sym same) ∙ here.1,
+        )
     | inr off ↦ numbered r a (item ∷ earlier) later (and_right _ _ good) (rw off.0 at is)
   ]
 
   -- its key is that of no earlier one
-  fresh : (q : ℕ) (b : Content) (earlier items : List Content) → are_good limits contents earlier items ≡ true → find (of_number q) items ≡ Some b → list_any (has_key b.key) earlier ≡ false
+  fresh : (q : ℕ) (b : Content) (earlier items : List Content) → are_good limits contents earlier items ≡ true → find (of_number q) items ≡ Some b →
+      list_any (has_key b.key) earlier ≡ false
   fresh q b earlier [] good is = absurd (none_some b is)
   fresh q b earlier (item ∷ later) good is = elim (eq_cases item.r q) [
-    | inl here ↦ ap (λ (z : Content). list_any (has_key z.key) earlier) (sym (some_inj item b (rw here.0 at is))) ∙ (good_parts earlier item later (and_left _ _ good)).1
+    | inl here ↦ ap (λ (z : Content). list_any (has_key z.key) earlier) (sym (some_inj item b (rw here.0 at is))) ∙
+        (good_parts earlier item later (and_left _ _ good)).1
     | inr off ↦ (or_false (has_key b.key item) (list_any (has_key b.key) earlier) (fresh q b (item ∷ earlier) later (and_right _ _ good) (rw off.0 at is))).1
   ]
 
   -- of two items the later one has another key
-  later_key : (q : ℕ) (a b : Content) (earlier later : List Content) → are_good limits contents (a ∷ earlier) later ≡ true → find (of_number q) later ≡ Some b → a.key ≡ b.key → ⊥
+  later_key : (q : ℕ) (a b : Content) (earlier later : List Content) → are_good limits contents (a ∷ earlier) later ≡ true →
+      find (of_number q) later ≡ Some b → a.key ≡ b.key → ⊥
   later_key q a b earlier later good is same =
-      false_true (sym ((or_false (has_key b.key a) (list_any (has_key b.key) earlier) (fresh q b (a ∷ earlier) later good is)).0) ∙ bytes_eq-same a.key b.key same)
+      false_true (sym ((or_false (has_key b.key a) (list_any (has_key b.key) earlier) (fresh q b (a ∷ earlier) later good is)).0) ∙
+      bytes_eq-same a.key b.key same)
 
-  apart : (r q : ℕ) (a b : Content) (earlier items : List Content) → are_good limits contents earlier items ≡ true → find (of_number r) items ≡ Some a → find (of_number q) items ≡ Some b → a.key ≡ b.key → r ≡ q
+  apart : (r q : ℕ) (a b : Content) (earlier items : List Content) → are_good limits contents earlier items ≡ true → find (of_number r) items ≡ Some a →
+      find (of_number q) items ≡ Some b → a.key ≡ b.key → r ≡ q
   apart r q a b earlier [] good is also same = absurd (none_some a is)
   apart r q a b earlier (item ∷ later) good is also same = elim (eq_cases item.r r) [
     | inl here ↦ elim (eq_cases item.r q) [
       | inl there ↦ sym here.1 ∙ there.1
       | inr off ↦
-          absurd (later_key q item b earlier later (and_right _ _ good) (rw off.0 at also) (ap (λ (z : Content). z.key) (some_inj item a (rw here.0 at is)) ∙ same))
+          absurd (later_key q item b earlier later (and_right _ _ good) (rw off.0 at also)
+          (ap (λ (z : Content). z.key) (some_inj item a (rw here.0 at is)) ∙ same))
     ]
     | inr off ↦ elim (eq_cases item.r q) [
       | inl there ↦
-          absurd (later_key r item a earlier later (and_right _ _ good) (rw off.0 at is) (ap (λ (z : Content). z.key) (some_inj item b (rw there.0 at also)) ∙ sym same))
+          absurd (later_key r item a earlier later (and_right _ _ good) (rw off.0 at is)
+          (ap (λ (z : Content). z.key) (some_inj item b (rw there.0 at also)) ∙ sym same))
       | inr other ↦ apart r q a b (item ∷ earlier) later (and_right _ _ good) (rw off.0 at is) (rw other.0 at also) same
     ]
   ]

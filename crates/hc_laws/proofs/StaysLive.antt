@@ -22,14 +22,16 @@ case_live x response w k o live = grind (arith, nat_tests)
 either : (b : Bool) (u k : Consumer) → IsLiveAt u.place → IsLiveAt k.place → IsLiveAt (if b then u else k).place
 either b u k new old = grind (arith, nat_tests)
 
-head_live : (t : Tables) (e : Entry) (c x : ℕ) (response : Response) (o : Option Exchange) (k : Consumer) → IsLiveAt k.place → IsLiveAt (by_head t e c x response o k).place
+head_live : (t : Tables) (e : Entry) (c x : ℕ) (response : Response) (o : Option Exchange) (k : Consumer) → IsLiveAt k.place →
+    IsLiveAt (by_head t e c x response o k).place
 head_live t e c x response None k live = live
 head_live t e c x response (Some w) k live = either (nat_eq w.c c) (with_head t e x response w k) k (case_live x response w k (case_at t e) live) live
 
 fault_live : (c x : ℕ) (o : Option Exchange) (k : Consumer) → IsLiveAt k.place → IsLiveAt (by_fault c x o k).place
 fault_live c x o k live = grind (arith, nat_tests)
 
-heard_live : (t : Tables) (e : Entry) (c : ℕ) (ev : Event) (k : Consumer) → (ev ≡ event.Cancel c → ⊥) → IsLiveAt k.place → IsLiveAt (consumer_heard t e c ev k).place
+heard_live : (t : Tables) (e : Entry) (c : ℕ) (ev : Event) (k : Consumer) → (ev ≡ event.Cancel c → ⊥) → IsLiveAt k.place →
+    IsLiveAt (consumer_heard t e c ev k).place
 heard_live t e c (event.Head x response) k other live = head_live t e c x response (t.exchange x) k live
 heard_live t e c (event.Fault x) k other live = fault_live c x (t.exchange x) k live
 heard_live t e c (event.Cancel d) k other live = by_test (nat_eq d c) refl
@@ -51,7 +53,9 @@ unbound_live o old new a b = grind (arith, nat_tests)
 
 opening_live : (t : Tables) (c : ℕ) (o : Option Opening) (k : Consumer) → IsLiveAt k.place → IsLiveAt (by_opening t c o k).place
 opening_live t c None k live = live
-opening_live t c (Some o) k live = either (nat_eq o.c c) (with_opening t o k) k (unbound_live (bound_to k.place) k.place (opened_place t o.x k (route_of o.need)) live (opened_live t o.x k (route_of o.need))) live
+opening_live t c (Some o) k live =
+    either (nat_eq o.c c) (with_opening t o k) k
+    (unbound_live (bound_to k.place) k.place (opened_place t o.x k (route_of o.need)) live (opened_live t o.x k (route_of o.need))) live
 
 shown_live : (c : ℕ) (o : Option Showing) (p : Place) → IsLiveAt p → IsLiveAt (shown_place c o p)
 shown_live c o p live = grind (arith, nat_tests)
@@ -67,7 +71,8 @@ settled_live t e c k q live = by_test (starts_over t e c k)
     by_test : (b : Bool) → is_live (Some (if b then back_in_line e.now q else due_after t e c k q)) ≡ true
     by_test b = grind (arith, nat_tests)
 
-row_live : (t : Tables) (e : Entry) (c : ℕ) (o : Option Consumer) → (e.event ≡ event.Cancel c → ⊥) → leaves_in c e.acts ≡ false → is_live o ≡ true → is_live (consumer_after t e c o) ≡ true
+row_live : (t : Tables) (e : Entry) (c : ℕ) (o : Option Consumer) → (e.event ≡ event.Cancel c → ⊥) → leaves_in c e.acts ≡ false → is_live o ≡ true →
+    is_live (consumer_after t e c o) ≡ true
 unfolding consumer_after
 row_live t e c None other stays live = absurd (let never : false ≡ true = live in cc)
 row_live t e c (Some k) other stays live =
@@ -75,5 +80,6 @@ row_live t e c (Some k) other stays live =
     (acted_live t e c (consumer_heard t e c e.event k) stays (heard_live t e c e.event k other live))
 
 -- Who is live before an entry is live behind it, unless it is cancelled, or is told the end or a failure.
-pub stays_live : (t : Tables) (e : Entry) (c : ℕ) → (e.event ≡ event.Cancel c → ⊥) → leaves_in c e.acts ≡ false → is_live (t.consumer c) ≡ true → is_live ((after t e).consumer c) ≡ true
+pub stays_live : (t : Tables) (e : Entry) (c : ℕ) → (e.event ≡ event.Cancel c → ⊥) → leaves_in c e.acts ≡ false → is_live (t.consumer c) ≡ true →
+    is_live ((after t e).consumer c) ≡ true
 stays_live t e c other stays live = grind (arith, nat_tests, consumer_behind, after, row_live)

@@ -36,9 +36,11 @@ keeps e r v = not (v.is_lost || loses_in r e.acts)
 -- the row is as it was, or has a piece of its family more
 data IsHeard (t : Tables) (e : Entry) (r : ℕ) (v u : Representation) : Type 0 where
   quiet : IsStill v u → IsHeard t e r v u
-  piece : (x : ℕ) (bytes : List ℕ) (w : Exchange) → e.event ≡ event.Piece x bytes → t.exchange x ≡ Some w → family x w ≡ r → u ≡ with_stored_bytes (keeps e r v) (front w) x bytes v → IsHeard t e r v u
+  piece : (x : ℕ) (bytes : List ℕ) (w : Exchange) → e.event ≡ event.Piece x bytes → t.exchange x ≡ Some w → family x w ≡ r →
+      u ≡ with_stored_bytes (keeps e r v) (front w) x bytes v → IsHeard t e r v u
 
-heard_piece : (t : Tables) (e : Entry) (r x : ℕ) (bytes : List ℕ) (o : Option Exchange) (v : Representation) → e.event ≡ event.Piece x bytes → t.exchange x ≡ o → IsHeard t e r v (representation_after_piece e r x bytes o v)
+heard_piece : (t : Tables) (e : Entry) (r x : ℕ) (bytes : List ℕ) (o : Option Exchange) (v : Representation) → e.event ≡ event.Piece x bytes →
+    t.exchange x ≡ o → IsHeard t e r v (representation_after_piece e r x bytes o v)
 heard_piece t e r x bytes None v at row = quiet (still v)
 heard_piece t e r x bytes (Some w) v at row = elim (bool_cases (family x w == r)) [
   | inl here ↦ rw here (piece x bytes w at row (let test : nat_eq (family x w) r ≡ true = here in grind (arith, nat_tests)) refl)
@@ -50,9 +52,12 @@ heard t e r (event.Head x response) v at = quiet (by_row (t.exchange x))
   where
     by_row : (o : Option Exchange) → IsStill v (representation_after_head t e r x response o v)
     by_row None = still v
-    by_row (Some w) = still_if (updates t e r w v) v (with_renewed_head t e x response w v) (record { body_is = refl; stored_is = refl; reach_is = refl; lost_is = refl; alone_is = refl })
+    by_row (Some w) = still_if (updates t e r w v) v (with_renewed_head t e x response w v)
+        (record { body_is = refl; stored_is = refl; reach_is = refl; lost_is = refl; alone_is = refl })
 heard t e r (event.Piece x bytes) v at = heard_piece t e r x bytes (t.exchange x) v at refl
-heard t e r (event.End x) v at = quiet (still_if (x == r) v (with_total_if_none (length_in (t.exchange x)) v) (record { body_is = refl; stored_is = refl; reach_is = refl; lost_is = refl; alone_is = refl }))
+heard t e r (event.End x) v at =
+    quiet (still_if (x == r) v (with_total_if_none (length_in (t.exchange x)) v)
+    (record { body_is = refl; stored_is = refl; reach_is = refl; lost_is = refl; alone_is = refl }))
 heard t e r _ v at = quiet (still v)
 
 -- WHAT IS STORED
@@ -67,24 +72,29 @@ quiet_kept : (v u : Representation) (loses : Bool) → IsStored v → IsStill v 
 quiet_kept v u loses s is = record {
   ends = λ p le. ap (λ (f : Cells). f p) is.body_is ∙ s.ends p (subst (λ n. n ≤ p) is.reach_is le);
   all = λ h p. ap (λ (f : Cells). f p) is.stored_is ∙ (s.all_stored ((or_false loses v.is_lost h).1) p ∙ sym (ap (λ (f : Cells). f p) is.body_is));
-  some = λ p there. ap (λ (f : Cells). f p) is.stored_is ∙ (s.some_stored p (subst (λ (f : Cells). is_some (f p) ≡ true) is.stored_is there) ∙ sym (ap (λ (f : Cells). f p) is.body_is));
+  some = λ p there. ap (λ (f : Cells). f p) is.stored_is ∙
+      (s.some_stored p (subst (λ (f : Cells). is_some (f p) ≡ true) is.stored_is there) ∙ sym (ap (λ (f : Cells). f p) is.body_is));
 }
 
 -- the same written over what is the same there
-written_same : (at x p : ℕ) (bytes : List ℕ) (f g : Cells) → (is_some (f p) ≡ true → f p ≡ g p) → is_some (cells_with at x bytes f p) ≡ true → cells_with at x bytes f p ≡ cells_with at x bytes g p
+written_same : (at x p : ℕ) (bytes : List ℕ) (f g : Cells) → (is_some (f p) ≡ true → f p ≡ g p) → is_some (cells_with at x bytes f p) ≡ true →
+    cells_with at x bytes f p ≡ cells_with at x bytes g p
 written_same at x p bytes f g old there = elim (inside-cases at (length bytes) p) [
   | inl here ↦ let yes = inside-yes at (length bytes) p here.1 here.2 in rw yes refl
   | inr off ↦ rw off.0 (old (rw off.0 at there))
 ]
 
 -- what wasn't there is written beside what was
-written_beside : (at x p : ℕ) (bytes : List ℕ) (f g : Cells) → AreAbsent g at (at + length bytes) → (is_some (f p) ≡ true → f p ≡ g p) → is_some (f p) ≡ true → f p ≡ cells_with at x bytes g p
+written_beside : (at x p : ℕ) (bytes : List ℕ) (f g : Cells) → AreAbsent g at (at + length bytes) → (is_some (f p) ≡ true → f p ≡ g p) →
+    is_some (f p) ≡ true → f p ≡ cells_with at x bytes g p
 written_beside at x p bytes f g absent old there = elim (inside-cases at (length bytes) p) [
-  | inl here ↦ absurd (let gone : f p ≡ None = old there ∙ absent p here.1 here.2 in let no : false ≡ true = sym (ap (λ (o : Option Cell). is_some o) gone) ∙ there in cc)
+  | inl here ↦ absurd (let gone : f p ≡ None = old there ∙ absent p here.1 here.2 in let no : false ≡ true =
+      sym (ap (λ (o : Option Cell). is_some o) gone) ∙ there in cc)
   | inr off ↦ rw off.0 (old there)
 ]
 
-piece_kept : (v : Representation) (loses : Bool) (at x : ℕ) (bytes : List ℕ) → IsStored v → AreAbsent v.body at (at + length bytes) → IsKept v (with_stored_bytes (not (v.is_lost || loses)) at x bytes v) (loses || v.is_lost)
+piece_kept : (v : Representation) (loses : Bool) (at x : ℕ) (bytes : List ℕ) → IsStored v → AreAbsent v.body at (at + length bytes) →
+    IsKept v (with_stored_bytes (not (v.is_lost || loses)) at x bytes v) (loses || v.is_lost)
 piece_kept v loses at x bytes s absent = by_loss (v.is_lost || loses) refl
   where
     ends_by : EndsBy (max v.reach (at + length bytes)) (cells_with at x bytes v.body)
@@ -126,9 +136,11 @@ record IsPlain (v u : Representation) : Type 0 where
 
 plain_of : (t : Tables) (e : Entry) (r : ℕ) (v u : Representation) → IsHeard t e r v u → IsPlain v u
 plain_of t e r v u (quiet is) = record { lost_is = is.lost_is; alone_is = is.alone_is }
-plain_of t e r v u (piece x bytes w at row of_r is) = record { lost_is = ap (λ (z : Representation). z.is_lost) is; alone_is = ap (λ (z : Representation). z.alone) is }
+plain_of t e r v u (piece x bytes w at row of_r is) =
+    record { lost_is = ap (λ (z : Representation). z.is_lost) is; alone_is = ap (λ (z : Representation). z.alone) is }
 
-acted_stored : (t : Tables) (e : Entry) (r : ℕ) (v u : Representation) → IsStored v → u.is_gone ≡ v.is_gone → IsPlain v u → IsKept v u (loses_in r e.acts || v.is_lost) → IsStored (representation_acted t e r v u)
+acted_stored : (t : Tables) (e : Entry) (r : ℕ) (v u : Representation) → IsStored v → u.is_gone ≡ v.is_gone → IsPlain v u →
+    IsKept v u (loses_in r e.acts || v.is_lost) → IsStored (representation_acted t e r v u)
 acted_stored t e r v u s gone_is plain kept =
     let same : (loses_in r e.acts || u.is_lost) ≡ (loses_in r e.acts || v.is_lost) = ap (λ b. loses_in r e.acts || b) plain.lost_is in
     record {
@@ -144,7 +156,8 @@ acted_stored t e r v u s gone_is plain kept =
           alone_if (loses_in r e.acts) (not v.is_lost) _ u.alone parts.0 ∙ (plain.alone_is ∙ s.nobody_alone parts.1);
     }
 
-kept_of : (t : Tables) (e : Entry) (r : ℕ) (v u : Representation) → Sound t → denial t e.event ≡ None → t.representation r ≡ Some v → IsStored v → IsHeard t e r v u → IsKept v u (loses_in r e.acts || v.is_lost)
+kept_of : (t : Tables) (e : Entry) (r : ℕ) (v u : Representation) → Sound t → denial t e.event ≡ None → t.representation r ≡ Some v → IsStored v →
+    IsHeard t e r v u → IsKept v u (loses_in r e.acts || v.is_lost)
 kept_of t e r v u s goes row store (quiet is) = quiet_kept v u (loses_in r e.acts) store is
 kept_of t e r v u s goes row store (piece x bytes w at row_x of_r is) =
     let absent = delivers_once t s x bytes w v (sym (ap (denial t) at) ∙ goes) row_x (ap t.representation of_r ∙ row) in
@@ -165,14 +178,16 @@ founded_stored t e r (event.Head x response) u h = by_test _ (t.exchange x) h
     by_test _ _ h = cc
 founded_stored t e r _ u h = absurd (let never : None ≡ Some u = h in cc)
 
-after_stored : (t : Tables) (e : Entry) (r : ℕ) (o : Option Representation) (u : Representation) → Sound t → denial t e.event ≡ None → t.representation r ≡ o → representation_after t e r o ≡ Some u → IsStored u
+after_stored : (t : Tables) (e : Entry) (r : ℕ) (o : Option Representation) (u : Representation) → Sound t → denial t e.event ≡ None →
+    t.representation r ≡ o → representation_after t e r o ≡ Some u → IsStored u
 unfolding representation_after
 after_stored t e r None u s goes row h = founded_stored t e r e.event u h
 after_stored t e r (Some v) u s goes row h =
     let store = (s.rows r v row).store in
     let z = representation_heard t e r e.event v in
     let is = heard t e r e.event v refl in
-    subst IsStored (some_inj (representation_acted t e r v z) u h) (acted_stored t e r v z store (heard_same t e r e.event v).gone_is (plain_of t e r v z is) (kept_of t e r v z s goes row store is))
+    subst IsStored (some_inj (representation_acted t e r v z) u h)
+    (acted_stored t e r v z store (heard_same t e r e.event v).gone_is (plain_of t e r v z is) (kept_of t e r v z s goes row store is))
 
 pub stores_are_kept : StoresAreKept
 stores_are_kept limits t now flaw s event goes r u h =

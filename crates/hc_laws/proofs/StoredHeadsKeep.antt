@@ -32,7 +32,8 @@ module _ (t : Tables) (e : Entry) (later : t.moment ≤ e.now) (g : StoredHeads 
 
   opened_by : (x : ℕ) (u : Exchange) → now_on.exchange x ≡ Some u → ExchangeFrom t e x u → u.opened ≤ e.now
   opened_by x u row (was w at same) =
-      let is : w.opened ≡ u.opened = sym (opened_heard t e x e.event w) ∙ ap (λ (z : Exchange). z.opened) (some_inj _ u (sym (after_is t e x w (t.exchange x) at) ∙ row)) in
+      let is : w.opened ≡ u.opened = sym (opened_heard t e x e.event w) ∙
+      ap (λ (z : Exchange). z.opened) (some_inj _ u (sym (after_is t e x w (t.exchange x) at) ∙ row)) in
       grind (arith, nat_tests)
   opened_by x u row (new o none opening here is) = let now_is : e.now ≡ u.opened = ap (λ (z : Exchange). z.opened) is in omega arith
 
@@ -62,20 +63,26 @@ heads_denied t e later g = grind (arith, nat_tests)
 
 -- MODEST HEADS
 
-within_limits_head : (e : Entry) (x : ℕ) (response : Response) → e.event ≡ event.Head x response → IsHeadWithinLimits e.event → is_within_limits response.fields ≡ true
+within_limits_head : (e : Entry) (x : ℕ) (response : Response) → e.event ≡ event.Head x response → IsHeadWithinLimits e.event →
+    is_within_limits response.fields ≡ true
 within_limits_head e x response here within_limits = subst IsHeadWithinLimits here within_limits
 
-within_limits_from : (t : Tables) (e : Entry) (r : ℕ) (v u : Representation) → is_within_limits v.head.fields ≡ true → HeadFrom t e r v u → is_within_limits u.head.fields ≡ true
+within_limits_from : (t : Tables) (e : Entry) (r : ℕ) (v u : Representation) → is_within_limits v.head.fields ≡ true → HeadFrom t e r v u →
+    is_within_limits u.head.fields ≡ true
 within_limits_from t e r v u old it6 = grind (arith, nat_tests)
 
-within_limits_by : (t : Tables) (e : Entry) (r : ℕ) (u : Representation) → IsHeadWithinLimits e.event → AreWithinLimits t → RepFrom t e r u → is_within_limits u.head.fields ≡ true
+within_limits_by : (t : Tables) (e : Entry) (r : ℕ) (u : Representation) → IsHeadWithinLimits e.event → AreWithinLimits t → RepFrom t e r u →
+    is_within_limits u.head.fields ≡ true
 within_limits_by t e r u within_limits old (rep.was v kept) = within_limits_from t e r v u (old r v kept.row) (head_from t e r v u kept)
-within_limits_by t e r u within_limits old (rep.founded response w none here row on is) = sym (ap (λ (z : Representation). is_within_limits z.head.fields) is) ∙ within_limits_founded response.fields (within_limits_head e r response here within_limits)
+within_limits_by t e r u within_limits old (rep.founded response w none here row on is) =
+    sym (ap (λ (z : Representation). is_within_limits z.head.fields) is) ∙
+    within_limits_founded response.fields (within_limits_head e r response here within_limits)
 
 within_limits_step : (t : Tables) (e : Entry) (b : Bool) → is_denied e.acts ≡ b → IsHeadWithinLimits e.event → AreWithinLimits t → AreWithinLimits (after t e)
 unfolding after
 within_limits_step t e true denied within_limits old = rw denied old
-within_limits_step t e false accepted within_limits old = rw accepted (λ r u row. within_limits_by t e r u within_limits old (rep_from t e r (t.representation r) u refl row))
+within_limits_step t e false accepted within_limits old =
+    rw accepted (λ r u row. within_limits_by t e r u within_limits old (rep_from t e r (t.representation r) u refl row))
 
 -- AT THE BEGINNING
 
@@ -83,7 +90,8 @@ abbrev of_number : ℕ → Content → Bool
 of_number r item = item.r == r
 
 module _ (limits : Limits) (contents : Contents) where
-  right_item : (r : ℕ) (a : Content) (earlier items : List Content) → are_good limits contents earlier items ≡ true → find (of_number r) items ≡ Some a → has_right_head contents a ≡ true
+  right_item : (r : ℕ) (a : Content) (earlier items : List Content) → are_good limits contents earlier items ≡ true → find (of_number r) items ≡ Some a →
+      has_right_head contents a ≡ true
   right_item r a earlier [] good is = absurd (none_some a is)
   right_item r a earlier (item ∷ later) good is = elim (eq_cases item.r r) [
     | inl here ↦ ap (has_right_head contents) (sym (some_inj item a (rw here.0 at is))) ∙ and_right _ _ (and_left _ _ good)
@@ -101,7 +109,8 @@ module _ (limits : Limits) (contents : Contents) where
     dated_item : (item : Content) → has_right_head contents item ≡ true → IsDated contents.now (representation_of_content item).head
     dated_item item right = grind (arith, nat_tests, and_left, and_right, not_yes)
 
-    by_item : (P : Representation → Type 0) → ((item : Content) → has_right_head contents item ≡ true → P (representation_of_content item)) → (r : ℕ) (v : Representation) (z : Option Content) → find (of_number r) contents.items ≡ z → option_map representation_of_content z ≡ Some v → P v
+    by_item : (P : Representation → Type 0) → ((item : Content) → has_right_head contents item ≡ true → P (representation_of_content item)) →
+        (r : ℕ) (v : Representation) (z : Option Content) → find (of_number r) contents.items ≡ z → option_map representation_of_content z ≡ Some v → P v
     by_item P holds r v None found row = absurd (none_some v row)
     by_item P holds r v (Some item) found row = subst P (some_inj (representation_of_content item) v row) (holds item (right_head r item found))
 
@@ -112,14 +121,19 @@ module _ (limits : Limits) (contents : Contents) where
     heads_begin = grind (arith, nat_tests, none_some, dated_begun)
 
     within_limits_begin : AreWithinLimits (first_tables contents)
-    within_limits_begin r v row = by_item (λ (z : Representation). is_within_limits z.head.fields ≡ true) (λ item right. and_right _ _ right) r v (find (of_number r) contents.items) refl row
+    within_limits_begin r v row =
+        by_item (λ (z : Representation). is_within_limits z.head.fields ≡ true) (λ item right. and_right _ _ right) r v
+        (find (of_number r) contents.items) refl row
 
 -- IN RUNS
 
 pub heads_in_runs : OfRuns StoredHeads
-heads_in_runs = in_runs (λ limits t. StoredHeads t) (λ limits contents may. heads_begin limits contents may) (λ limits t e later g. heads_denied t e later g) (λ limits t now flaw later c g ev goes real. heads_kept t _ later g)
+heads_in_runs = in_runs (λ limits t. StoredHeads t) (λ limits contents may. heads_begin limits contents may)
+    (λ limits t e later g. heads_denied t e later g) (λ limits t now flaw later c g ev goes real. heads_kept t _ later g)
 
-pub within_limits_in_runs : (limits : Limits) (contents : Contents) (h : History) → may_begin limits contents ≡ true → HeadsAreWithinLimits h → AreWithinLimits (tables contents h)
+pub within_limits_in_runs : (limits : Limits) (contents : Contents) (h : History) → may_begin limits contents ≡ true → HeadsAreWithinLimits h →
+    AreWithinLimits (tables contents h)
 unfolding tables
 within_limits_in_runs limits contents [] may within_limits = within_limits_begin limits contents may
-within_limits_in_runs limits contents (e ∷ h) may within_limits = within_limits_step (tables contents h) e (is_denied e.acts) refl within_limits.1 (within_limits_in_runs limits contents h may within_limits.0)
+within_limits_in_runs limits contents (e ∷ h) may within_limits =
+    within_limits_step (tables contents h) e (is_denied e.acts) refl within_limits.1 (within_limits_in_runs limits contents h may within_limits.0)

@@ -23,7 +23,8 @@ module _ (limits : Limits) (t : Tables) (now : ℕ) (flaw : Flaw) (s : Sound t) 
     absent : (x : ℕ) (bytes : List ℕ) (w : Exchange) → IsPiece t e r x bytes w → AreAbsent v.stored (front w) (front w + length bytes)
     absent x bytes w is q le lt =
         let none : v.body q ≡ None = delivers_once t s x bytes w v (sym (ap (denial t) is.at) ∙ goes) is.row (ap t.representation is.of_r ∙ kept.row) q le lt in
-        none_of (v.stored q) (not_so (is_some (v.stored q)) (λ some. false_true (sym (ap (λ (z : Option Cell). is_some z) (store.some_stored q some ∙ none)) ∙ some)))
+        none_of (v.stored q) (not_so (is_some (v.stored q))
+        (λ some. false_true (sym (ap (λ (z : Option Cell). is_some z) (store.some_stored q some ∙ none)) ∙ some)))
 
     still_stored : Fills t e r v u → u.stored p ≡ Some cell
     still_stored (still none_of body_is stored_is reach_is) = ap (λ (f : Cells). f p) stored_is ∙ there
@@ -47,8 +48,10 @@ module _ (limits : Limits) (t : Tables) (now : ℕ) (flaw : Flaw) (s : Sound t) 
 denied_stored : (t : Tables) (e : Entry) → GrowsStored t (after_denied t e)
 denied_stored t e r p cell was = record { v = was.v; row = was.row; stored = was.stored }
 
-by_denial : (limits : Limits) (contents : Contents) (h : History) (e : Entry) (b : Bool) → is_denied e.acts ≡ b → Sound (tables contents h) → IsOwed limits (tables contents h) e → StoresGrow contents (e ∷ h)
-by_denial limits contents h e true denied s owed = subst (GrowsStored (tables contents h)) (denied_tables contents h e denied) (denied_stored (tables contents h) e)
+by_denial : (limits : Limits) (contents : Contents) (h : History) (e : Entry) (b : Bool) → is_denied e.acts ≡ b → Sound (tables contents h) →
+    IsOwed limits (tables contents h) e → StoresGrow contents (e ∷ h)
+by_denial limits contents h e true denied s owed =
+    subst (GrowsStored (tables contents h)) (denied_tables contents h e denied) (denied_stored (tables contents h) e)
 by_denial limits contents h e false accepted s owed =
     let t = tables contents h in
     subst (GrowsStored t) (next_tables contents h e accepted)

@@ -52,11 +52,13 @@ module _ (limits : Limits) (contents : Contents) (may : may_begin limits content
   abbrev item_at : ℕ → Option Content
   item_at r = find (λ (item : Content). item.r == r) contents.items
 
-  module _ (r : ℕ) (item : Content) (v : Representation) (found : item_at r ≡ Some item) (row : representation_of_content item ≡ v) (none : v.head.joining ≡ None) where
+  module _ (r : ℕ) (item : Content) (v : Representation) (found : item_at r ≡ Some item) (row : representation_of_content item ≡ v)
+      (none : v.head.joining ≡ None) where
     no_tag : IsUntagged item
     no_tag =
         let five = and_left _ _ (and_left _ _ (and_left _ _ (right_head limits contents may r item found))) in
-        untagged item (by_or (needs_tag item) (is_some item.head.joining) (and_left _ _ (and_left _ _ five)) (ap is_some (ap (λ (z : Representation). z.head.joining) row ∙ none)))
+        untagged item (by_or (needs_tag item) (is_some item.head.joining) (and_left _ _ (and_left _ _ five))
+        (ap is_some (ap (λ (z : Representation). z.head.joining) row ∙ none)))
       where
         by_or : (a b : Bool) → (not a || b) ≡ true → b ≡ false → a ≡ false
         by_or false b h off = refl
@@ -65,14 +67,17 @@ module _ (limits : Limits) (contents : Contents) (may : may_begin limits content
     all_there : (z : Option ℕ) → item.head.total ≡ z → is_kind_right item z ≡ true → IsOfOne (first_tables contents) v
     all_there None is right = absurd (false_true right)
     all_there (Some total) is right =
-        let both = whole_by _ _ (same_whole _ (sym (ap (λ k. same_kind k (kind_of_runs item.runs total)) (whole_is item.head.kind no_tag.whole)) ∙ and_right _ _ right)) in
+        let both = whole_by _ _ (same_whole _ (sym (ap (λ k. same_kind k (kind_of_runs item.runs total)) (whole_is item.head.kind no_tag.whole)) ∙
+        and_right _ _ right)) in
         let ends : nat_eq (last_end item.runs) (bytes_in item.runs) ≡ true = and_left _ _ both in
         let sums : nat_eq (bytes_in item.runs) total ≡ true = and_right _ _ both in
         let same : last_end item.runs ≡ bytes_in item.runs = grind (arith, nat_tests) in
         let length_is : bytes_in item.runs ≡ total = grind (arith, nat_tests) in
-        let count : bytes_in item.runs ≡ size_below (cells_of item.runs) (last_end item.runs) = bytes_below 0 0 item.runs (ascending_item limits contents may r item found) in
+        let count : bytes_in item.runs ≡ size_below (cells_of item.runs) (last_end item.runs) =
+        bytes_below 0 0 item.runs (ascending_item limits contents may r item found) in
         let covered : Covers (cells_of item.runs) 0 (last_end item.runs) = below_full (cells_of item.runs) (last_end item.runs) (omega arith) in
-        heads.whole total (sym (ap (λ (z : Representation). z.head.total) row) ∙ is) (λ p lo hi. ap (λ (z : Representation). is_some (z.stored p)) (sym row) ∙ covered p lo (omega arith))
+        heads.whole total (sym (ap (λ (z : Representation). z.head.total) row) ∙ is)
+        (λ p lo hi. ap (λ (z : Representation). is_some (z.stored p)) (sym row) ∙ covered p lo (omega arith))
 
     one : IsOfOne (first_tables contents) v
     one = all_there item.head.total refl (known_item limits contents may r item found)
@@ -94,11 +99,13 @@ module _ (limits : Limits) (contents : Contents) (may : may_begin limits content
     own x has = own_runs item.r x item.runs no_tag.own has ∙ number
 
   -- a row is that of an item
-  by_row : (P : Type 0) → (r : ℕ) (v : Representation) (z : Option Content) → item_at r ≡ z → option_map representation_of_content z ≡ Some v → ((item : Content) → item_at r ≡ Some item → representation_of_content item ≡ v → P) → P
+  by_row : (P : Type 0) → (r : ℕ) (v : Representation) (z : Option Content) → item_at r ≡ z → option_map representation_of_content z ≡ Some v →
+      ((item : Content) → item_at r ≡ Some item → representation_of_content item ≡ v → P) → P
   by_row P r v None found row h = absurd (none_some v row)
   by_row P r v (Some item) found row h = h item found (some_inj (representation_of_content item) v row)
 
-  own_byte : (r x : ℕ) (v : Representation) (item : Content) → item_at r ≡ Some item → representation_of_content item ≡ v → v.head.joining ≡ None → HasByte (first_tables contents) r x → x ≡ r
+  own_byte : (r x : ℕ) (v : Representation) (item : Content) → item_at r ≡ Some item → representation_of_content item ≡ v → v.head.joining ≡ None →
+      HasByte (first_tables contents) r x → x ≡ r
   own_byte r x v item found row none has =
       let b = byte_of limits contents r x has in
       own r item v found row none x (ap (has_run x) (sym (some_inj b.item item (sym b.found ∙ found))) ∙ b.has)
@@ -112,4 +119,5 @@ module _ (limits : Limits) (contents : Contents) (may : may_begin limits content
   }
 
 pub tags_in_runs : OfRuns Tags
-tags_in_runs = in_runs (λ limits t. Tags t) (λ limits contents may. tags_begin limits contents may) (λ limits t e later g. tags_denied t e g) (λ limits t now flaw later c g ev goes real. tags_kept limits t now flaw c g ev goes real)
+tags_in_runs = in_runs (λ limits t. Tags t) (λ limits contents may. tags_begin limits contents may) (λ limits t e later g. tags_denied t e g)
+    (λ limits t now flaw later c g ev goes real. tags_kept limits t now flaw c g ev goes real)

@@ -61,9 +61,11 @@ if_written false at x p bytes f old = old
 -- what is stored stays
 stored_stays : (t : Tables) (e : Entry) (r p : ℕ) (v u : Representation) → Fills t e r v u → is_some (v.stored p) ≡ true → is_some (u.stored p) ≡ true
 stored_stays t e r p v u (fill.still none body stored reach) old = ap (λ (f : Cells). is_some (f p)) stored ∙ old
-stored_stays t e r p v u (fill.more x bytes w is body stored reach) old = ap (λ (f : Cells). is_some (f p)) stored ∙ if_written (not (v.is_lost || loses_in r e.acts)) (front w) x p bytes v.stored old
+stored_stays t e r p v u (fill.more x bytes w is body stored reach) old = ap (λ (f : Cells). is_some (f p)) stored ∙
+    if_written (not (v.is_lost || loses_in r e.acts)) (front w) x p bytes v.stored old
 
-module _ (limits : Limits) (t : Tables) (now : ℕ) (flaw : Flaw) (c : IsCarried t) (g : Tags t) (ev : Event) (goes : denial t ev ≡ None) (real : IsReal limits t now ev flaw) where
+module _ (limits : Limits) (t : Tables) (now : ℕ) (flaw : Flaw) (c : IsCarried t) (g : Tags t) (ev : Event) (goes : denial t ev ≡ None)
+    (real : IsReal limits t now ev flaw) where
   abbrev e : Entry
   e = entry_of limits t now ev flaw
 
@@ -71,7 +73,8 @@ module _ (limits : Limits) (t : Tables) (now : ℕ) (flaw : Flaw) (c : IsCarried
   now_on = after_accepted t e
 
   -- what is joined has a tag
-  joins_tagged : (x r : ℕ) (response : Response) (w : Exchange) (v : Representation) → ev ≡ event.Head x response → t.exchange x ≡ Some w → is_joining (case_at t e) ≡ true → w.aim ≡ Some r → t.representation r ≡ Some v → v.head.joining ≢ None
+  joins_tagged : (x r : ℕ) (response : Response) (w : Exchange) (v : Representation) → ev ≡ event.Head x response → t.exchange x ≡ Some w →
+      is_joining (case_at t e) ≡ true → w.aim ≡ Some r → t.representation r ≡ Some v → v.head.joining ≢ None
   joins_tagged x r response w v here row on aim there none =
       let fills_row = (is_join t (has_loss e.acts) w response (sym (ap is_joining (case_is t e x response w here row)) ∙ on)).fills in
       fills_row.tagged (ap (λ (z : Representation). z.head.joining) (some_inj fills_row.v v (sym fills_row.row ∙ (ap (row_of t) aim ∙ there))) ∙ none)
@@ -82,11 +85,14 @@ module _ (limits : Limits) (t : Tables) (now : ℕ) (flaw : Flaw) (c : IsCarried
   -- of an exchange that joined before
   was_joined : (x r : ℕ) (w : Exchange) (p : Representation) → t.exchange x ≡ Some w → w.joined ≡ Some r → RepFrom t e r p → p.head.joining ≢ None
   was_joined x r w p row joined (rep.was v kept) none = g.joined x r w v row joined kept.row (untagged_before r v p kept none)
-  was_joined x r w p row joined (rep.founded response z none_there here at on made) none = false_true (sym (ap is_some none_there) ∙ c.is_sound.numbered.names.joined x r w row joined)
+  was_joined x r w p row joined (rep.founded response z none_there here at on made) none =
+      false_true (sym (ap is_some none_there) ∙ c.is_sound.numbered.names.joined x r w row joined)
 
-  joins_by_head : (x r : ℕ) (w u : Exchange) (p : Representation) → t.exchange x ≡ Some w → (h : IsHeaded t e x w u) → is_joining (case_at t e) ≡ true → w.aim ≡ Some r → RepFrom t e r p → p.head.joining ≢ None
+  joins_by_head : (x r : ℕ) (w u : Exchange) (p : Representation) → t.exchange x ≡ Some w → (h : IsHeaded t e x w u) → is_joining (case_at t e) ≡ true →
+      w.aim ≡ Some r → RepFrom t e r p → p.head.joining ≢ None
   joins_by_head x r w u p row h on aim (rep.was v kept) none = joins_tagged x r h.response w v h.at row on aim kept.row (untagged_before r v p kept none)
-  joins_by_head x r w u p row h on aim (rep.founded response z none_there here at founding made) none = false_true (sym (ap is_some none_there) ∙ c.is_sound.numbered.names.aims x r w row aim)
+  joins_by_head x r w u p row h on aim (rep.founded response z none_there here at founding made) none =
+      false_true (sym (ap is_some none_there) ∙ c.is_sound.numbered.names.aims x r w row aim)
 
   joined_by : (x r : ℕ) (u : Exchange) (p : Representation) → u.joined ≡ Some r → RepFrom t e r p → ExchangeFrom t e x u → p.head.joining ≢ None
   joined_by x r u p joined from_rep (exchange.new o none opening here made) = absurd (none_some r (ap (λ (z : Exchange). z.joined) made ∙ joined))
@@ -124,19 +130,24 @@ module _ (limits : Limits) (t : Tables) (now : ℕ) (flaw : Flaw) (c : IsCarried
       by_from (inr b) = let no : event.Head r response ≡ event.Piece x b.bytes = sym here ∙ b.is.at in cc
 
   -- no part
-  tag_founded : (r : ℕ) (response : Response) (w : Exchange) (p : Representation) → new_representation r e response w ≡ p → p.head.joining ≡ None → fits_asker (t.consumer w.c) response ≡ true → ⊥
+  tag_founded : (r : ℕ) (response : Response) (w : Exchange) (p : Representation) → new_representation r e response w ≡ p → p.head.joining ≡ None →
+      fits_asker (t.consumer w.c) response ≡ true → ⊥
   tag_founded r response w p made none fits =
       let own : joining_of (Rattle.hc_model.specs.Heads.kept_fields response.fields) ≡ None = ap (λ (z : Representation). z.head.joining) made ∙ none in
-      strong_joins (values_of (codes "etag") response.fields) (asker_tag (t.consumer w.c) response fits) (sym (ap one_strong_opaque (etag_kept response.fields)) ∙ own)
+      strong_joins (values_of (codes "etag") response.fields) (asker_tag (t.consumer w.c) response fits)
+      (sym (ap one_strong_opaque (etag_kept response.fields)) ∙ own)
 
-  whole_status : (r : ℕ) (response : Response) (w : Exchange) (p : Representation) → new_representation r e response w ≡ p → brings_whole response.status ≡ true → brings_part p.head.status ≡ false
+  whole_status : (r : ℕ) (response : Response) (w : Exchange) (p : Representation) → new_representation r e response w ≡ p →
+      brings_whole response.status ≡ true → brings_part p.head.status ≡ false
   whole_status r response w p made whole = sym (ap (λ (z : Representation). brings_part z.head.status) made) ∙ whole_is_no_part response.status whole
 
   parts_by : (r : ℕ) (p : Representation) → now_on.representation r ≡ Some p → p.head.joining ≡ None → RepFrom t e r p → brings_part p.head.status ≡ false
   parts_by r p after none (rep.was v kept) = ap brings_part kept.status_is ∙ g.parts r v kept.row (untagged_before r v p kept none)
-  parts_by r p after none (rep.founded response w none_there here row on made) = by_way (founded_as (step_of limits t now flaw c.is_sound c.is_owned ev goes) c.is_measured real r response w p here row on made after)
+  parts_by r p after none (rep.founded response w none_there here row on made) =
+      by_way (founded_as (step_of limits t now flaw c.is_sound c.is_owned ev goes) c.is_measured real r response w p here row on made after)
     where
-      by_way : FoundedAs (step_of limits t now flaw c.is_sound c.is_owned ev goes) c.is_measured real r response w p here row on made after → brings_part p.head.status ≡ false
+      by_way : FoundedAs (step_of limits t now flaw c.is_sound c.is_owned ev goes) c.is_measured real r response w p here row on made after →
+          brings_part p.head.status ≡ false
       by_way (founded.comes cells_with writer status) = whole_status r response w p made status
       by_way (founded.empty status known) = whole_status r response w p made status
       by_way (founded.part total status known fits) = absurd (tag_founded r response w p made none fits)
@@ -151,7 +162,9 @@ module _ (limits : Limits) (t : Tables) (now : ℕ) (flaw : Flaw) (c : IsCarried
     unkeepable = rw none_before refl
 
     stays_whole : (total : ℕ) → v.head.total ≡ Some total → Covers v.stored 0 total → IsOfOne now_on p
-    stays_whole total known covered = heads.whole total (known_kept (step_of limits t now flaw c.is_sound c.is_owned ev goes) c.is_measured r total v p kept known) (λ q lo hi. stored_stays t e r q v p (fills t e r v p kept) (covered q lo hi))
+    stays_whole total known covered =
+        heads.whole total (known_kept (step_of limits t now flaw c.is_sound c.is_owned ev goes) c.is_measured r total v p kept known)
+        (λ q lo hi. stored_stays t e r q v p (fills t e r v p kept) (covered q lo hi))
 
     module _ (x : ℕ) (on : is_written t v ≡ true) (status : brings_whole v.head.status ≡ true) (writer : v.writer ≡ Some x) where
       grows : (w : Exchange) × IsGrowing t r v x w
@@ -166,14 +179,19 @@ module _ (limits : Limits) (t : Tables) (now : ℕ) (flaw : Flaw) (c : IsCarried
 
       writer_now : (p.writer ≡ v.writer) ⊎ IsResumed t e r v p.writer → p.writer ≡ Some r
       writer_now (inl same) = same ∙ (writer ∙ ap Some mine)
-      writer_now (inr R) = absurd (joins_tagged R.x r R.response R.w v R.at R.row R.joins (number_is R.w.aim r (and_right _ _ (and_left _ _ R.renews))) kept.row none_before)
+      writer_now (inr R) = absurd
+          (joins_tagged R.x r R.response R.w v R.at R.row R.joins (number_is R.w.aim r (and_right _ _ (and_left _ _ R.renews))) kept.row none_before)
 
       goes_on : (is_open (now_on.exchange r) ≡ true) ⊎ IsAll p → IsOfOne now_on p
       goes_on (inr all) = heads.whole all.total all.known all.covered
-      goes_on (inl still) = heads.comes (written_by now_on p r (kept.lost_is ∙ rw (not_lost (step_of limits t now flaw c.is_sound c.is_owned ev goes) c.is_measured r v p kept.row kept not_gone, (is_on t v x on writer).kept) refl) (writer_now kept.writer_is) still) (ap brings_whole kept.status_is ∙ status)
+      goes_on (inl still) = heads.comes
+          (written_by now_on p r (kept.lost_is ∙
+          rw (not_lost (step_of limits t now flaw c.is_sound c.is_owned ev goes) c.is_measured r v p kept.row kept not_gone, (is_on t v x on writer).kept)
+          refl) (writer_now kept.writer_is) still) (ap brings_whole kept.status_is ∙ status)
 
       written_on : IsOfOne now_on p
-      written_on = goes_on (lasting (step_of limits t now flaw c.is_sound c.is_owned ev goes) c.is_measured r v p kept.row kept not_gone unkeepable status on (writer ∙ ap Some mine))
+      written_on = goes_on (lasting (step_of limits t now flaw c.is_sound c.is_owned ev goes) c.is_measured r v p kept.row kept not_gone unkeepable status
+          on (writer ∙ ap Some mine))
 
     by_writer : (z : Option ℕ) → v.writer ≡ z → is_written t v ≡ true → brings_whole v.head.status ≡ true → IsOfOne now_on p
     by_writer None is on status = absurd (writer_some t v on is)
@@ -184,11 +202,13 @@ module _ (limits : Limits) (t : Tables) (now : ℕ) (flaw : Flaw) (c : IsCarried
     one_by (heads.comes on status) = by_writer v.writer refl on status
 
     still_one : IsOfOne now_on p
-    still_one = one_by (g.one r v kept.row (was_not_gone (step_of limits t now flaw c.is_sound c.is_owned ev goes) c.is_measured r v p kept.row kept not_gone) none_before)
+    still_one = one_by (g.one r v kept.row
+        (was_not_gone (step_of limits t now flaw c.is_sound c.is_owned ev goes) c.is_measured r v p kept.row kept not_gone) none_before)
 
   one_row : (r : ℕ) (p : Representation) → now_on.representation r ≡ Some p → p.is_gone ≡ false → p.head.joining ≡ None → RepFrom t e r p → IsOfOne now_on p
   one_row r p after not_gone none (rep.was v kept) = still_one r v p kept not_gone none
-  one_row r p after not_gone none (rep.founded response w none_there here row on made) = by_way (founded_as (step_of limits t now flaw c.is_sound c.is_owned ev goes) c.is_measured real r response w p here row on made after)
+  one_row r p after not_gone none (rep.founded response w none_there here row on made) =
+      by_way (founded_as (step_of limits t now flaw c.is_sound c.is_owned ev goes) c.is_measured real r response w p here row on made after)
     where
       by_way : FoundedAs (step_of limits t now flaw c.is_sound c.is_owned ev goes) c.is_measured real r response w p here row on made after → IsOfOne now_on p
       by_way (founded.comes cells_with writer status) = heads.comes cells_with (sym (ap (λ (z : Representation). brings_whole z.head.status) made) ∙ status)
@@ -197,7 +217,8 @@ module _ (limits : Limits) (t : Tables) (now : ℕ) (flaw : Flaw) (c : IsCarried
 
   pub tags_kept : Tags now_on
   tags_kept = record {
-    joined = λ x r u p row joined after. joined_by x r u p joined (rep_from t e r (t.representation r) p refl after) (exchange_from t e x (t.exchange x) u refl row);
+    joined = λ x r u p row joined after. joined_by x r u p joined (rep_from t e r (t.representation r) p refl after)
+        (exchange_from t e x (t.exchange x) u refl row);
     parts = λ r p after none. parts_by r p after none (rep_from t e r (t.representation r) p refl after);
     own = λ r x p after none has. own_row r x p none has (rep_from t e r (t.representation r) p refl after);
     one = λ r p after not_gone none. one_row r p after not_gone none (rep_from t e r (t.representation r) p refl after);

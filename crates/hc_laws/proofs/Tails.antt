@@ -27,10 +27,12 @@ pub record IsTail (t : Tables) (r : ℕ) (v : Representation) (k : Consumer) (x 
   pub of_r : from < front w → family x w ≡ r
 
 pub record AreTails (t : Tables) : Type 0 where
-  pub tail : (r c x : ℕ) (v : Representation) (k : Consumer) (w : Exchange) → t.representation r ≡ Some v → v.alone ≡ Some c → IsBound t r c k → k.own ≡ Some x → t.exchange x ≡ Some w → IsTail t r v k x w
+  pub tail : (r c x : ℕ) (v : Representation) (k : Consumer) (w : Exchange) → t.representation r ≡ Some v → v.alone ≡ Some c → IsBound t r c k →
+      k.own ≡ Some x → t.exchange x ≡ Some w → IsTail t r v k x w
 
 -- as long as it isn't lost all that came is stored
-fresh_tail : (t : Tables) (r x : ℕ) (v : Representation) (k : Consumer) (w : Exchange) → Sound t → t.representation r ≡ Some v → v.is_lost ≡ false → IsTail t r v k x w
+fresh_tail : (t : Tables) (r x : ℕ) (v : Representation) (k : Consumer) (w : Exchange) → Sound t → t.representation r ≡ Some v → v.is_lost ≡ false →
+    IsTail t r v k x w
 fresh_tail t r x v k w s there fresh = record {
   from = front w;
   after_base = omega arith;
@@ -51,7 +53,10 @@ module _ (step : Step) (m : Measures step.tables) (i : IsBeside step.tables) (re
 
   -- ITS EXCHANGE STAYS
 
-  module _ (r x : ℕ) (k u : Consumer) (v p : Representation) (w z : Exchange) (there : t.representation r ≡ Some v) (kept : IsKept t e r v p) (lost : (v.is_lost || loses_in r e.acts) ≡ true) (more : offset t k ≤ offset now_on u) (row : t.exchange x ≡ Some w) (after_x : now_on.exchange x ≡ Some z) (same : IsSame t e x w z) (only : (y : ℕ) → IsAbout t r y → y ≡ x) (of_x : w.is_open ≡ true → is_some w.head ≡ true → family x w ≡ r) (tail : IsTail t r v k x w) where
+  module _ (r x : ℕ) (k u : Consumer) (v p : Representation) (w z : Exchange) (there : t.representation r ≡ Some v) (kept : IsKept t e r v p)
+      (lost : (v.is_lost || loses_in r e.acts) ≡ true) (more : offset t k ≤ offset now_on u) (row : t.exchange x ≡ Some w)
+      (after_x : now_on.exchange x ≡ Some z) (same : IsSame t e x w z) (only : (y : ℕ) → IsAbout t r y → y ≡ x)
+      (of_x : w.is_open ≡ true → is_some w.head ≡ true → family x w ≡ r) (tail : IsTail t r v k x w) where
     stored_at : (q : ℕ) → p.stored q ≡ v.stored q
     stored_at q = ap (λ (f : Cells). f q) (stored_same step m i real r v p kept lost)
 
@@ -87,7 +92,8 @@ module _ (step : Step) (m : Measures step.tables) (i : IsBeside step.tables) (re
         by_far q (inr past) = inr (let a : front z ≡ front w = ends in omega arith)
 
     -- a piece comes
-    pieced : (bytes : List ℕ) → ev ≡ event.Piece x bytes → base z ≡ base w → front z ≡ front w + length bytes → family x z ≡ family x w → family x w ≡ r → p.body ≡ cells_with (front w) x bytes v.body → IsTail now_on r p u x z
+    pieced : (bytes : List ℕ) → ev ≡ event.Piece x bytes → base z ≡ base w → front z ≡ front w + length bytes → family x z ≡ family x w → family x w ≡ r →
+        p.body ≡ cells_with (front w) x bytes v.body → IsTail now_on r p u x z
     pieced bytes here first ends fam of_it body = record {
       from = tail.from;
       after_base = let a : base w ≤ tail.from = tail.after_base in omega arith;
@@ -111,8 +117,11 @@ module _ (step : Step) (m : Measures step.tables) (i : IsBeside step.tables) (re
             not_on (inl low) ge lt = let a : tail.from ≤ front w = tail.within in omega arith
             not_on (inr past) ge lt = let a : front z ≡ front w + length bytes = ends in omega arith
 
-        by_place : (q : ℕ) → offset now_on u ≤ q → tail.from ≤ q → q < front z → ((inside (front w) (length bytes) q ≡ true) × (front w ≤ q) × (q < front w + length bytes)) ⊎ ((inside (front w) (length bytes) q ≡ false) × ((q < front w) ⊎ (front w + length bytes ≤ q))) → v.stored q ≡ None
-        by_place q le low under (inl on) = tail.stored q (ahead_of q le) (inr on.1) ∙ delivers_once t s x bytes w v (sym (ap (denial t) here) ∙ goes) row (ap t.representation of_it ∙ there) q on.1 on.2
+        by_place : (q : ℕ) → offset now_on u ≤ q → tail.from ≤ q → q < front z →
+            ((inside (front w) (length bytes) q ≡ true) × (front w ≤ q) × (q < front w + length bytes)) ⊎
+            ((inside (front w) (length bytes) q ≡ false) × ((q < front w) ⊎ (front w + length bytes ≤ q))) → v.stored q ≡ None
+        by_place q le low under (inl on) = tail.stored q (ahead_of q le) (inr on.1) ∙
+            delivers_once t s x bytes w v (sym (ap (denial t) here) ∙ goes) row (ap t.representation of_it ∙ there) q on.1 on.2
         by_place q le low under (inr off) = by_off off.1
           where
             by_off : (q < front w) ⊎ (front w + length bytes ≤ q) → v.stored q ≡ None
@@ -136,7 +145,8 @@ module _ (step : Step) (m : Measures step.tables) (i : IsBeside step.tables) (re
         by_fills of_it (fills_by.more y other a is body stored reach) =
             let both : (y ≡ x) × (other ≡ bytes) = (cc, cc) in
             let one : a ≡ w = same_row (t.exchange x) a w (sym (ap t.exchange both.0) ∙ is.row) row in
-            body ∙ (ap (λ n. cells_with (front a) n other v.body) both.0 ∙ (ap (λ b. cells_with (front a) x b v.body) both.1 ∙ ap (λ (q : Exchange). cells_with (front q) x bytes v.body) one))
+            body ∙ (ap (λ n. cells_with (front a) n other v.body) both.0 ∙
+            (ap (λ b. cells_with (front a) x b v.body) both.1 ∙ ap (λ (q : Exchange). cells_with (front q) x bytes v.body) one))
 
     -- its head comes: nothing of it came before
     by_head : exchange.IsHeaded t e x w z → IsTail now_on r p u x z
@@ -160,7 +170,9 @@ module _ (step : Step) (m : Measures step.tables) (i : IsBeside step.tables) (re
 
   -- IN EACH WAY
 
-  module _ (was : AreTails t) (later : Sound now_on) (r c x lo : ℕ) (hi : Option ℕ) (how : BoundBy) (u : Consumer) (p : Representation) (z : Exchange) (after : now_on.representation r ≡ Some p) (after_row : now_on.consumer c ≡ Some u) (stands : u.place ≡ place.Bound r lo hi how) (lost_now : p.is_lost ≡ true) (is_alone : p.alone ≡ Some c) (owned : u.own ≡ Some x) (after_x : now_on.exchange x ≡ Some z) where
+  module _ (was : AreTails t) (later : Sound now_on) (r c x lo : ℕ) (hi : Option ℕ) (how : BoundBy) (u : Consumer) (p : Representation) (z : Exchange)
+      (after : now_on.representation r ≡ Some p) (after_row : now_on.consumer c ≡ Some u) (stands : u.place ≡ place.Bound r lo hi how)
+      (lost_now : p.is_lost ≡ true) (is_alone : p.alone ≡ Some c) (owned : u.own ≡ Some x) (after_x : now_on.exchange x ≡ Some z) where
     -- what is opened now brought nothing
     bare_tail : u.due ≡ None → z.head ≡ None → z.body ≡ [] → IsTail now_on r p u x z
     bare_tail none bare empty =
@@ -177,7 +189,8 @@ module _ (step : Step) (m : Measures step.tables) (i : IsBeside step.tables) (re
           of_r = λ lt. absurd (omega arith);
         }
 
-    module _ (k : Consumer) (v : Representation) (row : IsRow t e c r lo hi how k u) (at : k.place ≡ place.Bound r lo hi how) (there : t.representation r ≡ Some v) (kept : IsKept t e r v p) where
+    module _ (k : Consumer) (v : Representation) (row : IsRow t e c r lo hi how k u) (at : k.place ≡ place.Bound r lo hi how)
+        (there : t.representation r ≡ Some v) (kept : IsKept t e r v p) where
       reader : IsBound t r c k
       reader = sound.is_bound lo hi how row.row at
 
@@ -203,33 +216,46 @@ module _ (step : Step) (m : Measures step.tables) (i : IsBeside step.tables) (re
 
           by_had : IsHad t r v y → y ≡ x
           by_had (sound.shared on writer) = absurd (false_true (sym off ∙ on))
-          by_had (sound.own d q theirs opened none_due their_exclusive_writer) = by_row d q theirs (one_exclusive_writer t r v d c s their_exclusive_writer exclusive_writer) opened
+          by_had (sound.own d q theirs opened none_due their_exclusive_writer) =
+              by_row d q theirs (one_exclusive_writer t r v d c s their_exclusive_writer exclusive_writer) opened
 
       of_own : (w : Exchange) → k.own ≡ Some x → t.exchange x ≡ Some w → w.is_open ≡ true → is_some w.head ≡ true → family x w ≡ r
       of_own w mine w_row on headed = by_about (s.writes.own_about r c x k reader (own_open_is t k x (record { own = mine; w = w; row = w_row; opened = on })))
         where
           by_about : IsAbout t r x → family x w ≡ r
           by_about (sound.headed q q_row q_on q_headed fam q_there) = ap (family x) (same_row (t.exchange x) w q w_row q_row) ∙ fam
-          by_about (sound.asks q b d q_row q_on bare hole aim) = absurd (false_true (sym (ap (λ (h : Option Response). is_some h) (ap (λ (y : Exchange). y.head) (same_row (t.exchange x) w q w_row q_row) ∙ bare)) ∙ headed))
+          by_about (sound.asks q b d q_row q_on bare hole aim) =
+              absurd (false_true (sym (ap (λ (h : Option Response). is_some h)
+              (ap (λ (y : Exchange). y.head) (same_row (t.exchange x) w q w_row q_row) ∙ bare)) ∙ headed))
 
-      by_exclusive_writer : (w : Exchange) → k.own ≡ Some x → t.exchange x ≡ Some w → IsSame t e x w z → ExclusiveWriterFrom step m real r c v → IsTail now_on r p u x z
-      by_exclusive_writer w mine w_row same (exclusive_writers.first fresh quiet is) = absurd (false_true (sym (kept.lost_is ∙ rw (quiet, fresh) refl) ∙ lost_now))
+      by_exclusive_writer : (w : Exchange) → k.own ≡ Some x → t.exchange x ≡ Some w → IsSame t e x w z → ExclusiveWriterFrom step m real r c v →
+          IsTail now_on r p u x z
+      by_exclusive_writer w mine w_row same (exclusive_writers.first fresh quiet is) =
+          absurd (false_true (sym (kept.lost_is ∙ rw (quiet, fresh) refl) ∙ lost_now))
       by_exclusive_writer w mine w_row same (exclusive_writers.alone lost quiet is) =
-          steps_to r x k u v p w z there kept lost_then more w_row after_x same (exclusive_writer_only (Rattle.hc_laws.proofs.GoAlone.unwritten_lost step m i real r c lo hi how u p after after_row stands lost_now is_alone k v row at there kept lost) (sound.alone lost is) mine) (of_own w mine w_row)
+          steps_to r x k u v p w z there kept lost_then
+          more w_row after_x same (exclusive_writer_only
+          (Rattle.hc_laws.proofs.GoAlone.unwritten_lost step m i real r c lo hi how u p after after_row stands lost_now is_alone k v row at there kept
+          lost) (sound.alone lost is) mine) (of_own w mine w_row)
           (was.tail r c x v k w there is reader mine w_row)
       by_exclusive_writer w mine w_row same (exclusive_writers.wrote fresh loses writes) =
-          steps_to r x k u v p w z there kept lost_then more w_row after_x same (exclusive_writer_only writes.unwritten (sound.first fresh writes.first) mine) (of_own w mine w_row) (fresh_tail t r x v k w s there fresh)
+          steps_to r x k u v p w z there kept lost_then
+          more w_row after_x same (exclusive_writer_only writes.unwritten (sound.first fresh writes.first) mine) (of_own w mine w_row)
+          (fresh_tail t r x v k w s there fresh)
       by_exclusive_writer w mine w_row same (exclusive_writers.survives losing is) =
           let g = goes_on step m real r c v p u there losing is after after_row in
           absurd (o.apart r x c v k there (and_right _ _ losing) (g.own_is ∙ ap Some (some_inj g.is.x x (sym g.is.own ∙ owned))) row.row mine)
 
       kept_tail : k.own ≡ Some x → ExchangeFrom t e x z → IsTail now_on r p u x z
       kept_tail mine (exchange.was w w_row same) = by_exclusive_writer w mine w_row same (alone_from step m real r c v p there kept lost_now is_alone)
-      kept_tail mine (exchange.new q no_row opens number made) = absurd (false_true (sym (ap (λ (y : Option Exchange). is_some y) no_row) ∙ o.there c x k row.row mine))
+      kept_tail mine (exchange.new q no_row opens number made) =
+          absurd (false_true (sym (ap (λ (y : Option Exchange). is_some y) no_row) ∙ o.there c x k row.row mine))
 
       opened_tail : (q : Opening) → opening_in e.acts ≡ Some q → q.c ≡ c → q.x ≡ x → ExchangeFrom t e x z → IsTail now_on r p u x z
       opened_tail q opens to_it number (exchange.was w w_row same) = absurd (none_some w (sym (new_number step q x opens number) ∙ w_row))
-      opened_tail q opens to_it number (exchange.new g no_row also here made) = bare_tail (opens_undue step m i real r c lo hi how u p after after_row stands lost_now is_alone k v row at there kept q opens to_it) (ap (λ (y : Exchange). y.head) (sym made)) (ap (λ (y : Exchange). y.body) (sym made))
+      opened_tail q opens to_it number (exchange.new g no_row also here made) =
+          bare_tail (opens_undue step m i real r c lo hi how u p after after_row stands lost_now is_alone k v row at there kept q opens to_it)
+          (ap (λ (y : Exchange). y.head) (sym made)) (ap (λ (y : Exchange). y.body) (sym made))
 
       -- the writing was left to it
       written_tail : is_written t v ≡ true → v.writer ≡ Some x → ExchangeFrom t e x z → IsTail now_on r p u x z
@@ -239,18 +265,24 @@ module _ (step : Step) (m : Measures step.tables) (i : IsBeside step.tables) (re
           by_growing all (exchange.new q no_row opens number made) = absurd (none_some all.0 (sym no_row ∙ all.1.row))
           by_growing all (exchange.was w w_row same) =
               let one : all.0 ≡ w = same_row (t.exchange x) all.0 w all.1.row w_row in
-              steps_to r x k u v p w z there kept lost_then more w_row after_x same (λ y about. s.one_about r y x about (writer_about t r x v s there on writer)) (λ opened headed. ap (family x) (sym one) ∙ all.1.family_is) (fresh_tail t r x v k w s there (is_on t v x on writer).kept)
+              steps_to r x k u v p w z there kept lost_then
+              more w_row after_x same (λ y about. s.one_about r y x about (writer_about t r x v s there on writer))
+              (λ opened headed. ap (family x) (sym one) ∙ all.1.family_is) (fresh_tail t r x v k w s there (is_on t v x on writer).kept)
 
       by_own : OwnFrom t e c x u → IsTail now_on r p u x z
-      by_own (own.kept q its mine heard) = kept_tail (ap (λ (b : Consumer). b.own) (same_row (t.consumer c) k q row.row its.row) ∙ mine) (exchange_from t e x (t.exchange x) z refl after_x)
+      by_own (own.kept q its mine heard) =
+          kept_tail (ap (λ (b : Consumer). b.own) (same_row (t.consumer c) k q row.row its.row) ∙ mine) (exchange_from t e x (t.exchange x) z refl after_x)
       by_own (own.opened q g its opens mine number) = opened_tail g opens mine number (exchange_from t e x (t.exchange x) z refl after_x)
       by_own (own.left q its l) = by_left q its.row l
         where
           by_left : (q : Consumer) → t.consumer c ≡ Some q → own.IsLeft t e c x (consumer_heard t e c ev q).place → IsTail now_on r p u x z
           by_left q q_row l =
               let both = left_loses step m i real r c lo hi how u p after after_row stands lost_now is_alone k v row at there kept x q q_row l in
-              let number = Rattle.hc_laws.proofs.GoAlone.left_number step m i real r c lo hi how u p after after_row stands lost_now is_alone k v row at there kept x q q_row l in
-              written_tail both.0 (ap (λ (y : Representation). y.writer) (sym (same_row (t.representation r) l.v v (sym (ap t.representation number) ∙ l.row) there)) ∙ l.writer_is) (exchange_from t e x (t.exchange x) z refl after_x)
+              let number = Rattle.hc_laws.proofs.GoAlone.left_number step m i real r c lo hi how u p after after_row stands lost_now is_alone k v row at
+              there kept x q q_row l in
+              written_tail both.0 (ap (λ (y : Representation). y.writer)
+              (sym (same_row (t.representation r) l.v v (sym (ap t.representation number) ∙ l.row) there)) ∙ l.writer_is)
+              (exchange_from t e x (t.exchange x) z refl after_x)
 
     tail_now : IsTail now_on r p u x z
     tail_now =
@@ -260,6 +292,7 @@ module _ (step : Step) (m : Measures step.tables) (i : IsBeside step.tables) (re
   pub tails_kept : AreTails t → Sound now_on → AreTails now_on
   tails_kept was later = record { tail = by_reader }
     where
-      by_reader : (r c x : ℕ) (p : Representation) (u : Consumer) (z : Exchange) → now_on.representation r ≡ Some p → p.alone ≡ Some c → IsBound now_on r c u → u.own ≡ Some x → now_on.exchange x ≡ Some z → IsTail now_on r p u x z
+      by_reader : (r c x : ℕ) (p : Representation) (u : Consumer) (z : Exchange) → now_on.representation r ≡ Some p → p.alone ≡ Some c →
+          IsBound now_on r c u → u.own ≡ Some x → now_on.exchange x ≡ Some z → IsTail now_on r p u x z
       by_reader r c x p u z after is_alone (sound.is_bound lo hi how after_row stands) owned after_x =
           tail_now was later r c x lo hi how u p z after after_row stands (lost_of step m i real r c p after is_alone) is_alone owned after_x

@@ -12,7 +12,8 @@ module _ (step : Step) where
   abbrev e : Entry
   e = entry_of limits t now ev flaw
 
-  module _ (r c lo : ℕ) (hi : Option ℕ) (how : BoundBy) (k u : Consumer) (row : IsRow t e c r lo hi how k u) (at : k.place ≡ place.Bound r lo hi how) (stands : u.place ≡ place.Bound r lo hi how) (none : u.due ≡ None) (sh : IsShared t e c) where
+  module _ (r c lo : ℕ) (hi : Option ℕ) (how : BoundBy) (k u : Consumer) (row : IsRow t e c r lo hi how k u) (at : k.place ≡ place.Bound r lo hi how)
+      (stands : u.place ≡ place.Bound r lo hi how) (none : u.due ≡ None) (sh : IsShared t e c) where
     new : IsNew limits t now flaw s ev goes sh.x sh.w
     new = is_new limits t now flaw s ev goes sh.x sh.response sh.w sh.at sh.row
 
@@ -20,12 +21,14 @@ module _ (step : Step) where
     waits = waiter_of step sh.x sh.w sh.row new.is_open new.bare
 
     owned_k : k.own ≡ Some sh.x
-    owned_k = let all = waits in ap (λ (q : Consumer). q.own) (sym (same_row (t.consumer c) all.0 k (sym (ap t.consumer sh.mine) ∙ all.1.row) row.row)) ∙ all.1.own
+    owned_k = let all = waits in ap (λ (q : Consumer). q.own) (sym (same_row (t.consumer c) all.0 k (sym (ap t.consumer sh.mine) ∙ all.1.row) row.row)) ∙
+        all.1.own
 
     pub on : IsOn t e sh.x sh.w
     on = is_on t e sh.x sh.w sh.row
 
-    by_heard : (a : Exchange) (same : IsSame t e sh.x sh.w a) → ((a.head ≡ sh.w.head) × (a.joined ≡ sh.w.joined)) ⊎ IsHeaded t e sh.x sh.w a → IsHeaded t e sh.x sh.w a
+    by_heard : (a : Exchange) (same : IsSame t e sh.x sh.w a) → ((a.head ≡ sh.w.head) × (a.joined ≡ sh.w.joined)) ⊎ IsHeaded t e sh.x sh.w a →
+        IsHeaded t e sh.x sh.w a
     by_heard a same (inl still) = absurd (same.unheard (still.0 ∙ new.bare) sh.response sh.at)
     by_heard a same (inr got) = got
 

@@ -9,7 +9,8 @@ use Rattle.hc_model.specs.Laws.{IsPrefix, IsTruthful, TruncatedIsPrefix}
 use Rattle.hc_effects.proofs.HoleLemmas.{covers_all}
 use Rattle.hc_laws.proofs.{Positions.{no_other_below}, SizesKeep.{sizes_in_runs}, SoundRuns.{runs_are_sound}, Truthful.{whole_is}}
 
-front_by : (growing complete front : Bool) → (cond growing kind.Growing (cond complete kind.Whole (cond front kind.Truncated kind.Ranges))) ≡ kind.Truncated → front ≡ true
+front_by : (growing complete front : Bool) →
+    (cond growing kind.Growing (cond complete kind.Whole (cond front kind.Truncated kind.Ranges))) ≡ kind.Truncated → front ≡ true
 front_by growing complete front h = grind (arith, nat_tests)
 
 none_by : (o : Option Cell) → (is_some o ≡ true → ⊥) → o ≡ None
@@ -41,5 +42,6 @@ truth_in_runs limits contents h may run =
     let t = tables contents h in
     record {
       whole = whole_is t;
-      truncated = λ key r v is row kind. truncated_is t (runs_are_sound limits contents h may run) key r v is row ((sizes_in_runs limits contents h may run).counted r v row) kind;
+      truncated = λ key r v is row kind. truncated_is t (runs_are_sound limits contents h may run) key r v is row
+          ((sizes_in_runs limits contents h may run).counted r v row) kind;
     }

@@ -108,7 +108,8 @@ module _ (limits : Limits) (t : Tables) (e : Entry) (taken : IsTaken limits t e)
   closes_as x = ap (closes_in x) acts_is ∙ closes_by x _ is_answer
 
   -- what must be closed is
-  pub is_closed : (x : ℕ) (w : Exchange) → Among x t.openings → t.exchange x ≡ Some w → must_close t seen x w ≡ true → (exchange_heard t seen x e.event w).is_open ≡ true → closes_in x e.acts ≡ true
+  pub is_closed : (x : ℕ) (w : Exchange) → Among x t.openings → t.exchange x ≡ Some w → must_close t seen x w ≡ true →
+      (exchange_heard t seen x e.event w).is_open ≡ true → closes_in x e.acts ≡ true
   unfolding closing
   is_closed x w among row must open_yet = grind (arith, nat_tests, seen, closes_as, closes_passing, among_aux)
 
@@ -197,7 +198,8 @@ module _ (limits : Limits) (t : Tables) (e : Entry) (taken : IsTaken limits t e)
   reported_quiet x r none asks = subst (λ acts. parts.AsksAs x r acts []) (sym acts_is) (reported_by x r _ is_answer none asks)
 
   evicts_by : (r : ℕ) (acts : List Act) → answered acts → evicted limits t e.now e.event ≡ [] → evicts_in r acts ≡ false
-  evicts_by r _ (parts.reported silent) none = ap (λ rs. evicts_in r (map act.Evicted rs ++ (loss_acts flaw ++ map act.Close closings))) none ∙ (parts.evicts_lost r flaw _ ∙ parts.evicts_closes r closings)
+  evicts_by r _ (parts.reported silent) none = ap (λ rs. evicts_in r (map act.Evicted rs ++ (loss_acts flaw ++ map act.Close closings))) none ∙
+      (parts.evicts_lost r flaw _ ∙ parts.evicts_closes r closings)
   evicts_by r _ parts.asked none = (said_closes 0 r t e.now e.event flaw asked_of _ said_here).evicts ∙ evicts_closed r closings flaw
 
   -- where nothing gives way, nothing is evicted
@@ -219,19 +221,24 @@ module _ (limits : Limits) (t : Tables) (e : Entry) (taken : IsTaken limits t e)
 
   -- of its consumer
   pub data AtPoll (c : ℕ) (k : Consumer) : Type 0 where
-    moves_on : (want : ℕ) (m : Move) → e.event ≡ event.Poll c want → m ≡ poll_move t e.now want c (Some k) → Does t c k m → e.acts ≡ acts_of c m ++ behind → seen.acts ≡ acts_of c m ++ loss_acts (flaw_in e.acts) → AtPoll c k
-    misreads : (want r : ℕ) → e.event ≡ event.Poll c want → e.acts ≡ act.Failed c (cause.StoreRead r) ∷ behind → seen.acts ≡ act.Failed c (cause.StoreRead r) ∷ loss_acts (flaw_in e.acts) → AtPoll c k
+    moves_on : (want : ℕ) (m : Move) → e.event ≡ event.Poll c want → m ≡ poll_move t e.now want c (Some k) → Does t c k m → e.acts ≡ acts_of c m ++
+        behind → seen.acts ≡ acts_of c m ++ loss_acts (flaw_in e.acts) → AtPoll c k
+    misreads : (want r : ℕ) → e.event ≡ event.Poll c want → e.acts ≡ act.Failed c (cause.StoreRead r) ∷ behind →
+        seen.acts ≡ act.Failed c (cause.StoreRead r) ∷ loss_acts (flaw_in e.acts) → AtPoll c k
 
   pub at_poll : (c want : ℕ) (k : Consumer) → Sound t → Turns t → t.consumer c ≡ Some k → e.event ≡ event.Poll c want → AtPoll c k
   at_poll c want k s turns row at = by_flaw flaw refl
     where
-      by_asked : (ev : Event) → ev ≡ event.Poll c want → accepted_acts limits t e.now ev flaw ≡ answer_acts t e.now ev flaw ++ (close_acts t e.now ev flaw ++ loss_acts flaw)
-      by_asked ev is = subst (λ z. accepted_acts limits t e.now z flaw ≡ answer_acts t e.now z flaw ++ (close_acts t e.now z flaw ++ loss_acts flaw)) (sym is) refl
+      by_asked : (ev : Event) → ev ≡ event.Poll c want → accepted_acts limits t e.now ev flaw ≡ answer_acts t e.now ev flaw ++
+          (close_acts t e.now ev flaw ++ loss_acts flaw)
+      by_asked ev is = subst (λ z. accepted_acts limits t e.now z flaw ≡ answer_acts t e.now z flaw ++ (close_acts t e.now z flaw ++ loss_acts flaw))
+          (sym is) refl
 
       by_move : (f : Flaw) → flaw ≡ f → answer_acts t e.now (event.Poll c want) f ≡ acts_of c (poll_move t e.now want c (t.consumer c)) → AtPoll c k
       by_move f is says =
           let m = poll_move t e.now want c (Some k) in
-          let here : asked_of ≡ acts_of c m = ap (λ z. answer_acts t e.now z flaw) at ∙ (ap (answer_acts t e.now (event.Poll c want)) is ∙ (says ∙ ap (λ o. acts_of c (poll_move t e.now want c o)) row)) in
+          let here : asked_of ≡ acts_of c m = ap (λ z. answer_acts t e.now z flaw) at ∙
+          (ap (answer_acts t e.now (event.Poll c want)) is ∙ (says ∙ ap (λ o. acts_of c (poll_move t e.now want c o)) row)) in
           let all : e.acts ≡ asked_of ++ behind = acts_is ∙ by_asked e.event at in
           moves_on want m at refl (does_polled t c k s turns row e.now want) (all ∙ ap (λ acts. acts ++ behind) here) (ap (λ acts. acts ++ loss_acts flaw) here)
 
@@ -239,5 +246,6 @@ module _ (limits : Limits) (t : Tables) (e : Entry) (taken : IsTaken limits t e)
       by_flaw NoFlaw is = by_move NoFlaw is refl
       by_flaw (Loses r kind) is = by_move (Loses r kind) is refl
       by_flaw (Misreads r) is =
-          let here : asked_of ≡ act.Failed c (cause.StoreRead r) ∷ [] = ap (λ z. answer_acts t e.now z flaw) at ∙ ap (answer_acts t e.now (event.Poll c want)) is in
+          let here : asked_of ≡ act.Failed c (cause.StoreRead r) ∷ [] = ap (λ z. answer_acts t e.now z flaw) at ∙
+          ap (answer_acts t e.now (event.Poll c want)) is in
           misreads want r at (acts_is ∙ (by_asked e.event at ∙ ap (λ acts. acts ++ behind) here)) (ap (λ acts. acts ++ loss_acts flaw) here)

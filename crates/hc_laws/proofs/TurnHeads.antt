@@ -26,7 +26,9 @@ module _ (v : HeadView) where
   abbrev passes : Bool
   passes = v.status == 304 && v.conditional && v.selects && not v.lost
 
-  turn_rest : Other (if v.status == 304 && v.conditional then case.NotValidated else if nat_le 500 v.status then case.TurnServerError else if brings_whole v.status && v.storable && not v.lost then case.FoundsWhole else if brings_part v.status && v.storable && v.fits && not v.lost then case.FoundsRange else case.PassesBy)
+  turn_rest : Other (if v.status == 304 && v.conditional then case.NotValidated else if nat_le 500 v.status then case.TurnServerError else
+      if brings_whole v.status && v.storable && not v.lost then case.FoundsWhole else if brings_part v.status && v.storable && v.fits && not v.lost then
+      case.FoundsRange else case.PassesBy)
   turn_rest = grind (arith, nat_tests)
 
   by_passing : (b : Bool) (rest : HeadCase) → Other rest → (if b then case.Validated else rest) ≡ case.Validated → b ≡ true
@@ -58,11 +60,13 @@ pub record IsValid (t : Tables) (e : Entry) (x r : ℕ) (w : Exchange) : Type 0 
   pub current : current t w.request.key ≡ Some r
   pub lossless : has_loss e.acts ≡ false
 
-case_is : (t : Tables) (b : Bool) (x : ℕ) (response : Response) (w : Exchange) (c : HeadCase) → t.exchange x ≡ Some w → case_of t b (event.Head x response) ≡ Some c → head_case (head_view t b w response) ≡ c
+case_is : (t : Tables) (b : Bool) (x : ℕ) (response : Response) (w : Exchange) (c : HeadCase) → t.exchange x ≡ Some w →
+    case_of t b (event.Head x response) ≡ Some c → head_case (head_view t b w response) ≡ c
 unfolding case_of
 case_is t b x response w c row is = grind (arith, nat_tests)
 
-pub valid_is : (t : Tables) (e : Entry) (x r : ℕ) (response : Response) (w : Exchange) → e.event ≡ event.Head x response → t.exchange x ≡ Some w → case_at t e ≡ Some case.Validated → w.aim ≡ Some r → IsValid t e x r w
+pub valid_is : (t : Tables) (e : Entry) (x r : ℕ) (response : Response) (w : Exchange) → e.event ≡ event.Head x response → t.exchange x ≡ Some w →
+    case_at t e ≡ Some case.Validated → w.aim ≡ Some r → IsValid t e x r w
 unfolding head_case
 valid_is t e x r response w at row found aim =
     let here = case_is t (has_loss e.acts) x response w case.Validated row (sym (ap (case_of t (has_loss e.acts)) at) ∙ found) in
@@ -72,12 +76,15 @@ valid_is t e x r response w at row found aim =
     record {
       turn = both.0;
       need_is = conditional_need w.need w.request (and_then (response.status == 304) (is_conditional w.need w.request) b);
-      current = same_number (current t w.request.key) w.aim r aim (and_left _ _ (and_then (response.status == 304 && is_conditional w.need w.request) (validates t w response) a));
-      lossless = not_yes (has_loss e.acts) (and_then (response.status == 304 && is_conditional w.need w.request && validates t w response) (not (has_loss e.acts)) both.1);
+      current = same_number (current t w.request.key) w.aim r aim
+          (and_left _ _ (and_then (response.status == 304 && is_conditional w.need w.request) (validates t w response) a));
+      lossless = not_yes (has_loss e.acts)
+          (and_then (response.status == 304 && is_conditional w.need w.request && validates t w response) (not (has_loss e.acts)) both.1);
     }
 
 -- and it is of an exchange that was opened about something
-pub valid_aim : (t : Tables) (e : Entry) (x : ℕ) (response : Response) (w : Exchange) → e.event ≡ event.Head x response → t.exchange x ≡ Some w → case_at t e ≡ Some case.Validated → is_some w.aim ≡ true
+pub valid_aim : (t : Tables) (e : Entry) (x : ℕ) (response : Response) (w : Exchange) → e.event ≡ event.Head x response → t.exchange x ≡ Some w →
+    case_at t e ≡ Some case.Validated → is_some w.aim ≡ true
 unfolding head_case
 valid_aim t e x response w at row found =
     let here = case_is t (has_loss e.acts) x response w case.Validated row (sym (ap (case_of t (has_loss e.acts)) at) ∙ found) in
@@ -90,7 +97,8 @@ valid_aim t e x response w at row found =
 
 -- IT LEAVES WHAT IS STORED
 
-module _ (limits : Limits) (t : Tables) (e : Entry) (taken : IsTaken limits t e) (x : ℕ) (response : Response) (w : Exchange) (at : e.event ≡ event.Head x response) (row : t.exchange x ≡ Some w) (found : case_at t e ≡ Some case.Validated) (lossless : has_loss e.acts ≡ false) where
+module _ (limits : Limits) (t : Tables) (e : Entry) (taken : IsTaken limits t e) (x : ℕ) (response : Response) (w : Exchange)
+    (at : e.event ≡ event.Head x response) (row : t.exchange x ≡ Some w) (found : case_at t e ≡ Some case.Validated) (lossless : has_loss e.acts ≡ false) where
   abbrev saw : Entry
   saw = seen limits t e taken
 
@@ -128,7 +136,8 @@ module _ (limits : Limits) (t : Tables) (e : Entry) (taken : IsTaken limits t e)
   pub goes_none : (r : ℕ) (v : Representation) → becomes_gone t e r v ≡ false
   unfolding becomes_gone
   goes_none r v =
-      let head : goes_by_head t e r ≡ false = ap (λ ev. goes_by_exchange t e r (exchange_at t ev)) at ∙ (ap (goes_by_exchange t e r) row ∙ ap (λ c. goes_by_case t e r c w) found) in
+      let head : goes_by_head t e r ≡ false = ap (λ ev. goes_by_exchange t e r (exchange_at t ev)) at ∙
+      (ap (goes_by_exchange t e r) row ∙ ap (λ c. goes_by_case t e r c w) found) in
       let past : bypass_key e ≡ None = ap bypassed_by opens_none in
       let reads : misreads_in r e.acts ≡ false = (reported_quiet limits t e taken 0 r silent (ap is_asking at)).misreads in
       let early : ends_early t e r v ≡ false = ap (λ b. brings_whole v.head.status && b) (ends_none r (t.exchange r)) ∙ and_none (brings_whole v.head.status) in

@@ -27,7 +27,8 @@ found_none f [] all = refl
 found_none f (x ∷ xs) all = rw (all x) (found_none f xs all)
 
 -- after which nobody leaves
-module _ (limits : Limits) (t : Tables) (e : Entry) (taken : IsTaken limits t e) (c want : ℕ) (at : e.event ≡ event.Poll c want) (nobody : leaver_in (seen limits t e taken).acts ≡ None) where
+module _ (limits : Limits) (t : Tables) (e : Entry) (taken : IsTaken limits t e) (c want : ℕ) (at : e.event ≡ event.Poll c want)
+    (nobody : leaver_in (seen limits t e taken).acts ≡ None) where
   abbrev saw : Entry
   saw = seen limits t e taken
 
@@ -45,7 +46,8 @@ module _ (limits : Limits) (t : Tables) (e : Entry) (taken : IsTaken limits t e)
   not_doomed x w = ap (λ o. is_key o w.request.key && is_headless (Some w) && awaits (t.consumer w.c) x) doom_seen
 
   free : (x : ℕ) (w : Exchange) → must_close t saw x w ≡ false
-  free x w = all_false (is_refused (case_at t saw) && brings_head x e.event) (is_doomed t saw x w) (has_no_survivor t saw x (family x w) (t.representation (family x w))) (is_left t x (leaver saw))
+  free x w = all_false (is_refused (case_at t saw) && brings_head x e.event) (is_doomed t saw x w)
+      (has_no_survivor t saw x (family x w) (t.representation (family x w))) (is_left t x (leaver saw))
       (ap (λ ev. is_refused (case_at t saw) && brings_head x ev) at ∙ and_none (is_refused (case_at t saw)))
       (not_doomed x w) (keeps_group x (family x w) (t.representation (family x w)))
       (ap (is_left t x) (ap (λ ev. leaver_by ev saw.acts) at ∙ nobody))
@@ -93,7 +95,8 @@ module _ (limits : Limits) (t : Tables) (e : Entry) (taken : IsTaken limits t e)
   goes_none r v past reads =
       let none : doomed_key_of t e ≡ None = doom_none in
       let early : ends_early t e r v ≡ false = ap (λ b. brings_whole v.head.status && b) (ends_none r (t.exchange r)) ∙ and_none (brings_whole v.head.status) in
-      rw (none, past, head_none r, loses_none r, reads, early, evicts_asked limits t e taken r (ap facts.is_asking at)) (facts.none_goes v (is_current t v.key r))
+      rw (none, past, head_none r, loses_none r, reads, early, evicts_asked limits t e taken r (ap facts.is_asking at))
+      (facts.none_goes v (is_current t v.key r))
 
 -- WHO OPENS
 
@@ -110,26 +113,33 @@ need_of (moves.Opens x n request) = n
 need_of _ = need.Miss
 
 -- a move that opens
-opened_does : (c : ℕ) (m : Move) (rest : List Act) (o : Opening) → opening_in rest ≡ None → opening_in (acts_of c m ++ rest) ≡ Some o → m ≡ moves.Opens o.x o.need o.request
+opened_does : (c : ℕ) (m : Move) (rest : List Act) (o : Opening) → opening_in rest ≡ None → opening_in (acts_of c m ++ rest) ≡ Some o →
+    m ≡ moves.Opens o.x o.need o.request
 opened_does c (moves.Opens x n request) rest o none h = ap (λ (q : Opening). moves.Opens q.x q.need q.request) (some_inj _ o h)
 opened_does c _ rest o none h = absurd (none_some o (sym none ∙ h))
 
 -- why a poll opened, told of what it opened
 pub data OpensFor (t : Tables) (c : ℕ) (k : Consumer) (x : ℕ) (n : Need) : Type 0 where
   past : route_of n ≡ route.Direct → does.IsNew k → OpensFor t c k x n
-  fetches : route_of n ≡ route.Turn → does.IsNew k → does.Queues k → turn_with t k.request.key c ≡ c → (n ≡ need.Validate → (r : ℕ) × does.MayRead t k r) → (n ≡ need.Bypass → is_bypassing k.request ≡ true) → OpensFor t c k x n
-  first : (r lo : ℕ) (hi : Option ℕ) → route_of n ≡ route.Hole → does.IsNew k → opened_place t x k route.Hole ≡ place.Bound r lo hi (by.FirstHole x) → OpensFor t c k x n
+  fetches : route_of n ≡ route.Turn → does.IsNew k → does.Queues k → turn_with t k.request.key c ≡ c →
+      (n ≡ need.Validate → (r : ℕ) × does.MayRead t k r) → (n ≡ need.Bypass → is_bypassing k.request ≡ true) → OpensFor t c k x n
+  first : (r lo : ℕ) (hi : Option ℕ) → route_of n ≡ route.Hole → does.IsNew k → opened_place t x k route.Hole ≡ place.Bound r lo hi (by.FirstHole x) →
+      OpensFor t c k x n
   later : (r lo : ℕ) (hi : Option ℕ) (how : BoundBy) → route_of n ≡ route.Hole → k.shown ≡ true → k.place ≡ place.Bound r lo hi how → OpensFor t c k x n
 
-opens_for : (t : Tables) (c : ℕ) (k : Consumer) (x : ℕ) (n : Need) (request : Request) (m : Move) → Does t c k m → m ≡ moves.Opens x n request → (x ≡ t.opened + 1) × OpensFor t c k x n
+opens_for : (t : Tables) (c : ℕ) (k : Consumer) (x : ℕ) (n : Need) (request : Request) (m : Move) → Does t c k m → m ≡ moves.Opens x n request →
+    (x ≡ t.opened + 1) × OpensFor t c k x n
 opens_for t c k x n request _ (does.past n' request' way is_new) is =
     (sym (ap number_of is), past (ap route_of (sym (ap need_of is)) ∙ way) is_new)
 opens_for t c k x n request _ (does.fetches n' request' way is_new queues turn_is varied bypass) is =
     let same = ap need_of is in
     (sym (ap number_of is), fetches (ap route_of (sym same) ∙ way) is_new queues turn_is (λ h. varied (same ∙ h)) (λ h. bypass (same ∙ h)))
 opens_for t c k x n request _ (does.first n' request' r lo hi way is_new bound) is =
-    let number : t.opened + 1 ≡ x = ap number_of is in
-    (sym number, first r lo hi (ap route_of (sym (ap need_of is)) ∙ way) is_new (subst (λ y. opened_place t y k route.Hole ≡ place.Bound r lo hi (by.FirstHole y)) number bound))
+    let number : t.opened + 1 ≡ x = ap number_of is in (
+      sym number,
+      first r lo hi (ap route_of (sym (ap need_of is)) ∙ way) is_new
+          (subst (λ y. opened_place t y k route.Hole ≡ place.Bound r lo hi (by.FirstHole y)) number bound),
+    )
 opens_for t c k x n request _ (does.later n' request' r lo hi how way shown at) is =
     (sym (ap number_of is), later r lo hi how (ap route_of (sym (ap need_of is)) ∙ way) shown at)
 opens_for t c k x n request _ _ is = absurd (let no_one : true ≡ false = sym (ap is_opening is) in cc)
@@ -146,10 +156,13 @@ pub record IsOpenedAt (limits : Limits) (t : Tables) (e : Entry) (taken : IsTake
   pub acts : e.acts ≡ acts_of o.c (moves.Opens o.x o.need o.request) ++ behind limits t e taken
   pub saw : (seen limits t e taken).acts ≡ acts_of o.c (moves.Opens o.x o.need o.request) ++ loss_acts (flaw_in e.acts)
 
-pub opened_at : (limits : Limits) (t : Tables) (e : Entry) (taken : IsTaken limits t e) → Sound t → Turns t → (o : Opening) → opening_in e.acts ≡ Some o → IsOpenedAt limits t e taken o
-opened_at limits t e taken s turns o is = by_opening_of (opened_is limits t e.now e.event (flaw_in e.acts) o (sym (ap opening_in (acts_is limits t e taken)) ∙ is))
+pub opened_at : (limits : Limits) (t : Tables) (e : Entry) (taken : IsTaken limits t e) → Sound t → Turns t → (o : Opening) → opening_in e.acts ≡ Some o →
+    IsOpenedAt limits t e taken o
+opened_at limits t e taken s turns o is =
+    by_opening_of (opened_is limits t e.now e.event (flaw_in e.acts) o (sym (ap opening_in (acts_is limits t e taken)) ∙ is))
   where
-    by_poll_of : (want : ℕ) (k : Consumer) → e.event ≡ event.Poll o.c want → t.consumer o.c ≡ Some k → o.request.key ≡ k.request.key → AtPoll limits t e taken o.c k → IsOpenedAt limits t e taken o
+    by_poll_of : (want : ℕ) (k : Consumer) → e.event ≡ event.Poll o.c want → t.consumer o.c ≡ Some k → o.request.key ≡ k.request.key →
+        AtPoll limits t e taken o.c k → IsOpenedAt limits t e taken o
     by_poll_of want k at row same (facts.misreads want' r at' all reported) =
         absurd (none_some o (sym (ap opening_in all ∙ opens_behind limits t e taken) ∙ is))
     by_poll_of want k at row same (facts.moves_on want' m at' m_is does_so all reported) =
@@ -170,7 +183,8 @@ opened_at limits t e taken s turns o is = by_opening_of (opened_is limits t e.no
     by_opening_of : IsOpening t e.event o → IsOpenedAt limits t e taken o
     by_opening_of (opening want k at row same) = by_poll_of want k at row same (at_poll limits t e taken o.c want k s turns row at)
 
-module _ (limits : Limits) (t : Tables) (e : Entry) (taken : IsTaken limits t e) (s : Sound t) (turns : Turns t) (o : Opening) (is : opening_in e.acts ≡ Some o) where
+module _ (limits : Limits) (t : Tables) (e : Entry) (taken : IsTaken limits t e) (s : Sound t) (turns : Turns t) (o : Opening)
+    (is : opening_in e.acts ≡ Some o) where
   abbrev pub opened : IsOpenedAt limits t e taken o
   opened = opened_at limits t e taken s turns o is
 
@@ -205,7 +219,8 @@ module _ (limits : Limits) (t : Tables) (e : Entry) (taken : IsTaken limits t e)
   loses_nothing : (p : Place) → k.place ≡ p → loses_what_it_waits_for t e c p ≡ false
   loses_nothing (place.Passed r kept) at =
       let h = turns.passed c r kept k opened.row at in
-      let stays = goes_none limits t e taken c opened.want opened.at nobody r h.v (bypassed_none h.plain) (ap (misreads_in r) opened.acts ∙ misreads_behind limits t e taken r) in
+      let stays = goes_none limits t e taken c opened.want opened.at nobody r h.v (bypassed_none h.plain)
+      (ap (misreads_in r) opened.acts ∙ misreads_behind limits t e taken r) in
       ap (λ z. goes_in t e r z && not (fails_in c e.acts)) h.row ∙ ap (λ b. b && not (fails_in c e.acts)) stays
   loses_nothing _ at = refl
 
@@ -257,10 +272,12 @@ module _ (limits : Limits) (t : Tables) (e : Entry) (taken : IsTaken limits t e)
       let leaves : leaves_in c e.acts ≡ false = ap (leaves_in c) opened.acts ∙ far.leaves in
       let q = by_opening t c (opening_in e.acts) (waiting t e c k) in
       record {
-        place = rw leaves (showing_none (showing_in e.acts) q.place (λ z h. far.showing z (sym (ap showing_in opened.acts) ∙ h)) ∙ ap (λ (z : Consumer). z.place) opening_same);
+        place = rw leaves (showing_none (showing_in e.acts) q.place (λ z h. far.showing z (sym (ap showing_in opened.acts) ∙ h)) ∙
+            ap (λ (z : Consumer). z.place) opening_same);
         own = own_same k.place q.own ∙ ap (λ (z : Consumer). z.own) opening_same;
         shown = ap (λ b. b || q.shown) (ap (shows_in c) opened.acts ∙ far.shows) ∙ ap (λ (z : Consumer). z.shown) opening_same;
-        given = ap (λ (bytes : List ℕ). q.given + length bytes) (ap (given_in c) opened.acts ∙ far.given) ∙ (plus_none q.given ∙ ap (λ (z : Consumer). z.given) opening_same);
+        given = ap (λ (bytes : List ℕ). q.given + length bytes) (ap (given_in c) opened.acts ∙ far.given) ∙
+            (plus_none q.given ∙ ap (λ (z : Consumer). z.given) opening_same);
         request = ap (λ (z : Consumer). z.request) opening_same;
       }
     where
@@ -283,10 +300,13 @@ module _ (limits : Limits) (t : Tables) (e : Entry) (taken : IsTaken limits t e)
 
   stands_by : (z : Consumer) → IsOpener z → OpensFor t c k o.x o.need → StandsFor o.x z (route_of o.need)
   stands_by z at (past way is_new) = subst (StandsFor o.x z) (sym way) (laws.direct (at.place ∙ rw (is_new.bound, way) refl))
-  stands_by z at (fetches way is_new queues turn_is varied bypass) = subst (StandsFor o.x z) (sym way) (laws.has_turn (at.place ∙ rw (is_new.bound, way) refl) (at.shown ∙ is_new.shown))
-  stands_by z at (first r lo hi way is_new bound) = subst (StandsFor o.x z) (sym way) (laws.first r lo hi (at.place ∙ rw (is_new.bound, way) bound) (at.shown ∙ is_new.shown))
+  stands_by z at (fetches way is_new queues turn_is varied bypass) =
+      subst (StandsFor o.x z) (sym way) (laws.has_turn (at.place ∙ rw (is_new.bound, way) refl) (at.shown ∙ is_new.shown))
+  stands_by z at (first r lo hi way is_new bound) =
+      subst (StandsFor o.x z) (sym way) (laws.first r lo hi (at.place ∙ rw (is_new.bound, way) bound) (at.shown ∙ is_new.shown))
   stands_by z at (later r lo hi how way shown bound) =
-      subst (StandsFor o.x z) (sym way) (laws.later r lo hi how (at.place ∙ (ap (λ p. unless_bound (bound_to p) p (opened_place t o.x k (route_of o.need))) bound)) (at.shown ∙ shown))
+      subst (StandsFor o.x z) (sym way)
+      (laws.later r lo hi how (at.place ∙ (ap (λ p. unless_bound (bound_to p) p (opened_place t o.x k (route_of o.need))) bound)) (at.shown ∙ shown))
 
   pub opener_stands : (z : Consumer) × (consumer_after t e c (t.consumer c) ≡ Some z) × (z.own ≡ Some o.x) × StandsFor o.x z (route_of o.need)
   opener_stands =

@@ -39,7 +39,8 @@ heads ev y response other is = let no_one : true ≡ false = sym (ap is_head is)
 pub head_opens : (w : Exchange) → head_refusal (as_open (Some w)) ≡ None → is_headless (Some w) ≡ true
 head_opens w h = grind (arith, nat_tests)
 
-fault_by : (a b asked : Bool) (n : ℕ) (p : Option ℕ) → fault_refusal (if a then Some (record { headed = b; asked = asked; delivered = n; promised = p }) else None) ≡ None → a ≡ true
+fault_by : (a b asked : Bool) (n : ℕ) (p : Option ℕ) →
+    fault_refusal (if a then Some (record { headed = b; asked = asked; delivered = n; promised = p }) else None) ≡ None → a ≡ true
 fault_by a b asked n p h = grind (arith, nat_tests)
 
 pub fault_opens : (w : Exchange) → fault_refusal (as_open (Some w)) ≡ None → is_none w.head ≡ true → is_headless (Some w) ≡ true
@@ -75,7 +76,8 @@ module _ (t : Tables) (s : Sound t) (turns : Turns t) (x : ℕ) (w : Exchange) (
   nothing_joined = ap has_joined row ∙ ap is_some (s.waits.headless x w row (head_none w headless)).1
 
   shows_nothing : (way : Route) → StandsFor x who.k way → shows_head t who.k ≡ None
-  shows_nothing _ (laws.direct at) = shown_none who.k.shown _ (ap (shows_at t who.k) at ∙ (ap (shows_direct t x) row ∙ ap (shows_answer t x w) (head_none w headless)))
+  shows_nothing _ (laws.direct at) =
+      shown_none who.k.shown _ (ap (shows_at t who.k) at ∙ (ap (shows_direct t x) row ∙ ap (shows_answer t x w) (head_none w headless)))
   shows_nothing _ (laws.has_turn at unshown) = shown_none who.k.shown _ (ap (shows_at t who.k) at)
   shows_nothing _ (laws.first r lo hi at unshown) = shown_none who.k.shown _ (ap (shows_at t who.k) at ∙ rw nothing_joined refl)
   shows_nothing _ (laws.later r lo hi how at shown) = shown_yes who.k.shown _ shown
@@ -83,13 +85,16 @@ module _ (t : Tables) (s : Sound t) (turns : Turns t) (x : ℕ) (w : Exchange) (
   pub polls_head : (now want : ℕ) → poll_move t now want w.c (Some who.k) ≡ moves.Waits (wait.Head x)
   polls_head now want =
       let waits : option_and_then (if_headless t) (own_open t who.k) ≡ Some x = ap (option_and_then (if_headless t)) awaited_open ∙ rw (row, headless) refl in
-      ap (λ o. or_else o (or_else (waits_for_head (option_and_then (if_headless t) (own_open t who.k))) (by_place t now want w.c who.k who.k.place))) (shows_nothing (route_of w.need) who.stands)
+      ap (λ o. or_else o (or_else (waits_for_head (option_and_then (if_headless t) (own_open t who.k))) (by_place t now want w.c who.k who.k.place)))
+      (shows_nothing (route_of w.need) who.stands)
       ∙ ap (λ o. or_else (waits_for_head o) (by_place t now want w.c who.k who.k.place)) waits
 
 -- ONE CONSUMER THAT WAITS
 
 -- its exchange is headless before and after the entry
-module _ (limits : Limits) (t : Tables) (e : Entry) (taken : IsTaken limits t e) (s : Sound t) (one : IsOfOneKey t) (turns : Turns t) (x : ℕ) (w : Exchange) (row : t.exchange x ≡ Some w) (headless : is_headless (Some w) ≡ true) (stays : is_headless (Some (exchange_acted x e.acts (exchange_heard t e x e.event w))) ≡ true) where
+module _ (limits : Limits) (t : Tables) (e : Entry) (taken : IsTaken limits t e) (s : Sound t) (one : IsOfOneKey t) (turns : Turns t) (x : ℕ)
+    (w : Exchange) (row : t.exchange x ≡ Some w) (headless : is_headless (Some w) ≡ true)
+    (stays : is_headless (Some (exchange_acted x e.acts (exchange_heard t e x e.event w))) ≡ true) where
   abbrev it : IsAwaited t x w
   it = turns.awaited x w row headless
 
@@ -126,7 +131,8 @@ module _ (limits : Limits) (t : Tables) (e : Entry) (taken : IsTaken limits t e)
   pub not_leaving : leaver (seen limits t e taken) ≡ Some c → ⊥
   not_leaving leaves =
       let mine : is_number (own_open t k) x ≡ true = ap (λ o. is_number o x) own_is_open ∙ eq-refl x in
-      not_must (or_right _ (is_left t x (leaver (seen limits t e taken))) (ap (is_left t x) leaves ∙ (ap (is_left_by t x c) it.row ∙ or_left (is_number (own_open t k) x) _ mine)))
+      not_must (or_right _ (is_left t x (leaver (seen limits t e taken)))
+      (ap (is_left t x) leaves ∙ (ap (is_left_by t x c) it.row ∙ or_left (is_number (own_open t k) x) _ mine)))
 
   -- ITS CONSUMER
 
@@ -139,7 +145,8 @@ module _ (limits : Limits) (t : Tables) (e : Entry) (taken : IsTaken limits t e)
   keeps_if : (b : Bool) (u : Consumer) → (b ≡ true → ⊥) → (if b then u else k) ≡ k
   keeps_if b u never_so = let fails = not_true b never_so in rw fails refl
 
-  head_same : (y : ℕ) (response : Response) (o : Option Exchange) → e.event ≡ event.Head y response → head_refusal (as_open o) ≡ None → t.exchange y ≡ o → by_head t e c y response o k ≡ k
+  head_same : (y : ℕ) (response : Response) (o : Option Exchange) → e.event ≡ event.Head y response → head_refusal (as_open o) ≡ None → t.exchange y ≡ o →
+      by_head t e c y response o k ≡ k
   head_same y response None at h row' = refl
   head_same y response (Some w') at h row' = keeps_if (w'.c == c) _ (λ here. not_headed y response at (mine y w' row' (head_opens w' h) here))
 
@@ -171,14 +178,23 @@ module _ (limits : Limits) (t : Tables) (e : Entry) (taken : IsTaken limits t e)
     showing : (z : Showing) → showing_in e.acts ≡ Some z → nat_eq z.c c ≡ false
 
   put_far : IsFarFrom c e.acts → IsPut
-  put_far far = record { waits = ap (waiting_place t k) far.waits; leaves = far.leaves; shows = far.shows; given = far.given; opens = far.opens; showing = far.showing }
+  put_far far = record {
+    waits = ap (waiting_place t k) far.waits;
+    leaves = far.leaves;
+    shows = far.shows;
+    given = far.given;
+    opens = far.opens;
+    showing =
+        far.showing;
+  }
 
   put_head : (rest : List Act) → e.acts ≡ act.Pending c (wait.Head x) ∷ rest → IsFarFrom c rest → IsPut
   put_head rest is far = grind (arith, nat_tests)
 
   put_poll : AtPoll limits t e taken c k → IsPut
   put_poll (facts.moves_on want m at is does all saw) =
-      put_head (behind limits t e taken) (all ∙ ap (λ z. acts_of c z ++ behind limits t e taken) (is ∙ polls_head t s turns x w row headless e.now want)) (far_behind limits t e taken c)
+      put_head (behind limits t e taken) (all ∙ ap (λ z. acts_of c z ++ behind limits t e taken) (is ∙ polls_head t s turns x w row headless e.now want))
+      (far_behind limits t e taken c)
   put_poll (facts.misreads want r at all saw) =
       absurd (not_leaving (leaver_at (event.Poll c want) at ∙ ap leaver_in saw))
 
@@ -201,7 +217,8 @@ module _ (limits : Limits) (t : Tables) (e : Entry) (taken : IsTaken limits t e)
   written_is v h = h
 
   -- who has a headless exchange shares no writing
-  not_group : (r lo : ℕ) (hi : Option ℕ) (how : BoundBy) (v : Representation) → k.place ≡ place.Bound r lo hi how → t.representation r ≡ Some v → is_written t v ≡ true → ⊥
+  not_group : (r lo : ℕ) (hi : Option ℕ) (how : BoundBy) (v : Representation) → k.place ≡ place.Bound r lo hi how → t.representation r ≡ Some v →
+      is_written t v ≡ true → ⊥
   not_group r lo hi how v at there on =
       let parts = writer_some v.writer (and_then (not v.is_lost) (is_open_writer t v.writer) (written_is v on)) in
       let grows = (s.rows r v there).growing parts.0 on parts.1 in
@@ -211,7 +228,8 @@ module _ (limits : Limits) (t : Tables) (e : Entry) (taken : IsTaken limits t e)
       let same : parts.0 ≡ x = s.one_about r parts.0 x writer_group (s.writes.own_about r c x k (sound.is_bound lo hi how it.row at) own_is_open) in
       headed_not w headless (ap (λ (z : Exchange). is_some z.head) (same_row (t.exchange x) w w' row (ap t.exchange (sym same) ∙ g.row)) ∙ g.headed)
 
-  left_same : (r lo : ℕ) (hi : Option ℕ) (how : BoundBy) (own : Option ℕ) (o : Option Representation) → k.place ≡ place.Bound r lo hi how → t.representation r ≡ o → left_to t e c r o own ≡ own
+  left_same : (r lo : ℕ) (hi : Option ℕ) (how : BoundBy) (own : Option ℕ) (o : Option Representation) → k.place ≡ place.Bound r lo hi how →
+      t.representation r ≡ o → left_to t e c r o own ≡ own
   left_same r lo hi how own None at there = refl
   left_same r lo hi how own (Some v) at there =
       let none : loses_group t e r v ≡ false = not_true _ (λ h. not_group r lo hi how v at there (and_then _ (is_written t v) h)) in
@@ -226,17 +244,20 @@ module _ (limits : Limits) (t : Tables) (e : Entry) (taken : IsTaken limits t e)
   pub dooms : is_key (doomed_key_of t e) k.request.key ≡ true → is_number (awaited_exchange k.place) x ≡ true → ⊥
   dooms doom waits =
       let key_of = opener_key t x w k one.exchanges row it.row in
-      let for_it : is_key (doomed_key_of t (seen limits t e taken)) w.request.key ≡ true = ap (λ o. is_key o w.request.key) (sym (same_doom limits t e taken)) ∙ (ap (is_key (doomed_key_of t e)) key_of ∙ doom) in
+      let for_it : is_key (doomed_key_of t (seen limits t e taken)) w.request.key ≡ true =
+      ap (λ o. is_key o w.request.key) (sym (same_doom limits t e taken)) ∙ (ap (is_key (doomed_key_of t e)) key_of ∙ doom) in
       let waiting_it : awaits (t.consumer w.c) x ≡ true = ap (λ o. awaits o x) it.row ∙ waits in
       let closes : is_doomed t (seen limits t e taken) x w ≡ true = rw (for_it, headless, waiting_it) refl in
-      not_must (or_left _ _ (or_left _ _ (or_right (is_refused (case_at t (seen limits t e taken)) && brings_head x e.event) (is_doomed t (seen limits t e taken) x w) closes)))
+      not_must (or_left _ _ (or_left _ _
+      (or_right (is_refused (case_at t (seen limits t e taken)) && brings_head x e.event) (is_doomed t (seen limits t e taken) x w) closes)))
 
   first_not : (r lo y : ℕ) (hi : Option ℕ) → k.place ≡ place.Bound r lo hi (by.FirstHole y) → k.shown ≡ true → is_headless (t.exchange y) ≡ true → ⊥
   first_not r lo y hi at shown waits =
       let f = turns.first_hole c r lo y hi k it.row at shown in
       grind (arith, nat_tests)
 
-  not_waiting : (r lo : ℕ) (hi : Option ℕ) (how : BoundBy) → k.place ≡ place.Bound r lo hi how → k.shown ≡ true → waits_at t (place.Bound r lo hi how) ≡ true → ⊥
+  not_waiting : (r lo : ℕ) (hi : Option ℕ) (how : BoundBy) → k.place ≡ place.Bound r lo hi how → k.shown ≡ true →
+      waits_at t (place.Bound r lo hi how) ≡ true → ⊥
   not_waiting r lo hi (by.FirstHole y) at shown waits = first_not r lo y hi at shown waits
   not_waiting r lo hi _ at shown waits = let no_one : false ≡ true = waits in cc
 
@@ -246,7 +267,8 @@ module _ (limits : Limits) (t : Tables) (e : Entry) (taken : IsTaken limits t e)
   not_doomed _ (laws.first r lo hi at unshown) doom waits = dooms doom (ap (λ p. is_number (awaited_exchange p) x) at ∙ eq-refl x)
   not_doomed _ (laws.later r lo hi how at shown) doom waits = not_waiting r lo hi how at shown (sym (ap (waits_at t) at) ∙ waits)
 
-  sent_row : (y : ℕ) (response : Response) (o : Option Exchange) → e.event ≡ event.Head y response → head_refusal (as_open o) ≡ None → t.exchange y ≡ o → is_for o c ≡ true → ⊥
+  sent_row : (y : ℕ) (response : Response) (o : Option Exchange) → e.event ≡ event.Head y response → head_refusal (as_open o) ≡ None → t.exchange y ≡ o →
+      is_for o c ≡ true → ⊥
   sent_row y response None at h row' for_it = let no_one : false ≡ true = for_it in cc
   sent_row y response (Some w') at h row' for_it = not_headed y response at (mine y w' row' (head_opens w' h) for_it)
 
@@ -256,7 +278,8 @@ module _ (limits : Limits) (t : Tables) (e : Entry) (taken : IsTaken limits t e)
 
   not_sent : (ev : Event) → e.event ≡ ev → (sends_back (case_of t (has_loss e.acts) ev) && is_for (exchange_at t ev) c) ≡ true → ⊥
   unfolding refusals.refusal_of
-  not_sent (event.Head y response) at h = sent_row y response (t.exchange y) at (denied_at (event.Head y response) at) refl (and_then _ (is_for (t.exchange y) c) h)
+  not_sent (event.Head y response) at h =
+      sent_row y response (t.exchange y) at (denied_at (event.Head y response) at) refl (and_then _ (is_for (t.exchange y) c) h)
   not_sent (event.Piece y bytes) at h = grind (arith, nat_tests, no_case, heads, and_left)
   not_sent (event.End y) at h = grind (arith, nat_tests, no_case, heads, and_left)
   not_sent (event.Fault y) at h = grind (arith, nat_tests, no_case, heads, and_left)
@@ -271,7 +294,8 @@ module _ (limits : Limits) (t : Tables) (e : Entry) (taken : IsTaken limits t e)
   not_over : starts_over t e c k ≡ false
   unfolding starts_over
   not_over =
-      all_false (is_key (doomed_key_of t e) k.request.key && waits_at t k.place) (sends_back (case_at t e) && is_for (exchange_at t e.event) c) (loses_what_it_waits_for t e c k.place)
+      all_false (is_key (doomed_key_of t e) k.request.key && waits_at t k.place) (sends_back (case_at t e) && is_for (exchange_at t e.event) c)
+      (loses_what_it_waits_for t e c k.place)
       (not_true _ (λ h. not_doomed (route_of w.need) it.stands (and_left _ _ h) (and_then _ _ h)))
       (not_true _ (λ h. not_sent e.event refl h))
       (loses_none (route_of w.need) it.stands)
@@ -301,7 +325,8 @@ module _ (limits : Limits) (t : Tables) (e : Entry) (taken : IsTaken limits t e)
         place = rw put.leaves (showing_far (showing_in e.acts) _ refl put ∙ at);
         own = own_same k.place _ refl ∙ ap (λ (z : Consumer). z.own) q;
         shown = ap (λ b. b || (by_opening t c (opening_in e.acts) (waiting t e c k)).shown) put.shows ∙ ap (λ (z : Consumer). z.shown) q;
-        given = ap (λ (bytes : List ℕ). (by_opening t c (opening_in e.acts) (waiting t e c k)).given + length bytes) put.given ∙ (plus_none _ ∙ ap (λ (z : Consumer). z.given) q);
+        given = ap (λ (bytes : List ℕ). (by_opening t c (opening_in e.acts) (waiting t e c k)).given + length bytes) put.given ∙
+            (plus_none _ ∙ ap (λ (z : Consumer). z.given) q);
         request = ap (λ (z : Consumer). z.request) q;
       }
 

@@ -25,7 +25,8 @@ use Rattle.hc_effects.proofs.TurnPlaces as places
 -- WHOSE TURN IT IS
 
 -- the first of those let in that passes the test, where only one number is both
-find_let_in : (let_in test : ℕ → Bool) (ns : List ℕ) (d : ℕ) → Among d ns → let_in d ≡ true → test d ≡ true → ((n : ℕ) → let_in n ≡ true → test n ≡ true → n ≡ d) → find test (filter let_in ns) ≡ Some d
+find_let_in : (let_in test : ℕ → Bool) (ns : List ℕ) (d : ℕ) → Among d ns → let_in d ≡ true → test d ≡ true →
+    ((n : ℕ) → let_in n ≡ true → test n ≡ true → n ≡ d) → find test (filter let_in ns) ≡ Some d
 find_let_in let_in test [] d among inside passes one = absurd among
 find_let_in let_in test (n ∷ ns) d among inside passes one = elim (bool_cases (let_in n)) [
   | inr out ↦ rw out (find_let_in let_in test ns d (others among out) inside passes one)
@@ -44,7 +45,8 @@ find_let_in let_in test (n ∷ ns) d among inside passes one = elim (bool_cases 
     others_too (inr there) out = there
 
 module _ (t : Tables) (s : Sound t) (turns : Turns t) where
-  in_line : (key : List ℕ) (d y : ℕ) (k : Consumer) → t.consumer d ≡ Some k → k.place ≡ place.Turn y → k.request.key ≡ key → is_in_line key (t.consumer d) ≡ true
+  in_line : (key : List ℕ) (d y : ℕ) (k : Consumer) → t.consumer d ≡ Some k → k.place ≡ place.Turn y → k.request.key ≡ key →
+      is_in_line key (t.consumer d) ≡ true
   in_line key d y k row at same =
       let queued = turns.queued d y k row at in
       ap (is_in_line key) row ∙ rw (bytes_eq-same k.request.key key same, at, queued.0, queued.1) refl
@@ -56,14 +58,18 @@ module _ (t : Tables) (s : Sound t) (turns : Turns t) where
     y : ℕ
     at : k.place ≡ place.Turn y
 
-  holds_at : (key : List ℕ) (n : ℕ) (k : Consumer) (p : Place) → t.consumer n ≡ Some k → k.request.key ≡ key → k.place ≡ p → holds_place p ≡ true → IsHolder key n
+  holds_at : (key : List ℕ) (n : ℕ) (k : Consumer) (p : Place) → t.consumer n ≡ Some k → k.request.key ≡ key → k.place ≡ p → holds_place p ≡ true →
+      IsHolder key n
   holds_at key n k (place.Turn y) row same at h = record { k = k; row = row; of_key = same; y = y; at = at }
   holds_at key n k _ row same at h = absurd (let no_one : false ≡ true = h in cc)
 
   holds_row : (key : List ℕ) (n : ℕ) (o : Option Consumer) → t.consumer n ≡ o → is_in_line key o ≡ true → holds_turn o ≡ true → IsHolder key n
   holds_row key n None row inside h = absurd (let no_one : false ≡ true = h in cc)
   holds_row key n (Some k) row inside h =
-      let same = same_bytes k.request.key key (and_left (bytes_eq k.request.key key) _ (and_left (bytes_eq k.request.key key && stands_in_line k.place) _ (and_left (bytes_eq k.request.key key && stands_in_line k.place && not (is_disabled k.request)) _ inside))) in
+      let same = same_bytes k.request.key key
+      (and_left (bytes_eq k.request.key key) _
+      (and_left (bytes_eq k.request.key key && stands_in_line k.place) _
+      (and_left (bytes_eq k.request.key key && stands_in_line k.place && not (is_disabled k.request)) _ inside))) in
       holds_at key n k k.place row same refl h
 
   pub holder_is : (key : List ℕ) (d y : ℕ) (k : Consumer) → t.consumer d ≡ Some k → k.place ≡ place.Turn y → k.request.key ≡ key → holder t key ≡ Some d
@@ -84,7 +90,13 @@ module _ (t : Tables) (s : Sound t) (turns : Turns t) where
   held_by : IsOfOneKey t → (x : ℕ) (w : Exchange) → IsInTurn t x w → IsHeld x w
   held_by one x w waits =
       let it = turns.awaited x w waits.row waits.headless in
-      record { k = it.k; row = it.row; at = turn_place x it.k (route_of w.need) it.stands waits.by_turn; of_key = sym (opener_key t x w it.k one.exchanges waits.row it.row) }
+      record {
+        k = it.k;
+        row = it.row;
+        at = turn_place x it.k (route_of w.need) it.stands waits.by_turn;
+        of_key =
+            sym (opener_key t x w it.k one.exchanges waits.row it.row);
+      }
     where
       turn_place : (x : ℕ) (k : Consumer) (way : Route) → StandsFor x k way → way ≡ route.Turn → k.place ≡ place.Turn x
       turn_place x k _ (laws.has_turn at unshown) is = at
@@ -103,7 +115,8 @@ module _ (t : Tables) (s : Sound t) (turns : Turns t) where
   pub has_one : IsOfOneKey t → HasOneTurn t
   unfolding turn
   has_one one = record {
-    holder = λ x w waits. let h = held_by one x w waits in ap (λ o. option_or o (least (line t w.request.key))) (holder_is w.request.key w.c x h.k h.row h.at h.of_key);
+    holder = λ x w waits. let h = held_by one x w waits in
+        ap (λ o. option_or o (least (line t w.request.key))) (holder_is w.request.key w.c x h.k h.row h.at h.of_key);
     one = λ x y w z waits also same. one_held x y w z (held_by one x w waits) (held_by one y z also) same;
   }
 
@@ -150,7 +163,8 @@ module _ (t : Tables) (e : Entry) (x : ℕ) (w : Exchange) where
   if_headed false z headed h = h
 
   if_closed : (b : Bool) (z : Exchange) → z.is_open ≡ false → Stays (if b then z else w) → Stays w
-  if_closed true z closed h = absurd (let no_one : false ≡ true = sym closed ∙ and_then (not (closes_in x e.acts)) z.is_open (and_left _ (is_none z.head) h) in cc)
+  if_closed true z closed h =
+      absurd (let no_one : false ≡ true = sym closed ∙ and_then (not (closes_in x e.acts)) z.is_open (and_left _ (is_none z.head) h) in cc)
   if_closed false z closed h = h
 
   if_pieced : (b : Bool) (bytes : List ℕ) → Stays (if b then exchanges.with_piece bytes w else w) → is_headless (Some w) ≡ true
@@ -168,7 +182,8 @@ module _ (t : Tables) (e : Entry) (x : ℕ) (w : Exchange) where
 
 -- WHO OPENED FOR THE TURN
 
-opens_turn : (t : Tables) (c : ℕ) (k : Consumer) (x : ℕ) (n : Need) → OpensFor t c k x n → route_of n ≡ route.Turn → Queues k × (turn_with t k.request.key c ≡ c)
+opens_turn : (t : Tables) (c : ℕ) (k : Consumer) (x : ℕ) (n : Need) → OpensFor t c k x n → route_of n ≡ route.Turn → Queues k ×
+    (turn_with t k.request.key c ≡ c)
 opens_turn t c k x n (opens.fetches way is_new queues turn_is varied bypass) is = (queues, turn_is)
 opens_turn t c k x n (opens.past way is_new) is = absurd (let no_one : route.Direct ≡ route.Turn = sym way ∙ is in cc)
 opens_turn t c k x n (opens.first r lo hi way is_new bound) is = absurd (let no_one : route.Hole ≡ route.Turn = sym way ∙ is in cc)
@@ -217,14 +232,16 @@ module _ (limits : Limits) (t : Tables) (e : Entry) (taken : IsTaken limits t e)
   -- EXCHANGES
 
   pub data WasHeadless (x : ℕ) (z : Exchange) : Type 0 where
-    was : (w : Exchange) → t.exchange x ≡ Some w → is_headless (Some w) ≡ true → z ≡ exchange_acted x e.acts (exchange_heard t e x e.event w) → Stays t e x w (exchange_heard t e x e.event w) → WasHeadless x z
+    was : (w : Exchange) → t.exchange x ≡ Some w → is_headless (Some w) ≡ true → z ≡ exchange_acted x e.acts (exchange_heard t e x e.event w) →
+        Stays t e x w (exchange_heard t e x e.event w) → WasHeadless x z
     new : (o : Opening) → opening_in e.acts ≡ Some o → o.x ≡ x → z ≡ exchange_opened t e o → WasHeadless x z
 
   new_headless : (x : ℕ) (z : Exchange) → t.exchange x ≡ None → keeps.WasExchange t e x z → WasHeadless x z
   new_headless x z none (keeps.was w row same) = absurd (none_some w (sym none ∙ row))
   new_headless x z none (keeps.new o is here made absent) = new o is here made
 
-  pub was_headless : (x : ℕ) (o : Option Exchange) (z : Exchange) → t.exchange x ≡ o → exchange_after t e x o ≡ Some z → is_headless (Some z) ≡ true → WasHeadless x z
+  pub was_headless : (x : ℕ) (o : Option Exchange) (z : Exchange) → t.exchange x ≡ o → exchange_after t e x o ≡ Some z → is_headless (Some z) ≡ true →
+      WasHeadless x z
   unfolding exchange_after
   was_headless x None z row h bare = new_headless x z row (exchange_was t e x None z row h)
   was_headless x (Some w) z row h bare =
@@ -278,7 +295,8 @@ module _ (limits : Limits) (t : Tables) (e : Entry) (taken : IsTaken limits t e)
 
   data TurnFrom (c x : ℕ) (z : Consumer) : Type 0 where
     stayed : (k : Consumer) → t.consumer c ≡ Some k → k.place ≡ place.Turn x → z.request ≡ k.request → TurnFrom c x z
-    opened : (o : Opening) (k : Consumer) → opening_in e.acts ≡ Some o → o.c ≡ c → route_of o.need ≡ route.Turn → t.consumer c ≡ Some k → z.request ≡ k.request → TurnFrom c x z
+    opened : (o : Opening) (k : Consumer) → opening_in e.acts ≡ Some o → o.c ≡ c → route_of o.need ≡ route.Turn → t.consumer c ≡ Some k →
+        z.request ≡ k.request → TurnFrom c x z
 
   turn_place : (c x : ℕ) (k z : Consumer) (p : Place) → t.consumer c ≡ Some k → z.request ≡ k.request → ComesFrom t e c k p → p ≡ place.Turn x → TurnFrom c x z
   turn_place c x k z _ row same places.kept is = stayed k row is same
@@ -290,10 +308,12 @@ module _ (limits : Limits) (t : Tables) (e : Entry) (taken : IsTaken limits t e)
   turn_from c x z (there k row after) at = turn_place c x k z z.place row after.request after.from at
   turn_from c x z (begins line_is) at = apart is_turn (place.Turn x) place.Line refl refl (sym at ∙ line_is)
 
-  opener_is : (o : Opening) (c : ℕ) (k : Consumer) (is : opening_in e.acts ≡ Some o) → o.c ≡ c → t.consumer c ≡ Some k → (opened_at limits t e taken s turns o is).k ≡ k
+  opener_is : (o : Opening) (c : ℕ) (k : Consumer) (is : opening_in e.acts ≡ Some o) → o.c ≡ c → t.consumer c ≡ Some k →
+      (opened_at limits t e taken s turns o is).k ≡ k
   opener_is o c k is mine row = same_row (t.consumer c) _ k (ap t.consumer (sym mine) ∙ (opened_at limits t e taken s turns o is).row) row
 
-  opened_stayed : (o : Opening) (c d y : ℕ) (k v : Consumer) → opening_in e.acts ≡ Some o → o.c ≡ c → route_of o.need ≡ route.Turn → t.consumer c ≡ Some k → t.consumer d ≡ Some v → v.place ≡ place.Turn y → k.request.key ≡ v.request.key → c ≡ d
+  opened_stayed : (o : Opening) (c d y : ℕ) (k v : Consumer) → opening_in e.acts ≡ Some o → o.c ≡ c → route_of o.need ≡ route.Turn →
+      t.consumer c ≡ Some k → t.consumer d ≡ Some v → v.place ≡ place.Turn y → k.request.key ≡ v.request.key → c ≡ d
   opened_stayed o c d y k v is mine way row row' at same =
       let w = opened_at limits t e taken s turns o is in
       let held = holder_is t s turns w.k.request.key d y v row' at (sym same ∙ ap (λ (q : Consumer). q.request.key) (sym (opener_is o c k is mine row))) in
@@ -361,7 +381,8 @@ module _ (limits : Limits) (t : Tables) (e : Entry) (taken : IsTaken limits t e)
       let heard = heard_same t e r e.event v in
       let fresh : w.is_gone ≡ false = ap (λ b. b || h.is_gone) may.stays ∙ (heard.gone_is ∙ current_stays t k.request.key r v may.now may.row) in
       record {
-        current_is = current_of z.request.key r w row (heard.key_is ∙ (current_key t k.request.key r v may.now may.row ∙ ap (λ (q : Request). q.key) (sym same))) fresh;
+        current_is = current_of z.request.key r w row
+            (heard.key_is ∙ (current_key t k.request.key r v may.now may.row ∙ ap (λ (q : Request). q.key) (sym same))) fresh;
         plain = ap is_bypassing same ∙ may.plain;
         cached = ap is_disabled same ∙ may.cached;
         asks = ap is_only same ∙ may.asks;
@@ -371,11 +392,14 @@ module _ (limits : Limits) (t : Tables) (e : Entry) (taken : IsTaken limits t e)
       }
 
   -- who has passed and stays so
-  not_lost : (c r : ℕ) (keep : Option ℕ) (k : Consumer) → k.place ≡ place.Passed r keep → starts_over t e c k ≡ false → leaves_in c e.acts ≡ false → goes_in t e r (t.representation r) ≡ false
+  not_lost : (c r : ℕ) (keep : Option ℕ) (k : Consumer) → k.place ≡ place.Passed r keep → starts_over t e c k ≡ false → leaves_in c e.acts ≡ false →
+      goes_in t e r (t.representation r) ≡ false
   unfolding starts_over
   not_lost c r keep k at over leaves =
       let fails : fails_in c e.acts ≡ false = not_true (fails_in c e.acts) (λ h. let no_one : true ≡ false = sym (fails_leaves c e.acts h) ∙ leaves in cc) in
-      let waits : loses_what_it_waits_for t e c k.place ≡ false = or_last ((is_key (doomed_key_of t e) k.request.key && waits_at t k.place) || (sends_back (case_at t e) && is_for (exchange_at t e.event) c)) (loses_what_it_waits_for t e c k.place) over in
+      let waits : loses_what_it_waits_for t e c k.place ≡ false =
+      or_last ((is_key (doomed_key_of t e) k.request.key && waits_at t k.place) || (sends_back (case_at t e) && is_for (exchange_at t e.event) c))
+      (loses_what_it_waits_for t e c k.place) over in
       and_first (goes_in t e r (t.representation r)) (fails_in c e.acts) fails (sym (ap (loses_what_it_waits_for t e c) at) ∙ waits)
 
   stays_passed : (c r : ℕ) (keep : Option ℕ) (k : Consumer) → t.consumer c ≡ Some k → k.place ≡ place.Passed r keep → StaysOrPlain t e c k k.place → MayPass r k
@@ -394,7 +418,9 @@ module _ (limits : Limits) (t : Tables) (e : Entry) (taken : IsTaken limits t e)
       }
 
   -- who is to wait for a busy one
-  busy_move : (c d r want : ℕ) (k : Consumer) (m : Move) → e.event ≡ event.Poll c want → current t k.request.key ≡ Some r → e.acts ≡ acts_of c m ++ behind limits t e taken → (seen limits t e taken).acts ≡ acts_of c m ++ loss_acts (flaw_in e.acts) → Does t c k m → waits_of m ≡ Some (wait.Busy d) → MayPass r k
+  busy_move : (c d r want : ℕ) (k : Consumer) (m : Move) → e.event ≡ event.Poll c want → current t k.request.key ≡ Some r → e.acts ≡ acts_of c m ++
+      behind limits t e taken → (seen limits t e taken).acts ≡ acts_of c m ++ loss_acts (flaw_in e.acts) → Does t c k m →
+      waits_of m ≡ Some (wait.Busy d) → MayPass r k
   busy_move c d r want k _ at now all saw (does.passes d' r' is_new queues may) is =
       record {
         v = may.v;
@@ -411,7 +437,8 @@ module _ (limits : Limits) (t : Tables) (e : Entry) (taken : IsTaken limits t e)
 
   busy_poll : (c d r : ℕ) (k : Consumer) → current t k.request.key ≡ Some r → wait_in c e.acts ≡ Some (wait.Busy d) → AtPoll limits t e taken c k → MayPass r k
   busy_poll c d r k now waits (moves_on want m at is does_so all saw) =
-      busy_move c d r want k m at now all saw does_so (sym (ap (wait_in c) all ∙ move_waits c m (behind limits t e taken) (far_behind limits t e taken c).waits) ∙ waits)
+      busy_move c d r want k m at now all saw does_so
+      (sym (ap (wait_in c) all ∙ move_waits c m (behind limits t e taken) (far_behind limits t e taken c).waits) ∙ waits)
   busy_poll c d r k now waits (misreads want q at all saw) =
       absurd (none_some (wait.Busy d) (sym (ap (wait_in c) all ∙ (far_behind limits t e taken c).waits) ∙ waits))
 
@@ -430,7 +457,8 @@ module _ (limits : Limits) (t : Tables) (e : Entry) (taken : IsTaken limits t e)
   has_turn_by x k _ (laws.has_turn at unshown) is = at
   has_turn_by x k _ _ is = cc
 
-  let_through : (c x r : ℕ) (response : Response) (w : Exchange) (k : Consumer) → t.consumer c ≡ Some k → e.event ≡ event.Head x response → t.exchange x ≡ Some w → w.c ≡ c → case_at t e ≡ Some case.Validated → w.aim ≡ Some r → MayPass r k
+  let_through : (c x r : ℕ) (response : Response) (w : Exchange) (k : Consumer) → t.consumer c ≡ Some k → e.event ≡ event.Head x response →
+      t.exchange x ≡ Some w → w.c ≡ c → case_at t e ≡ Some case.Validated → w.aim ≡ Some r → MayPass r k
   let_through c x r response w k is_row at row mine found aim =
       let valid = valid_is t e x r response w at row found aim in
       let bare = head_goes x response w at row in
@@ -451,11 +479,13 @@ module _ (limits : Limits) (t : Tables) (e : Entry) (taken : IsTaken limits t e)
         stays = goes_none limits t e taken x response w at row found valid.lossless r has.0;
       }
 
-  passed_place : (c r : ℕ) (keep : Option ℕ) (k : Consumer) (p : Place) → t.consumer c ≡ Some k → ComesFrom t e c k p → StaysOrPlain t e c k p → p ≡ place.Passed r keep → MayPass r k
+  passed_place : (c r : ℕ) (keep : Option ℕ) (k : Consumer) (p : Place) → t.consumer c ≡ Some k → ComesFrom t e c k p → StaysOrPlain t e c k p →
+      p ≡ place.Passed r keep → MayPass r k
   passed_place c r keep k _ row places.kept stays is = stays_passed c r keep k row is stays
   passed_place c r keep k _ row (places.plain p plain) stays is = absurd (subst IsPlain is plain)
   passed_place c r keep k _ row (places.busy d q keep' waits now) stays is = waits_busy c d r k row (now ∙ ap Some (ap row_in is)) waits
-  passed_place c r keep k _ row (places.validated y q response w at its_row mine found aim) stays is = let_through c y r response w k row at its_row mine found (aim ∙ ap Some (ap row_in is))
+  passed_place c r keep k _ row (places.validated y q response w at its_row mine found aim) stays is =
+      let_through c y r response w k row at its_row mine found (aim ∙ ap Some (ap row_in is))
   passed_place c r keep k _ row _ stays is = apart is_passed (place.Passed r keep) _ refl refl (sym is)
 
   passed_of : (c r : ℕ) (keep : Option ℕ) (z : Consumer) → WasConsumer c z → z.place ≡ place.Passed r keep → HasPassed u r z
@@ -484,29 +514,34 @@ module _ (limits : Limits) (t : Tables) (e : Entry) (taken : IsTaken limits t e)
       let no_one : false ≡ true = sym (ap is_some ((s.waits.headless y w row (head_none w bare)).1)) ∙ h in
       cc))
 
-  shown_move : (c r lo y want : ℕ) (hi : Option ℕ) (k : Consumer) (m : Move) → k.place ≡ place.Bound r lo hi (by.FirstHole y) → Does t c k m → shows_in c (acts_of c m ++ behind limits t e taken) ≡ true → Headed y
+  shown_move : (c r lo y want : ℕ) (hi : Option ℕ) (k : Consumer) (m : Move) → k.place ≡ place.Bound r lo hi (by.FirstHole y) → Does t c k m → shows_in
+      c (acts_of c m ++ behind limits t e taken) ≡ true → Headed y
   shown_move c r lo y want hi k _ at (does.shows q why head low high joined) h = joined_row y (t.exchange y) refl (joined r lo y hi at)
   shown_move c r lo y want hi k _ at _ h = absurd (let no_one : false ≡ true = sym (far_behind limits t e taken c).shows ∙ h in cc)
 
-  shown_poll : (c r lo y : ℕ) (hi : Option ℕ) (k : Consumer) → k.place ≡ place.Bound r lo hi (by.FirstHole y) → shows_in c e.acts ≡ true → AtPoll limits t e taken c k → Headed y
+  shown_poll : (c r lo y : ℕ) (hi : Option ℕ) (k : Consumer) → k.place ≡ place.Bound r lo hi (by.FirstHole y) → shows_in c e.acts ≡ true →
+      AtPoll limits t e taken c k → Headed y
   shown_poll c r lo y hi k at h (moves_on want m here is does_so all saw) = shown_move c r lo y want hi k m at does_so (sym (ap (shows_in c) all) ∙ h)
   shown_poll c r lo y hi k at h (misreads want q here all saw) =
       absurd (let no_one : false ≡ true = sym (ap (shows_in c) all ∙ (far_behind limits t e taken c).shows) ∙ h in cc)
 
-  shown_now : (c r lo y : ℕ) (hi : Option ℕ) (k : Consumer) → t.consumer c ≡ Some k → k.place ≡ place.Bound r lo hi (by.FirstHole y) → shows_in c e.acts ≡ true → Headed y
+  shown_now : (c r lo y : ℕ) (hi : Option ℕ) (k : Consumer) → t.consumer c ≡ Some k → k.place ≡ place.Bound r lo hi (by.FirstHole y) → shows_in
+      c e.acts ≡ true → Headed y
   shown_now c r lo y hi k row at h = elim (poll_of e.event c) [
     | inl polled ↦ shown_poll c r lo y hi k at h (at_poll limits t e taken c polled.0 k s turns row polled.1)
     | inr other ↦ absurd (let no_one : false ≡ true = sym (far_from limits t e taken c other).shows ∙ h in cc)
   ]
 
-  first_stays : (c r lo y : ℕ) (hi : Option ℕ) (k : Consumer) → t.consumer c ≡ Some k → k.place ≡ place.Bound r lo hi (by.FirstHole y) → (shows_in c e.acts || k.shown) ≡ true → Headed y
+  first_stays : (c r lo y : ℕ) (hi : Option ℕ) (k : Consumer) → t.consumer c ≡ Some k → k.place ≡ place.Bound r lo hi (by.FirstHole y) →
+      (shows_in c e.acts || k.shown) ≡ true → Headed y
   first_stays c r lo y hi k row at shown = elim (or_cases (shows_in c e.acts) k.shown shown) [
     | inl now ↦ shown_now c r lo y hi k row at now
     | inr was_shown ↦ let h = turns.first_hole c r lo y hi k row at was_shown in stays_headed y h.0 h.1 h.2
   ]
 
   -- who has just opened for a first hole was shown nothing
-  opened_first : (o : Opening) (r lo y : ℕ) (hi : Option ℕ) (z : Consumer) (is : opening_in e.acts ≡ Some o) → u.consumer o.c ≡ Some z → z.place ≡ place.Bound r lo hi (by.FirstHole y) → z.shown ≡ true → route_of o.need ≡ route.Hole → Headed y
+  opened_first : (o : Opening) (r lo y : ℕ) (hi : Option ℕ) (z : Consumer) (is : opening_in e.acts ≡ Some o) → u.consumer o.c ≡ Some z →
+      z.place ≡ place.Bound r lo hi (by.FirstHole y) → z.shown ≡ true → route_of o.need ≡ route.Hole → Headed y
   opened_first o r lo y hi z is row at shown way = by_why (opened_at limits t e taken s turns o is).why
     where
       w : IsOpenedAt limits t e taken o
@@ -530,19 +565,24 @@ module _ (limits : Limits) (t : Tables) (e : Entry) (taken : IsTaken limits t e)
           let h = turns.first_hole o.c r lo y hi w.k w.row (sym stays ∙ (ap (λ (p : Consumer). p.place) me ∙ at)) had in
           stays_headed y h.0 h.1 h.2
 
-  first_place : (c r lo y : ℕ) (hi : Option ℕ) (k z : Consumer) (p : Place) → t.consumer c ≡ Some k → u.consumer c ≡ Some z → z.place ≡ place.Bound r lo hi (by.FirstHole y) → z.shown ≡ true → (shows_in c e.acts || k.shown) ≡ true → ComesFrom t e c k p → p ≡ place.Bound r lo hi (by.FirstHole y) → Headed y
+  first_place : (c r lo y : ℕ) (hi : Option ℕ) (k z : Consumer) (p : Place) → t.consumer c ≡ Some k → u.consumer c ≡ Some z →
+      z.place ≡ place.Bound r lo hi (by.FirstHole y) → z.shown ≡ true → (shows_in c e.acts || k.shown) ≡ true → ComesFrom t e c k p →
+      p ≡ place.Bound r lo hi (by.FirstHole y) → Headed y
   first_place c r lo y hi k z _ row after at shown reported places.kept is = first_stays c r lo y hi k row is reported
   first_place c r lo y hi k z _ row after at shown reported (places.plain p plain) is = absurd (subst IsPlain is plain)
-  first_place c r lo y hi k z _ row after at shown reported (places.first_of o q low high opens_it mine way) is = opened_first o r lo y hi z opens_it (ap u.consumer mine ∙ after) at shown way
+  first_place c r lo y hi k z _ row after at shown reported (places.first_of o q low high opens_it mine way) is =
+      opened_first o r lo y hi z opens_it (ap u.consumer mine ∙ after) at shown way
   first_place c r lo y hi k z _ row after at shown reported _ is = apart is_first (place.Bound r lo hi (by.FirstHole y)) _ refl refl (sym is)
 
-  first_of : (c r lo y : ℕ) (hi : Option ℕ) (z : Consumer) → u.consumer c ≡ Some z → WasConsumer c z → z.place ≡ place.Bound r lo hi (by.FirstHole y) → z.shown ≡ true → Headed y
+  first_of : (c r lo y : ℕ) (hi : Option ℕ) (z : Consumer) → u.consumer c ≡ Some z → WasConsumer c z → z.place ≡ place.Bound r lo hi (by.FirstHole y) →
+      z.shown ≡ true → Headed y
   first_of c r lo y hi z row (there k row' after) at shown = first_place c r lo y hi k z z.place row' row at shown (sym after.shown ∙ shown) after.from at
   first_of c r lo y hi z row (begins line_is) at shown = apart is_first (place.Bound r lo hi (by.FirstHole y)) place.Line refl refl (sym at ∙ line_is)
 
   -- WHAT IS VALIDATED
 
-  agrees_after : (r : ℕ) (request : Request) (v z : Representation) → t.representation r ≡ Some v → u.representation r ≡ Some z → matches_vary z.head request ≡ matches_vary v.head request
+  agrees_after : (r : ℕ) (request : Request) (v z : Representation) → t.representation r ≡ Some v → u.representation r ≡ Some z →
+      matches_vary z.head request ≡ matches_vary v.head request
   unfolding representation_after
   agrees_after r request v z row after =
       let is = some_inj (representation_acted t e r v (representation_heard t e r e.event v)) z (sym (ap (representation_after t e r) row) ∙ after) in
@@ -555,7 +595,8 @@ module _ (limits : Limits) (t : Tables) (e : Entry) (taken : IsTaken limits t e)
   abbrev Validates : Consumer → Representation → Type 0
   Validates k v = (is_bypassing k.request ≡ false) × (matches_vary v.head k.request ≡ true)
 
-  validates_of : (x r : ℕ) (z : Exchange) (q : Consumer) (v : Representation) → WasHeadless x z → z.need ≡ need.Validate → z.aim ≡ Some r → u.consumer z.c ≡ Some q → u.representation r ≡ Some v → Validates q v
+  validates_of : (x r : ℕ) (z : Exchange) (q : Consumer) (v : Representation) → WasHeadless x z → z.need ≡ need.Validate → z.aim ≡ Some r →
+      u.consumer z.c ≡ Some q → u.representation r ≡ Some v → Validates q v
   validates_of x r z q v (was w row bare is stays) need_is aim after there_now =
       let same = same_exchange t e x e.event w in
       let aim_was : w.aim ≡ Some r = sym (ap (λ (y : Exchange). y.aim) is ∙ same.aim_is) ∙ aim in
@@ -582,8 +623,11 @@ module _ (limits : Limits) (t : Tables) (e : Entry) (taken : IsTaken limits t e)
       by_current : (q' : ℕ) → MayRead t w.k q' → bound_to w.k.place ≡ None → Validates q v
       by_current q' may free =
           let aim_is : aim_of t (t.consumer o.c) ≡ Some r = ap (λ (y : Exchange). y.aim) (sym made) ∙ aim in
-          let same : q' ≡ r = some_inj q' r (sym may.current ∙ (sym (aim_unbound w.k.request.key w.k.place free) ∙ (sym (ap (aim_of t) w.row) ∙ aim_is))) in
-          (ap is_bypassing request_is ∙ may.plain, agrees_after r q.request may.v v (ap t.representation (sym same) ∙ may.row) there_now ∙ (ap (matches_vary may.v.head) request_is ∙ may.agrees))
+          let same : q' ≡ r = some_inj q' r (sym may.current ∙ (sym (aim_unbound w.k.request.key w.k.place free) ∙ (sym (ap (aim_of t) w.row) ∙ aim_is))) in (
+            ap is_bypassing request_is ∙ may.plain,
+            agrees_after r q.request may.v v (ap t.representation (sym same) ∙ may.row) there_now ∙
+                (ap (matches_vary may.v.head) request_is ∙ may.agrees),
+          )
 
       by_why : OpensFor t o.c w.k o.x o.need → Validates q v
       by_why (opens.fetches way is_new queues turn_is varied bypass) = let may = varied need_was in by_current may.0 may.1 is_new.bound
@@ -596,11 +640,13 @@ module _ (limits : Limits) (t : Tables) (e : Entry) (taken : IsTaken limits t e)
   pub turns_kept : Turns u
   turns_kept = record {
     awaited = λ x z row bare. awaited_of x z (was_headless x (t.exchange x) z refl row bare);
-    one_holder = λ c d x y z v row row' at at' key. one_of c d x y z v (turn_from c x z (consumer_of c z row) at) (turn_from d y v (consumer_of d v row') at') key;
+    one_holder = λ c d x y z v row row' at at' key. one_of c d x y z v (turn_from c x z (consumer_of c z row) at)
+        (turn_from d y v (consumer_of d v row') at') key;
     queued = λ c x z row at. queued_of c x z (turn_from c x z (consumer_of c z row) at);
     passed = λ c r keep z row at. passed_of c r keep z (consumer_of c z row) at;
     first_hole = λ c r lo y hi z row at shown. first_of c r lo y hi z row (consumer_of c z row) at shown;
-    validates = λ x r z q v row bare need_is aim after there_now. validates_of x r z q v (was_headless x (t.exchange x) z refl row bare) need_is aim after there_now;
+    validates = λ x r z q v row bare need_is aim after there_now. validates_of x r z q v (was_headless x (t.exchange x) z refl row bare) need_is aim after
+        there_now;
   }
 
 pub turns_are_kept : TurnsAreKept

@@ -20,8 +20,11 @@ then_evicts : (rs : List ℕ) (acts : List Act) → is_denied acts ≡ false →
 then_evicts [] acts off = off
 then_evicts (r ∷ rs) acts off = refl
 
-outside : (limits : Limits) (t : Tables) (now : ℕ) (ev : Event) (flaw : Flaw) → is_denied (map act.Evicted (evicted limits t now ev) ++ (loss_acts flaw ++ close_acts t now ev flaw)) ≡ false
-outside limits t now ev flaw = then_evicts (evicted limits t now ev) (loss_acts flaw ++ close_acts t now ev flaw) (then_lost (closing t (record { now = now; event = ev; acts = answer_acts t now ev flaw ++ loss_acts flaw })) flaw)
+outside : (limits : Limits) (t : Tables) (now : ℕ) (ev : Event) (flaw : Flaw) →
+    is_denied (map act.Evicted (evicted limits t now ev) ++ (loss_acts flaw ++ close_acts t now ev flaw)) ≡ false
+outside limits t now ev flaw =
+    then_evicts (evicted limits t now ev) (loss_acts flaw ++ close_acts t now ev flaw)
+    (then_lost (closing t (record { now = now; event = ev; acts = answer_acts t now ev flaw ++ loss_acts flaw })) flaw)
 
 pub undenied : (limits : Limits) (t : Tables) (now : ℕ) (ev : Event) (flaw : Flaw) → is_denied (accepted_acts limits t now ev flaw) ≡ false
 undenied limits t now ev flaw = grind (arith, nat_tests, by_flaw, then_closes, closing, outside)

@@ -30,7 +30,8 @@ pub record IsEndless (t : Tables) (r x : ℕ) (w : Exchange) : Type 0 where
   pub mine : x ≡ r
   pub unpromised : promised_bytes w ≡ None
 
-endless : (t : Tables) (m : Measures t) (r x : ℕ) (v : Representation) (w : Exchange) → t.representation r ≡ Some v → v.head.total ≡ None → t.exchange x ≡ Some w → w.is_open ≡ true → is_some w.head ≡ true → family x w ≡ r → IsEndless t r x w
+endless : (t : Tables) (m : Measures t) (r x : ℕ) (v : Representation) (w : Exchange) → t.representation r ≡ Some v → v.head.total ≡ None →
+    t.exchange x ≡ Some w → w.is_open ≡ true → is_some w.head ≡ true → family x w ≡ r → IsEndless t r x w
 endless t m r x v w there none row on headed of_r = by_measure (m.brings x w v row on headed (ap t.representation of_r ∙ there))
   where
     by_measure : IsMeasured w v → IsEndless t r x w
@@ -55,7 +56,9 @@ module _ (step : Step) (m : Measures step.tables) (i : IsBeside step.tables) (re
   abbrev now_on : Tables
   now_on = after_accepted t e
 
-  module _ (r c lo : ℕ) (how : BoundBy) (k u : Consumer) (v p : Representation) (row : IsRow t e c r lo None how k u) (at : k.place ≡ place.Bound r lo None how) (stands : u.place ≡ place.Bound r lo None how) (there : t.representation r ≡ Some v) (kept : IsKept t e r v p) (none : p.head.total ≡ None) (undue : u.due ≡ None) where
+  module _ (r c lo : ℕ) (how : BoundBy) (k u : Consumer) (v p : Representation) (row : IsRow t e c r lo None how k u)
+      (at : k.place ≡ place.Bound r lo None how) (stands : u.place ≡ place.Bound r lo None how) (there : t.representation r ≡ Some v)
+      (kept : IsKept t e r v p) (none : p.head.total ≡ None) (undue : u.due ≡ None) where
     reader : IsBound t r c k
     reader = sound.is_bound lo None how row.row at
 
@@ -72,16 +75,19 @@ module _ (step : Step) (m : Measures step.tables) (i : IsBeside step.tables) (re
     -- it doesn't leave
     cancels_not : ev ≡ event.Cancel c → ⊥
     cancels_not here =
-        let heard : u.place ≡ (consumer_heard t e c ev k).place = heard_place step c r lo None how k u (λ d want polls. let no : event.Cancel c ≡ event.Poll d want = sym here ∙ polls in cc) row in
+        let heard : u.place ≡ (consumer_heard t e c ev k).place =
+        heard_place step c r lo None how k u (λ d want polls. let no : event.Cancel c ≡ event.Poll d want = sym here ∙ polls in cc) row in
         let over : (consumer_heard t e c (event.Cancel c) k).place ≡ place.Over = (let test : nat_eq c c ≡ true = grind (arith, nat_tests) in rw test refl) in
         let no : place.Over ≡ place.Bound r lo None how = sym over ∙ (sym (ap (λ z. (consumer_heard t e c z k).place) here) ∙ (sym heard ∙ stands)) in cc
 
     -- THE EXCHANGE THAT FOUNDED IT STAYS OPEN
 
-    module _ (w : Exchange) (is : IsEndless t r r w) (reads_it : source t k ≡ Some r) (spared : has_no_survivor t b r (family r w) (t.representation (family r w)) ≡ true → ⊥) (stays : is_left t r (leaver b) ≡ true → ⊥) where
+    module _ (w : Exchange) (is : IsEndless t r r w) (reads_it : source t k ≡ Some r)
+        (spared : has_no_survivor t b r (family r w) (t.representation (family r w)) ≡ true → ⊥) (stays : is_left t r (leaver b) ≡ true → ⊥) where
       stop_is_none : exchange_in ev ≡ Some r → stop_cause t ev ≡ None
       stop_is_none brings =
-          let test : is_same_number (source t k) (exchange_in ev) ≡ true = ap (λ z. is_same_number z (exchange_in ev)) reads_it ∙ (ap (is_same_number (Some r)) brings ∙ (let self : nat_eq r r ≡ true = grind (arith, nat_tests) in self)) in
+          let test : is_same_number (source t k) (exchange_in ev) ≡ true = ap (λ z. is_same_number z (exchange_in ev)) reads_it ∙
+          (ap (is_same_number (Some r)) brings ∙ (let self : nat_eq r r ≡ true = grind (arith, nat_tests) in self)) in
           sym (ap (λ (a : Bool). if a then stop_cause t ev else None) test) ∙ (undue_parts t e c k dues.1).stop
 
       headed_not : (response : Response) → ev ≡ event.Head r response → ⊥
@@ -124,7 +130,8 @@ module _ (step : Step) (m : Measures step.tables) (i : IsBeside step.tables) (re
         | inr other ↦ rw other.0 is.is_open
       ]
       heard_on (event.Fault y) here = elim (eq_cases y r) [
-        | inl same ↦ absurd (none_some (cause.Net r) (sym (stop_is_none (ap exchange_in (here ∙ ap event.Fault same.1))) ∙ ap (stop_cause t) (here ∙ ap event.Fault same.1)))
+        | inl same ↦ absurd (none_some (cause.Net r)
+            (sym (stop_is_none (ap exchange_in (here ∙ ap event.Fault same.1))) ∙ ap (stop_cause t) (here ∙ ap event.Fault same.1)))
         | inr other ↦ rw other.0 is.is_open
       ]
       heard_on _ here = is.is_open
@@ -139,7 +146,8 @@ module _ (step : Step) (m : Measures step.tables) (i : IsBeside step.tables) (re
 
     -- IT WENT ON ALONE
 
-    module _ (lost_now : p.is_lost ≡ true) (is_alone : p.alone ≡ Some c) (after : now_on.representation r ≡ Some p) (after_row : now_on.consumer c ≡ Some u) where
+    module _ (lost_now : p.is_lost ≡ true) (is_alone : p.alone ≡ Some c) (after : now_on.representation r ≡ Some p)
+        (after_row : now_on.consumer c ≡ Some u) where
       module _ (lost : v.is_lost ≡ true) (opened_own : own_open t k ≡ Some r) where
         own_of : IsOwn t k r
         own_of = own_open_of t k r opened_own
@@ -168,7 +176,8 @@ module _ (step : Step) (m : Measures step.tables) (i : IsBeside step.tables) (re
 
         spares : has_no_survivor t b r (family r w) (t.representation (family r w)) ≡ true → ⊥
         spares h =
-            let here : has_no_survivor t b r r (Some v) ≡ true = sym (ap (λ n. has_no_survivor t b r n (t.representation n)) family_is ∙ ap (has_no_survivor t b r r) there) ∙ h in
+            let here : has_no_survivor t b r r (Some v) ≡ true =
+            sym (ap (λ n. has_no_survivor t b r n (t.representation n)) family_is ∙ ap (has_no_survivor t b r r) there) ∙ h in
             false_true (sym off ∙ and_right _ _ (and_right (is_number v.writer r) _ (and_left _ _ here)))
 
         goes_on_so : u.own ≡ Some r → own_open now_on u ≡ Some r
@@ -188,9 +197,12 @@ module _ (step : Step) (m : Measures step.tables) (i : IsBeside step.tables) (re
 
         by_from : (x : ℕ) → u.own ≡ Some x → OwnFrom t e c x u → own_open now_on u ≡ Some r
         by_from x owned (own.kept q its mine heard_mine) =
-            goes_on_so (owned ∙ ap Some (some_inj x r (sym (sym (ap (λ (a : Consumer). a.own) (same_row (t.consumer c) q k its.row row.row)) ∙ mine) ∙ own_of.own)))
+            goes_on_so (owned ∙ ap Some
+            (some_inj x r (sym (sym (ap (λ (a : Consumer). a.own) (same_row (t.consumer c) q k its.row row.row)) ∙ mine) ∙ own_of.own)))
         by_from x owned (own.opened q g its opens mine number) = absurd (opens_none g opens mine)
-        by_from x owned (own.left q its l) = absurd (false_true (sym off ∙ (left_loses step m i real r c lo None how u p after after_row stands lost_now is_alone k v row at there kept x q its.row l).0))
+        by_from x owned (own.left q its l) =
+            absurd (false_true (sym off ∙
+            (left_loses step m i real r c lo None how u p after after_row stands lost_now is_alone k v row at there kept x q its.row l).0))
 
         went_on : own_open now_on u ≡ Some r
         went_on = by_own u.own refl
@@ -209,7 +221,8 @@ module _ (step : Step) (m : Measures step.tables) (i : IsBeside step.tables) (re
         grows = (s.rows r v there).growing x on writer
 
         feeds_all : IsEndless t r x grows.0
-        feeds_all = endless t m r x v grows.0 there none_before grows.1.row (sym (ap is_open grows.1.row) ∙ (is_on t v x on writer).open_now) grows.1.headed grows.1.family_is
+        feeds_all = endless t m r x v grows.0 there none_before grows.1.row (sym (ap is_open grows.1.row) ∙ (is_on t v x on writer).open_now)
+            grows.1.headed grows.1.family_is
 
         feeds_r : IsEndless t r r grows.0
         feeds_r = subst (λ n. IsEndless t r n grows.0) feeds_all.mine feeds_all
@@ -219,7 +232,8 @@ module _ (step : Step) (m : Measures step.tables) (i : IsBeside step.tables) (re
 
         unlost : has_no_survivor t b r (family r grows.0) (t.representation (family r grows.0)) ≡ true → ⊥
         unlost h =
-            let here : has_no_survivor t b r r (Some v) ≡ true = sym (ap (λ n. has_no_survivor t b r n (t.representation n)) family_r ∙ ap (has_no_survivor t b r r) there) ∙ h in
+            let here : has_no_survivor t b r r (Some v) ≡ true =
+            sym (ap (λ n. has_no_survivor t b r n (t.representation n)) family_r ∙ ap (has_no_survivor t b r r) there) ∙ h in
             none_some_test (survivor t r v) c is (and_right (is_number v.writer r && loses_group t b r v) _ here)
 
         -- nobody leaves at what brings a body
@@ -231,7 +245,8 @@ module _ (step : Step) (m : Measures step.tables) (i : IsBeside step.tables) (re
 
             by_event : (z : Event) → ev ≡ z → leaver_by z b.acts ≡ Some d → ⊥
             by_event (event.Cancel a) here h = false_true (sym (ap brings_body here) ∙ brings)
-            by_event _ here h = false_true (sym (ap brings_body (leaving_by limits t now flaw s ev goes d (leaver_leaves limits t now flaw s ev d h)).poll.at) ∙ brings)
+            by_event _ here h = false_true
+                (sym (ap brings_body (leaving_by limits t now flaw s ev goes d (leaver_leaves limits t now flaw s ev d h)).poll.at) ∙ brings)
 
         unleft_now : (z : Option ℕ) → leaver b ≡ z → is_left t r z ≡ true → ⊥
         unleft_now None is_none h = false_true h
@@ -241,14 +256,16 @@ module _ (step : Step) (m : Measures step.tables) (i : IsBeside step.tables) (re
         survives =
             let g = goes_on step m real r c v p u there losing is after after_row in
             let owned : u.own ≡ Some r = g.is.own ∙ (sym g.own_is ∙ (writer ∙ ap Some feeds_all.mine)) in
-            still_own grows.0 feeds_r (source_is t r c x v k s there reader on writer ∙ ap Some feeds_all.mine) unlost (λ left. unleft_now (leaver b) refl left) owned
+            still_own grows.0 feeds_r (source_is t r c x v k s there reader on writer ∙ ap Some feeds_all.mine) unlost
+            (λ left. unleft_now (leaver b) refl left) owned
 
       -- ALL CASES
 
       first_ends : IsFirst t r c → ⊥
       first_ends (sound.first q a d g q_row q_at alone) =
           let one : q ≡ k = same_row (t.consumer c) q k q_row row.row in
-          false_true (s.writes.known_end r c lo None how k row.row at (subst (λ z. came_alone t z ≡ true) (sym q_at ∙ (ap (λ (z : Consumer). z.place) one ∙ at)) alone))
+          false_true (s.writes.known_end r c lo None how k row.row at
+          (subst (λ z. came_alone t z ≡ true) (sym q_at ∙ (ap (λ (z : Consumer). z.place) one ∙ at)) alone))
 
       by_writer : loses_group t e r v ≡ true → survivor t r v ≡ Some c → (z : Option ℕ) → v.writer ≡ z → own_open now_on u ≡ Some r
       by_writer losing is None writer = absurd (writer_some t v (and_right _ _ losing) writer)
@@ -260,7 +277,9 @@ module _ (step : Step) (m : Measures step.tables) (i : IsBeside step.tables) (re
       by_exclusive_writer was (exclusive_writers.wrote fresh loses writes) = absurd (first_ends writes.first)
       by_exclusive_writer was (exclusive_writers.survives losing is) = by_writer losing is v.writer refl
 
-  module _ (was : Unended t) (r c lo : ℕ) (how : BoundBy) (u : Consumer) (p : Representation) (after : now_on.representation r ≡ Some p) (is_alone : p.alone ≡ Some c) (after_row : now_on.consumer c ≡ Some u) (stands : u.place ≡ place.Bound r lo None how) (none : p.head.total ≡ None) (undue : u.due ≡ None) where
+  module _ (was : Unended t) (r c lo : ℕ) (how : BoundBy) (u : Consumer) (p : Representation) (after : now_on.representation r ≡ Some p)
+      (is_alone : p.alone ≡ Some c) (after_row : now_on.consumer c ≡ Some u) (stands : u.place ≡ place.Bound r lo None how) (none : p.head.total ≡ None)
+      (undue : u.due ≡ None) where
     lost_now : p.is_lost ≡ true
     lost_now = lost_of step m i real r c p after is_alone
 
@@ -268,11 +287,14 @@ module _ (step : Step) (m : Measures step.tables) (i : IsBeside step.tables) (re
     kept_one =
         let a = was_there step m i real r c lo None how u p after after_row stands lost_now is_alone in
         by_exclusive_writer r c lo how a.k u a.v p a.row a.at stands a.kept.row a.kept none undue lost_now is_alone after after_row
-        (λ lost alone_was. was.alone r c lo how a.v a.k a.kept.row alone_was a.row.row a.at (none_before r c lo how a.k u a.v p a.row a.at stands a.kept.row a.kept none undue) (dues r c lo how a.k u a.v p a.row a.at stands a.kept.row a.kept none undue).0)
+        (λ lost alone_was. was.alone r c lo how a.v a.k a.kept.row alone_was a.row.row a.at
+        (none_before r c lo how a.k u a.v p a.row a.at stands a.kept.row a.kept none undue)
+        (dues r c lo how a.k u a.v p a.row a.at stands a.kept.row a.kept none undue).0)
         (alone_from step m real r c a.v p a.kept.row a.kept lost_now is_alone)
 
   pub unended_kept : Unended t → Unended now_on
-  unended_kept was = record { alone = λ r c lo how p u after is_alone after_row stands none undue. kept_one was r c lo how u p after is_alone after_row stands none undue }
+  unended_kept was = record
+      { alone = λ r c lo how p u after is_alone after_row stands none undue. kept_one was r c lo how u p after is_alone after_row stands none undue }
 
 pub unended_in_runs : OfRuns Unended
 unended_in_runs = in_runs (λ limits t. Unended t)

@@ -32,7 +32,8 @@ unknown_begun limits contents may r v there not_gone none = by_item (item_of con
     by_item : (z : Option Content) → item_of contents r ≡ z → option_map representation_of_content z ≡ Some v → IsOnlyWritten (first_tables contents) v
     by_item None found is = absurd (none_some v is)
     by_item (Some item) found is =
-        absurd (begun_known item item.head.total (known_item limits contents may r item found) (ap (λ (q : Representation). q.head.total) (some_inj (representation_of_content item) v is) ∙ none))
+        absurd (begun_known item item.head.total (known_item limits contents may r item found)
+        (ap (λ (q : Representation). q.head.total) (some_inj (representation_of_content item) v is) ∙ none))
 
 pub unknown_denied : AfterDenials Unknown
 unknown_denied t e u r v there not_gone none = let w = u r v there not_gone none in record { written = written_same t e v ∙ w.written; whole = w.whole }
@@ -48,7 +49,8 @@ module _ (step : Step) (m : Measures step.tables) (unknown : Unknown step.tables
   abbrev now_on : Tables
   now_on = after_accepted t e
 
-  module _ (r : ℕ) (v p : Representation) (there : t.representation r ≡ Some v) (kept : IsKept t e r v p) (not_gone : p.is_gone ≡ false) (none : p.head.total ≡ None) where
+  module _ (r : ℕ) (v p : Representation) (there : t.representation r ≡ Some v) (kept : IsKept t e r v p) (not_gone : p.is_gone ≡ false)
+      (none : p.head.total ≡ None) where
     none_before : v.head.total ≡ None
     none_before = by_total kept.total_is
       where
@@ -78,7 +80,8 @@ module _ (step : Step) (m : Measures step.tables) (unknown : Unknown step.tables
       g = grows.1
 
       mine : x ≡ r
-      mine = by_measure (m.brings x w v g.row (sym (ap is_open g.row) ∙ (is_on t v x was.written writer).open_now) g.headed (ap t.representation g.family_is ∙ there))
+      mine = by_measure (m.brings x w v g.row (sym (ap is_open g.row) ∙ (is_on t v x was.written writer).open_now) g.headed
+          (ap t.representation g.family_is ∙ there))
         where
           by_measure : IsMeasured w v → x ≡ r
           by_measure (measures.reported n total promise known ends) = absurd (none_some total (sym none_before ∙ known))
@@ -100,10 +103,16 @@ module _ (step : Step) (m : Measures step.tables) (unknown : Unknown step.tables
           by_test false b d h = false_true h
 
           by_parts : resumes t R.response R.w v ≡ true → ⊥
-          by_parts h = by_test (asks_whole (t.consumer R.w.c)) (covers v.stored v.reach 0 (hole_start R.w.need)) (v.size == hole_start R.w.need) (rw none_before at h)
+          by_parts h = by_test (asks_whole (t.consumer R.w.c)) (covers v.stored v.reach 0 (hole_start R.w.need)) (v.size == hole_start R.w.need)
+              (rw none_before at h)
 
       by_writer : IsOnlyWritten now_on p
-      by_writer = record { written = written_by now_on p x (kept.lost_is ∙ rw (not_lost step m r v p there kept not_gone, (is_on t v x was.written writer).kept) refl) (writer_now kept.writer_is) still; whole = ap brings_whole kept.status_is ∙ was.whole }
+      by_writer = record {
+        written =
+            written_by now_on p x (kept.lost_is ∙ rw (not_lost step m r v p there kept not_gone, (is_on t v x was.written writer).kept) refl)
+            (writer_now kept.writer_is) still;
+        whole = ap brings_whole kept.status_is ∙ was.whole;
+      }
 
     writes_on : (z : Option ℕ) → v.writer ≡ z → IsOnlyWritten now_on p
     writes_on None is = absurd (writer_some t v was.written is)
@@ -111,8 +120,11 @@ module _ (step : Step) (m : Measures step.tables) (unknown : Unknown step.tables
 
   -- WHAT IS FOUNDED
 
-  founded_by : (r : ℕ) (response : Response) (w : Exchange) (p : Representation) (here : ev ≡ event.Head r response) (row : t.exchange r ≡ Some w) (founding : is_founding (case_at t e) ≡ true) (made : new_representation r e response w ≡ p) (after : now_on.representation r ≡ Some p) → p.head.total ≡ None → FoundedAs step m real r response w p here row founding made after → IsOnlyWritten now_on p
-  founded_by r response w p here row founding made after none (comes on writer status) = record { written = on; whole = sym (ap (λ (q : Representation). brings_whole q.head.status) made) ∙ status }
+  founded_by : (r : ℕ) (response : Response) (w : Exchange) (p : Representation) (here : ev ≡ event.Head r response) (row : t.exchange r ≡ Some w)
+      (founding : is_founding (case_at t e) ≡ true) (made : new_representation r e response w ≡ p) (after : now_on.representation r ≡ Some p) →
+      p.head.total ≡ None → FoundedAs step m real r response w p here row founding made after → IsOnlyWritten now_on p
+  founded_by r response w p here row founding made after none (comes on writer status) =
+      record { written = on; whole = sym (ap (λ (q : Representation). brings_whole q.head.status) made) ∙ status }
   founded_by r response w p here row founding made after none (empty status known) = absurd (none_some 0 (sym none ∙ known))
   founded_by r response w p here row founding made after none (part total status known fits) = absurd (none_some total (sym none ∙ known))
 
@@ -121,4 +133,5 @@ module _ (step : Step) (m : Measures step.tables) (unknown : Unknown step.tables
     where
       by_rep : RepFrom t e r p → IsOnlyWritten now_on p
       by_rep (rep.was v kept) = writes_on r v p kept.row kept not_gone none v.writer refl
-      by_rep (rep.founded response w none_there here row on made) = founded_by r response w p here row on made after none (founded_as step m real r response w p here row on made after)
+      by_rep (rep.founded response w none_there here row on made) =
+          founded_by r response w p here row on made after none (founded_as step m real r response w p here row on made after)

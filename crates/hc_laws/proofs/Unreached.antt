@@ -13,7 +13,8 @@ module _ (limits : Limits) (t : Tables) (now : ℕ) (flaw : Flaw) (s : Sound t) 
   e = entry_of limits t now ev flaw
 
   -- what the event leaves open lacks something
-  heard : (x : ℕ) (w : Exchange) → t.exchange x ≡ Some w → (z : Event) → ev ≡ z → (exchange_heard t e x z w).is_open ≡ true → is_reached (promised_bytes (exchange_heard t e x z w)) (length (exchange_heard t e x z w).body) ≡ false
+  heard : (x : ℕ) (w : Exchange) → t.exchange x ≡ Some w → (z : Event) → ev ≡ z → (exchange_heard t e x z w).is_open ≡ true →
+      is_reached (promised_bytes (exchange_heard t e x z w)) (length (exchange_heard t e x z w).body) ≡ false
   heard x w row (event.Head y response) at on = elim (eq_cases y x) [
     | inl same ↦ rw same.0 (headed (ev_at same.1) (rw same.0 at on))
     | inr apart ↦ rw apart.0 (was.lacks x w row (rw apart.0 at on))
@@ -22,9 +23,11 @@ module _ (limits : Limits) (t : Tables) (now : ℕ) (flaw : Flaw) (s : Sound t) 
       ev_at : y ≡ x → ev ≡ event.Head x response
       ev_at one = at ∙ ap (λ n. event.Head n response) one
 
-      headed : ev ≡ event.Head x response → (not (is_reached (promise_in w response) 0) && w.is_open) ≡ true → is_reached (promise_in w response) (length w.body) ≡ false
+      headed : ev ≡ event.Head x response → (not (is_reached (promise_in w response) 0) && w.is_open) ≡ true →
+          is_reached (promise_in w response) (length w.body) ≡ false
       headed its opened =
-          let empty : length w.body ≡ 0 = ap (λ (xs : List ℕ). length xs) (s.waits.headless x w row (is_new limits t now flaw s ev goes x response w its row).bare).0 in
+          let empty : length w.body ≡ 0 =
+          ap (λ (xs : List ℕ). length xs) (s.waits.headless x w row (is_new limits t now flaw s ev goes x response w its row).bare).0 in
           ap (is_reached (promise_in w response)) empty ∙ not_left (is_reached (promise_in w response) 0) w.is_open opened
   heard x w row (event.Piece y bytes) at on = elim (eq_cases y x) [
     | inl same ↦ rw same.0 (not_left (is_reached (promised_bytes w) (length (w.body ++ bytes))) w.is_open (rw same.0 at on))
@@ -44,17 +47,21 @@ module _ (limits : Limits) (t : Tables) (now : ℕ) (flaw : Flaw) (s : Sound t) 
   made x None w h = absurd (none_some w h)
   made x (Some o) w h = by_number (nat_eq o.x x) h
     where
-      by_number : (b : Bool) → (if b then Some (Rattle.hc_model.specs.ExchangeRows.exchange_opened t e o) else None) ≡ Some w → is_reached (promised_bytes w) (length w.body) ≡ false
-      by_number true is = ap (λ (z : Exchange). is_reached (promised_bytes z) (length z.body)) (sym (some_inj (Rattle.hc_model.specs.ExchangeRows.exchange_opened t e o) w is))
+      by_number : (b : Bool) → (if b then Some (Rattle.hc_model.specs.ExchangeRows.exchange_opened t e o) else None) ≡ Some w →
+          is_reached (promised_bytes w) (length w.body) ≡ false
+      by_number true is = ap (λ (z : Exchange). is_reached (promised_bytes z) (length z.body))
+          (sym (some_inj (Rattle.hc_model.specs.ExchangeRows.exchange_opened t e o) w is))
       by_number false is = absurd (none_some w is)
 
-  by_row : (x : ℕ) (w : Exchange) (o : Option Exchange) → t.exchange x ≡ o → exchange_after t e x o ≡ Some w → w.is_open ≡ true → is_reached (promised_bytes w) (length w.body) ≡ false
+  by_row : (x : ℕ) (w : Exchange) (o : Option Exchange) → t.exchange x ≡ o → exchange_after t e x o ≡ Some w → w.is_open ≡ true →
+      is_reached (promised_bytes w) (length w.body) ≡ false
   unfolding exchange_after
   by_row x w None row is on = made x (opening_in e.acts) w is
   by_row x w (Some z) row is on =
       let same : exchange_acted x e.acts (exchange_heard t e x ev z) ≡ w = some_inj (exchange_acted x e.acts (exchange_heard t e x ev z)) w is in
       let opened : (exchange_acted x e.acts (exchange_heard t e x ev z)).is_open ≡ true = ap (λ (q : Exchange). q.is_open) same ∙ on in
-      sym (ap (λ (q : Exchange). is_reached (promised_bytes q) (length q.body)) same) ∙ heard x z row ev refl (and_right (not (closes_in x e.acts)) (exchange_heard t e x ev z).is_open opened)
+      sym (ap (λ (q : Exchange). is_reached (promised_bytes q) (length q.body)) same) ∙
+      heard x z row ev refl (and_right (not (closes_in x e.acts)) (exchange_heard t e x ev z).is_open opened)
 
   pub lacks_after : IsUnreached limits (after_accepted t e)
   lacks_after = record { lacks = λ x w is on. by_row x w (t.exchange x) refl is on }

@@ -33,7 +33,8 @@ heard_answers t e r (event.Head x response) v = by_row (t.exchange x)
   where
     by_row : (o : Option Exchange) → AnswersAs v (representation_after_head t e r x response o v)
     by_row None = itself v
-    by_row (Some w) = answers_if (updates t e r w v) v (with_renewed_head t e x response w v) (record { names = ap (λ values. flat_map elements values) (updated_vary v.head.fields response.fields); of = refl })
+    by_row (Some w) = answers_if (updates t e r w v) v (with_renewed_head t e x response w v)
+        (record { names = ap (λ values. flat_map elements values) (updated_vary v.head.fields response.fields); of = refl })
 heard_answers t e r (event.Piece x bytes) v = by_row (t.exchange x)
   where
     by_row : (o : Option Exchange) → AnswersAs v (representation_after_piece e r x bytes o v)
@@ -48,5 +49,6 @@ agrees_by request v u same =
     ∙ ap (λ fields. list_all (λ element. is_name element && agree_on (lowercase element) fields request.fields) (elements_in vary v.head.fields)) same.of
 
 -- an entry leaves whom a stored head answers
-pub same_agreement : (t : Tables) (e : Entry) (r : ℕ) (request : Request) (v : Representation) → matches_vary (representation_acted t e r v (representation_heard t e r e.event v)).head request ≡ matches_vary v.head request
+pub same_agreement : (t : Tables) (e : Entry) (r : ℕ) (request : Request) (v : Representation) →
+    matches_vary (representation_acted t e r v (representation_heard t e r e.event v)).head request ≡ matches_vary v.head request
 same_agreement t e r request v = agrees_by request v _ (heard_answers t e r e.event v)

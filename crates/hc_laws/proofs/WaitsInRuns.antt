@@ -41,7 +41,8 @@ module _ (t : Tables) (s : Sound t) (o : Owners t) (now c want x : ℕ) (k : Con
 -- WHAT IS READ
 
 module _ (t : Tables) (s : Sound t) (unknown : Unknown t) where
-  is_read : (key : List ℕ) (r : ℕ) (v : Representation) → current t key ≡ Some r → t.representation r ≡ Some v → (v.head.total ≡ None) ⊎ (is_written t v ≡ true) → bound t r ≢ []
+  is_read : (key : List ℕ) (r : ℕ) (v : Representation) → current t key ≡ Some r → t.representation r ≡ Some v →
+      (v.head.total ≡ None) ⊎ (is_written t v ≡ true) → bound t r ≢ []
   is_read key r v current_is row (inl none) = s.writes.has_bound r v row (unknown r v row (current_stays t key r v current_is row) none).written
   is_read key r v current_is row (inr on) = s.writes.has_bound r v row on
 
@@ -53,7 +54,8 @@ module _ (t : Tables) (s : Sound t) (unknown : Unknown t) where
       by_rest None h = some_none n h
       by_rest (Some a) h = some_none _ h
 
-  unknown_span : (range : Option Rattle.hc_range.specs.declared.range.Asked.Asked) (total : Option ℕ) → wanted_of range total ≡ wanted.TotalUnknown → total ≡ None
+  unknown_span : (range : Option Rattle.hc_range.specs.declared.range.RangeSpec.RangeSpec) (total : Option ℕ) → wanted_of range total ≡ wanted.TotalUnknown →
+      total ≡ None
   unknown_span range None h = refl
   unknown_span None (Some total) h = absurd (let no : wanted.Interval _ ≡ wanted.TotalUnknown = h in cc)
   unknown_span (Some asked) (Some total) h = absurd (part_not (Rattle.hc_range.specs.Spans.resolved_span asked total) h)
@@ -66,7 +68,8 @@ module _ (t : Tables) (s : Sound t) (unknown : Unknown t) where
     abbrev Reads : Type 0
     Reads = (r : ℕ) × (u : Consumer) × IsBound t r d u
 
-    exclusive_at : (z : Candidate) → (plan_view t now c k).current ≡ Some z → (a : IsCandidate t k z) → z.exclusive ≡ Rattle.hc_model.specs.Writers.exclusive t a.r a.v → z.exclusive ≡ Some d → Reads
+    exclusive_at : (z : Candidate) → (plan_view t now c k).current ≡ Some z → (a : IsCandidate t k z) →
+        z.exclusive ≡ Rattle.hc_model.specs.Writers.exclusive t a.r a.v → z.exclusive ≡ Some d → Reads
     exclusive_at z current_is a same is = let x = exclusive_parts t a.r d a.v (sym same ∙ is) in (a.r, x.k, x.reader)
 
     by_busy : BusyBy (plan_view t now c k) d → Reads
@@ -92,7 +95,9 @@ module _ (t : Tables) (s : Sound t) (unknown : Unknown t) where
 
 -- what isn't gone and has no known length is being written
 pub unknown_in_runs : OfRuns Unknown
-unknown_in_runs = in_runs (λ limits t. Unknown t) (λ limits contents may. unknown_begun limits contents may) (λ limits t e later unknown. unknown_denied t e unknown) (λ limits t now flaw later c unknown ev goes real. unknown_kept (step_of limits t now flaw c.is_sound c.is_owned ev goes) c.is_measured unknown real)
+unknown_in_runs = in_runs (λ limits t. Unknown t) (λ limits contents may. unknown_begun limits contents may)
+    (λ limits t e later unknown. unknown_denied t e unknown)
+    (λ limits t now flaw later c unknown ev goes real. unknown_kept (step_of limits t now flaw c.is_sound c.is_owned ev goes) c.is_measured unknown real)
 
 waits_end : (t : Tables) → IsCarried t → Rattle.hc_model.specs.Laws.Turns t → Unknown t → WaitsEnd t
 waits_end t c turns unknown = record {
@@ -105,4 +110,6 @@ waits_end t c turns unknown = record {
 
 -- No wait goes in a circle, in any run.
 pub waits_in_runs : OfRuns WaitsEnd
-waits_in_runs limits contents h may run = waits_end (tables contents h) (carried limits contents h may run) (turned_in_runs limits contents h may run).turns (unknown_in_runs limits contents h may run)
+waits_in_runs limits contents h may run =
+    waits_end (tables contents h) (carried limits contents h may run) (turned_in_runs limits contents h may run).turns
+    (unknown_in_runs limits contents h may run)

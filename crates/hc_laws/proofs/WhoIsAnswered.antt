@@ -58,7 +58,8 @@ one_by c Ends rest none = subst (λ z. IsOneTo c (act.Ended c ∷ z)) (sym none)
 one_by c (Fails why) rest none = subst (λ z. IsOneTo c (act.Failed c why ∷ z)) (sym none) (reports.one _ refl)
 
 -- a move is to wait, or isn't
-last_by : (c : ℕ) (m : Move) (f : Flaw) (rest : List Act) → WaitsLast rest → (leaver_in (acts_of c m ++ loss_acts f) ≡ None → rest ≡ []) → WaitsLast (acts_of c m ++ rest)
+last_by : (c : ℕ) (m : Move) (f : Flaw) (rest : List Act) → WaitsLast rest → (leaver_in (acts_of c m ++ loss_acts f) ≡ None → rest ≡ []) →
+    WaitsLast (acts_of c m ++ rest)
 last_by c m f rest last calm = grind (arith, nat_tests)
 
 module _ (limits : Limits) (t : Tables) (e : Entry) (taken : IsTaken limits t e) where
@@ -71,8 +72,10 @@ module _ (limits : Limits) (t : Tables) (e : Entry) (taken : IsTaken limits t e)
   closings = closing t (record { now = e.now; event = e.event; acts = answer_acts t e.now e.event flaw ++ loss_acts flaw })
 
   quiet_by : (acts : List Act) → IsAnswer limits t e.now e.event flaw acts → answer_acts t e.now e.event flaw ≡ [] → consumer_acts acts ≡ []
-  quiet_by _ (parts.reported silent) none = evicted_report (evicted limits t e.now e.event) (loss_acts flaw ++ map act.Close closings) (lost_report flaw closings)
-  quiet_by _ parts.asked none = ap (λ z. consumer_acts (z ++ (close_acts t e.now e.event flaw ++ loss_acts flaw))) none ∙ closes_report closings (loss_acts flaw) (loss_reports flaw)
+  quiet_by _ (parts.reported silent) none =
+      evicted_report (evicted limits t e.now e.event) (loss_acts flaw ++ map act.Close closings) (lost_report flaw closings)
+  quiet_by _ parts.asked none = ap (λ z. consumer_acts (z ++ (close_acts t e.now e.event flaw ++ loss_acts flaw))) none ∙
+      closes_report closings (loss_acts flaw) (loss_reports flaw)
 
   quiet : answer_acts t e.now e.event flaw ≡ [] → consumer_acts e.acts ≡ []
   quiet none = ap consumer_acts (acts_is limits t e taken) ∙ quiet_by _ (answer_is limits t e.now e.event flaw) none
@@ -85,12 +88,14 @@ module _ (limits : Limits) (t : Tables) (e : Entry) (taken : IsTaken limits t e)
   behind_waits : WaitsLast (behind limits t e taken)
   behind_waits = closed_waits (closing t (seen limits t e taken)) (loss_acts flaw) (lost_waits flaw)
 
-  none_lost : (acts : List Act) (f : Flaw) → ((r : ℕ) → loses_in r (acts ++ loss_acts f) ≡ loses_in r (loss_acts f)) → ((r : ℕ) → loses_in r (acts ++ loss_acts f) ≡ false) → loss_acts f ≡ []
+  none_lost : (acts : List Act) (f : Flaw) → ((r : ℕ) → loses_in r (acts ++ loss_acts f) ≡ loses_in r (loss_acts f)) →
+      ((r : ℕ) → loses_in r (acts ++ loss_acts f) ≡ false) → loss_acts f ≡ []
   none_lost acts (Loses r kind) same none = absurd (true_false (sym (ap (λ b. b || false) (eq_itself r)) ∙ (sym (same r) ∙ none r)))
   none_lost acts _ same none = refl
 
   -- after which nobody leaves
-  module _ (c want : ℕ) (m : Move) (at : e.event ≡ event.Poll c want) (all : e.acts ≡ acts_of c m ++ behind limits t e taken) (saw : (seen limits t e taken).acts ≡ acts_of c m ++ loss_acts (flaw_in e.acts)) where
+  module _ (c want : ℕ) (m : Move) (at : e.event ≡ event.Poll c want) (all : e.acts ≡ acts_of c m ++ behind limits t e taken)
+      (saw : (seen limits t e taken).acts ≡ acts_of c m ++ loss_acts (flaw_in e.acts)) where
     module _ (nobody : leaver_in (acts_of c m ++ loss_acts (flaw_in e.acts)) ≡ None) where
       stay : leaver_in (seen limits t e taken).acts ≡ None
       stay = ap leaver_in saw ∙ nobody
@@ -134,7 +139,8 @@ module _ (limits : Limits) (t : Tables) (e : Entry) (taken : IsTaken limits t e)
 
     by_event : (ev : Event) → e.event ≡ ev → AnswersBy ev e.acts
     unfolding refusals.refusal_of
-    by_event (event.Poll c want) at = polled c want (t.consumer c) at refl (poll_live limits t e.now flaw s c want (sym (ap (denial t) at) ∙ goes limits t e taken.owed taken.not_denied))
+    by_event (event.Poll c want) at =
+        polled c want (t.consumer c) at refl (poll_live limits t e.now flaw s c want (sym (ap (denial t) at) ∙ goes limits t e taken.owed taken.not_denied))
     by_event _ at = quiet (ap (λ z. answer_acts t e.now z flaw) at)
 
 -- IN RUNS
@@ -151,4 +157,5 @@ by_denial limits t e false accepted s turns owed = by_event limits t e (record {
 pub reported_in_runs : OfHistories AnswersWhoPolls
 reported_in_runs limits contents [] may run = tt
 reported_in_runs limits contents (e ∷ h) may run =
-    by_denial limits (tables contents h) e (is_denied e.acts) refl (runs_are_sound limits contents h may run.0) (turned_in_runs limits contents h may run.0).turns run.1
+    by_denial limits (tables contents h) e (is_denied e.acts) refl (runs_are_sound limits contents h may run.0)
+    (turned_in_runs limits contents h may run.0).turns run.1

@@ -34,14 +34,16 @@ front_stops : (x c : ℕ) (ev : Event) (o : Option ℕ) (front : List Act) → I
 front_stops x c _ _ _ (frames.ends want) = refl
 front_stops x c _ _ _ _ = refl
 
-front_writes : (t : Tables) (it : Entry) (c : ℕ) (ev : Event) (o : Option ℕ) (front : List Act) → IsPrefix c ev o front → written_in t it ev ≡ first_found (seals_at t it) t.openings
+front_writes : (t : Tables) (it : Entry) (c : ℕ) (ev : Event) (o : Option ℕ) (front : List Act) → IsPrefix c ev o front → written_in
+    t it ev ≡ first_found (seals_at t it) t.openings
 front_writes t it c _ _ _ (frames.ends want) = refl
 front_writes t it c _ _ _ _ = refl
 
 -- A LEAVE
 
 module _ (limits : Limits) (t : Tables) (e : Entry) (law : Lawful t) (is : IsOwed limits t e) where
-  module _ (on : is_denied e.acts ≡ false) (c : ℕ) (k : Consumer) (row : t.consumer c ≡ Some k) (ev : Event) (at : e.event ≡ ev) (o : Option ℕ) (front : List Act) (f : IsPrefix c ev o front) (says : answer_acts t e.now ev (flaw_in e.acts) ≡ front) where
+  module _ (on : is_denied e.acts ≡ false) (c : ℕ) (k : Consumer) (row : t.consumer c ≡ Some k) (ev : Event) (at : e.event ≡ ev) (o : Option ℕ)
+      (front : List Act) (f : IsPrefix c ev o front) (says : answer_acts t e.now ev (flaw_in e.acts) ≡ front) where
     abbrev flaw : Flaw
     flaw = flaw_in e.acts
 
@@ -70,7 +72,8 @@ module _ (limits : Limits) (t : Tables) (e : Entry) (law : Lawful t) (is : IsOwe
 
       writes_none : written_representation t e ≡ None
       unfolding written_representation
-      writes_none = ap (written_in t (lossless e)) at ∙ (front_writes t (lossless e) c ev o front f ∙ found_none (seals_at t (lossless e)) t.openings seals_none)
+      writes_none = ap (written_in t (lossless e)) at ∙
+          (front_writes t (lossless e) c ev o front f ∙ found_none (seals_at t (lossless e)) t.openings seals_none)
 
       lost_none : (r : ℕ) (z : Flaw) → may_be limits t e z ≡ true → loses_in r (loss_acts z) ≡ false
       lost_none r (Loses q kind) may = absurd (none_some q (sym writes_none ∙ number_is (written_representation t e) q (and_left _ _ (and_left _ _ may))))
@@ -91,7 +94,8 @@ module _ (limits : Limits) (t : Tables) (e : Entry) (law : Lawful t) (is : IsOwe
     stays (place.Passed r kept) stands =
         elim (fails_or c ev o front (frames.rest limits t law e.now c k row ev flaw o front f) f) [
           | inl fails ↦ rw fails (and_none (goes_in t it r (t.representation r)))
-          | inr none ↦ let quiet : goes_in t it r (t.representation r) ≡ false = nothing_in (left_passed t law c k row r kept stands) none r (t.representation r) refl in rw quiet refl
+          | inr none ↦ let quiet : goes_in t it r (t.representation r) ≡ false = nothing_in
+              (left_passed t law c k row r kept stands) none r (t.representation r) refl in rw quiet refl
         ]
     stays _ stands = refl
 
@@ -120,7 +124,8 @@ module _ (limits : Limits) (t : Tables) (e : Entry) (law : Lawful t) (is : IsOwe
 
   cancels_row : (c : ℕ) (o : Option Consumer) → t.consumer c ≡ o → e.event ≡ event.Cancel c → is_live o ≡ true → is_live ((after t e).consumer c) ≡ false
   cancels_row c None row at live = false_true live
-  cancels_row c (Some k) row at live = leaver_over (is_accepted limits t e is (cancel_goes c at (ap is_live row ∙ live))) c k row (event.Cancel c) at None [] frames.cancels refl
+  cancels_row c (Some k) row at live =
+      leaver_over (is_accepted limits t e is (cancel_goes c at (ap is_live row ∙ live))) c k row (event.Cancel c) at None [] frames.cancels refl
 
   -- who is cancelled is over
   pub cancelled_over : (c : ℕ) → e.event ≡ event.Cancel c → is_live ((after t e).consumer c) ≡ false
@@ -138,7 +143,8 @@ module _ (limits : Limits) (t : Tables) (e : Entry) (law : Lawful t) (is : IsOwe
 
   -- WHO IS TOLD THE END OR A FAILURE
 
-  module _ (on : is_denied e.acts ≡ false) (c want : ℕ) (k : Consumer) (row : t.consumer c ≡ Some k) (at : e.event ≡ event.Poll c want) (leaves : leaves_in c e.acts ≡ true) where
+  module _ (on : is_denied e.acts ≡ false) (c want : ℕ) (k : Consumer) (row : t.consumer c ≡ Some k) (at : e.event ≡ event.Poll c want)
+      (leaves : leaves_in c e.acts ≡ true) where
     abbrev saw : Entry
     saw = record { now = e.now; event = event.Poll c want; acts = answer_acts t e.now (event.Poll c want) (flaw_in e.acts) ++ loss_acts (flaw_in e.acts) }
 
@@ -152,16 +158,21 @@ module _ (limits : Limits) (t : Tables) (e : Entry) (law : Lawful t) (is : IsOwe
     quiet = (far_closing c (closing t saw) (loss_acts (flaw_in e.acts)) (far_lost_only c (flaw_in e.acts))).leaves
 
     -- with these acts it wouldn't leave
-    not_said : (m : Move) → answer_acts t e.now (event.Poll c want) (flaw_in e.acts) ≡ acts_of c m → leaves_in c (acts_of c m ++ rest) ≡ false → is_live ((after t e).consumer c) ≡ false
+    not_said : (m : Move) → answer_acts t e.now (event.Poll c want) (flaw_in e.acts) ≡ acts_of c m → leaves_in c (acts_of c m ++ rest) ≡ false →
+        is_live ((after t e).consumer c) ≡ false
     not_said m says stays = false_true (sym (ap (leaves_in c) (poll_acts_are ∙ ap (λ z. z ++ rest) says) ∙ stays) ∙ leaves)
 
     -- what is said makes it leave
-    by_move : (m : Move) → move_of t e.now want c k ≡ m → answer_acts t e.now (event.Poll c want) (flaw_in e.acts) ≡ acts_of c m → is_live ((after t e).consumer c) ≡ false
+    by_move : (m : Move) → move_of t e.now want c k ≡ m → answer_acts t e.now (event.Poll c want) (flaw_in e.acts) ≡ acts_of c m →
+        is_live ((after t e).consumer c) ≡ false
     by_move moves.Ends is_move says = leaver_over on c k row (event.Poll c want) at None (acts_of c moves.Ends) (frames.ends want) says
-    by_move (moves.Fails why) is_move says = leaver_over on c k row (event.Poll c want) at None (acts_of c (moves.Fails why)) (frames.fails want why (fails_reported t e.now want c k why law.sound law.places row is_move)) says
+    by_move (moves.Fails why) is_move says =
+        leaver_over on c k row (event.Poll c want) at None (acts_of c (moves.Fails why))
+        (frames.fails want why (fails_reported t e.now want c k why law.sound law.places row is_move)) says
     by_move v is_move says = not_said v says quiet
 
-    moves_on : (z : Flaw) → flaw_in e.acts ≡ z → answer_acts t e.now (event.Poll c want) z ≡ acts_of c (poll_move t e.now want c (t.consumer c)) → is_live ((after t e).consumer c) ≡ false
+    moves_on : (z : Flaw) → flaw_in e.acts ≡ z → answer_acts t e.now (event.Poll c want) z ≡ acts_of c (poll_move t e.now want c (t.consumer c)) →
+        is_live ((after t e).consumer c) ≡ false
     moves_on z is_flaw says =
         by_move (move_of t e.now want c k) refl
         (ap (answer_acts t e.now (event.Poll c want)) is_flaw ∙ (says ∙ ap (λ (q : Option Consumer). acts_of c (poll_move t e.now want c q)) row))
@@ -169,9 +180,12 @@ module _ (limits : Limits) (t : Tables) (e : Entry) (law : Lawful t) (is : IsOwe
     by_flaw : (z : Flaw) → flaw_in e.acts ≡ z → is_live ((after t e).consumer c) ≡ false
     by_flaw NoFlaw is_flaw = moves_on NoFlaw is_flaw refl
     by_flaw (Loses r kind) is_flaw = moves_on (Loses r kind) is_flaw refl
-    by_flaw (Misreads r) is_flaw = leaver_over on c k row (event.Poll c want) at (Some r) (act.Failed c (cause.StoreRead r) ∷ []) (frames.misreads want r) (ap (answer_acts t e.now (event.Poll c want)) is_flaw)
+    by_flaw (Misreads r) is_flaw =
+        leaver_over on c k row (event.Poll c want) at (Some r) (act.Failed c (cause.StoreRead r) ∷ []) (frames.misreads want r)
+        (ap (answer_acts t e.now (event.Poll c want)) is_flaw)
 
-  polls_row : (c want : ℕ) (o : Option Consumer) → t.consumer c ≡ o → is_denied e.acts ≡ false → e.event ≡ event.Poll c want → is_live o ≡ true → leaves_in c e.acts ≡ true → is_live ((after t e).consumer c) ≡ false
+  polls_row : (c want : ℕ) (o : Option Consumer) → t.consumer c ≡ o → is_denied e.acts ≡ false → e.event ≡ event.Poll c want → is_live o ≡ true →
+      leaves_in c e.acts ≡ true → is_live ((after t e).consumer c) ≡ false
   polls_row c want None row on at live leaves = false_true live
   polls_row c want (Some k) row on at live leaves = by_flaw on c want k row at leaves (flaw_in e.acts) refl
 
@@ -201,8 +215,10 @@ module _ (limits : Limits) (t : Tables) (e : Entry) (law : Lawful t) (is : IsOwe
               who : Event → ℕ
               who (event.Poll a b) = a
               who _ = 0
-  poll_of c (event.Start d request) at on leaves = absurd (far_off c on leaves (λ n poll. let never : event.Start d request ≡ event.Poll c n = sym at ∙ poll in cc))
-  poll_of c (event.Head x response) at on leaves = absurd (far_off c on leaves (λ n poll. let never : event.Head x response ≡ event.Poll c n = sym at ∙ poll in cc))
+  poll_of c (event.Start d request) at on leaves =
+      absurd (far_off c on leaves (λ n poll. let never : event.Start d request ≡ event.Poll c n = sym at ∙ poll in cc))
+  poll_of c (event.Head x response) at on leaves =
+      absurd (far_off c on leaves (λ n poll. let never : event.Head x response ≡ event.Poll c n = sym at ∙ poll in cc))
   poll_of c (event.Piece x bytes) at on leaves = absurd (far_off c on leaves (λ n poll. let never : event.Piece x bytes ≡ event.Poll c n = sym at ∙ poll in cc))
   poll_of c (event.End x) at on leaves = absurd (far_off c on leaves (λ n poll. let never : event.End x ≡ event.Poll c n = sym at ∙ poll in cc))
   poll_of c (event.Fault x) at on leaves = absurd (far_off c on leaves (λ n poll. let never : event.Fault x ≡ event.Poll c n = sym at ∙ poll in cc))

@@ -7,7 +7,8 @@ use Rattle.hc_model.specs.Whose as whose
 use Rattle.hc_effects.proofs.{AboutKeeps.{own_open_of}, ExclusiveWriters.{none_about}}
 use Rattle.hc_laws.proofs.{GrowingRuns.{brings_headed}, InRuns.{turned_in_runs}, OwnersFor.{owners_for}, PlaceRuns.{places_in_runs}, SoundRuns.{carried}}
 
-module _ (t : Tables) (s : Sound t) (o : Owners t) (one : IsOfOneKey t) (places : Places t) (owner : (c x : ℕ) (k : Consumer) (w : Exchange) → t.consumer c ≡ Some k → k.own ≡ Some x → t.exchange x ≡ Some w → IsOwner t x w c) where
+module _ (t : Tables) (s : Sound t) (o : Owners t) (one : IsOfOneKey t) (places : Places t)
+    (owner : (c x : ℕ) (k : Consumer) (w : Exchange) → t.consumer c ≡ Some k → k.own ≡ Some x → t.exchange x ≡ Some w → IsOwner t x w c) where
   awaiting_owns : (x : ℕ) (w : Exchange) (p : Place) → IsAwaiting x w p → may_own p ≡ true
   awaiting_owns x w p it3 = grind (arith, nat_tests)
 
@@ -34,7 +35,8 @@ module _ (t : Tables) (s : Sound t) (o : Owners t) (one : IsOfOneKey t) (places 
 
     by_row : (q : Option Representation) → t.representation (family x w) ≡ q → IsSomebodys t x w
     by_row None none = own_by w.head refl none
-    by_row (Some v) there = had_by v there (s.writes.had (family x w) x v there (sound.headed w row on (headed v there) refl (ap (λ (q : Option Representation). is_some q) there)))
+    by_row (Some v) there = had_by v there
+        (s.writes.had (family x w) x v there (sound.headed w row on (headed v there) refl (ap (λ (q : Option Representation). is_some q) there)))
 
   -- who owns an open one
   stands_by : (c x : ℕ) (k : Consumer) → t.consumer c ≡ Some k → own_open t k ≡ Some x → (p : Place) → k.place ≡ p → may_own p ≡ true
@@ -57,4 +59,5 @@ module _ (t : Tables) (s : Sound t) (o : Owners t) (one : IsOfOneKey t) (places 
 pub whose_in_runs : OfRuns Whose
 whose_in_runs limits contents h may run =
     let c = carried limits contents h may run in
-    whose_by (tables contents h) c.is_sound c.is_owned (turned_in_runs limits contents h may run).one (places_in_runs limits contents h may run) (owners_for limits contents h may run).owner
+    whose_by (tables contents h) c.is_sound c.is_owned (turned_in_runs limits contents h may run).one (places_in_runs limits contents h may run)
+    (owners_for limits contents h may run).owner

@@ -37,7 +37,8 @@ module _ (v : PlanView) where
 
   plan_why : IsWhy v (plan_of v)
   unfolding plan_of
-  plan_why = mix (IsWhy v) v.class.only (from_store (bare_plan v)) (in_time v (bare_plan v)) (from_store_why (bare_plan v) bare_why) (in_time_why (bare_plan v) bare_why)
+  plan_why = mix (IsWhy v) v.class.only (from_store (bare_plan v)) (in_time v (bare_plan v)) (from_store_why (bare_plan v) bare_why)
+      (in_time_why (bare_plan v) bare_why)
 
 -- A HEAD THAT IS SHOWN
 
@@ -74,16 +75,20 @@ module _ (t : Tables) (now c : ℕ) (k : Consumer) (r lo : ℕ) (hi : Option ℕ
 
   -- BY ITS PLAN
 
-  candidate_allows : (q : ℕ) (o : Option Representation) (s : Candidate) → t.representation q ≡ o → option_map (λ v. candidate t now q k.request v) o ≡ Some s → (v : Representation) × (t.representation q ≡ Some v) × (s.allowed ≡ allowed v.head k.request now)
+  candidate_allows : (q : ℕ) (o : Option Representation) (s : Candidate) → t.representation q ≡ o →
+      option_map (λ v. candidate t now q k.request v) o ≡ Some s → (v : Representation) × (t.representation q ≡ Some v) ×
+      (s.allowed ≡ allowed v.head k.request now)
   candidate_allows q o s row is = grind (arith, nat_tests)
 
-  by_kept : (s : Candidate) (y : Why) (o : Option ℕ) → kept_by k.place ≡ o → (plan_view t now c k).current ≡ Some s → why_by o s.allowed ≡ Some y → y ≡ why → current t k.request.key ≡ Some r → ShownWhy
+  by_kept : (s : Candidate) (y : Why) (o : Option ℕ) → kept_by k.place ≡ o → (plan_view t now c k).current ≡ Some s → why_by o s.allowed ≡ Some y →
+      y ≡ why → current t k.request.key ≡ Some r → ShownWhy
   by_kept s y (Some x) kept at is same number = keeps x kept number (sym same ∙ sym (some_inj (why_is.Validated x) y is))
   by_kept s y None kept at is same number =
       let got = candidate_allows r (t.representation r) s refl (rw number at at) in
       allows got.0 got.1 (sym got.2 ∙ (is ∙ ap Some same))
 
-  bind_by : (y : Why) (span : Option Span) (o : Option ℕ) → current t k.request.key ≡ o → IsWhy (plan_view t now c k) (plan.Bind y span) → binds_current t k y span o ≡ show → ShownWhy
+  bind_by : (y : Why) (span : Option Span) (o : Option ℕ) → current t k.request.key ≡ o → IsWhy (plan_view t now c k) (plan.Bind y span) →
+      binds_current t k y span o ≡ show → ShownWhy
   bind_by y span None at reason is = absurd (let no : Nothing ≡ show = is in cc)
   bind_by y None (Some q) at reason is =
       let got = stored_why q y _ 0 (total_in (t.representation q)) (t.representation q) is in
@@ -103,7 +108,8 @@ module _ (t : Tables) (now c : ℕ) (k : Consumer) (r lo : ℕ) (hi : Option ℕ
   by_moves : (want : ℕ) (m : Move) → MoveBy t now want c k m → m ≡ move_of t now want c k → m ≡ show → ShownWhy
   by_moves want m (shows _ unshown at) here is = at_shown k.place refl (at ∙ ap Some is)
   by_moves want _ (reads on heard) here is =
-      absurd (let none : is_showing (move_of t now want c k) ≡ false = shown_shows t now want c k on in let no : true ≡ false = sym (ap is_showing (sym here ∙ is)) ∙ none in cc)
+      absurd (let none : is_showing (move_of t now want c k) ≡ false = shown_shows t now want c k on in let no : true ≡ false =
+      sym (ap is_showing (sym here ∙ is)) ∙ none in cc)
   by_moves want _ (plans unshown free none heard) here is = by_plan (plan_of (plan_view t now c k)) (plan_why (plan_view t now c k)) is
   by_moves want _ _ here is = cc
 

@@ -1,5 +1,5 @@
 -- Why an event is denied, by what the tables say of whom and what it names.
-use Rattle.std.specs.Prelude.{ℕ, length, Bool, true, false, Option, Some, None, is_some, if◌then◌else◌, filter}
+use Rattle.std.specs.Prelude.{◌≡◌, ◌≤◌, ℕ, length, Bool, true, false, Option, Some, None, is_some, if◌then◌else◌, filter}
 use Rattle.hc_event.specs.declared.event.Event.{Event}
 use Rattle.hc_event.specs.declared.event.Event.TheVariants as event
 use Rattle.hc_event.specs.declared.act.Refusal.{Refusal}

@@ -22,12 +22,14 @@ head_front : (kind : Kind) (xs ys : List ℕ) → begins_head kind (xs ++ ys) �
 head_front Requests xs ys h = begins_front xs ys h
 head_front (Responses no_body) xs ys h = refl
 
-goes_in_head : (kind : Kind) (scan : Scan) (text : List ℕ) (b : ℕ) → length text < 32768 → is_open (scan_byte scan b) ≡ true → begins_head kind (text ++ b ∷ []) ≡ true
+goes_in_head : (kind : Kind) (scan : Scan) (text : List ℕ) (b : ℕ) → length text < 32768 → is_open (scan_byte scan b) ≡ true →
+    begins_head kind (text ++ b ∷ []) ≡ true
     → Makes (move_of (Heading kind scan text) b) (quiet (Heading kind (scan_byte scan b) (text ++ b ∷ [])))
 unfolding move_of
 goes_in_head kind scan text b short still begins = rw (lt-ltb (length text) 32768 short, begins, still) refl
 
-ends_head : (kind : Kind) (scan : Scan) (text : List ℕ) (b : ℕ) (step : Step) → length text < 32768 → is_open (scan_byte scan b) ≡ false → begins_head kind (text ++ b ∷ []) ≡ true
+ends_head : (kind : Kind) (scan : Scan) (text : List ℕ) (b : ℕ) (step : Step) → length text < 32768 → is_open (scan_byte scan b) ≡ false →
+    begins_head kind (text ++ b ∷ []) ≡ true
     → HeadMakes kind (text ++ b ∷ []) step → Makes (move_of (Heading kind scan text) b) step
 unfolding move_of
 ends_head kind scan text b step short over begins h = rw (lt-ltb (length text) 32768 short, begins, over) h
@@ -41,7 +43,8 @@ passes_head : (kind : Kind) (scan : Scan) (text : List ℕ) (b : ℕ) → 32768 
 unfolding move_of
 passes_head kind scan text b long = rw (le-ltb (length text) 32768 long) refl
 
-pub heading_on : (kind : Kind) (bytes : List ℕ) (scan : Scan) (text : List ℕ) → is_open (scan_all scan bytes) ≡ true → length text + length bytes ≤ 32768 → begins_head kind (text ++ bytes) ≡ true
+pub heading_on : (kind : Kind) (bytes : List ℕ) (scan : Scan) (text : List ℕ) → is_open (scan_all scan bytes) ≡ true →
+    length text + length bytes ≤ 32768 → begins_head kind (text ++ bytes) ≡ true
     → Leads (Heading kind scan text) bytes [] (Heading kind (scan_all scan bytes) (text ++ bytes))
 heading_on kind [] scan text still short begins = (refl, ap (Heading kind scan) (append-nil text))
 heading_on kind (b ∷ bytes) scan text still short begins =
@@ -83,11 +86,13 @@ heading_cut kind scan text piece n step h short begins makes =
       mid = mid;
       cut = last;
       passes = heading_on kind h.front scan text h.open_before (omega (arith, h.len)) (head_front kind (text ++ h.front) (10 ∷ []) all);
-      ends = leads_byte mid 10 step (ends_head kind (scan_all scan h.front) (text ++ h.front) 10 step (simp length-append (omega (arith, h.len))) (ap is_open h.ends) all made);
+      ends = leads_byte mid 10 step
+          (ends_head kind (scan_all scan h.front) (text ++ h.front) 10 step (simp length-append (omega (arith, h.len))) (ap is_open h.ends) all made);
     }
 
 pub heading_ends : (kind : Kind) (scan : Scan) (text piece : List ℕ) (n : ℕ) (step : Step) → IsHeadEnd scan piece n → length text + n ≤ 32768
-    → begins_head kind (text ++ take n piece) ≡ true → HeadMakes kind (text ++ take n piece) step → Leads (Heading kind scan text) (take n piece) step.tokens step.next
+    → begins_head kind (text ++ take n piece) ≡ true → HeadMakes kind (text ++ take n piece) step →
+    Leads (Heading kind scan text) (take n piece) step.tokens step.next
 heading_ends kind scan text piece n step h short begins makes =
     let c = heading_cut kind scan text piece n step h short begins makes in
     rw c.cut (leads_on (Heading kind scan text) c.front (10 ∷ []) [] step.tokens c.mid step.next c.passes c.ends)
@@ -108,7 +113,8 @@ heading_long kind scan text piece h begins = past h.rest h.some h.whole where
   past (b ∷ rest) some whole =
       let mid = Heading kind (scan_all scan h.front) (text ++ h.front) in
       let on = heading_on kind h.front scan text h.still_open (omega (arith, h.len)) begins in
-      let over : Makes (move_of mid b) (fails error.HeadTooLong) = passes_head kind (scan_all scan h.front) (text ++ h.front) b (simp length-append (omega (arith, h.len))) in
+      let over : Makes (move_of mid b) (fails error.HeadTooLong) =
+      passes_head kind (scan_all scan h.front) (text ++ h.front) b (simp length-append (omega (arith, h.len))) in
       rw (← whole) (leads_on (Heading kind scan text) h.front (b ∷ rest) [] [] mid (Failed error.HeadTooLong) on
       (fails error.HeadTooLong, [], over, stays_failed error.HeadTooLong rest, refl))
 
@@ -124,7 +130,8 @@ heading_refused kind (b ∷ c ∷ bytes) scan text before never short opens =
     let next = scan_byte scan b in
     let same : (text ++ b ∷ []) ++ (c ∷ bytes) ≡ text ++ (b ∷ c ∷ bytes) = append_assoc text (b ∷ []) (c ∷ bytes) in
     elim (cases_Bool (begins_head kind (text ++ b ∷ []))) [
-      | inl on ↦ (let rest = heading_refused kind (c ∷ bytes) next (text ++ b ∷ []) on (ap (begins_head kind) same ∙ never) (simp length-append (omega arith)) (λ k lt. opens (suc k) (omega arith)) in
+      | inl on ↦ (let rest = heading_refused kind (c ∷ bytes) next (text ++ b ∷ []) on (ap (begins_head kind) same ∙ never)
+          (simp length-append (omega arith)) (λ k lt. opens (suc k) (omega arith)) in
           (quiet (Heading kind next (text ++ b ∷ [])), [], goes_in_head kind scan text b (omega arith) (opens 1 (omega arith)) on, rest, refl))
       | inr off ↦ (fails error.BadHead, [], refuses_head kind scan text b (omega arith) off, stays_failed error.BadHead (c ∷ bytes), refl)
     ]
@@ -156,7 +163,8 @@ line_on (b ∷ bytes) text h short =
 
 pub end_of_line : (piece : List ℕ) (at : ℕ) (h : IsLineBefore piece at) → take (at + 1) piece ≡ h.line ++ 10 ∷ []
 end_of_line piece at h =
-    ap (take (at + 1)) (sym h.whole ∙ sym (append_assoc h.line (10 ∷ []) h.rest)) ∙ take_at (h.line ++ 10 ∷ []) h.rest (at + 1) (simp length-append (omega (arith, h.len)))
+    ap (take (at + 1)) (sym h.whole ∙ sym (append_assoc h.line (10 ∷ []) h.rest)) ∙
+    take_at (h.line ++ 10 ∷ []) h.rest (at + 1) (simp length-append (omega (arith, h.len)))
 
 pub line_ends : (text piece : List ℕ) (at : ℕ) (step : Step) → IsLineBefore piece at → length text + (at + 1) ≤ 1024
     → LineMakes (text ++ take (at + 1) piece) step → Leads (Sizing text) (take (at + 1) piece) step.tokens step.next
@@ -175,7 +183,8 @@ line_long text piece h = past h.rest h.some h.whole where
   past [] some whole = absurd (omega arith)
   past (b ∷ rest) some whole =
       let on = line_on h.front text h.is_line (omega (arith, h.len)) in
-      let over : Makes (move_of (Sizing (text ++ h.front)) b) (fails error.BadChunk) = passes_line (text ++ h.front) b (simp length-append (omega (arith, h.len))) in
+      let over : Makes (move_of (Sizing (text ++ h.front)) b) (fails error.BadChunk) =
+      passes_line (text ++ h.front) b (simp length-append (omega (arith, h.len))) in
       subst (λ (t : List ℕ). Leads (Sizing text) t [] (Failed error.BadChunk)) whole
       (leads_on (Sizing text) h.front (b ∷ rest) [] [] (Sizing (text ++ h.front)) (Failed error.BadChunk) on
       (fails error.BadChunk, [], over, stays_failed error.BadChunk rest, refl))
@@ -214,7 +223,8 @@ chunk_on (b ∷ c ∷ bytes) left h some =
       record { tokens = Byte b ∷ []; next = chunk (left - 1) },
       map Byte (c ∷ bytes),
       refl,
-      subst (λ (s : Reading). Leads s (c ∷ bytes) (map Byte (c ∷ bytes)) (chunk (left - length (b ∷ c ∷ bytes)))) (sym (chunk_some (left - 1) (omega arith))) moved,
+      subst (λ (s : Reading). Leads s (c ∷ bytes) (map Byte (c ∷ bytes)) (chunk (left - length (b ∷ c ∷ bytes))))
+          (sym (chunk_some (left - 1) (omega arith))) moved,
       refl,
     )
 

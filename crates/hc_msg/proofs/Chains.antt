@@ -18,6 +18,7 @@ lines_push : (fields : List (List ℕ × List ℕ)) (f : List ℕ × List ℕ) �
 lines_push [] f = append-nil (line_of f)
 lines_push (g ∷ fields) f = ap (λ (t : List ℕ). line_of g ++ t) (lines_push fields f) ∙ sym (append_assoc (line_of g) (lines_of fields) (line_of f))
 
-pub closing : (response : Response) (x y z u : List ℕ) → y ≡ x ++ status_line response.status → z ≡ y ++ lines_of response.fields → u ≡ z ++ (codes "connection: close" ++ (crlf ++ crlf))
+pub closing : (response : Response) (x y z u : List ℕ) → y ≡ x ++ status_line response.status → z ≡ y ++ lines_of response.fields → u ≡ z ++
+    (codes "connection: close" ++ (crlf ++ crlf))
     → u ≡ x ++ response_text (closing_of response) false
 closing response x y z u p q r = search (arith, lines_push, append_assoc)

@@ -22,17 +22,20 @@ makes_is (EndsLine text) step h = makes_one (EndsLine text) step _ h (size_in te
 makes_is Stays step h = absurd h
 
 -- what a step that tells nothing leaves, and what one that tells something names
-silent : (made step : Step) (input : List ℕ) (go_on : Reading → Next) → step ≡ made → step.tokens ≡ [] → reported_or made.tokens made.next input go_on ≡ go_on step.next
+silent : (made step : Step) (input : List ℕ) (go_on : Reading → Next) → step ≡ made → step.tokens ≡ [] →
+    reported_or made.tokens made.next input go_on ≡ go_on step.next
 silent made step input go_on same none = rw (← same, none) refl
 
-reporting : (made step : Step) (token : Token) (input : List ℕ) (go_on : Reading → Next) → step ≡ made → step.tokens ≡ token ∷ [] → reported_or made.tokens made.next input go_on ≡ Reports token step.next input
+reporting : (made step : Step) (token : Token) (input : List ℕ) (go_on : Reading → Next) → step ≡ made → step.tokens ≡ token ∷ [] →
+    reported_or made.tokens made.next input go_on ≡ Reports token step.next input
 reporting made step token input go_on same one = rw (← same, one) refl
 
 -- a byte of a body is told
 no_byte : (made step : Step) (b : ℕ) (rest : List Token) → step ≡ made → made.tokens ≡ Byte b ∷ [] → step.tokens ++ rest ≡ [] → ⊥
 no_byte made step b rest same is none = cc (rw (same, is) at none)
 
-other_byte : (made step : Step) (b : ℕ) (token : Token) (rest : List Token) → ((c : ℕ) → token ≡ Byte c → ⊥) → step ≡ made → made.tokens ≡ Byte b ∷ [] → token ∷ [] ≡ step.tokens ++ rest → ⊥
+other_byte : (made step : Step) (b : ℕ) (token : Token) (rest : List Token) → ((c : ℕ) → token ≡ Byte c → ⊥) → step ≡ made → made.tokens ≡ Byte b ∷ [] →
+    token ∷ [] ≡ step.tokens ++ rest → ⊥
 other_byte made step b token rest other same is one =
     let all : token ∷ [] ≡ Byte b ∷ rest = rw (same, is) at one in
     other b cc
@@ -58,7 +61,8 @@ unfolding next_in
 done_next most [] = refl
 done_next most (b ∷ input) = refl
 
-byte_next : (most : ℕ) (s : Reading) (b : ℕ) (input : List ℕ) (step : Step) (rest : List Token) → Makes (move_of s b) step → [] ≡ step.tokens ++ rest → next_in most s (b ∷ input) ≡ next_in most step.next input
+byte_next : (most : ℕ) (s : Reading) (b : ℕ) (input : List ℕ) (step : Step) (rest : List Token) → Makes (move_of s b) step → [] ≡ step.tokens ++ rest →
+    next_in most s (b ∷ input) ≡ next_in most step.next input
 unfolding next_in move_of
 byte_next most (Counts left) b input step rest h none = absurd (no_byte _ step b rest h refl (sym none))
 byte_next most Runs b input step rest h none = absurd (no_byte _ step b rest h refl (sym none))
@@ -95,7 +99,8 @@ all_next most s t piece h = ap (next_in most s) (sym (append-nil piece)) ∙ pas
 
 -- A HEAD
 
-last_next : (most : ℕ) (s : Reading) (b : ℕ) (input : List ℕ) (token : Token) (step : Step) (rest : List Token) → ((c : ℕ) → token ≡ Byte c → ⊥) → Makes (move_of s b) step
+last_next : (most : ℕ) (s : Reading) (b : ℕ) (input : List ℕ) (token : Token) (step : Step) (rest : List Token) → ((c : ℕ) → token ≡ Byte c → ⊥) →
+    Makes (move_of s b) step
     → rest ≡ [] → token ∷ [] ≡ step.tokens ++ rest → next_in most s (b ∷ input) ≡ Reports token step.next input
 unfolding next_in move_of
 last_next most s b input token step rest other h none one = by s h where
@@ -113,7 +118,8 @@ last_next most s b input token step rest other h none one = by s h where
   by (Failed e) h = let never : [] ≡ token ∷ [] = ap (λ (m : Step). m.tokens) (sym h) ∙ only in absurd cc
   by v h = reporting _ step token input (λ t. next_in most t input) (makes_is (move_of v b) step h) only
 
-pub reports_next : (most : ℕ) (s : Reading) (text rest : List ℕ) (token : Token) (t : Reading) → ((c : ℕ) → token ≡ Byte c → ⊥) → ReportsAtLast s text token t → next_in most s (text ++ rest) ≡ Reports token t rest
+pub reports_next : (most : ℕ) (s : Reading) (text rest : List ℕ) (token : Token) (t : Reading) → ((c : ℕ) → token ≡ Byte c → ⊥) →
+    ReportsAtLast s text token t → next_in most s (text ++ rest) ≡ Reports token t rest
 reports_next most s text rest token t other h =
     rw (← h.whole, append_assoc, passes_next most s h.mid h.before (h.last ∷ rest) h.passes, h.reports.3.1)
     (last_next most h.mid h.last rest token h.reports.0 h.reports.1 other h.reports.2 h.reports.3.0 h.reports.4)
@@ -121,10 +127,12 @@ reports_next most s text rest token t other h =
 -- BYTES OF A BODY
 
 -- such bytes, which lead on
-brought_as : (k n : ℕ) (input bytes : List ℕ) (mid t : Reading) → k ≡ n → bytes ≡ take n input → t ≡ body_behind mid n → Brings (take k input) (body_behind mid k) (drop k input) ≡ Brings bytes t (drop n input)
+brought_as : (k n : ℕ) (input bytes : List ℕ) (mid t : Reading) → k ≡ n → bytes ≡ take n input → t ≡ body_behind mid n →
+    Brings (take k input) (body_behind mid k) (drop k input) ≡ Brings bytes t (drop n input)
 brought_as k n input bytes mid t same are there = rw (same, are, there) refl
 
-body_next : (most : ℕ) (mid : Reading) (input bytes : List ℕ) (t : Reading) → 0 < length bytes → bytes ≡ take (length bytes) input → length bytes ≡ min most (stretch mid (length input))
+body_next : (most : ℕ) (mid : Reading) (input bytes : List ℕ) (t : Reading) → 0 < length bytes → bytes ≡ take (length bytes) input → length bytes ≡ min
+    most (stretch mid (length input))
     → Leads mid bytes (byte_tokens bytes) t → next_in most mid input ≡ Brings bytes t (drop (length bytes) input)
 unfolding next_in
 body_next most mid [] bytes t some are count leads = absurd (omega (arith, ap length are, length-take {A = ℕ} (length bytes) []))
@@ -138,7 +146,8 @@ body_next most Runs (b ∷ input) bytes t some are count leads =
     brought_as _ (length bytes) (b ∷ input) bytes Runs t (omega arith) are one.next
 body_next most (Chunk left) (b ∷ input) bytes t some are count leads =
     let here : nat_lt 0 (min left 1) ≡ true = lt-ltb 0 (min left 1) (omega arith) in
-    let one = leads_one (Chunk left) bytes (byte_tokens bytes) (byte_tokens bytes) t (chunk (left - length bytes)) leads (chunk_on bytes left (omega arith) (omega arith)) in
+    let one = leads_one (Chunk left) bytes (byte_tokens bytes) (byte_tokens bytes) t (chunk (left - length bytes)) leads
+    (chunk_on bytes left (omega arith) (omega arith)) in
     rw here (brought_as _ (length bytes) (b ∷ input) bytes (Chunk left) t (omega arith) are one.next)
 body_next most (Heading kind scan text) (b ∷ input) bytes t some are count leads = absurd (omega arith)
 body_next most (Sizing text) (b ∷ input) bytes t some are count leads = absurd (omega arith)
@@ -149,9 +158,11 @@ body_next most Whole (b ∷ input) bytes t some are count leads = absurd (omega 
 body_next most Done (b ∷ input) bytes t some are count leads = absurd (omega arith)
 body_next most (Failed e) (b ∷ input) bytes t some are count leads = absurd (omega arith)
 
-brings_next : (most : ℕ) (s : Reading) (piece : List ℕ) (used : ℕ) (bytes : List ℕ) (t : Reading) → GivesBytes s piece most used bytes t → next_in most s piece ≡ Brings bytes t (drop used piece)
+brings_next : (most : ℕ) (s : Reading) (piece : List ℕ) (used : ℕ) (bytes : List ℕ) (t : Reading) → GivesBytes s piece most used bytes t → next_in
+    most s piece ≡ Brings bytes t (drop used piece)
 brings_next most s piece used bytes t h =
-    let left : drop (length bytes) (drop h.before piece) ≡ drop used piece = drop-drop (length bytes) h.before piece ∙ ap (λ (n : ℕ). drop n piece) (sym h.used_is) in
+    let left : drop (length bytes) (drop h.before piece) ≡ drop used piece = drop-drop (length bytes) h.before piece ∙
+    ap (λ (n : ℕ). drop n piece) (sym h.used_is) in
     front_next most s h.mid piece h.before h.passes
     ∙ body_next most h.mid (drop h.before piece) bytes t h.some h.bytes_are h.longest h.gives ∙ ap (λ (l : List ℕ). Brings bytes t l) left
 
@@ -166,37 +177,44 @@ open_next : (most : ℕ) (t : Reading) → goes_on t ≡ true → next_in most t
 unfolding next_in
 open_next most t h = waits t h
 
-pub error_next : (most : ℕ) (s : Reading) (piece : List ℕ) (e : MsgError) → (e ≡ error.NoMemory) ⊎ Leads s piece [] (Failed e) → IsNextError (next_in most s piece) e
+pub error_next : (most : ℕ) (s : Reading) (piece : List ℕ) (e : MsgError) → (e ≡ error.NoMemory) ⊎ Leads s piece [] (Failed e) →
+    IsNextError (next_in most s piece) e
 error_next most s piece e (inl memory) = inl memory
 error_next most s piece e (inr failed) = inr (all_next most s (Failed e) piece failed ∙ failed_next most e [])
 
-spent_next : (most : ℕ) (s : Reading) (piece : List ℕ) (used : ℕ) (t : Reading) → Leads s (take used piece) [] t → IsSpent s (length piece) used t → next_in most s piece ≡ Waits t
+spent_next : (most : ℕ) (s : Reading) (piece : List ℕ) (used : ℕ) (t : Reading) → Leads s (take used piece) [] t → IsSpent s (length piece) used t →
+    next_in most s piece ≡ Waits t
 spent_next most s piece used t leads (inl all) =
     rw (front_next most s t piece used leads, drop_all used piece (omega (arith, all.0))) (open_next most t all.1)
 spent_next most s piece used t leads (inr done) = rw (done.0, done.2) (done_next most piece)
 
-completes_next : (most : ℕ) (s : Reading) (piece : List ℕ) (used : ℕ) (got : Option WirePart) (t : Reading) → Completes s piece most used got t → IsNextPart (next_in most s piece) piece used got t
+completes_next : (most : ℕ) (s : Reading) (piece : List ℕ) (used : ℕ) (got : Option WirePart) (t : Reading) → Completes s piece most used got t →
+    IsNextPart (next_in most s piece) piece used got t
 completes_next most s piece used None t h = spent_next most s piece used t h.0 h.1
 completes_next most s piece used (Some (part.Head response)) t h =
     ap (next_in most s) (sym (take-append-drop used piece)) ∙ reports_next most s (take used piece) (drop used piece) (Answers response) t (λ c same. cc) h
 completes_next most s piece used (Some (part.Piece bytes)) t h = brings_next most s piece used bytes t h
 completes_next most s piece used (Some part.End) t h = front_next most s Whole piece used h.0 ∙ whole_next most (drop used piece)
 
-pub takes_next : (most : ℕ) (s : Reading) (piece : List ℕ) (result : Result (Taken WirePart) MsgError) (t : Reading) → Takes s piece most result t → TakesNext most s piece result t
+pub takes_next : (most : ℕ) (s : Reading) (piece : List ℕ) (result : Result (Taken WirePart) MsgError) (t : Reading) → Takes s piece most result t →
+    TakesNext most s piece result t
 takes_next most s piece (Ok taken) t h = completes_next most s piece taken.used taken.got t h.1
 takes_next most s piece (Err e) t h = error_next most s piece e h
 
-asks_next : (most : ℕ) (s : Reading) (piece : List ℕ) (used : ℕ) (got : Option WireRequest) (t : Reading) → goes_on t ≡ true → CompletesRequest s piece used got t → IsNextRequest (next_in most s piece) piece used got t
+asks_next : (most : ℕ) (s : Reading) (piece : List ℕ) (used : ℕ) (got : Option WireRequest) (t : Reading) → goes_on t ≡ true →
+    CompletesRequest s piece used got t → IsNextRequest (next_in most s piece) piece used got t
 asks_next most s piece used None t on h = all_next most s t piece h.1 ∙ open_next most t on
 asks_next most s piece used (Some request) t on h =
     ap (next_in most s) (sym (take-append-drop used piece)) ∙ reports_next most s (take used piece) (drop used piece) (Asks request) t (λ c same. cc) h
 
-pub takes_next_request : (s : Reading) (piece : List ℕ) (result : Result (Taken WireRequest) MsgError) (t : Reading) → goes_on t ≡ true → TakesRequest s piece result t → TakesNextRequest 1 s piece result t
+pub takes_next_request : (s : Reading) (piece : List ℕ) (result : Result (Taken WireRequest) MsgError) (t : Reading) → goes_on t ≡ true →
+    TakesRequest s piece result t → TakesNextRequest 1 s piece result t
 takes_next_request s piece (Ok taken) t on h = asks_next 1 s piece taken.used taken.got t on h.1
 takes_next_request s piece (Err e) t on h = error_next 1 s piece e h
 
 -- a reader that isn't at an error
-pub call_next : (stopped_at : Option MsgError) (call new : Call) (s : Reading) (piece : List ℕ) (taken : Taken WireRequest) → ((e : MsgError) → stopped_at ≡ Some e → ⊥) → asking_by stopped_at call ≡ s
+pub call_next : (stopped_at : Option MsgError) (call new : Call) (s : Reading) (piece : List ℕ) (taken : Taken WireRequest) →
+    ((e : MsgError) → stopped_at ≡ Some e → ⊥) → asking_by stopped_at call ≡ s
     → TakesRequest (asking call) piece (Ok taken) (asking new) → TakesNextRequest 1 s piece (Ok taken) (asking_by stopped_at new)
 call_next None call new s piece taken reads same h =
     subst (λ (r : Reading). TakesNextRequest 1 r piece (Ok taken) (asking new)) same (takes_next_request (asking call) piece (Ok taken) (asking new) refl h)

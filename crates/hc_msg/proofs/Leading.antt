@@ -46,7 +46,8 @@ leads_one s (b ∷ text) tokens more t u x y =
     search arith
 
 -- bytes that are put together
-pub leads_on : (s : Reading) (xs ys : List ℕ) (tokens more : List Token) (mid t : Reading) → Leads s xs tokens mid → Leads mid ys more t → Leads s (xs ++ ys) (tokens ++ more) t
+pub leads_on : (s : Reading) (xs ys : List ℕ) (tokens more : List Token) (mid t : Reading) → Leads s xs tokens mid → Leads mid ys more t →
+    Leads s (xs ++ ys) (tokens ++ more) t
 leads_on s [] ys tokens more mid t x y =
     subst (λ (l : List Token). Leads s ys (l ++ more) t) (sym x.0) (subst (λ (m : Reading). Leads m ys more t) x.1 y)
 leads_on s (b ∷ xs) ys tokens more mid t x y = (

@@ -37,12 +37,14 @@ some_looks : (next : Next) (piece : List ℕ) (used : ℕ) (p : WirePart) (t : R
 some_looks next piece used (part.Head response) t h = ap look_of (sym h)
 some_looks next piece used _ t h = ap look_of (sym h)
 
-pub part_looks : (s copy : Reading) (piece : List ℕ) (taken : Taken WirePart) (p : WirePart) (t : Reading) → copy ≡ s → taken.got ≡ Some p → Takes copy piece 1 (Ok taken) t → look.Part ≡ look_of (next_in 1 s piece)
+pub part_looks : (s copy : Reading) (piece : List ℕ) (taken : Taken WirePart) (p : WirePart) (t : Reading) → copy ≡ s → taken.got ≡ Some p →
+    Takes copy piece 1 (Ok taken) t → look.Part ≡ look_of (next_in 1 s piece)
 part_looks s copy piece taken p t same is takes =
     let next : IsNextPart (next_in 1 copy piece) piece taken.used taken.got t = takes_next 1 copy piece (Ok taken) t takes in
     grind (arith, nat_tests)
 
-pub none_looks : (s copy : Reading) (piece : List ℕ) (taken : Taken WirePart) (t : Reading) → copy ≡ s → taken.got ≡ None → Takes copy piece 1 (Ok taken) t → look.Waits ≡ look_of (next_in 1 s piece)
+pub none_looks : (s copy : Reading) (piece : List ℕ) (taken : Taken WirePart) (t : Reading) → copy ≡ s → taken.got ≡ None →
+    Takes copy piece 1 (Ok taken) t → look.Waits ≡ look_of (next_in 1 s piece)
 none_looks s copy piece taken t same is takes =
     let next : IsNextPart (next_in 1 copy piece) piece taken.used taken.got t = takes_next 1 copy piece (Ok taken) t takes in
     grind (arith, nat_tests)

@@ -19,12 +19,14 @@ use Rattle.hc_msg.proofs.{Leading.{leads_on, leads_byte, stays_failed, reports_o
 heard_leads : (nb : Bool) (scan : Scan) (held rest : List ℕ) (n : ℕ) (heard : HeadOutcome) → IsHeadEnd scan rest n → length held + n ≤ 32768
     → IsHeardIn nb (held ++ take n rest) heard
     → Leads (Heading (Responses nb) scan held) (take n rest) (after_heard nb heard).tokens (after_heard nb heard).next
-heard_leads nb scan held rest n heard ends short comes = heading_ends (Responses nb) scan held rest n (after_heard nb heard) ends short refl (heard, comes, refl)
+heard_leads nb scan held rest n heard ends short comes =
+    heading_ends (Responses nb) scan held rest n (after_heard nb heard) ends short refl (heard, comes, refl)
 
 no_error : {A : Type 0} (e : MsgError) (value : A) → Ok value ≡ Err e → ⊥
 no_error e value same = cc
 
-shown_moves : (nb : Bool) (scan : Scan) (held rest : List ℕ) (n most : ℕ) (rep : ParsedHead) (made : Moved) (t : Reading) (heard : HeadOutcome) → IsHeadEnd scan rest n → length held + n ≤ 32768 → n ≤ length rest
+shown_moves : (nb : Bool) (scan : Scan) (held rest : List ℕ) (n most : ℕ) (rep : ParsedHead) (made : Moved) (t : Reading) (heard : HeadOutcome) →
+    IsHeadEnd scan rest n → length held + n ≤ 32768 → n ≤ length rest
     → Hears (Ok rep) heard → IsHeardIn nb (held ++ take n rest) heard → Enters nb rep n made t
     → Moves (Heading (Responses nb) scan held) rest most (Ok made) t
 shown_moves nb scan held rest n most reply.Skips made t heard ends short within hears comes enters =
@@ -35,13 +37,16 @@ shown_moves nb scan held rest n most (reply.Shows response framing) made t heard
     let shown = heading_reports (Responses nb) scan held rest n (Answers response) (body framing) ends short refl (Shows response framing, shows, refl) in
     rw (enters.0, enters.1) (within, shown)
 
-pub head_moves : (nb : Bool) (scan : Scan) (held rest : List ℕ) (n most : ℕ) (rep : ParsedHead) (result : Result ParsedHead MsgError) (made : Moved) (t : Reading) → IsHeadEnd scan rest n → length held + n ≤ 32768 → n ≤ length rest
+pub head_moves : (nb : Bool) (scan : Scan) (held rest : List ℕ) (n most : ℕ) (rep : ParsedHead) (result : Result ParsedHead MsgError) (made : Moved)
+    (t : Reading) → IsHeadEnd scan rest n → length held + n ≤ 32768 → n ≤ length rest
     → Replied nb (held ++ take n rest) result → result ≡ Ok rep → Enters nb rep n made t → Moves (Heading (Responses nb) scan held) rest most (Ok made) t
 head_moves nb scan held rest n most rep result made t ends short within (inl failed) is enters = absurd (no_error error.NoMemory rep (sym is ∙ failed))
 head_moves nb scan held rest n most rep result made t ends short within (inr tokens) is enters =
-    shown_moves nb scan held rest n most rep made t tokens.heard ends short within (subst (λ (r : Result ParsedHead MsgError). Hears r tokens.heard) is tokens.hears) tokens.comes enters
+    shown_moves nb scan held rest n most rep made t tokens.heard ends short within
+    (subst (λ (r : Result ParsedHead MsgError). Hears r tokens.heard) is tokens.hears) tokens.comes enters
 
-refused_fails : (nb : Bool) (scan : Scan) (held rest : List ℕ) (n most : ℕ) (e : MsgError) (t : Reading) (heard : HeadOutcome) → IsHeadEnd scan rest n → length held + n ≤ 32768
+refused_fails : (nb : Bool) (scan : Scan) (held rest : List ℕ) (n most : ℕ) (e : MsgError) (t : Reading) (heard : HeadOutcome) → IsHeadEnd scan rest n →
+    length held + n ≤ 32768
     → Hears (Err e) heard → IsHeardIn nb (held ++ take n rest) heard → Moves (Heading (Responses nb) scan held) rest most (Err e) t
 refused_fails nb scan held rest n most e t heard ends short (inr memory) comes = inl memory
 refused_fails nb scan held rest n most e t heard ends short (inl refused) comes =
@@ -51,20 +56,23 @@ refused_fails nb scan held rest n most e t heard ends short (inl refused) comes 
     inr (subst (λ (l : List ℕ). Leads s l [] (Failed e)) (take-append-drop n rest)
     (leads_on s (take n rest) (drop n rest) [] [] (Failed e) (Failed e) failed (stays_failed e (drop n rest))))
 
-pub head_fails : (nb : Bool) (scan : Scan) (held rest : List ℕ) (n most : ℕ) (e f : MsgError) (result : Result ParsedHead MsgError) (t : Reading) → IsHeadEnd scan rest n → length held + n ≤ 32768
+pub head_fails : (nb : Bool) (scan : Scan) (held rest : List ℕ) (n most : ℕ) (e f : MsgError) (result : Result ParsedHead MsgError) (t : Reading) →
+    IsHeadEnd scan rest n → length held + n ≤ 32768
     → Replied nb (held ++ take n rest) result → result ≡ Err e → f ≡ e → Moves (Heading (Responses nb) scan held) rest most (Err f) t
 head_fails nb scan held rest n most e f result t ends short (inl failed) is same =
     let memory : e ≡ error.NoMemory = cc in
     inl (same ∙ memory)
 head_fails nb scan held rest n most e f result t ends short (inr tokens) is same =
     rw same
-    (refused_fails nb scan held rest n most e t tokens.heard ends short (subst (λ (r : Result ParsedHead MsgError). Hears r tokens.heard) is tokens.hears) tokens.comes)
+    (refused_fails nb scan held rest n most e t tokens.heard ends short (subst (λ (r : Result ParsedHead MsgError). Hears r tokens.heard) is tokens.hears)
+    tokens.comes)
 
 pub head_long : (nb : Bool) (scan : Scan) (held rest : List ℕ) (most : ℕ) (e : MsgError) (t : Reading) → e ≡ error.HeadTooLong → IsLong (length held) scan rest
     → Moves (Heading (Responses nb) scan held) rest most (Err e) t
 head_long nb scan held rest most e t same long = inr (rw same (heading_long (Responses nb) scan held rest long refl))
 
-pub head_open : (nb : Bool) (scan next : Scan) (held rest grown : List ℕ) (most : ℕ) → StaysOpen scan rest next → length held + length rest ≤ 32768 → grown ≡ held ++ rest → 0 < length rest
+pub head_open : (nb : Bool) (scan next : Scan) (held rest grown : List ℕ) (most : ℕ) → StaysOpen scan rest next → length held + length rest ≤ 32768 →
+    grown ≡ held ++ rest → 0 < length rest
     → Moves (Heading (Responses nb) scan held) rest most (Ok (moved.Passes (length rest))) (Heading (Responses nb) next grown)
 head_open nb scan next held rest grown most stays short grows some =
     let s = Heading (Responses nb) scan held in
@@ -72,10 +80,12 @@ head_open nb scan next held rest grown most stays short grows some =
     (some, omega arith, rw (take_all (length rest) rest (omega arith), grows, stays.leads) leads)
 
 -- chunk lines
-pub line_too_long : (held rest : List ℕ) (most : ℕ) (e : MsgError) (t : Reading) → e ≡ error.BadChunk → IsLongLine (length held) rest → Moves (Sizing held) rest most (Err e) t
+pub line_too_long : (held rest : List ℕ) (most : ℕ) (e : MsgError) (t : Reading) → e ≡ error.BadChunk → IsLongLine (length held) rest →
+    Moves (Sizing held) rest most (Err e) t
 line_too_long held rest most e t same long = inr (rw same (line_long held rest long))
 
-pub line_stays : (held rest grown : List ℕ) (most : ℕ) (t : Reading) → lacks 10 rest ≡ true → length held + length rest ≤ 1024 → grown ≡ held ++ rest → t ≡ Sizing grown → 0 < length rest
+pub line_stays : (held rest grown : List ℕ) (most : ℕ) (t : Reading) → lacks 10 rest ≡ true → length held + length rest ≤ 1024 → grown ≡ held ++ rest →
+    t ≡ Sizing grown → 0 < length rest
     → Moves (Sizing held) rest most (Ok (moved.Passes (length rest))) t
 line_stays held rest grown most t line short grows there some =
     (some, omega arith, rw (take_all (length rest) rest (omega arith), there, grows) (line_on rest held line short))
@@ -84,20 +94,23 @@ line_leads : (held rest : List ℕ) (at : ℕ) (size : Option ℕ) → IsLineBef
     → Leads (Sizing held) (take (at + 1) rest) (after_line size).tokens (after_line size).next
 line_leads held rest at size line short says = line_ends held rest at (after_line size) line short (size, says, refl)
 
-pub line_bad : (held rest : List ℕ) (at most : ℕ) (t : Reading) → IsLineBefore rest at → length held + (at + 1) ≤ 1024 → LineSays (held ++ take (at + 1) rest) None
+pub line_bad : (held rest : List ℕ) (at most : ℕ) (t : Reading) → IsLineBefore rest at → length held + (at + 1) ≤ 1024 →
+    LineSays (held ++ take (at + 1) rest) None
     → Moves (Sizing held) rest most (Err error.BadChunk) t
 line_bad held rest at most t line short says =
     inr (subst (λ (l : List ℕ). Leads (Sizing held) l [] (Failed error.BadChunk)) (take-append-drop (at + 1) rest)
     (leads_on (Sizing held) (take (at + 1) rest) (drop (at + 1) rest) [] [] (Failed error.BadChunk) (Failed error.BadChunk)
     (line_leads held rest at None line short says) (stays_failed error.BadChunk (drop (at + 1) rest))))
 
-pub line_moves : (held rest : List ℕ) (at most size : ℕ) (t : Reading) → IsLineBefore rest at → length held + (at + 1) ≤ 1024 → at < length rest → LineSays (held ++ take (at + 1) rest) (Some size) → t ≡ reading_of_chunk size
+pub line_moves : (held rest : List ℕ) (at most size : ℕ) (t : Reading) → IsLineBefore rest at → length held + (at + 1) ≤ 1024 → at < length rest →
+    LineSays (held ++ take (at + 1) rest) (Some size) → t ≡ reading_of_chunk size
     → Moves (Sizing held) rest most (Ok (moved.Passes (at + 1))) t
 line_moves held rest at most size t line short within says there =
     (omega arith, omega arith, rw there (line_leads held rest at (Some size) line short says))
 
 -- bodies
-pub counted_moves : (left most n : ℕ) (rest : List ℕ) (made : Moved) (t : Reading) → 0 < left → 0 < length rest → 0 < most → n ≡ min most (min left (length rest))
+pub counted_moves : (left most n : ℕ) (rest : List ℕ) (made : Moved) (t : Reading) → 0 < left → 0 < length rest → 0 < most → n ≡ min
+    most (min left (length rest))
     → made ≡ moved.Gives n (part.Piece (take n rest)) → t ≡ counts (left - n) → Moves (Counts left) rest most (Ok made) t
 counted_moves left most n rest made t some here much count is there =
     let len : length (take n rest) ≡ n = length-take n rest ∙ omega arith in
@@ -111,7 +124,8 @@ chunk_moves left most n rest made t some here much count is there =
     let leads = rw len at (chunk_on (take n rest) left (omega (arith, len)) some) in
     rw (is, there) (omega arith, (refl, omega arith, count, leads))
 
-pub run_moves : (most n : ℕ) (rest : List ℕ) (result : Result Moved MsgError) → 0 < length rest → 0 < most → n ≡ min (length rest) most → IsPieceOf rest n result → Moves Runs rest most result Runs
+pub run_moves : (most n : ℕ) (rest : List ℕ) (result : Result Moved MsgError) → 0 < length rest → 0 < most → n ≡ min (length rest) most →
+    IsPieceOf rest n result → Moves Runs rest most result Runs
 run_moves most n rest (Ok made) here much count is =
     rw is (omega arith, (refl, omega arith, omega arith, runs_on (take n rest)))
 run_moves most n rest (Err e) here much count is = inl is
@@ -123,15 +137,18 @@ first_byte rest some = grind (arith, nat_tests)
 split_first : (rest : List ℕ) → 0 < length rest → rest ≡ get_or rest 0 0 ∷ drop 1 rest
 split_first rest some = grind (arith, nat_tests)
 
-pub byte_passes : (s t : Reading) (rest : List ℕ) (most : ℕ) → 0 < length rest → Makes (move_of s (get_or rest 0 0)) (quiet t) → Moves s rest most (Ok (moved.Passes 1)) t
+pub byte_passes : (s t : Reading) (rest : List ℕ) (most : ℕ) → 0 < length rest → Makes (move_of s (get_or rest 0 0)) (quiet t) →
+    Moves s rest most (Ok (moved.Passes 1)) t
 byte_passes s t rest most some makes =
     (omega arith, omega arith, subst (λ (l : List ℕ). Leads s l [] t) (sym (first_byte rest some)) (leads_byte s (get_or rest 0 0) (quiet t) makes))
 
-pub byte_fails : (s t : Reading) (rest : List ℕ) (most : ℕ) (e : MsgError) → 0 < length rest → Makes (move_of s (get_or rest 0 0)) (fails e) → Moves s rest most (Err e) t
+pub byte_fails : (s t : Reading) (rest : List ℕ) (most : ℕ) (e : MsgError) → 0 < length rest → Makes (move_of s (get_or rest 0 0)) (fails e) →
+    Moves s rest most (Err e) t
 byte_fails s t rest most e some makes =
     inr (subst (λ (l : List ℕ). Leads s l [] (Failed e)) (sym (split_first rest some)) (fails e, [], makes, stays_failed e (drop 1 rest), refl))
 
-pub chunk_end_moves : (nb : Bool) (next : State) (held rest : List ℕ) (most : ℕ) (result : Result Moved MsgError) → 0 < length rest → Expects (get_or rest 0 0 == 13) result
+pub chunk_end_moves : (nb : Bool) (next : State) (held rest : List ℕ) (most : ℕ) (result : Result Moved MsgError) → 0 < length rest →
+    Expects (get_or rest 0 0 == 13) result
     → OnOk result (next ≡ state.ChunkReturn) → Moves ChunkEnd rest most result (reading_by nb next held)
 unfolding move_of
 chunk_end_moves nb next held rest most (Ok made) some expects there =
@@ -139,7 +156,8 @@ chunk_end_moves nb next held rest most (Ok made) some expects there =
 chunk_end_moves nb next held rest most (Err e) some expects there =
     rw expects.1 (byte_fails ChunkEnd (reading_by nb next held) rest most error.BadChunk some (rw expects.0 refl))
 
-pub chunk_return_moves : (nb : Bool) (next : State) (held rest : List ℕ) (most : ℕ) (result : Result Moved MsgError) → 0 < length rest → Expects (get_or rest 0 0 == 10) result
+pub chunk_return_moves : (nb : Bool) (next : State) (held rest : List ℕ) (most : ℕ) (result : Result Moved MsgError) → 0 < length rest →
+    Expects (get_or rest 0 0 == 10) result
     → OnOk result (next ≡ state.Sizing) → held ≡ [] → Moves ChunkReturn rest most result (reading_by nb next held)
 unfolding move_of
 chunk_return_moves nb next held rest most (Ok made) some expects there none =
@@ -159,7 +177,8 @@ trail_moves place count rest most (Err e) t some tokens =
 further : (piece : List ℕ) (used n : ℕ) → take (used + n) piece ≡ take used piece ++ take n (drop used piece)
 further piece used n = take-add used n piece
 
-pub passes_on : (s mid t : Reading) (piece : List ℕ) (used n : ℕ) → Leads s (take used piece) [] mid → Leads mid (take n (drop used piece)) [] t → Leads s (take (used + n) piece) [] t
+pub passes_on : (s mid t : Reading) (piece : List ℕ) (used n : ℕ) → Leads s (take used piece) [] mid → Leads mid (take n (drop used piece)) [] t →
+    Leads s (take (used + n) piece) [] t
 passes_on s mid t piece used n before behind =
     rw (further piece used n) (leads_on s (take used piece) (take n (drop used piece)) [] [] mid t before behind)
 
@@ -186,7 +205,8 @@ gives_on s mid t piece used n most (part.Piece bytes) within before moves =
     )
 gives_on s mid t piece used n most part.End within before moves = absurd moves.1
 
-pub fails_on : (s mid : Reading) (piece : List ℕ) (used : ℕ) (e : MsgError) → Leads s (take used piece) [] mid → (e ≡ error.NoMemory) ⊎ Leads mid (drop used piece) [] (Failed e)
+pub fails_on : (s mid : Reading) (piece : List ℕ) (used : ℕ) (e : MsgError) → Leads s (take used piece) [] mid →
+    (e ≡ error.NoMemory) ⊎ Leads mid (drop used piece) [] (Failed e)
     → (e ≡ error.NoMemory) ⊎ Leads s piece [] (Failed e)
 fails_on s mid piece used e before (inl memory) = inl memory
 fails_on s mid piece used e before (inr failed) =

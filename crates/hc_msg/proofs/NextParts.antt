@@ -104,7 +104,8 @@ move_fair _ b on = let never : false ≡ true = on in absurd cc
 -- WHAT STANDS NEXT
 
 -- behind a byte that tells nothing
-passes_stands : (most : ℕ) (s : Reading) (b : ℕ) (input : List ℕ) (t : Reading) (n : Next) → Leads s (b ∷ []) [] t → IsBefore t → StandsNext most t input n → StandsNext most s (b ∷ input) n
+passes_stands : (most : ℕ) (s : Reading) (b : ℕ) (input : List ℕ) (t : Reading) (n : Next) → Leads s (b ∷ []) [] t → IsBefore t →
+    StandsNext most t input n → StandsNext most s (b ∷ input) n
 passes_stands most s b input t (Waits u) on before (inl h) = inl (leads_on s (b ∷ []) input [] [] t u on h.0, h.1)
 passes_stands most s b input t (Waits u) on before (inr h) = absurd (subst IsBefore h.0 before)
 passes_stands most s b input t (Reports token u rest) on before h = record {
@@ -128,14 +129,23 @@ passes_stands most s b input t Ends on before h = record {
 }
 passes_stands most s b input t (Fails e) on before h = leads_on s (b ∷ []) input [] [] t (Failed e) on h
 
-step_stands : (most : ℕ) (s : Reading) (b : ℕ) (input : List ℕ) (tokens : List Token) (t : Reading) → Makes (move_of s b) (record { tokens = tokens; next = t }) → IsShort tokens → IsBefore t
+step_stands : (most : ℕ) (s : Reading) (b : ℕ) (input : List ℕ) (tokens : List Token) (t : Reading) →
+    Makes (move_of s b) (record { tokens = tokens; next = t }) → IsShort tokens → IsBefore t
     → StandsNext most t input (next_in most t input) → StandsNext most s (b ∷ input) (reported_or tokens t input (λ r. next_in most r input))
 step_stands most s b input [] t makes short before h =
     passes_stands most s b input t (next_in most t input) (leads_byte s b (record { tokens = []; next = t }) makes) before h
 step_stands most s b input (token ∷ []) t makes short before h = record {
   front = b ∷ [];
   whole = refl;
-  reports = record { before = []; last = b; mid = s; whole = refl; passes = (refl, refl); reports = leads_byte s b (record { tokens = token ∷ []; next = t }) makes };
+  reports = record {
+    before = [];
+    last = b;
+    mid = s;
+    whole = refl;
+    passes = (refl, refl);
+    reports =
+        leads_byte s b (record { tokens = token ∷ []; next = t }) makes;
+  };
 }
 step_stands most s b input (token ∷ next ∷ more) t makes short before h = absurd short
 
@@ -143,10 +153,12 @@ made_stands : (most : ℕ) (s : Reading) (b : ℕ) (input : List ℕ) → goes_o
     → StandsNext most s (b ∷ input) (reported_or (step_of (move_of s b)).tokens (step_of (move_of s b)).next input (λ r. next_in most r input))
 made_stands most s b input on h =
     let fair = move_fair s b on in
-    step_stands most s b input (step_of (move_of s b)).tokens (step_of (move_of s b)).next (makes_step (move_of s b) fair.goes) fair.fair.short fair.fair.before (h (step_of (move_of s b)).next)
+    step_stands most s b input (step_of (move_of s b)).tokens (step_of (move_of s b)).next (makes_step (move_of s b) fair.goes) fair.fair.short
+    fair.fair.before (h (step_of (move_of s b)).next)
 
 -- within a body
-body_stands : (most n : ℕ) (s : Reading) (input : List ℕ) → n ≡ min most (stretch s (length input)) → n ≤ length input → Leads s (take n input) (byte_tokens (take n input)) (body_behind s n) → StandsNext most s input (brought s n input)
+body_stands : (most n : ℕ) (s : Reading) (input : List ℕ) → n ≡ min most (stretch s (length input)) → n ≤ length input →
+    Leads s (take n input) (byte_tokens (take n input)) (body_behind s n) → StandsNext most s input (brought s n input)
 body_stands most n s input count fits leads =
     let same : take n input ++ drop n input ≡ input = take-append-drop n input in
     let len : length (take n input) ≡ n = length-take n input ∙ omega (arith, fits) in
@@ -159,12 +171,14 @@ body_stands most n s input count fits leads =
       gives = leads;
     }
 
-counted_leads : (left n : ℕ) (input : List ℕ) → 0 < left → n ≤ left → n ≤ length input → Leads (Counts left) (take n input) (byte_tokens (take n input)) (counts (left - n))
+counted_leads : (left n : ℕ) (input : List ℕ) → 0 < left → n ≤ left → n ≤ length input →
+    Leads (Counts left) (take n input) (byte_tokens (take n input)) (counts (left - n))
 counted_leads left n input some low fits =
     let len : length (take n input) ≡ n = length-take n input ∙ omega (arith, fits) in
     rw (counts_some left some, len) at (counts_on (take n input) left (omega (arith, len, low)))
 
-chunk_leads : (left n : ℕ) (input : List ℕ) → 0 < left → n ≤ left → n ≤ length input → Leads (Chunk left) (take n input) (byte_tokens (take n input)) (chunk (left - n))
+chunk_leads : (left n : ℕ) (input : List ℕ) → 0 < left → n ≤ left → n ≤ length input →
+    Leads (Chunk left) (take n input) (byte_tokens (take n input)) (chunk (left - n))
 chunk_leads left n input some low fits =
     let len : length (take n input) ≡ n = length-take n input ∙ omega (arith, fits) in
     rw len at (chunk_on (take n input) left (omega (arith, len, low)) some)

@@ -47,7 +47,8 @@ extension_of (b ∷ text) h =
     (Some text, AllPass-from_list_all is_extension_byte text parts.1, ap (λ (c : ℕ). c ∷ text) (eqb-true b 59 parts.0))
 
 -- a line that is printed has its size
-size_reads : (l : ChunkLine) → IsChunkLine l → chunk_size l < 2 ^ 62 → size_by (l.digits ++ (l.pad ++ print_extension l.extension)) (13 ∷ 10 ∷ []) ≡ Some (chunk_size l)
+size_reads : (l : ChunkLine) → IsChunkLine l → chunk_size l < 2 ^ 62 →
+    size_by (l.digits ++ (l.pad ++ print_extension l.extension)) (13 ∷ 10 ∷ []) ≡ Some (chunk_size l)
 size_reads l is small =
     let digits = list_all-from_AllPass is_ascii_hexdigit l.digits is.digits.2 in
     let pad = list_all-from_AllPass is_ows l.pad is.pad in
@@ -60,7 +61,8 @@ size_reads l is small =
     let fourth : behind_pad (behind_digits (l.digits ++ rest)) ≡ print_extension l.extension = ap behind_pad second ∙ third in
     holds (digits_in (l.digits ++ rest)) (behind_pad (behind_digits (l.digits ++ rest))) first fourth where
       holds : (digits behind : List ℕ) → digits ≡ l.digits → behind ≡ print_extension l.extension
-          → (if bytes_eq (13 ∷ 10 ∷ []) (13 ∷ 10 ∷ []) && nat_lt 0 (length digits) && nat_le (length digits) 16 && is_extension behind && nat_lt (digits_value 16 digits) (2 ^ 62)
+          → (if bytes_eq (13 ∷ 10 ∷ []) (13 ∷ 10 ∷ []) && nat_lt 0 (length digits) && nat_le (length digits) 16 && is_extension behind && nat_lt
+          (digits_value 16 digits) (2 ^ 62)
           then Some (digits_value 16 digits) else None) ≡ Some (chunk_size l)
       holds digits behind same rest =
           let some : nat_lt 0 (length l.digits) ≡ true = lt-ltb 0 (length l.digits) is.digits.0 in
@@ -88,25 +90,34 @@ unfolding print_chunk_line
 size_makes text end n h = elim (cases_Bool (is_chunk_line text end)) [
   | inr miss ↦ absurd (not_some n (rw miss at h))
   | inl hit ↦ (let size : digits_value 16 (digits_in text) ≡ n = some_same (digits_value 16 (digits_in text)) n (rw hit at h) in
-      let a = and_parts (bytes_eq end (13 ∷ 10 ∷ []) && nat_lt 0 (length (digits_in text)) && nat_le (length (digits_in text)) 16 && is_extension (behind_pad (behind_digits text))) (nat_lt (digits_value 16 (digits_in text)) (2 ^ 62)) hit in
-      let b = and_parts (bytes_eq end (13 ∷ 10 ∷ []) && nat_lt 0 (length (digits_in text)) && nat_le (length (digits_in text)) 16) (is_extension (behind_pad (behind_digits text))) a.0 in
+      let a = and_parts (bytes_eq end (13 ∷ 10 ∷ []) && nat_lt 0 (length (digits_in text)) && nat_le (length (digits_in text)) 16 && is_extension
+      (behind_pad (behind_digits text))) (nat_lt (digits_value 16 (digits_in text)) (2 ^ 62)) hit in
+      let b = and_parts (bytes_eq end (13 ∷ 10 ∷ []) && nat_lt 0 (length (digits_in text)) && nat_le (length (digits_in text)) 16)
+      (is_extension (behind_pad (behind_digits text))) a.0 in
       let c = and_parts (bytes_eq end (13 ∷ 10 ∷ []) && nat_lt 0 (length (digits_in text))) (nat_le (length (digits_in text)) 16) b.0 in
       let d = and_parts (bytes_eq end (13 ∷ 10 ∷ [])) (nat_lt 0 (length (digits_in text))) c.0 in
       let extension = extension_of (behind_pad (behind_digits text)) b.1 in
       let pad = take (prefix_len is_ows (behind_digits text)) (behind_digits text) in
       let crlf_is : end ≡ 13 ∷ 10 ∷ [] = (bytes_eq-Decides end (13 ∷ 10 ∷ [])).0 d.0 in
-      let tail : behind_digits text ≡ pad ++ print_extension extension.0 = sym (take-append-drop (prefix_len is_ows (behind_digits text)) (behind_digits text)) ∙ ap (λ (t : List ℕ). pad ++ t) extension.2 in
-      let body : text ≡ digits_in text ++ (pad ++ print_extension extension.0) = sym (take-append-drop (prefix_len is_ascii_hexdigit text) text) ∙ ap (λ (t : List ℕ). digits_in text ++ t) tail in
+      let tail : behind_digits text ≡ pad ++ print_extension extension.0 =
+      sym (take-append-drop (prefix_len is_ows (behind_digits text)) (behind_digits text)) ∙ ap (λ (t : List ℕ). pad ++ t) extension.2 in
+      let body : text ≡ digits_in text ++ (pad ++ print_extension extension.0) = sym (take-append-drop (prefix_len is_ascii_hexdigit text) text) ∙
+      ap (λ (t : List ℕ). digits_in text ++ t) tail in
       let l : ChunkLine = record { digits = digits_in text; pad = pad; extension = extension.0 } in (
         l,
         record {
           reads = (
             record {
-              digits = (ltb-true 0 (length (digits_in text)) d.1, leb-true (length (digits_in text)) 16 c.1, AllPass-from_list_all is_ascii_hexdigit (digits_in text) (run_all is_ascii_hexdigit text));
+              digits = (
+                ltb-true 0 (length (digits_in text)) d.1,
+                leb-true (length (digits_in text)) 16 c.1,
+                AllPass-from_list_all is_ascii_hexdigit (digits_in text) (run_all is_ascii_hexdigit text),
+              );
               pad = AllPass-from_list_all is_ows pad (run_all is_ows (behind_digits text));
               extension = extension.1;
             },
-            ap (λ (t : List ℕ). t ++ end) body ∙ ap (λ (e : List ℕ). (digits_in text ++ (pad ++ print_extension extension.0)) ++ e) crlf_is ∙ sym (printed_apart l) ∙ sym (append-nil (print_chunk_line l)),
+            ap (λ (t : List ℕ). t ++ end) body ∙ ap (λ (e : List ℕ). (digits_in text ++ (pad ++ print_extension extension.0)) ++ e) crlf_is ∙
+                sym (printed_apart l) ∙ sym (append-nil (print_chunk_line l)),
           );
           size_is = sym size;
           small = omega (arith, size, ltb-true (digits_value 16 (digits_in text)) (2 ^ 62) a.1);

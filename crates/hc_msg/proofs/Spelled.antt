@@ -19,8 +19,10 @@ asked_spelled : (text : List ℕ) (asked : Asked) → length text ≤ 32768 → 
 asked_spelled text (Grants request) short h = All-cons IsSpelled (Asks request) [] (granted_spelled text request short h) none_spelled
 asked_spelled text (Denies e) short h = none_spelled
 
-heard_spelled : (no_body : Bool) (text : List ℕ) (heard : HeadOutcome) → length text ≤ 32768 → IsHeardIn no_body text heard → All IsSpelled (after_heard no_body heard).tokens
-heard_spelled no_body text (Shows response framing) short h = All-cons IsSpelled (Answers response) [] (shown_spelled no_body text response framing short h) none_spelled
+heard_spelled : (no_body : Bool) (text : List ℕ) (heard : HeadOutcome) → length text ≤ 32768 → IsHeardIn no_body text heard →
+    All IsSpelled (after_heard no_body heard).tokens
+heard_spelled no_body text (Shows response framing) short h =
+    All-cons IsSpelled (Answers response) [] (shown_spelled no_body text response framing short h) none_spelled
 heard_spelled no_body text _ short h = none_spelled
 
 head_spelled : (kind : Kind) (text : List ℕ) (step : Step) → length text ≤ 32768 → HeadMakes kind text step → All IsSpelled step.tokens
@@ -41,7 +43,8 @@ trail_spelled _ = none_spelled
 byte_spelled : (b : ℕ) → All IsSpelled (Byte b ∷ [])
 byte_spelled b = All-cons IsSpelled (Byte b) [] tt none_spelled
 
-heading_spelled : (kind : Kind) (scan : Scan) (text : List ℕ) (b : ℕ) (step : Step) → Makes (move_of (Heading kind scan text) b) step → All IsSpelled step.tokens
+heading_spelled : (kind : Kind) (scan : Scan) (text : List ℕ) (b : ℕ) (step : Step) → Makes (move_of (Heading kind scan text) b) step →
+    All IsSpelled step.tokens
 unfolding move_of
 heading_spelled kind scan text b step h = elim (cases_Bool (nat_lt (length text) 32768)) [
   | inr long ↦ (let is = rw long at h in goes_spelled _ step none_spelled is)
@@ -60,7 +63,8 @@ sizing_spelled : (text : List ℕ) (b : ℕ) (step : Step) → Makes (move_of (S
 unfolding move_of
 sizing_spelled text b step h = grind (arith, nat_tests)
 
-returned_spelled : (b c : ℕ) (one two : Step) → All IsSpelled one.tokens → All IsSpelled two.tokens → (step : Step) → step ≡ (if b == c then one else two) → All IsSpelled step.tokens
+returned_spelled : (b c : ℕ) (one two : Step) → All IsSpelled one.tokens → All IsSpelled two.tokens → (step : Step) →
+    step ≡ (if b == c then one else two) → All IsSpelled step.tokens
 returned_spelled b c one two first second step h = grind (arith, nat_tests)
 
 step_spelled : (s : Reading) (b : ℕ) (step : Step) → Makes (move_of s b) step → All IsSpelled step.tokens
@@ -81,17 +85,20 @@ tokens_spelled s (b ∷ text) tokens t h =
     subst (All IsSpelled) (sym h.4) (All-append IsSpelled h.0.tokens h.1 (step_spelled s b h.0 h.2) (tokens_spelled h.0.next text h.1 t h.3))
 
 -- what the readers give
-pub request_spelled : (s : Reading) (piece : List ℕ) (result : Result (Taken WireRequest) MsgError) (t : Reading) → TakesRequest s piece result t → GivesSpelled (λ request. IsSpelled (Asks request)) result
+pub request_spelled : (s : Reading) (piece : List ℕ) (result : Result (Taken WireRequest) MsgError) (t : Reading) → TakesRequest s piece result t →
+    GivesSpelled (λ request. IsSpelled (Asks request)) result
 request_spelled s piece (Err e) t h = tt
 request_spelled s piece (Ok taken) t h = given taken.got h.1 where
   given : (got : Option WireRequest) → CompletesRequest s piece taken.used got t → IfSome got (λ request. IsSpelled (Asks request))
   given None h = tt
   given (Some request) h = All-head IsSpelled (Asks request) [] (tokens_spelled s _ (Asks request ∷ []) t (reports_leads s _ (Asks request) t h))
 
-pub part_spelled : (s : Reading) (piece : List ℕ) (most : ℕ) (result : Result (Taken WirePart) MsgError) (t : Reading) → Takes s piece most result t → GivesSpelled (IsSpelledPart most) result
+pub part_spelled : (s : Reading) (piece : List ℕ) (most : ℕ) (result : Result (Taken WirePart) MsgError) (t : Reading) → Takes s piece most result t →
+    GivesSpelled (IsSpelledPart most) result
 part_spelled s piece most (Err e) t h = tt
 part_spelled s piece most (Ok taken) t h = given taken.got h.1 where
   given : (got : Option WirePart) → Completes s piece most taken.used got t → IfSome got (IsSpelledPart most)
-  given (Some (part.Head response)) h = All-head IsSpelled (Answers response) [] (tokens_spelled s _ (Answers response ∷ []) t (reports_leads s _ (Answers response) t h))
+  given (Some (part.Head response)) h =
+      All-head IsSpelled (Answers response) [] (tokens_spelled s _ (Answers response ∷ []) t (reports_leads s _ (Answers response) t h))
   given (Some (part.Piece bytes)) h = (h.some, omega (arith, h.longest))
   given _ h = tt

@@ -80,9 +80,12 @@ module _ (t : Tables) (law : Lawful t) (x c : ℕ) (w : Exchange) (k : rows.Cons
     | inr ne ↦ then_false w.is_open (nat_eq (family x w) q) (eqb-other (family x w) q ne)
   ]
 
-  pub stands_broken : {B : Type 0} {g : Ghosts B} {limits : Limits} (r mid down u : Rows B g) (q : Consumer) → RowsStand limits r t → get nat_eq r.consumers c ≡ Some q → LeavesPlace r mid c q
-      → down.last_start ≡ mid.last_start → down.exchanges ≡ mid.exchanges → down.keys ≡ mid.keys → down.entries ≡ mid.entries → ChangesAt mid.consumers down.consumers c (put_down why)
-      → u.last_start ≡ down.last_start → u.consumers ≡ down.consumers → u.keys ≡ down.keys → u.entries ≡ down.entries → exch.Becomes known.without_exchange x down.exchanges u.exchanges
+  pub stands_broken : {B : Type 0} {g : Ghosts B} {limits : Limits} (r mid down u : Rows B g) (q : Consumer) → RowsStand limits r t →
+      get nat_eq r.consumers c ≡ Some q → LeavesPlace r mid c q
+      → down.last_start ≡ mid.last_start → down.exchanges ≡ mid.exchanges → down.keys ≡ mid.keys → down.entries ≡ mid.entries →
+      ChangesAt mid.consumers down.consumers c (put_down why)
+      → u.last_start ≡ down.last_start → u.consumers ≡ down.consumers → u.keys ≡ down.keys → u.entries ≡ down.entries →
+      exch.Becomes known.without_exchange x down.exchanges u.exchanges
       → RowsStand limits u (with_consumer c (Some (effects.put_down why k)) (with_exchange x (Some (over w)) t))
   stands_broken {limits = limits} r mid down u q stands at left last exchanges keys entries changes last_u consumers_u keys_u entries_u closes =
       subst (RowsStand limits u) (closed_is s x w waits.row)
@@ -92,5 +95,6 @@ module _ (t : Tables) (law : Lawful t) (x c : ℕ) (w : Exchange) (k : rows.Cons
       now = stands_down r down t law c q k waits.consumer at stands (last ∙ left.last_start)
           (subst (λ z. Rattle.hc_state.specs.Leaving.LeavesKey c q.request.key r.keys z) (sym keys) left.line)
           (subst (λ z. Rattle.hc_state.specs.Leaving.Forgets q.own r.exchanges z) (sym exchanges) left.forgets)
-          (subst (λ z. Rattle.hc_state.specs.Leaving.UnbindsAt q.place c (Rattle.hc_stored.specs.Entries.shelf_of r.entries) (Rattle.hc_stored.specs.Entries.shelf_of z)) (sym entries) left.unbinds)
+          (subst (λ z. Rattle.hc_state.specs.Leaving.UnbindsAt q.place c (Rattle.hc_stored.specs.Entries.shelf_of r.entries)
+          (Rattle.hc_stored.specs.Entries.shelf_of z)) (sym entries) left.unbinds)
           why unanswered (subst (λ z. ChangesAt z down.consumers c (put_down why)) left.consumers changes)

@@ -13,7 +13,8 @@ pub comes_below : {B : Type 0} {g : Ghosts B} (r : Rows B g) (x n : ℕ) (o : Op
 comes_below r x n o comes = let short = comes.short in ends_below r x n comes.stands (omega (arith, short)) (table_of r.exchanges x).running refl comes.accepted
 
 -- as long as the exchanges are as they were, it may be brought to whatever is kept
-pub may_bring : {B : Type 0} {g : Ghosts B} (r u : Rows B g) (x q n : ℕ) (o : Option ℕ) → IsPieceFor r x n o → u.exchanges ≡ r.exchanges → is_kept (shelf_of u.entries) q ≡ true → MayBring u x q n
+pub may_bring : {B : Type 0} {g : Ghosts B} (r u : Rows B g) (x q n : ℕ) (o : Option ℕ) → IsPieceFor r x n o → u.exchanges ≡ r.exchanges →
+    is_kept (shelf_of u.entries) q ≡ true → MayBring u x q n
 may_bring r u x q n o comes same there = record {
   there = there;
   accepted = subst (λ (e : Exchanges). piece_refusal (option_map open_view (table_of e x).running) n ≡ None) (sym same) comes.accepted;

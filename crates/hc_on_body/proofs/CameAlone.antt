@@ -14,7 +14,8 @@ NobodyFirst t x = (d : ℕ) → is_first t x (t.consumer d) ≡ false
 pub nobody_first : (t : Tables) (x : ℕ) (v : Representation) → Sound t → Measures t → t.representation x ≡ Some v → v.head.total ≡ None → NobodyFirst t x
 nobody_first t x v s measures there unknown d = by_row (t.consumer d) refl
   where
-    never : (k : rows.Consumer) → t.consumer d ≡ Some k → (lo : ℕ) (hi : Option ℕ) (how : BoundBy) → k.place ≡ place.Bound x lo hi how → came_alone t (place.Bound x lo hi how) ≡ true → ⊥
+    never : (k : rows.Consumer) → t.consumer d ≡ Some k → (lo : ℕ) (hi : Option ℕ) (how : BoundBy) → k.place ≡ place.Bound x lo hi how →
+        came_alone t (place.Bound x lo hi how) ≡ true → ⊥
     never k row lo None how at alone = false_true (s.writes.known_end x d lo None how k row at alone)
     never k row lo (Some end) how at alone =
         let ends = measures.ends x d lo end how k v row at there in

@@ -22,7 +22,8 @@ module _ (t : Tables) (among : ℕ → Bool) (why : Cause) where
   s = with_consumers (due_for t among why) t
 
   -- what doesn't look at what is due is told as before
-  pub reported_same : {A : Type 0} (f : Option rows.Consumer → A) → ((k : rows.Consumer) → f (Some (failing (Some why) k)) ≡ f (Some k)) → (d : ℕ) → f (s.consumer d) ≡ f (t.consumer d)
+  pub reported_same : {A : Type 0} (f : Option rows.Consumer → A) → ((k : rows.Consumer) → f (Some (failing (Some why) k)) ≡ f (Some k)) → (d : ℕ) →
+      f (s.consumer d) ≡ f (t.consumer d)
   reported_same f same d = by_test (among d) (t.consumer d)
     where
       by_test : (b : Bool) (o : Option rows.Consumer) → f (if b then option_map (failing (Some why)) o else o) ≡ f o
@@ -44,7 +45,14 @@ module _ (t : Tables) (among : ℕ → Bool) (why : Cause) where
       same : (k z : rows.Consumer) → t.consumer d ≡ Some k → z.place ≡ k.place → z.request ≡ k.request → z.own ≡ k.own → Some z ≡ Some u → Stood d u
       same k z row place request own h =
           let one : z ≡ u = some_is z u h in
-          record { k = k; row = row; place_is = ap (λ (q : rows.Consumer). q.place) (sym one) ∙ place; request_is = ap (λ (q : rows.Consumer). q.request) (sym one) ∙ request; own_is = ap (λ (q : rows.Consumer). q.own) (sym one) ∙ own }
+          record {
+            k = k;
+            row = row;
+            place_is = ap (λ (q : rows.Consumer). q.place) (sym one) ∙ place;
+            request_is =
+                ap (λ (q : rows.Consumer). q.request) (sym one) ∙ request;
+            own_is = ap (λ (q : rows.Consumer). q.own) (sym one) ∙ own;
+          }
 
       by_test : (b : Bool) (o : Option rows.Consumer) → t.consumer d ≡ o → (if b then option_map (failing (Some why)) o else o) ≡ Some u → Stood d u
       by_test true (Some k) row h = same k (failing (Some why) k) row refl refl refl h
@@ -67,7 +75,8 @@ module _ (t : Tables) (among : ℕ → Bool) (why : Cause) where
           row = w.row;
           key_is = w.key_is ∙ ap (λ (q : Rattle.hc_event.specs.declared.event.Request.Request). q.key) (sym was.request_is);
           not_gone = w.not_gone;
-          queues = subst (λ (q : Rattle.hc_event.specs.declared.event.Request.Request). Rattle.hc_model.specs.Places.Queues (record u { request = q })) (sym was.request_is) (record { cached = w.queues.cached; asks = w.queues.asks });
+          queues = subst (λ (q : Rattle.hc_event.specs.declared.event.Request.Request). Rattle.hc_model.specs.Places.Queues (record u { request = q }))
+              (sym was.request_is) (record { cached = w.queues.cached; asks = w.queues.asks });
         };
   }
 
@@ -81,7 +90,8 @@ module _ (t : Tables) (among : ℕ → Bool) (why : Cause) where
       let now : IsKept s k v = kept_same t s k v (record { past = λ x at. refl; length = λ q lo hi how at. refl }) kp in
       assumption (now, ap (λ (o : Option Cause). option_or o (Some why)) now.due)
 
-  consumer_due : (b : Bool) (o : Option Consumer) (row : Option rows.Consumer) → KeepsConsumer t o row → KeepsConsumer s (if b then option_map (with_due why) o else o) (if b then option_map (failing (Some why)) row else row)
+  consumer_due : (b : Bool) (o : Option Consumer) (row : Option rows.Consumer) → KeepsConsumer t o row →
+      KeepsConsumer s (if b then option_map (with_due why) o else o) (if b then option_map (failing (Some why)) row else row)
   consumer_due true None None kept = kept
   consumer_due true None (Some v) kept = kept
   consumer_due true (Some k) None kept = kept
@@ -112,7 +122,8 @@ module _ (t : Tables) (among : ℕ → Bool) (why : Cause) where
 
 -- ALL OF IT
 
-pub stands_due : {B : Type 0} {g : Ghosts B} {limits : Limits} (r u : Rows B g) (t : Tables) (among : ℕ → Bool) (why : Cause) → RowsStand limits r t → u.last_start ≡ r.last_start → u.exchanges ≡ r.exchanges → u.keys ≡ r.keys → u.entries ≡ r.entries
+pub stands_due : {B : Type 0} {g : Ghosts B} {limits : Limits} (r u : Rows B g) (t : Tables) (among : ℕ → Bool) (why : Cause) → RowsStand limits r t →
+    u.last_start ≡ r.last_start → u.exchanges ≡ r.exchanges → u.keys ≡ r.keys → u.entries ≡ r.entries
     → ChangesAmong r.consumers u.consumers among (with_due why) → RowsStand limits u (with_consumers (due_for t among why) t)
 unfolding current
 stands_due r u t among why stands last exchanges same_keys same_entries changes =
@@ -122,8 +133,23 @@ stands_due r u t among why stands last exchanges same_keys same_entries changes 
       last_start = last ∙ stands.last_start;
       next = ap (λ e. next_of e) exchanges ∙ stands.next;
       count = changes.len ∙ (stands.count ∙ sym (live_same t z refl (reported_same t among why is_live (λ k. refl))));
-      consumers = λ d. subst (λ o. KeepsConsumer z o (z.consumer d)) (sym (changes.places d)) (consumer_due t among why (among d) (get nat_eq r.consumers d) (t.consumer d) (stands.consumers d));
-      exchanges = λ y. rw exchanges (exchange_same t z y (table_of r.exchanges y) (record { row = refl; brings = λ w at. refl; held = held_due t among why y (t.exchange y) }) (stands.exchanges y));
-      keys = λ key. rw same_keys (key_same t z key (kept_of r.keys key) (record { current = refl; in_line = reported_same t among why (is_in_line key) (λ k. refl); passed = reported_same t among why (is_passed key) (λ k. refl); away = λ d. reported_same t among why (is_away z key) (λ k. refl) d ∙ away_as t among why key (t.consumer d); turn = reported_same t among why (has_turn key) (λ k. refl) }) (stands.keys key));
-      entries = rw same_entries (entries_same t z (shelf_of r.entries) (λ q. refl) refl refl (λ q. reported_same t among why (is_bound q) (λ k. refl)) (λ q. reported_same t among why (is_first t q) (λ k. refl)) (λ q. refl) (λ y on. on) stands.entries);
+      consumers = λ d. subst (λ o. KeepsConsumer z o (z.consumer d)) (sym (changes.places d))
+          (consumer_due t among why (among d) (get nat_eq r.consumers d) (t.consumer d) (stands.consumers d));
+      exchanges = λ y. rw exchanges
+          (exchange_same t z y (table_of r.exchanges y) (record { row = refl; brings = λ w at. refl; held = held_due t among why y (t.exchange y) })
+          (stands.exchanges y));
+      keys = λ key. rw same_keys
+          (key_same t z key (kept_of r.keys key)
+          (record {
+            current = refl;
+            in_line = reported_same t among why (is_in_line key) (λ k. refl);
+            passed =
+                reported_same t among why (is_passed key) (λ k. refl);
+            away = λ d. reported_same t among why (is_away z key) (λ k. refl) d ∙
+                away_as t among why key (t.consumer d);
+            turn = reported_same t among why (has_turn key) (λ k. refl);
+          }) (stands.keys key));
+      entries = rw same_entries
+          (entries_same t z (shelf_of r.entries) (λ q. refl) refl refl (λ q. reported_same t among why (is_bound q) (λ k. refl))
+          (λ q. reported_same t among why (is_first t q) (λ k. refl)) (λ q. refl) (λ y on. on) stands.entries);
     }

@@ -57,7 +57,8 @@ module _ (t : Tables) (f : ℕ → Option Exchange) (x : ℕ) (w : Exchange) whe
   unstored_end : (y : ℕ) (v : Representation) (o : Option rows.Consumer) → unstored_bytes a y (at_end w) v o ≡ unstored_bytes a y (over w) v o
   unstored_end y v None = refl
   unstored_end y v (Some k) =
-      ap (λ (b : ℕ). if is_bound_place (family y w) k.place && is_number k.own y then drop (absent_from v.stored v.reach (offset a k) (b + length w.body) - b) w.body else []) base_alike
+      ap (λ (b : ℕ). if is_bound_place (family y w) k.place && is_number k.own y then
+      drop (absent_from v.stored v.reach (offset a k) (b + length w.body) - b) w.body else []) base_alike
 
   alone_end : (y : ℕ) (v : Representation) (o : Option ℕ) → held_alone a y (at_end w) v o ≡ held_alone a y (over w) v o
   alone_end y v None = refl
@@ -72,9 +73,11 @@ module _ (t : Tables) (f : ℕ → Option Exchange) (x : ℕ) (w : Exchange) whe
   held_same y (Some u) = held_alike a z (λ d. same refl) y u refl
 
   pub held_end : (y : ℕ) → held_for z y (z.exchange y) ≡ held_for a y (a.exchange y)
-  held_end y = reported_alike (held_for z y) (held_same y (Some (at_end w)) ∙ (of_end y (t.representation (family y w)) ∙ sym (held_same y (Some (over w))))) y ∙ held_same y (a.exchange y)
+  held_end y = reported_alike (held_for z y)
+      (held_same y (Some (at_end w)) ∙ (of_end y (t.representation (family y w)) ∙ sym (held_same y (Some (over w))))) y ∙ held_same y (a.exchange y)
 
-  pub runs_end : (y : ℕ) (b : Bool) (o : Option Open) → KeepsRunning a y o (if b then Some (over w) else f y) → KeepsRunning z y o (if b then Some (at_end w) else f y)
+  pub runs_end : (y : ℕ) (b : Bool) (o : Option Open) → KeepsRunning a y o (if b then Some (over w) else f y) →
+      KeepsRunning z y o (if b then Some (at_end w) else f y)
   runs_end y true None kept = refl
   runs_end y true (Some o) kept = false_true kept.is_open
   runs_end y false o kept = runs_same a z y o (f y) (λ u at. refl) kept
@@ -91,7 +94,8 @@ module _ (t : Tables) (f : ℕ → Option Exchange) (x : ℕ) (w : Exchange) whe
 
 -- ALL OF IT
 
-module _ {B : Type 0} {g : Ghosts B} {limits : Limits} (u : Rows B g) (t : Tables) (f : ℕ → Option Exchange) (x : ℕ) (w : Exchange) (p : ℕ) (promises : promised_bytes w ≡ Some p) (stands : RowsStand limits u (with_over x w f t)) where
+module _ {B : Type 0} {g : Ghosts B} {limits : Limits} (u : Rows B g) (t : Tables) (f : ℕ → Option Exchange) (x : ℕ) (w : Exchange) (p : ℕ)
+    (promises : promised_bytes w ≡ Some p) (stands : RowsStand limits u (with_over x w f t)) where
   pub stands_ended : RowsStand limits u (with_end x w f t)
   unfolding current
   stands_ended =
@@ -102,8 +106,23 @@ module _ {B : Type 0} {g : Ghosts B} {limits : Limits} (u : Rows B g) (t : Table
         last_start = stands.last_start;
         next = stands.next;
         count = stands.count;
-        consumers = λ d. consumer_alike before after (record { head = reported_alike t f x w head_in refl; begins = reported_alike t f x w base_in (base_alike t f x w); ends = reported_alike t f x w end_in (end_alike t f x w p promises); length = λ q. refl }) (get nat_eq u.consumers d) (t.consumer d) (stands.consumers d);
-        exchanges = λ y. record { running = runs_end t f x w y (nat_eq x y) (table_of u.exchanges y).running (stands.exchanges y).running; held = (stands.exchanges y).held ∙ sym (held_end t f x w y) };
-        keys = λ key. key_same before after key (kept_of u.keys key) (record { current = refl; in_line = λ d. refl; passed = λ d. refl; away = λ d. away_end t f x w key (t.consumer d); turn = λ d. refl }) (stands.keys key);
-        entries = entries_same before after (shelf_of u.entries) (λ q. refl) refl refl (λ q d. refl) (λ q d. refl) (λ q. growing_same before after q refl (λ y. reported_alike t f x w (brings_to q y) refl y)) (λ y on. reported_alike t f x w is_over refl y ∙ on) stands.entries;
+        consumers = λ d. consumer_alike before after
+            (record {
+              head = reported_alike t f x w head_in refl;
+              begins = reported_alike t f x w base_in (base_alike t f x w);
+              ends =
+                  reported_alike t f x w end_in (end_alike t f x w p promises);
+              length = λ q. refl;
+            }) (get nat_eq u.consumers d) (t.consumer d) (stands.consumers d);
+        exchanges = λ y. record {
+          running = runs_end t f x w y (nat_eq x y) (table_of u.exchanges y).running (stands.exchanges y).running;
+          held =
+              (stands.exchanges y).held ∙ sym (held_end t f x w y);
+        };
+        keys = λ key. key_same before after key (kept_of u.keys key)
+            (record { current = refl; in_line = λ d. refl; passed = λ d. refl; away = λ d. away_end t f x w key (t.consumer d); turn = λ d. refl })
+            (stands.keys key);
+        entries = entries_same before after (shelf_of u.entries) (λ q. refl) refl refl (λ q d. refl) (λ q d. refl)
+            (λ q. growing_same before after q refl (λ y. reported_alike t f x w (brings_to q y) refl y)) (λ y on. reported_alike t f x w is_over refl y ∙ on)
+            stands.entries;
       }

@@ -27,7 +27,9 @@ flaw_closes q kind xs (r ∷ rs) = flaw_closes q kind xs rs
 still : (now : ℕ) (es : List ℕ) (k : rows.Consumer) (q lo : ℕ) (hi : Option ℕ) (how : BoundBy) → k.place ≡ place.Bound q lo hi how → back_from_any now es k ≡ k
 still now es k q lo hi how at = rw at refl
 
-module _ {B : Type 0} {g : Ghosts B} {limits : Limits} (r put : Rows B g) (t : Tables) (facts : Facts limits t) (stands : RowsStand limits r t) (now x q : ℕ) (bytes : List ℕ) (goes : denial t (event.Piece x bytes) ≡ None) (it : Stores t x q (length bytes)) (kind : LostKind) (before mid : List Act) (refuses : Refuses limits r put t now x bytes kind before mid) where
+module _ {B : Type 0} {g : Ghosts B} {limits : Limits} (r put : Rows B g) (t : Tables) (facts : Facts limits t) (stands : RowsStand limits r t)
+    (now x q : ℕ) (bytes : List ℕ) (goes : denial t (event.Piece x bytes) ≡ None) (it : Stores t x q (length bytes)) (kind : LostKind)
+    (before mid : List Act) (refuses : Refuses limits r put t now x bytes kind before mid) where
   abbrev ev : Event
   ev = event.Piece x bytes
 
@@ -87,8 +89,10 @@ module _ {B : Type 0} {g : Ghosts B} {limits : Limits} (r put : Rows B g) (t : T
   }
 
   -- who is bound stays as it was
-  bound_left : (c lo : ℕ) (hi : Option ℕ) (how : BoundBy) (k : rows.Consumer) → t.consumer c ≡ Some k → k.place ≡ place.Bound q lo hi how → left.consumer c ≡ Some k
-  bound_left c lo hi how k here at = ap (λ (z : Tables). z.consumer c) left_is ∙ (ap (option_map (back_from_any now es)) here ∙ ap Some (still now es k q lo hi how at))
+  bound_left : (c lo : ℕ) (hi : Option ℕ) (how : BoundBy) (k : rows.Consumer) → t.consumer c ≡ Some k → k.place ≡ place.Bound q lo hi how →
+      left.consumer c ≡ Some k
+  bound_left c lo hi how k here at = ap (λ (z : Tables). z.consumer c) left_is ∙
+      (ap (option_map (back_from_any now es)) here ∙ ap Some (still now es k q lo hi how at))
 
   -- THE ANSWER
 
@@ -103,7 +107,8 @@ module _ {B : Type 0} {g : Ghosts B} {limits : Limits} (r put : Rows B g) (t : T
   fault_of kinds.Fault is = refl
   fault_of _ is = absurd (false_true is)
 
-  answered_lost : (u : Rows B g) (s : Tables) (out : List Act) (xs : List ℕ) → Does limits t now ev (Loses q kind) (map act.Evicted es ++ (act.Lost q kind ∷ map act.Close xs)) s → out ≡ mid ++ (act.Lost q kind ∷ map act.Close xs)
+  answered_lost : (u : Rows B g) (s : Tables) (out : List Act) (xs : List ℕ) →
+      Does limits t now ev (Loses q kind) (map act.Evicted es ++ (act.Lost q kind ∷ map act.Close xs)) s → out ≡ mid ++ (act.Lost q kind ∷ map act.Close xs)
       → (shelf_of put.entries).faults ≤ (shelf_of u.entries).faults → RowsStand limits u s → Answered limits (shelf_of r.entries).faults u t before out now ev
   answered_lost u s out xs does reported failed stood = record {
     flaw = Loses q kind;
@@ -112,7 +117,8 @@ module _ {B : Type 0} {g : Ghosts B} {limits : Limits} (r put : Rows B g) (t : T
         ∙ (append_assoc before (map act.Evicted es) (act.Lost q kind ∷ map act.Close xs)
         ∙ ap (λ z. before ++ z) (sym does.acts_are)));
     shown = ap flaw_in does.acts_are ∙ flaw_closes q kind xs es;
-    may = let writes = writes_it_now (entry_of limits t now ev (Loses q kind)) refl in let kept = kept_now in let may = refuses.may in rw (writes, kept, may) (ap (λ (b : Bool). b && true && true) (eqb-same q));
+    may = let writes = writes_it_now (entry_of limits t now ev (Loses q kind)) refl in let kept = kept_now in let may = refuses.may in
+        rw (writes, kept, may) (ap (λ (b : Bool). b && true && true) (eqb-same q));
     caused = λ is. (let less = refuses.caused (fault_of kind is) in omega (arith, less, failed));
     rows = subst (RowsStand limits u) (sym does.tables_are) stood;
   }
@@ -184,12 +190,16 @@ module _ {B : Type 0} {g : Ghosts B} {limits : Limits} (r put : Rows B g) (t : T
           unmoved : (k : rows.Consumer) → k.place ≡ place.Bound q o.lo o.hi o.how → back_from now q k ≡ k
           unmoved k at = rw at refl
 
-      pub own_answered : (u : Rows B g) (out : List Act) → (MayLoseOwn left now q x w v alone → RowsStand limits put left → RowsStand limits u (brought_lost now q x w bytes (as_gone (lost_to alone v)) (own_loss now q v alone left)))
-          → out ≡ mid ++ (act.Lost q kind ∷ []) → (shelf_of put.entries).faults ≤ (shelf_of u.entries).faults → Answered limits (shelf_of r.entries).faults u t before out now ev
+      pub own_answered : (u : Rows B g) (out : List Act) →
+          (MayLoseOwn left now q x w v alone → RowsStand limits put left →
+          RowsStand limits u (brought_lost now q x w bytes (as_gone (lost_to alone v)) (own_loss now q v alone left)))
+          → out ≡ mid ++ (act.Lost q kind ∷ []) → (shelf_of put.entries).faults ≤ (shelf_of u.entries).faults →
+          Answered limits (shelf_of r.entries).faults u t before out now ev
       own_answered u out loses reported failed =
           answered_lost u _ out [] (loses_alone limits t facts.law now x bytes w it.row goes q v it.of_q there kind it.fresh off) reported failed
           (subst (RowsStand limits u) (sym (own_tables now q x bytes w v es t apart (exclusive t q v)))
-          (subst (λ (a : Option ℕ). RowsStand limits u (brought_lost now q x w bytes (as_gone (lost_to a v)) (own_loss now q v a left))) alone_is (loses may_own refuses.gives.rows)))
+          (subst (λ (a : Option ℕ). RowsStand limits u (brought_lost now q x w bytes (as_gone (lost_to a v)) (own_loss now q v a left))) alone_is
+          (loses may_own refuses.gives.rows)))
 
   -- IT IS WRITTEN FOR SEVERAL
 
@@ -201,7 +211,8 @@ module _ {B : Type 0} {g : Ghosts B} {limits : Limits} (r put : Rows B g) (t : T
     growing = (facts.law.sound.rows q v there).growing x on writer_is
 
     front_is : front w ≡ v.reach
-    front_is = (let z = growing.0 in let one : z ≡ w = some_is z w (sym growing.1.row ∙ it.row) in subst (λ (z : Exchange). front z ≡ v.reach) one growing.1.front_is)
+    front_is = (let z = growing.0 in let one : z ≡ w = some_is z w (sym growing.1.row ∙ it.row) in
+        subst (λ (z : Exchange). front z ≡ v.reach) one growing.1.front_is)
 
     shared : MayLoseShared left q x v
     shared = record {
@@ -218,24 +229,34 @@ module _ {B : Type 0} {g : Ghosts B} {limits : Limits} (r put : Rows B g) (t : T
       front_is = front_is;
     }
 
-    stands_there : (o : Option rows.Consumer) → ((offset_in left (option_map (back_from_any now es) o) == v.reach) && is_bound q (option_map (back_from_any now es) o)) ≡ ((offset_in t o == v.reach) && is_bound q o)
+    stands_there : (o : Option rows.Consumer) →
+        ((offset_in left (option_map (back_from_any now es) o) == v.reach) && is_bound q (option_map (back_from_any now es) o)) ≡
+        ((offset_in t o == v.reach) && is_bound q o)
     stands_there None = refl
     stands_there (Some k) = by_place k.place refl
       where
-        off : is_bound_place q k.place ≡ false → ((offset_in left (option_map (back_from_any now es) (Some k)) == v.reach) && is_bound q (option_map (back_from_any now es) (Some k))) ≡ ((offset_in t (Some k) == v.reach) && is_bound q (Some k))
+        off : is_bound_place q k.place ≡ false →
+            ((offset_in left (option_map (back_from_any now es) (Some k)) == v.reach) && is_bound q (option_map (back_from_any now es) (Some k))) ≡
+            ((offset_in t (Some k) == v.reach) && is_bound q (Some k))
         off unbound =
-            then_false (offset_in left (option_map (back_from_any now es) (Some k)) == v.reach) (is_bound q (option_map (back_from_any now es) (Some k))) (bound_back now es q (Some k) ∙ unbound)
+            then_false (offset_in left (option_map (back_from_any now es) (Some k)) == v.reach) (is_bound q (option_map (back_from_any now es) (Some k)))
+            (bound_back now es q (Some k) ∙ unbound)
             ∙ sym (then_false (offset_in t (Some k) == v.reach) (is_bound q (Some k)) unbound)
 
-        by_place : (p : Place) → k.place ≡ p → ((offset_in left (option_map (back_from_any now es) (Some k)) == v.reach) && is_bound q (option_map (back_from_any now es) (Some k))) ≡ ((offset_in t (Some k) == v.reach) && is_bound q (Some k))
+        by_place : (p : Place) → k.place ≡ p →
+            ((offset_in left (option_map (back_from_any now es) (Some k)) == v.reach) && is_bound q (option_map (back_from_any now es) (Some k))) ≡
+            ((offset_in t (Some k) == v.reach) && is_bound q (Some k))
         by_place (place.Bound n lo hi how) at = rw at refl
         by_place _ at = off (ap (is_bound_place q) at)
 
     detached_reader_same : survivor left q v ≡ survivor t q v
-    detached_reader_same = survivor_same t left q v (may_let_go t facts.law) may_left (λ c. ap (λ (o : Option rows.Consumer). (offset_in left o == v.reach) && is_bound q o) (ap (λ (z : Tables). z.consumer c) left_is) ∙ stands_there (t.consumer c))
+    detached_reader_same = survivor_same t left q v (may_let_go t facts.law) may_left
+        (λ c. ap (λ (o : Option rows.Consumer). (offset_in left o == v.reach) && is_bound q o) (ap (λ (z : Tables). z.consumer c) left_is) ∙
+        stands_there (t.consumer c))
 
     -- who goes on has all that is stored
-    detached_reader_holds : (d : ℕ) (k : rows.Consumer) → survivor t q v ≡ Some d → IsBound t q d k → MayHold (shared_loss now q x v (Some d) left) x w (as_gone (lost_to (Some d) v))
+    detached_reader_holds : (d : ℕ) (k : rows.Consumer) → survivor t q v ≡ Some d → IsBound t q d k →
+        MayHold (shared_loss now q x v (Some d) left) x w (as_gone (lost_to (Some d) v))
     detached_reader_holds d k is (sound.is_bound lo hi how here at) = record {
       on = record {
         c = d;
@@ -243,7 +264,8 @@ module _ {B : Type 0} {g : Ghosts B} {limits : Limits} (r put : Rows B g) (t : T
         lo = lo;
         hi = hi;
         how = how;
-        row = ap (λ (o : Option rows.Consumer). option_map (back_from now q) (option_map (if_bound q (left_with q (Some d) (Some x) d)) o)) (bound_left d lo hi how k here at) ∙ ap Some goes_on;
+        row = ap (λ (o : Option rows.Consumer). option_map (back_from now q) (option_map (if_bound q (left_with q (Some d) (Some x) d)) o))
+            (bound_left d lo hi how k here at) ∙ ap Some goes_on;
         at = at ∙ ap (λ n. place.Bound n lo hi how) (sym it.of_q);
         alone = refl;
         own = refl;
@@ -273,7 +295,8 @@ module _ {B : Type 0} {g : Ghosts B} {limits : Limits} (r put : Rows B g) (t : T
           detached_reader_holds d reader.0 one reader.1);
     }
 
-    pub shared_answered : (u : Rows B g) (out : List Act) → (MayLosePiece left now q x w v → RowsStand limits put left → LosesPiece limits u left mid out now q x bytes w v kind)
+    pub shared_answered : (u : Rows B g) (out : List Act) →
+        (MayLosePiece left now q x w v → RowsStand limits put left → LosesPiece limits u left mid out now q x bytes w v kind)
         → (shelf_of put.entries).faults ≤ (shelf_of u.entries).faults → Answered limits (shelf_of r.entries).faults u t before out now ev
     shared_answered u out loses failed = by_detached_reader (survivor t q v) refl
       where
@@ -283,13 +306,19 @@ module _ {B : Type 0} {g : Ghosts B} {limits : Limits} (r put : Rows B g) (t : T
         reported_as : (o : Option ℕ) → survivor left q v ≡ o → out ≡ mid ++ (act.Lost q kind ∷ map act.Close (closes_with o x bytes w))
         reported_as o is = lost.acts ∙ ap (λ (z : Option ℕ). mid ++ (act.Lost q kind ∷ map act.Close (closes_with z x bytes w))) is
 
-        rows_as : (o : Option ℕ) → survivor left q v ≡ o → RowsStand limits u (all_closed (closes_with o x bytes w) (brought_lost now q x w bytes (as_gone (lost_to o v)) (shared_loss now q x v o left)))
-        rows_as o is = subst (λ (z : Option ℕ). RowsStand limits u (all_closed (closes_with z x bytes w) (brought_lost now q x w bytes (as_gone (lost_to z v)) (shared_loss now q x v z left)))) is lost.rows
+        rows_as : (o : Option ℕ) → survivor left q v ≡ o →
+            RowsStand limits u (all_closed (closes_with o x bytes w) (brought_lost now q x w bytes (as_gone (lost_to o v)) (shared_loss now q x v o left)))
+        rows_as o is = subst (λ (z : Option ℕ). RowsStand limits u
+            (all_closed (closes_with z x bytes w) (brought_lost now q x w bytes (as_gone (lost_to z v)) (shared_loss now q x v z left)))) is lost.rows
 
         by_detached_reader : (o : Option ℕ) → survivor t q v ≡ o → Answered limits (shelf_of r.entries).faults u t before out now ev
         by_detached_reader (Some d) is =
-            answered_lost u _ out [] (shared_does.goes_on limits t facts.law now x bytes w it.row goes q v it.of_q there kind on d is) (reported_as (Some d) (detached_reader_same ∙ is)) failed
+            answered_lost u _ out [] (shared_does.goes_on limits t facts.law now x bytes w it.row goes q v it.of_q there kind on d is)
+            (reported_as (Some d) (detached_reader_same ∙ is)) failed
             (subst (RowsStand limits u) (sym (open_tables now q x bytes w v es t apart (Some d))) (rows_as (Some d) (detached_reader_same ∙ is)))
         by_detached_reader None is =
-            answered_lost u _ out (unless_reached x bytes w) (shared_does.all_fail limits t facts.law now x bytes w it.row goes q v it.of_q there kind on is) (reported_as None (detached_reader_same ∙ is)) failed
-            (subst (RowsStand limits u) (sym (fails_tables now q x bytes w v es t apart None (with_piece bytes w).is_open)) (rows_as None (detached_reader_same ∙ is)))
+            answered_lost u _ out (unless_reached x bytes w)
+            (shared_does.all_fail limits t facts.law now x bytes w it.row goes q v it.of_q there kind on is)
+            (reported_as None (detached_reader_same ∙ is)) failed
+            (subst (RowsStand limits u) (sym (fails_tables now q x bytes w v es t apart None (with_piece bytes w).is_open))
+            (rows_as None (detached_reader_same ∙ is)))

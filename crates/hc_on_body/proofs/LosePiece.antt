@@ -17,27 +17,42 @@ use Rattle.hc_on_body.proofs.HeldPiece.{held_stands, dropped_stands}
 use Rattle.hc_on_leave.proofs.{PieceHandler.{Runs, runs_of}, PieceRows.{s, like_same, last_is}}
 
 -- the rows that represent the tables once a loss was told, and then for those with the piece
-module _ {B : Type 0} {g : Ghosts B} {limits : Limits} (mid u : Rows B g) (t : Tables) (now r x : ℕ) (bytes : List ℕ) (w : Exchange) (v : Representation) (stands : RowsStand limits mid t) (row : t.exchange x ≡ Some w) (opened : w.is_open ≡ true) (headed : is_some w.head ≡ true) (of_r : family x w ≡ r) (there : t.representation r ≡ Some v) (lost : v.is_lost ≡ true) (is_gone : v.is_gone ≡ true) (unended : w.is_ended ≡ false)
-    (last : u.last_start ≡ mid.last_start) (same_map : u.consumers ≡ mid.consumers) (same_keys : u.keys ≡ mid.keys) (same_entries : u.entries ≡ mid.entries) where
+module _ {B : Type 0} {g : Ghosts B} {limits : Limits} (mid u : Rows B g) (t : Tables) (now r x : ℕ) (bytes : List ℕ) (w : Exchange) (v : Representation)
+    (stands : RowsStand limits mid t) (row : t.exchange x ≡ Some w) (opened : w.is_open ≡ true) (headed : is_some w.head ≡ true) (of_r : family x w ≡ r)
+    (there : t.representation r ≡ Some v) (lost : v.is_lost ≡ true) (is_gone : v.is_gone ≡ true) (unended : w.is_ended ≡ false)
+    (last : u.last_start ≡ mid.last_start) (same_map : u.consumers ≡ mid.consumers) (same_keys : u.keys ≡ mid.keys)
+    (same_entries : u.entries ≡ mid.entries) where
   there_too : t.representation (family x w) ≡ Some v
   there_too = ap t.representation of_r ∙ there
 
-  as_of : (n : ℕ) → RowsStand limits u (s t now x w bytes (λ q. if family x w == q then Some (with_stored_bytes false (front w) x bytes v) else t.representation q)) → RowsStand limits u (brought_lost now r x w bytes v t)
-  as_of n = subst (λ (m : ℕ). RowsStand limits u (s t now x w bytes (λ q. if m == q then Some (with_stored_bytes false (front w) x bytes v) else t.representation q))) of_r
+  as_of : (n : ℕ) → RowsStand limits u
+      (s t now x w bytes (λ q. if family x w == q then Some (with_stored_bytes false (front w) x bytes v) else t.representation q)) →
+      RowsStand limits u (brought_lost now r x w bytes v t)
+  as_of n = subst (λ (m : ℕ). RowsStand limits u
+      (s t now x w bytes (λ q. if m == q then Some (with_stored_bytes false (front w) x bytes v) else t.representation q))) of_r
 
-  pub held_lost : 0 < length bytes → MayHold t x w v → exch.Becomes (known.with_piece bytes true) x mid.exchanges u.exchanges → RowsStand limits u (brought_lost now r x w bytes v t)
-  held_lost some may becomes = as_of r (held_stands mid u t stands now x bytes w v row opened headed there_too lost is_gone unended last same_map same_keys same_entries some may becomes)
+  pub held_lost : 0 < length bytes → MayHold t x w v → exch.Becomes (known.with_piece bytes true) x mid.exchanges u.exchanges →
+      RowsStand limits u (brought_lost now r x w bytes v t)
+  held_lost some may becomes =
+      as_of r (held_stands mid u t stands now x bytes w v row opened headed there_too lost is_gone unended last same_map same_keys same_entries some may
+      becomes)
 
-  pub dropped_lost : v.alone ≡ None → exch.Becomes (known.with_piece bytes false) x mid.exchanges u.exchanges → RowsStand limits u (brought_lost now r x w bytes v t)
-  dropped_lost nobody becomes = as_of r (dropped_stands mid u t stands now x bytes w v row opened headed there_too lost is_gone unended last same_map same_keys same_entries nobody becomes)
+  pub dropped_lost : v.alone ≡ None → exch.Becomes (known.with_piece bytes false) x mid.exchanges u.exchanges →
+      RowsStand limits u (brought_lost now r x w bytes v t)
+  dropped_lost nobody becomes =
+      as_of r (dropped_stands mid u t stands now x bytes w v row opened headed there_too lost is_gone unended last same_map same_keys same_entries nobody
+      becomes)
 
 -- who writes alone goes on
-pub own_stands : {B : Type 0} {g : Ghosts B} {limits : Limits} (mid u : Rows B g) (t : Tables) (now r x : ℕ) (bytes : List ℕ) (w : Exchange) (v : Representation) (alone : Option ℕ) → 0 < length bytes → MayLoseOwn t now r x w v alone → RowsStand limits mid (own_loss now r v alone t)
-    → u.last_start ≡ mid.last_start → u.consumers ≡ mid.consumers → u.keys ≡ mid.keys → u.entries ≡ mid.entries → exch.Becomes (known.with_piece bytes true) x mid.exchanges u.exchanges
+pub own_stands : {B : Type 0} {g : Ghosts B} {limits : Limits} (mid u : Rows B g) (t : Tables) (now r x : ℕ) (bytes : List ℕ) (w : Exchange)
+    (v : Representation) (alone : Option ℕ) → 0 < length bytes → MayLoseOwn t now r x w v alone → RowsStand limits mid (own_loss now r v alone t)
+    → u.last_start ≡ mid.last_start → u.consumers ≡ mid.consumers → u.keys ≡ mid.keys → u.entries ≡ mid.entries →
+    exch.Becomes (known.with_piece bytes true) x mid.exchanges u.exchanges
     → RowsStand limits u (brought_lost now r x w bytes (as_gone (lost_to alone v)) (own_loss now r v alone t))
 own_stands mid u t now r x bytes w v alone some may stands last same_map same_keys same_entries becomes =
     let b = may.brings in
-    held_lost mid u (own_loss now r v alone t) now r x bytes w (as_gone (lost_to alone v)) stands b.row b.opened b.headed b.of_r (rw (eqb-same r) refl) refl refl b.unended last same_map same_keys same_entries some may.holds becomes
+    held_lost mid u (own_loss now r v alone t) now r x bytes w (as_gone (lost_to alone v)) stands b.row b.opened b.headed b.of_r (rw (eqb-same r) refl)
+    refl refl b.unended last same_map same_keys same_entries some may.holds becomes
 
 -- WHAT IS WRITTEN FOR SEVERAL
 
@@ -46,8 +61,11 @@ is_over true true on = refl
 is_over false true on = refl
 is_over a false on = false_true on
 
-module _ {B : Type 0} {g : Ghosts B} {limits : Limits} (mid u : Rows B g) (t : Tables) (now r x : ℕ) (bytes : List ℕ) (w : Exchange) (v : Representation) (kind : LostKind) (some : 0 < length bytes) (may : MayLosePiece t now r x w v) (detached_reader : Option ℕ) (detached_reader_is : detached_reader ≡ survivor t r v) (stands : RowsStand limits mid (shared_loss now r x v detached_reader t))
-    (last : u.last_start ≡ mid.last_start) (same_map : u.consumers ≡ mid.consumers) (same_keys : u.keys ≡ mid.keys) (same_entries : u.entries ≡ mid.entries) (becomes : exch.Becomes (known.with_piece bytes (is_some detached_reader)) x mid.exchanges u.exchanges) where
+module _ {B : Type 0} {g : Ghosts B} {limits : Limits} (mid u : Rows B g) (t : Tables) (now r x : ℕ) (bytes : List ℕ) (w : Exchange) (v : Representation)
+    (kind : LostKind) (some : 0 < length bytes) (may : MayLosePiece t now r x w v) (detached_reader : Option ℕ)
+    (detached_reader_is : detached_reader ≡ survivor t r v) (stands : RowsStand limits mid (shared_loss now r x v detached_reader t))
+    (last : u.last_start ≡ mid.last_start) (same_map : u.consumers ≡ mid.consumers) (same_keys : u.keys ≡ mid.keys)
+    (same_entries : u.entries ≡ mid.entries) (becomes : exch.Becomes (known.with_piece bytes (is_some detached_reader)) x mid.exchanges u.exchanges) where
   b : Brings t r x w v
   b = may.brings
 
@@ -57,9 +75,14 @@ module _ {B : Type 0} {g : Ghosts B} {limits : Limits} (mid u : Rows B g) (t : T
   abbrev then_tables : Option ℕ → Tables
   then_tables o = brought_lost now r x w bytes (as_gone (lost_to o v)) (lost_tables o)
 
-  by_detached_reader : (o : Option ℕ) → o ≡ survivor t r v → RowsStand limits mid (lost_tables o) → exch.Becomes (known.with_piece bytes (is_some o)) x mid.exchanges u.exchanges → RowsStand limits u (then_tables o)
-  by_detached_reader None is stood changed = dropped_lost mid u (lost_tables None) now r x bytes w (as_gone (lost_to None v)) stood b.row b.opened b.headed b.of_r (rw (eqb-same r) refl) refl refl b.unended last same_map same_keys same_entries refl changed
-  by_detached_reader (Some d) is stood changed = held_lost mid u (lost_tables (Some d)) now r x bytes w (as_gone (lost_to (Some d) v)) stood b.row b.opened b.headed b.of_r (rw (eqb-same r) refl) refl refl b.unended last same_map same_keys same_entries some (may.holds d (sym is)) changed
+  by_detached_reader : (o : Option ℕ) → o ≡ survivor t r v → RowsStand limits mid (lost_tables o) →
+      exch.Becomes (known.with_piece bytes (is_some o)) x mid.exchanges u.exchanges → RowsStand limits u (then_tables o)
+  by_detached_reader None is stood changed =
+      dropped_lost mid u (lost_tables None) now r x bytes w (as_gone (lost_to None v)) stood b.row b.opened b.headed b.of_r (rw (eqb-same r) refl) refl
+      refl b.unended last same_map same_keys same_entries refl changed
+  by_detached_reader (Some d) is stood changed =
+      held_lost mid u (lost_tables (Some d)) now r x bytes w (as_gone (lost_to (Some d) v)) stood b.row b.opened b.headed b.of_r (rw (eqb-same r) refl)
+      refl refl b.unended last same_map same_keys same_entries some (may.holds d (sym is)) changed
 
   comes : RowsStand limits u (then_tables detached_reader)
   comes = by_detached_reader detached_reader detached_reader_is stands becomes
@@ -71,22 +94,27 @@ module _ {B : Type 0} {g : Ghosts B} {limits : Limits} (mid u : Rows B g) (t : T
   open_is : is_last_of (table_of mid.exchanges x).running (length bytes) ≡ not (with_piece bytes w).is_open
   open_is =
       ap (λ (o : Option Open). is_last_of o (length bytes)) ran.running
-      ∙ (last_is (lost_tables detached_reader) now x w bytes (lost_tables detached_reader).representation b.row b.opened b.headed ran.o ran.is (like_same _ _ refl)
+      ∙ (last_is (lost_tables detached_reader) now x w bytes (lost_tables detached_reader).representation b.row b.opened b.headed ran.o ran.is
+      (like_same _ _ refl)
       ∙ is_over (is_reached (promised_bytes w) (length (w.body ++ bytes))) w.is_open b.opened)
 
   abbrev closes : Option ℕ → List ℕ
   closes o = closes_with o x bytes w
 
-  loses_by : (u2 : Rows B g) (before out : List Act) (ys : List ℕ) → closes detached_reader ≡ ys → out ≡ before ++ (act.Lost r kind ∷ map act.Close ys) → RowsStand limits u2 (all_closed ys (then_tables detached_reader)) → LosesPiece limits u2 t before out now r x bytes w v kind
+  loses_by : (u2 : Rows B g) (before out : List Act) (ys : List ℕ) → closes detached_reader ≡ ys → out ≡ before ++ (act.Lost r kind ∷ map act.Close ys) →
+      RowsStand limits u2 (all_closed ys (then_tables detached_reader)) → LosesPiece limits u2 t before out now r x bytes w v kind
   loses_by u2 before out ys same reported stood =
       let is : closes (survivor t r v) ≡ ys = ap closes (sym detached_reader_is) ∙ same in
       record {
         acts = reported ∙ ap (λ (zs : List ℕ). before ++ (act.Lost r kind ∷ map act.Close zs)) (sym is);
-        rows = subst (λ (zs : List ℕ). RowsStand limits u2 (all_closed zs (then_tables (survivor t r v)))) (sym is) (subst (λ (o : Option ℕ). RowsStand limits u2 (all_closed ys (then_tables o))) detached_reader_is stood);
+        rows = subst (λ (zs : List ℕ). RowsStand limits u2 (all_closed zs (then_tables (survivor t r v)))) (sym is)
+            (subst (λ (o : Option ℕ). RowsStand limits u2 (all_closed ys (then_tables o))) detached_reader_is stood);
       }
 
   -- somebody goes on, or nothing more comes
-  pub stays_so : (before out : List Act) → (is_none detached_reader ≡ false) ⊎ ((is_none detached_reader ≡ true) × (is_last_of (table_of mid.exchanges x).running (length bytes) ≡ true)) → out ≡ before ++ (act.Lost r kind ∷ []) → LosesPiece limits u t before out now r x bytes w v kind
+  pub stays_so : (before out : List Act) →
+      (is_none detached_reader ≡ false) ⊎ ((is_none detached_reader ≡ true) × (is_last_of (table_of mid.exchanges x).running (length bytes) ≡ true)) →
+      out ≡ before ++ (act.Lost r kind ∷ []) → LosesPiece limits u t before out now r x bytes w v kind
   stays_so before out why reported = loses_by u before out [] (elim why [
     | inl off ↦ rw off refl
     | inr both ↦ let shut : (with_piece bytes w).is_open ≡ false = by_not (with_piece bytes w).is_open (sym open_is ∙ both.1) in rw (both.0, shut) refl
@@ -97,7 +125,8 @@ module _ {B : Type 0} {g : Ghosts B} {limits : Limits} (mid u : Rows B g) (t : T
       by_not false on = refl
 
   -- nobody does, and more would come
-  module _ (u2 : Rows B g) (none : is_none detached_reader ≡ true) (more : is_last_of (table_of mid.exchanges x).running (length bytes) ≡ false) (rest : KeepsRest u u2) (same_too : u2.consumers ≡ u.consumers) (shut : exch.Becomes known.without_exchange x u.exchanges u2.exchanges) where
+  module _ (u2 : Rows B g) (none : is_none detached_reader ≡ true) (more : is_last_of (table_of mid.exchanges x).running (length bytes) ≡ false)
+      (rest : KeepsRest u u2) (same_too : u2.consumers ≡ u.consumers) (shut : exch.Becomes known.without_exchange x u.exchanges u2.exchanges) where
     here : (then_tables detached_reader).exchange x ≡ Some (with_piece bytes w)
     here = rw (eqb-same x) refl
 
@@ -108,18 +137,23 @@ module _ {B : Type 0} {g : Ghosts B} {limits : Limits} (mid u : Rows B g) (t : T
         by_head None on = false_true on
         by_head (Some response) on = then_false (with_piece bytes w).is_open false refl
 
-    apart : (q : ℕ) (p : Representation) → (then_tables detached_reader).representation q ≡ Some p → p.is_gone ≡ false → brings_to q x ((then_tables detached_reader).exchange x) ≡ false
+    apart : (q : ℕ) (p : Representation) → (then_tables detached_reader).representation q ≡ Some p → p.is_gone ≡ false →
+        brings_to q x ((then_tables detached_reader).exchange x) ≡ false
     apart q p there stays = ap (brings_to q x) here ∙ elim (same_or r q) [
       | inl e ↦
-          let mine : (then_tables detached_reader).representation q ≡ Some (with_stored_bytes false (front w) x bytes (as_gone (lost_to detached_reader v))) = rw (e, eqb-same q) refl in
-          false_true (sym stays ∙ ap (λ (z : Representation). z.is_gone) (same_row ((then_tables detached_reader).representation q) p (with_stored_bytes false (front w) x bytes (as_gone (lost_to detached_reader v))) there mine))
+          let mine : (then_tables detached_reader).representation q ≡ Some
+          (with_stored_bytes false (front w) x bytes (as_gone (lost_to detached_reader v))) = rw (e, eqb-same q) refl in
+          false_true (sym stays ∙ ap (λ (z : Representation). z.is_gone)
+          (same_row ((then_tables detached_reader).representation q) p (with_stored_bytes false (front w) x bytes (as_gone (lost_to detached_reader v)))
+          there mine))
       | inr ne ↦ then_false (with_piece bytes w).is_open (nat_eq (family x w) q) (ap (λ (n : ℕ). nat_eq n q) b.of_r ∙ eqb-other r q ne)
     ]
 
     closed_too : RowsStand limits u2 (all_closed (x ∷ []) (then_tables detached_reader))
     closed_too = stands_unstored u u2 (then_tables detached_reader) x comes unawaited apart rest.last_start same_too rest.keys rest.entries shut
 
-    pub closes_it : (before middle out : List Act) → middle ≡ before ++ (act.Lost r kind ∷ []) → out ≡ middle ++ (act.Close x ∷ []) → LosesPiece limits u2 t before out now r x bytes w v kind
+    pub closes_it : (before middle out : List Act) → middle ≡ before ++ (act.Lost r kind ∷ []) → out ≡ middle ++ (act.Close x ∷ []) →
+        LosesPiece limits u2 t before out now r x bytes w v kind
     closes_it before middle out reported closing =
         let goes : (with_piece bytes w).is_open ≡ true = by_not (with_piece bytes w).is_open (sym open_is ∙ more) in
         loses_by u2 before out (x ∷ []) (rw (none, goes) refl) (act_and before middle out (act.Lost r kind) (act.Close x ∷ []) reported closing) closed_too

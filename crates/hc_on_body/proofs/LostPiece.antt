@@ -36,8 +36,10 @@ pub record Owner (t : Tables) (x : ℕ) (w : Exchange) (v : Representation) : Ty
   pub due : k.due ≡ None
   pub exclusive_writer : IsExclusiveWriter t (family x w) v c
 
-pub owner : (t : Tables) (x : ℕ) (w : Exchange) (v : Representation) → Sound t → t.exchange x ≡ Some w → w.is_open ≡ true → is_some w.head ≡ true → t.representation (family x w) ≡ Some v → is_written t v ≡ false → Owner t x w v
-owner t x w v s row opened headed there unwritten = by_had (s.writes.had (family x w) x v there (sound.headed w row opened headed refl (ap (λ (o : Option Representation). is_some o) there)))
+pub owner : (t : Tables) (x : ℕ) (w : Exchange) (v : Representation) → Sound t → t.exchange x ≡ Some w → w.is_open ≡ true → is_some w.head ≡ true →
+    t.representation (family x w) ≡ Some v → is_written t v ≡ false → Owner t x w v
+owner t x w v s row opened headed there unwritten =
+    by_had (s.writes.had (family x w) x v there (sound.headed w row opened headed refl (ap (λ (o : Option Representation). is_some o) there)))
   where
     by_had : IsHad t (family x w) v x → Owner t x w v
     by_had (sound.shared on writes) = false_true (sym unwritten ∙ on)
@@ -61,7 +63,8 @@ unfolding is_written
 unwritten_lost t v lost = rw lost refl
 
 -- what begins to be read isn't past what its own exchange brings
-starts_within : {limits : Rattle.hc_rules.specs.declared.room.Limits.Limits} (t : Tables) (facts : Facts limits t) (x : ℕ) (w : Exchange) (v : Representation) (o : Owner t x w v) → t.exchange x ≡ Some w → w.is_open ≡ true → is_some w.head ≡ true → o.lo ≤ front w
+starts_within : {limits : Rattle.hc_rules.specs.declared.room.Limits.Limits} (t : Tables) (facts : Facts limits t) (x : ℕ) (w : Exchange)
+    (v : Representation) (o : Owner t x w v) → t.exchange x ≡ Some w → w.is_open ≡ true → is_some w.head ≡ true → o.lo ≤ front w
 starts_within t facts x w v o row opened headed =
     let begins = facts.fronts.begins o.c (family x w) o.lo x o.hi o.how o.k w o.row o.at o.due o.own row opened in
     let at : goes_on_at w w.head ≡ front w = headed_at w w.head refl headed in
@@ -69,7 +72,9 @@ starts_within t facts x w v o row opened headed =
 
 -- WHERE A PIECE COMES, NOTHING IS STORED
 
-module _ {limits : Rattle.hc_rules.specs.declared.room.Limits.Limits} (t : Tables) (facts : Facts limits t) (x : ℕ) (bytes : List ℕ) (goes : denial t (event.Piece x bytes) ≡ None) (w : Exchange) (v : Representation) (row : t.exchange x ≡ Some w) (opened : w.is_open ≡ true) (headed : is_some w.head ≡ true) (some : 0 < length bytes) (there : t.representation (family x w) ≡ Some v) where
+module _ {limits : Rattle.hc_rules.specs.declared.room.Limits.Limits} (t : Tables) (facts : Facts limits t) (x : ℕ) (bytes : List ℕ)
+    (goes : denial t (event.Piece x bytes) ≡ None) (w : Exchange) (v : Representation) (row : t.exchange x ≡ Some w) (opened : w.is_open ≡ true)
+    (headed : is_some w.head ≡ true) (some : 0 < length bytes) (there : t.representation (family x w) ≡ Some v) where
   store : sound.IsStored v
   store = (facts.law.sound.rows (family x w) v there).store
 
@@ -103,8 +108,12 @@ module _ {limits : Rattle.hc_rules.specs.declared.room.Limits.Limits} (t : Table
 
 -- A PIECE OF WHAT IS LOST
 
-module _ {B : Type 0} {g : Ghosts B} {limits : Limits} (r u : Rows B g) (t : Tables) (facts : Facts limits t) (stands : RowsStand limits r t) (now x : ℕ) (bytes : List ℕ) (goes : denial t (event.Piece x bytes) ≡ None) (w : Exchange) (v : Representation) (row : t.exchange x ≡ Some w) (opened : w.is_open ≡ true) (headed : is_some w.head ≡ true) (some : 0 < length bytes) (there : t.representation (family x w) ≡ Some v) (lost : v.is_lost ≡ true)
-    (last : u.last_start ≡ r.last_start) (same_map : u.consumers ≡ r.consumers) (same_keys : u.keys ≡ r.keys) (same_entries : u.entries ≡ r.entries) (becomes : exch.Becomes (known.with_piece bytes true) x r.exchanges u.exchanges) where
+module _ {B : Type 0} {g : Ghosts B} {limits : Limits} (r u : Rows B g) (t : Tables) (facts : Facts limits t) (stands : RowsStand limits r t) (now x : ℕ)
+    (bytes : List ℕ) (goes : denial t (event.Piece x bytes) ≡ None) (w : Exchange) (v : Representation) (row : t.exchange x ≡ Some w)
+    (opened : w.is_open ≡ true) (headed : is_some w.head ≡ true) (some : 0 < length bytes) (there : t.representation (family x w) ≡ Some v)
+    (lost : v.is_lost ≡ true)
+    (last : u.last_start ≡ r.last_start) (same_map : u.consumers ≡ r.consumers) (same_keys : u.keys ≡ r.keys) (same_entries : u.entries ≡ r.entries)
+    (becomes : exch.Becomes (known.with_piece bytes true) x r.exchanges u.exchanges) where
   o : Owner t x w v
   o = owner t x w v facts.law.sound row opened headed there (unwritten_lost t v lost)
 
@@ -135,26 +144,31 @@ module _ {B : Type 0} {g : Ghosts B} {limits : Limits} (r u : Rows B g) (t : Tab
   after = s t now x w bytes (λ q. if family x w == q then Some (with_stored_bytes false (front w) x bytes v) else t.representation q)
 
   lost_stands : RowsStand limits u after
-  lost_stands = held_stands r u t stands now x bytes w v row opened headed there lost is_gone (open_unended t facts.law x w row opened) last same_map same_keys same_entries some may becomes
+  lost_stands = held_stands r u t stands now x bytes w v row opened headed there lost is_gone (open_unended t facts.law x w row opened) last same_map
+      same_keys same_entries some may becomes
 
   pub lost_answered : (before : List Act) → Answered limits (shelf_of r.entries).faults u t before before now (event.Piece x bytes)
   lost_answered before =
-      does_answered limits (shelf_of r.entries).faults u t after before before [] now (event.Piece x bytes) (does.unstored limits t facts.law now x bytes w row goes (family x w) v refl there lost) unwritten refl (sym (append-nil before)) lost_stands
+      does_answered limits (shelf_of r.entries).faults u t after before before [] now (event.Piece x bytes)
+      (does.unstored limits t facts.law now x bytes w row goes (family x w) v refl there lost) unwritten refl (sym (append-nil before)) lost_stands
     where
       unwritten : write_in t (entry_without_acts now (event.Piece x bytes)) (event.Piece x bytes) ≡ None
       unwritten = rw (row, there, lost) refl
 
 -- WHAT ISN'T STORED
 
-module _ {B : Type 0} {g : Ghosts B} {limits : Limits} (r u : Rows B g) (t : Tables) (facts : Facts limits t) (stands : RowsStand limits r t) (now x : ℕ) (bytes : List ℕ) (goes : denial t (event.Piece x bytes) ≡ None) (unkept : stored_by r x ≡ None)
-    (last : u.last_start ≡ r.last_start) (same_map : u.consumers ≡ r.consumers) (same_keys : u.keys ≡ r.keys) (same_entries : u.entries ≡ r.entries) (becomes : exch.Becomes (known.with_piece bytes true) x r.exchanges u.exchanges) (before : List Act) where
+module _ {B : Type 0} {g : Ghosts B} {limits : Limits} (r u : Rows B g) (t : Tables) (facts : Facts limits t) (stands : RowsStand limits r t) (now x : ℕ)
+    (bytes : List ℕ) (goes : denial t (event.Piece x bytes) ≡ None) (unkept : stored_by r x ≡ None)
+    (last : u.last_start ≡ r.last_start) (same_map : u.consumers ≡ r.consumers) (same_keys : u.keys ≡ r.keys) (same_entries : u.entries ≡ r.entries)
+    (becomes : exch.Becomes (known.with_piece bytes true) x r.exchanges u.exchanges) (before : List Act) where
   b : Brought t x (length bytes)
   b = brought_of t x bytes goes
 
   ran : Runs r t x b.w
   ran = runs_of r t x b.w stands b.row b.taken.is_open
 
-  is_lost : (q : ℕ) (v : Representation) → family x b.w ≡ q → t.representation q ≡ Some v → unless_lost q ((shelf_of r.entries).kept q) ≡ None → v.is_lost ≡ true
+  is_lost : (q : ℕ) (v : Representation) → family x b.w ≡ q → t.representation q ≡ Some v → unless_lost q ((shelf_of r.entries).kept q) ≡ None →
+      v.is_lost ≡ true
   is_lost q v of_q there none = by_kept ((shelf_of r.entries).kept q) none (subst (KeepsEntry t q ((shelf_of r.entries).kept q)) there (stands.entries.each q))
     where
       by_test : (a : Bool) → (if a then None else Some q) ≡ None → a ≡ true
@@ -162,16 +176,20 @@ module _ {B : Type 0} {g : Ghosts B} {limits : Limits} (r u : Rows B g) (t : Tab
       by_test false h = none_some q (sym h)
 
       by_kept : (k : Option Kept) → unless_lost q k ≡ None → KeepsEntry t q k (Some v) → v.is_lost ≡ true
-      by_kept None h kept = absurd (facts.law.whose.unread q x v there kept.unused (sound.headed b.w b.row b.taken.is_open b.taken.headed of_q (ap (λ (o : Option Representation). is_some o) there)))
+      by_kept None h kept = absurd
+          (facts.law.whose.unread q x v there kept.unused
+          (sound.headed b.w b.row b.taken.is_open b.taken.headed of_q (ap (λ (o : Option Representation). is_some o) there)))
       by_kept (Some k) h kept = sym kept.is_lost ∙ by_test k.is_lost h
 
-  by_brought : (o : Option ℕ) → brought_by (table_of r.exchanges x).running ≡ o → Answered limits (shelf_of r.entries).faults u t before before now (event.Piece x bytes)
+  by_brought : (o : Option ℕ) → brought_by (table_of r.exchanges x).running ≡ o →
+      Answered limits (shelf_of r.entries).faults u t before before now (event.Piece x bytes)
   by_brought None past = past_answered r u t facts stands now x bytes goes past last same_map same_keys same_entries becomes before
   by_brought (Some q) brings =
       let it = brings_it t x q ran.o b.w ran.is b.taken.headed (sym (ap brought_by ran.running) ∙ brings) in
       let v = it.1.0 in
       let lost = is_lost q v it.0 (sym (ap t.representation it.0) ∙ it.1.1) (sym (ap (stored_at (shelf_of r.entries)) brings) ∙ unkept) in
-      lost_answered r u t facts stands now x bytes goes b.w v b.row b.taken.is_open b.taken.headed b.taken.some it.1.1 lost last same_map same_keys same_entries becomes before
+      lost_answered r u t facts stands now x bytes goes b.w v b.row b.taken.is_open b.taken.headed b.taken.some it.1.1 lost last same_map same_keys
+      same_entries becomes before
 
   pub held_answered : Answered limits (shelf_of r.entries).faults u t before before now (event.Piece x bytes)
   held_answered = by_brought (brought_by (table_of r.exchanges x).running) refl

@@ -24,7 +24,8 @@ pub record Viewed (t : Tables) (x : ℕ) (view : ExchangeView) : Type 0 where
   pub delivered : view.delivered ≡ length w.body
   pub promised_is : view.promised ≡ promised_bytes w
 
-pub viewed : {B : Type 0} {g : Ghosts B} {limits : Limits} (r : Rows B g) (t : Tables) (x : ℕ) (o : Option ExchangeView) (view : ExchangeView) → RowsStand limits r t → o ≡ option_map (view_of x) (table_of r.exchanges x).running → o ≡ Some view → Viewed t x view
+pub viewed : {B : Type 0} {g : Ghosts B} {limits : Limits} (r : Rows B g) (t : Tables) (x : ℕ) (o : Option ExchangeView) (view : ExchangeView) →
+    RowsStand limits r t → o ≡ option_map (view_of x) (table_of r.exchanges x).running → o ≡ Some view → Viewed t x view
 viewed r t x o view stands is some = by_open (table_of r.exchanges x).running (t.exchange x) refl (sym is ∙ some) (stands.exchanges x).running
   where
     by_open : (z : Option Open) (e : Option Exchange) → t.exchange x ≡ e → option_map (view_of x) z ≡ Some view → KeepsRunning t x z e → Viewed t x view
@@ -84,7 +85,8 @@ module _ {B : Type 0} {g : Ghosts B} {limits : Limits} (r : Rows B g) (t : Table
       shown = λ none k row. by_why none k row why;
     }
       where
-        by_why : seen.w.head ≡ None → (k : rows.Consumer) → t.consumer seen.w.c ≡ Some k → ((view.headed ≡ true) ⊎ (is_shown (get nat_eq r.consumers view.c) ≡ true)) → k.shown ≡ true
+        by_why : seen.w.head ≡ None → (k : rows.Consumer) → t.consumer seen.w.c ≡ Some k →
+            ((view.headed ≡ true) ⊎ (is_shown (get nat_eq r.consumers view.c) ≡ true)) → k.shown ≡ true
         by_why none k row (inl headed) = false_true (sym (ap (λ z. is_some z) none) ∙ (sym seen.headed ∙ headed))
         by_why none k row (inr shown) =
             let w = law.owned.waiting x seen.w seen.row seen.is_open none in
@@ -102,6 +104,7 @@ module _ {B : Type 0} {g : Ghosts B} {limits : Limits} (r : Rows B g) (t : Table
             bare = bare off;
             for_it = sym seen.c_is;
             consumer = ap t.consumer seen.c_is ∙ w.row;
-            unshown = sym (shown_is seen.w.c w.k w.row (awaiting_lives x seen.w w.k w.at)) ∙ (ap (λ n. is_shown (get nat_eq r.consumers n)) (sym seen.c_is) ∙ unshown);
+            unshown = sym (shown_is seen.w.c w.k w.row (awaiting_lives x seen.w w.k w.at)) ∙
+                (ap (λ n. is_shown (get nat_eq r.consumers n)) (sym seen.c_is) ∙ unshown);
           },
         )

@@ -45,14 +45,16 @@ length_stays t x n known = ap (λ (f : ℕ → Option Representation). record t 
       | inr ne ↦ rw (eqb-other x q ne) refl
     ])
 
-module _ {B : Type 0} {g : Ghosts B} (limits : Limits) (faults : ℕ) (u : Rows B g) (t : Tables) (facts : Facts limits t) (now x : ℕ) (w : Exchange) (broken : IsBroken t x w) (p : ℕ) (promises : promised_bytes w ≡ Some p) (accepts : denial t (event.End x) ≡ None) where
+module _ {B : Type 0} {g : Ghosts B} (limits : Limits) (faults : ℕ) (u : Rows B g) (t : Tables) (facts : Facts limits t) (now x : ℕ) (w : Exchange)
+    (broken : IsBroken t x w) (p : ℕ) (promises : promised_bytes w ≡ Some p) (accepts : denial t (event.End x) ≡ None) where
   abbrev why : Cause
   why = cause.Short x (length w.body) p
 
   few : length w.body < p
   few =
       let most : length w.body ≤ p = facts.law.places.promised_most x p w broken.row promises in
-      let off : nat_eq p (length w.body) ≡ false = sym (ap (λ o. is_reached o (length w.body)) promises) ∙ facts.law.endings.unreached x w broken.row broken.is_open in
+      let off : nat_eq p (length w.body) ≡ false = sym (ap (λ o. is_reached o (length w.body)) promises) ∙
+      facts.law.endings.unreached x w broken.row broken.is_open in
       grind (arith, nat_tests)
 
   less : nat_lt (length w.body) p ≡ true
@@ -82,15 +84,21 @@ module _ {B : Type 0} {g : Ghosts B} (limits : Limits) (faults : ℕ) (u : Rows 
       by_tests false b is = false_true is
 
   -- what the end does, as the tables with those who fail tell it
-  by_end : (s z : Tables) → z ≡ s → Does limits t now (event.End x) NoFlaw [] (with_event now (event.End x) (let_some_go now (if is_short w then going_with t (Some x) else None) z))
-      → ((r : ℕ) (v : Representation) → family x w ≡ r → t.representation r ≡ Some v → v.is_lost ≡ false → Does limits t now (event.End x) (Loses r kind.Fault) (act.Lost r kind.Fault ∷ []) (with_event now (event.End x) (let_go now r (with_loss r (exclusive t r v) z))))
+  by_end : (s z : Tables) → z ≡ s →
+      Does limits t now (event.End x) NoFlaw [] (with_event now (event.End x) (let_some_go now (if is_short w then going_with t (Some x) else None) z))
+      → ((r : ℕ) (v : Representation) → family x w ≡ r → t.representation r ≡ Some v → v.is_lost ≡ false →
+      Does limits t now (event.End x) (Loses r kind.Fault) (act.Lost r kind.Fault ∷ [])
+      (with_event now (event.End x) (let_go now r (with_loss r (exclusive t r v) z))))
       → StopsBy limits t now x w (event.End x) s
   unfolding written_representation
   by_end s z same quiet loses = record {
     quiet =
         subst (λ (a : Tables). Does limits t now (event.End x) NoFlaw [] (with_event now (event.End x) (let_some_go now (going_with t (Some x)) a))) same
-        (subst (λ b. Does limits t now (event.End x) NoFlaw [] (with_event now (event.End x) (let_some_go now (if b then going_with t (Some x) else None) z))) short quiet);
-    loses = λ r v of_r there kept. subst (λ (a : Tables). Does limits t now (event.End x) (Loses r kind.Fault) (act.Lost r kind.Fault ∷ []) (with_event now (event.End x) (let_go now r (with_loss r (exclusive t r v) a)))) same (loses r v of_r there kept);
+        (subst (λ b. Does limits t now (event.End x) NoFlaw []
+        (with_event now (event.End x) (let_some_go now (if b then going_with t (Some x) else None) z))) short quiet);
+    loses = λ r v of_r there kept. subst
+        (λ (a : Tables). Does limits t now (event.End x) (Loses r kind.Fault) (act.Lost r kind.Fault ∷ [])
+        (with_event now (event.End x) (let_go now r (with_loss r (exclusive t r v) a)))) same (loses r v of_r there kept);
     unwritten = refl;
     bodiless = refl;
     stops_at = λ y. refl;
@@ -99,37 +107,52 @@ module _ {B : Type 0} {g : Ghosts B} (limits : Limits) (faults : ℕ) (u : Rows 
   }
 
   -- and so is it answered
-  ends_with : (f : ℕ → Option rows.Consumer) (s : Tables) → s.representation ≡ t.representation → tables_after_close x (with_consumers f t) ≡ with_over x w t.exchange s → StopsBy limits t now x w (event.End x) (with_end x w t.exchange s) → (before out : List Act) → HasStopped limits faults u t f before out now x → Answered limits faults u t before out now (event.End x)
+  ends_with : (f : ℕ → Option rows.Consumer) (s : Tables) → s.representation ≡ t.representation →
+      tables_after_close x (with_consumers f t) ≡ with_over x w t.exchange s → StopsBy limits t now x w (event.End x) (with_end x w t.exchange s) →
+      (before out : List Act) → HasStopped limits faults u t f before out now x → Answered limits faults u t before out now (event.End x)
   ends_with f s same_rows same by before out has =
       stopped_answered limits faults u t facts.law now x w broken.row (event.End x) (with_end x w t.exchange s) by f same_rows
       (λ o stands. by_going o stands)
-      (λ r v alone stands. stands_ended u (let_go now r (with_representation r (Some (lost_to alone v)) s)) t.exchange x w p promises (subst (λ (a : Tables). RowsStand limits u (let_go now r (with_representation r (Some (lost_to alone v)) a))) same stands))
+      (λ r v alone stands. stands_ended u (let_go now r (with_representation r (Some (lost_to alone v)) s)) t.exchange x w p promises
+      (subst (λ (a : Tables). RowsStand limits u (let_go now r (with_representation r (Some (lost_to alone v)) a))) same stands))
       before out has
     where
-      by_going : (o : Option ℕ) → RowsStand limits u (let_some_go now o (tables_after_close x (with_consumers f t))) → RowsStand limits u (let_some_go now o (with_end x w t.exchange s))
+      by_going : (o : Option ℕ) → RowsStand limits u (let_some_go now o (tables_after_close x (with_consumers f t))) →
+          RowsStand limits u (let_some_go now o (with_end x w t.exchange s))
       by_going None stands = stands_ended u s t.exchange x w p promises (subst (RowsStand limits u) same stands)
-      by_going (Some q) stands = stands_ended u (let_go now q s) t.exchange x w p promises (subst (λ (a : Tables). RowsStand limits u (let_go now q a)) same stands)
+      by_going (Some q) stands =
+          stands_ended u (let_go now q s) t.exchange x w p promises (subst (λ (a : Tables). RowsStand limits u (let_go now q a)) same stands)
 
   -- one who fails
-  one_is : (c : ℕ) → with_length x (length w.body) (with_due c (short_of x w (promised_bytes w)) (with_exchange x (Some (at_end w)) t)) ≡ with_end x w t.exchange (with_due c (Some why) t)
-  one_is c = length_stays (with_due c (short_of x w (promised_bytes w)) (with_exchange x (Some (at_end w)) t)) x (length w.body) known ∙ ap (λ o. with_due c o (with_exchange x (Some (at_end w)) t)) due_is
+  one_is : (c : ℕ) → with_length x (length w.body) (with_due c (short_of x w (promised_bytes w)) (with_exchange x (Some (at_end w)) t)) ≡ with_end x w
+      t.exchange (with_due c (Some why) t)
+  one_is c = length_stays (with_due c (short_of x w (promised_bytes w)) (with_exchange x (Some (at_end w)) t)) x (length w.body) known ∙
+      ap (λ o. with_due c o (with_exchange x (Some (at_end w)) t)) due_is
 
-  all_are : (r : ℕ) → with_length x (length w.body) (with_dues r (short_of x w (promised_bytes w)) (with_exchange x (Some (at_end w)) t)) ≡ with_end x w t.exchange (with_dues r (Some why) t)
-  all_are r = length_stays (with_dues r (short_of x w (promised_bytes w)) (with_exchange x (Some (at_end w)) t)) x (length w.body) known ∙ ap (λ o. with_dues r o (with_exchange x (Some (at_end w)) t)) due_is
+  all_are : (r : ℕ) → with_length x (length w.body) (with_dues r (short_of x w (promised_bytes w)) (with_exchange x (Some (at_end w)) t)) ≡ with_end x w
+      t.exchange (with_dues r (Some why) t)
+  all_are r = length_stays (with_dues r (short_of x w (promised_bytes w)) (with_exchange x (Some (at_end w)) t)) x (length w.body) known ∙
+      ap (λ o. with_dues r o (with_exchange x (Some (at_end w)) t)) due_is
 
   pub short_answered : (before out : List Act) → BrokeOff limits faults u t before out now x w why → Answered limits faults u t before out now (event.End x)
   short_answered before out (stopped.own c (stopped.past none one) has) =
       let s : Tables = with_due w.c (Some why) t in
-      let has_w : HasStopped limits faults u t (due_for t (λ d. w.c == d) why) before out now x = subst (λ (n : ℕ). HasStopped limits faults u t (due_for t (λ d. n == d) why) before out now x) one has in
-      let going : (if is_short w then going_with t (Some x) else None) ≡ None = ap (λ b. if b then going_with t (Some x) else None) short ∙ nothing_goes t facts.law x w broken.row none in
+      let has_w : HasStopped limits faults u t (due_for t (λ d. w.c == d) why) before out now x =
+      subst (λ (n : ℕ). HasStopped limits faults u t (due_for t (λ d. n == d) why) before out now x) one has in
+      let going : (if is_short w then going_with t (Some x) else None) ≡ None = ap (λ b. if b then going_with t (Some x) else None) short ∙
+      nothing_goes t facts.law x w broken.row none in
       ends_with (due_for t (λ d. w.c == d) why) s refl (own_tables t x w.c w why broken.row)
-      (by_end (with_end x w t.exchange s) (with_due w.c (short_of x w (promised_bytes w)) (with_exchange x (Some (at_end w)) t)) (ap (λ o. with_due w.c o (with_exchange x (Some (at_end w)) t)) due_is)
-      (subst (λ o. Does limits t now (event.End x) NoFlaw [] (with_event now (event.End x) (let_some_go now o (with_due w.c (short_of x w (promised_bytes w)) (with_exchange x (Some (at_end w)) t))))) (sym going) (past_effects.ends_past limits t facts.law now x w broken.row none accepts))
+      (by_end (with_end x w t.exchange s) (with_due w.c (short_of x w (promised_bytes w)) (with_exchange x (Some (at_end w)) t))
+      (ap (λ o. with_due w.c o (with_exchange x (Some (at_end w)) t)) due_is)
+      (subst (λ o. Does limits t now (event.End x) NoFlaw []
+      (with_event now (event.End x) (let_some_go now o (with_due w.c (short_of x w (promised_bytes w)) (with_exchange x (Some (at_end w)) t)))))
+      (sym going) (past_effects.ends_past limits t facts.law now x w broken.row none accepts))
       (λ r v of_r there kept. none_some v (sym none ∙ (ap t.representation of_r ∙ there))))
       before out has_w
   short_answered before out (stopped.own c (stopped.brings k v there at owns) has) =
       ends_with (due_for t (λ d. c == d) why) (with_due c (Some why) t) refl (own_tables t x c w why broken.row)
-      (by_end (with_end x w t.exchange (with_due c (Some why) t)) (with_length x (length w.body) (with_due c (short_of x w (promised_bytes w)) (with_exchange x (Some (at_end w)) t))) (one_is c)
+      (by_end (with_end x w t.exchange (with_due c (Some why) t))
+      (with_length x (length w.body) (with_due c (short_of x w (promised_bytes w)) (with_exchange x (Some (at_end w)) t))) (one_is c)
       (seal_effects.ends_own limits t facts.law now x w broken.row (family x w) v refl there c k at owns accepts)
       (λ r z of_r here kept. seal_effects.ends_own_lost limits t facts.law now x w broken.row r z of_r here c k at owns accepts kind.Fault kept))
       before out has
@@ -139,9 +162,13 @@ module _ {B : Type 0} {g : Ghosts B} (limits : Limits) (faults : ℕ) (u : Rows 
       ends_with (due_for t (λ d. is_bound r (t.consumer d)) why) (with_dues r (Some why) t) refl (shared_tables t x r w why broken.row)
       (by_end (with_end x w t.exchange (with_dues r (Some why) t)) z (all_are r)
       (seal_effects.ends_shared limits t facts.law now x w broken.row r v refl there on writer accepts)
-      (λ q a of_q here kept. subst (λ (n : ℕ). Does limits t now (event.End x) (Loses n kind.Fault) (act.Lost n kind.Fault ∷ []) (with_event now (event.End x) (let_go now n (with_loss n (exclusive t n a) z)))) of_q
+      (λ q a of_q here kept. subst
+      (λ (n : ℕ). Does limits t now (event.End x) (Loses n kind.Fault) (act.Lost n kind.Fault ∷ [])
+      (with_event now (event.End x) (let_go now n (with_loss n (exclusive t n a) z)))) of_q
       (let here_r : t.representation r ≡ Some a = ap t.representation of_q ∙ here in
       let same : v ≡ a = same_row (t.representation r) v a there here_r in
-      subst (λ (b : Representation). Does limits t now (event.End x) (Loses r kind.Fault) (act.Lost r kind.Fault ∷ []) (with_event now (event.End x) (let_go now r (with_loss r (exclusive t r b) z)))) same
-      (seal_effects.ends_shared_lost limits t facts.law now x w broken.row r v refl there on writer accepts kind.Fault (ap (λ (b : Representation). b.is_lost) same ∙ kept)))))
+      subst (λ (b : Representation). Does limits t now (event.End x) (Loses r kind.Fault) (act.Lost r kind.Fault ∷ [])
+      (with_event now (event.End x) (let_go now r (with_loss r (exclusive t r b) z)))) same
+      (seal_effects.ends_shared_lost limits t facts.law now x w broken.row r v refl there on writer accepts kind.Fault
+      (ap (λ (b : Representation). b.is_lost) same ∙ kept)))))
       before out has

@@ -23,7 +23,8 @@ use Rattle.hc_state.proofs.{Fallbacks.{unstored_moved}, LeftAlone.{unwritten_non
 use Rattle.hc_on_body.proofs.DueRows.{reported_same, may_due, awaits_due, stands_due}
 
 -- the same ones, told otherwise
-pub among_as : {A : Type 0} (old new : Numbered A) (f h : ℕ → Bool) (change : A → A) → ((d : ℕ) → f d ≡ h d) → ChangesAmong old new f change → ChangesAmong old new h change
+pub among_as : {A : Type 0} (old new : Numbered A) (f h : ℕ → Bool) (change : A → A) → ((d : ℕ) → f d ≡ h d) → ChangesAmong old new f change →
+    ChangesAmong old new h change
 among_as old new f h change alike changes = record {
   places = λ d. changes.places d ∙ ap (λ b. if b then option_map change (get nat_eq old d) else get nat_eq old d) (alike d);
   len = changes.len;
@@ -34,10 +35,13 @@ among_as old new f h change alike changes = record {
 -- its consumer past the store; the one bound whose own it is; or all who are bound to what it writes for several
 pub data ReadBy (t : Tables) (x : ℕ) (w : Exchange) (by : Readers) : Type 0 where
   past : t.representation (family x w) ≡ None → by ≡ readers.One w.c → ReadBy t x w by
-  own : (c : ℕ) (k : rows.Consumer) (v : Representation) → t.representation (family x w) ≡ Some v → IsBound t (family x w) c k → own_open t k ≡ Some x → k.due ≡ None → IsExclusiveWriter t (family x w) v c → by ≡ readers.One c → ReadBy t x w by
-  shared : (v : Representation) → t.representation (family x w) ≡ Some v → is_written t v ≡ true → v.writer ≡ Some x → by ≡ readers.All (family x w) → ReadBy t x w by
+  own : (c : ℕ) (k : rows.Consumer) (v : Representation) → t.representation (family x w) ≡ Some v → IsBound t (family x w) c k → own_open t k ≡ Some x →
+      k.due ≡ None → IsExclusiveWriter t (family x w) v c → by ≡ readers.One c → ReadBy t x w by
+  shared : (v : Representation) → t.representation (family x w) ≡ Some v → is_written t v ≡ true → v.writer ≡ Some x → by ≡ readers.All (family x w) →
+      ReadBy t x w by
 
-module _ {B : Type 0} {g : Ghosts B} {limits : Limits} (r : Rows B g) (t : Tables) (facts : Facts limits t) (stands : RowsStand limits r t) (x : ℕ) (w : Exchange) (row : t.exchange x ≡ Some w) (opened : w.is_open ≡ true) where
+module _ {B : Type 0} {g : Ghosts B} {limits : Limits} (r : Rows B g) (t : Tables) (facts : Facts limits t) (stands : RowsStand limits r t) (x : ℕ)
+    (w : Exchange) (row : t.exchange x ≡ Some w) (opened : w.is_open ≡ true) where
   abbrev law : Lawful t
   law = facts.law
 
@@ -72,15 +76,20 @@ module _ {B : Type 0} {g : Ghosts B} {limits : Limits} (r : Rows B g) (t : Table
       where
         by_owner : v.alone ≡ None → IsOwner t x w c → w.c ≡ c
         by_owner nobody (whose.opener for_it) = for_it
-        by_owner nobody (whose.alone u rep is) = none_some c (sym nobody ∙ (ap (λ (z : Representation). z.alone) (same_row (t.representation q) v u there rep) ∙ is))
+        by_owner nobody (whose.alone u rep is) =
+            none_some c (sym nobody ∙ (ap (λ (z : Representation). z.alone) (same_row (t.representation q) v u there rep) ∙ is))
     owner_is c k at owns (sound.alone lost is) = ap (λ o. unwrap_or o w.c) is
 
-    by_had : (b : Bool) → is_number (writer_group_of (table_of r.exchanges) ((shelf_of r.entries).kept q)) x ≡ b → IsHad t q v x → ReadBy t x w (if b then readers.All q else readers.One (unwrap_or (alone_in ((shelf_of r.entries).kept q)) (opener_of (table_of r.exchanges x).running)))
+    by_had : (b : Bool) → is_number (writer_group_of (table_of r.exchanges) ((shelf_of r.entries).kept q)) x ≡ b → IsHad t q v x →
+        ReadBy t x w (if b then readers.All q else
+        readers.One (unwrap_or (alone_in ((shelf_of r.entries).kept q)) (opener_of (table_of r.exchanges x).running)))
     by_had true on had = by_written (is_written t v) refl
       where
         by_written : (z : Bool) → is_written t v ≡ z → ReadBy t x w (readers.All q)
         by_written false off = false_true (sym (ap (λ o. is_number o x) (writer_group_is ∙ ap (λ z. if z then v.writer else None) off)) ∙ on)
-        by_written true writes = shared v there writes (number_some v.writer (sym (ap (λ o. is_number o x) (writer_group_is ∙ ap (λ z. if z then v.writer else None) writes)) ∙ on)) refl
+        by_written true writes =
+            shared v there writes (number_some v.writer (sym (ap (λ o. is_number o x) (writer_group_is ∙ ap (λ z. if z then v.writer else None) writes)) ∙
+            on)) refl
           where
             number_some : (o : Option ℕ) → is_number o x ≡ true → o ≡ Some x
             number_some None h = false_true h
@@ -89,21 +98,27 @@ module _ {B : Type 0} {g : Ghosts B} {limits : Limits} (r : Rows B g) (t : Table
         false_true (sym off ∙ (ap (λ o. is_number o x) (writer_group_is ∙ (ap (λ z. if z then v.writer else None) writes ∙ writer)) ∙ eqb-same x))
     by_had false off (sound.own c k (sound.is_bound lo hi way at place_is) owns undue exclusive_writer) =
         own c k v there (sound.is_bound lo hi way at place_is) owns undue exclusive_writer
-        (ap (λ n. readers.One n) (ap (λ o. unwrap_or o (opener_of (table_of r.exchanges x).running)) kept_alone ∙ (ap (unwrap_or v.alone) opener_is ∙ owner_is c k at (own_open_of t k x owns).own exclusive_writer)))
+        (ap (λ n. readers.One n)
+        (ap (λ o. unwrap_or o (opener_of (table_of r.exchanges x).running)) kept_alone ∙
+        (ap (unwrap_or v.alone) opener_is ∙ owner_is c k at (own_open_of t k x owns).own exclusive_writer)))
 
   pub read_by : ReadBy t x w (readers_of x (table_of r.exchanges) (shelf_of r.entries))
   read_by = by_row (t.representation q) refl
     where
       by_row : (o : Option Representation) → t.representation q ≡ o → ReadBy t x w (readers_of x (table_of r.exchanges) (shelf_of r.entries))
       by_row None none =
-          subst (λ o. ReadBy t x w (readers_by x (table_of r.exchanges) (shelf_of r.entries) (opener_of (table_of r.exchanges x).running) o)) (sym (brought_none r t facts t.consumer stands x w row opened none))
+          subst (λ o. ReadBy t x w (readers_by x (table_of r.exchanges) (shelf_of r.entries) (opener_of (table_of r.exchanges x).running) o))
+          (sym (brought_none r t facts t.consumer stands x w row opened none))
           (past none (ap (λ n. readers.One n) opener_is))
       by_row (Some v) there =
-          subst (λ o. ReadBy t x w (readers_by x (table_of r.exchanges) (shelf_of r.entries) (opener_of (table_of r.exchanges x).running) o)) (sym (brought_some r t facts t.consumer stands x w row opened v there))
-          (by_had v there (is_number (writer_group_of (table_of r.exchanges) ((shelf_of r.entries).kept q)) x) refl (law.sound.writes.had q x v there (about v there)))
+          subst (λ o. ReadBy t x w (readers_by x (table_of r.exchanges) (shelf_of r.entries) (opener_of (table_of r.exchanges x).running) o))
+          (sym (brought_some r t facts t.consumer stands x w row opened v there))
+          (by_had v there (is_number (writer_group_of (table_of r.exchanges) ((shelf_of r.entries).kept q)) x) refl
+          (law.sound.writes.had q x v there (about v there)))
 
   -- whoever is bound is told in both
-  pub users_are : (v : Representation) → t.representation q ≡ Some v → (d : ℕ) → has itself d (bound_in ((shelf_of r.entries).kept q)) ≡ is_bound q (t.consumer d)
+  pub users_are : (v : Representation) → t.representation q ≡ Some v → (d : ℕ) →
+      has itself d (bound_in ((shelf_of r.entries).kept q)) ≡ is_bound q (t.consumer d)
   users_are v there d = by_kept ((shelf_of r.entries).kept q) (subst (KeepsEntry t q ((shelf_of r.entries).kept q)) there (stands.entries.each q))
     where
       by_kept : (o : Option Kept) → KeepsEntry t q o (Some v) → has itself d (bound_in o) ≡ is_bound q (t.consumer d)
@@ -137,7 +152,8 @@ module _ (limits : Limits) (t : Tables) (facts : Facts limits t) (x : ℕ) (w : 
       by_one None is = refl
       by_one (Some d) is = false_true (sym (exclusive_parts t r d v is).unwritten ∙ written)
 
-  pub may_stop_shared : (v : Representation) (among : ℕ → Bool) (why : Cause) → t.representation (family x w) ≡ Some v → is_written t v ≡ true → MayStop t (due_for t among why) x None
+  pub may_stop_shared : (v : Representation) (among : ℕ → Bool) (why : Cause) → t.representation (family x w) ≡ Some v → is_written t v ≡ true →
+      MayStop t (due_for t among why) x None
   may_stop_shared v among why there written = record {
     w = w;
     row = broken.row;
@@ -159,7 +175,9 @@ module _ (limits : Limits) (t : Tables) (facts : Facts limits t) (x : ℕ) (w : 
     stored = λ u headed at kept. none_some u (sym none ∙ at);
   }
 
-  module _ (c : ℕ) (k : rows.Consumer) (v : Representation) (there : t.representation (family x w) ≡ Some v) (lo : ℕ) (hi : Option ℕ) (way : BoundBy) (at : t.consumer c ≡ Some k) (place_is : k.place ≡ place.Bound (family x w) lo hi way) (owns : own_open t k ≡ Some x) (undue : k.due ≡ None) (exclusive_writer : IsExclusiveWriter t (family x w) v c) where
+  module _ (c : ℕ) (k : rows.Consumer) (v : Representation) (there : t.representation (family x w) ≡ Some v) (lo : ℕ) (hi : Option ℕ) (way : BoundBy)
+      (at : t.consumer c ≡ Some k) (place_is : k.place ≡ place.Bound (family x w) lo hi way) (owns : own_open t k ≡ Some x) (undue : k.due ≡ None)
+      (exclusive_writer : IsExclusiveWriter t (family x w) v c) where
     abbrev qr : ℕ
     qr = family x w
 
@@ -201,10 +219,12 @@ module _ (limits : Limits) (t : Tables) (facts : Facts limits t) (x : ℕ) (w : 
         ends p le = stores p ∙ (the_law.sound.rows qr v there).store.ends p le
 
         covered : Covers v.stored (offset t k) (front w)
-        covered p from_it to_it = ap (λ (z : Option Cell). is_some z) (stores p) ∙ facts.come.covered qr c x v k w there exclusive_writer (sound.is_bound lo hi way at place_is) undue mine broken.row headed p from_it to_it
+        covered p from_it to_it = ap (λ (z : Option Cell). is_some z) (stores p) ∙
+            facts.come.covered qr c x v k w there exclusive_writer (sound.is_bound lo hi way at place_is) undue mine broken.row headed p from_it to_it
 
         past_front : front w ≤ first_lacking t w v k
-        past_front = (let yes : nat_le (front w) (first_lacking t w v k) ≡ true = covers_yes v.stored v.reach (offset t k) (front w) ends covered in grind (arith, nat_tests, yes))
+        past_front = (let yes : nat_le (front w) (first_lacking t w v k) ≡ true = covers_yes v.stored v.reach (offset t k) (front w) ends covered in
+            grind (arith, nat_tests, yes))
 
         enough : length w.body ≤ first_lacking t w v k - base w
         enough = (let far = past_front in omega arith)
@@ -217,11 +237,13 @@ module _ (limits : Limits) (t : Tables) (facts : Facts limits t) (x : ℕ) (w : 
       abbrev s : Tables
       s = with_consumers (due_for t among why) t
 
-      number_only : (y : ℕ) (b : Bool) → nat_eq x y ≡ b → (z : Exchange) → t.exchange y ≡ Some z → v.is_lost ≡ false → is_some w.head ≡ true → unstored_bytes t y z v (Some k) ≡ []
+      number_only : (y : ℕ) (b : Bool) → nat_eq x y ≡ b → (z : Exchange) → t.exchange y ≡ Some z → v.is_lost ≡ false → is_some w.head ≡ true →
+          unstored_bytes t y z v (Some k) ≡ []
       number_only y true same z there_y kept headed =
           let one : x ≡ y = grind (arith, nat_tests, same) in
           let same_z : w ≡ z = same_row (t.exchange x) w z broken.row (ap t.exchange one ∙ there_y) in
-          subst (λ (n : ℕ). unstored_bytes t n z v (Some k) ≡ []) one (subst (λ (a : Exchange). unstored_bytes t x a v (Some k) ≡ []) same_z (all_stored kept headed))
+          subst (λ (n : ℕ). unstored_bytes t n z v (Some k) ≡ []) one
+          (subst (λ (a : Exchange). unstored_bytes t x a v (Some k) ≡ []) same_z (all_stored kept headed))
       number_only y false off z there_y kept headed =
           let other : is_number k.own y ≡ false = ap (λ (o : Option ℕ). is_number o y) mine ∙ off in
           ap (λ b. if b then drop (first_lacking t z v k - base z) z.body else []) (then_false (is_bound_place (family y z) k.place) (is_number k.own y) other)
@@ -239,14 +261,20 @@ module _ (limits : Limits) (t : Tables) (facts : Facts limits t) (x : ℕ) (w : 
         stored = λ u headed rep kept y z there_y of_y.
             let same : u ≡ v = same_row (t.representation (family x w)) u v rep there in
             subst (λ (p : Representation). held_alone s y z p (Some c) ≡ []) (sym same)
-            (reported_same t among why (unstored_bytes s y z v) (λ a. refl) c ∙ (unstored_moved t s y z v (t.consumer c) ∙ (ap (unstored_bytes t y z v) at ∙ number_only y (nat_eq x y) refl z there_y (ap (λ (p : Representation). p.is_lost) (sym same) ∙ kept) headed)));
+            (reported_same t among why (unstored_bytes s y z v) (λ a. refl) c ∙
+            (unstored_moved t s y z v (t.consumer c) ∙
+            (ap (unstored_bytes t y z v) at ∙ number_only y (nat_eq x y) refl z there_y (ap (λ (p : Representation). p.is_lost) (sym same) ∙ kept) headed)));
       }
 
 -- IT BREAKS OFF
 
-module _ {B : Type 0} {g : Ghosts B} {limits : Limits} (r mid u : Rows B g) (t : Tables) (facts : Facts limits t) (stands : RowsStand limits r t) (x : ℕ) (w : Exchange) (broken : IsBroken t x w) (by : Readers) (is : by ≡ readers_of x (table_of r.exchanges) (shelf_of r.entries)) (why : Cause)
-    (rest : KeepsRest r mid) (same_exchanges : mid.exchanges ≡ r.exchanges) (changes : ChangesAmong r.consumers mid.consumers (reads_from (shelf_of r.entries) by) (with_due why))
-    (faults now : ℕ) (before out : List Act) (stops : (f : ℕ → Option rows.Consumer) → MayStop t f x (goes_on by) → RowsStand limits mid (with_consumers f t) → HasStopped limits faults u t f before out now x) where
+module _ {B : Type 0} {g : Ghosts B} {limits : Limits} (r mid u : Rows B g) (t : Tables) (facts : Facts limits t) (stands : RowsStand limits r t) (x : ℕ)
+    (w : Exchange) (broken : IsBroken t x w) (by : Readers) (is : by ≡ readers_of x (table_of r.exchanges) (shelf_of r.entries)) (why : Cause)
+    (rest : KeepsRest r mid) (same_exchanges : mid.exchanges ≡ r.exchanges)
+    (changes : ChangesAmong r.consumers mid.consumers (reads_from (shelf_of r.entries) by) (with_due why))
+    (faults now : ℕ) (before out : List Act)
+    (stops : (f : ℕ → Option rows.Consumer) → MayStop t f x (goes_on by) → RowsStand limits mid (with_consumers f t) →
+    HasStopped limits faults u t f before out now x) where
   dues : (among : ℕ → Bool) → ((d : ℕ) → reads_from (shelf_of r.entries) by d ≡ among d) → RowsStand limits mid (with_consumers (due_for t among why) t)
   dues among alike = stands_due r mid t among why stands rest.last_start same_exchanges rest.keys rest.entries (among_as r.consumers mid.consumers (reads_from (shelf_of r.entries) by) among (with_due why) alike changes)
 
@@ -256,8 +284,10 @@ module _ {B : Type 0} {g : Ghosts B} {limits : Limits} (r mid u : Rows B g) (t :
   pub breaks_off : BrokeOff limits faults u t before out now x w why
   breaks_off = by_readers (read_by r t facts stands x w broken.row broken.is_open)
     where
-      one_stops : (c : ℕ) → by ≡ readers.One c → MayStop t (due_for t (λ d. nat_eq c d) why) x (Some c) → HasStopped limits faults u t (due_for t (λ d. nat_eq c d) why) before out now x
-      one_stops c one may = stops (due_for t (λ d. nat_eq c d) why) (subst (λ o. MayStop t (due_for t (λ d. nat_eq c d) why) x o) (sym (ap goes_on one)) may) (dues (λ d. nat_eq c d) (reads_one c one))
+      one_stops : (c : ℕ) → by ≡ readers.One c → MayStop t (due_for t (λ d. nat_eq c d) why) x (Some c) →
+          HasStopped limits faults u t (due_for t (λ d. nat_eq c d) why) before out now x
+      one_stops c one may = stops (due_for t (λ d. nat_eq c d) why)
+          (subst (λ o. MayStop t (due_for t (λ d. nat_eq c d) why) x o) (sym (ap goes_on one)) may) (dues (λ d. nat_eq c d) (reads_one c one))
 
       by_readers : ReadBy t x w (readers_of x (table_of r.exchanges) (shelf_of r.entries)) → BrokeOff limits faults u t before out now x w why
       by_readers (past none one) =
@@ -269,5 +299,7 @@ module _ {B : Type 0} {g : Ghosts B} {limits : Limits} (r mid u : Rows B g) (t :
           let those = is ∙ all in
           stopped.shared v there written writer
           (stops (due_for t (λ d. is_bound (family x w) (t.consumer d)) why)
-          (subst (λ o. MayStop t (due_for t (λ d. is_bound (family x w) (t.consumer d)) why) x o) (sym (ap goes_on those)) (may_stop_shared limits t facts x w broken v (λ d. is_bound (family x w) (t.consumer d)) why there written))
-          (dues (λ d. is_bound (family x w) (t.consumer d)) (λ d. ap (λ b. reads_from (shelf_of r.entries) b d) those ∙ users_are r t facts stands x w broken.row broken.is_open v there d)))
+          (subst (λ o. MayStop t (due_for t (λ d. is_bound (family x w) (t.consumer d)) why) x o) (sym (ap goes_on those))
+          (may_stop_shared limits t facts x w broken v (λ d. is_bound (family x w) (t.consumer d)) why there written))
+          (dues (λ d. is_bound (family x w) (t.consumer d))
+          (λ d. ap (λ b. reads_from (shelf_of r.entries) b d) those ∙ users_are r t facts stands x w broken.row broken.is_open v there d)))

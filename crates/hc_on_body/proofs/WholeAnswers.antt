@@ -73,12 +73,22 @@ nothing_dues t r = ap (λ (f : ℕ → Option rows.Consumer). record t { consume
 -- THE LENGTH OF WHAT IS LOST
 
 abbrev length_last : Tables → ℕ → ℕ → Representation → ℕ → Option Representation
-length_last t x n v q = if x == q then option_map (with_total_if_none n) (if x == q then option_map as_gone (if x == q then Some (lost_to None v) else t.representation q) else (if x == q then Some (lost_to None v) else t.representation q)) else (if x == q then option_map as_gone (if x == q then Some (lost_to None v) else t.representation q) else (if x == q then Some (lost_to None v) else t.representation q))
+length_last t x n v q = if x == q then
+    option_map (with_total_if_none n) (if x == q then option_map as_gone (if x == q then Some (lost_to None v) else t.representation q) else
+    (if x == q then Some (lost_to None v) else t.representation q)) else
+    (if x == q then option_map as_gone (if x == q then Some (lost_to None v) else t.representation q) else
+    (if x == q then Some (lost_to None v) else t.representation q))
 
 abbrev length_first : Tables → ℕ → ℕ → Option ℕ → ℕ → Option Representation
-length_first t x n alone q = if x == q then option_map as_gone (if x == q then option_map (lost_to alone) (if x == q then option_map (with_total_if_none n) (t.representation q) else t.representation q) else (if x == q then option_map (with_total_if_none n) (t.representation q) else t.representation q)) else (if x == q then option_map (lost_to alone) (if x == q then option_map (with_total_if_none n) (t.representation q) else t.representation q) else (if x == q then option_map (with_total_if_none n) (t.representation q) else t.representation q))
+length_first t x n alone q = if x == q then
+    option_map as_gone (if x == q then
+    option_map (lost_to alone) (if x == q then option_map (with_total_if_none n) (t.representation q) else t.representation q) else
+    (if x == q then option_map (with_total_if_none n) (t.representation q) else t.representation q)) else
+    (if x == q then option_map (lost_to alone) (if x == q then option_map (with_total_if_none n) (t.representation q) else t.representation q) else
+    (if x == q then option_map (with_total_if_none n) (t.representation q) else t.representation q))
 
-length_either : (t : Tables) (x n : ℕ) (v : Representation) (alone : Option ℕ) → t.representation x ≡ Some v → None ≡ alone → length_last t x n v ≡ length_first t x n alone
+length_either : (t : Tables) (x n : ℕ) (v : Representation) (alone : Option ℕ) → t.representation x ≡ Some v → None ≡ alone →
+    length_last t x n v ≡ length_first t x n alone
 length_either t x n v alone there nobody = fun_ext (λ q. elim (same_or x q) [
   | inl e ↦
       let on : nat_eq x q ≡ true = ap (nat_eq x) (sym e) ∙ eqb-same x in
@@ -88,13 +98,17 @@ length_either t x n v alone there nobody = fun_ext (λ q. elim (same_or x q) [
 ])
 
 pub lost_whole : (t : Tables) (now x n : ℕ) (w : Exchange) (v : Representation) (alone : Option ℕ) → t.representation x ≡ Some v → None ≡ alone
-    → with_length x n (with_exchange x (Some (at_end w)) (let_go now x (with_representation x (Some (lost_to None v)) t))) ≡ let_go now x (with_loss x alone (with_length x n (with_exchange x (Some (at_end w)) t)))
-lost_whole t now x n w v alone there nobody = ap (λ (f : ℕ → Option Representation). record (with_exchange x (Some (at_end w)) (let_go now x t)) { representation = f }) (length_either t x n v alone there nobody)
+    → with_length x n (with_exchange x (Some (at_end w)) (let_go now x (with_representation x (Some (lost_to None v)) t))) ≡ let_go now x
+    (with_loss x alone (with_length x n (with_exchange x (Some (at_end w)) t)))
+lost_whole t now x n w v alone there nobody =
+    ap (λ (f : ℕ → Option Representation). record (with_exchange x (Some (at_end w)) (let_go now x t)) { representation = f })
+    (length_either t x n v alone there nobody)
 
 -- THE ANSWER
 
 -- past the store
-module _ (limits : Limits) (t : Tables) (facts : Facts limits t) (now x : ℕ) (w : Exchange) (row : t.exchange x ≡ Some w) (reports_none : promised_bytes w ≡ None) (accepts : denial t (event.End x) ≡ None) where
+module _ (limits : Limits) (t : Tables) (facts : Facts limits t) (now x : ℕ) (w : Exchange) (row : t.exchange x ≡ Some w)
+    (reports_none : promised_bytes w ≡ None) (accepts : denial t (event.End x) ≡ None) where
   abbrev law : Lawful t
   law = facts.law
 
@@ -117,15 +131,19 @@ module _ (limits : Limits) (t : Tables) (facts : Facts limits t) (now x : ℕ) (
       by_head None some is = false_true some
       by_head (Some response) some is = rw is (then_false w.is_open false refl)
 
-  pub past_answered : {B : Type 0} {g : Ghosts B} (faults : ℕ) (r u : Rows B g) (before : List Act) (c n : ℕ) → t.representation (family x w) ≡ None → n ≡ length w.body → c ≡ w.c → RowsStand limits r t
-      → u.last_start ≡ r.last_start → u.keys ≡ r.keys → u.entries ≡ r.entries → exch.Becomes known.without_exchange x r.exchanges u.exchanges → ChangesAt r.consumers u.consumers c (changes.with_end n)
+  pub past_answered : {B : Type 0} {g : Ghosts B} (faults : ℕ) (r u : Rows B g) (before : List Act) (c n : ℕ) → t.representation (family x w) ≡ None →
+      n ≡ length w.body → c ≡ w.c → RowsStand limits r t
+      → u.last_start ≡ r.last_start → u.keys ≡ r.keys → u.entries ≡ r.entries → exch.Becomes known.without_exchange x r.exchanges u.exchanges →
+      ChangesAt r.consumers u.consumers c (changes.with_end n)
       → Answered limits faults u t before before now (event.End x)
   past_answered faults r u before c n none all its stands last keys entries becomes knows =
       let z : Tables = with_exchange x (Some (at_end w)) t in
       does_answered limits faults u t (with_event now (event.End x) z) before before [] now (event.End x)
-      (subst (λ (s : Tables). Does limits t now (event.End x) NoFlaw [] (with_event now (event.End x) s)) (ap (λ o. with_due w.c o z) no_cause ∙ nothing_due z w.c) (past_effects.ends_past limits t law now x w row none accepts))
+      (subst (λ (s : Tables). Does limits t now (event.End x) NoFlaw [] (with_event now (event.End x) s))
+      (ap (λ o. with_due w.c o z) no_cause ∙ nothing_due z w.c) (past_effects.ends_past limits t law now x w row none accepts))
       refl refl (sym (append-nil before))
-      (stands_counted u z now (event.End x) refl (stands_past r u t law x w row opened headed none reports_none n all stands awaits_none last keys entries becomes c its knows))
+      (stands_counted u z now (event.End x) refl
+      (stands_past r u t law x w row opened headed none reports_none n all stands awaits_none last keys entries becomes c its knows))
 
   -- OF WHAT IS STORED
 
@@ -175,12 +193,17 @@ module _ (limits : Limits) (t : Tables) (facts : Facts limits t) (now x : ℕ) (
         z : Tables
         z = with_exchange x (Some (at_end w)) t
 
-        to_it : (s : Tables) → s ≡ z → Does limits t now (event.End x) NoFlaw [] (with_event now (event.End x) (let_some_go now (if is_short w then going_with t (Some x) else None) (with_length x (length w.body) s))) → Does limits t now (event.End x) NoFlaw [] (with_event now (event.End x) (with_length x (length w.body) (with_exchange x (Some (at_end w)) t)))
+        to_it : (s : Tables) → s ≡ z →
+            Does limits t now (event.End x) NoFlaw []
+            (with_event now (event.End x) (let_some_go now (if is_short w then going_with t (Some x) else None) (with_length x (length w.body) s))) →
+            Does limits t now (event.End x) NoFlaw [] (with_event now (event.End x) (with_length x (length w.body) (with_exchange x (Some (at_end w)) t)))
         to_it s same does =
             subst (λ (a : Tables). Does limits t now (event.End x) NoFlaw [] (with_event now (event.End x) (with_length x (length w.body) a))) same
-            (subst (λ o. Does limits t now (event.End x) NoFlaw [] (with_event now (event.End x) (let_some_go now o (with_length x (length w.body) s)))) (going_none (going_with t (Some x))) does)
+            (subst (λ o. Does limits t now (event.End x) NoFlaw [] (with_event now (event.End x) (let_some_go now o (with_length x (length w.body) s))))
+            (going_none (going_with t (Some x))) does)
 
-        by_whose : whose.IsSomebodys t x w → Does limits t now (event.End x) NoFlaw [] (with_event now (event.End x) (with_length x (length w.body) (with_exchange x (Some (at_end w)) t)))
+        by_whose : whose.IsSomebodys t x w →
+            Does limits t now (event.End x) NoFlaw [] (with_event now (event.End x) (with_length x (length w.body) (with_exchange x (Some (at_end w)) t)))
         by_whose (whose.own k none at owns stands) = none_some v (sym none ∙ there)
         by_whose (whose.shared p rep on writer) =
             let one : p ≡ v = same_row (t.representation (family x w)) p v rep there in
@@ -204,33 +227,43 @@ module _ (limits : Limits) (t : Tables) (facts : Facts limits t) (now x : ℕ) (
         by_test false is = refl
         by_test true is = false_true (sym stays ∙ (law.sound.rows x v here).store.lost_is_gone is)
 
-    loses : v.is_gone ≡ false → Does limits t now (event.End x) (Loses x kind.Fault) (act.Lost x kind.Fault ∷ []) (with_event now (event.End x) (let_go now x (with_loss x (exclusive t x v) (with_length x (length w.body) (with_exchange x (Some (at_end w)) t)))))
+    loses : v.is_gone ≡ false →
+        Does limits t now (event.End x) (Loses x kind.Fault) (act.Lost x kind.Fault ∷ [])
+        (with_event now (event.End x) (let_go now x (with_loss x (exclusive t x v) (with_length x (length w.body) (with_exchange x (Some (at_end w)) t)))))
     loses stays =
         let is = coming stays in
         let z : Tables = with_exchange x (Some (at_end w)) t in
-        subst (λ (a : Tables). Does limits t now (event.End x) (Loses x kind.Fault) (act.Lost x kind.Fault ∷ []) (with_event now (event.End x) (let_go now x (with_loss x (exclusive t x v) (with_length x (length w.body) a))))) (ap (λ o. with_dues x o z) no_cause ∙ nothing_dues z x)
+        subst (λ (a : Tables). Does limits t now (event.End x) (Loses x kind.Fault) (act.Lost x kind.Fault ∷ [])
+        (with_event now (event.End x) (let_go now x (with_loss x (exclusive t x v) (with_length x (length w.body) a)))))
+        (ap (λ o. with_dues x o z) no_cause ∙ nothing_dues z x)
         (seal_effects.ends_shared_lost limits t law now x w row x v measured.own here is.written is.writer accepts kind.Fault (kept stays))
 
     module _ {B : Type 0} {g : Ghosts B} (faults : ℕ) (r mid u : Rows B g) (stands : RowsStand limits r t) (before out : List Act)
-        (last : u.last_start ≡ mid.last_start) (keys : u.keys ≡ mid.keys) (entries : u.entries ≡ mid.entries) (becomes : exch.Becomes known.without_exchange x mid.exchanges u.exchanges)
+        (last : u.last_start ≡ mid.last_start) (keys : u.keys ≡ mid.keys) (entries : u.entries ≡ mid.entries)
+        (becomes : exch.Becomes known.without_exchange x mid.exchanges u.exchanges)
         (knows : ChangesAmong mid.consumers u.consumers (λ d. has itself d (bound_in ((shelf_of mid.entries).kept x))) (changes.with_end (length w.body))) where
       abbrev n : ℕ
       n = length w.body
 
       -- who is kept as bound is, where somebody is
-      users_by : (s : Tables) (k : Option Kept) (o : Option Representation) → (bound s x ≡ [] → ⊥) → is_some o ≡ true → KeepsEntry s x k o → (d : ℕ) → has itself d (bound_in k) ≡ is_bound x (s.consumer d)
+      users_by : (s : Tables) (k : Option Kept) (o : Option Representation) → (bound s x ≡ [] → ⊥) → is_some o ≡ true → KeepsEntry s x k o → (d : ℕ) →
+          has itself d (bound_in k) ≡ is_bound x (s.consumer d)
       users_by s None None some rep kept_it d = false_true rep
       users_by s None (Some p) some rep kept_it d = absurd (some kept_it.unused)
       users_by s (Some e) None some rep kept_it d = absurd kept_it
       users_by s (Some e) (Some p) some rep kept_it d = kept_it.bound d
 
-      quietly_ends : out ≡ before → RowsStand limits u (with_length x n (with_exchange x (Some (at_end w)) t)) → Answered limits faults u t before out now (event.End x)
+      quietly_ends : out ≡ before → RowsStand limits u (with_length x n (with_exchange x (Some (at_end w)) t)) →
+          Answered limits faults u t before out now (event.End x)
       quietly_ends same rows =
           let s : Tables = with_length x n (with_exchange x (Some (at_end w)) t) in
-          does_answered limits faults u t (with_event now (event.End x) s) before out [] now (event.End x) quiet refl refl (same ∙ sym (append-nil before)) (stands_counted u s now (event.End x) refl rows)
+          does_answered limits faults u t (with_event now (event.End x) s) before out [] now (event.End x) quiet refl refl
+          (same ∙ sym (append-nil before)) (stands_counted u s now (event.End x) refl rows)
 
       -- what is gone stays
-      gone_stays : (s : Tables) (p : Representation) → RowsStand limits mid s → s.exchange x ≡ Some w → s.representation x ≡ Some p → p.head.total ≡ None → p.is_gone ≡ true → p.body ≡ v.body → (bound s x ≡ [] → ⊥) → ((d : ℕ) (k : rows.Consumer) → s.consumer d ≡ Some k → k.place ≡ place.Direct x → ⊥) → NobodyAwaits s x → NobodyFirst s x
+      gone_stays : (s : Tables) (p : Representation) → RowsStand limits mid s → s.exchange x ≡ Some w → s.representation x ≡ Some p →
+          p.head.total ≡ None → p.is_gone ≡ true → p.body ≡ v.body → (bound s x ≡ [] → ⊥) →
+          ((d : ℕ) (k : rows.Consumer) → s.consumer d ≡ Some k → k.place ≡ place.Direct x → ⊥) → NobodyAwaits s x → NobodyFirst s x
           → RowsStand limits u (with_length x n (with_exchange x (Some (at_end w)) s))
       gone_stays s p rows s_row s_rep unknown is_gone same_body some nobody awaits firsts =
           let each : KeepsEntry s x ((shelf_of mid.entries).kept x) (s.representation x) = rows.entries.each x in
@@ -238,16 +271,21 @@ module _ (limits : Limits) (t : Tables) (facts : Facts limits t) (now x : ℕ) (
           let after : Tables = with_length x n (with_exchange x (Some (at_end w)) s) in
           let here_now : after.representation x ≡ Some (with_total_if_none n p) = rw (eqb-same x, s_rep) refl in
           let each_now : KeepsEntry after x ((shelf_of u.entries).kept x) (after.representation x) =
-          rw (entries, here_now) (gone_longer s x n (Some (at_end w)) p s_rep unknown refl is_gone (subst (λ f. Covers f 0 n) (sym same_body) came) firsts ((shelf_of mid.entries).kept x) (subst (KeepsEntry s x ((shelf_of mid.entries).kept x)) s_rep each)) in
-          stands_whole mid u s x w n p s_row s_rep measured.own unknown rows nobody awaits last keys becomes (λ d. has itself d (bound_in ((shelf_of mid.entries).kept x))) users knows (ap (λ z. (shelf_of z).limits) entries)
-          (entries_whole mid u s x w n p s_row s_rep measured.own unknown rows nobody awaits last keys becomes (λ d. has itself d (bound_in ((shelf_of mid.entries).kept x))) users knows (ap (λ z. (shelf_of z).limits) entries)
+          rw (entries, here_now) (gone_longer s x n (Some (at_end w)) p s_rep unknown refl is_gone (subst (λ f. Covers f 0 n) (sym same_body) came) firsts
+          ((shelf_of mid.entries).kept x) (subst (KeepsEntry s x ((shelf_of mid.entries).kept x)) s_rep each)) in
+          stands_whole mid u s x w n p s_row s_rep measured.own unknown rows nobody awaits last keys becomes
+          (λ d. has itself d (bound_in ((shelf_of mid.entries).kept x))) users knows (ap (λ z. (shelf_of z).limits) entries)
+          (entries_whole mid u s x w n p s_row s_rep measured.own unknown rows nobody awaits last keys becomes
+          (λ d. has itself d (bound_in ((shelf_of mid.entries).kept x))) users knows (ap (λ z. (shelf_of z).limits) entries)
           (shelf_of u.entries) (ap (λ z. (shelf_of z).order) entries) (λ q ne. ap (λ z. (shelf_of z).kept q) entries) each_now)
 
       pub whole_answered : SealedWhole limits faults r mid t before out now x v n → Answered limits faults u t before out now (event.End x)
       unfolding bound written_representation
       whole_answered (stopped.gone is_gone same unchanged) =
-          quietly_ends same (gone_stays t v (subst (λ z. RowsStand limits z t) (sym unchanged) stands) row here measured.unreported is_gone refl used unread awaits_none none_first)
-      whole_answered (stopped.sealed stays same rest seals) = quietly_ends same (by_kept ((shelf_of r.entries).kept x) refl (subst (KeepsEntry t x ((shelf_of r.entries).kept x)) here (stands.entries.each x)))
+          quietly_ends same (gone_stays t v (subst (λ z. RowsStand limits z t) (sym unchanged) stands) row here measured.unreported is_gone refl used
+          unread awaits_none none_first)
+      whole_answered (stopped.sealed stays same rest seals) =
+          quietly_ends same (by_kept ((shelf_of r.entries).kept x) refl (subst (KeepsEntry t x ((shelf_of r.entries).kept x)) here (stands.entries.each x)))
         where
           after : Tables
           after = with_length x n (with_exchange x (Some (at_end w)) t)
@@ -258,7 +296,8 @@ module _ (limits : Limits) (t : Tables) (facts : Facts limits t) (now x : ℕ) (
           stopped_growing : is_growing (with_exchange x (Some (at_end w)) t) x ≡ false
           stopped_growing = any_none (λ y. brings_to x y ((with_exchange x (Some (at_end w)) t).exchange y)) t.openings (λ y. elim (same_or x y) [
             | inl e ↦ (let here_y : (with_exchange x (Some (at_end w)) t).exchange y ≡ Some (at_end w) = rw (e, eqb-same y) refl in ap (brings_to x y) here_y)
-            | inr ne ↦ (let other : (with_exchange x (Some (at_end w)) t).exchange y ≡ t.exchange y = rw (eqb-other x y ne) refl in ap (brings_to x y) other ∙ nothing_else t law x x v here grows y ne)
+            | inr ne ↦ (let other : (with_exchange x (Some (at_end w)) t).exchange y ≡ t.exchange y = rw (eqb-other x y ne) refl in
+                ap (brings_to x y) other ∙ nothing_else t law x x v here grows y ne)
           ])
 
           stores : (p : ℕ) → v.stored p ≡ v.body p
@@ -275,22 +314,31 @@ module _ (limits : Limits) (t : Tables) (facts : Facts limits t) (now x : ℕ) (
           by_kept (Some e) at is =
               let seals_it : (shelf_of mid.entries).kept x ≡ Some (entry.sealed_kept kinds.Whole (Some n) e) = seals.kept x ∙ rw (eqb-same x, at) refl in
               let users : ℕ → Bool = λ d. has itself d (bound_in ((shelf_of mid.entries).kept x)) in
-              let users_so : (d : ℕ) → has itself d (bound_in ((shelf_of mid.entries).kept x)) ≡ is_bound x (t.consumer d) = λ d. ap (λ z. has itself d (bound_in z)) seals_it ∙ is.bound d in
+              let users_so : (d : ℕ) → has itself d (bound_in ((shelf_of mid.entries).kept x)) ≡ is_bound x (t.consumer d) =
+              λ d. ap (λ z. has itself d (bound_in z)) seals_it ∙ is.bound d in
               let here_now : after.representation x ≡ Some (with_total_if_none n v) = rw (eqb-same x, here) refl in
               let each_now : KeepsEntry after x ((shelf_of u.entries).kept x) (after.representation x) =
               rw (entries, seals_it, here_now) (sealed_longer t x n (Some (at_end w)) v here measured.unreported refl stopped_growing all_stored ends e is) in
-              let becomes_r : exch.Becomes known.without_exchange x r.exchanges u.exchanges = subst (λ z. exch.Becomes known.without_exchange x z u.exchanges) rest.exchanges becomes in
-              let knows_r : ChangesAmong r.consumers u.consumers (λ d. has itself d (bound_in ((shelf_of mid.entries).kept x))) (changes.with_end n) = subst (λ z. ChangesAmong z u.consumers (λ d. has itself d (bound_in ((shelf_of mid.entries).kept x))) (changes.with_end n)) rest.consumers knows in
+              let becomes_r : exch.Becomes known.without_exchange x r.exchanges u.exchanges =
+              subst (λ z. exch.Becomes known.without_exchange x z u.exchanges) rest.exchanges becomes in
+              let knows_r : ChangesAmong r.consumers u.consumers (λ d. has itself d (bound_in ((shelf_of mid.entries).kept x))) (changes.with_end n) =
+              subst (λ z. ChangesAmong z u.consumers (λ d. has itself d (bound_in ((shelf_of mid.entries).kept x))) (changes.with_end n)) rest.consumers
+              knows in
               let bounded : (shelf_of u.entries).limits ≡ (shelf_of r.entries).limits = ap (λ z. (shelf_of z).limits) entries ∙ seals.limits in
-              stands_whole r u t x w n v row here measured.own measured.unreported stands unread awaits_none (last ∙ rest.last_start) (keys ∙ rest.keys) becomes_r (λ d. has itself d (bound_in ((shelf_of mid.entries).kept x))) users_so knows_r bounded
-              (entries_whole r u t x w n v row here measured.own measured.unreported stands unread awaits_none (last ∙ rest.last_start) (keys ∙ rest.keys) becomes_r (λ d. has itself d (bound_in ((shelf_of mid.entries).kept x))) users_so knows_r bounded
-              (shelf_of u.entries) (ap (λ z. (shelf_of z).order) entries ∙ seals.order) (λ q ne. ap (λ z. (shelf_of z).kept q) entries ∙ (seals.kept q ∙ rw (eqb-other x q ne) refl)) each_now)
+              stands_whole r u t x w n v row here measured.own measured.unreported stands unread awaits_none (last ∙ rest.last_start) (keys ∙ rest.keys)
+              becomes_r (λ d. has itself d (bound_in ((shelf_of mid.entries).kept x))) users_so knows_r bounded
+              (entries_whole r u t x w n v row here measured.own measured.unreported stands unread awaits_none (last ∙ rest.last_start) (keys ∙ rest.keys)
+              becomes_r (λ d. has itself d (bound_in ((shelf_of mid.entries).kept x))) users_so knows_r bounded
+              (shelf_of u.entries) (ap (λ z. (shelf_of z).order) entries ∙ seals.order)
+              (λ q ne. ap (λ z. (shelf_of z).kept q) entries ∙ (seals.kept q ∙ rw (eqb-other x q ne) refl)) each_now)
       whole_answered (stopped.lost stays reported_so failed rows) =
           lossy_answered limits faults u t (with_event now (event.End x) model) before out (act.Lost x kind.Fault ∷ []) now (event.End x) x (loses stays)
           (ap (λ (acts : List Act). written_representation t (record { now = now; event = event.End x; acts = acts })) (loses stays).acts_are ∙ written_is)
           (rw (here, kept stays) refl) refl (subst (λ z. faults < (shelf_of z).faults) (sym entries) failed) reported_so
-          (stands_counted u model now (event.End x) refl (subst (RowsStand limits u) (lost_whole t now x n w v (exclusive t x v) here (none_alone limits t facts x w broken x v (coming stays).written))
-          (gone_stays after (as_gone (lost_to None v)) rows row gone_here measured.unreported refl refl used_then (unread_go now x before_it x unread) (unawaited_go now x before_it x awaits_none) (nobody_first_go now x x before_it none_first_before))))
+          (stands_counted u model now (event.End x) refl
+          (subst (RowsStand limits u) (lost_whole t now x n w v (exclusive t x v) here (none_alone limits t facts x w broken x v (coming stays).written))
+          (gone_stays after (as_gone (lost_to None v)) rows row gone_here measured.unreported refl refl used_then
+          (unread_go now x before_it x unread) (unawaited_go now x before_it x awaits_none) (nobody_first_go now x x before_it none_first_before))))
         where
           before_it : Tables
           before_it = with_representation x (Some (lost_to None v)) t
@@ -298,7 +346,8 @@ module _ (limits : Limits) (t : Tables) (facts : Facts limits t) (now x : ℕ) (
           none_first_before : NobodyFirst before_it x
           none_first_before d = first_by t before_it (λ q. by_test q (nat_eq x q) refl) x (t.consumer d) ∙ none_first d
             where
-              by_test : (q : ℕ) (b : Bool) → nat_eq x q ≡ b → status_in (if b then Some (lost_to None v) else t.representation q) ≡ status_in (t.representation q)
+              by_test : (q : ℕ) (b : Bool) → nat_eq x q ≡ b → status_in (if b then Some (lost_to None v) else t.representation q) ≡ status_in
+                  (t.representation q)
               by_test q true is = let same : x ≡ q = grind (arith, nat_tests, is) in sym (ap status_in (sym (ap t.representation same) ∙ here))
               by_test q false is = refl
 
@@ -324,10 +373,12 @@ module _ (limits : Limits) (t : Tables) (facts : Facts limits t) (now x : ℕ) (
           or_none true = refl
           or_none false = refl
 
-          never_early : (z : Exchange) → t.exchange x ≡ Some z → (stops_early z x (event.End x) || false) ≡ true → Rattle.hc_model.specs.Effects.is_unkeepable (Some v) ≡ false
+          never_early : (z : Exchange) → t.exchange x ≡ Some z → (stops_early z x (event.End x) || false) ≡ true →
+              Rattle.hc_model.specs.Effects.is_unkeepable (Some v) ≡ false
           never_early z at on =
               let same : z ≡ w = same_row (t.exchange x) z w at row in
-              let off : stops_early z x (event.End x) ≡ false = ap (λ (q : Exchange). nat_eq x x && is_short q) same ∙ then_false (nat_eq x x) (is_short w) not_short in
+              let off : stops_early z x (event.End x) ≡ false = ap (λ (q : Exchange). nat_eq x x && is_short q) same ∙
+              then_false (nat_eq x x) (is_short w) not_short in
               false_true (sym off ∙ (sym (or_none (stops_early z x (event.End x))) ∙ on))
 
           written_is : written_representation t (record { now = now; event = event.End x; acts = act.Lost x kind.Fault ∷ [] }) ≡ Some x
@@ -344,11 +395,14 @@ nobody_alone t law q v there stays = (law.sound.rows q v there).store.nobody_alo
     by_test true is = false_true (sym stays ∙ (law.sound.rows q v there).store.lost_is_gone is)
 
 -- what an open exchange brings is kept, and of a length that a store takes
-module _ {B : Type 0} {g : Ghosts B} {limits : Limits} (r : Rows B g) (t : Tables) (facts : Facts limits t) (stands : RowsStand limits r t) (x : ℕ) (w : Exchange) (row : t.exchange x ≡ Some w) (opened : w.is_open ≡ true) where
-  pub brought_row : (q : ℕ) (o : Option ℕ) → o ≡ brought_by (table_of r.exchanges x).running → o ≡ Some q → (v : Representation) × (t.representation (family x w) ≡ Some v) × (q ≡ family x w)
+module _ {B : Type 0} {g : Ghosts B} {limits : Limits} (r : Rows B g) (t : Tables) (facts : Facts limits t) (stands : RowsStand limits r t) (x : ℕ)
+    (w : Exchange) (row : t.exchange x ≡ Some w) (opened : w.is_open ≡ true) where
+  pub brought_row : (q : ℕ) (o : Option ℕ) → o ≡ brought_by (table_of r.exchanges x).running → o ≡ Some q → (v : Representation) ×
+      (t.representation (family x w) ≡ Some v) × (q ≡ family x w)
   brought_row q o is some = by_row (t.representation (family x w)) refl
     where
-      by_row : (z : Option Representation) → t.representation (family x w) ≡ z → (v : Representation) × (t.representation (family x w) ≡ Some v) × (q ≡ family x w)
+      by_row : (z : Option Representation) → t.representation (family x w) ≡ z → (v : Representation) × (t.representation (family x w) ≡ Some v) ×
+          (q ≡ family x w)
       by_row None none = none_some q (sym (brought_none r t facts t.consumer stands x w row opened none) ∙ (sym is ∙ some))
       by_row (Some v) there = (v, there, some_is q (family x w) (sym some ∙ (is ∙ brought_some r t facts t.consumer stands x w row opened v there)))
 

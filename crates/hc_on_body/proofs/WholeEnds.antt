@@ -29,9 +29,11 @@ module _ (t : Tables) (x : ℕ) (w : Exchange) (row : t.exchange x ≡ Some w) w
   abbrev pub z : Tables
   z = with_exchange x (Some (at_end w)) t
 
-  pub exchange_ends : (y : ℕ) (before after : Known) → after ≡ (if nat_eq x y then known.without_exchange before else before) → KeepsExchange t y before → KeepsExchange z y after
+  pub exchange_ends : (y : ℕ) (before after : Known) → after ≡ (if nat_eq x y then known.without_exchange before else before) → KeepsExchange t y before →
+      KeepsExchange z y after
   exchange_ends y before after is kept =
-      let closes : KeepsExchange (with_over x w t.exchange t) y after = subst (λ (s : Tables). KeepsExchange s y after) (closed_is t x w row) (exchange_closed t x y before after is kept) in
+      let closes : KeepsExchange (with_over x w t.exchange t) y after =
+      subst (λ (s : Tables). KeepsExchange s y after) (closed_is t x w row) (exchange_closed t x y before after is kept) in
       record {
         running = runs_end t t.exchange x w y (nat_eq x y) after.running closes.running;
         held = closes.held ∙ sym (held_end t t.exchange x w y);
@@ -40,8 +42,10 @@ module _ (t : Tables) (x : ℕ) (w : Exchange) (row : t.exchange x ≡ Some w) w
   pub key_ends : NobodyAwaits t x → (key : List ℕ) (k : keyed.Kept) → KeepsKey t key k → KeepsKey z key k
   unfolding current
   key_ends nobody key k kept =
-      let closes : KeepsKey (with_over x w t.exchange t) key k = subst (λ (s : Tables). KeepsKey s key k) (closed_is t x w row) (key_closed t x nobody key k kept) in
-      key_same (with_over x w t.exchange t) z key k (record { current = refl; in_line = λ d. refl; passed = λ d. refl; away = λ d. away_end t t.exchange x w key (t.consumer d); turn = λ d. refl }) closes
+      let closes : KeepsKey (with_over x w t.exchange t) key k =
+      subst (λ (s : Tables). KeepsKey s key k) (closed_is t x w row) (key_closed t x nobody key k kept) in
+      key_same (with_over x w t.exchange t) z key k
+      (record { current = refl; in_line = λ d. refl; passed = λ d. refl; away = λ d. away_end t t.exchange x w key (t.consumer d); turn = λ d. refl }) closes
 
   -- of what is of no family of it nothing else comes
   pub growing_apart : (q : ℕ) → family x w ≢ q → is_growing z q ≡ is_growing t q
@@ -49,7 +53,8 @@ module _ (t : Tables) (x : ℕ) (w : Exchange) (row : t.exchange x ≡ Some w) w
     | inl e ↦
         let after : z.exchange y ≡ Some (at_end w) = rw (e, eqb-same y) refl in
         let before : t.exchange y ≡ Some w = sym (ap t.exchange e) ∙ row in
-        ap (brings_to q y) after ∙ sym (ap (brings_to q y) before ∙ then_false w.is_open (nat_eq (family y w) q) (ap (λ n. nat_eq (family n w) q) (sym e) ∙ eqb-other (family x w) q ne))
+        ap (brings_to q y) after ∙
+        sym (ap (brings_to q y) before ∙ then_false w.is_open (nat_eq (family y w) q) (ap (λ n. nat_eq (family n w) q) (sym e) ∙ eqb-other (family x w) q ne))
     | inr off ↦ ap (brings_to q y) (let same : z.exchange y ≡ t.exchange y = rw (eqb-other x y off) refl in same)
   ])
 
@@ -69,7 +74,8 @@ module _ (t : Tables) (x n : ℕ) (v : Representation) (there : t.representation
   length_is = ap (λ o. option_or o (Some n)) unreported_yet
 
   -- what doesn't look at the length is told as before
-  pub reported_longer : {A : Type 0} (h : Option Representation → A) → ((u : Representation) → h (Some (with_total_if_none n u)) ≡ h (Some u)) → (q : ℕ) → h (f.representation q) ≡ h (t.representation q)
+  pub reported_longer : {A : Type 0} (h : Option Representation → A) → ((u : Representation) → h (Some (with_total_if_none n u)) ≡ h (Some u)) → (q : ℕ) →
+      h (f.representation q) ≡ h (t.representation q)
   reported_longer h alike q = by_test (nat_eq x q) (t.representation q)
     where
       by_test : (b : Bool) (o : Option Representation) → h (if b then option_map (with_total_if_none n) o else o) ≡ h o
@@ -100,18 +106,29 @@ module _ (t : Tables) (x n : ℕ) (v : Representation) (there : t.representation
       by_test false None = refl
 
   pub exchange_longer : (y : ℕ) (k : Known) → KeepsExchange t y k → KeepsExchange f y k
-  exchange_longer y k kept = exchange_same t f y k (record { row = refl; brings = λ u at. reported_longer (λ o. is_some o) (λ p. refl) (family y u); held = held_longer y (t.exchange y) }) kept
+  exchange_longer y k kept =
+      exchange_same t f y k (record
+      { row = refl; brings = λ u at. reported_longer (λ o. is_some o) (λ p. refl) (family y u); held = held_longer y (t.exchange y) }) kept
 
   pub key_longer : (key : List ℕ) (k : keyed.Kept) → KeepsKey t key k → KeepsKey f key k
   unfolding current
-  key_longer key k kept = key_same t f key k (record { current = finds_same (λ q. is_usable key (t.representation q)) (λ q. is_usable key (f.representation q)) (reported_longer (is_usable key) (λ p. refl)) t.founded; in_line = λ d. refl; passed = λ d. refl; away = λ d. refl; turn = λ d. refl }) kept
+  key_longer key k kept = key_same t f key k
+      (record {
+        current = finds_same (λ q. is_usable key (t.representation q)) (λ q. is_usable key (f.representation q))
+            (reported_longer (is_usable key) (λ p. refl)) t.founded;
+        in_line = λ d. refl;
+        passed = λ d. refl;
+        away = λ d. refl;
+        turn = λ d. refl;
+      }) kept
 
   pub first_longer : (q : ℕ) (o : Option rows.Consumer) → is_first f q o ≡ is_first t q o
   first_longer q o = first_by t f (λ p. reported_longer status_in (λ u. refl) p) q o
 
   -- REPRESENTATIONS
 
-  pub head_longer : (e : Kept) → sealed_head kinds.Growing v.head.total e.head ≡ v.head → sealed_head kinds.Growing (with_total_if_none n v).head.total e.head ≡ (with_total_if_none n v).head
+  pub head_longer : (e : Kept) → sealed_head kinds.Growing v.head.total e.head ≡ v.head →
+      sealed_head kinds.Growing (with_total_if_none n v).head.total e.head ≡ (with_total_if_none n v).head
   head_longer e is = ap (λ (h : Head). record h { total = (with_total_if_none n v).head.total }) is
 
   pub unreported_kept : (e : Kept) → KnowsLength e v → e.head.total ≡ None
@@ -121,10 +138,15 @@ module _ (t : Tables) (x n : ℕ) (v : Representation) (there : t.representation
   -- every other stays
   pub other_longer : (q : ℕ) → x ≢ q → (k : Option Kept) → KeepsEntry t q k (t.representation q) → KeepsEntry f q k (f.representation q)
   unfolding bound kind_of
-  other_longer q ne k kept = subst (KeepsEntry f q k) (sym (others q ne)) (entry_same t f q k (t.representation q) refl (record { users = λ d. refl; first = λ d. first_longer q (t.consumer d); list = refl; kind = λ p at. refl; overs = λ y on. on }) kept)
+  other_longer q ne k kept =
+      subst (KeepsEntry f q k) (sym (others q ne))
+      (entry_same t f q k (t.representation q) refl
+      (record { users = λ d. refl; first = λ d. first_longer q (t.consumer d); list = refl; kind = λ p at. refl; overs = λ y on. on }) kept)
 
-  pub order_longer : (order : List ℕ) → order ≡ filter (λ q. is_usable_row (t.representation q)) t.used → order ≡ filter (λ q. is_usable_row (f.representation q)) f.used
-  order_longer order is = is ∙ sym (filters_same (λ q. is_usable_row (t.representation q)) (λ q. is_usable_row (f.representation q)) (reported_longer is_usable_row (λ p. refl)) t.used)
+  pub order_longer : (order : List ℕ) → order ≡ filter (λ q. is_usable_row (t.representation q)) t.used →
+      order ≡ filter (λ q. is_usable_row (f.representation q)) f.used
+  order_longer order is = is ∙
+      sym (filters_same (λ q. is_usable_row (t.representation q)) (λ q. is_usable_row (f.representation q)) (reported_longer is_usable_row (λ p. refl)) t.used)
 
 -- where the exchange has stopped
 module _ (a : Tables) (x n : ℕ) (z : Option Exchange) (v : Representation) (there : a.representation x ≡ Some v) (unreported_yet : v.head.total ≡ None) where
@@ -150,7 +172,8 @@ module _ (a : Tables) (x n : ℕ) (z : Option Exchange) (v : Representation) (th
       by_first (Some d) at = false_true (sym (nobody d) ∙ (sym (is.first d) ∙ (ap (λ (z : Option ℕ). is_number z d) at ∙ eqb-same d)))
 
   -- once it is gone its length isn't told
-  pub gone_longer : is_over z ≡ true → v.is_gone ≡ true → Covers v.body 0 n → NobodyFirst a x → (k : Option Kept) → KeepsEntry a x k (Some v) → KeepsEntry longer x k (Some (with_total_if_none n v))
+  pub gone_longer : is_over z ≡ true → v.is_gone ≡ true → Covers v.body 0 n → NobodyFirst a x → (k : Option Kept) → KeepsEntry a x k (Some v) →
+      KeepsEntry longer x k (Some (with_total_if_none n v))
   unfolding bound kind_of
   gone_longer done is_gone came nobody None kept = record { gone = kept.gone; unused = kept.unused }
   gone_longer done is_gone came nobody (Some e) is =
@@ -174,7 +197,8 @@ module _ (a : Tables) (x n : ℕ) (z : Option Exchange) (v : Representation) (th
       )
 
   -- what is sealed as whole and so long is
-  pub sealed_longer : is_over z ≡ true → is_growing t x ≡ false → Covers v.stored 0 n → EndsBy v.reach v.stored → (e : Kept) → IsEntry a x e v → IsEntry longer x (sealed_kept kinds.Whole (Some n) e) (with_total_if_none n v)
+  pub sealed_longer : is_over z ≡ true → is_growing t x ≡ false → Covers v.stored 0 n → EndsBy v.reach v.stored → (e : Kept) → IsEntry a x e v →
+      IsEntry longer x (sealed_kept kinds.Whole (Some n) e) (with_total_if_none n v)
   unfolding bound kind_of
   sealed_longer done still all ends e is =
       let whole : (m : ℕ) → kinds.Whole ≡ kinds.Whole → Some n ≡ Some m → Covers v.stored 0 m =
@@ -194,15 +218,19 @@ module _ (a : Tables) (x n : ℕ) (z : Option Exchange) (v : Representation) (th
       complete : is_complete (with_total_if_none n v) ≡ true
       complete = ap (covers_all (with_total_if_none n v)) (length_is t x n v there unreported_yet) ∙ covers_yes v.stored v.reach 0 n ends all
 
-      kind_is : (if is_growing t x then kinds.Growing else if is_complete (with_total_if_none n v) then kinds.Whole else if Rattle.hc_model.specs.Kinds.is_prefix (with_total_if_none n v) then kinds.Truncated else kinds.Ranges) ≡ kinds.Whole
+      kind_is : (if is_growing t x then kinds.Growing else if is_complete (with_total_if_none n v) then kinds.Whole else
+          if Rattle.hc_model.specs.Kinds.is_prefix (with_total_if_none n v) then kinds.Truncated else kinds.Ranges) ≡ kinds.Whole
       kind_is = rw (still, complete) refl
 
 -- ALL OF IT
 
-module _ {B : Type 0} {g : Ghosts B} {limits : Limits} (r u : Rows B g) (t : Tables) (x : ℕ) (w : Exchange) (n : ℕ) (v : Representation) (row : t.exchange x ≡ Some w) (there : t.representation x ≡ Some v) (own : family x w ≡ x) (unreported_yet : v.head.total ≡ None) (stands : RowsStand limits r t)
+module _ {B : Type 0} {g : Ghosts B} {limits : Limits} (r u : Rows B g) (t : Tables) (x : ℕ) (w : Exchange) (n : ℕ) (v : Representation)
+    (row : t.exchange x ≡ Some w) (there : t.representation x ≡ Some v) (own : family x w ≡ x) (unreported_yet : v.head.total ≡ None)
+    (stands : RowsStand limits r t)
     (unread : (d : ℕ) (k : rows.Consumer) → t.consumer d ≡ Some k → k.place ≡ place.Direct x → ⊥) (unawaited : NobodyAwaits t x)
     (last : u.last_start ≡ r.last_start) (keys : u.keys ≡ r.keys) (becomes : exch.Becomes known.without_exchange x r.exchanges u.exchanges)
-    (users : ℕ → Bool) (users_are : (d : ℕ) → users d ≡ is_bound x (t.consumer d)) (knows : ChangesAmong r.consumers u.consumers users (with_end n)) (bounded : (shelf_of u.entries).limits ≡ (shelf_of r.entries).limits) where
+    (users : ℕ → Bool) (users_are : (d : ℕ) → users d ≡ is_bound x (t.consumer d)) (knows : ChangesAmong r.consumers u.consumers users (with_end n))
+    (bounded : (shelf_of u.entries).limits ≡ (shelf_of r.entries).limits) where
   abbrev mid : Tables
   mid = with_exchange x (Some (at_end w)) t
 
@@ -214,7 +242,8 @@ module _ {B : Type 0} {g : Ghosts B} {limits : Limits} (r u : Rows B g) (t : Tab
   no_length : (q : ℕ) → x ≢ q → total_in (whole.representation q) ≡ total_in (t.representation q)
   no_length q ne = rw (eqb-other x q ne) refl
 
-  knows_end : (k : Consumer) (c : rows.Consumer) (lo : ℕ) (hi : Option ℕ) (how : BoundBy) → c.place ≡ place.Bound x lo hi how → IsKept t k c → IsKept whole (with_end n k) c
+  knows_end : (k : Consumer) (c : rows.Consumer) (lo : ℕ) (hi : Option ℕ) (how : BoundBy) → c.place ≡ place.Bound x lo hi how → IsKept t k c →
+      IsKept whole (with_end n k) c
   knows_end k c lo hi how at kept =
       let ends = kept.ends ∙ (ap (hi_of t) at ∙ ap (λ (o : Option Representation). option_or hi (total_in o)) there) in
       let reported = ap (hi_of whole) at ∙ ap (λ (o : Option Representation). option_or hi (total_in o)) here_now in
@@ -234,7 +263,8 @@ module _ {B : Type 0} {g : Ghosts B} {limits : Limits} (r u : Rows B g) (t : Tab
       by_hi None = refl
       by_hi (Some h) = refl
 
-  one_knows : (d : ℕ) (b : Bool) (o : Option Consumer) (c : Option rows.Consumer) → t.consumer d ≡ c → is_bound x c ≡ b → KeepsConsumer t o c → KeepsConsumer whole (if b then option_map (with_end n) o else o) c
+  one_knows : (d : ℕ) (b : Bool) (o : Option Consumer) (c : Option rows.Consumer) → t.consumer d ≡ c → is_bound x c ≡ b → KeepsConsumer t o c →
+      KeepsConsumer whole (if b then option_map (with_end n) o else o) c
   one_knows d true None c at on kept = kept
   one_knows d false None c at on kept = kept
   one_knows d b (Some k) None at on kept = absurd kept
@@ -245,7 +275,8 @@ module _ {B : Type 0} {g : Ghosts B} {limits : Limits} (r u : Rows B g) (t : Tab
           let one : q ≡ x = eq_reports q x (sym (ap (is_bound_place x) is) ∙ on) in
           knows_end k c lo hi how (is ∙ ap (λ m. place.Bound m lo hi how) one) kept
       by_place _ is = false_true (sym (ap (is_bound_place x) is) ∙ on)
-  one_knows d false (Some k) (Some c) at off kept = kept_same t whole k c (record { past = λ y is. other y is; length = λ q lo hi how is. no_length q (apart q lo hi how is) }) kept
+  one_knows d false (Some k) (Some c) at off kept =
+      kept_same t whole k c (record { past = λ y is. other y is; length = λ q lo hi how is. no_length q (apart q lo hi how is) }) kept
     where
       other : (y : ℕ) → c.place ≡ place.Direct y → whole.exchange y ≡ t.exchange y
       other y is = elim (same_or x y) [
@@ -262,9 +293,13 @@ module _ {B : Type 0} {g : Ghosts B} {limits : Limits} (r u : Rows B g) (t : Tab
     last_start = last ∙ stands.last_start;
     next = becomes.next ∙ stands.next;
     count = knows.len ∙ stands.count;
-    consumers = λ d. subst (λ o. KeepsConsumer whole o (t.consumer d)) (sym (knows.places d ∙ ap (λ b. if b then option_map (with_end n) (get nat_eq r.consumers d) else get nat_eq r.consumers d) (users_are d))) (one_knows d (is_bound x (t.consumer d)) (get nat_eq r.consumers d) (t.consumer d) refl refl (stands.consumers d));
-    exchanges = λ y. exchange_longer mid x n v there unreported_yet y (table_of u.exchanges y) (exchange_ends t x w row y (table_of r.exchanges y) (table_of u.exchanges y) (by_here y) (stands.exchanges y));
-    keys = λ key. rw keys (key_longer mid x n v there unreported_yet key (kept_of r.keys key) (key_ends t x w row unawaited key (kept_of r.keys key) (stands.keys key)));
+    consumers = λ d. subst (λ o. KeepsConsumer whole o (t.consumer d))
+        (sym (knows.places d ∙ ap (λ b. if b then option_map (with_end n) (get nat_eq r.consumers d) else get nat_eq r.consumers d) (users_are d)))
+        (one_knows d (is_bound x (t.consumer d)) (get nat_eq r.consumers d) (t.consumer d) refl refl (stands.consumers d));
+    exchanges = λ y. exchange_longer mid x n v there unreported_yet y (table_of u.exchanges y)
+        (exchange_ends t x w row y (table_of r.exchanges y) (table_of u.exchanges y) (by_here y) (stands.exchanges y));
+    keys = λ key. rw keys (key_longer mid x n v there unreported_yet key (kept_of r.keys key)
+        (key_ends t x w row unawaited key (kept_of r.keys key) (stands.keys key)));
     entries = entries;
   }
     where
@@ -277,7 +312,8 @@ module _ {B : Type 0} {g : Ghosts B} {limits : Limits} (r u : Rows B g) (t : Tab
   -- REPRESENTATIONS
 
   -- every other is kept as it was
-  pub entries_whole : (b : Shelf) → b.order ≡ (shelf_of r.entries).order → ((q : ℕ) → x ≢ q → b.kept q ≡ (shelf_of r.entries).kept q) → KeepsEntry whole x (b.kept x) (whole.representation x) → KeepsEntries whole b
+  pub entries_whole : (b : Shelf) → b.order ≡ (shelf_of r.entries).order → ((q : ℕ) → x ≢ q → b.kept q ≡ (shelf_of r.entries).kept q) →
+      KeepsEntry whole x (b.kept x) (whole.representation x) → KeepsEntries whole b
   unfolding bound
   entries_whole b order kept here_kept = record {
     each = λ q. elim (same_or x q) [
@@ -285,15 +321,28 @@ module _ {B : Type 0} {g : Ghosts B} {limits : Limits} (r u : Rows B g) (t : Tab
       | inr ne ↦
           subst (λ k. KeepsEntry whole q k (whole.representation q)) (sym (kept q ne))
           (other_longer mid x n v there unreported_yet q ne ((shelf_of r.entries).kept q)
-          (entry_same t mid q ((shelf_of r.entries).kept q) (t.representation q) refl (record { users = λ d. refl; first = λ d. first_by t mid (λ p. refl) q (t.consumer d); list = refl; kind = λ p at. kind_same t mid q p (growing_apart t x w row q (λ same. ne (sym own ∙ same))); overs = λ y on. put_over (nat_eq x y) (Some (at_end w)) (t.exchange y) refl on }) (stands.entries.each q)))
+          (entry_same t mid q ((shelf_of r.entries).kept q) (t.representation q) refl
+          (record {
+            users = λ d. refl;
+            first = λ d. first_by t mid (λ p. refl) q (t.consumer d);
+            list = refl;
+            kind =
+                λ p at. kind_same t mid q p (growing_apart t x w row q (λ same. ne (sym own ∙ same)));
+            overs =
+                λ y on. put_over (nat_eq x y) (Some (at_end w)) (t.exchange y) refl on;
+          }) (stands.entries.each q)))
     ];
     order = order_longer mid x n v there unreported_yet b.order (order ∙ stands.entries.order);
   }
 
 -- PAST THE STORE
 
-module _ {B : Type 0} {g : Ghosts B} {limits : Limits} (r u : Rows B g) (t : Tables) (law : Lawful t) (x : ℕ) (w : Exchange) (row : t.exchange x ≡ Some w) (opened : w.is_open ≡ true) (headed : is_some w.head ≡ true) (none : t.representation (family x w) ≡ None) (reports_none : promised_bytes w ≡ None) (n : ℕ) (all : n ≡ length w.body) (stands : RowsStand limits r t) (unawaited : NobodyAwaits t x)
-    (last : u.last_start ≡ r.last_start) (keys : u.keys ≡ r.keys) (entries : u.entries ≡ r.entries) (becomes : exch.Becomes known.without_exchange x r.exchanges u.exchanges) (c : ℕ) (its : c ≡ w.c) (knows : ChangesAt r.consumers u.consumers c (with_end n)) where
+module _ {B : Type 0} {g : Ghosts B} {limits : Limits} (r u : Rows B g) (t : Tables) (law : Lawful t) (x : ℕ) (w : Exchange) (row : t.exchange x ≡ Some w)
+    (opened : w.is_open ≡ true) (headed : is_some w.head ≡ true) (none : t.representation (family x w) ≡ None) (reports_none : promised_bytes w ≡ None)
+    (n : ℕ) (all : n ≡ length w.body) (stands : RowsStand limits r t) (unawaited : NobodyAwaits t x)
+    (last : u.last_start ≡ r.last_start) (keys : u.keys ≡ r.keys) (entries : u.entries ≡ r.entries)
+    (becomes : exch.Becomes known.without_exchange x r.exchanges u.exchanges) (c : ℕ) (its : c ≡ w.c)
+    (knows : ChangesAt r.consumers u.consumers c (with_end n)) where
   abbrev pub past : Tables
   past = with_exchange x (Some (at_end w)) t
 
@@ -330,7 +379,8 @@ module _ {B : Type 0} {g : Ghosts B} {limits : Limits} (r u : Rows B g) (t : Tab
   reader : Rattle.hc_model.specs.Places.IsReadPast t x w
   reader = law.places.read x w row opened headed none
 
-  consumer_past : (d : ℕ) (b : Bool) → nat_eq c d ≡ b → (o : Option Consumer) (z : Option rows.Consumer) → t.consumer d ≡ z → KeepsConsumer t o z → KeepsConsumer past (if b then option_map (with_end n) o else o) z
+  consumer_past : (d : ℕ) (b : Bool) → nat_eq c d ≡ b → (o : Option Consumer) (z : Option rows.Consumer) → t.consumer d ≡ z → KeepsConsumer t o z →
+      KeepsConsumer past (if b then option_map (with_end n) o else o) z
   consumer_past d true on None z at kept = kept
   consumer_past d false off None z at kept = kept
   consumer_past d b on (Some k) None at kept = absurd kept
@@ -362,10 +412,12 @@ module _ {B : Type 0} {g : Ghosts B} {limits : Limits} (r u : Rows B g) (t : Tab
     last_start = last ∙ stands.last_start;
     next = becomes.next ∙ stands.next;
     count = knows.len ∙ stands.count;
-    consumers = λ d. subst (λ o. KeepsConsumer past o (t.consumer d)) (sym (knows.places d ∙ by_number d)) (consumer_past d (nat_eq c d) refl (get nat_eq r.consumers d) (t.consumer d) refl (stands.consumers d));
+    consumers = λ d. subst (λ o. KeepsConsumer past o (t.consumer d)) (sym (knows.places d ∙ by_number d))
+        (consumer_past d (nat_eq c d) refl (get nat_eq r.consumers d) (t.consumer d) refl (stands.consumers d));
     exchanges = λ y. exchange_ends t x w row y (table_of r.exchanges y) (table_of u.exchanges y) (by_here y) (stands.exchanges y);
     keys = λ key. rw keys (key_ends t x w row unawaited key (kept_of r.keys key) (stands.keys key));
-    entries = rw entries (entries_end (subst (λ (s : Tables). KeepsEntries s (shelf_of r.entries)) (closed_is t x w row) (entries_closed t x (shelf_of r.entries) apart stands.entries)));
+    entries = rw entries (entries_end
+        (subst (λ (s : Tables). KeepsEntries s (shelf_of r.entries)) (closed_is t x w row) (entries_closed t x (shelf_of r.entries) apart stands.entries)));
   }
     where
       by_here : (y : ℕ) → table_of u.exchanges y ≡ (if nat_eq x y then known.without_exchange (table_of r.exchanges y) else table_of r.exchanges y)
@@ -374,11 +426,14 @@ module _ {B : Type 0} {g : Ghosts B} {limits : Limits} (r u : Rows B g) (t : Tab
         | inr ne ↦ rw (eqb-other x y ne) refl
       ]
 
-      by_number : (d : ℕ) → (if nat_eq c d then option_map (with_end n) (get nat_eq r.consumers c) else get nat_eq r.consumers d) ≡ (if nat_eq c d then option_map (with_end n) (get nat_eq r.consumers d) else get nat_eq r.consumers d)
+      by_number : (d : ℕ) → (if nat_eq c d then option_map (with_end n) (get nat_eq r.consumers c) else get nat_eq r.consumers d) ≡ (if nat_eq c d then
+          option_map (with_end n) (get nat_eq r.consumers d) else get nat_eq r.consumers d)
       by_number d = elim (same_or c d) [
         | inl e ↦ rw (e, eqb-same d) refl
         | inr ne ↦ rw (eqb-other c d ne) refl
       ]
 
       entries_end : KeepsEntries (with_over x w t.exchange t) (shelf_of r.entries) → KeepsEntries past (shelf_of r.entries)
-      entries_end kept = entries_same (with_over x w t.exchange t) past (shelf_of r.entries) (λ q. refl) refl refl (λ q d. refl) (λ q d. refl) (λ q. growing_same (with_over x w t.exchange t) past q refl (λ y. reported_alike t t.exchange x w (brings_to q y) refl y)) (λ y on. reported_alike t t.exchange x w is_over refl y ∙ on) kept
+      entries_end kept = entries_same (with_over x w t.exchange t) past (shelf_of r.entries) (λ q. refl) refl refl (λ q d. refl) (λ q d. refl)
+          (λ q. growing_same (with_over x w t.exchange t) past q refl (λ y. reported_alike t t.exchange x w (brings_to q y) refl y))
+          (λ y on. reported_alike t t.exchange x w is_over refl y ∙ on) kept

@@ -37,7 +37,8 @@ ascends_last x (y ∷ ys) up low = above_last y ys up (low y (first_in y ys)) (�
     above_last : (m : ℕ) (zs : List ℕ) → above itself m zs ≡ true → m < x → ((n : ℕ) → is_among n zs ≡ true → n < x) → above itself m (zs ++ (x ∷ [])) ≡ true
     above_last m [] high lt below = let test : nat_lt m x ≡ true = grind (arith, nat_tests, lt) in rw test refl
     above_last m (z ∷ zs) high lt below = elim (bool_cases (nat_lt m z)) [
-      | inl on ↦ (let rest : above itself z zs ≡ true = rw on at high in rw on (above_last z zs rest (below z (first_in z zs)) (λ n there. below n (among_later z n zs there))))
+      | inl on ↦ (let rest : above itself z zs ≡ true = rw on at high in
+          rw on (above_last z zs rest (below z (first_in z zs)) (λ n there. below n (among_later z n zs there))))
       | inr off ↦ false_true (rw off at high)
     ]
 
@@ -46,7 +47,8 @@ ascends_last x (y ∷ ys) up low = above_last y ys up (low y (first_in y ys)) (�
 pub among-reverse : (n : ℕ) (xs : List ℕ) → is_among n (reverse xs) ≡ is_among n xs
 among-reverse n [] = refl
 among-reverse n (x ∷ xs) =
-    ap (is_among n) (reverse-append (x ∷ []) xs) ∙ (among-append n (reverse xs) (x ∷ []) ∙ (ap (λ b. b || is_among n (x ∷ [])) (among-reverse n xs) ∙ grind (arith, nat_tests)))
+    ap (is_among n) (reverse-append (x ∷ []) xs) ∙
+    (among-append n (reverse xs) (x ∷ []) ∙ (ap (λ b. b || is_among n (x ∷ [])) (among-reverse n xs) ∙ grind (arith, nat_tests)))
 
 pub among_below : (n m : ℕ) (xs : List ℕ) → Descends m xs → is_among n xs ≡ true → n < m
 among_below n m [] down there = false_true there
@@ -58,4 +60,5 @@ among_below n m (x ∷ xs) down there = elim (among_cases n x xs there) [
 pub reverse_ascends : (m : ℕ) (xs : List ℕ) → Descends m xs → is_sorted itself (reverse xs) ≡ true
 reverse_ascends m [] down = refl
 reverse_ascends m (x ∷ xs) down =
-    ap (is_sorted itself) (reverse-append (x ∷ []) xs) ∙ ascends_last x (reverse xs) (reverse_ascends x xs down.1) (λ n there. among_below n x xs down.1 (sym (among-reverse n xs) ∙ there))
+    ap (is_sorted itself) (reverse-append (x ∷ []) xs) ∙
+    ascends_last x (reverse xs) (reverse_ascends x xs down.1) (λ n there. among_below n x xs down.1 (sym (among-reverse n xs) ∙ there))

@@ -59,7 +59,9 @@ fits_in : (ys zs : List ℕ) → is_sorted itself ys ≡ true → ((x : ℕ) →
 fits_in [] zs up all = omega arith
 fits_in (y ∷ ys) zs up all =
     let shorter : length (drop_one y zs) + 1 ≡ length zs = drop_length y zs (all y (first_in y ys)) in
-    let rest : length ys ≤ length (drop_one y zs) = fits_in ys (drop_one y zs) (is_sorted-above itself y ys up) (λ x later. drop_keeps x y zs (λ same. (let lt : y < x = above_first x y ys up later in omega arith)) (all x (among_later y x ys later))) in
+    let rest : length ys ≤ length (drop_one y zs) = fits_in
+    ys (drop_one y zs) (is_sorted-above itself y ys up)
+    (λ x later. drop_keeps x y zs (λ same. (let lt : y < x = above_first x y ys up later in omega arith)) (all x (among_later y x ys later))) in
     omega arith
 
 -- what each of these has
@@ -116,7 +118,8 @@ headless_row None on = false_true on
 headless_row (Some w) on = let parts = headless_parts w on in (w, refl, parts.0, parts.1)
 
 -- as it is kept
-pub bare_unheard : {B : Type 0} {g : Ghosts B} {limits : Limits} (r : Rows B g) (t : Tables) (key : List ℕ) (x : ℕ) → RowsStand limits r t → IsUnheard (table_of r.exchanges) key x → IsBare t key x
+pub bare_unheard : {B : Type 0} {g : Ghosts B} {limits : Limits} (r : Rows B g) (t : Tables) (key : List ℕ) (x : ℕ) → RowsStand limits r t →
+    IsUnheard (table_of r.exchanges) key x → IsBare t key x
 bare_unheard r t key x stands is = by_row (t.exchange x) refl (subst (λ z. KeepsRunning t x z (t.exchange x)) is.running (stands.exchanges x).running)
   where
     by_row : (z : Option Exchange) → t.exchange x ≡ z → KeepsRunning t x (Some is.o) z → IsBare t key x
@@ -160,7 +163,14 @@ module _ {B : Type 0} {g : Ghosts B} {limits : Limits} (r : Rows B g) (t : Table
       let one : y ≡ x = some_is y x is in
       let (w, there, on, bare) = headless_row (t.exchange y) waits in
       let its = law.owned.first_own c q lo y hi k row at in
-      record { w = w; row = ap t.exchange (sym one) ∙ there; is_open = on; bare = bare; for_it = ap (λ (z : Exchange). z.c) (same_row (t.exchange y) w its.w there its.row) ∙ its.for_it }
+      record {
+        w = w;
+        row = ap t.exchange (sym one) ∙ there;
+        is_open = on;
+        bare = bare;
+        for_it =
+            ap (λ (z : Exchange). z.c) (same_row (t.exchange y) w its.w there its.row) ∙ its.for_it;
+      }
   waits_for c x k _ row at waits is = none_some x is
 
   -- who waits for the key, as the tables have it
@@ -181,7 +191,12 @@ module _ {B : Type 0} {g : Ghosts B} {limits : Limits} (r : Rows B g) (t : Table
           let found = kept_row t k (t.consumer is.c) (subst (λ z. KeepsConsumer t z (t.consumer is.c)) there (stands.consumers is.c)) in
           let one : found.0 ≡ w.k = same_row (t.consumer is.c) found.0 w.k found.1 w.row in
           let same : k.place ≡ w.k.place = found.2.place ∙ ap (λ (z : rows.Consumer). z.place) one in
-          record { c = is.c; w = w; for_it = ap awaited_exchange (sym same) ∙ (sym (ap (option_and_then (λ (k : Consumer). awaited_exchange k.place)) there) ∙ is.for_it) }
+          record {
+            c = is.c;
+            w = w;
+            for_it = ap awaited_exchange (sym same) ∙
+                (sym (ap (option_and_then (λ (k : Consumer). awaited_exchange k.place)) there) ∙ is.for_it);
+          }
 
   pub awaited_then : (x : ℕ) → IsAwaited r key x → is_awaited t key x (t.exchange x) ≡ true
   awaited_then x is =
@@ -195,13 +210,15 @@ module _ {B : Type 0} {g : Ghosts B} {limits : Limits} (r : Rows B g) (t : Table
   awaiting p x is headless = grind (arith, nat_tests)
 
   -- in the line of its key
-  stands_in : (c x : ℕ) (k : rows.Consumer) → t.consumer c ≡ Some k → bytes_eq key k.request.key ≡ true → waits_at t k.place ≡ true → awaited_exchange k.place ≡ Some x → stands_for t key (t.consumer c) ≡ true
+  stands_in : (c x : ℕ) (k : rows.Consumer) → t.consumer c ≡ Some k → bytes_eq key k.request.key ≡ true → waits_at t k.place ≡ true →
+      awaited_exchange k.place ≡ Some x → stands_for t key (t.consumer c) ≡ true
   stands_in c x k row same waits is = by_stood (stood t key law c)
     where
       by_stood : Stood t key (t.consumer c) → stands_for t key (t.consumer c) ≡ true
       by_stood (nobody none) = none_some k (sym none ∙ row)
       by_stood (back q q_row q_same q_waits on) = on
-      by_stood (beside q q_row q_same at off) = none_some x (sym (ap awaited_exchange at) ∙ (ap (λ (z : rows.Consumer). awaited_exchange z.place) (same_row (t.consumer c) q k q_row row) ∙ is))
+      by_stood (beside q q_row q_same at off) =
+          none_some x (sym (ap awaited_exchange at) ∙ (ap (λ (z : rows.Consumer). awaited_exchange z.place) (same_row (t.consumer c) q k q_row row) ∙ is))
       by_stood (stays q q_row off stands_off) =
           let one : q ≡ k = same_row (t.consumer c) q k q_row row in
           false_true (sym off ∙ (ap (λ (z : rows.Consumer). bytes_eq key z.request.key && waits_at t z.place) one ∙ rw (same, waits) refl))
@@ -217,7 +234,8 @@ module _ {B : Type 0} {g : Ghosts B} {limits : Limits} (r : Rows B g) (t : Table
 
       by_consumer : (z : Option rows.Consumer) → t.consumer w.c ≡ z → awaits z x ≡ true → IsAwaited r key x
       by_consumer None its waits = false_true waits
-      by_consumer (Some k) its waits = by_kept (get nat_eq r.consumers w.c) refl (subst (KeepsConsumer t (get nat_eq r.consumers w.c)) its (stands.consumers w.c))
+      by_consumer (Some k) its waits =
+          by_kept (get nat_eq r.consumers w.c) refl (subst (KeepsConsumer t (get nat_eq r.consumers w.c)) its (stands.consumers w.c))
         where
           is : awaited_exchange k.place ≡ Some x
           is = number_is (awaited_exchange k.place) x waits
@@ -273,7 +291,8 @@ module _ {B : Type 0} {g : Ghosts B} {limits : Limits} (r : Rows B g) (t : Table
     closes_so : (x : ℕ) → IsToClose r key refused x → closes x ≡ true
     closes_so x it1 = grind (arith, nat_tests, number_yes, awaited_then)
 
-    pub closes_are : (zs : List ℕ) → is_sorted itself zs ≡ true → ((x : ℕ) → is_among x zs ≡ true → IsToClose r key refused x) → ((x : ℕ) → IsToClose r key refused x → is_among x zs ≡ true) → zs ≡ xs
+    pub closes_are : (zs : List ℕ) → is_sorted itself zs ≡ true → ((x : ℕ) → is_among x zs ≡ true → IsToClose r key refused x) →
+        ((x : ℕ) → IsToClose r key refused x → is_among x zs ≡ true) → zs ≡ xs
     closes_are zs up each all =
         same_members zs xs up (is_sorted-filter itself closes (reverse t.openings) (reverse_ascends (t.opened + 1) t.openings law.order.openings))
         (λ x. by_tests (is_among x zs) (closes x) (λ on. closes_so x (each x on)) (λ on. all x (to_close x on)) ∙ sym (among_is x))
@@ -290,7 +309,8 @@ module _ {B : Type 0} {g : Ghosts B} {limits : Limits} (r : Rows B g) (t : Table
         b : IsBare t key x
         b = bare_of x (closes_so x is)
 
-        by_known : (o : Option Open) → (table_of r.exchanges x).running ≡ o → KeepsRunning t x o (t.exchange x) → is_some (table_of r.exchanges x).running ≡ true
+        by_known : (o : Option Open) → (table_of r.exchanges x).running ≡ o → KeepsRunning t x o (t.exchange x) →
+            is_some (table_of r.exchanges x).running ≡ true
         by_known None there kept = false_true (sym kept ∙ (ap exchanges.is_open b.row ∙ b.is_open))
         by_known (Some o) there kept = ap (λ z. is_some z) there
 
@@ -310,7 +330,8 @@ module _ {B : Type 0} {g : Ghosts B} {limits : Limits} (r : Rows B g) (t : Table
         let on : is_live (t.consumer a.c) ≡ true = ap is_live a.w.row ∙ waiting_lives t key a.w.k.place a.w.waits in
         let started : is_among a.c t.starts ≡ true = among_in a.c t.starts (law.sound.numbered.lists.started a.c (ap (λ z. is_some z) a.w.row)) in
         let among : is_among a.c lives ≡ true = filter_in (λ c. is_live (t.consumer c)) a.c t.starts ∙ rw (on, started) refl in
-        added_keeps refused x (all_of of_one lives) (all_has of_one a.c x lives among (ap (option_and_then (λ (k : rows.Consumer). awaited_exchange k.place)) a.w.row ∙ a.for_it))
+        added_keeps refused x (all_of of_one lives)
+        (all_has of_one a.c x lives among (ap (option_and_then (λ (k : rows.Consumer). awaited_exchange k.place)) a.w.row ∙ a.for_it))
 
     one_more : (zs : List ℕ) (x : ℕ) → length (with_item_first (Some x) zs) ≡ length zs + 1
     one_more zs x = omega arith
@@ -335,7 +356,8 @@ module _ {B : Type 0} {g : Ghosts B} {limits : Limits} (r : Rows B g) (t : Table
         a = law.owned.waiting x b.w b.row b.is_open b.bare
 
         past : route_of b.w.need ≡ route.Direct
-        past = ap route_of (sym (subst (KeepsRunning t x (Some u.o)) b.row (subst (λ z. KeepsRunning t x z (t.exchange x)) u.running (stands.exchanges x).running)).need) ∙ u.past
+        past = ap route_of (sym (subst (KeepsRunning t x (Some u.o)) b.row
+            (subst (λ z. KeepsRunning t x z (t.exchange x)) u.running (stands.exchanges x).running)).need) ∙ u.past
 
         by_at : IsAwaiting x b.w a.k.place → Apart
         by_at (owners.direct way at) = record {
@@ -349,7 +371,8 @@ module _ {B : Type 0} {g : Ghosts B} {limits : Limits} (r : Rows B g) (t : Table
         by_at (owners.turn way at) = absurd (let never : route.Turn ≡ route.Direct = sym way ∙ past in cc)
         by_at (owners.hole q lo hi how way aim at) = absurd (let never : route.Hole ≡ route.Direct = sym way ∙ past in cc)
 
-    pub few_close : (ys : List ℕ) → is_sorted itself ys ≡ true → ((x : ℕ) → is_among x ys ≡ true → IsToClose r key refused x) → length ys ≤ hash_map_len r.consumers
+    pub few_close : (ys : List ℕ) → is_sorted itself ys ≡ true → ((x : ℕ) → is_among x ys ≡ true → IsToClose r key refused x) →
+        length ys ≤ hash_map_len r.consumers
     unfolding lives
     few_close ys up each = by_refused refused refl
       where
@@ -361,11 +384,13 @@ module _ {B : Type 0} {g : Ghosts B} {limits : Limits} (r : Rows B g) (t : Table
 
         by_refused : (o : Option ℕ) → refused ≡ o → length ys ≤ hash_map_len r.consumers
         by_refused None is =
-            let more : length (with_item_first refused (all_of of_one lives)) ≡ length (all_of of_one lives) = ap (λ o. length (with_item_first o (all_of of_one lives))) is in
+            let more : length (with_item_first refused (all_of of_one lives)) ≡ length (all_of of_one lives) =
+            ap (λ o. length (with_item_first o (all_of of_one lives))) is in
             let few : length (all_of of_one lives) ≤ length lives = all_few of_one lives in
             omega (arith, fits, count, more, few)
         by_refused (Some x) is =
-            let more : length (with_item_first refused (all_of of_one lives)) ≡ length (all_of of_one lives) + 1 = ap (λ o. length (with_item_first o (all_of of_one lives))) is ∙ one_more (all_of of_one lives) x in
+            let more : length (with_item_first refused (all_of of_one lives)) ≡ length (all_of of_one lives) + 1 =
+            ap (λ o. length (with_item_first o (all_of of_one lives))) is ∙ one_more (all_of of_one lives) x in
             let a = apart x is in
             let few : length (all_of of_one lives) + 1 ≤ length lives = all_fewer of_one a.c lives a.lives_on a.awaits_none in
             omega (arith, fits, count, more, few)

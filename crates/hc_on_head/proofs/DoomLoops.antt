@@ -32,7 +32,8 @@ pub record IsNextBelow {B : Type 0} {g : Ghosts B} (r : Rows B g) (key : List �
   pub least : IsNext (IsSeenBelow r key refused i) from next
   pub found : (x : ℕ) → next ≡ Some x → IsToClose r key refused x
 
-lesser_is : (P Q : ℕ → Type 0) (from : ℕ) (next : Option ℕ) (x : ℕ) → IsNext P from next → from ≤ x → Q x → ((y : ℕ) → P y → Q y) → ((y : ℕ) → Q y → P y ⊎ (x ≡ y)) → IsNext Q from (lesser next x)
+lesser_is : (P Q : ℕ → Type 0) (from : ℕ) (next : Option ℕ) (x : ℕ) → IsNext P from next → from ≤ x → Q x → ((y : ℕ) → P y → Q y) →
+    ((y : ℕ) → Q y → P y ⊎ (x ≡ y)) → IsNext Q from (lesser next x)
 lesser_is P Q from None x least le new more split = (
   le,
   new,
@@ -63,20 +64,24 @@ lesser_is P Q from (Some n) x least le new more split = by_order (leb n x) refl
 -- one that is too low says nothing
 too_low : (P Q : ℕ → Type 0) (from : ℕ) (next : Option ℕ) → IsNext P from next → ((y : ℕ) → P y → Q y) → ((y : ℕ) → Q y → P y ⊎ (y < from)) → IsNext Q from next
 too_low P Q from None least more split = λ y q. elim (split y q) [ inl p ↦ least y p | inr low ↦ low ]
-too_low P Q from (Some n) least more split = (least.0, more n least.1, λ y q above. elim (split y q) [ inl p ↦ least.2 y p above | inr low ↦ absurd (omega (arith, low)) ])
+too_low P Q from (Some n) least more split =
+    (least.0, more n least.1, λ y q above. elim (split y q) [ inl p ↦ least.2 y p above | inr low ↦ absurd (omega (arith, low)) ])
 
-nearer_is : (P Q : ℕ → Type 0) (from : ℕ) (next o : Option ℕ) → IsNext P from next → ((y : ℕ) → P y → Q y) → ((y : ℕ) → o ≡ Some y → Q y) → ((y : ℕ) → Q y → P y ⊎ (o ≡ Some y)) → IsNext Q from (nearer from next o)
+nearer_is : (P Q : ℕ → Type 0) (from : ℕ) (next o : Option ℕ) → IsNext P from next → ((y : ℕ) → P y → Q y) → ((y : ℕ) → o ≡ Some y → Q y) →
+    ((y : ℕ) → Q y → P y ⊎ (o ≡ Some y)) → IsNext Q from (nearer from next o)
 nearer_is P Q from next None least more new split = too_low P Q from next least more (λ y q. elim (split y q) [ inl p ↦ inl p | inr never ↦ none_some y never ])
 nearer_is P Q from next (Some x) least more new split = by_test (nat_le from x) refl
   where
     by_test : (b : Bool) → nat_le from x ≡ b → IsNext Q from (cond b (lesser next x) next)
-    by_test true on = lesser_is P Q from next x least (grind (arith, nat_tests, on)) (new x refl) more (λ y q. elim (split y q) [ inl p ↦ inl p | inr same ↦ inr (some_is x y same) ])
+    by_test true on = lesser_is P Q from next x least (grind (arith, nat_tests, on)) (new x refl) more
+        (λ y q. elim (split y q) [ inl p ↦ inl p | inr same ↦ inr (some_is x y same) ])
     by_test false off = too_low P Q from next least more (λ y q. elim (split y q) [
       | inl p ↦ inl p
       | inr same ↦ inr (let lt : x < from = grind (arith, nat_tests, off) in let one = some_is x y same in omega (arith, one))
     ])
 
-nearer_found : (P : ℕ → Type 0) (from : ℕ) (next o : Option ℕ) → ((x : ℕ) → next ≡ Some x → P x) → ((x : ℕ) → o ≡ Some x → P x) → (x : ℕ) → nearer from next o ≡ Some x → P x
+nearer_found : (P : ℕ → Type 0) (from : ℕ) (next o : Option ℕ) → ((x : ℕ) → next ≡ Some x → P x) → ((x : ℕ) → o ≡ Some x → P x) → (x : ℕ) →
+    nearer from next o ≡ Some x → P x
 nearer_found P from next None old new x is = old x is
 nearer_found P from next (Some y) old new x is = by_test (nat_le from y) is
   where
@@ -85,8 +90,10 @@ nearer_found P from next (Some y) old new x is = by_test (nat_le from y) is
     by_next (Some n) before same = by_order (leb n y) refl
       where
         by_order : (b : Bool) → leb n y ≡ b → P x
-        by_order true on = (let least : min n y ≡ n = (let le : n ≤ y = grind (arith, nat_tests, on) in omega arith) in subst P (sym least ∙ some_is (min n y) x same) (before n refl))
-        by_order false off = (let least : min n y ≡ y = (let lt : y < n = grind (arith, nat_tests, off) in omega arith) in subst P (sym least ∙ some_is (min n y) x same) (new y refl))
+        by_order true on = (let least : min n y ≡ n = (let le : n ≤ y = grind (arith, nat_tests, on) in omega arith) in
+            subst P (sym least ∙ some_is (min n y) x same) (before n refl))
+        by_order false off = (let least : min n y ≡ y = (let lt : y < n = grind (arith, nat_tests, off) in omega arith) in
+            subst P (sym least ∙ some_is (min n y) x same) (new y refl))
 
     by_test : (b : Bool) → cond b (lesser next y) next ≡ Some x → P x
     by_test true same = by_next next old same
@@ -100,7 +107,8 @@ module _ {B : Type 0} {g : Ghosts B} (r : Rows B g) (key : List ℕ) (refused : 
     found = nearer_found (IsToClose r key refused) from None refused (λ x never. none_some x never) (λ x is. inl is);
   }
 
-  pub more_seen : (i : ℕ) (next o : Option ℕ) → IsNextBelow r key refused from i next → o ≡ seat_awaits r key i → ((x : ℕ) → o ≡ Some x → IsAwaited r key x) → IsNextBelow r key refused from (i + 1) (nearer from next o)
+  pub more_seen : (i : ℕ) (next o : Option ℕ) → IsNextBelow r key refused from i next → o ≡ seat_awaits r key i →
+      ((x : ℕ) → o ≡ Some x → IsAwaited r key x) → IsNextBelow r key refused from (i + 1) (nearer from next o)
   more_seen i next o before is inside = record {
     least = nearer_is (IsSeenBelow r key refused i) (IsSeenBelow r key refused (i + 1)) from next o before.least
         (λ y seen. elim seen [ inl same ↦ inl same | inr below ↦ inr (below.0, (let lt = below.1 in omega (arith, lt)), below.2) ])
@@ -115,21 +123,25 @@ module _ {B : Type 0} {g : Ghosts B} (r : Rows B g) (key : List ℕ) (refused : 
     found = nearer_found (IsToClose r key refused) from next o before.found (λ x some. inr (inside x some));
   }
 
-  pub all_seen : (end i : ℕ) (next : Option ℕ) → AllAreSeatedBelow end r.keys key → end ≤ i → IsNextBelow r key refused from i next → IsNext (IsToClose r key refused) from next
+  pub all_seen : (end i : ℕ) (next : Option ℕ) → AllAreSeatedBelow end r.keys key → end ≤ i → IsNextBelow r key refused from i next →
+      IsNext (IsToClose r key refused) from next
   all_seen end i next seated le below = by_next next below.least below.found
     where
       seen : (y : ℕ) → IsToClose r key refused y → IsSeenBelow r key refused i y
       seen y (inl is) = inl is
-      seen y (inr waits) = let (j, lt, there) = seated waits.c waits.waits in inr (j, omega (arith, lt, le), ap (option_and_then (awaited_by r)) there ∙ waits.for_it)
+      seen y (inr waits) = let (j, lt, there) = seated waits.c waits.waits in
+          inr (j, omega (arith, lt, le), ap (option_and_then (awaited_by r)) there ∙ waits.for_it)
 
-      by_next : (o : Option ℕ) → IsNext (IsSeenBelow r key refused i) from o → ((x : ℕ) → o ≡ Some x → IsToClose r key refused x) → IsNext (IsToClose r key refused) from o
+      by_next : (o : Option ℕ) → IsNext (IsSeenBelow r key refused i) from o → ((x : ℕ) → o ≡ Some x → IsToClose r key refused x) →
+          IsNext (IsToClose r key refused) from o
       by_next None least found = λ y is. least y (seen y is)
       by_next (Some x) least found = (least.0, found x refl, λ y is above. least.2 y (seen y is) above)
 
 -- WHAT WAS CLOSED
 
 -- Those below `from` are closed, with so many acts that still fit.
-pub record ClosesBelow {B : Type 0} {g : Ghosts B} (r : Rows B g) (after : Exchanges) (key : List ℕ) (refused : Option ℕ) (before out : List Act) (room spare from : ℕ) : Type 0 where
+pub record ClosesBelow {B : Type 0} {g : Ghosts B} (r : Rows B g) (after : Exchanges) (key : List ℕ) (refused : Option ℕ) (before out : List Act)
+    (room spare from : ℕ) : Type 0 where
   pub xs : List ℕ
   pub ascending : is_sorted itself xs ≡ true
   pub each : (x : ℕ) → is_among x xs ≡ true → IsToClose r key refused x
@@ -140,7 +152,8 @@ pub record ClosesBelow {B : Type 0} {g : Ghosts B} (r : Rows B g) (after : Excha
   pub next : next_of after ≡ next_of r.exchanges
   pub fits : spare + length xs ≡ room
 
-pub none_closed : {B : Type 0} {g : Ghosts B} (r : Rows B g) (key : List ℕ) (refused : Option ℕ) (before : List Act) (room : ℕ) → ClosesBelow r r.exchanges key refused before before room room 0
+pub none_closed : {B : Type 0} {g : Ghosts B} (r : Rows B g) (key : List ℕ) (refused : Option ℕ) (before : List Act) (room : ℕ) →
+    ClosesBelow r r.exchanges key refused before before room room 0
 none_closed r key refused before room = record {
   xs = [];
   ascending = refl;
@@ -157,7 +170,8 @@ map-append : (xs ys : List ℕ) → map act.Close (xs ++ ys) ≡ map act.Close x
 map-append [] ys = refl
 map-append (x ∷ xs) ys = ap (λ zs. act.Close x ∷ zs) (map-append xs ys)
 
-module _ {B : Type 0} {g : Ghosts B} (r : Rows B g) (mid : Exchanges) (key : List ℕ) (refused : Option ℕ) (before out : List Act) (room spare from x : ℕ) (closed : ClosesBelow r mid key refused before out room spare from)
+module _ {B : Type 0} {g : Ghosts B} (r : Rows B g) (mid : Exchanges) (key : List ℕ) (refused : Option ℕ) (before out : List Act) (room spare from x : ℕ)
+    (closed : ClosesBelow r mid key refused before out room spare from)
     (is_next : IsNext (IsToClose r key refused) from (Some x)) where
   unclosed : is_among x closed.xs ≡ false
   unclosed = grind (arith, nat_tests)
@@ -181,17 +195,22 @@ module _ {B : Type 0} {g : Ghosts B} (r : Rows B g) (mid : Exchanges) (key : Lis
   pub fits_yet : (most : ℕ) → AreAtMost most (IsToClose r key refused) → most ≤ room → 1 ≤ spare
   fits_yet most few enough = grind (arith, nat_tests, length, ascends_on, each_next, length-append)
 
-  pub one_closed : (after : Exchanges) (out_after : List Act) (spare_after : ℕ) → out_after ≡ out ++ (act.Close x ∷ []) → spare_after + 1 ≡ spare → exch.Becomes known.without_exchange x mid after → ClosesBelow r after key refused before out_after room spare_after (x + 1)
+  pub one_closed : (after : Exchanges) (out_after : List Act) (spare_after : ℕ) → out_after ≡ out ++ (act.Close x ∷ []) → spare_after + 1 ≡ spare →
+      exch.Becomes known.without_exchange x mid after → ClosesBelow r after key refused before out_after room spare_after (x + 1)
   one_closed after out_after spare_after acts less becomes = record {
     xs = closed.xs ++ (x ∷ []);
     ascending = ascends_on;
     each = each_next;
-    below = λ y there. elim (with_next y there) [ inl on ↦ (let lt = closed.below y on in let le = is_next.0 in omega (arith, lt, le)) | inr same ↦ omega (arith, same) ];
+    below = λ y there. elim (with_next y there)
+        [ inl on ↦ (let lt = closed.below y on in let le = is_next.0 in omega (arith, lt, le)) | inr same ↦ omega (arith, same) ];
     all = all_next;
-    acts = acts ∙ (ap (λ zs. zs ++ (act.Close x ∷ [])) closed.acts ∙ (append_assoc before (map act.Close closed.xs) (act.Close x ∷ []) ∙ ap (λ zs. before ++ zs) (sym (map-append closed.xs (x ∷ [])))));
-    known = λ y. becomes.table y ∙ (known_next y ∙ sym (ap (λ b. cond b (known.without_exchange (table_of r.exchanges y)) (table_of r.exchanges y)) (among-append y closed.xs (x ∷ []))));
+    acts = acts ∙ (ap (λ zs. zs ++ (act.Close x ∷ [])) closed.acts ∙
+        (append_assoc before (map act.Close closed.xs) (act.Close x ∷ []) ∙ ap (λ zs. before ++ zs) (sym (map-append closed.xs (x ∷ [])))));
+    known = λ y. becomes.table y ∙
+        (known_next y ∙ sym (ap (λ b. cond b (known.without_exchange (table_of r.exchanges y)) (table_of r.exchanges y)) (among-append y closed.xs (x ∷ []))));
     next = becomes.next ∙ closed.next;
-    fits = (let fits = closed.fits in let more : length (closed.xs ++ (x ∷ [])) ≡ length closed.xs + 1 = length-append closed.xs (x ∷ []) in omega (arith, fits, more, less));
+    fits = (let fits = closed.fits in let more : length (closed.xs ++ (x ∷ [])) ≡ length closed.xs + 1 = length-append closed.xs (x ∷ []) in
+        omega (arith, fits, more, less));
   }
     where
       all_next : (y : ℕ) → IsToClose r key refused y → y < x + 1 → is_among y (closed.xs ++ (x ∷ [])) ≡ true
@@ -208,13 +227,18 @@ module _ {B : Type 0} {g : Ghosts B} (r : Rows B g) (mid : Exchanges) (key : Lis
           by_test false off ne = grind (arith, nat_tests, off)
           by_test true on ne = absurd (let above : from ≤ y = grind (arith, nat_tests, on) in let le = is_next.2 y is above in omega (arith, le, lt, ne))
 
-      known_next : (y : ℕ) → cond (eqb x y) (known.without_exchange (table_of mid x)) (table_of mid y) ≡ cond (is_among y closed.xs || is_among y (x ∷ [])) (known.without_exchange (table_of r.exchanges y)) (table_of r.exchanges y)
+      known_next : (y : ℕ) → cond (eqb x y) (known.without_exchange (table_of mid x)) (table_of mid y) ≡ cond
+          (is_among y closed.xs || is_among y (x ∷ [])) (known.without_exchange (table_of r.exchanges y)) (table_of r.exchanges y)
       known_next y = elim (same_or x y) [
-        | inl same ↦ subst (λ n. cond (eqb x n) (known.without_exchange (table_of mid x)) (table_of mid n) ≡ cond (is_among n closed.xs || is_among n (x ∷ [])) (known.without_exchange (table_of r.exchanges n)) (table_of r.exchanges n)) same (rw (eqb-same x, unclosed, known_yet) refl)
+        | inl same ↦ subst (λ n. cond (eqb x n) (known.without_exchange (table_of mid x)) (table_of mid n) ≡ cond
+            (is_among n closed.xs || is_among n (x ∷ [])) (known.without_exchange (table_of r.exchanges n)) (table_of r.exchanges n)) same
+            (rw (eqb-same x, unclosed, known_yet) refl)
         | inr ne ↦ (let off : eqb x y ≡ false = eqb-other x y ne in rw (off, closed.known y) (grind (arith, nat_tests)))
       ]
 
-pub all_closed : {B : Type 0} {g : Ghosts B} (r : Rows B g) (after : Exchanges) (key : List ℕ) (refused : Option ℕ) (before out : List Act) (room spare from : ℕ) → ClosesBelow r after key refused before out room spare from → IsNext (IsToClose r key refused) from None → Closes r after key refused before out
+pub all_closed : {B : Type 0} {g : Ghosts B} (r : Rows B g) (after : Exchanges) (key : List ℕ) (refused : Option ℕ) (before out : List Act)
+    (room spare from : ℕ) → ClosesBelow r after key refused before out room spare from → IsNext (IsToClose r key refused) from None →
+    Closes r after key refused before out
 all_closed r after key refused before out room spare from closed none = record {
   xs = closed.xs;
   ascending = closed.ascending;
@@ -226,7 +250,8 @@ all_closed r after key refused before out room spare from closed none = record {
 }
 
 -- of the same consumers and keys
-pub same_to_close : {B : Type 0} {g : Ghosts B} (r mid : Rows B g) (key : List ℕ) (refused : Option ℕ) (x : ℕ) → mid.consumers ≡ r.consumers → mid.keys ≡ r.keys → IsToClose mid key refused x → IsToClose r key refused x
+pub same_to_close : {B : Type 0} {g : Ghosts B} (r mid : Rows B g) (key : List ℕ) (refused : Option ℕ) (x : ℕ) → mid.consumers ≡ r.consumers →
+    mid.keys ≡ r.keys → IsToClose mid key refused x → IsToClose r key refused x
 same_to_close r mid key refused x same_consumers same_keys (inl is) = inl is
 same_to_close r mid key refused x same_consumers same_keys (inr is) = inr (record {
   c = is.c;
@@ -234,7 +259,11 @@ same_to_close r mid key refused x same_consumers same_keys (inr is) = inr (recor
   for_it = ap (λ z. option_and_then (λ (k : Consumer). awaited_exchange k.place) (get nat_eq z is.c)) (sym same_consumers) ∙ is.for_it;
 })
 
-pub next_as : {B : Type 0} {g : Ghosts B} (r mid : Rows B g) (key : List ℕ) (refused : Option ℕ) (from : ℕ) (o : Option ℕ) → mid.consumers ≡ r.consumers → mid.keys ≡ r.keys → IsNext (IsToClose mid key refused) from o → IsNext (IsToClose r key refused) from o
+pub next_as : {B : Type 0} {g : Ghosts B} (r mid : Rows B g) (key : List ℕ) (refused : Option ℕ) (from : ℕ) (o : Option ℕ) → mid.consumers ≡ r.consumers →
+    mid.keys ≡ r.keys → IsNext (IsToClose mid key refused) from o → IsNext (IsToClose r key refused) from o
 next_as r mid key refused from None same_consumers same_keys none = λ y is. none y (same_to_close mid r key refused y (sym same_consumers) (sym same_keys) is)
-next_as r mid key refused from (Some x) same_consumers same_keys next =
-    (next.0, same_to_close r mid key refused x same_consumers same_keys next.1, λ y is above. next.2 y (same_to_close mid r key refused y (sym same_consumers) (sym same_keys) is) above)
+next_as r mid key refused from (Some x) same_consumers same_keys next = (
+  next.0,
+  same_to_close r mid key refused x same_consumers same_keys next.1,
+  λ y is above. next.2 y (same_to_close mid r key refused y (sym same_consumers) (sym same_keys) is) above,
+)

@@ -64,13 +64,16 @@ module _ (t : Tables) (law : Lawful t) (now : ℕ) (key xs : List ℕ) where
   exchange_is y = ap (λ (b : Bool). if b then option_map over (t.exchange y) else t.exchange y) (in_is xs y)
 
   -- whoever starts over, as the tables then have it
-  pub over_row : (d : ℕ) (k : rows.Consumer) → t.consumer d ≡ Some k → bytes_eq key k.request.key ≡ true → waits_at t k.place ≡ true → s.consumer d ≡ Some (back_in_line now k)
+  pub over_row : (d : ℕ) (k : rows.Consumer) → t.consumer d ≡ Some k → bytes_eq key k.request.key ≡ true → waits_at t k.place ≡ true →
+      s.consumer d ≡ Some (back_in_line now k)
   over_row d k row same waits = starts_over t key now (t.consumer d) k row same waits
 
-  pub line_row : (d : ℕ) (k : rows.Consumer) → t.consumer d ≡ Some k → bytes_eq key k.request.key ≡ true → k.place ≡ place.Line → s.consumer d ≡ Some (back_in_line now k)
+  pub line_row : (d : ℕ) (k : rows.Consumer) → t.consumer d ≡ Some k → bytes_eq key k.request.key ≡ true → k.place ≡ place.Line →
+      s.consumer d ≡ Some (back_in_line now k)
   line_row d k row same at = over_row d k row same (rw at refl)
 
-  pub same_consumer : (d : ℕ) (k : rows.Consumer) → t.consumer d ≡ Some k → (bytes_eq key k.request.key && waits_at t k.place) ≡ false → s.consumer d ≡ t.consumer d
+  pub same_consumer : (d : ℕ) (k : rows.Consumer) → t.consumer d ≡ Some k → (bytes_eq key k.request.key && waits_at t k.place) ≡ false →
+      s.consumer d ≡ t.consumer d
   same_consumer d k row off = stays_so t key now (t.consumer d) k row off
 
   pub none_row : (d : ℕ) → t.consumer d ≡ None → s.consumer d ≡ None
@@ -109,7 +112,8 @@ module _ (t : Tables) (law : Lawful t) (now : ℕ) (key xs : List ℕ) where
   )
 
   -- and whoever stands in line, and isn't kept there
-  kept_beside : (d : ℕ) (k : Consumer) (v : rows.Consumer) → t.consumer d ≡ Some v → bytes_eq key v.request.key ≡ true → v.place ≡ place.Line → stands_for t key (Some v) ≡ false → IsKept t k v → IsKept s k (back_in_line now v)
+  kept_beside : (d : ℕ) (k : Consumer) (v : rows.Consumer) → t.consumer d ≡ Some v → bytes_eq key v.request.key ≡ true → v.place ≡ place.Line →
+      stands_for t key (Some v) ≡ false → IsKept t k v → IsKept s k (back_in_line now v)
   kept_beside d k v row same at stands kp =
       let idle : reads v.place ≡ false = rw at refl in
       let since : is_disabled v.request ≡ false → is_only v.request ≡ false → k.since ≡ (back_in_line now v).since =
@@ -130,7 +134,8 @@ module _ (t : Tables) (law : Lawful t) (now : ℕ) (key xs : List ℕ) where
           let of_key : bytes_eq v.request.key key ≡ true = bytes-flip v.request.key key ∙ same in
           rw (of_key, at, cached, plain) refl
 
-  module _ {B : Type 0} {g : Ghosts B} {limits : Limits} (r u : Rows B g) (stands : RowsStand limits r t) (consumers : ChangesAmong r.consumers u.consumers (λ c. is_in c (line_of r.keys key)) (once_over now)) where
+  module _ {B : Type 0} {g : Ghosts B} {limits : Limits} (r u : Rows B g) (stands : RowsStand limits r t)
+      (consumers : ChangesAmong r.consumers u.consumers (λ c. is_in c (line_of r.keys key)) (once_over now)) where
     pub in_line_is : (d : ℕ) → is_in d (line_of r.keys key) ≡ stands_for t key (t.consumer d)
     in_line_is d = let line = stands.keys key in rw (line.in_line d, line.passed d, line.away d) refl
 
@@ -140,11 +145,13 @@ module _ (t : Tables) (law : Lawful t) (now : ℕ) (key xs : List ℕ) where
     unchanged : (d : ℕ) → stands_for t key (t.consumer d) ≡ false → get nat_eq u.consumers d ≡ get nat_eq r.consumers d
     unchanged d off = consumers.places d ∙ rw (in_line_is d, off) refl
 
-    over_by : (k : rows.Consumer) (o : Option Consumer) → waits_at t k.place ≡ true → KeepsConsumer t o (Some k) → KeepsConsumer s (option_map (once_over now) o) (Some (back_in_line now k))
+    over_by : (k : rows.Consumer) (o : Option Consumer) → waits_at t k.place ≡ true → KeepsConsumer t o (Some k) →
+        KeepsConsumer s (option_map (once_over now) o) (Some (back_in_line now k))
     over_by k None waits gone = false_true (sym gone ∙ waiting_lives t key k.place waits)
     over_by k (Some q) waits kept = kept_over q k waits kept
 
-    beside_by : (d : ℕ) (k : rows.Consumer) (o : Option Consumer) → t.consumer d ≡ Some k → bytes_eq key k.request.key ≡ true → k.place ≡ place.Line → stands_for t key (Some k) ≡ false → KeepsConsumer t o (Some k) → KeepsConsumer s o (Some (back_in_line now k))
+    beside_by : (d : ℕ) (k : rows.Consumer) (o : Option Consumer) → t.consumer d ≡ Some k → bytes_eq key k.request.key ≡ true → k.place ≡ place.Line →
+        stands_for t key (Some k) ≡ false → KeepsConsumer t o (Some k) → KeepsConsumer s o (Some (back_in_line now k))
     beside_by d k None row same at stands_off gone = false_true (sym gone ∙ waiting_lives t key k.place (rw at refl))
     beside_by d k (Some q) row same at stands_off kept = kept_beside d q k row same at stands_off kept
 
@@ -156,18 +163,22 @@ module _ (t : Tables) (law : Lawful t) (now : ℕ) (key xs : List ℕ) where
 
         by_stood : Stood t key (t.consumer d) → KeepsConsumer s (get nat_eq u.consumers d) (s.consumer d)
         by_stood (nobody none) =
-            let gone : get nat_eq r.consumers d ≡ None = kept_none t (get nat_eq r.consumers d) (subst (KeepsConsumer t (get nat_eq r.consumers d)) none (stands.consumers d)) in
+            let gone : get nat_eq r.consumers d ≡ None =
+            kept_none t (get nat_eq r.consumers d) (subst (KeepsConsumer t (get nat_eq r.consumers d)) none (stands.consumers d)) in
             let still : get nat_eq u.consumers d ≡ None = unchanged d (ap (stands_for t key) none) ∙ gone in
             rw (still, none_row d none) refl
         by_stood (back k row same waits on) =
             subst (λ o. KeepsConsumer s o (s.consumer d)) (sym (changed d on))
-            (subst (KeepsConsumer s (option_map (once_over now) (get nat_eq r.consumers d))) (sym (over_row d k row same waits)) (over_by k (get nat_eq r.consumers d) waits (kept k row)))
+            (subst (KeepsConsumer s (option_map (once_over now) (get nat_eq r.consumers d))) (sym (over_row d k row same waits))
+            (over_by k (get nat_eq r.consumers d) waits (kept k row)))
         by_stood (beside k row same at off) =
             subst (λ o. KeepsConsumer s o (s.consumer d)) (sym (unchanged d off))
-            (subst (KeepsConsumer s (get nat_eq r.consumers d)) (sym (line_row d k row same at)) (beside_by d k (get nat_eq r.consumers d) row same at (sym (ap (stands_for t key) row) ∙ off) (kept k row)))
+            (subst (KeepsConsumer s (get nat_eq r.consumers d)) (sym (line_row d k row same at))
+            (beside_by d k (get nat_eq r.consumers d) row same at (sym (ap (stands_for t key) row) ∙ off) (kept k row)))
         by_stood (stays k row off stands_off) =
             subst (λ o. KeepsConsumer s o (s.consumer d)) (sym (unchanged d stands_off))
-            (subst (KeepsConsumer s (get nat_eq r.consumers d)) (sym (same_consumer d k row off)) (keeps_on (get nat_eq r.consumers d) (t.consumer d) (stands.consumers d)))
+            (subst (KeepsConsumer s (get nat_eq r.consumers d)) (sym (same_consumer d k row off))
+            (keeps_on (get nat_eq r.consumers d) (t.consumer d) (stands.consumers d)))
 
   -- WHAT IS HELD
 
@@ -175,7 +186,8 @@ module _ (t : Tables) (law : Lawful t) (now : ℕ) (key xs : List ℕ) where
   unread_same x w d = grind (arith, nat_tests)
 
   -- whoever waits for the head of a first hole was brought nothing by its own exchange
-  no_unstored : (x c : ℕ) (w : Exchange) (v : Representation) (k : rows.Consumer) (p : Place) → t.exchange x ≡ Some w → t.consumer c ≡ Some k → k.place ≡ p → waits_at t p ≡ true → unstored_bytes t x w v (Some k) ≡ []
+  no_unstored : (x c : ℕ) (w : Exchange) (v : Representation) (k : rows.Consumer) (p : Place) → t.exchange x ≡ Some w → t.consumer c ≡ Some k →
+      k.place ≡ p → waits_at t p ≡ true → unstored_bytes t x w v (Some k) ≡ []
   no_unstored x c w v k (place.Bound q lo hi (by.FirstHole y)) there row at waits = by_test (is_bound_place (family x w) k.place && is_number k.own x) refl
     where
       both : (a b : Bool) → (a && b) ≡ true → b ≡ true
@@ -201,12 +213,14 @@ module _ (t : Tables) (law : Lawful t) (now : ℕ) (key xs : List ℕ) where
   no_unstored x c w v k (place.Turn y) there row at waits = rw at refl
   no_unstored x c w v k _ there row at waits = false_true waits
 
-  unstored_same : (x c : ℕ) (w : Exchange) (v : Representation) → t.exchange x ≡ Some w → unstored_bytes s x w v (s.consumer c) ≡ unstored_bytes t x w v (t.consumer c)
+  unstored_same : (x c : ℕ) (w : Exchange) (v : Representation) → t.exchange x ≡ Some w →
+      unstored_bytes s x w v (s.consumer c) ≡ unstored_bytes t x w v (t.consumer c)
   unstored_same x c w v there = by_stood (stood t key law c)
     where
       by_stood : Stood t key (t.consumer c) → unstored_bytes s x w v (s.consumer c) ≡ unstored_bytes t x w v (t.consumer c)
       by_stood (nobody none) = ap (unstored_bytes s x w v) (none_row c none) ∙ sym (ap (unstored_bytes t x w v) none)
-      by_stood (back k row same waits on) = ap (unstored_bytes s x w v) (over_row c k row same waits) ∙ sym (ap (unstored_bytes t x w v) row ∙ no_unstored x c w v k k.place there row refl waits)
+      by_stood (back k row same waits on) = ap (unstored_bytes s x w v) (over_row c k row same waits) ∙
+          sym (ap (unstored_bytes t x w v) row ∙ no_unstored x c w v k k.place there row refl waits)
       by_stood (beside k row same at off) = ap (unstored_bytes s x w v) (line_row c k row same at) ∙ sym (ap (unstored_bytes t x w v) row ∙ rw at refl)
       by_stood (stays k row off stands_off) = ap (unstored_bytes s x w v) (same_consumer c k row off) ∙ unstored_moved t s x w v (t.consumer c)
 
@@ -231,7 +245,8 @@ module _ (t : Tables) (law : Lawful t) (now : ℕ) (key xs : List ℕ) where
   not_open : (z : Option Exchange) → is_open (option_map over z) ≡ false
   not_open z = grind (arith, nat_tests)
 
-  pub exchange_shut : (x : ℕ) (before after : Known) → after ≡ (if is_among x xs then without_exchange before else before) → KeepsExchange t x before → KeepsExchange s x after
+  pub exchange_shut : (x : ℕ) (before after : Known) → after ≡ (if is_among x xs then without_exchange before else before) → KeepsExchange t x before →
+      KeepsExchange s x after
   exchange_shut x before after is kept = by_test (is_among x xs) refl
     where
       by_test : (b : Bool) → is_among x xs ≡ b → KeepsExchange s x after
@@ -244,4 +259,5 @@ module _ (t : Tables) (law : Lawful t) (now : ℕ) (key xs : List ℕ) where
           }
       by_test false off =
           let at : after ≡ before = is ∙ rw off refl in
-          rw at (exchange_same t s x before (record { row = exchange_is x ∙ rw off refl; brings = λ w there. refl; held = held_same x (t.exchange x) refl }) kept)
+          rw at (exchange_same t s x before
+          (record { row = exchange_is x ∙ rw off refl; brings = λ w there. refl; held = held_same x (t.exchange x) refl }) kept)

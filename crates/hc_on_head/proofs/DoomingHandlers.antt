@@ -25,8 +25,10 @@ use Rattle.hc_on_head.proofs.{DoomCloses.{among_is}, DoomTies.{in_is}, HeadRepor
 -- WHOEVER READS A CLOSED EXCHANGE PAST THE STORE IS TO FAIL
 
 -- what is known of a closed exchange without bytes is that it isn't open
-module _ {B : Type 0} {g : Ghosts B} {limits : Limits} (r u : Rows B g) (m : Tables) (c x : ℕ) (e z : Exchange) (v : rows.Consumer) (k : Consumer) (stands : RowsStand limits r m)
-    (row : m.exchange x ≡ Some e) (over_now : e.is_open ≡ false) (empty : e.body ≡ []) (unjoined : e.joined ≡ None) (headless : e.head ≡ None) (unfounded : m.representation x ≡ None)
+module _ {B : Type 0} {g : Ghosts B} {limits : Limits} (r u : Rows B g) (m : Tables) (c x : ℕ) (e z : Exchange) (v : rows.Consumer) (k : Consumer)
+    (stands : RowsStand limits r m)
+    (row : m.exchange x ≡ Some e) (over_now : e.is_open ≡ false) (empty : e.body ≡ []) (unjoined : e.joined ≡ None) (headless : e.head ≡ None)
+    (unfounded : m.representation x ≡ None)
     (here : m.consumer c ≡ Some v) (at : v.place ≡ place.Direct x) (started : (n : ℕ) → is_some (m.consumer n) ≡ true → Among n m.starts)
     (only : (n : ℕ) (q : rows.Consumer) → m.consumer n ≡ Some q → q.place ≡ place.Direct x → n ≡ c)
     (z_over : z.is_open ≡ false) (z_empty : z.body ≡ []) (z_unjoined : z.joined ≡ None)
@@ -74,7 +76,8 @@ module _ {B : Type 0} {g : Ghosts B} {limits : Limits} (r u : Rows B g) (m : Tab
 
   exchange_kept : KeepsExchange s x (table_of r.exchanges x)
   exchange_kept = record {
-    running = subst (KeepsRunning s x (table_of r.exchanges x).running) (sym s_here) (not_running (table_of r.exchanges x).running (subst (KeepsRunning m x (table_of r.exchanges x).running) row (stands.exchanges x).running));
+    running = subst (KeepsRunning s x (table_of r.exchanges x).running) (sym s_here)
+        (not_running (table_of r.exchanges x).running (subst (KeepsRunning m x (table_of r.exchanges x).running) row (stands.exchanges x).running));
     held = (stands.exchanges x).held
         ∙ (ap (held_for m x) row
         ∙ (held_empty m x e empty unjoined unfounded
@@ -117,7 +120,8 @@ module _ {B : Type 0} {g : Ghosts B} {limits : Limits} (r u : Rows B g) (m : Tab
 
   all_keys : (key : List ℕ) → KeepsKey s key (kept_of r.keys key)
   unfolding current
-  all_keys key = key_same mid s key _ (record { current = refl; in_line = λ n. refl; passed = λ n. refl; away = λ n. away_same key (mid.consumer n); turn = λ n. refl })
+  all_keys key = key_same mid s key _
+      (record { current = refl; in_line = λ n. refl; passed = λ n. refl; away = λ n. away_same key (mid.consumer n); turn = λ n. refl })
       (key_with m c (Some d) key _ _ (stands.keys key) (key_stays m c (Some d) key _ (stands.keys key) (says key)))
 
   -- REPRESENTATIONS
@@ -148,7 +152,8 @@ module _ {B : Type 0} {g : Ghosts B} {limits : Limits} (r u : Rows B g) (m : Tab
   lives : (n : ℕ) → is_live (s.consumer n) ≡ is_live (m.consumer n)
   lives n = grind (arith, nat_tests)
 
-  pub stands_down : u.last_start ≡ r.last_start → u.exchanges ≡ r.exchanges → u.keys ≡ r.keys → u.entries ≡ r.entries → ChangesAt r.consumers u.consumers c (standing_at (place.Down why)) → RowsStand limits u s
+  pub stands_down : u.last_start ≡ r.last_start → u.exchanges ≡ r.exchanges → u.keys ≡ r.keys → u.entries ≡ r.entries →
+      ChangesAt r.consumers u.consumers c (standing_at (place.Down why)) → RowsStand limits u s
   stands_down last exchanges same_keys same_entries alters =
       stands_then r u m s c x (Some (standing_at (place.Down why) k)) stands (last ∙ stands.last_start) (rw exchanges stands.next)
       (alters.len ∙ (stands.count ∙ sym (live_same m s refl lives)))
@@ -165,7 +170,8 @@ module _ {B : Type 0} {g : Ghosts B} {limits : Limits} (r u : Rows B g) (m : Tab
 none_gone : (b : Bool) (o : Option Representation) → o ≡ None → (if b then option_map as_gone o else o) ≡ None
 none_gone b o none = grind (arith, nat_tests)
 
-module _ {B : Type 0} {g : Ghosts B} {limits : Limits} (r : Rows B g) (t : Tables) (facts : Facts limits t) (stands : RowsStand limits r t) (now x : ℕ) (response : Response) (w : Exchange) (v : rows.Consumer) (waits : AwaitsHead t x w v) (at : v.place ≡ place.Direct x) where
+module _ {B : Type 0} {g : Ghosts B} {limits : Limits} (r : Rows B g) (t : Tables) (facts : Facts limits t) (stands : RowsStand limits r t) (now x : ℕ)
+    (response : Response) (w : Exchange) (v : rows.Consumer) (waits : AwaitsHead t x w v) (at : v.place ≡ place.Direct x) where
   abbrev key : List ℕ
   key = w.request.key
 
@@ -211,7 +217,8 @@ module _ {B : Type 0} {g : Ghosts B} {limits : Limits} (r : Rows B g) (t : Table
     since : (n : ℕ) (u : rows.Consumer) → after.consumer n ≡ Some u → (t.consumer n ≡ Some u) ⊎ (u.place ≡ place.Line)
     since n u is = by_row (t.consumer n) is
       where
-        by_row : (o : Option rows.Consumer) → option_map (back_from_any now rs) (option_map (sent_back t now key) o) ≡ Some u → (o ≡ Some u) ⊎ (u.place ≡ place.Line)
+        by_row : (o : Option rows.Consumer) → option_map (back_from_any now rs) (option_map (sent_back t now key) o) ≡ Some u →
+            (o ≡ Some u) ⊎ (u.place ≡ place.Line)
         by_row None none = none_some u none
         by_row (Some k) some = elim (sent (waits_for_any rs (sent_back t now key k).place) (sent_back t now key k) u (some_is _ _ some)) [
           | inr lined ↦ inr lined
@@ -235,7 +242,8 @@ module _ {B : Type 0} {g : Ghosts B} {limits : Limits} (r : Rows B g) (t : Table
         by_row (Some k) some = refl
 
     unawaited : is_awaited t key x (t.exchange x) ≡ false
-    unawaited = ap (is_awaited t key x) waits.row ∙ then_false (bytes_eq key w.request.key && is_headless (Some w)) (awaits (t.consumer w.c) x) (ap (λ o. awaits o x) waits.asker ∙ rw at refl)
+    unawaited = ap (is_awaited t key x) waits.row ∙
+        then_false (bytes_eq key w.request.key && is_headless (Some w)) (awaits (t.consumer w.c) x) (ap (λ o. awaits o x) waits.asker ∙ rw at refl)
 
     -- THE ANSWER
 
@@ -244,7 +252,9 @@ module _ {B : Type 0} {g : Ghosts B} {limits : Limits} (r : Rows B g) (t : Table
       row = rw out_of waits.row
 
       pub alone_doomed : IsReadAlone after x w v
-      alone_doomed = read_then t facts.law x w v waits after v here (λ n u is ne. since n u is) row unfounded (λ q lo hi h. (let stood = at in let never : place.Direct x ≡ place.Bound q lo hi (by.FirstHole x) = sym stood ∙ h in absurd (cc))) at unshown
+      alone_doomed = read_then
+          t facts.law x w v waits after v here (λ n u is ne. since n u is) row unfounded
+          (λ q lo hi h. (let stood = at in let never : place.Direct x ≡ place.Bound q lo hi (by.FirstHole x) = sym stood ∙ h in absurd (cc))) at unshown
 
       answer_is : with_answer now x response w.joined w after ≡ let_some_go now (current t key) (all_closed xs heard)
       answer_is =
@@ -268,15 +278,18 @@ module _ {B : Type 0} {g : Ghosts B} {limits : Limits} (r : Rows B g) (t : Table
 
       only_it : (n : ℕ) (q : rows.Consumer) → after.consumer n ≡ Some q → q.place ≡ place.Direct x → n ≡ w.c
       only_it n q is stood = elim (since n q is) [
-        | inl was ↦ (let reads = facts.law.places.direct n x q was stood in sym (ap (λ (e : Exchange). e.c) (same_row (t.exchange x) w reads.w waits.row reads.row) ∙ reads.for_it))
+        | inl was ↦ (let reads = facts.law.places.direct n x q was stood in
+            sym (ap (λ (e : Exchange). e.c) (same_row (t.exchange x) w reads.w waits.row reads.row) ∙ reads.for_it))
         | inr lined ↦ absurd (let never : place.Line ≡ place.Direct x = sym lined ∙ stood in cc)
       ]
 
-      failure_is : with_exchange x (Some (over z)) (with_consumer w.c (Some down) after) ≡ let_some_go now (current t key) (with_consumer w.c (Some down) (all_closed xs heard))
+      failure_is : with_exchange x (Some (over z)) (with_consumer w.c (Some down) after) ≡ let_some_go now (current t key)
+          (with_consumer w.c (Some down) (all_closed xs heard))
       failure_is =
           ap (λ (f : ℕ → Option Exchange). record (with_consumer w.c (Some down) after) { exchange = f }) (same_functions _ _ by_number)
           ∙ (ap (λ (f : ℕ → Option rows.Consumer). record (without now rs (shut xs heard)) { consumer = f }) (same_functions _ _ by_consumer)
-          ∙ sym (some_go_is now (current t key) (with_consumer w.c (Some down) (all_closed xs heard)) ∙ ap (λ (m : Tables). without now rs (with_consumer w.c (Some down) m)) (all_closed_is xs heard)))
+          ∙ sym (some_go_is now (current t key) (with_consumer w.c (Some down) (all_closed xs heard)) ∙
+          ap (λ (m : Tables). without now rs (with_consumer w.c (Some down) m)) (all_closed_is xs heard)))
         where
           by_number : (y : ℕ) → (with_exchange x (Some (over z)) after).exchange y ≡ (shut xs heard).exchange y
           by_number y = elim (same_or x y) [
@@ -284,7 +297,8 @@ module _ {B : Type 0} {g : Ghosts B} {limits : Limits} (r : Rows B g) (t : Table
             | inr ne ↦ rw (eqb-other x y ne) refl
           ]
 
-          by_test : (b : Bool) (o : Option rows.Consumer) → (if b then Some down else option_map (back_from_any now rs) o) ≡ option_map (back_from_any now rs) (if b then Some down else o)
+          by_test : (b : Bool) (o : Option rows.Consumer) →
+              (if b then Some down else option_map (back_from_any now rs) o) ≡ option_map (back_from_any now rs) (if b then Some down else o)
           by_test true o = refl
           by_test false o = refl
 
@@ -315,51 +329,75 @@ module _ {B : Type 0} {g : Ghosts B} {limits : Limits} (r : Rows B g) (t : Table
     abbrev ev : Event
     ev = event.Head x response
 
-    pub dooming_taken : (u : Rows B g) → head_case (head_view t false w response) ≡ case.DirectTaken → IsDoomed limits mid t before out now key None → ((m : Tables) → IsReadAlone m x w v → RowsStand limits mid m → RowsStand limits u (with_answer now x response w.joined w m))
+    pub dooming_taken : (u : Rows B g) → head_case (head_view t false w response) ≡ case.DirectTaken → IsDoomed limits mid t before out now key None →
+        ((m : Tables) → IsReadAlone m x w v → RowsStand limits mid m → RowsStand limits u (with_answer now x response w.joined w m))
         → Answered limits (shelf_of r.entries).faults u t before out now ev
     dooming_taken u is doomed answers =
-        does_answered limits (shelf_of r.entries).faults u t (with_event now ev (let_some_go now (current t key) (all_closed (awaited_and t key None) heard))) before out (map act.Close (awaited_and t key None)) now ev
-        (dooms_taken limits t facts.law now x response goes w waits.row v waits.asker unsafe is) (unwritten t now x response w case.DirectTaken waits.row is refl) (flawless (awaited_and t key None)) doomed.acts
-        (stands_counted u _ now ev refl (subst (RowsStand limits u) (answer_is None out_of_none) (answers (after None) (alone_doomed None out_of_none) (subst (RowsStand limits mid) (after_is None) doomed.rows))))
+        does_answered limits (shelf_of r.entries).faults u t
+        (with_event now ev (let_some_go now (current t key) (all_closed (awaited_and t key None) heard))) before out
+        (map act.Close (awaited_and t key None)) now ev
+        (dooms_taken limits t facts.law now x response goes w waits.row v waits.asker unsafe is)
+        (unwritten t now x response w case.DirectTaken waits.row is refl) (flawless (awaited_and t key None)) doomed.acts
+        (stands_counted u _ now ev refl
+        (subst (RowsStand limits u) (answer_is None out_of_none)
+        (answers (after None) (alone_doomed None out_of_none) (subst (RowsStand limits mid) (after_is None) doomed.rows))))
 
-    pub dooming_bad : (u : Rows B g) (c : ℕ) → w.c ≡ c → IsUnheard (table_of r.exchanges) key x → head_case (head_view t false w response) ≡ case.DirectBad → IsDoomed limits mid t before out now key (Some x)
-        → u.last_start ≡ mid.last_start → u.exchanges ≡ mid.exchanges → u.keys ≡ mid.keys → u.entries ≡ mid.entries → ChangesAt mid.consumers u.consumers c (standing_at (place.Down (cause.BadHead x)))
+    pub dooming_bad : (u : Rows B g) (c : ℕ) → w.c ≡ c → IsUnheard (table_of r.exchanges) key x →
+        head_case (head_view t false w response) ≡ case.DirectBad → IsDoomed limits mid t before out now key (Some x)
+        → u.last_start ≡ mid.last_start → u.exchanges ≡ mid.exchanges → u.keys ≡ mid.keys → u.entries ≡ mid.entries →
+        ChangesAt mid.consumers u.consumers c (standing_at (place.Down (cause.BadHead x)))
         → Answered limits (shelf_of r.entries).faults u t before out now ev
     dooming_bad u c for_it unheard is doomed last exchanges same_keys same_entries changes =
         let in_it = in_refused unheard in
         let d : rows.Consumer = down (Some x) in_it in
         let stood = subst (RowsStand limits mid) (after_is (Some x)) doomed.rows in
         let k = reader_kept mid (after (Some x)) w.c x v stood (here (Some x)) at in
-        does_answered limits (shelf_of r.entries).faults u t (with_event now ev (let_some_go now (current t key) (with_consumer w.c (Some d) (all_closed (awaited_and t key (Some x)) heard)))) before out (map act.Close (awaited_and t key (Some x))) now ev
-        (dooms_bad limits t facts.law now x response goes w waits.row v waits.asker unsafe is) (unwritten t now x response w case.DirectBad waits.row is refl) (flawless (awaited_and t key (Some x))) doomed.acts
+        does_answered limits (shelf_of r.entries).faults u t
+        (with_event now ev (let_some_go now (current t key) (with_consumer w.c (Some d) (all_closed (awaited_and t key (Some x)) heard)))) before out
+        (map act.Close (awaited_and t key (Some x))) now ev
+        (dooms_bad limits t facts.law now x response goes w waits.row v waits.asker unsafe is)
+        (unwritten t now x response w case.DirectBad waits.row is refl) (flawless (awaited_and t key (Some x))) doomed.acts
         (stands_counted u _ now ev refl (subst (RowsStand limits u) (failure_is (Some x) in_it)
-        (stands_down mid u (after (Some x)) w.c x (over w) (over z) v k.0 stood (shut_row (Some x) in_it) refl empty unjoined waits.headless (unfounded (Some x))
+        (stands_down mid u (after (Some x)) w.c x (over w) (over z) v k.0 stood (shut_row (Some x) in_it) refl empty unjoined waits.headless
+        (unfounded (Some x))
         (here (Some x)) at (started (Some x)) (only_it (Some x) in_it) refl empty unjoined k.1 (cause.BadHead x) last exchanges same_keys same_entries
         (subst (λ (n : ℕ). ChangesAt mid.consumers u.consumers n (standing_at (place.Down (cause.BadHead x)))) (sym for_it) changes))))
 
 -- FROM WHAT THE CODE LOOKED UP
 
-pub unheard_as : (table : Table) (x : ℕ) (op : Opening) (key : List ℕ) → head_refusal (option_map open_view (table x).running) ≡ None → Some (opened_with op) ≡ option_map begins_with (table x).running → key ≡ op.request.now.key → IsPastStore (table x).running → IsUnheard table key x
+pub unheard_as : (table : Table) (x : ℕ) (op : Opening) (key : List ℕ) → head_refusal (option_map open_view (table x).running) ≡ None →
+    Some (opened_with op) ≡ option_map begins_with (table x).running → key ≡ op.request.now.key → IsPastStore (table x).running → IsUnheard table key x
 unheard_as table x op key_is accepted opens copied past =
     let h = headless_of (table x).running accepted in
-    record { o = h.o; running = h.there; headless = h.headless; of_key = ap (λ (q : Request). q.key) (sym (opened_as op (table x).running h.o opens h.there).1) ∙ sym copied; past = past h.o h.there }
+    record {
+      o = h.o;
+      running = h.there;
+      headless = h.headless;
+      of_key =
+          ap (λ (q : Request). q.key) (sym (opened_as op (table x).running h.o opens h.there).1) ∙ sym copied;
+      past = past h.o h.there;
+    }
 
 -- it reads past the store what it waits for
-pub past_place : {B : Type 0} {g : Ghosts B} {limits : Limits} (r : Rows B g) (t : Tables) (x : ℕ) (w : Exchange) (a : Asker r t x w) (key : List ℕ) → RowsStand limits r t → IsUnheard (table_of r.exchanges) key x → (a.v.place ≡ place.Direct x) × (key ≡ w.request.key)
+pub past_place : {B : Type 0} {g : Ghosts B} {limits : Limits} (r : Rows B g) (t : Tables) (x : ℕ) (w : Exchange) (a : Asker r t x w) (key : List ℕ) →
+    RowsStand limits r t → IsUnheard (table_of r.exchanges) key x → (a.v.place ≡ place.Direct x) × (key ≡ w.request.key)
 past_place r t x w a key stands u = grind (arith, nat_tests)
 
 -- its exchange is open still, and has no head
 merely_accepted : {P : Type 0} (o : Option Open) → ∥ P ∥₁ → (P → head_refusal (option_map open_view o) ≡ None) → head_refusal (option_map open_view o) ≡ None
-merely_accepted o some h = is_none_of (head_refusal (option_map open_view o)) (merely_true (is_none (head_refusal (option_map open_view o))) some (λ p. ap (λ z. is_none z) (h p)))
+merely_accepted o some h =
+    is_none_of (head_refusal (option_map open_view o)) (merely_true (is_none (head_refusal (option_map open_view o))) some (λ p. ap (λ z. is_none z) (h p)))
   where
     is_none_of : {A : Type 0} (z : Option A) → is_none z ≡ true → z ≡ None
     is_none_of None on = refl
     is_none_of (Some a) on = false_true on
 
-accepted_row : {B : Type 0} {g : Ghosts B} {limits : Limits} (r : Rows B g) (m : Tables) (x : ℕ) (w : Exchange) → RowsStand limits r m → m.exchange x ≡ Some w → w.is_open ≡ true → w.head ≡ None → head_refusal (option_map open_view (table_of r.exchanges x).running) ≡ None
+accepted_row : {B : Type 0} {g : Ghosts B} {limits : Limits} (r : Rows B g) (m : Tables) (x : ℕ) (w : Exchange) → RowsStand limits r m →
+    m.exchange x ≡ Some w → w.is_open ≡ true → w.head ≡ None → head_refusal (option_map open_view (table_of r.exchanges x).running) ≡ None
 accepted_row r m x w stands row opened bare = grind (arith, nat_tests)
 
-module _ {B : Type 0} {g : Ghosts B} (r mid : Rows B g) (now x : ℕ) (key : List ℕ) (response : Response) (before out : List Act) (unheard : IsUnheard (table_of r.exchanges) key x) (some_past : ∥ Stands r ∥₁)
+module _ {B : Type 0} {g : Ghosts B} (r mid : Rows B g) (now x : ℕ) (key : List ℕ) (response : Response) (before out : List Act)
+    (unheard : IsUnheard (table_of r.exchanges) key x) (some_past : ∥ Stands r ∥₁)
     (dooms : (limits : Limits) (t : Tables) → Lawful t → RowsStand limits r t → IsDoomed limits mid t before out now key None) where
   -- the tables once it is doomed, and its exchange
   record Arrival : Type 0 where
@@ -391,7 +429,8 @@ module _ {B : Type 0} {g : Ghosts B} (r mid : Rows B g) (now x : ℕ) (key : Lis
       }
 
   pub accepted_then : head_refusal (option_map open_view (table_of mid.exchanges x).running) ≡ None
-  accepted_then = merely_accepted (table_of mid.exchanges x).running some_past (λ p. (let h = heard_then p in accepted_row mid h.m x h.w h.rows h.row h.is_open h.headless))
+  accepted_then = merely_accepted (table_of mid.exchanges x).running some_past
+      (λ p. (let h = heard_then p in accepted_row mid h.m x h.w h.rows h.row h.is_open h.headless))
 
   pub good_then : is_bad (length_by (table_of r.exchanges x).running response) ≡ false → is_bad (length_by (table_of mid.exchanges x).running response) ≡ false
   good_then good = merely_false (is_bad (length_by (table_of mid.exchanges x).running response)) some_past

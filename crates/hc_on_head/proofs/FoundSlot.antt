@@ -10,16 +10,20 @@ use Rattle.hc_state.specs.Founding.{brings_body}
 use Rattle.hc_on_leave.proofs.AnswerHandler.{known_here, known_other, opened_as}
 
 -- its length doesn't look at what it is to the cache
-length_turned : (kind : Role) (running : Option Open) (response : Response) → length_by (option_map (λ (o : Open). record o { role = kind }) running) response ≡ length_by running response
+length_turned : (kind : Role) (running : Option Open) (response : Response) →
+    length_by (option_map (λ (o : Open). record o { role = kind }) running) response ≡ length_by running response
 length_turned kind running response = grind (arith, nat_tests)
 
 -- the exchange brings what it founds
-pub brings_founded : (x : ℕ) (response : Response) (r mid u : Exchanges) → Becomes (turned_into (role.Body x)) x r mid → is_bad (length_by (table_of r x).running response) ≡ false
-    → (is_bad (length_by (table_of mid x).running response) ≡ false → Becomes (with_good_head (length_by (table_of mid x).running response)) x mid u) → Becomes (brings_body x (length_by (table_of r x).running response)) x r u
+pub brings_founded : (x : ℕ) (response : Response) (r mid u : Exchanges) → Becomes (turned_into (role.Body x)) x r mid →
+    is_bad (length_by (table_of r x).running response) ≡ false
+    → (is_bad (length_by (table_of mid x).running response) ≡ false → Becomes (with_good_head (length_by (table_of mid x).running response)) x mid u) →
+    Becomes (brings_body x (length_by (table_of r x).running response)) x r u
 brings_founded x response r mid u turned good heads = record {
   table = λ y. elim (same_or x y) [
     | inl e ↦ subst (λ (n : ℕ). table_of u n ≡ (if x == n then brings_body x its (table_of r x) else table_of r n)) e (here ∙ sym (rw (eqb-same x) refl))
-    | inr ne ↦ known_other (with_good_head its) x y mid u goes (λ e. ne (sym e)) ∙ (known_other (turned_into (role.Body x)) x y r mid turned (λ e. ne (sym e)) ∙ sym (rw (eqb-other x y ne) refl))
+    | inr ne ↦ known_other (with_good_head its) x y mid u goes (λ e. ne (sym e)) ∙
+        (known_other (turned_into (role.Body x)) x y r mid turned (λ e. ne (sym e)) ∙ sym (rw (eqb-other x y ne) refl))
   ];
   next = goes.next ∙ turned.next;
 }
@@ -40,20 +44,25 @@ brings_founded x response r mid u turned good heads = record {
     here = known_here (with_good_head its) x mid u goes ∙ ap (with_good_head its) mid_is
 
 -- what is current is of the key that it was opened with
-pub current_of : (op : Opening) (running : Option Open) (x : ℕ) (a b : KeyTable) → Some (opened_with op) ≡ option_map begins_with running → keys.Becomes (with_current (Some x)) op.request.now.key a b → (o : Open) → running ≡ Some o → keys.Becomes (with_current (Some x)) o.request.key a b
-current_of op running x a b opens becomes o at = subst (λ (q : Request). keys.Becomes (with_current (Some x)) q.key a b) (opened_as op running o opens at).1 becomes
+pub current_of : (op : Opening) (running : Option Open) (x : ℕ) (a b : KeyTable) → Some (opened_with op) ≡ option_map begins_with running →
+    keys.Becomes (with_current (Some x)) op.request.now.key a b → (o : Open) → running ≡ Some o → keys.Becomes (with_current (Some x)) o.request.key a b
+current_of op running x a b opens becomes o at =
+    subst (λ (q : Request). keys.Becomes (with_current (Some x)) q.key a b) (opened_as op running o opens at).1 becomes
 
 -- ITS LENGTH
 
 abbrev pub total_with : Need → Request → Response → Option ℕ
-total_with need request response = if brings_part response.status then total_of_part (content_range_of response.fields) else promise_of (length_of need request response)
+total_with need request response = if brings_part response.status then total_of_part (content_range_of response.fields) else
+    promise_of (length_of need request response)
 
 -- a head tells less than 2^62
 pub total_small : (need : Need) (request : Request) (response : Response) (n : ℕ) → total_with need request response ≡ Some n → n < 2 ^ 62
 total_small need request response n is = founded_early (just_opened 0 0 need request None) response n is
 
-pub total_then : (need : Need) (request : Request) (response : Response) (total : Option ℕ) → brings_part response.status ≡ true → total ≡ total_of_part (content_range_of response.fields) → total ≡ total_with need request response
+pub total_then : (need : Need) (request : Request) (response : Response) (total : Option ℕ) → brings_part response.status ≡ true →
+    total ≡ total_of_part (content_range_of response.fields) → total ≡ total_with need request response
 total_then need request response total status is = is ∙ sym (rw status refl)
 
-pub total_else : (need : Need) (request : Request) (response : Response) (total : Option ℕ) → brings_part response.status ≡ false → total ≡ promise_of (length_of need request response) → total ≡ total_with need request response
+pub total_else : (need : Need) (request : Request) (response : Response) (total : Option ℕ) → brings_part response.status ≡ false →
+    total ≡ promise_of (length_of need request response) → total ≡ total_with need request response
 total_else need request response total status is = is ∙ sym (rw status refl)

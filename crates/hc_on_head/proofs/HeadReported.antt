@@ -36,7 +36,8 @@ bad_shows v bad = bad_on (route_of v.need) v bad
 good_case : (v : HeadView) (k : HeadCase) → k ≡ head_case v → is_bad_case k ≡ false → v.bad ≡ false
 good_case v k is off = grind (arith, nat_tests, bad_shows)
 
-pub good_reported : (running : Option Open) (o : Open) (c : Option Consumer) (response : Response) (k : HeadCase) (kept : Option _) → running ≡ Some o → is_some c ≡ true → ((q : Open) (u : Consumer) → running ≡ Some q → c ≡ Some u → k ≡ head_case (heard_view q u kept response)) → is_bad_case k ≡ false
+pub good_reported : (running : Option Open) (o : Open) (c : Option Consumer) (response : Response) (k : HeadCase) (kept : Option _) → running ≡ Some o →
+    is_some c ≡ true → ((q : Open) (u : Consumer) → running ≡ Some q → c ≡ Some u → k ≡ head_case (heard_view q u kept response)) → is_bad_case k ≡ false
     → is_bad (length_by running response) ≡ false
 good_reported running o c response k kept there lives reports off =
     let u = some_row c lives in
@@ -45,10 +46,12 @@ good_reported running o c response k kept there lives reports off =
 -- WHO WAITS FOR IT
 
 -- what the code looked up of the exchange
-pub viewed_as : (x : ℕ) (running : Option Open) (o : Open) (found : Option ExchangeView) (v : ExchangeView) → running ≡ Some o → found ≡ option_map (view_of x) running → found ≡ Some v → v ≡ view_of x o
+pub viewed_as : (x : ℕ) (running : Option Open) (o : Open) (found : Option ExchangeView) (v : ExchangeView) → running ≡ Some o →
+    found ≡ option_map (view_of x) running → found ≡ Some v → v ≡ view_of x o
 viewed_as x running o found v there is at = sym (some_is (view_of x o) v (sym (ap (option_map (view_of x)) there) ∙ (sym is ∙ at)))
 
-module _ {B : Type 0} {g : Ghosts B} {limits : Limits} (r : Rows B g) (t : Tables) (facts : Facts limits t) (stands : RowsStand limits r t) (x : ℕ) (o : Open) (there : (table_of r.exchanges x).running ≡ Some o) (headless : o.headed ≡ false) where
+module _ {B : Type 0} {g : Ghosts B} {limits : Limits} (r : Rows B g) (t : Tables) (facts : Facts limits t) (stands : RowsStand limits r t) (x : ℕ)
+    (o : Open) (there : (table_of r.exchanges x).running ≡ Some o) (headless : o.headed ≡ false) where
   -- the exchange, and its consumer
   pub record HeardAs : Type 0 where
     pub w : Exchange
@@ -74,7 +77,8 @@ module _ {B : Type 0} {g : Ghosts B} {limits : Limits} (r : Rows B g) (t : Table
   asker_lives c same = (let h = heard_as in ap (λ (z : Option Consumer). is_some z) (ap (get nat_eq r.consumers) (sym (h.for_it ∙ same)) ∙ h.asked.there))
 
 -- whoever waits to found or to join is kept by its key
-waits_in_key : {B : Type 0} {g : Ghosts B} {limits : Limits} (r : Rows B g) (t : Tables) (facts : Facts limits t) (stands : RowsStand limits r t) (x : ℕ) (w : Exchange) (a : Asker r t x w) → awaited_exchange a.v.place ≡ Some x → is_in w.c (line_of r.keys a.k.request.key) ≡ true
+waits_in_key : {B : Type 0} {g : Ghosts B} {limits : Limits} (r : Rows B g) (t : Tables) (facts : Facts limits t) (stands : RowsStand limits r t) (x : ℕ)
+    (w : Exchange) (a : Asker r t x w) → awaited_exchange a.v.place ≡ Some x → is_in w.c (line_of r.keys a.k.request.key) ≡ true
 waits_in_key r t facts stands x w a waits = by_place a.v.place refl waits
   where
     key : List ℕ
@@ -93,10 +97,12 @@ waits_in_key r t facts stands x w a waits = by_place a.v.place refl waits
     last_on false false s on = on
 
     in_line : is_in_line key (Some a.v) ≡ true → is_in w.c (line_of r.keys key) ≡ true
-    in_line on = first_on (is_among w.c (kept_of r.keys key).in_line) (is_among w.c (kept_of r.keys key).passed) (is_among w.c (kept_of r.keys key).away) ((stands.keys key).in_line w.c ∙ (ap (is_in_line key) a.awaits.asker ∙ on))
+    in_line on = first_on (is_among w.c (kept_of r.keys key).in_line) (is_among w.c (kept_of r.keys key).passed) (is_among w.c (kept_of r.keys key).away)
+        ((stands.keys key).in_line w.c ∙ (ap (is_in_line key) a.awaits.asker ∙ on))
 
     away : is_away t key (Some a.v) ≡ true → is_in w.c (line_of r.keys key) ≡ true
-    away on = last_on (is_among w.c (kept_of r.keys key).in_line) (is_among w.c (kept_of r.keys key).passed) (is_among w.c (kept_of r.keys key).away) ((stands.keys key).away w.c ∙ (ap (is_away t key) a.awaits.asker ∙ on))
+    away on = last_on (is_among w.c (kept_of r.keys key).in_line) (is_among w.c (kept_of r.keys key).passed) (is_among w.c (kept_of r.keys key).away)
+        ((stands.keys key).away w.c ∙ (ap (is_away t key) a.awaits.asker ∙ on))
 
     by_place : (p : Place) → a.v.place ≡ p → awaited_exchange p ≡ Some x → is_in w.c (line_of r.keys key) ≡ true
     by_place (place.Turn y) at on =
@@ -106,7 +112,8 @@ waits_in_key r t facts stands x w a waits = by_place a.v.place refl waits
         let same_y : y ≡ x = some_is y x on in
         let opened = a.awaits.is_open in
         let headless = a.awaits.headless in
-        let waits : is_headless (t.exchange y) ≡ true = ap (λ (n : ℕ). is_headless (t.exchange n)) same_y ∙ (ap is_headless a.awaits.row ∙ rw (opened, headless) refl) in
+        let waits : is_headless (t.exchange y) ≡ true = ap (λ (n : ℕ). is_headless (t.exchange n)) same_y ∙
+        (ap is_headless a.awaits.row ∙ rw (opened, headless) refl) in
         away (ap₂ ◌&&◌ (bytes_eq-same a.v.request.key key (sym same_key)) (ap (is_away_at t) at ∙ waits))
     by_place _ at on = none_some x on
 
@@ -123,11 +130,13 @@ hole_apart : (way : Route) → way ≡ route.Hole → way ≡ route.Direct → �
 hole_apart way hole is = let never : route.Hole ≡ route.Direct = sym hole ∙ is in cc
 
 -- what goes with it depends on what it is about only where that is told
-goes_by : (now aim about : Option ℕ) (status : ℕ) (v : HeadView) (k : HeadCase) → CaseBy v k → ((route_of v.need ≡ route.Direct → ⊥) → aim ≡ about) → let_go_by now aim status k ≡ let_go_by now about status k
+goes_by : (now aim about : Option ℕ) (status : ℕ) (v : HeadView) (k : HeadCase) → CaseBy v k → ((route_of v.need ≡ route.Direct → ⊥) → aim ≡ about) →
+    let_go_by now aim status k ≡ let_go_by now about status k
 goes_by now aim about status v _ (cases.not_validated way s) same = same (turn_apart (route_of v.need) way)
 goes_by now aim about status v _ (cases.first_changed way shown) same = same (hole_apart (route_of v.need) way)
 goes_by now aim about status v _ (cases.first_passes_by way shown) same = same (hole_apart (route_of v.need) way)
-goes_by now aim about status v _ (cases.later_changed way shown) same = ap (λ (o : Option ℕ). if nat_lt status 500 then o else None) (same (hole_apart (route_of v.need) way))
+goes_by now aim about status v _ (cases.later_changed way shown) same =
+    ap (λ (o : Option ℕ). if nat_lt status 500 then o else None) (same (hole_apart (route_of v.need) way))
 goes_by now aim about status v _ (cases.first_replaced way shown s kept good) same = same (hole_apart (route_of v.need) way)
 goes_by now aim about status v _ _ same = refl
 
@@ -139,8 +148,10 @@ pub record Reported (t : Tables) (x : ℕ) (response : Response) (k : HeadCase) 
   pub doomless : doomed_by_case (Some k) w response ≡ None
   pub same : goes ≡ goes_with t w response k
 
-module _ {B : Type 0} {g : Ghosts B} {limits : Limits} (r : Rows B g) (t : Tables) (facts : Facts limits t) (stands : RowsStand limits r t) (x c : ℕ) (o : Open) (there : (table_of r.exchanges x).running ≡ Some o) (headless : o.headed ≡ false) (same_c : o.c ≡ c) (response : Response) (k : HeadCase)
-    (reports : (q : Open) (u : Consumer) → (table_of r.exchanges x).running ≡ Some q → get nat_eq r.consumers c ≡ Some u → k ≡ head_case (heard_view q u (kept_at (shelf_of r.entries) (aim_in o.role)) response)) where
+module _ {B : Type 0} {g : Ghosts B} {limits : Limits} (r : Rows B g) (t : Tables) (facts : Facts limits t) (stands : RowsStand limits r t) (x c : ℕ)
+    (o : Open) (there : (table_of r.exchanges x).running ≡ Some o) (headless : o.headed ≡ false) (same_c : o.c ≡ c) (response : Response) (k : HeadCase)
+    (reports : (q : Open) (u : Consumer) → (table_of r.exchanges x).running ≡ Some q → get nat_eq r.consumers c ≡ Some u →
+    k ≡ head_case (heard_view q u (kept_at (shelf_of r.entries) (aim_in o.role)) response)) where
   h : HeardAs r t facts stands x o there headless
   h = heard_as r t facts stands x o there headless
 
@@ -155,7 +166,8 @@ module _ {B : Type 0} {g : Ghosts B} {limits : Limits} (r : Rows B g) (t : Table
   waits_reported on u at =
       let one = same_row (get nat_eq r.consumers c) h.asked.k u here at in
       let view : HeadView = heard_view o h.asked.k (kept_at (shelf_of r.entries) (aim_in o.role)) response in
-      let waits = waits_in_key r t facts stands x h.w h.asked (awaits_viewed x h.w h.asked.v view k runs.need h.asked.is.shown h.asked.stands on (reports o h.asked.k there here)) in
+      let waits = waits_in_key r t facts stands x h.w h.asked
+      (awaits_viewed x h.w h.asked.v view k runs.need h.asked.is.shown h.asked.stands on (reports o h.asked.k there here)) in
       subst (λ (n : ℕ). is_in n (line_of r.keys u.request.key) ≡ true) (h.for_it ∙ same_c)
       (subst (λ (q : Consumer). is_in h.w.c (line_of r.keys q.request.key) ≡ true) one waits)
 
@@ -166,7 +178,8 @@ module _ {B : Type 0} {g : Ghosts B} {limits : Limits} (r : Rows B g) (t : Table
     current_as : (kept_of r.keys o.request.key).current ≡ current t h.w.request.key
     current_as = (stands.keys o.request.key).current ∙ ap (λ (q : Request). current t q.key) runs.request
 
-    pub reported_of : (goes : Option ℕ) → (is_past_case k && changes_by o.request response) ≡ false → goes ≡ let_go_by (kept_of r.keys o.request.key).current (aim_in o.role) response.status k → Reported t x response k goes
+    pub reported_of : (goes : Option ℕ) → (is_past_case k && changes_by o.request response) ≡ false →
+        goes ≡ let_go_by (kept_of r.keys o.request.key).current (aim_in o.role) response.status k → Reported t x response k goes
     reported_of goes off goes_is = record {
       w = h.w;
       row = h.row;
@@ -174,7 +187,8 @@ module _ {B : Type 0} {g : Ghosts B} {limits : Limits} (r : Rows B g) (t : Table
       doomless = doomless_as h.w response k (ap (λ (q : Request). is_past_case k && changes_by q response) (sym runs.request) ∙ off);
       same = goes_is
           ∙ (ap (λ (n : Option ℕ). let_go_by n (aim_in o.role) response.status k) current_as
-          ∙ goes_by (current t h.w.request.key) (aim_in o.role) h.w.aim response.status (head_view t false h.w response) k (subst (CaseBy (head_view t false h.w response)) is_reported (case_by (head_view t false h.w response)))
+          ∙ goes_by (current t h.w.request.key) (aim_in o.role) h.w.aim response.status (head_view t false h.w response) k
+          (subst (CaseBy (head_view t false h.w response)) is_reported (case_by (head_view t false h.w response)))
           (λ past. aim_is r t facts stands x h.w h.asked o there response (route_of h.w.need) refl past));
     }
 
@@ -218,8 +232,11 @@ founds_status v _ _ on = false_true on
 
 -- BY WHAT THE CODE LOOKED UP
 
-module _ {B : Type 0} {g : Ghosts B} (r : Rows B g) (x : ℕ) (response : Response) (found : Option ExchangeView) (v : ExchangeView) (aim : Option ℕ) (k : HeadCase) (accepted : head_refusal (option_map open_view (table_of r.exchanges x).running) ≡ None) (viewed : found ≡ option_map (view_of x) (table_of r.exchanges x).running) (some : found ≡ Some v) (about : aim ≡ aim_in v.role)
-    (reports : (q : Open) (u : Consumer) → (table_of r.exchanges x).running ≡ Some q → get nat_eq r.consumers v.c ≡ Some u → k ≡ head_case (heard_view q u (kept_at (shelf_of r.entries) aim) response)) where
+module _ {B : Type 0} {g : Ghosts B} (r : Rows B g) (x : ℕ) (response : Response) (found : Option ExchangeView) (v : ExchangeView) (aim : Option ℕ)
+    (k : HeadCase) (accepted : head_refusal (option_map open_view (table_of r.exchanges x).running) ≡ None)
+    (viewed : found ≡ option_map (view_of x) (table_of r.exchanges x).running) (some : found ≡ Some v) (about : aim ≡ aim_in v.role)
+    (reports : (q : Open) (u : Consumer) → (table_of r.exchanges x).running ≡ Some q → get nat_eq r.consumers v.c ≡ Some u →
+    k ≡ head_case (heard_view q u (kept_at (shelf_of r.entries) aim) response)) where
   bare : Headless (table_of r.exchanges x).running
   bare = headless_of (table_of r.exchanges x).running accepted
 
@@ -232,11 +249,13 @@ module _ {B : Type 0} {g : Ghosts B} (r : Rows B g) (x : ℕ) (response : Respon
   for_c : bare.o.c ≡ v.c
   for_c = sym (ap (λ (z : ExchangeView). z.c) view_is)
 
-  reports_as : (q : Open) (u : Consumer) → (table_of r.exchanges x).running ≡ Some q → get nat_eq r.consumers v.c ≡ Some u → k ≡ head_case (heard_view q u (kept_at (shelf_of r.entries) (aim_in bare.o.role)) response)
+  reports_as : (q : Open) (u : Consumer) → (table_of r.exchanges x).running ≡ Some q → get nat_eq r.consumers v.c ≡ Some u →
+      k ≡ head_case (heard_view q u (kept_at (shelf_of r.entries) (aim_in bare.o.role)) response)
   reports_as q u there at = reports q u there at ∙ ap (λ (a : Option ℕ). head_case (heard_view q u (kept_at (shelf_of r.entries) a) response)) aim_as
 
   pub good_as : is_some (get nat_eq r.consumers v.c) ≡ true → is_bad_case k ≡ false → is_bad (length_by (table_of r.exchanges x).running response) ≡ false
-  good_as lives off = good_reported (table_of r.exchanges x).running bare.o (get nat_eq r.consumers v.c) response k (kept_at (shelf_of r.entries) aim) bare.there lives reports off
+  good_as lives off = good_reported (table_of r.exchanges x).running bare.o (get nat_eq r.consumers v.c) response k (kept_at (shelf_of r.entries) aim)
+      bare.there lives reports off
 
   pub founds_as : is_some (get nat_eq r.consumers v.c) ≡ true → IsWithinLimits response.fields → is_founding (Some k) ≡ true → MayFound response
   founds_as lives within_limits on =
@@ -247,21 +266,25 @@ module _ {B : Type 0} {g : Ghosts B} (r : Rows B g) (x : ℕ) (response : Respon
         within_limits = within_limits;
       }
 
-  pub waits_as_reported : ∥ Stands r ∥₁ → ((p : Stands r) → (t : Tables) × Facts p.limits t × RowsStand p.limits r t) → is_some (get nat_eq r.consumers v.c) ≡ true → starts_anew k ≡ true → IsSomeAnd (get nat_eq r.consumers v.c) (IsInKey r.keys v.c)
+  pub waits_as_reported : ∥ Stands r ∥₁ → ((p : Stands r) → (t : Tables) × Facts p.limits t × RowsStand p.limits r t) →
+      is_some (get nat_eq r.consumers v.c) ≡ true → starts_anew k ≡ true → IsSomeAnd (get nat_eq r.consumers v.c) (IsInKey r.keys v.c)
   waits_as_reported some_past past lives on =
       let u = some_row (get nat_eq r.consumers v.c) lives in
       some_that (get nat_eq r.consumers v.c) u.0 (IsInKey r.keys v.c) u.1
       (merely_true (is_in v.c (line_of r.keys u.0.request.key)) some_past
       (λ p. (let s = past p in waits_reported r s.0 s.1 s.2 x v.c bare.o bare.there bare.headless for_c response k reports_as on u.0 u.1)))
 
-  pub reported_as : {limits : Limits} (t : Tables) (facts : Facts limits t) (stands : RowsStand limits r t) (d : Bool) (goes : Option ℕ) → ((q : Open) → (table_of r.exchanges x).running ≡ Some q → d ≡ (is_past_case k && changes_by q.request response)) → d ≡ false
-      → ((q : Open) → (table_of r.exchanges x).running ≡ Some q → goes ≡ let_go_by (kept_of r.keys q.request.key).current aim response.status k) → (k ≡ case.NotValidated → ⊥) → Reported t x response k goes
+  pub reported_as : {limits : Limits} (t : Tables) (facts : Facts limits t) (stands : RowsStand limits r t) (d : Bool) (goes : Option ℕ) →
+      ((q : Open) → (table_of r.exchanges x).running ≡ Some q → d ≡ (is_past_case k && changes_by q.request response)) → d ≡ false
+      → ((q : Open) → (table_of r.exchanges x).running ≡ Some q → goes ≡ let_go_by (kept_of r.keys q.request.key).current aim response.status k) →
+      (k ≡ case.NotValidated → ⊥) → Reported t x response k goes
   reported_as t facts stands d goes dooms off goes_is apart =
       reported_of r t facts stands x v.c bare.o bare.there bare.headless for_c response k reports_as apart goes (sym (dooms bare.o bare.there) ∙ off)
       (goes_is bare.o bare.there ∙ ap (λ (a : Option ℕ). let_go_by (kept_of r.keys bare.o.request.key).current a response.status k) aim_as)
 
   -- where it may select what is stored
-  pub reported_unselected : {limits : Limits} (t : Tables) (facts : Facts limits t) (stands : RowsStand limits r t) → k ≡ case.NotValidated → ReportedUnselected t x response aim
+  pub reported_unselected : {limits : Limits} (t : Tables) (facts : Facts limits t) (stands : RowsStand limits r t) → k ≡ case.NotValidated →
+      ReportedUnselected t x response aim
   reported_unselected t facts stands is_k =
       let e = h r t facts stands x v.c bare.o bare.there bare.headless for_c response k reports_as in
       let its = here r t facts stands x v.c bare.o bare.there bare.headless for_c response k reports_as in
@@ -270,12 +293,14 @@ module _ {B : Type 0} {g : Ghosts B} (r : Rows B g) (x : ℕ) (response : Respon
       record {
         w = e.w;
         row = e.row;
-        about = aim_as ∙ aim_is r t facts stands x e.w e.asked bare.o bare.there response route.Turn (it_is (head_view t false e.w response) unselected).0 turn_direct;
+        about = aim_as ∙ aim_is r t facts stands x e.w e.asked bare.o bare.there response route.Turn (it_is (head_view t false e.w response) unselected).0
+            turn_direct;
         is = unselected;
       }
 
   -- where it dooms
-  module _ (d : Bool) (dooms : (q : Open) → (table_of r.exchanges x).running ≡ Some q → d ≡ (is_past_case k && changes_by q.request response)) (on : d ≡ true) where
+  module _ (d : Bool) (dooms : (q : Open) → (table_of r.exchanges x).running ≡ Some q → d ≡ (is_past_case k && changes_by q.request response))
+      (on : d ≡ true) where
     parts : ((is_past_case k ≡ true) × (changes_by bare.o.request response ≡ true))
     parts = both_of (is_past_case k) (changes_by bare.o.request response) (sym (dooms bare.o bare.there) ∙ on)
 
@@ -307,10 +332,12 @@ downs_none t w response k on = grind (arith, nat_tests)
 pub down_case : (k : HeadCase) → (k ≡ case.DirectBad) ⊎ ((k ≡ case.TurnBad) ⊎ (k ≡ case.FirstBad)) → puts_down k ≡ true
 down_case k it1 = grind (arith, nat_tests)
 
-pub past_case : (k : HeadCase) → (k ≡ case.TurnServerError) ⊎ ((k ≡ case.PassesBy) ⊎ ((k ≡ case.FirstServerError) ⊎ (k ≡ case.FirstPassesBy))) → goes_past k ≡ true
+pub past_case : (k : HeadCase) → (k ≡ case.TurnServerError) ⊎ ((k ≡ case.PassesBy) ⊎ ((k ≡ case.FirstServerError) ⊎ (k ≡ case.FirstPassesBy))) →
+    goes_past k ≡ true
 past_case k it1 = grind (arith, nat_tests)
 
-pub good_past : (k : HeadCase) → (k ≡ case.TurnServerError) ⊎ ((k ≡ case.PassesBy) ⊎ ((k ≡ case.FirstServerError) ⊎ (k ≡ case.FirstPassesBy))) → is_bad_case k ≡ false
+pub good_past : (k : HeadCase) → (k ≡ case.TurnServerError) ⊎ ((k ≡ case.PassesBy) ⊎ ((k ≡ case.FirstServerError) ⊎ (k ≡ case.FirstPassesBy))) →
+    is_bad_case k ≡ false
 good_past k it1 = grind (arith, nat_tests)
 
 pub anew_case : (k : HeadCase) → (k ≡ case.NotValidated) ⊎ (k ≡ case.FirstChanged) → starts_anew k ≡ true
@@ -322,7 +349,9 @@ pub past_of_runs : {B : Type 0} {g : Ghosts B} (r : Rows B g) (s : Stands r) →
 past_of_runs r s = (s.t, s.facts, s.rows)
 
 -- its consumer is kept
-pub live_now : {B : Type 0} {g : Ghosts B} (r : Rows B g) (x : ℕ) (found : Option ExchangeView) (v : ExchangeView) → head_refusal (option_map open_view (table_of r.exchanges x).running) ≡ None → found ≡ option_map (view_of x) (table_of r.exchanges x).running → found ≡ Some v → ∥ Stands r ∥₁
+pub live_now : {B : Type 0} {g : Ghosts B} (r : Rows B g) (x : ℕ) (found : Option ExchangeView) (v : ExchangeView) →
+    head_refusal (option_map open_view (table_of r.exchanges x).running) ≡ None → found ≡ option_map (view_of x) (table_of r.exchanges x).running →
+    found ≡ Some v → ∥ Stands r ∥₁
     → is_some (get nat_eq r.consumers v.c) ≡ true
 live_now r x found v accepted viewed some some_past =
     let bare = headless_of (table_of r.exchanges x).running accepted in
@@ -331,7 +360,9 @@ live_now r x found v accepted viewed some some_past =
     (λ p. (let s = past_of_runs r p in asker_lives r s.0 s.1 s.2 x bare.o bare.there bare.headless v.c (sym (ap (λ (z : ExchangeView). z.c) view_is))))
 
 -- its exchange is open without a head, for its consumer
-pub heard_now : {B : Type 0} {g : Ghosts B} (r : Rows B g) (now x : ℕ) (found : Option ExchangeView) (v : ExchangeView) → head_refusal (option_map open_view (table_of r.exchanges x).running) ≡ None → found ≡ option_map (view_of x) (table_of r.exchanges x).running → found ≡ Some v → ∥ Stands r ∥₁
+pub heard_now : {B : Type 0} {g : Ghosts B} (r : Rows B g) (now x : ℕ) (found : Option ExchangeView) (v : ExchangeView) →
+    head_refusal (option_map open_view (table_of r.exchanges x).running) ≡ None → found ≡ option_map (view_of x) (table_of r.exchanges x).running →
+    found ≡ Some v → ∥ Stands r ∥₁
     → MayCome r (record { now = now; x = x; c = v.c })
 heard_now r now x found v accepted viewed some some_past = record {
   stands = some_past;

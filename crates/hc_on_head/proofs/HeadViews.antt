@@ -41,7 +41,8 @@ request_ordered request None is = tt
 request_ordered request (Some asked) is = range_order request asked is
 
 -- what a consumer asks for is in order
-pub range_ordered : {B : Type 0} {g : Ghosts B} {limits : Limits} (r : Rows B g) (t : Tables) (c : ℕ) (k : Consumer) → get nat_eq r.consumers c ≡ Some k → RowsStand limits r t → IfSome k.class.range IsInOrder
+pub range_ordered : {B : Type 0} {g : Ghosts B} {limits : Limits} (r : Rows B g) (t : Tables) (c : ℕ) (k : Consumer) → get nat_eq r.consumers c ≡ Some k →
+    RowsStand limits r t → IfSome k.class.range IsInOrder
 unfolding class_of
 range_ordered r t c k at stands =
     let found = kept_row t k (t.consumer c) (subst (λ o. KeepsConsumer t o (t.consumer c)) at (stands.consumers c)) in
@@ -49,36 +50,43 @@ range_ordered r t c k at stands =
 
 -- THE HOLE
 
-pub joins_reported : (tag : Bool × List ℕ) (total : ℕ) (hole : Span) (response : Response) → hole_answer tag total hole response ≡ answer.Joins → joins tag total hole response ≡ true
+pub joins_reported : (tag : Bool × List ℕ) (total : ℕ) (hole : Span) (response : Response) → hole_answer tag total hole response ≡ answer.Joins →
+    joins tag total hole response ≡ true
 unfolding hole_answer
 joins_reported tag total hole response is = grind (arith, nat_tests)
 
-pub joins_not : (tag : Bool × List ℕ) (total : ℕ) (hole : Span) (response : Response) → (hole_answer tag total hole response ≡ answer.Joins → ⊥) → joins tag total hole response ≡ false
+pub joins_not : (tag : Bool × List ℕ) (total : ℕ) (hole : Span) (response : Response) → (hole_answer tag total hole response ≡ answer.Joins → ⊥) →
+    joins tag total hole response ≡ false
 unfolding hole_answer
 joins_not tag total hole response off = grind (arith, nat_tests)
 
 -- what is kept has this tag and this length
-pub joins_of_kept : (kept : Option Kept) (from to total : ℕ) (entry : EntryView) (tag : Tag) (response : Response) (b : Bool) → Some entry ≡ option_map view_of kept → Some tag.opaque ≡ tag_in kept → tag.weak ≡ false → entry.total ≡ Some total
+pub joins_of_kept : (kept : Option Kept) (from to total : ℕ) (entry : EntryView) (tag : Tag) (response : Response) (b : Bool) →
+    Some entry ≡ option_map view_of kept → Some tag.opaque ≡ tag_in kept → tag.weak ≡ false → entry.total ≡ Some total
     → joins (value_of tag) total (record { lo = from; hi = to }) response ≡ b → b ≡ joins_kept (need.Hole from to) kept response
 joins_of_kept kept from to total entry tag response b there tagged strong length is = grind (arith, nat_tests)
 
 -- at the hole of what is named
-pub joins_at : (s : Shelf) (n : Need) (aim : Option ℕ) (from to r : ℕ) (response : Response) (b : Bool) → n ≡ need.Hole from to → aim ≡ Some r → b ≡ joins_kept (need.Hole from to) (s.kept r) response → b ≡ joins_kept n (kept_at s aim) response
+pub joins_at : (s : Shelf) (n : Need) (aim : Option ℕ) (from to r : ℕ) (response : Response) (b : Bool) → n ≡ need.Hole from to → aim ≡ Some r →
+    b ≡ joins_kept (need.Hole from to) (s.kept r) response → b ≡ joins_kept n (kept_at s aim) response
 joins_at s n aim from to r response b hole named is = is ∙ ap₂ (λ (z : Need) (a : Option ℕ). joins_kept z (kept_at s a) response) (sym hole) (sym named)
 
 -- a part that is told ends within the whole
 within_text : (text : List ℕ) (first last total : ℕ) → content_range_in text ≡ Some (range.Part first last (Some total)) → (first ≤ last) × (last < total)
 within_text text first last total is = grind (arith, nat_tests, content_range_in-some)
 
-within_value : (o : Option (List ℕ)) (first last total : ℕ) → option_and_then content_range_in o ≡ Some (range.Part first last (Some total)) → (first ≤ last) × (last < total)
+within_value : (o : Option (List ℕ)) (first last total : ℕ) → option_and_then content_range_in o ≡ Some (range.Part first last (Some total)) →
+    (first ≤ last) × (last < total)
 within_value None first last total is = none_some _ is
 within_value (Some text) first last total is = within_text text first last total is
 
-pub part_within : (response : Response) (first last total : ℕ) → content_range_of response.fields ≡ Some (range.Part first last (Some total)) → (first ≤ last) × (last < total)
+pub part_within : (response : Response) (first last total : ℕ) → content_range_of response.fields ≡ Some (range.Part first last (Some total)) →
+    (first ≤ last) × (last < total)
 part_within response first last total is = within_value (only_of (values_of (codes "content-range") response.fields)) first last total is
 
 -- a hole where something came already isn't filled
-pub no_hole_left : (from to total : ℕ) (v : Representation) (response : Response) → v.head.total ≡ Some total → Covers v.body 0 total → ((p : ℕ) → from ≤ p → p < to → v.body p ≡ None) → joins_row (need.Hole from to) (Some v) response ≡ false
+pub no_hole_left : (from to total : ℕ) (v : Representation) (response : Response) → v.head.total ≡ Some total → Covers v.body 0 total →
+    ((p : ℕ) → from ≤ p → p < to → v.body p ≡ None) → joins_row (need.Hole from to) (Some v) response ≡ false
 no_hole_left from to total v response known came absent = by_test (joins_row (need.Hole from to) (Some v) response) refl
   where
     never : joins_row (need.Hole from to) (Some v) response ≡ true → ⊥
@@ -100,7 +108,8 @@ no_hole_left from to total v response known came absent = by_test (joins_row (ne
     by_test true at = absurd (never at)
 
 -- what is kept joins as what is stored does
-joins_same : (t : Tables) (r from to : ℕ) (e : Kept) (v : Representation) (response : Response) → IsEntry t r e v → ((p : ℕ) → from ≤ p → p < to → v.body p ≡ None) → joins_kept (need.Hole from to) (Some e) response ≡ joins_row (need.Hole from to) (Some v) response
+joins_same : (t : Tables) (r from to : ℕ) (e : Kept) (v : Representation) (response : Response) → IsEntry t r e v →
+    ((p : ℕ) → from ≤ p → p < to → v.body p ≡ None) → joins_kept (need.Hole from to) (Some e) response ≡ joins_row (need.Hole from to) (Some v) response
 joins_same t r from to e v response is absent = by_length is.length
   where
     hole : Span
@@ -121,7 +130,8 @@ joins_same t r from to e v response is absent = by_length is.length
 
 -- WHAT THE TABLES SAY
 
-module _ {B : Type 0} {g : Ghosts B} {limits : Limits} (r : Rows B g) (t : Tables) (facts : Facts limits t) (stands : RowsStand limits r t) (x : ℕ) (w : Exchange) (a : Asker r t x w) (o : Open) (running : (table_of r.exchanges x).running ≡ Some o) (response : Response) where
+module _ {B : Type 0} {g : Ghosts B} {limits : Limits} (r : Rows B g) (t : Tables) (facts : Facts limits t) (stands : RowsStand limits r t) (x : ℕ)
+    (w : Exchange) (a : Asker r t x w) (o : Open) (running : (table_of r.exchanges x).running ≡ Some o) (response : Response) where
   runs : IsRunning t x o w
   runs = runs_as r t x o w stands running a.awaits.row
 
@@ -152,14 +162,17 @@ module _ {B : Type 0} {g : Ghosts B} {limits : Limits} (r : Rows B g) (t : Table
 
       used : bound t q ≡ [] → ⊥
       unfolding bound
-      used none = filter_some (λ d. is_bound q (t.consumer d)) w.c t.starts (facts.law.sound.numbered.lists.started w.c (ap (λ z. is_some z) a.awaits.asker)) bound_here none
+      used none = filter_some (λ d. is_bound q (t.consumer d)) w.c t.starts
+          (facts.law.sound.numbered.lists.started w.c (ap (λ z. is_some z) a.awaits.asker)) bound_here none
 
-      by_kept : (e : Option Kept) (v : Option Representation) → t.representation q ≡ v → KeepsEntry t q e v → joins_kept (need.Hole from to) e response ≡ joins_row (need.Hole from to) v response
+      by_kept : (e : Option Kept) (v : Option Representation) → t.representation q ≡ v → KeepsEntry t q e v →
+          joins_kept (need.Hole from to) e response ≡ joins_row (need.Hole from to) v response
       by_kept None None there keeps = refl
       by_kept None (Some v) there keeps = absurd (used keeps.unused)
       by_kept (Some e) None there keeps = absurd keeps
       by_kept (Some e) (Some v) there keeps = joins_same t q from to e v response keeps
-          (λ p above below. facts.law.sound.waits.holes x w q v p a.awaits.row a.awaits.is_open a.awaits.headless aim there (subst (λ (z : Need). InHole z p) (sym is) (above, below)))
+          (λ p above below. facts.law.sound.waits.holes x w q v p a.awaits.row a.awaits.is_open a.awaits.headless aim there
+          (subst (λ (z : Need). InHole z p) (sym is) (above, below)))
 
       joined : joins_kept (need.Hole from to) kept response ≡ joins_row (need.Hole from to) (row_of t w.aim) response
       joined = grind (arith, nat_tests, kept_at, aim_kept, by_kept, row_of)
@@ -172,7 +185,8 @@ module _ {B : Type 0} {g : Ghosts B} {limits : Limits} (r : Rows B g) (t : Table
 
   fits_is : fits_to_found a.k.class.range response ≡ fits_asker (t.consumer w.c) response
   unfolding class_of
-  fits_is = ap (λ (z : RequestClass). fits_to_found z.range response) a.is.class_is ∙ sym (ap (λ (z : Option rows.Consumer). fits_asker z response) a.awaits.asker)
+  fits_is = ap (λ (z : RequestClass). fits_to_found z.range response) a.is.class_is ∙
+      sym (ap (λ (z : Option rows.Consumer). fits_asker z response) a.awaits.asker)
 
   -- but for whether a 304 selects what is stored
   abbrev pub unselected : HeadView

@@ -17,7 +17,9 @@ use Rattle.hc_state.proofs.{OneOfEach.{bound_same, first_by, growing_same, kind_
 use Rattle.hc_on_leave.proofs.FoundRows.{any_some}
 use Rattle.hc_sparse.specs.Cells.{Covers}
 
-module _ (t : Tables) (now x q : ℕ) (response : Response) (w : Exchange) (v : rows.Consumer) (p : Representation) (j : IsJoinable t x q w v p) (h : Head) (total : h.total ≡ p.head.total) (status : h.status ≡ p.head.status) (wr : Option ℕ) (own : Option ℕ) (apart : (y : ℕ) → x ≢ y → is_number own y ≡ false) where
+module _ (t : Tables) (now x q : ℕ) (response : Response) (w : Exchange) (v : rows.Consumer) (p : Representation) (j : IsJoinable t x q w v p) (h : Head)
+    (total : h.total ≡ p.head.total) (status : h.status ≡ p.head.status) (wr : Option ℕ) (own : Option ℕ)
+    (apart : (y : ℕ) → x ≢ y → is_number own y ≡ false) where
   abbrev m : Tables
   m = s t now x q response w v p j h total wr own apart
 
@@ -43,18 +45,29 @@ module _ (t : Tables) (now x q : ℕ) (response : Response) (w : Exchange) (v : 
   others_then : (shelf : Shelf) (n : ℕ) → q ≢ n → KeepsEntry t n (shelf.kept n) (t.representation n) → KeepsEntry m n (shelf.kept n) (m.representation n)
   others_then shelf n ne kept =
       subst (KeepsEntry m n (shelf.kept n)) (sym (representation_other t now x q response w v p j h total wr own apart n ne))
-      (entry_same t m n (shelf.kept n) (t.representation n) refl (record { users = users n; first = firsts n; list = lists n; kind = λ o there. kind_same t m n o (growing_same t m n refl (λ y. brings_else n y o ne there)); overs = overs }) kept)
+      (entry_same t m n (shelf.kept n) (t.representation n) refl
+      (record {
+        users = users n;
+        first = firsts n;
+        list = lists n;
+        kind =
+            λ o there. kind_same t m n o (growing_same t m n refl (λ y. brings_else n y o ne there));
+        overs = overs;
+      }) kept)
 
   -- more comes of it
   growing_now : is_reached (promise_in w response) 0 ≡ false → kind_of m q now_row ≡ kinds.Growing
   unfolding kind_of
   growing_now on =
-      let here : brings_to q x (m.exchange x) ≡ true = ap (brings_to q x) (exchange_here t now x q response w v p j h total wr own apart) ∙ (let opened = j.is_open in rw (on, opened) (eqb-same q)) in
+      let here : brings_to q x (m.exchange x) ≡ true = ap (brings_to q x) (exchange_here t now x q response w v p j h total wr own apart) ∙
+      (let opened = j.is_open in rw (on, opened) (eqb-same q)) in
       let grows : is_growing m q ≡ true = any_some (λ y. brings_to q y (m.exchange y)) x t.openings j.listed here in
       rw grows refl
 
   -- where its head tells that
-  pub entry_growing : (e : Kept) (k : Head) (writer : Option ℕ) → IsEntry t q e p → is_reached (promise_in w response) 0 ≡ false → sealed_head kinds.Growing h.total k ≡ h → k.total ≡ e.head.total → k.kind ≡ kinds.Growing → KnowsWriter t.exchange writer wr → IsEntry m q (record e { head = k; writer = writer }) now_row
+  pub entry_growing : (e : Kept) (k : Head) (writer : Option ℕ) → IsEntry t q e p → is_reached (promise_in w response) 0 ≡ false →
+      sealed_head kinds.Growing h.total k ≡ h → k.total ≡ e.head.total → k.kind ≡ kinds.Growing → KnowsWriter t.exchange writer wr →
+      IsEntry m q (record e { head = k; writer = writer }) now_row
   unfolding bound
   entry_growing e k writer is on sealed reported_as kind_is by =
       let whole : (n : ℕ) → k.kind ≡ kinds.Whole → k.total ≡ Some n → Covers p.stored 0 n = λ n whole known. cc in
@@ -72,7 +85,16 @@ module _ (t : Tables) (now x q : ℕ) (response : Response) (w : Exchange) (v : 
     where
       by_length : KnowsLength e p → KnowsLength (record e { head = k; writer = writer }) now_row
       by_length (reported same) = reported (reported_as ∙ (same ∙ sym total))
-      by_length (unreported u) = unreported (record { gone = u.gone; unreported = reported_as ∙ u.unreported; total = u.total; known = total ∙ u.known; came = u.came; first = u.first })
+      by_length (unreported u) =
+          unreported (record {
+            gone = u.gone;
+            unreported = reported_as ∙ u.unreported;
+            total = u.total;
+            known = total ∙ u.known;
+            came = u.came;
+            first =
+                u.first;
+          })
 
   -- what is gone tells as before
   pub entry_gone : (e : Kept) → IsEntry t q e p → p.is_gone ≡ true → h ≡ p.head → wr ≡ p.writer → IsEntry m q e now_row
@@ -92,14 +114,20 @@ module _ (t : Tables) (now x q : ℕ) (response : Response) (w : Exchange) (v : 
     where
       by_length : KnowsLength e p → KnowsLength e now_row
       by_length (reported known) = reported (known ∙ sym total)
-      by_length (unreported u) = unreported (record { gone = u.gone; unreported = u.unreported; total = u.total; known = total ∙ u.known; came = u.came; first = u.first })
+      by_length (unreported u) =
+          unreported (record { gone = u.gone; unreported = u.unreported; total = u.total; known = total ∙ u.known; came = u.came; first = u.first })
 
   -- all of them
-  pub entries_joined : (a b : Shelf) (e : Kept) → KeepsEntries t a → b.order ≡ a.order → ((n : ℕ) → q ≢ n → b.kept n ≡ a.kept n) → b.kept q ≡ Some e → IsEntry m q e now_row → KeepsEntries m b
+  pub entries_joined : (a b : Shelf) (e : Kept) → KeepsEntries t a → b.order ≡ a.order → ((n : ℕ) → q ≢ n → b.kept n ≡ a.kept n) → b.kept q ≡ Some e →
+      IsEntry m q e now_row → KeepsEntries m b
   entries_joined a b e kept order others at is = record {
     each = λ n. elim (same_or q n) [
-      | inl same ↦ subst (λ (k : ℕ). KeepsEntry m k (b.kept k) (m.representation k)) same (subst (λ (o : Option Kept). KeepsEntry m q o (m.representation q)) (sym at) (subst (KeepsEntry m q (Some e)) (sym (representation_here t now x q response w v p j h total wr own apart)) is))
+      | inl same ↦ subst (λ (k : ℕ). KeepsEntry m k (b.kept k) (m.representation k)) same
+          (subst (λ (o : Option Kept). KeepsEntry m q o (m.representation q)) (sym at)
+          (subst (KeepsEntry m q (Some e)) (sym (representation_here t now x q response w v p j h total wr own apart)) is))
       | inr ne ↦ subst (λ (o : Option Kept). KeepsEntry m n o (m.representation n)) (sym (others n ne)) (others_then a n ne (kept.each n))
     ];
-    order = order ∙ (kept.order ∙ sym (filters_same (λ n. is_usable_row (t.representation n)) (λ n. is_usable_row (m.representation n)) (reported_representation t now x q response w v p j h total wr own apart is_usable_row refl) t.used));
+    order = order ∙ (kept.order ∙
+        sym (filters_same (λ n. is_usable_row (t.representation n)) (λ n. is_usable_row (m.representation n))
+        (reported_representation t now x q response w v p j h total wr own apart is_usable_row refl) t.used));
   }

@@ -36,13 +36,18 @@ stays_at m n c k same there = record {
 }
 
 -- a consumer and a representation that stay may be named
-pub named_rows : (t : Tables) (now x c q : ℕ) (response : Response) (o : Option ℕ) (w : Exchange) (v : rows.Consumer) (p : Representation) → t.consumer c ≡ Some v → t.representation q ≡ Some p → with_consumer c (Some v) (with_answer now x response o w (with_representation q (Some p) t)) ≡ with_answer now x response o w t
+pub named_rows : (t : Tables) (now x c q : ℕ) (response : Response) (o : Option ℕ) (w : Exchange) (v : rows.Consumer) (p : Representation) →
+    t.consumer c ≡ Some v → t.representation q ≡ Some p →
+    with_consumer c (Some v) (with_answer now x response o w (with_representation q (Some p) t)) ≡ with_answer now x response o w t
 named_rows t now x c q response o w v p consumer representation = grind (arith, nat_tests)
 
 -- ITS ROWS THEN
 
-module _ {B : Type 0} {g : Ghosts B} {limits : Limits} (r u : Rows B g) (m : Tables) (now x q c : ℕ) (response : Response) (w : Exchange) (v : rows.Consumer) (p : Representation) (j : IsJoinable m x q w v p) (k : Consumer) (o : Open) (e : Kept) (stands : RowsStand limits r m) (for_it : w.c ≡ c) (there : get nat_eq r.consumers w.c ≡ Some k)
-    (running : (table_of r.exchanges x).running ≡ Some o) (on : is_reached (promise_in w response) 0 ≡ false) (kept : (shelf_of r.entries).kept q ≡ Some e) where
+module _ {B : Type 0} {g : Ghosts B} {limits : Limits} (r u : Rows B g) (m : Tables) (now x q c : ℕ) (response : Response) (w : Exchange)
+    (v : rows.Consumer) (p : Representation) (j : IsJoinable m x q w v p) (k : Consumer) (o : Open) (e : Kept) (stands : RowsStand limits r m)
+    (for_it : w.c ≡ c) (there : get nat_eq r.consumers w.c ≡ Some k)
+    (running : (table_of r.exchanges x).running ≡ Some o) (on : is_reached (promise_in w response) 0 ≡ false)
+    (kept : (shelf_of r.entries).kept q ≡ Some e) where
   is : IsEntry m q e p
   is = subst (λ (n : Option Kept). KeepsEntry m q n (Some p)) kept (subst (KeepsEntry m q ((shelf_of r.entries).kept q)) j.there (stands.entries.each q))
 
@@ -59,8 +64,10 @@ module _ {B : Type 0} {g : Ghosts B} {limits : Limits} (r u : Rows B g) (m : Tab
       subst (RowsStand limits u) (named_rows m now x w.c q response (Some q) w v p j.asker j.there)
       (stands_joined m now x q response w v p j p.head refl p.writer v.own own_apart r u k o stands there running on
       (ap (λ z. (shelf_of z).limits) brings.entries ∙ stands.limits) brings.last_start
-      (subst (λ (n : Option ℕ). BecomesAt r.consumers u.consumers w.c (Some (record k { own = n }))) its.own (stays_at r.consumers u.consumers w.c k brings.consumers there))
-      (known_of (get nat_eq r.consumers w.c) k _ there (subst (λ (d : ℕ). IsSomeAnd (get nat_eq r.consumers d) (λ n. LeavesKey d n.request.key r.keys u.keys)) (sym for_it) brings.line))
+      (subst (λ (n : Option ℕ). BecomesAt r.consumers u.consumers w.c (Some (record k { own = n }))) its.own
+      (stays_at r.consumers u.consumers w.c k brings.consumers there))
+      (known_of (get nat_eq r.consumers w.c) k _ there
+      (subst (λ (d : ℕ). IsSomeAnd (get nat_eq r.consumers d) (λ n. LeavesKey d n.request.key r.keys u.keys)) (sym for_it) brings.line))
       brings.exchanges
       (entries_joined m now x q response w v p j p.head refl refl p.writer v.own own_apart (shelf_of r.entries) (shelf_of u.entries) e stands.entries
       (ap (λ z. (shelf_of z).order) brings.entries) (λ n ne. ap (λ z. (shelf_of z).kept n) brings.entries) (ap (λ z. (shelf_of z).kept q) brings.entries ∙ kept)
@@ -83,7 +90,8 @@ module _ {B : Type 0} {g : Ghosts B} {limits : Limits} (r u : Rows B g) (m : Tab
   module _ (mid brought : Rows B g) (grows : IsGrowing r mid x now q response) (brings : Brings mid brought c x q response) where
     its_line : LeavesKey w.c k.request.key r.keys brought.keys
     its_line =
-        let line : IsSomeAnd (get nat_eq mid.consumers w.c) (λ n. LeavesKey w.c n.request.key mid.keys brought.keys) = subst (λ (d : ℕ). IsSomeAnd (get nat_eq mid.consumers d) (λ n. LeavesKey d n.request.key mid.keys brought.keys)) (sym for_it) brings.line in
+        let line : IsSomeAnd (get nat_eq mid.consumers w.c) (λ n. LeavesKey w.c n.request.key mid.keys brought.keys) =
+        subst (λ (d : ℕ). IsSomeAnd (get nat_eq mid.consumers d) (λ n. LeavesKey d n.request.key mid.keys brought.keys)) (sym for_it) brings.line in
         subst (λ z. LeavesKey w.c k.request.key z brought.keys) grows.rest.keys
         (known_of (get nat_eq mid.consumers w.c) k _ (ap (λ z. get nat_eq z w.c) grows.rest.consumers ∙ there) line)
 
@@ -93,7 +101,8 @@ module _ {B : Type 0} {g : Ghosts B} {limits : Limits} (r u : Rows B g) (m : Tab
     its_shelf : shelf.Becomes (option_map (with_head news)) same_order q (shelf_of r.entries) (shelf_of brought.entries)
     its_shelf =
         subst (λ z. shelf.Becomes (option_map (with_head news)) same_order q (shelf_of r.entries) (shelf_of z)) (sym brings.entries)
-        (subst (λ (n : ℕ). shelf.Becomes (option_map (with_head (renewed_head n now response.fields (growing e.head)))) same_order q (shelf_of r.entries) (shelf_of mid.entries)) moment_is (grows.head o e running kept))
+        (subst (λ (n : ℕ). shelf.Becomes (option_map (with_head (renewed_head n now response.fields (growing e.head)))) same_order q (shelf_of r.entries)
+        (shelf_of mid.entries)) moment_is (grows.head o e running kept))
 
     kept_then : (shelf_of brought.entries).kept q ≡ Some (with_head news e)
     kept_then = its_shelf.kept q ∙ rw (eqb-same q, kept) refl
@@ -102,31 +111,43 @@ module _ {B : Type 0} {g : Ghosts B} {limits : Limits} (r u : Rows B g) (m : Tab
     others_then n ne = its_shelf.kept n ∙ rw (eqb-other q n ne) refl
 
     -- its consumer reads it alone
-    pub stands_alone : RowsStand limits brought (with_consumer w.c (Some (record v { own = v.own })) (with_answer now x response (Some q) w (with_representation q (Some (record p { head = h; writer = p.writer })) m)))
+    pub stands_alone : RowsStand limits brought
+        (with_consumer w.c (Some (record v { own = v.own }))
+        (with_answer now x response (Some q) w (with_representation q (Some (record p { head = h; writer = p.writer })) m)))
     stands_alone =
         stands_joined m now x q response w v p j h refl p.writer v.own own_apart r brought k o stands there running on
         (its_shelf.limits ∙ stands.limits) (brings.last_start ∙ grows.rest.last_start)
-        (subst (λ (n : Option ℕ). BecomesAt r.consumers brought.consumers w.c (Some (record k { own = n }))) its.own (stays_at r.consumers brought.consumers w.c k (brings.consumers ∙ grows.rest.consumers) there))
+        (subst (λ (n : Option ℕ). BecomesAt r.consumers brought.consumers w.c (Some (record k { own = n }))) its.own
+        (stays_at r.consumers brought.consumers w.c k (brings.consumers ∙ grows.rest.consumers) there))
         its_line its_exchange
-        (entries_joined m now x q response w v p j h refl refl p.writer v.own own_apart (shelf_of r.entries) (shelf_of brought.entries) (with_head news e) stands.entries its_shelf.order others_then kept_then
+        (entries_joined m now x q response w v p j h refl refl p.writer v.own own_apart (shelf_of r.entries) (shelf_of brought.entries) (with_head news e)
+        stands.entries its_shelf.order others_then kept_then
         (entry_growing m now x q response w v p j h refl refl p.writer v.own own_apart e news e.writer is on reported_so refl refl is.writer))
 
     -- others may
-    pub stands_shared : Shares brought u c x q → RowsStand limits u (with_consumer w.c (Some (record v { own = None })) (with_answer now x response (Some q) w (with_representation q (Some (record p { head = h; writer = Some x })) m)))
+    pub stands_shared : Shares brought u c x q →
+        RowsStand limits u (with_consumer w.c (Some (record v { own = None }))
+        (with_answer now x response (Some q) w (with_representation q (Some (record p { head = h; writer = Some x })) m)))
     stands_shared shares =
         stands_joined m now x q response w v p j h refl (Some x) None (λ y ne. refl) r u k o stands there running on
         (shares.entries.limits ∙ (its_shelf.limits ∙ stands.limits)) (shares.last_start ∙ (brings.last_start ∙ grows.rest.last_start))
-        (becomes_by r.consumers u.consumers w.c k without_own there (subst (λ (d : ℕ). ChangesAt r.consumers u.consumers d without_own) (sym for_it) (subst (λ z. ChangesAt z u.consumers c without_own) (brings.consumers ∙ grows.rest.consumers) shares.consumers)))
+        (becomes_by r.consumers u.consumers w.c k without_own there
+        (subst (λ (d : ℕ). ChangesAt r.consumers u.consumers d without_own) (sym for_it)
+        (subst (λ z. ChangesAt z u.consumers c without_own) (brings.consumers ∙ grows.rest.consumers) shares.consumers)))
         (subst (λ z. LeavesKey w.c k.request.key r.keys z) (sym shares.keys) its_line)
         (subst (λ z. exch.Becomes (bringing q response) x r.exchanges z) (sym shares.exchanges) its_exchange)
-        (entries_joined m now x q response w v p j h refl refl (Some x) None (λ y ne. refl) (shelf_of r.entries) (shelf_of u.entries) (written_by x (with_head news e)) stands.entries (shares.entries.order ∙ its_shelf.order)
+        (entries_joined m now x q response w v p j h refl refl (Some x) None (λ y ne. refl) (shelf_of r.entries) (shelf_of u.entries)
+        (written_by x (with_head news e)) stands.entries (shares.entries.order ∙ its_shelf.order)
         (λ n ne. shares.entries.kept n ∙ (rw (eqb-other q n ne) (others_then n ne)))
         (shares.entries.kept q ∙ rw (eqb-same q) (ap (option_map (written_by x)) kept_then))
         (entry_growing m now x q response w v p j h refl refl (Some x) None (λ y ne. refl) e news (Some x) is on reported_so refl refl (as_written refl)))
 
 -- IT IS ANSWERED
 
-module _ {B : Type 0} {g : Ghosts B} {limits : Limits} (r u : Rows B g) (t : Tables) (facts : Facts limits t) (now x : ℕ) (response : Response) (goes : denial t (event.Head x response) ≡ None) (w : Exchange) (a : Asker r t x w) (case : HeadCase) (how : Joins case) (is : head_case (head_view t false w response) ≡ case) (q : ℕ) (aim : w.aim ≡ Some q) (p : Representation) (there : t.representation q ≡ Some p) (before : List Act) where
+module _ {B : Type 0} {g : Ghosts B} {limits : Limits} (r u : Rows B g) (t : Tables) (facts : Facts limits t) (now x : ℕ) (response : Response)
+    (goes : denial t (event.Head x response) ≡ None) (w : Exchange) (a : Asker r t x w) (case : HeadCase) (how : Joins case)
+    (is : head_case (head_view t false w response) ≡ case) (q : ℕ) (aim : w.aim ≡ Some q) (p : Representation) (there : t.representation q ≡ Some p)
+    (before : List Act) where
   abbrev ev : Event
   ev = event.Head x response
 
@@ -142,20 +163,26 @@ module _ {B : Type 0} {g : Ghosts B} {limits : Limits} (r u : Rows B g) (t : Tab
   founds_none = not_founding case (on_joins how)
 
   -- as before, where it was lost
-  pub past_answered : p.is_lost ≡ true → RowsStand limits u (with_answer now x response (Some q) w t) → Answered limits (shelf_of r.entries).faults u t before before now ev
+  pub past_answered : p.is_lost ≡ true → RowsStand limits u (with_answer now x response (Some q) w t) →
+      Answered limits (shelf_of r.entries).faults u t before before now ev
   past_answered lost stood =
       does_answered limits (shelf_of r.entries).faults u t (with_event now ev (with_answer now x response (Some q) w t)) before before [] now ev
-      (does.joins_past limits t facts.law now x response goes w a.awaits.row a.v a.awaits.asker q p aim there case (as_model how) is lost) (unwritten t now x response w case a.awaits.row is founds_none) refl (sym (append-nil before))
+      (does.joins_past limits t facts.law now x response goes w a.awaits.row a.v a.awaits.asker q p aim there case (as_model how) is lost)
+      (unwritten t now x response w case a.awaits.row is founds_none) refl (sym (append-nil before))
       (stands_counted u _ now ev refl stood)
 
   -- updated
   abbrev after : Bool → Tables
-  after b = with_consumer w.c (Some (record a.v { own = if b then None else a.v.own })) (with_answer now x response (Some q) w (with_representation q (Some (record p { head = updated_head now response w p.head; writer = if b then Some x else p.writer })) t))
+  after b = with_consumer w.c (Some (record a.v { own = if b then None else a.v.own }))
+      (with_answer now x response (Some q) w
+      (with_representation q (Some (record p { head = updated_head now response w p.head; writer = if b then Some x else p.writer })) t))
 
-  pub joins_answered : p.is_lost ≡ false → (b : Bool) → b ≡ resumes t response w p → RowsStand limits u (after b) → (faults : ℕ) → Answered limits faults u t before before now ev
+  pub joins_answered : p.is_lost ≡ false → (b : Bool) → b ≡ resumes t response w p → RowsStand limits u (after b) → (faults : ℕ) →
+      Answered limits faults u t before before now ev
   joins_answered kept b same stood faults =
       does_answered limits faults u t (with_event now ev (after (resumes t response w p))) before before [] now ev
-      (does.joins limits t facts.law now x response goes w a.awaits.row a.v a.awaits.asker q p aim there case (as_model how) is kept) (unwritten t now x response w case a.awaits.row is founds_none) refl (sym (append-nil before))
+      (does.joins limits t facts.law now x response goes w a.awaits.row a.v a.awaits.asker q p aim there case (as_model how) is kept)
+      (unwritten t now x response w case a.awaits.row is founds_none) refl (sym (append-nil before))
       (stands_counted u _ now ev refl (subst (λ (n : Bool). RowsStand limits u (after n)) same stood))
 
   -- lost
@@ -165,9 +192,12 @@ module _ {B : Type 0} {g : Ghosts B} {limits : Limits} (r u : Rows B g) (t : Tab
       let e = entry_of limits t now ev (Loses q kind.Fault) in
       let k = head_case (head_view t (has_loss (lossless e).acts) w response) in
       let is_it : case_at t (lossless e) ≡ Some k = case_is t (lossless e) x response w refl a.awaits.row in
-      let joins : is_joining (Some k) ≡ true = joins_again t false (has_loss (lossless e).acts) w response (head_case (head_view t false w response)) (case_by (head_view t false w response)) (ap (λ z. is_joining (Some z)) is ∙ on_joins how) in
+      let joins : is_joining (Some k) ≡ true = joins_again
+      t false (has_loss (lossless e).acts) w response (head_case (head_view t false w response)) (case_by (head_view t false w response))
+      (ap (λ z. is_joining (Some z)) is ∙ on_joins how) in
       ap (head_writes t (lossless e) x response) a.awaits.row
-      ∙ (by_tests (is_founding (case_at t (lossless e))) (may_validate t w response) (is_joining (case_at t (lossless e))) (ap is_founding is_it ∙ not_founding k joins) (ap is_joining is_it ∙ joins) ∙ aim)
+      ∙ (by_tests (is_founding (case_at t (lossless e))) (may_validate t w response) (is_joining (case_at t (lossless e)))
+      (ap is_founding is_it ∙ not_founding k joins) (ap is_joining is_it ∙ joins) ∙ aim)
     where
       by_tests : (f m j : Bool) → f ≡ false → j ≡ true → (if f then Some x else if m || j then w.aim else None) ≡ w.aim
       by_tests false true j off on = refl
@@ -181,11 +211,19 @@ module _ {B : Type 0} {g : Ghosts B} {limits : Limits} (r u : Rows B g) (t : Tab
   pub holds_alone : p.is_lost ≡ false → (c : ℕ) → w.c ≡ c → HoldsNothing t q p (Some c)
   holds_alone kept c for_it = subst (λ (o : Option ℕ). HoldsNothing t q p o) (alone kept ∙ ap Some for_it) (holds_none limits t facts q p there kept)
 
-  pub lost_answered : p.is_lost ≡ false → (c : ℕ) → w.c ≡ c → (faults : ℕ) (out : List Act) → out ≡ before ++ (act.Lost q kind.Fault ∷ []) → faults < (shelf_of u.entries).faults → RowsStand limits u (with_answer now x response (Some q) w (let_go now q (with_representation q (Some (lost_to (Some c) p)) t))) → Answered limits faults u t before out now ev
+  pub lost_answered : p.is_lost ≡ false → (c : ℕ) → w.c ≡ c → (faults : ℕ) (out : List Act) → out ≡ before ++ (act.Lost q kind.Fault ∷ []) →
+      faults < (shelf_of u.entries).faults →
+      RowsStand limits u (with_answer now x response (Some q) w (let_go now q (with_representation q (Some (lost_to (Some c) p)) t))) →
+      Answered limits faults u t before out now ev
   lost_answered kept c for_it faults out reported failed stood =
-      lossy_answered limits faults u t (with_event now ev (let_go now q (with_answer now x response (Some q) w (with_representation q (Some (lost_to (exclusive t q p) p)) t)))) before out (act.Lost q kind.Fault ∷ []) now ev q
-      (does.joins_lost limits t facts.law now x response goes w a.awaits.row a.v a.awaits.asker q p aim there case (as_model how) kind.Fault kept (joins_lost_too (head_view t false w response) case how is)) writes_it (ap is_kept there ∙ ap not kept) refl failed reported
-      (stands_counted u _ now ev refl (subst (λ (o : Option ℕ). RowsStand limits u (let_go now q (with_answer now x response (Some q) w (with_representation q (Some (lost_to o p)) t)))) (sym (alone kept ∙ ap Some for_it)) stood))
+      lossy_answered limits faults u t
+      (with_event now ev (let_go now q (with_answer now x response (Some q) w (with_representation q (Some (lost_to (exclusive t q p) p)) t)))) before out
+      (act.Lost q kind.Fault ∷ []) now ev q
+      (does.joins_lost limits t facts.law now x response goes w a.awaits.row a.v a.awaits.asker q p aim there case (as_model how) kind.Fault kept
+      (joins_lost_too (head_view t false w response) case how is)) writes_it (ap is_kept there ∙ ap not kept) refl failed reported
+      (stands_counted u _ now ev refl
+      (subst (λ (o : Option ℕ). RowsStand limits u (let_go now q (with_answer now x response (Some q) w (with_representation q (Some (lost_to o p)) t))))
+      (sym (alone kept ∙ ap Some for_it)) stood))
 
 -- BY WHAT THE CODE LOOKED UP
 
@@ -206,8 +244,11 @@ pub record IsJoin {B : Type 0} {g : Ghosts B} (r : Rows B g) (t : Tables) (x c q
   pub reported : e.head.total ≡ p.head.total
   pub hole : (from : ℕ) × (to : ℕ) × (w.need ≡ need.Hole from to)
 
-pub join_of : {B : Type 0} {g : Ghosts B} {limits : Limits} (r : Rows B g) (t : Tables) (facts : Facts limits t) (stands : RowsStand limits r t) (now x c q : ℕ) (response : Response) (w : Exchange) (row : t.exchange x ≡ Some w) (k : HeadCase) → joins_hole k ≡ true → denial t (event.Head x response) ≡ None → head_case (head_view t false w response) ≡ k
-    → head_refusal (open_at r x) ≡ None → IsAskedBy c (table_of r.exchanges x).running → IsAbout q (table_of r.exchanges x).running → shelf.is_kept (shelf_of r.entries) q ≡ true → IsJoin r t x c q response w
+pub join_of : {B : Type 0} {g : Ghosts B} {limits : Limits} (r : Rows B g) (t : Tables) (facts : Facts limits t) (stands : RowsStand limits r t)
+    (now x c q : ℕ) (response : Response) (w : Exchange) (row : t.exchange x ≡ Some w) (k : HeadCase) → joins_hole k ≡ true →
+    denial t (event.Head x response) ≡ None → head_case (head_view t false w response) ≡ k
+    → head_refusal (open_at r x) ≡ None → IsAskedBy c (table_of r.exchanges x).running → IsAbout q (table_of r.exchanges x).running →
+    shelf.is_kept (shelf_of r.entries) q ≡ true → IsJoin r t x c q response w
 join_of r t facts stands now x c q response w row k joins goes is accepted asks opens kept =
     let a = asker_of r t facts now x response w stands goes row in
     let h = headless_of (table_of r.exchanges x).running accepted in
@@ -237,14 +278,18 @@ some_still : (q : ℕ) (old new : Option Kept) (f : Kept → Kept) (e : Kept) �
 some_still q old new f e becomes at = grind (arith, nat_tests)
 
 -- what is renewed is kept still
-pub kept_growing : {B : Type 0} {g : Ghosts B} (r mid brought : Rows B g) (now x q : ℕ) (response : Response) → head_refusal (open_at r x) ≡ None → shelf.is_kept (shelf_of r.entries) q ≡ true → IsGrowing r mid x now q response → brought.entries ≡ mid.entries → shelf.is_kept (shelf_of brought.entries) q ≡ true
+pub kept_growing : {B : Type 0} {g : Ghosts B} (r mid brought : Rows B g) (now x q : ℕ) (response : Response) → head_refusal (open_at r x) ≡ None →
+    shelf.is_kept (shelf_of r.entries) q ≡ true → IsGrowing r mid x now q response → brought.entries ≡ mid.entries →
+    shelf.is_kept (shelf_of brought.entries) q ≡ true
 kept_growing r mid brought now x q response accepted kept grows same =
     let h = headless_of (table_of r.exchanges x).running accepted in
     grind (arith, nat_tests)
 
 -- WHERE IT IS LOST
 
-module _ {B : Type 0} {g : Ghosts B} (l u : Rows B g) (t : Tables) (law : Lawful t) (now x q c : ℕ) (response : Response) (w : Exchange) (v : rows.Consumer) (p : Representation) (j : IsJoinable t x q w v p) (alone : Option ℕ) (for_it : w.c ≡ c) (o : Open) (running : (table_of l.exchanges x).running ≡ Some o) (on : is_reached (promise_in w response) 0 ≡ false) where
+module _ {B : Type 0} {g : Ghosts B} (l u : Rows B g) (t : Tables) (law : Lawful t) (now x q c : ℕ) (response : Response) (w : Exchange)
+    (v : rows.Consumer) (p : Representation) (j : IsJoinable t x q w v p) (alone : Option ℕ) (for_it : w.c ≡ c) (o : Open)
+    (running : (table_of l.exchanges x).running ≡ Some o) (on : is_reached (promise_in w response) 0 ≡ false) where
   abbrev m : Tables
   m = let_go now q (with_representation q (Some (lost_to alone p)) t)
 

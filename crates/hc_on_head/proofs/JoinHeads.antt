@@ -23,7 +23,8 @@ unkept : (n : Need) (response : Response) → joins_kept n None response ≡ tru
 unkept need.Disabled response on = false_true on
 unkept _ response on = false_true on
 
-joins_aim : (s : Shelf) (n : Need) (aim : Option ℕ) (response : Response) → joins_kept n (kept_at s aim) response ≡ true → IsSomeAnd aim (λ q. is_kept s q ≡ true)
+joins_aim : (s : Shelf) (n : Need) (aim : Option ℕ) (response : Response) → joins_kept n (kept_at s aim) response ≡ true →
+    IsSomeAnd aim (λ q. is_kept s q ≡ true)
 joins_aim s n aim response on = grind (arith, nat_tests)
 
 joins_by_case : (v : HeadView) (k : HeadCase) → CaseBy v k → joins_hole k ≡ true → v.joins ≡ true
@@ -37,7 +38,9 @@ good_join k it1 = grind (arith, nat_tests)
 
 -- BY WHAT THE CODE LOOKED UP
 
-module _ {B : Type 0} {g : Ghosts B} (r : Rows B g) (x : ℕ) (found : Option ExchangeView) (v : ExchangeView) (aim : Option ℕ) (response : Response) (accepted : head_refusal (option_map open_view (table_of r.exchanges x).running) ≡ None) (viewed : found ≡ option_map (view_of x) (table_of r.exchanges x).running) (some : found ≡ Some v) (about : aim ≡ aim_in v.role) where
+module _ {B : Type 0} {g : Ghosts B} (r : Rows B g) (x : ℕ) (found : Option ExchangeView) (v : ExchangeView) (aim : Option ℕ) (response : Response)
+    (accepted : head_refusal (option_map open_view (table_of r.exchanges x).running) ≡ None)
+    (viewed : found ≡ option_map (view_of x) (table_of r.exchanges x).running) (some : found ≡ Some v) (about : aim ≡ aim_in v.role) where
   bare : Headless (table_of r.exchanges x).running
   bare = headless_of (table_of r.exchanges x).running accepted
 
@@ -56,13 +59,16 @@ module _ {B : Type 0} {g : Ghosts B} (r : Rows B g) (x : ℕ) (found : Option Ex
   pub about_this : (q : ℕ) → aim ≡ Some q → IsAbout q (table_of r.exchanges x).running
   about_this q is = λ o there. sym (aim_as o there) ∙ is
 
-  module _ (k : HeadCase) (lives : is_some (get nat_eq r.consumers v.c) ≡ true) (reports : (q : Open) (u : Consumer) → (table_of r.exchanges x).running ≡ Some q → get nat_eq r.consumers v.c ≡ Some u → k ≡ head_case (heard_view q u (kept_at (shelf_of r.entries) aim) response)) where
+  module _ (k : HeadCase) (lives : is_some (get nat_eq r.consumers v.c) ≡ true)
+      (reports : (q : Open) (u : Consumer) → (table_of r.exchanges x).running ≡ Some q → get nat_eq r.consumers v.c ≡ Some u →
+      k ≡ head_case (heard_view q u (kept_at (shelf_of r.entries) aim) response)) where
     joins_as : joins_hole k ≡ true → IsAboutKept (shelf_of r.entries) (table_of r.exchanges x).running
     joins_as on = λ o there.
         let u = some_row (get nat_eq r.consumers v.c) lives in
         let view : HeadView = heard_view o u.0 (kept_at (shelf_of r.entries) aim) response in
         let joins = joins_by_case view k (subst (CaseBy view) (sym (reports o u.0 there u.1)) (case_by view)) on in
-        subst (λ (n : Option ℕ). IsSomeAnd n (λ q. is_kept (shelf_of r.entries) q ≡ true)) (aim_as o there) (joins_aim (shelf_of r.entries) o.need aim response joins)
+        subst (λ (n : Option ℕ). IsSomeAnd n (λ q. is_kept (shelf_of r.entries) q ≡ true)) (aim_as o there)
+        (joins_aim (shelf_of r.entries) o.need aim response joins)
 
     unvalidated_as : k ≡ case.Validated → ⊥
     unvalidated_as is =
@@ -70,7 +76,8 @@ module _ {B : Type 0} {g : Ghosts B} (r : Rows B g) (x : ℕ) (found : Option Ex
         case_unvalidated (heard_view bare.o u.0 (kept_at (shelf_of r.entries) aim) response) refl (sym (reports bare.o u.0 bare.there u.1) ∙ is)
 
     -- what its case says
-    pub fits_as : (now : ℕ) → ∥ Stands r ∥₁ → IsWithinLimits response.fields → (k ≡ case.NotValidated → ⊥) → FitsCase r (record { now = now; x = x; c = v.c }) k response
+    pub fits_as : (now : ℕ) → ∥ Stands r ∥₁ → IsWithinLimits response.fields → (k ≡ case.NotValidated → ⊥) →
+        FitsCase r (record { now = now; x = x; c = v.c }) k response
     fits_as now some_past within_limits apart = record {
       good = good_as r x response found v aim k accepted viewed some about reports lives;
       waits = waits_as_reported r x response found v aim k accepted viewed some about reports some_past (past_of_runs r) lives;

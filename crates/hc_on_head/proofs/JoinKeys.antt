@@ -23,7 +23,8 @@ module _ (t : Tables) (c : ℕ) (v : rows.Consumer) (row : t.consumer c ≡ Some
   says_other : (key : List ℕ) → bytes_eq v.request.key key ≡ false → SaysOfIt t c None key
   says_other key off = says_nothing key (off_line key v off) (off_passed key v off) (off_away t key v off)
 
-  says_here : (a : keyed.Kept) → KeepsKey t v.request.key a → (is_among c a.in_line || is_among c a.passed || is_among c a.away) ≡ false → SaysOfIt t c None v.request.key
+  says_here : (a : keyed.Kept) → KeepsKey t v.request.key a → (is_among c a.in_line || is_among c a.passed || is_among c a.away) ≡ false →
+      SaysOfIt t c None v.request.key
   says_here a kept off =
       let offs = or_offs (is_among c a.in_line) (is_among c a.passed) (is_among c a.away) off in
       let key = v.request.key in
@@ -32,7 +33,8 @@ module _ (t : Tables) (c : ℕ) (v : rows.Consumer) (row : t.consumer c ≡ Some
       (sym (ap (is_passed key) row) ∙ (sym (kept.passed c) ∙ offs.1.0))
       (sym (ap (is_away t key) row) ∙ (sym (kept.away c) ∙ offs.1.1))
 
-  pub keys_left : (a b : KeyTable) → ((key : List ℕ) → KeepsKey t key (kept_of a key)) → LeavesKey c v.request.key a b → (key : List ℕ) → KeepsKey (with_consumer c None t) key (kept_of b key)
+  pub keys_left : (a b : KeyTable) → ((key : List ℕ) → KeepsKey t key (kept_of a key)) → LeavesKey c v.request.key a b → (key : List ℕ) →
+      KeepsKey (with_consumer c None t) key (kept_of b key)
   keys_left a b kept leave = by_test (is_in c (line_of a v.request.key)) refl leave
     where
       by_key : (key : List ℕ) (q : Bool) → is_in c (line_of a v.request.key) ≡ false → bytes_eq v.request.key key ≡ q → SaysOfIt t c None key
@@ -41,6 +43,10 @@ module _ (t : Tables) (c : ℕ) (v : rows.Consumer) (row : t.consumer c ≡ Some
           let one : v.request.key ≡ key = same_bytes v.request.key key same in
           subst (SaysOfIt t c None) one (says_here (kept_of a v.request.key) (kept v.request.key) out)
 
-      by_test : (q : Bool) → is_in c (line_of a v.request.key) ≡ q → LeftIf q c v.request.key a b → (key : List ℕ) → KeepsKey (with_consumer c None t) key (kept_of b key)
-      by_test true is left = keys_with t c None (on_line (left_by c)) v.request.key a b kept left (leaves_key t c None v.request.key (kept_of a v.request.key) refl refl refl refl) says_other
-      by_test false is stays = λ key. rw (stays key) (key_with t c None key (kept_of a key) (kept_of a key) (kept key) (key_stays t c None key (kept_of a key) (kept key) (by_key key (bytes_eq v.request.key key) is refl)))
+      by_test : (q : Bool) → is_in c (line_of a v.request.key) ≡ q → LeftIf q c v.request.key a b → (key : List ℕ) →
+          KeepsKey (with_consumer c None t) key (kept_of b key)
+      by_test true is left = keys_with t c None (on_line (left_by c)) v.request.key a b kept left
+          (leaves_key t c None v.request.key (kept_of a v.request.key) refl refl refl refl) says_other
+      by_test false is stays =
+          λ key. rw (stays key) (key_with t c None key (kept_of a key) (kept_of a key) (kept key)
+          (key_stays t c None key (kept_of a key) (kept key) (by_key key (bytes_eq v.request.key key) is refl)))

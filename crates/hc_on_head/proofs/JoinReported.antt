@@ -64,7 +64,9 @@ no_body_none b n off is =
     grind (arith, nat_tests)
 
 -- a part to a GET for a hole promises it
-part_promised : (from to last total : ℕ) (request : Request) (response : Response) → is_head request ≡ false → brings_part response.status ≡ true → content_range_of response.fields ≡ Some (range.Part from last (Some total)) → is_bad (length_of (need.Hole from to) request response) ≡ false → from ≤ last → is_reached (promise_of (length_of (need.Hole from to) request response)) 0 ≡ false
+part_promised : (from to last total : ℕ) (request : Request) (response : Response) → is_head request ≡ false → brings_part response.status ≡ true →
+    content_range_of response.fields ≡ Some (range.Part from last (Some total)) → is_bad (length_of (need.Hole from to) request response) ≡ false →
+    from ≤ last → is_reached (promise_of (length_of (need.Hole from to) request response)) 0 ≡ false
 unfolding length_of
 part_promised from to last total request response get status part good order =
     let full = no_body_none (is_head request) response.status get status in
@@ -73,13 +75,15 @@ part_promised from to last total request response get status part good order =
 -- a GET is no HEAD
 get_is_no_head : (request : Request) → is_disabled request ≡ false → is_head request ≡ false
 unfolding is_disabled
-get_is_no_head request off = (let same : request.method ≡ codes "GET" = same_bytes request.method (codes "GET") (by_tests (is_get request) _ _ _ _ off) in rw same refl)
+get_is_no_head request off =
+    (let same : request.method ≡ codes "GET" = same_bytes request.method (codes "GET") (by_tests (is_get request) _ _ _ _ off) in rw same refl)
   where
     by_tests : (g a b c d : Bool) → (not g || a || b || c || d) ≡ false → g ≡ true
     by_tests true a b c d h = refl
     by_tests false a b c d h = false_true (sym h)
 
-module _ {B : Type 0} {g : Ghosts B} {limits : Limits} (r : Rows B g) (t : Tables) (facts : Facts limits t) (x : ℕ) (response : Response) (w : Exchange) (a : Asker r t x w) (view : JoinView (head_view t false w response)) where
+module _ {B : Type 0} {g : Ghosts B} {limits : Limits} (r : Rows B g) (t : Tables) (facts : Facts limits t) (x : ℕ) (response : Response) (w : Exchange)
+    (a : Asker r t x w) (view : JoinView (head_view t false w response)) where
   -- to what its consumer is bound
   pub record IsReader : Type 0 where
     pub q : ℕ
@@ -126,7 +130,9 @@ module _ {B : Type 0} {g : Ghosts B} {limits : Limits} (r : Rows B g) (t : Table
       by_length (reported same) = same
       by_length (unreported u) =
           let f = fills in
-          let absent : (n : ℕ) → f.from ≤ n → n < f.to → p.body n ≡ None = λ n low high. facts.law.sound.waits.holes x w q p n a.awaits.row a.awaits.is_open a.awaits.headless aim there (subst (λ (m : Need). InHole m n) (sym f.need_is) (low, high)) in
+          let absent : (n : ℕ) → f.from ≤ n → n < f.to → p.body n ≡ None =
+          λ n low high. facts.law.sound.waits.holes x w q p n a.awaits.row a.awaits.is_open a.awaits.headless aim there
+          (subst (λ (m : Need). InHole m n) (sym f.need_is) (low, high)) in
           let none = no_hole_left f.from f.to u.total p response u.known u.came absent in
           let row : row_of t w.aim ≡ Some p = ap (row_of t) aim ∙ there in
           false_true (sym none ∙ (sym (ap₂ (λ (m : Need) (o : Option Representation). joins_row m o response) f.need_is row) ∙ view.joins))
@@ -157,29 +163,39 @@ module _ {B : Type 0} {g : Ghosts B} {limits : Limits} (r : Rows B g) (t : Table
         let for_it : w.c ≡ d = ap (λ (z : Exchange). z.c) (same_row (t.exchange x) w reads.w a.awaits.row reads.row) ∙ reads.for_it in
         let one : u ≡ a.v = some_is u a.v (sym is ∙ (ap t.consumer (sym for_it) ∙ a.awaits.asker)) in
         let stood = reader.at in
-        absurd (let never : place.Direct x ≡ place.Bound reader.q reader.lo reader.hi reader.how = sym at ∙ (ap (λ (z : rows.Consumer). z.place) one ∙ stood) in cc);
+        absurd (let never : place.Direct x ≡ place.Bound reader.q reader.lo reader.hi reader.how = sym at ∙
+        (ap (λ (z : rows.Consumer). z.place) one ∙ stood) in cc);
     first = λ d n lo hi u is at.
         let f = facts.law.owned.first_own d n lo x hi u is at in
         sym (ap (λ (z : Exchange). z.c) (same_row (t.exchange x) w f.w a.awaits.row f.row) ∙ f.for_it);
     heard = λ y how. by_stands y how a.stands;
   }
     where
-      first_of : (q lo m n : ℕ) (hi : Option ℕ) (k : BoundBy) (u : Option ℕ) (y : ℕ) → place.Bound q lo hi k ≡ place.Bound m n u (by.FirstHole x) → k ≡ by.FirstHole y → y ≡ x
-      first_of q lo m n hi k u y at how = (let same : k ≡ by.FirstHole x = (let h : place.Bound q lo hi k ≡ place.Bound m n u (by.FirstHole x) = at in cc) in let one : by.FirstHole y ≡ by.FirstHole x = sym how ∙ same in cc)
+      first_of : (q lo m n : ℕ) (hi : Option ℕ) (k : BoundBy) (u : Option ℕ) (y : ℕ) → place.Bound q lo hi k ≡ place.Bound m n u (by.FirstHole x) →
+          k ≡ by.FirstHole y → y ≡ x
+      first_of q lo m n hi k u y at how =
+          (let same : k ≡ by.FirstHole x = (let h : place.Bound q lo hi k ≡ place.Bound m n u (by.FirstHole x) = at in cc) in
+          let one : by.FirstHole y ≡ by.FirstHole x = sym how ∙ same in cc)
 
       by_stands : (y : ℕ) {way : _} → reader.how ≡ by.FirstHole y → StandsFor x a.v way → (y ≡ x) ⊎ (is_headless (t.exchange y) ≡ false)
-      by_stands y how (laws.direct at) = absurd (let stood = reader.at in let never : place.Direct x ≡ place.Bound reader.q reader.lo reader.hi reader.how = sym at ∙ stood in cc)
-      by_stands y how (laws.has_turn at unshown) = absurd (let stood = reader.at in let never : place.Turn x ≡ place.Bound reader.q reader.lo reader.hi reader.how = sym at ∙ stood in cc)
+      by_stands y how (laws.direct at) =
+          absurd (let stood = reader.at in let never : place.Direct x ≡ place.Bound reader.q reader.lo reader.hi reader.how = sym at ∙ stood in cc)
+      by_stands y how (laws.has_turn at unshown) =
+          absurd (let stood = reader.at in let never : place.Turn x ≡ place.Bound reader.q reader.lo reader.hi reader.how = sym at ∙ stood in cc)
       by_stands y how (laws.first n lo hi at unshown) = inl (first_of reader.q reader.lo n lo reader.hi reader.how hi y (sym reader.at ∙ at) how)
       by_stands y how (laws.later n lo hi k at shown) =
-          let f = facts.turns.first_hole w.c reader.q reader.lo y reader.hi a.v a.awaits.asker (reader.at ∙ ap (place.Bound reader.q reader.lo reader.hi) how) shown in
+          let f = facts.turns.first_hole w.c reader.q reader.lo y reader.hi a.v a.awaits.asker
+          (reader.at ∙ ap (place.Bound reader.q reader.lo reader.hi) how) shown in
           inr (ap is_headless f.1 ∙ f.2)
 
   pub joinable_as : (q : ℕ) → w.aim ≡ Some q → (p : Representation) → t.representation q ≡ Some p → IsJoinable t x q w a.v p
-  joinable_as q aim p there = (let same : reader.q ≡ q = some_is reader.q q (sym reader.aim ∙ aim) in subst (λ (n : ℕ). t.representation n ≡ Some p → IsJoinable t x n w a.v p) same (joinable p) there)
+  joinable_as q aim p there =
+      (let same : reader.q ≡ q = some_is reader.q q (sym reader.aim ∙ aim) in
+      subst (λ (n : ℕ). t.representation n ≡ Some p → IsJoinable t x n w a.v p) same (joinable p) there)
 
 -- what the code looked up
-pub hole_aim : (t : Tables) (x q : ℕ) (o : Open) (w : Exchange) → IsRunning t x o w → w.head ≡ None → route_of w.need ≡ route.Hole → aim_in o.role ≡ Some q → w.aim ≡ Some q
+pub hole_aim : (t : Tables) (x q : ℕ) (o : Open) (w : Exchange) → IsRunning t x o w → w.head ≡ None → route_of w.need ≡ route.Hole → aim_in
+    o.role ≡ Some q → w.aim ≡ Some q
 hole_aim t x q o w runs bare hole is = grind (arith, nat_tests)
 
 -- WHERE THAT IS LOST AND LET GO
@@ -205,7 +221,8 @@ stood_of t now q d u is = by_row (t.consumer d) refl is
     by_row None row h = none_some u h
     by_row (Some k) row h = record { k = k; row = row; place_is = by_test k (waits_for q k.place) refl h }
 
-pub joinable_lost : (t : Tables) (now x q : ℕ) (w : Exchange) (v : rows.Consumer) (p : Representation) (alone : Option ℕ) → IsJoinable t x q w v p → IsJoinable (let_go now q (with_representation q (Some (lost_to alone p)) t)) x q w v (as_gone (lost_to alone p))
+pub joinable_lost : (t : Tables) (now x q : ℕ) (w : Exchange) (v : rows.Consumer) (p : Representation) (alone : Option ℕ) → IsJoinable t x q w v p →
+    IsJoinable (let_go now q (with_representation q (Some (lost_to alone p)) t)) x q w v (as_gone (lost_to alone p))
 joinable_lost t now x q w v p alone j = record {
   row = j.row;
   is_open = j.is_open;

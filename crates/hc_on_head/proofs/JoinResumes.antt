@@ -25,16 +25,20 @@ unfolding class_of
 whole_as k v is = ap (λ (z : RequestClass). is_none z.range) is
 
 -- what is told of it tells that
-pub lacks_is : (o : Option Kept) (view : EntryView) (from : ℕ) (response : Response) (b : Bool) → option_map view_of o ≡ Some view → view.size ≡ from → is_last_part view.total (content_range_of response.fields) ≡ true → (IsTrue b ↔ Covers (λ n. cells_in o n) 0 from) → IsTrue b ↔ LacksOnly from response o
+pub lacks_is : (o : Option Kept) (view : EntryView) (from : ℕ) (response : Response) (b : Bool) → option_map view_of o ≡ Some view → view.size ≡ from →
+    is_last_part view.total (content_range_of response.fields) ≡ true → (IsTrue b ↔ Covers (λ n. cells_in o n) 0 from) → IsTrue b ↔ LacksOnly from response o
 lacks_is None view from response b viewed size_is last reports = none_some view viewed
 lacks_is (Some k) view from response b viewed size_is last reports =
     let one : view_of k ≡ view = some_is (view_of k) view viewed in
-    let known : is_last_part k.head.total (content_range_of response.fields) ≡ true = ap (λ (z : EntryView). is_last_part z.total (content_range_of response.fields)) one ∙ last in
+    let known : is_last_part k.head.total (content_range_of response.fields) ≡ true =
+    ap (λ (z : EntryView). is_last_part z.total (content_range_of response.fields)) one ∙ last in
     ((λ on. (known, ((ap (λ (z : EntryView). z.size) one ∙ size_is), reports.0 on))), (λ lacks. reports.1 lacks.1.1))
 
 -- THE HOLE
 
-module _ {B : Type 0} {g : Ghosts B} {limits : Limits} (r : Rows B g) (t : Tables) (x : ℕ) (op : Opening) (w : Exchange) (from to : ℕ) (stands : RowsStand limits r t) (row : t.exchange x ≡ Some w) (opened : w.is_open ≡ true) (opens : Some (opened_with op) ≡ option_map begins_with (table_of r.exchanges x).running) (hole : w.need ≡ need.Hole from to) where
+module _ {B : Type 0} {g : Ghosts B} {limits : Limits} (r : Rows B g) (t : Tables) (x : ℕ) (op : Opening) (w : Exchange) (from to : ℕ)
+    (stands : RowsStand limits r t) (row : t.exchange x ≡ Some w) (opened : w.is_open ≡ true)
+    (opens : Some (opened_with op) ≡ option_map begins_with (table_of r.exchanges x).running) (hole : w.need ≡ need.Hole from to) where
   need_is : op.need.now ≡ need.Hole from to
   need_is = grind (arith, nat_tests)
 
@@ -44,8 +48,10 @@ module _ {B : Type 0} {g : Ghosts B} {limits : Limits} (r : Rows B g) (t : Table
   pub is_start : (a b : ℕ) → op.need.now ≡ need.Hole a b → a ≡ from
   is_start a b is = (let same : need.Hole a b ≡ need.Hole from to = sym is ∙ need_is in cc)
 
-module _ {B : Type 0} {g : Ghosts B} {limits : Limits} (r : Rows B g) (t : Tables) (facts : Facts limits t) (stands : RowsStand limits r t) (q c from to : ℕ) (response : Response) (w : Exchange) (p : Representation) (k : Consumer) (e : Kept)
-    (hole : w.need ≡ need.Hole from to) (for_it : w.c ≡ c) (there : get nat_eq r.consumers c ≡ Some k) (row : t.representation q ≡ Some p) (stays : p.is_lost ≡ false) (kept : (shelf_of r.entries).kept q ≡ Some e) (reported : e.head.total ≡ p.head.total) where
+module _ {B : Type 0} {g : Ghosts B} {limits : Limits} (r : Rows B g) (t : Tables) (facts : Facts limits t) (stands : RowsStand limits r t)
+    (q c from to : ℕ) (response : Response) (w : Exchange) (p : Representation) (k : Consumer) (e : Kept)
+    (hole : w.need ≡ need.Hole from to) (for_it : w.c ≡ c) (there : get nat_eq r.consumers c ≡ Some k) (row : t.representation q ≡ Some p)
+    (stays : p.is_lost ≡ false) (kept : (shelf_of r.entries).kept q ≡ Some e) (reported : e.head.total ≡ p.head.total) where
   is : IsEntry t q e p
   is = entry_at r t stands q e kept p row
 
@@ -55,7 +61,8 @@ module _ {B : Type 0} {g : Ghosts B} {limits : Limits} (r : Rows B g) (t : Table
   size_is : size e.cells ≡ p.size
   size_is = stored_size r t facts q p e t row is.used is
 
-  resumes_is : resumes t response w p ≡ (is_none k.class.range && is_last_part e.head.total (content_range_of response.fields) && covers p.stored p.reach 0 from && (size e.cells == from))
+  resumes_is : resumes t response w
+      p ≡ (is_none k.class.range && is_last_part e.head.total (content_range_of response.fields) && covers p.stored p.reach 0 from && (size e.cells == from))
   resumes_is = rw (asks, reported, (ap hole_start hole), size_is) refl
 
   -- it asks for a part
@@ -86,7 +93,9 @@ module _ {B : Type 0} {g : Ghosts B} {limits : Limits} (r : Rows B g) (t : Table
       and_parts true true on = (refl, refl)
       and_parts _ _ on = cc
 
-      by_test : (a : Bool) → b ≡ a → a ≡ (is_none k.class.range && is_last_part e.head.total (content_range_of response.fields) && covers p.stored p.reach 0 from && (size e.cells == from))
+      by_test : (a : Bool) → b ≡ a →
+          a ≡ (is_none k.class.range && is_last_part e.head.total (content_range_of response.fields) && covers p.stored p.reach 0 from
+          && (size e.cells == from))
       by_test true on =
           let lacks = both.0 on in
           let last = lacks.0 in
@@ -98,8 +107,10 @@ module _ {B : Type 0} {g : Ghosts B} {limits : Limits} (r : Rows B g) (t : Table
           by_all : (z : Bool) → all ≡ z → false ≡ all
           by_all false none_left = sym none_left
           by_all true on =
-              let first = and_parts (is_none k.class.range && is_last_part e.head.total (content_range_of response.fields) && covers p.stored p.reach 0 from) (size e.cells == from) on in
-              let second = and_parts (is_none k.class.range && is_last_part e.head.total (content_range_of response.fields)) (covers p.stored p.reach 0 from) first.0 in
+              let first = and_parts (is_none k.class.range && is_last_part e.head.total (content_range_of response.fields) && covers p.stored p.reach 0
+              from) (size e.cells == from) on in
+              let second = and_parts (is_none k.class.range && is_last_part e.head.total (content_range_of response.fields))
+              (covers p.stored p.reach 0 from) first.0 in
               let third = and_parts (is_none k.class.range) (is_last_part e.head.total (content_range_of response.fields)) second.0 in
               let same : size e.cells ≡ from = (let test = first.1 in grind (arith, nat_tests, test)) in
               false_true (sym off ∙ both.1 (third.1, (same, holds second.1)))

@@ -43,7 +43,8 @@ pub record IsJoinable (t : Tables) (x q : ℕ) (w : Exchange) (v : rows.Consumer
   pub heard : (y : ℕ) → how ≡ by.FirstHole y → (y ≡ x) ⊎ (is_headless (t.exchange y) ≡ false)
 
 -- what is stored has this head and this writer, and the exchange is its consumer's own or isn't
-module _ (t : Tables) (now x q : ℕ) (response : Response) (w : Exchange) (v : rows.Consumer) (p : Representation) (j : IsJoinable t x q w v p) (h : Head) (total : h.total ≡ p.head.total) (wr : Option ℕ) (own : Option ℕ) (apart : (y : ℕ) → x ≢ y → is_number own y ≡ false) where
+module _ (t : Tables) (now x q : ℕ) (response : Response) (w : Exchange) (v : rows.Consumer) (p : Representation) (j : IsJoinable t x q w v p) (h : Head)
+    (total : h.total ≡ p.head.total) (wr : Option ℕ) (own : Option ℕ) (apart : (y : ℕ) → x ≢ y → is_number own y ≡ false) where
   abbrev pub ans : Exchange
   ans = exchange_with_head now response (Some q) w
 
@@ -79,7 +80,8 @@ module _ (t : Tables) (now x q : ℕ) (response : Response) (w : Exchange) (v : 
   reported_consumer f same d = grind (arith, nat_tests)
 
   -- what looks neither at its head nor at who writes it is told as before
-  pub reported_representation : {A : Type 0} (f : Option Representation → A) → f (Some z) ≡ f (Some p) → (n : ℕ) → f (s.representation n) ≡ f (t.representation n)
+  pub reported_representation : {A : Type 0} (f : Option Representation → A) → f (Some z) ≡ f (Some p) → (n : ℕ) →
+      f (s.representation n) ≡ f (t.representation n)
   reported_representation f same n = grind (arith, nat_tests)
 
   -- CONSUMERS
@@ -101,7 +103,12 @@ module _ (t : Tables) (now x q : ℕ) (response : Response) (w : Exchange) (v : 
   asker_then : (k : Consumer) → IsKept t k v → IsKept s (record k { own = own }) vn
   asker_then k is =
       let stood = j.at in
-      let kp : IsKept s k v = kept_same t s k v (record { past = λ y at. absurd (let never : place.Bound q j.lo j.hi j.how ≡ place.Direct y = sym stood ∙ at in cc); length = λ n lo hi how at. lengths n lo hi how }) is in
+      let kp : IsKept s k v = kept_same t s k v
+      (record {
+        past = λ y at. absurd (let never : place.Bound q j.lo j.hi j.how ≡ place.Direct y = sym stood ∙ at in cc);
+        length =
+            λ n lo hi how at. lengths n lo hi how;
+      }) is in
       assumption kp
 
   -- THE EXCHANGE
@@ -124,12 +131,14 @@ module _ (t : Tables) (now x q : ℕ) (response : Response) (w : Exchange) (v : 
   held_else y ne None = refl
   held_else y ne (Some a) = grind (arith, nat_tests)
 
-  module _ (a b : Known) (o : Open) (opened : a.running ≡ Some o) (runs : IsRunning t x o w) (on : is_reached (promise_in w response) 0 ≡ false) (becomes : b ≡ bringing q response a) where
+  module _ (a b : Known) (o : Open) (opened : a.running ≡ Some o) (runs : IsRunning t x o w) (on : is_reached (promise_in w response) 0 ≡ false)
+      (becomes : b ≡ bringing q response a) where
     abbrev l : Length
     l = length_of w.need w.request response
 
     length_is : length_by a.running response ≡ l
-    length_is = ap (λ (r : Option Open). length_by r response) opened ∙ (ap (λ n. length_of n o.request response) runs.need ∙ ap (λ r. length_of w.need r response) runs.request)
+    length_is = ap (λ (r : Option Open). length_by r response) opened ∙
+        (ap (λ n. length_of n o.request response) runs.need ∙ ap (λ r. length_of w.need r response) runs.request)
 
     goes_on : is_all (promise_of (length_by a.running response)) 0 ≡ false
     goes_on = all_reached (promise_of (length_by a.running response)) 0 ∙ (ap (λ (n : Length). is_reached (promise_of n) 0) length_is ∙ on)
@@ -138,7 +147,10 @@ module _ (t : Tables) (now x q : ℕ) (response : Response) (w : Exchange) (v : 
     its = record o { role = role.Body q; headed = true; base = base_of (length_by a.running response); promised = promise_of (length_by a.running response) }
 
     running_then : b.running ≡ Some its
-    running_then = ap (λ (n : Known). n.running) becomes ∙ rw (goes_on) (ap (λ (r : Option Open). option_map (λ (n : Open). record n { headed = true; base = base_of (length_by a.running response); promised = promise_of (length_by a.running response) }) (option_map (λ (n : Open). record n { role = role.Body q }) r)) opened)
+    running_then = ap (λ (n : Known). n.running) becomes ∙
+        rw (goes_on) (ap (λ (r : Option Open). option_map
+        (λ (n : Open). record n { headed = true; base = base_of (length_by a.running response); promised = promise_of (length_by a.running response) })
+        (option_map (λ (n : Open). record n { role = role.Body q }) r)) opened)
 
     runs_then : IsRunning s x its ans
     runs_then =
@@ -150,18 +162,26 @@ module _ (t : Tables) (now x q : ℕ) (response : Response) (w : Exchange) (v : 
 
     exchange_then : a.held ≡ held_for t x (t.exchange x) → KeepsExchange s x b
     exchange_then held = record {
-      running = subst (KeepsRunning s x b.running) (sym exchange_here) (subst (λ (n : Option Open). KeepsRunning s x n (Some ans)) (sym running_then) runs_then);
+      running = subst (KeepsRunning s x b.running) (sym exchange_here)
+          (subst (λ (n : Option Open). KeepsRunning s x n (Some ans)) (sym running_then) runs_then);
       held = (ap (λ (n : Known). n.held) becomes ∙ rw (goes_on) refl) ∙ (held ∙ (held_before ∙ sym held_then));
     }
 
   exchange_stays : (y : ℕ) (a : Known) → x ≢ y → KeepsExchange t y a → KeepsExchange s y a
-  exchange_stays y a ne kept = exchange_same t s y a (record { row = exchange_other y ne; brings = λ b row. reported_representation (λ o. is_some o) refl (family y b); held = held_else y ne (t.exchange y) }) kept
+  exchange_stays y a ne kept =
+      exchange_same t s y a (record {
+        row = exchange_other y ne;
+        brings = λ b row. reported_representation (λ o. is_some o) refl (family y b);
+        held =
+            held_else y ne (t.exchange y);
+      }) kept
 
   -- KEYS
 
   current_same : h.fields ≡ h.fields → (key : List ℕ) → current s key ≡ current t key
   unfolding current
-  current_same any key = finds_same (λ n. is_usable key (t.representation n)) (λ n. is_usable key (s.representation n)) (reported_representation (is_usable key) refl) t.founded
+  current_same any key = finds_same (λ n. is_usable key (t.representation n)) (λ n. is_usable key (s.representation n))
+      (reported_representation (is_usable key) refl) t.founded
 
   -- it waits for its head no more
   here_then : is_away_at s v.place ≡ false
@@ -183,7 +203,8 @@ module _ (t : Tables) (now x q : ℕ) (response : Response) (w : Exchange) (v : 
   still_at : (d : ℕ) → w.c ≢ d → without.consumer d ≡ t.consumer d
   still_at d ne = rw (eqb-other w.c d ne) refl
 
-  says_it : {A : Type 0} (f k : Option rows.Consumer → A) → f (Some vn) ≡ k None → ((d : ℕ) → w.c ≢ d → f (t.consumer d) ≡ k (t.consumer d)) → (d : ℕ) → f (s.consumer d) ≡ k (without.consumer d)
+  says_it : {A : Type 0} (f k : Option rows.Consumer → A) → f (Some vn) ≡ k None → ((d : ℕ) → w.c ≢ d → f (t.consumer d) ≡ k (t.consumer d)) → (d : ℕ) →
+      f (s.consumer d) ≡ k (without.consumer d)
   says_it f k of_it of_others d = grind (arith, nat_tests)
 
   key_then : (key : List ℕ) (a : keyed.Kept) → KeepsKey without key a → KeepsKey s key a
@@ -192,14 +213,17 @@ module _ (t : Tables) (now x q : ℕ) (response : Response) (w : Exchange) (v : 
     current = current_same refl key;
     in_line = says_it (is_in_line key) (is_in_line key) (not_waiting key) (λ d ne. refl);
     passed = says_it (is_passed key) (is_passed key) (then_false (bytes_eq v.request.key key) _ (ap has_passed j.at)) (λ d ne. refl);
-    away = says_it (is_away s key) (is_away without key) (then_false (bytes_eq v.request.key key) _ here_then) (λ d ne. away_other key d ne (t.consumer d) refl);
+    away = says_it (is_away s key) (is_away without key) (then_false (bytes_eq v.request.key key) _ here_then)
+        (λ d ne. away_other key d ne (t.consumer d) refl);
     turn = says_it (has_turn key) (has_turn key) (and_false (is_in_line key (Some vn)) _ (not_waiting key)) (λ d ne. refl);
   }) kept
 
   -- ALL OF IT
 
-  module _ {B : Type 0} {g : Ghosts B} {limits : Limits} (r u : Rows B g) (k : Consumer) (o : Open) (stands : RowsStand limits r t) (there : get nat_eq r.consumers w.c ≡ Some k) (running : (table_of r.exchanges x).running ≡ Some o) (on : is_reached (promise_in w response) 0 ≡ false)
-      (bounded : (shelf_of u.entries).limits ≡ limits) (last : u.last_start ≡ r.last_start) (becomes : BecomesAt r.consumers u.consumers w.c (Some (record k { own = own }))) (line : LeavesKey w.c k.request.key r.keys u.keys)
+  module _ {B : Type 0} {g : Ghosts B} {limits : Limits} (r u : Rows B g) (k : Consumer) (o : Open) (stands : RowsStand limits r t)
+      (there : get nat_eq r.consumers w.c ≡ Some k) (running : (table_of r.exchanges x).running ≡ Some o) (on : is_reached (promise_in w response) 0 ≡ false)
+      (bounded : (shelf_of u.entries).limits ≡ limits) (last : u.last_start ≡ r.last_start)
+      (becomes : BecomesAt r.consumers u.consumers w.c (Some (record k { own = own }))) (line : LeavesKey w.c k.request.key r.keys u.keys)
       (brings : exch.Becomes (bringing q response) x r.exchanges u.exchanges) (entries : KeepsEntries s (shelf_of u.entries)) where
     is : IsKept t k v
     is = kept_as r t w.c v k stands j.asker there
@@ -218,14 +242,20 @@ module _ (t : Tables) (now x q : ℕ) (response : Response) (w : Exchange) (v : 
 
     consumers_then : (d : ℕ) → KeepsConsumer s (get nat_eq u.consumers d) (s.consumer d)
     consumers_then d = elim (same_or w.c d) [
-      | inl e ↦ subst (λ (n : ℕ). KeepsConsumer s (get nat_eq u.consumers n) (s.consumer n)) e (subst (λ (n : Option Consumer). KeepsConsumer s n (s.consumer w.c)) (sym asker_kept) (subst (KeepsConsumer s (Some (record k { own = own }))) (sym consumer_here) (asker_then k is)))
-      | inr ne ↦ subst (λ (n : Option Consumer). KeepsConsumer s n (s.consumer d)) (sym (others_kept d ne)) (consumer_then d (get nat_eq r.consumers d) ne (stands.consumers d))
+      | inl e ↦ subst (λ (n : ℕ). KeepsConsumer s (get nat_eq u.consumers n) (s.consumer n)) e
+          (subst (λ (n : Option Consumer). KeepsConsumer s n (s.consumer w.c)) (sym asker_kept)
+          (subst (KeepsConsumer s (Some (record k { own = own }))) (sym consumer_here) (asker_then k is)))
+      | inr ne ↦ subst (λ (n : Option Consumer). KeepsConsumer s n (s.consumer d)) (sym (others_kept d ne))
+          (consumer_then d (get nat_eq r.consumers d) ne (stands.consumers d))
     ]
 
     exchanges_then : (y : ℕ) → KeepsExchange s y (table_of u.exchanges y)
     exchanges_then y = elim (same_or x y) [
-      | inl e ↦ subst (λ (n : ℕ). KeepsExchange s n (table_of u.exchanges n)) e (exchange_then (table_of r.exchanges x) (table_of u.exchanges x) o running runs on (known_here (bringing q response) x r.exchanges u.exchanges brings) (stands.exchanges x).held)
-      | inr ne ↦ subst (KeepsExchange s y) (sym (known_other (bringing q response) x y r.exchanges u.exchanges brings (λ e. ne (sym e)))) (exchange_stays y (table_of r.exchanges y) ne (stands.exchanges y))
+      | inl e ↦ subst (λ (n : ℕ). KeepsExchange s n (table_of u.exchanges n)) e
+          (exchange_then (table_of r.exchanges x) (table_of u.exchanges x) o running runs on
+          (known_here (bringing q response) x r.exchanges u.exchanges brings) (stands.exchanges x).held)
+      | inr ne ↦ subst (KeepsExchange s y) (sym (known_other (bringing q response) x y r.exchanges u.exchanges brings (λ e. ne (sym e))))
+          (exchange_stays y (table_of r.exchanges y) ne (stands.exchanges y))
     ]
 
     pub stands_joined : RowsStand limits u s
@@ -233,9 +263,11 @@ module _ (t : Tables) (now x q : ℕ) (response : Response) (w : Exchange) (v : 
       limits = bounded;
       last_start = last ∙ stands.last_start;
       next = brings.next ∙ stands.next;
-      count = length_same r u t w.c v (record k { own = own }) stands j.asker lives becomes ∙ (stands.count ∙ sym (live_same t s refl (reported_consumer is_live refl)));
+      count = length_same r u t w.c v (record k { own = own }) stands j.asker lives becomes ∙
+          (stands.count ∙ sym (live_same t s refl (reported_consumer is_live refl)));
       consumers = consumers_then;
       exchanges = exchanges_then;
-      keys = λ key. key_then key (kept_of u.keys key) (keys_left t w.c v j.asker r.keys u.keys stands.keys (subst (λ (n : List ℕ). LeavesKey w.c n r.keys u.keys) (ap (λ (n : _). n.key) is.request) line) key);
+      keys = λ key. key_then key (kept_of u.keys key)
+          (keys_left t w.c v j.asker r.keys u.keys stands.keys (subst (λ (n : List ℕ). LeavesKey w.c n r.keys u.keys) (ap (λ (n : _). n.key) is.request) line) key);
       entries = entries;
     }

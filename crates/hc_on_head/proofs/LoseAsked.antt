@@ -22,7 +22,8 @@ use Rattle.hc_on_head.proofs.HeadReported.{past_of_runs}
 
 -- WHO WAITS FOR ITS KEY
 
-module _ {B : Type 0} {g : Ghosts B} {limits : Limits} (r : Rows B g) (t : Tables) (facts : Facts limits t) (stands : RowsStand limits r t) (x : ℕ) (w : Exchange) (a : Asker r t x w) (waits : IsSomeAnd (get nat_eq r.consumers w.c) (IsInKey r.keys w.c)) where
+module _ {B : Type 0} {g : Ghosts B} {limits : Limits} (r : Rows B g) (t : Tables) (facts : Facts limits t) (stands : RowsStand limits r t) (x : ℕ)
+    (w : Exchange) (a : Asker r t x w) (waits : IsSomeAnd (get nat_eq r.consumers w.c) (IsInKey r.keys w.c)) where
   abbrev key : List ℕ
   key = a.v.request.key
 
@@ -67,8 +68,13 @@ usable_there (Some e) on = (e, refl, by_test e.is_gone on)
     by_test false h = refl
     by_test true h = false_true h
 
-module _ {B : Type 0} {g : Ghosts B} (r first second : Rows B g) (now x c q : ℕ) (some : ∥ Stands r ∥₁) (accepted : head_refusal (open_at r x) ≡ None) (asks : IsAskedBy c (table_of r.exchanges x).running) (waits : IsSomeAnd (get nat_eq r.consumers c) (IsInKey r.keys c)) (usable : is_usable_kept ((shelf_of r.entries).kept q) ≡ true)
-    (sends : (limits : Limits) (t : Tables) (x : ℕ) (w : Exchange) (k : rows.Consumer) → Facts limits t → AwaitsHead t x w k → w.c ≡ c → awaited_exchange k.place ≡ Some x → RowsStand limits r t → RowsStand limits first (with_consumer c (Some (back_in_line now k)) t)) (same_entries : second.entries ≡ first.entries) (same_exchanges : first.exchanges ≡ r.exchanges) (becomes : exch.Becomes known.without_exchange x first.exchanges second.exchanges) where
+module _ {B : Type 0} {g : Ghosts B} (r first second : Rows B g) (now x c q : ℕ) (some : ∥ Stands r ∥₁) (accepted : head_refusal (open_at r x) ≡ None)
+    (asks : IsAskedBy c (table_of r.exchanges x).running) (waits : IsSomeAnd (get nat_eq r.consumers c) (IsInKey r.keys c))
+    (usable : is_usable_kept ((shelf_of r.entries).kept q) ≡ true)
+    (sends : (limits : Limits) (t : Tables) (x : ℕ) (w : Exchange) (k : rows.Consumer) → Facts limits t → AwaitsHead t x w k → w.c ≡ c →
+    awaited_exchange k.place ≡ Some x → RowsStand limits r t → RowsStand limits first (with_consumer c (Some (back_in_line now k)) t))
+    (same_entries : second.entries ≡ first.entries) (same_exchanges : first.exchanges ≡ r.exchanges)
+    (becomes : exch.Becomes known.without_exchange x first.exchanges second.exchanges) where
   record Now (t : Tables) : Type 0 where
     w : Exchange
     row : t.exchange x ≡ Some w
@@ -87,14 +93,20 @@ module _ {B : Type 0} {g : Ghosts B} (r first second : Rows B g) (now x c q : �
   kept_still = ap (λ z. is_kept (shelf_of z) q) same_entries ∙ merely_true (is_kept (shelf_of first.entries) q) some (λ p.
       let s = past_of_runs r p in
       let n = now_of s.0 s.1 s.2 in
-      let stood = sends _ s.0 x n.w n.a.v s.1 n.a.awaits n.for_it (awaits_it r s.0 s.1 s.2 x n.w n.a (subst (λ (d : ℕ). IsSomeAnd (get nat_eq r.consumers d) (IsInKey r.keys d)) (sym n.for_it) waits)) s.2 in
+      let stood = sends _ s.0 x n.w n.a.v s.1 n.a.awaits n.for_it
+      (awaits_it r s.0 s.1 s.2 x n.w n.a (subst (λ (d : ℕ). IsSomeAnd (get nat_eq r.consumers d) (IsInKey r.keys d)) (sym n.for_it) waits)) s.2 in
       let u = usable_there ((shelf_of r.entries).kept q) usable in
       let e = entry_row r s.0 s.2 q u.0 u.1 in
-      by_kept s.0 n.a.v e.0 ((shelf_of first.entries).kept q) refl e.1 (sym e.2.is_gone ∙ u.2) (subst (KeepsEntry (with_consumer c (Some (back_in_line now n.a.v)) s.0) q ((shelf_of first.entries).kept q)) e.1 (stood.entries.each q)))
+      by_kept s.0 n.a.v e.0 ((shelf_of first.entries).kept q) refl e.1 (sym e.2.is_gone ∙ u.2)
+      (subst (KeepsEntry (with_consumer c (Some (back_in_line now n.a.v)) s.0) q ((shelf_of first.entries).kept q)) e.1 (stood.entries.each q)))
     where
-      by_kept : (t : Tables) (v : rows.Consumer) (p : Representation) (o : Option Kept) → (shelf_of first.entries).kept q ≡ o → t.representation q ≡ Some p → p.is_gone ≡ false → KeepsEntry (with_consumer c (Some (back_in_line now v)) t) q ((shelf_of first.entries).kept q) (Some p) → is_kept (shelf_of first.entries) q ≡ true
+      by_kept : (t : Tables) (v : rows.Consumer) (p : Representation) (o : Option Kept) → (shelf_of first.entries).kept q ≡ o →
+          t.representation q ≡ Some p → p.is_gone ≡ false →
+          KeepsEntry (with_consumer c (Some (back_in_line now v)) t) q ((shelf_of first.entries).kept q) (Some p) → is_kept (shelf_of first.entries) q ≡ true
       by_kept t v p (Some e) at there stays keeps = ap (λ (o : Option Kept). is_some o) at
-      by_kept t v p None at there stays keeps = (let dropped = subst (λ (o : Option Kept). KeepsEntry (with_consumer c (Some (back_in_line now v)) t) q o (Some p)) at keeps in false_true (sym stays ∙ dropped.gone))
+      by_kept t v p None at there stays keeps =
+          (let dropped = subst (λ (o : Option Kept). KeepsEntry (with_consumer c (Some (back_in_line now v)) t) q o (Some p)) at keeps in
+          false_true (sym stays ∙ dropped.gone))
 
   -- what writes it for several is open still
   pub open_still : (y : ℕ) → writer_group_of (table_of r.exchanges) ((shelf_of r.entries).kept q) ≡ Some y → is_open y (table_of second.exchanges) ≡ true
@@ -104,6 +116,7 @@ module _ {B : Type 0} {g : Ghosts B} (r first second : Rows B g) (now x c q : �
       let u = usable_there ((shelf_of r.entries).kept q) usable in
       let e = entry_row r s.0 s.2 q u.0 u.1 in
       let z = grows r s.0 s.1 s.2 q e.0 e.1 y writer_group in
-      let apart : y ≢ x = λ same. (let one : n.w ≡ z.0 = same_row (s.0.exchange x) n.w z.0 n.row (ap s.0.exchange (sym same) ∙ z.1.row) in false_true (sym (ap (λ (k : Exchange). is_some k.head) (sym one) ∙ ap (λ h. is_some h) n.a.awaits.headless) ∙ z.1.headed)) in
+      let apart : y ≢ x = λ same. (let one : n.w ≡ z.0 = same_row (s.0.exchange x) n.w z.0 n.row (ap s.0.exchange (sym same) ∙ z.1.row) in
+      false_true (sym (ap (λ (k : Exchange). is_some k.head) (sym one) ∙ ap (λ h. is_some h) n.a.awaits.headless) ∙ z.1.headed)) in
       ap (λ (k : known.Known). is_some k.running) (known_other known.without_exchange x y first.exchanges second.exchanges becomes apart)
       ∙ (ap (λ z. is_open y (table_of z)) same_exchanges ∙ group_open (table_of r.exchanges) ((shelf_of r.entries).kept q) y writer_group))

@@ -49,7 +49,8 @@ module _ (t : Tables) (now : ℕ) (response : Response) (w : Exchange) (r : ℕ)
 
   current_same : (key : List ℕ) → current s key ≡ current t key
   unfolding current
-  current_same key = finds_same (λ q. is_usable key (t.representation q)) (λ q. is_usable key (s.representation q)) (reported_same (is_usable key) refl) t.founded
+  current_same key = finds_same (λ q. is_usable key (t.representation q)) (λ q. is_usable key (s.representation q)) (reported_same (is_usable key) refl)
+      t.founded
 
   -- REPRESENTATIONS
 
@@ -70,28 +71,43 @@ module _ (t : Tables) (now : ℕ) (response : Response) (w : Exchange) (r : ℕ)
     where
       by_length : KnowsLength e v → KnowsLength (with_head (renewed_head w.opened now response.fields e.head) e) z
       by_length (reported same) = reported same
-      by_length (unreported u) = unreported (record { gone = u.gone; unreported = u.unreported; total = u.total; known = u.known; came = u.came; first = u.first })
+      by_length (unreported u) =
+          unreported (record { gone = u.gone; unreported = u.unreported; total = u.total; known = u.known; came = u.came; first = u.first })
 
-  entries_renewed : (a b : Shelf) (e : Kept) → a.kept r ≡ Some e → KeepsEntries t a → shelf.Becomes (option_map (with_head (renewed_head w.opened now response.fields e.head))) same_order r a b → KeepsEntries s b
+  entries_renewed : (a b : Shelf) (e : Kept) → a.kept r ≡ Some e → KeepsEntries t a →
+      shelf.Becomes (option_map (with_head (renewed_head w.opened now response.fields e.head))) same_order r a b → KeepsEntries s b
   unfolding bound kind_of
   entries_renewed a b e at kept becomes = record {
     each = λ q. elim (same_or r q) [
       | inl same_q ↦ subst (λ n. KeepsEntry s n (b.kept n) (s.representation n)) same_q its
-      | inr ne ↦ rw (becomes.kept q, eqb-other r q ne) (entry_same t s q (a.kept q) (t.representation q) refl (record { users = λ d. refl; first = λ d. first_by t s (reported_same status_in refl) q (t.consumer d); list = refl; kind = λ p there. refl; overs = λ y on. on }) (kept.each q))
+      | inr ne ↦ rw (becomes.kept q, eqb-other r q ne)
+          (entry_same t s q (a.kept q) (t.representation q) refl
+          (record {
+            users = λ d. refl;
+            first = λ d. first_by t s (reported_same status_in refl) q (t.consumer d);
+            list = refl;
+            kind = λ p there. refl;
+            overs =
+                λ y on. on;
+          }) (kept.each q))
     ];
-    order = becomes.order ∙ (kept.order ∙ sym (filters_same (λ q. is_usable_row (t.representation q)) (λ q. is_usable_row (s.representation q)) (reported_same is_usable_row refl) t.used));
+    order = becomes.order ∙ (kept.order ∙
+        sym (filters_same (λ q. is_usable_row (t.representation q)) (λ q. is_usable_row (s.representation q)) (reported_same is_usable_row refl) t.used));
   }
     where
       its : KeepsEntry s r (b.kept r) (s.representation r)
       its =
           let is : IsEntry t r e v = subst (λ k. KeepsEntry t r k (Some v)) at (subst (KeepsEntry t r (a.kept r)) row (kept.each r)) in
           let after : b.kept r ≡ Some (with_head (renewed_head w.opened now response.fields e.head) e) = becomes.kept r ∙ rw (eqb-same r, at) refl in
-          subst (λ k. KeepsEntry s r k (s.representation r)) (sym after) (subst (KeepsEntry s r (Some (with_head (renewed_head w.opened now response.fields e.head) e))) (sym here) (entry_renewed e is))
+          subst (λ k. KeepsEntry s r k (s.representation r)) (sym after)
+          (subst (KeepsEntry s r (Some (with_head (renewed_head w.opened now response.fields e.head) e))) (sym here) (entry_renewed e is))
 
 -- ALL OF IT
 
-pub stands_renewed : {B : Type 0} {g : Ghosts B} {limits : Limits} (r u : Rows B g) (t : Tables) (now : ℕ) (response : Response) (w : Exchange) (q : ℕ) (v : Representation) (e : Kept) → t.representation q ≡ Some v → RowsStand limits r t → KeepsBeside r u → (shelf_of r.entries).kept q ≡ Some e
-    → shelf.Becomes (option_map (with_head (renewed_head w.opened now response.fields e.head))) same_order q (shelf_of r.entries) (shelf_of u.entries) → RowsStand limits u (with_representation q (Some (with_refreshed_head now response w v)) t)
+pub stands_renewed : {B : Type 0} {g : Ghosts B} {limits : Limits} (r u : Rows B g) (t : Tables) (now : ℕ) (response : Response) (w : Exchange) (q : ℕ)
+    (v : Representation) (e : Kept) → t.representation q ≡ Some v → RowsStand limits r t → KeepsBeside r u → (shelf_of r.entries).kept q ≡ Some e
+    → shelf.Becomes (option_map (with_head (renewed_head w.opened now response.fields e.head))) same_order q (shelf_of r.entries) (shelf_of u.entries) →
+    RowsStand limits u (with_representation q (Some (with_refreshed_head now response w v)) t)
 stands_renewed r u t now response w q v e row stands rest at becomes =
     let m : Tables = with_representation q (Some (with_refreshed_head now response w v)) t in
     let consumers = rest.consumers in
@@ -102,8 +118,20 @@ stands_renewed r u t now response w q v e row stands rest at becomes =
       last_start = rest.last_start ∙ stands.last_start;
       next = ap (λ z. next_of z) exchanges ∙ stands.next;
       count = ap (λ z. hash_map_len z) consumers ∙ stands.count;
-      consumers = λ d. rw consumers (consumer_same t m (get nat_eq r.consumers d) (t.consumer d) (λ k is. record { past = λ x stood. refl; length = λ n lo hi how stood. reported_same t now response w q v row total_in refl n }) (stands.consumers d));
-      exchanges = λ y. rw exchanges (exchange_same t m y (table_of r.exchanges y) (record { row = refl; brings = λ e is. reported_same t now response w q v row (λ o. is_some o) refl (family y e); held = held_renewed t now response w q v row y (t.exchange y) }) (stands.exchanges y));
-      keys = λ key. rw same_keys (key_same t m key (kept_of r.keys key) (record { current = current_same t now response w q v row key; in_line = λ d. refl; passed = λ d. refl; away = λ d. refl; turn = λ d. refl }) (stands.keys key));
+      consumers = λ d. rw consumers
+          (consumer_same t m (get nat_eq r.consumers d) (t.consumer d)
+          (λ k is. record { past = λ x stood. refl; length = λ n lo hi how stood. reported_same t now response w q v row total_in refl n }) (stands.consumers d));
+      exchanges = λ y. rw exchanges
+          (exchange_same t m y (table_of r.exchanges y)
+          (record {
+            row = refl;
+            brings = λ e is. reported_same t now response w q v row (λ o. is_some o) refl (family y e);
+            held =
+                held_renewed t now response w q v row y (t.exchange y);
+          }) (stands.exchanges y));
+      keys = λ key. rw same_keys
+          (key_same t m key (kept_of r.keys key)
+          (record { current = current_same t now response w q v row key; in_line = λ d. refl; passed = λ d. refl; away = λ d. refl; turn = λ d. refl })
+          (stands.keys key));
       entries = entries_renewed t now response w q v row (shelf_of r.entries) (shelf_of u.entries) e at stands.entries becomes;
     }

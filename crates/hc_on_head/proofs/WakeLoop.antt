@@ -34,12 +34,20 @@ pub record IsWokenBelow (i : ℕ) (kept : KeyTable) (key : List ℕ) (now : ℕ)
 
 module _ (kept : KeyTable) (key : List ℕ) (now : ℕ) (t : Tables) where
   pub none_woken : (s : Shelf) → KeepsEntries t s → IsWokenBelow 0 kept key now t s
-  none_woken s entries = record { f = t.consumer; changed = λ j d lt is. absurd (omega (arith, lt)); rest = λ d none. refl; there = λ d. refl; entries = entries }
+  none_woken s entries = record {
+    f = t.consumer;
+    changed = λ j d lt is. absurd (omega (arith, lt));
+    rest = λ d none. refl;
+    there = λ d. refl;
+    entries =
+        entries;
+  }
 
   pub none_more : (i : ℕ) (s : Shelf) → IsWokenBelow i kept key now t s → seated_at kept key i ≡ None → IsWokenBelow (i + 1) kept key now t s
   none_more i s was none = record {
     f = was.f;
-    changed = λ j d lt is. elim (last_or j i lt) [ inl same ↦ none_some d (sym none ∙ (ap (seated_at kept key) (sym same) ∙ is)) | inr below ↦ was.changed j d below is ];
+    changed = λ j d lt is. elim (last_or j i lt)
+        [ inl same ↦ none_some d (sym none ∙ (ap (seated_at kept key) (sym same) ∙ is)) | inr below ↦ was.changed j d below is ];
     rest = λ d unseated. was.rest d (λ j lt is. unseated j (omega (arith, lt)) is);
     there = was.there;
     entries = was.entries;
@@ -52,7 +60,8 @@ module _ (kept : KeyTable) (key : List ℕ) (now : ℕ) (t : Tables) where
     pub waits : (d : ℕ) → is_in d (line_of kept key) ≡ true → Waits t key (t.consumer d)
     waits d on = waits_of t key (t.consumer d) (stood t key law d) (sym (stands_is d) ∙ on)
 
-    module _ (i c : ℕ) (s : Shelf) (was : IsWokenBelow i kept key now t s) (seat : seated_at kept key i ≡ Some c) (inside : is_in c (line_of kept key) ≡ true) (its : IsItsSeat kept key i c) where
+    module _ (i c : ℕ) (s : Shelf) (was : IsWokenBelow i kept key now t s) (seat : seated_at kept key i ≡ Some c)
+        (inside : is_in c (line_of kept key) ≡ true) (its : IsItsSeat kept key i c) where
       abbrev u : Tables
       u = of_consumers was.f t
 
@@ -100,7 +109,8 @@ module _ (kept : KeyTable) (key : List ℕ) (now : ℕ) (t : Tables) where
 
         there_then : (d : ℕ) → is_some (then.consumer d) ≡ is_some (t.consumer d)
         there_then d = elim (same_or c d) [
-          | inl same ↦ subst (λ n. is_some (then.consumer n) ≡ is_some (t.consumer n)) same (ap (λ z. is_some z) here ∙ mapped (back_in_line now) (t.consumer c))
+          | inl same ↦ subst (λ n. is_some (then.consumer n) ≡ is_some (t.consumer n)) same
+              (ap (λ z. is_some z) here ∙ mapped (back_in_line now) (t.consumer c))
           | inr ne ↦ ap (λ z. is_some z) (elsewhere d ne) ∙ was.there d
         ]
 
@@ -118,7 +128,8 @@ module _ (kept : KeyTable) (key : List ℕ) (now : ℕ) (t : Tables) where
 
     -- AT THE END
 
-    module _ (end i : ℕ) (s : Shelf) (seats : AllAreSeatedBelow end kept key) (le : end ≤ i) (was : IsWokenBelow i kept key now t s) (inside : (j d : ℕ) → j < i → seated_at kept key j ≡ Some d → is_in d (line_of kept key) ≡ true) where
+    module _ (end i : ℕ) (s : Shelf) (seats : AllAreSeatedBelow end kept key) (le : end ≤ i) (was : IsWokenBelow i kept key now t s)
+        (inside : (j d : ℕ) → j < i → seated_at kept key j ≡ Some d → is_in d (line_of kept key) ≡ true) where
       abbrev v : Tables
       v = woken now key t
 
@@ -134,7 +145,8 @@ module _ (kept : KeyTable) (key : List ℕ) (now : ℕ) (t : Tables) where
         where
           by_stood : Stood t key (t.consumer d) → P (v.consumer d) ≡ P (was.f d)
           by_stood (nobody none) = ap P (rw none refl) ∙ sym (ap P (out d (ap (stands_for t key) none) ∙ none))
-          by_stood (back k is same waiting stands) = ap P (starts_over t key now (t.consumer d) k is same waiting) ∙ sym (ap P (into d stands ∙ ap (option_map (back_in_line now)) is))
+          by_stood (back k is same waiting stands) = ap P (starts_over t key now (t.consumer d) k is same waiting) ∙
+              sym (ap P (into d stands ∙ ap (option_map (back_in_line now)) is))
           by_stood (beside k is same at stands) =
               ap P (starts_over t key now (t.consumer d) k is same (rw at refl)) ∙ (free (back_in_line now k) refl ∙ sym (ap P (out d stands ∙ is) ∙ free k at))
           by_stood (stays k is off stands) = ap P (stays_so t key now (t.consumer d) k is off) ∙ sym (ap P (out d stands))
@@ -203,7 +215,8 @@ module _ {B : Type 0} {g : Ghosts B} (r mid : Rows B g) (i now : ℕ) (key : Lis
     kept_yet t keeps = subst (λ o. KeepsConsumer t o (t.consumer c)) (sym as_was) (keeps.consumers c)
 
     user_by : (s : KeepsSomeLine r key) → IsUser (get nat_eq mid.consumers c) c (shelf_of mid.entries)
-    user_by s = is_user r.keys key now s.t s.law s.keeps.line i c (shelf_of mid.entries) (so_far.entries s.t s.law s.keeps) seat in_line alone (get nat_eq mid.consumers c) (kept_yet s.t s.keeps)
+    user_by s = is_user r.keys key now s.t s.law s.keeps.line i c (shelf_of mid.entries) (so_far.entries s.t s.law s.keeps) seat in_line alone
+        (get nat_eq mid.consumers c) (kept_yet s.t s.keeps)
 
     by_some : (o : Option Consumer) → ∥ KeepsSomeLine r key ∥₁ → (KeepsSomeLine r key → IsUser o c (shelf_of mid.entries)) → IsUser o c (shelf_of mid.entries)
     by_some None some h = tt
@@ -212,12 +225,15 @@ module _ {B : Type 0} {g : Ghosts B} (r mid : Rows B g) (i now : ℕ) (key : Lis
     pub user : ∥ KeepsSomeLine r key ∥₁ → IsUser (get nat_eq mid.consumers c) c (shelf_of mid.entries)
     user some = by_some (get nat_eq mid.consumers c) some user_by
 
-    module _ (u : Rows B g) (over : ChangesAt mid.consumers u.consumers c (once_over now)) (unbound : Unbinds (get nat_eq mid.consumers c) c (shelf_of mid.entries) (shelf_of u.entries)) (faults : (shelf_of u.entries).faults ≡ (shelf_of mid.entries).faults)
+    module _ (u : Rows B g) (over : ChangesAt mid.consumers u.consumers c (once_over now))
+        (unbound : Unbinds (get nat_eq mid.consumers c) c (shelf_of mid.entries) (shelf_of u.entries))
+        (faults : (shelf_of u.entries).faults ≡ (shelf_of mid.entries).faults)
         (keys : u.keys ≡ mid.keys) (last : u.last_start ≡ mid.last_start) (exchanges : u.exchanges ≡ mid.exchanges) where
       pub one_back : WokenSoFar r u (i + 1) now key
       one_back = record {
         over = one_more r.keys key (once_over now) r.consumers i c mid.consumers u.consumers so_far.over seat in_line alone over;
-        entries = λ t law keeps. one_woken r.keys key now t law keeps.line i c (shelf_of mid.entries) (so_far.entries t law keeps) seat in_line alone (get nat_eq mid.consumers c) (kept_yet t keeps) (shelf_of u.entries) unbound;
+        entries = λ t law keeps. one_woken r.keys key now t law keeps.line i c (shelf_of mid.entries) (so_far.entries t law keeps) seat in_line alone
+            (get nat_eq mid.consumers c) (kept_yet t keeps) (shelf_of u.entries) unbound;
         bounded = unbound_limits (get nat_eq mid.consumers c) c (shelf_of mid.entries) (shelf_of u.entries) unbound ∙ so_far.bounded;
         faults = faults ∙ so_far.faults;
         keys = keys ∙ so_far.keys;

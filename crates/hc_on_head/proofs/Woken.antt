@@ -42,7 +42,8 @@ module _ (t : Tables) (key : List ℕ) where
   none_of : (b : Bool) (d o : Bool) → (((b && false && d && o) || (b && false)) || (b && false)) ≡ false
   none_of b d o = grind (arith, nat_tests)
 
-  by_key : (k : rows.Consumer) (z : Option rows.Consumer) (b : Bool) → z ≡ Some k → bytes_eq k.request.key key ≡ b → (bytes_eq k.request.key key ≡ true → Stood z) → Stood z
+  by_key : (k : rows.Consumer) (z : Option rows.Consumer) (b : Bool) → z ≡ Some k → bytes_eq k.request.key key ≡ b →
+      (bytes_eq k.request.key key ≡ true → Stood z) → Stood z
   by_key k z false row off here = other_key k z row off
   by_key k z true row on here = here on
 
@@ -64,16 +65,20 @@ module _ (t : Tables) (key : List ℕ) where
       by_test true queues = back k row flipped (rw at refl) (is ∙ queues)
       by_test false fallback = beside k row flipped at (is ∙ fallback)
 
-  at_turn : (k : rows.Consumer) (z : Option rows.Consumer) (x : ℕ) → z ≡ Some k → k.place ≡ place.Turn x → Queues k → bytes_eq k.request.key key ≡ true → Stood z
+  at_turn : (k : rows.Consumer) (z : Option rows.Consumer) (x : ℕ) → z ≡ Some k → k.place ≡ place.Turn x → Queues k → bytes_eq k.request.key key ≡ true →
+      Stood z
   at_turn k z x row at queues on = back k row (bytes-flip key k.request.key ∙ on) (rw at refl) (rw (row, on, at, queues.cached, queues.asks) refl)
 
-  at_passed : (k : rows.Consumer) (z : Option rows.Consumer) (r : ℕ) (held : Option ℕ) → z ≡ Some k → k.place ≡ place.Passed r held → bytes_eq k.request.key key ≡ true → Stood z
-  at_passed k z r held row at on = back k row (bytes-flip key k.request.key ∙ on) (rw at refl) (rw (row, on, at) (by_tests (not (is_disabled k.request)) (not (is_only k.request))))
+  at_passed : (k : rows.Consumer) (z : Option rows.Consumer) (r : ℕ) (held : Option ℕ) → z ≡ Some k → k.place ≡ place.Passed r held →
+      bytes_eq k.request.key key ≡ true → Stood z
+  at_passed k z r held row at on =
+      back k row (bytes-flip key k.request.key ∙ on) (rw at refl) (rw (row, on, at) (by_tests (not (is_disabled k.request)) (not (is_only k.request))))
     where
       by_tests : (d o : Bool) → (((((true && false) && d) && o) || (true && true)) || (true && false)) ≡ true
       by_tests d o = refl
 
-  at_hole : (k : rows.Consumer) (z : Option rows.Consumer) (r lo y : ℕ) (hi : Option ℕ) → z ≡ Some k → k.place ≡ place.Bound r lo hi (by.FirstHole y) → bytes_eq k.request.key key ≡ true → Stood z
+  at_hole : (k : rows.Consumer) (z : Option rows.Consumer) (r lo y : ℕ) (hi : Option ℕ) → z ≡ Some k → k.place ≡ place.Bound r lo hi (by.FirstHole y) →
+      bytes_eq k.request.key key ≡ true → Stood z
   at_hole k z r lo y hi row at on = by_test (is_headless (t.exchange y)) refl
     where
       stands_is : (d o h : Bool) → (((((true && false) && d) && o) || (true && false)) || (true && h)) ≡ h
@@ -88,9 +93,11 @@ module _ (t : Tables) (key : List ℕ) where
 
   by_place : Lawful t → (d : ℕ) (k : rows.Consumer) (p : Place) → t.consumer d ≡ Some k → k.place ≡ p → Stood (t.consumer d)
   by_place law d k place.Line row at = by_key k (t.consumer d) (bytes_eq k.request.key key) row refl (at_line k (t.consumer d) row at)
-  by_place law d k (place.Turn x) row at = by_key k (t.consumer d) (bytes_eq k.request.key key) row refl (at_turn k (t.consumer d) x row at (law.places.turn_queues d x k row at))
+  by_place law d k (place.Turn x) row at =
+      by_key k (t.consumer d) (bytes_eq k.request.key key) row refl (at_turn k (t.consumer d) x row at (law.places.turn_queues d x k row at))
   by_place law d k (place.Passed r held) row at = by_key k (t.consumer d) (bytes_eq k.request.key key) row refl (at_passed k (t.consumer d) r held row at)
-  by_place law d k (place.Bound r lo hi (by.FirstHole y)) row at = by_key k (t.consumer d) (bytes_eq k.request.key key) row refl (at_hole k (t.consumer d) r lo y hi row at)
+  by_place law d k (place.Bound r lo hi (by.FirstHole y)) row at =
+      by_key k (t.consumer d) (bytes_eq k.request.key key) row refl (at_hole k (t.consumer d) r lo y hi row at)
   by_place law d k _ row at = elsewhere k (t.consumer d) row (rw at refl) (rw at (none_of _ _ _))
 
   pub stood : Lawful t → (d : ℕ) → Stood (t.consumer d)

@@ -8,14 +8,14 @@ ghost use Rattle.hc_state.specs.DetachedReaders.{AnswersLosing};
 ghost use Rattle.hc_state.specs.Stored.{is_usable_kept};
 ghost use Rattle.hc_on_head.specs.Comings.{MayCome};
 
-use crate::asker::send_back;
 use crate::arrival::Arrival;
+use crate::asker::send_back;
 use crate::unstored::refuse;
 use hc_event::{Acts, LostKind, Response};
 use hc_on_leave::lose::lose_group;
 use hc_on_leave::seal::lose_to;
-use hc_on_leave::writers::exclusive;
 use hc_on_leave::writer_group::writer_group;
+use hc_on_leave::writers::exclusive;
 use hc_state::Rows;
 use hc_store::Backend;
 

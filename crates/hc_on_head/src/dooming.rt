@@ -6,8 +6,8 @@ ghost use Rattle.hc_stored.specs.Entries.{shelf_of};
 ghost use Rattle.hc_state.specs.Stands.{AnswersDooming};
 ghost use Rattle.hc_on_head.specs.Comings.{MayCome, IsPast};
 
-use crate::doom::doom;
 use crate::arrival::Arrival;
+use crate::doom::doom;
 use crate::unstored::have_answer;
 use hc_event::{Acts, Cause, Place, Response};
 use hc_rules::HeadCase;

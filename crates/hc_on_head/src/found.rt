@@ -19,8 +19,8 @@ ghost use Rattle.hc_state.specs.Stands.{AnswersCase, Stands, open_at};
 ghost use Rattle.hc_on_head.specs.Comings.{FoundsBy, MayCome};
 ghost use Rattle.hc_state.specs.Frames.{KeepsFaults};
 
-use crate::asker::fall_back;
 use crate::arrival::Arrival;
+use crate::asker::fall_back;
 use crate::unstored::have_answer;
 use hc_event::{Act, Acts, Place, Response};
 use hc_exch::Role;

@@ -18,9 +18,9 @@ ghost use Rattle.hc_state.specs.Stands.{Answers, AnswersCase, Stands, open_at};
 ghost use Rattle.hc_on_head.specs.Comings.{FitsCase, MayCome};
 ghost use Rattle.hc_state.specs.Frames.{KeepsFaults};
 
+use crate::arrival::Arrival;
 use crate::dooming::take_dooming;
 use crate::found::found;
-use crate::arrival::Arrival;
 use crate::join::join;
 use crate::turn::validate;
 use crate::unstored::{answer_past, close_hole, go_past, put_down, start_anew};

@@ -17,9 +17,9 @@ ghost use Rattle.hc_on_head.specs.Comings.{MayCome, MayRenew};
 ghost use Rattle.hc_state.specs.Frames.{KeepsFaults};
 ghost use Rattle.hc_on_head.specs.Frames.{FailsUnrenewed};
 
+use crate::arrival::Arrival;
 use crate::asked::lose_asked;
 use crate::asker::let_through;
-use crate::arrival::Arrival;
 use crate::unstored::{refuse, start_anew};
 use hc_event::{Acts, Response};
 use hc_record::StoredHead;

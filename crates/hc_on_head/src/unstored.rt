@@ -19,8 +19,8 @@ ghost use Rattle.hc_state.specs.Stands.{AnswersCase, RowsStand, open_at};
 ghost use Rattle.hc_on_head.specs.Comings.{MayCome};
 ghost use Rattle.hc_on_head.specs.Frames.{ChangesExchanges};
 
-use crate::asker::{fall_back, send_back};
 use crate::arrival::Arrival;
+use crate::asker::{fall_back, send_back};
 use hc_event::{Act, Acts, Cause, Place, Response};
 use hc_exch::Role;
 use hc_on_leave::acts::put;

@@ -31,10 +31,13 @@ known_here f x a b becomes = becomes.table x ∙ rw (eqb-same x) refl
 pub known_other : (f : Known → Known) (x y : ℕ) (a b : Exchanges) → exch.Becomes f x a b → y ≢ x → table_of b y ≡ table_of a y
 known_other f x y a b becomes ne = becomes.table y ∙ rw (eqb-other x y (λ e. ne (sym e))) refl
 
-module _ {B : Type 0} {g : Ghosts B} {limits : Limits} (r u : Rows B g) (t : Tables) (now x : ℕ) (response copied : Response) (w : Exchange) (v : rows.Consumer) (k : Consumer) (o : Open) (l : Length) (mid : Exchanges) (stands : RowsStand limits r t) (alone : IsReadAlone t x w v)
-    (there : get nat_eq r.consumers w.c ≡ Some k) (running : (table_of r.exchanges x).running ≡ Some o) (reported : l ≡ length_of w.need w.request response) (copies : copied ≡ response)
+module _ {B : Type 0} {g : Ghosts B} {limits : Limits} (r u : Rows B g) (t : Tables) (now x : ℕ) (response copied : Response) (w : Exchange)
+    (v : rows.Consumer) (k : Consumer) (o : Open) (l : Length) (mid : Exchanges) (stands : RowsStand limits r t) (alone : IsReadAlone t x w v)
+    (there : get nat_eq r.consumers w.c ≡ Some k) (running : (table_of r.exchanges x).running ≡ Some o)
+    (reported : l ≡ length_of w.need w.request response) (copies : copied ≡ response)
     (last : u.last_start ≡ r.last_start) (same_keys : u.keys ≡ r.keys) (same_entries : u.entries ≡ r.entries)
-    (turned : exch.Becomes (turned_into role.Direct) x r.exchanges mid) (headed : exch.Becomes (with_good_head l) x mid u.exchanges) (changes : ChangesAt r.consumers u.consumers w.c (answered_by copied l)) where
+    (turned : exch.Becomes (turned_into role.Direct) x r.exchanges mid) (headed : exch.Becomes (with_good_head l) x mid u.exchanges)
+    (changes : ChangesAt r.consumers u.consumers w.c (answered_by copied l)) where
   abbrev z : Exchange
   z = exchange_with_head now response w.joined w
 
@@ -72,10 +75,12 @@ module _ {B : Type 0} {g : Ghosts B} {limits : Limits} (r u : Rows B g) (t : Tab
   abbrev opened : Open
   opened = record o { role = role.Direct; headed = true; base = base_of l; promised = promise_of l }
 
-  running_is : (b : Bool) → is_all (promise_of l) 0 ≡ b → (with_good_head l (turned_into role.Direct (table_of r.exchanges x))).running ≡ cond b None (Some opened)
+  running_is : (b : Bool) → is_all (promise_of l) 0 ≡ b →
+      (with_good_head l (turned_into role.Direct (table_of r.exchanges x))).running ≡ cond b None (Some opened)
   running_is b over = grind (arith, nat_tests)
 
-  held_same : (b : Bool) → is_all (promise_of l) 0 ≡ b → (with_good_head l (turned_into role.Direct (table_of r.exchanges x))).held ≡ (table_of r.exchanges x).held
+  held_same : (b : Bool) → is_all (promise_of l) 0 ≡ b →
+      (with_good_head l (turned_into role.Direct (table_of r.exchanges x))).held ≡ (table_of r.exchanges x).held
   held_same b over = grind (arith, nat_tests)
 
   reached_is : is_all (promise_of l) 0 ≡ is_reached (promise_of (length_of w.need w.request response)) 0
@@ -91,7 +96,8 @@ module _ {B : Type 0} {g : Ghosts B} {limits : Limits} (r u : Rows B g) (t : Tab
   exchange_kept : KeepsExchange s x (table_of u.exchanges x)
   exchange_kept = record {
     running = subst (λ (q : Option Exchange). KeepsRunning s x (table_of u.exchanges x).running q) (sym s_here)
-        (subst (λ (q : Option Open). KeepsRunning s x q (Some z)) (sym (ap (λ (q : Known). q.running) known_then ∙ running_is (is_reached (promise_of (length_of w.need w.request response)) 0) reached_is))
+        (subst (λ (q : Option Open). KeepsRunning s x q (Some z))
+        (sym (ap (λ (q : Known). q.running) known_then ∙ running_is (is_reached (promise_of (length_of w.need w.request response)) 0) reached_is))
         (runs_then (is_reached (promise_of (length_of w.need w.request response)) 0) refl));
     held = ap (λ (q : Known). q.held) known_then
         ∙ (held_same (is_all (promise_of l) 0) refl
@@ -121,39 +127,52 @@ ends_in_range (says.Part first m) early = λ n is. (let same : m ≡ n = some_is
 ends_in_range _ early = λ n is. none_some n is
 
 -- what it was opened with
-pub opened_as : (op : Opening) (running : Option Open) (o : Open) → Some (opened_with op) ≡ option_map begins_with running → running ≡ Some o → (op.need.now ≡ o.need) × (op.request.now ≡ o.request)
+pub opened_as : (op : Opening) (running : Option Open) (o : Open) → Some (opened_with op) ≡ option_map begins_with running → running ≡ Some o →
+    (op.need.now ≡ o.need) × (op.request.now ≡ o.request)
 opened_as op running o is at = grind (arith, nat_tests)
 
 -- whoever reads past the store is kept
-pub reader_kept : {B : Type 0} {g : Ghosts B} {limits : Limits} (r : Rows B g) (t : Tables) (c x : ℕ) (v : rows.Consumer) → RowsStand limits r t → t.consumer c ≡ Some v → v.place ≡ place.Direct x → (k : Consumer) × (get nat_eq r.consumers c ≡ Some k)
+pub reader_kept : {B : Type 0} {g : Ghosts B} {limits : Limits} (r : Rows B g) (t : Tables) (c x : ℕ) (v : rows.Consumer) → RowsStand limits r t →
+    t.consumer c ≡ Some v → v.place ≡ place.Direct x → (k : Consumer) × (get nat_eq r.consumers c ≡ Some k)
 reader_kept r t c x v stands row at = by_kept (get nat_eq r.consumers c) refl (subst (KeepsConsumer t (get nat_eq r.consumers c)) row (stands.consumers c))
   where
     by_kept : (o : Option Consumer) → get nat_eq r.consumers c ≡ o → KeepsConsumer t o (Some v) → (k : Consumer) × (get nat_eq r.consumers c ≡ Some k)
     by_kept None there kept = false_true (sym kept ∙ rw at refl)
     by_kept (Some k) there kept = (k, there)
 
-pub stands_answered_as : {B : Type 0} {g : Ghosts B} {limits : Limits} (r u : Rows B g) (t : Tables) (now x c : ℕ) (response copied : Response) (w : Exchange) (v : rows.Consumer) (op : Opening) (l : Length) (mid : Exchanges) → RowsStand limits r t → IsReadAlone t x w v → w.c ≡ c
-    → head_refusal (option_map open_view (table_of r.exchanges x).running) ≡ None → Some (opened_with op) ≡ option_map begins_with (table_of r.exchanges x).running → l ≡ length_of op.need.now op.request.now response
-    → is_bad (length_by (table_of r.exchanges x).running response) ≡ false → copied ≡ response → u.last_start ≡ r.last_start → u.keys ≡ r.keys → u.entries ≡ r.entries
-    → exch.Becomes (turned_into role.Direct) x r.exchanges mid → (is_bad (length_by (table_of mid x).running response) ≡ false → exch.Becomes (with_good_head (length_by (table_of mid x).running response)) x mid u.exchanges)
+pub stands_answered_as : {B : Type 0} {g : Ghosts B} {limits : Limits} (r u : Rows B g) (t : Tables) (now x c : ℕ) (response copied : Response)
+    (w : Exchange) (v : rows.Consumer) (op : Opening) (l : Length) (mid : Exchanges) → RowsStand limits r t → IsReadAlone t x w v → w.c ≡ c
+    → head_refusal (option_map open_view (table_of r.exchanges x).running) ≡ None →
+    Some (opened_with op) ≡ option_map begins_with (table_of r.exchanges x).running → l ≡ length_of op.need.now op.request.now response
+    → is_bad (length_by (table_of r.exchanges x).running response) ≡ false → copied ≡ response → u.last_start ≡ r.last_start → u.keys ≡ r.keys →
+    u.entries ≡ r.entries
+    → exch.Becomes (turned_into role.Direct) x r.exchanges mid →
+    (is_bad (length_by (table_of mid x).running response) ≡ false →
+    exch.Becomes (with_good_head (length_by (table_of mid x).running response)) x mid u.exchanges)
     → ChangesAt r.consumers u.consumers c (answered_by copied l) → RowsStand limits u (effects.with_answer now x response w.joined w t)
-stands_answered_as r u t now x c response copied w v op l mid stands alone for_it accepted opens reported good copies last same_keys same_entries turned headed changes =
+stands_answered_as r u t now x c response copied w v op l mid stands alone for_it accepted opens reported good copies last same_keys same_entries turned
+    headed changes =
     let h = headless_of (table_of r.exchanges x).running accepted in
     let o = h.o in
     let runs = runs_as r t x o w stands h.there alone.bare.row in
     let same = opened_as op (table_of r.exchanges x).running o opens h.there in
     let k = reader_kept r t w.c x v stands alone.asker alone.at in
-    let reported_by : l ≡ length_of o.need o.request response = reported ∙ (ap (λ n. length_of n op.request.now response) same.0 ∙ ap (λ q. length_of o.need q response) same.1) in
+    let reported_by : l ≡ length_of o.need o.request response = reported ∙
+    (ap (λ n. length_of n op.request.now response) same.0 ∙ ap (λ q. length_of o.need q response) same.1) in
     let by_role : Option Open → Length = λ z. length_by (option_map (λ (q : Open). record q { role = role.Direct }) z) response in
     let mid_is : length_by (table_of mid x).running response ≡ length_by (table_of r.exchanges x).running response =
     ap (λ (z : Known). length_by z.running response) (known_here (turned_into role.Direct) x r.exchanges mid turned)
     ∙ (ap by_role h.there ∙ sym (ap (λ (z : Option Open). length_by z response) h.there)) in
-    let here_is : length_by (table_of r.exchanges x).running response ≡ length_of o.need o.request response = ap (λ (z : Option Open). length_by z response) h.there in
+    let here_is : length_by (table_of r.exchanges x).running response ≡ length_of o.need o.request response =
+    ap (λ (z : Option Open). length_by z response) h.there in
     stands_answered r u t now x response copied w v k.0 o l mid stands alone k.1 h.there
-    (reported_by ∙ (ap (λ n. length_of n o.request response) runs.need ∙ ap (λ q. length_of w.need q response) runs.request)) copies last same_keys same_entries turned
+    (reported_by ∙ (ap (λ n. length_of n o.request response) runs.need ∙ ap (λ q. length_of w.need q response) runs.request)) copies last same_keys
+    same_entries turned
     (subst (λ (q : Length). exch.Becomes (with_good_head q) x mid u.exchanges) (mid_is ∙ (here_is ∙ sym reported_by)) (headed (ap is_bad mid_is ∙ good)))
     (subst (λ (d : ℕ). ChangesAt r.consumers u.consumers d (answered_by copied l)) (sym for_it) changes)
 
-pub changes_as_reported : (m n : Numbered Consumer) (c : ℕ) (answer : Response) (l : Length) (lo : ℕ) (hi : Option ℕ) → lo ≡ base_of l → hi ≡ end_of_answer l → ChangesAt m n c (with_answer answer lo hi) → ChangesAt m n c (answered_by answer l)
+pub changes_as_reported : (m n : Numbered Consumer) (c : ℕ) (answer : Response) (l : Length) (lo : ℕ) (hi : Option ℕ) → lo ≡ base_of l →
+    hi ≡ end_of_answer l → ChangesAt m n c (with_answer answer lo hi) → ChangesAt m n c (answered_by answer l)
 changes_as_reported m n c answer l lo hi begins ends changes =
-    subst (λ (b : ℕ). ChangesAt m n c (with_answer answer b (end_of_answer l))) begins (subst (λ (e : Option ℕ). ChangesAt m n c (with_answer answer lo e)) ends changes)
+    subst (λ (b : ℕ). ChangesAt m n c (with_answer answer b (end_of_answer l))) begins
+    (subst (λ (e : Option ℕ). ChangesAt m n c (with_answer answer lo e)) ends changes)

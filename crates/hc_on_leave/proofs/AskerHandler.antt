@@ -37,7 +37,8 @@ apart_by x (place.Direct y) is = record { live = refl; unbound = λ q. refl; unl
 apart_by x (place.Down why) is = record { live = refl; unbound = λ q. refl; unlined = refl; unpassed = refl; here = λ t. refl }
 apart_by x _ is = absurd is
 
-module _ (t : Tables) (law : Lawful t) (x : ℕ) (w : Exchange) (row : t.exchange x ≡ Some w) (opened : w.is_open ≡ true) (bare : w.head ≡ None) (v : rows.Consumer) (asker : t.consumer w.c ≡ Some v) (own : v.own ≡ Some x) (at : IsAwaiting x w v.place) where
+module _ (t : Tables) (law : Lawful t) (x : ℕ) (w : Exchange) (row : t.exchange x ≡ Some w) (opened : w.is_open ≡ true) (bare : w.head ≡ None)
+    (v : rows.Consumer) (asker : t.consumer w.c ≡ Some v) (own : v.own ≡ Some x) (at : IsAwaiting x w v.place) where
   empty : w.body ≡ []
   empty = (law.sound.waits.headless x w row bare).0
 
@@ -55,10 +56,12 @@ module _ (t : Tables) (law : Lawful t) (x : ℕ) (w : Exchange) (row : t.exchang
   asker_past : (y : ℕ) (z : Exchange) → t.exchange y ≡ Some z → unread y z (Some v) ≡ []
   asker_past y z there = grind (arith, nat_tests)
 
-  not_its : (y : ℕ) (z : Exchange) (b : Representation) → t.exchange y ≡ Some z → t.representation (family y z) ≡ Some b → (is_bound_place (family y z) v.place && (nat_eq x y)) ≡ false
+  not_its : (y : ℕ) (z : Exchange) (b : Representation) → t.exchange y ≡ Some z → t.representation (family y z) ≡ Some b →
+      (is_bound_place (family y z) v.place && (nat_eq x y)) ≡ false
   not_its y z b there founded = grind (arith, nat_tests)
 
-  asker_lost : (y : ℕ) (z : Exchange) (b : Representation) → t.exchange y ≡ Some z → t.representation (family y z) ≡ Some b → unstored_bytes t y z b (Some v) ≡ []
+  asker_lost : (y : ℕ) (z : Exchange) (b : Representation) → t.exchange y ≡ Some z → t.representation (family y z) ≡ Some b →
+      unstored_bytes t y z b (Some v) ≡ []
   asker_lost y z b there founded = rw (own, not_its y z b there founded) refl
 
   -- it isn't shown anything past the store yet
@@ -107,16 +110,21 @@ module _ (t : Tables) (law : Lawful t) (x : ℕ) (w : Exchange) (row : t.exchang
       lost = λ y e b there founded. lost_then y e b ∙ sym (asker_lost y e b there founded);
     }
 
-    pub stands_apart : {B : Type 0} {g : Ghosts B} {limits : Limits} (r u : Rows B g) (k : Consumer) → get nat_eq r.consumers w.c ≡ Some k → IsKept t k v → RowsStand limits r t
+    pub stands_apart : {B : Type 0} {g : Ghosts B} {limits : Limits} (r u : Rows B g) (k : Consumer) → get nat_eq r.consumers w.c ≡ Some k →
+        IsKept t k v → RowsStand limits r t
         → u.last_start ≡ r.last_start → u.exchanges ≡ r.exchanges → ChangesAt r.consumers u.consumers w.c (standing_at p)
-        → LeavesKey w.c k.request.key r.keys u.keys → UnbindsAt k.place w.c (shelf_of r.entries) (shelf_of u.entries) → RowsStand limits u (with_consumer w.c (Some z) t)
+        → LeavesKey w.c k.request.key r.keys u.keys → UnbindsAt k.place w.c (shelf_of r.entries) (shelf_of u.entries) →
+        RowsStand limits u (with_consumer w.c (Some z) t)
     stands_apart r u k there is stands last exchanges changes line unbinds =
         stands_moved r u t w.c v z (standing_at p k) stands asker (live_at x w v.place at) place_is.live last exchanges
         (unbinds_limits k.place w.c (shelf_of r.entries) (shelf_of u.entries) unbinds)
         (becomes_by r.consumers u.consumers w.c k (standing_at p) there changes) (kept_then k is)
-        (keys_apart t law w.c v z asker place_is.unbound (λ key. not_lined key z place_is.unlined) (λ key. then_false (bytes_eq v.request.key key) (has_passed p) place_is.unpassed) (λ key. then_false (bytes_eq v.request.key key) (is_away_at t p) (place_is.here t))
+        (keys_apart t law w.c v z asker place_is.unbound (λ key. not_lined key z place_is.unlined)
+        (λ key. then_false (bytes_eq v.request.key key) (has_passed p) place_is.unpassed)
+        (λ key. then_false (bytes_eq v.request.key key) (is_away_at t p) (place_is.here t))
         r.keys u.keys stands.keys (subst (λ (q : Request). LeavesKey w.c q.key r.keys u.keys) is.request line))
-        (entries_apart t law w.c v z asker place_is.unbound (shelf_of r.entries) (shelf_of u.entries) stands.entries (subst (λ q. UnbindsAt q w.c (shelf_of r.entries) (shelf_of u.entries)) is.place unbinds))
+        (entries_apart t law w.c v z asker place_is.unbound (shelf_of r.entries) (shelf_of u.entries) stands.entries
+        (subst (λ q. UnbindsAt q w.c (shelf_of r.entries) (shelf_of u.entries)) is.place unbinds))
         much
 
   -- IT STANDS IN LINE AGAIN
@@ -130,7 +138,8 @@ module _ (t : Tables) (law : Lawful t) (x : ℕ) (w : Exchange) (row : t.exchang
       where
         by_place : (p : Place) → v.place ≡ p → awaited_exchange p ≡ Some x → Queues v
         by_place (place.Turn y) stood on = law.places.turn_queues w.c y v asker stood
-        by_place (place.Bound q lo hi (by.FirstHole y)) stood on = record { cached = law.places.bound_cached w.c q lo hi (by.FirstHole y) v asker stood; asks = law.places.first_asks w.c q lo y hi v asker stood }
+        by_place (place.Bound q lo hi (by.FirstHole y)) stood on =
+            record { cached = law.places.bound_cached w.c q lo hi (by.FirstHole y) v asker stood; asks = law.places.first_asks w.c q lo y hi v asker stood }
         by_place _ stood on = none_some x on
 
     answer_back : answer_for t back ≡ None
@@ -145,41 +154,53 @@ module _ (t : Tables) (law : Lawful t) (x : ℕ) (w : Exchange) (row : t.exchang
       lost = λ y e b there founded. sym (asker_lost y e b there founded);
     }
 
-    pub stands_queued : {B : Type 0} {g : Ghosts B} {limits : Limits} (r u : Rows B g) (k : Consumer) → get nat_eq r.consumers w.c ≡ Some k → IsKept t k v → RowsStand limits r t
+    pub stands_queued : {B : Type 0} {g : Ghosts B} {limits : Limits} (r u : Rows B g) (k : Consumer) → get nat_eq r.consumers w.c ≡ Some k →
+        IsKept t k v → RowsStand limits r t
         → u.last_start ≡ r.last_start → u.exchanges ≡ r.exchanges → ChangesAt r.consumers u.consumers w.c (once_over now)
-        → keys.Becomes (on_line (come_back w.c)) k.request.key r.keys u.keys → UnbindsAt k.place w.c (shelf_of r.entries) (shelf_of u.entries) → RowsStand limits u (with_consumer w.c (Some back) t)
+        → keys.Becomes (on_line (come_back w.c)) k.request.key r.keys u.keys → UnbindsAt k.place w.c (shelf_of r.entries) (shelf_of u.entries) →
+        RowsStand limits u (with_consumer w.c (Some back) t)
     stands_queued r u k there is stands last exchanges changes line unbinds =
         stands_moved r u t w.c v back (once_over now k) stands asker (live_at x w v.place at) refl last exchanges
         (unbinds_limits k.place w.c (shelf_of r.entries) (shelf_of u.entries) unbinds)
         (becomes_by r.consumers u.consumers w.c k (once_over now) there changes) (back_kept k is)
-        (keys_with t w.c (Some back) (on_line (come_back w.c)) v.request.key r.keys u.keys stands.keys (subst (λ (q : Request). keys.Becomes (on_line (come_back w.c)) q.key r.keys u.keys) is.request line)
+        (keys_with t w.c (Some back) (on_line (come_back w.c)) v.request.key r.keys u.keys stands.keys
+        (subst (λ (q : Request). keys.Becomes (on_line (come_back w.c)) q.key r.keys u.keys) is.request line)
         (comes_back t w.c (Some back) v.request.key (kept_of r.keys v.request.key) (lined back refl queues.cached queues.asks)
-        (then_false (bytes_eq v.request.key v.request.key) false refl) (then_false (bytes_eq v.request.key v.request.key) false refl) (then_false (is_in_line v.request.key (Some back)) false refl))
+        (then_false (bytes_eq v.request.key v.request.key) false refl) (then_false (bytes_eq v.request.key v.request.key) false refl)
+        (then_false (is_in_line v.request.key (Some back)) false refl))
         (λ other off. says_elsewhere t w.c v back other asker refl off))
-        (entries_apart t law w.c v back asker (λ q. refl) (shelf_of r.entries) (shelf_of u.entries) stands.entries (subst (λ q. UnbindsAt q w.c (shelf_of r.entries) (shelf_of u.entries)) is.place unbinds))
+        (entries_apart t law w.c v back asker (λ q. refl) (shelf_of r.entries) (shelf_of u.entries) stands.entries
+        (subst (λ q. UnbindsAt q w.c (shelf_of r.entries) (shelf_of u.entries)) is.place unbinds))
         back_much
 
 -- whoever it is called
-pub falls_back_as : {B : Type 0} {g : Ghosts B} {limits : Limits} (r u : Rows B g) (t : Tables) (law : Lawful t) (x c : ℕ) (w : Exchange) (v : rows.Consumer) (k : Consumer) (p : Place) → AwaitsHead t x w v → w.c ≡ c → StandsApart x p → get nat_eq r.consumers c ≡ Some k → RowsStand limits r t
+pub falls_back_as : {B : Type 0} {g : Ghosts B} {limits : Limits} (r u : Rows B g) (t : Tables) (law : Lawful t) (x c : ℕ) (w : Exchange)
+    (v : rows.Consumer) (k : Consumer) (p : Place) → AwaitsHead t x w v → w.c ≡ c → StandsApart x p → get nat_eq r.consumers c ≡ Some k → RowsStand limits r t
     → u.last_start ≡ r.last_start → u.exchanges ≡ r.exchanges → ChangesAt r.consumers u.consumers c (standing_at p)
-    → LeavesKey c k.request.key r.keys u.keys → UnbindsAt k.place c (shelf_of r.entries) (shelf_of u.entries) → RowsStand limits u (with_consumer c (Some (record v { place = p })) t)
+    → LeavesKey c k.request.key r.keys u.keys → UnbindsAt k.place c (shelf_of r.entries) (shelf_of u.entries) →
+    RowsStand limits u (with_consumer c (Some (record v { place = p })) t)
 falls_back_as {limits = limits} r u t law x c w v k p awaits for_it apart there stands last exchanges changes line unbinds =
     let a = waits_as t law x w v awaits in
     let at : get nat_eq r.consumers w.c ≡ Some k = ap (get nat_eq r.consumers) for_it ∙ there in
     subst (λ (d : ℕ). RowsStand limits u (with_consumer d (Some (record v { place = p })) t)) for_it
-    (stands_apart t law x w awaits.row awaits.is_open awaits.headless v awaits.asker a.own a.at p apart r u k at (kept_as r t w.c v k stands awaits.asker at) stands last exchanges
+    (stands_apart t law x w awaits.row awaits.is_open awaits.headless v awaits.asker a.own a.at p apart r u k at
+    (kept_as r t w.c v k stands awaits.asker at) stands last exchanges
     (subst (λ (d : ℕ). ChangesAt r.consumers u.consumers d (standing_at p)) (sym for_it) changes)
     (subst (λ (d : ℕ). LeavesKey d k.request.key r.keys u.keys) (sym for_it) line)
     (subst (λ (d : ℕ). UnbindsAt k.place d (shelf_of r.entries) (shelf_of u.entries)) (sym for_it) unbinds))
 
-pub stands_back_as : {B : Type 0} {g : Ghosts B} {limits : Limits} (r u : Rows B g) (t : Tables) (law : Lawful t) (now x c : ℕ) (w : Exchange) (v : rows.Consumer) (k : Consumer) → AwaitsHead t x w v → w.c ≡ c → awaited_exchange v.place ≡ Some x → get nat_eq r.consumers c ≡ Some k → RowsStand limits r t
+pub stands_back_as : {B : Type 0} {g : Ghosts B} {limits : Limits} (r u : Rows B g) (t : Tables) (law : Lawful t) (now x c : ℕ) (w : Exchange)
+    (v : rows.Consumer) (k : Consumer) → AwaitsHead t x w v → w.c ≡ c → awaited_exchange v.place ≡ Some x → get nat_eq r.consumers c ≡ Some k →
+    RowsStand limits r t
     → u.last_start ≡ r.last_start → u.exchanges ≡ r.exchanges → ChangesAt r.consumers u.consumers c (once_over now)
-    → keys.Becomes (on_line (come_back c)) k.request.key r.keys u.keys → UnbindsAt k.place c (shelf_of r.entries) (shelf_of u.entries) → RowsStand limits u (with_consumer c (Some (back_in_line now v)) t)
+    → keys.Becomes (on_line (come_back c)) k.request.key r.keys u.keys → UnbindsAt k.place c (shelf_of r.entries) (shelf_of u.entries) →
+    RowsStand limits u (with_consumer c (Some (back_in_line now v)) t)
 stands_back_as {limits = limits} r u t law now x c w v k awaits for_it waits there stands last exchanges changes line unbinds =
     let a = waits_as t law x w v awaits in
     let at : get nat_eq r.consumers w.c ≡ Some k = ap (get nat_eq r.consumers) for_it ∙ there in
     subst (λ (d : ℕ). RowsStand limits u (with_consumer d (Some (back_in_line now v)) t)) for_it
-    (stands_queued t law x w awaits.row awaits.is_open awaits.headless v awaits.asker a.own a.at now waits r u k at (kept_as r t w.c v k stands awaits.asker at) stands last exchanges
+    (stands_queued t law x w awaits.row awaits.is_open awaits.headless v awaits.asker a.own a.at now waits r u k at
+    (kept_as r t w.c v k stands awaits.asker at) stands last exchanges
     (subst (λ (d : ℕ). ChangesAt r.consumers u.consumers d (once_over now)) (sym for_it) changes)
     (subst (λ (d : ℕ). keys.Becomes (on_line (come_back d)) k.request.key r.keys u.keys) (sym for_it) line)
     (subst (λ (d : ℕ). UnbindsAt k.place d (shelf_of r.entries) (shelf_of u.entries)) (sym for_it) unbinds))

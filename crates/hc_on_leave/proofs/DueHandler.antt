@@ -11,8 +11,10 @@ use Rattle.hc_txn.specs.{declared.transaction.Transaction.{Transaction as Consum
 use Rattle.hc_state.proofs.{ConsumerSteps.{key_with, key_stays}, OneOfEach.{entries_same}, QueueHandler.{becomes_by}}
 use Rattle.hc_on_leave.proofs.OneConsumer.{stands_moved}
 
-module _ {B : Type 0} {g : Ghosts B} {limits : Limits} (r u : Rows B g) (t : Tables) (c : ℕ) (v : rows.Consumer) (k : Consumer) (why : Cause) (stands : RowsStand limits r t) (row : t.consumer c ≡ Some v) (there : get nat_eq r.consumers c ≡ Some k) (is : IsKept t k v) (undue : v.due ≡ None)
-    (last : u.last_start ≡ r.last_start) (exchanges : u.exchanges ≡ r.exchanges) (same_keys : u.keys ≡ r.keys) (same_entries : u.entries ≡ r.entries) (changes : ChangesAt r.consumers u.consumers c (with_due why)) where
+module _ {B : Type 0} {g : Ghosts B} {limits : Limits} (r u : Rows B g) (t : Tables) (c : ℕ) (v : rows.Consumer) (k : Consumer) (why : Cause)
+    (stands : RowsStand limits r t) (row : t.consumer c ≡ Some v) (there : get nat_eq r.consumers c ≡ Some k) (is : IsKept t k v) (undue : v.due ≡ None)
+    (last : u.last_start ≡ r.last_start) (exchanges : u.exchanges ≡ r.exchanges) (same_keys : u.keys ≡ r.keys) (same_entries : u.entries ≡ r.entries)
+    (changes : ChangesAt r.consumers u.consumers c (with_due why)) where
   abbrev z : rows.Consumer
   z = record v { due = Some why }
 
@@ -36,7 +38,8 @@ module _ {B : Type 0} {g : Ghosts B} {limits : Limits} (r u : Rows B g) (t : Tab
 
   keys_then : (key : List ℕ) → KeepsKey s key (kept_of u.keys key)
   keys_then key = rw same_keys (key_with t c (Some z) key (kept_of r.keys key) (kept_of r.keys key) (stands.keys key)
-      (key_stays t c (Some z) key (kept_of r.keys key) (stands.keys key) (record { in_line = rw row refl; passed = rw row refl; away = rw row refl; turn = rw row refl })))
+      (key_stays t c (Some z) key (kept_of r.keys key) (stands.keys key)
+      (record { in_line = rw row refl; passed = rw row refl; away = rw row refl; turn = rw row refl })))
 
   pub stands_due : RowsStand limits u s
   stands_due =

@@ -44,7 +44,8 @@ filters_but : (f h : ℕ → Bool) (x : ℕ) (ns : List ℕ) → f x ≡ false �
 filters_but f h x [] off same = refl
 filters_but f h x (n ∷ ns) off same = by_number (same_or n x) (filters_but f h x ns off same)
   where
-    by_test : n ≢ x → (b : Bool) → f n ≡ b → filter h (filter (λ q. not (q == x)) ns) ≡ filter f ns → filter h (n ∷ filter (λ q. not (q == x)) ns) ≡ filter f (n ∷ ns)
+    by_test : n ≢ x → (b : Bool) → f n ≡ b → filter h (filter (λ q. not (q == x)) ns) ≡ filter f ns →
+        filter h (n ∷ filter (λ q. not (q == x)) ns) ≡ filter f (n ∷ ns)
     by_test ne true on rest = let here : h n ≡ true = same n ne ∙ on in rw (here, on) (ap (λ qs. n ∷ qs) rest)
     by_test ne false fails rest = let here : h n ≡ false = same n ne ∙ fails in rw (here, fails) rest
 
@@ -52,10 +53,14 @@ filters_but f h x (n ∷ ns) off same = by_number (same_or n x) (filters_but f h
     by_number (inl e) rest = let here : f n ≡ false = ap f e ∙ off in let self : nat_eq n x ≡ true = ap (λ i. nat_eq i x) e ∙ eqb-same x in rw (self, here) rest
     by_number (inr ne) rest = rw (eqb-other n x ne) (by_test ne (f n) refl rest)
 
-module _ {B : Type 0} {g : Ghosts B} {limits : Limits} (a u : Rows B g) (m : Tables) (now x : ℕ) (response : Response) (w : Exchange) (past : rows.Consumer) (k : Consumer) (o : Open) (f : Founding) (l : Length)
-    (stands : RowsStand limits a m) (alone : IsReadAlone m x w past) (fresh : IsUnfounded m x) (there : get nat_eq a.consumers w.c ≡ Some k) (running : (table_of a.exchanges x).running ≡ Some o) (reported : l ≡ length_of w.need w.request response)
-    (key_is : f.key ≡ o.request.key) (head_is : plain f.head ≡ head_by o now response) (shares : f.shared ≡ not (brings_part response.status)) (ends : option_or f.hi (founded_total w response) ≡ f.hi) (empties : promise_in w response ≡ Some 0 → founded_total w response ≡ Some 0)
-    (begins : BeginsFounding a u x w.c f response) (length_is : length_by (table_of a.exchanges x).running response ≡ l) (limits_are : (shelf_of a.entries).limits ≡ limits) where
+module _ {B : Type 0} {g : Ghosts B} {limits : Limits} (a u : Rows B g) (m : Tables) (now x : ℕ) (response : Response) (w : Exchange)
+    (past : rows.Consumer) (k : Consumer) (o : Open) (f : Founding) (l : Length)
+    (stands : RowsStand limits a m) (alone : IsReadAlone m x w past) (fresh : IsUnfounded m x) (there : get nat_eq a.consumers w.c ≡ Some k)
+    (running : (table_of a.exchanges x).running ≡ Some o) (reported : l ≡ length_of w.need w.request response)
+    (key_is : f.key ≡ o.request.key) (head_is : plain f.head ≡ head_by o now response) (shares : f.shared ≡ not (brings_part response.status))
+    (ends : option_or f.hi (founded_total w response) ≡ f.hi) (empties : promise_in w response ≡ Some 0 → founded_total w response ≡ Some 0)
+    (begins : BeginsFounding a u x w.c f response) (length_is : length_by (table_of a.exchanges x).running response ≡ l)
+    (limits_are : (shelf_of a.entries).limits ≡ limits) where
   abbrev z : Exchange
   z = exchange_with_head now response w.joined w
 
@@ -121,7 +126,8 @@ module _ {B : Type 0} {g : Ghosts B} {limits : Limits} (a u : Rows B g) (m : Tab
   consumers_kept : (d : ℕ) → KeepsConsumer s (get nat_eq u.consumers d) (s.consumer d)
   consumers_kept d = elim (same_or w.c d) [
     | inl e ↦ subst (λ (n : ℕ). KeepsConsumer s (get nat_eq u.consumers n) (s.consumer n)) e
-        (subst (λ p. KeepsConsumer s p (s.consumer w.c)) (sym here_map) (subst (KeepsConsumer s (Some (founds_with x f.shared f.lo f.hi k))) (sym c_here) consumer_kept))
+        (subst (λ p. KeepsConsumer s p (s.consumer w.c)) (sym here_map)
+        (subst (KeepsConsumer s (Some (founds_with x f.shared f.lo f.hi k))) (sym c_here) consumer_kept))
     | inr ne ↦
         let off : d ≢ w.c = λ e. ne (sym e) in
         subst (λ p. KeepsConsumer s p (s.consumer d)) (sym (else_map d ne))
@@ -171,7 +177,8 @@ module _ {B : Type 0} {g : Ghosts B} {limits : Limits} (a u : Rows B g) (m : Tab
   exchange_kept : KeepsExchange s x (table_of u.exchanges x)
   exchange_kept = record {
     running = subst (λ (e : Option Exchange). KeepsRunning s x (table_of u.exchanges x).running e) (sym x_here)
-        (subst (λ (e : Option Open). KeepsRunning s x e (Some z)) (sym (ap (λ (e : Known). e.running) known_is ∙ running_is (is_reached (promise_in w response) 0) reached_is))
+        (subst (λ (e : Option Open). KeepsRunning s x e (Some z))
+        (sym (ap (λ (e : Known). e.running) known_is ∙ running_is (is_reached (promise_in w response) 0) reached_is))
         (runs_then (is_reached (promise_in w response) 0) refl));
     held = ap (λ (e : Known). e.held) known_is
         ∙ (held_is (is_all (promise_of l) 0) refl
@@ -226,7 +233,8 @@ module _ {B : Type 0} {g : Ghosts B} {limits : Limits} (a u : Rows B g) (m : Tab
   unsaid_now : (key : List ℕ) → IsUnsaid s key (Some q)
   unsaid_now key = apart_unsaid s key q refl refl refl
 
-  says : (f h : Option rows.Consumer → Bool) → f (Some past) ≡ false → h (Some q) ≡ false → ((e : Option rows.Consumer) → h e ≡ f e) → (d : ℕ) → h (s.consumer d) ≡ f (m.consumer d)
+  says : (f h : Option rows.Consumer → Bool) → f (Some past) ≡ false → h (Some q) ≡ false → ((e : Option rows.Consumer) → h e ≡ f e) → (d : ℕ) →
+      h (s.consumer d) ≡ f (m.consumer d)
   says f h was now same d = grind (arith, nat_tests)
 
   key_said : (key : List ℕ) (e : keyed.Kept) (n : Option ℕ) → KeepsKey m key e → n ≡ current s key → KeepsKey s key (with_current n e)
@@ -254,7 +262,8 @@ module _ {B : Type 0} {g : Ghosts B} {limits : Limits} (a u : Rows B g) (m : Tab
     where
       usable_same : (n : ℕ) → is_usable key (s.representation n) ≡ is_usable key (m.representation n)
       usable_same n = elim (same_or n x) [
-        | inl e ↦ ap (λ (i : ℕ). is_usable key (s.representation i)) e ∙ (ap (is_usable key) r_here ∙ (rw off refl ∙ sym (ap (λ (i : ℕ). is_usable key (m.representation i)) e ∙ ap (is_usable key) alone.bare.unfounded)))
+        | inl e ↦ ap (λ (i : ℕ). is_usable key (s.representation i)) e ∙
+            (ap (is_usable key) r_here ∙ (rw off refl ∙ sym (ap (λ (i : ℕ). is_usable key (m.representation i)) e ∙ ap (is_usable key) alone.bare.unfounded)))
         | inr ne ↦ ap (is_usable key) (r_else n ne)
       ]
 
@@ -266,13 +275,15 @@ module _ {B : Type 0} {g : Ghosts B} {limits : Limits} (a u : Rows B g) (m : Tab
   keys_kept key = by_test (bytes_eq w.request.key key) refl
     where
       kept_is : kept_of u.keys key ≡ (if bytes_eq w.request.key key then with_current (Some x) (kept_of a.keys w.request.key) else kept_of a.keys key)
-      kept_is = begins.keys o running key ∙ ap (λ (e : Request). if bytes_eq e.key key then with_current (Some x) (kept_of a.keys e.key) else kept_of a.keys key) runs.request
+      kept_is = begins.keys o running key ∙
+          ap (λ (e : Request). if bytes_eq e.key key then with_current (Some x) (kept_of a.keys e.key) else kept_of a.keys key) runs.request
 
       by_test : (b : Bool) → bytes_eq w.request.key key ≡ b → KeepsKey s key (kept_of u.keys key)
       by_test true on =
           let one : w.request.key ≡ key = same_bytes w.request.key key on in
           subst (KeepsKey s key) (sym (kept_is ∙ rw on refl))
-          (subst (λ (n : List ℕ). KeepsKey s n (with_current (Some x) (kept_of a.keys w.request.key))) one (key_said w.request.key (kept_of a.keys w.request.key) (Some x) (stands.keys w.request.key) (sym current_its)))
+          (subst (λ (n : List ℕ). KeepsKey s n (with_current (Some x) (kept_of a.keys w.request.key))) one
+          (key_said w.request.key (kept_of a.keys w.request.key) (Some x) (stands.keys w.request.key) (sym current_its)))
       by_test false off =
           subst (KeepsKey s key) (sym (kept_is ∙ rw off refl))
           (key_said key (kept_of a.keys key) (kept_of a.keys key).current (stands.keys key) ((stands.keys key).current ∙ sym (current_else key off)))
@@ -301,7 +312,15 @@ module _ {B : Type 0} {g : Ghosts B} {limits : Limits} (a u : Rows B g) (m : Tab
 
   entry_else : (n : ℕ) (e : Option Kept) → n ≢ x → KeepsEntry heard n e (m.representation n) → KeepsEntry s n e (s.representation n)
   entry_else n e ne kept = subst (KeepsEntry s n e) (sym (r_else n ne))
-      (entry_same heard s n e (m.representation n) refl (record { users = users_else n ne; first = first_else n ne; list = bound_same heard s n refl (users_else n ne); kind = λ p at. kind_same heard s n p refl; overs = λ y on. on }) kept)
+      (entry_same heard s n e (m.representation n) refl
+      (record {
+        users = users_else n ne;
+        first = first_else n ne;
+        list = bound_same heard s n refl (users_else n ne);
+        kind =
+            λ p at. kind_same heard s n p refl;
+        overs = λ y on. on;
+      }) kept)
 
   -- ITSELF
 
@@ -309,7 +328,8 @@ module _ {B : Type 0} {g : Ghosts B} {limits : Limits} (a u : Rows B g) (m : Tab
   began = founded_kept f.key (plain f.head) w.c (not f.shared) (writer_by f.shared x)
 
   total_is : total_by o response ≡ founded_total w response
-  total_is = ap₂ (λ (n : Need) (e : Request). if brings_part response.status then total_of_part (content_range_of response.fields) else promise_of (length_of n e response)) runs.need runs.request
+  total_is = ap₂ (λ (n : Need) (e : Request). if brings_part response.status then total_of_part (content_range_of response.fields) else
+      promise_of (length_of n e response)) runs.need runs.request
 
   head_sealed : sealed_head kinds.Growing v.head.total (plain f.head) ≡ v.head
   head_sealed = grind (arith, nat_tests)
@@ -339,7 +359,9 @@ module _ {B : Type 0} {g : Ghosts B} {limits : Limits} (a u : Rows B g) (m : Tab
               and_off false = refl
 
       here_is : (b : Bool) → is_reached (promise_in w response) 0 ≡ b → brings_to x x (s.exchange x) ≡ not b
-      here_is b over = ap (brings_to x x) x_here ∙ (ap (λ (e : Bool). e && nat_eq (family x z) x) (z_open b over) ∙ (ap (λ (n : ℕ). not b && nat_eq n x) own_family ∙ (rw (eqb-same x) (and_on (not b)))))
+      here_is b over = ap (brings_to x x) x_here ∙
+          (ap (λ (e : Bool). e && nat_eq (family x z) x) (z_open b over) ∙
+          (ap (λ (n : ℕ). not b && nat_eq n x) own_family ∙ (rw (eqb-same x) (and_on (not b)))))
         where
           and_on : (b : Bool) → (b && true) ≡ b
           and_on true = refl
@@ -392,7 +414,8 @@ module _ {B : Type 0} {g : Ghosts B} {limits : Limits} (a u : Rows B g) (m : Tab
   ]
     where
       by_place : (d : ℕ) (e : rows.Consumer) (p : Place) → m.consumer d ≡ Some e → e.place ≡ p → is_bound_place x p ≡ true → ⊥
-      by_place d e (place.Bound r lo hi how) at stood on = (let same : r ≡ x = grind (arith, nat_tests, on) in fresh.unbound d lo hi how e at (stood ∙ ap (λ (n : ℕ). place.Bound n lo hi how) same))
+      by_place d e (place.Bound r lo hi how) at stood on =
+          (let same : r ≡ x = grind (arith, nat_tests, on) in fresh.unbound d lo hi how e at (stood ∙ ap (λ (n : ℕ). place.Bound n lo hi how) same))
       by_place d e _ at stood on = false_true on
 
       unbound_row : (d : ℕ) (e : Option rows.Consumer) → m.consumer d ≡ e → is_bound x e ≡ true → ⊥
@@ -435,7 +458,10 @@ module _ {B : Type 0} {g : Ghosts B} {limits : Limits} (a u : Rows B g) (m : Tab
           (subst (λ e. KeepsEntry s x e (s.representation x)) (sym kept_here) (subst (KeepsEntry s x (Some began)) (sym r_here) began_kept))
       | inr ne ↦ subst (λ e. KeepsEntry s n e (s.representation n)) (sym (kept_else n ne)) (entry_else n ((shelf_of a.entries).kept n) ne (heard_kept.each n))
     ];
-    order = begins.entries.order ∙ (ap (λ ns. x ∷ ns) (stands.entries.order ∙ sym (filters_but (λ n. is_usable_row (m.representation n)) (λ n. is_usable_row (s.representation n)) x m.used (rw alone.bare.unfounded refl) (λ n ne. ap is_usable_row (r_else n ne)))) ∙ sym (rw (ap is_usable_row r_here) refl));
+    order = begins.entries.order ∙
+        (ap (λ ns. x ∷ ns) (stands.entries.order ∙
+        sym (filters_but (λ n. is_usable_row (m.representation n)) (λ n. is_usable_row (s.representation n)) x m.used (rw alone.bare.unfounded refl)
+        (λ n ne. ap is_usable_row (r_else n ne)))) ∙ sym (rw (ap is_usable_row r_here) refl));
   }
     where
       kept_here : (shelf_of u.entries).kept x ≡ Some began

@@ -17,7 +17,8 @@ closed_as row is = grind (arith, nat_tests)
 sees : (t : Tables) (x : ℕ) (o : Option Open) (row : Option Exchange) → KeepsRunning t x o row → option_map open_view o ≡ as_open row
 sees t x o row keeps = grind (arith, nat_tests)
 
-sees_at : {B : Type 0} {g : Ghosts B} {limits : Limits} (r : Rows B g) (t : Tables) (x : Option ℕ) → RowsStand limits r t → option_and_then (open_at r) x ≡ as_open (option_and_then t.exchange x)
+sees_at : {B : Type 0} {g : Ghosts B} {limits : Limits} (r : Rows B g) (t : Tables) (x : Option ℕ) → RowsStand limits r t → option_and_then
+    (open_at r) x ≡ as_open (option_and_then t.exchange x)
 sees_at r t x stands = grind (arith, nat_tests)
 
 names_as : {B : Type 0} {g : Ghosts B} {limits : Limits} (r : Rows B g) (t : Tables) (ev : Event) → RowsStand limits r t → names_kept r ev ≡ names_live t ev
@@ -27,5 +28,6 @@ gates_are : {B : Type 0} {g : Ghosts B} {limits : Limits} (r : Rows B g) (t : Ta
 gates_are r t ev stands = rw (stands.last_start, stands.count, names_as r t ev stands, sees_at r t (exchange_in ev) stands) refl
 
 -- What the rows refuse is what the tables deny.
-pub denies_as : {B : Type 0} {g : Ghosts B} {limits : Limits} (r : Rows B g) (t : Tables) (ev : Event) → RowsStand limits r t → refusal_of (gate_of r ev) ev ≡ denial t ev
+pub denies_as : {B : Type 0} {g : Ghosts B} {limits : Limits} (r : Rows B g) (t : Tables) (ev : Event) → RowsStand limits r t →
+    refusal_of (gate_of r ev) ev ≡ denial t ev
 denies_as r t ev stands = ap (λ (g : Gate). refusal_of g ev) (gates_are r t ev stands)

@@ -12,7 +12,8 @@ turned bad asked selects kept rest =
     else if asked then case.NotValidated
     else rest
 
-turned_same : (bad asked selects kept : Bool) (rest g : HeadCase) → turned bad asked false kept rest ≡ g → (g ≡ case.NotValidated → ⊥) → turned bad asked selects kept rest ≡ g
+turned_same : (bad asked selects kept : Bool) (rest g : HeadCase) → turned bad asked false kept rest ≡ g → (g ≡ case.NotValidated → ⊥) →
+    turned bad asked selects kept rest ≡ g
 turned_same bad asked selects kept rest g is off = grind (arith, nat_tests)
 
 module _ (v : HeadView) (selects : Bool) (g : HeadCase) (off : g ≡ case.NotValidated → ⊥) where
@@ -34,7 +35,8 @@ rest v =
     else if brings_part v.status && v.storable && v.fits && not v.lost then case.FoundsRange
     else case.PassesBy
 
-parts_of : (bad asked kept : Bool) (other : HeadCase) → turned bad asked false kept other ≡ case.NotValidated → (other ≡ case.NotValidated → ⊥) → (bad ≡ false) × (asked ≡ true)
+parts_of : (bad asked kept : Bool) (other : HeadCase) → turned bad asked false kept other ≡ case.NotValidated → (other ≡ case.NotValidated → ⊥) →
+    (bad ≡ false) × (asked ≡ true)
 parts_of bad asked kept other is off = grind (arith, nat_tests)
 
 module _ (v : HeadView) (unselected : head_case (record v { selects = false }) ≡ case.NotValidated) where
@@ -53,9 +55,11 @@ module _ (v : HeadView) (unselected : head_case (record v { selects = false }) �
 
   pub parts : (v.bad ≡ false) × ((v.status == 304 && v.conditional) ≡ true)
   unfolding head_case
-  parts = parts_of v.bad (v.status == 304 && v.conditional) (not v.lost) (rest v) (ap (λ (way : Route). case_on way (record v { selects = false })) (sym it_is.0) ∙ unselected) apart
+  parts = parts_of v.bad (v.status == 304 && v.conditional) (not v.lost) (rest v)
+      (ap (λ (way : Route). case_on way (record v { selects = false })) (sym it_is.0) ∙ unselected) apart
 
-  with_it : (selects kept : Bool) → turned v.bad (v.status == 304 && v.conditional) selects kept (rest v) ≡ (if selects && kept then case.Validated else case.NotValidated)
+  with_it : (selects kept : Bool) →
+      turned v.bad (v.status == 304 && v.conditional) selects kept (rest v) ≡ (if selects && kept then case.Validated else case.NotValidated)
   with_it selects kept = (let good = parts.0 in let asked = parts.1 in rw (good, asked) refl)
 
   -- it selects what is stored
@@ -70,7 +74,8 @@ module _ (v : HeadView) (unselected : head_case (record v { selects = false }) �
   -- and so it is where it is lost now
   pub case_lost_too : head_case (record v { lost = true }) ≡ case.NotValidated
   unfolding head_case
-  case_lost_too = ap (λ (way : Route). case_on way (record v { lost = true })) it_is.0 ∙ (let good = parts.0 in let asked = parts.1 in rw (good, asked) (by_test v.selects))
+  case_lost_too = ap (λ (way : Route). case_on way (record v { lost = true })) it_is.0 ∙
+      (let good = parts.0 in let asked = parts.1 in rw (good, asked) (by_test v.selects))
     where
       by_test : (b : Bool) → (if b && false then case.Validated else case.NotValidated) ≡ case.NotValidated
       by_test true = refl

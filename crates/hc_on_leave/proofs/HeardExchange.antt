@@ -48,7 +48,8 @@ module _ (t : Tables) (x : ℕ) (w z : Exchange) (bare : IsBare t x w) (unjoined
 
   pub key_heard : (key : List ℕ) (k : keyed.Kept) → KeepsKey t key k → KeepsKey s key k
   unfolding current
-  key_heard key k kept = key_same t s key k (record { current = refl; in_line = λ d. refl; passed = λ d. refl; away = λ d. away_same key d (t.consumer d) refl; turn = λ d. refl }) kept
+  key_heard key k kept = key_same t s key k
+      (record { current = refl; in_line = λ d. refl; passed = λ d. refl; away = λ d. away_same key d (t.consumer d) refl; turn = λ d. refl }) kept
 
   -- REPRESENTATIONS
 
@@ -64,6 +65,14 @@ module _ (t : Tables) (x : ℕ) (w z : Exchange) (bare : IsBare t x w) (unjoined
   pub entries_heard : (shelf : Shelf) → KeepsEntries t shelf → KeepsEntries s shelf
   entries_heard shelf kept = record {
     each = λ q. entry_same t s q (shelf.kept q) (t.representation q) refl
-        (record { users = λ d. refl; first = λ d. first_row t s (λ n. refl) q (t.consumer d); list = bound_same t s q refl (λ d. refl); kind = λ v at. kind_same t s q v (growing_there q v at); overs = overs_open t.exchange s.exchange x w bare.row bare.is_open (λ y ne. others y (λ e. ne (sym e))) }) (kept.each q);
+        (record {
+          users = λ d. refl;
+          first = λ d. first_row t s (λ n. refl) q (t.consumer d);
+          list = bound_same t s q refl (λ d. refl);
+          kind =
+              λ v at. kind_same t s q v (growing_there q v at);
+          overs =
+              overs_open t.exchange s.exchange x w bare.row bare.is_open (λ y ne. others y (λ e. ne (sym e)));
+        }) (kept.each q);
     order = kept.order;
   }

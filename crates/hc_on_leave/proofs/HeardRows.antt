@@ -35,15 +35,18 @@ headless_of (Some o) accepted = record { o = o; there = refl; headless = by_test
 -- THE EXCHANGE
 
 -- what is kept of it
-pub runs_as : {B : Type 0} {g : Ghosts B} {limits : Limits} (r : Rows B g) (t : Tables) (x : ℕ) (o : Open) (w : Exchange) → RowsStand limits r t → (table_of r.exchanges x).running ≡ Some o → t.exchange x ≡ Some w → IsRunning t x o w
-runs_as r t x o w stands running row = subst (KeepsRunning t x (Some o)) row (subst (λ z. KeepsRunning t x z (t.exchange x)) running (stands.exchanges x).running)
+pub runs_as : {B : Type 0} {g : Ghosts B} {limits : Limits} (r : Rows B g) (t : Tables) (x : ℕ) (o : Open) (w : Exchange) → RowsStand limits r t →
+    (table_of r.exchanges x).running ≡ Some o → t.exchange x ≡ Some w → IsRunning t x o w
+runs_as r t x o w stands running row =
+    subst (KeepsRunning t x (Some o)) row (subst (λ z. KeepsRunning t x z (t.exchange x)) running (stands.exchanges x).running)
 
 pub record HeardRow (t : Tables) (x : ℕ) (o : Open) : Type 0 where
   pub w : Exchange
   pub row : t.exchange x ≡ Some w
   pub is : IsRunning t x o w
 
-pub heard_row : {B : Type 0} {g : Ghosts B} {limits : Limits} (r : Rows B g) (t : Tables) (x : ℕ) (o : Open) → RowsStand limits r t → (table_of r.exchanges x).running ≡ Some o → HeardRow t x o
+pub heard_row : {B : Type 0} {g : Ghosts B} {limits : Limits} (r : Rows B g) (t : Tables) (x : ℕ) (o : Open) → RowsStand limits r t →
+    (table_of r.exchanges x).running ≡ Some o → HeardRow t x o
 heard_row r t x o stands running = by_row (t.exchange x) refl (subst (λ z. KeepsRunning t x z (t.exchange x)) running (stands.exchanges x).running)
   where
     by_row : (z : Option Exchange) → t.exchange x ≡ z → KeepsRunning t x (Some o) (t.exchange x) → HeardRow t x o
@@ -68,7 +71,8 @@ waits_as t law x w v awaits =
     record { own = ap (λ (u : rows.Consumer). u.own) (sym one) ∙ a.own; at = subst (λ (u : rows.Consumer). IsAwaiting x w u.place) one a.at }
 
 -- what is kept of a consumer is what its row says
-pub kept_as : {B : Type 0} {g : Ghosts B} {limits : Limits} (r : Rows B g) (t : Tables) (c : ℕ) (v : rows.Consumer) (k : Consumer) → RowsStand limits r t → t.consumer c ≡ Some v → get nat_eq r.consumers c ≡ Some k → IsKept t k v
+pub kept_as : {B : Type 0} {g : Ghosts B} {limits : Limits} (r : Rows B g) (t : Tables) (c : ℕ) (v : rows.Consumer) (k : Consumer) →
+    RowsStand limits r t → t.consumer c ≡ Some v → get nat_eq r.consumers c ≡ Some k → IsKept t k v
 kept_as r t c v k stands row there = subst (KeepsConsumer t (Some k)) row (subst (λ o. KeepsConsumer t o (t.consumer c)) there (stands.consumers c))
 
 -- the consumer of an open exchange without a head, as both have it
@@ -82,8 +86,10 @@ pub record Asker {B : Type 0} {g : Ghosts B} (r : Rows B g) (t : Tables) (x : �
   pub there : get nat_eq r.consumers w.c ≡ Some k
   pub is : IsKept t k v
 
-pub asker : {B : Type 0} {g : Ghosts B} {limits : Limits} (r : Rows B g) (t : Tables) (facts : Facts limits t) (x : ℕ) (w : Exchange) → RowsStand limits r t → t.exchange x ≡ Some w → w.is_open ≡ true → w.head ≡ None → Asker r t x w
-asker r t facts x w stands row opened bare = by_kept (get nat_eq r.consumers w.c) refl (subst (KeepsConsumer t (get nat_eq r.consumers w.c)) a.row (stands.consumers w.c))
+pub asker : {B : Type 0} {g : Ghosts B} {limits : Limits} (r : Rows B g) (t : Tables) (facts : Facts limits t) (x : ℕ) (w : Exchange) →
+    RowsStand limits r t → t.exchange x ≡ Some w → w.is_open ≡ true → w.head ≡ None → Asker r t x w
+asker r t facts x w stands row opened bare =
+    by_kept (get nat_eq r.consumers w.c) refl (subst (KeepsConsumer t (get nat_eq r.consumers w.c)) a.row (stands.consumers w.c))
   where
     a : Awaits t x w
     a = facts.law.owned.waiting x w row opened bare
@@ -105,11 +111,13 @@ asker r t facts x w stands row opened bare = by_kept (get nat_eq r.consumers w.c
     }
 
 -- of a head that isn't denied
-pub asker_of : {B : Type 0} {g : Ghosts B} {limits : Limits} (r : Rows B g) (t : Tables) (facts : Facts limits t) (now x : ℕ) (response : Response) (w : Exchange) → RowsStand limits r t → denial t (event.Head x response) ≡ None → t.exchange x ≡ Some w → Asker r t x w
+pub asker_of : {B : Type 0} {g : Ghosts B} {limits : Limits} (r : Rows B g) (t : Tables) (facts : Facts limits t) (now x : ℕ) (response : Response)
+    (w : Exchange) → RowsStand limits r t → denial t (event.Head x response) ≡ None → t.exchange x ≡ Some w → Asker r t x w
 asker_of {limits = limits} r t facts now x response w stands goes row =
     let new = is_new limits t now NoFlaw facts.law.sound (event.Head x response) goes x response w refl row in
     asker r t facts x w stands row new.is_open new.bare
 
 -- whom the code looked up
-pub asked_by : {B : Type 0} {g : Ghosts B} {limits : Limits} (r : Rows B g) (t : Tables) (x c : ℕ) (w : Exchange) → RowsStand limits r t → head_refusal (option_map open_view (table_of r.exchanges x).running) ≡ None → IsAskedBy c (table_of r.exchanges x).running → t.exchange x ≡ Some w → w.c ≡ c
+pub asked_by : {B : Type 0} {g : Ghosts B} {limits : Limits} (r : Rows B g) (t : Tables) (x c : ℕ) (w : Exchange) → RowsStand limits r t →
+    head_refusal (option_map open_view (table_of r.exchanges x).running) ≡ None → IsAskedBy c (table_of r.exchanges x).running → t.exchange x ≡ Some w → w.c ≡ c
 asked_by r t x c w stands accepted asks row = grind (arith, nat_tests)

@@ -28,7 +28,8 @@ pub nobody_left : (c : ℕ) (ms : List Member) → is_nobody (without consumer_o
 nobody_left c [] = refl
 nobody_left c (m ∷ ms) = by_test (nat_eq m.c c) refl (nobody_left c ms)
   where
-    by_test : (b : Bool) → nat_eq m.c c ≡ b → is_nobody (without consumer_of c ms) ≡ list_all (λ d. d == c) (map consumer_of ms) → is_nobody (without consumer_of c (m ∷ ms)) ≡ list_all (λ d. d == c) (map consumer_of (m ∷ ms))
+    by_test : (b : Bool) → nat_eq m.c c ≡ b → is_nobody (without consumer_of c ms) ≡ list_all (λ d. d == c) (map consumer_of ms) →
+        is_nobody (without consumer_of c (m ∷ ms)) ≡ list_all (λ d. d == c) (map consumer_of (m ∷ ms))
     by_test true on later = rw on later
     by_test false off later = rw off refl
 
@@ -57,7 +58,8 @@ group_there table k group x is on = by_lost k.is_lost refl on
     by_lost true lost runs = none_some x runs
     by_lost false fresh runs = by_group fresh group refl is.exchange runs
 
-module _ (table : Table) (c : ℕ) (keepable : Bool) (k : Kept) (group : Option Group) (user : has itself c k.bound ≡ true) (is : IsGroupOf group k) (x : ℕ) (on : writer_group_of table (Some k) ≡ Some x) where
+module _ (table : Table) (c : ℕ) (keepable : Bool) (k : Kept) (group : Option Group) (user : has itself c k.bound ≡ true) (is : IsGroupOf group k) (x : ℕ)
+    (on : writer_group_of table (Some k) ≡ Some x) where
   there : HasGroup k group
   there = group_there table k group x is on
 
@@ -72,7 +74,8 @@ module _ (table : Table) (c : ℕ) (keepable : Bool) (k : Kept) (group : Option 
 
   -- whether others stay
   pub stays_as : (y : Option ℕ) → unless_others (option_and_then (left_answer keepable c) group) y ≡ (if list_all (λ d. d == c) k.bound then y else None)
-  stays_as y = ap (λ o. unless_others o y) answer_is ∙ (by_test (is_nobody (without consumer_of c there.w.members)) keepable ∙ ap (λ (b : Bool). if b then y else None) alone_is)
+  stays_as y = ap (λ o. unless_others o y) answer_is ∙
+      (by_test (is_nobody (without consumer_of c there.w.members)) keepable ∙ ap (λ (b : Bool). if b then y else None) alone_is)
     where
       by_test : (b keep : Bool) → unless_others (Some (if b then (if keep then left.LastKeep else left.LastDoom) else left.Others)) y ≡ (if b then y else None)
       by_test true true = refl
@@ -83,12 +86,14 @@ module _ (table : Table) (c : ℕ) (keepable : Bool) (k : Kept) (group : Option 
 
 module _ {B : Type 0} {g : Ghosts B} (table : Table) (e : Entries B g) (c : ℕ) where
   last_of : (q : ℕ) (o : Option Kept) → has_user c o ≡ true → IfSome o (IsGroupOf (group_of e q)) → (y : Option ℕ) → writer_group_of table o ≡ y
-      → (if list_all (λ d. d == c) (bound_in o) then writer_group_of table o else None) ≡ unless_others (option_and_then (left_answer (is_keepable_at o) c) (group_of e q)) (writer_group_of table o)
+      → (if list_all (λ d. d == c) (bound_in o) then writer_group_of table o else None) ≡ unless_others
+      (option_and_then (left_answer (is_keepable_at o) c) (group_of e q)) (writer_group_of table o)
   last_of q None mine group y on = false_true mine
   last_of q (Some k) mine group (Some x) on = sym (stays_as table c (is_keepable_at (Some k)) k (group_of e q) mine group x on (writer_group_of table (Some k)))
   last_of q (Some k) mine group None on =
       let answer : Option Left = option_and_then (left_answer (is_keepable_at (Some k)) c) (group_of e q) in
-      ap (λ (z : Option ℕ). if list_all (λ d. d == c) k.bound then z else None) on ∙ (by_test (list_all (λ d. d == c) k.bound) answer ∙ ap (unless_others answer) (sym on))
+      ap (λ (z : Option ℕ). if list_all (λ d. d == c) k.bound then z else None) on ∙
+      (by_test (list_all (λ d. d == c) k.bound) answer ∙ ap (unless_others answer) (sym on))
     where
       nothing : Option ℕ
       nothing = None
@@ -103,7 +108,8 @@ module _ {B : Type 0} {g : Ghosts B} (table : Table) (e : Entries B g) (c : ℕ)
       by_test true (Some left.LastDoom) = refl
       by_test false (Some left.LastDoom) = refl
 
-  last_is : (p : Place) → IsUserAt p c (shelf_of e) → IsGroupAt p e → last_read table (shelf_of e) c p ≡ unless_others (left_at p c e) (writer_group_at table (shelf_of e) p)
+  last_is : (p : Place) → IsUserAt p c (shelf_of e) → IsGroupAt p e →
+      last_read table (shelf_of e) c p ≡ unless_others (left_at p c e) (writer_group_at table (shelf_of e) p)
   last_is (place.Bound q lo hi how) mine group = last_of q ((shelf_of e).kept q) mine group (writer_group_of table ((shelf_of e).kept q)) refl
   last_is place.Line mine group = refl
   last_is (place.Passed q how) mine group = refl
@@ -112,11 +118,15 @@ module _ {B : Type 0} {g : Ghosts B} (table : Table) (e : Entries B g) (c : ℕ)
   last_is (place.Down why) mine group = refl
   last_is place.Over mine group = refl
 
-pub left_over_is : {B : Type 0} {g : Ghosts B} (r : Rows B g) (c : ℕ) (k : Consumer) (own shared result : Option ℕ) (answer : Option Left) → IsUserAt k.place c (shelf_of r.entries) → own ≡ if_running (table_of r.exchanges) k.own → shared ≡ writer_group_at (table_of r.exchanges) (shelf_of r.entries) k.place → LeavesGroup k.place c r.entries answer
+pub left_over_is : {B : Type 0} {g : Ghosts B} (r : Rows B g) (c : ℕ) (k : Consumer) (own shared result : Option ℕ) (answer : Option Left) →
+    IsUserAt k.place c (shelf_of r.entries) → own ≡ if_running (table_of r.exchanges) k.own →
+    shared ≡ writer_group_at (table_of r.exchanges) (shelf_of r.entries) k.place → LeavesGroup k.place c r.entries answer
     → result ≡ option_or own (unless_others answer shared) → result ≡ left_of r c k
 left_over_is r c k own shared result answer user own_is shared_is leaves is =
-    is ∙ ap₂ (λ (a b : Option ℕ). option_or a b) own_is (ap₂ unless_others leaves.answer_is shared_is ∙ sym (last_is (table_of r.exchanges) r.entries c k.place user leaves.group))
+    is ∙ ap₂ (λ (a b : Option ℕ). option_or a b) own_is
+    (ap₂ unless_others leaves.answer_is shared_is ∙ sym (last_is (table_of r.exchanges) r.entries c k.place user leaves.group))
 
 -- whether it is its own exchange is told of the row
-pub own_known : (o : Option Consumer) (k : Consumer) (c x : ℕ) (alone : Option ℕ) → o ≡ Some k → alone ≡ (if is_number k.own x then Some c else None) → IsSomeAnd o (λ m. alone ≡ (if is_number m.own x then Some c else None))
+pub own_known : (o : Option Consumer) (k : Consumer) (c x : ℕ) (alone : Option ℕ) → o ≡ Some k → alone ≡ (if is_number k.own x then Some c else None) →
+    IsSomeAnd o (λ m. alone ≡ (if is_number m.own x then Some c else None))
 own_known o k c x alone at is = rw at is

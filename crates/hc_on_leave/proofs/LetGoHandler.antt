@@ -37,7 +37,8 @@ gone_there b z = grind (arith, nat_tests)
 
 -- WHAT IS LET GO
 
-module _ {B : Type 0} {g : Ghosts B} {limits : Limits} (r u : Rows B g) (t : Tables) (may : MayLetGo t) (stands : RowsStand limits r t) (now n : ℕ) (k : Kept) (v : Representation)
+module _ {B : Type 0} {g : Ghosts B} {limits : Limits} (r u : Rows B g) (t : Tables) (may : MayLetGo t) (stands : RowsStand limits r t) (now n : ℕ)
+    (k : Kept) (v : Representation)
     (at : (shelf_of r.entries).kept n ≡ Some k) (row : t.representation n ≡ Some v) (entry : IsEntry t n k v) (fresh : k.is_gone ≡ false) where
   abbrev s : Tables
   s = let_go now n t
@@ -53,7 +54,8 @@ module _ {B : Type 0} {g : Ghosts B} {limits : Limits} (r u : Rows B g) (t : Tab
   -- nobody, one that waited for it, or one that didn't
   data Stood (d : ℕ) : Type 0 where
     nobody : t.consumer d ≡ None → s.consumer d ≡ None → Stood d
-    back : (w : rows.Consumer) (held : Option ℕ) → t.consumer d ≡ Some w → s.consumer d ≡ Some (back_in_line now w) → w.place ≡ place.Passed n held → w.request.key ≡ k.key → Queues w → Stood d
+    back : (w : rows.Consumer) (held : Option ℕ) → t.consumer d ≡ Some w → s.consumer d ≡ Some (back_in_line now w) → w.place ≡ place.Passed n held →
+        w.request.key ≡ k.key → Queues w → Stood d
     stays : (w : rows.Consumer) → t.consumer d ≡ Some w → s.consumer d ≡ Some w → is_passed k.key (Some w) ≡ false → Stood d
 
   stays_by : (d : ℕ) (w : rows.Consumer) → t.consumer d ≡ Some w → has_passed w.place ≡ false → waits_for n w.place ≡ false → Stood d
@@ -100,7 +102,8 @@ module _ {B : Type 0} {g : Ghosts B} {limits : Limits} (r u : Rows B g) (t : Tab
   line_is d = let a = stands.keys k.key in rw (a.in_line d, a.passed d, a.away d) refl
 
   -- whoever hasn't passed for the key doesn't change
-  unchanged : (d : ℕ) (w : rows.Consumer) → t.consumer d ≡ Some w → is_passed k.key (Some w) ≡ false → (o : Option Consumer) → KeepsConsumer t o (Some w) → cond (is_in d (line_of r.keys k.key)) (option_map (over_if_passed now) o) o ≡ o
+  unchanged : (d : ℕ) (w : rows.Consumer) → t.consumer d ≡ Some w → is_passed k.key (Some w) ≡ false → (o : Option Consumer) →
+      KeepsConsumer t o (Some w) → cond (is_in d (line_of r.keys k.key)) (option_map (over_if_passed now) o) o ≡ o
   unchanged d w here off None kept = grind (arith, nat_tests)
   unchanged d w here off (Some c) kept = by_place (has_passed w.place) refl
     where
@@ -117,7 +120,8 @@ module _ {B : Type 0} {g : Ghosts B} {limits : Limits} (r u : Rows B g) (t : Tab
       by_place true passes = rw (out (bytes_eq w.request.key k.key) refl passes) refl
 
   -- whoever waited stands in line as the tables have it
-  started_over : (d : ℕ) (w : rows.Consumer) (held : Option ℕ) → t.consumer d ≡ Some w → w.place ≡ place.Passed n held → w.request.key ≡ k.key → (o : Option Consumer) → KeepsConsumer t o (Some w) →
+  started_over : (d : ℕ) (w : rows.Consumer) (held : Option ℕ) → t.consumer d ≡ Some w → w.place ≡ place.Passed n held → w.request.key ≡ k.key →
+      (o : Option Consumer) → KeepsConsumer t o (Some w) →
       KeepsConsumer s (cond (is_in d (line_of r.keys k.key)) (option_map (over_if_passed now) o) o) (Some (back_in_line now w))
   started_over d w held here is key None kept = false_true (sym kept ∙ rw is refl)
   started_over d w held here is key (Some c) kept =
@@ -134,16 +138,20 @@ module _ {B : Type 0} {g : Ghosts B} {limits : Limits} (r u : Rows B g) (t : Tab
     all_consumers : (d : ℕ) → KeepsConsumer s (get nat_eq u.consumers d) (s.consumer d)
     all_consumers d = subst (λ o. KeepsConsumer s o (s.consumer d)) (sym (consumers.places d)) (elim (stood d) [
       | nobody here later ↦ none_kept here later (get nat_eq r.consumers d) (stands.consumers d)
-      | back w held here later is key queues ↦ subst (KeepsConsumer s _) (sym later) (started_over d w held here is key (get nat_eq r.consumers d) (subst (KeepsConsumer t (get nat_eq r.consumers d)) here (stands.consumers d)))
+      | back w held here later is key queues ↦ subst (KeepsConsumer s _) (sym later)
+          (started_over d w held here is key (get nat_eq r.consumers d) (subst (KeepsConsumer t (get nat_eq r.consumers d)) here (stands.consumers d)))
       | stays w here later off ↦
           let before : KeepsConsumer t (get nat_eq r.consumers d) (Some w) = subst (KeepsConsumer t (get nat_eq r.consumers d)) here (stands.consumers d) in
           subst (λ o. KeepsConsumer s o (s.consumer d)) (sym (unchanged d w here off (get nat_eq r.consumers d) before))
           (subst (KeepsConsumer s (get nat_eq r.consumers d)) (sym later)
-          (consumer_same t s (get nat_eq r.consumers d) (Some w) (λ z is. record { past = λ x at_place. refl; length = λ q lo hi how at_place. gone_total (n == q) (t.representation q) }) before))
+          (consumer_same t s (get nat_eq r.consumers d) (Some w)
+          (λ z is. record { past = λ x at_place. refl; length = λ q lo hi how at_place. gone_total (n == q) (t.representation q) }) before))
     ])
       where
-        none_kept : t.consumer d ≡ None → s.consumer d ≡ None → (o : Option Consumer) → KeepsConsumer t o (t.consumer d) → KeepsConsumer s (cond (is_in d (line_of r.keys k.key)) (option_map (over_if_passed now) o) o) (s.consumer d)
-        none_kept here later None kept = subst (λ (o : Option Consumer). KeepsConsumer s o (s.consumer d)) (by_test (is_in d (line_of r.keys k.key))) (ap is_live later)
+        none_kept : t.consumer d ≡ None → s.consumer d ≡ None → (o : Option Consumer) → KeepsConsumer t o (t.consumer d) →
+            KeepsConsumer s (cond (is_in d (line_of r.keys k.key)) (option_map (over_if_passed now) o) o) (s.consumer d)
+        none_kept here later None kept =
+            subst (λ (o : Option Consumer). KeepsConsumer s o (s.consumer d)) (by_test (is_in d (line_of r.keys k.key))) (ap is_live later)
           where
             by_test : (b : Bool) → None ≡ cond b (option_map (over_if_passed now) None) None
             by_test true = refl
@@ -156,7 +164,9 @@ module _ {B : Type 0} {g : Ghosts B} {limits : Limits} (r u : Rows B g) (t : Tab
   held_same x z = grind (arith, nat_tests)
 
   all_exchanges : (x : ℕ) → KeepsExchange s x (table_of r.exchanges x)
-  all_exchanges x = exchange_same t s x (table_of r.exchanges x) (record { row = refl; brings = λ w is. gone_there (n == family x w) (t.representation (family x w)); held = held_same x (t.exchange x) }) (stands.exchanges x)
+  all_exchanges x = exchange_same t s x (table_of r.exchanges x)
+      (record { row = refl; brings = λ w is. gone_there (n == family x w) (t.representation (family x w)); held = held_same x (t.exchange x) })
+      (stands.exchanges x)
 
   -- KEYS
 
@@ -187,7 +197,8 @@ module _ {B : Type 0} {g : Ghosts B} {limits : Limits} (r u : Rows B g) (t : Tab
       key_off : (w : rows.Consumer) → w.request.key ≡ k.key → bytes_eq w.request.key key ≡ false
       key_off w is = ap (λ z. bytes_eq z key) is ∙ other
 
-      of_row : (c : ℕ) (f : Option rows.Consumer → Bool) → ((w : rows.Consumer) → w.request.key ≡ k.key → f (Some w) ≡ false) → f (s.consumer c) ≡ f (t.consumer c)
+      of_row : (c : ℕ) (f : Option rows.Consumer → Bool) → ((w : rows.Consumer) → w.request.key ≡ k.key → f (Some w) ≡ false) →
+          f (s.consumer c) ≡ f (t.consumer c)
       of_row c f off = elim (stood c) [
         | nobody here later ↦ ap f (later ∙ sym here)
         | back w held here later is key_is queues ↦ ap f later ∙ (off (back_in_line now w) key_is ∙ sym (ap f here ∙ off w key_is))
@@ -201,7 +212,8 @@ module _ {B : Type 0} {g : Ghosts B} {limits : Limits} (r u : Rows B g) (t : Tab
       let was = stands.keys k.key in
       record {
         current = sym (current_let_go now n t may.one_current k.key ∙ (ap (unless_it n) current_here ∙ none_left));
-        in_line = λ c. among-merged c a.passed a.in_line ∙ (ap (λ b. b || is_among c a.in_line) (was.passed c) ∙ (ap (λ b. is_passed k.key (t.consumer c) || b) (was.in_line c) ∙ in_line_after c));
+        in_line = λ c. among-merged c a.passed a.in_line ∙
+            (ap (λ b. b || is_among c a.in_line) (was.passed c) ∙ (ap (λ b. is_passed k.key (t.consumer c) || b) (was.in_line c) ∙ in_line_after c));
         passed = λ c. passed_after c;
         away = λ c. was.away c ∙ away_after c;
         holder = λ c. was.holder c ∙ turn_after c;
@@ -213,8 +225,10 @@ module _ {B : Type 0} {g : Ghosts B} {limits : Limits} (r u : Rows B g) (t : Tab
       in_line_after : (c : ℕ) → (is_passed k.key (t.consumer c) || is_in_line k.key (t.consumer c)) ≡ is_in_line k.key (s.consumer c)
       in_line_after c = elim (stood c) [
         | nobody here later ↦ ap (λ z. is_passed k.key z || is_in_line k.key z) here ∙ sym (ap (is_in_line k.key) later)
-        | back w held here later is key queues ↦ ap (λ z. is_passed k.key z || is_in_line k.key z) here ∙ (came_back w held is (bytes_eq-same w.request.key k.key key) queues ∙ sym (ap (is_in_line k.key) later))
-        | stays w here later off ↦ ap (λ z. is_passed k.key z || is_in_line k.key z) here ∙ (ap (λ b. b || is_in_line k.key (Some w)) off ∙ sym (ap (is_in_line k.key) later))
+        | back w held here later is key queues ↦ ap (λ z. is_passed k.key z || is_in_line k.key z) here ∙
+            (came_back w held is (bytes_eq-same w.request.key k.key key) queues ∙ sym (ap (is_in_line k.key) later))
+        | stays w here later off ↦ ap (λ z. is_passed k.key z || is_in_line k.key z) here ∙
+            (ap (λ b. b || is_in_line k.key (Some w)) off ∙ sym (ap (is_in_line k.key) later))
       ]
         where
           came_back : (w : rows.Consumer) (held : Option ℕ) → w.place ≡ place.Passed n held → bytes_eq w.request.key k.key ≡ true → Queues w
@@ -270,11 +284,19 @@ module _ {B : Type 0} {g : Ghosts B} {limits : Limits} (r u : Rows B g) (t : Tab
   firsts q d = grind (arith, nat_tests)
 
   uses : (q : ℕ) → UsesSame t s q
-  uses q = record { users = λ d. users_alike t s alike q d; first = firsts q; list = bound_let_go now n t may.one_current q; kind = λ w is. kind_same t s q w refl; overs = λ y on. on }
+  uses q = record {
+    users = λ d. users_alike t s alike q d;
+    first = firsts q;
+    list = bound_let_go now n t may.one_current q;
+    kind =
+        λ w is. kind_same t s q w refl;
+    overs = λ y on. on;
+  }
 
   still_reported : KnowsLength k v → KnowsLength (record k { is_gone = true }) (as_gone v)
   still_reported (reported is) = reported is
-  still_reported (unreported is) = unreported (record { gone = refl; unreported = is.unreported; total = is.total; known = is.known; came = is.came; first = is.first })
+  still_reported (unreported is) =
+      unreported (record { gone = refl; unreported = is.unreported; total = is.total; known = is.known; came = is.came; first = is.first })
 
   gone_here : (b : Bool) → is_nobody k.bound ≡ b → KeepsEntry s n (if b then None else Some (record k { is_gone = true })) (Some (as_gone v))
   gone_here true none = record { gone = refl; unused = bound_let_go now n t may.one_current n ∙ bound_none t n k v entry none }
@@ -320,7 +342,8 @@ module _ {B : Type 0} {g : Ghosts B} {limits : Limits} (r u : Rows B g) (t : Tab
             let here : (shelf_of u.entries).kept n ≡ kept.kept_as_gone k = forgot.kept n ∙ rw (eqb-same n) (ap (option_and_then kept.kept_as_gone) at) in
             let there : s.representation n ≡ Some (as_gone v) = rw (eqb-same n) (ap (option_map as_gone) row) in
             subst (λ z. KeepsEntry s z ((shelf_of u.entries).kept z) (s.representation z)) one
-            (subst (λ o. KeepsEntry s n o (s.representation n)) (sym here) (subst (KeepsEntry s n (kept.kept_as_gone k)) (sym there) (gone_here (is_nobody k.bound) refl)))
+            (subst (λ o. KeepsEntry s n o (s.representation n)) (sym here)
+            (subst (KeepsEntry s n (kept.kept_as_gone k)) (sym there) (gone_here (is_nobody k.bound) refl)))
         by_test false off =
             let here : (shelf_of u.entries).kept q ≡ (shelf_of r.entries).kept q = forgot.kept q ∙ rw off refl in
             let there : s.representation q ≡ t.representation q = rw off refl in
@@ -330,7 +353,8 @@ module _ {B : Type 0} {g : Ghosts B} {limits : Limits} (r u : Rows B g) (t : Tab
     all_entries : KeepsEntries s (shelf_of u.entries)
     all_entries = record {
       each = each_entry;
-      order = forgot.order ∙ (ap (without itself n) stands.entries.order ∙ sym (filter_both (λ q. is_usable_row (s.representation q)) (λ q. not (q == n)) (λ q. is_usable_row (t.representation q)) t.used usable_is));
+      order = forgot.order ∙ (ap (without itself n) stands.entries.order ∙
+          sym (filter_both (λ q. is_usable_row (s.representation q)) (λ q. not (q == n)) (λ q. is_usable_row (t.representation q)) t.used usable_is));
     }
 
   -- ALL OF IT
@@ -356,7 +380,8 @@ entry_row t n k None entry = absurd entry
 entry_row t n k (Some v) entry = (v, refl, entry)
 
 -- what is current has its key
-kept_key : (o : Option Kept) (key : List ℕ) → Some key ≡ option_map key_in o → is_usable_kept o ≡ true → (k : Kept) × (o ≡ Some k) × (k.key ≡ key) × (k.is_gone ≡ false)
+kept_key : (o : Option Kept) (key : List ℕ) → Some key ≡ option_map key_in o → is_usable_kept o ≡ true → (k : Kept) × (o ≡ Some k) × (k.key ≡ key) ×
+    (k.is_gone ≡ false)
 kept_key None key is usable = false_true usable
 kept_key (Some k) key is usable = (k, refl, sym (some_is key k.key is), fresh k.is_gone usable)
   where
@@ -364,7 +389,8 @@ kept_key (Some k) key is usable = (k, refl, sym (some_is key k.key is), fresh k.
     fresh true never = sym never
     fresh false on = refl
 
-pub lets_go : {B : Type 0} {g : Ghosts B} (r u : Rows B g) (now n : ℕ) (key : List ℕ) (mid : KeyTable) → Some key ≡ option_map key_in ((shelf_of r.entries).kept n) → is_usable_kept ((shelf_of r.entries).kept n) ≡ true
+pub lets_go : {B : Type 0} {g : Ghosts B} (r u : Rows B g) (now n : ℕ) (key : List ℕ) (mid : KeyTable) → Some key ≡ option_map key_in
+    ((shelf_of r.entries).kept n) → is_usable_kept ((shelf_of r.entries).kept n) ≡ true
     → u.last_start ≡ r.last_start → u.exchanges ≡ r.exchanges
     → ChangesAmong r.consumers u.consumers (λ c. is_in c (line_of r.keys key)) (over_if_passed now)
     → keys.Becomes (on_line passed_back) key r.keys mid → keys.Becomes (with_current None) key mid u.keys
@@ -393,4 +419,5 @@ lets_none_go r now n none limits t may stands =
         gone_so false is = sym is
 
     by_kept : (o : Option Kept) → (shelf_of r.entries).kept n ≡ o → (v : Representation) → t.representation n ≡ Some v → v.is_gone ≡ true
-    by_kept o at v row = by_entry o v (sym (ap is_usable_kept at) ∙ none) (subst (λ z. KeepsEntry t n z (Some v)) at (subst (KeepsEntry t n ((shelf_of r.entries).kept n)) row (stands.entries.each n)))
+    by_kept o at v row = by_entry o v (sym (ap is_usable_kept at) ∙ none)
+        (subst (λ z. KeepsEntry t n z (Some v)) at (subst (KeepsEntry t n ((shelf_of r.entries).kept n)) row (stands.entries.each n)))

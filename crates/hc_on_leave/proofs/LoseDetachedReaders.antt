@@ -25,7 +25,8 @@ use Rattle.hc_state.proofs.{Losing.{may_lost, stands_lost}, ReaderSteps.{stands_
 -- WHO STANDS THERE
 
 -- who is named among the members that stand there
-pub members_in : (t : Tables) (end c : ℕ) (cs : List ℕ) → is_among c (map (λ (m : Member). m.c) (filter (members.stands_at end) (map (member t) cs))) ≡ ((offset_in t (t.consumer c) == end) && is_among c cs)
+pub members_in : (t : Tables) (end c : ℕ) (cs : List ℕ) →
+    is_among c (map (λ (m : Member). m.c) (filter (members.stands_at end) (map (member t) cs))) ≡ ((offset_in t (t.consumer c) == end) && is_among c cs)
 members_in t end c [] = grind (arith, nat_tests)
 members_in t end c (d ∷ cs) = by_test (offset_in t (t.consumer d) == end) refl (members_in t end c cs)
   where
@@ -48,15 +49,19 @@ members_in t end c (d ∷ cs) = by_test (offset_in t (t.consumer d) == end) refl
     eq_by : nat_eq d c ≡ true → d ≡ c
     eq_by on = grind (arith, nat_tests, on)
 
-    by_test : (b : Bool) → (offset_in t (t.consumer d) == end) ≡ b → is_among c later ≡ (stood c && is_among c cs) → is_among c (map (λ (m : Member). m.c) (filter (members.stands_at end) (map (member t) (d ∷ cs)))) ≡ (stood c && is_among c (d ∷ cs))
+    by_test : (b : Bool) → (offset_in t (t.consumer d) == end) ≡ b → is_among c later ≡ (stood c && is_among c cs) →
+        is_among c (map (λ (m : Member). m.c) (filter (members.stands_at end) (map (member t) (d ∷ cs)))) ≡ (stood c && is_among c (d ∷ cs))
     by_test true is rest = rw (is, rest) (swaps (nat_eq d c) (stood c) (is_among c cs) (λ on. ap stood (sym (eq_by on)) ∙ is))
     by_test false is rest = rw (is, rest) (drops (nat_eq d c) (stood c) (is_among c cs) (λ on. ap stood (sym (eq_by on)) ∙ is))
 
 -- who is named among those that stand there, where each stands as this says
-pub named : (f : Member → Member) (stood : ℕ → Bool) (end : ℕ) (all : List ℕ) → ((m : Member) → (f m).c ≡ m.c) → ((m : Member) → is_among m.c all ≡ true → members.stands_at end (f m) ≡ stood m.c)
-    → (c : ℕ) (ms : List Member) → ((n : ℕ) → is_among n (map consumer_of ms) ≡ true → is_among n all ≡ true) → is_among c (map consumer_of (filter (members.stands_at end) (map f ms))) ≡ (stood c && is_among c (map consumer_of ms))
+pub named : (f : Member → Member) (stood : ℕ → Bool) (end : ℕ) (all : List ℕ) → ((m : Member) → (f m).c ≡ m.c) →
+    ((m : Member) → is_among m.c all ≡ true → members.stands_at end (f m) ≡ stood m.c)
+    → (c : ℕ) (ms : List Member) → ((n : ℕ) → is_among n (map consumer_of ms) ≡ true → is_among n all ≡ true) →
+    is_among c (map consumer_of (filter (members.stands_at end) (map f ms))) ≡ (stood c && is_among c (map consumer_of ms))
 named f stood end all same stands c [] within = sym (then_false (stood c) false refl)
-named f stood end all same stands c (m ∷ ms) within = by_test (stood m.c) refl (named f stood end all same stands c ms (λ n on. within n (or_right (nat_eq m.c n) (is_among n (map consumer_of ms)) on)))
+named f stood end all same stands c (m ∷ ms) within =
+    by_test (stood m.c) refl (named f stood end all same stands c ms (λ n on. within n (or_right (nat_eq m.c n) (is_among n (map consumer_of ms)) on)))
   where
     later : List ℕ
     later = map consumer_of (filter (members.stands_at end) (map f ms))
@@ -80,7 +85,8 @@ named f stood end all same stands c (m ∷ ms) within = by_test (stood m.c) refl
     drops true true r same = false_true (sym (same refl))
     drops false true r same = refl
 
-    by_test : (b : Bool) → stood m.c ≡ b → is_among c later ≡ (stood c && is_among c rest) → is_among c (map consumer_of (filter (members.stands_at end) (map f (m ∷ ms)))) ≡ (stood c && is_among c (map consumer_of (m ∷ ms)))
+    by_test : (b : Bool) → stood m.c ≡ b → is_among c later ≡ (stood c && is_among c rest) →
+        is_among c (map consumer_of (filter (members.stands_at end) (map f (m ∷ ms)))) ≡ (stood c && is_among c (map consumer_of (m ∷ ms)))
     by_test true is before = rw (here ∙ is, same m, before) (swaps (nat_eq m.c c) (stood c) (is_among c rest) (λ on. ap stood (sym (eq_by on)) ∙ is))
     by_test false is before = rw (here ∙ is, before) (drops (nat_eq m.c c) (stood c) (is_among c rest) (λ on. ap stood (sym (eq_by on)) ∙ is))
 
@@ -90,7 +96,8 @@ unfolding bound
 bound_among t q c may = grind (arith, nat_tests, filter_in, is_bound, among_in)
 
 -- the survivor is one of those who are bound, and stands at the end
-pub survivor_among : (t : Tables) (q c : ℕ) (v : Representation) → survivor t q v ≡ Some c → ((offset_in t (t.consumer c) == v.reach) && is_among c (bound t q)) ≡ true
+pub survivor_among : (t : Tables) (q c : ℕ) (v : Representation) → survivor t q v ≡ Some c →
+    ((offset_in t (t.consumer c) == v.reach) && is_among c (bound t q)) ≡ true
 survivor_among t q c v is = sym (members_in t v.reach c (bound t q)) ∙ (least_some _ c is).among
 
 -- THE HEIR
@@ -104,11 +111,13 @@ reported_number consumers cs m = by_test (has itself m.c cs) (get nat_eq consume
     by_test true (Some k) = refl
     by_test false o = refl
 
-pub reported_numbers : (consumers : Numbered Consumer) (cs : List ℕ) (ms : List Member) → map consumer_of (map (placed_among consumers cs) ms) ≡ map consumer_of ms
+pub reported_numbers : (consumers : Numbered Consumer) (cs : List ℕ) (ms : List Member) →
+    map consumer_of (map (placed_among consumers cs) ms) ≡ map consumer_of ms
 reported_numbers consumers cs [] = refl
 reported_numbers consumers cs (m ∷ ms) = ap₂ (λ (n : ℕ) (ns : List ℕ). n ∷ ns) (reported_number consumers cs m) (reported_numbers consumers cs ms)
 
-module _ {B : Type 0} {g : Ghosts B} {limits : Limits} (r : Rows B g) (t : Tables) (stands : RowsStand limits r t) (may : MayLetGo t) (q : ℕ) (v : Representation) (row : t.representation q ≡ Some v) (kept : v.is_lost ≡ false) (e : Kept) (there : (shelf_of r.entries).kept q ≡ Some e) where
+module _ {B : Type 0} {g : Ghosts B} {limits : Limits} (r : Rows B g) (t : Tables) (stands : RowsStand limits r t) (may : MayLetGo t) (q : ℕ)
+    (v : Representation) (row : t.representation q ≡ Some v) (kept : v.is_lost ≡ false) (e : Kept) (there : (shelf_of r.entries).kept q ≡ Some e) where
   is : IsEntry t q e v
   is = subst (λ k. KeepsEntry t q k (Some v)) there (subst (KeepsEntry t q ((shelf_of r.entries).kept q)) row (stands.entries.each q))
 
@@ -119,11 +128,13 @@ module _ {B : Type 0} {g : Ghosts B} {limits : Limits} (r : Rows B g) (t : Table
   least_of a b n same within = grind (arith, nat_tests)
 
   -- whoever is bound stands where the tables have it
-  placed_as : v.reach ≤ 2 ^ 62 → (m : Member) (o : Option Consumer) (k : Option rows.Consumer) → KeepsConsumer t o k → is_bound q k ≡ true → members.stands_at v.reach (placed m o) ≡ (offset_in t k == v.reach)
+  placed_as : v.reach ≤ 2 ^ 62 → (m : Member) (o : Option Consumer) (k : Option rows.Consumer) → KeepsConsumer t o k → is_bound q k ≡ true →
+      members.stands_at v.reach (placed m o) ≡ (offset_in t k == v.reach)
   placed_as within m o None keeps on = false_true on
   placed_as within m None (Some k) keeps on = by_place k.place keeps on
     where
-      by_place : (p : Place) → is_live_place p ≡ false → is_bound_place q p ≡ true → members.stands_at v.reach (placed m None) ≡ (offset_in t (Some k) == v.reach)
+      by_place : (p : Place) → is_live_place p ≡ false → is_bound_place q p ≡ true →
+          members.stands_at v.reach (placed m None) ≡ (offset_in t (Some k) == v.reach)
       by_place place.Over off there_on = false_true there_on
       by_place place.Line off _ = false_true (sym off)
       by_place (place.Passed n how) off _ = false_true (sym off)
@@ -134,21 +145,25 @@ module _ {B : Type 0} {g : Ghosts B} {limits : Limits} (r : Rows B g) (t : Table
   placed_as within m (Some c) (Some k) keeps on = least_of (c.lo + c.given) (offset t k) v.reach (ap₂ (λ (a b : ℕ). a + b) keeps.begins keeps.given) within
 
   -- whom the group answers is the survivor
-  pub survivor_is : (w : Group) → HasMembers e.bound e.reach (reported_among r.consumers e.bound w) → e.reach ≤ 2 ^ 62 → writer_group.survivor (reported_among r.consumers e.bound w) ≡ survivor t q v
+  pub survivor_is : (w : Group) → HasMembers e.bound e.reach (reported_among r.consumers e.bound w) → e.reach ≤ 2 ^ 62 →
+      writer_group.survivor (reported_among r.consumers e.bound w) ≡ survivor t q v
   survivor_is w group within =
       let reach : e.reach ≡ v.reach = is.reach kept in
       let end : w.end ≡ v.reach = group.end ∙ reach in
       let below : v.reach ≤ 2 ^ 62 = subst (λ (n : ℕ). n ≤ 2 ^ 62) reach within in
       let numbers : map consumer_of w.members ≡ e.bound = sym (reported_numbers r.consumers e.bound w.members) ∙ group.members in
-      least_alike (map consumer_of (filter (members.stands_at w.end) (map (placed_among r.consumers e.bound) w.members))) (map consumer_of (filter (members.stands_at v.reach) (map (member t) (bound t q)))) (λ c.
+      least_alike (map consumer_of (filter (members.stands_at w.end) (map (placed_among r.consumers e.bound) w.members)))
+      (map consumer_of (filter (members.stands_at v.reach) (map (member t) (bound t q)))) (λ c.
       ap (λ (n : ℕ). is_among c (map consumer_of (filter (members.stands_at n) (map (placed_among r.consumers e.bound) w.members)))) end
-      ∙ (named (placed_among r.consumers e.bound) stood v.reach e.bound (reported_number r.consumers e.bound) (here below) c w.members (λ n on. sym (ap (is_among n) numbers) ∙ on)
+      ∙ (named (placed_among r.consumers e.bound) stood v.reach e.bound (reported_number r.consumers e.bound) (here below) c w.members
+      (λ n on. sym (ap (is_among n) numbers) ∙ on)
       ∙ (ap (λ (ns : List ℕ). stood c && is_among c ns) numbers
       ∙ (ap (λ (b : Bool). stood c && b) (is.bound c ∙ sym (bound_among t q c may))
       ∙ sym (members_in t v.reach c (bound t q))))))
     where
       here : v.reach ≤ 2 ^ 62 → (m : Member) → is_among m.c e.bound ≡ true → members.stands_at v.reach (placed_among r.consumers e.bound m) ≡ stood m.c
-      here below m on = ap (λ (b : Bool). members.stands_at v.reach (if b then placed m (get nat_eq r.consumers m.c) else m)) on ∙ (placed_as below m (get nat_eq r.consumers m.c) (t.consumer m.c) (stands.consumers m.c) (sym (is.bound m.c) ∙ on))
+      here below m on = ap (λ (b : Bool). members.stands_at v.reach (if b then placed m (get nat_eq r.consumers m.c) else m)) on ∙
+          (placed_as below m (get nat_eq r.consumers m.c) (t.consumer m.c) (stands.consumers m.c) (sym (is.bound m.c) ∙ on))
 
 -- NOTHING IS HELD FOR IT YET
 
@@ -194,7 +209,8 @@ module _ (t : Tables) (q x : ℕ) (v : Representation) (loses : MayLoseShared t 
   pub nothing_held : HoldsNothing z q v (survivor t q v)
   nothing_held y w at of_q = by_detached_reader (survivor t q v) refl
     where
-      by_row : (c : ℕ) → survivor t q v ≡ Some c → (o : Option rows.Consumer) → t.consumer c ≡ o → unstored_bytes z y w v (option_map (if_bound q (left_with q (survivor t q v) (Some x) c)) o) ≡ []
+      by_row : (c : ℕ) → survivor t q v ≡ Some c → (o : Option rows.Consumer) → t.consumer c ≡ o →
+          unstored_bytes z y w v (option_map (if_bound q (left_with q (survivor t q v) (Some x) c)) o) ≡ []
       by_row c is None row = refl
       by_row c is (Some k) row = by_bound (is_bound_place q k.place) refl
         where
@@ -214,7 +230,8 @@ module _ (t : Tables) (q x : ℕ) (v : Representation) (loses : MayLoseShared t 
 -- ALL OF IT
 
 -- what is kept names the exchange that writes it
-writer_kept : (t : Tables) (x : ℕ) (w : Exchange) (mine reported : Option ℕ) → KnowsWriter t.exchange mine reported → reported ≡ Some x → t.exchange x ≡ Some w → w.is_open ≡ true → mine ≡ Some x
+writer_kept : (t : Tables) (x : ℕ) (w : Exchange) (mine reported : Option ℕ) → KnowsWriter t.exchange mine reported → reported ≡ Some x →
+    t.exchange x ≡ Some w → w.is_open ≡ true → mine ≡ Some x
 writer_kept t x w mine reported (as_written same) named row opened = same ∙ named
 writer_kept t x w mine reported (forgotten y none at over) named row opened =
     let one : y ≡ x = some_is y x (sym at ∙ named) in
@@ -225,13 +242,19 @@ bound_lost : (o : Option ℕ) (k : Option Kept) → bound_in (option_map (kept_a
 bound_lost o None = refl
 bound_lost o (Some k) = refl
 
-pub loses_shared : {B : Type 0} {g : Ghosts B} {limits : Limits} (r u : Rows B g) (reported lost : Entries B g) (consumers : Numbered Consumer) (t : Tables) (now q x : ℕ) (v : Representation) (o : Option ℕ) → MayLoseShared t q x v → RowsStand limits r t → is_kept (shelf_of r.entries) q ≡ true
-    → shelf.Stays (shelf_of r.entries) (shelf_of reported) → group_of reported q ≡ option_map (reported_among r.consumers (bound_in ((shelf_of r.entries).kept q))) (group_of r.entries q) → IfSome ((shelf_of reported).kept q) (IsGroupOf (group_of reported q))
-    → o ≡ option_and_then writer_group.survivor (group_of reported q) → shelf.Becomes (option_map (kept_as_lost o)) shelf.same_order q (shelf_of reported) (shelf_of lost)
+pub loses_shared : {B : Type 0} {g : Ghosts B} {limits : Limits} (r u : Rows B g) (reported lost : Entries B g) (consumers : Numbered Consumer)
+    (t : Tables) (now q x : ℕ) (v : Representation) (o : Option ℕ) → MayLoseShared t q x v → RowsStand limits r t → is_kept (shelf_of r.entries) q ≡ true
+    → shelf.Stays (shelf_of r.entries) (shelf_of reported) →
+    group_of reported q ≡ option_map (reported_among r.consumers (bound_in ((shelf_of r.entries).kept q))) (group_of r.entries q) →
+    IfSome ((shelf_of reported).kept q) (IsGroupOf (group_of reported q))
+    → o ≡ option_and_then writer_group.survivor (group_of reported q) →
+    shelf.Becomes (option_map (kept_as_lost o)) shelf.same_order q (shelf_of reported) (shelf_of lost)
     → ChangesEach r.consumers consumers (λ d. has itself d (bound_in ((shelf_of lost).kept q))) (after_parting o x (cause.StoreWrite q))
-    → ((limits : Limits) (s : Tables) → MayLetGo s → RowsStand limits (record r { entries = lost; consumers = consumers }) s → RowsStand limits u (let_go now q s))
+    → ((limits : Limits) (s : Tables) → MayLetGo s → RowsStand limits (record r { entries = lost; consumers = consumers }) s →
+    RowsStand limits u (let_go now q s))
     → LosesShared limits u t now q x v o
-loses_shared {B} {g} {limits} r u reported lost consumers t now q x v o may stands there stays group grouped answer changed changes goes = by_kept ((shelf_of r.entries).kept q) refl there
+loses_shared {B} {g} {limits} r u reported lost consumers t now q x v o may stands there stays group grouped answer changed changes goes =
+    by_kept ((shelf_of r.entries).kept q) refl there
   where
     asked : Rows B g
     asked = record r { entries = reported }
@@ -249,7 +272,8 @@ loses_shared {B} {g} {limits} r u reported lost consumers t now q x v o may stan
     by_kept None at on = false_true on
     by_kept (Some e) at on =
         let now_at : (shelf_of reported).kept q ≡ Some e = stays.kept q ∙ at in
-        let entry : IsEntry t q e v = subst (λ k. KeepsEntry t q k (Some v)) at (subst (KeepsEntry t q ((shelf_of r.entries).kept q)) may.there (stands.entries.each q)) in
+        let entry : IsEntry t q e v =
+        subst (λ k. KeepsEntry t q k (Some v)) at (subst (KeepsEntry t q ((shelf_of r.entries).kept q)) may.there (stands.entries.each q)) in
         let of_group : IsGroupOf (group_of reported q) e = subst (λ k. IfSome k (IsGroupOf (group_of reported q))) now_at grouped in
         let same : o ≡ survivor t q v = by_group e at entry of_group (group_of r.entries q) refl in
         let z : Tables = group_lost q o (Some x) t in
@@ -261,17 +285,23 @@ loses_shared {B} {g} {limits} r u reported lost consumers t now q x v o may stan
           detached_reader_is = same;
           rows = goes _ _ (may_lost z q v o may.there (parts.may_part t q x o may.may))
               (stands_lost parted over z q v o may.there
-              (parts.stands_parted asked parted t q x o v (λ d. has itself d (bound_in ((shelf_of lost).kept q))) stood may.there may.nobody refl refl refl refl (λ d some. alike d) changes)
+              (parts.stands_parted asked parted t q x o v (λ d. has itself d (bound_in ((shelf_of lost).kept q))) stood may.there may.nobody refl refl
+              refl refl (λ d some. alike d) changes)
               may.nobody nothing refl refl refl refl changed (ap (λ k. is_some k) now_at));
         }
       where
-        by_group : (e : Kept) → (shelf_of r.entries).kept q ≡ Some e → IsEntry t q e v → IsGroupOf (group_of reported q) e → (w : Option Group) → group_of r.entries q ≡ w → o ≡ survivor t q v
+        by_group : (e : Kept) → (shelf_of r.entries).kept q ≡ Some e → IsEntry t q e v → IsGroupOf (group_of reported q) e → (w : Option Group) →
+            group_of r.entries q ≡ w → o ≡ survivor t q v
         by_group e at entry of_group w was =
-            let mine : exchange_of (group_of reported q) ≡ Some x = of_group.exchange ∙ writer_kept t x may.w e.writer v.writer entry.writer may.writes may.row may.opened in
+            let mine : exchange_of (group_of reported q) ≡ Some x = of_group.exchange ∙
+            writer_kept t x may.w e.writer v.writer entry.writer may.writes may.row may.opened in
             by_reported w (group ∙ ap₂ (λ (k : Option Kept) (n : Option Group). option_map (reported_among r.consumers (bound_in k)) n) at was) mine
           where
-            by_reported : (n : Option Group) → group_of reported q ≡ option_map (reported_among r.consumers e.bound) n → exchange_of (group_of reported q) ≡ Some x → o ≡ survivor t q v
+            by_reported : (n : Option Group) → group_of reported q ≡ option_map (reported_among r.consumers e.bound) n →
+                exchange_of (group_of reported q) ≡ Some x → o ≡ survivor t q v
             by_reported None reported_as has_one = none_some x (sym (ap exchange_of reported_as) ∙ has_one)
             by_reported (Some n) reported_as has_one =
-                let members_are : HasMembers e.bound e.reach (reported_among r.consumers e.bound n) = subst (λ (h : Option Group). IfSome h (HasMembers e.bound e.reach)) reported_as (of_group.members (entry.is_lost ∙ may.kept)) in
-                answer ∙ (ap (option_and_then writer_group.survivor) reported_as ∙ survivor_is r t stands may.may q v may.there may.kept e at n members_are of_group.within)
+                let members_are : HasMembers e.bound e.reach (reported_among r.consumers e.bound n) =
+                subst (λ (h : Option Group). IfSome h (HasMembers e.bound e.reach)) reported_as (of_group.members (entry.is_lost ∙ may.kept)) in
+                answer ∙ (ap (option_and_then writer_group.survivor) reported_as ∙
+                survivor_is r t stands may.may q v may.there may.kept e at n members_are of_group.within)

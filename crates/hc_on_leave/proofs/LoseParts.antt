@@ -29,13 +29,16 @@ module _ (t : Tables) (q x : ℕ) (detached_reader : Option ℕ) where
   pub part_of : (d : ℕ) (k : rows.Consumer) → IsPart d k (if_bound q (left_with q detached_reader (Some x) d) k)
   part_of d k = by_test (is_bound_place q k.place) refl (is_number detached_reader d)
     where
-      by_test : (b : Bool) → is_bound_place q k.place ≡ b → (h : Bool) → IsPart d k (if b then (if h then record k { own = Some x } else record k { due = option_or k.due (Some (cause.StoreWrite q)) }) else k)
+      by_test : (b : Bool) → is_bound_place q k.place ≡ b → (h : Bool) →
+          IsPart d k (if b then (if h then record k { own = Some x } else record k { due = option_or k.due (Some (cause.StoreWrite q)) }) else k)
       by_test false off h = apart off refl
       by_test true on true = bound (Some x) k.due on refl
       by_test true on false = bound k.own (option_or k.due (Some (cause.StoreWrite q))) on refl
 
   -- what looks neither at its exchange nor at its failure is told as before
-  pub reported_same : {A : Type 0} (f : Option rows.Consumer → A) → ((k : rows.Consumer) (own : Option ℕ) (due : Option Cause) → f (Some (record k { own = own; due = due })) ≡ f (Some k)) → (d : ℕ) → f (s.consumer d) ≡ f (t.consumer d)
+  pub reported_same : {A : Type 0} (f : Option rows.Consumer → A) →
+      ((k : rows.Consumer) (own : Option ℕ) (due : Option Cause) → f (Some (record k { own = own; due = due })) ≡ f (Some k)) → (d : ℕ) →
+      f (s.consumer d) ≡ f (t.consumer d)
   reported_same f same d = grind (arith, nat_tests)
 
   -- whoever it is now, it was there, and stood where it stands
@@ -81,20 +84,25 @@ module _ (t : Tables) (q x : ℕ) (detached_reader : Option ℕ) where
 
   -- CONSUMERS
 
-  kept_part : (d : ℕ) (k : Consumer) (v : rows.Consumer) → IsKept t k v → IsKept s (after_parting detached_reader x (cause.StoreWrite q) d k) (left_with q detached_reader (Some x) d v)
+  kept_part : (d : ℕ) (k : Consumer) (v : rows.Consumer) → IsKept t k v →
+      IsKept s (after_parting detached_reader x (cause.StoreWrite q) d k) (left_with q detached_reader (Some x) d v)
   kept_part d k v kp = by_detached_reader (is_number detached_reader d)
     where
       now : IsKept s k v
       now = kept_same t s k v (record { past = λ y at. refl; length = λ n lo hi how at. refl }) kp
 
-      by_detached_reader : (h : Bool) → IsKept s (if h then record k { own = Some x } else record k { due = option_or k.due (Some (cause.StoreWrite q)) }) (if h then record v { own = Some x } else record v { due = option_or v.due (Some (cause.StoreWrite q)) })
+      by_detached_reader : (h : Bool) →
+          IsKept s (if h then record k { own = Some x } else record k { due = option_or k.due (Some (cause.StoreWrite q)) })
+          (if h then record v { own = Some x } else record v { due = option_or v.due (Some (cause.StoreWrite q)) })
       by_detached_reader true = assumption now
       by_detached_reader false = assumption (
         now,
         ap (λ (o : Option Cause). option_or o (Some (cause.StoreWrite q))) now.due,
       )
 
-  consumer_part : (d : ℕ) (b : Bool) (o : Option Consumer) (row : Option rows.Consumer) → (is_some row ≡ true → b ≡ is_bound q row) → KeepsConsumer t o row → KeepsConsumer s (if b then option_map (after_parting detached_reader x (cause.StoreWrite q) d) o else o) (option_map (if_bound q (left_with q detached_reader (Some x) d)) row)
+  consumer_part : (d : ℕ) (b : Bool) (o : Option Consumer) (row : Option rows.Consumer) → (is_some row ≡ true → b ≡ is_bound q row) →
+      KeepsConsumer t o row → KeepsConsumer s (if b then option_map (after_parting detached_reader x (cause.StoreWrite q) d) o else o)
+      (option_map (if_bound q (left_with q detached_reader (Some x) d)) row)
   consumer_part d true None None alike kept = kept
   consumer_part d false None None alike kept = kept
   consumer_part d b (Some k) None alike kept = absurd kept
@@ -109,7 +117,8 @@ module _ (t : Tables) (q x : ℕ) (detached_reader : Option ℕ) where
       by_part u (apart off is) = ap (λ z. is_live (Some z)) is ∙ kept
       by_part u (bound own due on is) = ap (λ z. is_live (Some z)) is ∙ kept
   consumer_part d true (Some k) (Some v) alike kept = rw (sym (alike refl)) (kept_part d k v kept)
-  consumer_part d false (Some k) (Some v) alike kept = rw (sym (alike refl)) (kept_same t s k v (record { past = λ y at. refl; length = λ n lo hi how at. refl }) kept)
+  consumer_part d false (Some k) (Some v) alike kept =
+      rw (sym (alike refl)) (kept_same t s k v (record { past = λ y at. refl; length = λ n lo hi how at. refl }) kept)
 
   -- KEYS AND WHAT IS HELD
 
@@ -128,9 +137,12 @@ module _ (t : Tables) (q x : ℕ) (detached_reader : Option ℕ) where
 
 -- ALL OF IT
 
-pub stands_parted : {B : Type 0} {g : Ghosts B} {limits : Limits} (r u : Rows B g) (t : Tables) (q x : ℕ) (detached_reader : Option ℕ) (v : Representation) (among : ℕ → Bool) → RowsStand limits r t → t.representation q ≡ Some v → v.alone ≡ None
+pub stands_parted : {B : Type 0} {g : Ghosts B} {limits : Limits} (r u : Rows B g) (t : Tables) (q x : ℕ) (detached_reader : Option ℕ)
+    (v : Representation) (among : ℕ → Bool) → RowsStand limits r t → t.representation q ≡ Some v → v.alone ≡ None
     → u.last_start ≡ r.last_start → u.exchanges ≡ r.exchanges → u.keys ≡ r.keys → u.entries ≡ r.entries
-    → ((d : ℕ) → is_some (t.consumer d) ≡ true → among d ≡ is_bound q (t.consumer d)) → ChangesEach r.consumers u.consumers among (after_parting detached_reader x (cause.StoreWrite q)) → RowsStand limits u (group_lost q detached_reader (Some x) t)
+    → ((d : ℕ) → is_some (t.consumer d) ≡ true → among d ≡ is_bound q (t.consumer d)) →
+    ChangesEach r.consumers u.consumers among (after_parting detached_reader x (cause.StoreWrite q)) →
+    RowsStand limits u (group_lost q detached_reader (Some x) t)
 unfolding current
 stands_parted r u t q x detached_reader v among stands there nobody last exchanges same_keys same_entries alike changes =
     let z : Tables = group_lost q detached_reader (Some x) t in
@@ -139,8 +151,24 @@ stands_parted r u t q x detached_reader v among stands there nobody last exchang
       last_start = last ∙ stands.last_start;
       next = ap (λ e. next_of e) exchanges ∙ stands.next;
       count = changes.len ∙ (stands.count ∙ sym (live_same t z refl (reported_same t q x detached_reader is_live (λ k own due. refl))));
-      consumers = λ d. subst (λ o. KeepsConsumer z o (z.consumer d)) (sym (changes.places d)) (consumer_part t q x detached_reader d (among d) (get nat_eq r.consumers d) (t.consumer d) (alike d) (stands.consumers d));
-      exchanges = λ y. rw exchanges (exchange_same t z y (table_of r.exchanges y) (record { row = refl; brings = λ w at. refl; held = held_part t q x detached_reader v there nobody y (t.exchange y) }) (stands.exchanges y));
-      keys = λ key. rw same_keys (key_same t z key (kept_of r.keys key) (record { current = refl; in_line = reported_same t q x detached_reader (is_in_line key) (λ k own due. refl); passed = reported_same t q x detached_reader (is_passed key) (λ k own due. refl); away = λ d. reported_same t q x detached_reader (is_away z key) (λ k own due. refl) d ∙ away_as t q x detached_reader key (t.consumer d); turn = reported_same t q x detached_reader (has_turn key) (λ k own due. refl) }) (stands.keys key));
-      entries = rw same_entries (entries_same t z (shelf_of r.entries) (λ n. refl) refl refl (λ n. reported_same t q x detached_reader (is_bound n) (λ k own due. refl)) (λ n. reported_same t q x detached_reader (is_first t n) (λ k own due. refl)) (λ n. refl) (λ y on. on) stands.entries);
+      consumers = λ d. subst (λ o. KeepsConsumer z o (z.consumer d)) (sym (changes.places d))
+          (consumer_part t q x detached_reader d (among d) (get nat_eq r.consumers d) (t.consumer d) (alike d) (stands.consumers d));
+      exchanges = λ y. rw exchanges
+          (exchange_same t z y (table_of r.exchanges y)
+          (record { row = refl; brings = λ w at. refl; held = held_part t q x detached_reader v there nobody y (t.exchange y) }) (stands.exchanges y));
+      keys = λ key. rw same_keys
+          (key_same t z key (kept_of r.keys key)
+          (record {
+            current = refl;
+            in_line = reported_same t q x detached_reader (is_in_line key) (λ k own due. refl);
+            passed =
+                reported_same t q x detached_reader (is_passed key) (λ k own due. refl);
+            away =
+                λ d. reported_same t q x detached_reader (is_away z key) (λ k own due. refl) d ∙ away_as t q x detached_reader key (t.consumer d);
+            turn =
+                reported_same t q x detached_reader (has_turn key) (λ k own due. refl);
+          }) (stands.keys key));
+      entries = rw same_entries
+          (entries_same t z (shelf_of r.entries) (λ n. refl) refl refl (λ n. reported_same t q x detached_reader (is_bound n) (λ k own due. refl))
+          (λ n. reported_same t q x detached_reader (is_first t n) (λ k own due. refl)) (λ n. refl) (λ y on. on) stands.entries);
     }

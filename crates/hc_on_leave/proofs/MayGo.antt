@@ -8,7 +8,8 @@ may_opened t x z may = record {
   one_current = may.one_current;
   founded = may.founded;
   started = may.started;
-  waits = λ d q how j row at. let w = may.waits d q how j row at in record { v = w.v; row = w.row; key_is = w.key_is; not_gone = w.not_gone; queues = w.queues };
+  waits = λ d q how j row at. let w = may.waits d q how j row at in
+      record { v = w.v; row = w.row; key_is = w.key_is; not_gone = w.not_gone; queues = w.queues };
 }
 
 pub may_with : (t : Tables) (c : ℕ) (v w : Consumer) → t.consumer c ≡ Some v → has_passed w.place ≡ false → MayLetGo t → MayLetGo (with_consumer c (Some w) t)
@@ -25,8 +26,10 @@ may_with t c v w row unpassed may = record {
     never : {P : Type 0} (q : ℕ) (how : Option ℕ) → w.place ≡ place.Passed q how → P
     never q how at = false_true (sym unpassed ∙ ap has_passed at)
 
-    still : (d q : ℕ) (how : Option ℕ) (j : Consumer) → (c ≡ d → ⊥) → t.consumer d ≡ Some j → j.place ≡ place.Passed q how → WaitsOn (with_consumer c (Some w) t) q j
-    still d q how j ne row_j at = let s = may.waits d q how j row_j at in record { v = s.v; row = s.row; key_is = s.key_is; not_gone = s.not_gone; queues = s.queues }
+    still : (d q : ℕ) (how : Option ℕ) (j : Consumer) → (c ≡ d → ⊥) → t.consumer d ≡ Some j → j.place ≡ place.Passed q how →
+        WaitsOn (with_consumer c (Some w) t) q j
+    still d q how j ne row_j at = let s = may.waits d q how j row_j at in
+        record { v = s.v; row = s.row; key_is = s.key_is; not_gone = s.not_gone; queues = s.queues }
 
     there_too : (d : ℕ) → is_some ((with_consumer c (Some w) t).consumer d) ≡ true → is_some (t.consumer d) ≡ true
     there_too d there = elim (same_or c d) [

@@ -26,7 +26,8 @@ pub record BoundAt (q : ℕ) (p : Place) : Type 0 where
   pub at : p ≡ place.Bound q lo hi how
 
 pub bound_at : (q : ℕ) (p : Place) → is_bound_place q p ≡ true → BoundAt q p
-bound_at q (place.Bound n lo hi how) on = let one : n ≡ q = grind (arith, nat_tests, on) in record { lo = lo; hi = hi; how = how; at = ap (λ (m : ℕ). place.Bound m lo hi how) one }
+bound_at q (place.Bound n lo hi how) on = let one : n ≡ q = grind (arith, nat_tests, on) in
+    record { lo = lo; hi = hi; how = how; at = ap (λ (m : ℕ). place.Bound m lo hi how) one }
 bound_at q _ on = false_true on
 
 module _ (t : Tables) (law : Lawful t) (c q : ℕ) (v : Consumer) (row : t.consumer c ≡ Some v) (at : BoundAt q v.place) where
@@ -76,13 +77,15 @@ module _ (t : Tables) (law : Lawful t) (c q : ℕ) (v : Consumer) (row : t.consu
     gone_row o p h = grind (arith, nat_tests)
 
     let_go_twice : let_go now q (let_go now q s) ≡ let_go now q s
-    let_go_twice = let_go_nothing (let_go now q s) (keeps_may now q s may_then) now q (λ p is. gone_row (t.representation q) p (sym (rw (eqb-same q) refl) ∙ is))
+    let_go_twice = let_go_nothing (let_go now q s) (keeps_may now q s may_then) now q
+        (λ p is. gone_row (t.representation q) p (sym (rw (eqb-same q) refl) ∙ is))
 
     gone_with : (x : ℕ) → HowLeft t c x v → (o : Option ℕ) → going_with t (Some x) ≡ o → let_go now q (let_some_go now o s) ≡ let_go now q s
     gone_with x how None going = refl
     gone_with x how (Some n) going = ap (λ (m : ℕ). let_go now q (let_go now m s)) (going_is x n how going) ∙ let_go_twice
 
-module _ (limits : Limits) (t : Tables) (law : Lawful t) (now c want q : ℕ) (v : Consumer) (row : t.consumer c ≡ Some v) (bound : is_bound_place q v.place ≡ true) where
+module _ (limits : Limits) (t : Tables) (law : Lawful t) (now c want q : ℕ) (v : Consumer) (row : t.consumer c ≡ Some v)
+    (bound : is_bound_place q v.place ≡ true) where
   abbrev ev : Event
   ev = event.Poll c want
 
@@ -106,7 +109,8 @@ module _ (limits : Limits) (t : Tables) (law : Lawful t) (now c want q : ℕ) (v
   row_stays n ne = rw (eqb-other q n ne) refl
 
   -- what isn't gone then isn't brought by what it left
-  apart : (x : ℕ) → HowLeft t c x v → (n : ℕ) (p : Representation) → (let_go now q quit).representation n ≡ Some p → p.is_gone ≡ false → brings_to n x (t.exchange x) ≡ false
+  apart : (x : ℕ) → HowLeft t c x v → (n : ℕ) (p : Representation) → (let_go now q quit).representation n ≡ Some p → p.is_gone ≡ false →
+      brings_to n x (t.exchange x) ≡ false
   apart x how n p there stays = by_row (t.exchange x) refl
     where
       not_it : n ≢ q
@@ -117,14 +121,17 @@ module _ (limits : Limits) (t : Tables) (law : Lawful t) (now c want q : ℕ) (v
 
       by_family : (w : Exchange) → t.exchange x ≡ Some w → (b : Bool) → nat_eq (family x w) n ≡ b → (w.is_open && b) ≡ false
       by_family w ex false off = then_false w.is_open false refl
-      by_family w ex true on = absurd (not_it (its_own t law c q v row at x n w p (left_about t law c q v row at x how) ex row_there (let same : family x w ≡ n = grind (arith, nat_tests, on) in same)))
+      by_family w ex true on =
+          absurd (not_it (its_own t law c q v row at x n w p (left_about t law c q v row at x how) ex row_there
+          (let same : family x w ≡ n = grind (arith, nat_tests, on) in same)))
 
       by_row : (o : Option Exchange) → t.exchange x ≡ o → brings_to n x o ≡ false
       by_row None ex = refl
       by_row (Some w) ex = by_family w ex (nat_eq (family x w) n) refl
 
   -- it doesn't matter whether it is closed before or after
-  same_closed : (x : ℕ) → HowLeft t c x v → (o : Option ℕ) → going_with t (Some x) ≡ o → let_go now q (let_some_go now o (with_consumer c (Some (as_over v)) (tables_after_close x t))) ≡ tables_after_close x (let_go now q quit)
+  same_closed : (x : ℕ) → HowLeft t c x v → (o : Option ℕ) → going_with t (Some x) ≡ o →
+      let_go now q (let_some_go now o (with_consumer c (Some (as_over v)) (tables_after_close x t))) ≡ tables_after_close x (let_go now q quit)
   same_closed x how None going = refl
   same_closed x how (Some n) going = ap (tables_after_close x) (gone_with t law c q v row at now x how (Some n) going)
 
@@ -132,7 +139,8 @@ module _ (limits : Limits) (t : Tables) (law : Lawful t) (now c want q : ℕ) (v
   abbrev left_tables : Option ℕ → Tables
   left_tables o = let_go now q (let_some_go now (going_with t o) (with_consumer c (Some (as_over v)) (all_closed (with_item_first o []) t)))
 
-  does_misread : (o : Option ℕ) → left_by t c v ≡ o → Does limits t now ev (Misreads q) (failed_act ∷ map act.Close (with_item_first o [])) (with_event now ev (left_tables o))
+  does_misread : (o : Option ℕ) → left_by t c v ≡ o →
+      Does limits t now ev (Misreads q) (failed_act ∷ map act.Close (with_item_first o [])) (with_event now ev (left_tables o))
   does_misread o is =
       let does = misreads limits t law now c want v row q in
       record {
@@ -141,7 +149,8 @@ module _ (limits : Limits) (t : Tables) (law : Lawful t) (now c want q : ℕ) (v
       }
 
   module _ {B : Type 0} {g : Ghosts B} (u : Rows B g) (faults : ℕ) (before out : List Act) (failed : faults < (shelf_of u.entries).faults) where
-    reported : (z : Tables) (acts : List Act) → Does limits t now ev (Misreads q) (failed_act ∷ acts) (with_event now ev z) → out ≡ before ++ (failed_act ∷ acts) → RowsStand limits u z → Answered limits faults u t before out now ev
+    reported : (z : Tables) (acts : List Act) → Does limits t now ev (Misreads q) (failed_act ∷ acts) (with_event now ev z) → out ≡ before ++
+        (failed_act ∷ acts) → RowsStand limits u z → Answered limits faults u t before out now ev
     reported z acts does out_is stands = record {
       flaw = Misreads q;
       acts = out_is ∙ ap (λ y. before ++ y) (sym does.acts_are);
@@ -152,15 +161,20 @@ module _ (limits : Limits) (t : Tables) (law : Lawful t) (now c want q : ℕ) (v
     }
 
     -- it leaves nothing
-    pub misread_alone : left_by t c v ≡ None → out ≡ before ++ (act.Failed c (cause.StoreRead q) ∷ []) → RowsStand limits u (let_go now q quit) → Answered limits faults u t before out now (event.Poll c want)
+    pub misread_alone : left_by t c v ≡ None → out ≡ before ++ (act.Failed c (cause.StoreRead q) ∷ []) → RowsStand limits u (let_go now q quit) →
+        Answered limits faults u t before out now (event.Poll c want)
     misread_alone none out_is stands = reported (let_go now q quit) [] (does_misread None none) out_is stands
 
     -- it leaves an exchange
-    pub misread_closing : (r : Rows B g) (x : ℕ) (mid : List Act) → left_by t c v ≡ Some x → mid ≡ before ++ (act.Failed c (cause.StoreRead q) ∷ []) → out ≡ mid ++ (act.Close x ∷ []) → KeepsRest r u → u.consumers ≡ r.consumers
-        → exch.Becomes known.without_exchange x r.exchanges u.exchanges → RowsStand limits r (let_go now q quit) → Answered limits faults u t before out now (event.Poll c want)
+    pub misread_closing : (r : Rows B g) (x : ℕ) (mid : List Act) → left_by t c v ≡ Some x → mid ≡ before ++ (act.Failed c (cause.StoreRead q) ∷ []) →
+        out ≡ mid ++ (act.Close x ∷ []) → KeepsRest r u → u.consumers ≡ r.consumers
+        → exch.Becomes known.without_exchange x r.exchanges u.exchanges → RowsStand limits r (let_go now q quit) →
+        Answered limits faults u t before out now (event.Poll c want)
     misread_closing r x mid leaves first second rest consumers becomes stands =
         let how = how_left t c x v leaves in
         reported (tables_after_close x (let_go now q quit)) (act.Close x ∷ [])
-        (let does = does_misread (Some x) leaves in record { acts_are = does.acts_are; tables_are = does.tables_are ∙ ap (with_event now ev) (same_closed x how (going_with t (Some x)) refl) })
+        (let does = does_misread (Some x) leaves in
+        record { acts_are = does.acts_are; tables_are = does.tables_are ∙ ap (with_event now ev) (same_closed x how (going_with t (Some x)) refl) })
         (act_and before mid out failed_act (act.Close x ∷ []) first second)
-        (stands_unstored r u (let_go now q quit) x stands (unawaited_go now q quit x (left_unawaited t law c v row x how)) (apart x how) rest.last_start consumers rest.keys rest.entries becomes)
+        (stands_unstored r u (let_go now q quit) x stands (unawaited_go now q quit x (left_unawaited t law c v row x how)) (apart x how) rest.last_start
+        consumers rest.keys rest.entries becomes)

@@ -12,7 +12,8 @@ use Rattle.hc_state.proofs.Counting.{stands_counted}
 pub idle_leaves : (t : Tables) (law : Lawful t) (c : ℕ) (v : Consumer) → t.consumer c ≡ Some v → is_idle_at v.place ≡ true → left_by t c v ≡ None
 idle_leaves t law c v row idle = grind (arith, nat_tests)
 
-module _ {B : Type 0} {g : Ghosts B} (limits : Limits) (faults : ℕ) (u : Rows B g) (t : Tables) (law : Lawful t) (now c want r : ℕ) (v : Consumer) (row : t.consumer c ≡ Some v) (idle : is_idle_at v.place ≡ true) (before out : List Act) where
+module _ {B : Type 0} {g : Ghosts B} (limits : Limits) (faults : ℕ) (u : Rows B g) (t : Tables) (law : Lawful t) (now c want r : ℕ) (v : Consumer)
+    (row : t.consumer c ≡ Some v) (idle : is_idle_at v.place ≡ true) (before out : List Act) where
   abbrev s : Tables
   s = let_go now r (with_consumer c (Some (as_over v)) t)
 
@@ -26,10 +27,12 @@ module _ {B : Type 0} {g : Ghosts B} (limits : Limits) (faults : ℕ) (u : Rows 
       record {
         acts_are = does.acts_are ∙ ap (λ (o : Option ℕ). act.Failed c (cause.StoreRead r) ∷ map act.Close (with_item_first o [])) none;
         tables_are = does.tables_are
-            ∙ ap (λ (o : Option ℕ). with_event now (event.Poll c want) (let_go now r (let_some_go now (going_with t o) (with_consumer c (Some (as_over v)) (all_closed (with_item_first o []) t))))) none;
+            ∙ ap (λ (o : Option ℕ). with_event now (event.Poll c want)
+            (let_go now r (let_some_go now (going_with t o) (with_consumer c (Some (as_over v)) (all_closed (with_item_first o []) t))))) none;
       }
 
-  pub fault_answered : current t v.request.key ≡ Some r → faults < (shelf_of u.entries).faults → out ≡ before ++ acts → RowsStand limits u s → Answered limits faults u t before out now (event.Poll c want)
+  pub fault_answered : current t v.request.key ≡ Some r → faults < (shelf_of u.entries).faults → out ≡ before ++ acts → RowsStand limits u s →
+      Answered limits faults u t before out now (event.Poll c want)
   fault_answered now_is failed reported stands = record {
     flaw = Misreads r;
     acts = reported ∙ ap (λ z. before ++ z) (sym does_fail.acts_are);

@@ -18,7 +18,8 @@ module _ (t : Tables) (c : ℕ) (v z : rows.Consumer) (row : t.consumer c ≡ So
   -- as much of what it reads past the store is held for it, and of what was lost
   pub record HoldsAsMuch : Type 0 where
     pub past : (y : ℕ) (w : Exchange) → t.exchange y ≡ Some w → unread y w (Some z) ≡ unread y w (Some v)
-    pub lost : (y : ℕ) (w : Exchange) (b : Representation) → t.exchange y ≡ Some w → t.representation (family y w) ≡ Some b → unstored_bytes t y w b (Some z) ≡ unstored_bytes t y w b (Some v)
+    pub lost : (y : ℕ) (w : Exchange) (b : Representation) → t.exchange y ≡ Some w → t.representation (family y w) ≡ Some b →
+        unstored_bytes t y w b (Some z) ≡ unstored_bytes t y w b (Some v)
 
   here : s.consumer c ≡ Some z
   here = rw (eqb-same c) refl
@@ -30,10 +31,12 @@ module _ (t : Tables) (c : ℕ) (v z : rows.Consumer) (row : t.consumer c ≡ So
     past_same : (y d : ℕ) (w : Exchange) → t.exchange y ≡ Some w → unread y w (s.consumer d) ≡ unread y w (t.consumer d)
     past_same y d w at = grind (arith, nat_tests)
 
-    lost_same : (y d : ℕ) (w : Exchange) (b : Representation) → t.exchange y ≡ Some w → t.representation (family y w) ≡ Some b → unstored_bytes s y w b (s.consumer d) ≡ unstored_bytes t y w b (t.consumer d)
+    lost_same : (y d : ℕ) (w : Exchange) (b : Representation) → t.exchange y ≡ Some w → t.representation (family y w) ≡ Some b →
+        unstored_bytes s y w b (s.consumer d) ≡ unstored_bytes t y w b (t.consumer d)
     lost_same y d w b at there = grind (arith, nat_tests)
 
-    alone_same : (y : ℕ) (w : Exchange) (b : Representation) (o : Option ℕ) → t.exchange y ≡ Some w → t.representation (family y w) ≡ Some b → held_alone s y w b o ≡ held_alone t y w b o
+    alone_same : (y : ℕ) (w : Exchange) (b : Representation) (o : Option ℕ) → t.exchange y ≡ Some w → t.representation (family y w) ≡ Some b →
+        held_alone s y w b o ≡ held_alone t y w b o
     alone_same y w b o at there = grind (arith, nat_tests)
 
     of_same : (y : ℕ) (w : Exchange) (o : Option Representation) → t.exchange y ≡ Some w → t.representation (family y w) ≡ o → held_of s y w o ≡ held_of t y w o
@@ -44,9 +47,11 @@ module _ (t : Tables) (c : ℕ) (v z : rows.Consumer) (row : t.consumer c ≡ So
 
 -- ALL OF IT
 
-module _ {B : Type 0} {g : Ghosts B} {limits : Limits} (r u : Rows B g) (t : Tables) (c : ℕ) (v z : rows.Consumer) (k : Consumer) (stands : RowsStand limits r t) (row : t.consumer c ≡ Some v) (lived : is_live_place v.place ≡ true) (lives : is_live_place z.place ≡ true)
+module _ {B : Type 0} {g : Ghosts B} {limits : Limits} (r u : Rows B g) (t : Tables) (c : ℕ) (v z : rows.Consumer) (k : Consumer)
+    (stands : RowsStand limits r t) (row : t.consumer c ≡ Some v) (lived : is_live_place v.place ≡ true) (lives : is_live_place z.place ≡ true)
     (last : u.last_start ≡ r.last_start) (exchanges : u.exchanges ≡ r.exchanges) (bounded : (shelf_of u.entries).limits ≡ (shelf_of r.entries).limits)
-    (becomes : BecomesAt r.consumers u.consumers c (Some k)) (kept : KeepsConsumer t (Some k) (Some z)) (keys : (key : List ℕ) → KeepsKey (with_consumer c (Some z) t) key (kept_of u.keys key))
+    (becomes : BecomesAt r.consumers u.consumers c (Some k)) (kept : KeepsConsumer t (Some k) (Some z))
+    (keys : (key : List ℕ) → KeepsKey (with_consumer c (Some z) t) key (kept_of u.keys key))
     (entries : KeepsEntries (with_consumer c (Some z) t) (shelf_of u.entries)) (much : HoldsAsMuch t c v z row) where
   live_each : (d : ℕ) → is_live ((with_consumer c (Some z) t).consumer d) ≡ is_live (t.consumer d)
   live_each d = grind (arith, nat_tests)
@@ -58,7 +63,9 @@ module _ {B : Type 0} {g : Ghosts B} {limits : Limits} (r u : Rows B g) (t : Tab
     next = rw exchanges stands.next;
     count = length_same r u t c v k stands row lived becomes ∙ (stands.count ∙ sym (live_same t (with_consumer c (Some z) t) refl live_each));
     consumers = all_kept_with t c (Some z) r u (Some k) becomes kept stands.consumers;
-    exchanges = λ y. rw exchanges (exchange_same t (with_consumer c (Some z) t) y (table_of r.exchanges y) (record { row = refl; brings = λ w at. refl; held = held_same t c v z row much y (t.exchange y) refl }) (stands.exchanges y));
+    exchanges = λ y. rw exchanges
+        (exchange_same t (with_consumer c (Some z) t) y (table_of r.exchanges y)
+        (record { row = refl; brings = λ w at. refl; held = held_same t c v z row much y (t.exchange y) refl }) (stands.exchanges y));
     keys = keys;
     entries = entries;
   }

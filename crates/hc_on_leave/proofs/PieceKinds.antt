@@ -26,17 +26,21 @@ none_reported o off = grind (arith, nat_tests)
 
 -- ITS KIND
 
-module _ (s : Shelf) (r at x count : ℕ) (bytes : List ℕ) (v : Representation) (k : Kept) (same : length bytes ≡ count) (kept : s.kept r ≡ Some k) (is : IsViewOf v (cells_with at x bytes k.cells) (larger_view count (view_of k))) where
-  covered : (b : Bool) (end : ℕ) → ((x : ℕ) (bytes : List ℕ) → length bytes ≡ count → IsTrue b ↔ Covers (cells_with at x bytes (cells_at s r)) 0 end) → IsTrue b ↔ Covers (cells_with at x bytes k.cells) 0 end
+module _ (s : Shelf) (r at x count : ℕ) (bytes : List ℕ) (v : Representation) (k : Kept) (same : length bytes ≡ count) (kept : s.kept r ≡ Some k)
+    (is : IsViewOf v (cells_with at x bytes k.cells) (larger_view count (view_of k))) where
+  covered : (b : Bool) (end : ℕ) → ((x : ℕ) (bytes : List ℕ) → length bytes ≡ count → IsTrue b ↔ Covers (cells_with at x bytes (cells_at s r)) 0 end) →
+      IsTrue b ↔ Covers (cells_with at x bytes k.cells) 0 end
   covered b end reports = subst (λ (o : Option Kept). IsTrue b ↔ Covers (cells_with at x bytes (λ p. cells_in o p)) 0 end) kept (reports x bytes same)
 
-  pub complete_with : (b : Bool) (total : ℕ) → k.head.total ≡ Some total → ((x : ℕ) (bytes : List ℕ) → length bytes ≡ count → IsTrue b ↔ Covers (cells_with at x bytes (cells_at s r)) 0 total) → b ≡ is_complete v
+  pub complete_with : (b : Bool) (total : ℕ) → k.head.total ≡ Some total →
+      ((x : ℕ) (bytes : List ℕ) → length bytes ≡ count → IsTrue b ↔ Covers (cells_with at x bytes (cells_at s r)) 0 total) → b ≡ is_complete v
   complete_with b total known reports = complete_as v (cells_with at x bytes k.cells) (larger_view count (view_of k)) is b total known (covered b total reports)
 
   pub incomplete_with : k.head.total ≡ None → false ≡ is_complete v
   incomplete_with none = incomplete_as v (cells_with at x bytes k.cells) (larger_view count (view_of k)) is none
 
-  pub front_with : (b : Bool) (end : ℕ) → 0 < end → end ≡ (view_of k).size + count → ((x : ℕ) (bytes : List ℕ) → length bytes ≡ count → IsTrue b ↔ Covers (cells_with at x bytes (cells_at s r)) 0 end) → b ≡ is_prefix v
+  pub front_with : (b : Bool) (end : ℕ) → 0 < end → end ≡ (view_of k).size + count →
+      ((x : ℕ) (bytes : List ℕ) → length bytes ≡ count → IsTrue b ↔ Covers (cells_with at x bytes (cells_at s r)) 0 end) → b ≡ is_prefix v
   front_with b end some grows reports =
       front_as v (cells_with at x bytes k.cells) (larger_view count (view_of k)) is b (subst (λ n. 0 < n) grows some)
       (subst (λ (n : ℕ). IsTrue b ↔ Covers (cells_with at x bytes k.cells) 0 n) grows (covered b end reports))

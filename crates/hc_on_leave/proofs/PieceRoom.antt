@@ -37,7 +37,8 @@ not_taken zero n xs off = grind (arith, nat_tests)
 not_taken (suc count) n [] off = refl
 not_taken (suc count) n (x ∷ xs) off = by_tests (nat_eq x n) (is_in xs n) refl refl (λ rest. not_taken count n xs rest)
   where
-    by_tests : (a b : Bool) → nat_eq x n ≡ a → is_in xs n ≡ b → (is_in xs n ≡ false → is_in (take count xs) n ≡ false) → is_in (take (suc count) (x ∷ xs)) n ≡ false
+    by_tests : (a b : Bool) → nat_eq x n ≡ a → is_in xs n ≡ b → (is_in xs n ≡ false → is_in (take count xs) n ≡ false) → is_in
+        (take (suc count) (x ∷ xs)) n ≡ false
     by_tests true b same rest further = false_true (sym off ∙ rw same refl)
     by_tests false true other rest further = false_true (sym off ∙ rw (other, rest) refl)
     by_tests false false other rest further = rw other (further rest)
@@ -53,7 +54,8 @@ may_make_room t facts = assumption (facts.law.order, facts, may_let_go t facts.l
 
 -- WHAT GIVES WAY
 
-module _ (limits : Limits) (t : Tables) (law : Lawful t) (now x : ℕ) (bytes : List ℕ) (goes : denial t (event.Piece x bytes) ≡ None) (w : Exchange) (row : t.exchange x ≡ Some w) where
+module _ (limits : Limits) (t : Tables) (law : Lawful t) (now x : ℕ) (bytes : List ℕ) (goes : denial t (event.Piece x bytes) ≡ None) (w : Exchange)
+    (row : t.exchange x ≡ Some w) where
   abbrev e : Entry
   e = entry_without_acts now (event.Piece x bytes)
 
@@ -68,9 +70,11 @@ module _ (limits : Limits) (t : Tables) (law : Lawful t) (now x : ℕ) (bytes : 
       by_row : (o : Option Representation) → weights.weight_in t e q o ≡ going.weight_in t q o
       by_row None = refl
       by_row (Some p) =
-          let current_is : (is_current t p.key q && not (goes_itself t e q p)) ≡ is_current t p.key q = ap (λ b. is_current t p.key q && not b) (stays q p) ∙ and_true (is_current t p.key q) in
+          let current_is : (is_current t p.key q && not (goes_itself t e q p)) ≡ is_current t p.key q =
+          ap (λ b. is_current t p.key q && not b) (stays q p) ∙ and_true (is_current t p.key q) in
           let bound_so : stays_bound t e q ≡ not (length (bound t q) == 0) = bound_is t now (event.Piece x bytes) law.sound law.owned goes q p (stays q p) in
-          ap (λ b. if b || stays_bound t e q then weight_of p.size else 0) current_is ∙ ap (λ b. if is_current t p.key q || b then weight_of p.size else 0) bound_so
+          ap (λ b. if b || stays_bound t e q then weight_of p.size else 0) current_is ∙
+          ap (λ b. if is_current t p.key q || b then weight_of p.size else 0) bound_so
 
   idle_same : idle t e ≡ idle_now t
   idle_same = idle_but_gone t now (event.Piece x bytes) law.sound law.owned goes ∙ all_pass (outlasts t e) (idle_now t) (λ q. by_row q (t.representation q))
@@ -99,13 +103,16 @@ module _ (limits : Limits) (t : Tables) (law : Lawful t) (now x : ℕ) (bytes : 
     spared opened headed = by_room (room_now limits t wrote)
       where
         some_bound : bound t (family x w) ≢ []
-        some_bound none = law.whose.unread (family x w) x v there none (sound.headed w row opened headed refl (ap (λ (o : Option Representation). is_some o) there))
+        some_bound none = law.whose.unread (family x w) x v there none
+            (sound.headed w row opened headed refl (ap (λ (o : Option Representation). is_some o) there))
 
         busy : contents.is_idle t (family x w) (t.representation (family x w)) ≡ false
-        busy = ap (contents.is_idle t (family x w)) there ∙ then_false (is_current t v.key (family x w)) (length (bound t (family x w)) == 0) (some_list (bound t (family x w)) some_bound)
+        busy = ap (contents.is_idle t (family x w)) there ∙
+            then_false (is_current t v.key (family x w)) (length (bound t (family x w)) == 0) (some_list (bound t (family x w)) some_bound)
 
         by_room : (a : Room) → is_in (going.first_idle t a) (family x w) ≡ false
-        by_room (room.After count) = not_taken count (family x w) (idle_now t) (not_filtered (λ q. contents.is_idle t q (t.representation q)) (family x w) (reverse t.used) busy)
+        by_room (room.After count) =
+            not_taken count (family x w) (idle_now t) (not_filtered (λ q. contents.is_idle t q (t.representation q)) (family x w) (reverse t.used) busy)
         by_room _ = refl
 
 -- WHERE THE STORE TOOK IT
@@ -115,6 +122,7 @@ gives_first most sum [] le = (let on : nat_le sum most ≡ true = grind (arith, 
 gives_first most sum (x ∷ ws) le = (let on : nat_le sum most ≡ true = grind (arith, nat_tests, le) in rw on refl)
 
 -- there was room, where the write is within the limits
-pub room_there : (limits : Limits) (sum size n : ℕ) (ws : List ℕ) → size + n ≤ limits.max_entry → (room_of limits sum (write.Piece size n) ws ≡ room.Full → sum + n ≤ limits.max_total) → has_room (room_of limits sum (write.Piece size n) ws) ≡ true
+pub room_there : (limits : Limits) (sum size n : ℕ) (ws : List ℕ) → size + n ≤ limits.max_entry →
+    (room_of limits sum (write.Piece size n) ws ≡ room.Full → sum + n ≤ limits.max_total) → has_room (room_of limits sum (write.Piece size n) ws) ≡ true
 unfolding room_of
 room_there limits sum size n ws small full = grind (arith, nat_tests, none_some, gives_first)

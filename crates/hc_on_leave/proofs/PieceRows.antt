@@ -92,7 +92,8 @@ module _ (t : Tables) (now x : ℕ) (w : Exchange) (bytes : List ℕ) (vs : ℕ 
     pub grows_on : z.is_open ≡ true → (q : ℕ) → is_growing s q ≡ is_growing t q
     grows_on still q = grind (arith, nat_tests)
 
-    entries_pieced : (a b : Shelf) → ((q : ℕ) → IsLike (t.representation q) (vs q)) → ((q : ℕ) → family x w ≢ q → vs q ≡ t.representation q) → ((q : ℕ) → family x w ≢ q → b.kept q ≡ a.kept q) → b.order ≡ a.order
+    entries_pieced : (a b : Shelf) → ((q : ℕ) → IsLike (t.representation q) (vs q)) → ((q : ℕ) → family x w ≢ q → vs q ≡ t.representation q) →
+        ((q : ℕ) → family x w ≢ q → b.kept q ≡ a.kept q) → b.order ≡ a.order
         → KeepsEntry s (family x w) (b.kept (family x w)) (vs (family x w)) → KeepsEntries t a → KeepsEntries s b
     entries_pieced a b like apart kept_else order its kept = record {
       each = λ q. elim (same_or (family x w) q) [
@@ -100,7 +101,14 @@ module _ (t : Tables) (now x : ℕ) (w : Exchange) (bytes : List ℕ) (vs : ℕ 
         | inr ne ↦
             subst (λ o. KeepsEntry s q o (vs q)) (sym (kept_else q ne)) (subst (KeepsEntry s q (a.kept q)) (sym (apart q ne))
             (entry_same t s q (a.kept q) (t.representation q) refl
-            (record { users = λ d. refl; first = λ d. first_by t s (λ n. (like n).status) q (t.consumer d); list = bound_same t s q refl (λ d. refl); kind = λ v at. kind_same t s q v (growing_same t s q refl (brings_other q ne)); overs = overs_open t.exchange s.exchange x w row opened others }) (kept.each q)))
+            (record {
+              users = λ d. refl;
+              first = λ d. first_by t s (λ n. (like n).status) q (t.consumer d);
+              list = bound_same t s q refl (λ d. refl);
+              kind = λ v at. kind_same t s q v (growing_same t s q refl (brings_other q ne));
+              overs =
+                  overs_open t.exchange s.exchange x w row opened others;
+            }) (kept.each q)))
       ];
       order = order ∙ (kept.order ∙ sym (filters_same (λ q. is_usable_row (t.representation q)) (λ q. is_usable_row (vs q)) (λ q. (like q).usable_row) t.used));
     }
@@ -117,14 +125,16 @@ module _ (t : Tables) (now x : ℕ) (w : Exchange) (bytes : List ℕ) (vs : ℕ 
       abbrev role_with : Bool → Role
       role_with founded = if is_none w.head then role_awaited (route_of w.need) w.aim else if founded then role.Body (family x w) else role.Direct
 
-      running_after : (b : Bool) → is_reached (promised_bytes w) (length (w.body ++ bytes)) ≡ b → KeepsRunning s x (cond b None (Some (record o { delivered = o.delivered + length bytes; asked = false }))) (Some z)
+      running_after : (b : Bool) → is_reached (promised_bytes w) (length (w.body ++ bytes)) ≡ b →
+          KeepsRunning s x (cond b None (Some (record o { delivered = o.delivered + length bytes; asked = false }))) (Some z)
       running_after true reached = rw reached refl
       running_after false reached =
           let is_open : z.is_open ≡ true = rw reached opened in
           assumption (is, is_open, count_is, is.role ∙ ap role_with (sym like.there))
 
       -- what is known of it then
-      pub known_pieced : (k : Known) (hold : Bool) → k.running ≡ Some o → (known.with_piece bytes hold k).held ≡ held_for s x (Some z) → KeepsExchange s x (known.with_piece bytes hold k)
+      pub known_pieced : (k : Known) (hold : Bool) → k.running ≡ Some o → (known.with_piece bytes hold k).held ≡ held_for s x (Some z) →
+          KeepsExchange s x (known.with_piece bytes hold k)
       known_pieced k hold running held = record {
         running = rw (running, last_is, eqb-same x) (running_after (is_reached (promised_bytes w) (length (w.body ++ bytes))) refl);
         held = held ∙ ap (held_for s x) (sym here);
@@ -132,10 +142,16 @@ module _ (t : Tables) (now x : ℕ) (w : Exchange) (bytes : List ℕ) (vs : ℕ 
 
     -- ALL OF IT
 
-    module _ {B : Type 0} {g : Ghosts B} {limits : Limits} (r u : Rows B g) (stands : RowsStand limits r t) (unended : w.is_ended ≡ false) (like : (q : ℕ) → IsLike (t.representation q) (vs q)) (apart : (q : ℕ) → family x w ≢ q → vs q ≡ t.representation q) (hold : Bool) (o : Open) (running : (table_of r.exchanges x).running ≡ Some o)
-        (last : u.last_start ≡ r.last_start) (same_map : u.consumers ≡ r.consumers) (same_keys : u.keys ≡ r.keys) (becomes : exch.Becomes (known.with_piece bytes hold) x r.exchanges u.exchanges)
-        (held_here : (known.with_piece bytes hold (table_of r.exchanges x)).held ≡ held_for s x (Some z)) (held_else : (y : ℕ) (e : Exchange) → x ≢ y → t.exchange y ≡ Some e → held_for s y (Some e) ≡ held_for t y (Some e))
-        (bounded : (shelf_of u.entries).limits ≡ limits) (kept_else : (q : ℕ) → family x w ≢ q → (shelf_of u.entries).kept q ≡ (shelf_of r.entries).kept q) (order : (shelf_of u.entries).order ≡ (shelf_of r.entries).order)
+    module _ {B : Type 0} {g : Ghosts B} {limits : Limits} (r u : Rows B g) (stands : RowsStand limits r t) (unended : w.is_ended ≡ false)
+        (like : (q : ℕ) → IsLike (t.representation q) (vs q)) (apart : (q : ℕ) → family x w ≢ q → vs q ≡ t.representation q) (hold : Bool) (o : Open)
+        (running : (table_of r.exchanges x).running ≡ Some o)
+        (last : u.last_start ≡ r.last_start) (same_map : u.consumers ≡ r.consumers) (same_keys : u.keys ≡ r.keys)
+        (becomes : exch.Becomes (known.with_piece bytes hold) x r.exchanges u.exchanges)
+        (held_here : (known.with_piece bytes hold (table_of r.exchanges x)).held ≡ held_for s x (Some z))
+        (held_else : (y : ℕ) (e : Exchange) → x ≢ y → t.exchange y ≡ Some e → held_for s y (Some e) ≡ held_for t y (Some e))
+        (bounded : (shelf_of u.entries).limits ≡ limits)
+        (kept_else : (q : ℕ) → family x w ≢ q → (shelf_of u.entries).kept q ≡ (shelf_of r.entries).kept q)
+        (order : (shelf_of u.entries).order ≡ (shelf_of r.entries).order)
         (its : KeepsEntry s (family x w) ((shelf_of u.entries).kept (family x w)) (vs (family x w))) where
       is_running : IsRunning t x o w
       is_running = subst (KeepsRunning t x (Some o)) row (subst (λ (k : Option Open). KeepsRunning t x k (t.exchange x)) running (stands.exchanges x).running)
@@ -147,9 +163,11 @@ module _ (t : Tables) (now x : ℕ) (w : Exchange) (bytes : List ℕ) (vs : ℕ 
       all_exchanges : (y : ℕ) → KeepsExchange s y (table_of u.exchanges y)
       all_exchanges y = elim (same_or x y) [
         | inl e ↦ subst (λ (n : ℕ). KeepsExchange s n (table_of u.exchanges n)) e
-            (subst (KeepsExchange s x) (sym (known_here (known.with_piece bytes hold) x r.exchanges u.exchanges becomes)) (known_pieced o is_running (like (family x w)) (table_of r.exchanges x) hold running held_here))
+            (subst (KeepsExchange s x) (sym (known_here (known.with_piece bytes hold) x r.exchanges u.exchanges becomes))
+            (known_pieced o is_running (like (family x w)) (table_of r.exchanges x) hold running held_here))
         | inr ne ↦ subst (KeepsExchange s y) (sym (known_other (known.with_piece bytes hold) x y r.exchanges u.exchanges becomes (λ e. ne (sym e))))
-            (exchange_same t s y (table_of r.exchanges y) (record { row = others y ne; brings = λ e at. (like (family y e)).there; held = held_row y (t.exchange y) ne refl }) (stands.exchanges y))
+            (exchange_same t s y (table_of r.exchanges y)
+            (record { row = others y ne; brings = λ e at. (like (family y e)).there; held = held_row y (t.exchange y) ne refl }) (stands.exchanges y))
       ]
 
       pub stands_pieced : RowsStand limits u s

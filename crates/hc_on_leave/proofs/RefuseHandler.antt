@@ -17,7 +17,8 @@ use Rattle.hc_state.specs.{declared.rows.Rows.{Rows}, Changes.{BecomesAt}, Heads
 use Rattle.hc_on_leave.proofs.{AnswerHandler.{all_reached, known_here, known_other}, HeardExchange.{held_empty, held_else, here, others, key_heard, entries_heard}}
 use Rattle.hc_state.proofs.{OneOfEach.{stands_then}, Ties.{consumer_same}}
 
-module _ {B : Type 0} {g : Ghosts B} {limits : Limits} (r u : Rows B g) (t : Tables) (x : ℕ) (w z : Exchange) (stands : RowsStand limits r t) (unused : IsUnread t x w) (shut : z.is_open ≡ false) (empty : z.body ≡ []) (unjoined : z.joined ≡ None)
+module _ {B : Type 0} {g : Ghosts B} {limits : Limits} (r u : Rows B g) (t : Tables) (x : ℕ) (w z : Exchange) (stands : RowsStand limits r t)
+    (unused : IsUnread t x w) (shut : z.is_open ≡ false) (empty : z.body ≡ []) (unjoined : z.joined ≡ None)
     (rest : KeepsRest r u) (consumers : u.consumers ≡ r.consumers) (becomes : exch.Becomes without_exchange x r.exchanges u.exchanges) where
   abbrev s : Tables
   s = with_exchange x (Some z) t
@@ -59,7 +60,8 @@ module _ {B : Type 0} {g : Ghosts B} {limits : Limits} (r u : Rows B g) (t : Tab
   stands_shut =
       stands_then r u t s w.c x (get nat_eq r.consumers w.c) stands (rest.last_start ∙ stands.last_start) (becomes.next ∙ stands.next)
       (rw consumers stands.count) stays (λ y ne. known_other without_exchange x y r.exchanges u.exchanges becomes ne) (λ d ne. refl) s_other (λ q. refl)
-      (consumer_same t s (get nat_eq r.consumers w.c) (t.consumer w.c) (λ k row. record { past = λ y at. past_same w.c y k row at; length = λ q lo hi how at. refl }) (stands.consumers w.c))
+      (consumer_same t s (get nat_eq r.consumers w.c) (t.consumer w.c)
+      (λ k row. record { past = λ y at. past_same w.c y k row at; length = λ q lo hi how at. refl }) (stands.consumers w.c))
       exchange_shut (let same_keys = rest.keys in λ key. rw same_keys (key_heard t x w z bare unjoined key _ (stands.keys key)))
       (λ d k ne row at. unused.unread d k row at) (λ y e ne row. held_else t x w z bare unjoined y e)
       (let same_entries = rest.entries in rw same_entries stands.limits)
@@ -70,13 +72,15 @@ module _ {B : Type 0} {g : Ghosts B} {limits : Limits} (r u : Rows B g) (t : Tab
 closed_twice : (t : Tables) (x : ℕ) (a : Exchange) → tables_after_close x (with_exchange x (Some a) t) ≡ with_exchange x (Some (over a)) t
 closed_twice t x a = grind (arith, nat_tests)
 
-module _ {B : Type 0} {g : Ghosts B} {limits : Limits} (r u : Rows B g) (t : Tables) (now x : ℕ) (response : Response) (w : Exchange) (stands : RowsStand limits r t) (unused : IsUnread t x w)
+module _ {B : Type 0} {g : Ghosts B} {limits : Limits} (r u : Rows B g) (t : Tables) (now x : ℕ) (response : Response) (w : Exchange)
+    (stands : RowsStand limits r t) (unused : IsUnread t x w)
     (rest : KeepsRest r u) (consumers : u.consumers ≡ r.consumers) (becomes : exch.Becomes without_exchange x r.exchanges u.exchanges) where
   by_test : (b : Bool) → is_reached (promise_in w response) 0 ≡ b → RowsStand limits u (all_closed (if b then [] else x ∷ []) (with_answer now x response w.joined w t))
   by_test true reached = stands_shut r u t x w (exchange_with_head now response w.joined w) stands unused (rw reached refl) unused.bare.empty unused.bare.unjoined rest consumers becomes
   by_test false reached =
       subst (RowsStand limits u) (sym (closed_twice t x (exchange_with_head now response w.joined w)))
-      (stands_shut r u t x w (over (exchange_with_head now response w.joined w)) stands unused refl unused.bare.empty unused.bare.unjoined rest consumers becomes)
+      (stands_shut r u t x w (over (exchange_with_head now response w.joined w)) stands unused refl unused.bare.empty unused.bare.unjoined rest consumers
+      becomes)
 
   pub stands_refused : RowsStand limits u (all_closed (unless_ended x response w) (with_answer now x response w.joined w t))
   stands_refused = by_test (is_reached (promise_in w response) 0) refl
@@ -84,8 +88,11 @@ module _ {B : Type 0} {g : Ghosts B} {limits : Limits} (r u : Rows B g) (t : Tab
 -- WHAT IS TOLD
 
 -- what the head says to the exchange
-pub length_as : {B : Type 0} {g : Ghosts B} {limits : Limits} (r : Rows B g) (t : Tables) (x : ℕ) (w : Exchange) (response : Response) → RowsStand limits r t → t.exchange x ≡ Some w → w.is_open ≡ true → length_by (table_of r.exchanges x).running response ≡ length_of w.need w.request response
+pub length_as : {B : Type 0} {g : Ghosts B} {limits : Limits} (r : Rows B g) (t : Tables) (x : ℕ) (w : Exchange) (response : Response) →
+    RowsStand limits r t → t.exchange x ≡ Some w → w.is_open ≡ true → length_by (table_of r.exchanges x).running response ≡ length_of w.need w.request response
 length_as r t x w response stands row opened = grind (arith, nat_tests)
 
-pub closes_as : {B : Type 0} {g : Ghosts B} {limits : Limits} (r : Rows B g) (t : Tables) (x : ℕ) (w : Exchange) (response : Response) → RowsStand limits r t → t.exchange x ≡ Some w → w.is_open ≡ true → unless_over x (length_by (table_of r.exchanges x).running response) ≡ unless_ended x response w
+pub closes_as : {B : Type 0} {g : Ghosts B} {limits : Limits} (r : Rows B g) (t : Tables) (x : ℕ) (w : Exchange) (response : Response) →
+    RowsStand limits r t → t.exchange x ≡ Some w → w.is_open ≡ true →
+    unless_over x (length_by (table_of r.exchanges x).running response) ≡ unless_ended x response w
 closes_as r t x w response stands row opened = grind (arith, nat_tests)

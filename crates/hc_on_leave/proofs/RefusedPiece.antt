@@ -22,8 +22,13 @@ pub data Refused (limits : Limits) (entry sum : ℕ) (faults after : ℕ) : Lost
   large : limits.max_entry < entry → Refused limits entry sum faults after kinds.TooLarge
   full : entry ≤ limits.max_entry → limits.max_total < sum → Refused limits entry sum faults after kinds.Full
 
-pub refused_by : {T : Type 0} (limits : Limits) (entry sum faults after : ℕ) (result : Result T StoreError) (error : StoreError) (kind : LostKind) → result ≡ Err error → loss_by error ≡ Some kind → IsWithin limits entry sum result → HasCause faults after result → Refused limits entry sum faults after kind
-refused_by limits entry sum faults after result errors.Fault kind is loss within cause = subst (Refused limits entry sum faults after) (some_is kinds.Fault kind loss) (fault (cause.fault (rw is refl)))
-refused_by limits entry sum faults after result errors.TooLarge kind is loss within cause = subst (Refused limits entry sum faults after) (some_is kinds.TooLarge kind loss) (large (within.too_large (rw is refl)))
-refused_by limits entry sum faults after result errors.Full kind is loss within cause = subst (Refused limits entry sum faults after) (some_is kinds.Full kind loss) (let both = within.full (rw is refl) in full both.0 both.1)
+pub refused_by : {T : Type 0} (limits : Limits) (entry sum faults after : ℕ) (result : Result T StoreError) (error : StoreError) (kind : LostKind) →
+    result ≡ Err error → loss_by error ≡ Some kind → IsWithin limits entry sum result → HasCause faults after result →
+    Refused limits entry sum faults after kind
+refused_by limits entry sum faults after result errors.Fault kind is loss within cause =
+    subst (Refused limits entry sum faults after) (some_is kinds.Fault kind loss) (fault (cause.fault (rw is refl)))
+refused_by limits entry sum faults after result errors.TooLarge kind is loss within cause =
+    subst (Refused limits entry sum faults after) (some_is kinds.TooLarge kind loss) (large (within.too_large (rw is refl)))
+refused_by limits entry sum faults after result errors.Full kind is loss within cause =
+    subst (Refused limits entry sum faults after) (some_is kinds.Full kind loss) (let both = within.full (rw is refl) in full both.0 both.1)
 refused_by limits entry sum faults after result errors.NoMemory kind is loss within cause = absurd (let never : None ≡ Some kind = loss in cc)

@@ -48,7 +48,8 @@ module _ (consumers : Numbered Transaction) (c : ℕ) (cs : List ℕ) where
   -- WHO IS LIVE
 
   module _ (k : Transaction) (p : ℕ) (at : get nat_eq consumers c ≡ Some k) (stands : p ≡ min (k.lo + k.given) (2 ^ 64 - 1)) where
-    placed_next : (m : Member) → (if nat_eq (placed_among consumers cs m).c c then standing_at c p else placed_among consumers cs m) ≡ placed_among consumers (cs ++ (c ∷ [])) m
+    placed_next : (m : Member) →
+        (if nat_eq (placed_among consumers cs m).c c then standing_at c p else placed_among consumers cs m) ≡ placed_among consumers (cs ++ (c ∷ [])) m
     placed_next m = by_test (nat_eq c m.c) refl
       where
         chosen : Bool → Member
@@ -57,14 +58,16 @@ module _ (consumers : Numbered Transaction) (c : ℕ) (cs : List ℕ) where
         test_is : nat_eq (placed_among consumers cs m).c c ≡ nat_eq c m.c
         test_is = ap (λ (n : ℕ). nat_eq n c) (reported_number consumers cs m) ∙ turned m.c c
 
-        by_test : (b : Bool) → nat_eq c m.c ≡ b → (if nat_eq (placed_among consumers cs m).c c then standing_at c p else placed_among consumers cs m) ≡ placed_among consumers (cs ++ (c ∷ [])) m
+        by_test : (b : Bool) → nat_eq c m.c ≡ b →
+            (if nat_eq (placed_among consumers cs m).c c then standing_at c p else placed_among consumers cs m) ≡ placed_among consumers (cs ++ (c ∷ [])) m
         by_test true on =
             let one : c ≡ m.c = same_number m on in
             let here : get nat_eq consumers m.c ≡ Some k = ap (get nat_eq consumers) (sym one) ∙ at in
             ap chosen (test_is ∙ on) ∙ (ap₂ standing_at one stands ∙ (sym (ap (placed m) here) ∙ sym (it m on)))
         by_test false off = ap chosen (test_is ∙ off) ∙ sym (others m off)
 
-    each_next : (ms : List Member) → with_replacement consumer_of (standing_at c p) (map (placed_among consumers cs) ms) ≡ map (placed_among consumers (cs ++ (c ∷ []))) ms
+    each_next : (ms : List Member) →
+        with_replacement consumer_of (standing_at c p) (map (placed_among consumers cs) ms) ≡ map (placed_among consumers (cs ++ (c ∷ []))) ms
     each_next [] = refl
     each_next (m ∷ ms) = ap₂ (λ (n : Member) (ns : List Member). n ∷ ns) (placed_next m) (each_next ms)
 
@@ -72,7 +75,9 @@ module _ (consumers : Numbered Transaction) (c : ℕ) (cs : List ℕ) where
     absent_stays [] off = refl
     absent_stays (m ∷ ms) off = by_test (nat_eq m.c c) refl off (absent_stays ms)
       where
-        by_test : (b : Bool) → nat_eq m.c c ≡ b → (nat_eq m.c c || has consumer_of c ms) ≡ false → (has consumer_of c ms ≡ false → with_replacement consumer_of (standing_at c p) ms ≡ ms) → with_replacement consumer_of (standing_at c p) (m ∷ ms) ≡ m ∷ ms
+        by_test : (b : Bool) → nat_eq m.c c ≡ b → (nat_eq m.c c || has consumer_of c ms) ≡ false →
+            (has consumer_of c ms ≡ false → with_replacement consumer_of (standing_at c p) ms ≡ ms) →
+            with_replacement consumer_of (standing_at c p) (m ∷ ms) ≡ m ∷ ms
         by_test true on none later = false_true (sym none ∙ ap (λ (b : Bool). b || has consumer_of c ms) on)
         by_test false here none later =
             ap₂ (λ (n : Member) (ns : List Member). n ∷ ns) (ap (λ (b : Bool). if b then standing_at c p else m) here)
@@ -84,11 +89,14 @@ module _ (consumers : Numbered Transaction) (c : ℕ) (cs : List ℕ) where
         reported : Bool → Group
         reported b = if b then moved_to c p (reported_among consumers cs w) else reported_among consumers cs w
 
-        by_test : (b : Bool) → is_member c (reported_among consumers cs w) ≡ b → moved_if_member c p (reported_among consumers cs w) ≡ reported_among consumers (cs ++ (c ∷ [])) w
+        by_test : (b : Bool) → is_member c (reported_among consumers cs w) ≡ b →
+            moved_if_member c p (reported_among consumers cs w) ≡ reported_among consumers (cs ++ (c ∷ [])) w
         by_test true on = ap reported on ∙ ap (λ (ms : List Member). record w { members = ms }) (each_next w.members)
-        by_test false off = ap reported off ∙ ap (λ (ms : List Member). record w { members = ms }) (sym (absent_stays (map (placed_among consumers cs) w.members) off) ∙ each_next w.members)
+        by_test false off = ap reported off ∙
+            ap (λ (ms : List Member). record w { members = ms }) (sym (absent_stays (map (placed_among consumers cs) w.members) off) ∙ each_next w.members)
 
-    pub some_next : (o : Option Group) → option_map (moved_if_member c p) (option_map (reported_among consumers cs) o) ≡ option_map (reported_among consumers (cs ++ (c ∷ []))) o
+    pub some_next : (o : Option Group) →
+        option_map (moved_if_member c p) (option_map (reported_among consumers cs) o) ≡ option_map (reported_among consumers (cs ++ (c ∷ []))) o
     some_next None = refl
     some_next (Some w) = ap Some (member_next w)
 
@@ -144,7 +152,8 @@ module _ {B : Type 0} {g : Ghosts B} (old : Entries B g) (consumers : Numbered T
     reported = none_reported (group_of old r);
   }
 
-  module _ (i d : ℕ) (mid new : Entries B g) (within : i < length bound) (before : ReportedSoFar old mid consumers r i) (stays : Stays (shelf_of mid) (shelf_of new)) (faults : (shelf_of new).faults ≡ (shelf_of mid).faults) where
+  module _ (i d : ℕ) (mid new : Entries B g) (within : i < length bound) (before : ReportedSoFar old mid consumers r i)
+      (stays : Stays (shelf_of mid) (shelf_of new)) (faults : (shelf_of new).faults ≡ (shelf_of mid).faults) where
     again : Stays (shelf_of old) (shelf_of new)
     again = record {
       kept = λ q. stays.kept q ∙ before.stays.kept q;
@@ -156,7 +165,8 @@ module _ {B : Type 0} {g : Ghosts B} (old : Entries B g) (consumers : Numbered T
     more : List ℕ
     more = take (i + 1) bound
 
-    pub reported_next : (k : Transaction) (p : ℕ) → get nat_eq consumers (get_or bound i d) ≡ Some k → p ≡ min (k.lo + k.given) (2 ^ 64 - 1) → group_of new r ≡ option_map (moved_if_member (get_or bound i d) p) (group_of mid r) → ReportedSoFar old new consumers r (i + 1)
+    pub reported_next : (k : Transaction) (p : ℕ) → get nat_eq consumers (get_or bound i d) ≡ Some k → p ≡ min (k.lo + k.given) (2 ^ 64 - 1) →
+        group_of new r ≡ option_map (moved_if_member (get_or bound i d) p) (group_of mid r) → ReportedSoFar old new consumers r (i + 1)
     reported_next k p at stands is = record {
       stays = again;
       faults = faults ∙ before.faults;
@@ -166,7 +176,8 @@ module _ {B : Type 0} {g : Ghosts B} (old : Entries B g) (consumers : Numbered T
           ∙ ap (λ (cs : List ℕ). option_map (reported_among consumers cs) (group_of old r)) (sym (take_more bound i d within))));
     }
 
-  pub reported_skips : (i d : ℕ) (mid : Entries B g) → i < length bound → ReportedSoFar old mid consumers r i → get nat_eq consumers (get_or bound i d) ≡ None → ReportedSoFar old mid consumers r (i + 1)
+  pub reported_skips : (i d : ℕ) (mid : Entries B g) → i < length bound → ReportedSoFar old mid consumers r i →
+      get nat_eq consumers (get_or bound i d) ≡ None → ReportedSoFar old mid consumers r (i + 1)
   reported_skips i d mid within before gone = record {
     stays = before.stays;
     faults = before.faults;

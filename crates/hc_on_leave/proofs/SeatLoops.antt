@@ -18,17 +18,26 @@ last_or j i lt = elim (same_or j i) [ inl same ↦ inl same | inr ne ↦ inr (om
 
 module _ (kept : KeyTable) (key : List ℕ) (f : Consumer → Consumer) (old : Numbered Consumer) where
   pub none_changed : AreChangedBelow 0 kept key f old old
-  none_changed = record { changed = λ j d lt is. absurd (omega (arith, lt)); inside = λ j d lt is. absurd (omega (arith, lt)); rest = λ d none. refl; len = refl }
+  none_changed = record {
+    changed = λ j d lt is. absurd (omega (arith, lt));
+    inside = λ j d lt is. absurd (omega (arith, lt));
+    rest = λ d none. refl;
+    len = refl;
+  }
 
-  pub nobody_more : (i : ℕ) (mid : Numbered Consumer) → AreChangedBelow i kept key f old mid → seated_at kept key i ≡ None → AreChangedBelow (i + 1) kept key f old mid
+  pub nobody_more : (i : ℕ) (mid : Numbered Consumer) → AreChangedBelow i kept key f old mid → seated_at kept key i ≡ None →
+      AreChangedBelow (i + 1) kept key f old mid
   nobody_more i mid was none = record {
-    changed = λ j d lt is. elim (last_or j i lt) [ inl same ↦ none_some d (sym none ∙ (ap (seated_at kept key) (sym same) ∙ is)) | inr below ↦ was.changed j d below is ];
-    inside = λ j d lt is. elim (last_or j i lt) [ inl same ↦ none_some d (sym none ∙ (ap (seated_at kept key) (sym same) ∙ is)) | inr below ↦ was.inside j d below is ];
+    changed = λ j d lt is. elim (last_or j i lt)
+        [ inl same ↦ none_some d (sym none ∙ (ap (seated_at kept key) (sym same) ∙ is)) | inr below ↦ was.changed j d below is ];
+    inside = λ j d lt is. elim (last_or j i lt)
+        [ inl same ↦ none_some d (sym none ∙ (ap (seated_at kept key) (sym same) ∙ is)) | inr below ↦ was.inside j d below is ];
     rest = λ d unseated. was.rest d (λ j lt is. unseated j (omega (arith, lt)) is);
     len = was.len;
   }
 
-  module _ (i c : ℕ) (mid new : Numbered Consumer) (was : AreChangedBelow i kept key f old mid) (there : seated_at kept key i ≡ Some c) (waits : is_in c (line_of kept key) ≡ true) (its : IsItsSeat kept key i c) (changes : ChangesAt mid new c f) where
+  module _ (i c : ℕ) (mid new : Numbered Consumer) (was : AreChangedBelow i kept key f old mid) (there : seated_at kept key i ≡ Some c)
+      (waits : is_in c (line_of kept key) ≡ true) (its : IsItsSeat kept key i c) (changes : ChangesAt mid new c f) where
     -- its change is its own
     here : get nat_eq new c ≡ option_map f (get nat_eq old c)
     here = changes.places c ∙ rw (eqb-same c) (ap (option_map f) (was.rest c (λ j lt is. (let same = its j is in absurd (omega (arith, lt, same))))))
@@ -54,7 +63,8 @@ module _ (kept : KeyTable) (key : List ℕ) (f : Consumer → Consumer) (old : N
     }
 
   -- at the end everyone who waits for the key did
-  pub all_changed : (end i : ℕ) (new : Numbered Consumer) → AllAreSeatedBelow end kept key → end ≤ i → AreChangedBelow i kept key f old new → ChangesAmong old new (λ d. is_in d (line_of kept key)) f
+  pub all_changed : (end i : ℕ) (new : Numbered Consumer) → AllAreSeatedBelow end kept key → end ≤ i → AreChangedBelow i kept key f old new →
+      ChangesAmong old new (λ d. is_in d (line_of kept key)) f
   all_changed end i new seated le was = record { places = λ d. by_test d (is_in d (line_of kept key)) refl; len = was.len }
     where
       by_test : (d : ℕ) (b : Bool) → is_in d (line_of kept key) ≡ b → get nat_eq new d ≡ cond b (option_map f (get nat_eq old d)) (get nat_eq old d)

@@ -41,7 +41,10 @@ sealed_alike last total h = grind (arith, nat_tests)
 total_alike : (last : Option Kind) (h : Head) → (with_kind last h).total ≡ h.total
 total_alike last h = grind (arith, nat_tests)
 
-module _ {B : Type 0} {g : Ghosts B} (mid u : Rows B g) (limits : Limits) (t : Tables) (facts : Facts limits t) (now x : ℕ) (bytes : List ℕ) (goes : denial t (event.Piece x bytes) ≡ None) (w : Exchange) (v : Representation) (row : t.exchange x ≡ Some w) (opened : w.is_open ≡ true) (headed : is_some w.head ≡ true) (some : 0 < length bytes) (fits : overlong (promised_bytes w) (length w.body + length bytes) ≡ None) (there : t.representation (family x w) ≡ Some v) (fresh : v.is_lost ≡ false)
+module _ {B : Type 0} {g : Ghosts B} (mid u : Rows B g) (limits : Limits) (t : Tables) (facts : Facts limits t) (now x : ℕ) (bytes : List ℕ)
+    (goes : denial t (event.Piece x bytes) ≡ None) (w : Exchange) (v : Representation) (row : t.exchange x ≡ Some w) (opened : w.is_open ≡ true)
+    (headed : is_some w.head ≡ true) (some : 0 < length bytes) (fits : overlong (promised_bytes w) (length w.body + length bytes) ≡ None)
+    (there : t.representation (family x w) ≡ Some v) (fresh : v.is_lost ≡ false)
     (es : List ℕ) (spared : is_in es (family x w) ≡ false) where
   -- what is idle made room
   abbrev m : Tables
@@ -69,7 +72,8 @@ module _ {B : Type 0} {g : Ghosts B} (mid u : Rows B g) (limits : Limits) (t : T
   like q = elim (same_or (family x w) q) [
     | inl e ↦
         subst (λ o. IsLike o (vs q)) (ap m.representation e) (subst (IsLike (m.representation (family x w))) (ap vs e)
-        (subst (λ o. IsLike o (vs (family x w))) (sym m_there) (subst (IsLike (Some v)) (sym vs_here) (record { there = refl; total = refl; status = refl; usable = λ key. refl; usable_row = refl }))))
+        (subst (λ o. IsLike o (vs (family x w))) (sym m_there)
+        (subst (IsLike (Some v)) (sym vs_here) (record { there = refl; total = refl; status = refl; usable = λ key. refl; usable_row = refl }))))
     | inr ne ↦ like_same (m.representation q) (vs q) (vs_else q ne)
   ]
 
@@ -100,14 +104,16 @@ module _ {B : Type 0} {g : Ghosts B} (mid u : Rows B g) (limits : Limits) (t : T
       by_row (Some e) at = not_true (e.is_open && nat_eq (family y e) (family x w)) (λ on.
           let parts = both e.is_open (nat_eq (family y e) (family x w)) on in
           let same : family y e ≡ family x w = same_number (family y e) (family x w) parts.1 in
-          ne (facts.law.growing.one (family x w) x y v there grower (record { w = e; row = at; is_open = parts.0; headed = head_there y e at same e.head refl; of_r = same })))
+          ne (facts.law.growing.one (family x w) x y v there grower
+          (record { w = e; row = at; is_open = parts.0; headed = head_there y e at same e.head refl; of_r = same })))
         where
           same_number : (a b : ℕ) → nat_eq a b ≡ true → a ≡ b
           same_number a b on = elim (same_or a b) [ inl e ↦ e | inr ne ↦ false_true (sym (eqb-other a b ne) ∙ on) ]
 
   stops : (with_piece bytes w).is_open ≡ false → is_growing after (family x w) ≡ false
   stops over = none_passes (λ y. brings_to (family x w) y (after.exchange y)) t.openings (λ y. elim (same_or x y) [
-    | inl e ↦ subst (λ (n : ℕ). brings_to (family x w) n (after.exchange n) ≡ false) e (ap (brings_to (family x w) x) (here_is x) ∙ ap (λ b. b && nat_eq (family x w) (family x w)) over)
+    | inl e ↦ subst (λ (n : ℕ). brings_to (family x w) n (after.exchange n) ≡ false) e
+        (ap (brings_to (family x w) x) (here_is x) ∙ ap (λ b. b && nat_eq (family x w) (family x w)) over)
     | inr ne ↦ ap (brings_to (family x w) y) (else_is y ne) ∙ apart y ne
   ])
     where
@@ -163,14 +169,16 @@ module _ {B : Type 0} {g : Ghosts B} (mid u : Rows B g) (limits : Limits) (t : T
     covers_then : (lo hi : ℕ) → Covers v.stored lo hi → Covers v2.stored lo hi
     covers_then lo hi covered p low high = still_there (inside (front w) (length bytes) p) _ (v.stored p) (covered p low high)
 
-    whole_then : (k : Kept) → IsEntry m (family x w) k v → (n : ℕ) → (with_kind last k.head).kind ≡ kinds.Whole → (with_kind last k.head).total ≡ Some n → Covers v2.stored 0 n
+    whole_then : (k : Kept) → IsEntry m (family x w) k v → (n : ℕ) → (with_kind last k.head).kind ≡ kinds.Whole → (with_kind last k.head).total ≡ Some n →
+        Covers v2.stored 0 n
     whole_then k is n whole total = by_last kind_is
       where
         known : v2.head.total ≡ Some n
         known = sym (reports k is.length) ∙ (sym (total_alike last k.head) ∙ total)
 
         by_last : IsLastKind (not (with_piece bytes w).is_open) v2 last → Covers v2.stored 0 n
-        by_last (more still_comes none) = covers_then 0 n (is.whole n (sym (ap (λ l. (with_kind l k.head).kind) none) ∙ whole) (sym (total_alike last k.head) ∙ total))
+        by_last (more still_comes none) = covers_then
+            0 n (is.whole n (sym (ap (λ l. (with_kind l k.head).kind) none) ∙ whole) (sym (total_alike last k.head) ∙ total))
         by_last (ends over some_kind) =
             let complete : is_complete v2 ≡ true = whole_only v2 (sym (ap (λ l. (with_kind l k.head).kind) some_kind) ∙ whole) in
             covers_all v2.stored v2.reach 0 n (ap (λ o. stored_kinds.covers_all v2 o) (sym known) ∙ complete)
@@ -197,8 +205,10 @@ module _ {B : Type 0} {g : Ghosts B} (mid u : Rows B g) (limits : Limits) (t : T
 
     -- THE ROWS
 
-    module _ (stands : RowsStand limits mid m) (last_start : u.last_start ≡ mid.last_start) (same_map : u.consumers ≡ mid.consumers) (same_keys : u.keys ≡ mid.keys)
-        (fills : shelf.Becomes (option_map (kept_with_bytes (front w) x bytes last)) same_order (family x w) (shelf_of mid.entries) (shelf_of u.entries)) (becomes : exch.Becomes (known.with_piece bytes false) x mid.exchanges u.exchanges) where
+    module _ (stands : RowsStand limits mid m) (last_start : u.last_start ≡ mid.last_start) (same_map : u.consumers ≡ mid.consumers)
+        (same_keys : u.keys ≡ mid.keys)
+        (fills : shelf.Becomes (option_map (kept_with_bytes (front w) x bytes last)) same_order (family x w) (shelf_of mid.entries) (shelf_of u.entries))
+        (becomes : exch.Becomes (known.with_piece bytes false) x mid.exchanges u.exchanges) where
       kept_here : (shelf_of u.entries).kept (family x w) ≡ option_map (kept_with_bytes (front w) x bytes last) ((shelf_of mid.entries).kept (family x w))
       kept_here = fills.kept (family x w) ∙ rw (eqb-same (family x w)) refl
 
@@ -208,9 +218,11 @@ module _ {B : Type 0} {g : Ghosts B} (mid u : Rows B g) (limits : Limits) (t : T
       its : KeepsEntry after (family x w) ((shelf_of u.entries).kept (family x w)) (vs (family x w))
       unfolding bound
       its = subst (λ k. KeepsEntry after (family x w) k (vs (family x w))) (sym kept_here) (subst (KeepsEntry after (family x w) _) (sym vs_here)
-          (by_kept ((shelf_of mid.entries).kept (family x w)) (subst (KeepsEntry m (family x w) ((shelf_of mid.entries).kept (family x w))) m_there (stands.entries.each (family x w)))))
+          (by_kept ((shelf_of mid.entries).kept (family x w))
+          (subst (KeepsEntry m (family x w) ((shelf_of mid.entries).kept (family x w))) m_there (stands.entries.each (family x w)))))
         where
-          by_kept : (k : Option Kept) → KeepsEntry m (family x w) k (Some v) → KeepsEntry after (family x w) (option_map (kept_with_bytes (front w) x bytes last) k) (Some v2)
+          by_kept : (k : Option Kept) → KeepsEntry m (family x w) k (Some v) →
+              KeepsEntry after (family x w) (option_map (kept_with_bytes (front w) x bytes last) k) (Some v2)
           by_kept None kept = record { gone = kept.gone; unused = kept.unused }
           by_kept (Some k) kept = entry_then k kept
 
@@ -252,17 +264,21 @@ module _ {B : Type 0} {g : Ghosts B} (mid u : Rows B g) (limits : Limits) (t : T
   -- THE TABLES
 
   -- what is let go before or after
-  same_rows : (q : ℕ) → (if is_in es q then option_map as_gone (if family x w == q then Some v2 else t.representation q) else (if family x w == q then Some v2 else t.representation q)) ≡ vs q
+  same_rows : (q : ℕ) → (if is_in es q then option_map as_gone (if family x w == q then Some v2 else t.representation q) else
+      (if family x w == q then Some v2 else t.representation q)) ≡ vs q
   same_rows q = grind (arith, nat_tests)
 
-  pub tables_are : with_event now (event.Piece x bytes) (let_all_go now es (with_representation (family x w) (Some v2) (with_exchange x (Some (with_piece bytes w)) t))) ≡ after
+  pub tables_are : with_event now (event.Piece x bytes)
+      (let_all_go now es (with_representation (family x w) (Some v2) (with_exchange x (Some (with_piece bytes w)) t))) ≡ after
   tables_are = grind (arith, nat_tests, all_go_is, same_rows)
 
   evicts_quietly : (qs : List ℕ) → flaw_in (map act.Evicted qs) ≡ NoFlaw
   evicts_quietly [] = refl
   evicts_quietly (q ∷ qs) = evicts_quietly qs
 
-  pub stored_answered : (faults : ℕ) (before out : List Act) → evicted limits t now (event.Piece x bytes) ≡ es → has_room (room_for limits t now (event.Piece x bytes)) ≡ true → out ≡ before ++ map act.Evicted es → RowsStand limits u after → Answered limits faults u t before out now (event.Piece x bytes)
+  pub stored_answered : (faults : ℕ) (before out : List Act) → evicted limits t now (event.Piece x bytes) ≡ es →
+      has_room (room_for limits t now (event.Piece x bytes)) ≡ true → out ≡ before ++ map act.Evicted es → RowsStand limits u after →
+      Answered limits faults u t before out now (event.Piece x bytes)
   stored_answered faults before out gives room reports_them stands =
       let done = does.stored limits t facts.law now x bytes w row goes (family x w) v refl there fresh in
       record {
@@ -271,5 +287,8 @@ module _ {B : Type 0} {g : Ghosts B} (mid u : Rows B g) (limits : Limits) (t : T
         shown = ap flaw_in done.acts_are ∙ evicts_quietly (evicted limits t now (event.Piece x bytes));
         may = room;
         caused = λ is. false_true is;
-        rows = subst (RowsStand limits u) (sym (done.tables_are ∙ (ap (λ rs. with_event now (event.Piece x bytes) (let_all_go now rs (with_representation (family x w) (Some v2) (with_exchange x (Some (with_piece bytes w)) t)))) gives ∙ tables_are))) stands;
+        rows = subst (RowsStand limits u)
+            (sym (done.tables_are ∙ (ap
+            (λ rs. with_event now (event.Piece x bytes)
+            (let_all_go now rs (with_representation (family x w) (Some v2) (with_exchange x (Some (with_piece bytes w)) t)))) gives ∙ tables_are))) stands;
       }

@@ -29,8 +29,10 @@ beside t c d row ne = rw (eqb-other c d ne) refl
 
 -- whoever else stands somewhere stood there, or stands in line
 
-module _ (t : Tables) (law : Lawful t) (x : ℕ) (w : Exchange) (v : rows.Consumer) (awaits : AwaitsHead t x w v) (m : Tables) (z : rows.Consumer) (here : m.consumer w.c ≡ Some z) (since : (d : ℕ) (u : rows.Consumer) → m.consumer d ≡ Some u → w.c ≢ d → (t.consumer d ≡ Some u) ⊎ (u.place ≡ place.Line))
-    (row : m.exchange x ≡ Some w) (unfounded : m.representation x ≡ None) (unfirst : (q lo : ℕ) (hi : Option ℕ) → z.place ≡ place.Bound q lo hi (by.FirstHole x) → ⊥) where
+module _ (t : Tables) (law : Lawful t) (x : ℕ) (w : Exchange) (v : rows.Consumer) (awaits : AwaitsHead t x w v) (m : Tables) (z : rows.Consumer)
+    (here : m.consumer w.c ≡ Some z) (since : (d : ℕ) (u : rows.Consumer) → m.consumer d ≡ Some u → w.c ≢ d → (t.consumer d ≡ Some u) ⊎ (u.place ≡ place.Line))
+    (row : m.exchange x ≡ Some w) (unfounded : m.representation x ≡ None)
+    (unfirst : (q lo : ℕ) (hi : Option ℕ) → z.place ≡ place.Bound q lo hi (by.FirstHole x) → ⊥) where
   it : (d : ℕ) (u : rows.Consumer) → m.consumer d ≡ Some u → w.c ≡ d → z ≡ u
   it d u is e = some_is z u (sym here ∙ (ap m.consumer e ∙ is))
 
@@ -73,7 +75,8 @@ module _ (t : Tables) (law : Lawful t) (x : ℕ) (w : Exchange) (v : rows.Consum
 -- WHAT MAY BE LET GO THEN
 
 -- whoever stands elsewhere waits for nothing that is stored
-pub may_moved : (t : Tables) (c : ℕ) (v z : rows.Consumer) → t.consumer c ≡ Some v → ((q : ℕ) (kept : Option ℕ) → z.place ≡ place.Passed q kept → ⊥) → MayLetGo t → MayLetGo (with_consumer c (Some z) t)
+pub may_moved : (t : Tables) (c : ℕ) (v z : rows.Consumer) → t.consumer c ≡ Some v → ((q : ℕ) (kept : Option ℕ) → z.place ≡ place.Passed q kept → ⊥) →
+    MayLetGo t → MayLetGo (with_consumer c (Some z) t)
 may_moved t c v z row unpassed may = record {
   one_current = may.one_current;
   founded = may.founded;
@@ -83,7 +86,8 @@ may_moved t c v z row unpassed may = record {
   ]);
   waits = λ d q kept k is at. elim (same_or c d) [
     | inl e ↦ absurd (unpassed q kept (ap (λ (u : rows.Consumer). u.place) (some_is z k (sym (here e) ∙ is)) ∙ at))
-    | inr ne ↦ (let w = may.waits d q kept k (sym (others d ne) ∙ is) at in record { v = w.v; row = w.row; key_is = w.key_is; not_gone = w.not_gone; queues = w.queues })
+    | inr ne ↦ (let w = may.waits d q kept k (sym (others d ne) ∙ is) at in
+        record { v = w.v; row = w.row; key_is = w.key_is; not_gone = w.not_gone; queues = w.queues })
   ];
 }
   where
@@ -101,7 +105,8 @@ may_heard t x row may = record {
   one_current = may.one_current;
   founded = may.founded;
   started = may.started;
-  waits = λ d q kept k is at. (let w = may.waits d q kept k is at in record { v = w.v; row = w.row; key_is = w.key_is; not_gone = w.not_gone; queues = w.queues });
+  waits = λ d q kept k is at.
+      (let w = may.waits d q kept k is at in record { v = w.v; row = w.row; key_is = w.key_is; not_gone = w.not_gone; queues = w.queues });
 }
 
 may_closed : (t : Tables) (x : ℕ) → MayLetGo t → MayLetGo (tables_after_close x t)
@@ -109,7 +114,8 @@ may_closed t x may = record {
   one_current = may.one_current;
   founded = may.founded;
   started = may.started;
-  waits = λ d q kept k is at. (let w = may.waits d q kept k is at in record { v = w.v; row = w.row; key_is = w.key_is; not_gone = w.not_gone; queues = w.queues });
+  waits = λ d q kept k is at.
+      (let w = may.waits d q kept k is at in record { v = w.v; row = w.row; key_is = w.key_is; not_gone = w.not_gone; queues = w.queues });
 }
 
 pub may_refused : (t : Tables) (x : ℕ) (b : Bool) → MayLetGo t → MayLetGo (all_closed (if b then [] else x ∷ []) t)
@@ -119,8 +125,12 @@ may_refused t x false may = may_closed t x may
 -- WHAT IS WRITTEN
 
 -- what founds nothing writes nothing
-pub unwritten : (t : Tables) (now x : ℕ) (response : Response) (w : Exchange) (g : HeadCase) → t.exchange x ≡ Some w → head_case (head_view t false w response) ≡ g → is_founding (Some g) ≡ false → write_in t (entry_without_acts now (event.Head x response)) (event.Head x response) ≡ None
-unwritten t now x response w g row is off = ap (λ (h : Option HeadCase). if is_founding h then Some write.Slot else None) (case_is t (entry_without_acts now (event.Head x response)) x response w refl row ∙ ap Some is) ∙ rw off refl
+pub unwritten : (t : Tables) (now x : ℕ) (response : Response) (w : Exchange) (g : HeadCase) → t.exchange x ≡ Some w →
+    head_case (head_view t false w response) ≡ g → is_founding (Some g) ≡ false → write_in
+    t (entry_without_acts now (event.Head x response)) (event.Head x response) ≡ None
+unwritten t now x response w g row is off =
+    ap (λ (h : Option HeadCase). if is_founding h then Some write.Slot else None)
+    (case_is t (entry_without_acts now (event.Head x response)) x response w refl row ∙ ap Some is) ∙ rw off refl
 
 no_doom : (b : Bool) (w : Exchange) → (if b then Some w.request.key else None) ≡ None → b ≡ false
 no_doom b w none = grind (arith, nat_tests)
@@ -166,15 +176,19 @@ first_awaits x v way it3 is off = grind (arith, nat_tests)
 turn_awaits : (x : ℕ) (v : rows.Consumer) (way : Route) → StandsFor x v way → way ≡ route.Turn → awaited_exchange v.place ≡ Some x
 turn_awaits x v way it3 is = grind (arith, nat_tests)
 
-anew_awaits : (x : ℕ) (w : Exchange) (v : rows.Consumer) (h : HeadView) (k : HeadCase) → h.need ≡ w.need → h.shown ≡ v.shown → StandsFor x v (route_of w.need) → Anew k → CaseBy h k → awaited_exchange v.place ≡ Some x
+anew_awaits : (x : ℕ) (w : Exchange) (v : rows.Consumer) (h : HeadView) (k : HeadCase) → h.need ≡ w.need → h.shown ≡ v.shown →
+    StandsFor x v (route_of w.need) → Anew k → CaseBy h k → awaited_exchange v.place ≡ Some x
 anew_awaits x w v h _ needs shows stands unselected (cases.not_validated way status) = turn_awaits x v (route_of w.need) stands (ap route_of (sym needs) ∙ way)
-anew_awaits x w v h _ needs shows stands changed (cases.first_changed way shown) = first_awaits x v (route_of w.need) stands (ap route_of (sym needs) ∙ way) (sym shows ∙ shown)
+anew_awaits x w v h _ needs shows stands changed (cases.first_changed way shown) =
+    first_awaits x v (route_of w.need) stands (ap route_of (sym needs) ∙ way) (sym shows ∙ shown)
 
 -- whoever starts over waits in its key
-pub awaits_viewed : (x : ℕ) (w : Exchange) (v : rows.Consumer) (h : HeadView) (k : HeadCase) → h.need ≡ w.need → h.shown ≡ v.shown → StandsFor x v (route_of w.need) → starts_anew k ≡ true → k ≡ head_case h → awaited_exchange v.place ≡ Some x
+pub awaits_viewed : (x : ℕ) (w : Exchange) (v : rows.Consumer) (h : HeadView) (k : HeadCase) → h.need ≡ w.need → h.shown ≡ v.shown →
+    StandsFor x v (route_of w.need) → starts_anew k ≡ true → k ≡ head_case h → awaited_exchange v.place ≡ Some x
 awaits_viewed x w v h k needs shows stands on is = anew_awaits x w v h k needs shows stands (anew_of k on) (subst (CaseBy h) (sym is) (case_by h))
 
-pub awaits_anew : (t : Tables) (x : ℕ) (w : Exchange) (v : rows.Consumer) (response : Response) (k : HeadCase) → t.consumer w.c ≡ Some v → StandsFor x v (route_of w.need) → starts_anew k ≡ true → head_case (head_view t false w response) ≡ k → awaited_exchange v.place ≡ Some x
+pub awaits_anew : (t : Tables) (x : ℕ) (w : Exchange) (v : rows.Consumer) (response : Response) (k : HeadCase) → t.consumer w.c ≡ Some v →
+    StandsFor x v (route_of w.need) → starts_anew k ≡ true → head_case (head_view t false w response) ≡ k → awaited_exchange v.place ≡ Some x
 awaits_anew t x w v response k asker stands on is = awaits_viewed x w v (head_view t false w response) k refl (ap was_shown asker) stands on (sym is)
 
 -- WHOEVER WAS SHOWN A HEAD READS ON
@@ -209,18 +223,24 @@ shown_reads x v _ (laws.first q lo hi at unshown) is on = false_true (sym unshow
 shown_reads x v _ (laws.later q lo hi how at shown) is on = record { r = q; lo = lo; hi = hi; how = how; at = at; shown = shown }
 shown_reads x v _ _ is on = cc
 
-late_reader : (x : ℕ) (w : Exchange) (v : rows.Consumer) (h : HeadView) (k : HeadCase) → h.need ≡ w.need → h.shown ≡ v.shown → StandsFor x v (route_of w.need) → Later k → CaseBy h k → Reader v
-late_reader x w v h _ needs shows stands later_bad (cases.later_bad way shown bad) = shown_reads x v (route_of w.need) stands (ap route_of (sym needs) ∙ way) (sym shows ∙ shown)
-late_reader x w v h _ needs shows stands later_changed (cases.later_changed way shown) = shown_reads x v (route_of w.need) stands (ap route_of (sym needs) ∙ way) (sym shows ∙ shown)
+late_reader : (x : ℕ) (w : Exchange) (v : rows.Consumer) (h : HeadView) (k : HeadCase) → h.need ≡ w.need → h.shown ≡ v.shown →
+    StandsFor x v (route_of w.need) → Later k → CaseBy h k → Reader v
+late_reader x w v h _ needs shows stands later_bad (cases.later_bad way shown bad) =
+    shown_reads x v (route_of w.need) stands (ap route_of (sym needs) ∙ way) (sym shows ∙ shown)
+late_reader x w v h _ needs shows stands later_changed (cases.later_changed way shown) =
+    shown_reads x v (route_of w.need) stands (ap route_of (sym needs) ∙ way) (sym shows ∙ shown)
 
 -- who was shown a head isn't bound by a first hole whose exchange waits for its head
-first_over : {limits : Limits} (t : Tables) (facts : Facts limits t) (x c q lo : ℕ) (hi : Option ℕ) (v : rows.Consumer) (w : Exchange) → AwaitsHead t x w v → v.shown ≡ true → v.place ≡ place.Bound q lo hi (by.FirstHole x) → ⊥
+first_over : {limits : Limits} (t : Tables) (facts : Facts limits t) (x c q lo : ℕ) (hi : Option ℕ) (v : rows.Consumer) (w : Exchange) →
+    AwaitsHead t x w v → v.shown ≡ true → v.place ≡ place.Bound q lo hi (by.FirstHole x) → ⊥
 first_over t facts x c q lo hi v w awaits shown at =
     let f = facts.turns.first_hole w.c q lo x hi v awaits.asker at shown in
     grind (arith, nat_tests)
 
-module _ {B : Type 0} {g : Ghosts B} {limits : Limits} (r mid u : Rows B g) (t : Tables) (facts : Facts limits t) (now x : ℕ) (response : Response) (goes : denial t (event.Head x response) ≡ None) (w : Exchange) (v : rows.Consumer) (awaits : AwaitsHead t x w v) (before out : List Act)
-    (reported : out ≡ before ++ map act.Close (unless_over x (length_by (table_of mid.exchanges x).running response))) (rest : KeepsRest mid u) (consumers : u.consumers ≡ mid.consumers) (becomes : exch.Becomes without_exchange x mid.exchanges u.exchanges) where
+module _ {B : Type 0} {g : Ghosts B} {limits : Limits} (r mid u : Rows B g) (t : Tables) (facts : Facts limits t) (now x : ℕ) (response : Response)
+    (goes : denial t (event.Head x response) ≡ None) (w : Exchange) (v : rows.Consumer) (awaits : AwaitsHead t x w v) (before out : List Act)
+    (reported : out ≡ before ++ map act.Close (unless_over x (length_by (table_of mid.exchanges x).running response))) (rest : KeepsRest mid u)
+    (consumers : u.consumers ≡ mid.consumers) (becomes : exch.Becomes without_exchange x mid.exchanges u.exchanges) where
   abbrev ev : Event
   ev = event.Head x response
 
@@ -231,12 +251,14 @@ module _ {B : Type 0} {g : Ghosts B} {limits : Limits} (r mid u : Rows B g) (t :
   abbrev heard : Tables → Tables
   heard m = with_answer now x response w.joined w m
 
-  unused : (z : rows.Consumer) → ((q lo : ℕ) (hi : Option ℕ) → z.place ≡ place.Bound q lo hi (by.FirstHole x) → ⊥) → (z.place ≡ place.Direct x → ⊥) → IsUnread (moved z) x w
+  unused : (z : rows.Consumer) → ((q lo : ℕ) (hi : Option ℕ) → z.place ≡ place.Bound q lo hi (by.FirstHole x) → ⊥) → (z.place ≡ place.Direct x → ⊥) →
+      IsUnread (moved z) x w
   unused z unfirst apart =
       unread_then t facts.law x w v awaits (moved z) z (rw (eqb-same w.c) refl) (λ d u is ne. inl (sym (beside t w.c d _ ne) ∙ is)) awaits.row
       (facts.law.sound.numbered.names.unfounded x w awaits.row awaits.headless) unfirst apart
 
-  module _ (z : rows.Consumer) (stands : RowsStand limits mid (moved z)) (unfirst : (q lo : ℕ) (hi : Option ℕ) → z.place ≡ place.Bound q lo hi (by.FirstHole x) → ⊥) (apart : z.place ≡ place.Direct x → ⊥) where
+  module _ (z : rows.Consumer) (stands : RowsStand limits mid (moved z))
+      (unfirst : (q lo : ℕ) (hi : Option ℕ) → z.place ≡ place.Bound q lo hi (by.FirstHole x) → ⊥) (apart : z.place ≡ place.Direct x → ⊥) where
     refused : RowsStand limits u (all_closed (unless_ended x response w) (heard (moved z)))
     refused = stands_refused mid u (moved z) now x response w stands (unused z unfirst apart) rest consumers becomes
 
@@ -257,19 +279,23 @@ module _ {B : Type 0} {g : Ghosts B} {limits : Limits} (r mid u : Rows B g) (t :
   bad_reported _ turn (cases.turn_bad way bad) = bad
   bad_reported _ first (cases.first_bad way shown bad) = bad
 
-  put_down_does : (k : HeadCase) → Bad k → Is k → doomed_by_case (Some k) w response ≡ None → Does limits t now ev NoFlaw (act.Close x ∷ []) (with_event now ev (with_consumer w.c (Some down) (tables_after_close x (heard t))))
-  put_down_does _ direct is doomless = does.direct_bad limits t facts.law now x response goes w awaits.row v awaits.asker is (no_doom (changes w response) w doomless)
+  put_down_does : (k : HeadCase) → Bad k → Is k → doomed_by_case (Some k) w response ≡ None →
+      Does limits t now ev NoFlaw (act.Close x ∷ []) (with_event now ev (with_consumer w.c (Some down) (tables_after_close x (heard t))))
+  put_down_does _ direct is doomless =
+      does.direct_bad limits t facts.law now x response goes w awaits.row v awaits.asker is (no_doom (changes w response) w doomless)
   put_down_does _ turn is doomless = does.turn_bad limits t facts.law now x response goes w awaits.row v awaits.asker is
   put_down_does _ first is doomless = does.first_bad limits t facts.law now x response goes w awaits.row v awaits.asker is
 
-  pub put_down_answered : (k : HeadCase) → puts_down k ≡ true → Is k → doomed_by_case (Some k) w response ≡ None → RowsStand limits mid (moved down) → Answered limits (shelf_of r.entries).faults u t before out now ev
+  pub put_down_answered : (k : HeadCase) → puts_down k ≡ true → Is k → doomed_by_case (Some k) w response ≡ None → RowsStand limits mid (moved down) →
+      Answered limits (shelf_of r.entries).faults u t before out now ev
   put_down_answered k on is doomless stands =
       let b = bad_of k on in
       let open_still : is_reached (promise_in w response) 0 ≡ false = stays_open w response (bad_reported k b (by_case k is)) in
       let ended : unless_ended x response w ≡ x ∷ [] = rw open_still refl in
       let down_first : (q lo : ℕ) (hi : Option ℕ) → place.Down (cause.BadHead x) ≡ place.Bound q lo hi (by.FirstHole x) → ⊥ = λ q lo hi h. absurd (cc) in
       let down_apart : place.Down (cause.BadHead x) ≡ place.Direct x → ⊥ = λ h. absurd (cc) in
-      does_answered limits (shelf_of r.entries).faults u t (with_event now ev (with_consumer w.c (Some down) (tables_after_close x (heard t)))) before out (act.Close x ∷ []) now ev (put_down_does k b is doomless)
+      does_answered limits (shelf_of r.entries).faults u t (with_event now ev (with_consumer w.c (Some down) (tables_after_close x (heard t)))) before out
+      (act.Close x ∷ []) now ev (put_down_does k b is doomless)
       (unwritten t now x response w k awaits.row is (bad_founds k b)) refl
       (acts_are down stands down_first down_apart ∙ ap (λ (ys : List ℕ). before ++ map act.Close ys) ended)
       (stands_counted u (with_consumer w.c (Some down) (tables_after_close x (heard t))) now ev refl
@@ -277,15 +303,18 @@ module _ {B : Type 0} {g : Ghosts B} {limits : Limits} (r mid u : Rows B g) (t :
 
   -- WHAT IS STORED ISN'T WHAT WAS ASKED ABOUT
 
-  shut_is : (b : Bool) (z : rows.Consumer) → all_closed (if b then [] else x ∷ []) (heard (moved z)) ≡ with_consumer w.c (Some z) (all_closed (if b then [] else x ∷ []) (heard t))
+  shut_is : (b : Bool) (z : rows.Consumer) →
+      all_closed (if b then [] else x ∷ []) (heard (moved z)) ≡ with_consumer w.c (Some z) (all_closed (if b then [] else x ∷ []) (heard t))
   shut_is b z = grind (arith, nat_tests)
 
   quiet : (b : Bool) → flaw_in (map act.Close (if b then [] else x ∷ [])) ≡ NoFlaw
   quiet b = grind (arith, nat_tests)
 
   -- and it isn't used any more
-  module _ (f : Rows B g) (gone : Option ℕ) (lets : (m : Tables) → MayLetGo m → RowsStand limits u m → RowsStand limits f (let_some_go now gone m)) (z : rows.Consumer) (stands : RowsStand limits mid (moved z))
-      (unfirst : (q lo : ℕ) (hi : Option ℕ) → z.place ≡ place.Bound q lo hi (by.FirstHole x) → ⊥) (apart : z.place ≡ place.Direct x → ⊥) (unpassed : (q : ℕ) (kept : Option ℕ) → z.place ≡ place.Passed q kept → ⊥) where
+  module _ (f : Rows B g) (gone : Option ℕ) (lets : (m : Tables) → MayLetGo m → RowsStand limits u m → RowsStand limits f (let_some_go now gone m))
+      (z : rows.Consumer) (stands : RowsStand limits mid (moved z))
+      (unfirst : (q lo : ℕ) (hi : Option ℕ) → z.place ≡ place.Bound q lo hi (by.FirstHole x) → ⊥) (apart : z.place ≡ place.Direct x → ⊥)
+      (unpassed : (q : ℕ) (kept : Option ℕ) → z.place ≡ place.Passed q kept → ⊥) where
     may_shut : MayLetGo (all_closed (unless_ended x response w) (heard (moved z)))
     may_shut = may_refused (heard (moved z)) x (is_reached (promise_in w response) 0) (may_heard (moved z) x _ (may_moved t w.c v z awaits.asker unpassed (may_let_go t facts.law)))
 
@@ -295,24 +324,32 @@ module _ {B : Type 0} {g : Ghosts B} {limits : Limits} (r mid u : Rows B g) (t :
         (lets (all_closed (unless_ended x response w) (heard (moved z))) may_shut (refused z stands unfirst apart))
 
     pub shut_answered : (k : HeadCase) → Is k → is_founding (Some k) ≡ false → gone ≡ goes_with t w response k
-        → Does limits t now ev NoFlaw (map act.Close (unless_ended x response w)) (with_event now ev (let_some_go now (goes_with t w response k) (with_consumer w.c (Some z) (all_closed (unless_ended x response w) (heard t)))))
+        → Does limits t now ev NoFlaw (map act.Close (unless_ended x response w))
+        (with_event now ev (let_some_go now (goes_with t w response k) (with_consumer w.c (Some z) (all_closed (unless_ended x response w) (heard t)))))
         → Answered limits (shelf_of r.entries).faults f t before out now ev
     shut_answered k is unfounding same done =
         let m : Tables = with_consumer w.c (Some z) (all_closed (unless_ended x response w) (heard t)) in
-        does_answered limits (shelf_of r.entries).faults f t (with_event now ev (let_some_go now (goes_with t w response k) m)) before out (map act.Close (unless_ended x response w)) now ev done
+        does_answered limits (shelf_of r.entries).faults f t (with_event now ev (let_some_go now (goes_with t w response k) m)) before out
+        (map act.Close (unless_ended x response w)) now ev done
         (unwritten t now x response w k awaits.row is unfounding) (quiet (is_reached (promise_in w response) 0)) (acts_are z stands unfirst apart)
-        (stands_counted f (let_some_go now (goes_with t w response k) m) now ev refl (subst (λ (o : Option ℕ). RowsStand limits f (let_some_go now o m)) same gone_then))
+        (stands_counted f (let_some_go now (goes_with t w response k) m) now ev refl
+        (subst (λ (o : Option ℕ). RowsStand limits f (let_some_go now o m)) same gone_then))
 
   abbrev back : rows.Consumer
   back = back_in_line now v
 
   abbrev ShutDoes : HeadCase → rows.Consumer → Type 0
-  ShutDoes k z = Does limits t now ev NoFlaw (map act.Close (unless_ended x response w)) (with_event now ev (let_some_go now (goes_with t w response k) (with_consumer w.c (Some z) (all_closed (unless_ended x response w) (heard t)))))
+  ShutDoes k z = Does limits t now ev NoFlaw (map act.Close (unless_ended x response w))
+      (with_event now ev (let_some_go now (goes_with t w response k) (with_consumer w.c (Some z) (all_closed (unless_ended x response w) (heard t)))))
 
   -- where it is over with its head, nothing is told
-  ended_does : (ys : List ℕ) (goes_on : Option ℕ) (z : rows.Consumer) → unless_ended x response w ≡ ys → Does limits t now ev NoFlaw (map act.Close ys) (with_event now ev (let_some_go now goes_on (with_consumer w.c (Some z) (all_closed ys (heard t)))))
-      → Does limits t now ev NoFlaw (map act.Close (unless_ended x response w)) (with_event now ev (let_some_go now goes_on (with_consumer w.c (Some z) (all_closed (unless_ended x response w) (heard t)))))
-  ended_does ys goes_on z is done = subst (λ (ys : List ℕ). Does limits t now ev NoFlaw (map act.Close ys) (with_event now ev (let_some_go now goes_on (with_consumer w.c (Some z) (all_closed ys (heard t)))))) (sym is) done
+  ended_does : (ys : List ℕ) (goes_on : Option ℕ) (z : rows.Consumer) → unless_ended x response w ≡ ys →
+      Does limits t now ev NoFlaw (map act.Close ys) (with_event now ev (let_some_go now goes_on (with_consumer w.c (Some z) (all_closed ys (heard t)))))
+      → Does limits t now ev NoFlaw (map act.Close (unless_ended x response w))
+      (with_event now ev (let_some_go now goes_on (with_consumer w.c (Some z) (all_closed (unless_ended x response w) (heard t)))))
+  ended_does ys goes_on z is done =
+      subst (λ (ys : List ℕ). Does limits t now ev NoFlaw (map act.Close ys)
+      (with_event now ev (let_some_go now goes_on (with_consumer w.c (Some z) (all_closed ys (heard t)))))) (sym is) done
 
   -- a 304 has no body
   bodiless : response.status ≡ 304 → unless_ended x response w ≡ []
@@ -320,12 +357,17 @@ module _ {B : Type 0} {g : Ghosts B} {limits : Limits} (r mid u : Rows B g) (t :
   bodiless status = grind (arith, nat_tests)
 
   anew_does : (k : HeadCase) → Anew k → Is k → ShutDoes k back
-  anew_does _ unselected is = ended_does [] w.aim back (bodiless (unchanged (by_case case.NotValidated is))) (does.not_validated limits t facts.law now x response goes w awaits.row v awaits.asker is)
+  anew_does _ unselected is =
+      ended_does [] w.aim back (bodiless (unchanged (by_case case.NotValidated is)))
+      (does.not_validated limits t facts.law now x response goes w awaits.row v awaits.asker is)
   anew_does _ changed is = does.first_changed limits t facts.law now x response goes w awaits.row v awaits.asker is
 
-  pub anew_answered : (f : Rows B g) (gone : Option ℕ) (k : HeadCase) → starts_anew k ≡ true → Is k → gone ≡ goes_with t w response k → RowsStand limits mid (moved back) → ((m : Tables) → MayLetGo m → RowsStand limits u m → RowsStand limits f (let_some_go now gone m)) → Answered limits (shelf_of r.entries).faults f t before out now ev
+  pub anew_answered : (f : Rows B g) (gone : Option ℕ) (k : HeadCase) → starts_anew k ≡ true → Is k → gone ≡ goes_with t w response k →
+      RowsStand limits mid (moved back) → ((m : Tables) → MayLetGo m → RowsStand limits u m → RowsStand limits f (let_some_go now gone m)) →
+      Answered limits (shelf_of r.entries).faults f t before out now ev
   anew_answered f gone k on is same stands lets =
-      shut_answered f gone lets back stands (λ q lo hi h. (let never : place.Line ≡ place.Bound q lo hi (by.FirstHole x) = h in absurd (cc))) (λ h. (let never : place.Line ≡ place.Direct x = h in absurd (cc)))
+      shut_answered f gone lets back stands (λ q lo hi h. (let never : place.Line ≡ place.Bound q lo hi (by.FirstHole x) = h in absurd (cc)))
+      (λ h. (let never : place.Line ≡ place.Direct x = h in absurd (cc)))
       (λ q kept h. (let never : place.Line ≡ place.Passed q kept = h in absurd (cc))) k is (anew_founds k (anew_of k on)) same (anew_does k (anew_of k on) is)
 
   -- WHAT WAS SHOWN CAN'T BE COMPLETED
@@ -335,10 +377,15 @@ module _ {B : Type 0} {g : Ghosts B} {limits : Limits} (r mid u : Rows B g) (t :
   late why = record v { due = Some why }
 
   late_does : (k : HeadCase) → Later k → Is k → ShutDoes k (late (broken_by x k))
-  late_does _ later_bad is = ended_does (x ∷ []) None (late (cause.BadHead x)) (rw (stays_open w response (later_reported (by_case case.LaterBad is))) refl) (does.later_bad limits t facts.law now x response goes w awaits.row v awaits.asker is)
+  late_does _ later_bad is =
+      ended_does (x ∷ []) None (late (cause.BadHead x)) (rw (stays_open w response (later_reported (by_case case.LaterBad is))) refl)
+      (does.later_bad limits t facts.law now x response goes w awaits.row v awaits.asker is)
   late_does _ later_changed is = does.later_changed limits t facts.law now x response goes w awaits.row v awaits.asker is
 
-  pub late_answered : (f : Rows B g) (gone : Option ℕ) (k : HeadCase) → StandsFor x v (route_of w.need) → breaks_off k ≡ true → Is k → gone ≡ goes_with t w response k → RowsStand limits mid (moved (late (broken_by x k))) → ((m : Tables) → MayLetGo m → RowsStand limits u m → RowsStand limits f (let_some_go now gone m)) → Answered limits (shelf_of r.entries).faults f t before out now ev
+  pub late_answered : (f : Rows B g) (gone : Option ℕ) (k : HeadCase) → StandsFor x v (route_of w.need) → breaks_off k ≡ true → Is k →
+      gone ≡ goes_with t w response k → RowsStand limits mid (moved (late (broken_by x k))) →
+      ((m : Tables) → MayLetGo m → RowsStand limits u m → RowsStand limits f (let_some_go now gone m)) →
+      Answered limits (shelf_of r.entries).faults f t before out now ev
   late_answered f gone k stood on is same stands lets =
       let l = later_of k on in
       let reader = late_reader x w v (head_view t false w response) k refl (ap was_shown awaits.asker) stood l (by_case k is) in
@@ -373,13 +420,16 @@ past_founds _ first_passes = refl
 turn_unshown : (x : ℕ) (v : rows.Consumer) (way : Route) → StandsFor x v way → way ≡ route.Turn → v.shown ≡ false
 turn_unshown x v way it3 is = grind (arith, nat_tests)
 
-past_unshown : (x : ℕ) (w : Exchange) (v : rows.Consumer) (h : HeadView) (k : HeadCase) → h.need ≡ w.need → h.shown ≡ v.shown → StandsFor x v (route_of w.need) → Past k → CaseBy h k → v.shown ≡ false
+past_unshown : (x : ℕ) (w : Exchange) (v : rows.Consumer) (h : HeadView) (k : HeadCase) → h.need ≡ w.need → h.shown ≡ v.shown →
+    StandsFor x v (route_of w.need) → Past k → CaseBy h k → v.shown ≡ false
 past_unshown x w v h _ needs shows stands turn_error (cases.turn_server_error way) = turn_unshown x v (route_of w.need) stands (ap route_of (sym needs) ∙ way)
 past_unshown x w v h _ needs shows stands passes (cases.passes_by way) = turn_unshown x v (route_of w.need) stands (ap route_of (sym needs) ∙ way)
 past_unshown x w v h _ needs shows stands first_error (cases.first_server_error way shown) = sym shows ∙ shown
 past_unshown x w v h _ needs shows stands first_passes (cases.first_passes_by way shown) = sym shows ∙ shown
 
-module _ {B : Type 0} {g : Ghosts B} {limits : Limits} (r mid u : Rows B g) (t : Tables) (facts : Facts limits t) (now x : ℕ) (response : Response) (goes : denial t (event.Head x response) ≡ None) (w : Exchange) (v : rows.Consumer) (awaits : AwaitsHead t x w v) (stood : StandsFor x v (route_of w.need)) (gone : Option ℕ) (before : List Act) where
+module _ {B : Type 0} {g : Ghosts B} {limits : Limits} (r mid u : Rows B g) (t : Tables) (facts : Facts limits t) (now x : ℕ) (response : Response)
+    (goes : denial t (event.Head x response) ≡ None) (w : Exchange) (v : rows.Consumer) (awaits : AwaitsHead t x w v)
+    (stood : StandsFor x v (route_of w.need)) (gone : Option ℕ) (before : List Act) where
   abbrev comes : Event
   comes = event.Head x response
 
@@ -392,7 +442,8 @@ module _ {B : Type 0} {g : Ghosts B} {limits : Limits} (r mid u : Rows B g) (t :
   abbrev after : Tables
   after = with_answer now x response w.joined w reading
 
-  past_does : (k : HeadCase) → Past k → head_case (head_view t false w response) ≡ k → Does limits t now comes NoFlaw [] (with_event now comes (let_some_go now (goes_with t w response k) after))
+  past_does : (k : HeadCase) → Past k → head_case (head_view t false w response) ≡ k →
+      Does limits t now comes NoFlaw [] (with_event now comes (let_some_go now (goes_with t w response k) after))
   past_does _ turn_error is = does.server_error limits t facts.law now x response goes w awaits.row v awaits.asker is
   past_does _ passes is = does.passes_by limits t facts.law now x response goes w awaits.row v awaits.asker is
   past_does _ first_error is = does.first_server_error limits t facts.law now x response goes w awaits.row v awaits.asker is
@@ -404,25 +455,37 @@ module _ {B : Type 0} {g : Ghosts B} {limits : Limits} (r mid u : Rows B g) (t :
   pub alone_past : (k : HeadCase) → goes_past k ≡ true → head_case (head_view t false w response) ≡ k → IsReadAlone reading x w past
   alone_past k on is =
       read_then t facts.law x w v awaits reading past (rw (eqb-same w.c) refl) (λ d u is ne. inl (sym (beside t w.c d _ ne) ∙ is)) awaits.row
-      (facts.law.sound.numbered.names.unfounded x w awaits.row awaits.headless) (λ q lo hi h. (let never : place.Direct x ≡ place.Bound q lo hi (by.FirstHole x) = h in absurd (cc))) refl
-      (past_unshown x w v (head_view t false w response) k refl shown_is stood (past_of k on) (subst (CaseBy (head_view t false w response)) is (case_by (head_view t false w response))))
+      (facts.law.sound.numbered.names.unfounded x w awaits.row awaits.headless)
+      (λ q lo hi h. (let never : place.Direct x ≡ place.Bound q lo hi (by.FirstHole x) = h in absurd (cc))) refl
+      (past_unshown x w v (head_view t false w response) k refl shown_is stood (past_of k on)
+      (subst (CaseBy (head_view t false w response)) is (case_by (head_view t false w response))))
 
   may_after : MayLetGo after
-  may_after = may_heard reading x _ (may_moved t w.c v past awaits.asker (λ q kept h. (let never : place.Direct x ≡ place.Passed q kept = h in absurd (cc))) (may_let_go t facts.law))
+  may_after = may_heard reading x _
+      (may_moved t w.c v past awaits.asker (λ q kept h. (let never : place.Direct x ≡ place.Passed q kept = h in absurd (cc))) (may_let_go t facts.law))
 
-  pub past_answered : (k : HeadCase) → goes_past k ≡ true → head_case (head_view t false w response) ≡ k → gone ≡ goes_with t w response k → RowsStand limits mid after → (MayLetGo after → RowsStand limits mid after → RowsStand limits u (let_some_go now gone after)) → Answered limits (shelf_of r.entries).faults u t before before now comes
+  pub past_answered : (k : HeadCase) → goes_past k ≡ true → head_case (head_view t false w response) ≡ k → gone ≡ goes_with t w response k →
+      RowsStand limits mid after → (MayLetGo after → RowsStand limits mid after → RowsStand limits u (let_some_go now gone after)) →
+      Answered limits (shelf_of r.entries).faults u t before before now comes
   past_answered k on is same stands lets =
-      does_answered limits (shelf_of r.entries).faults u t (with_event now comes (let_some_go now (goes_with t w response k) after)) before before [] now comes (past_does k (past_of k on) is)
+      does_answered limits (shelf_of r.entries).faults u t (with_event now comes (let_some_go now (goes_with t w response k) after)) before before [] now
+      comes (past_does k (past_of k on) is)
       (unwritten t now x response w k awaits.row is (past_founds k (past_of k on))) refl (sym (append-nil before))
-      (stands_counted u (let_some_go now (goes_with t w response k) after) now comes refl (subst (λ (o : Option ℕ). RowsStand limits u (let_some_go now o after)) same (lets may_after stands)))
+      (stands_counted u (let_some_go now (goes_with t w response k) after) now comes refl
+      (subst (λ (o : Option ℕ). RowsStand limits u (let_some_go now o after)) same (lets may_after stands)))
 
 -- the failure of the case becomes due
-pub due_then : {B : Type 0} {g : Ghosts B} {limits : Limits} (r mid : Rows B g) (t : Tables) (facts : Facts limits t) (now x c : ℕ) (response : Response) (w : Exchange) (a : Asker r t x w) (why : Cause) (k : HeadCase) → denial t (event.Head x response) ≡ None → RowsStand limits r t → w.c ≡ c → why ≡ broken_by x k
-    → mid.last_start ≡ r.last_start → mid.exchanges ≡ r.exchanges → mid.keys ≡ r.keys → mid.entries ≡ r.entries → ChangesAt r.consumers mid.consumers c (with_due why)
+pub due_then : {B : Type 0} {g : Ghosts B} {limits : Limits} (r mid : Rows B g) (t : Tables) (facts : Facts limits t) (now x c : ℕ) (response : Response)
+    (w : Exchange) (a : Asker r t x w) (why : Cause) (k : HeadCase) → denial t (event.Head x response) ≡ None → RowsStand limits r t → w.c ≡ c →
+    why ≡ broken_by x k
+    → mid.last_start ≡ r.last_start → mid.exchanges ≡ r.exchanges → mid.keys ≡ r.keys → mid.entries ≡ r.entries →
+    ChangesAt r.consumers mid.consumers c (with_due why)
     → RowsStand limits mid (with_consumer w.c (Some (record a.v { due = Some (broken_by x k) })) t)
 due_then {limits = limits} r mid t facts now x c response w a why k goes stands for_it because last exchanges same_keys same_entries changes =
-    stands_due r mid t w.c a.v a.k (broken_by x k) stands a.awaits.asker a.there a.is (undue limits t facts.law now x response goes w a.awaits.row a.v a.awaits.asker) last exchanges same_keys same_entries
-    (subst (λ (d : ℕ). ChangesAt r.consumers mid.consumers d (with_due (broken_by x k))) (sym for_it) (subst (λ (z : Cause). ChangesAt r.consumers mid.consumers c (with_due z)) because changes))
+    stands_due r mid t w.c a.v a.k (broken_by x k) stands a.awaits.asker a.there a.is
+    (undue limits t facts.law now x response goes w a.awaits.row a.v a.awaits.asker) last exchanges same_keys same_entries
+    (subst (λ (d : ℕ). ChangesAt r.consumers mid.consumers d (with_due (broken_by x k))) (sym for_it)
+    (subst (λ (z : Cause). ChangesAt r.consumers mid.consumers c (with_due z)) because changes))
 
 -- AN ANSWER PAST THE STORE
 
@@ -432,7 +495,9 @@ taken_unshown x v way it3 is = grind (arith, nat_tests)
 taken_way : {h : HeadView} → CaseBy h case.DirectTaken → route_of h.need ≡ route.Direct
 taken_way (cases.direct_taken way) = way
 
-module _ {B : Type 0} {g : Ghosts B} {limits : Limits} (r u : Rows B g) (t : Tables) (facts : Facts limits t) (now x : ℕ) (response : Response) (goes : denial t (event.Head x response) ≡ None) (w : Exchange) (v : rows.Consumer) (awaits : AwaitsHead t x w v) (stood : StandsFor x v (route_of w.need)) (is : head_case (head_view t false w response) ≡ case.DirectTaken) where
+module _ {B : Type 0} {g : Ghosts B} {limits : Limits} (r u : Rows B g) (t : Tables) (facts : Facts limits t) (now x : ℕ) (response : Response)
+    (goes : denial t (event.Head x response) ≡ None) (w : Exchange) (v : rows.Consumer) (awaits : AwaitsHead t x w v)
+    (stood : StandsFor x v (route_of w.need)) (is : head_case (head_view t false w response) ≡ case.DirectTaken) where
   at : v.place ≡ place.Direct x
   at = taken_unshown x v (route_of w.need) stood (taken_way (subst (CaseBy (head_view t false w response)) is (case_by (head_view t false w response))))
 
@@ -443,12 +508,15 @@ module _ {B : Type 0} {g : Ghosts B} {limits : Limits} (r u : Rows B g) (t : Tab
 
   pub alone_taken : IsReadAlone t x w v
   alone_taken =
-      read_then t facts.law x w v awaits t v awaits.asker (λ d u is ne. inl is) awaits.row (facts.law.sound.numbered.names.unfounded x w awaits.row awaits.headless)
+      read_then t facts.law x w v awaits t v awaits.asker (λ d u is ne. inl is) awaits.row
+      (facts.law.sound.numbered.names.unfounded x w awaits.row awaits.headless)
       (λ q lo hi h. (let stands = at in let never : place.Direct x ≡ place.Bound q lo hi (by.FirstHole x) = sym stands ∙ h in absurd (cc))) at unshown
 
-  pub taken_answered : (before : List Act) → doomed_by_case (Some case.DirectTaken) w response ≡ None → RowsStand limits u (with_answer now x response w.joined w t) → Answered limits (shelf_of r.entries).faults u t before before now (event.Head x response)
+  pub taken_answered : (before : List Act) → doomed_by_case (Some case.DirectTaken) w response ≡ None →
+      RowsStand limits u (with_answer now x response w.joined w t) → Answered limits (shelf_of r.entries).faults u t before before now (event.Head x response)
   taken_answered before doomless stands =
-      does_answered limits (shelf_of r.entries).faults u t (with_event now (event.Head x response) (with_answer now x response w.joined w t)) before before [] now (event.Head x response)
+      does_answered limits (shelf_of r.entries).faults u t (with_event now (event.Head x response) (with_answer now x response w.joined w t)) before
+      before [] now (event.Head x response)
       (does.taken limits t facts.law now x response goes w awaits.row v awaits.asker is (no_doom (changes w response) w doomless))
       (unwritten t now x response w case.DirectTaken awaits.row is refl) refl (sym (append-nil before))
       (stands_counted u (with_answer now x response w.joined w t) now (event.Head x response) refl stands)

@@ -21,14 +21,16 @@ use Rattle.hc_state.proofs.{CurrentTies.{stored_ends, covers_as, kept_entry, vie
 -- WHAT IS TOLD
 
 -- by what is told of q, the exchange of its writer group is that of what is kept
-pub written_by : (table : Table) (o : Option Kept) (reported : EntryView) → option_map view_of o ≡ Some reported → group_by table reported ≡ writer_group_of table o
+pub written_by : (table : Table) (o : Option Kept) (reported : EntryView) → option_map view_of o ≡ Some reported →
+    group_by table reported ≡ writer_group_of table o
 written_by table o reported is =
     let (e, kept, seen) = viewed_entry o reported is in
     ap (group_by table) (sym seen) ∙ ap (writer_group_of table) (sym kept)
 
 -- HAS MORE
 
-module _ {B : Type 0} {g : Ghosts B} {limits : Limits} (r : Rows B g) (t : Tables) (stands : RowsStand limits r t) (k : Consumer) (v : rows.Consumer) (kept : IsKept t k v) (p : Representation) where
+module _ {B : Type 0} {g : Ghosts B} {limits : Limits} (r : Rows B g) (t : Tables) (stands : RowsStand limits r t) (k : Consumer) (v : rows.Consumer)
+    (kept : IsKept t k v) (p : Representation) where
   own_as : if_running (table_of r.exchanges) k.own ≡ own_open t v
   own_as = running_as r t stands k.own ∙ ap (option_and_then (if_open t)) kept.own
 
@@ -43,16 +45,19 @@ module _ {B : Type 0} {g : Ghosts B} {limits : Limits} (r : Rows B g) (t : Table
   pub more_none : is_some (if_running (table_of r.exchanges) k.own) ≡ false → k.hi ≡ None → false ≡ has_more t p v
   more_none off none = rw (sym (ap (λ (o : Option ℕ). is_some o) own_as) ∙ off, sym kept.ends ∙ none) refl
 
-  pub more_ahead : (law : Facts limits t) (q : ℕ) → t.representation q ≡ Some p → p.is_lost ≡ false → is_kept (shelf_of r.entries) q ≡ true → is_some (if_running (table_of r.exchanges) k.own) ≡ false → (hi : ℕ) → k.hi ≡ Some hi
+  pub more_ahead : (law : Facts limits t) (q : ℕ) → t.representation q ≡ Some p → p.is_lost ≡ false → is_kept (shelf_of r.entries) q ≡ true →
+      is_some (if_running (table_of r.exchanges) k.own) ≡ false → (hi : ℕ) → k.hi ≡ Some hi
       → (b : Bool) → (IsTrue b ↔ Covers (cells_at (shelf_of r.entries) q) (k.lo + k.given) hi) → not b ≡ has_more t p v
   more_ahead facts q here stays there off hi at b reports =
       let entry = kept_entry r t stands q p here there in
-      let covered = covers_as t q entry.0 p entry.2 (stored_ends t facts.law q p here stays) b (k.lo + k.given) hi (subst (λ (o : Option Kept). IsTrue b ↔ Covers (λ n. cells_in o n) (k.lo + k.given) hi) entry.1 reports) in
+      let covered = covers_as t q entry.0 p entry.2 (stored_ends t facts.law q p here stays) b (k.lo + k.given) hi
+      (subst (λ (o : Option Kept). IsTrue b ↔ Covers (λ n. cells_in o n) (k.lo + k.given) hi) entry.1 reports) in
       ap not covered ∙ (ap (λ (n : ℕ). lacks_some p n (Some hi)) offset_as ∙ rw (sym (ap (λ (o : Option ℕ). is_some o) own_as) ∙ off, sym kept.ends ∙ at) refl)
 
 -- THE EXCLUSIVE WRITER
 
-module _ {B : Type 0} {g : Ghosts B} {limits : Limits} (r : Rows B g) (t : Tables) (facts : Facts limits t) (stands : RowsStand limits r t) (q : ℕ) (p : Representation) (here : t.representation q ≡ Some p) where
+module _ {B : Type 0} {g : Ghosts B} {limits : Limits} (r : Rows B g) (t : Tables) (facts : Facts limits t) (stands : RowsStand limits r t) (q : ℕ)
+    (p : Representation) (here : t.representation q ≡ Some p) where
   none_by : (o : Option ℕ) → exclusive t q p ≡ o → ((c : ℕ) → exclusive t q p ≡ Some c → ⊥) → None ≡ exclusive t q p
   none_by o at off = grind (arith, nat_tests)
 
@@ -60,7 +65,8 @@ module _ {B : Type 0} {g : Ghosts B} {limits : Limits} (r : Rows B g) (t : Table
   pub exclusive_written : is_some (writer_group_of (table_of r.exchanges) ((shelf_of r.entries).kept q)) ≡ true → None ≡ exclusive t q p
   exclusive_written on = none_by (exclusive t q p) refl (λ c at. (
       let parts = exclusive_parts t q c p at in
-      let off : writer_group_of (table_of r.exchanges) ((shelf_of r.entries).kept q) ≡ None = group_as r t stands facts.law q ∙ rw (here, parts.unwritten) refl in
+      let off : writer_group_of (table_of r.exchanges) ((shelf_of r.entries).kept q) ≡ None = group_as r t stands facts.law q ∙
+      rw (here, parts.unwritten) refl in
       (let never : false ≡ true = rw off at on in cc)))
 
   written_off : is_some (writer_group_of (table_of r.exchanges) ((shelf_of r.entries).kept q)) ≡ false → is_written t p ≡ false
@@ -120,7 +126,9 @@ module _ {B : Type 0} {g : Ghosts B} {limits : Limits} (r : Rows B g) (t : Table
     is_the_first c a = sound.first a.v a.lo a.hi a.by a.row a.at a.came
 
     -- who came alone, has nothing due and more to come, writes alone
-    pub exclusive_some : (c : ℕ) (a : IsAlone c) → p.is_lost ≡ false → is_some (writer_group_of (table_of r.exchanges) ((shelf_of r.entries).kept q)) ≡ false → a.v.due ≡ None → has_more t p a.v ≡ true → Some c ≡ exclusive t q p
+    pub exclusive_some : (c : ℕ) (a : IsAlone c) → p.is_lost ≡ false →
+        is_some (writer_group_of (table_of r.exchanges) ((shelf_of r.entries).kept q)) ≡ false → a.v.due ≡ None → has_more t p a.v ≡ true →
+        Some c ≡ exclusive t q p
     exclusive_some c a stays off undue more = sym ((facts.law.alone.writes q c p a.v here stays (written_off off) (is_the_first c a) a.row undue).1 more)
 
     -- else nobody does
@@ -144,6 +152,7 @@ module _ {B : Type 0} {g : Ghosts B} {limits : Limits} (r : Rows B g) (t : Table
         let reaches : p.reach ≤ max (2 ^ 62) t.received = numbers.reaches q p here in
         below k.lo k.given a.lo a.v.given p.reach t.received begins given starts reaches few (facts.law.given.reaches c q a.lo a.hi a.by a.v p a.row a.at here)
       where
-        below : (lo given from n reach received : ℕ) → lo ≡ from → given ≡ n → from ≤ max (2 ^ 62) received → reach ≤ max (2 ^ 62) received → received < 2 ^ 62 → (n ≡ 0) ⊎ (from + n ≤ reach) → lo + given < 2 ^ 63
+        below : (lo given from n reach received : ℕ) → lo ≡ from → given ≡ n → from ≤ max (2 ^ 62) received → reach ≤ max (2 ^ 62) received →
+            received < 2 ^ 62 → (n ≡ 0) ⊎ (from + n ≤ reach) → lo + given < 2 ^ 63
         below lo given from n reach received a b c d e (inl none) = omega arith
         below lo given from n reach received a b c d e (inr le) = omega arith

@@ -48,7 +48,8 @@ pub(crate) fn remove_consumer<B: Backend>(rows: &mut Rows<B>, c: u64) -> Option<
 /// The exchange of the writer group of what a consumer that stands there is bound to, as long as
 /// that is on.
 fn writer_group_at<B: Backend>(rows: &Rows<B>, place: Place) -> Option<u64>
-    ensures { result ≡ writer_group_at (table_of rows.now.exchanges) (shelf_of rows.now.entries) place }
+    ensures { result
+        ≡ writer_group_at (table_of rows.now.exchanges) (shelf_of rows.now.entries) place }
 {
     match place {
         Place::Bound { r, .. } => writer_group(rows, r),

@@ -9,5 +9,5 @@ pub mod leave;
 pub mod lose;
 pub mod misread;
 pub mod seal;
-pub mod writers;
 pub mod writer_group;
+pub mod writers;

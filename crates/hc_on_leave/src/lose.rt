@@ -86,7 +86,11 @@ pub fn lose_group<B: Backend>(
 }
 
 /// The writer group of the representation is told where each of its members stands.
-fn report_offsets<B: Backend>(entries: &mut Entries<B>, consumers: &HashMap<u64, Transaction>, r: u64)
+fn report_offsets<B: Backend>(
+    entries: &mut Entries<B>,
+    consumers: &HashMap<u64, Transaction>,
+    r: u64,
+)
     ensures stays { Stays (shelf_of entries.old) (shelf_of entries.new) }
     ensures faults { (shelf_of entries.new).faults ≡ (shelf_of entries.old).faults }
     ensures reported { group_of entries.new r ≡ option_map

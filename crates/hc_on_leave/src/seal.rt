@@ -25,7 +25,7 @@ use hc_event::{Act, Acts, LostKind};
 use hc_exch::Role;
 use hc_record::Kind;
 use hc_rules::brings_whole;
-use hc_state::{Rows, Disposition};
+use hc_state::{Disposition, Rows};
 use hc_store::Backend;
 use hc_stored::EntryView;
 

@@ -6,7 +6,7 @@ ghost use Rattle.hc_stored.specs.Views.{view_of};
 ghost use Rattle.hc_state.specs.Candidates.{ExclusiveIs, HasMoreIs};
 ghost use Rattle.hc_state.specs.Stands.{Stands};
 
-use crate::writer_group::{if_running, group_in};
+use crate::writer_group::{group_in, if_running};
 use hc_state::{Rows, Transaction};
 use hc_store::Backend;
 use hc_stored::EntryView;

@@ -116,14 +116,18 @@ module _ (f : Cells) (reach o want : ℕ) (hi : Option ℕ) (ends : EndsBy reach
     ]
       where
         by_count : (z : Option ℕ) → hi ≡ z → l ≤ count → o + l ≤ reach → n < l → a ≤ n → ⊥
-        by_count None is less within up long = let le : l ≤ cut_at None (o + want) - o = subst (λ (y : Option ℕ). l ≤ cut_at y (o + want) - o) is less in omega (arith, le, within, up, long)
-        by_count (Some h) is less within up long = let le : l ≤ min h (o + want) - o = subst (λ (y : Option ℕ). l ≤ cut_at y (o + want) - o) is less in omega (arith, le, within, up, long)
+        by_count None is less within up long = let le : l ≤ cut_at None (o + want) - o = subst (λ (y : Option ℕ). l ≤ cut_at y (o + want) - o) is less in
+            omega (arith, le, within, up, long)
+        by_count (Some h) is less within up long = let le : l ≤ min h (o + want) - o = subst (λ (y : Option ℕ). l ≤ cut_at y (o + want) - o) is less in
+            omega (arith, le, within, up, long)
 
     -- and ends where that does, or where the reader stops
     long_enough : (b : ℕ) → b ≤ n → b ≤ count → b ≤ l
     long_enough b of_n of_count = elim (lt_or l b) [
       | inr le ↦ le
-      | inl short ↦ (let less = short in absurd (is_run.ends (omega (arith, less, of_count)) (slice_index m.bytes l) (is_m.each l (omega (arith, less, of_n)) ∙ of_it m.x run.x (slice_index m.bytes l) (sym same_x))))
+      | inl short ↦ (let less = short in
+          absurd (is_run.ends (omega (arith, less, of_count)) (slice_index m.bytes l)
+          (is_m.each l (omega (arith, less, of_n)) ∙ of_it m.x run.x (slice_index m.bytes l) (sym same_x))))
     ]
 
     before_end : (z : Option ℕ) → hi ≡ z → cut_at z (o + n) ≡ o + l
@@ -134,7 +138,8 @@ module _ (f : Cells) (reach o want : ℕ) (hi : Option ℕ) (ends : EndsBy reach
         let long = long_enough n (omega arith) all in
         omega (arith, le, long)
     before_end (Some h) is =
-        let below : o < h = (let open_end : is_at_end (Some h) o ≡ false = subst (λ (y : Option ℕ). is_at_end y o ≡ false) is off in grind (arith, nat_tests, open_end)) in
+        let below : o < h = (let open_end : is_at_end (Some h) o ≡ false = subst (λ (y : Option ℕ). is_at_end y o ≡ false) is off in
+        grind (arith, nat_tests, open_end)) in
         let most_m = is_m.most in
         let le = not_longer in
         let up : l ≤ min h (o + want) - o = subst (λ (y : Option ℕ). l ≤ cut_at y (o + want) - o) is is_run.most in
@@ -145,7 +150,8 @@ module _ (f : Cells) (reach o want : ℕ) (hi : Option ℕ) (ends : EndsBy reach
     cut_here : (z : Option ℕ) → hi ≡ z → cut_at z (o + l) ≡ o + l
     cut_here None is = refl
     cut_here (Some h) is =
-        let below : o < h = (let open_end : is_at_end (Some h) o ≡ false = subst (λ (y : Option ℕ). is_at_end y o ≡ false) is off in grind (arith, nat_tests, open_end)) in
+        let below : o < h = (let open_end : is_at_end (Some h) o ≡ false = subst (λ (y : Option ℕ). is_at_end y o ≡ false) is off in
+        grind (arith, nat_tests, open_end)) in
         let up : l ≤ min h (o + want) - o = subst (λ (y : Option ℕ). l ≤ cut_at y (o + want) - o) is is_run.most in
         omega (arith, up, below)
 

@@ -38,7 +38,8 @@ module _ (t : Tables) (x : ℕ) where
   others y ne = rw (eqb-other x y ne) refl
 
   -- what looks at it in this way sees no difference
-  looks : {A : Type 0} (f : ℕ → Option Exchange → A) → ((w : Exchange) → f x (Some (to_bring w)) ≡ f x (Some w)) → (y : ℕ) → f y (s.exchange y) ≡ f y (t.exchange y)
+  looks : {A : Type 0} (f : ℕ → Option Exchange → A) → ((w : Exchange) → f x (Some (to_bring w)) ≡ f x (Some w)) → (y : ℕ) →
+      f y (s.exchange y) ≡ f y (t.exchange y)
   looks f alike y = elim (same_or x y) [
     | inl e ↦ subst (λ (n : ℕ). f n (s.exchange n) ≡ f n (t.exchange n)) e (ap (f x) here ∙ by_row (t.exchange x))
     | inr ne ↦ ap (f y) (others y ne)
@@ -53,7 +54,8 @@ module _ (t : Tables) (x : ℕ) where
   unstored_bringing : (y : ℕ) (w : Exchange) (v : Representation) (o : Option rows.Consumer) → unstored_bytes t y (to_bring w) v o ≡ unstored_bytes t y w v o
   unstored_bringing y w v None = refl
   unstored_bringing y w v (Some k) =
-      ap (λ (b : ℕ). if is_bound_place (family y w) k.place && is_number k.own y then drop (absent_from v.stored v.reach (offset t k) (b + length w.body) - b) w.body else []) (base_bringing w)
+      ap (λ (b : ℕ). if is_bound_place (family y w) k.place && is_number k.own y then
+      drop (absent_from v.stored v.reach (offset t k) (b + length w.body) - b) w.body else []) (base_bringing w)
 
   alone_bringing : (y : ℕ) (w : Exchange) (v : Representation) (o : Option ℕ) → held_alone t y (to_bring w) v o ≡ held_alone t y w v o
   alone_bringing y w v None = refl
@@ -70,7 +72,8 @@ module _ (t : Tables) (x : ℕ) where
   held_bringing : (y : ℕ) → held_for s y (s.exchange y) ≡ held_for t y (t.exchange y)
   held_bringing y = held_then y (s.exchange y) ∙ looks (held_for t) (λ w. of_bringing x w (t.representation (family x w))) y
 
-  runs_bringing : (o : Option Open) (row : Option Exchange) → KeepsRunning t x o row → KeepsRunning s x (option_map (λ (z : Open). record z { asked = true }) o) (option_map to_bring row)
+  runs_bringing : (o : Option Open) (row : Option Exchange) → KeepsRunning t x o row →
+      KeepsRunning s x (option_map (λ (z : Open). record z { asked = true }) o) (option_map to_bring row)
   runs_bringing None None keeps = refl
   runs_bringing None (Some w) keeps = keeps
   runs_bringing (Some o) None keeps = absurd keeps
@@ -80,12 +83,15 @@ module _ (t : Tables) (x : ℕ) where
     keeps.promised_is ∙ sym (promised_bringing w),
   )
 
-  pub exchange_bringing : (y : ℕ) (before after : Known) → after ≡ (if nat_eq x y then with_asking before else before) → KeepsExchange t y before → KeepsExchange s y after
+  pub exchange_bringing : (y : ℕ) (before after : Known) → after ≡ (if nat_eq x y then with_asking before else before) → KeepsExchange t y before →
+      KeepsExchange s y after
   exchange_bringing y before after is kept = elim (same_or x y) [
     | inl e ↦
         let at : after ≡ with_asking before = is ∙ rw (e, eqb-same y) refl in
         record {
-          running = rw at (subst (λ (n : ℕ). KeepsRunning s n (with_asking before).running (s.exchange n)) e (subst (KeepsRunning s x (with_asking before).running) (sym here) (runs_bringing before.running (t.exchange x) (subst (λ (n : ℕ). KeepsRunning t n before.running (t.exchange n)) (sym e) kept.running))));
+          running = rw at (subst (λ (n : ℕ). KeepsRunning s n (with_asking before).running (s.exchange n)) e
+              (subst (KeepsRunning s x (with_asking before).running) (sym here)
+              (runs_bringing before.running (t.exchange x) (subst (λ (n : ℕ). KeepsRunning t n before.running (t.exchange n)) (sym e) kept.running))));
           held = rw at (kept.held ∙ sym (held_bringing y));
         }
     | inr ne ↦
@@ -146,11 +152,20 @@ module _ (t : Tables) (x : ℕ) where
 
   key_bringing : (key : _) (k : _) → KeepsKey t key k → KeepsKey s key k
   unfolding current
-  key_bringing key k kept = key_same t s key k (record { current = refl; in_line = λ d. refl; passed = λ d. refl; away = λ d. away_bringing key (t.consumer d); turn = λ d. refl }) kept
+  key_bringing key k kept =
+      key_same t s key k (record {
+        current = refl;
+        in_line = λ d. refl;
+        passed = λ d. refl;
+        away = λ d. away_bringing key (t.consumer d);
+        turn =
+            λ d. refl;
+      }) kept
 
 -- ALL OF IT
 
-pub stands_asked : {B : Type 0} {g : Ghosts B} {limits : Limits} (r u : Rows B g) (t : Tables) (x : ℕ) → RowsStand limits r t → u.last_start ≡ r.last_start → u.consumers ≡ r.consumers → u.keys ≡ r.keys
+pub stands_asked : {B : Type 0} {g : Ghosts B} {limits : Limits} (r u : Rows B g) (t : Tables) (x : ℕ) → RowsStand limits r t →
+    u.last_start ≡ r.last_start → u.consumers ≡ r.consumers → u.keys ≡ r.keys
     → exch.Becomes with_asking x r.exchanges u.exchanges → shelf.Stays (shelf_of r.entries) (shelf_of u.entries) → RowsStand limits u (with_ask x t)
 stands_asked r u t x stands last consumers keys becomes read = record {
   limits = read.limits ∙ stands.limits;
@@ -160,7 +175,9 @@ stands_asked r u t x stands last consumers keys becomes read = record {
   consumers = λ d. rw consumers (consumer_bringing t x (get nat_eq r.consumers d) (t.consumer d) (stands.consumers d));
   exchanges = λ y. exchange_bringing t x y (table_of r.exchanges y) (table_of u.exchanges y) (by_here y) (stands.exchanges y);
   keys = λ key. rw keys (key_bringing t x key (kept_of r.keys key) (stands.keys key));
-  entries = entries_same t (with_ask x t) (shelf_of u.entries) (λ n. refl) refl refl (λ n d. refl) (λ n d. refl) (λ n. growing_same t (with_ask x t) n refl (looks t x (λ y o. brings_to n y o) (λ w. refl))) (λ y on. looks t x (λ z o. is_over o) (λ w. refl) y ∙ on) (entries_read t (shelf_of r.entries) (shelf_of u.entries) read stands.entries);
+  entries = entries_same t (with_ask x t) (shelf_of u.entries) (λ n. refl) refl refl (λ n d. refl) (λ n d. refl)
+      (λ n. growing_same t (with_ask x t) n refl (looks t x (λ y o. brings_to n y o) (λ w. refl))) (λ y on. looks t x (λ z o. is_over o) (λ w. refl) y ∙ on)
+      (entries_read t (shelf_of r.entries) (shelf_of u.entries) read stands.entries);
 }
   where
     by_here : (y : ℕ) → table_of u.exchanges y ≡ (if nat_eq x y then with_asking (table_of r.exchanges y) else table_of r.exchanges y)
@@ -179,7 +196,8 @@ asked_is z on = by_running z.running refl
     by_running (Some o) is = let asked : o.asked ≡ true = rw is at on in rw (is, asked) refl
 
 -- they are asked for once
-pub stands_asked_already : {B : Type 0} {g : Ghosts B} {limits : Limits} (r u : Rows B g) (t : Tables) (x : ℕ) → RowsStand limits r t → asked_in (table_of r.exchanges x).running ≡ true → u.last_start ≡ r.last_start → u.consumers ≡ r.consumers → u.keys ≡ r.keys
+pub stands_asked_already : {B : Type 0} {g : Ghosts B} {limits : Limits} (r u : Rows B g) (t : Tables) (x : ℕ) → RowsStand limits r t → asked_in
+    (table_of r.exchanges x).running ≡ true → u.last_start ≡ r.last_start → u.consumers ≡ r.consumers → u.keys ≡ r.keys
     → exch.Becomes with_asking x r.exchanges u.exchanges → shelf.Stays (shelf_of r.entries) (shelf_of u.entries) → RowsStand limits u t
 stands_asked_already r u t x stands on last consumers keys becomes read = record {
   limits = read.limits ∙ stands.limits;
@@ -194,6 +212,7 @@ stands_asked_already r u t x stands on last consumers keys becomes read = record
   where
     stays : (y : ℕ) → (if nat_eq x y then with_asking (table_of r.exchanges x) else table_of r.exchanges y) ≡ table_of r.exchanges y
     stays y = elim (same_or x y) [
-      | inl e ↦ subst (λ (n : ℕ). (if nat_eq x n then with_asking (table_of r.exchanges x) else table_of r.exchanges n) ≡ table_of r.exchanges n) e (rw (eqb-same x) (asked_is (table_of r.exchanges x) on))
+      | inl e ↦ subst (λ (n : ℕ). (if nat_eq x n then with_asking (table_of r.exchanges x) else table_of r.exchanges n) ≡ table_of r.exchanges n) e
+          (rw (eqb-same x) (asked_is (table_of r.exchanges x) on))
       | inr ne ↦ rw (eqb-other x y ne) refl
     ]

@@ -22,8 +22,12 @@ use Rattle.hc_state.proofs.{Answering.{does_answered}, Fallbacks.{answer_fallbac
 use Rattle.hc_on_poll.proofs.{BoundHandler.{held_bound, entry_with, entries_bound}, OpenHandler.{unread_yet}, PassesHandler.{current_as}, PastHandler.{idle_reads, idle_lives, keys_past}}
 use Rattle.hc_text.proofs.Basics.{eqb-other, eqb-same, same_or, some_inj as some_is}
 
-module _ {B : Type 0} {g : Ghosts B} {limits : Limits} (r mid : Rows B g) (a : Entries B g) (m : Numbered Consumer) (t : Tables) (law : Lawful t) (c q lo : ℕ) (hi : Option ℕ) (k : Consumer) (v : rows.Consumer) (stands : RowsStand limits r t) (there : get nat_eq r.consumers c ≡ Some k) (row : t.consumer c ≡ Some v) (idle : is_idle_at k.place ≡ true)
-    (now_is : HasCurrent r.keys q k) (ends : hi ≡ option_or hi (total_in (t.representation q))) (leaves : LeavesLine (record r { entries = a }) mid c) (binds : shelf.Becomes (option_map (with_user c)) (moved_first q) q (shelf_of r.entries) (shelf_of a)) (changes : ChangesAt mid.consumers m c (bound_shown q lo hi)) where
+module _ {B : Type 0} {g : Ghosts B} {limits : Limits} (r mid : Rows B g) (a : Entries B g) (m : Numbered Consumer) (t : Tables) (law : Lawful t)
+    (c q lo : ℕ) (hi : Option ℕ) (k : Consumer) (v : rows.Consumer) (stands : RowsStand limits r t) (there : get nat_eq r.consumers c ≡ Some k)
+    (row : t.consumer c ≡ Some v) (idle : is_idle_at k.place ≡ true)
+    (now_is : HasCurrent r.keys q k) (ends : hi ≡ option_or hi (total_in (t.representation q))) (leaves : LeavesLine (record r { entries = a }) mid c)
+    (binds : shelf.Becomes (option_map (with_user c)) (moved_first q) q (shelf_of r.entries) (shelf_of a))
+    (changes : ChangesAt mid.consumers m c (bound_shown q lo hi)) where
   abbrev u : Rows B g
   u = record mid { consumers = m }
 
@@ -69,7 +73,8 @@ module _ {B : Type 0} {g : Ghosts B} {limits : Limits} (r mid : Rows B g) (a : E
   keys_then : (key : List ℕ) → KeepsKey s key (kept_of mid.keys key)
   unfolding current
   keys_then key =
-      key_same (with_consumer c (Some w) t) s key (kept_of mid.keys key) (record { current = refl; in_line = λ d. refl; passed = λ d. refl; away = λ d. refl; turn = λ d. refl })
+      key_same (with_consumer c (Some w) t) s key (kept_of mid.keys key)
+      (record { current = refl; in_line = λ d. refl; passed = λ d. refl; away = λ d. refl; turn = λ d. refl })
       (keys_past t law c k v w row kept v_idle (λ other. apart_unsaid t other w refl refl refl) refl r.keys mid.keys stands.keys left key)
 
   kinds : (n : ℕ) (b : Representation) → t.representation n ≡ Some b → kind_of s n b ≡ kind_of t n b
@@ -84,16 +89,21 @@ module _ {B : Type 0} {g : Ghosts B} {limits : Limits} (r mid : Rows B g) (a : E
       let now = now_kept r t stands v.request.key q at_q in
       let reads_none = idle_reads v.place v_idle in
       stands_then r u t s c x (Some (bound_shown q lo hi k)) stands (leaves.last_start ∙ stands.last_start) (ap next_of leaves.exchanges ∙ stands.next)
-      (length_same r u t c v (bound_shown q lo hi k) stands row (idle_lives v.place v_idle) (becomes_by r.consumers m c k (bound_shown q lo hi) there changed) ∙ (stands.count ∙ sym (live_same t s refl live_each)))
-      (becomes_by r.consumers m c k (bound_shown q lo hi) there changed) (λ y ne. ap (λ e. table_of e y) leaves.exchanges) others (λ y ne. refl) (λ n. refl) (subst (KeepsConsumer s (Some (bound_shown q lo hi k))) (sym here) bound_kept)
-      (subst (λ e. KeepsExchange s x (table_of e x)) (sym leaves.exchanges) (exchange_same t s x (table_of r.exchanges x) (record { row = refl; brings = λ z at. refl; held = held_row x (t.exchange x) }) (stands.exchanges x)))
+      (length_same r u t c v (bound_shown q lo hi k) stands row (idle_lives v.place v_idle)
+      (becomes_by r.consumers m c k (bound_shown q lo hi) there changed) ∙ (stands.count ∙ sym (live_same t s refl live_each)))
+      (becomes_by r.consumers m c k (bound_shown q lo hi) there changed) (λ y ne. ap (λ e. table_of e y) leaves.exchanges) others (λ y ne. refl)
+      (λ n. refl) (subst (KeepsConsumer s (Some (bound_shown q lo hi k))) (sym here) bound_kept)
+      (subst (λ e. KeepsExchange s x (table_of e x)) (sym leaves.exchanges)
+      (exchange_same t s x (table_of r.exchanges x) (record { row = refl; brings = λ z at. refl; held = held_row x (t.exchange x) }) (stands.exchanges x)))
       keys_then
       (λ d j ne is place_is. unread_yet t law x d j (law.sound.numbered.lists.new_exchanges x (omega arith)) is place_is)
       (λ y e ne is. held_bound t s law c q lo hi by.Plan v w now.p row here others reads_none refl (λ n. refl) refl refl now.row now.stays kinds y e)
       shelf_limits
       (subst (λ e. KeepsEntries s (shelf_of e)) (sym leaves.entries)
-      (entries_bound t s law c q lo hi by.Plan v w now.p row here others reads_none refl (λ n. refl) refl refl now.row now.stays kinds (λ y on. on) (shelf_of r.entries) (shelf_of a) (with_user c) now.e stands.entries now.kept
-      (entry_with t s law c q lo hi by.Plan v w now.p row here others reads_none refl (λ n. refl) refl refl now.row now.stays kinds now.e now.is (λ y on. on) refl) binds))
+      (entries_bound t s law c q lo hi by.Plan v w now.p row here others reads_none refl (λ n. refl) refl refl now.row now.stays kinds (λ y on. on)
+      (shelf_of r.entries) (shelf_of a) (with_user c) now.e stands.entries now.kept
+      (entry_with t s law c q lo hi by.Plan v w now.p row here others reads_none refl (λ n. refl) refl refl now.row now.stays kinds now.e now.is
+      (λ y on. on) refl) binds))
     where
       held_row : (y : ℕ) (o : Option Exchange) → held_for s y o ≡ held_for t y o
       held_row y None = refl
@@ -101,19 +111,24 @@ module _ {B : Type 0} {g : Ghosts B} {limits : Limits} (r mid : Rows B g) (a : E
           let now = now_kept r t stands v.request.key q at_q in
           held_bound t s law c q lo hi by.Plan v w now.p row here others (idle_reads v.place v_idle) refl (λ n. refl) refl refl now.row now.stays kinds y e
 
-  pub bind_answered : (faults now want : ℕ) (why : Why) (head : Response) (before out : List Act) → move_of t now want c v ≡ Shows q why head lo hi → out ≡ before ++ (act.Shown c q why head.status head.fields lo hi ∷ []) → Answered limits faults u t before out now (event.Poll c want)
+  pub bind_answered : (faults now want : ℕ) (why : Why) (head : Response) (before out : List Act) → move_of t now want c v ≡ Shows q why head lo hi →
+      out ≡ before ++ (act.Shown c q why head.status head.fields lo hi ∷ []) → Answered limits faults u t before out now (event.Poll c want)
   bind_answered faults now want why head before out is reported =
       does_answered limits faults u t (with_event now (event.Poll c want) s) before out (acts_of c (Shows q why head lo hi)) now (event.Poll c want)
-      (shows_new limits t law now c want v row q why head lo hi is (idle_reads v.place v_idle)) refl refl reported (stands_counted u s now (event.Poll c want) refl stands_bound)
+      (shows_new limits t law now c want v row q why head lo hi is (idle_reads v.place v_idle)) refl refl reported
+      (stands_counted u s now (event.Poll c want) refl stands_bound)
 
 -- WHAT IS TOLD OF THE PART
 
 -- what is shown is the part that its plan says
-pub shows_reported : (q : ℕ) (head : Head) (why : Why) (span : Option Span) (k : Consumer) (lo : ℕ) (hi : Option ℕ) (ranged : Bool) (response : Response) → lo ≡ begin_of span → hi ≡ end_of span head.total → ranged ≡ is_some k.class.range → response ≡ shown_response head why (span_to lo hi) ranged → shows_part q head why span k ≡ Shows q why response lo hi
+pub shows_reported : (q : ℕ) (head : Head) (why : Why) (span : Option Span) (k : Consumer) (lo : ℕ) (hi : Option ℕ) (ranged : Bool)
+    (response : Response) → lo ≡ begin_of span → hi ≡ end_of span head.total → ranged ≡ is_some k.class.range →
+    response ≡ shown_response head why (span_to lo hi) ranged → shows_part q head why span k ≡ Shows q why response lo hi
 shows_reported q head why span k lo hi ranged response from to range reported = rw (reported, range, from, to) refl
 
 -- it ends where the span does, or what is stored
-pub part_ends : (row : Option Representation) (head : Head) (span : Option Span) (hi : Option ℕ) → hi ≡ end_of span head.total → head.total ≡ total_in row → hi ≡ option_or hi (total_in row)
+pub part_ends : (row : Option Representation) (head : Head) (span : Option Span) (hi : Option ℕ) → hi ≡ end_of span head.total → head.total ≡ total_in
+    row → hi ≡ option_or hi (total_in row)
 part_ends row head None hi to same = by_known hi (to ∙ same)
   where
     by_known : (o : Option ℕ) → o ≡ total_in row → o ≡ option_or o (total_in row)
@@ -122,7 +137,8 @@ part_ends row head None hi to same = by_known hi (to ∙ same)
 part_ends row head (Some span) hi to same = rw to refl
 
 -- the length that is stored of what is current is the one that the tables have
-pub current_total : {B : Type 0} {g : Ghosts B} {limits : Limits} (r : Rows B g) (t : Tables) (key : List ℕ) (q : ℕ) (head : Head) → RowsStand limits r t → current t key ≡ Some q → shelf.head_at (shelf_of r.entries) q ≡ Some head → head.total ≡ total_in (t.representation q)
+pub current_total : {B : Type 0} {g : Ghosts B} {limits : Limits} (r : Rows B g) (t : Tables) (key : List ℕ) (q : ℕ) (head : Head) →
+    RowsStand limits r t → current t key ≡ Some q → shelf.head_at (shelf_of r.entries) q ≡ Some head → head.total ≡ total_in (t.representation q)
 current_total r t key q head stands at is =
     let now = now_kept r t stands key q at in
     let same = some_is now.e.head head (sym (ap (option_map (λ (e : Kept). e.head)) now.kept) ∙ is) in

@@ -27,12 +27,15 @@ use Rattle.hc_partial.proofs.HoleLemmas.{present-none}
 same_places : (f : Cells) (a b m n : ℕ) → a ≡ b → m ≡ n → first_place is_none f a m ≡ first_place is_none f b n
 same_places f a b m n p q = ap₂ (λ (i j : ℕ). first_place is_none f i j) p q
 
-first_skip : (f : Cells) (l n p : ℕ) → ((i : ℕ) → i < l → is_some (f (p + i)) ≡ true) → l ≤ n → first_place is_none f p n ≡ first_place is_none f (p + l) (n - l)
+first_skip : (f : Cells) (l n p : ℕ) → ((i : ℕ) → i < l → is_some (f (p + i)) ≡ true) → l ≤ n →
+    first_place is_none f p n ≡ first_place is_none f (p + l) (n - l)
 first_skip f zero n p each le = same_places f p (p + 0) n (n - 0) (omega arith) (omega arith)
 first_skip f (suc l) zero p each le = absurd (let none : ⊥ = omega (arith, le) in none)
 first_skip f (suc l) (suc n) p each le =
     let here : is_some (f p) ≡ true = subst (λ (m : ℕ). is_some (f m) ≡ true) (let at : p + 0 ≡ p = omega arith in at) (each 0 (omega arith)) in
-    let rest = first_skip f l n (p + 1) (λ i lt. subst (λ (m : ℕ). is_some (f m) ≡ true) (let at : p + (i + 1) ≡ p + 1 + i = omega arith in at) (each (i + 1) (omega (arith, lt)))) (omega (arith, le)) in
+    let rest = first_skip f l n (p + 1)
+    (λ i lt. subst (λ (m : ℕ). is_some (f m) ≡ true) (let at : p + (i + 1) ≡ p + 1 + i = omega arith in at) (each (i + 1) (omega (arith, lt))))
+    (omega (arith, le)) in
     ap (λ (b : Bool). if b then p else first_place is_none f (p + 1) n) (present-none (f p) here)
     ∙ (rest ∙ same_places f (p + 1 + l) (p + suc l) (n - l) (suc n - suc l) (omega arith) (omega arith))
 
@@ -40,17 +43,20 @@ first_end : (f : Cells) (n p : ℕ) → ((i : ℕ) → i < n → is_some (f (p +
 first_end f n p each = first_skip f n n p each (omega arith) ∙ ap (first_place is_none f (p + n)) (let none : n - n ≡ 0 = omega arith in none)
 
 -- as much isn't stored, past what is stored
-lacks_same : (f : Cells) (reach o l base n : ℕ) (body : List ℕ) → ((i : ℕ) → i < l → is_some (f (o + i)) ≡ true) → o + l ≤ reach → n ≡ base + length body → drop (absent_from f reach (o + l) n - base) body ≡ drop (absent_from f reach o n - base) body
+lacks_same : (f : Cells) (reach o l base n : ℕ) (body : List ℕ) → ((i : ℕ) → i < l → is_some (f (o + i)) ≡ true) → o + l ≤ reach →
+    n ≡ base + length body → drop (absent_from f reach (o + l) n - base) body ≡ drop (absent_from f reach o n - base) body
 lacks_same f reach o l base n body each within front_is = elim (lt_or (min n reach) (o + l)) [
   | inr le ↦
       let up = le.1 in
-      let same : absent_from f reach o n ≡ absent_from f reach (o + l) n = first_skip f l (min n reach - o) o each (omega (arith, up)) ∙ ap (first_place is_none f (o + l)) (let less : min n reach - o - l ≡ min n reach - (o + l) = omega arith in less) in
+      let same : absent_from f reach o n ≡ absent_from f reach (o + l) n = first_skip f l (min n reach - o) o each (omega (arith, up)) ∙
+      ap (first_place is_none f (o + l)) (let less : min n reach - o - l ≡ min n reach - (o + l) = omega arith in less) in
       ap (λ (m : ℕ). drop (m - base) body) (sym same)
   | inl less ↦
       let lt = less.1 in
       let none : min n reach - (o + l) ≡ 0 = omega (arith, lt) in
       let then_at : absent_from f reach (o + l) n ≡ o + l = ap (first_place is_none f (o + l)) none in
-      let at : absent_from f reach o n ≡ o + (min n reach - o) = first_end f (min n reach - o) o (λ i few. each i (let less_i = few in omega (arith, less_i, lt))) in
+      let at : absent_from f reach o n ≡ o + (min n reach - o) =
+      first_end f (min n reach - o) o (λ i few. each i (let less_i = few in omega (arith, less_i, lt))) in
       let empty : drop (absent_from f reach (o + l) n - base) body ≡ [] = drop_of_length-le body (omega (arith, then_at, lt, within, front_is)) in
       empty ∙ sym (drop_of_length-le body (omega (arith, at, lt, within, front_is)))
 ]
@@ -67,7 +73,8 @@ given_drop n m body bytes is = taken n m body ∙ ap (λ (xs : List ℕ). drop (
 
 -- WHAT IS DONE
 
-module _ {B : Type 0} {g : Ghosts B} {limits : Limits} (r u : Rows B g) (t : Tables) (facts : Facts limits t) (stands : RowsStand limits r t) (now want c q : ℕ) (how : BoundBy) (k : Consumer) (rd : IsBoundRow t c q how k) (there : get nat_eq r.consumers c ≡ Some k) (before out : List Act)
+module _ {B : Type 0} {g : Ghosts B} {limits : Limits} (r u : Rows B g) (t : Tables) (facts : Facts limits t) (stands : RowsStand limits r t)
+    (now want c q : ℕ) (how : BoundBy) (k : Consumer) (rd : IsBoundRow t c q how k) (there : get nat_eq r.consumers c ≡ Some k) (before out : List Act)
     (last : u.last_start ≡ r.last_start) (same_keys : u.keys ≡ r.keys) (same_entries : u.entries ≡ r.entries) where
   abbrev ev : Event
   ev = event.Poll c want
@@ -76,7 +83,8 @@ module _ {B : Type 0} {g : Ghosts B} {limits : Limits} (r u : Rows B g) (t : Tab
   o = k.lo + k.given
 
   unread_store : shelf.Stays (shelf_of r.entries) (shelf_of u.entries)
-  unread_store = subst (λ z. shelf.Stays (shelf_of r.entries) (shelf_of z)) (sym same_entries) (record { kept = λ n. refl; order = refl; used = refl; limits = refl })
+  unread_store = subst (λ z. shelf.Stays (shelf_of r.entries) (shelf_of z)) (sym same_entries)
+      (record { kept = λ n. refl; order = refl; used = refl; limits = refl })
 
   -- IT IS GIVEN SO MANY MORE
 
@@ -99,7 +107,8 @@ module _ {B : Type 0} {g : Ghosts B} {limits : Limits} (r u : Rows B g) (t : Tab
     unread_same : (y : ℕ) (z : Exchange) → unread y z (Some w) ≡ unread y z (Some rd.v)
     unread_same y z = unread_bound y z w q rd.lo rd.hi how rd.at ∙ sym (unread_bound y z rd.v q rd.lo rd.hi how rd.at)
 
-    module _ (changes : ChangesAt r.consumers u.consumers c (once_given l)) (next : next_of u.exchanges ≡ next_of r.exchanges) (exchanges : (y : ℕ) → KeepsExchange s y (table_of u.exchanges y)) where
+    module _ (changes : ChangesAt r.consumers u.consumers c (once_given l)) (next : next_of u.exchanges ≡ next_of r.exchanges)
+        (exchanges : (y : ℕ) → KeepsExchange s y (table_of u.exchanges y)) where
       stands_given : RowsStand limits u s
       stands_given =
           let kp = rd.kept in
@@ -108,10 +117,13 @@ module _ {B : Type 0} {g : Ghosts B} {limits : Limits} (r u : Rows B g) (t : Tab
           (assumption (kp, ap (λ (n : ℕ). n + l) kp.given))
           exchanges
 
-      gives_answered : (run : Run) → length run.bytes ≡ l → move_of t now want c rd.v ≡ Gives run → out ≡ before ++ acts_of c (Gives run) → Answered limits (shelf_of r.entries).faults u t before out now ev
+      gives_answered : (run : Run) → length run.bytes ≡ l → move_of t now want c rd.v ≡ Gives run → out ≡ before ++ acts_of c (Gives run) →
+          Answered limits (shelf_of r.entries).faults u t before out now ev
       gives_answered run long move acts =
           does_answered limits (shelf_of r.entries).faults u t (with_event now ev s) before out (acts_of c (Gives run)) now ev
-          (subst (λ (n : ℕ). Does limits t now ev NoFlaw (acts_of c (Gives run)) (with_event now ev (with_consumer c (Some (record rd.v { given = rd.v.given + n })) t))) long (gives_bytes limits t facts.law now c want rd.v rd.row run move)) refl refl acts
+          (subst (λ (n : ℕ). Does limits t now ev NoFlaw (acts_of c (Gives run))
+          (with_event now ev (with_consumer c (Some (record rd.v { given = rd.v.given + n })) t))) long
+          (gives_bytes limits t facts.law now c want rd.v rd.row run move)) refl refl acts
           (stands_counted u s now ev refl stands_given)
 
   -- OF WHAT IS STORED
@@ -125,21 +137,28 @@ module _ {B : Type 0} {g : Ghosts B} {limits : Limits} (r u : Rows B g) (t : Tab
     held_on y None = refl
     held_on y (Some e) = held_same t c rd.v rd.v.shown (rd.v.given + l) rd.row y e (λ mine. unread_same l y e) by_lost
       where
-        by_lost : (p : Representation) → t.representation (family y e) ≡ Some p → p.alone ≡ Some c → unstored_bytes t y e p (Some (record rd.v { given = rd.v.given + l })) ≡ unstored_bytes t y e p (Some rd.v)
+        by_lost : (p : Representation) → t.representation (family y e) ≡ Some p → p.alone ≡ Some c →
+            unstored_bytes t y e p (Some (record rd.v { given = rd.v.given + l })) ≡ unstored_bytes t y e p (Some rd.v)
         by_lost p founded alone = if_same (is_bound_place (family y e) rd.v.place && is_number rd.v.own y) _ _ (λ on.
-            let bound : is_bound_place (family y e) (place.Bound q rd.lo rd.hi how) ≡ true = sym (ap (is_bound_place (family y e)) rd.at) ∙ (both_true (is_bound_place (family y e) rd.v.place) (is_number rd.v.own y) on).0 in
+            let bound : is_bound_place (family y e) (place.Bound q rd.lo rd.hi how) ≡ true = sym (ap (is_bound_place (family y e)) rd.at) ∙
+            (both_true (is_bound_place (family y e) rd.v.place) (is_number rd.v.own y) on).0 in
             let of_q : q ≡ family y e = grind (arith, nat_tests, bound) in
             let one : rd.p ≡ p = same_row (t.representation (family y e)) rd.p p (sym (ap t.representation of_q) ∙ rd.there) founded in
-            let lacks : drop (absent_from p.stored p.reach (o + l) (front e) - base e) e.body ≡ drop (absent_from p.stored p.reach o (front e) - base e) e.body =
-            subst (λ (b : Representation). drop (absent_from b.stored b.reach (o + l) (front e) - base e) e.body ≡ drop (absent_from b.stored b.reach o (front e) - base e) e.body) one
-            (lacks_same rd.p.stored rd.p.reach o l (base e) (front e) e.body (λ i few. each (o + i) (omega arith) (let lt = few in omega (arith, lt))) (omega (arith, at, within)) refl) in
+            let lacks : drop (absent_from p.stored p.reach (o + l) (front e) - base e) e.body ≡ drop (absent_from p.stored p.reach o (front e) - base e)
+            e.body =
+            subst (λ (b : Representation). drop (absent_from b.stored b.reach (o + l) (front e) - base e) e.body ≡ drop
+            (absent_from b.stored b.reach o (front e) - base e) e.body) one
+            (lacks_same rd.p.stored rd.p.reach o l (base e) (front e) e.body (λ i few. each (o + i) (omega arith) (let lt = few in omega (arith, lt)))
+            (omega (arith, at, within)) refl) in
             ap (λ (n : ℕ). drop (absent_from p.stored p.reach n (front e) - base e) e.body) (offset_then l t)
             ∙ (lacks ∙ ap (λ (n : ℕ). drop (absent_from p.stored p.reach n (front e) - base e) e.body) (offset_is r t facts stands c q how k rd)))
 
-    pub stored_answered : move_of t now want c rd.v ≡ Gives z → out ≡ before ++ given_acts c z.x z.at z.bytes → u.exchanges ≡ r.exchanges → ChangesAt r.consumers u.consumers c (once_given l) → Answered limits (shelf_of r.entries).faults u t before out now ev
+    pub stored_answered : move_of t now want c rd.v ≡ Gives z → out ≡ before ++ given_acts c z.x z.at z.bytes → u.exchanges ≡ r.exchanges →
+        ChangesAt r.consumers u.consumers c (once_given l) → Answered limits (shelf_of r.entries).faults u t before out now ev
     stored_answered move acts exchanges changes =
         gives_answered l changes (ap (λ (x : _). next_of x) exchanges)
-        (λ y. subst (λ x. KeepsExchange (with_consumer c (Some (record rd.v { given = rd.v.given + l })) t) y (table_of x y)) (sym exchanges) (exchange_reading t c rd.v rd.v.shown (rd.v.given + l) rd.row y (table_of r.exchanges y) (held_on y (t.exchange y)) (stands.exchanges y)))
+        (λ y. subst (λ x. KeepsExchange (with_consumer c (Some (record rd.v { given = rd.v.given + l })) t) y (table_of x y)) (sym exchanges)
+        (exchange_reading t c rd.v rd.v.shown (rd.v.given + l) rd.row y (table_of r.exchanges y) (held_on y (t.exchange y)) (stands.exchanges y)))
         z refl move acts
 
   -- OF WHAT IS HELD
@@ -166,7 +185,8 @@ module _ {B : Type 0} {g : Ghosts B} {limits : Limits} (r u : Rows B g) (t : Tab
     lacking : first_lacking then_on h.w rd.p (record rd.v { given = rd.v.given + more }) ≡ o + more
     lacking = ap (λ (m : ℕ). absent_from rd.p.stored rd.p.reach m (front h.w)) (offset_then more then_on) ∙ elim (lt_or (o + more) (front h.w)) [
       | inl lt ↦ (let below = lt.1 in absent_here rd.p.stored rd.p.reach (o + more) (front h.w) (h.lacks (o + more) (omega arith) below))
-      | inr past ↦ (let up = past.1 in ap (first_place is_none rd.p.stored (o + more)) (let none : min (front h.w) rd.p.reach - (o + more) ≡ 0 = omega (arith, up) in none))
+      | inr past ↦ (let up = past.1 in
+          ap (first_place is_none rd.p.stored (o + more)) (let none : min (front h.w) rd.p.reach - (o + more) ≡ 0 = omega (arith, up) in none))
     ]
 
     held_then : held_for then_on h.x (t.exchange h.x) ≡ drop (o - base h.w + more) h.w.body
@@ -178,19 +198,25 @@ module _ {B : Type 0} {g : Ghosts B} {limits : Limits} (r u : Rows B g) (t : Tab
         ∙ (ap (held_alone then_on h.x h.w rd.p) h.alone
         ∙ (ap (unstored_bytes then_on h.x h.w rd.p) (itself t c (Some (record rd.v { given = rd.v.given + more })))
         ∙ (unstored_own then_on h.x h.w rd.p (record rd.v { given = rd.v.given + more }) q rd.lo rd.hi how rd.at own h.of_q
-        ∙ ap (λ (m : ℕ). drop m h.w.body) (let far : first_lacking then_on h.w rd.p (record rd.v { given = rd.v.given + more }) ≡ o + more = lacking in let sum : first_lacking then_on h.w rd.p (record rd.v { given = rd.v.given + more }) - base h.w ≡ o - base h.w + more = omega (arith, far, low) in sum)))))
+        ∙ ap (λ (m : ℕ). drop m h.w.body) (let far : first_lacking then_on h.w rd.p (record rd.v { given = rd.v.given + more }) ≡ o + more = lacking in
+        let sum : first_lacking then_on h.w rd.p (record rd.v { given = rd.v.given + more }) - base h.w ≡ o - base h.w + more = omega (arith, far, low) in
+        sum)))))
 
     -- and of every other as much is held as was
     elsewhere : (y : ℕ) (row : Option Exchange) → h.x ≢ y → held_for then_on y row ≡ held_for t y row
     elsewhere y None ne = refl
-    elsewhere y (Some e) ne = held_same t c rd.v rd.v.shown (rd.v.given + more) rd.row y e (λ mine. unread_same more y e) (λ p founded alone. if_same (is_bound_place (family y e) rd.v.place && is_number rd.v.own y) _ _ (λ on.
-        let other : is_number (Some h.x) y ≡ true = sym (ap (λ (z : Option ℕ). is_number z y) (sym rd.kept.own ∙ h.own)) ∙ (both_true (is_bound_place (family y e) rd.v.place) (is_number rd.v.own y) on).1 in
+    elsewhere y (Some e) ne =
+        held_same t c rd.v rd.v.shown (rd.v.given + more) rd.row y e (λ mine. unread_same more y e)
+        (λ p founded alone. if_same (is_bound_place (family y e) rd.v.place && is_number rd.v.own y) _ _ (λ on.
+        let other : is_number (Some h.x) y ≡ true = sym (ap (λ (z : Option ℕ). is_number z y) (sym rd.kept.own ∙ h.own)) ∙
+        (both_true (is_bound_place (family y e) rd.v.place) (is_number rd.v.own y) on).1 in
         false_true (sym (eqb-other h.x y ne) ∙ other)))
 
     each_exchange : (y : ℕ) → KeepsExchange then_on y (table_of u.exchanges y)
     each_exchange y = elim (same_or h.x y) [
       | inl e ↦ subst (λ (m : ℕ). KeepsExchange then_on m (table_of u.exchanges m)) e (record {
-        running = runs_same t then_on h.x (table_of u.exchanges h.x).running (t.exchange h.x) (λ z is. refl) (subst (λ z. KeepsRunning t h.x z (t.exchange h.x)) (sym (ap (λ (z : Known). z.running) here)) (stands.exchanges h.x).running);
+        running = runs_same t then_on h.x (table_of u.exchanges h.x).running (t.exchange h.x) (λ z is. refl)
+            (subst (λ z. KeepsRunning t h.x z (t.exchange h.x)) (sym (ap (λ (z : Known). z.running) here)) (stands.exchanges h.x).running);
         held = left ∙ sym held_then;
       })
       | inr ne ↦
@@ -198,13 +224,15 @@ module _ {B : Type 0} {g : Ghosts B} {limits : Limits} (r u : Rows B g) (t : Tab
           (exchange_reading t c rd.v rd.v.shown (rd.v.given + more) rd.row y (table_of r.exchanges y) (elsewhere y (t.exchange y) ne) (stands.exchanges y))
     ]
 
-    pub held_answered : move_of t now want c rd.v ≡ Gives (record { x = h.x; at = o; bytes = bytes }) → out ≡ before ++ given_acts c h.x o bytes → ChangesAt r.consumers u.consumers c (once_given more) → Answered limits (shelf_of r.entries).faults u t before out now ev
+    pub held_answered : move_of t now want c rd.v ≡ Gives (record { x = h.x; at = o; bytes = bytes }) → out ≡ before ++ given_acts c h.x o bytes →
+        ChangesAt r.consumers u.consumers c (once_given more) → Answered limits (shelf_of r.entries).faults u t before out now ev
     held_answered move acts changes = gives_answered more changes becomes.next each_exchange (record { x = h.x; at = o; bytes = bytes }) refl move acts
 
   -- IT ASKS FOR MORE, OR WAITS FOR THAT
 
   module _ (x : ℕ) (consumers : u.consumers ≡ r.consumers) (becomes : exch.Becomes with_asking x r.exchanges u.exchanges) where
-    waits_by : (b : Bool) → asked_in (table_of r.exchanges x).running ≡ b → move_of t now want c rd.v ≡ asks_or_waits b x → out ≡ before ++ acts_of c (asks_or_waits b x) → Answered limits (shelf_of r.entries).faults u t before out now ev
+    waits_by : (b : Bool) → asked_in (table_of r.exchanges x).running ≡ b → move_of t now want c rd.v ≡ asks_or_waits b x → out ≡ before ++
+        acts_of c (asks_or_waits b x) → Answered limits (shelf_of r.entries).faults u t before out now ev
     waits_by false is move acts =
         does_answered limits (shelf_of r.entries).faults u t (with_event now ev (with_ask x t)) before out (acts_of c (Asks x)) now ev
         (asks limits t facts.law now c want rd.v rd.row x move) refl refl acts
@@ -214,5 +242,6 @@ module _ {B : Type 0} {g : Ghosts B} {limits : Limits} (r u : Rows B g) (t : Tab
         (waits_on limits t facts.law now c want rd.v rd.row (wait.Body x) move refl) refl refl acts
         (stands_counted u t now ev refl (stands_asked_already r u t x stands is last consumers same_keys becomes unread_store))
 
-    pub asks_answered : move_of t now want c rd.v ≡ asks_or_waits (asked_in (table_of r.exchanges x).running) x → out ≡ before ++ acts_of c (asks_or_waits (asked_in (table_of r.exchanges x).running) x) → Answered limits (shelf_of r.entries).faults u t before out now ev
+    pub asks_answered : move_of t now want c rd.v ≡ asks_or_waits (asked_in (table_of r.exchanges x).running) x → out ≡ before ++
+        acts_of c (asks_or_waits (asked_in (table_of r.exchanges x).running) x) → Answered limits (shelf_of r.entries).faults u t before out now ev
     asks_answered move acts = waits_by (asked_in (table_of r.exchanges x).running) refl move acts

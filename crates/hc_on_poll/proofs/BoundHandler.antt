@@ -27,9 +27,12 @@ filters_swap f g (x ∷ xs) = by_tests (f x) (g x) refl refl (filters_swap f g x
     by_tests true false a b rest = rw (a, b) rest
     by_tests false false a b rest = rw (a, b) rest
 
-module _ (t s : Tables) (law : Lawful t) (c q lo : ℕ) (hi : Option ℕ) (how : BoundBy) (v w : rows.Consumer) (p : Representation) (row : t.consumer c ≡ Some v) (here : s.consumer c ≡ Some w) (others : (d : ℕ) → d ≢ c → s.consumer d ≡ t.consumer d)
-    (idle : reads v.place ≡ false) (at : w.place ≡ place.Bound q lo hi how) (same : (n : ℕ) → s.representation n ≡ t.representation n) (starts : s.starts ≡ t.starts) (used : s.used ≡ q ∷ filter (λ n. not (n == q)) t.used)
-    (there : t.representation q ≡ Some p) (stays : p.is_gone ≡ false) (kinds : (n : ℕ) (b : Representation) → t.representation n ≡ Some b → kind_of s n b ≡ kind_of t n b) where
+module _ (t s : Tables) (law : Lawful t) (c q lo : ℕ) (hi : Option ℕ) (how : BoundBy) (v w : rows.Consumer) (p : Representation)
+    (row : t.consumer c ≡ Some v) (here : s.consumer c ≡ Some w) (others : (d : ℕ) → d ≢ c → s.consumer d ≡ t.consumer d)
+    (idle : reads v.place ≡ false) (at : w.place ≡ place.Bound q lo hi how) (same : (n : ℕ) → s.representation n ≡ t.representation n)
+    (starts : s.starts ≡ t.starts) (used : s.used ≡ q ∷ filter (λ n. not (n == q)) t.used)
+    (there : t.representation q ≡ Some p) (stays : p.is_gone ≡ false)
+    (kinds : (n : ℕ) (b : Representation) → t.representation n ≡ Some b → kind_of s n b ≡ kind_of t n b) where
   -- WHAT IS HELD
 
   alone_none : p.alone ≡ None
@@ -40,8 +43,10 @@ module _ (t s : Tables) (law : Lawful t) (c q lo : ℕ) (hi : Option ℕ) (how :
 
   unstored_here : (y : ℕ) (e : Exchange) (b : Representation) → t.representation (family y e) ≡ Some b → b.alone ≡ Some c → unstored_bytes s y e b (Some w) ≡ []
   unstored_here y e b of_y alone = elim (same_or q (family y e)) [
-    | inl one ↦ none_some c (sym alone_none ∙ (ap (λ (z : Representation). z.alone) (same_row (t.representation q) p b there (ap t.representation one ∙ of_y)) ∙ alone))
-    | inr ne ↦ (let off : (is_bound_place (family y e) w.place && is_number w.own y) ≡ false = and_false (is_bound_place (family y e) w.place) (is_number w.own y) (bound_at (family y e) ∙ eqb-other q (family y e) ne) in rw off refl)
+    | inl one ↦ none_some c (sym alone_none ∙
+        (ap (λ (z : Representation). z.alone) (same_row (t.representation q) p b there (ap t.representation one ∙ of_y)) ∙ alone))
+    | inr ne ↦ (let off : (is_bound_place (family y e) w.place && is_number w.own y) ≡ false =
+        and_false (is_bound_place (family y e) w.place) (is_number w.own y) (bound_at (family y e) ∙ eqb-other q (family y e) ne) in rw off refl)
   ]
 
   unread_here : (y : ℕ) (e : Exchange) → unread y e (Some w) ≡ []
@@ -81,13 +86,16 @@ module _ (t s : Tables) (law : Lawful t) (c q lo : ℕ) (hi : Option ℕ) (how :
 
   first_other : (n : ℕ) → n ≢ q → (d : ℕ) → is_first s n (s.consumer d) ≡ is_first t n (t.consumer d)
   first_other n ne d = elim (same_or c d) [
-    | inl one ↦ rw (← one, here, row) (and_false (is_bound_place n w.place) (came_alone s w.place) (bound_at n ∙ eqb-other q n (λ is. ne (sym is))) ∙ sym (first_fallback t n (Some v) (ap not idle)))
+    | inl one ↦ rw (← one, here, row) (and_false (is_bound_place n w.place) (came_alone s w.place) (bound_at n ∙ eqb-other q n (λ is. ne (sym is))) ∙
+        sym (first_fallback t n (Some v) (ap not idle)))
     | inr off ↦ ap (is_first s n) (others d (λ is. off (sym is))) ∙ first_row t s same n (t.consumer d)
   ]
 
-  entry_other : OversStay t.exchange s.exchange → (n : ℕ) → n ≢ q → (k : Option Kept) → KeepsEntry t n k (t.representation n) → KeepsEntry s n k (s.representation n)
+  entry_other : OversStay t.exchange s.exchange → (n : ℕ) → n ≢ q → (k : Option Kept) → KeepsEntry t n k (t.representation n) →
+      KeepsEntry s n k (s.representation n)
   entry_other overs n ne k kept = subst (KeepsEntry s n k) (sym (same n))
-      (entry_same t s n k (t.representation n) refl (record { users = users_other n ne; first = first_other n ne; list = bound_same t s n starts (users_other n ne); kind = kinds n; overs = overs }) kept)
+      (entry_same t s n k (t.representation n) refl
+      (record { users = users_other n ne; first = first_other n ne; list = bound_same t s n starts (users_other n ne); kind = kinds n; overs = overs }) kept)
 
   module _ (e : Kept) (is : IsEntry t q e p) where
     with_it : (d : ℕ) → has itself d (with_item itself c e.bound) ≡ is_bound q (s.consumer d)
@@ -143,13 +151,18 @@ module _ (t s : Tables) (law : Lawful t) (c q lo : ℕ) (hi : Option ℕ) (how :
 
   -- ALL REPRESENTATIONS
 
-  pub entries_bound : OversStay t.exchange s.exchange → (a b : Shelf) (f : Kept → Kept) (e : Kept) → KeepsEntries t a → a.kept q ≡ Some e → IsEntry s q (f e) p → Becomes (option_map f) (moved_first q) q a b → KeepsEntries s b
+  pub entries_bound : OversStay t.exchange s.exchange → (a b : Shelf) (f : Kept → Kept) (e : Kept) → KeepsEntries t a → a.kept q ≡ Some e →
+      IsEntry s q (f e) p → Becomes (option_map f) (moved_first q) q a b → KeepsEntries s b
   entries_bound overs a b f e kept at_q is becomes = record {
     each = λ n. elim (same_or q n) [
-      | inl one ↦ subst (λ (m : ℕ). KeepsEntry s m (b.kept m) (s.representation m)) one (subst (λ (o : Option Kept). KeepsEntry s q o (s.representation q)) (sym changed) (subst (KeepsEntry s q (Some (f e))) (sym (same q ∙ there)) is))
-      | inr ne ↦ subst (λ (o : Option Kept). KeepsEntry s n o (s.representation n)) (sym (stayed n ne)) (entry_other overs n (λ z. ne (sym z)) (a.kept n) (kept.each n))
+      | inl one ↦ subst (λ (m : ℕ). KeepsEntry s m (b.kept m) (s.representation m)) one
+          (subst (λ (o : Option Kept). KeepsEntry s q o (s.representation q)) (sym changed) (subst (KeepsEntry s q (Some (f e))) (sym (same q ∙ there)) is))
+      | inr ne ↦ subst (λ (o : Option Kept). KeepsEntry s n o (s.representation n)) (sym (stayed n ne))
+          (entry_other overs n (λ z. ne (sym z)) (a.kept n) (kept.each n))
     ];
-    order = becomes.order ∙ (ap (λ (ns : List ℕ). q ∷ without itself q ns) kept.order ∙ sym (ap (filter usable_s) used ∙ (rw (usable_q) (ap (λ (ns : List ℕ). q ∷ ns) (filters_as (filter (λ n. not (n == q)) t.used) ∙ filters_swap usable_t (λ n. not (n == q)) t.used)))));
+    order = becomes.order ∙ (ap (λ (ns : List ℕ). q ∷ without itself q ns) kept.order ∙
+        sym (ap (filter usable_s) used ∙
+        (rw (usable_q) (ap (λ (ns : List ℕ). q ∷ ns) (filters_as (filter (λ n. not (n == q)) t.used) ∙ filters_swap usable_t (λ n. not (n == q)) t.used)))));
   }
     where
       changed : b.kept q ≡ Some (f e)

@@ -30,7 +30,8 @@ use Rattle.hc_on_poll.proofs.ReadLemmas as lemmas
 -- THE STEP, BY ITS PARTS
 
 abbrev by_parts : Bool → Option ℕ → Option ℕ → Bool → Option Cause → Option ℕ → Span → ReadStep
-by_parts at_end hi stored is_held due from hole = if at_end then step.Ended else stored_or hi stored (held_or is_held (fails_or due (waits_or from (step.Hole hole))))
+by_parts at_end hi stored is_held due from hole = if at_end then step.Ended else
+    stored_or hi stored (held_or is_held (fails_or due (waits_or from (step.Hole hole))))
 
 abbrev by_view : ℕ → Option ℕ → Option ℕ → Bool → Option Cause → Option ℕ → Option ℕ → ReadStep
 by_view o hi stored is_held due from next = by_parts (is_at_end hi o) hi stored is_held due from (record { lo = o; hi = hole_end hi o next })
@@ -39,7 +40,8 @@ step_parts : (v : ReadView) → read_step v ≡ by_view v.offset v.hi v.stored v
 unfolding read_step
 step_parts v = refl
 
-view_same : (o p : ℕ) (hi z s : Option ℕ) (h : Bool) (d e : Option Cause) (f l next n : Option ℕ) → o ≡ p → hi ≡ z → d ≡ e → f ≡ l → next ≡ n → by_view o hi s h d f next ≡ by_view p z s h e l n
+view_same : (o p : ℕ) (hi z s : Option ℕ) (h : Bool) (d e : Option Cause) (f l next n : Option ℕ) → o ≡ p → hi ≡ z → d ≡ e → f ≡ l → next ≡ n →
+    by_view o hi s h d f next ≡ by_view p z s h e l n
 view_same o p hi z s h d e f l next n a b m i j = rw (a, b, m, i, j) refl
 
 -- what two look at makes the same step
@@ -48,15 +50,18 @@ data SeesAhead (hi : Option ℕ) : Bool → Option ℕ → Option ℕ → Bool �
   stored : (a : Bool) (m n : ℕ) (h g : Bool) → cut_at hi m ≡ cut_at hi n → SeesAhead hi a (Some m) (Some n) h g
   missing : (a h g : Bool) → h ≡ g → SeesAhead hi a None None h g
 
-same_step : (hi : Option ℕ) (a : Bool) (s z : Option ℕ) (h g : Bool) (d : Option Cause) (f : Option ℕ) (hole : Span) → SeesAhead hi a s z h g → by_parts a hi s h d f hole ≡ by_parts a hi z g d f hole
+same_step : (hi : Option ℕ) (a : Bool) (s z : Option ℕ) (h g : Bool) (d : Option Cause) (f : Option ℕ) (hole : Span) → SeesAhead hi a s z h g →
+    by_parts a hi s h d f hole ≡ by_parts a hi z g d f hole
 same_step hi _ _ _ _ _ d f hole (ended s z h g) = refl
 same_step hi _ _ _ _ _ d f hole (stored a m n h g same) = ap (λ (i : ℕ). if a then step.Ended else step.Stored i) same
 same_step hi _ _ _ _ _ d f hole (missing a h g same) = ap (λ (b : Bool). if a then step.Ended else held_or b (fails_or d (waits_or f (step.Hole hole)))) same
 
-sees_missing : (hi : Option ℕ) (s z : Option Run) (h g : Bool) → s ≡ None → z ≡ None → h ≡ g → SeesAhead hi false (option_map end_of s) (option_map end_of z) h g
+sees_missing : (hi : Option ℕ) (s z : Option Run) (h g : Bool) → s ≡ None → z ≡ None → h ≡ g →
+    SeesAhead hi false (option_map end_of s) (option_map end_of z) h g
 sees_missing hi s z h g a b same = rw (a, b) (missing false h g same)
 
-sees_stored : (hi : Option ℕ) (s z : Option Run) (m n : Run) (h g : Bool) → s ≡ Some m → z ≡ Some n → cut_at hi (end_of m) ≡ cut_at hi (end_of n) → SeesAhead hi false (option_map end_of s) (option_map end_of z) h g
+sees_stored : (hi : Option ℕ) (s z : Option Run) (m n : Run) (h g : Bool) → s ≡ Some m → z ≡ Some n → cut_at hi (end_of m) ≡ cut_at hi (end_of n) →
+    SeesAhead hi false (option_map end_of s) (option_map end_of z) h g
 sees_stored hi s z m n h g a b same = rw (a, b) (stored false (end_of m) (end_of n) h g same)
 
 -- WHICH STEP IT IS
@@ -74,7 +79,8 @@ not_stored hi false (Some why) f hole n is = let never : step.Failed why ≡ ste
 not_stored hi false None (Some x) hole n is = let never : step.Waits x ≡ step.Stored n = is in cc
 not_stored hi false None None hole n is = let never : step.Hole hole ≡ step.Stored n = is in cc
 
-held_from : (a : Bool) (hi s : Option ℕ) (h : Bool) (d : Option Cause) (f : Option ℕ) (hole : Span) → by_parts a hi s h d f hole ≡ step.Held → (a ≡ false) × (s ≡ None) × (h ≡ true)
+held_from : (a : Bool) (hi s : Option ℕ) (h : Bool) (d : Option Cause) (f : Option ℕ) (hole : Span) → by_parts a hi s h d f hole ≡ step.Held →
+    (a ≡ false) × (s ≡ None) × (h ≡ true)
 held_from true hi s h d f hole is = absurd (let never : step.Ended ≡ step.Held = is in cc)
 held_from false hi (Some m) h d f hole is = absurd (let never : step.Stored (cut_at hi m) ≡ step.Held = is in cc)
 held_from false hi None true d f hole is = (refl, refl, refl)
@@ -82,7 +88,8 @@ held_from false hi None false (Some why) f hole is = absurd (let never : step.Fa
 held_from false hi None false None (Some x) hole is = absurd (let never : step.Waits x ≡ step.Held = is in cc)
 held_from false hi None false None None hole is = absurd (let never : step.Hole hole ≡ step.Held = is in cc)
 
-waits_from : (a : Bool) (hi s : Option ℕ) (h : Bool) (d : Option Cause) (f : Option ℕ) (hole : Span) (y : ℕ) → by_parts a hi s h d f hole ≡ step.Waits y → f ≡ Some y
+waits_from : (a : Bool) (hi s : Option ℕ) (h : Bool) (d : Option Cause) (f : Option ℕ) (hole : Span) (y : ℕ) → by_parts a hi s h d f hole ≡ step.Waits y →
+    f ≡ Some y
 waits_from true hi s h d f hole y is = absurd (let never : step.Ended ≡ step.Waits y = is in cc)
 waits_from false hi (Some m) h d f hole y is = absurd (let never : step.Stored (cut_at hi m) ≡ step.Waits y = is in cc)
 waits_from false hi None true d f hole y is = absurd (let never : step.Held ≡ step.Waits y = is in cc)
@@ -99,13 +106,15 @@ record IsHole (a : Bool) (s : Option ℕ) (h : Bool) (d : Option Cause) (f : Opt
   closed : f ≡ None
   same : hole ≡ other
 
-hole_from : (a : Bool) (hi s : Option ℕ) (h : Bool) (d : Option Cause) (f : Option ℕ) (hole other : Span) → by_parts a hi s h d f hole ≡ step.Hole other → IsHole a s h d f hole other
+hole_from : (a : Bool) (hi s : Option ℕ) (h : Bool) (d : Option Cause) (f : Option ℕ) (hole other : Span) → by_parts a hi s h d f hole ≡ step.Hole other →
+    IsHole a s h d f hole other
 hole_from true hi s h d f hole other is = absurd (let never : step.Ended ≡ step.Hole other = is in cc)
 hole_from false hi (Some m) h d f hole other is = absurd (let never : step.Stored (cut_at hi m) ≡ step.Hole other = is in cc)
 hole_from false hi None true d f hole other is = absurd (let never : step.Held ≡ step.Hole other = is in cc)
 hole_from false hi None false (Some why) f hole other is = absurd (let never : step.Failed why ≡ step.Hole other = is in cc)
 hole_from false hi None false None (Some x) hole other is = absurd (let never : step.Waits x ≡ step.Hole other = is in cc)
-hole_from false hi None false None None hole other is = record { not_end = refl; none_stored = refl; not_held = refl; undue = refl; closed = refl; same = (let both : step.Hole hole ≡ step.Hole other = is in cc) }
+hole_from false hi None false None None hole other is =
+    record { not_end = refl; none_stored = refl; not_held = refl; undue = refl; closed = refl; same = (let both : step.Hole hole ≡ step.Hole other = is in cc) }
 
 end_none : (run : Option Run) → option_map end_of run ≡ None → run ≡ None
 end_none None is = refl
@@ -114,10 +123,12 @@ end_none (Some z) is = none_some (end_of z) (sym is)
 -- WHO WAITS FOR A HEAD
 
 -- no head that is awaited is still to come
-waits_none : (t : Tables) (table : Table) (v : rows.Consumer) → ((x : ℕ) → is_headless_open (table x).running ≡ is_headless (t.exchange x)) → headless_own table v.own ≡ None → waits_for_head (option_and_then (if_headless t) (own_open t v)) ≡ None
+waits_none : (t : Tables) (table : Table) (v : rows.Consumer) → ((x : ℕ) → is_headless_open (table x).running ≡ is_headless (t.exchange x)) →
+    headless_own table v.own ≡ None → waits_for_head (option_and_then (if_headless t) (own_open t v)) ≡ None
 waits_none t table v same none = by_own v.own refl none
   where
-    by_open : (x : ℕ) (b d : Bool) → is_open (t.exchange x) ≡ b → is_headless (t.exchange x) ≡ d → d ≡ false → waits_for_head (option_and_then (if_headless t) (if b then Some x else None)) ≡ None
+    by_open : (x : ℕ) (b d : Bool) → is_open (t.exchange x) ≡ b → is_headless (t.exchange x) ≡ d → d ≡ false →
+        waits_for_head (option_and_then (if_headless t) (if b then Some x else None)) ≡ None
     by_open x false d open_is head_is off = refl
     by_open x true d open_is head_is off = ap (λ (z : Bool). waits_for_head (if z then Some x else None)) (head_is ∙ off)
 
@@ -132,7 +143,8 @@ waits_none t table v same none = by_own v.own refl none
         ∙ by_open x (is_open (t.exchange x)) (is_headless (t.exchange x)) refl refl (sym (same x) ∙ off_of x (is_headless_open (table x).running) is)
 
 -- or is
-waits_some : (t : Tables) (table : Table) (v : rows.Consumer) (x : ℕ) → ((y : ℕ) → is_headless_open (table y).running ≡ is_headless (t.exchange y)) → headless_own table v.own ≡ Some x → waits_for_head (option_and_then (if_headless t) (own_open t v)) ≡ Some (moves.Waits (wait.Head x))
+waits_some : (t : Tables) (table : Table) (v : rows.Consumer) (x : ℕ) → ((y : ℕ) → is_headless_open (table y).running ≡ is_headless (t.exchange y)) →
+    headless_own table v.own ≡ Some x → waits_for_head (option_and_then (if_headless t) (own_open t v)) ≡ Some (moves.Waits (wait.Head x))
 waits_some t table v x same some = by_own v.own refl some
   where
     open_of : (o : Option Exchange) → is_headless o ≡ true → is_open o ≡ true
@@ -147,18 +159,21 @@ waits_some t table v x same some = by_own v.own refl some
     on_of y false is = none_some x is
     on_of y true is = (refl, some_is y x is)
 
-    by_own : (o : Option ℕ) → v.own ≡ o → headless_own table o ≡ Some x → waits_for_head (option_and_then (if_headless t) (own_open t v)) ≡ Some (moves.Waits (wait.Head x))
+    by_own : (o : Option ℕ) → v.own ≡ o → headless_own table o ≡ Some x →
+        waits_for_head (option_and_then (if_headless t) (own_open t v)) ≡ Some (moves.Waits (wait.Head x))
     by_own None own is = none_some x is
     by_own (Some y) own is =
         let on = on_of y (is_headless_open (table y).running) is in
         let bare : is_headless (t.exchange y) ≡ true = sym (same y) ∙ on.0 in
-        let opened : own_open t v ≡ Some y = ap (option_and_then (if_open t)) own ∙ ap (λ (b : Bool). if b then Some y else None) (open_of (t.exchange y) bare) in
+        let opened : own_open t v ≡ Some y = ap (option_and_then (if_open t)) own ∙
+        ap (λ (b : Bool). if b then Some y else None) (open_of (t.exchange y) bare) in
         ap (λ (z : Option ℕ). waits_for_head (option_and_then (if_headless t) z)) opened
         ∙ (ap (λ (b : Bool). waits_for_head (if b then Some y else None)) bare ∙ ap (λ (n : ℕ). Some (moves.Waits (wait.Head n))) on.1)
 
 -- WHO READS ON
 
-module _ {B : Type 0} {g : Ghosts B} {limits : Limits} (r : Rows B g) (t : Tables) (facts : Facts limits t) (stands : RowsStand limits r t) (c q : ℕ) (how : BoundBy) (k : Consumer) (rd : IsBoundRow t c q how k) (now want : ℕ) (shown : k.shown ≡ true) where
+module _ {B : Type 0} {g : Ghosts B} {limits : Limits} (r : Rows B g) (t : Tables) (facts : Facts limits t) (stands : RowsStand limits r t) (c q : ℕ)
+    (how : BoundBy) (k : Consumer) (rd : IsBoundRow t c q how k) (now want : ℕ) (shown : k.shown ≡ true) where
   abbrev o : ℕ
   o = k.lo + k.given
 
@@ -179,7 +194,8 @@ module _ {B : Type 0} {g : Ghosts B} {limits : Limits} (r : Rows B g) (t : Table
   pub head_move : (x : ℕ) → headless_own table k.own ≡ Some x → move_of t now want c rd.v ≡ moves.Waits (wait.Head x)
   head_move x is =
       let waits = waits_some t table rd.v x heads_as (ap (headless_own table) (sym rd.kept.own) ∙ is) in
-      ap (λ (m : Option Move). or_else m (or_else (waits_for_head (option_and_then (if_headless t) (own_open t rd.v))) (by_place t now want c rd.v rd.v.place))) shows_none
+      ap (λ (m : Option Move). or_else
+      m (or_else (waits_for_head (option_and_then (if_headless t) (own_open t rd.v))) (by_place t now want c rd.v rd.v.place))) shows_none
       ∙ ap (λ (m : Option Move). or_else m (by_place t now want c rd.v rd.v.place)) waits
 
   module _ (heard : WaitsForNoHead table k) where
@@ -191,7 +207,8 @@ module _ {B : Type 0} {g : Ghosts B} {limits : Limits} (r : Rows B g) (t : Table
         by_shown false is = false_true is
 
     reads_on : move_of t now want c rd.v ≡ reading t want c rd.v
-    reads_on = third_is (shows_head t rd.v) (waits_for_head (option_and_then (if_headless t) (own_open t rd.v))) (by_place t now want c rd.v rd.v.place) shows_none (waits_none t table rd.v heads_as (ap (headless_own table) (sym rd.kept.own) ∙ heard)) ∙ by_reading
+    reads_on = third_is (shows_head t rd.v) (waits_for_head (option_and_then (if_headless t) (own_open t rd.v))) (by_place t now want c rd.v rd.v.place)
+        shows_none (waits_none t table rd.v heads_as (ap (headless_own table) (sym rd.kept.own) ∙ heard)) ∙ by_reading
 
     -- WHAT IT LOOKS AT
 
@@ -211,45 +228,60 @@ module _ {B : Type 0} {g : Ghosts B} {limits : Limits} (r : Rows B g) (t : Table
       abbrev hole_reported : Span
       hole_reported = record { lo = o; hi = hole_end k.hi o (next_stored t rd.v) }
 
-      model_step : read_step (steps.read_view t want c rd.v) ≡ by_parts (is_at_end k.hi o) k.hi (option_map end_of (stored_ahead t rd.v want)) (is_some (run_held_for t c rd.v want)) k.due from hole_reported
-      model_step = step_parts (steps.read_view t want c rd.v) ∙ view_same _ _ _ _ (option_map end_of (stored_ahead t rd.v want)) (is_some (run_held_for t c rd.v want)) _ _ _ _ _ _ (sym (offset_is r t facts stands c q how k rd)) (sym rd.kept.ends) (sym rd.kept.due) (source_is r t facts stands c q how k rd) refl
+      model_step : read_step (steps.read_view t want c rd.v) ≡ by_parts (is_at_end k.hi o) k.hi (option_map end_of (stored_ahead t rd.v want))
+          (is_some (run_held_for t c rd.v want)) k.due from hole_reported
+      model_step = step_parts (steps.read_view t want c rd.v) ∙
+          view_same _ _ _ _ (option_map end_of (stored_ahead t rd.v want)) (is_some (run_held_for t c rd.v want)) _ _ _ _ _ _
+          (sym (offset_is r t facts stands c q how k rd)) (sym rd.kept.ends) (sym rd.kept.due) (source_is r t facts stands c q how k rd) refl
 
       -- what was read of the store, where it isn't at the end
       read_run : is_at_end k.hi o ≡ false → run ≡ stretch f o count
       read_run off = run_is ∙ (by_count (count == 0) refl ∙ ap (λ (z : Cells). stretch z o count) (cells_are r t facts stands c q how k rd))
         where
-          by_count : (b : Bool) → nat_eq count 0 ≡ b → (if b then None else stretch (cells_at (shelf_of r.entries) q) o count) ≡ stretch (cells_at (shelf_of r.entries) q) o count
+          by_count : (b : Bool) → nat_eq count 0 ≡ b →
+              (if b then None else stretch (cells_at (shelf_of r.entries) q) o count) ≡ stretch (cells_at (shelf_of r.entries) q) o count
           by_count false is = refl
-          by_count true is = absurd (let more : 0 < count = some_more want wants k.hi o off in let none : count ≡ 0 = grind (arith, nat_tests, is) in omega (arith, more, none))
+          by_count true is = absurd (let more : 0 < count = some_more want wants k.hi o off in let none : count ≡ 0 = grind (arith, nat_tests, is) in
+              omega (arith, more, none))
 
-      sees : SeesAhead k.hi (is_at_end k.hi o) (option_map end_of (stored_ahead t rd.v want)) (option_map end_of run) (is_some (run_held_for t c rd.v want)) is_held
+      sees : SeesAhead k.hi (is_at_end k.hi o) (option_map end_of (stored_ahead t rd.v want)) (option_map end_of run)
+          (is_some (run_held_for t c rd.v want)) is_held
       sees = by_end (is_at_end k.hi o) refl
         where
-          by_cell : is_at_end k.hi o ≡ false → (z : Option Cell) → f o ≡ z → SeesAhead k.hi false (option_map end_of (stored_ahead t rd.v want)) (option_map end_of run) (is_some (run_held_for t c rd.v want)) is_held
+          by_cell : is_at_end k.hi o ≡ false → (z : Option Cell) → f o ≡ z →
+              SeesAhead k.hi false (option_map end_of (stored_ahead t rd.v want)) (option_map end_of run) (is_some (run_held_for t c rd.v want)) is_held
           by_cell off None none =
               let both = none_ahead f rd.p.reach o want k.hi (ends_by r t facts stands c q how k rd) wants off none in
               let seen : stored_ahead t rd.v want ≡ None = ahead_is r t facts stands c q how k rd want ∙ both.1 in
               let was_read : run ≡ None = read_run off ∙ both.0 in
-              sees_missing k.hi (stored_ahead t rd.v want) run (is_some (run_held_for t c rd.v want)) is_held seen was_read (held_same r t facts stands c q how k rd none want wants)
+              sees_missing k.hi (stored_ahead t rd.v want) run (is_some (run_held_for t c rd.v want)) is_held seen was_read
+              (held_same r t facts stands c q how k rd none want wants)
           by_cell off (Some cell) some =
               let on : is_some (f o) ≡ true = ap (λ (z : Option Cell). is_some z) some in
               by_run run refl on
             where
-              by_run : (z : Option Run) → run ≡ z → is_some (f o) ≡ true → SeesAhead k.hi false (option_map end_of (stored_ahead t rd.v want)) (option_map end_of run) (is_some (run_held_for t c rd.v want)) is_held
-              by_run None none on = absurd (let absent : f o ≡ None = (stretch-absent f o count).0 (sym (read_run off) ∙ none) in false_true (sym (ap (λ (z : Option Cell). is_some z) absent) ∙ on))
+              by_run : (z : Option Run) → run ≡ z → is_some (f o) ≡ true →
+                  SeesAhead k.hi false (option_map end_of (stored_ahead t rd.v want)) (option_map end_of run) (is_some (run_held_for t c rd.v want)) is_held
+              by_run None none on = absurd
+                  (let absent : f o ≡ None = (stretch-absent f o count).0 (sym (read_run off) ∙ none) in
+                  false_true (sym (ap (λ (z : Option Cell). is_some z) absent) ∙ on))
               by_run (Some z) is on =
                   let a = ahead f rd.p.reach o want k.hi (ends_by r t facts stands c q how k rd) wants off on z (sym (read_run off) ∙ is) in
                   let seen : stored_ahead t rd.v want ≡ Some a.m = ahead_is r t facts stands c q how k rd want ∙ a.reported in
                   sees_stored k.hi (stored_ahead t rd.v want) run a.m z (is_some (run_held_for t c rd.v want)) is_held seen is (a.upto ∙ sym a.cut)
 
-          by_end : (b : Bool) → is_at_end k.hi o ≡ b → SeesAhead k.hi b (option_map end_of (stored_ahead t rd.v want)) (option_map end_of run) (is_some (run_held_for t c rd.v want)) is_held
+          by_end : (b : Bool) → is_at_end k.hi o ≡ b →
+              SeesAhead k.hi b (option_map end_of (stored_ahead t rd.v want)) (option_map end_of run) (is_some (run_held_for t c rd.v want)) is_held
           by_end true is = ended (option_map end_of (stored_ahead t rd.v want)) (option_map end_of run) (is_some (run_held_for t c rd.v want)) is_held
           by_end false is = by_cell is (f o) refl
 
       -- what it does is the step of its parts
-      reads_parts : move_of t now want c rd.v ≡ step_move t want c rd.v (by_parts (is_at_end k.hi o) k.hi (option_map end_of run) is_held k.due from hole_reported)
+      reads_parts : move_of t now want c rd.v ≡ step_move t want c rd.v
+          (by_parts (is_at_end k.hi o) k.hi (option_map end_of run) is_held k.due from hole_reported)
       reads_parts =
-          reads_on ∙ ap (step_move t want c rd.v) (model_step ∙ same_step k.hi (is_at_end k.hi o) (option_map end_of (stored_ahead t rd.v want)) (option_map end_of run) (is_some (run_held_for t c rd.v want)) is_held k.due from hole_reported sees)
+          reads_on ∙ ap (step_move t want c rd.v)
+          (model_step ∙ same_step k.hi (is_at_end k.hi o) (option_map end_of (stored_ahead t rd.v want)) (option_map end_of run)
+          (is_some (run_held_for t c rd.v want)) is_held k.due from hole_reported sees)
 
       -- EACH STEP
 
@@ -274,9 +306,11 @@ module _ {B : Type 0} {g : Ghosts B} {limits : Limits} (r : Rows B g) (t : Table
           let stretched : stretch f o count ≡ Some z = sym (read_run off) ∙ is in
           let a = ahead f rd.p.reach o want k.hi (ends_by r t facts stands c q how k rd) wants off (there_of z stretched) z stretched in
           let upto : by_parts (is_at_end k.hi o) k.hi (option_map end_of run) is_held k.due from hole_reported ≡ step.Stored (cut_at k.hi (end_of z)) =
-          ap (λ (b : Bool). by_parts b k.hi (option_map end_of run) is_held k.due from hole_reported) off ∙ ap (λ (y : Option Run). by_parts false k.hi (option_map end_of y) is_held k.due from hole_reported) is in
+          ap (λ (b : Bool). by_parts b k.hi (option_map end_of run) is_held k.due from hole_reported) off ∙
+          ap (λ (y : Option Run). by_parts false k.hi (option_map end_of y) is_held k.due from hole_reported) is in
           let less : cut_at k.hi (end_of z) - offset t rd.v ≡ end_of z - o = ap₂ (λ (m i : ℕ). m - i) a.cut (sym (offset_is r t facts stands c q how k rd)) in
-          let given : stored_ahead t rd.v (cut_at k.hi (end_of z) - offset t rd.v) ≡ Some z = ap (stored_ahead t rd.v) less ∙ (ahead_is r t facts stands c q how k rd (end_of z - o) ∙ a.given) in
+          let given : stored_ahead t rd.v (cut_at k.hi (end_of z) - offset t rd.v) ≡ Some z = ap (stored_ahead t rd.v) less ∙
+          (ahead_is r t facts stands c q how k rd (end_of z - o) ∙ a.given) in
           record { read_is = is; ahead_of = a; move_is = (reads_parts ∙ ap (step_move t want c rd.v) upto) ∙ ap gives given }
 
       module _ (view : ReadView) (view_is : ReadViewIs r q c (option_map end_of run) view k) where
@@ -287,7 +321,8 @@ module _ {B : Type 0} {g : Ghosts B} {limits : Limits} (r : Rows B g) (t : Table
         hole = record { lo = o; hi = hole_end k.hi o next }
 
         next_same : next ≡ next_stored t rd.v
-        next_same = next_as f (cells_at (shelf_of r.entries) q) rd.p.reach o next (ends_by r t facts stands c q how k rd) (λ n. ap (λ (z : Cells). z n) (cells_are r t facts stands c q how k rd)) view_is.next_is ∙ sym (next_ahead r t facts stands c q how k rd)
+        next_same = next_as f (cells_at (shelf_of r.entries) q) rd.p.reach o next (ends_by r t facts stands c q how k rd)
+            (λ n. ap (λ (z : Cells). z n) (cells_are r t facts stands c q how k rd)) view_is.next_is ∙ sym (next_ahead r t facts stands c q how k rd)
 
         code_step : read_step view ≡ by_parts (is_at_end k.hi o) k.hi (option_map end_of run) is_held k.due from hole
         code_step = ap read_step view_is.is ∙ step_parts (bound_view table ((shelf_of r.entries).kept q) c (option_map end_of run) next k)
@@ -296,7 +331,8 @@ module _ {B : Type 0} {g : Ghosts B} {limits : Limits} (r : Rows B g) (t : Table
         pub reads_as : move_of t now want c rd.v ≡ step_move t want c rd.v (read_step view)
         reads_as =
             reads_parts ∙ ap (step_move t want c rd.v)
-            (ap (λ (z : Option ℕ). by_parts (is_at_end k.hi o) k.hi (option_map end_of run) is_held k.due from (record { lo = o; hi = hole_end k.hi o z })) (sym next_same) ∙ sym code_step)
+            (ap (λ (z : Option ℕ). by_parts (is_at_end k.hi o) k.hi (option_map end_of run) is_held k.due from
+            (record { lo = o; hi = hole_end k.hi o z })) (sym next_same) ∙ sym code_step)
 
         -- where nothing is stored it neither ends nor is given that
         module _ (off : is_at_end k.hi o ≡ false) (none : run ≡ None) where
@@ -334,7 +370,8 @@ module _ {B : Type 0} {g : Ghosts B} {limits : Limits} (r : Rows B g) (t : Table
             let long = some_held h in
             let there = some_taken count (table h.x).held more long in
             let given : run_held_for t c rd.v (steps.most t want rd.v) ≡ Some (record { x = h.x; at = o; bytes = take count (table h.x).held }) =
-            ap (run_held_for t c rd.v) most_is ∙ (h.runs count more ∙ (ap (λ (xs : List ℕ). run_of h.x o (take count xs)) (sym h.known) ∙ run_is_one h.x (take count (table h.x).held) there)) in
+            ap (run_held_for t c rd.v) most_is ∙
+            (h.runs count more ∙ (ap (λ (xs : List ℕ). run_of h.x o (take count xs)) (sym h.known) ∙ run_is_one h.x (take count (table h.x).held) there)) in
             (h, record { some = more; there = there; move_is = (reads_as ∙ ap (step_move t want c rd.v) is) ∙ ap gives given })
           where
             run_is_one : (x : ℕ) (bytes : List ℕ) → 0 < length bytes → run_of x o bytes ≡ Some (record { x = x; at = o; bytes = bytes })
@@ -374,11 +411,13 @@ module _ {B : Type 0} {g : Ghosts B} {limits : Limits} (r : Rows B g) (t : Table
         source_open : (x : ℕ) → from ≡ Some x → known.is_open x table ≡ true
         source_open x is = by_own (if_running table k.own) refl is
           where
-            by_own : (own : Option ℕ) → if_running table k.own ≡ own → option_or own (writer_group_of table ((shelf_of r.entries).kept q)) ≡ Some x → known.is_open x table ≡ true
+            by_own : (own : Option ℕ) → if_running table k.own ≡ own → option_or own (writer_group_of table ((shelf_of r.entries).kept q)) ≡ Some x →
+                known.is_open x table ≡ true
             by_own None none is = group_open ((shelf_of r.entries).kept q) x is
             by_own (Some y) some is = open_of k.own x (some ∙ is)
 
-        asked_same : (x : ℕ) (on : Option Open) (row : Option Exchange) → is_some on ≡ true → KeepsRunning t x on row → waits_for x row ≡ asks_or_waits (asked_in on) x
+        asked_same : (x : ℕ) (on : Option Open) (row : Option Exchange) → is_some on ≡ true → KeepsRunning t x on row →
+            waits_for x row ≡ asks_or_waits (asked_in on) x
         asked_same x None row some keeps = false_true some
         asked_same x (Some a) None some keeps = absurd keeps
         asked_same x (Some a) (Some w) some keeps = ap (λ (b : Bool). asks_or_waits b x) (sym keeps.asked)
@@ -386,7 +425,11 @@ module _ {B : Type 0} {g : Ghosts B} {limits : Limits} (r : Rows B g) (t : Table
         pub waits_move : (x : ℕ) → read_step view ≡ step.Waits x → WaitsFor x
         waits_move x is =
             let on = source_open x (waits_from (is_at_end k.hi o) k.hi (option_map end_of run) is_held k.due from hole x (sym code_step ∙ is)) in
-            record { is_open = on; move_is = (reads_as ∙ ap (step_move t want c rd.v) is) ∙ asked_same x (table x).running (t.exchange x) on (stands.exchanges x).running }
+            record {
+              is_open = on;
+              move_is = (reads_as ∙ ap (step_move t want c rd.v) is) ∙
+                  asked_same x (table x).running (t.exchange x) on (stands.exchanges x).running;
+            }
 
         -- IT STANDS BEFORE A HOLE
 
@@ -399,7 +442,8 @@ module _ {B : Type 0} {g : Ghosts B} {limits : Limits} (r : Rows B g) (t : Table
           pub total : ℕ
           pub known : head.total ≡ Some total
           pub within : Numbers t → t.received < 2 ^ 62 → IsWithin other total
-          pub move_is : move_of t now want c rd.v ≡ Opens (next_of r.exchanges) (need.Hole other.lo other.hi) (hole_request head k.request other (unwrap_or head.total 0))
+          pub move_is : move_of t now want c rd.v ≡ Opens (next_of r.exchanges) (need.Hole other.lo other.hi)
+              (hole_request head k.request other (unwrap_or head.total 0))
 
         module _ (other : Span) (is : read_step view ≡ step.Hole other) where
           all : IsHole (is_at_end k.hi o) (option_map end_of run) is_held k.due from hole other
@@ -424,7 +468,8 @@ module _ {B : Type 0} {g : Ghosts B} {limits : Limits} (r : Rows B g) (t : Table
           not_written : is_written t rd.p ≡ true → ⊥
           not_written on =
               let none : shared_exchange t rd.v.place ≡ None = (parts_none (own_open t rd.v) (shared_exchange t rd.v.place) no_source).1 in
-              let writer : rd.p.writer ≡ None = sym (ap (λ (b : Bool). if b then rd.p.writer else None) on) ∙ (sym (ap (group_in t) rd.there) ∙ (sym (ap (shared_exchange t) rd.at) ∙ none)) in
+              let writer : rd.p.writer ≡ None = sym (ap (λ (b : Bool). if b then rd.p.writer else None) on) ∙
+              (sym (ap (group_in t) rd.there) ∙ (sym (ap (shared_exchange t) rd.at) ∙ none)) in
               writer_some t rd.p on writer
 
           not_covered : (n : ℕ) → hi_of t rd.v.place ≡ Some n → Covers f (offset t rd.v) n → ⊥
@@ -467,13 +512,16 @@ module _ {B : Type 0} {g : Ghosts B} {limits : Limits} (r : Rows B g) (t : Table
               known_end : IsFirst t q c → rd.hi ≡ None → ⊥
               known_end (sound.first z a b d z_row z_at came) none =
                   let one : z ≡ rd.v = same_row (t.consumer c) z rd.v z_row rd.row in
-                  let came_v : came_alone t (place.Bound q rd.lo rd.hi how) ≡ true = subst (λ (y : Place). came_alone t y ≡ true) (sym z_at ∙ (ap (λ (y : rows.Consumer). y.place) one ∙ rd.at)) came in
+                  let came_v : came_alone t (place.Bound q rd.lo rd.hi how) ≡ true =
+                  subst (λ (y : Place). came_alone t y ≡ true) (sym z_at ∙ (ap (λ (y : rows.Consumer). y.place) one ∙ rd.at)) came in
                   false_true (sym (ap (λ (y : Option ℕ). is_some y) none) ∙ facts.law.sound.writes.known_end q c rd.lo rd.hi how rd.v rd.row rd.at came_v)
 
               by_along : IsAlong → rd.hi ≡ None → rd.p.head.total ≡ None → ⊥
               by_along (first fresh is_first) none unknown = known_end is_first none
               by_along (alone lost is_alone) none unknown =
-                  none_some q (sym none_own ∙ facts.unended.alone q c rd.lo how rd.p rd.v rd.there is_alone rd.row (rd.at ∙ ap (λ (y : Option ℕ). place.Bound q rd.lo y how) none) unknown undue)
+                  none_some q (sym none_own ∙
+                  facts.unended.alone q c rd.lo how rd.p rd.v rd.there is_alone rd.row (rd.at ∙ ap (λ (y : Option ℕ). place.Bound q rd.lo y how) none)
+                  unknown undue)
 
               by_end : (z : Option ℕ) → hi_of t rd.v.place ≡ z → (n : ℕ) × (hi_of t rd.v.place ≡ Some n)
               by_end (Some n) at = (n, at)
@@ -514,7 +562,8 @@ module _ {B : Type 0} {g : Ghosts B} {limits : Limits} (r : Rows B g) (t : Table
           none_held lost is_alone =
               let model : is_some (run_held_for t c rd.v want) ≡ false = held_same r t facts stands c q how k rd bare want wants ∙ all.not_held in
               let mine : is_number rd.p.alone c ≡ true = ap (λ (z : Option ℕ). is_number z c) is_alone ∙ eqb-same c in
-              let run_is_none : stretch_to rd.p.body rd.p.reach o want ≡ None = none_of _ (sym (ap (λ (z : Option Run). is_some z) (held_is r t facts stands c q how k rd want ∙ lost_run c o want rd.p lost mine)) ∙ model) in
+              let run_is_none : stretch_to rd.p.body rd.p.reach o want ≡ None =
+              none_of _ (sym (ap (λ (z : Option Run). is_some z) (held_is r t facts stands c q how k rd want ∙ lost_run c o want rd.p lost mine)) ∙ model) in
               (stretch-absent rd.p.body o (min want (rd.p.reach - o))).0 run_is_none
 
           -- it is told
@@ -526,7 +575,8 @@ module _ {B : Type 0} {g : Ghosts B} {limits : Limits} (r : Rows B g) (t : Table
                   let lt = before in
                   let le = length_is.2 in
                   let same : length_is.0 ≡ n = some_is length_is.0 n (sym length_is.1 ∙ known) in
-                  false_true (sym (ap (λ (z : Option Cell). is_some z) (sym ((facts.law.sound.rows q rd.p rd.there).store.all_stored fresh o) ∙ bare)) ∙ came o (omega arith) (omega (arith, lt, le, same)))
+                  false_true (sym (ap (λ (z : Option Cell). is_some z) (sym ((facts.law.sound.rows q rd.p rd.there).store.all_stored fresh o) ∙ bare)) ∙
+                  came o (omega arith) (omega (arith, lt, le, same)))
               by_along n known came (alone lost is_alone) =
                   let lt = before in
                   let le = length_is.2 in
@@ -547,7 +597,9 @@ module _ {B : Type 0} {g : Ghosts B} {limits : Limits} (r : Rows B g) (t : Table
               let lt = before in
               let low = it.0 in
               let far : o < n = elim (same_or o n) [
-                | inl same ↦ false_true (sym (ap (λ (y : Option Cell). is_some y) (ap (λ (y : Cells). y o) (cells_are r t facts stands c q how k rd) ∙ bare)) ∙ (ap (λ (m : ℕ). is_some (cells_at (shelf_of r.entries) q m)) same ∙ it.1))
+                | inl same ↦ false_true (sym
+                    (ap (λ (y : Option Cell). is_some y) (ap (λ (y : Cells). y o) (cells_are r t facts stands c q how k rd) ∙ bare)) ∙
+                    (ap (λ (m : ℕ). is_some (cells_at (shelf_of r.entries) q m)) same ∙ it.1))
                 | inr ne ↦ omega (arith, low, ne)
               ] in
               (omega (arith, lt, far), omega arith)
@@ -564,15 +616,18 @@ module _ {B : Type 0} {g : Ghosts B} {limits : Limits} (r : Rows B g) (t : Table
                 small = omega (arith, total, few);
               })
 
-          opens_as : move_of t now want c rd.v ≡ Opens (next_of r.exchanges) (need.Hole other.lo other.hi) (hole_request e.head k.request other (unwrap_or e.head.total 0))
+          opens_as : move_of t now want c rd.v ≡ Opens (next_of r.exchanges) (need.Hole other.lo other.hi)
+              (hole_request e.head k.request other (unwrap_or e.head.total 0))
           opens_as =
               (reads_as ∙ ap (step_move t want c rd.v) is)
               ∙ (ap (later_hole t rd.v other) ends_somewhere.1
               ∙ (ap (λ (z : Option Representation). opens_hole t rd.v.request z other) (bound_at r t facts stands c q how k rd)
-              ∙ (ap (λ (n : ℕ). Opens n (need.Hole other.lo other.hi) (hole_request rd.p.head rd.v.request other (unwrap_or rd.p.head.total 0))) (sym stands.next)
+              ∙ (ap (λ (n : ℕ). Opens n (need.Hole other.lo other.hi) (hole_request rd.p.head rd.v.request other (unwrap_or rd.p.head.total 0)))
+              (sym stands.next)
               ∙ ap (λ (z : Request). Opens (next_of r.exchanges) (need.Hole other.lo other.hi) z) requests)))
             where
-              requests : hole_request rd.p.head rd.v.request other (unwrap_or rd.p.head.total 0) ≡ hole_request e.head k.request other (unwrap_or e.head.total 0)
+              requests : hole_request rd.p.head rd.v.request other (unwrap_or rd.p.head.total 0) ≡ hole_request e.head k.request other
+                  (unwrap_or e.head.total 0)
               requests =
                   ap (λ (z : Head). hole_request z rd.v.request other (unwrap_or rd.p.head.total 0)) (sym in_entry.head)
                   ∙ (ap (λ (z : Request). hole_request e.head z other (unwrap_or rd.p.head.total 0)) (sym rd.kept.request)
@@ -590,7 +645,8 @@ module _ {B : Type 0} {g : Ghosts B} {limits : Limits} (r : Rows B g) (t : Table
 
 -- WHAT FITS
 
-module _ {B : Type 0} {g : Ghosts B} {limits : Limits} (r : Rows B g) (t : Tables) (facts : Facts limits t) (stands : RowsStand limits r t) (c q : ℕ) (how : BoundBy) (k : Consumer) (rd : IsBoundRow t c q how k) (numbers : Numbers t) (few : t.received < 2 ^ 62) where
+module _ {B : Type 0} {g : Ghosts B} {limits : Limits} (r : Rows B g) (t : Tables) (facts : Facts limits t) (stands : RowsStand limits r t) (c q : ℕ)
+    (how : BoundBy) (k : Consumer) (rd : IsBoundRow t c q how k) (numbers : Numbers t) (few : t.received < 2 ^ 62) where
   begins : k.lo ≡ rd.lo
   begins = rd.kept.begins ∙ ap (lo_of t) rd.at
 
@@ -625,7 +681,8 @@ module _ {B : Type 0} {g : Ghosts B} {limits : Limits} (r : Rows B g) (t : Table
     stretched : stretch rd.p.stored at_offset as_many ≡ Some z
     stretched = by_count (as_many == 0) refl (sym run_is ∙ is)
       where
-        by_count : (b : Bool) → nat_eq as_many 0 ≡ b → (if b then None else stretch (cells_at (shelf_of r.entries) q) at_offset as_many) ≡ Some z → stretch rd.p.stored at_offset as_many ≡ Some z
+        by_count : (b : Bool) → nat_eq as_many 0 ≡ b → (if b then None else stretch (cells_at (shelf_of r.entries) q) at_offset as_many) ≡ Some z →
+            stretch rd.p.stored at_offset as_many ≡ Some z
         by_count false off at = ap (λ (f : Cells). stretch f at_offset as_many) (sym (cells_are r t facts stands c q how k rd)) ∙ at
         by_count true on at = none_some z at
 
@@ -634,7 +691,9 @@ module _ {B : Type 0} {g : Ghosts B} {limits : Limits} (r : Rows B g) (t : Table
     none_count (Some h) on = let le : h ≤ at_offset = grind (arith, nat_tests) in omega (arith, le)
 
     never : as_many ≡ 0 → ⊥
-    never none = none_some z (sym (ap (λ (b : Bool). if b then None else stretch (cells_at (shelf_of r.entries) q) at_offset as_many) (let test : nat_eq as_many 0 ≡ true = grind (arith, nat_tests, none) in test)) ∙ (sym run_is ∙ is))
+    never none = none_some z
+        (sym (ap (λ (b : Bool). if b then None else stretch (cells_at (shelf_of r.entries) q) at_offset as_many)
+        (let test : nat_eq as_many 0 ≡ true = grind (arith, nat_tests, none) in test)) ∙ (sym run_is ∙ is))
 
     is_there_now : is_some (rd.p.stored at_offset) ≡ true
     is_there_now = by_cell (rd.p.stored at_offset) refl
@@ -662,6 +721,7 @@ module _ {B : Type 0} {g : Ghosts B} {limits : Limits} (r : Rows B g) (t : Table
       let most = numbers.fronts h.x h.w h.row in
       let low = h.after_base in
       let high = h.before_front in
-      let len : length (table_of r.exchanges h.x).held ≡ length h.w.body - (k.lo + k.given - base h.w) = ap length h.known ∙ length-drop (k.lo + k.given - base h.w) h.w.body in
+      let len : length (table_of r.exchanges h.x).held ≡ length h.w.body - (k.lo + k.given - base h.w) = ap length h.known ∙
+      length-drop (k.lo + k.given - base h.w) h.w.body in
       let less = length-take n (table_of r.exchanges h.x).held in
       omega (arith, most, few, low, high, len, less)

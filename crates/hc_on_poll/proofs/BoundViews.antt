@@ -66,11 +66,13 @@ module _ (f : Cells) (reach p : ℕ) (ends : EndsBy reach f) where
 
 pub next_as : (f h : Cells) (reach p : ℕ) (next : Option ℕ) → EndsBy reach f → ((q : ℕ) → h q ≡ f q) → IsNext h p next → next ≡ next_from f reach p
 next_as f h reach p None ends same all = next_is f reach p ends None (λ q le. sym (same q) ∙ all q le)
-next_as f h reach p (Some n) ends same it = next_is f reach p ends (Some n) (it.0, ap (λ (z : Option Cell). is_some z) (sym (same n)) ∙ it.1, λ q low up. sym (same q) ∙ it.2 q low up)
+next_as f h reach p (Some n) ends same it =
+    next_is f reach p ends (Some n) (it.0, ap (λ (z : Option Cell). is_some z) (sym (same n)) ∙ it.1, λ q low up. sym (same q) ∙ it.2 q low up)
 
 -- WHAT IS HELD
 
-module _ {B : Type 0} {g : Ghosts B} {limits : Limits} (r : Rows B g) (t : Tables) (facts : Facts limits t) (stands : RowsStand limits r t) (c q : ℕ) (how : BoundBy) (k : Consumer) (rd : IsBoundRow t c q how k) where
+module _ {B : Type 0} {g : Ghosts B} {limits : Limits} (r : Rows B g) (t : Tables) (facts : Facts limits t) (stands : RowsStand limits r t) (c q : ℕ)
+    (how : BoundBy) (k : Consumer) (rd : IsBoundRow t c q how k) where
   -- what is stored ends where all of it does
   pub stored_ends : EndsBy rd.p.reach rd.p.stored
   stored_ends n le = by_cell (rd.p.stored n) refl
@@ -112,7 +114,8 @@ module _ {B : Type 0} {g : Ghosts B} {limits : Limits} (r : Rows B g) (t : Table
 
       bound_there : (u : rows.Consumer) → is_bound_place (family x w) u.place ≡ true → u ≡ rd.v → family x w ≡ q
       bound_there u on same =
-          let at : is_bound_place (family x w) (place.Bound q rd.lo rd.hi how) ≡ true = sym (ap (λ (z : rows.Consumer). is_bound_place (family x w) z.place) same ∙ ap (is_bound_place (family x w)) rd.at) ∙ on in
+          let at : is_bound_place (family x w) (place.Bound q rd.lo rd.hi how) ≡ true =
+          sym (ap (λ (z : rows.Consumer). is_bound_place (family x w) z.place) same ∙ ap (is_bound_place (family x w)) rd.at) ∙ on in
           grind (arith, nat_tests, at)
 
       by_owner : (p : Representation) (d : ℕ) (o : Option rows.Consumer) → t.consumer d ≡ o → unstored_bytes t x w p o ≡ []
@@ -135,14 +138,16 @@ module _ {B : Type 0} {g : Ghosts B} {limits : Limits} (r : Rows B g) (t : Table
       by_row (Some p) at = by_alone p p.alone
 
 -- what it holds is of its own exchange
-pub unstored_own : (t : Tables) (x : ℕ) (w : Exchange) (p : Representation) (v : rows.Consumer) (q lo : ℕ) (hi : Option ℕ) (how : BoundBy) → v.place ≡ place.Bound q lo hi how → v.own ≡ Some x → family x w ≡ q → unstored_bytes t x w p (Some v) ≡ drop (first_lacking t w p v - base w) w.body
+pub unstored_own : (t : Tables) (x : ℕ) (w : Exchange) (p : Representation) (v : rows.Consumer) (q lo : ℕ) (hi : Option ℕ) (how : BoundBy) →
+    v.place ≡ place.Bound q lo hi how → v.own ≡ Some x → family x w ≡ q → unstored_bytes t x w p (Some v) ≡ drop (first_lacking t w p v - base w) w.body
 unstored_own t x w p v q lo hi how at own of_q =
     let bound : is_bound_place (family x w) v.place ≡ true = ap (is_bound_place (family x w)) at ∙ (ap (nat_eq q) of_q ∙ eqb-same q) in
     let mine : is_number v.own x ≡ true = ap (λ (o : Option ℕ). is_number o x) own ∙ eqb-same x in
     rw (bound, mine) refl
 
 -- and none of it is past the store
-pub unread_bound : (x : ℕ) (w : Exchange) (v : rows.Consumer) (q lo : ℕ) (hi : Option ℕ) (how : BoundBy) → v.place ≡ place.Bound q lo hi how → unread x w (Some v) ≡ []
+pub unread_bound : (x : ℕ) (w : Exchange) (v : rows.Consumer) (q lo : ℕ) (hi : Option ℕ) (how : BoundBy) → v.place ≡ place.Bound q lo hi how →
+    unread x w (Some v) ≡ []
 unread_bound x w v q lo hi how at = rw at refl
 
 -- what was lost is read from what came
@@ -187,7 +192,8 @@ pub record Holds {B : Type 0} {g : Ghosts B} (r : Rows B g) (t : Tables) (c q : 
 
 -- WHAT IS LOOKED AT
 
-module _ {B : Type 0} {g : Ghosts B} {limits : Limits} (r : Rows B g) (t : Tables) (facts : Facts limits t) (stands : RowsStand limits r t) (c q : ℕ) (how : BoundBy) (k : Consumer) (rd : IsBoundRow t c q how k) where
+module _ {B : Type 0} {g : Ghosts B} {limits : Limits} (r : Rows B g) (t : Tables) (facts : Facts limits t) (stands : RowsStand limits r t) (c q : ℕ)
+    (how : BoundBy) (k : Consumer) (rd : IsBoundRow t c q how k) where
   abbrev o : ℕ
   o = k.lo + k.given
 
@@ -213,13 +219,16 @@ module _ {B : Type 0} {g : Ghosts B} {limits : Limits} (r : Rows B g) (t : Table
   ahead_is n = ap (option_and_then (stored_from (offset t rd.v) n)) bound_at ∙ ap (λ (m : ℕ). stretch_to rd.p.stored rd.p.reach m n) (sym offset_is)
 
   pub next_ahead : next_stored t rd.v ≡ next_from rd.p.stored rd.p.reach o
-  next_ahead = ap (option_and_then (λ (z : Representation). next_from z.stored z.reach (offset t rd.v))) bound_at ∙ ap (λ (m : ℕ). next_from rd.p.stored rd.p.reach m) (sym offset_is)
+  next_ahead = ap (option_and_then (λ (z : Representation). next_from z.stored z.reach (offset t rd.v))) bound_at ∙
+      ap (λ (m : ℕ). next_from rd.p.stored rd.p.reach m) (sym offset_is)
 
   pub held_is : (n : ℕ) → run_held_for t c rd.v n ≡ held_of_lost c o n (Some rd.p)
-  held_is n = ap (held_at t c (offset t rd.v) n) rd.at ∙ (ap (held_of_lost c (offset t rd.v) n) rd.there ∙ ap (λ (m : ℕ). held_of_lost c m n (Some rd.p)) (sym offset_is))
+  held_is n = ap (held_at t c (offset t rd.v) n) rd.at ∙
+      (ap (held_of_lost c (offset t rd.v) n) rd.there ∙ ap (λ (m : ℕ). held_of_lost c m n (Some rd.p)) (sym offset_is))
 
   pub source_is : source t rd.v ≡ option_or (if_running (table_of r.exchanges) k.own) (writer_group_of (table_of r.exchanges) ((shelf_of r.entries).kept q))
-  source_is = ap₂ option_or (sym (running_as r t stands k.own ∙ ap (option_and_then (if_open t)) rd.kept.own)) (ap (shared_exchange t) rd.at ∙ sym (group_as r t stands facts.law q))
+  source_is = ap₂ option_or (sym (running_as r t stands k.own ∙ ap (option_and_then (if_open t)) rd.kept.own))
+      (ap (shared_exchange t) rd.at ∙ sym (group_as r t stands facts.law q))
 
   -- WHO HOLDS SOMETHING
 
@@ -257,9 +266,11 @@ module _ {B : Type 0} {g : Ghosts B} {limits : Limits} (r : Rows B g) (t : Table
     own_held : family h.x h.w ≡ q → (table_of r.exchanges h.x).held ≡ left
     own_held of_q =
         let there : t.representation (family h.x h.w) ≡ Some rd.p = ap t.representation of_q ∙ rd.there in
-        let all : unstored_bytes t h.x h.w rd.p (Some rd.v) ≡ drop (first_lacking t h.w rd.p rd.v - base h.w) h.w.body = unstored_own t h.x h.w rd.p rd.v q rd.lo rd.hi how rd.at h.own of_q in
+        let all : unstored_bytes t h.x h.w rd.p (Some rd.v) ≡ drop (first_lacking t h.w rd.p rd.v - base h.w) h.w.body =
+        unstored_own t h.x h.w rd.p rd.v q rd.lo rd.hi how rd.at h.own of_q in
         let first : first_lacking t h.w rd.p rd.v ≡ o = absent_here rd.p.stored rd.p.reach (offset t rd.v) (front h.w) here ∙ sym offset_is in
-        held_row ∙ (ap (held_of t h.x h.w) there ∙ (ap (held_alone t h.x h.w rd.p) alone_is ∙ (ap (unstored_bytes t h.x h.w rd.p) rd.row ∙ (all ∙ ap (λ (m : ℕ). drop (m - base h.w) h.w.body) first))))
+        held_row ∙ (ap (held_of t h.x h.w) there ∙
+        (ap (held_alone t h.x h.w rd.p) alone_is ∙ (ap (unstored_bytes t h.x h.w rd.p) rd.row ∙ (all ∙ ap (λ (m : ℕ). drop (m - base h.w) h.w.body) first))))
 
     other_held : (family h.x h.w ≡ q → ⊥) → (table_of r.exchanges h.x).held ≡ []
     other_held apart = held_row ∙ held_else r t facts stands c q how k rd h.x h.w h.own h.row apart
@@ -288,7 +299,8 @@ module _ {B : Type 0} {g : Ghosts B} {limits : Limits} (r : Rows B g) (t : Table
       from_there = elim (lt_or o h.from) [
         | inr le ↦ le.1
         | inl before ↦
-            let stays : rd.p.stored (offset t rd.v) ≡ rd.p.body (offset t rd.v) = h.ahead.stored (offset t rd.v) (omega (arith, h.ahead.within)) (inl (let lt = before.1 in let same = offset_is in omega (arith, lt, same))) in
+            let stays : rd.p.stored (offset t rd.v) ≡ rd.p.body (offset t rd.v) =
+            h.ahead.stored (offset t rd.v) (omega (arith, h.ahead.within)) (inl (let lt = before.1 in let same = offset_is in omega (arith, lt, same))) in
             none_some byte_there.0 (sym here ∙ (stays ∙ (ap rd.p.body (sym offset_is) ∙ byte_there.1)))
       ]
 
@@ -305,18 +317,21 @@ module _ {B : Type 0} {g : Ghosts B} {limits : Limits} (r : Rows B g) (t : Table
         runs = own_runs;
         after_base = within.0;
         before_front = within.1;
-        lacks = λ m low lt. (let from = from_there in let same = offset_is in let le = low in h.ahead.unstored m (omega (arith, same, le)) (omega (arith, from, le)) lt);
+        lacks = λ m low lt. (let from = from_there in let same = offset_is in let le = low in
+            h.ahead.unstored m (omega (arith, same, le)) (omega (arith, from, le)) lt);
       }
 
     -- as many bytes are held as the tables say
     module _ (want : ℕ) (wants : 0 < want) where
       held_bytes : is_some (run_held_for t c rd.v want) ≡ nat_lt 0 (length (table_of r.exchanges h.x).held)
       held_bytes = elim (same_or (family h.x h.w) q) [
-        | inl of_q ↦ ap (λ (z : Option Run). is_some z) (own_runs want wants) ∙ (run_some h.x o want left wants ∙ ap (λ (xs : List ℕ). nat_lt 0 (length xs)) (sym (own_held of_q)))
+        | inl of_q ↦ ap (λ (z : Option Run). is_some z) (own_runs want wants) ∙
+            (run_some h.x o want left wants ∙ ap (λ (xs : List ℕ). nat_lt 0 (length xs)) (sym (own_held of_q)))
         | inr apart ↦ by_run (run_held_for t c rd.v want) refl apart
       ]
         where
-          by_run : (z : Option Run) → run_held_for t c rd.v want ≡ z → (family h.x h.w ≡ q → ⊥) → is_some (run_held_for t c rd.v want) ≡ nat_lt 0 (length (table_of r.exchanges h.x).held)
+          by_run : (z : Option Run) → run_held_for t c rd.v want ≡ z → (family h.x h.w ≡ q → ⊥) →
+              is_some (run_held_for t c rd.v want) ≡ nat_lt 0 (length (table_of r.exchanges h.x).held)
           by_run None is apart = ap (λ (z : Option Run). is_some z) is ∙ ap (λ (xs : List ℕ). nat_lt 0 (length xs)) (sym (other_held apart))
           by_run (Some run) is apart = absurd (apart (own_family want wants run is))
 
@@ -339,7 +354,9 @@ module _ {B : Type 0} {g : Ghosts B} {limits : Limits} (r : Rows B g) (t : Table
     held_same = by_lone lone refl ∙ ap (λ (b : Bool). b && nat_lt 0 (held_own (table_of r.exchanges) k.own)) (sym lone_is)
       where
         by_lone : (b : Bool) → lone ≡ b → is_some (run_held_for t c rd.v want) ≡ (lone && nat_lt 0 (held_own (table_of r.exchanges) k.own))
-        by_lone false off = ap (λ (z : Option Run). is_some z) (held_is want ∙ ap (λ (b : Bool). if b then stretch_to rd.p.body rd.p.reach o want else None) off) ∙ ap (λ (b : Bool). b && nat_lt 0 (held_own (table_of r.exchanges) k.own)) (sym off)
+        by_lone false off = ap (λ (z : Option Run). is_some z)
+            (held_is want ∙ ap (λ (b : Bool). if b then stretch_to rd.p.body rd.p.reach o want else None) off) ∙
+            ap (λ (b : Bool). b && nat_lt 0 (held_own (table_of r.exchanges) k.own)) (sym off)
         by_lone true on = lone_same on missing want wants ∙ ap (λ (b : Bool). b && nat_lt 0 (held_own (table_of r.exchanges) k.own)) (sym on)
 
     pub holds_something : (goes_alone c ((shelf_of r.entries).kept q) && nat_lt 0 (held_own (table_of r.exchanges) k.own)) ≡ true → Holds r t c q k rd.v rd.p

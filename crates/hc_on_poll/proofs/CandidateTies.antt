@@ -57,7 +57,8 @@ unfolding class_of
 range_of_class request = refl
 
 -- a stored head that was read is the one that is kept
-pub headed_entry : (o : Option Kept) (head : StoredHead) → option_map (λ (k : Kept). k.head) o ≡ Some (plain head) → (e : Kept) × (o ≡ Some e) × (e.head ≡ plain head)
+pub headed_entry : (o : Option Kept) (head : StoredHead) → option_map (λ (k : Kept). k.head) o ≡ Some (plain head) → (e : Kept) × (o ≡ Some e) ×
+    (e.head ≡ plain head)
 headed_entry None head is = none_some (plain head) is
 headed_entry (Some e) head is = (e, refl, some_is e.head (plain head) is)
 
@@ -107,7 +108,8 @@ bound_in_starts t law q c = filter_in (λ d. is_bound q (t.consumer d)) c t.star
     by_test false is = refl
     by_test true is = among_in c t.starts (law.sound.numbered.lists.started c (there (t.consumer c) is))
 
-pub least_bound_as : (t : Tables) (law : Lawful t) (q : ℕ) (e : Kept) (p : Representation) → IsEntry t q e p → is_sorted itself e.bound ≡ true → slice_get e.bound 0 ≡ least (bound t q)
+pub least_bound_as : (t : Tables) (law : Lawful t) (q : ℕ) (e : Kept) (p : Representation) → IsEntry t q e p → is_sorted itself e.bound ≡ true →
+    slice_get e.bound 0 ≡ least (bound t q)
 least_bound_as t law q e p is up = first_least e.bound up ∙ least_alike e.bound (bound t q) (λ c. is.bound c ∙ sym (bound_in_starts t law q c))
 
 -- WHAT ITS HEAD SAYS
@@ -116,10 +118,12 @@ lifetime_kind : (head : Head) (kind : Kind) (total : Option ℕ) → lifetime (s
 unfolding lifetime
 lifetime_kind head kind total = grind (arith, nat_tests)
 
-allowed_kind : (head : Head) (kind : Kind) (total : Option ℕ) (request : Request) (now : ℕ) → allowed (sealed_head kind total head) request now ≡ allowed head request now
+allowed_kind : (head : Head) (kind : Kind) (total : Option ℕ) (request : Request) (now : ℕ) →
+    allowed (sealed_head kind total head) request now ≡ allowed head request now
 unfolding corrected_initial_age
 allowed_kind head kind total request now =
-    ap (λ (n : ℕ). allowed_by (of_response head.fields).no_cache (of_response head.fields).must_revalidate (of_request request.fields) request.load (age head now) n) (lifetime_kind head kind total)
+    ap (λ (n : ℕ). allowed_by (of_response head.fields).no_cache (of_response head.fields).must_revalidate (of_request request.fields) request.load
+    (age head now) n) (lifetime_kind head kind total)
 
 abbrev none_by : Bool → Option ℕ
 none_by b = if b then None else None
@@ -143,7 +147,8 @@ written_as t p = by_writer p.writer refl
 
 -- ALL OF IT
 
-module _ {B : Type 0} {g : Ghosts B} {limits : Limits} (r : Rows B g) (t : Tables) (facts : Facts limits t) (stands : RowsStand limits r t) (now q : ℕ) (k : Consumer) (v : rows.Consumer) (is_kept : IsKept t k v) (p : Representation) (here : t.representation q ≡ Some p) (stays : p.is_gone ≡ false)
+module _ {B : Type 0} {g : Ghosts B} {limits : Limits} (r : Rows B g) (t : Tables) (facts : Facts limits t) (stands : RowsStand limits r t) (now q : ℕ)
+    (k : Consumer) (v : rows.Consumer) (is_kept : IsKept t k v) (p : Representation) (here : t.representation q ≡ Some p) (stays : p.is_gone ≡ false)
     (e : Kept) (kept : (shelf_of r.entries).kept q ≡ Some e) where
   is : IsEntry t q e p
   is = entry_at r t stands q e kept p here
@@ -151,8 +156,11 @@ module _ {B : Type 0} {g : Ghosts B} {limits : Limits} (r : Rows B g) (t : Table
   stored : EndsBy p.reach p.stored
   stored = stored_ends t facts.law q p here (stays_stored t facts.law q p here stays)
 
-  pub seen_as : (seen : Candidate) (view : EntryView) (head : StoredHead) → AllowedIs k.request now seen.allowed e → view_of e ≡ view → e.head ≡ plain head → seen.vary ≡ matches_vary (plain head) k.request → seen.span ≡ wanted_of k.class.range view.total
-      → seen.hole ≡ hole_in (cells_at (shelf_of r.entries) q) seen.span → seen.writer_group ≡ is_some (writer_group_of (table_of r.exchanges) ((shelf_of r.entries).kept q)) → seen.exclusive ≡ exclusive t q p → seen.least_bound ≡ slice_get (bound_in ((shelf_of r.entries).kept q)) 0
+  pub seen_as : (seen : Candidate) (view : EntryView) (head : StoredHead) → AllowedIs k.request now seen.allowed e → view_of e ≡ view → e.head ≡ plain
+      head → seen.vary ≡ matches_vary (plain head) k.request → seen.span ≡ wanted_of k.class.range view.total
+      → seen.hole ≡ hole_in (cells_at (shelf_of r.entries) q) seen.span →
+      seen.writer_group ≡ is_some (writer_group_of (table_of r.exchanges) ((shelf_of r.entries).kept q)) → seen.exclusive ≡ exclusive t q p →
+      seen.least_bound ≡ slice_get (bound_in ((shelf_of r.entries).kept q)) 0
       → seen ≡ candidate t now q v.request p
   seen_as seen view head allows viewed head_is varies wants hole_is writes alone least_is =
       let span : seen.span ≡ wanted_of (range_of v.request) p.head.total =
@@ -172,4 +180,12 @@ module _ {B : Type 0} {g : Ghosts B} {limits : Limits} (r : Rows B g) (t : Table
       writes ∙ (ap (λ (o : Option ℕ). is_some o) (group_as r t stands facts.law q ∙ ap (group_in t) here) ∙ written_as t p) in
       let least : seen.least_bound ≡ least (bound t q) =
       least_is ∙ (ap (λ (o : Option Kept). slice_get (bound_in o) 0) kept ∙ least_bound_as t facts.law q e p is (bound_ascends r.entries q e kept)) in
-      λ i. record { allowed = allowed_is i; vary = vary_is i; span = span i; hole = hole i; writer_group = writer_group i; exclusive = alone i; least_bound = least i }
+      λ i. record {
+        allowed = allowed_is i;
+        vary = vary_is i;
+        span = span i;
+        hole = hole i;
+        writer_group = writer_group i;
+        exclusive = alone i;
+        least_bound = least i;
+      }

@@ -34,7 +34,8 @@ idle_turn key v idle = then_false (is_in_line key (Some v)) (holds_place v.place
     by_place (place.Turn x) on = false_true on
     by_place _ on = refl
 
-module _ {B : Type 0} {g : Ghosts B} {limits : Limits} (r mid : Rows B g) (t : Tables) (c : ℕ) (k : Consumer) (v : rows.Consumer) (stands : RowsStand limits r t) (row : t.consumer c ≡ Some v) (kept : IsKept t k v) (idle : is_idle_at k.place ≡ true)
+module _ {B : Type 0} {g : Ghosts B} {limits : Limits} (r mid : Rows B g) (t : Tables) (c : ℕ) (k : Consumer) (v : rows.Consumer)
+    (stands : RowsStand limits r t) (row : t.consumer c ≡ Some v) (kept : IsKept t k v) (idle : is_idle_at k.place ≡ true)
     (lined_up_too : RowsStand limits mid (with_consumer c (Some (in_line v)) t)) (next : IsNext r.keys c k) where
   abbrev its : List ℕ
   its = v.request.key
@@ -46,7 +47,8 @@ module _ {B : Type 0} {g : Ghosts B} {limits : Limits} (r mid : Rows B g) (t : T
   same_key = ap (λ (z : Request). z.key) kept.request
 
   asks : (is_disabled v.request ≡ false) × (is_only v.request ≡ false)
-  asks = let both = both_true (not (is_disabled v.request)) (not (is_only v.request)) (sym (queues_as t k v kept) ∙ next.0) in (not_on (is_disabled v.request) both.0, not_on (is_only v.request) both.1)
+  asks = let both = both_true (not (is_disabled v.request)) (not (is_only v.request)) (sym (queues_as t k v kept) ∙ next.0) in
+      (not_on (is_disabled v.request) both.0, not_on (is_only v.request) both.1)
 
   v_idle : is_idle_at v.place ≡ true
   v_idle = sym (ap is_idle_at kept.place) ∙ idle
@@ -94,7 +96,8 @@ module _ {B : Type 0} {g : Ghosts B} {limits : Limits} (r mid : Rows B g) (t : T
     w_line : is_in_line its (Some w) ≡ true
     w_line = lined w refl asks.0 asks.1
 
-    keys_mid : (after : KeyTable) → keys.Becomes (on_line (held_by c)) its mid.keys after → (key : List ℕ) → KeepsKey (with_consumer c (Some w) m) key (kept_of after key)
+    keys_mid : (after : KeyTable) → keys.Becomes (on_line (held_by c)) its mid.keys after → (key : List ℕ) →
+        KeepsKey (with_consumer c (Some w) m) key (kept_of after key)
     keys_mid after becomes =
         keys_with m c (Some w) (on_line (held_by c)) its mid.keys after lined_up_too.keys becomes
         (holds_key m c (Some w) its b (lined_up_too.keys its) turn_free.0 line_here
@@ -103,11 +106,19 @@ module _ {B : Type 0} {g : Ghosts B} {limits : Limits} (r mid : Rows B g) (t : T
         (λ other off. says_elsewhere m c (in_line v) w other here refl off)
 
     -- it holds the turn
-    pub keys_turned : (after : KeyTable) → keys.Becomes (on_line (held_by c)) its mid.keys after → (key : List ℕ) → KeepsKey (with_consumer c (Some w) t) key (kept_of after key)
+    pub keys_turned : (after : KeyTable) → keys.Becomes (on_line (held_by c)) its mid.keys after → (key : List ℕ) →
+        KeepsKey (with_consumer c (Some w) t) key (kept_of after key)
     unfolding current
     keys_turned after becomes key =
         key_same (with_consumer c (Some w) m) (with_consumer c (Some w) t) key (kept_of after key)
-        (record { current = refl; in_line = λ d. ap (is_in_line key) (same d); passed = λ d. ap (is_passed key) (same d); away = λ d. ap (is_away t key) (same d); turn = λ d. ap (has_turn key) (same d) })
+        (record {
+          current = refl;
+          in_line = λ d. ap (is_in_line key) (same d);
+          passed = λ d. ap (is_passed key) (same d);
+          away =
+              λ d. ap (is_away t key) (same d);
+          turn = λ d. ap (has_turn key) (same d);
+        })
         (keys_mid after becomes key)
       where
         same : (d : ℕ) → (with_consumer c (Some w) t).consumer d ≡ (with_consumer c (Some w) m).consumer d
@@ -117,7 +128,9 @@ module _ {B : Type 0} {g : Ghosts B} {limits : Limits} (r mid : Rows B g) (t : T
         ]
 
 -- it may hold the turn
-module _ {B : Type 0} {g : Ghosts B} {limits : Limits} (r mid : Rows B g) (t : Tables) (law : Lawful t) (c : ℕ) (request : Request) (k : Consumer) (stands : RowsStand limits r t) (there : get nat_eq r.consumers c ≡ Some k) (idle : is_idle_at k.place ≡ true) (next : IsNext r.keys c k) (key_is : request.key ≡ k.request.key) (lines_up : StandsInLine r mid c) where
+module _ {B : Type 0} {g : Ghosts B} {limits : Limits} (r mid : Rows B g) (t : Tables) (law : Lawful t) (c : ℕ) (request : Request) (k : Consumer)
+    (stands : RowsStand limits r t) (there : get nat_eq r.consumers c ≡ Some k) (idle : is_idle_at k.place ≡ true) (next : IsNext r.keys c k)
+    (key_is : request.key ≡ k.request.key) (lines_up : StandsInLine r mid c) where
   found : (v : rows.Consumer) × (t.consumer c ≡ Some v) × IsKept t k v
   found = kept_row t k (t.consumer c) (subst (λ o. KeepsConsumer t o (t.consumer c)) there (stands.consumers c))
 
@@ -138,10 +151,15 @@ module _ {B : Type 0} {g : Ghosts B} {limits : Limits} (r mid : Rows B g) (t : T
 
 -- ALL OF IT
 
-module _ {B : Type 0} {g : Ghosts B} {limits : Limits} (r mid : Rows B g) (e : Exchanges) (b : KeyTable) (m : Numbered Consumer) (t : Tables) (law : Lawful t) (now c x : ℕ) (n : Need) (request : Request) (aim : Option ℕ) (k : Consumer) (v : rows.Consumer) (stands : RowsStand limits r t) (there : get nat_eq r.consumers c ≡ Some k) (row : t.consumer c ≡ Some v) (idle : is_idle_at k.place ≡ true)
-    (next : IsNext r.keys c k) (turns : route_of n ≡ route.Turn) (key_is : request.key ≡ k.request.key) (x_is : x ≡ next_of r.exchanges) (aim_is : aim ≡ (kept_of r.keys request.key).current)
-    (lines_up : StandsInLine r mid c) (first : ChangesAt r.consumers mid.consumers c lined_up) (last : mid.last_start ≡ r.last_start) (same_entries : mid.entries ≡ r.entries) (same_exchanges : mid.exchanges ≡ r.exchanges)
-    (next_is : next_of e ≡ next_of mid.exchanges + 1) (launches : Changes (with_new_exchange c (role.Turn aim) n request now) (next_of mid.exchanges) (table_of mid.exchanges) (table_of e))
+module _ {B : Type 0} {g : Ghosts B} {limits : Limits} (r mid : Rows B g) (e : Exchanges) (b : KeyTable) (m : Numbered Consumer) (t : Tables)
+    (law : Lawful t) (now c x : ℕ) (n : Need) (request : Request) (aim : Option ℕ) (k : Consumer) (v : rows.Consumer) (stands : RowsStand limits r t)
+    (there : get nat_eq r.consumers c ≡ Some k) (row : t.consumer c ≡ Some v) (idle : is_idle_at k.place ≡ true)
+    (next : IsNext r.keys c k) (turns : route_of n ≡ route.Turn) (key_is : request.key ≡ k.request.key) (x_is : x ≡ next_of r.exchanges)
+    (aim_is : aim ≡ (kept_of r.keys request.key).current)
+    (lines_up : StandsInLine r mid c) (first : ChangesAt r.consumers mid.consumers c lined_up) (last : mid.last_start ≡ r.last_start)
+    (same_entries : mid.entries ≡ r.entries) (same_exchanges : mid.exchanges ≡ r.exchanges)
+    (next_is : next_of e ≡ next_of mid.exchanges + 1)
+    (launches : Changes (with_new_exchange c (role.Turn aim) n request now) (next_of mid.exchanges) (table_of mid.exchanges) (table_of e))
     (held : keys.Becomes (on_line (held_by c)) request.key mid.keys b) (second : ChangesAt mid.consumers m c (with_turn x)) where
   abbrev u : Rows B g
   u = record mid { exchanges = e; keys = b; consumers = m }
@@ -171,18 +189,26 @@ module _ {B : Type 0} {g : Ghosts B} {limits : Limits} (r mid : Rows B g) (e : E
 
   pub stands_turned : RowsStand limits u (tables_in_turn now c x n request v t)
   stands_turned =
-      stands_opened r u t law now c x n request request (current t v.request.key) (role.Turn aim) k v (place.Turn x) stands there row (idle_reads v.place idle_it) (idle_lives v.place idle_it) waiting.turned is_next
-      last same_entries (next_is ∙ ap (λ (a : Exchanges). next_of a + 1) same_exchanges) launched_then (becomes_then r.consumers mid.consumers m c k lined_up (with_turn x) there first second) refl (rw turns (ap role.Turn aimed))
-      (λ key. key_opened t law c x it (just_opened now c n request (current t v.request.key)) (law.sound.numbered.lists.new_exchanges x (let above = is_next in omega (arith, above))) waiting.turned key (kept_of b key)
-      (keys_turned r mid t c k v stands row kept_it idle (lines_up _ t v law stands row) next x b (subst (λ (key : List ℕ). keys.Becomes (on_line (held_by c)) key mid.keys b) asked_key held) key))
+      stands_opened r u t law now c x n request request (current t v.request.key) (role.Turn aim) k v (place.Turn x) stands there row
+      (idle_reads v.place idle_it) (idle_lives v.place idle_it) waiting.turned is_next
+      last same_entries (next_is ∙ ap (λ (a : Exchanges). next_of a + 1) same_exchanges) launched_then
+      (becomes_then r.consumers mid.consumers m c k lined_up (with_turn x) there first second) refl (rw turns (ap role.Turn aimed))
+      (λ key. key_opened t law c x it (just_opened now c n request (current t v.request.key))
+      (law.sound.numbered.lists.new_exchanges x (let above = is_next in omega (arith, above))) waiting.turned key (kept_of b key)
+      (keys_turned r mid t c k v stands row kept_it idle (lines_up _ t v law stands row) next x b
+      (subst (λ (key : List ℕ). keys.Becomes (on_line (held_by c)) key mid.keys b) asked_key held) key))
 
 -- THE ANSWERS
 
-module _ {B : Type 0} {g : Ghosts B} (limits : Limits) (faults : ℕ) (u : Rows B g) (t : Tables) (law : Lawful t) (now c want x : ℕ) (v : rows.Consumer) (row : t.consumer c ≡ Some v) (request : Request) (before out : List Act) where
-  pub fetch_answered : (n : Need) → route_of n ≡ route.Turn → n ≢ need.Bypass → move_of t now want c v ≡ Opens x n request → out ≡ before ++ acts_of c (Opens x n request) → RowsStand limits u (tables_in_turn now c x n request v t) → Answered limits faults u t before out now (event.Poll c want)
+module _ {B : Type 0} {g : Ghosts B} (limits : Limits) (faults : ℕ) (u : Rows B g) (t : Tables) (law : Lawful t) (now c want x : ℕ) (v : rows.Consumer)
+    (row : t.consumer c ≡ Some v) (request : Request) (before out : List Act) where
+  pub fetch_answered : (n : Need) → route_of n ≡ route.Turn → n ≢ need.Bypass → move_of t now want c v ≡ Opens x n request → out ≡ before ++
+      acts_of c (Opens x n request) → RowsStand limits u (tables_in_turn now c x n request v t) → Answered limits faults u t before out now (event.Poll c want)
   fetch_answered n turns other is reported stands =
-      does_answered limits faults u t (with_event now (event.Poll c want) (tables_in_turn now c x n request v t)) before out (acts_of c (Opens x n request)) now (event.Poll c want)
-      (fetches limits t law now c want v row x n request is turns other) refl refl reported (stands_counted u (tables_in_turn now c x n request v t) now (event.Poll c want) refl stands)
+      does_answered limits faults u t (with_event now (event.Poll c want) (tables_in_turn now c x n request v t)) before out
+      (acts_of c (Opens x n request)) now (event.Poll c want)
+      (fetches limits t law now c want v row x n request is turns other) refl refl reported
+      (stands_counted u (tables_in_turn now c x n request v t) now (event.Poll c want) refl stands)
 
   -- then what is current may go
   pub may_go : (n : Need) → MayLetGo (tables_in_turn now c x n request v t)
@@ -190,28 +216,41 @@ module _ {B : Type 0} {g : Ghosts B} (limits : Limits) (faults : ℕ) (u : Rows 
       let z : Exchange = just_opened now c n request (current t v.request.key) in
       may_with (with_opening x z t) c v (record v { own = Some x; place = place.Turn x }) row refl (may_opened t x z (may_let_go t law))
 
-  pub bypass_answered : move_of t now want c v ≡ Opens x need.Bypass request → out ≡ before ++ acts_of c (Opens x need.Bypass request) → RowsStand limits u (let_some_go now (current t v.request.key) (tables_in_turn now c x need.Bypass request v t)) → Answered limits faults u t before out now (event.Poll c want)
+  pub bypass_answered : move_of t now want c v ≡ Opens x need.Bypass request → out ≡ before ++ acts_of c (Opens x need.Bypass request) →
+      RowsStand limits u (let_some_go now (current t v.request.key) (tables_in_turn now c x need.Bypass request v t)) →
+      Answered limits faults u t before out now (event.Poll c want)
   bypass_answered is reported stands =
       let s : Tables = let_some_go now (current t v.request.key) (tables_in_turn now c x need.Bypass request v t) in
       does_answered limits faults u t (with_event now (event.Poll c want) s) before out (acts_of c (Opens x need.Bypass request)) now (event.Poll c want)
       (bypasses limits t law now c want v row x request is) refl refl reported (stands_counted u s now (event.Poll c want) refl stands)
 
 -- what is asked in its turn is answered
-pub asked_answered : {B : Type 0} {g : Ghosts B} {limits : Limits} (r u : Rows B g) (t : Tables) (facts : Facts limits t) (now c want x : ℕ) (v : rows.Consumer) → RowsStand limits r t → t.consumer c ≡ Some v → (n : Need) → route_of n ≡ route.Turn → n ≢ need.Bypass → (request asked : Request) → request ≡ asked
-    → move_of t now want c v ≡ Opens (next_of r.exchanges) n asked → HasBegun r u now c n request x → (before out : List Act) → out ≡ before ++ acts_of c (Opens x n request) → Answered limits (shelf_of r.entries).faults u t before out now (event.Poll c want)
+pub asked_answered : {B : Type 0} {g : Ghosts B} {limits : Limits} (r u : Rows B g) (t : Tables) (facts : Facts limits t) (now c want x : ℕ)
+    (v : rows.Consumer) → RowsStand limits r t → t.consumer c ≡ Some v → (n : Need) → route_of n ≡ route.Turn → n ≢ need.Bypass →
+    (request asked : Request) → request ≡ asked
+    → move_of t now want c v ≡ Opens (next_of r.exchanges) n asked → HasBegun r u now c n request x → (before out : List Act) → out ≡ before ++
+    acts_of c (Opens x n request) → Answered limits (shelf_of r.entries).faults u t before out now (event.Poll c want)
 asked_answered {limits = limits} r u t facts now c want x v stands row n turns uses request asked same moves begun before out reported =
-    let is : move_of t now want c v ≡ Opens x n request = moves ∙ (ap (λ (y : ℕ). Opens y n asked) (sym begun.number) ∙ ap (λ (z : Request). Opens x n z) (sym same)) in
-    fetch_answered limits (shelf_of r.entries).faults u t facts.law now c want x v row request before out n turns uses is reported (begun.rows _ t v facts stands row)
+    let is : move_of t now want c v ≡ Opens x n request = moves ∙
+    (ap (λ (y : ℕ). Opens y n asked) (sym begun.number) ∙ ap (λ (z : Request). Opens x n z) (sym same)) in
+    fetch_answered limits (shelf_of r.entries).faults u t facts.law now c want x v row request before out n turns uses is reported
+    (begun.rows _ t v facts stands row)
 
 -- a consumer bypasses what is stored with its own request, and what was current is let go
-pub bypassed : {B : Type 0} {g : Ghosts B} {limits : Limits} (r mid u : Rows B g) (t : Tables) (facts : Facts limits t) (now c want x : ℕ) (k : Consumer) (v : rows.Consumer) → RowsStand limits r t → get nat_eq r.consumers c ≡ Some k → t.consumer c ≡ Some v → (copied : Request) → copied ≡ k.request → (now_is : Option ℕ) → now_is ≡ (kept_of r.keys copied.key).current
-    → move_of t now want c v ≡ Opens (next_of r.exchanges) need.Bypass k.request → x ≡ next_of r.exchanges → BeginsTurn r mid now c need.Bypass copied x → ((limits : Limits) (s : Tables) → MayLetGo s → RowsStand limits mid s → RowsStand limits u (let_some_go now now_is s))
-    → (before out : List Act) → out ≡ before ++ acts_of c (Opens x need.Bypass copied) → Answered limits (shelf_of r.entries).faults u t before out now (event.Poll c want)
+pub bypassed : {B : Type 0} {g : Ghosts B} {limits : Limits} (r mid u : Rows B g) (t : Tables) (facts : Facts limits t) (now c want x : ℕ) (k : Consumer)
+    (v : rows.Consumer) → RowsStand limits r t → get nat_eq r.consumers c ≡ Some k → t.consumer c ≡ Some v → (copied : Request) → copied ≡ k.request →
+    (now_is : Option ℕ) → now_is ≡ (kept_of r.keys copied.key).current
+    → move_of t now want c v ≡ Opens (next_of r.exchanges) need.Bypass k.request → x ≡ next_of r.exchanges → BeginsTurn r mid now c need.Bypass copied x →
+    ((limits : Limits) (s : Tables) → MayLetGo s → RowsStand limits mid s → RowsStand limits u (let_some_go now now_is s))
+    → (before out : List Act) → out ≡ before ++ acts_of c (Opens x need.Bypass copied) →
+    Answered limits (shelf_of r.entries).faults u t before out now (event.Poll c want)
 bypassed {limits = limits} r mid u t facts now c want x k v stands there row copied copies now_is at moves x_is begun goes before out reported =
     let kept : IsKept t k v = subst (KeepsConsumer t (Some k)) row (subst (λ o. KeepsConsumer t o (t.consumer c)) there (stands.consumers c)) in
     let key_is : copied.key ≡ v.request.key = ap (λ (z : Request). z.key) copies ∙ ap (λ (z : Request). z.key) kept.request in
     let same : now_is ≡ current t v.request.key = at ∙ (ap (λ (key : List ℕ). (kept_of r.keys key).current) key_is ∙ (stands.keys v.request.key).current) in
-    let is : move_of t now want c v ≡ Opens x need.Bypass copied = moves ∙ (ap (λ (y : ℕ). Opens y need.Bypass k.request) (sym x_is) ∙ ap (λ (z : Request). Opens x need.Bypass z) (sym copies)) in
+    let is : move_of t now want c v ≡ Opens x need.Bypass copied = moves ∙
+    (ap (λ (y : ℕ). Opens y need.Bypass k.request) (sym x_is) ∙ ap (λ (z : Request). Opens x need.Bypass z) (sym copies)) in
     bypass_answered limits (shelf_of r.entries).faults u t facts.law now c want x v row copied before out is reported
     (subst (λ (o : Option ℕ). RowsStand limits u (let_some_go now o (tables_in_turn now c x need.Bypass copied v t))) same
-    (goes _ (tables_in_turn now c x need.Bypass copied v t) (may_go limits 0 u t facts.law now c want x v row copied before out need.Bypass) (begun _ t v facts stands row)))
+    (goes _ (tables_in_turn now c x need.Bypass copied v t) (may_go limits 0 u t facts.law now c want x v row copied before out need.Bypass)
+    (begun _ t v facts stands row)))

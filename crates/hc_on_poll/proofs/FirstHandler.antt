@@ -36,9 +36,14 @@ idle_unbound place.Line on = refl
 idle_unbound (place.Passed q how) on = refl
 idle_unbound _ on = false_true on
 
-module _ {B : Type 0} {g : Ghosts B} {limits : Limits} (r : Rows B g) (e : Exchanges) (a : Entries B g) (b : KeyTable) (m : Numbered Consumer) (t : Tables) (law : Lawful t) (now c x q : ℕ) (span : Span) (n : Need) (request : Request) (k : Consumer) (v : rows.Consumer)
-    (stands : RowsStand limits r t) (there : get nat_eq r.consumers c ≡ Some k) (row : t.consumer c ≡ Some v) (idle : is_idle_at k.place ≡ true) (now_is : HasCurrent r.keys q k) (admits : admits_first c ((shelf_of r.entries).kept q) ≡ true) (by_hole : route_of n ≡ route.Hole) (x_is : x ≡ next_of r.exchanges)
-    (next : next_of e ≡ next_of r.exchanges + 1) (launches : Changes (with_new_exchange c (role.Hole q) n request now) (next_of r.exchanges) (table_of r.exchanges) (table_of e)) (binds : shelf.Becomes (option_map (with_first c)) (moved_first q) q (shelf_of r.entries) (shelf_of a))
+module _ {B : Type 0} {g : Ghosts B} {limits : Limits} (r : Rows B g) (e : Exchanges) (a : Entries B g) (b : KeyTable) (m : Numbered Consumer)
+    (t : Tables) (law : Lawful t) (now c x q : ℕ) (span : Span) (n : Need) (request : Request) (k : Consumer) (v : rows.Consumer)
+    (stands : RowsStand limits r t) (there : get nat_eq r.consumers c ≡ Some k) (row : t.consumer c ≡ Some v) (idle : is_idle_at k.place ≡ true)
+    (now_is : HasCurrent r.keys q k) (admits : admits_first c ((shelf_of r.entries).kept q) ≡ true) (by_hole : route_of n ≡ route.Hole)
+    (x_is : x ≡ next_of r.exchanges)
+    (next : next_of e ≡ next_of r.exchanges + 1)
+    (launches : Changes (with_new_exchange c (role.Hole q) n request now) (next_of r.exchanges) (table_of r.exchanges) (table_of e))
+    (binds : shelf.Becomes (option_map (with_first c)) (moved_first q) q (shelf_of r.entries) (shelf_of a))
     (goes : keys.Becomes (on_line (gone_away c)) k.request.key r.keys b) (changes : ChangesAt r.consumers m c (bound_first q span x)) where
   abbrev u : Rows B g
   u = record r { exchanges = e; entries = a; keys = b; consumers = m }
@@ -158,15 +163,20 @@ module _ {B : Type 0} {g : Ghosts B} {limits : Limits} (r : Rows B g) (e : Excha
   keys_then : (key : List ℕ) → KeepsKey s key (kept_of b key)
   unfolding current
   keys_then key =
-      key_same (with_consumer c (Some w) o) s key (kept_of b key) (record { current = refl; in_line = λ d. refl; passed = λ d. refl; away = λ d. refl; turn = λ d. refl })
-      (keys_with o c (Some w) (on_line (gone_away c)) its r.keys b (λ other. key_with_opening t law x z free other (kept_of r.keys other) (stands.keys other)) (subst (λ (y : List ℕ). keys.Becomes (on_line (gone_away c)) y r.keys b) (ap (λ (y : Request). y.key) kept.request) goes)
-      (away_key o c (Some w) its (kept_of r.keys its) off_line (then_false (bytes_eq its its) false refl) away_there (and_false (is_in_line its (Some w)) false off_line))
+      key_same (with_consumer c (Some w) o) s key (kept_of b key)
+      (record { current = refl; in_line = λ d. refl; passed = λ d. refl; away = λ d. refl; turn = λ d. refl })
+      (keys_with o c (Some w) (on_line (gone_away c)) its r.keys b
+      (λ other. key_with_opening t law x z free other (kept_of r.keys other) (stands.keys other))
+      (subst (λ (y : List ℕ). keys.Becomes (on_line (gone_away c)) y r.keys b) (ap (λ (y : Request). y.key) kept.request) goes)
+      (away_key o c (Some w) its (kept_of r.keys its) off_line (then_false (bytes_eq its its) false refl) away_there
+      (and_false (is_in_line its (Some w)) false off_line))
       (λ other off. says_elsewhere o c v w other row refl off) key)
 
   -- ALL OF IT
 
   held_else : (y : ℕ) (f : Exchange) → held_for s y (Some f) ≡ held_for t y (Some f)
-  held_else = held_bound t s law c q span.lo (Some span.hi) (by.FirstHole x) v w at.p row here others (idle_reads v.place v_idle) refl (λ d. refl) refl refl at.row at.stays kinds
+  held_else = held_bound t s law c q span.lo (Some span.hi) (by.FirstHole x) v w at.p row here others (idle_reads v.place v_idle) refl (λ d. refl) refl
+      refl at.row at.stays kinds
 
   pub stands_filling : RowsStand limits u s
   stands_filling =
@@ -174,19 +184,25 @@ module _ {B : Type 0} {g : Ghosts B} {limits : Limits} (r : Rows B g) (e : Excha
       stands_then r u t s c x (Some (bound_first q span x k)) stands stands.last_start
       (let before = stands.next in omega (arith, next, before, is_next))
       (length_same r u t c v (bound_first q span x k) stands row (idle_lives v.place v_idle) becomes ∙ (stands.count ∙ sym (live_same t s refl live_each)))
-      becomes (λ y ne. launches_at y ∙ rw (eqb-other x y (λ e. ne (sym e))) refl) others exchanges (λ d. refl) (subst (KeepsConsumer s (Some (bound_first q span x k))) (sym here) kept_then) (subst (KeepsExchange s x) (sym known_is) known_then) keys_then
+      becomes (λ y ne. launches_at y ∙ rw (eqb-other x y (λ e. ne (sym e))) refl) others exchanges (λ d. refl)
+      (subst (KeepsConsumer s (Some (bound_first q span x k))) (sym here) kept_then) (subst (KeepsExchange s x) (sym known_is) known_then) keys_then
       (λ d j ne is place_is. unread_yet t law x d j free is place_is)
       (λ y f ne is. held_else y f)
       (binds.limits ∙ stands.limits)
-      (entries_bound t s law c q span.lo (Some span.hi) (by.FirstHole x) v w at.p row here others reads_none refl (λ d. refl) refl refl at.row at.stays kinds (overs_opened t.exchange s.exchange x free exchanges) (shelf_of r.entries) (shelf_of a) (with_first c) at.e stands.entries at.kept
-      (entry_first t s law c q span.lo (Some span.hi) (by.FirstHole x) v w at.p row here others reads_none refl (λ d. refl) refl refl at.row at.stays kinds at.e at.is (overs_opened t.exchange s.exchange x free exchanges) x refl (first_none c ((shelf_of r.entries).kept q) at.e at.kept admits)) binds)
+      (entries_bound t s law c q span.lo (Some span.hi) (by.FirstHole x) v w at.p row here others reads_none refl (λ d. refl) refl refl at.row at.stays
+      kinds (overs_opened t.exchange s.exchange x free exchanges) (shelf_of r.entries) (shelf_of a) (with_first c) at.e stands.entries at.kept
+      (entry_first t s law c q span.lo (Some span.hi) (by.FirstHole x) v w at.p row here others reads_none refl (λ d. refl) refl refl at.row at.stays
+      kinds at.e at.is (overs_opened t.exchange s.exchange x free exchanges) x refl (first_none c ((shelf_of r.entries).kept q) at.e at.kept admits)) binds)
 
-  pub filling_answered : (faults want : ℕ) (before out : List Act) (from to : ℕ) → n ≡ need.Hole from to → (total : Option ℕ) → total ≡ total_in (t.representation q) → wanted_of k.class.range total ≡ wanted.Interval span
-      → move_of t now want c v ≡ Opens x n request → out ≡ before ++ acts_of c (Opens x n request) → Answered limits faults u t before out now (event.Poll c want)
+  pub filling_answered : (faults want : ℕ) (before out : List Act) (from to : ℕ) → n ≡ need.Hole from to → (total : Option ℕ) → total ≡ total_in
+      (t.representation q) → wanted_of k.class.range total ≡ wanted.Interval span
+      → move_of t now want c v ≡ Opens x n request → out ≡ before ++ acts_of c (Opens x n request) →
+      Answered limits faults u t before out now (event.Poll c want)
   filling_answered faults want before out from to hole total same_total wants is reported =
       let same : Opens x n request ≡ Opens x (need.Hole from to) request = ap (λ (y : Need). Opens x y request) hole in
       let range : k.class.range ≡ range_of v.request = ap (λ (y : RequestClass). y.range) kept.class_is ∙ range_of_class v.request in
       let wanted_is : wanted_of (range_of v.request) at.p.head.total ≡ wanted.Interval span =
       ap (λ (y : Option RangeSpec). wanted_of y at.p.head.total) (sym range) ∙ (ap (wanted_of k.class.range) (sym (same_total ∙ ap total_in at.row)) ∙ wants) in
       does_answered limits faults u t (with_event now (event.Poll c want) s) before out (acts_of c (Opens x n request)) now (event.Poll c want)
-      (rw hole (fills_first limits t law now c want v row x from to request (is ∙ same) (idle_unbound v.place v_idle) q at.p span at_q at.row wanted_is)) refl refl reported (stands_counted u s now (event.Poll c want) refl stands_filling)
+      (rw hole (fills_first limits t law now c want v row x from to request (is ∙ same) (idle_unbound v.place v_idle) q at.p span at_q at.row wanted_is))
+      refl refl reported (stands_counted u s now (event.Poll c want) refl stands_filling)

@@ -15,7 +15,8 @@ within_or None span within = absurd within
 within_or (Some n) span within = within
 
 -- it is written into an empty text
-pub range_fits : (o : Option ℕ) (span : Span) (total : ℕ) (text written empty : List ℕ) → IsSomeAnd o (IsWithin span) → total ≡ unwrap_or o 0 → text ≡ written → written ≡ empty ++ range_text span total → empty ≡ [] → IsRangeText text
+pub range_fits : (o : Option ℕ) (span : Span) (total : ℕ) (text written empty : List ℕ) → IsSomeAnd o (IsWithin span) → total ≡ unwrap_or o 0 →
+    text ≡ written → written ≡ empty ++ range_text span total → empty ≡ [] → IsRangeText text
 range_fits o span total text written empty fits is read made none =
     let within : IsWithin span total = subst (IsWithin span) (sym is) (within_or o span fits) in
     let reported : text ≡ range_text span total = read ∙ (made ∙ ap (λ (xs : List ℕ). xs ++ range_text span total) none) in

@@ -63,7 +63,8 @@ module _ (f : Cells) (reach : ℕ) (span : Span) (ends : EndsBy reach f) where
   end_there lt = elim (lt_or next reach) [
     | inl near ↦ (
         let is : b ≡ min hi next = rw near.0 refl in
-        let passes : is_some (f next) ≡ true = first_passes is_some f a (reach - a) (let low = first_from is_some f a (reach - a) in let inside = near.1 in omega arith) in
+        let passes : is_some (f next) ≡ true =
+        first_passes is_some f a (reach - a) (let low = first_from is_some f a (reach - a) in let inside = near.1 in omega arith) in
         subst (λ (p : ℕ). is_some (f p) ≡ true) (sym (let less = lt in omega arith)) passes)
     | inr far ↦ absurd (let is : b ≡ hi = rw far.0 refl in omega arith)
   ]
@@ -110,5 +111,6 @@ module _ (f : Cells) (reach : ℕ) (span : Span) (ends : EndsBy reach f) where
 
 -- of what is wanted
 pub hole_as : (v : Representation) (cells : Cells) → EndsBy v.reach v.stored → ((p : ℕ) → cells p ≡ v.stored p) → (w : Wanted) → hole_in cells w ≡ hole_of v w
-hole_as v cells ends same (wanted.Interval span) = ap (λ (f : Cells). partial.first_hole f span) (same_functions cells v.stored same) ∙ holes_same v.stored v.reach span ends
+hole_as v cells ends same (wanted.Interval span) = ap (λ (f : Cells). partial.first_hole f span) (same_functions cells v.stored same) ∙
+    holes_same v.stored v.reach span ends
 hole_as v cells ends same _ = refl

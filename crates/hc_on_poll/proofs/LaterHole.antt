@@ -30,10 +30,15 @@ record IsAtHole (t : Tables) (c q : ℕ) (v : rows.Consumer) (p : Representation
   n : ℕ
   none_held : held_of_lost c (offset t v) n (Some p) ≡ None
 
-module _ {B : Type 0} {g : Ghosts B} {limits : Limits} (r u : Rows B g) (t : Tables) (facts : Facts limits t) (stands : RowsStand limits r t) (now want c q x from to : ℕ) (how : BoundBy) (k : Consumer) (rd : IsBoundRow t c q how k) (there : get nat_eq r.consumers c ≡ Some k) (shown : k.shown ≡ true) (request copied : Request)
-    (moves : move_of t now want c rd.v ≡ Opens (next_of r.exchanges) (need.Hole from to) request) (is_next : x ≡ next_of r.exchanges) (copies : copied ≡ request)
-    (last : u.last_start ≡ r.last_start) (same_keys : u.keys ≡ r.keys) (same_entries : u.entries ≡ r.entries) (next : next_of u.exchanges ≡ next_of r.exchanges + 1)
-    (launches : Changes (with_new_exchange c (role.Hole q) (need.Hole from to) copied now) (next_of r.exchanges) (table_of r.exchanges) (table_of u.exchanges)) (changes : ChangesAt r.consumers u.consumers c (with_own x)) where
+module _ {B : Type 0} {g : Ghosts B} {limits : Limits} (r u : Rows B g) (t : Tables) (facts : Facts limits t) (stands : RowsStand limits r t)
+    (now want c q x from to : ℕ) (how : BoundBy) (k : Consumer) (rd : IsBoundRow t c q how k) (there : get nat_eq r.consumers c ≡ Some k)
+    (shown : k.shown ≡ true) (request copied : Request)
+    (moves : move_of t now want c rd.v ≡ Opens (next_of r.exchanges) (need.Hole from to) request) (is_next : x ≡ next_of r.exchanges)
+    (copies : copied ≡ request)
+    (last : u.last_start ≡ r.last_start) (same_keys : u.keys ≡ r.keys) (same_entries : u.entries ≡ r.entries)
+    (next : next_of u.exchanges ≡ next_of r.exchanges + 1)
+    (launches : Changes (with_new_exchange c (role.Hole q) (need.Hole from to) copied now) (next_of r.exchanges) (table_of r.exchanges)
+    (table_of u.exchanges)) (changes : ChangesAt r.consumers u.consumers c (with_own x)) where
   abbrev v : rows.Consumer
   v = rd.v
 
@@ -100,7 +105,8 @@ module _ {B : Type 0} {g : Ghosts B} {limits : Limits} (r u : Rows B g) (t : Tab
               same_row (t.representation q) b rd.p (sym (ap t.representation one) ∙ a_row) rd.there
 
   -- nothing is held for it
-  nothing : (y : ℕ) (e : Exchange) (b : Representation) → t.exchange y ≡ Some e → t.representation (family y e) ≡ Some b → b.alone ≡ Some c → unstored_bytes t y e b (Some v) ≡ []
+  nothing : (y : ℕ) (e : Exchange) (b : Representation) → t.exchange y ≡ Some e → t.representation (family y e) ≡ Some b → b.alone ≡ Some c →
+      unstored_bytes t y e b (Some v) ≡ []
   nothing y e b y_row founded alone = by_test (is_bound_place (family y e) v.place && is_number v.own y) refl
     where
       is_it : (o : Option ℕ) → is_number o y ≡ true → o ≡ Some y
@@ -121,7 +127,8 @@ module _ {B : Type 0} {g : Ghosts B} {limits : Limits} (r u : Rows B g) (t : Tab
           let one : a.w ≡ e = same_row (t.exchange y) a.w e (sym (ap t.exchange number) ∙ a.row) y_row in
           let lost = lost_of rd.p rd.there is in
           let mine : is_number rd.p.alone c ≡ true = ap (λ (o : Option ℕ). is_number o c) is ∙ eqb-same c in
-          let none : stretch_to rd.p.body rd.p.reach (offset t v) at_hole.n ≡ None = sym (lost_run c (offset t v) at_hole.n rd.p lost mine) ∙ at_hole.none_held in
+          let none : stretch_to rd.p.body rd.p.reach (offset t v) at_hole.n ≡ None = sym (lost_run c (offset t v) at_hole.n rd.p lost mine) ∙
+          at_hole.none_held in
           let absent : rd.p.body (offset t v) ≡ None = (stretch-absent rd.p.body (offset t v) (min at_hole.n (rd.p.reach - offset t v))).0 none in
           let past : front e ≤ offset t v = by_front e (subst (λ (f : Exchange). Covers rd.p.body (offset t v) (front f)) one a.covered) absent in
           let first : first_lacking t e rd.p v ≡ offset t v = absent_here rd.p.stored rd.p.reach (offset t v) (front e) at_hole.missing in
@@ -145,13 +152,15 @@ module _ {B : Type 0} {g : Ghosts B} {limits : Limits} (r u : Rows B g) (t : Tab
           let own : v.own ≡ Some y = is_it v.own parts.1 in
           let one : rd.p ≡ b = same_row (t.representation (family y e)) rd.p b (sym (ap t.representation of_q) ∙ rd.there) founded in
           let alone_p : rd.p.alone ≡ Some c = ap (λ (a : Representation). a.alone) one ∙ alone in
-          ap (λ (a : Representation). unstored_bytes t y e a (Some v)) (sym one) ∙ (unstored_own t y e rd.p v q rd.lo rd.hi how rd.at own (sym of_q) ∙ by_alone alone_p (sym of_q) own)
+          ap (λ (a : Representation). unstored_bytes t y e a (Some v)) (sym one) ∙
+          (unstored_own t y e rd.p v q rd.lo rd.hi how rd.at own (sym of_q) ∙ by_alone alone_p (sym of_q) own)
 
   -- WHAT IS HELD
 
   unstored_then : (y : ℕ) (e : Exchange) (b : Representation) → y ≢ x → unstored_bytes s y e b (Some w) ≡ []
   unstored_then y e b ne =
-      let off : (is_bound_place (family y e) v.place && is_number (Some x) y) ≡ false = by_other (is_bound_place (family y e) v.place) (nat_eq x y) (eqb-other x y (λ e. ne (sym e))) in
+      let off : (is_bound_place (family y e) v.place && is_number (Some x) y) ≡ false =
+      by_other (is_bound_place (family y e) v.place) (nat_eq x y) (eqb-other x y (λ e. ne (sym e))) in
       rw off refl
     where
       by_other : (a b : Bool) → b ≡ false → (a && b) ≡ false
@@ -246,7 +255,8 @@ module _ {B : Type 0} {g : Ghosts B} {limits : Limits} (r u : Rows B g) (t : Tab
       no_answer false is = false_true is
 
   launched_is : table_of u.exchanges x ≡ with_new_exchange c (role.Hole q) n copied now (table_of r.exchanges x)
-  launched_is = subst (λ (y : ℕ). Changes (with_new_exchange c (role.Hole q) n copied now) y (table_of r.exchanges) (table_of u.exchanges)) (sym is_next) launches x ∙ rw (eqb-same x) refl
+  launched_is = subst (λ (y : ℕ). Changes (with_new_exchange c (role.Hole q) n copied now) y (table_of r.exchanges) (table_of u.exchanges)) (sym is_next)
+      launches x ∙ rw (eqb-same x) refl
 
   known_then : KeepsExchange s x (with_new_exchange c (role.Hole q) n copied now (table_of r.exchanges x))
   known_then = record {
@@ -269,9 +279,12 @@ module _ {B : Type 0} {g : Ghosts B} {limits : Limits} (r u : Rows B g) (t : Tab
       (rw same_entries stands.limits)
       (rw same_entries entries_then)
 
-  pub filled_answered : (before out : List Act) → out ≡ before ++ acts_of c (Opens x n copied) → Answered limits (shelf_of r.entries).faults u t before out now (event.Poll c want)
+  pub filled_answered : (before out : List Act) → out ≡ before ++ acts_of c (Opens x n copied) →
+      Answered limits (shelf_of r.entries).faults u t before out now (event.Poll c want)
   filled_answered before out reported =
       let is : move_of t now want c v ≡ Opens x n request = moves ∙ ap (λ (y : ℕ). Opens y n request) (sym is_next) in
       let v_shown : v.shown ≡ true = sym rd.kept.shown ∙ shown in
-      does_answered limits (shelf_of r.entries).faults u t (with_event now (event.Poll c want) s) before out (acts_of c (Opens x n request)) now (event.Poll c want)
-      (fills_later limits t facts.law now c want v rd.row x from to request is q rd.lo rd.hi how rd.at v_shown) refl refl (reported ∙ ap (λ (a : Request). before ++ acts_of c (Opens x n a)) copies) (stands_counted u s now (event.Poll c want) refl stands_filled)
+      does_answered limits (shelf_of r.entries).faults u t (with_event now (event.Poll c want) s) before out (acts_of c (Opens x n request)) now
+      (event.Poll c want)
+      (fills_later limits t facts.law now c want v rd.row x from to request is q rd.lo rd.hi how rd.at v_shown) refl refl
+      (reported ∙ ap (λ (a : Request). before ++ acts_of c (Opens x n a)) copies) (stands_counted u s now (event.Poll c want) refl stands_filled)

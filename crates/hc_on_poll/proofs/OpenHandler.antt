@@ -133,6 +133,14 @@ module _ (t s : Tables) (law : Lawful t) (c x : ℕ) (v w : rows.Consumer) (z : 
   pub entries_opened : (shelf : Shelf) → KeepsEntries t shelf → shelf.order ≡ filter (λ q. is_usable_row (s.representation q)) s.used → KeepsEntries s shelf
   entries_opened shelf kept order = record {
     each = λ q. subst (KeepsEntry s q (shelf.kept q)) (sym (same q))
-        (entry_same t s q (shelf.kept q) (t.representation q) refl (record { users = users q; first = λ d. first_row t s same q (s.consumer d) ∙ firsts q d; list = bound_same t s q starts (users q); kind = kinds_opened t s x z free unfounded opened exchanges lists unjoined q; overs = overs_opened t.exchange s.exchange x free exchanges }) (kept.each q));
+        (entry_same t s q (shelf.kept q) (t.representation q) refl
+        (record {
+          users = users q;
+          first = λ d. first_row t s same q (s.consumer d) ∙ firsts q d;
+          list = bound_same t s q starts (users q);
+          kind =
+              kinds_opened t s x z free unfounded opened exchanges lists unjoined q;
+          overs = overs_opened t.exchange s.exchange x free exchanges;
+        }) (kept.each q));
     order = order;
   }

@@ -27,7 +27,15 @@ module _ (t : Tables) (law : Lawful t) (x : ℕ) (z : Exchange) (free : t.exchan
 
   pub key_with_opening : (key : List ℕ) (a : keyed.Kept) → KeepsKey t key a → KeepsKey o key a
   unfolding current
-  key_with_opening key a kept = key_same t o key a (record { current = refl; in_line = λ d. refl; passed = λ d. refl; away = λ d. away_else d key (t.consumer d) refl; turn = λ d. refl }) kept
+  key_with_opening key a kept =
+      key_same t o key a (record {
+        current = refl;
+        in_line = λ d. refl;
+        passed = λ d. refl;
+        away = λ d. away_else d key (t.consumer d) refl;
+        turn =
+            λ d. refl;
+      }) kept
 
 -- nor where its consumer waits for it, past the store or with the turn
 module _ (t : Tables) (law : Lawful t) (c x : ℕ) (w : rows.Consumer) (z : Exchange) (free : t.exchange x ≡ None) (at : WaitsFor x w.place) where

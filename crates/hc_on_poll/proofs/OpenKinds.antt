@@ -4,12 +4,14 @@ use Rattle.hc_text.proofs.Basics.{eqb-other, same_or}
 use Rattle.hc_effects.proofs.Vocabulary.{kind_of, is_growing, brings_to, Tables, Exchange, Representation}
 use Rattle.hc_effects.proofs.Tests.{none_some}
 
-anys_there : (t s : Tables) (q : ℕ) → ((y : ℕ) → brings_to q y (s.exchange y) ≡ brings_to q y (t.exchange y)) → (ys : List ℕ) → list_any (λ y. brings_to q y (s.exchange y)) ys ≡ list_any (λ y. brings_to q y (t.exchange y)) ys
+anys_there : (t s : Tables) (q : ℕ) → ((y : ℕ) → brings_to q y (s.exchange y) ≡ brings_to q y (t.exchange y)) → (ys : List ℕ) →
+    list_any (λ y. brings_to q y (s.exchange y)) ys ≡ list_any (λ y. brings_to q y (t.exchange y)) ys
 anys_there t s q each [] = refl
 anys_there t s q each (y ∷ ys) = rw (each y, anys_there t s q each ys) refl
 
 module _ (t s : Tables) (x : ℕ) (z : Exchange) (free : t.exchange x ≡ None) (unfounded : t.representation x ≡ None)
-    (opened : s.exchange x ≡ Some z) (exchanges : (y : ℕ) → y ≢ x → s.exchange y ≡ t.exchange y) (lists : s.openings ≡ x ∷ t.openings) (unjoined : z.joined ≡ None) where
+    (opened : s.exchange x ≡ Some z) (exchanges : (y : ℕ) → y ≢ x → s.exchange y ≡ t.exchange y) (lists : s.openings ≡ x ∷ t.openings)
+    (unjoined : z.joined ≡ None) where
   brings_none : (q : ℕ) (b : Representation) → t.representation q ≡ Some b → brings_to q x (s.exchange x) ≡ false
   brings_none q b there = rw (opened, unjoined) (by_open z.is_open)
     where

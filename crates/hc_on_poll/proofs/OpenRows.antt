@@ -9,14 +9,16 @@ use Rattle.hc_txn.specs.declared.transaction.Transaction.{Transaction as Consume
 use Rattle.hc_state.proofs.Fallbacks.{answer_fallback}
 use Rattle.hc_on_poll.proofs.OpenHandler.{WaitsFor, past, turned}
 
-module _ (t : Tables) (now c x : ℕ) (n : Need) (request : Request) (aim : Option ℕ) (v : rows.Consumer) (p : Place) (idle : reads v.place ≡ false) (at : WaitsFor x p) where
+module _ (t : Tables) (now c x : ℕ) (n : Need) (request : Request) (aim : Option ℕ) (v : rows.Consumer) (p : Place) (idle : reads v.place ≡ false)
+    (at : WaitsFor x p) where
   abbrev pub w : rows.Consumer
   w = record v { own = Some x; place = p }
 
   abbrev pub s : Tables
   s = with_consumer c (Some w) (with_opening x (just_opened now c n request aim) t)
 
-  pub runs : (role : Role) (copied : Request) → copied ≡ request → role ≡ role_awaited (route_of n) aim → IsRunning s x (exchange_at_opening c role n copied now) (just_opened now c n request aim)
+  pub runs : (role : Role) (copied : Request) → copied ≡ request → role ≡ role_awaited (route_of n) aim →
+      IsRunning s x (exchange_at_opening c role n copied now) (just_opened now c n request aim)
   runs role copied copies is = assumption (copies, is)
 
   pub live_then : {y : ℕ} {q : Place} → WaitsFor y q → is_live_place q ≡ true

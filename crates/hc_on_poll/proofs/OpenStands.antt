@@ -12,10 +12,14 @@ use Rattle.hc_txn.specs.declared.transaction.Transaction.{Transaction as Consume
 use Rattle.hc_state.proofs.{FallbackSteps.{length_same, live_same}, OneOfEach.{stands_then}}
 use Rattle.hc_on_poll.proofs.{OpenHandler.{WaitsFor, unread_yet, held_else, none_held, entries_opened}, OpenRows.{runs, opener_kept, live_then}}
 
-module _ {B : Type 0} {g : Ghosts B} {limits : Limits} (r u : Rows B g) (t : Tables) (law : Lawful t) (now c x : ℕ) (n : Need) (request copied : Request) (aim : Option ℕ) (role : Role) (k : Consumer) (v : rows.Consumer) (p : Place) (stands : RowsStand limits r t)
-    (there : get nat_eq r.consumers c ≡ Some k) (row : t.consumer c ≡ Some v) (idle : reads v.place ≡ false) (lived : is_live_place v.place ≡ true) (at : WaitsFor x p) (is_next : x ≡ t.opened + 1)
+module _ {B : Type 0} {g : Ghosts B} {limits : Limits} (r u : Rows B g) (t : Tables) (law : Lawful t) (now c x : ℕ) (n : Need) (request copied : Request)
+    (aim : Option ℕ) (role : Role) (k : Consumer) (v : rows.Consumer) (p : Place) (stands : RowsStand limits r t)
+    (there : get nat_eq r.consumers c ≡ Some k) (row : t.consumer c ≡ Some v) (idle : reads v.place ≡ false) (lived : is_live_place v.place ≡ true)
+    (at : WaitsFor x p) (is_next : x ≡ t.opened + 1)
     (last : u.last_start ≡ r.last_start) (same_entries : u.entries ≡ r.entries) (next : next_of u.exchanges ≡ next_of r.exchanges + 1)
-    (launches : Changes (with_new_exchange c role n copied now) x (table_of r.exchanges) (table_of u.exchanges)) (becomes : BecomesAt r.consumers u.consumers c (Some (record k { place = p; own = Some x }))) (copies : copied ≡ request) (role_is : role ≡ role_awaited (route_of n) aim) where
+    (launches : Changes (with_new_exchange c role n copied now) x (table_of r.exchanges) (table_of u.exchanges))
+    (becomes : BecomesAt r.consumers u.consumers c (Some (record k { place = p; own = Some x }))) (copies : copied ≡ request)
+    (role_is : role ≡ role_awaited (route_of n) aim) where
   abbrev w : rows.Consumer
   w = record v { own = Some x; place = p }
 
@@ -51,8 +55,10 @@ module _ {B : Type 0} {g : Ghosts B} {limits : Limits} (r u : Rows B g) (t : Tab
 
   known_then : KeepsExchange s x (with_new_exchange c role n copied now (table_of r.exchanges x))
   known_then = record {
-    running = subst (KeepsRunning s x (Some (exchange_at_opening c role n copied now))) (sym opened_is) (runs t now c x n request aim v p idle at role copied copies role_is);
-    held = sym (ap (held_for s x) opened_is ∙ none_held t s law c x v w z free unfounded row here others opened_is exchanges refl (λ q. refl) refl refl idle at refl refl refl refl);
+    running = subst (KeepsRunning s x (Some (exchange_at_opening c role n copied now))) (sym opened_is)
+        (runs t now c x n request aim v p idle at role copied copies role_is);
+    held = sym (ap (held_for s x) opened_is ∙
+        none_held t s law c x v w z free unfounded row here others opened_is exchanges refl (λ q. refl) refl refl idle at refl refl refl refl);
   }
 
   launched_is : table_of u.exchanges x ≡ with_new_exchange c role n copied now (table_of r.exchanges x)
@@ -60,15 +66,19 @@ module _ {B : Type 0} {g : Ghosts B} {limits : Limits} (r u : Rows B g) (t : Tab
 
   kept_then : KeepsConsumer s (Some (record k { place = p; own = Some x })) (s.consumer c)
   kept_then = subst (KeepsConsumer s (Some (record k { place = p; own = Some x }))) (sym here)
-      (opener_kept t now c x n request aim v p idle at k (subst (KeepsConsumer t (Some k)) row (subst (λ o. KeepsConsumer t o (t.consumer c)) there (stands.consumers c))))
+      (opener_kept t now c x n request aim v p idle at k
+      (subst (KeepsConsumer t (Some k)) row (subst (λ o. KeepsConsumer t o (t.consumer c)) there (stands.consumers c))))
 
   pub stands_opened : ((key : List ℕ) → KeepsKey s key (kept_of u.keys key)) → RowsStand limits u s
   stands_opened keys =
       stands_then r u t s c x (Some (record k { place = p; own = Some x })) stands (last ∙ stands.last_start)
       (let before = stands.next in omega (arith, next, before, is_next))
       (length_same r u t c v (record k { place = p; own = Some x }) stands row lived becomes ∙ (stands.count ∙ sym (live_same t s refl live_each)))
-      becomes (λ y ne. launches y ∙ rw (eqb-other x y (λ e. ne (sym e))) refl) others exchanges (λ q. refl) kept_then (subst (KeepsExchange s x) (sym launched_is) known_then) keys
+      becomes (λ y ne. launches y ∙ rw (eqb-other x y (λ e. ne (sym e))) refl) others exchanges (λ q. refl) kept_then
+      (subst (KeepsExchange s x) (sym launched_is) known_then) keys
       (λ d j ne is place_is. unread_yet t law x d j free is place_is)
-      (λ y e ne is. held_else t s law c x v w z free unfounded row here others opened_is exchanges refl (λ q. refl) refl refl idle at refl refl refl refl y e ne)
+      (λ y e ne is. held_else t s law c x v w z free unfounded row here others opened_is exchanges refl (λ q. refl) refl refl idle at refl refl refl refl
+      y e ne)
       (rw same_entries stands.limits)
-      (rw same_entries (entries_opened t s law c x v w z free unfounded row here others opened_is exchanges refl (λ q. refl) refl refl idle at refl refl refl refl (shelf_of r.entries) stands.entries stands.entries.order))
+      (rw same_entries (entries_opened t s law c x v w z free unfounded row here others opened_is exchanges refl (λ q. refl) refl refl idle at refl refl
+      refl refl (shelf_of r.entries) stands.entries stands.entries.order))

@@ -31,11 +31,13 @@ fills_asks view span hole is = by_only view.class.only refl is
     from_never (plan.Direct n) same = cc
     from_never _ same = cc
 
-    by_only : (b : Bool) → view.class.only ≡ b → (if b then from_store (bare_plan view) else in_time view (bare_plan view)) ≡ plan.FirstHole span hole → view.class.only ≡ false
+    by_only : (b : Bool) → view.class.only ≡ b → (if b then from_store (bare_plan view) else in_time view (bare_plan view)) ≡ plan.FirstHole span hole →
+        view.class.only ≡ false
     by_only false off same = off
     by_only true on same = absurd (from_never (bare_plan view) same)
 
-module _ {B : Type 0} {g : Ghosts B} {limits : Limits} (r : Rows B g) (t : Tables) (facts : Facts limits t) (stands : RowsStand limits r t) (c : ℕ) (k : Consumer) (v : rows.Consumer) (row : t.consumer c ≡ Some v) (kept : IsKept t k v) (q : ℕ) (held : HasCurrent r.keys q k)
+module _ {B : Type 0} {g : Ghosts B} {limits : Limits} (r : Rows B g) (t : Tables) (facts : Facts limits t) (stands : RowsStand limits r t) (c : ℕ)
+    (k : Consumer) (v : rows.Consumer) (row : t.consumer c ≡ Some v) (kept : IsKept t k v) (q : ℕ) (held : HasCurrent r.keys q k)
     (head : StoredHead) (read : head_at (shelf_of r.entries) q ≡ Some (plain head)) (now : ℕ) where
   abbrev view : PlanView
   view = planning.plan_view t now c v
@@ -66,12 +68,14 @@ module _ {B : Type 0} {g : Ghosts B} {limits : Limits} (r : Rows B g) (t : Table
   range_is = ap (λ (z : RequestClass). z.range) kept.class_is ∙ range_of_class v.request
 
   -- a part of it that begins before it ends, by where what is wanted ends
-  within : Numbers t → t.received < 2 ^ 62 → (span part : Span) → wanted_of (range_of v.request) at.p.head.total ≡ wanted.Interval span → part.lo < part.hi → part.hi ≤ span.hi → IsSomeAnd head.total (IsWithin part)
+  within : Numbers t → t.received < 2 ^ 62 → (span part : Span) → wanted_of (range_of v.request) at.p.head.total ≡ wanted.Interval span →
+      part.lo < part.hi → part.hi ≤ span.hi → IsSomeAnd head.total (IsWithin part)
   within numbers few span part wants some inside =
       let w = wanted_within (range_of v.request) at.p.head.total span wants in
       let ends : span.hi ≤ w.total = w.ends in
       let early : w.total < max (2 ^ 62) (t.received + 1) = numbers.totals q w.total at.p at.row w.known in
-      some_that head.total w.total (IsWithin part) (total_is ∙ w.known) (record { not_empty = some; within = omega (arith, ends, inside); small = omega (arith, early, few) })
+      some_that head.total w.total (IsWithin part) (total_is ∙ w.known)
+      (record { not_empty = some; within = omega (arith, ends, inside); small = omega (arith, early, few) })
 
   -- WHO FILLS A HOLE
 
@@ -85,10 +89,12 @@ module _ {B : Type 0} {g : Ghosts B} {limits : Limits} (r : Rows B g) (t : Table
   pub filling : (span hole : Span) → plan_of view ≡ plan.FirstHole span hole → IsFilling span hole
   filling span hole is = by_plan (plan_of view) (plan_by view) is
     where
-      of_candidate : (a b : Span) → view.class.disabled ≡ false → (alone : plans.IsAlone view a (Some b)) → alone.s.least_bound ≡ None → a ≡ span → b ≡ hole → IsFilling span hole
+      of_candidate : (a b : Span) → view.class.disabled ≡ false → (alone : plans.IsAlone view a (Some b)) → alone.s.least_bound ≡ None → a ≡ span →
+          b ≡ hole → IsFilling span hole
       of_candidate a b cached alone none one other =
           let same = seen_as alone.s alone.current in
-          let wants : wanted_of (range_of v.request) at.p.head.total ≡ wanted.Interval span = ap (λ (z : Candidate). z.span) same ∙ (alone.wanted_is ∙ ap wanted.Interval one) in
+          let wants : wanted_of (range_of v.request) at.p.head.total ≡ wanted.Interval span = ap (λ (z : Candidate). z.span) same ∙
+          (alone.wanted_is ∙ ap wanted.Interval one) in
           record {
             wants = wants;
             lacks = ap (hole_of at.p) (sym wants) ∙ (ap (λ (z : Candidate). z.hole) same ∙ (alone.hole_is ∙ ap Some other));
@@ -108,7 +114,8 @@ module _ {B : Type 0} {g : Ghosts B} {limits : Limits} (r : Rows B g) (t : Table
 
     pub filling_within : Numbers t → t.received < 2 ^ 62 → IsSomeAnd head.total (IsWithin hole)
     filling_within numbers few =
-        let inside = hole_inside at.p.stored at.p.reach span (stored_ends t facts.law q at.p at.row (stays_stored t facts.law q at.p at.row at.stays)) hole f.lacks in
+        let inside = hole_inside at.p.stored at.p.reach span (stored_ends t facts.law q at.p at.row (stays_stored t facts.law q at.p at.row at.stays))
+        hole f.lacks in
         within numbers few span hole f.wants inside.0 inside.1
 
     -- nobody is bound yet
@@ -135,16 +142,19 @@ module _ {B : Type 0} {g : Ghosts B} {limits : Limits} (r : Rows B g) (t : Table
         by_row (Some j) off = and_false (is_bound_place q j.place) (came_alone t j.place) off
 
     pub filling_admits : admits c ((shelf_of r.entries).kept q) ≡ true → admits_first c ((shelf_of r.entries).kept q) ≡ true
-    filling_admits may = ap (admits_first c) at.kept ∙ by_first (not at.e.is_gone) (not (has itself c at.e.bound)) at.e.first refl (sym (ap (admits c) at.kept) ∙ may)
+    filling_admits may = ap (admits_first c) at.kept ∙
+        by_first (not at.e.is_gone) (not (has itself c at.e.bound)) at.e.first refl (sym (ap (admits c) at.kept) ∙ may)
       where
         by_first : (a b : Bool) (o : Option ℕ) → at.e.first ≡ o → (a && b) ≡ true → (a && b && is_none at.e.first) ≡ true
         by_first true true None none on = ap (λ (o : Option ℕ). is_none o) none
-        by_first true true (Some d) some on = false_true (sym (nobody_first d) ∙ (sym (at.is.first d) ∙ (ap (λ (o : Option ℕ). is_number o d) some ∙ eqb-same d)))
+        by_first true true (Some d) some on =
+            false_true (sym (nobody_first d) ∙ (sym (at.is.first d) ∙ (ap (λ (o : Option ℕ). is_number o d) some ∙ eqb-same d)))
         by_first _ _ o is on = cc
 
   -- WHO IS SHOWN A PART
 
-  pub part_within : Numbers t → t.received < 2 ^ 62 → (why : Why) (span : Option Span) → plan_of view ≡ plan.Bind why span → is_some k.class.range ≡ true → (part : Span) → span_to (begin_of span) (end_of span head.total) ≡ Some part → IsSomeAnd head.total (IsWithin part)
+  pub part_within : Numbers t → t.received < 2 ^ 62 → (why : Why) (span : Option Span) → plan_of view ≡ plan.Bind why span →
+      is_some k.class.range ≡ true → (part : Span) → span_to (begin_of span) (end_of span head.total) ≡ Some part → IsSomeAnd head.total (IsWithin part)
   part_within numbers few why span is ranged part reported = by_plan (plan_of view) (plan_by view) is
     where
       ranged_too : is_some (range_of v.request) ≡ true
@@ -152,8 +162,10 @@ module _ {B : Type 0} {g : Ghosts B} {limits : Limits} (r : Rows B g) (t : Table
 
       in_part : (a : Span) → wanted_of (range_of v.request) at.p.head.total ≡ wanted.Interval a → Some a ≡ span → IsSomeAnd head.total (IsWithin part)
       in_part a wants one =
-          let some : a.lo < a.hi = wanted_some (range_of v.request) at.p.head.total a ranged_too (λ asked found. in_order t k v kept asked (range_is ∙ found)) wants in
-          let same : (record { lo = a.lo; hi = a.hi }) ≡ part = some_is _ part (ap (λ (z : Option Span). span_to (begin_of z) (end_of z head.total)) one ∙ reported) in
+          let some : a.lo < a.hi =
+          wanted_some (range_of v.request) at.p.head.total a ranged_too (λ asked found. in_order t k v kept asked (range_is ∙ found)) wants in
+          let same : (record { lo = a.lo; hi = a.hi }) ≡ part =
+          some_is _ part (ap (λ (z : Option Span). span_to (begin_of z) (end_of z head.total)) one ∙ reported) in
           subst (λ (z : Span). IsSomeAnd head.total (IsWithin z)) same (within numbers few a a wants some (omega arith))
 
       unranged : is_none (range_of v.request) ≡ true → IsSomeAnd head.total (IsWithin part)
@@ -170,10 +182,12 @@ module _ {B : Type 0} {g : Ghosts B} {limits : Limits} (r : Rows B g) (t : Table
 
 -- WHAT THE HANDLERS ASK FOR
 
-hole_alike : (a b : Head) (request : Request) (hole : Span) (total : ℕ) → a.fields ≡ b.fields → hole_request a request hole total ≡ hole_request b request hole total
+hole_alike : (a b : Head) (request : Request) (hole : Span) (total : ℕ) → a.fields ≡ b.fields →
+    hole_request a request hole total ≡ hole_request b request hole total
 hole_alike a b request hole total fields = rw fields refl
 
-module _ {B : Type 0} {g : Ghosts B} (r : Rows B g) (some : ∥ Stands r ∥₁) (now c : ℕ) (idle : IsSomeAnd (get nat_eq r.consumers c) IsIdle) (q : ℕ) (head : StoredHead) (held : IsSomeAnd (get nat_eq r.consumers c) (HasCurrent r.keys q)) (read : head_at (shelf_of r.entries) q ≡ Some (plain head)) where
+module _ {B : Type 0} {g : Ghosts B} (r : Rows B g) (some : ∥ Stands r ∥₁) (now c : ℕ) (idle : IsSomeAnd (get nat_eq r.consumers c) IsIdle) (q : ℕ)
+    (head : StoredHead) (held : IsSomeAnd (get nat_eq r.consumers c) (HasCurrent r.keys q)) (read : head_at (shelf_of r.entries) q ≡ Some (plain head)) where
   abbrev it : Consumer
   it = (found r some now c idle).0
 
@@ -192,7 +206,8 @@ module _ {B : Type 0} {g : Ghosts B} (r : Rows B g) (some : ∥ Stands r ∥₁)
         let t = s.t in
         let facts = s.facts in
         let (v, row, kept) = its_row t s.rows in
-        filling_queues r t facts s.rows c it v row kept q held_by_it head read now span hole (filling r t facts s.rows c it v row kept q held_by_it head read now span hole (is _ t v facts s.rows row))))
+        filling_queues r t facts s.rows c it v row kept q held_by_it head read now span hole
+        (filling r t facts s.rows c it v row kept q held_by_it head read now span hole (is _ t v facts s.rows row))))
 
     pub filling_passes : IsSomeAnd (get nat_eq r.consumers c) (MayPass r.keys c)
     filling_passes = some_that (get nat_eq r.consumers c) it (MayPass r.keys c) there_is (record { idle = (found r some now c idle).2; waits = filling_waits })
@@ -202,18 +217,22 @@ module _ {B : Type 0} {g : Ghosts B} (r : Rows B g) (some : ∥ Stands r ∥₁)
         let t = s.t in
         let facts = s.facts in
         let (v, row, kept) = its_row t s.rows in
-        filling_within r t facts s.rows c it v row kept q held_by_it head read now span hole (filling r t facts s.rows c it v row kept q held_by_it head read now span hole (is _ t v facts s.rows row)) s.numbers (few_received s.received))
+        filling_within r t facts s.rows c it v row kept q held_by_it head read now span hole
+        (filling r t facts s.rows c it v row kept q held_by_it head read now span hole (is _ t v facts s.rows row)) s.numbers (few_received s.received))
 
     pub filling_alone : admits_first c ((shelf_of r.entries).kept q) ≡ true
     filling_alone = merely_true (admits_first c ((shelf_of r.entries).kept q)) some (λ s.
         let t = s.t in
         let facts = s.facts in
         let (v, row, kept) = its_row t s.rows in
-        filling_admits r t facts s.rows c it v row kept q held_by_it head read now span hole (filling r t facts s.rows c it v row kept q held_by_it head read now span hole (is _ t v facts s.rows row)) (current_admits r some now c idle q held))
+        filling_admits r t facts s.rows c it v row kept q held_by_it head read now span hole
+        (filling r t facts s.rows c it v row kept q held_by_it head read now span hole (is _ t v facts s.rows row)) (current_admits r some now c idle q held))
 
     -- and what is answered
-    pub filling_answers : (u : Rows B g) (before out : List Act) → IsSomeAnd (get nat_eq r.consumers c) (AnswersFirst r u before out now c (plain head) span hole) → AnswersPoll r u before out now c
-    filling_answers u before out answers = plan_answers r u before out now c it (plan.FirstHole span hole) there_is (found r some now c idle).2 is (λ want limits t v facts stands row kept move.
+    pub filling_answers : (u : Rows B g) (before out : List Act) →
+        IsSomeAnd (get nat_eq r.consumers c) (AnswersFirst r u before out now c (plain head) span hole) → AnswersPoll r u before out now c
+    filling_answers u before out answers =
+        plan_answers r u before out now c it (plan.FirstHole span hole) there_is (found r some now c idle).2 is (λ want limits t v facts stands row kept move.
         let f = filling r t facts stands c it v row kept q held_by_it head read now span hole (is _ t v facts stands row) in
         let here = at r t facts stands c it v row kept q held_by_it head read now in
         let total = total_is r t facts stands c it v row kept q held_by_it head read now in
@@ -221,7 +240,8 @@ module _ {B : Type 0} {g : Ghosts B} (r : Rows B g) (some : ∥ Stands r ∥₁)
         let range = range_is r t facts stands c it v row kept q held_by_it head read now in
         let current_is = current_as r t it v q stands kept held_by_it in
         let wants = ap (λ (o : Option RangeSpec). wanted_of o head.total) range ∙ (ap (wanted_of (range_of v.request)) total ∙ f.wants) in
-        let asked : hole_request here.p.head v.request hole (unwrap_or here.p.head.total 0) ≡ hole_request (plain head) it.request hole (unwrap_or head.total 0) =
+        let asked : hole_request here.p.head v.request hole (unwrap_or here.p.head.total 0) ≡ hole_request (plain head) it.request hole
+        (unwrap_or head.total 0) =
         hole_alike here.p.head (plain head) v.request hole (unwrap_or here.p.head.total 0) fields
         ∙ (ap (λ (n : Option ℕ). hole_request (plain head) v.request hole (unwrap_or n 0)) (sym total)
         ∙ ap (λ (z : Request). hole_request (plain head) z hole (unwrap_or head.total 0)) (sym kept.request)) in
@@ -231,9 +251,12 @@ module _ {B : Type 0} {g : Ghosts B} (r : Rows B g) (some : ∥ Stands r ∥₁)
         ∙ ap (λ (x : ℕ). Opens x (need.Hole hole.lo hole.hi) (hole_request (plain head) it.request hole (unwrap_or head.total 0))) (sym stands.next)))))
 
   -- a part that it is shown is one
-  pub part_there : (why : Why) (span : Option Span) → IsPlanOf r now c (plan.Bind why span) → IsSomeAnd (get nat_eq r.consumers c) (IsShownPart (plain head) span)
-  part_there why span is = some_that (get nat_eq r.consumers c) it (IsShownPart (plain head) span) there_is (λ ranged part reported. merely_within head.total part some (λ s.
+  pub part_there : (why : Why) (span : Option Span) → IsPlanOf r now c (plan.Bind why span) →
+      IsSomeAnd (get nat_eq r.consumers c) (IsShownPart (plain head) span)
+  part_there why span is =
+      some_that (get nat_eq r.consumers c) it (IsShownPart (plain head) span) there_is (λ ranged part reported. merely_within head.total part some (λ s.
       let t = s.t in
       let facts = s.facts in
       let (v, row, kept) = its_row t s.rows in
-      part_within r t facts s.rows c it v row kept q held_by_it head read now s.numbers (few_received s.received) why span (is _ t v facts s.rows row) ranged part reported))
+      part_within r t facts s.rows c it v row kept q held_by_it head read now s.numbers (few_received s.received) why span (is _ t v facts s.rows row)
+      ranged part reported))

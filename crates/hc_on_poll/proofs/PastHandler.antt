@@ -38,7 +38,8 @@ queues_as t k v kept = ap (λ (z : RequestClass). not z.disabled && not z.only) 
 
 -- WHAT IS KEPT BY KEY
 
-module _ (t : Tables) (law : Lawful t) (c : ℕ) (k : Consumer) (v w : rows.Consumer) (row : t.consumer c ≡ Some v) (kept : IsKept t k v) (idle : is_idle_at v.place ≡ true) (nothing : (key : List ℕ) → IsUnsaid t key (Some w)) (same : w.request ≡ v.request) where
+module _ (t : Tables) (law : Lawful t) (c : ℕ) (k : Consumer) (v w : rows.Consumer) (row : t.consumer c ≡ Some v) (kept : IsKept t k v)
+    (idle : is_idle_at v.place ≡ true) (nothing : (key : List ℕ) → IsUnsaid t key (Some w)) (same : w.request ≡ v.request) where
   unsaid : (key : List ℕ) → queues k ≡ false → IsUnsaid t key (Some v)
   unsaid key off = by_place v.place refl
     where
@@ -53,7 +54,8 @@ module _ (t : Tables) (law : Lawful t) (c : ℕ) (k : Consumer) (v w : rows.Cons
       by_place _ is = false_true (sym (ap is_idle_at is) ∙ idle)
 
   -- it waits for its key no more
-  pub keys_past : (a b : KeyTable) → ((key : List ℕ) → KeepsKey t key (kept_of a key)) → IsLeft a b c k → (key : List ℕ) → KeepsKey (with_consumer c (Some w) t) key (kept_of b key)
+  pub keys_past : (a b : KeyTable) → ((key : List ℕ) → KeepsKey t key (kept_of a key)) → IsLeft a b c k → (key : List ℕ) →
+      KeepsKey (with_consumer c (Some w) t) key (kept_of b key)
   keys_past a b each left = by_test (queues k) refl left
     where
       its : List ℕ
@@ -62,7 +64,8 @@ module _ (t : Tables) (law : Lawful t) (c : ℕ) (k : Consumer) (v w : rows.Cons
       by_test : (q : Bool) → queues k ≡ q → LeftIf q c k.request.key a b → (key : List ℕ) → KeepsKey (with_consumer c (Some w) t) key (kept_of b key)
       by_test true is leaves =
           let none = nothing its in
-          keys_with t c (Some w) (on_line (left_by c)) its a b each (subst (λ (key : List ℕ). keys.Becomes (on_line (left_by c)) key a b) (ap (λ (z : Request). z.key) kept.request) leaves)
+          keys_with t c (Some w) (on_line (left_by c)) its a b each
+          (subst (λ (key : List ℕ). keys.Becomes (on_line (left_by c)) key a b) (ap (λ (z : Request). z.key) kept.request) leaves)
           (leaves_key t c (Some w) its (kept_of a its) none.in_line none.passed none.away none.turn)
           (λ other off. says_elsewhere t c v w other row same off)
       by_test false is stays = λ key.
@@ -71,9 +74,13 @@ module _ (t : Tables) (law : Lawful t) (c : ℕ) (k : Consumer) (v w : rows.Cons
 
 -- ALL OF IT
 
-module _ {B : Type 0} {g : Ghosts B} {limits : Limits} (r mid : Rows B g) (e : Exchanges) (m : Numbered Consumer) (t : Tables) (law : Lawful t) (now c want : ℕ) (n : Need) (k : Consumer) (v : rows.Consumer) (stands : RowsStand limits r t) (there : get nat_eq r.consumers c ≡ Some k) (row : t.consumer c ≡ Some v) (idle : is_idle_at k.place ≡ true)
-    (x : ℕ) (copied : Request) (copies : copied ≡ k.request) (way : route_of n ≡ route.Direct) (moves : move_of t now want c v ≡ Opens (next_of r.exchanges) n k.request) (is_next : x ≡ next_of r.exchanges) (next : next_of e ≡ next_of r.exchanges + 1)
-    (launches : Changes (with_new_exchange c role.Direct n copied now) (next_of r.exchanges) (table_of r.exchanges) (table_of e)) (leaves : LeavesLine (record r { exchanges = e }) mid c) (changes : ChangesAt mid.consumers m c (reading_past x)) where
+module _ {B : Type 0} {g : Ghosts B} {limits : Limits} (r mid : Rows B g) (e : Exchanges) (m : Numbered Consumer) (t : Tables) (law : Lawful t)
+    (now c want : ℕ) (n : Need) (k : Consumer) (v : rows.Consumer) (stands : RowsStand limits r t) (there : get nat_eq r.consumers c ≡ Some k)
+    (row : t.consumer c ≡ Some v) (idle : is_idle_at k.place ≡ true)
+    (x : ℕ) (copied : Request) (copies : copied ≡ k.request) (way : route_of n ≡ route.Direct)
+    (moves : move_of t now want c v ≡ Opens (next_of r.exchanges) n k.request) (is_next : x ≡ next_of r.exchanges) (next : next_of e ≡ next_of r.exchanges + 1)
+    (launches : Changes (with_new_exchange c role.Direct n copied now) (next_of r.exchanges) (table_of r.exchanges) (table_of e))
+    (leaves : LeavesLine (record r { exchanges = e }) mid c) (changes : ChangesAt mid.consumers m c (reading_past x)) where
   abbrev u : Rows B g
   u = record mid { consumers = m }
 
@@ -96,7 +103,9 @@ module _ {B : Type 0} {g : Ghosts B} {limits : Limits} (r mid : Rows B g) (e : E
   x_is = let same = stands.next in is_next ∙ same
 
   launched_then : Changes (with_new_exchange c role.Direct n copied now) x (table_of r.exchanges) (table_of mid.exchanges)
-  launched_then = subst (λ (b : Exchanges). Changes (with_new_exchange c role.Direct n copied now) x (table_of r.exchanges) (table_of b)) (sym leaves.exchanges) (subst (λ (y : ℕ). Changes (with_new_exchange c role.Direct n copied now) y (table_of r.exchanges) (table_of e)) (sym is_next) launches)
+  launched_then = subst (λ (b : Exchanges). Changes (with_new_exchange c role.Direct n copied now) x (table_of r.exchanges) (table_of b))
+      (sym leaves.exchanges) (subst (λ (y : ℕ). Changes (with_new_exchange c role.Direct n copied now) y (table_of r.exchanges) (table_of e))
+      (sym is_next) launches)
 
   changed : ChangesAt r.consumers m c (reading_past x)
   changed = subst (λ (b : Numbered Consumer). ChangesAt b m c (reading_past x)) leaves.consumers changes
@@ -106,12 +115,18 @@ module _ {B : Type 0} {g : Ghosts B} {limits : Limits} (r mid : Rows B g) (e : E
 
   stands_past : RowsStand limits u s
   stands_past =
-      stands_opened r u t law now c x n k.request copied (current t v.request.key) role.Direct k v (place.Direct x) stands there row (idle_reads v.place v_idle) (idle_lives v.place v_idle) past x_is
-      leaves.last_start leaves.entries (ap next_of leaves.exchanges ∙ next) launched_then (becomes_by r.consumers m c k (reading_past x) there changed) copies (rw way refl)
-      (λ key. key_opened t law c x w z (law.sound.numbered.lists.new_exchanges x (let above = x_is in omega (arith, above))) past key (kept_of mid.keys key) (keys_past t law c k v w row kept v_idle (λ other. apart_unsaid t other w refl refl refl) refl r.keys mid.keys stands.keys left key))
+      stands_opened r u t law now c x n k.request copied (current t v.request.key) role.Direct k v (place.Direct x) stands there row
+      (idle_reads v.place v_idle) (idle_lives v.place v_idle) past x_is
+      leaves.last_start leaves.entries (ap next_of leaves.exchanges ∙ next) launched_then
+      (becomes_by r.consumers m c k (reading_past x) there changed) copies (rw way refl)
+      (λ key. key_opened t law c x w z (law.sound.numbered.lists.new_exchanges x (let above = x_is in omega (arith, above))) past key
+      (kept_of mid.keys key) (keys_past t law c k v w row kept v_idle (λ other. apart_unsaid t other w refl refl refl) refl r.keys mid.keys stands.keys
+      left key))
 
-  pub past_answered : (faults : ℕ) (before out : List Act) → out ≡ before ++ acts_of c (Opens x n copied) → Answered limits faults u t before out now (event.Poll c want)
+  pub past_answered : (faults : ℕ) (before out : List Act) → out ≡ before ++ acts_of c (Opens x n copied) →
+      Answered limits faults u t before out now (event.Poll c want)
   past_answered faults before out reported =
       let is : move_of t now want c v ≡ Opens x n k.request = moves ∙ ap (λ (y : ℕ). Opens y n k.request) (sym is_next) in
       does_answered limits faults u t (with_event now (event.Poll c want) s) before out (acts_of c (Opens x n k.request)) now (event.Poll c want)
-      (passes_by limits t law now c want v row x n k.request is way) refl refl (reported ∙ ap (λ (q : Request). before ++ acts_of c (Opens x n q)) copies) (stands_counted u s now (event.Poll c want) refl stands_past)
+      (passes_by limits t law now c want v row x n k.request is way) refl refl (reported ∙ ap (λ (q : Request). before ++ acts_of c (Opens x n q)) copies)
+      (stands_counted u s now (event.Poll c want) refl stands_past)

@@ -46,7 +46,8 @@ both_off : (a b : Bool) → (not a && not b) ≡ true → (a ≡ false) × (b �
 both_off false false on = (refl, refl)
 both_off _ _ on = cc
 
-module _ {B : Type 0} {g : Ghosts B} {limits : Limits} (r : Rows B g) (t : Tables) (facts : Facts limits t) (stands : RowsStand limits r t) (c : ℕ) (k : Consumer) (v : rows.Consumer) (row : t.consumer c ≡ Some v) (kept : IsKept t k v) (idle : is_idle_at k.place ≡ true) where
+module _ {B : Type 0} {g : Ghosts B} {limits : Limits} (r : Rows B g) (t : Tables) (facts : Facts limits t) (stands : RowsStand limits r t) (c : ℕ)
+    (k : Consumer) (v : rows.Consumer) (row : t.consumer c ≡ Some v) (kept : IsKept t k v) (idle : is_idle_at k.place ≡ true) where
   abbrev its : List ℕ
   its = v.request.key
 
@@ -69,13 +70,15 @@ module _ {B : Type 0} {g : Ghosts B} {limits : Limits} (r : Rows B g) (t : Table
       by_place : (p : Place) → v.place ≡ p → IsWaiting r.keys c k
       by_place place.Line at =
           let line : is_in_line its (t.consumer c) ≡ true = ap (is_in_line its) row ∙ lined v (ap lines.stands_in_line at) asks.0 asks.1 in
-          its_line (or_first (is_among c (kept_of r.keys its).in_line) (is_among c (kept_of r.keys its).passed) (is_among c (kept_of r.keys its).away) ((stands.keys its).in_line c ∙ line))
+          its_line (or_first (is_among c (kept_of r.keys its).in_line) (is_among c (kept_of r.keys its).passed) (is_among c (kept_of r.keys its).away)
+          ((stands.keys its).in_line c ∙ line))
       by_place (place.Passed q how) at = its_line (passed_in (ap has_passed at))
         where
           passed_in : has_passed v.place ≡ true → is_in c (line_of r.keys its) ≡ true
           passed_in through =
               let passed : is_passed its (t.consumer c) ≡ true = ap (is_passed its) row ∙ rw (bytes_eq-same its its refl) through in
-              or_second (is_among c (kept_of r.keys its).in_line) (is_among c (kept_of r.keys its).passed) (is_among c (kept_of r.keys its).away) ((stands.keys its).passed c ∙ passed)
+              or_second (is_among c (kept_of r.keys its).in_line) (is_among c (kept_of r.keys its).passed) (is_among c (kept_of r.keys its).away)
+              ((stands.keys its).passed c ∙ passed)
       by_place _ at = false_true (sym (ap is_idle_at at) ∙ v_idle)
 
   -- and who has passed, waits with others
@@ -83,7 +86,8 @@ module _ {B : Type 0} {g : Ghosts B} {limits : Limits} (r : Rows B g) (t : Table
   passed_queues through = by_place v.place refl
     where
       by_place : (p : Place) → v.place ≡ p → queues k ≡ true
-      by_place (place.Passed q how) at = let queued = facts.law.places.passed_queues c q how v row at in queues_as t k v kept ∙ rw (queued.cached, queued.asks) refl
+      by_place (place.Passed q how) at = let queued = facts.law.places.passed_queues c q how v row at in queues_as t k v kept ∙
+          rw (queued.cached, queued.asks) refl
       by_place _ at = false_true (sym (ap has_passed (kept.place ∙ at)) ∙ through)
 
   -- WHICH MOVE IT IS
@@ -92,7 +96,8 @@ module _ {B : Type 0} {g : Ghosts B} {limits : Limits} (r : Rows B g) (t : Table
   planned now want p is = plans_move t facts.law now want c v row v_idle ∙ ap (plan_move t v) is
 
   -- who asks the origin with the turn is next
-  by_does : (now : ℕ) (x : ℕ) (n : Need) (request : Request) (m : Move) → m ≡ Opens x n request → route_of n ≡ route.Turn → Does t c v m → (lines.turn_with t its c ≡ c) × Queues v
+  by_does : (now : ℕ) (x : ℕ) (n : Need) (request : Request) (m : Move) → m ≡ Opens x n request → route_of n ≡ route.Turn → Does t c v m →
+      (lines.turn_with t its c ≡ c) × Queues v
   by_does now x n request _ is turns (does.fetches n2 asked way new queued turn validates bypasses) = (turn, queued)
   by_does now x n request _ is turns (does.past n2 asked way new) = absurd (direct_turn (sym way ∙ (ap route_of (opened_need is) ∙ turns)))
     where
@@ -108,7 +113,8 @@ module _ {B : Type 0} {g : Ghosts B} {limits : Limits} (r : Rows B g) (t : Table
 
       opened_need : {x2 : ℕ} {n3 : Need} {a : Request} → Opens x2 n3 a ≡ Opens x n request → n3 ≡ n
       opened_need h = cc
-  by_does now x n request _ is turns (does.later n2 asked q lo hi how way shown_response at) = absurd (hole_turn (sym way ∙ (ap route_of (opened_need is) ∙ turns)))
+  by_does now x n request _ is turns (does.later n2 asked q lo hi how way shown_response at) =
+      absurd (hole_turn (sym way ∙ (ap route_of (opened_need is) ∙ turns)))
     where
       hole_turn : route.Hole ≡ route.Turn → ⊥
       hole_turn h = cc
@@ -134,7 +140,8 @@ module _ {B : Type 0} {g : Ghosts B} {limits : Limits} (r : Rows B g) (t : Table
   pub next_by : (now : ℕ) (n : Need) → route_of n ≡ route.Turn → plan_of (planning.plan_view t now c v) ≡ plan.Fetch n → IsNext r.keys c k
   next_by now n turns is =
       let move = planned now 0 (plan.Fetch n) is in
-      let both = by_does now (t.opened + 1) n (planning.origin_request t v n) (move_of t now 0 c v) move turns (does_polled t c v facts.law.sound facts.turns row now 0) in
+      let both = by_does now (t.opened + 1) n (planning.origin_request t v n) (move_of t now 0 c v) move turns
+      (does_polled t c v facts.law.sound facts.turns row now 0) in
       let lists = facts.law.sound.numbered.lists in
       let reported = turn_with_is t its (kept_of r.keys its) lists (stands.keys its) c ∙ both.0 in (
         queues_as t k v kept ∙ rw (both.1.cached, both.1.asks) refl,
@@ -176,28 +183,36 @@ module _ {B : Type 0} {g : Ghosts B} {limits : Limits} (r : Rows B g) (t : Table
       let lists = facts.law.sound.numbered.lists in
       let no : current t its ≡ None = sym (stands.keys its).current ∙ (ap (λ (key : List ℕ). (kept_of r.keys key).current) (sym same_key) ∙ none) in
       let bare : (planning.plan_view t now c v).current ≡ None = ap (option_and_then (candidate_at t now v.request)) no in
-      sym (plans_are r t now c k v stands lists kept None ∙ ap (λ (o : Option Candidate). plan_of (record (planning.plan_view t now c v) { current = o })) (sym bare))
+      sym (plans_are r t now c k v stands lists kept None ∙
+      ap (λ (o : Option Candidate). plan_of (record (planning.plan_view t now c v) { current = o })) (sym bare))
 
   -- with what is current
-  pub some_plan_is : (now q : ℕ) (seen : Candidate) → HasCurrent r.keys q k → ((p : Representation) → t.representation q ≡ Some p → seen ≡ candidate t now q v.request p) → (p : Representation) → t.representation q ≡ Some p
+  pub some_plan_is : (now q : ℕ) (seen : Candidate) → HasCurrent r.keys q k →
+      ((p : Representation) → t.representation q ≡ Some p → seen ≡ candidate t now q v.request p) → (p : Representation) → t.representation q ≡ Some p
       → plan_of (planning.plan_view t now c v) ≡ plan_of (record (plan_view r now c k) { current = Some seen })
   some_plan_is now q seen held sees p here =
       let lists = facts.law.sound.numbered.lists in
       let at : current t its ≡ Some q = current_as r t k v q stands kept held in
       let reported : (planning.plan_view t now c v).current ≡ Some seen =
-      ap (option_and_then (candidate_at t now v.request)) at ∙ (ap (option_map (λ (z : Representation). candidate t now q v.request z)) here ∙ ap Some (sym (sees p here))) in
-      sym (plans_are r t now c k v stands lists kept (Some seen) ∙ ap (λ (o : Option Candidate). plan_of (record (planning.plan_view t now c v) { current = o })) (sym reported))
+      ap (option_and_then (candidate_at t now v.request)) at ∙
+      (ap (option_map (λ (z : Representation). candidate t now q v.request z)) here ∙ ap Some (sym (sees p here))) in
+      sym (plans_are r t now c k v stands lists kept (Some seen) ∙
+      ap (λ (o : Option Candidate). plan_of (record (planning.plan_view t now c v) { current = o })) (sym reported))
 
   -- the plan with what is current, as the code makes it
   pub some_plan_at : (now : ℕ) (view : PlanView) → view ≡ plan_view r now c k → (q : ℕ) (seen : Candidate) → HasCurrent r.keys q k
-      → ((p : Representation) → Facts limits t → RowsStand limits r t → t.consumer c ≡ Some v → t.representation q ≡ Some p → seen ≡ candidate t now q v.request p)
+      → ((p : Representation) → Facts limits t → RowsStand limits r t → t.consumer c ≡ Some v → t.representation q ≡ Some p →
+      seen ≡ candidate t now q v.request p)
       → (p : Plan) → p ≡ plan_of (record view { current = Some seen }) → plan_of (planning.plan_view t now c v) ≡ p
   some_plan_at now view viewed q seen held sees p made =
       let at = now_kept r t stands its q (current_as r t k v q stands kept held) in
-      some_plan_is now q seen held (λ z here. sees z facts stands row here) at.p at.row ∙ (ap (λ (z : PlanView). plan_of (record z { current = Some seen })) (sym viewed) ∙ sym made)
+      some_plan_is now q seen held (λ z here. sees z facts stands row here) at.p at.row ∙
+      (ap (λ (z : PlanView). plan_of (record z { current = Some seen })) (sym viewed) ∙ sym made)
 
   -- where nothing that is current is looked at
-  pub unlooked_plan : (now : ℕ) (view : PlanView) → view ≡ plan_view r now c k → (seen : Option ℕ) → seen ≡ (if looks_at_stored view then (kept_of r.keys k.request.key).current else None) → seen ≡ None → plan_of (planning.plan_view t now c v) ≡ plan_of view
+  pub unlooked_plan : (now : ℕ) (view : PlanView) → view ≡ plan_view r now c k → (seen : Option ℕ) →
+      seen ≡ (if looks_at_stored view then (kept_of r.keys k.request.key).current else None) → seen ≡ None →
+      plan_of (planning.plan_view t now c v) ≡ plan_of view
   unlooked_plan now view viewed seen is none = by_test (looks_at_stored view) refl ∙ ap plan_of (sym viewed)
     where
       by_test : (b : Bool) → looks_at_stored view ≡ b → plan_of (planning.plan_view t now c v) ≡ plan_of (plan_view r now c k)
@@ -205,7 +220,8 @@ module _ {B : Type 0} {g : Ghosts B} {limits : Limits} (r : Rows B g) (t : Table
       by_test true on = none_plan_is now (sym (is ∙ rw on refl) ∙ none)
 
 -- what its plan looks at is current
-pub looked_current : (k : Consumer) (keys : KeyTable) (view : PlanView) (seen : Option ℕ) (q : ℕ) → IsLookedAt keys view seen k → seen ≡ Some q → HasCurrent keys q k
+pub looked_current : (k : Consumer) (keys : KeyTable) (view : PlanView) (seen : Option ℕ) (q : ℕ) → IsLookedAt keys view seen k → seen ≡ Some q →
+    HasCurrent keys q k
 looked_current k keys view seen q looked some = by_test (looks_at_stored view) (sym looked ∙ some)
   where
     by_test : (b : Bool) → (if b then (kept_of keys k.request.key).current else None) ≡ Some q → HasCurrent keys q k
@@ -215,16 +231,20 @@ looked_current k keys view seen q looked some = by_test (looks_at_stored view) (
 -- WHAT IS ANSWERED
 
 -- a plan that its move answers is answered
-pub plan_answers : {B : Type 0} {g : Ghosts B} (r u : Rows B g) (before out : List Act) (now c : ℕ) (k : Consumer) (p : Plan) → get nat_eq r.consumers c ≡ Some k → is_idle_at k.place ≡ true → IsPlanOf r now c p
-    → ((want : ℕ) (limits : Limits) (t : Tables) (v : rows.Consumer) → Facts limits t → RowsStand limits r t → t.consumer c ≡ Some v → IsKept t k v → move_of t now want c v ≡ plan_move t v p → Answered limits (shelf_of r.entries).faults u t before out now (event.Poll c want))
+pub plan_answers : {B : Type 0} {g : Ghosts B} (r u : Rows B g) (before out : List Act) (now c : ℕ) (k : Consumer) (p : Plan) →
+    get nat_eq r.consumers c ≡ Some k → is_idle_at k.place ≡ true → IsPlanOf r now c p
+    → ((want : ℕ) (limits : Limits) (t : Tables) (v : rows.Consumer) → Facts limits t → RowsStand limits r t → t.consumer c ≡ Some v → IsKept t k v →
+    move_of t now want c v ≡ plan_move t v p → Answered limits (shelf_of r.entries).faults u t before out now (event.Poll c want))
     → (want : ℕ) → Answers r u before out now (event.Poll c want)
 plan_answers r u before out now c k p there idle is answers = λ want limits t facts stands accepted.
     let (v, row, kept) = kept_row t k (t.consumer c) (subst (λ o. KeepsConsumer t o (t.consumer c)) there (stands.consumers c)) in
     answers want _ t v facts stands row kept (planned r t facts stands c k v row kept idle now want p (is _ t v facts stands row))
 
 -- the next exchange has the next number, and the request is the consumer's
-pub opens_next : {B : Type 0} {g : Ghosts B} {limits : Limits} (r : Rows B g) (t : Tables) (k : Consumer) (v : rows.Consumer) (n : Need) → RowsStand limits r t → IsKept t k v → opens t n v.request ≡ Opens (next_of r.exchanges) n k.request
-opens_next r t k v n stands kept = ap (λ (x : ℕ). Opens x n v.request) (sym stands.next) ∙ ap (λ (z : Request). Opens (next_of r.exchanges) n z) (sym kept.request)
+pub opens_next : {B : Type 0} {g : Ghosts B} {limits : Limits} (r : Rows B g) (t : Tables) (k : Consumer) (v : rows.Consumer) (n : Need) →
+    RowsStand limits r t → IsKept t k v → opens t n v.request ≡ Opens (next_of r.exchanges) n k.request
+opens_next r t k v n stands kept = ap (λ (x : ℕ). Opens x n v.request) (sym stands.next) ∙
+    ap (λ (z : Request). Opens (next_of r.exchanges) n z) (sym kept.request)
 
 -- who goes past the store has a need for that
 pub past_route : (view : PlanView) (n : Need) → plan_of view ≡ plan.Direct n → route_of n ≡ route.Direct
@@ -242,19 +262,24 @@ fetch_route view n is = by_plan (plan_of view) (plan_by view) is
     by_plan _ _ same = absurd (cc)
 
 -- what is told of a head depends on its length and fields
-shown_alike : (a b : Head) (why : Why) (span : Option Span) (ranged : Bool) → a.total ≡ b.total → a.fields ≡ b.fields → shown_response a why span ranged ≡ shown_response b why span ranged
+shown_alike : (a b : Head) (why : Why) (span : Option Span) (ranged : Bool) → a.total ≡ b.total → a.fields ≡ b.fields →
+    shown_response a why span ranged ≡ shown_response b why span ranged
 shown_alike a b why span ranged total fields = rw (total, fields) refl
 
 ranged_as : (k : Consumer) (v : rows.Consumer) (t : Tables) → IsKept t k v → planning.is_ranged v ≡ is_some k.class.range
 unfolding class_of
 ranged_as k v t kept = sym (ap (λ (z : RequestClass). is_some z.range) kept.class_is)
 
-binds_shows : (t : Tables) (v : rows.Consumer) (q : ℕ) (p : Representation) (why : Why) (head : Head) (span : Option Span) (k : Consumer) → t.representation q ≡ Some p → p.head.total ≡ head.total → p.head.fields ≡ head.fields → planning.is_ranged v ≡ is_some k.class.range → planning.binds t v why q span ≡ shows_part q head why span k
+binds_shows : (t : Tables) (v : rows.Consumer) (q : ℕ) (p : Representation) (why : Why) (head : Head) (span : Option Span) (k : Consumer) →
+    t.representation q ≡ Some p → p.head.total ≡ head.total → p.head.fields ≡ head.fields → planning.is_ranged v ≡ is_some k.class.range →
+    planning.binds t v why q span ≡ shows_part q head why span k
 binds_shows t v q p why head None k here total fields range =
-    rw (here, range) (ap (λ (h : Response). Shows q why h 0 p.head.total) (shown_alike p.head head why (span_to 0 p.head.total) (is_some k.class.range) total fields)
+    rw (here, range) (ap (λ (h : Response). Shows q why h 0 p.head.total)
+    (shown_alike p.head head why (span_to 0 p.head.total) (is_some k.class.range) total fields)
     ∙ ap (λ (n : Option ℕ). Shows q why (shown_response head why (span_to 0 n) (is_some k.class.range)) 0 n) total)
 binds_shows t v q p why head (Some span) k here total fields range =
-    rw (here, range) (ap (λ (h : Response). Shows q why h span.lo (Some span.hi)) (shown_alike p.head head why (span_to span.lo (Some span.hi)) (is_some k.class.range) total fields))
+    rw (here, range) (ap (λ (h : Response). Shows q why h span.lo (Some span.hi))
+    (shown_alike p.head head why (span_to span.lo (Some span.hi)) (is_some k.class.range) total fields))
 
 -- WHAT THE HANDLERS ASK FOR
 
@@ -309,7 +334,8 @@ module _ {B : Type 0} {g : Ghosts B} (r : Rows B g) (some : ∥ Stands r ∥₁)
 
   -- who waits for another that uses what is current waits for its key
   pub may_pass : (d : ℕ) (how : Option ℕ) → IsPlanOf r now c (plan.Busy d how) → IsSomeAnd its_row (MayPass r.keys c)
-  may_pass d how is = some_that its_row found.0 (MayPass r.keys c) found.1 (record { idle = found.2; waits = waits_there (merely_true (queues found.0) some (busy_queues d how is)) })
+  may_pass d how is = some_that its_row found.0 (MayPass r.keys c) found.1
+      (record { idle = found.2; waits = waits_there (merely_true (queues found.0) some (busy_queues d how is)) })
 
   -- what is current is kept
   pub current_kept : (q : ℕ) → IsSomeAnd its_row (HasCurrent r.keys q) → is_kept (shelf_of r.entries) q ≡ true
@@ -325,7 +351,8 @@ module _ {B : Type 0} {g : Ghosts B} (r : Rows B g) (some : ∥ Stands r ∥₁)
       let t = s.t in
       let (v, row, kept) = kept_row t found.0 (t.consumer c) (subst (λ o. KeepsConsumer t o (t.consumer c)) found.1 (s.rows.consumers c)) in
       let at = now_kept r t s.rows v.request.key q (current_as r t found.0 v q s.rows kept (known_of its_row found.0 (HasCurrent r.keys q) found.1 held)) in
-      let unbound : has itself c at.e.bound ≡ false = at.is.bound c ∙ (ap (is_bound q) row ∙ idle_unbound q v.place (sym (ap is_idle_at kept.place) ∙ found.2)) in
+      let unbound : has itself c at.e.bound ≡ false = at.is.bound c ∙
+      (ap (is_bound q) row ∙ idle_unbound q v.place (sym (ap is_idle_at kept.place) ∙ found.2)) in
       let stays : at.e.is_gone ≡ false = at.is.is_gone ∙ at.stays in
       ap (admits c) at.kept ∙ rw (stays, unbound) refl)
     where
@@ -337,29 +364,44 @@ module _ {B : Type 0} {g : Ghosts B} (r : Rows B g) (some : ∥ Stands r ∥₁)
   -- WHAT THEY ANSWER
 
   module _ (u : Rows B g) (before out : List Act) where
-    pub direct_answers : (n : Need) → IsPlanOf r now c (plan.Direct n) → IsSomeAnd its_row (AnswersOpening r u before out now c n) → AnswersPoll r u before out now c
+    pub direct_answers : (n : Need) → IsPlanOf r now c (plan.Direct n) → IsSomeAnd its_row (AnswersOpening r u before out now c n) →
+        AnswersPoll r u before out now c
     direct_answers n is answers = plan_answers r u before out now c found.0 (plan.Direct n) found.1 found.2 is (λ want limits t v facts stands row kept move.
-        known_of its_row found.0 (AnswersOpening r u before out now c n) found.1 answers want _ t v facts stands row (move ∙ opens_next r t found.0 v n stands kept))
+        known_of its_row found.0 (AnswersOpening r u before out now c n) found.1 answers want _ t v facts stands row
+        (move ∙ opens_next r t found.0 v n stands kept))
 
-    pub turn_answers : (d : ℕ) → IsPlanOf r now c (plan.Turn d) → ((moment want : ℕ) → AnswersMove r u before out moment c want (Waits (wait.Turn d))) → AnswersPoll r u before out now c
-    turn_answers d is answers = plan_answers r u before out now c found.0 (plan.Turn d) found.1 found.2 is (λ want limits t v facts stands row kept move. answers now want _ t v facts stands row move)
+    pub turn_answers : (d : ℕ) → IsPlanOf r now c (plan.Turn d) → ((moment want : ℕ) → AnswersMove r u before out moment c want (Waits (wait.Turn d))) →
+        AnswersPoll r u before out now c
+    turn_answers d is answers =
+        plan_answers r u before out now c found.0 (plan.Turn d) found.1 found.2 is
+        (λ want limits t v facts stands row kept move. answers now want _ t v facts stands row move)
 
-    pub busy_answers : (d : ℕ) (how : Option ℕ) → IsPlanOf r now c (plan.Busy d how) → ((moment want : ℕ) → AnswersMove r u before out moment c want (Waits (wait.Busy d))) → AnswersPoll r u before out now c
-    busy_answers d how is answers = plan_answers r u before out now c found.0 (plan.Busy d how) found.1 found.2 is (λ want limits t v facts stands row kept move. answers now want _ t v facts stands row move)
+    pub busy_answers : (d : ℕ) (how : Option ℕ) → IsPlanOf r now c (plan.Busy d how) →
+        ((moment want : ℕ) → AnswersMove r u before out moment c want (Waits (wait.Busy d))) → AnswersPoll r u before out now c
+    busy_answers d how is answers =
+        plan_answers r u before out now c found.0 (plan.Busy d how) found.1 found.2 is
+        (λ want limits t v facts stands row kept move. answers now want _ t v facts stands row move)
 
     pub miss_answers : IsPlanOf r now c plan.Miss → ((want : ℕ) → AnswersMove r u before out now c want (Fails cause.Miss)) → AnswersPoll r u before out now c
-    miss_answers is answers = plan_answers r u before out now c found.0 plan.Miss found.1 found.2 is (λ want limits t v facts stands row kept move. answers want _ t v facts stands row move)
+    miss_answers is answers =
+        plan_answers r u before out now c found.0 plan.Miss found.1 found.2 is
+        (λ want limits t v facts stands row kept move. answers want _ t v facts stands row move)
 
     fetched_plain : (t : Tables) (v : rows.Consumer) (n : Need) → n ≢ need.Validate → planning.origin_request t v n ≡ v.request
     fetched_plain t v need.Validate other = absurd (other refl)
     fetched_plain t v _ other = refl
 
-    pub fetch_answers : (n : Need) → n ≢ need.Validate → IsPlanOf r now c (plan.Fetch n) → IsSomeAnd its_row (AnswersOpening r u before out now c n) → AnswersPoll r u before out now c
-    fetch_answers n other is answers = plan_answers r u before out now c found.0 (plan.Fetch n) found.1 found.2 is (λ want limits t v facts stands row kept move.
-        known_of its_row found.0 (AnswersOpening r u before out now c n) found.1 answers want _ t v facts stands row (move ∙ (ap (opens t n) (fetched_plain t v n other) ∙ opens_next r t found.0 v n stands kept)))
+    pub fetch_answers : (n : Need) → n ≢ need.Validate → IsPlanOf r now c (plan.Fetch n) → IsSomeAnd its_row (AnswersOpening r u before out now c n) →
+        AnswersPoll r u before out now c
+    fetch_answers n other is answers =
+        plan_answers r u before out now c found.0 (plan.Fetch n) found.1 found.2 is (λ want limits t v facts stands row kept move.
+        known_of its_row found.0 (AnswersOpening r u before out now c n) found.1 answers want _ t v facts stands row
+        (move ∙ (ap (opens t n) (fetched_plain t v n other) ∙ opens_next r t found.0 v n stands kept)))
 
-    pub validate_answers : (q : ℕ) (head : StoredHead) → IsSomeAnd its_row (HasCurrent r.keys q) → head_at (shelf_of r.entries) q ≡ Some (plain head) → IsPlanOf r now c (plan.Fetch need.Validate) → IsSomeAnd its_row (AnswersValidating r u before out now c (plain head)) → AnswersPoll r u before out now c
-    validate_answers q head held read is answers = plan_answers r u before out now c found.0 (plan.Fetch need.Validate) found.1 found.2 is (λ want limits t v facts stands row kept move.
+    pub validate_answers : (q : ℕ) (head : StoredHead) → IsSomeAnd its_row (HasCurrent r.keys q) → head_at (shelf_of r.entries) q ≡ Some (plain head) →
+        IsPlanOf r now c (plan.Fetch need.Validate) → IsSomeAnd its_row (AnswersValidating r u before out now c (plain head)) → AnswersPoll r u before out now c
+    validate_answers q head held read is answers =
+        plan_answers r u before out now c found.0 (plan.Fetch need.Validate) found.1 found.2 is (λ want limits t v facts stands row kept move.
         let current_is = current_as r t found.0 v q stands kept (known_of its_row found.0 (HasCurrent r.keys q) found.1 held) in
         let at = now_kept r t stands v.request.key q current_is in
         let same : at.e.head ≡ plain head = head_at_is ((shelf_of r.entries).kept q) at.e head at.kept read in
@@ -368,18 +410,23 @@ module _ {B : Type 0} {g : Ghosts B} (r : Rows B g) (some : ∥ Stands r ∥₁)
         ∙ (ap (λ (z : Head). conditional z v.request) (sym at.is.head) ∙ ap (λ (z : Head). conditional z v.request) same) in
         known_of its_row found.0 (AnswersValidating r u before out now c (plain head)) found.1 answers want _ t v facts stands row
         (move ∙ (ap (opens t need.Validate) asked
-        ∙ (ap (λ (x : ℕ). Opens x need.Validate (conditional (plain head) v.request)) (sym stands.next) ∙ ap (λ (z : Request). Opens (next_of r.exchanges) need.Validate (conditional (plain head) z)) (sym kept.request)))))
+        ∙ (ap (λ (x : ℕ). Opens x need.Validate (conditional (plain head) v.request)) (sym stands.next) ∙
+        ap (λ (z : Request). Opens (next_of r.exchanges) need.Validate (conditional (plain head) z)) (sym kept.request)))))
 
     -- what it is shown is what its plan says of what is stored
-    pub bind_answers : (why : Why) (span : Option Span) (q : ℕ) (head : StoredHead) → IsSomeAnd its_row (HasCurrent r.keys q) → head_at (shelf_of r.entries) q ≡ Some (plain head) → IsPlanOf r now c (plan.Bind why span) → IsSomeAnd its_row (AnswersShowing r u before out c q (plain head) why span) → AnswersPoll r u before out now c
-    bind_answers why span q head held read is answers = plan_answers r u before out now c found.0 (plan.Bind why span) found.1 found.2 is (λ want limits t v facts stands row kept move.
+    pub bind_answers : (why : Why) (span : Option Span) (q : ℕ) (head : StoredHead) → IsSomeAnd its_row (HasCurrent r.keys q) →
+        head_at (shelf_of r.entries) q ≡ Some (plain head) → IsPlanOf r now c (plan.Bind why span) →
+        IsSomeAnd its_row (AnswersShowing r u before out c q (plain head) why span) → AnswersPoll r u before out now c
+    bind_answers why span q head held read is answers =
+        plan_answers r u before out now c found.0 (plan.Bind why span) found.1 found.2 is (λ want limits t v facts stands row kept move.
         let current_is = current_as r t found.0 v q stands kept (known_of its_row found.0 (HasCurrent r.keys q) found.1 held) in
         let at = now_kept r t stands v.request.key q current_is in
         let same = head_at_is ((shelf_of r.entries).kept q) at.e head at.kept read in
         let total = sym (total_reported t q at.e at.p at.is at.stays) ∙ ap (λ (h : Head). h.total) same in
         let fields = sym (ap (λ (h : Head). h.fields) at.is.head) ∙ ap (λ (h : Head). h.fields) same in
         known_of its_row found.0 (AnswersShowing r u before out c q (plain head) why span) found.1 answers now want _ t v facts stands row
-        (move ∙ (ap (planning.binds_current t v why span) current_is ∙ binds_shows t v q at.p why (plain head) span found.0 at.row total fields (ranged_as found.0 v t kept))))
+        (move ∙ (ap (planning.binds_current t v why span) current_is ∙
+        binds_shows t v q at.p why (plain head) span found.0 at.row total fields (ranged_as found.0 v t kept))))
 
 -- the same plan
 pub plan_same : {B : Type 0} {g : Ghosts B} (r : Rows B g) (now c : ℕ) (p q : Plan) → IsPlanOf r now c p → p ≡ q → IsPlanOf r now c q
@@ -404,7 +451,8 @@ is_bare _ = true
 
 pub bare_uses : (view : PlanView) → view.current ≡ None → is_bare (plan_of view) ≡ true
 unfolding plan_of
-bare_uses view bare = mix (λ p. is_bare p ≡ true) view.class.only (from_store (bare_plan view)) (in_time view (bare_plan view)) (stored (bare_plan view) bare_all) (timed (bare_plan view) bare_all)
+bare_uses view bare = mix (λ p. is_bare p ≡ true) view.class.only (from_store (bare_plan view)) (in_time view (bare_plan view))
+    (stored (bare_plan view) bare_all) (timed (bare_plan view) bare_all)
   where
     by_now : (o : Option Candidate) → o ≡ None → is_bare (by_current view o) ≡ true
     by_now None none = refl
@@ -428,7 +476,8 @@ bare_uses view bare = mix (λ p. is_bare p ≡ true) view.class.only (from_store
     timed _ on = refl
 
 -- of what is read, only the store's own failure is left
-pub fault_only : {T : Type 0} (result : Result T StoreError) (e : StoreError) → result ≡ Err e → HasNoLimit result → e ≢ errors.NoMemory → result ≡ Err errors.Fault
+pub fault_only : {T : Type 0} (result : Result T StoreError) (e : StoreError) → result ≡ Err e → HasNoLimit result → e ≢ errors.NoMemory →
+    result ≡ Err errors.Fault
 fault_only result e is none other = by_error e is other
   where
     by_error : (z : StoreError) → result ≡ Err z → z ≢ errors.NoMemory → result ≡ Err errors.Fault
@@ -456,23 +505,44 @@ module _ {B : Type 0} {g : Ghosts B} (r : Rows B g) (a : Entries B g) (stays : S
   read_stands t stands = stands_read r read t refl refl refl refl stays stands
 
   -- what is current has the head that was read
-  pub read_current : (c q : ℕ) (head : Head) → IsSomeAnd (get nat_eq r.consumers c) (HasCurrent r.keys q) → head_at (shelf_of r.entries) q ≡ Some head → IsCurrentWith read c q head
+  pub read_current : (c q : ℕ) (head : Head) → IsSomeAnd (get nat_eq r.consumers c) (HasCurrent r.keys q) → head_at (shelf_of r.entries) q ≡ Some head →
+      IsCurrentWith read c q head
   read_current c q head held is = record { current = held; head = ap (option_map (λ (e : Kept). e.head)) (stays.kept q) ∙ is }
 
   pub read_until : (now : ℕ) → ∥ StandsBy r now ∥₁ → ∥ StandsBy read now ∥₁
   read_until now some = ∥∥₁_map some (λ u.
-      let s = u.0 in (record { limits = s.limits; t = s.t; facts = s.facts; numbers = s.numbers; within_limits = s.within_limits; received = s.received; rows = read_stands s.t s.rows }, u.1))
+      let s = u.0 in (
+        record {
+          limits = s.limits;
+          t = s.t;
+          facts = s.facts;
+          numbers = s.numbers;
+          within_limits = s.within_limits;
+          received = s.received;
+          rows = read_stands s.t s.rows;
+        },
+        u.1,
+      ))
 
   pub read_some : (now : ℕ) → ∥ StandsBy r now ∥₁ → ∥ Stands read ∥₁
   read_some now some = ∥∥₁_map (read_until now some) (λ u. u.0)
 
-  pub read_answers : (shelf_of r.entries).faults ≤ (shelf_of a).faults → (u : Rows B g) (before out : List Act) (now c : ℕ) → AnswersPoll read u before out now c → AnswersPoll r u before out now c
+  pub read_answers : (shelf_of r.entries).faults ≤ (shelf_of a).faults → (u : Rows B g) (before out : List Act) (now c : ℕ) →
+      AnswersPoll read u before out now c → AnswersPoll r u before out now c
   read_answers later u before out now c answers = λ want limits t facts stands accepted.
       let is = answers want _ t facts (read_stands t stands) accepted in
-      record { flaw = is.flaw; acts = is.acts; shown = is.shown; may = is.may; caused = λ on. (let less = is.caused on in omega (arith, later, less)); rows = is.rows }
+      record {
+        flaw = is.flaw;
+        acts = is.acts;
+        shown = is.shown;
+        may = is.may;
+        caused = λ on. (let less = is.caused on in omega (arith, later, less));
+        rows = is.rows;
+      }
 
   -- it failed, for who reads nothing yet
-  pub read_fault : (shelf_of r.entries).faults < (shelf_of a).faults → (u : Rows B g) (before out : List Act) (now c q : ℕ) → IsSomeAnd (get nat_eq r.consumers c) IsIdle → IsSomeAnd (get nat_eq r.consumers c) (HasCurrent r.keys q)
+  pub read_fault : (shelf_of r.entries).faults < (shelf_of a).faults → (u : Rows B g) (before out : List Act) (now c q : ℕ) →
+      IsSomeAnd (get nat_eq r.consumers c) IsIdle → IsSomeAnd (get nat_eq r.consumers c) (HasCurrent r.keys q)
       → AnswersMisread read u before out now c q → AnswersPoll r u before out now c
   read_fault failed u before out now c q idle held answers = λ want limits t facts stands accepted.
       let (v, row) = polled_row t c want accepted in
@@ -482,7 +552,8 @@ module _ {B : Type 0} {g : Ghosts B} (r : Rows B g) (a : Entries B g) (stays : S
       answers want (shelf_of r.entries).faults _ t v failed facts (read_stands t stands) row (reads.planned (sym (ap is_idle_at kept.place) ∙ resting) now_is)
 
 -- who asks the origin with the turn has a need for that, also by the plan of the tables
-pub planned_route : {B : Type 0} {g : Ghosts B} (r : Rows B g) (some : ∥ Stands r ∥₁) (now c : ℕ) → IsSomeAnd (get nat_eq r.consumers c) IsIdle → (n : Need) → IsPlanOf r now c (plan.Fetch n) → route_of n ≡ route.Turn
+pub planned_route : {B : Type 0} {g : Ghosts B} (r : Rows B g) (some : ∥ Stands r ∥₁) (now c : ℕ) → IsSomeAnd (get nat_eq r.consumers c) IsIdle →
+    (n : Need) → IsPlanOf r now c (plan.Fetch n) → route_of n ≡ route.Turn
 planned_route r some now c idle n is = turn_is (route_of n) on
   where
     is_turn : Route → Bool
@@ -501,12 +572,14 @@ planned_route r some now c idle n is = turn_is (route_of n) on
         ap is_turn (fetch_route (planning.plan_view t now c v) n (is _ t v s.facts s.rows row)))
 
 -- and its turn is next
-pub planned_asks : {B : Type 0} {g : Ghosts B} (r : Rows B g) (some : ∥ Stands r ∥₁) (now c : ℕ) → IsSomeAnd (get nat_eq r.consumers c) IsIdle → (p : Plan) (n : Need) → IsPlanOf r now c p → p ≡ plan.Fetch n → IsSomeAnd (get nat_eq r.consumers c) (MayAsk r.keys c)
+pub planned_asks : {B : Type 0} {g : Ghosts B} (r : Rows B g) (some : ∥ Stands r ∥₁) (now c : ℕ) → IsSomeAnd (get nat_eq r.consumers c) IsIdle →
+    (p : Plan) (n : Need) → IsPlanOf r now c p → p ≡ plan.Fetch n → IsSomeAnd (get nat_eq r.consumers c) (MayAsk r.keys c)
 planned_asks r some now c idle p n is same =
     let fetch = plan_same r now c p (plan.Fetch n) is same in
     may_ask r some now c idle n (planned_route r some now c idle n fetch) fetch
 
-pub planned_past : {B : Type 0} {g : Ghosts B} (r : Rows B g) (some : ∥ Stands r ∥₁) (now c : ℕ) → IsSomeAnd (get nat_eq r.consumers c) IsIdle → (n : Need) → IsPlanOf r now c (plan.Direct n) → route_of n ≡ route.Direct
+pub planned_past : {B : Type 0} {g : Ghosts B} (r : Rows B g) (some : ∥ Stands r ∥₁) (now c : ℕ) → IsSomeAnd (get nat_eq r.consumers c) IsIdle →
+    (n : Need) → IsPlanOf r now c (plan.Direct n) → route_of n ≡ route.Direct
 planned_past r some now c idle n is = past_is (route_of n) on
   where
     is_past : Route → Bool

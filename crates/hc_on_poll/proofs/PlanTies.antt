@@ -82,7 +82,8 @@ module _ (v : PlanView) (a b : ℕ) where
   pub since_unread : (v.class.disabled ≡ false → v.class.only ≡ false → a ≡ b) → plan_of va ≡ plan_of vb
   unfolding plan_of
   since_unread alike = elim (cases_Bool v.class.only) [
-    | inl is ↦ then_same v.class.only (from_store (bare_plan va)) (in_time va (bare_plan va)) (from_store (bare_plan vb)) (in_time vb (bare_plan vb)) is (ap from_store bare_same)
+    | inl is ↦ then_same v.class.only (from_store (bare_plan va)) (in_time va (bare_plan va)) (from_store (bare_plan vb)) (in_time vb (bare_plan vb)) is
+        (ap from_store bare_same)
     | inr is ↦ elim (cases_Bool v.class.disabled) [
       | inl off ↦ rw (is, off) refl
       | inr on ↦ ap (λ (n : ℕ). plan_of (record v { since = n })) (alike on is)
@@ -123,9 +124,11 @@ unlooked v now off unpassed = elim (cases_Bool v.class.disabled) [
 -- THE PLAN OF THE TABLES
 
 abbrev view_as : RequestClass → ℕ → ℕ → ℕ → Place → ℕ → Option Candidate → PlanView
-view_as class now since c p turn o = record { moment = now; since = since; c = c; class = class; passed = has_passed p; kept = kept_by p; turn = turn; current = o }
+view_as class now since c p turn o =
+    record { moment = now; since = since; c = c; class = class; passed = has_passed p; kept = kept_by p; turn = turn; current = o }
 
-module _ {B : Type 0} {g : Ghosts B} {limits : Limits} (r : Rows B g) (t : Tables) (now c : ℕ) (k : Consumer) (v : rows.Consumer) (stands : RowsStand limits r t) (lists : IsListed t) (kept : IsKept t k v) where
+module _ {B : Type 0} {g : Ghosts B} {limits : Limits} (r : Rows B g) (t : Tables) (now c : ℕ) (k : Consumer) (v : rows.Consumer)
+    (stands : RowsStand limits r t) (lists : IsListed t) (kept : IsKept t k v) where
   pub turns_are : unwrap_or (turn_with c (line_of r.keys k.request.key)) c ≡ lines.turn_with t v.request.key c
   turns_are =
       ap (λ (key : List ℕ). unwrap_or (turn_with c (line_of r.keys key)) c) (ap (λ (q : Request). q.key) kept.request)
@@ -136,7 +139,8 @@ module _ {B : Type 0} {g : Ghosts B} {limits : Limits} (r : Rows B g) (t : Table
   since_is class is disabled only = kept.since (sym (ap (λ (z : RequestClass). z.disabled) is) ∙ disabled) (sym (ap (λ (z : RequestClass). z.only) is) ∙ only)
 
   -- with whatever is current
-  pub plans_are : (o : Option Candidate) → plan_of (record (plan_view r now c k) { current = o }) ≡ plan_of (record (planning.plan_view t now c v) { current = o })
+  pub plans_are : (o : Option Candidate) →
+      plan_of (record (plan_view r now c k) { current = o }) ≡ plan_of (record (planning.plan_view t now c v) { current = o })
   plans_are o =
       let turn : ℕ = unwrap_or (turn_with c (line_of r.keys k.request.key)) c in
       since_unread (view_as k.class now k.since c k.place turn o) k.since v.since (since_is k.class kept.class_is)

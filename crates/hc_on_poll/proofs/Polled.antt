@@ -15,7 +15,8 @@ module _ {B : Type 0} {g : Ghosts B} (r : Rows B g) (some : ∥ Stands r ∥₁)
       kept_row t k (t.consumer c) (subst (λ o. KeepsConsumer t o (t.consumer c)) there (s.rows.consumers c))
 
   pub lives_there : is_live_place k.place ≡ true
-  lives_there = merely_true (is_live_place k.place) some (λ s. (let (v, row, kept) = its_row s in ap (λ (p : Place). is_live_place p) kept.place ∙ kept.is_there))
+  lives_there = merely_true (is_live_place k.place) some
+      (λ s. (let (v, row, kept) = its_row s in ap (λ (p : Place). is_live_place p) kept.place ∙ kept.is_there))
 
   within_limits_in : (s : Stands r) → IsWithinLimits k.request.fields
   within_limits_in s = (let (v, row, kept) = its_row s in subst (λ (z : Request). IsWithinLimits z.fields) (sym kept.request) (s.within_limits c v row))
@@ -27,7 +28,8 @@ module _ {B : Type 0} {g : Ghosts B} (r : Rows B g) (some : ∥ Stands r ∥₁)
       record { few = omega (arith, few); small = omega (arith, small) }
 
 -- whatever else is known of it
-pub limits_there : {B : Type 0} {g : Ghosts B} (r : Rows B g) → ∥ Stands r ∥₁ → (c : ℕ) (P : Consumer → Type 0) → IsSomeAnd (get nat_eq r.consumers c) P → IsSomeAnd (get nat_eq r.consumers c) IsRequestWithinLimits
+pub limits_there : {B : Type 0} {g : Ghosts B} (r : Rows B g) → ∥ Stands r ∥₁ → (c : ℕ) (P : Consumer → Type 0) → IsSomeAnd (get nat_eq r.consumers c) P →
+    IsSomeAnd (get nat_eq r.consumers c) IsRequestWithinLimits
 limits_there r some c P is =
     let (k, at, known) = there (get nat_eq r.consumers c) P is in
     some_that (get nat_eq r.consumers c) k IsRequestWithinLimits at (within_limits_there r some c k at)

@@ -42,7 +42,8 @@ merely_within {P} (Some n) x some h = record {
     its : P → IsWithin x n
     its p = let all = h p in subst (IsWithin x) (sym (some_is n all.0 all.1)) all.2
 
-merely_in_length : {P : Type 0} (o : Option Head) (x : Span) → ∥ P ∥₁ → (P → (head : Head) × (o ≡ Some head) × ((n : ℕ) × (head.total ≡ Some n) × IsWithin x n)) → IsSomeAnd o (IsInLength x)
+merely_in_length : {P : Type 0} (o : Option Head) (x : Span) → ∥ P ∥₁ →
+    (P → (head : Head) × (o ≡ Some head) × ((n : ℕ) × (head.total ≡ Some n) × IsWithin x n)) → IsSomeAnd o (IsInLength x)
 merely_in_length None x some h = absurd (not_there some (λ p. let all = h p in none_some all.0 all.1))
 merely_in_length (Some head) x some h = merely_within head.total x some (λ p.
     let all = h p in
@@ -73,26 +74,32 @@ module _ {B : Type 0} {g : Ghosts B} (r : Rows B g) (c q : ℕ) (k : Consumer) (
 
     module _ where
       pub offset_fits : k.lo + k.given ≤ 2 ^ 62
-      offset_fits = merely_most (k.lo + k.given) (2 ^ 62) some (λ s. bound.offset_small r (t s) (facts s) s.rows c q reads.0.2 k (rd s) s.numbers (few_received s.received))
+      offset_fits = merely_most (k.lo + k.given) (2 ^ 62) some
+          (λ s. bound.offset_small r (t s) (facts s) s.rows c q reads.0.2 k (rd s) s.numbers (few_received s.received))
 
       module _ (want : ℕ) (wants : 0 < want) (run : Option Run) (run_is : IsRunAhead (shelf_of r.entries) q want run k) where
         pub run_fits : (z : Run) → run ≡ Some z → k.given + length z.bytes ≤ 2 ^ 62
-        run_fits z is = merely_most (k.given + length z.bytes) (2 ^ 62) some (λ s. bound.run_small r (t s) (facts s) s.rows c q reads.0.2 k (rd s) s.numbers (few_received s.received) want wants run run_is z is)
+        run_fits z is = merely_most (k.given + length z.bytes) (2 ^ 62) some
+            (λ s. bound.run_small r (t s) (facts s) s.rows c q reads.0.2 k (rd s) s.numbers (few_received s.received) want wants run run_is z is)
 
         module _ (heard : WaitsForNoHead (table_of r.exchanges) k) (view : ReadView) (view_is : ReadViewIs r q c (option_map end_of run) view k) where
           -- where it is of its own exchange it has one
           pub own_there : read_step view ≡ step.Held → is_some k.own ≡ true
-          own_there is = merely_true (is_some k.own) some (λ s. ap (λ (z : Option ℕ). is_some z) (bound.held_move r (t s) (facts s) s.rows c q reads.0.2 k (rd s) 0 want reads.1 heard wants run run_is view view_is is).0.own)
+          own_there is = merely_true (is_some k.own) some
+              (λ s. ap (λ (z : Option ℕ). is_some z)
+              (bound.held_move r (t s) (facts s) s.rows c q reads.0.2 k (rd s) 0 want reads.1 heard wants run run_is view view_is is).0.own)
 
           pub held_fits : read_step view ≡ step.Held → (x n : ℕ) → k.own ≡ Some x → k.given + length (take n (table_of r.exchanges x).held) ≤ 2 ^ 62
           held_fits is x n own = merely_most (k.given + length (take n (table_of r.exchanges x).held)) (2 ^ 62) some (λ s.
               let h = (bound.held_move r (t s) (facts s) s.rows c q reads.0.2 k (rd s) 0 want reads.1 heard wants run run_is view view_is is).0 in
               let same : h.x ≡ x = some_is h.x x (sym h.own ∙ own) in
-              subst (λ (y : ℕ). k.given + length (take n (table_of r.exchanges y).held) < 2 ^ 62 + 1) same (bound.held_small r (t s) (facts s) s.rows c q reads.0.2 k (rd s) s.numbers (few_received s.received) h n))
+              subst (λ (y : ℕ). k.given + length (take n (table_of r.exchanges y).held) < 2 ^ 62 + 1) same
+              (bound.held_small r (t s) (facts s) s.rows c q reads.0.2 k (rd s) s.numbers (few_received s.received) h n))
 
           -- what it waits for is open
           pub source_runs : (x : ℕ) → read_step view ≡ step.Waits x → known.is_open x (table_of r.exchanges) ≡ true
-          source_runs x is = merely_true (known.is_open x (table_of r.exchanges)) some (λ s. (bound.waits_move r (t s) (facts s) s.rows c q reads.0.2 k (rd s) 0 want reads.1 heard wants run run_is view view_is x is).is_open)
+          source_runs x is = merely_true (known.is_open x (table_of r.exchanges)) some
+              (λ s. (bound.waits_move r (t s) (facts s) s.rows c q reads.0.2 k (rd s) 0 want reads.1 heard wants run run_is view view_is x is).is_open)
 
           -- a hole is within the length
           pub hole_within : (hole : Span) → read_step view ≡ step.Hole hole → IsSomeAnd (head_at (shelf_of r.entries) q) (IsInLength hole)
@@ -102,21 +109,28 @@ module _ {B : Type 0} {g : Ghosts B} (r : Rows B g) (c q : ℕ) (k : Consumer) (
 
   -- WHAT IT DOES
 
-  module _ {limits : Limits} (u : Rows B g) (before out : List Act) (now want : ℕ) (wants : 0 < want) (run : Option Run) (run_is : IsRunAhead (shelf_of r.entries) q want run k) (heard : WaitsForNoHead (table_of r.exchanges) k)
-      (last : u.last_start ≡ r.last_start) (same_keys : u.keys ≡ r.keys) (same_entries : u.entries ≡ r.entries) (t : Tables) (facts : Facts limits t) (stands : RowsStand limits r t) where
+  module _ {limits : Limits} (u : Rows B g) (before out : List Act) (now want : ℕ) (wants : 0 < want) (run : Option Run)
+      (run_is : IsRunAhead (shelf_of r.entries) q want run k) (heard : WaitsForNoHead (table_of r.exchanges) k)
+      (last : u.last_start ≡ r.last_start) (same_keys : u.keys ≡ r.keys) (same_entries : u.entries ≡ r.entries) (t : Tables) (facts : Facts limits t)
+      (stands : RowsStand limits r t) where
     abbrev its : IsBoundRow t c q reads.0.2 k
     its = row_of t facts stands
 
     -- what is stored is given
-    pub gives_stored : is_at_end k.hi (k.lo + k.given) ≡ false → (z : Run) → run ≡ Some z → out ≡ before ++ given_acts c z.x z.at z.bytes → u.exchanges ≡ r.exchanges → ChangesAt r.consumers u.consumers c (once_given (length z.bytes)) → Answered limits (shelf_of r.entries).faults u t before out now (event.Poll c want)
+    pub gives_stored : is_at_end k.hi (k.lo + k.given) ≡ false → (z : Run) → run ≡ Some z → out ≡ before ++ given_acts c z.x z.at z.bytes →
+        u.exchanges ≡ r.exchanges → ChangesAt r.consumers u.consumers c (once_given (length z.bytes)) →
+        Answered limits (shelf_of r.entries).faults u t before out now (event.Poll c want)
     gives_stored off z read acts exchanges changes =
         let m = bound.stored_move r t facts stands c q reads.0.2 k its now want reads.1 heard wants run run_is off z read in
         let a = m.ahead_of in
-        gives.stored_answered r u t facts stands now want c q reads.0.2 k its at before out last same_keys same_entries z a.at a.within a.each m.move_is acts exchanges changes
+        gives.stored_answered r u t facts stands now want c q reads.0.2 k its at before out last same_keys same_entries z a.at a.within
+        a.each m.move_is acts exchanges changes
 
     module _ (view : ReadView) (view_is : ReadViewIs r q c (option_map end_of run) view k) where
       -- what is held is given
-      pub gives_held : read_step view ≡ step.Held → (x o n : ℕ) (bytes : List ℕ) → k.own ≡ Some x → o ≡ view.offset → n ≡ most view.hi view.offset want → bytes ≡ take n (table_of r.exchanges x).held → out ≡ before ++ given_acts c x o bytes → exch.Becomes (known.without_first n) x r.exchanges u.exchanges → ChangesAt r.consumers u.consumers c (once_given (length bytes))
+      pub gives_held : read_step view ≡ step.Held → (x o n : ℕ) (bytes : List ℕ) → k.own ≡ Some x → o ≡ view.offset → n ≡ most view.hi view.offset want →
+          bytes ≡ take n (table_of r.exchanges x).held → out ≡ before ++ given_acts c x o bytes →
+          exch.Becomes (known.without_first n) x r.exchanges u.exchanges → ChangesAt r.consumers u.consumers c (once_given (length bytes))
           → Answered limits (shelf_of r.entries).faults u t before out now (event.Poll c want)
       gives_held is x o n bytes own o_is n_is bytes_are acts becomes changes =
           let found = bound.held_move r t facts stands c q reads.0.2 k its now want reads.1 heard wants run run_is view view_is is in
@@ -124,15 +138,20 @@ module _ {B : Type 0} {g : Ghosts B} (r : Rows B g) (c q : ℕ) (k : Consumer) (
           let same : x ≡ h.x = some_is x h.x (sym own ∙ h.own) in
           let at_offset : o ≡ k.lo + k.given = o_is ∙ ap (λ (y : ReadView). y.offset) view_is.is in
           let as_many : n ≡ most k.hi (k.lo + k.given) want = n_is ∙ ap (λ (y : ReadView). most y.hi y.offset want) view_is.is in
-          let taken : bytes ≡ take (most k.hi (k.lo + k.given) want) (table_of r.exchanges h.x).held = bytes_are ∙ ap₂ (λ (m y : ℕ). take m (table_of r.exchanges y).held) as_many same in
+          let taken : bytes ≡ take (most k.hi (k.lo + k.given) want) (table_of r.exchanges h.x).held = bytes_are ∙
+          ap₂ (λ (m y : ℕ). take m (table_of r.exchanges y).held) as_many same in
           let reported : out ≡ before ++ given_acts c h.x (k.lo + k.given) (take (most k.hi (k.lo + k.given) want) (table_of r.exchanges h.x).held) =
-          acts ∙ (ap (λ (y : ℕ). before ++ given_acts c y o bytes) same ∙ (ap (λ (y : ℕ). before ++ given_acts c h.x y bytes) at_offset ∙ ap (λ (ys : List ℕ). before ++ given_acts c h.x (k.lo + k.given) ys) taken)) in
+          acts ∙ (ap (λ (y : ℕ). before ++ given_acts c y o bytes) same ∙
+          (ap (λ (y : ℕ). before ++ given_acts c h.x y bytes) at_offset ∙ ap (λ (ys : List ℕ). before ++ given_acts c h.x (k.lo + k.given) ys) taken)) in
           gives.held_answered r u t facts stands now want c q reads.0.2 k its at before out last same_keys same_entries h (most k.hi (k.lo + k.given) want)
-          (subst (λ (y : ℕ). exch.Becomes (known.without_first (most k.hi (k.lo + k.given) want)) y r.exchanges u.exchanges) same (subst (λ (m : ℕ). exch.Becomes (known.without_first m) x r.exchanges u.exchanges) as_many becomes))
+          (subst (λ (y : ℕ). exch.Becomes (known.without_first (most k.hi (k.lo + k.given) want)) y r.exchanges u.exchanges) same
+          (subst (λ (m : ℕ). exch.Becomes (known.without_first m) x r.exchanges u.exchanges) as_many becomes))
           found.1.move_is reported (subst (λ (ys : List ℕ). ChangesAt r.consumers u.consumers c (once_given (length ys))) taken changes)
 
       -- it asks, or waits
-      pub asks_for : (x : ℕ) → read_step view ≡ step.Waits x → u.consumers ≡ r.consumers → exch.Becomes known.with_asking x r.exchanges u.exchanges → out ≡ before ++ acts_of c (asks_or_waits (asked_in (table_of r.exchanges x).running) x) → Answered limits (shelf_of r.entries).faults u t before out now (event.Poll c want)
+      pub asks_for : (x : ℕ) → read_step view ≡ step.Waits x → u.consumers ≡ r.consumers → exch.Becomes known.with_asking x r.exchanges u.exchanges →
+          out ≡ before ++ acts_of c (asks_or_waits (asked_in (table_of r.exchanges x).running) x) →
+          Answered limits (shelf_of r.entries).faults u t before out now (event.Poll c want)
       asks_for x is consumers becomes acts =
           let m = bound.waits_move r t facts stands c q reads.0.2 k its now want reads.1 heard wants run run_is view view_is x is in
           gives.asks_answered r u t facts stands now want c q reads.0.2 k its at before out last same_keys same_entries x consumers becomes m.move_is acts

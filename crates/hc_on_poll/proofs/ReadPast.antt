@@ -35,7 +35,8 @@ pub record IsReading (t : Tables) (c x : ℕ) (k : Consumer) : Type 0 where
   pub at : v.place ≡ place.Direct x
   pub reads : ReadsPast t c x v
 
-pub reading_of : {B : Type 0} {g : Ghosts B} {limits : Limits} (r : Rows B g) (t : Tables) (law : Lawful t) (c x : ℕ) (k : Consumer) → RowsStand limits r t → get nat_eq r.consumers c ≡ Some k → k.place ≡ place.Direct x → IsReading t c x k
+pub reading_of : {B : Type 0} {g : Ghosts B} {limits : Limits} (r : Rows B g) (t : Tables) (law : Lawful t) (c x : ℕ) (k : Consumer) →
+    RowsStand limits r t → get nat_eq r.consumers c ≡ Some k → k.place ≡ place.Direct x → IsReading t c x k
 reading_of r t law c x k stands there at =
     let (v, row, kept) = kept_row t k (t.consumer c) (subst (λ o. KeepsConsumer t o (t.consumer c)) there (stands.consumers c)) in
     let here = sym kept.place ∙ at in
@@ -43,7 +44,8 @@ reading_of r t law c x k stands there at =
 
 -- MOVES
 
-module _ (t : Tables) (now want c x : ℕ) (v : rows.Consumer) (w : Exchange) (at : v.place ≡ place.Direct x) (own : v.own ≡ Some x) (row : t.exchange x ≡ Some w) where
+module _ (t : Tables) (now want c x : ℕ) (v : rows.Consumer) (w : Exchange) (at : v.place ≡ place.Direct x) (own : v.own ≡ Some x)
+    (row : t.exchange x ≡ Some w) where
   own_is : w.is_open ≡ true → own_open t v ≡ Some x
   own_is opened = rw (own, row, opened) refl
 
@@ -53,13 +55,17 @@ module _ (t : Tables) (now want c x : ℕ) (v : rows.Consumer) (w : Exchange) (a
       let headless : if_headless t x ≡ Some x = rw (row, opened, none) refl in
       let mine = own_is opened in
       let waits : waits_for_head (option_and_then (if_headless t) (own_open t v)) ≡ Some (moves.Waits (wait.Head x)) = rw (mine, headless) refl in
-      second_is (shows_head t v) (waits_for_head (option_and_then (if_headless t) (own_open t v))) (by_place t now want c v v.place) (moves.Waits (wait.Head x)) shows waits
+      second_is (shows_head t v) (waits_for_head (option_and_then (if_headless t) (own_open t v))) (by_place t now want c v v.place)
+      (moves.Waits (wait.Head x)) shows waits
 
-  pub shows_move : (head : Response) (lo : ℕ) (hi : Option ℕ) → v.shown ≡ false → w.head ≡ Some head → lo ≡ base w → hi ≡ end_in (Some w) → move_of t now want c v ≡ Shows x (why.Fetched x) head lo hi
+  pub shows_move : (head : Response) (lo : ℕ) (hi : Option ℕ) → v.shown ≡ false → w.head ≡ Some head → lo ≡ base w → hi ≡ end_in (Some w) →
+      move_of t now want c v ≡ Shows x (why.Fetched x) head lo hi
   shows_move head lo hi unshown some from to =
       let here : shows_head t v ≡ shows_direct t x (t.exchange x) = rw (unshown, at) refl in
-      let is : shows_head t v ≡ Some (Shows x (why.Fetched x) head (base w) (end_in (t.exchange x))) = here ∙ (ap (shows_direct t x) row ∙ ap (shows_answer t x w) some) in
-      first_is (shows_head t v) (or_else (waits_for_head (option_and_then (if_headless t) (own_open t v))) (by_place t now want c v v.place)) _ (is ∙ ap₂ (λ (n : ℕ) (o : Option ℕ). Some (Shows x (why.Fetched x) head n o)) (sym from) (ap end_in row ∙ sym to))
+      let is : shows_head t v ≡ Some (Shows x (why.Fetched x) head (base w) (end_in (t.exchange x))) = here ∙
+      (ap (shows_direct t x) row ∙ ap (shows_answer t x w) some) in
+      first_is (shows_head t v) (or_else (waits_for_head (option_and_then (if_headless t) (own_open t v))) (by_place t now want c v v.place)) _
+      (is ∙ ap₂ (λ (n : ℕ) (o : Option ℕ). Some (Shows x (why.Fetched x) head n o)) (sym from) (ap end_in row ∙ sym to))
 
   by_shown : v.shown ≡ true → by_place t now want c v v.place ≡ reading t want c v
   by_shown shown = ap (by_place t now want c v) at ∙ by_test v.shown shown
@@ -80,26 +86,32 @@ module _ (t : Tables) (now want c x : ℕ) (v : rows.Consumer) (w : Exchange) (a
       by_open false is = let none : own_open t v ≡ None = rw (own, row, is) refl in rw none refl
       by_open true is =
           let mine = own_is is in
-          let off : if_headless t x ≡ None = let not_so : (w.is_open && is_none w.head) ≡ false = headless_not w.head w.is_open headed in rw (row, not_so) refl in
+          let off : if_headless t x ≡ None = let not_so : (w.is_open && is_none w.head) ≡ false = headless_not w.head w.is_open headed in
+          rw (row, not_so) refl in
           rw (mine, off) refl
 
   -- who was shown its head reads on
   pub reads_move : v.shown ≡ true → is_some w.head ≡ true → move_of t now want c v ≡ reading t want c v
   reads_move shown headed =
       let shows : shows_head t v ≡ None = rw shown refl in
-      third_is (shows_head t v) (waits_for_head (option_and_then (if_headless t) (own_open t v))) (by_place t now want c v v.place) shows (no_wait headed) ∙ by_shown shown
+      third_is (shows_head t v) (waits_for_head (option_and_then (if_headless t) (own_open t v))) (by_place t now want c v v.place) shows (no_wait headed)
+      ∙ by_shown shown
 
 -- A HEAD THAT IS TO BE SHOWN
 
-answer_shown : (t : Tables) (x : ℕ) (v : rows.Consumer) (z : Exchange) → v.shown ≡ false → v.place ≡ place.Direct x → t.exchange x ≡ Some z → answer_for t v ≡ z.head
+answer_shown : (t : Tables) (x : ℕ) (v : rows.Consumer) (z : Exchange) → v.shown ≡ false → v.place ≡ place.Direct x → t.exchange x ≡ Some z →
+    answer_for t v ≡ z.head
 answer_shown t x v z unshown at is = rw (unshown, at, is) refl
 
 -- what is held of its exchange
-held_is : (t : Tables) (x c : ℕ) (w : Exchange) (v : rows.Consumer) → t.consumer c ≡ Some v → w.c ≡ c → v.place ≡ place.Direct x → w.joined ≡ None → t.representation x ≡ None → held_for t x (Some w) ≡ drop v.given w.body
+held_is : (t : Tables) (x c : ℕ) (w : Exchange) (v : rows.Consumer) → t.consumer c ≡ Some v → w.c ≡ c → v.place ≡ place.Direct x → w.joined ≡ None →
+    t.representation x ≡ None → held_for t x (Some w) ≡ drop v.given w.body
 held_is t x c w v row for_it at unjoined unfounded = rw (unjoined, unfounded, for_it, row, at, eqb-same x) refl
 
-module _ {B : Type 0} {g : Ghosts B} {limits : Limits} (r u : Rows B g) (t : Tables) (facts : Facts limits t) (now want c x : ℕ) (k : Consumer) (before out : List Act) (stands : RowsStand limits r t) (there : get nat_eq r.consumers c ≡ Some k) (at : IsUnshown x k)
-    (last : u.last_start ≡ r.last_start) (same_keys : u.keys ≡ r.keys) (same_entries : u.entries ≡ r.entries) (exchanges : u.exchanges ≡ r.exchanges) (changes : ChangesAt r.consumers u.consumers c once_answered) where
+module _ {B : Type 0} {g : Ghosts B} {limits : Limits} (r u : Rows B g) (t : Tables) (facts : Facts limits t) (now want c x : ℕ) (k : Consumer)
+    (before out : List Act) (stands : RowsStand limits r t) (there : get nat_eq r.consumers c ≡ Some k) (at : IsUnshown x k)
+    (last : u.last_start ≡ r.last_start) (same_keys : u.keys ≡ r.keys) (same_entries : u.entries ≡ r.entries) (exchanges : u.exchanges ≡ r.exchanges)
+    (changes : ChangesAt r.consumers u.consumers c once_answered) where
   rd : IsReading t c x k
   rd = reading_of r t facts.law c x k stands there at.0
 
@@ -117,14 +129,17 @@ module _ {B : Type 0} {g : Ghosts B} {limits : Limits} (r u : Rows B g) (t : Tab
   answer_is : k.answer ≡ rd.reads.w.head
   answer_is = rd.kept.answer ∙ answer_shown t x rd.v rd.reads.w unshown rd.at rd.reads.row
 
-  pub waits_answered : k.answer ≡ None → out ≡ before ++ (act.Pending c (wait.Head x) ∷ []) → Answered limits (shelf_of r.entries).faults u t before out now (event.Poll c want)
+  pub waits_answered : k.answer ≡ None → out ≡ before ++ (act.Pending c (wait.Head x) ∷ []) →
+      Answered limits (shelf_of r.entries).faults u t before out now (event.Poll c want)
   waits_answered none acts =
       let ev = event.Poll c want in
       let m : Move = moves.Waits (wait.Head x) in
       let same : once_answered k ≡ k = rw none refl in
       let becomes = becomes_by r.consumers u.consumers c k once_answered there changes in
       does_answered limits (shelf_of r.entries).faults u t (with_event now ev t) before out (acts_of c m) now ev
-      (waits_on limits t facts.law now c want rd.v rd.row (wait.Head x) (let bare = sym answer_is ∙ none in waits_move t now want c x rd.v rd.reads.w rd.at rd.reads.own rd.reads.row unshown bare (rd.reads.unheard bare).is_open) refl) refl refl acts
+      (waits_on limits t facts.law now c want rd.v rd.row (wait.Head x)
+      (let bare = sym answer_is ∙ none in
+      waits_move t now want c x rd.v rd.reads.w rd.at rd.reads.own rd.reads.row unshown bare (rd.reads.unheard bare).is_open) refl) refl refl acts
       (stands_counted u t now ev refl (record {
         limits = rw same_entries stands.limits;
         last_start = last ∙ stands.last_start;
@@ -140,11 +155,13 @@ module _ {B : Type 0} {g : Ghosts B} {limits : Limits} (r u : Rows B g) (t : Tab
       still d same = elim (same_or c d) [
         | inl e ↦
             subst (λ (n : ℕ). KeepsConsumer t (if nat_eq c n then Some (once_answered k) else get nat_eq r.consumers n) (t.consumer n)) e
-            (rw (eqb-same c) (subst (λ (z : Consumer). KeepsConsumer t (Some z) (t.consumer c)) (sym same) (subst (λ o. KeepsConsumer t o (t.consumer c)) there (stands.consumers c))))
+            (rw (eqb-same c) (subst (λ (z : Consumer). KeepsConsumer t (Some z) (t.consumer c)) (sym same)
+            (subst (λ o. KeepsConsumer t o (t.consumer c)) there (stands.consumers c))))
         | inr ne ↦ rw (eqb-other c d ne) (stands.consumers d)
       ]
 
-  pub shows_answered : (head : Response) → k.answer ≡ Some head → out ≡ before ++ (act.Shown c x (why.Fetched x) head.status head.fields k.lo k.hi ∷ []) → Answered limits (shelf_of r.entries).faults u t before out now (event.Poll c want)
+  pub shows_answered : (head : Response) → k.answer ≡ Some head → out ≡ before ++ (act.Shown c x (why.Fetched x) head.status head.fields k.lo k.hi ∷ []) →
+      Answered limits (shelf_of r.entries).faults u t before out now (event.Poll c want)
   shows_answered head some acts =
       let ev = event.Poll c want in
       let m : Move = Shows x (why.Fetched x) head k.lo k.hi in
@@ -154,12 +171,16 @@ module _ {B : Type 0} {g : Ghosts B} {limits : Limits} (r u : Rows B g) (t : Tab
       let change : once_answered k ≡ q = rw some refl in
       let kp = rd.kept in
       does_answered limits (shelf_of r.entries).faults u t (with_event now ev s) before out (acts_of c m) now ev
-      (shows_reader limits t facts.law now c want v rd.row x (why.Fetched x) head k.lo k.hi (shows_move t now want c x v rd.reads.w rd.at rd.reads.own rd.reads.row head k.lo k.hi unshown (sym answer_is ∙ some) from to) (ap reads rd.at)) refl refl acts
+      (shows_reader limits t facts.law now c want v rd.row x (why.Fetched x) head k.lo k.hi
+      (shows_move t now want c x v rd.reads.w rd.at rd.reads.own rd.reads.row head k.lo k.hi unshown (sym answer_is ∙ some) from to) (ap reads rd.at))
+      refl refl acts
       (stands_counted u s now ev refl
-      (stands_reading t c v true v.given rd.row r u stands kp.is_there last same_keys (ap (λ z. next_of z) exchanges) (subst (λ z. shelf.Stays (shelf_of r.entries) (shelf_of z)) (sym same_entries) (record { kept = λ n. refl; order = refl; used = refl; limits = refl }))
+      (stands_reading t c v true v.given rd.row r u stands kp.is_there last same_keys (ap (λ z. next_of z) exchanges)
+      (subst (λ z. shelf.Stays (shelf_of r.entries) (shelf_of z)) (sym same_entries) (record { kept = λ n. refl; order = refl; used = refl; limits = refl }))
       q (subst (λ z. BecomesAt r.consumers u.consumers c (Some z)) change (becomes_by r.consumers u.consumers c k once_answered there changes))
       (assumption kp)
-      (λ y. subst (λ z. KeepsExchange s y (table_of z y)) (sym exchanges) (exchange_reading t c v true v.given rd.row y (table_of r.exchanges y) (held_shown y (t.exchange y)) (stands.exchanges y)))))
+      (λ y. subst (λ z. KeepsExchange s y (table_of z y)) (sym exchanges)
+      (exchange_reading t c v true v.given rd.row y (table_of r.exchanges y) (held_shown y (t.exchange y)) (stands.exchanges y)))))
     where
       held_shown : (y : ℕ) (o : Option Exchange) → held_for (with_consumer c (Some (record rd.v { shown = true })) t) y o ≡ held_for t y o
       held_shown y None = refl
@@ -171,7 +192,9 @@ module _ {B : Type 0} {g : Ghosts B} {limits : Limits} (r u : Rows B g) (t : Tab
 abbrev by_parts : Bool → Bool → Option Cause → Option ℕ → Span → ReadStep
 by_parts at_end is_held due from hole = if at_end then step.Ended else held_or is_held (fails_or due (waits_or from (step.Hole hole)))
 
-step_parts : (known : Known) (x o : ℕ) (k : Consumer) → read_step (past_view known x o k) ≡ by_parts (is_at_end k.hi o) (nat_lt 0 (length known.held)) k.due (source_in known x) (hole_ahead (past_view known x o k))
+step_parts : (known : Known) (x o : ℕ) (k : Consumer) →
+    read_step (past_view known x o k) ≡ by_parts (is_at_end k.hi o) (nat_lt 0 (length known.held)) k.due (source_in known x)
+    (hole_ahead (past_view known x o k))
 unfolding read_step
 step_parts known x o k = refl
 
@@ -205,22 +228,27 @@ abbrev the_view : ℕ → Option ℕ → Bool → Option Cause → Option ℕ �
 the_view o hi h d s = record { offset = o; hi = hi; stored = None; held = h; due = d; source = s; next_stored = None }
 
 -- nothing is stored of an answer past the store
-view_at : (t : Tables) (want c x : ℕ) (v : rows.Consumer) → v.place ≡ place.Direct x → steps.read_view t want c v ≡ the_view (offset t v) (hi_of t v.place) (is_some (run_held_for t c v want)) v.due (source t v)
+view_at : (t : Tables) (want c x : ℕ) (v : rows.Consumer) → v.place ≡ place.Direct x →
+    steps.read_view t want c v ≡ the_view (offset t v) (hi_of t v.place) (is_some (run_held_for t c v want)) v.due (source t v)
 view_at t want c x v at = rw at refl
 
-view_is : (o p : ℕ) (hi z : Option ℕ) (h g : Bool) (d e : Option Cause) (s q : Option ℕ) → o ≡ p → hi ≡ z → h ≡ g → d ≡ e → s ≡ q → the_view o hi h d s ≡ the_view p z g e q
+view_is : (o p : ℕ) (hi z : Option ℕ) (h g : Bool) (d e : Option Cause) (s q : Option ℕ) → o ≡ p → hi ≡ z → h ≡ g → d ≡ e → s ≡ q →
+    the_view o hi h d s ≡ the_view p z g e q
 view_is o p hi z h g d e s q a b c f i = rw (a, b, c, f, i) refl
 
-held_place : (t : Tables) (c x n : ℕ) (v : rows.Consumer) (w : Exchange) → v.place ≡ place.Direct x → t.exchange x ≡ Some w → run_held_for t c v n ≡ run_of x (offset t v) (take n (drop (offset t v - base w) w.body))
+held_place : (t : Tables) (c x n : ℕ) (v : rows.Consumer) (w : Exchange) → v.place ≡ place.Direct x → t.exchange x ≡ Some w →
+    run_held_for t c v n ≡ run_of x (offset t v) (take n (drop (offset t v - base w) w.body))
 held_place t c x n v w at row = rw (at, row) refl
 
-sources_are : (t : Tables) (x : ℕ) (on : Option Open) (w : Exchange) (v : rows.Consumer) → KeepsRunning t x on (Some w) → v.own ≡ Some x → v.place ≡ place.Direct x → t.exchange x ≡ Some w → source t v ≡ (if is_some on then Some x else None)
+sources_are : (t : Tables) (x : ℕ) (on : Option Open) (w : Exchange) (v : rows.Consumer) → KeepsRunning t x on (Some w) → v.own ≡ Some x →
+    v.place ≡ place.Direct x → t.exchange x ≡ Some w → source t v ≡ (if is_some on then Some x else None)
 sources_are t x None w v keeps own at row = rw (own, at, row, keeps) refl
 sources_are t x (Some o) w v keeps own at row = let opened = keeps.is_open in rw (own, at, row, opened) refl
 
 -- WHAT IS READ
 
-module _ {B : Type 0} {g : Ghosts B} {limits : Limits} (r : Rows B g) (t : Tables) (facts : Facts limits t) (want c x : ℕ) (k : Consumer) (stands : RowsStand limits r t) (rd : IsReading t c x k) (shown : k.shown ≡ true) (wants : 0 < want) where
+module _ {B : Type 0} {g : Ghosts B} {limits : Limits} (r : Rows B g) (t : Tables) (facts : Facts limits t) (want c x : ℕ) (k : Consumer)
+    (stands : RowsStand limits r t) (rd : IsReading t c x k) (shown : k.shown ≡ true) (wants : 0 < want) where
   abbrev v : rows.Consumer
   v = rd.v
 
@@ -253,7 +281,8 @@ module _ {B : Type 0} {g : Ghosts B} {limits : Limits} (r : Rows B g) (t : Table
   offset_is = ap₂ (λ (a b : ℕ). a + b) rd.kept.begins rd.kept.given
 
   pub held_before : known_here.held ≡ drop v.given w.body
-  held_before = ((stands.exchanges x).held ∙ ap (held_for t x) rd.reads.row) ∙ held_is t x c w v rd.row rd.reads.for_it rd.at rd.reads.unjoined rd.reads.unfounded
+  held_before = ((stands.exchanges x).held ∙ ap (held_for t x) rd.reads.row) ∙
+      held_is t x c w v rd.row rd.reads.for_it rd.at rd.reads.unjoined rd.reads.unfounded
 
   running : KeepsRunning t x known_here.running (Some w)
   running = subst (KeepsRunning t x known_here.running) rd.reads.row (stands.exchanges x).running
@@ -272,12 +301,14 @@ module _ {B : Type 0} {g : Ghosts B} {limits : Limits} (r : Rows B g) (t : Table
 
   -- it is shown already, and waits for no head: what it does is what it reads
   reads_as : (now : ℕ) → move_of t now want c v ≡ step_move t want c v (read_step (past_view known_here x at_offset k))
-  reads_as now = reads_move t now want c x v w rd.at rd.reads.own rd.reads.row shown_v has_head ∙ ap (λ (z : ReadView). step_move t want c v (read_step z)) views_are
+  reads_as now = reads_move t now want c x v w rd.at rd.reads.own rd.reads.row shown_v has_head ∙
+      ap (λ (z : ReadView). step_move t want c v (read_step z)) views_are
 
   abbrev hole_here : Span
   hole_here = hole_ahead (past_view known_here x at_offset k)
 
-  parts : read_step (past_view known_here x at_offset k) ≡ by_parts (is_at_end k.hi at_offset) (nat_lt 0 (length known_here.held)) k.due (source_in known_here x) hole_here
+  parts : read_step (past_view known_here x at_offset k) ≡ by_parts (is_at_end k.hi at_offset) (nat_lt 0 (length known_here.held)) k.due
+      (source_in known_here x) hole_here
   parts = step_parts known_here x at_offset k
 
   -- EACH STEP
@@ -300,7 +331,8 @@ module _ {B : Type 0} {g : Ghosts B} {limits : Limits} (r : Rows B g) (t : Table
     pub waits_open : (y : ℕ) → read_step (past_view known_here x at_offset k) ≡ step.Waits y → is_some known_here.running ≡ true
     waits_open y is = (source_some known_here.running y (waits_from _ _ k.due _ hole_here y (sym parts ∙ is))).1
 
-    pub asks_move : (y : ℕ) → read_step (past_view known_here x at_offset k) ≡ step.Waits y → move_of t now want c v ≡ asks_or_waits (asked_in known_here.running) x
+    pub asks_move : (y : ℕ) → read_step (past_view known_here x at_offset k) ≡ step.Waits y →
+        move_of t now want c v ≡ asks_or_waits (asked_in known_here.running) x
     asks_move y is =
         let open_x = source_some known_here.running y (waits_from _ _ k.due _ hole_here y (sym parts ∙ is)) in
         let asked = asked_is known_here.running open_x.1 running in
@@ -310,12 +342,14 @@ module _ {B : Type 0} {g : Ghosts B} {limits : Limits} (r : Rows B g) (t : Table
     most_is : steps.most t want v ≡ most k.hi at_offset want
     most_is = ap₂ (λ (hi : Option ℕ) (o : ℕ). cut_at hi (o + want) - o) (sym rd.kept.ends) (sym offset_is)
 
-    some_given : (bytes : List ℕ) → read_step (past_view known_here x at_offset k) ≡ step.Held → bytes ≡ take (most k.hi at_offset want) known_here.held → 0 < length bytes
+    some_given : (bytes : List ℕ) → read_step (past_view known_here x at_offset k) ≡ step.Held → bytes ≡ take (most k.hi at_offset want) known_here.held →
+        0 < length bytes
     some_given bytes is bytes_are =
         let both = held_from _ _ k.due (source_in known_here x) hole_here (sym parts ∙ is) in
         let there : 0 < length known_here.held = grind (arith, nat_tests, both.1) in
         let more : 0 < most k.hi at_offset want = some_more want wants k.hi at_offset both.0 in
-        let len : length bytes ≡ min (most k.hi at_offset want) (length known_here.held) = ap length bytes_are ∙ length-take (most k.hi at_offset want) known_here.held in
+        let len : length bytes ≡ min (most k.hi at_offset want) (length known_here.held) = ap length bytes_are ∙
+        length-take (most k.hi at_offset want) known_here.held in
         omega (arith, there, more, len)
 
     pub gives_move : (bytes : List ℕ) → read_step (past_view known_here x at_offset k) ≡ step.Held → bytes ≡ take (most k.hi at_offset want) known_here.held
@@ -378,17 +412,20 @@ module _ {B : Type 0} {g : Ghosts B} {limits : Limits} (r : Rows B g) (t : Table
 
 -- WHAT IS DONE
 
-unread_else : (x y : ℕ) (z : Exchange) (v : rows.Consumer) (n : ℕ) → v.place ≡ place.Direct x → x ≢ y → unread y z (Some (record v { given = n })) ≡ unread y z (Some v)
+unread_else : (x y : ℕ) (z : Exchange) (v : rows.Consumer) (n : ℕ) → v.place ≡ place.Direct x → x ≢ y →
+    unread y z (Some (record v { given = n })) ≡ unread y z (Some v)
 unread_else x y z v n at ne = rw (at, eqb-other x y ne) refl
 
 -- who reads past the store is bound to nothing
-unstored_past : (t : Tables) (x y : ℕ) (z : Exchange) (p : Representation) (v : rows.Consumer) (n : ℕ) → v.place ≡ place.Direct x → unstored_bytes t y z p (Some (record v { given = n })) ≡ unstored_bytes t y z p (Some v)
+unstored_past : (t : Tables) (x y : ℕ) (z : Exchange) (p : Representation) (v : rows.Consumer) (n : ℕ) → v.place ≡ place.Direct x →
+    unstored_bytes t y z p (Some (record v { given = n })) ≡ unstored_bytes t y z p (Some v)
 unstored_past t x y z p v n at = rw at refl
 
 pub itself : (t : Tables) (c : ℕ) (row : Option rows.Consumer) → (with_consumer c row t).consumer c ≡ row
 itself t c row = rw (eqb-same c) refl
 
-module _ {B : Type 0} {g : Ghosts B} {limits : Limits} (r u : Rows B g) (t : Tables) (facts : Facts limits t) (now want c x : ℕ) (k : Consumer) (before out : List Act) (stands : RowsStand limits r t) (there : get nat_eq r.consumers c ≡ Some k) (at : IsShown x k) (wants : 0 < want)
+module _ {B : Type 0} {g : Ghosts B} {limits : Limits} (r u : Rows B g) (t : Tables) (facts : Facts limits t) (now want c x : ℕ) (k : Consumer)
+    (before out : List Act) (stands : RowsStand limits r t) (there : get nat_eq r.consumers c ≡ Some k) (at : IsShown x k) (wants : 0 < want)
     (last : u.last_start ≡ r.last_start) (same_keys : u.keys ≡ r.keys) (same_entries : u.entries ≡ r.entries) where
   abbrev ev : Event
   ev = event.Poll c want
@@ -397,7 +434,8 @@ module _ {B : Type 0} {g : Ghosts B} {limits : Limits} (r u : Rows B g) (t : Tab
   shown_rd = reading_of r t facts.law c x k stands there at.0
 
   unread_store : shelf.Stays (shelf_of r.entries) (shelf_of u.entries)
-  unread_store = subst (λ z. shelf.Stays (shelf_of r.entries) (shelf_of z)) (sym same_entries) (record { kept = λ n. refl; order = refl; used = refl; limits = refl })
+  unread_store = subst (λ z. shelf.Stays (shelf_of r.entries) (shelf_of z)) (sym same_entries)
+      (record { kept = λ n. refl; order = refl; used = refl; limits = refl })
 
   -- it is given what is held
 
@@ -407,8 +445,10 @@ module _ {B : Type 0} {g : Ghosts B} {limits : Limits} (r u : Rows B g) (t : Tab
       taken : (n m : ℕ) (xs : List ℕ) → drop n (drop m xs) ≡ drop (m + length (take n (drop m xs))) xs
       taken n m xs = grind (arith, common_steps)
 
-  pub given_answered : (n : ℕ) (bytes : List ℕ) → read_step (past_view (table_of r.exchanges x) x (k.lo + k.given) k) ≡ step.Held → n ≡ most k.hi (k.lo + k.given) want → bytes ≡ take n (table_of r.exchanges x).held → out ≡ before ++ given_acts c x (k.lo + k.given) bytes
-      → exch.Becomes (known.without_first n) x r.exchanges u.exchanges → ChangesAt r.consumers u.consumers c (once_given (length bytes)) → Answered limits (shelf_of r.entries).faults u t before out now ev
+  pub given_answered : (n : ℕ) (bytes : List ℕ) → read_step (past_view (table_of r.exchanges x) x (k.lo + k.given) k) ≡ step.Held →
+      n ≡ most k.hi (k.lo + k.given) want → bytes ≡ take n (table_of r.exchanges x).held → out ≡ before ++ given_acts c x (k.lo + k.given) bytes
+      → exch.Becomes (known.without_first n) x r.exchanges u.exchanges → ChangesAt r.consumers u.consumers c (once_given (length bytes)) →
+      Answered limits (shelf_of r.entries).faults u t before out now ev
   given_answered n bytes is n_is bytes_are acts becomes changes =
       let run : Run = record { x = x; at = k.lo + k.given; bytes = bytes } in
       let most_are = bytes_are ∙ ap (λ (z : ℕ). take z (table_of r.exchanges x).held) n_is in
@@ -417,7 +457,8 @@ module _ {B : Type 0} {g : Ghosts B} {limits : Limits} (r u : Rows B g) (t : Tab
       let more : ℕ = v.given + length bytes in
       let s : Tables = with_consumer c (Some (record v { given = more })) t in
       does_answered limits (shelf_of r.entries).faults u t (with_event now ev s) before out (acts_of c (Gives run)) now ev
-      (gives_bytes limits t facts.law now c want v shown_rd.row run (gives_move r t facts want c x k stands shown_rd at.1 wants now bytes is most_are)) refl refl acts
+      (gives_bytes limits t facts.law now c want v shown_rd.row run (gives_move r t facts want c x k stands shown_rd at.1 wants now bytes is most_are))
+      refl refl acts
       (stands_counted u s now ev refl
       (stands_reading t c v v.shown more shown_rd.row r u stands kp.is_there last same_keys becomes.next unread_store
       (once_given (length bytes) k) (becomes_by r.consumers u.consumers c k (once_given (length bytes)) there changes)
@@ -432,31 +473,45 @@ module _ {B : Type 0} {g : Ghosts B} {limits : Limits} (r u : Rows B g) (t : Tab
           let was = held_before r t facts want c x k stands shown_rd at.1 wants in
           ap (λ (z : Known). z.held) here ∙ (ap (drop n) was ∙ given_drop n shown_rd.v.given shown_rd.reads.w.body bytes (bytes_are ∙ ap (take n) was))
 
-      held_here : held_for (with_consumer c (Some (record shown_rd.v { given = shown_rd.v.given + length bytes })) t) x (t.exchange x) ≡ drop (shown_rd.v.given + length bytes) shown_rd.reads.w.body
+      held_here : held_for (with_consumer c (Some (record shown_rd.v { given = shown_rd.v.given + length bytes })) t) x (t.exchange x) ≡ drop
+          (shown_rd.v.given + length bytes) shown_rd.reads.w.body
       held_here =
           let reads = shown_rd.reads in
           let s : Tables = with_consumer c (Some (record shown_rd.v { given = shown_rd.v.given + length bytes })) t in
-          ap (held_for s x) reads.row ∙ held_is s x c reads.w (record shown_rd.v { given = shown_rd.v.given + length bytes }) (itself t c (Some (record shown_rd.v { given = shown_rd.v.given + length bytes }))) reads.for_it shown_rd.at reads.unjoined reads.unfounded
+          ap (held_for s x) reads.row ∙
+          held_is s x c reads.w (record shown_rd.v { given = shown_rd.v.given + length bytes })
+          (itself t c (Some (record shown_rd.v { given = shown_rd.v.given + length bytes }))) reads.for_it shown_rd.at reads.unjoined reads.unfounded
 
-      elsewhere : (y : ℕ) (o : Option Exchange) → x ≢ y → held_for (with_consumer c (Some (record shown_rd.v { given = shown_rd.v.given + length bytes })) t) y o ≡ held_for t y o
+      elsewhere : (y : ℕ) (o : Option Exchange) → x ≢ y →
+          held_for (with_consumer c (Some (record shown_rd.v { given = shown_rd.v.given + length bytes })) t) y o ≡ held_for t y o
       elsewhere y None ne = refl
-      elsewhere y (Some z) ne = held_same t c shown_rd.v shown_rd.v.shown (shown_rd.v.given + length bytes) shown_rd.row y z (λ mine. unread_else x y z shown_rd.v (shown_rd.v.given + length bytes) shown_rd.at ne) (λ p founded alone. unstored_past t x y z p shown_rd.v (shown_rd.v.given + length bytes) shown_rd.at)
+      elsewhere y (Some z) ne =
+          held_same t c shown_rd.v shown_rd.v.shown (shown_rd.v.given + length bytes) shown_rd.row y z
+          (λ mine. unread_else x y z shown_rd.v (shown_rd.v.given + length bytes) shown_rd.at ne)
+          (λ p founded alone. unstored_past t x y z p shown_rd.v (shown_rd.v.given + length bytes) shown_rd.at)
 
-      each_exchange : (y : ℕ) → KeepsExchange (with_consumer c (Some (record shown_rd.v { given = shown_rd.v.given + length bytes })) t) y (table_of u.exchanges y)
+      each_exchange : (y : ℕ) →
+          KeepsExchange (with_consumer c (Some (record shown_rd.v { given = shown_rd.v.given + length bytes })) t) y (table_of u.exchanges y)
       each_exchange y = elim (same_or x y) [
-        | inl e ↦ subst (λ (m : ℕ). KeepsExchange (with_consumer c (Some (record shown_rd.v { given = shown_rd.v.given + length bytes })) t) m (table_of u.exchanges m)) e (record {
-          running = runs_same t (with_consumer c (Some (record shown_rd.v { given = shown_rd.v.given + length bytes })) t) x (table_of u.exchanges x).running (t.exchange x) (λ z is. refl) (subst (λ o. KeepsRunning t x o (t.exchange x)) (sym (ap (λ (z : Known). z.running) here)) (stands.exchanges x).running);
-          held = left ∙ sym held_here;
-        })
+        | inl e ↦ subst (λ (m : ℕ). KeepsExchange (with_consumer c (Some (record shown_rd.v { given = shown_rd.v.given + length bytes })) t) m
+            (table_of u.exchanges m)) e (record {
+              running = runs_same t (with_consumer c (Some (record shown_rd.v { given = shown_rd.v.given + length bytes })) t) x
+                  (table_of u.exchanges x).running (t.exchange x) (λ z is. refl)
+                  (subst (λ o. KeepsRunning t x o (t.exchange x)) (sym (ap (λ (z : Known). z.running) here)) (stands.exchanges x).running);
+              held = left ∙ sym held_here;
+            })
         | inr ne ↦
-            subst (KeepsExchange (with_consumer c (Some (record shown_rd.v { given = shown_rd.v.given + length bytes })) t) y) (sym (becomes.table y ∙ rw (eqb-other x y ne) refl))
-            (exchange_reading t c shown_rd.v shown_rd.v.shown (shown_rd.v.given + length bytes) shown_rd.row y (table_of r.exchanges y) (elsewhere y (t.exchange y) ne) (stands.exchanges y))
+            subst (KeepsExchange (with_consumer c (Some (record shown_rd.v { given = shown_rd.v.given + length bytes })) t) y)
+            (sym (becomes.table y ∙ rw (eqb-other x y ne) refl))
+            (exchange_reading t c shown_rd.v shown_rd.v.shown (shown_rd.v.given + length bytes) shown_rd.row y (table_of r.exchanges y)
+            (elsewhere y (t.exchange y) ne) (stands.exchanges y))
       ]
 
   -- it asks for more, or waits for that
 
   module _ (consumers : u.consumers ≡ r.consumers) (becomes : exch.Becomes known.with_asking x r.exchanges u.exchanges) where
-    waits_by : (b : Bool) → asked_in (table_of r.exchanges x).running ≡ b → move_of t now want c shown_rd.v ≡ asks_or_waits b x → out ≡ before ++ acts_of c (asks_or_waits b x) → Answered limits (shelf_of r.entries).faults u t before out now ev
+    waits_by : (b : Bool) → asked_in (table_of r.exchanges x).running ≡ b → move_of t now want c shown_rd.v ≡ asks_or_waits b x → out ≡ before ++
+        acts_of c (asks_or_waits b x) → Answered limits (shelf_of r.entries).faults u t before out now ev
     waits_by false is move acts =
         does_answered limits (shelf_of r.entries).faults u t (with_event now ev (with_ask x t)) before out (acts_of c (Asks x)) now ev
         (asks limits t facts.law now c want shown_rd.v shown_rd.row x move) refl refl acts
@@ -466,5 +521,7 @@ module _ {B : Type 0} {g : Ghosts B} {limits : Limits} (r u : Rows B g) (t : Tab
         (waits_on limits t facts.law now c want shown_rd.v shown_rd.row (wait.Body x) move refl) refl refl acts
         (stands_counted u t now ev refl (stands_asked_already r u t x stands is last consumers same_keys becomes unread_store))
 
-    pub asks_answered : (y : ℕ) → read_step (past_view (table_of r.exchanges x) x (k.lo + k.given) k) ≡ step.Waits y → out ≡ before ++ acts_of c (asks_or_waits (asked_in (table_of r.exchanges x).running) x) → Answered limits (shelf_of r.entries).faults u t before out now ev
-    asks_answered y is acts = waits_by (asked_in (table_of r.exchanges x).running) refl (asks_move r t facts want c x k stands shown_rd at.1 wants now y is) acts
+    pub asks_answered : (y : ℕ) → read_step (past_view (table_of r.exchanges x) x (k.lo + k.given) k) ≡ step.Waits y → out ≡ before ++
+        acts_of c (asks_or_waits (asked_in (table_of r.exchanges x).running) x) → Answered limits (shelf_of r.entries).faults u t before out now ev
+    asks_answered y is acts =
+        waits_by (asked_in (table_of r.exchanges x).running) refl (asks_move r t facts want c x k stands shown_rd at.1 wants now y is) acts

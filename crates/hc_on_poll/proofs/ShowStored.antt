@@ -38,7 +38,8 @@ pub record IsBoundRow (t : Tables) (c q : ℕ) (how : BoundBy) (k : Consumer) : 
   pub p : Representation
   pub there : t.representation q ≡ Some p
 
-pub bound_row_of : {B : Type 0} {g : Ghosts B} {limits : Limits} (r : Rows B g) (t : Tables) (law : Lawful t) (c q lo : ℕ) (hi : Option ℕ) (how : BoundBy) (k : Consumer) → RowsStand limits r t → get nat_eq r.consumers c ≡ Some k → k.place ≡ place.Bound q lo hi how → IsBoundRow t c q how k
+pub bound_row_of : {B : Type 0} {g : Ghosts B} {limits : Limits} (r : Rows B g) (t : Tables) (law : Lawful t) (c q lo : ℕ) (hi : Option ℕ) (how : BoundBy)
+    (k : Consumer) → RowsStand limits r t → get nat_eq r.consumers c ≡ Some k → k.place ≡ place.Bound q lo hi how → IsBoundRow t c q how k
 bound_row_of r t law c q lo hi how k stands there at =
     let (v, row, kept) = kept_row t k (t.consumer c) (subst (λ o. KeepsConsumer t o (t.consumer c)) there (stands.consumers c)) in
     let here = sym kept.place ∙ at in
@@ -46,22 +47,28 @@ bound_row_of r t law c q lo hi how k stands there at =
     record { v = v; row = row; kept = kept; lo = lo; hi = hi; at = here; p = rep.0; there = rep.1 }
 
 -- who is bound to what is kept
-pub bound_entry : {B : Type 0} {g : Ghosts B} {limits : Limits} (r : Rows B g) (t : Tables) (q : ℕ) (e : entry.Kept) (p : Representation) → RowsStand limits r t → (shelf_of r.entries).kept q ≡ Some e → t.representation q ≡ Some p → IsEntry t q e p
-bound_entry r t q e p stands kept there = subst (KeepsEntry t q (Some e)) there (subst (λ o. KeepsEntry t q o (t.representation q)) kept (stands.entries.each q))
+pub bound_entry : {B : Type 0} {g : Ghosts B} {limits : Limits} (r : Rows B g) (t : Tables) (q : ℕ) (e : entry.Kept) (p : Representation) →
+    RowsStand limits r t → (shelf_of r.entries).kept q ≡ Some e → t.representation q ≡ Some p → IsEntry t q e p
+bound_entry r t q e p stands kept there =
+    subst (KeepsEntry t q (Some e)) there (subst (λ o. KeepsEntry t q o (t.representation q)) kept (stands.entries.each q))
 
 -- what somebody is bound to is kept
-pub bound_kept : {B : Type 0} {g : Ghosts B} {limits : Limits} (r : Rows B g) (t : Tables) (law : Lawful t) (c q : ℕ) (how : BoundBy) (k : Consumer) → RowsStand limits r t → IsBoundRow t c q how k → is_kept (shelf_of r.entries) q ≡ true
+pub bound_kept : {B : Type 0} {g : Ghosts B} {limits : Limits} (r : Rows B g) (t : Tables) (law : Lawful t) (c q : ℕ) (how : BoundBy) (k : Consumer) →
+    RowsStand limits r t → IsBoundRow t c q how k → is_kept (shelf_of r.entries) q ≡ true
 bound_kept r t law c q how k stands rd = by_kept ((shelf_of r.entries).kept q) user
   where
     user : has_user c ((shelf_of r.entries).kept q) ≡ true
-    user = subst (λ p. IsUserAt p c (shelf_of r.entries)) rd.at (user_kept t law.sound.numbered.lists.started c rd.v rd.row (λ n lo hi how at. law.sound.numbered.bound_to n c rd.v (sound.is_bound lo hi how rd.row at)) (shelf_of r.entries) stands.entries)
+    user = subst (λ p. IsUserAt p c (shelf_of r.entries)) rd.at
+        (user_kept t law.sound.numbered.lists.started c rd.v rd.row
+        (λ n lo hi how at. law.sound.numbered.bound_to n c rd.v (sound.is_bound lo hi how rd.row at)) (shelf_of r.entries) stands.entries)
 
     by_kept : (o : Option entry.Kept) → has_user c o ≡ true → is_some o ≡ true
     by_kept None on = false_true on
     by_kept (Some e) on = refl
 
 -- a head that is stored is that of what is kept
-pub entry_of_head : (o : Option entry.Kept) (head : Head) → option_map (λ (e : entry.Kept). e.head) o ≡ Some head → (e : entry.Kept) × (o ≡ Some e) × (e.head ≡ head)
+pub entry_of_head : (o : Option entry.Kept) (head : Head) → option_map (λ (e : entry.Kept). e.head) o ≡ Some head → (e : entry.Kept) × (o ≡ Some e) ×
+    (e.head ≡ head)
 entry_of_head None head is = none_some head is
 entry_of_head (Some e) head is = (e, refl, some_is e.head head is)
 
@@ -82,15 +89,19 @@ same_status : (head other : Head) (n : Option ℕ) → sealed_head kinds.Growing
 same_status head other n is = ap (λ (h : Head). h.status) is
 
 -- only its length and its fields are shown
-shown_as_reported : (head other : Head) (n : Option ℕ) (reason : Why) (span : Option Span) (ranged : Bool) → sealed_head kinds.Growing other.total head ≡ other → n ≡ other.total → shown_response (record head { total = n }) reason span ranged ≡ shown_response other reason span ranged
+shown_as_reported : (head other : Head) (n : Option ℕ) (reason : Why) (span : Option Span) (ranged : Bool) →
+    sealed_head kinds.Growing other.total head ≡ other → n ≡ other.total →
+    shown_response (record head { total = n }) reason span ranged ≡ shown_response other reason span ranged
 shown_as_reported head other n reason span ranged is same =
     ap (λ (m : Option ℕ). shown_response (record head { total = m }) reason span ranged) same ∙ ap (λ (h : Head). shown_response h reason span ranged) is
 
 -- whatever they come from
 pub same_shown : (head : Head) (a b : Why) (x y : Option Span) (p q : Bool) → a ≡ b → x ≡ y → p ≡ q → shown_response head a x p ≡ shown_response head b y q
-same_shown head a b x y p q one two three = ap (λ (z : Why). shown_response head z x p) one ∙ (ap (λ (z : Option Span). shown_response head b z p) two ∙ ap (shown_response head b y) three)
+same_shown head a b x y p q one two three = ap (λ (z : Why). shown_response head z x p) one ∙
+    (ap (λ (z : Option Span). shown_response head b z p) two ∙ ap (shown_response head b y) three)
 
-module _ (t : Tables) {limits : _} (facts : Facts limits t) (c q : ℕ) (how : BoundBy) (k : Consumer) (rd : IsBoundRow t c q how k) (e : entry.Kept) (is : IsEntry t q e rd.p) where
+module _ (t : Tables) {limits : _} (facts : Facts limits t) (c q : ℕ) (how : BoundBy) (k : Consumer) (rd : IsBoundRow t c q how k) (e : entry.Kept)
+    (is : IsEntry t q e rd.p) where
   -- where it stops reading
   end_is : k.hi ≡ option_or rd.hi rd.p.head.total
   end_is = rd.kept.ends ∙ (ap (hi_of t) rd.at ∙ ap (λ (z : Option Representation). option_or rd.hi (total_in z)) rd.there)
@@ -123,7 +134,9 @@ module _ (t : Tables) {limits : _} (facts : Facts limits t) (c q : ℕ) (how : B
 
   -- who founded with the whole reads all of it
   whole_is : (h : ℕ) → how ≡ by.Founding → rd.hi ≡ Some h → brings_part rd.p.head.status ≡ false → rd.p.head.total ≡ Some h
-  whole_is h founding to status = facts.parts.whole c q rd.lo h rd.v rd.p rd.row (rd.at ∙ (ap (λ (o : Option ℕ). place.Bound q rd.lo o how) to ∙ ap (place.Bound q rd.lo (Some h)) founding)) rd.there status
+  whole_is h founding to status =
+      facts.parts.whole c q rd.lo h rd.v rd.p rd.row
+      (rd.at ∙ (ap (λ (o : Option ℕ). place.Bound q rd.lo o how) to ∙ ap (place.Bound q rd.lo (Some h)) founding)) rd.there status
 
   alone_by_part : brings_part rd.p.head.status ≡ true → came_alone t (place.Bound q rd.lo rd.hi by.Founding) ≡ true
   alone_by_part status = ap (λ (z : Option Representation). brings_part (status_in z)) rd.there ∙ status
@@ -140,7 +153,8 @@ module _ (t : Tables) {limits : _} (facts : Facts limits t) (c q : ℕ) (how : B
       by_reported (Some n) known same = ap (λ (o : Option ℕ). option_or o k.hi) (same ∙ known) ∙ sym known
       by_reported None none same = ap (λ (o : Option ℕ). option_or o k.hi) (same ∙ none) ∙ (none_reported rd.hi refl none ∙ sym none)
 
-      by_founding : (n h : ℕ) (b : Bool) → rd.p.head.total ≡ Some n → e.first ≡ None → how ≡ by.Founding → rd.hi ≡ Some h → brings_part rd.p.head.status ≡ b → Some h ≡ Some n
+      by_founding : (n h : ℕ) (b : Bool) → rd.p.head.total ≡ Some n → e.first ≡ None → how ≡ by.Founding → rd.hi ≡ Some h →
+          brings_part rd.p.head.status ≡ b → Some h ≡ Some n
       by_founding n h true known nobody founding to on = first_kept (came_as by.Founding founding (alone_by_part on)) nobody
       by_founding n h false known nobody founding to off = sym (whole_is h founding to off) ∙ known
 
@@ -176,7 +190,8 @@ module _ (t : Tables) {limits : _} (facts : Facts limits t) (c q : ℕ) (how : B
             omega (arith, below, same, within)
 
     -- a part that is shown isn't empty, and within what is so long
-    pub part_fits : (x : Span) (n : ℕ) → rd.v.shown ≡ false → is_part k.class how e.head.status ≡ true → span_to k.lo k.hi ≡ Some x → option_or e.head.total k.hi ≡ Some n → IsWithin x n
+    pub part_fits : (x : Span) (n : ℕ) → rd.v.shown ≡ false → is_part k.class how e.head.status ≡ true → span_to k.lo k.hi ≡ Some x →
+        option_or e.head.total k.hi ≡ Some n → IsWithin x n
     unfolding class_of
     part_fits x n unshown on span total = by_end k.hi refl span
       where
@@ -207,10 +222,12 @@ module _ (t : Tables) {limits : _} (facts : Facts limits t) (c q : ℕ) (how : B
 
         some_part : (h : ℕ) (b : BoundBy) → rd.hi ≡ Some h → how ≡ b → may_be_part b e.head.status ≡ true → rd.lo < h
         some_part h by.Founding to same on =
-            facts.parts.founded c q rd.lo h rd.v rd.p rd.row (rd.at ∙ (ap (λ (o : Option ℕ). place.Bound q rd.lo o how) to ∙ ap (place.Bound q rd.lo (Some h)) same)) rd.there
+            facts.parts.founded c q rd.lo h rd.v rd.p rd.row
+            (rd.at ∙ (ap (λ (o : Option ℕ). place.Bound q rd.lo o how) to ∙ ap (place.Bound q rd.lo (Some h)) same)) rd.there
             (sym (ap brings_part (same_status e.head rd.p.head rd.p.head.total is.head)) ∙ on) ranged
         some_part h (by.FirstHole y) to same on =
-            facts.parts.first c q rd.lo h y rd.v rd.row (rd.at ∙ (ap (λ (o : Option ℕ). place.Bound q rd.lo o how) to ∙ ap (place.Bound q rd.lo (Some h)) same)) ranged
+            facts.parts.first c q rd.lo h y rd.v rd.row
+            (rd.at ∙ (ap (λ (o : Option ℕ). place.Bound q rd.lo o how) to ∙ ap (place.Bound q rd.lo (Some h)) same)) ranged
         some_part h by.Plan to same on = shown_by_plan same unshown
 
         at_end : (h : ℕ) → rd.hi ≡ Some h → k.hi ≡ Some h
@@ -224,14 +241,16 @@ module _ (t : Tables) {limits : _} (facts : Facts limits t) (c q : ℕ) (how : B
             let one : long.0 ≡ n = some_is long.0 n (sym long.1 ∙ known) in
             let le = long.2 in
             let below = total_small n known in
-            subst (λ (z : Span). IsWithin z n) (some_is (record { lo = k.lo; hi = m }) x is_x) (record { not_empty = omega (arith, lt, same, begins); within = omega (arith, le, one, same); small = below })
+            subst (λ (z : Span). IsWithin z n) (some_is (record { lo = k.lo; hi = m }) x is_x)
+            (record { not_empty = omega (arith, lt, same, begins); within = omega (arith, le, one, same); small = below })
 
         by_end : (o : Option ℕ) → k.hi ≡ o → span_to k.lo o ≡ Some x → IsWithin x n
         by_end None to none = none_some x none
         by_end (Some m) to is_x = let ends = some_row rd.hi known_end in fits_at m ends.0 to ends.1 is_x
 
     -- then its length is known
-    pub part_known : rd.v.shown ≡ false → is_part k.class how e.head.status ≡ true → (x : Span) → span_to k.lo k.hi ≡ Some x → option_or e.head.total k.hi ≡ None → ⊥
+    pub part_known : rd.v.shown ≡ false → is_part k.class how e.head.status ≡ true → (x : Span) → span_to k.lo k.hi ≡ Some x →
+        option_or e.head.total k.hi ≡ None → ⊥
     part_known unshown on x span none = by_end k.hi refl span
       where
         none_of : (o z : Option ℕ) → option_or o z ≡ None → z ≡ None
@@ -243,7 +262,8 @@ module _ (t : Tables) {limits : _} (facts : Facts limits t) (c q : ℕ) (how : B
         by_end (Some m) to is_x = none_some m (sym (none_of e.head.total k.hi none) ∙ to)
 
 -- in some run
-module _ {B : Type 0} {g : Ghosts B} (r : Rows B g) (c q : ℕ) (how : BoundBy) (k : Consumer) (there : get nat_eq r.consumers c ≡ Some k) (at : IsUnshownBy q how k) (head : Head) (stored : head_at (shelf_of r.entries) q ≡ Some head) (s : Stands r) where
+module _ {B : Type 0} {g : Ghosts B} (r : Rows B g) (c q : ℕ) (how : BoundBy) (k : Consumer) (there : get nat_eq r.consumers c ≡ Some k)
+    (at : IsUnshownBy q how k) (head : Head) (stored : head_at (shelf_of r.entries) q ≡ Some head) (s : Stands r) where
   abbrev t : Tables
   t = s.t
 
@@ -265,7 +285,8 @@ module _ {B : Type 0} {g : Ghosts B} (r : Rows B g) (c q : ℕ) (how : BoundBy) 
     head_is : e.head ≡ head
 
   as_stored : IsStoredAs
-  as_stored = let (e, kept_e, same) = entry_of_head ((shelf_of r.entries).kept q) head stored in record { e = e; is = bound_entry r t q e rd.p s.rows kept_e rd.there; head_is = same }
+  as_stored = let (e, kept_e, same) = entry_of_head ((shelf_of r.entries).kept q) head stored in
+      record { e = e; is = bound_entry r t q e rd.p s.rows kept_e rd.there; head_is = same }
 
   pub run_end_small : (n : ℕ) → k.hi ≡ Some n → n < 2 ^ 62
   run_end_small n to = end_small t facts c q how k rd as_stored.e as_stored.is s.numbers few n to
@@ -273,15 +294,21 @@ module _ {B : Type 0} {g : Ghosts B} (r : Rows B g) (c q : ℕ) (how : BoundBy) 
   part_on : is_part k.class how head.status ≡ true → is_part k.class how as_stored.e.head.status ≡ true
   part_on on = ap (λ (h : Head). is_part k.class how h.status) as_stored.head_is ∙ on
 
-  pub run_part_fits : (x : Span) (n : ℕ) → is_part k.class how head.status ≡ true → span_to k.lo k.hi ≡ Some x → option_or head.total k.hi ≡ Some n → IsWithin x n
-  run_part_fits x n on span total = part_fits t facts c q how k rd as_stored.e as_stored.is s.numbers few x n unshown (part_on on) span (ap (λ (h : Head). option_or h.total k.hi) as_stored.head_is ∙ total)
+  pub run_part_fits : (x : Span) (n : ℕ) → is_part k.class how head.status ≡ true → span_to k.lo k.hi ≡ Some x → option_or head.total k.hi ≡ Some n →
+      IsWithin x n
+  run_part_fits x n on span total =
+      part_fits t facts c q how k rd as_stored.e as_stored.is s.numbers few x n unshown (part_on on) span
+      (ap (λ (h : Head). option_or h.total k.hi) as_stored.head_is ∙ total)
 
   pub run_part_known : (x : Span) → is_part k.class how head.status ≡ true → span_to k.lo k.hi ≡ Some x → option_or head.total k.hi ≡ None → ⊥
-  run_part_known x on span none = part_known t facts c q how k rd as_stored.e as_stored.is s.numbers few unshown (part_on on) x span (ap (λ (h : Head). option_or h.total k.hi) as_stored.head_is ∙ none)
+  run_part_known x on span none =
+      part_known t facts c q how k rd as_stored.e as_stored.is s.numbers few unshown (part_on on) x span
+      (ap (λ (h : Head). option_or h.total k.hi) as_stored.head_is ∙ none)
 
 -- MOVES
 
-module _ {B : Type 0} {g : Ghosts B} {limits : Limits} (r : Rows B g) (t : Tables) (facts : Facts limits t) (stands : RowsStand limits r t) (now want c q : ℕ) (how : BoundBy) (k : Consumer) (rd : IsBoundRow t c q how k) (unshown : rd.v.shown ≡ false) where
+module _ {B : Type 0} {g : Ghosts B} {limits : Limits} (r : Rows B g) (t : Tables) (facts : Facts limits t) (stands : RowsStand limits r t)
+    (now want c q : ℕ) (how : BoundBy) (k : Consumer) (rd : IsBoundRow t c q how k) (unshown : rd.v.shown ≡ false) where
   to_be_shown : IsToBeShown t rd.v how
   to_be_shown = facts.law.sound.unshown c q rd.lo rd.hi how rd.v rd.row rd.at unshown
 
@@ -314,15 +341,20 @@ module _ {B : Type 0} {g : Ghosts B} {limits : Limits} (r : Rows B g) (t : Table
           false_true (sym (ap (λ (o : Option ℕ). is_some o) none) ∙ joined)
 
   -- who waits for the head of its first hole
-  pub first_waits : (y : ℕ) → how ≡ by.FirstHole y → is_headless_open (table_of r.exchanges y).running ≡ true → move_of t now want c rd.v ≡ moves.Waits (wait.Head y)
+  pub first_waits : (y : ℕ) → how ≡ by.FirstHole y → is_headless_open (table_of r.exchanges y).running ≡ true →
+      move_of t now want c rd.v ≡ moves.Waits (wait.Head y)
   first_waits y same on =
       let bare : is_headless (t.exchange y) ≡ true = sym (headless_is y) ∙ on in
-      let none : shows_head t rd.v ≡ None = shows_as ∙ (ap (shows_bound t rd.v q rd.lo (hi_of t rd.v.place)) same ∙ unjoined (has_joined (t.exchange y)) refl bare) in
+      let none : shows_head t rd.v ≡ None = shows_as ∙
+      (ap (shows_bound t rd.v q rd.lo (hi_of t rd.v.place)) same ∙ unjoined (has_joined (t.exchange y)) refl bare) in
       let headless : if_headless t y ≡ Some y = rw bare refl in
-      let waits : waits_for_head (option_and_then (if_headless t) (own_open t rd.v)) ≡ Some (moves.Waits (wait.Head y)) = ap (λ (o : Option ℕ). waits_for_head (option_and_then (if_headless t) o)) (own_is to_be_shown same bare) ∙ ap waits_for_head headless in
-      second_is (shows_head t rd.v) (waits_for_head (option_and_then (if_headless t) (own_open t rd.v))) (by_place t now want c rd.v rd.v.place) (moves.Waits (wait.Head y)) none waits
+      let waits : waits_for_head (option_and_then (if_headless t) (own_open t rd.v)) ≡ Some (moves.Waits (wait.Head y)) =
+      ap (λ (o : Option ℕ). waits_for_head (option_and_then (if_headless t) o)) (own_is to_be_shown same bare) ∙ ap waits_for_head headless in
+      second_is (shows_head t rd.v) (waits_for_head (option_and_then (if_headless t) (own_open t rd.v))) (by_place t now want c rd.v rd.v.place)
+      (moves.Waits (wait.Head y)) none waits
     where
-      unjoined : (b : Bool) → has_joined (t.exchange y) ≡ b → is_headless (t.exchange y) ≡ true → (if b then Some (shows_stored q (why.Validated y) (is_ranged rd.v) rd.lo (hi_of t rd.v.place) (t.representation q)) else None) ≡ None
+      unjoined : (b : Bool) → has_joined (t.exchange y) ≡ b → is_headless (t.exchange y) ≡ true →
+          (if b then Some (shows_stored q (why.Validated y) (is_ranged rd.v) rd.lo (hi_of t rd.v.place) (t.representation q)) else None) ≡ None
       unjoined false is bare = refl
       unjoined true is bare = absurd (not_both y is bare)
 
@@ -331,7 +363,8 @@ module _ {B : Type 0} {g : Ghosts B} {limits : Limits} (r : Rows B g) (t : Table
         where
           by_way : (b : BoundBy) → b ≡ by.FirstHole y → IsToBeShown t rd.v b → own_open t rd.v ≡ Some y
           by_way _ is sound.founded = absurd (let never : by.Founding ≡ by.FirstHole y = is in cc)
-          by_way _ is (sound.joined z joined) = let one : z ≡ y = cc in absurd (not_both y (subst (λ (n : ℕ). has_joined (t.exchange n) ≡ true) one joined) bare)
+          by_way _ is (sound.joined z joined) = let one : z ≡ y = cc in
+              absurd (not_both y (subst (λ (n : ℕ). has_joined (t.exchange n) ≡ true) one joined) bare)
           by_way _ is (sound.waits z own headless) = let one : z ≡ y = cc in own ∙ ap Some one
 
   -- who is shown the stored head
@@ -351,15 +384,25 @@ module _ {B : Type 0} {g : Ghosts B} {limits : Limits} (r : Rows B g) (t : Table
     and_true false = refl
 
     -- as the tables have it
-    shows_it : (b : BoundBy) → how ≡ b → shows_bound t rd.v q rd.lo (hi_of t rd.v.place) b ≡ Some (Shows q (why_shown q b) (shown_response rd.p.head (why_shown q b) (span_to rd.lo (hi_of t rd.v.place)) (is_part k.class b e.head.status)) rd.lo (hi_of t rd.v.place))
+    shows_it : (b : BoundBy) → how ≡ b →
+        shows_bound t rd.v q rd.lo (hi_of t rd.v.place) b ≡ Some
+        (Shows q (why_shown q b) (shown_response rd.p.head (why_shown q b) (span_to rd.lo (hi_of t rd.v.place)) (is_part k.class b e.head.status)) rd.lo
+        (hi_of t rd.v.place))
     shows_it by.Founding same =
-        let status : brings_part (status_in (t.representation q)) ≡ brings_part e.head.status = ap (λ (z : Option Representation). brings_part (status_in z)) rd.there ∙ ap brings_part (sym (same_status e.head rd.p.head rd.p.head.total is.head)) in
-        ap (λ (z : Option Representation). Some (shows_stored q (why.Fetched q) (is_ranged rd.v && brings_part (status_in (t.representation q))) rd.lo (hi_of t rd.v.place) z)) rd.there
-        ∙ ap (λ (b : Bool). Some (Shows q (why.Fetched q) (shown_response rd.p.head (why.Fetched q) (span_to rd.lo (hi_of t rd.v.place)) b) rd.lo (hi_of t rd.v.place))) (ap₂ (λ (a b : Bool). a && b) (sym ranged_is) status)
+        let status : brings_part (status_in (t.representation q)) ≡ brings_part e.head.status =
+        ap (λ (z : Option Representation). brings_part (status_in z)) rd.there ∙ ap brings_part (sym (same_status e.head rd.p.head rd.p.head.total is.head)) in
+        ap (λ (z : Option Representation). Some
+        (shows_stored q (why.Fetched q) (is_ranged rd.v && brings_part (status_in (t.representation q))) rd.lo (hi_of t rd.v.place) z)) rd.there
+        ∙ ap (λ (b : Bool). Some
+        (Shows q (why.Fetched q) (shown_response rd.p.head (why.Fetched q) (span_to rd.lo (hi_of t rd.v.place)) b) rd.lo (hi_of t rd.v.place)))
+        (ap₂ (λ (a b : Bool). a && b) (sym ranged_is) status)
     shows_it (by.FirstHole y) same =
-        ap (λ (b : Bool). if b then Some (shows_stored q (why.Validated y) (is_ranged rd.v) rd.lo (hi_of t rd.v.place) (t.representation q)) else None) (joined_is to_be_shown)
+        ap (λ (b : Bool). if b then Some (shows_stored q (why.Validated y) (is_ranged rd.v) rd.lo (hi_of t rd.v.place) (t.representation q)) else None)
+        (joined_is to_be_shown)
         ∙ (ap (λ (z : Option Representation). Some (shows_stored q (why.Validated y) (is_ranged rd.v) rd.lo (hi_of t rd.v.place) z)) rd.there
-        ∙ ap (λ (b : Bool). Some (Shows q (why.Validated y) (shown_response rd.p.head (why.Validated y) (span_to rd.lo (hi_of t rd.v.place)) b) rd.lo (hi_of t rd.v.place))) (sym ranged_is ∙ sym (and_true (is_some k.class.range))))
+        ∙ ap (λ (b : Bool). Some
+        (Shows q (why.Validated y) (shown_response rd.p.head (why.Validated y) (span_to rd.lo (hi_of t rd.v.place)) b) rd.lo (hi_of t rd.v.place)))
+        (sym ranged_is ∙ sym (and_true (is_some k.class.range))))
       where
         not_bare : is_headless (t.exchange y) ≡ true → ⊥
         not_bare bare = false_true (sym ready ∙ (ap (waits_for_first (table_of r.exchanges)) same ∙ (headless_is y ∙ bare)))
@@ -370,33 +413,44 @@ module _ {B : Type 0} {g : Ghosts B} {limits : Limits} (r : Rows B g) (t : Table
             by_way : (b : BoundBy) → b ≡ by.FirstHole y → IsToBeShown t rd.v b → has_joined (t.exchange y) ≡ true
             by_way _ is sound.founded = absurd (let never : by.Founding ≡ by.FirstHole y = is in cc)
             by_way _ is (sound.joined z joined) = let one : z ≡ y = cc in subst (λ (n : ℕ). has_joined (t.exchange n) ≡ true) one joined
-            by_way _ is (sound.waits z own headless) = let one : z ≡ y = cc in absurd (not_bare (subst (λ (n : ℕ). is_headless (t.exchange n) ≡ true) one headless))
+            by_way _ is (sound.waits z own headless) = let one : z ≡ y = cc in
+                absurd (not_bare (subst (λ (n : ℕ). is_headless (t.exchange n) ≡ true) one headless))
     shows_it by.Plan same = shown_by_plan t facts c q how k rd e is same unshown
 
-    pub stored_shows : (total : Option ℕ) → total ≡ option_or e.head.total k.hi → move_of t now want c rd.v ≡ Shows q (why_shown q how) (shown_response (record e.head { total = total }) (why_shown q how) (span_to k.lo k.hi) (is_part k.class how e.head.status)) k.lo k.hi
+    pub stored_shows : (total : Option ℕ) → total ≡ option_or e.head.total k.hi →
+        move_of t now want c rd.v ≡ Shows q (why_shown q how)
+        (shown_response (record e.head { total = total }) (why_shown q how) (span_to k.lo k.hi) (is_part k.class how e.head.status)) k.lo k.hi
     stored_shows total total_at =
         let ends : k.hi ≡ hi_of t rd.v.place = rd.kept.ends in
-        let head = shown_as_reported e.head rd.p.head total (why_shown q how) (span_to k.lo k.hi) (is_part k.class how e.head.status) is.head (total_at ∙ total_is t facts c q how k rd e is unshown) in
+        let head = shown_as_reported e.head rd.p.head total (why_shown q how) (span_to k.lo k.hi) (is_part k.class how e.head.status) is.head
+        (total_at ∙ total_is t facts c q how k rd e is unshown) in
         first_is (shows_head t rd.v) (or_else (waits_for_head (option_and_then (if_headless t) (own_open t rd.v))) (by_place t now want c rd.v rd.v.place)) _
         (shows_as ∙ (shows_it how refl
-        ∙ (ap₂ (λ (n : ℕ) (o : Option ℕ). Some (Shows q (why_shown q how) (shown_response rd.p.head (why_shown q how) (span_to n o) (is_part k.class how e.head.status)) n o)) (sym begins_at) (sym ends)
+        ∙ (ap₂ (λ (n : ℕ) (o : Option ℕ). Some
+        (Shows q (why_shown q how) (shown_response rd.p.head (why_shown q how) (span_to n o) (is_part k.class how e.head.status)) n o)) (sym begins_at)
+        (sym ends)
         ∙ ap (λ (h : Response). Some (Shows q (why_shown q how) h k.lo k.hi)) (sym head))))
 
 -- THE HANDLER
 
-module _ {B : Type 0} {g : Ghosts B} {limits : Limits} (r u : Rows B g) (t : Tables) (facts : Facts limits t) (stands : RowsStand limits r t) (now want c q : ℕ) (how : BoundBy) (k : Consumer) (there : get nat_eq r.consumers c ≡ Some k) (at : IsUnshownBy q how k) (before out : List Act) where
+module _ {B : Type 0} {g : Ghosts B} {limits : Limits} (r u : Rows B g) (t : Tables) (facts : Facts limits t) (stands : RowsStand limits r t)
+    (now want c q : ℕ) (how : BoundBy) (k : Consumer) (there : get nat_eq r.consumers c ≡ Some k) (at : IsUnshownBy q how k) (before out : List Act) where
   mine : IsBoundRow t c q how k
   mine = bound_row_of r t facts.law c q at.0.0 at.0.1 how k stands there at.0.2
 
   unshown_v : mine.v.shown ≡ false
   unshown_v = sym mine.kept.shown ∙ at.1
 
-  pub first_waits_answered : (y : ℕ) → how ≡ by.FirstHole y → is_headless_open (table_of r.exchanges y).running ≡ true → out ≡ before ++ (act.Pending c (wait.Head y) ∷ []) → Answered limits (shelf_of r.entries).faults r t before out now (event.Poll c want)
+  pub first_waits_answered : (y : ℕ) → how ≡ by.FirstHole y → is_headless_open (table_of r.exchanges y).running ≡ true → out ≡ before ++
+      (act.Pending c (wait.Head y) ∷ []) → Answered limits (shelf_of r.entries).faults r t before out now (event.Poll c want)
   first_waits_answered y same on acts =
-      head_waits limits (shelf_of r.entries).faults r t facts.law now c want mine.v mine.row before out y (first_waits r t facts stands now want c q how k mine unshown_v y same on) acts stands
+      head_waits limits (shelf_of r.entries).faults r t facts.law now c want mine.v mine.row before out y
+      (first_waits r t facts stands now want c q how k mine unshown_v y same on) acts stands
 
-  pub stored_answered : waits_for_first (table_of r.exchanges) how ≡ false → (head : Head) → head_at (shelf_of r.entries) q ≡ Some head → (total : Option ℕ) → total ≡ option_or head.total k.hi → (answer : Response)
-      → answer ≡ shown_response (record head { total = total }) (why_shown q how) (span_to k.lo k.hi) (is_part k.class how head.status) → out ≡ before ++ (act.Shown c q (why_shown q how) answer.status answer.fields k.lo k.hi ∷ [])
+  pub stored_answered : waits_for_first (table_of r.exchanges) how ≡ false → (head : Head) → head_at (shelf_of r.entries) q ≡ Some head →
+      (total : Option ℕ) → total ≡ option_or head.total k.hi → (answer : Response)
+      → answer ≡ shown_response (record head { total = total }) (why_shown q how) (span_to k.lo k.hi) (is_part k.class how head.status) → out ≡ before ++
+      (act.Shown c q (why_shown q how) answer.status answer.fields k.lo k.hi ∷ [])
       → u.last_start ≡ r.last_start → u.keys ≡ r.keys → u.entries ≡ r.entries → u.exchanges ≡ r.exchanges → ChangesAt r.consumers u.consumers c once_shown
       → Answered limits (shelf_of r.entries).faults u t before out now (event.Poll c want)
   stored_answered ready head stored total total_at answer answer_is acts last same_keys same_entries exchanges changes =
@@ -406,16 +460,21 @@ module _ {B : Type 0} {g : Ghosts B} {limits : Limits} (r u : Rows B g) (t : Tab
       let v = mine.v in
       let kp = mine.kept in
       let s : Tables = with_consumer c (Some (record v { shown = true })) t in
-      let move = stored_shows r t facts stands now want c q how k mine unshown_v ready e is total (total_at ∙ ap (λ (h : Head). option_or h.total k.hi) (sym head_is)) in
-      let same_answer = ap (λ (h : Head). shown_response (record h { total = total }) (why_shown q how) (span_to k.lo k.hi) (is_part k.class how h.status)) head_is ∙ sym answer_is in
+      let move = stored_shows r t facts stands now want c q how k mine unshown_v ready e is total
+      (total_at ∙ ap (λ (h : Head). option_or h.total k.hi) (sym head_is)) in
+      let same_answer = ap (λ (h : Head). shown_response (record h { total = total }) (why_shown q how) (span_to k.lo k.hi)
+      (is_part k.class how h.status)) head_is ∙ sym answer_is in
       let m : Move = Shows q (why_shown q how) answer k.lo k.hi in
       does_answered limits (shelf_of r.entries).faults u t (with_event now ev s) before out (acts_of c m) now ev
-      (shows_reader limits t facts.law now c want v mine.row q (why_shown q how) answer k.lo k.hi (move ∙ ap (λ (h : Response). Shows q (why_shown q how) h k.lo k.hi) same_answer) (ap reads mine.at)) refl refl acts
+      (shows_reader limits t facts.law now c want v mine.row q (why_shown q how) answer k.lo k.hi
+      (move ∙ ap (λ (h : Response). Shows q (why_shown q how) h k.lo k.hi) same_answer) (ap reads mine.at)) refl refl acts
       (stands_counted u s now ev refl
-      (stands_reading t c v true v.given mine.row r u stands kp.is_there last same_keys (ap (λ z. next_of z) exchanges) (subst (λ z. shelf.Stays (shelf_of r.entries) (shelf_of z)) (sym same_entries) (record { kept = λ n. refl; order = refl; used = refl; limits = refl }))
+      (stands_reading t c v true v.given mine.row r u stands kp.is_there last same_keys (ap (λ z. next_of z) exchanges)
+      (subst (λ z. shelf.Stays (shelf_of r.entries) (shelf_of z)) (sym same_entries) (record { kept = λ n. refl; order = refl; used = refl; limits = refl }))
       (once_shown k) (becomes_by r.consumers u.consumers c k once_shown there changes)
       (assumption (kp, kp.answer ∙ no_answer mine.v.shown))
-      (λ y. subst (λ z. KeepsExchange s y (table_of z y)) (sym exchanges) (exchange_reading t c v true v.given mine.row y (table_of r.exchanges y) (held_shown y (t.exchange y)) (stands.exchanges y)))))
+      (λ y. subst (λ z. KeepsExchange s y (table_of z y)) (sym exchanges)
+      (exchange_reading t c v true v.given mine.row y (table_of r.exchanges y) (held_shown y (t.exchange y)) (stands.exchanges y)))))
     where
       no_answer : (b : Bool) → (if b then None else answer_at t mine.v.place) ≡ None
       no_answer true = refl

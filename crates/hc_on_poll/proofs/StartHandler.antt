@@ -20,8 +20,10 @@ use Rattle.hc_txn.specs.{declared.transaction.Transaction.{Transaction as Consum
 use Rattle.hc_state.proofs.{Fallbacks.{IsAlike, same, fallback, held_alike, users_alike}, ConsumerSteps.{KeyAfter, SaysOfIt, key_with, key_stays, keys_with, at_it}, Ties.{kept_none, consumer_same, exchange_same, entry_same, key_same}}
 use Rattle.hc_state.proofs.LiveCounts as counts
 
-module _ {B : Type 0} {g : Ghosts B} {limits : Limits} (r u : Rows B g) (t : Tables) (law : Lawful t) (now c : ℕ) (request copied : Request) (k : Consumer) (stands : RowsStand limits r t) (ascending : r.last_start < c) (copies : copied ≡ request)
-    (last : u.last_start ≡ c) (exchanges : u.exchanges ≡ r.exchanges) (same_entries : u.entries ≡ r.entries) (becomes : BecomesAt r.consumers u.consumers c (Some k))
+module _ {B : Type 0} {g : Ghosts B} {limits : Limits} (r u : Rows B g) (t : Tables) (law : Lawful t) (now c : ℕ) (request copied : Request)
+    (k : Consumer) (stands : RowsStand limits r t) (ascending : r.last_start < c) (copies : copied ≡ request)
+    (last : u.last_start ≡ c) (exchanges : u.exchanges ≡ r.exchanges) (same_entries : u.entries ≡ r.entries)
+    (becomes : BecomesAt r.consumers u.consumers c (Some k))
     (is : k ≡ begun copied now) where
   abbrev s : Tables
   s = with_event now (event.Start c request) (with_start now c request t)
@@ -47,7 +49,8 @@ module _ {B : Type 0} {g : Ghosts B} {limits : Limits} (r u : Rows B g) (t : Tab
   consumers : (d : ℕ) → KeepsConsumer s (get nat_eq u.consumers d) (s.consumer d)
   consumers d = elim (same_or c d) [
     | inl e ↦ subst (λ (z : ℕ). KeepsConsumer s (get nat_eq u.consumers z) (s.consumer z)) e (rw (becomes.places c, eqb-same c) kept_here)
-    | inr ne ↦ rw (becomes.places d, eqb-other c d ne) (consumer_same t s (get nat_eq r.consumers d) (t.consumer d) (λ v at. record { past = λ x is. refl; length = λ q lo hi by is. refl }) (stands.consumers d))
+    | inr ne ↦ rw (becomes.places d, eqb-other c d ne)
+        (consumer_same t s (get nat_eq r.consumers d) (t.consumer d) (λ v at. record { past = λ x is. refl; length = λ q lo hi by is. refl }) (stands.consumers d))
   ]
 
   held : (x : ℕ) (row : Option Exchange) → held_for s x row ≡ held_for t x row
@@ -57,7 +60,8 @@ module _ {B : Type 0} {g : Ghosts B} {limits : Limits} (r u : Rows B g) (t : Tab
   -- EXCHANGES
 
   all_exchanges : (x : ℕ) → KeepsExchange s x (table_of u.exchanges x)
-  all_exchanges x = rw exchanges (exchange_same t s x (table_of r.exchanges x) (record { row = refl; brings = λ w at. refl; held = held x (t.exchange x) }) (stands.exchanges x))
+  all_exchanges x = rw exchanges
+      (exchange_same t s x (table_of r.exchanges x) (record { row = refl; brings = λ w at. refl; held = held x (t.exchange x) }) (stands.exchanges x))
 
   -- KEYS
 
@@ -103,7 +107,8 @@ module _ {B : Type 0} {g : Ghosts B} {limits : Limits} (r u : Rows B g) (t : Tab
 
   keys_by : (b : Bool) → queues ≡ b → IsEntered b c request.key r.keys u.keys → (key : List ℕ) → KeepsKey (with_consumer c (Some v) t) key (kept_of u.keys key)
   keys_by false is entered = λ key. rw (entered key) (key_with t c (Some v) key (kept_of r.keys key) (kept_of r.keys key) (stands.keys key)
-      (key_stays t c (Some v) key (kept_of r.keys key) (stands.keys key) (stays_out key (line_here key ∙ (rw is (then_false (bytes_eq request.key key) false refl))))))
+      (key_stays t c (Some v) key (kept_of r.keys key) (stands.keys key)
+      (stays_out key (line_here key ∙ (rw is (then_false (bytes_eq request.key key) false refl))))))
   keys_by true is entered =
       keys_with t c (Some v) (on_line (line_with c)) request.key r.keys u.keys stands.keys entered
       (enters (kept_of r.keys request.key) (stands.keys request.key) (line_here request.key ∙ rw (bytes_eq-same request.key request.key refl, is) refl))
@@ -112,7 +117,8 @@ module _ {B : Type 0} {g : Ghosts B} {limits : Limits} (r u : Rows B g) (t : Tab
   -- the other tables have the same consumers
   keys_then : (key : List ℕ) (a : keyed.Kept) → KeepsKey (with_consumer c (Some v) t) key a → KeepsKey s key a
   unfolding current
-  keys_then key a kept = key_same (with_consumer c (Some v) t) s key a (record { current = refl; in_line = λ d. refl; passed = λ d. refl; away = λ d. refl; turn = λ d. refl }) kept
+  keys_then key a kept = key_same (with_consumer c (Some v) t) s key a
+      (record { current = refl; in_line = λ d. refl; passed = λ d. refl; away = λ d. refl; turn = λ d. refl }) kept
 
   -- REPRESENTATIONS
 
@@ -141,7 +147,8 @@ module _ {B : Type 0} {g : Ghosts B} {limits : Limits} (r u : Rows B g) (t : Tab
   entries : (q : ℕ) → KeepsEntry s q ((shelf_of u.entries).kept q) (s.representation q)
   unfolding kind_of
   entries q = rw same_entries (entry_same t s q ((shelf_of r.entries).kept q) (t.representation q) refl
-      (record { users = λ d. users_alike t s alike q d; first = firsts q; list = bound_list q; kind = λ w at. refl; overs = λ y on. on }) (stands.entries.each q))
+      (record { users = λ d. users_alike t s alike q d; first = firsts q; list = bound_list q; kind = λ w at. refl; overs = λ y on. on })
+      (stands.entries.each q))
 
   -- HOW MANY ARE LIVE
 
@@ -150,10 +157,13 @@ module _ {B : Type 0} {g : Ghosts B} {limits : Limits} (r u : Rows B g) (t : Tab
       let f : ℕ → Bool = λ d. is_live (t.consumer d) in
       let h : ℕ → Bool = λ d. is_live (s.consumer d) in
       let above : t.last_start < c = (let same = stands.last_start in rw same at ascending) in
-      let alike : counts.counted h t.starts ≡ counts.counted f t.starts = counts.counted_same f h c t.starts (λ among. counts.not_among (t.last_start + 1) c t.starts law.order.starts (omega (arith, above)) among) (λ d ne. ap is_live (others d ne)) in
+      let alike : counts.counted h t.starts ≡ counts.counted f t.starts =
+      counts.counted_same f h c t.starts (λ among. counts.not_among (t.last_start + 1) c t.starts law.order.starts (omega (arith, above)) among)
+      (λ d ne. ap is_live (others d ne)) in
       let more : counts.counted h (c ∷ t.starts) ≡ counts.counted h t.starts + counts.one (h c) = counts.counted-cons h c t.starts in
       let lives : counts.one (h c) ≡ 1 = rw here refl in
-      let absent : get nat_eq r.consumers c ≡ None = kept_none t (get nat_eq r.consumers c) (subst (λ o. KeepsConsumer t (get nat_eq r.consumers c) o) fresh (stands.consumers c)) in
+      let absent : get nat_eq r.consumers c ≡ None =
+      kept_none t (get nat_eq r.consumers c) (subst (λ o. KeepsConsumer t (get nat_eq r.consumers c) o) fresh (stands.consumers c)) in
       let len : hash_map_len u.consumers + 0 ≡ hash_map_len r.consumers + 1 = rw absent at becomes.len in
       let before : hash_map_len r.consumers ≡ counts.counted f t.starts = stands.count in
       omega (arith, alike, more, lives, len, before)
@@ -173,7 +183,8 @@ module _ {B : Type 0} {g : Ghosts B} {limits : Limits} (r u : Rows B g) (t : Tab
 -- WHAT ENTERING NEEDS
 
 -- who hasn't started stands in no line
-pub not_in_yet : {B : Type 0} {g : Ghosts B} {limits : Limits} (r : Rows B g) (t : Tables) (law : Lawful t) (c : ℕ) (key : List ℕ) → RowsStand limits r t → r.last_start < c → is_in c (line_of r.keys key) ≡ false
+pub not_in_yet : {B : Type 0} {g : Ghosts B} {limits : Limits} (r : Rows B g) (t : Tables) (law : Lawful t) (c : ℕ) (key : List ℕ) →
+    RowsStand limits r t → r.last_start < c → is_in c (line_of r.keys key) ≡ false
 not_in_yet r t law c key stands ascending =
     let same = stands.last_start in
     let fresh : t.consumer c ≡ None = law.sound.numbered.lists.new_consumers c (rw same at ascending) in

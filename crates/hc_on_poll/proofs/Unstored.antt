@@ -28,12 +28,14 @@ pub record IsUnstored {B : Type 0} {g : Ghosts B} (r : Rows B g) (a : Reader) (w
   pub step_is : step ≡ read_step view
 
 -- what is told of what is stored is told of what is kept
-pub unstored_as : (table : Table) (o : Option Kept) (view : EntryView) (a : Reader) (next : Option ℕ) (held : Bool) (source : Option ℕ) → option_map view_of o ≡ Some view
+pub unstored_as : (table : Table) (o : Option Kept) (view : EntryView) (a : Reader) (next : Option ℕ) (held : Bool) (source : Option ℕ) →
+    option_map view_of o ≡ Some view
     → held ≡ ((view.is_lost && is_number view.alone a.c) && nat_lt 0 (held_own table a.own)) → source ≡ option_or (if_running table a.own) (group_by table view)
     → record { stored = None; next_stored = next; held = held; source = source } ≡ unstored_ahead table o next a
 unstored_as table o view a next held source is held_is source_is = by_kept o is
   where
-    by_kept : (o : Option Kept) → option_map view_of o ≡ Some view → record { stored = None; next_stored = next; held = held; source = source } ≡ unstored_ahead table o next a
+    by_kept : (o : Option Kept) → option_map view_of o ≡ Some view →
+        record { stored = None; next_stored = next; held = held; source = source } ≡ unstored_ahead table o next a
     by_kept None is = absurd (none_some view is)
     by_kept (Some e) is =
         let seen : view ≡ view_of e = sym (some_inj (view_of e) view is) in
@@ -49,7 +51,8 @@ none_read f o n missing = by_count (n == 0)
     by_count true = refl
     by_count false = sym ((stretch-absent f o n).1 missing)
 
-pub unstored_of : {B : Type 0} {g : Ghosts B} (r : Rows B g) (a : Reader) (want : ℕ) (step : ReadStep) → IsSomeAnd (get nat_eq r.consumers a.c) (ReadsUnstored r a) → NextReadIs r a step → IsUnstored r a want step
+pub unstored_of : {B : Type 0} {g : Ghosts B} (r : Rows B g) (a : Reader) (want : ℕ) (step : ReadStep) →
+    IsSomeAnd (get nat_eq r.consumers a.c) (ReadsUnstored r a) → NextReadIs r a step → IsUnstored r a want step
 unstored_of r a want step reads next =
     let (k, at, its) = there (get nat_eq r.consumers a.c) (ReadsUnstored r a) reads in
     let seen = next.ahead_is in

@@ -9,8 +9,8 @@ ghost use Rattle.hc_state.specs.Candidates.{CandidateIs};
 ghost use Rattle.hc_state.specs.Good.{StandsBy};
 ghost use Rattle.hc_on_poll.specs.Ready.{IsCurrentWith};
 
-use hc_on_leave::writers::exclusive_in;
 use hc_on_leave::writer_group::group_in;
+use hc_on_leave::writers::exclusive_in;
 use hc_record::StoredHead;
 use hc_rules::{Candidate, Plan};
 use hc_state::Rows;

@@ -27,7 +27,7 @@ use hc_event::{Act, Acts, Cause, Wait};
 use hc_on_leave::acts::put;
 use hc_on_leave::leave::{end_reading, fail};
 use hc_on_leave::misread::misread_by;
-use hc_on_leave::writer_group::{if_running, group_in};
+use hc_on_leave::writer_group::{group_in, if_running};
 use hc_rules::ReadStep;
 use hc_state::{Rows, Transaction, count_given};
 use hc_store::Backend;

@@ -155,25 +155,34 @@ cut-none came is = and_not came.stopped (request_in came) is
 pub came-other : (k : ℕ) (calls : List Called) (call : Called) → is_got_by k call.event ≡ false → is_stop_of k call.event ≡ false
     → came_of k (calls ++ call ∷ []) ≡ came_of k calls
 came-other k calls call ungot unstopped =
-    let bytes : bytes_of k (calls ++ call ∷ []) ≡ bytes_of k calls = bytes-more k calls call ∙ (ap (λ (b : Bool). bytes_of k calls ++ (if b then call.bytes else [])) ungot ∙ append-nil (bytes_of k calls)) in
-    let stopped : has_stopped k (calls ++ call ∷ []) ≡ has_stopped k calls = stopped-more k calls call ∙ (ap (λ (b : Bool). has_stopped k calls || b) unstopped ∙ or_none (has_stopped k calls)) in
-    ap (λ (l : List ℕ). record { bytes = l; stopped = has_stopped k (calls ++ call ∷ []) }) bytes ∙ ap (λ (b : Bool). record { bytes = bytes_of k calls; stopped = b }) stopped
+    let bytes : bytes_of k (calls ++ call ∷ []) ≡ bytes_of k calls = bytes-more k calls call ∙
+    (ap (λ (b : Bool). bytes_of k calls ++ (if b then call.bytes else [])) ungot ∙ append-nil (bytes_of k calls)) in
+    let stopped : has_stopped k (calls ++ call ∷ []) ≡ has_stopped k calls = stopped-more k calls call ∙
+    (ap (λ (b : Bool). has_stopped k calls || b) unstopped ∙ or_none (has_stopped k calls)) in
+    ap (λ (l : List ℕ). record { bytes = l; stopped = has_stopped k (calls ++ call ∷ []) }) bytes ∙
+    ap (λ (b : Bool). record { bytes = bytes_of k calls; stopped = b }) stopped
 
 -- bytes came
 pub came-got : (k : ℕ) (calls : List Called) (call : Called) → is_got_by k call.event ≡ true → is_stop_of k call.event ≡ false
     → came_of k (calls ++ call ∷ []) ≡ with_bytes call.bytes (came_of k calls)
 came-got k calls call got unstopped =
-    let bytes : bytes_of k (calls ++ call ∷ []) ≡ bytes_of k calls ++ call.bytes = bytes-more k calls call ∙ ap (λ (b : Bool). bytes_of k calls ++ (if b then call.bytes else [])) got in
-    let stopped : has_stopped k (calls ++ call ∷ []) ≡ has_stopped k calls = stopped-more k calls call ∙ (ap (λ (b : Bool). has_stopped k calls || b) unstopped ∙ or_none (has_stopped k calls)) in
-    ap (λ (l : List ℕ). record { bytes = l; stopped = has_stopped k (calls ++ call ∷ []) }) bytes ∙ ap (λ (b : Bool). record { bytes = bytes_of k calls ++ call.bytes; stopped = b }) stopped
+    let bytes : bytes_of k (calls ++ call ∷ []) ≡ bytes_of k calls ++ call.bytes = bytes-more k calls call ∙
+    ap (λ (b : Bool). bytes_of k calls ++ (if b then call.bytes else [])) got in
+    let stopped : has_stopped k (calls ++ call ∷ []) ≡ has_stopped k calls = stopped-more k calls call ∙
+    (ap (λ (b : Bool). has_stopped k calls || b) unstopped ∙ or_none (has_stopped k calls)) in
+    ap (λ (l : List ℕ). record { bytes = l; stopped = has_stopped k (calls ++ call ∷ []) }) bytes ∙
+    ap (λ (b : Bool). record { bytes = bytes_of k calls ++ call.bytes; stopped = b }) stopped
 
 -- it ended or broke
 pub came-stop : (k : ℕ) (calls : List Called) (call : Called) → is_got_by k call.event ≡ false → is_stop_of k call.event ≡ true
     → came_of k (calls ++ call ∷ []) ≡ with_stop (came_of k calls)
 came-stop k calls call ungot is =
-    let bytes : bytes_of k (calls ++ call ∷ []) ≡ bytes_of k calls = bytes-more k calls call ∙ (ap (λ (b : Bool). bytes_of k calls ++ (if b then call.bytes else [])) ungot ∙ append-nil (bytes_of k calls)) in
-    let stopped : has_stopped k (calls ++ call ∷ []) ≡ true = stopped-more k calls call ∙ (ap (λ (b : Bool). has_stopped k calls || b) is ∙ or_all (has_stopped k calls)) in
-    ap (λ (l : List ℕ). record { bytes = l; stopped = has_stopped k (calls ++ call ∷ []) }) bytes ∙ ap (λ (b : Bool). record { bytes = bytes_of k calls; stopped = b }) stopped
+    let bytes : bytes_of k (calls ++ call ∷ []) ≡ bytes_of k calls = bytes-more k calls call ∙
+    (ap (λ (b : Bool). bytes_of k calls ++ (if b then call.bytes else [])) ungot ∙ append-nil (bytes_of k calls)) in
+    let stopped : has_stopped k (calls ++ call ∷ []) ≡ true = stopped-more k calls call ∙
+    (ap (λ (b : Bool). has_stopped k calls || b) is ∙ or_all (has_stopped k calls)) in
+    ap (λ (l : List ℕ). record { bytes = l; stopped = has_stopped k (calls ++ call ∷ []) }) bytes ∙
+    ap (λ (b : Bool). record { bytes = bytes_of k calls; stopped = b }) stopped
 
 pub accepted-same : (k : ℕ) (calls : List Called) (call : Called) → is_accept_of k call.event ≡ false → is_accepted k (calls ++ call ∷ []) ≡ is_accepted k calls
 accepted-same k calls call off = accepted-more k calls call ∙ (ap (λ (b : Bool). is_accepted k calls || b) off ∙ or_none (is_accepted k calls))

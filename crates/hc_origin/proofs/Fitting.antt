@@ -27,7 +27,8 @@ live-stage cs k live is = by (find (is_numbered k) cs) live is where
   by None live is = cc
   by (Some c) live is = open_unclosed c live is
 
-pub later-changed : (k : ℕ) (change : Taker → Taker) → ((c : Taker) → (change c).k ≡ c.k) → (cs : List Taker) → is_live cs k ≡ true → Later cs (changed_at k change cs)
+pub later-changed : (k : ℕ) (change : Taker → Taker) → ((c : Taker) → (change c).k ≡ c.k) → (cs : List Taker) → is_live cs k ≡ true →
+    Later cs (changed_at k change cs)
 later-changed k change number cs live = record { each = each } where
   each : (j : ℕ) → stage_in cs j ≡ Closed → (stage_in (changed_at k change cs) j ≡ Closed) × (sent_in (changed_at k change cs) j ≡ sent_in cs j)
   each j is = elim (cases_Bool (eqb j k)) [
@@ -87,7 +88,8 @@ all-later cs ds before [] later fit = tt
 all-later cs ds before (call ∷ calls) later fit =
     (fits-later cs ds before call later fit.0, all-later cs ds (before ++ call ∷ []) calls later fit.1)
 
-fit-more : (cs : List Taker) (before calls : List Called) (call : Called) → AllFit cs before calls → Fits cs (before ++ calls) call → AllFit cs before (calls ++ call ∷ [])
+fit-more : (cs : List Taker) (before calls : List Called) (call : Called) → AllFit cs before calls → Fits cs (before ++ calls) call →
+    AllFit cs before (calls ++ call ∷ [])
 fit-more cs before [] call fit fits = (subst (λ (l : List Called). Fits cs l call) (append-nil before) fits, tt)
 fit-more cs before (c ∷ calls) call fit fits =
     (fit.0, fit-more cs (before ++ c ∷ []) calls call fit.1 (subst (λ (l : List Called). Fits cs l call) (sym (append_assoc before (c ∷ []) calls)) fits))
@@ -115,7 +117,8 @@ asks-right came c n reading is =
       lacks = λ some. absurd (asked_none (request_in came) some none);
     }
 
-owes-right : (came : Came) (c : Taker) (n : ℕ) (bytes : List ℕ) → IsOwing came c bytes → 0 < length bytes → c.short ≡ Some n → StandsRight came (standing_of n c)
+owes-right : (came : Came) (c : Taker) (n : ℕ) (bytes : List ℕ) → IsOwing came c bytes → 0 < length bytes → c.short ≡ Some n →
+    StandsRight came (standing_of n c)
 owes-right came c n bytes is some short =
     let whole : is_some (request_in came) ≡ true = ap is_some is.is.asked in
     let len = length-append c.sent bytes in record {
@@ -150,11 +153,13 @@ module _ (log : Log) (asking : ℕ → Option Reading) (owed : List Unsent) wher
   each-right : Rests log asking owed → (c : Taker) → find (is_numbered c.k) log.takers ≡ Some c → c.live ≡ true
       → StandsRight (came_of c.k log.calls) (standing_of (length log.calls) c)
   each-right rests c is live =
-      let place = subst (λ (o : Option Taker). PlaceOf (is_accepted c.k log.calls) (came_of c.k log.calls) o (asking c.k) (unsent_in owed c.k)) is (rests.keeps.places c.k) in
+      let place = subst (λ (o : Option Taker). PlaceOf (is_accepted c.k log.calls) (came_of c.k log.calls) o (asking c.k) (unsent_in owed c.k)) is
+      (rests.keeps.places c.k) in
       let lacking = lacking-if (length log.calls) c (find (is_numbered c.k) log.takers) (unsent_in owed c.k) is (rests.lacking c.k) in
       stands-right (is_accepted c.k log.calls) (came_of c.k log.calls) c (length log.calls) (asking c.k) (unsent_in owed c.k) place lacking live
 
-  all-right : (cs : List Taker) → AreApart cs → ((c : Taker) → find (is_numbered c.k) cs ≡ Some c → c.live ≡ true → StandsRight (came_of c.k log.calls) (standing_of (length log.calls) c))
+  all-right : (cs : List Taker) → AreApart cs →
+      ((c : Taker) → find (is_numbered c.k) cs ≡ Some c → c.live ≡ true → StandsRight (came_of c.k log.calls) (standing_of (length log.calls) c))
       → AllStand log.calls (map (standing_of (length log.calls)) (filter is_taking cs))
   all-right [] apart each = tt
   all-right (c ∷ cs) apart each =

@@ -11,10 +11,12 @@ use Rattle.hc_origin.specs.{declared.origin.Origin.{Origin}, Coming.{Came}, Repl
 use Rattle.hc_origin.proofs.{Comings.{answer-more}, Steps.{answered-kept, read-asks, read-fails, read-on}}
 
 -- the log is the one that was
-pub stays-kept : (reports : Bool) (log : Log) (reported : Option Log) (stages : ℕ → Stage) (P : Log → Type 0) → Follows reports reported stages log → P log → GoesTo reports log reported stages P
+pub stays-kept : (reports : Bool) (log : Log) (reported : Option Log) (stages : ℕ → Stage) (P : Log → Type 0) → Follows reports reported stages log →
+    P log → GoesTo reports log reported stages P
 stays-kept reports log reported stages P follows is = record { next = log; follows = follows; calls = refl; bound = refl; holds = is }
 
-pub handles-kept : (reports : Bool) (origin : Origin) (log : Log) (reported : Option Log) (stages : ℕ → Stage) (result : Result (Unit {0}) NoMemory) → Follows reports reported stages log
+pub handles-kept : (reports : Bool) (origin : Origin) (log : Log) (reported : Option Log) (stages : ℕ → Stage) (result : Result (Unit {0}) NoMemory) →
+    Follows reports reported stages log
     → OnOk result (AreKept origin log) → HandlesTo reports origin log reported stages result
 handles-kept reports origin log reported stages (Ok done) follows is = stays-kept reports log reported stages (AreKept origin) follows is
 handles-kept reports origin log reported stages (Err e) follows is = follows
@@ -32,7 +34,8 @@ reads-some None new bytes result is = absurd is
 reads-some (Some s) None bytes result is = absurd is
 reads-some (Some s) (Some t) bytes result is = (s, t, refl, refl, is)
 
-module _ (k : ℕ) (bytes : List ℕ) (before : Came) (log : Log) (asking new : ℕ → Option Reading) (owed : List Unsent) (hears : Hears k before (with_bytes bytes before) log asking owed)
+module _ (k : ℕ) (bytes : List ℕ) (before : Came) (log : Log) (asking new : ℕ → Option Reading) (owed : List Unsent)
+    (hears : Hears k before (with_bytes bytes before) log asking owed)
     (same : (j : ℕ) → eqb j k ≡ false → new j ≡ asking j) where
   -- none is kept
   pub none-reads : ReadsOn (asking k) (new k) bytes None → Keeps log new owed
@@ -40,11 +43,13 @@ module _ (k : ℕ) (bytes : List ℕ) (before : Came) (log : Log) (asking new : 
       let none = reads-none (asking k) (new k) bytes own in
       answered-kept k before (with_bytes bytes before) log asking new owed (λ text is. answer-more before bytes text is) hears none.0 none.1 same
 
-  got-on : (s t : Reading) (used : ℕ) (got : Option WireRequest) → asking k ≡ Some s → new k ≡ Some t → IsNextRequest (next_in 1 s bytes) bytes used got t → IsGot k got log new owed
+  got-on : (s t : Reading) (used : ℕ) (got : Option WireRequest) → asking k ≡ Some s → new k ≡ Some t →
+      IsNextRequest (next_in 1 s bytes) bytes used got t → IsGot k got log new owed
   got-on s t used None was now next = read-on k bytes before log asking new owed hears same s was t next now
   got-on s t used (Some request) was now next = read-asks k bytes before log asking new owed hears same s was request t (drop used bytes) next
 
-  taken-on : (s t : Reading) (read : Result (Taken WireRequest) MsgError) → asking k ≡ Some s → new k ≡ Some t → TakesNextRequest 1 s bytes read t → IsTaken k read log new owed
+  taken-on : (s t : Reading) (read : Result (Taken WireRequest) MsgError) → asking k ≡ Some s → new k ≡ Some t → TakesNextRequest 1 s bytes read t →
+      IsTaken k read log new owed
   taken-on s t (Ok taken) was now next = got-on s t taken.used taken.got was now next
   taken-on s t (Err e) was now next = λ other. elim next [
     | inl memory ↦ absurd (other memory)

@@ -26,7 +26,8 @@ lacking-other : (k : ℕ) (change : Taker → Taker) → ((c : Taker) → (chang
 lacking-other k change number log us none lacking = λ j. at_or k j
     (λ n. IfSome (unsent_in us n) (IsLacking (length log.calls) (find (is_numbered n) (changed_at k change log.takers))))
     (subst (λ (u : Option (List ℕ)). IfSome u (IsLacking (length log.calls) (find (is_numbered k) (changed_at k change log.takers)))) (sym none) tt)
-    (λ off. subst (λ (o : Option Taker). IfSome (unsent_in us j) (IsLacking (length log.calls) o)) (sym (find-other k change number log.takers j off)) (lacking j))
+    (λ off. subst (λ (o : Option Taker). IfSome (unsent_in us j) (IsLacking (length log.calls) o)) (sym (find-other k change number log.takers j off))
+    (lacking j))
 
 module _ (log : Log) (asking : ℕ → Option Reading) (us vs : List Unsent) (u v : Unsent) (number : v.k ≡ u.k) (keeps : Keeps log asking (us ++ u ∷ vs)) where
   owes : (c : Taker) × (find (is_numbered u.k) log.takers ≡ Some c) × (asking u.k ≡ None) × IsOwing (came_of u.k log.calls) c u.bytes
@@ -45,11 +46,13 @@ module _ (log : Log) (asking : ℕ → Option Reading) (us vs : List Unsent) (u 
       let c = owes.0 in
       let came = came_of k log.calls in
       let change = taking bytes short (length log.calls) in
-      let found : find (is_numbered k) (changed_at k change log.takers) ≡ Some (change c) = find-changed k change (λ d. refl) log.takers ∙ ap (option_map change) owes.1 in
+      let found : find (is_numbered k) (changed_at k change log.takers) ≡ Some (change c) = find-changed k change (λ d. refl) log.takers ∙
+      ap (option_map change) owes.1 in
       let once = once-replaced us vs u v number keeps.once in
       let own : unsent_in (us ++ v ∷ vs) k ≡ Some v.bytes = subst (λ (n : ℕ). unsent_in (us ++ v ∷ vs) n ≡ Some v.bytes) number (own-in us vs v once) in
       let text : c.sent ++ u.bytes ≡ (c.sent ++ bytes) ++ v.bytes = ap (λ (l : List ℕ). c.sent ++ l) (sym whole) ∙ sym (append_assoc c.sent bytes v.bytes) in
-      let is : IsOwing came (change c) v.bytes = record { live = owes.3.live; reads = owes.3.reads; is = subst (λ (l : List ℕ). IsAnswer came l) text owes.3.is } in
+      let is : IsOwing came (change c) v.bytes =
+      record { live = owes.3.live; reads = owes.3.reads; is = subst (λ (l : List ℕ). IsAnswer came l) text owes.3.is } in
       let place : PlaceIn (with_sent k bytes short log) asking (us ++ v ∷ vs) k =
       place-same (is_accepted k log.calls) _ _ _ _ _ None _ (Some v.bytes) _ refl refl (sym found) (sym owes.2) (sym own) is in
       record {
@@ -72,8 +75,10 @@ module _ (log : Log) (asking : ℕ → Option Reading) (us vs : List Unsent) (u 
       (subst (λ (w : Option (List ℕ)). IfSome w (IsLacking (length log.calls) (find (is_numbered u.k) (changed_at u.k change log.takers)))) (sym own)
       (subst (λ (o : Option Taker). IsLacking (length log.calls) o v.bytes) (sym found) (some, refl)))
       (λ off. let away : eqb v.k j ≡ false = ap (λ (n : ℕ). eqb n j) number ∙ apart_sym j u.k off in
-      subst (λ (w : Option (List ℕ)). IfSome w (IsLacking (length log.calls) (find (is_numbered j) (changed_at u.k change log.takers)))) (sym (others-with vs v j away))
-      (subst (λ (o : Option Taker). IfSome (unsent_in vs j) (IsLacking (length log.calls) o)) (sym (find-other u.k change (λ d. refl) log.takers j off)) (lacking j)))
+      subst (λ (w : Option (List ℕ)). IfSome w (IsLacking (length log.calls) (find (is_numbered j) (changed_at u.k change log.takers))))
+      (sym (others-with vs v j away))
+      (subst (λ (o : Option Taker). IfSome (unsent_in vs j) (IsLacking (length log.calls) o)) (sym (find-other u.k change (λ d. refl) log.takers j off))
+      (lacking j)))
     where
       change : Taker → Taker
       change = taking bytes true (length log.calls)
@@ -142,14 +147,16 @@ module _ (reports : Bool) (reported mid : Option Log) (stages next : ℕ → Sta
   }
 
   pub offers-all : (new : Option Log) (last : ℕ → Stage) → AreLacking log vs → Sends reported mid u.k u.bytes v.bytes false → v.bytes ≡ []
-      → Reports mid new (with_closed v.k) → ((j : ℕ) → last j ≡ with_stage v.k (closed_of (next v.k)) next j) → GoesTo reports log new last (AreOffered asking us vs)
+      → Reports mid new (with_closed v.k) → ((j : ℕ) → last j ≡ with_stage v.k (closed_of (next v.k)) next j) →
+      GoesTo reports log new last (AreOffered asking us vs)
   offers-all new last lacking sends none more stays =
       let sent = with_sent u.k sends.bytes false log in
       let kept = sent-kept log asking us vs u v number keeps sends.bytes false sends.whole in
       let alone : unsent_in vs v.k ≡ None = none-behind us vs v.k (own-without us vs v kept.once) in
       let alone_u : unsent_in vs u.k ≡ None = subst (λ (n : ℕ). unsent_in vs n ≡ None) number alone in record {
         next = with_closed v.k sent;
-        follows = follows-closed reports mid new next last sent (follows-sent reports reported mid stages next log follows u.k sends.bytes false sends.reports same) v.k more stays;
+        follows = follows-closed reports mid new next last sent
+            (follows-sent reports reported mid stages next log follows u.k sends.bytes false sends.reports same) v.k more stays;
         calls = refl;
         bound = refl;
         holds = (
@@ -160,8 +167,10 @@ module _ (reports : Bool) (reported mid : Option Log) (stages next : ℕ → Sta
       }
 
   -- the same with its own number
-  pub offers-closed : (new : Option Log) (last : ℕ → Stage) (own : ℕ) → own ≡ v.k → AreLacking log vs → Sends reported mid u.k u.bytes v.bytes false → v.bytes ≡ []
-      → Reports mid new (with_closed own) → ((j : ℕ) → last j ≡ with_stage own (closed_of (next own)) next j) → GoesTo reports log new last (AreOffered asking us vs)
+  pub offers-closed : (new : Option Log) (last : ℕ → Stage) (own : ℕ) → own ≡ v.k → AreLacking log vs → Sends reported mid u.k u.bytes v.bytes false →
+      v.bytes ≡ []
+      → Reports mid new (with_closed own) → ((j : ℕ) → last j ≡ with_stage own (closed_of (next own)) next j) →
+      GoesTo reports log new last (AreOffered asking us vs)
   offers-closed new last own is lacking sends none more stays = offers-all new last lacking sends none
       (subst (λ (n : ℕ). Reports mid new (with_closed n)) is more)
       (subst (λ (n : ℕ). (j : ℕ) → last j ≡ with_stage n (closed_of (next n)) next j) is stays)

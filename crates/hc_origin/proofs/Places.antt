@@ -34,7 +34,8 @@ closes-sent came sent (refused is none) = inl none
 closes-sent came sent (cut_off is none) = inl none
 closes-sent came sent (answered is) = inr (record { text = sent; is = is; front = ([], append-nil sent) })
 
-pub sent-of : (a : Bool) (came : Came) (o : Option Taker) (r : Option Reading) (u : Option (List ℕ)) → PlaceOf a came o r u → IfSome o (λ c. WasSent came c.sent)
+pub sent-of : (a : Bool) (came : Came) (o : Option Taker) (r : Option Reading) (u : Option (List ℕ)) → PlaceOf a came o r u →
+    IfSome o (λ c. WasSent came c.sent)
 sent-of a came None r u is = tt
 sent-of a came (Some c) None None is = closes-sent came c.sent is.cause
 sent-of a came (Some c) None (Some bytes) is = inr (record { text = c.sent ++ bytes; is = is.is; front = (bytes, refl) })
@@ -62,7 +63,8 @@ others-asking k log asking new owed same keeps = record {
 }
 
 -- and all is kept with the one in hand
-pub with-own : (k : ℕ) (log : Log) (asking : ℕ → Option Reading) (owed : List Unsent) → KeepsOthers k log asking owed → PlaceIn log asking owed k → Keeps log asking owed
+pub with-own : (k : ℕ) (log : Log) (asking : ℕ → Option Reading) (owed : List Unsent) → KeepsOthers k log asking owed → PlaceIn log asking owed k →
+    Keeps log asking owed
 with-own k log asking owed keeps own = record {
   places = λ j. at_or k j (PlaceIn log asking owed) own (keeps.others j);
   apart = keeps.apart;
@@ -89,7 +91,8 @@ fits-call log asking owed moment what bytes rests later =
     all-more (takers_with what log.takers) log.calls call (all-later log.takers (takers_with what log.takers) [] log.calls later rests.keeps.fit)
     (fits-later log.takers (takers_with what log.takers) log.calls call later (next-fits log asking owed rests moment what bytes))
 
-place-over : (a : Bool) (came : Came) (o : Option Taker) (r : Option Reading) (u : Option (List ℕ)) → PlaceOf a came o r u → PlaceOf a came (option_map over o) r u
+place-over : (a : Bool) (came : Came) (o : Option Taker) (r : Option Reading) (u : Option (List ℕ)) → PlaceOf a came o r u →
+    PlaceOf a came (option_map over o) r u
 place-over a came None None None is = is
 place-over a came None None (Some bytes) is = is
 place-over a came None (Some reading) u is = is
@@ -104,13 +107,15 @@ live-over None is = is
 live-over (Some c) is = is
 
 -- of a new connection nothing is kept
-unseen-none : (a : Bool) (came : Came) (o : Option Taker) (r : Option Reading) (u : Option (List ℕ)) → PlaceOf a came o r u → o ≡ None → (came ≡ nothing) × (u ≡ None)
+unseen-none : (a : Bool) (came : Came) (o : Option Taker) (r : Option Reading) (u : Option (List ℕ)) → PlaceOf a came o r u → o ≡ None →
+    (came ≡ nothing) × (u ≡ None)
 unseen-none a came None None None is none = (is.nothing_came, refl)
 unseen-none a came None None (Some bytes) is none = absurd is
 unseen-none a came None (Some reading) u is none = absurd is
 unseen-none a came (Some c) r u is none = absurd (cc)
 
-module _ (reports : Bool) (reported : Option Log) (stages : ℕ → Stage) (log : Log) (asking : ℕ → Option Reading) (owed : List Unsent) (follows : Follows reports reported stages log) (rests : Rests log asking owed) where
+module _ (reports : Bool) (reported : Option Log) (stages : ℕ → Stage) (log : Log) (asking : ℕ → Option Reading) (owed : List Unsent)
+    (follows : Follows reports reported stages log) (rests : Rests log asking owed) where
   -- a call whose event changes no taker
   same-call : (moment : ℕ) (what : WireEvent) (bytes : List ℕ) → takers_with what log.takers ≡ log.takers
       → AllFit (takers_with what log.takers) [] (with_call true moment what bytes log).calls
@@ -145,7 +150,8 @@ module _ (reports : Bool) (reported : Option Log) (stages : ℕ → Stage) (log 
         unowed = was.1;
       }
 
-  got : (k n moment : ℕ) (bytes : List ℕ) → stages k ≡ Open true false → HearsOf k (with_bytes bytes) (with_call true moment (event.Got k n) bytes log) asking owed
+  got : (k n moment : ℕ) (bytes : List ℕ) → stages k ≡ Open true false →
+      HearsOf k (with_bytes bytes) (with_call true moment (event.Got k n) bytes log) asking owed
   got k n moment bytes is =
       let call : Called = record { wait = true; moment = moment; event = event.Got k n; bytes = bytes; standings = standings_in log } in (
         came_of k log.calls,
@@ -171,7 +177,8 @@ module _ (reports : Bool) (reported : Option Log) (stages : ℕ → Stage) (log 
       let found = find-changed k over (λ c. refl) log.takers in (
         came_of k log.calls,
         record {
-          others = others-call k moment (event.Ended k) bytes (fits-call log asking owed moment (event.Ended k) bytes rests (later-changed k over (λ c. refl) log.takers live))
+          others = others-call k moment (event.Ended k) bytes
+              (fits-call log asking owed moment (event.Ended k) bytes rests (later-changed k over (λ c. refl) log.takers live))
               (apart-changed k over (λ c. refl) log.takers rests.keeps.apart)
               (λ j off. (refl, apart_sym j k off, refl, find-other k over (λ c. refl) log.takers j off));
           accepted = is_accepted k log.calls;
@@ -197,9 +204,11 @@ module _ (reports : Bool) (reported : Option Log) (stages : ℕ → Stage) (log 
 
   -- an event that says nothing of any connection
   quiet : (moment : ℕ) (what : WireEvent) (bytes : List ℕ) → takers_with what log.takers ≡ log.takers
-      → ((j : ℕ) → (is_got_by j what ≡ false) × (is_stop_of j what ≡ false) × (is_accept_of j what ≡ false)) → Keeps (with_call true moment what bytes log) asking owed
+      → ((j : ℕ) → (is_got_by j what ≡ false) × (is_stop_of j what ≡ false) × (is_accept_of j what ≡ false)) →
+      Keeps (with_call true moment what bytes log) asking owed
   quiet moment what bytes same none = record {
-    places = λ j. let is = none j in place-other log true moment what bytes asking owed j is.0 is.1 is.2 (ap (find (is_numbered j)) same) (rests.keeps.places j);
+    places = λ j. let is = none j in
+        place-other log true moment what bytes asking owed j is.0 is.1 is.2 (ap (find (is_numbered j)) same) (rests.keeps.places j);
     apart = subst AreApart (sym same) rests.keeps.apart;
     fit = same-call moment what bytes same;
     dialled = rests.keeps.dialled;
@@ -216,7 +225,8 @@ module _ (reports : Bool) (reported : Option Log) (stages : ℕ → Stage) (log 
 
 -- the same is a log already
 hears-log : (k : ℕ) (before now : Came) (log : Log) (asking : ℕ → Option Reading) (owed : List Unsent)
-    → ((u : Option (List ℕ)) (r : Option Reading) (a : Bool) (o : Option Taker) → PlaceOf a before o r u → live_from o ≡ true → IfSome o (λ c. WasSent now c.sent))
+    → ((u : Option (List ℕ)) (r : Option Reading) (a : Bool) (o : Option Taker) → PlaceOf a before o r u → live_from o ≡ true →
+    IfSome o (λ c. WasSent now c.sent))
     → Hears k before now log asking owed → IsLog log
 hears-log k before now log asking owed stays hears = record {
   fit = hears.others.fit;
@@ -228,10 +238,12 @@ hears-log k before now log asking owed stays hears = record {
 }
 
 stays-sent : (before now : Came) → ((text : List ℕ) → IsAnswer before text → IsAnswer now text)
-    → (u : Option (List ℕ)) (r : Option Reading) (a : Bool) (o : Option Taker) → PlaceOf a before o r u → live_from o ≡ true → IfSome o (λ c. WasSent now c.sent)
+    → (u : Option (List ℕ)) (r : Option Reading) (a : Bool) (o : Option Taker) → PlaceOf a before o r u → live_from o ≡ true →
+    IfSome o (λ c. WasSent now c.sent)
 stays-sent before now more u r a None is live = tt
 stays-sent before now more None None a (Some c) is live = absurd (let shut = is.shut in cc)
-stays-sent before now more (Some bytes) None a (Some c) is live = inr (record { text = c.sent ++ bytes; is = more (c.sent ++ bytes) is.is; front = (bytes, refl) })
+stays-sent before now more (Some bytes) None a (Some c) is live =
+    inr (record { text = c.sent ++ bytes; is = more (c.sent ++ bytes) is.is; front = (bytes, refl) })
 stays-sent before now more None (Some reading) a (Some c) is live = inl is.unsent
 stays-sent before now more (Some bytes) (Some reading) a (Some c) is live = absurd is
 
@@ -244,7 +256,8 @@ welcome-log k log asking owed welcomes = record {
   dialled = welcomes.others.dialled;
 }
 
-pub heard-log : (what : WireEvent) (bytes : List ℕ) (log : Log) (asking : ℕ → Option Reading) (owed : List Unsent) → Heard what bytes log asking owed → IsLog log
+pub heard-log : (what : WireEvent) (bytes : List ℕ) (log : Log) (asking : ℕ → Option Reading) (owed : List Unsent) → Heard what bytes log asking owed →
+    IsLog log
 heard-log (event.Accepted k) bytes log asking owed heard = welcome-log k log asking owed heard
 heard-log (event.Got k n) bytes log asking owed heard =
     hears-log k heard.0 _ log asking owed (stays-sent heard.0 (with_bytes bytes heard.0) (λ text is. answer-more heard.0 bytes text is)) heard.1

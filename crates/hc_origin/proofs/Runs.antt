@@ -53,12 +53,15 @@ letters-from letters piece next end from len are at most is =
     let low : next % 26 < 26 = omega arith in
     let fits : len ≤ length letters - 0 - from = omega arith in
     let within : from ≤ length letters - 0 = omega arith in
-    let all : drop from letters ≡ map origin_byte (range_with_len (0 + from) (length letters - 0 - from)) = ap (drop from) are.are ∙ run-behind from 0 (length letters - 0) within in
-    let cut : piece ≡ map origin_byte (range_with_len (0 + from) len) = is ∙ (ap (take len) all ∙ take-map-range_with_len origin_byte (0 + from) (length letters - 0 - from) len fits) in
+    let all : drop from letters ≡ map origin_byte (range_with_len (0 + from) (length letters - 0 - from)) = ap (drop from) are.are ∙
+    run-behind from 0 (length letters - 0) within in
+    let cut : piece ≡ map origin_byte (range_with_len (0 + from) len) = is ∙
+    (ap (take len) all ∙ take-map-range_with_len origin_byte (0 + from) (length letters - 0 - from) len fits) in
     let same : (0 + from) % 26 ≡ next % 26 = omega (arith, at) in
     let moved : piece ≡ map origin_byte (range_with_len next len) = cut ∙ run-shift len (0 + from) next same in
     let count : length piece ≡ len = ap length moved ∙ length-map-range_with_len origin_byte next len in
-    let part : take len (map origin_byte (range_with_len next (end - next))) ≡ map origin_byte (range_with_len next len) = take-map-range_with_len origin_byte next (end - next) len (omega (arith, most)) in
+    let part : take len (map origin_byte (range_with_len next (end - next))) ≡ map origin_byte (range_with_len next len) =
+    take-map-range_with_len origin_byte next (end - next) len (omega (arith, most)) in
     record {
       front = moved ∙ (sym part ∙ ap (λ (x : ℕ). take x (bytes_between next end)) (sym count));
       some = λ none.
@@ -101,9 +104,11 @@ drop-both n [] ys =
     let all : n ≡ n - 0 = omega arith in
     ap (λ (m : ℕ). drop m ys) all ∙ sym (ap (λ (l : List ℕ). l ++ drop (n - 0) ys) (drop_all n [] (omega arith)))
 drop-both zero (x ∷ xs) ys = let none : zero ≡ zero - suc (length xs) = omega arith in ap (λ (m : ℕ). x ∷ (xs ++ drop m ys)) none
-drop-both (suc n) (x ∷ xs) ys = let same : n - length xs ≡ suc n - suc (length xs) = omega arith in drop-both n xs ys ∙ ap (λ (m : ℕ). drop n xs ++ drop m ys) same
+drop-both (suc n) (x ∷ xs) ys = let same : n - length xs ≡ suc n - suc (length xs) = omega arith in drop-both n xs ys ∙
+    ap (λ (m : ℕ). drop n xs ++ drop m ys) same
 
-pub skip-drops : (head : List ℕ) (used next end n of_head : ℕ) → used ≤ length head → of_head ≡ min n (length head - used) → n ≤ length (drop used head ++ bytes_between next end)
+pub skip-drops : (head : List ℕ) (used next end n of_head : ℕ) → used ≤ length head → of_head ≡ min n (length head - used) →
+    n ≤ length (drop used head ++ bytes_between next end)
     → drop (used + of_head) head ++ bytes_between (next + (n - of_head)) end ≡ drop n (drop used head ++ bytes_between next end)
 skip-drops head used next end n of_head within is le =
     let len = length-append (drop used head) (bytes_between next end) in

@@ -13,7 +13,8 @@ sends-none (Some log) k bytes = record { bytes = []; whole = refl; reports = ap 
 
 -- one piece more, of which so many bytes were taken
 pub sends-more : (reported mid new : Option Log) (k n : ℕ) (before left piece behind : List ℕ) (short : Bool) → Sends reported mid k before left false
-    → IsPiece left piece → n ≤ length piece → behind ≡ drop n left → Reports mid new (with_sent k (take n piece) short) → Sends reported new k before behind short
+    → IsPiece left piece → n ≤ length piece → behind ≡ drop n left → Reports mid new (with_sent k (take n piece) short) →
+    Sends reported new k before behind short
 sends-more reported mid new k n before left piece behind short sends is le rest reports = record {
   bytes = sends.bytes ++ take n piece;
   whole =

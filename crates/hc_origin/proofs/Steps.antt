@@ -14,7 +14,8 @@ use Rattle.hc_origin.proofs.{Comings.{waits-more}, Fitting.{all-later, later-shu
 
 -- THE LOG
 
-pub reported-more : (reports : Bool) (reported new : Option Log) (log : Log) (change : Log → Log) → reported ≡ reported_as reports log → Reports reported new change → new ≡ reported_as reports (change log)
+pub reported-more : (reports : Bool) (reported new : Option Log) (log : Log) (change : Log → Log) → reported ≡ reported_as reports log →
+    Reports reported new change → new ≡ reported_as reports (change log)
 reported-more true reported new log change is more = subst (λ (o : Option Log). Reports o new change) is more
 reported-more false reported new log change is more = subst (λ (o : Option Log). Reports o new change) is more
 
@@ -47,21 +48,25 @@ ended_unseen Closed is = absurd (cc)
 
 module _ (reports : Bool) (reported new : Option Log) (stages next : ℕ → Stage) (log : Log) (follows : Follows reports reported stages log) where
   -- nothing happens to the connections
-  pub follows-same : (change : Log → Log) → (change log).takers ≡ log.takers → Reports reported new change → ((j : ℕ) → next j ≡ stages j) → Follows reports new next (change log)
+  pub follows-same : (change : Log → Log) → (change log).takers ≡ log.takers → Reports reported new change → ((j : ℕ) → next j ≡ stages j) →
+      Follows reports new next (change log)
   follows-same change same more stays = record {
     is_reported = reported-more reports reported new log change follows.is_reported more;
     live = λ j is. subst (λ (cs : List Taker). is_live cs j ≡ true) (sym same) (follows.live j (subst IsOpen (stays j) is));
     unseen = λ j is. subst (λ (cs : List Taker). find (is_numbered j) cs ≡ None) (sym same) (follows.unseen j (sym (stays j) ∙ is));
   }
 
-  pub follows-closed : (k : ℕ) → Reports reported new (with_closed k) → ((j : ℕ) → next j ≡ with_stage k (closed_of (stages k)) stages j) → Follows reports new next (with_closed k log)
+  pub follows-closed : (k : ℕ) → Reports reported new (with_closed k) → ((j : ℕ) → next j ≡ with_stage k (closed_of (stages k)) stages j) →
+      Follows reports new next (with_closed k log)
   follows-closed k more stays = record {
     is_reported = reported-more reports reported new log (with_closed k) follows.is_reported more;
     live = λ j. at_or k j (λ n. IsOpen (next n) → is_live (changed_at k shut log.takers) n ≡ true)
         (λ is. absurd (never_open (stages k) (subst IsOpen (stays k ∙ stage-own k (closed_of (stages k)) stages) is)))
-        (λ off is. ap live_from (find-other k shut (λ c. refl) log.takers j off) ∙ follows.live j (subst IsOpen (stays j ∙ stage-at j k (closed_of (stages k)) stages off) is));
+        (λ off is. ap live_from (find-other k shut (λ c. refl) log.takers j off) ∙
+        follows.live j (subst IsOpen (stays j ∙ stage-at j k (closed_of (stages k)) stages off) is));
     unseen = λ j. at_or k j (λ n. next n ≡ Unseen → find (is_numbered n) (changed_at k shut log.takers) ≡ None)
-        (λ is. find-changed k shut (λ c. refl) log.takers ∙ ap (option_map shut) (follows.unseen k (was_unseen (stages k) (sym (stays k ∙ stage-own k (closed_of (stages k)) stages) ∙ is))))
+        (λ is. find-changed k shut (λ c. refl) log.takers ∙
+        ap (option_map shut) (follows.unseen k (was_unseen (stages k) (sym (stays k ∙ stage-own k (closed_of (stages k)) stages) ∙ is))))
         (λ off is. find-other k shut (λ c. refl) log.takers j off ∙ follows.unseen j (sym (stays j ∙ stage-at j k (closed_of (stages k)) stages off) ∙ is));
   }
 
@@ -69,7 +74,8 @@ module _ (reports : Bool) (reported new : Option Log) (stages next : ℕ → Sta
   live-taking bytes short n None is = is
   live-taking bytes short n (Some c) is = is
 
-  pub follows-sent : (k : ℕ) (bytes : List ℕ) (short : Bool) → Reports reported new (with_sent k bytes short) → ((j : ℕ) → next j ≡ stages j) → Follows reports new next (with_sent k bytes short log)
+  pub follows-sent : (k : ℕ) (bytes : List ℕ) (short : Bool) → Reports reported new (with_sent k bytes short) → ((j : ℕ) → next j ≡ stages j) →
+      Follows reports new next (with_sent k bytes short log)
   follows-sent k bytes short more stays =
       let n = length log.calls in record {
         is_reported = reported-more reports reported new log (with_sent k bytes short) follows.is_reported more;
@@ -78,7 +84,8 @@ module _ (reports : Bool) (reported new : Option Log) (stages next : ℕ → Sta
             ∙ live-taking bytes short n (find (is_numbered k) log.takers) (follows.live k (subst IsOpen (stays k) is)))
             (λ off is. ap live_from (find-other k (taking bytes short n) (λ c. refl) log.takers j off) ∙ follows.live j (subst IsOpen (stays j) is));
         unseen = λ j. at_or k j (λ m. next m ≡ Unseen → find (is_numbered m) (changed_at k (taking bytes short n) log.takers) ≡ None)
-            (λ is. find-changed k (taking bytes short n) (λ c. refl) log.takers ∙ ap (option_map (taking bytes short n)) (follows.unseen k (sym (stays k) ∙ is)))
+            (λ is. find-changed k (taking bytes short n) (λ c. refl) log.takers ∙
+            ap (option_map (taking bytes short n)) (follows.unseen k (sym (stays k) ∙ is)))
             (λ off is. find-other k (taking bytes short n) (λ c. refl) log.takers j off ∙ follows.unseen j (sym (stays j) ∙ is));
       }
 
@@ -86,10 +93,12 @@ module _ (reports : Bool) (reported new : Option Log) (stages next : ℕ → Sta
   live-ended None is = is
   live-ended (Some c) is = is
 
-  accept-live : (k j : ℕ) → ((i : ℕ) → next i ≡ with_stage k Fresh stages i) → stages k ≡ Unseen → IsOpen (next j) → is_live (log.takers ++ fresh k ∷ []) j ≡ true
+  accept-live : (k j : ℕ) → ((i : ℕ) → next i ≡ with_stage k Fresh stages i) → stages k ≡ Unseen → IsOpen (next j) →
+      is_live (log.takers ++ fresh k ∷ []) j ≡ true
   accept-live k j stays was = at_or k j (λ n. IsOpen (next n) → is_live (log.takers ++ fresh k ∷ []) n ≡ true)
       (λ is. ap live_from (find-last log.takers (fresh k) (follows.unseen k was)))
-      (λ off is. ap live_from (find-before log.takers (fresh k) j (apart_sym j k off)) ∙ follows.live j (subst IsOpen (stays j ∙ stage-at j k Fresh stages off) is))
+      (λ off is. ap live_from (find-before log.takers (fresh k) j (apart_sym j k off)) ∙
+      follows.live j (subst IsOpen (stays j ∙ stage-at j k Fresh stages off) is))
 
   accept-unseen : (k j : ℕ) → ((i : ℕ) → next i ≡ with_stage k Fresh stages i) → next j ≡ Unseen → find (is_numbered j) (log.takers ++ fresh k ∷ []) ≡ None
   accept-unseen k j stays = at_or k j (λ n. next n ≡ Unseen → find (is_numbered n) (log.takers ++ fresh k ∷ []) ≡ None)
@@ -99,12 +108,16 @@ module _ (reports : Bool) (reported new : Option Log) (stages next : ℕ → Sta
   end-live : (k j : ℕ) → ((i : ℕ) → next i ≡ with_stage k (ended_of (stages k)) stages i) → IsOpen (next j) → is_live (changed_at k over log.takers) j ≡ true
   end-live k j stays = at_or k j (λ n. IsOpen (next n) → is_live (changed_at k over log.takers) n ≡ true)
       (λ is. ap live_from (find-changed k over (λ c. refl) log.takers)
-      ∙ live-ended (find (is_numbered k) log.takers) (follows.live k (was_open (stages k) (subst IsOpen (stays k ∙ stage-own k (ended_of (stages k)) stages) is))))
-      (λ off is. ap live_from (find-other k over (λ c. refl) log.takers j off) ∙ follows.live j (subst IsOpen (stays j ∙ stage-at j k (ended_of (stages k)) stages off) is))
+      ∙ live-ended (find (is_numbered k) log.takers)
+      (follows.live k (was_open (stages k) (subst IsOpen (stays k ∙ stage-own k (ended_of (stages k)) stages) is))))
+      (λ off is. ap live_from (find-other k over (λ c. refl) log.takers j off) ∙
+      follows.live j (subst IsOpen (stays j ∙ stage-at j k (ended_of (stages k)) stages off) is))
 
-  end-unseen : (k j : ℕ) → ((i : ℕ) → next i ≡ with_stage k (ended_of (stages k)) stages i) → next j ≡ Unseen → find (is_numbered j) (changed_at k over log.takers) ≡ None
+  end-unseen : (k j : ℕ) → ((i : ℕ) → next i ≡ with_stage k (ended_of (stages k)) stages i) → next j ≡ Unseen →
+      find (is_numbered j) (changed_at k over log.takers) ≡ None
   end-unseen k j stays = at_or k j (λ n. next n ≡ Unseen → find (is_numbered n) (changed_at k over log.takers) ≡ None)
-      (λ is. find-changed k over (λ c. refl) log.takers ∙ ap (option_map over) (follows.unseen k (ended_unseen (stages k) (sym (stays k ∙ stage-own k (ended_of (stages k)) stages) ∙ is))))
+      (λ is. find-changed k over (λ c. refl) log.takers ∙
+      ap (option_map over) (follows.unseen k (ended_unseen (stages k) (sym (stays k ∙ stage-own k (ended_of (stages k)) stages) ∙ is))))
       (λ off is. find-other k over (λ c. refl) log.takers j off ∙ follows.unseen j (sym (stays j ∙ stage-at j k (ended_of (stages k)) stages off) ∙ is))
 
   pub follows-call : (moment : ℕ) (what : WireEvent) (bytes : List ℕ) → IsOfOpen what stages → Reports reported new (with_call true moment what bytes)
@@ -135,7 +148,8 @@ pub accepted-kept : (k : ℕ) (log : Log) (asking new : ℕ → Option Reading) 
 accepted-kept k log asking new owed welcomes own same =
     let is : IsAsking nothing (fresh k) (heading Requests) = record { live = refl; reads = refl; unsent = refl; unstopped = refl; waits = first-nothing } in
     with-own k log new owed (others-asking k log asking new owed same welcomes.others)
-    (place-same (is_accepted k log.calls) _ _ _ _ _ (Some (heading Requests)) _ None _ refl (sym welcomes.came) (sym welcomes.taker) (sym own) (sym welcomes.unowed) is)
+    (place-same (is_accepted k log.calls) _ _ _ _ _ (Some (heading Requests)) _ None _ refl (sym welcomes.came) (sym welcomes.taker) (sym own)
+    (sym welcomes.unowed) is)
 
 -- what an open one is kept as: it asks, or is answered
 place-asks : (a : Bool) (came : Came) (o : Option Taker) (r : Option Reading) (u : Option (List ℕ)) (s : Reading) → PlaceOf a came o r u → r ≡ Some s
@@ -160,9 +174,11 @@ pub answered-kept : (k : ℕ) (before now : Came) (log : Log) (asking new : ℕ 
 answered-kept k before now log asking new owed more hears none gone same =
     with-own k log new owed (others-asking k log asking new owed same hears.others)
     (place-same (is_accepted k log.calls) _ _ _ _ _ (asking k) _ _ _ refl (sym hears.came) refl (none ∙ sym gone) refl
-    (place-answered hears.accepted before now (find (is_numbered k) log.takers) (asking k) (unsent_in owed k) more hears.place none hears.live (is_accepted k log.calls)))
+    (place-answered hears.accepted before now (find (is_numbered k) log.takers) (asking k) (unsent_in owed k) more hears.place none hears.live
+    (is_accepted k log.calls)))
 
-module _ (k : ℕ) (bytes : List ℕ) (before : Came) (log : Log) (asking new : ℕ → Option Reading) (owed : List Unsent) (hears : Hears k before (with_bytes bytes before) log asking owed)
+module _ (k : ℕ) (bytes : List ℕ) (before : Came) (log : Log) (asking new : ℕ → Option Reading) (owed : List Unsent)
+    (hears : Hears k before (with_bytes bytes before) log asking owed)
     (same : (j : ℕ) → eqb j k ≡ false → new j ≡ asking j) (s : Reading) (asks : asking k ≡ Some s) where
   was : (c : Taker) × (find (is_numbered k) log.takers ≡ Some c) × (unsent_in owed k ≡ None) × IsAsking before c s
   was = place-asks hears.accepted before (find (is_numbered k) log.takers) (asking k) (unsent_in owed k) s hears.place asks
@@ -187,7 +203,8 @@ module _ (k : ℕ) (bytes : List ℕ) (before : Came) (log : Log) (asking new : 
       (place-same (is_accepted k log.calls) _ _ _ _ _ (Some t) _ None _ refl refl (sym was.1) (sym own) (sym was.2) is)
 
   -- it is whole
-  pub read-asks : (request : WireRequest) (t : Reading) (rest : List ℕ) → next_in 1 s bytes ≡ Reported (AsksFor request) t rest → Asks k request.request log new owed
+  pub read-asks : (request : WireRequest) (t : Reading) (rest : List ℕ) → next_in 1 s bytes ≡ Reported (AsksFor request) t rest →
+      Asks k request.request log new owed
   read-asks request t rest reports = record {
     others = others-asking k log asking new owed same hears.others;
     c = was.0;
@@ -205,11 +222,13 @@ module _ (k : ℕ) (bytes : List ℕ) (before : Came) (log : Log) (asking new : 
   }
 
 -- its answer is to be sent
-pub asked-kept : (k : ℕ) (request : Request) (log : Log) (asking new : ℕ → Option Reading) (owed : List Unsent) (reply : Unsent) → Asks k request log asking owed
+pub asked-kept : (k : ℕ) (request : Request) (log : Log) (asking new : ℕ → Option Reading) (owed : List Unsent) (reply : Unsent) →
+    Asks k request log asking owed
     → reply.k ≡ k → Responds request reply.bytes → new k ≡ None → ((j : ℕ) → eqb j k ≡ false → new j ≡ asking j) → Keeps log new (owed ++ reply ∷ [])
 asked-kept k request log asking new owed reply asks number responds gone same =
     let none : unsent_in owed reply.k ≡ None = subst (λ (n : ℕ). unsent_in owed n ≡ None) (sym number) asks.is.unowed in
-    let own : unsent_in (owed ++ reply ∷ []) k ≡ Some reply.bytes = subst (λ (n : ℕ). unsent_in (owed ++ reply ∷ []) n ≡ Some reply.bytes) number (own-with owed reply none) in
+    let own : unsent_in (owed ++ reply ∷ []) k ≡ Some reply.bytes =
+    subst (λ (n : ℕ). unsent_in (owed ++ reply ∷ []) n ≡ Some reply.bytes) number (own-with owed reply none) in
     let answer : IsAnswer (came_of k log.calls) reply.bytes = record { request = request; asked = asks.asked; responds = responds } in
     let is : IsOwing (came_of k log.calls) asks.c reply.bytes = record {
       live = asks.is.live;
@@ -234,12 +253,16 @@ pub left-kept : (k : ℕ) (log : Log) (asking new : ℕ → Option Reading) (owe
     → ((j : ℕ) → eqb j k ≡ false → new j ≡ asking j) → Keeps (with_closed k log) new owed
 left-kept k log asking new owed leaves gone same =
     let c = leaves.c in
-    let found : find (is_numbered k) (changed_at k shut log.takers) ≡ Some (shut c) = find-changed k shut (λ d. refl) log.takers ∙ ap (option_map shut) leaves.is.taker in
-    let is : IsGone (came_of k log.calls) (shut c) = record { shut = refl; cause = subst (λ (l : List ℕ). Closes (came_of k log.calls) l) (sym leaves.is.unsent) leaves.cause } in
-    let place : PlaceIn (with_closed k log) new owed k = place-same (is_accepted k log.calls) _ _ _ _ _ None _ None _ refl refl (sym found) (sym gone) (sym leaves.is.unowed) is in
+    let found : find (is_numbered k) (changed_at k shut log.takers) ≡ Some (shut c) = find-changed k shut (λ d. refl) log.takers ∙
+    ap (option_map shut) leaves.is.taker in
+    let is : IsGone (came_of k log.calls) (shut c) =
+    record { shut = refl; cause = subst (λ (l : List ℕ). Closes (came_of k log.calls) l) (sym leaves.is.unsent) leaves.cause } in
+    let place : PlaceIn (with_closed k log) new owed k =
+    place-same (is_accepted k log.calls) _ _ _ _ _ None _ None _ refl refl (sym found) (sym gone) (sym leaves.is.unowed) is in
     record {
       places = λ j. at_or k j (PlaceIn (with_closed k log) new owed) place
-          (λ off. place-same _ _ _ _ _ _ _ _ _ _ refl refl (sym (find-other k shut (λ d. refl) log.takers j off)) (sym (same j off)) refl (leaves.others.others j off));
+          (λ off. place-same _ _ _ _ _ _ _ _ _ _ refl refl (sym (find-other k shut (λ d. refl) log.takers j off)) (sym (same j off)) refl
+          (leaves.others.others j off));
       apart = apart-changed k shut (λ d. refl) log.takers leaves.others.apart;
       fit = all-later log.takers (changed_at k shut log.takers) [] log.calls (later-shut k log.takers) leaves.others.fit;
       dialled = leaves.others.dialled;

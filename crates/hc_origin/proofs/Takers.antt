@@ -66,7 +66,8 @@ apart-last (d ∷ cs) c apart none = elim (cases_Bool (eqb d.k c.k)) [
 -- HOW THEY STAND
 
 -- what is found in the rest of a list is found in the list
-pub behind : (c : Taker) (cs : List Taker) (d : Taker) → find (is_numbered c.k) cs ≡ None → find (is_numbered d.k) cs ≡ Some d → find (is_numbered d.k) (c ∷ cs) ≡ Some d
+pub behind : (c : Taker) (cs : List Taker) (d : Taker) → find (is_numbered c.k) cs ≡ None → find (is_numbered d.k) cs ≡ Some d →
+    find (is_numbered d.k) (c ∷ cs) ≡ Some d
 behind c cs d none is = elim (cases_Bool (eqb c.k d.k)) [
   | inl on ↦
       let same : c.k ≡ d.k = eqb-true c.k d.k on in

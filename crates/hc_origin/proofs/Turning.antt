@@ -17,33 +17,41 @@ goes-on reports log reported new stages next P Q goes more =
 
 -- WHAT IS SENT
 
-pub offers-true : (reported mid : Option Log) (u v : Unsent) (b : Bool) → Offers reported mid u v (Ok b) → b ≡ true → Sends reported mid u.k u.bytes v.bytes false × (v.bytes ≡ [])
+pub offers-true : (reported mid : Option Log) (u v : Unsent) (b : Bool) → Offers reported mid u v (Ok b) → b ≡ true →
+    Sends reported mid u.k u.bytes v.bytes false × (v.bytes ≡ [])
 offers-true reported mid u v true is on = is
 offers-true reported mid u v false is on = absurd (cc)
 
-pub offers-false : (reported mid : Option Log) (u v : Unsent) (b : Bool) → Offers reported mid u v (Ok b) → b ≡ false → Sends reported mid u.k u.bytes v.bytes true × (0 < length v.bytes)
+pub offers-false : (reported mid : Option Log) (u v : Unsent) (b : Bool) → Offers reported mid u v (Ok b) → b ≡ false →
+    Sends reported mid u.k u.bytes v.bytes true × (0 < length v.bytes)
 offers-false reported mid u v true is off = absurd (cc)
 offers-false reported mid u v false is off = is
 
-pub stops-offer : (reports : Bool) (origin : Origin) (log : Log) (reported : Option Log) (stages : ℕ → Stage) (P : Stop → Type 0) (result : Result (Unit {0}) Stop) → IsErrAnd result P
+pub stops-offer : (reports : Bool) (origin : Origin) (log : Log) (reported : Option Log) (stages : ℕ → Stage) (P : Stop → Type 0)
+    (result : Result (Unit {0}) Stop) → IsErrAnd result P
     → GoesTo reports log reported stages IsLog → OffersTo reports origin log reported stages result
 stops-offer reports origin log reported stages P (Ok done) stops is = absurd stops
 stops-offer reports origin log reported stages P (Err e) stops is = is
 
 -- A TURN
 
-pub stops-turn : (reports : Bool) (origin : Origin) (log next : Log) (reported : Option Log) (stages : ℕ → Stage) (P : Stop → Type 0) (result : Result (Unit {0}) Stop) → IsErrAnd result P
-    → Follows reports reported stages next → IsLog next → length next.calls ≤ length log.calls + 1 → next.bound ≡ log.bound → TurnsTo reports origin log reported stages result
+pub stops-turn : (reports : Bool) (origin : Origin) (log next : Log) (reported : Option Log) (stages : ℕ → Stage) (P : Stop → Type 0)
+    (result : Result (Unit {0}) Stop) → IsErrAnd result P
+    → Follows reports reported stages next → IsLog next → length next.calls ≤ length log.calls + 1 → next.bound ≡ log.bound → TurnsTo reports origin
+    log reported stages result
 stops-turn reports origin log next reported stages P (Ok done) stops follows is le bound = absurd stops
 stops-turn reports origin log next reported stages P (Err e) stops follows is le bound = (next, follows, (is, le, bound))
 
-one-more : (log : Log) (wait : Bool) (moment : ℕ) (what : WireEvent) (bytes : List ℕ) → length (with_call wait moment what bytes log).calls ≡ length log.calls + 1
+one-more : (log : Log) (wait : Bool) (moment : ℕ) (what : WireEvent) (bytes : List ℕ) →
+    length (with_call wait moment what bytes log).calls ≡ length log.calls + 1
 one-more log wait moment what bytes =
     let len = length-append log.calls (record { wait = wait; moment = moment; event = what; bytes = bytes; standings = standings_in log } ∷ []) in omega arith
 
 -- its call failed
-pub uncalled-turn : (reports : Bool) (origin : Origin) (log : Log) (asking : ℕ → Option Reading) (owed : List Unsent) (reported new : Option Log) (stages next : ℕ → Stage) (P : Stop → Type 0) (result : Result (Unit {0}) Stop)
-    → IsErrAnd result P → Follows reports reported stages log → Rests log asking owed → new ≡ reported → ((j : ℕ) → next j ≡ stages j) → TurnsTo reports origin log new next result
+pub uncalled-turn : (reports : Bool) (origin : Origin) (log : Log) (asking : ℕ → Option Reading) (owed : List Unsent) (reported new : Option Log)
+    (stages next : ℕ → Stage) (P : Stop → Type 0) (result : Result (Unit {0}) Stop)
+    → IsErrAnd result P → Follows reports reported stages log → Rests log asking owed → new ≡ reported → ((j : ℕ) → next j ≡ stages j) →
+    TurnsTo reports origin log new next result
 uncalled-turn reports origin log asking owed reported new stages next P result stops follows rests same stays =
     let here : Follows reports new next log = record {
       is_reported = same ∙ follows.is_reported;
@@ -53,15 +61,20 @@ uncalled-turn reports origin log asking owed reported new stages next P result s
     stops-turn reports origin log log new next P result stops here (keeps-log log asking owed rests.keeps) (omega arith) refl
 
 -- memory was refused behind it
-pub unhandled-turn : (reports : Bool) (origin : Origin) (log : Log) (asking : ℕ → Option Reading) (owed : List Unsent) (moment : ℕ) (what : WireEvent) (bytes : List ℕ) (reported : Option Log) (stages : ℕ → Stage) (P : Stop → Type 0) (result : Result (Unit {0}) Stop)
-    → IsErrAnd result P → Follows reports reported stages (with_call true moment what bytes log) → Heard what bytes (with_call true moment what bytes log) asking owed → TurnsTo reports origin log reported stages result
+pub unhandled-turn : (reports : Bool) (origin : Origin) (log : Log) (asking : ℕ → Option Reading) (owed : List Unsent) (moment : ℕ) (what : WireEvent)
+    (bytes : List ℕ) (reported : Option Log) (stages : ℕ → Stage) (P : Stop → Type 0) (result : Result (Unit {0}) Stop)
+    → IsErrAnd result P → Follows reports reported stages (with_call true moment what bytes log) →
+    Heard what bytes (with_call true moment what bytes log) asking owed → TurnsTo reports origin log reported stages result
 unhandled-turn reports origin log asking owed moment what bytes reported stages P result stops follows is =
     let more = one-more log true moment what bytes in
-    stops-turn reports origin log (with_call true moment what bytes log) reported stages P result stops follows (heard-log what bytes _ asking owed is) (omega arith) refl
+    stops-turn reports origin
+    log (with_call true moment what bytes log) reported stages P result stops follows (heard-log what bytes _ asking owed is) (omega arith) refl
 
 -- what its sending came to
-pub sent-turn : (reports : Bool) (origin : Origin) (log next : Log) (moment : ℕ) (what : WireEvent) (bytes : List ℕ) (reported : Option Log) (stages : ℕ → Stage) (result : Result (Unit {0}) Stop)
-    → SendsTo reports origin next reported stages result → next.calls ≡ (with_call true moment what bytes log).calls → next.bound ≡ log.bound → TurnsTo reports origin log reported stages result
+pub sent-turn : (reports : Bool) (origin : Origin) (log next : Log) (moment : ℕ) (what : WireEvent) (bytes : List ℕ) (reported : Option Log)
+    (stages : ℕ → Stage) (result : Result (Unit {0}) Stop)
+    → SendsTo reports origin next reported stages result → next.calls ≡ (with_call true moment what bytes log).calls → next.bound ≡ log.bound →
+    TurnsTo reports origin log reported stages result
 sent-turn reports origin log next moment what bytes reported stages (Ok done) sends calls bound =
     (sends.next, sends.follows, (sends.holds, ap length (sends.calls ∙ calls) ∙ one-more log true moment what bytes, sends.bound ∙ bound))
 sent-turn reports origin log next moment what bytes reported stages (Err e) sends calls bound =

@@ -100,7 +100,8 @@ once-replaced (w ∷ us) vs u v same once = elim (cases_Bool (eqb u.k w.k)) [
 -- moved behind the others
 pub moved : (us vs : List Unsent) (u : Unsent) (j : ℕ) → StandOnce (us ++ u ∷ vs) → unsent_in (us ++ (vs ++ u ∷ [])) j ≡ unsent_in (us ++ u ∷ vs) j
 moved us vs u j once =
-    let whole : unsent_in (us ++ (vs ++ u ∷ [])) j ≡ unsent_in ((us ++ vs) ++ u ∷ []) j = ap (λ (l : List Unsent). unsent_in l j) (sym (append_assoc us vs (u ∷ []))) in
+    let whole : unsent_in (us ++ (vs ++ u ∷ [])) j ≡ unsent_in ((us ++ vs) ++ u ∷ []) j =
+    ap (λ (l : List Unsent). unsent_in l j) (sym (append_assoc us vs (u ∷ []))) in
     elim (cases_Bool (eqb u.k j)) [
       | inl here ↦
           let same : u.k ≡ j = eqb-true u.k j here in

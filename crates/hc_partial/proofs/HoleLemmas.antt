@@ -8,7 +8,8 @@ first_place_is : (test : Option Cell → Bool) (f : Cells) (n p q : ℕ) → p �
     → (q < p + n → test (f q) ≡ true) → first_place test f p n ≡ q
 first_place_is test f zero p q le within before at = omega arith
 first_place_is test f (suc n) p q le within before at = elim (cases_lt p q) [
-  | inl further ↦ rw (before p (omega arith) further) (first_place_is test f n (p + 1) q (omega arith) (omega arith) (λ k low high. before k (omega arith) high) (λ lt. at (omega arith)))
+  | inl further ↦ rw (before p (omega arith) further)
+      (first_place_is test f n (p + 1) q (omega arith) (omega arith) (λ k low high. before k (omega arith) high) (λ lt. at (omega arith)))
   | inr here ↦
       let same : q ≡ p = omega arith in
       let passes : test (f p) ≡ true = ap (λ (k : ℕ). test (f k)) (sym same) ∙ at (omega arith) in
@@ -30,7 +31,8 @@ none-some o is = rw is refl
 pub absent_from_is : (f : Cells) (lo hi q : ℕ) → lo ≤ q → q ≤ hi → Covers f lo q → (q < hi → is_some (f q) ≡ true → ⊥) → q ≡ absent_from f lo hi
 unfolding absent_from
 absent_from_is f lo hi q le within covers at =
-    sym (first_place_is is_none f (hi - lo) lo q le (omega arith) (λ k low high. present-none (f k) (covers k low high)) (λ lt. absent-none (f q) (at (omega arith))))
+    sym (first_place_is is_none f (hi - lo) lo q le (omega arith) (λ k low high. present-none (f k) (covers k low high))
+    (λ lt. absent-none (f q) (at (omega arith))))
 
 pub present_from_is : (f : Cells) (lo hi q : ℕ) → lo ≤ q → q ≤ hi → AreAbsent f lo q → (q < hi → is_some (f q) ≡ true) → q ≡ present_from f lo hi
 unfolding present_from

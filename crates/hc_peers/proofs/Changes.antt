@@ -12,10 +12,12 @@ pub record Changed {A : Type 0} (k : ℕ) (after : A) (old new : ℕ → A) : Ty
 pub apart-tree : (k q : ℕ) → q ≢ k → is_at (nat_cmp k) q ≡ false
 apart-tree k q ne = grind (arith, nat_tests)
 
-pub changed-hash : {X S : Type 0} (k : ℕ) (w : Option X) (m n : HashMap ℕ X S) → hash.Updates nat_eq m n k w → Changed k w (hash.get nat_eq m) (hash.get nat_eq n)
+pub changed-hash : {X S : Type 0} (k : ℕ) (w : Option X) (m n : HashMap ℕ X S) → hash.Updates nat_eq m n k w →
+    Changed k w (hash.get nat_eq m) (hash.get nat_eq n)
 changed-hash k w m n h = record { here = h.1; apart = λ q ne. h.2 q (ne_eqb k q (λ e. ne (sym e))) }
 
-pub changed-tree : {X : Type 0} (k : ℕ) (w : Option X) (m n : BTreeMap ℕ X) → tree.Updates nat_cmp m n k w → Changed k w (tree.get nat_cmp m) (tree.get nat_cmp n)
+pub changed-tree : {X : Type 0} (k : ℕ) (w : Option X) (m n : BTreeMap ℕ X) → tree.Updates nat_cmp m n k w →
+    Changed k w (tree.get nat_cmp m) (tree.get nat_cmp n)
 changed-tree k w m n h = record { here = h.1; apart = λ q ne. h.2 q (apart-tree k q ne) }
 
 pub changed-set : (k : ℕ) (b : Bool) (s t : BTreeSet ℕ) → set.Updates nat_cmp s t k b → Changed k b (set.contains nat_cmp s) (set.contains nat_cmp t)

@@ -14,8 +14,10 @@ module _ {S : Type 0} (rows now : HashMap ℕ Client S) (k : ℕ) (after : Optio
     (change : Changed k after (hash.get nat_eq rows) (hash.get nat_eq now)) where
   -- LIVE CONSUMERS
 
-  consumer-same : consumer_at after ≡ consumer_at (hash.get nat_eq rows k) → (j : ℕ) → consumer_at (hash.get nat_eq now j) ≡ consumer_at (hash.get nat_eq rows j)
-  consumer-same same = at-each (λ j. consumer_at (hash.get nat_eq now j) ≡ consumer_at (hash.get nat_eq rows j)) k (ap consumer_at change.here ∙ same) (λ j ne. ap consumer_at (change.apart j ne))
+  consumer-same : consumer_at after ≡ consumer_at (hash.get nat_eq rows k) → (j : ℕ) →
+      consumer_at (hash.get nat_eq now j) ≡ consumer_at (hash.get nat_eq rows j)
+  consumer-same same = at-each (λ j. consumer_at (hash.get nat_eq now j) ≡ consumer_at (hash.get nat_eq rows j)) k (ap consumer_at change.here ∙ same)
+      (λ j ne. ap consumer_at (change.apart j ne))
 
   -- the consumer of the row stays
   pub live-kept : (live live' : BTreeMap ℕ ℕ) → IsLiveTable rows live → consumer_at after ≡ consumer_at (hash.get nat_eq rows k)
@@ -25,7 +27,8 @@ module _ {S : Type 0} (rows now : HashMap ℕ Client S) (k : ℕ) (after : Optio
 
   module _ (c : ℕ) (live live' : BTreeMap ℕ ℕ) (h : IsLiveTable rows live) where
     -- it has one now
-    pub live-new : Changed c (Some k) (tree.get nat_cmp live) (tree.get nat_cmp live') → consumer_at (hash.get nat_eq rows k) ≡ None → consumer_at after ≡ Some c
+    pub live-new : Changed c (Some k) (tree.get nat_cmp live) (tree.get nat_cmp live') → consumer_at (hash.get nat_eq rows k) ≡ None →
+        consumer_at after ≡ Some c
         → ((j : ℕ) → consumer_at (hash.get nat_eq rows j) ≢ Some c) → IsLiveTable now live'
     live-new more none some nobody = (
       λ d j is. elim (cases_Bool (eqb d c)) [
@@ -52,7 +55,8 @@ module _ {S : Type 0} (rows now : HashMap ℕ Client S) (k : ℕ) (after : Optio
     )
 
     -- it has none any more
-    pub live-gone : Changed c None (tree.get nat_cmp live) (tree.get nat_cmp live') → consumer_at (hash.get nat_eq rows k) ≡ Some c → consumer_at after ≡ None → IsLiveTable now live'
+    pub live-gone : Changed c None (tree.get nat_cmp live) (tree.get nat_cmp live') → consumer_at (hash.get nat_eq rows k) ≡ Some c →
+        consumer_at after ≡ None → IsLiveTable now live'
     live-gone less some none = (
       λ d j is. elim (cases_Bool (eqb d c)) [
         | inl on ↦ let e = eqb-true d c on in absurd (let n : None ≡ Some j = sym less.here ∙ (ap (tree.get nat_cmp live') (sym e) ∙ is) in cc)
@@ -62,7 +66,9 @@ module _ {S : Type 0} (rows now : HashMap ℕ Client S) (k : ℕ) (after : Optio
             ap consumer_at (change.apart j ne) ∙ was
       ],
       λ d j is. elim (cases_Bool (eqb j k)) [
-        | inl on ↦ let e = eqb-true j k on in absurd (let n : None ≡ Some d = sym none ∙ (sym (ap consumer_at change.here) ∙ (ap (λ (i : ℕ). consumer_at (hash.get nat_eq now i)) (sym e) ∙ is)) in cc)
+        | inl on ↦ let e = eqb-true j k on in
+            absurd (let n : None ≡ Some d = sym none ∙
+            (sym (ap consumer_at change.here) ∙ (ap (λ (i : ℕ). consumer_at (hash.get nat_eq now i)) (sym e) ∙ is)) in cc)
         | inr off ↦
             let was = sym (ap consumer_at (change.apart j (eqb-false j k off))) ∙ is in
             let ne : d ≢ c = λ e. eqb-false j k off (some-same j k (sym (h.1 d j was) ∙ (ap (tree.get nat_cmp live) e ∙ h.1 c k some))) in
@@ -71,20 +77,23 @@ module _ {S : Type 0} (rows now : HashMap ℕ Client S) (k : ℕ) (after : Optio
     )
 
   -- of the one that had it, an answer leaves it or takes it away
-  pub live-answered : (c : ℕ) (live live' : BTreeMap ℕ ℕ) → IsLiveTable rows live → consumer_at (hash.get nat_eq rows k) ≡ Some c → (over : Bool) → consumer_at after ≡ (if over then None else Some c)
+  pub live-answered : (c : ℕ) (live live' : BTreeMap ℕ ℕ) → IsLiveTable rows live → consumer_at (hash.get nat_eq rows k) ≡ Some c → (over : Bool) →
+      consumer_at after ≡ (if over then None else Some c)
       → ((d : ℕ) → tree.get nat_cmp live' d ≡ (if is_none (consumer_at after) && eqb d c then None else tree.get nat_cmp live d)) → IsLiveTable now live'
   live-answered c live live' h some true is left = live-gone c live live' h (changed-by c None _ _ (rw is at left)) some is
   live-answered c live live' h some false is left = live-kept live live' h (is ∙ sym some) (rw is at left)
 
   -- THOSE TO BE READ
 
-  pub ready-now : (ready ready' : BTreeSet ℕ) → IsReadySet rows ready → Changed k (ready_at after) (set.contains nat_cmp ready) (set.contains nat_cmp ready') → IsReadySet now ready'
+  pub ready-now : (ready ready' : BTreeSet ℕ) → IsReadySet rows ready →
+      Changed k (ready_at after) (set.contains nat_cmp ready) (set.contains nat_cmp ready') → IsReadySet now ready'
   ready-now ready ready' h more = at-each (λ j. set.contains nat_cmp ready' j ≡ ready_at (hash.get nat_eq now j)) k
       (more.here ∙ sym (ap ready_at change.here)) (λ j ne. more.apart j ne ∙ (h j ∙ sym (ap ready_at (change.apart j ne))))
 
   -- THOSE THAT ARE LOOKED AT
 
-  pub touched-now : (touched touched' : BTreeSet ℕ) → IsTouchedSet rows touched → ((j : ℕ) → j ≢ k → set.contains nat_cmp touched' j ≡ false → set.contains nat_cmp touched j ≡ false)
+  pub touched-now : (touched touched' : BTreeSet ℕ) → IsTouchedSet rows touched →
+      ((j : ℕ) → j ≢ k → set.contains nat_cmp touched' j ≡ false → set.contains nat_cmp touched j ≡ false)
       → (set.contains nat_cmp touched' k ≡ false → settled_at after ≡ true) → IsTouchedSet now touched'
   touched-now touched touched' h more at = at-each (λ j. set.contains nat_cmp touched' j ≡ false → settled_at (hash.get nat_eq now j) ≡ true) k
       (λ off. ap settled_at change.here ∙ at off) (λ j ne off. ap settled_at (change.apart j ne) ∙ h j (more j ne off))

@@ -35,7 +35,8 @@ there-consumer : (o : Option Client) (c : ℕ) → consumer_at o ≡ Some c → 
 there-consumer None c is = absurd (cc)
 there-consumer (Some x) c is = refl
 
-pub ready-fits : {S : Type 0} (ready : BTreeSet ℕ) (rows : HashMap ℕ Client S) → set.IsOrdered nat_cmp ready → IsReadySet rows ready → length ready.keys ≤ hash.hash_map_len rows
+pub ready-fits : {S : Type 0} (ready : BTreeSet ℕ) (rows : HashMap ℕ Client S) → set.IsOrdered nat_cmp ready → IsReadySet rows ready →
+    length ready.keys ≤ hash.hash_map_len rows
 ready-fits ready rows order h = set-fits ready rows order (λ q on. there-ready (hash.get nat_eq rows q) (sym (h q) ∙ on))
 
 -- LIVE CONSUMERS
@@ -74,10 +75,13 @@ there-values rows (e ∷ es) q all on = elim (cases_Bool (eqb q e.1)) [
   | inr off ↦ there-values rows es q all.1 (rw off at on)
 ]
 
-pub live-fits : {S : Type 0} (live : BTreeMap ℕ ℕ) (rows : HashMap ℕ Client S) → tree.IsOrdered nat_cmp live → IsLiveTable rows live → length (tree.keys live) ≤ hash.hash_map_len rows
+pub live-fits : {S : Type 0} (live : BTreeMap ℕ ℕ) (rows : HashMap ℕ Client S) → tree.IsOrdered nat_cmp live → IsLiveTable rows live →
+    length (tree.keys live) ≤ hash.hash_map_len rows
 live-fits live rows order h =
-    let all = by-places (λ e. consumer_at (hash.get nat_eq rows e.1) ≡ Some e.0) live.entries (λ i e is. h.0 e.0 e.1 (btree_map_get_place nat_cmp_total live i e.0 e.1 order is)) in
-    let few = length-le_from_is_member nat_eq_equiv (values_of live.entries) (keys_of rows.entries) (distinct-values rows live.entries (IsDistinct-from_sorted nat_cmp (keys_of live.entries) order) all)
+    let all = by-places (λ e. consumer_at (hash.get nat_eq rows e.1) ≡ Some e.0) live.entries
+    (λ i e is. h.0 e.0 e.1 (btree_map_get_place nat_cmp_total live i e.0 e.1 order is)) in
+    let few = length-le_from_is_member nat_eq_equiv (values_of live.entries) (keys_of rows.entries)
+    (distinct-values rows live.entries (IsDistinct-from_sorted nat_cmp (keys_of live.entries) order) all)
     (λ q on. sym (is_some-lookup (nat_eq q) rows.entries) ∙ there-values rows live.entries q all on) in
     let a = length-keys_of rows.entries in
     let b = length-values_of live.entries in
@@ -105,7 +109,8 @@ none-some (Some x) h = absurd (h (search rules))
 pub all-fits : {X S : Type 0} (rows : HashMap ℕ X S) (ks : List ℕ) → hash.IsUnique nat_eq rows → IsStrictlySortedBy nat_cmp ks
     → ((k : ℕ) → Contains ks k ↔ IsSome (hash.get nat_eq rows k)) → hash.hash_map_len rows ≡ length ks
 all-fits rows ks unique order h =
-    sym (length-keys_of rows.entries) ∙ length-from_same_keys nat_eq_equiv (keys_of rows.entries) ks unique (distinct-same ks (IsDistinct-from_sorted nat_cmp ks order)) (λ q.
+    sym (length-keys_of rows.entries) ∙
+    length-from_same_keys nat_eq_equiv (keys_of rows.entries) ks unique (distinct-same ks (IsDistinct-from_sorted nat_cmp ks order)) (λ q.
     let decides = is_member-Decides unsigned_Decides ks q in
     sym (is_some-lookup (nat_eq q) rows.entries) ∙ elim (cases_Bool (is_member nat_eq ks q)) [
       | inl on ↦ here-some (hash.get nat_eq rows q) ((h q).0 (decides.0 on)) ∙ sym on

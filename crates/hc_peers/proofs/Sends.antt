@@ -17,9 +17,11 @@ some-none k old l m same = rw same (record { n = 0; short = false; within = omeg
 
 -- all of it was taken
 all-taken : (n : ℕ) (a left : List ℕ) → n ≤ length a → left ≡ drop n a → left ≡ [] → n ≡ length a
-all-taken n a left within is none = let size = length-drop n a in let same : length left ≡ length (drop n a) = ap length is in let zero : length left ≡ 0 = ap length none in omega arith
+all-taken n a left within is none = let size = length-drop n a in let same : length left ≡ length (drop n a) = ap length is in
+    let zero : length left ≡ 0 = ap length none in omega arith
 
-all-reported : (k n : ℕ) (a : List ℕ) (l m : Option Log) → n ≡ length a → Reports l m (with_sent k (take n a) (nat_lt n (length a))) → Reports l m (with_sent k a false)
+all-reported : (k n : ℕ) (a : List ℕ) (l m : Option Log) → n ≡ length a → Reports l m (with_sent k (take n a) (nat_lt n (length a))) →
+    Reports l m (with_sent k a false)
 all-reported k n a l m all reported =
     let not_less : nat_lt (length a) (length a) ≡ false = grind (arith, nat_tests) in
     rw (all, take-length a, not_less) at reported
@@ -61,7 +63,8 @@ module _ (k : ℕ) (a b a' : List ℕ) (l m : Option Log) (first : Offers k a a'
         n = length a + second.n;
         short = second.short;
         within = let both = length-append a b in let w = second.within in omega arith;
-        reported = rw (take-append-add a b second.n) (reports-both k a (take second.n b) second.short l m n (all-reported k first.n a l m all first.reported) second.reported);
+        reported = rw (take-append-add a b second.n)
+            (reports-both k a (take second.n b) second.short l m n (all-reported k first.n a l m all first.reported) second.reported);
       }
 
 pub some-before : (k : ℕ) (a b : List ℕ) (l m : Option Log) → OffersSome k a l m → OffersSome k (a ++ b) l m
@@ -86,6 +89,7 @@ module _ (k : ℕ) (f b back f' : List ℕ) (l m n : Option Log) (first : Offers
   pub some-third : (b' : List ℕ) (o : Option Log) → Offers k b b' m n → b' ≡ [] → OffersSome k back n o → OffersSome k ((f ++ b) ++ back) l o
   some-third b' o second none' third = some-behind k (f ++ b) back b' l n (offers-behind k f b f' l m first b' n none second) o none' third
 
-  pub offers-third : (b' back' : List ℕ) (o : Option Log) → Offers k b b' m n → b' ≡ [] → Offers k back back' n o → Offers k ((f ++ b) ++ back) ((f' ++ b') ++ back') l o
+  pub offers-third : (b' back' : List ℕ) (o : Option Log) → Offers k b b' m n → b' ≡ [] → Offers k back back' n o →
+      Offers k ((f ++ b) ++ back) ((f' ++ b') ++ back') l o
   offers-third b' back' o second none' third =
       rw (none, none') (offers-behind k (f ++ b) back b' l n (offers-behind k f b f' l m first b' n none second) back' o none' third)

@@ -23,7 +23,8 @@ looks-alike a b s [] = refl
 looks-alike a b s (x ∷ input) = elim (cases_Bool (goes_on s)) [
   | inl on ↦ rw on (elim (cases_Bool (is_in_body s)) [
     | inl body ↦ rw body refl
-    | inr head ↦ rw head (reported-alike a b (step_of (move_of s x)).tokens (step_of (move_of s x)).next input (looks-alike a b (step_of (move_of s x)).next input))
+    | inr head ↦ rw head (reported-alike a b (step_of (move_of s x)).tokens (step_of (move_of s x)).next input
+        (looks-alike a b (step_of (move_of s x)).next input))
   ])
   | inr off ↦ rw off refl
 ]

@@ -39,7 +39,8 @@ module _ {S : Type 0} (rows now : HashMap ℕ Upstream S) (news news' : BTreeSet
 -- the connection of an exchange is among those dialled
 pub dialled-at : {S T : Type 0} (rows : HashMap ℕ Upstream S) (dialled : HashMap ℕ ℕ T) (x : ℕ) (upstream : Upstream) → IsDialledTable rows dialled
     → hash.get nat_eq rows x ≡ Some upstream → is_some (hash.get nat_eq dialled upstream.k) ≡ true
-dialled-at rows dialled x upstream h is = some (hash.get nat_eq dialled upstream.k) (sym (h upstream.k x) ∙ (ap (is_at upstream.k) is ∙ eq-eqb upstream.k upstream.k refl)) where
-  some : (o : Option ℕ) → is_numbered o x ≡ true → is_some o ≡ true
-  some None on = absurd (cc)
-  some (Some y) on = refl
+dialled-at rows dialled x upstream h is =
+    some (hash.get nat_eq dialled upstream.k) (sym (h upstream.k x) ∙ (ap (is_at upstream.k) is ∙ eq-eqb upstream.k upstream.k refl)) where
+      some : (o : Option ℕ) → is_numbered o x ≡ true → is_some o ≡ true
+      some None on = absurd (cc)
+      some (Some y) on = refl

@@ -4,11 +4,11 @@
 mod client;
 mod clients;
 mod handed;
+mod note;
 mod outbox;
 mod queue;
 mod reply;
 mod status;
-mod note;
 mod upstream;
 mod upstreams;
 

@@ -17,7 +17,8 @@ use Rattle.hc_proxy.specs.{Connections.{taken_at}, Headed.{AreHeaded}, Invariant
 module _ {B : Type 0} {g : Ghosts B} where
   -- THE CACHE
 
-  pub cache_moves : (f : Frame) (x x' : loop.Proxy B g) (p : Proxy) → x'.cache ≡ x.cache → x'.record ≡ x.record → x'.now ≡ x.now → x'.starts ≡ x.starts → HasCache f x p → HasCache f x' p
+  pub cache_moves : (f : Frame) (x x' : loop.Proxy B g) (p : Proxy) → x'.cache ≡ x.cache → x'.record ≡ x.record → x'.now ≡ x.now → x'.starts ≡ x.starts →
+      HasCache f x p → HasCache f x' p
   cache_moves f x x' p cache text now starts h = record {
     stands = subst (λ c. StandsFor c no_contents p.history) (sym cache) h.stands;
     same = h.same;
@@ -38,7 +39,8 @@ module _ {B : Type 0} {g : Ghosts B} where
   }
 
   -- other clients stand for the same cache
-  pub cache_with : (f : Frame) (x : loop.Proxy B g) (p : Proxy) (all : ℕ → Option Client) (ks : List ℕ) → HasCache f x p → HasCache f x (record p { client = all; accepted = ks })
+  pub cache_with : (f : Frame) (x : loop.Proxy B g) (p : Proxy) (all : ℕ → Option Client) (ks : List ℕ) → HasCache f x p →
+      HasCache f x (record p { client = all; accepted = ks })
   cache_with f x p all ks h = record {
     stands = h.stands;
     same = h.same;
@@ -59,7 +61,9 @@ module _ {B : Type 0} {g : Ghosts B} where
   }
 
   -- and so do other rows of connections to the origin, where their answers are read as the exchanges have them
-  pub cache_rows : (f : Frame) (x : loop.Proxy B g) (p : Proxy) (rows : ℕ → Option Upstream) → ((y : ℕ) → p.tables.opened < y → rows y ≡ None) → AreHeaded (record p { upstream = rows }) → unread (record p { upstream = rows }) + bytes_received x.cache ≤ f.bytes → HasCache f x p → HasCache f x (record p { upstream = rows })
+  pub cache_rows : (f : Frame) (x : loop.Proxy B g) (p : Proxy) (rows : ℕ → Option Upstream) → ((y : ℕ) → p.tables.opened < y → rows y ≡ None) →
+      AreHeaded (record p { upstream = rows }) → unread (record p { upstream = rows }) + bytes_received x.cache ≤ f.bytes → HasCache f x p →
+      HasCache f x (record p { upstream = rows })
   cache_rows f x p rows unopened headed small h = record {
     stands = h.stands;
     same = h.same;
@@ -91,7 +95,8 @@ module _ {B : Type 0} {g : Ghosts B} where
 
   -- CONNECTIONS TO THE ORIGIN
 
-  pub upstreams_move : (t : Turn) (x x' : loop.Proxy B g) (p : Proxy) (acts : List Act) → x'.upstreams ≡ x.upstreams → HasUpstreams t x p acts → HasUpstreams t x' p acts
+  pub upstreams_move : (t : Turn) (x x' : loop.Proxy B g) (p : Proxy) (acts : List Act) → x'.upstreams ≡ x.upstreams → HasUpstreams t x p acts →
+      HasUpstreams t x' p acts
   upstreams_move t x x' p acts us h = record {
     rows = λ y on le. subst (λ v. IsUpstreamAt (taken_at t.call) (upstream_of v y) (p.upstream y)) (sym us) (h.rows y on le);
     numbers = λ y v is. h.numbers y v (sym (ap (λ u. upstream_of u y) us) ∙ is);
@@ -105,17 +110,22 @@ module _ {B : Type 0} {g : Ghosts B} where
 
   -- THE WIRE
 
-  pub wire_moves : (stages : ℕ → Stage) (x x' : loop.Proxy B g) → x'.clients ≡ x.clients → x'.upstreams ≡ x.upstreams → x'.closed ≡ x.closed → AtWire stages x → AtWire stages x'
+  pub wire_moves : (stages : ℕ → Stage) (x x' : loop.Proxy B g) → x'.clients ≡ x.clients → x'.upstreams ≡ x.upstreams → x'.closed ≡ x.closed →
+      AtWire stages x → AtWire stages x'
   wire_moves stages x x' clients upstreams closed w = record {
     clients = λ k c is. w.clients k c (sym (client k) ∙ is);
     upstreams = λ y u is. w.upstreams y u (sym (row y) ∙ is);
-    all = λ k opens. elim (w.all k opens) as (λ _. IsSome (client_of x'.clients k) ⊎ ((y : ℕ) × (v : origin.Upstream) × (upstream_of x'.upstreams y ≡ Some v) × (v.k ≡ k)) ⊎ Contains x'.closed.items k) [
-      | inl here ↦ inl (subst IsSome (sym (client k)) here)
-      | inr other ↦ elim other as (λ _. IsSome (client_of x'.clients k) ⊎ ((y : ℕ) × (v : origin.Upstream) × (upstream_of x'.upstreams y ≡ Some v) × (v.k ≡ k)) ⊎ Contains x'.closed.items k) [
-        | inl up ↦ inr (inl (up.0, up.1, row up.0 ∙ up.2, up.3))
-        | inr there ↦ inr (inr (subst (λ v. Contains v.items k) (sym closed) there))
-      ]
-    ];
+    all = λ k opens. elim (w.all k opens) as
+        (λ _. IsSome (client_of x'.clients k) ⊎ ((y : ℕ) × (v : origin.Upstream) × (upstream_of x'.upstreams y ≡ Some v) × (v.k ≡ k)) ⊎ Contains
+        x'.closed.items k) [
+          | inl here ↦ inl (subst IsSome (sym (client k)) here)
+          | inr other ↦ elim other as
+              (λ _. IsSome (client_of x'.clients k) ⊎ ((y : ℕ) × (v : origin.Upstream) × (upstream_of x'.upstreams y ≡ Some v) × (v.k ≡ k)) ⊎ Contains
+              x'.closed.items k) [
+                | inl up ↦ inr (inl (up.0, up.1, row up.0 ∙ up.2, up.3))
+                | inr there ↦ inr (inr (subst (λ v. Contains v.items k) (sym closed) there))
+              ]
+        ];
     closed = λ k there. let was = w.closed k (subst (λ v. Contains v.items k) closed there) in (client k ∙ was.0, λ y u is. was.1 y u (sym (row y) ∙ is));
   }
     where

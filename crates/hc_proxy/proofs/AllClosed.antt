@@ -25,23 +25,32 @@ among_others k ks c off is = by_live c.live is
     by_live true h = rw off at h
     by_live false h = refl
 
-none_numbered : (k : ℕ) (ks : List ℕ) (cs : List Taker) → find (is_numbered k) cs ≡ None → list_all (is_among (k ∷ ks)) cs ≡ true → list_all (is_among ks) cs ≡ true
+none_numbered : (k : ℕ) (ks : List ℕ) (cs : List Taker) → find (is_numbered k) cs ≡ None → list_all (is_among (k ∷ ks)) cs ≡ true →
+    list_all (is_among ks) cs ≡ true
 none_numbered k ks [] none all = refl
-none_numbered k ks (c ∷ cs) none all = by_test (λ h. none_numbered k ks cs h (and_right (is_among (k ∷ ks) c) (list_all (is_among (k ∷ ks)) cs) all)) (nat_eq c.k k) refl none
+none_numbered k ks (c ∷ cs) none all =
+    by_test (λ h. none_numbered k ks cs h (and_right (is_among (k ∷ ks) c) (list_all (is_among (k ∷ ks)) cs) all)) (nat_eq c.k k) refl none
   where
-    by_test : (find (is_numbered k) cs ≡ None → list_all (is_among ks) cs ≡ true) → (b : Bool) → nat_eq c.k k ≡ b → (if b then Some c else find (is_numbered k) cs) ≡ None → (is_among ks c && list_all (is_among ks) cs) ≡ true
+    by_test : (find (is_numbered k) cs ≡ None → list_all (is_among ks) cs ≡ true) → (b : Bool) → nat_eq c.k k ≡ b →
+        (if b then Some c else find (is_numbered k) cs) ≡ None → (is_among ks c && list_all (is_among ks) cs) ≡ true
     by_test rest true is h = absurd (let never : Some c ≡ None = h in cc)
-    by_test rest false is h = both_hold (is_among ks c) (list_all (is_among ks) cs) (among_others k ks c is (and_left (is_among (k ∷ ks) c) (list_all (is_among (k ∷ ks)) cs) all)) (rest h)
+    by_test rest false is h =
+        both_hold (is_among ks c) (list_all (is_among ks) cs)
+        (among_others k ks c is (and_left (is_among (k ∷ ks) c) (list_all (is_among (k ∷ ks)) cs) all)) (rest h)
 
-among_next : (k : ℕ) (ks : List ℕ) (cs : List Taker) → AreApart cs → list_all (is_among (k ∷ ks)) cs ≡ true → list_all (is_among ks) (changed_at k shut cs) ≡ true
+among_next : (k : ℕ) (ks : List ℕ) (cs : List Taker) → AreApart cs → list_all (is_among (k ∷ ks)) cs ≡ true →
+    list_all (is_among ks) (changed_at k shut cs) ≡ true
 among_next k ks [] apart all = refl
-among_next k ks (c ∷ cs) apart all = by_test (among_next k ks cs apart.1 (and_right (is_among (k ∷ ks) c) (list_all (is_among (k ∷ ks)) cs) all)) (nat_eq c.k k) refl
+among_next k ks (c ∷ cs) apart all =
+    by_test (among_next k ks cs apart.1 (and_right (is_among (k ∷ ks) c) (list_all (is_among (k ∷ ks)) cs) all)) (nat_eq c.k k) refl
   where
-    by_test : list_all (is_among ks) (changed_at k shut cs) ≡ true → (b : Bool) → nat_eq c.k k ≡ b → list_all (is_among ks) (if b then shut c ∷ cs else c ∷ changed_at k shut cs) ≡ true
+    by_test : list_all (is_among ks) (changed_at k shut cs) ≡ true → (b : Bool) → nat_eq c.k k ≡ b →
+        list_all (is_among ks) (if b then shut c ∷ cs else c ∷ changed_at k shut cs) ≡ true
     by_test rest true is =
         let number : c.k ≡ k = grind (arith, nat_tests) in
         none_numbered k ks cs (ap (λ n. find (is_numbered n) cs) (sym number) ∙ apart.0) (and_right (is_among (k ∷ ks) c) (list_all (is_among (k ∷ ks)) cs) all)
-    by_test rest false is = both_hold (is_among ks c) (list_all (is_among ks) (changed_at k shut cs)) (among_others k ks c is (and_left (is_among (k ∷ ks) c) (list_all (is_among (k ∷ ks)) cs) all)) rest
+    by_test rest false is = both_hold (is_among ks c) (list_all (is_among ks) (changed_at k shut cs))
+        (among_others k ks c is (and_left (is_among (k ∷ ks) c) (list_all (is_among (k ∷ ks)) cs) all)) rest
 
 shut_twice : (k : ℕ) (cs : List Taker) → map shut (changed_at k shut cs) ≡ map shut cs
 shut_twice k [] = refl
@@ -65,12 +74,15 @@ shut_all : (ks : List ℕ) (cs : List Taker) → AreApart cs → list_all (is_am
 shut_all [] cs apart all = none_open cs all
 shut_all (k ∷ ks) cs apart all = shut_all ks (changed_at k shut cs) (apart_stays k shut (λ c. refl) cs apart) (among_next k ks cs apart all) ∙ shut_twice k cs
 
-module _ {B : Type 0} {g : Ghosts B} (f : Frame) (x : loop.Proxy B g) (p : Proxy) (log : Log) (r : Rests f x p log) (reported reported' : Option Log) (stages stages' : ℕ → Stage) (follows : Follows reported stages log) (ks : List ℕ)
-    (clients : (k : ℕ) → IsSome (client_of x.clients k) → Contains ks k) (origins : (y : ℕ) (u : origin.Upstream) → upstream_of x.upstreams y ≡ Some u → Contains ks u.k) where
+module _ {B : Type 0} {g : Ghosts B} (f : Frame) (x : loop.Proxy B g) (p : Proxy) (log : Log) (r : Rests f x p log) (reported reported' : Option Log)
+    (stages stages' : ℕ → Stage) (follows : Follows reported stages log) (ks : List ℕ)
+    (clients : (k : ℕ) → IsSome (client_of x.clients k) → Contains ks k)
+    (origins : (y : ℕ) (u : origin.Upstream) → upstream_of x.upstreams y ≡ Some u → Contains ks u.k) where
   open_among : (c : Taker) → find (is_numbered c.k) log.takers ≡ Some c → is_among ks c ≡ true
   open_among c found = by_live c.live refl
     where
-      by_who : IsSome (client_of x.clients c.k) ⊎ ((y : ℕ) × (u : origin.Upstream) × (upstream_of x.upstreams y ≡ Some u) × (u.k ≡ c.k)) ⊎ Contains x.closed.items c.k → among c.k ks ≡ true
+      by_who : IsSome (client_of x.clients c.k) ⊎ ((y : ℕ) × (u : origin.Upstream) × (upstream_of x.upstreams y ≡ Some u) × (u.k ≡ c.k)) ⊎ Contains
+          x.closed.items c.k → among c.k ks ≡ true
       by_who (inl some) = among_contained c.k ks (clients c.k some)
       by_who (inr (inl (y, u, at, number))) = among_contained c.k ks (subst (Contains ks) number (origins y u at))
       by_who (inr (inr there)) = absurd (none_in (subst (λ js. Contains js c.k) r.closed there))

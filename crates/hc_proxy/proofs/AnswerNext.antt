@@ -79,7 +79,8 @@ heading_step : (no_body : Bool) (scan : Scan) (text : List ℕ) (b : ℕ) → Is
 unfolding move_of
 heading_step no_body scan text b = by_length (nat_lt (length text) 32768)
   where
-    by_length : (c : Bool) → IsAnswerStep (step_of (if c then head_move (Responses no_body) (scan_byte scan b) (text ++ b ∷ []) else Goes (fails error.HeadTooLong)))
+    by_length : (c : Bool) →
+        IsAnswerStep (step_of (if c then head_move (Responses no_body) (scan_byte scan b) (text ++ b ∷ []) else Goes (fails error.HeadTooLong)))
     by_length true = head_step no_body (scan_byte scan b) (text ++ b ∷ [])
     by_length false = refl
 
@@ -135,7 +136,8 @@ trailing_step place count b = trail_goes place count b
 
 -- ALL OF THEM
 
-reported_answer : (tokens : List Token) (s : Reading) (rest : List ℕ) (go_on : Reading → Next) → IsStep tokens s → (is_answer s ≡ true → IsAnswerNext (go_on s)) → IsAnswerNext (reported_or tokens s rest go_on)
+reported_answer : (tokens : List Token) (s : Reading) (rest : List ℕ) (go_on : Reading → Next) → IsStep tokens s →
+    (is_answer s ≡ true → IsAnswerNext (go_on s)) → IsAnswerNext (reported_or tokens s rest go_on)
 reported_answer [] s rest go_on step h = h step
 reported_answer (Answers response ∷ more) s rest go_on step h = step
 reported_answer (Asks request ∷ more) s rest go_on step h = absurd step
@@ -159,7 +161,8 @@ answer_next most Whole [] h = tt
 answer_next most Done [] h = refl
 answer_next most (Failed e) [] h = tt
 answer_next most (Heading (Responses no_body) scan text) (b ∷ input) h =
-    reported_answer (step_of (move_of (Heading (Responses no_body) scan text) b)).tokens (step_of (move_of (Heading (Responses no_body) scan text) b)).next input (λ t. next_in most t input)
+    reported_answer (step_of (move_of (Heading (Responses no_body) scan text) b)).tokens
+    (step_of (move_of (Heading (Responses no_body) scan text) b)).next input (λ t. next_in most t input)
     (heading_step no_body scan text b) (λ on. answer_next most (step_of (move_of (Heading (Responses no_body) scan text) b)).next input on)
 answer_next most (Counts left) (b ∷ input) h = rw (in_body left h) (counts_answer (left - min most (min left (length input + 1))))
 answer_next most Runs (b ∷ input) h = refl

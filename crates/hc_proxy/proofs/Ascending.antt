@@ -52,7 +52,8 @@ among_filter : (test : ℕ → Bool) (x : ℕ) (xs : List ℕ) → test x ≡ tr
 among_filter test x [] on = refl
 among_filter test x (y ∷ xs) on = by_test (test y) refl (among_filter test x xs on)
   where
-    by_test : (b : Bool) → test y ≡ b → among x (filter test xs) ≡ among x xs → among x (if b then y ∷ filter test xs else filter test xs) ≡ (nat_eq x y || among x xs)
+    by_test : (b : Bool) → test y ≡ b → among x (filter test xs) ≡ among x xs →
+        among x (if b then y ∷ filter test xs else filter test xs) ≡ (nat_eq x y || among x xs)
     by_test true passes rest = ap (λ b. nat_eq x y || b) rest
     by_test false fails rest =
         let other : nat_eq x y ≡ false = apart test x y true on (λ is. let never : false ≡ true = sym fails ∙ is in cc) in
@@ -90,7 +91,8 @@ just_these test xs all x = among_reverse x (filter test xs) ∙ by_test (test x)
 
 module _ (t : Tables) (law : Lawful t) where
   pub lives_ascend : Ascends 0 (live_consumers t)
-  lives_ascend = falls_up (t.last_start + 1) (filter (λ c. is_live (t.consumer c)) t.starts) (filter_falls (λ c. is_live (t.consumer c)) (t.last_start + 1) t.starts law.order.starts)
+  lives_ascend = falls_up (t.last_start + 1) (filter (λ c. is_live (t.consumer c)) t.starts)
+      (filter_falls (λ c. is_live (t.consumer c)) (t.last_start + 1) t.starts law.order.starts)
 
   live_some : (o : Option Consumer) → is_live o ≡ true → is_some o ≡ true
   live_some None h = h
@@ -100,7 +102,8 @@ module _ (t : Tables) (law : Lawful t) where
   lives_are = just_these (λ c. is_live (t.consumer c)) t.starts (λ c on. law.sound.numbered.lists.started c (live_some (t.consumer c) on))
 
   pub opens_ascend : Ascends 0 (open_exchanges t)
-  opens_ascend = falls_up (t.opened + 1) (filter (λ x. is_open (t.exchange x)) t.openings) (filter_falls (λ x. is_open (t.exchange x)) (t.opened + 1) t.openings law.order.openings)
+  opens_ascend = falls_up (t.opened + 1) (filter (λ x. is_open (t.exchange x)) t.openings)
+      (filter_falls (λ x. is_open (t.exchange x)) (t.opened + 1) t.openings law.order.openings)
 
   open_some : (o : Option Exchange) → is_open o ≡ true → is_some o ≡ true
   open_some None h = h

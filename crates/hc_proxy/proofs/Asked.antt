@@ -69,7 +69,8 @@ module _ (holder : ℕ → Option ℕ) (c z : ℕ) where
   kept_at d lt = let off : nat_eq d c ≡ false = grind (arith, nat_tests) in rw off refl
 
   event_kept : (k n : ℕ) (ev : Event) → IsNextStart holder n ev → n + count_by ev < c → started_by (with c z holder) k ev ≡ started_by holder k ev
-  event_kept k n (event.Start d request) next lt = let same : d ≡ n + 1 = next.0 in ap (λ (o : Option ℕ). if is_at k o then request ∷ [] else []) (kept_at d (omega arith))
+  event_kept k n (event.Start d request) next lt = let same : d ≡ n + 1 = next.0 in
+      ap (λ (o : Option ℕ). if is_at k o then request ∷ [] else []) (kept_at d (omega arith))
   event_kept k n (event.Poll d want) next lt = refl
   event_kept k n (event.Head x response) next lt = refl
   event_kept k n (event.Piece x bytes) next lt = refl
@@ -79,7 +80,8 @@ module _ (holder : ℕ → Option ℕ) (c z : ℕ) where
   event_kept k n (event.Doom d) next lt = refl
 
   next_kept : (n : ℕ) (ev : Event) → IsNextStart holder n ev → n + count_by ev < c → IsNextStart (with c z holder) n ev
-  next_kept n (event.Start d request) next lt = let same : d ≡ n + 1 = next.0 in (next.0, subst (λ (o : Option ℕ). IsSome o) (sym (kept_at d (omega arith))) next.1)
+  next_kept n (event.Start d request) next lt = let same : d ≡ n + 1 = next.0 in
+      (next.0, subst (λ (o : Option ℕ). IsSome o) (sym (kept_at d (omega arith))) next.1)
   next_kept n (event.Poll d want) next lt = tt
   next_kept n (event.Head x response) next lt = tt
   next_kept n (event.Piece x bytes) next lt = tt
@@ -103,7 +105,8 @@ module _ (holder : ℕ → Option ℕ) (c z : ℕ) where
 
 pub got_more : (k : ℕ) (calls : List Called) (call : Called) → got_from k (calls ++ call ∷ []) ≡ got_from k calls ++ got_by k call.event call.bytes
 got_more k [] call = append-nil (got_by k call.event call.bytes)
-got_more k (first ∷ calls) call = ap (λ (xs : List ℕ). got_by k first.event first.bytes ++ xs) (got_more k calls call) ∙ sym (append_assoc (got_by k first.event first.bytes) (got_from k calls) (got_by k call.event call.bytes))
+got_more k (first ∷ calls) call = ap (λ (xs : List ℕ). got_by k first.event first.bytes ++ xs) (got_more k calls call) ∙
+    sym (append_assoc (got_by k first.event first.bytes) (got_from k calls) (got_by k call.event call.bytes))
 
 pub place_shorter : (i k m n : ℕ) (ks : List ℕ) → m ≤ n → place_from i k (take n ks) ≡ None → place_from i k (take m ks) ≡ None
 place_shorter i k zero n ks le none = refl
@@ -111,7 +114,8 @@ place_shorter i k (suc m) n [] le none = refl
 place_shorter i k (suc m) zero (j ∷ ks) le none = absurd (omega arith)
 place_shorter i k (suc m) (suc n) (j ∷ ks) le none = by_test (nat_eq j k) none (λ is. place_shorter (i + 1) k m n ks (omega arith) is)
   where
-    by_test : (b : Bool) → (if b then Some i else place_from (i + 1) k (take n ks)) ≡ None → (place_from (i + 1) k (take n ks) ≡ None → place_from (i + 1) k (take m ks) ≡ None) → (if b then Some i else place_from (i + 1) k (take m ks)) ≡ None
+    by_test : (b : Bool) → (if b then Some i else place_from (i + 1) k (take n ks)) ≡ None →
+        (place_from (i + 1) k (take n ks) ≡ None → place_from (i + 1) k (take m ks) ≡ None) → (if b then Some i else place_from (i + 1) k (take m ks)) ≡ None
     by_test true is rest = absurd (let never : Some i ≡ None = is in cc)
     by_test false is rest = rest is
 
@@ -146,14 +150,16 @@ module _ (k : ℕ) where
     got = got_by k call.event call.bytes
 
     -- bytes that the client doesn't have stand behind
-    pub passes : (client : Client) (requests : List Request) (asked : List WireRequest) → (client.gone ≡ false → exchange_of ds k ≡ None → got ≡ []) → IsRead ds calls client requests asked → IsRead ds (more_calls calls call) client requests asked
+    pub passes : (client : Client) (requests : List Request) (asked : List WireRequest) → (client.gone ≡ false → exchange_of ds k ≡ None → got ≡ []) →
+        IsRead ds calls client requests asked → IsRead ds (more_calls calls call) client requests asked
     passes client requests asked none s = record {
       behind = more_calls s.behind call;
       accepted = later calls s.behind call s.accepted;
       front = s.front;
       rest = s.rest ++ got;
       whole =
-          let one : s.front ++ (client.input ++ (s.rest ++ got)) ≡ (s.front ++ (client.input ++ s.rest)) ++ got = ap (λ (xs : List ℕ). s.front ++ xs) (sym (append_assoc client.input s.rest got)) ∙ sym (append_assoc s.front (client.input ++ s.rest) got) in
+          let one : s.front ++ (client.input ++ (s.rest ++ got)) ≡ (s.front ++ (client.input ++ s.rest)) ++ got =
+          ap (λ (xs : List ℕ). s.front ++ xs) (sym (append_assoc client.input s.rest got)) ∙ sym (append_assoc s.front (client.input ++ s.rest) got) in
           one ∙ (ap (λ (xs : List ℕ). xs ++ got) s.whole ∙ sym (got_more k s.behind call));
       reads = s.reads;
       are = s.are;
@@ -162,7 +168,8 @@ module _ (k : ℕ) where
     }
 
     -- or wait
-    pub waits : (client : Client) (requests : List Request) (asked : List WireRequest) → client.gone ≡ false → exchange_of ds k ≡ None → IsRead ds calls client requests asked → IsRead ds (more_calls calls call) (record client { input = client.input ++ got }) requests asked
+    pub waits : (client : Client) (requests : List Request) (asked : List WireRequest) → client.gone ≡ false → exchange_of ds k ≡ None →
+        IsRead ds calls client requests asked → IsRead ds (more_calls calls call) (record client { input = client.input ++ got }) requests asked
     waits client requests asked here off s = record {
       behind = more_calls s.behind call;
       accepted = later calls s.behind call s.accepted;
@@ -170,7 +177,8 @@ module _ (k : ℕ) where
       rest = [];
       whole =
           let none : s.rest ≡ [] = s.all here off in
-          let before : s.front ++ client.input ≡ got_from k s.behind = ap (λ (xs : List ℕ). s.front ++ xs) (sym (append-nil client.input) ∙ ap (λ (xs : List ℕ). client.input ++ xs) (sym none)) ∙ s.whole in
+          let before : s.front ++ client.input ≡ got_from k s.behind =
+          ap (λ (xs : List ℕ). s.front ++ xs) (sym (append-nil client.input) ∙ ap (λ (xs : List ℕ). client.input ++ xs) (sym none)) ∙ s.whole in
           ap (λ (xs : List ℕ). s.front ++ xs) (append-nil (client.input ++ got)) ∙ (sym (append_assoc s.front client.input got)
           ∙ (ap (λ (xs : List ℕ). xs ++ got) before ∙ sym (got_more k s.behind call)));
       reads = s.reads;
@@ -183,7 +191,8 @@ module _ (k : ℕ) where
 
   module _ (ds : List ℕ) (calls : List Called) where
     -- one that keeps what waits, where it is read, and who is gone
-    pub alike : (new old : Client) (requests : List Request) (asked : List WireRequest) → new.input ≡ old.input → new.reading ≡ old.reading → (new.gone ≡ false → old.gone ≡ false) → IsRead ds calls old requests asked → IsRead ds calls new requests asked
+    pub alike : (new old : Client) (requests : List Request) (asked : List WireRequest) → new.input ≡ old.input → new.reading ≡ old.reading →
+        (new.gone ≡ false → old.gone ≡ false) → IsRead ds calls old requests asked → IsRead ds calls new requests asked
     alike new old requests asked input reading gone s = record {
       behind = s.behind;
       accepted = s.accepted;
@@ -197,8 +206,10 @@ module _ (k : ℕ) where
     }
 
     -- bytes that ask for these were read
-    pub reads_on : (client : Client) (requests : List Request) (asked more : List WireRequest) (first rest : List ℕ) (t : Reading) → first ++ rest ≡ client.input → Leads client.reading first (map Asks more) t → IsOfRequests t
-        → IsRead ds calls client requests asked → IsRead ds calls (read_to t rest client) (requests ++ map (λ (r : WireRequest). r.request) more) (asked ++ more)
+    pub reads_on : (client : Client) (requests : List Request) (asked more : List WireRequest) (first rest : List ℕ) (t : Reading) → first ++
+        rest ≡ client.input → Leads client.reading first (map Asks more) t → IsOfRequests t
+        → IsRead ds calls client requests asked →
+        IsRead ds calls (read_to t rest client) (requests ++ map (λ (r : WireRequest). r.request) more) (asked ++ more)
     reads_on client requests asked more first rest t is leads asking s = record {
       behind = s.behind;
       accepted = s.accepted;
@@ -217,7 +228,9 @@ module _ (k : ℕ) where
     read_all s input t of (inl on) = on.0
     read_all s input t of (inr done) = absurd (subst IsOfRequests done.0 of)
 
-    pub all_read : (client : Client) (requests : List Request) (asked : List WireRequest) (t : Reading) → Leads client.reading client.input [] t → IsOfRequests t → IsRead ds calls client requests asked → IsRead ds calls (read_to t [] client) requests asked
+    pub all_read : (client : Client) (requests : List Request) (asked : List WireRequest) (t : Reading) → Leads client.reading client.input [] t →
+        IsOfRequests t → IsRead ds calls client requests asked → IsRead ds calls (read_to t [] client) requests asked
     all_read client requests asked t leads of s =
         subst (λ (rs : List Request). IsRead ds calls (read_to t [] client) rs asked) (append-nil requests)
-        (subst (IsRead ds calls (read_to t [] client) (requests ++ [])) (append-nil asked) (reads_on client requests asked [] client.input [] t (append-nil client.input) leads of s))
+        (subst (IsRead ds calls (read_to t [] client) (requests ++ [])) (append-nil asked)
+        (reads_on client requests asked [] client.input [] t (append-nil client.input) leads of s))

@@ -37,7 +37,8 @@ module _ {B : Type 0} {g : Ghosts B} (t : Turn) (x : loop.Proxy B g) (up : Upstr
       never (Some v) is = absurd is
 
       by_size : (y ≤ length t.dialled) ⊎ (length t.dialled < y) → is_due p y ≡ false
-      by_size (inl within) = never (p.upstream y) (subst (λ (o : Option origin.Upstream). IsUpstreamAt (taken_at t.call) o (p.upstream y)) none (h.rows y live within))
+      by_size (inl within) = never (p.upstream y)
+          (subst (λ (o : Option origin.Upstream). IsUpstreamAt (taken_at t.call) o (p.upstream y)) none (h.rows y live within))
       by_size (inr past) = undue (is_wanted (p.tables.exchange y)) (p.upstream y) (undialled y past)
 
   news_go : (y : ℕ) → is_open (p.tables.exchange y) ≡ true → is_news up y ≡ false → asks_in y acts ≡ false → (b : Bool) → nat_eq y z ≡ b → is_due p y ≡ false
@@ -51,7 +52,8 @@ module _ {B : Type 0} {g : Ghosts B} (t : Turn) (x : loop.Proxy B g) (up : Upstr
       by_row None is = refl
       by_row (Some u) is = absurd (let never : true ≡ false = is in cc)
 
-  settled_go : (y : ℕ) (u : origin.Upstream) → upstream_of x.upstreams y ≡ Some u → is_open (p.tables.exchange y) ≡ true → is_touched up y ≡ false → asks_in y acts ≡ false → (b : Bool) → nat_eq y z ≡ b → asks_in y (act.Ask z ∷ acts) ≡ false
+  settled_go : (y : ℕ) (u : origin.Upstream) → upstream_of x.upstreams y ≡ Some u → is_open (p.tables.exchange y) ≡ true → is_touched up y ≡ false →
+      asks_in y acts ≡ false → (b : Bool) → nat_eq y z ≡ b → asks_in y (act.Ask z ∷ acts) ≡ false
   settled_go y u at live untouched unasked false off = asks_other y off unasked
   settled_go y u at live untouched unasked true on = absurd (let never : true ≡ false = sym (rw on at (touched y)) ∙ untouched in cc)
 

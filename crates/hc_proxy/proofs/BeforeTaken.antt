@@ -69,7 +69,8 @@ module _ (limits : Limits) (call : Called) (k : ℕ) where
   abbrev Fair : (Client → Client) → Client → Type 0
   Fair change old = ((change old).before ≡ old.before) ⊎ ((change old).before ≤ taken_at call k)
 
-  changed_by : (change : Client → Client) (o : Option Client) (b : Bool) (new : Client) → ((old : Client) → o ≡ Some old → Fair change old) → (if b then option_map change o else o) ≡ Some new → IsFrom o new
+  changed_by : (change : Client → Client) (o : Option Client) (b : Bool) (new : Client) → ((old : Client) → o ≡ Some old → Fair change old) →
+      (if b then option_map change o else o) ≡ Some new → IsFrom o new
   changed_by change None true new fair row = absurd (let never : None ≡ Some new = row in cc)
   changed_by change None false new fair row = absurd (let never : None ≡ Some new = row in cc)
   changed_by change (Some old) true new fair row =
@@ -77,7 +78,8 @@ module _ (limits : Limits) (call : Called) (k : ℕ) where
       subst F (some_is (change old) new row) (fair old refl)
   changed_by change (Some old) false new fair row = itself (Some old) new row
 
-  changes : (z : ℕ) (change : Client → Client) (p : Proxy) → ((old : Client) → p.client k ≡ Some old → nat_eq k z ≡ true → Fair change old) → Before p (with_client z change p)
+  changes : (z : ℕ) (change : Client → Client) (p : Proxy) → ((old : Client) → p.client k ≡ Some old → nat_eq k z ≡ true → Fair change old) →
+      Before p (with_client z change p)
   changes z change p fair new row = by_test (nat_eq k z) refl row
     where
       by_test : (b : Bool) → nat_eq k z ≡ b → (if b then option_map change (p.client k) else p.client k) ≡ Some new → IsFrom (p.client k) new
@@ -101,7 +103,8 @@ module _ (limits : Limits) (call : Called) (k : ℕ) where
   comes z p = either (is_none (p.client z) && nat_lt (length (clients_here p)) 512) p _ arrives
     where
       by_test : (b : Bool) (new : Client) → (if b then Some new_client else p.client k) ≡ Some new → IsFrom (p.client k) new
-      by_test true new row = any_taken (p.client k) new (let none : new.before ≡ 0 = sym (ap (λ (c : Client). c.before) (some_is new_client new row)) in omega arith)
+      by_test true new row = any_taken (p.client k) new
+          (let none : new.before ≡ 0 = sym (ap (λ (c : Client). c.before) (some_is new_client new row)) in omega arith)
       by_test false new row = itself (p.client k) new row
 
       arrives : (new : Client) → (if nat_eq k z then Some new_client else p.client k) ≡ Some new → IsFrom (p.client k) new
@@ -117,7 +120,8 @@ module _ (limits : Limits) (call : Called) (k : ℕ) where
 
       by_gone : (b : Bool) → Before p (if b then p else with_client z left (cancelled limits client.consumer p))
       by_gone true = same p p refl
-      by_gone false = both p (cancelled limits client.consumer p) (with_client z left (cancelled limits client.consumer p)) (cancels client.consumer) (keeps z left (cancelled limits client.consumer p) (λ c. refl))
+      by_gone false = both p (cancelled limits client.consumer p) (with_client z left (cancelled limits client.consumer p)) (cancels client.consumer)
+          (keeps z left (cancelled limits client.consumer p) (λ c. refl))
 
   sends_by : (z : ℕ) (bytes : List ℕ) (o : Option ℕ) (p : Proxy) → Before p (sends o z bytes p)
   sends_by z bytes None p = keeps z (client_sends bytes) p (λ c. if_same c.gone c _ refl)
@@ -150,7 +154,8 @@ module _ (limits : Limits) (call : Called) (k : ℕ) where
     starts_by request p =
         let q = with_client z (asks (p.starts + 1) request) p in
         both p q (started limits z request p) (keeps z (asks (p.starts + 1) request) p (λ c. refl))
-        (both q (with_holder (p.starts + 1) z q) (started limits z request p) (same q (with_holder (p.starts + 1) z q) refl) (stepped_same (event.Start (p.starts + 1) request.request) (with_holder (p.starts + 1) z q)))
+        (both q (with_holder (p.starts + 1) z q) (started limits z request p) (same q (with_holder (p.starts + 1) z q) refl)
+        (stepped_same (event.Start (p.starts + 1) request.request) (with_holder (p.starts + 1) z q)))
 
     token_by : (token : Token) (p : Proxy) → Before p (hears_request limits z token p)
     token_by (Asks request) p = starts_by request p
@@ -160,13 +165,17 @@ module _ (limits : Limits) (call : Called) (k : ℕ) where
     -- who is refused was sent all
     hears_by : (n : Next) (p : Proxy) → ((old : Client) → p.client z ≡ Some old → length old.owed ≤ taken_at call z) → Before p (hears limits z n p)
     hears_by (Waits reading) p all = keeps z (read_to reading []) p (λ c. refl)
-    hears_by (Reports token reading rest) p all = both p (with_client z (read_to reading rest) p) (hears limits z (Reports token reading rest) p) (keeps z (read_to reading rest) p (λ c. refl)) (token_by token (with_client z (read_to reading rest) p))
+    hears_by (Reports token reading rest) p all =
+        both p (with_client z (read_to reading rest) p) (hears limits z (Reports token reading rest) p) (keeps z (read_to reading rest) p (λ c. refl))
+        (token_by token (with_client z (read_to reading rest) p))
     hears_by (Brings bytes reading rest) p all = same p p refl
     hears_by Ends p all = same p p refl
     hears_by (Fails e) p all =
         let q = with_client z (read_to (Failed e) []) p in
         both p q (with_client z (refused e) q) (keeps z (read_to (Failed e) []) p (λ c. refl))
-        (changes z (refused e) q (λ old at is. inr (let number : k ≡ z = grind (arith, nat_tests) in let le : length old.owed ≤ taken_at call z = owed_then old (subst (λ m. q.client m ≡ Some old) number at) in subst (λ m. length old.owed ≤ taken_at call m) (sym number) le)))
+        (changes z (refused e) q
+        (λ old at is. inr (let number : k ≡ z = grind (arith, nat_tests) in let le : length old.owed ≤ taken_at call z = owed_then
+        old (subst (λ m. q.client m ≡ Some old) number at) in subst (λ m. length old.owed ≤ taken_at call m) (sym number) le)))
       where
         by_row : (o : Option Client) (old : Client) → p.client z ≡ o → option_map (read_to (Failed e) []) o ≡ Some old → length old.owed ≤ taken_at call z
         by_row None old at row = absurd (let never : None ≡ Some old = row in cc)
@@ -191,11 +200,13 @@ module _ (limits : Limits) (call : Called) (k : ℕ) where
       where
         by_ready : (b : Bool) → is_ready call z client ≡ b → Before p (if b then hears limits z (next_in 1 client.reading client.input) p else p)
         by_ready false is = same p p refl
-        by_ready true is = hears_by (next_in 1 client.reading client.input) p (λ old row. subst (λ (c : Client). length c.owed ≤ taken_at call z) (some_is client old (sym at ∙ row)) (ready_sent client is))
+        by_ready true is = hears_by (next_in 1 client.reading client.input) p
+            (λ old row. subst (λ (c : Client). length c.owed ≤ taken_at call z) (some_is client old (sym at ∙ row)) (ready_sent client is))
 
   each_by : (zs : List ℕ) (p : Proxy) → Before p (each_heard limits call zs p)
   each_by [] p = same p p refl
-  each_by (z ∷ zs) p = both p (hears_if limits call z (p.client z) p) (each_heard limits call (z ∷ zs) p) (heard_by z (p.client z) p refl) (each_by zs (hears_if limits call z (p.client z) p))
+  each_by (z ∷ zs) p = both p (hears_if limits call z (p.client z) p) (each_heard limits call (z ∷ zs) p) (heard_by z (p.client z) p refl)
+      (each_by zs (hears_if limits call z (p.client z) p))
 
   pub started_before : (p : Proxy) → Before p (started_all limits call p)
   unfolding started_all
@@ -205,7 +216,9 @@ module _ (limits : Limits) (call : Called) (k : ℕ) where
 
   polls_by : (cs : List ℕ) (p : Proxy) → Before p (each_polled limits call cs p)
   polls_by [] p = same p p refl
-  polls_by (c ∷ cs) p = both p (polled limits call c p) (each_polled limits call (c ∷ cs) p) (either (may_be_polled call p (p.holder c)) p (stepped limits (event.Poll c 16384) p) (stepped_same (event.Poll c 16384) p)) (polls_by cs (polled limits call c p))
+  polls_by (c ∷ cs) p = both p (polled limits call c p) (each_polled limits call (c ∷ cs) p)
+      (either (may_be_polled call p (p.holder c)) p (stepped limits (event.Poll c 16384) p) (stepped_same (event.Poll c 16384) p))
+      (polls_by cs (polled limits call c p))
 
   pub polled_before : (p : Proxy) → Before p (polled_all limits call p)
   unfolding polled_all
@@ -219,12 +232,14 @@ module _ (limits : Limits) (call : Called) (k : ℕ) where
       subst (λ (o : Option ℕ). Before p (answers o a p)) (sym served.held)
       (changes j (answered a) p (λ old at is. by_gone old at is old.gone))
     where
-      by_gone : (old : Client) → p.client k ≡ Some old → nat_eq k j ≡ true → (b : Bool) → ((if b then old else sent a old).before ≡ old.before) ⊎ ((if b then old else sent a old).before ≤ taken_at call k)
+      by_gone : (old : Client) → p.client k ≡ Some old → nat_eq k j ≡ true → (b : Bool) →
+          ((if b then old else sent a old).before ≡ old.before) ⊎ ((if b then old else sent a old).before ≤ taken_at call k)
       by_gone old at is true = inl refl
       by_gone old at is false =
           let number : k ≡ j = grind (arith, nat_tests) in
           let row : served.holder.row ≡ old = some_is served.holder.row old (sym served.holder.at ∙ (sym (ap p.client number) ∙ at)) in
-          inr (let all : nat_lt (taken_at call j) (length old.owed) ≡ false = subst (λ (r : Client). nat_lt (taken_at call j) (length r.owed) ≡ false) row served.all in
+          inr (let all : nat_lt (taken_at call j) (length old.owed) ≡ false =
+          subst (λ (r : Client). nat_lt (taken_at call j) (length r.owed) ≡ false) row served.all in
           subst (λ m. length old.owed ≤ taken_at call m) (sym number) (grind (arith, nat_tests)))
 
   act_by : (a : Act) (p : Proxy) → ((c : ℕ) → addressee a ≡ Some c → (j : ℕ) × IsServed call p j c) → Before p (carried_out a p)

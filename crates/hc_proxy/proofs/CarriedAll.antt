@@ -32,10 +32,12 @@ dials_both one two a b c first second = record {
 module _ {B : Type 0} {g : Ghosts B} (t : Turn) (p : Proxy) (log : Log) where
   -- ONE MORE
 
-  module _ (a : Act) (acts : List Act) (x x' : loop.Proxy B g) (reported reported' : Option Log) (before after : ℕ → Stage) (u : IsUnderway t p log (a ∷ acts) x reported before) where
+  module _ (a : Act) (acts : List Act) (x x' : loop.Proxy B g) (reported reported' : Option Log) (before after : ℕ → Stage)
+      (u : IsUnderway t p log (a ∷ acts) x reported before) where
     pub goes_underway : GoesOn (dialling u.more before t) a acts u.p' u.log' x' reported' after → IsUnderway t p log acts x' reported' after
     goes_underway go =
-        let turns : dialling go.more after (dialling u.more before t) ≡ dialling (u.more ++ go.more) after t = ap (λ (ks : List ℕ). let r : Turn = record t { dialled = ks; stages = after } in r) (append_assoc t.dialled u.more go.more) in
+        let turns : dialling go.more after (dialling u.more before t) ≡ dialling (u.more ++ go.more) after t =
+        ap (λ (ks : List ℕ). let r : Turn = record t { dialled = ks; stages = after } in r) (append_assoc t.dialled u.more go.more) in
         record {
           log' = go.log';
           more = u.more ++ go.more;
@@ -61,7 +63,8 @@ module _ {B : Type 0} {g : Ghosts B} (t : Turn) (p : Proxy) (log : Log) where
 
   -- ALL, AND THE CLOSING
 
-  module _ (x y : loop.Proxy B g) (reported reported' : Option Log) (before after : ℕ → Stage) (u : IsUnderway t p log [] x reported before) (empty : act_list y.acts ≡ []) (shut : y.closed.items ≡ []) (c : Closes x.closed.items u.log' reported' before after) where
+  module _ (x y : loop.Proxy B g) (reported reported' : Option Log) (before after : ℕ → Stage) (u : IsUnderway t p log [] x reported before)
+      (empty : act_list y.acts ≡ []) (shut : y.closed.items ≡ []) (c : Closes x.closed.items u.log' reported' before after) where
     abbrev x' : loop.Proxy B g
     x' = record x { acts = y.acts; closed = y.closed }
 
@@ -69,7 +72,14 @@ module _ {B : Type 0} {g : Ghosts B} (t : Turn) (p : Proxy) (log : Log) where
     r = dialling u.more after t
 
     held : HeldBy [] u.p'
-    held = record { held = u.keeps.holders.held; started = u.keeps.holders.started; live = u.keeps.holders.live; alive = u.keeps.holders.alive; idle = u.keeps.holders.idle }
+    held = record {
+      held = u.keeps.holders.held;
+      started = u.keeps.holders.started;
+      live = u.keeps.holders.live;
+      alive = u.keeps.holders.alive;
+      idle =
+          u.keeps.holders.idle;
+    }
 
     -- who is kept isn't closed
     stays_open : (j : ℕ) (reads ended : Bool) → (Contains x.closed.items j → ⊥) → before j ≡ Open reads ended → after j ≡ Open reads ended
@@ -87,7 +97,8 @@ module _ {B : Type 0} {g : Ghosts B} (t : Turn) (p : Proxy) (log : Log) where
     was_open : (j : ℕ) → IsOpen (after j) → IsOpen (before j) × (Contains x.closed.items j → ⊥)
     was_open j is = by_test (list_any (nat_eq j) x.closed.items) refl (subst IsOpen (c.stands j) is)
       where
-        by_test : (b : Bool) → list_any (nat_eq j) x.closed.items ≡ b → IsOpen (if b then closed_of (before j) else before j) → IsOpen (before j) × (Contains x.closed.items j → ⊥)
+        by_test : (b : Bool) → list_any (nat_eq j) x.closed.items ≡ b → IsOpen (if b then closed_of (before j) else before j) → IsOpen (before j) ×
+            (Contains x.closed.items j → ⊥)
         by_test true on opens = absurd (not_open (before j) opens)
         by_test false off opens = (opens, λ among. let never : true ≡ false = sym (list_any-from_Contains nat_eq_equiv j x.closed.items among) ∙ off in cc)
 
@@ -189,12 +200,14 @@ module _ {B : Type 0} {g : Ghosts B} (t : Turn) (p : Proxy) (log : Log) where
         still_closed k is true = ap closed_of is
         still_closed k is false = is
 
-        by_taken : (k : ℕ) → (before k ≡ Closed) ⊎ (taken_at t.call k ≡ length (sent_in u.log'.takers k)) → (after k ≡ Closed) ⊎ (taken_at t.call k ≡ length (sent_in c.log'.takers k))
+        by_taken : (k : ℕ) → (before k ≡ Closed) ⊎ (taken_at t.call k ≡ length (sent_in u.log'.takers k)) →
+            (after k ≡ Closed) ⊎ (taken_at t.call k ≡ length (sent_in c.log'.takers k))
         by_taken k (inl is) = inl (c.stands k ∙ still_closed k is (list_any (nat_eq k) x.closed.items))
         by_taken k (inr same) = inr (same ∙ ap length (sym (c.dials.sent k)))
 
 -- the loop, of which the acts and the closed ones alone changed
-pub all_carried_at : {B : Type 0} {g : Ghosts B} (t : Turn) (p : Proxy) (log : Log) (x y : loop.Proxy B g) (reported reported' : Option Log) (before after : ℕ → Stage)
+pub all_carried_at : {B : Type 0} {g : Ghosts B} (t : Turn) (p : Proxy) (log : Log) (x y : loop.Proxy B g) (reported reported' : Option Log)
+    (before after : ℕ → Stage)
     → (u : IsUnderway t p log [] x reported before) → record x { acts = y.acts; closed = y.closed } ≡ y → act_list y.acts ≡ [] → y.closed.items ≡ []
     → Closes x.closed.items u.log' reported' before after → CarriedOut t p log y reported' after
 all_carried_at {B} {g} t p log x y reported reported' before after u same empty shut c =
@@ -250,10 +263,12 @@ module _ {B : Type 0} {g : Ghosts B} (t : Turn) (p : Proxy) (log : Log) (reporte
     seen = k.keeps.seen;
   }
 
-  pub begins : (acts : List Act) → acts ≡ act_list x.acts → KeepsPolled t x p → OnWire t log reported stages → IsUnderway t p log acts (record x { acts = y.acts }) reported stages
+  pub begins : (acts : List Act) → acts ≡ act_list x.acts → KeepsPolled t x p → OnWire t log reported stages →
+      IsUnderway t p log acts (record x { acts = y.acts }) reported stages
   unfolding carried
   begins acts these k on =
-      let turns : dialling [] stages t ≡ t = sent.both (λ (ks : List ℕ) (f : ℕ → Stage). let u : Turn = record t { dialled = ks; stages = f } in u) (append-nil t.dialled) (fun_ext on.stands) in
+      let turns : dialling [] stages t ≡ t =
+      sent.both (λ (ks : List ℕ) (f : ℕ → Stage). let u : Turn = record t { dialled = ks; stages = f } in u) (append-nil t.dialled) (fun_ext on.stands) in
       let all : acts_in p.part ≡ acts = sym (these ∙ k.keeps.acts) in
       subst (λ (left : List Act). IsUnderway t p log left (record x { acts = y.acts }) reported stages) all (record {
         log' = log;

@@ -35,7 +35,8 @@ closes_last reply (act.Lost r kind) h = h
 closes_last reply (act.Evicted r) h = h
 
 -- who leaves by these acts leaves by the first, which is its last, or by the others
-leaves_by : (c : ℕ) (a : Act) (acts : List Act) → sent_to a ≡ Some c → (d : ℕ) → leaves_in d (a ∷ acts) ≡ true → (leaves_in d acts ≡ true) ⊎ ((is_last a ≡ true) × (c ≡ d))
+leaves_by : (c : ℕ) (a : Act) (acts : List Act) → sent_to a ≡ Some c → (d : ℕ) → leaves_in d (a ∷ acts) ≡ true →
+    (leaves_in d acts ≡ true) ⊎ ((is_last a ≡ true) × (c ≡ d))
 leaves_by c (act.Ended b) acts to d h =
     elim (or_cases (nat_eq b d) (leaves_in d acts) h) [
       | inl here ↦ inr (refl, some_inj c b (sym to) ∙ (let same : b ≡ d = grind (arith, nat_tests) in same))
@@ -137,10 +138,17 @@ module _ (a : Act) (p : Proxy) (k c : ℕ) (w : IsHolder p k c) where
   on j d u other = record { row = u.row; at = changed_off k (answered a) p j other ∙ u.at; here = u.here; consumer = u.consumer }
 
   own : is_last a ≡ false → IsHolder q k c
-  own more = record { row = reported w.row; at = changed_here k (answered a) p w.row w.at ∙ ap Some (reported_is w.row w.here); here = w.here; consumer = rw more w.consumer }
+  own more = record {
+    row = reported w.row;
+    at = changed_here k (answered a) p w.row w.at ∙ ap Some (reported_is w.row w.here);
+    here = w.here;
+    consumer =
+        rw more w.consumer;
+  }
 
 -- where acts are still to be carried out behind it
-module _ (a : Act) (acts : List Act) (p : Proxy) (k c : ℕ) (w : IsHolder p k c) (to : sent_to a ≡ Some c) (over : is_last a ≡ true → is_live (p.tables.consumer c) ≡ false) (h : HeldBy (a ∷ acts) p) where
+module _ (a : Act) (acts : List Act) (p : Proxy) (k c : ℕ) (w : IsHolder p k c) (to : sent_to a ≡ Some c)
+    (over : is_last a ≡ true → is_live (p.tables.consumer c) ≡ false) (h : HeldBy (a ∷ acts) p) where
   abbrev now : Proxy
   now = with_client k (answered a) p
 
@@ -213,14 +221,16 @@ unsent_keeps a acts p same h = record {
     by_alive c (inl on) = inl on
     by_alive c (inr leaves) = inr (sym (same c) ∙ leaves)
 
-sent_keeps : (a : Act) (acts : List Act) (p : Proxy) (c : ℕ) → sent_to a ≡ Some c → ((d : ℕ) → sent_to a ≡ Some d → (k : ℕ) × IsHolder p k d) → AreOver (a ∷ acts) p → HeldBy (a ∷ acts) p → HeldBy acts (answers (p.holder c) a p)
+sent_keeps : (a : Act) (acts : List Act) (p : Proxy) (c : ℕ) → sent_to a ≡ Some c → ((d : ℕ) → sent_to a ≡ Some d → (k : ℕ) × IsHolder p k d) →
+    AreOver (a ∷ acts) p → HeldBy (a ∷ acts) p → HeldBy acts (answers (p.holder c) a p)
 sent_keeps a acts p c to found over h =
     let f = found c to in
     let at : p.holder c ≡ Some f.0 = h.held f.0 c f.1 in
     subst (λ (o : Option ℕ). HeldBy acts (answers o a p)) (sym at)
     (answer_keeps a acts p f.0 c f.1 to (λ last. over c (last_leaves c a acts to last)) h)
 
-pub act_keeps : (a : Act) (acts : List Act) (p : Proxy) → ((c : ℕ) → sent_to a ≡ Some c → (k : ℕ) × IsHolder p k c) → AreOver (a ∷ acts) p → HeldBy (a ∷ acts) p → HeldBy acts (carried_out a p)
+pub act_keeps : (a : Act) (acts : List Act) (p : Proxy) → ((c : ℕ) → sent_to a ≡ Some c → (k : ℕ) × IsHolder p k c) → AreOver (a ∷ acts) p →
+    HeldBy (a ∷ acts) p → HeldBy acts (carried_out a p)
 act_keeps (act.Shown c r why status fields lo hi) acts p found over h = sent_keeps (act.Shown c r why status fields lo hi) acts p c refl found over h
 act_keeps (act.Given c x at bytes) acts p found over h = sent_keeps (act.Given c x at bytes) acts p c refl found over h
 act_keeps (act.Ended c) acts p found over h = sent_keeps (act.Ended c) acts p c refl found over h
@@ -267,7 +277,8 @@ acts_keep [] p found over h = h
 acts_keep (a ∷ acts) p found over h = acts_keep acts (carried_out a p) found.1 (over_later a acts p over) (act_keeps a acts p found.0 over h)
 
 pub all_live : (p : Proxy) → HeldBy [] p → (k c : ℕ) → IsHolder p k c → is_live (p.tables.consumer c) ≡ true
-all_live p h k c w = elim (h.alive k c w) as (λ _. is_live (p.tables.consumer c) ≡ true) [ inl on ↦ on | inr leaves ↦ absurd (let never : false ≡ true = leaves in cc) ]
+all_live p h k c w = elim (h.alive k c w) as (λ _. is_live (p.tables.consumer c) ≡ true)
+    [ inl on ↦ on | inr leaves ↦ absurd (let never : false ≡ true = leaves in cc) ]
 
 -- so it is between turns
 pub rests_of : (p : Proxy) → HeldBy [] p → HasConsumers p

@@ -27,10 +27,12 @@ of_held acts p h = record { held = h.held; started = h.started; live = h.live; a
 
 -- WHERE NOTHING WAS DIALLED
 
-module _ {B : Type 0} {g : Ghosts B} (t : Turn) (x : loop.Proxy B g) (p : Proxy) (a : Act) (acts : List Act) (log : Log) (reported : Option Log) (stages : ℕ → Stage) where
+module _ {B : Type 0} {g : Ghosts B} (t : Turn) (x : loop.Proxy B g) (p : Proxy) (a : Act) (acts : List Act) (log : Log) (reported : Option Log)
+    (stages : ℕ → Stage) where
   pub stays_on : OnWire t log reported stages → KeepsUnderway t acts x (carried_out a p) → GoesOn t a acts p log x reported stages
   stays_on on keeps =
-      let turns : dialling [] stages t ≡ t = sent.both (λ (ks : List ℕ) (f : ℕ → Stage). let u : Turn = record t { dialled = ks; stages = f } in u) (append-nil t.dialled) (fun_ext on.stands) in
+      let turns : dialling [] stages t ≡ t =
+      sent.both (λ (ks : List ℕ) (f : ℕ → Stage). let u : Turn = record t { dialled = ks; stages = f } in u) (append-nil t.dialled) (fun_ext on.stands) in
       record {
         log' = log;
         more = [];
@@ -50,8 +52,10 @@ module _ {B : Type 0} {g : Ghosts B} (t : Turn) (x : loop.Proxy B g) (p : Proxy)
   }
 
 -- or behind that
-pub fails_opening : {B : Type 0} {g : Ghosts B} (t : Turn) (x : loop.Proxy B g) (p : Proxy) (acts : List Act) (y c : ℕ) (need : Need) (request : Request) (log : Log) (reported reported' : Option Log) (before after : ℕ → Stage)
-    → OnWire t log reported before → KeepsUnderway t (act.Opened y c need request ∷ acts) x p → DialsSome reported reported' before after → CarriedSome t p log reported' after
+pub fails_opening : {B : Type 0} {g : Ghosts B} (t : Turn) (x : loop.Proxy B g) (p : Proxy) (acts : List Act) (y c : ℕ) (need : Need) (request : Request)
+    (log : Log) (reported reported' : Option Log) (before after : ℕ → Stage)
+    → OnWire t log reported before → KeepsUnderway t (act.Opened y c need request ∷ acts) x p → DialsSome reported reported' before after →
+    CarriedSome t p log reported' after
 fails_opening t x p acts y c need request log reported reported' before after on h (one k d) = record {
   log' = with_dialled k log;
   more = k ∷ [];
@@ -79,11 +83,13 @@ module _ {B : Type 0} {g : Ghosts B} (t : Turn) (x : loop.Proxy B g) (p : Proxy)
     reported = record x { clients = cl }
 
     sent_goes : (c : ℕ) → peers.addressee a ≡ Some c → (k : ℕ) × IsServed t.call p k c → carried_out a p ≡ answers (p.holder c) a p
-        → ((d : ℕ) → sent_to a ≡ Some d → (k : ℕ) × IsHolder p k d) → HasUpstreams t x p acts → ArePlain acts p.tables → AreShut acts p.tables → KeepsUnderway t acts reported (carried_out a p)
+        → ((d : ℕ) → sent_to a ≡ Some d → (k : ℕ) × IsHolder p k d) → HasUpstreams t x p acts → ArePlain acts p.tables → AreShut acts p.tables →
+        KeepsUnderway t acts reported (carried_out a p)
     sent_goes c to s out found origins plain shut =
         let is : carried_out a p ≡ with_client s.0 (answered a) p = out ∙ ap (λ (o : Option ℕ). answers o a p) s.1.held in
         subst (λ (r : Proxy). KeepsUnderway t acts reported r) (sym is) (record {
-          cache = cache_with t.frame reported p (with_client s.0 (answered a) p).client p.accepted (cache_moves t.frame x reported p refl refl refl refl h.cache);
+          cache = cache_with t.frame reported p (with_client s.0 (answered a) p).client p.accepted
+              (cache_moves t.frame x reported p refl refl refl refl h.cache);
           moved = h.moved;
           clients = sent.clients_go a c to p s.0 s.1.holder (λ j. h.holders.held j c) t x cl reports h.clients;
           holders = subst (HasHolders acts) is (of_held acts (carried_out a p) (act_keeps a acts p found h.over (held_of (a ∷ acts) p h.holders)));
@@ -103,7 +109,8 @@ module _ {B : Type 0} {g : Ghosts B} (t : Turn) (x : loop.Proxy B g) (p : Proxy)
 
   -- NEITHER SENT NOR CARRIED OUT
 
-  same_rows : (cl : Clients) (a : Act) → peers.addressee a ≡ None → ((k : ℕ) → client_of cl k ≡ answered_in a (client_of x.clients k)) → (k : ℕ) → client_of cl k ≡ client_of x.clients k
+  same_rows : (cl : Clients) (a : Act) → peers.addressee a ≡ None → ((k : ℕ) → client_of cl k ≡ answered_in a (client_of x.clients k)) → (k : ℕ) →
+      client_of cl k ≡ client_of x.clients k
   same_rows cl a to reports k = reports k ∙ by_row (client_of x.clients k)
     where
       by_row : (o : Option peer.Client) → answered_in a o ≡ o
@@ -111,7 +118,8 @@ module _ {B : Type 0} {g : Ghosts B} (t : Turn) (x : loop.Proxy B g) (p : Proxy)
       by_row (Some u) = rw to refl
 
   unsaid_goes : (cl : Clients) (a : Act) → ((k : ℕ) → client_of cl k ≡ client_of x.clients k) → KeepsUnderway t (a ∷ acts) x p → carried_out a p ≡ p
-      → ((d : ℕ) → sent_to a ≡ Some d → (k : ℕ) × IsHolder p k d) → HasUpstreams t x p acts → ArePlain acts p.tables → AreShut acts p.tables → KeepsUnderway t acts (record x { clients = cl }) (carried_out a p)
+      → ((d : ℕ) → sent_to a ≡ Some d → (k : ℕ) × IsHolder p k d) → HasUpstreams t x p acts → ArePlain acts p.tables → AreShut acts p.tables →
+      KeepsUnderway t acts (record x { clients = cl }) (carried_out a p)
   unsaid_goes cl a same h is found origins plain shut =
       subst (λ (r : Proxy). KeepsUnderway t acts (record x { clients = cl }) r) (sym is) (record {
         cache = cache_moves t.frame x (record x { clients = cl }) p refl refl refl refl h.cache;
@@ -128,7 +136,17 @@ module _ {B : Type 0} {g : Ghosts B} (t : Turn) (x : loop.Proxy B g) (p : Proxy)
         plain = plain;
         shut = shut;
         undialled = h.undialled;
-        upstreams = record { rows = origins.rows; numbers = origins.numbers; over = origins.over; news = origins.news; touched = origins.touched; opens = origins.opens; names = origins.names; strangers = origins.strangers };
+        upstreams = record {
+          rows = origins.rows;
+          numbers = origins.numbers;
+          over = origins.over;
+          news = origins.news;
+          touched = origins.touched;
+          opens =
+              origins.opens;
+          names = origins.names;
+          strangers = origins.strangers;
+        };
         heard = h.heard;
         wire = record {
           clients = λ k u at. h.wire.clients k u (sym (same k) ∙ at);
@@ -149,7 +167,8 @@ module _ {B : Type 0} {g : Ghosts B} (t : Turn) (x : loop.Proxy B g) (p : Proxy)
   is_reported (act.Close y) = false
   is_reported _ = true
 
-  pub received_of : (a : Act) → ((y c : ℕ) (need : Need) (request : Request) → a ≡ act.Opened y c need request → ⊥) → ((y : ℕ) → a ≡ act.Ask y → ⊥) → ((y : ℕ) → a ≡ act.Close y → ⊥) → is_reported a ≡ true
+  pub received_of : (a : Act) → ((y c : ℕ) (need : Need) (request : Request) → a ≡ act.Opened y c need request → ⊥) → ((y : ℕ) → a ≡ act.Ask y → ⊥) →
+      ((y : ℕ) → a ≡ act.Close y → ⊥) → is_reported a ≡ true
   received_of (act.Opened y c need request) opens asks closes = absurd (opens y c need request refl)
   received_of (act.Ask y) opens asks closes = absurd (asks y refl)
   received_of (act.Close y) opens asks closes = absurd (closes y refl)
@@ -162,15 +181,105 @@ module _ {B : Type 0} {g : Ghosts B} (t : Turn) (x : loop.Proxy B g) (p : Proxy)
   received_of (act.Lost r kind) opens asks closes = refl
   received_of (act.Evicted r) opens asks closes = refl
 
-  pub answer_goes : (cl : Clients) (a : Act) → is_reported a ≡ true → ((k : ℕ) → client_of cl k ≡ answered_in a (client_of x.clients k)) → KeepsUnderway t (a ∷ acts) x p → KeepsUnderway t acts (record x { clients = cl }) (carried_out a p)
-  answer_goes cl (act.Shown c r why status fields lo hi) is reports h = sent_goes cl (act.Shown c r why status fields lo hi) reports h c refl (h.served.0 c refl) refl (λ d to. let u = h.served.0 d to in (u.0, u.1.holder)) (record { rows = h.upstreams.rows; numbers = h.upstreams.numbers; over = h.upstreams.over; news = h.upstreams.news; touched = h.upstreams.touched; opens = h.upstreams.opens; names = h.upstreams.names; strangers = h.upstreams.strangers }) h.plain h.shut
-  answer_goes cl (act.Given c y at bytes) is reports h = sent_goes cl (act.Given c y at bytes) reports h c refl (h.served.0 c refl) refl (λ d to. let u = h.served.0 d to in (u.0, u.1.holder)) (record { rows = h.upstreams.rows; numbers = h.upstreams.numbers; over = h.upstreams.over; news = h.upstreams.news; touched = h.upstreams.touched; opens = h.upstreams.opens; names = h.upstreams.names; strangers = h.upstreams.strangers }) h.plain h.shut
-  answer_goes cl (act.Ended c) is reports h = sent_goes cl (act.Ended c) reports h c refl (h.served.0 c refl) refl (λ d to. let u = h.served.0 d to in (u.0, u.1.holder)) (record { rows = h.upstreams.rows; numbers = h.upstreams.numbers; over = h.upstreams.over; news = h.upstreams.news; touched = h.upstreams.touched; opens = h.upstreams.opens; names = h.upstreams.names; strangers = h.upstreams.strangers }) h.plain h.shut
-  answer_goes cl (act.Failed c cause) is reports h = sent_goes cl (act.Failed c cause) reports h c refl (h.served.0 c refl) refl (λ d to. let u = h.served.0 d to in (u.0, u.1.holder)) (record { rows = h.upstreams.rows; numbers = h.upstreams.numbers; over = h.upstreams.over; news = h.upstreams.news; touched = h.upstreams.touched; opens = h.upstreams.opens; names = h.upstreams.names; strangers = h.upstreams.strangers }) h.plain h.shut
-  answer_goes cl (act.Denied refusal) is reports h = unsaid_goes cl (act.Denied refusal) (same_rows cl (act.Denied refusal) refl reports) h refl (λ d to. absurd (let never : None ≡ Some d = to in cc)) (record { rows = h.upstreams.rows; numbers = h.upstreams.numbers; over = h.upstreams.over; news = h.upstreams.news; touched = h.upstreams.touched; opens = h.upstreams.opens; names = h.upstreams.names; strangers = h.upstreams.strangers }) h.plain h.shut
-  answer_goes cl (act.Pending c wait) is reports h = unsaid_goes cl (act.Pending c wait) (same_rows cl (act.Pending c wait) refl reports) h refl (λ d to. absurd (let never : None ≡ Some d = to in cc)) (record { rows = h.upstreams.rows; numbers = h.upstreams.numbers; over = h.upstreams.over; news = h.upstreams.news; touched = h.upstreams.touched; opens = h.upstreams.opens; names = h.upstreams.names; strangers = h.upstreams.strangers }) h.plain h.shut
-  answer_goes cl (act.Lost r kind) is reports h = unsaid_goes cl (act.Lost r kind) (same_rows cl (act.Lost r kind) refl reports) h refl (λ d to. absurd (let never : None ≡ Some d = to in cc)) (record { rows = h.upstreams.rows; numbers = h.upstreams.numbers; over = h.upstreams.over; news = h.upstreams.news; touched = h.upstreams.touched; opens = h.upstreams.opens; names = h.upstreams.names; strangers = h.upstreams.strangers }) h.plain h.shut
-  answer_goes cl (act.Evicted r) is reports h = unsaid_goes cl (act.Evicted r) (same_rows cl (act.Evicted r) refl reports) h refl (λ d to. absurd (let never : None ≡ Some d = to in cc)) (record { rows = h.upstreams.rows; numbers = h.upstreams.numbers; over = h.upstreams.over; news = h.upstreams.news; touched = h.upstreams.touched; opens = h.upstreams.opens; names = h.upstreams.names; strangers = h.upstreams.strangers }) h.plain h.shut
+  pub answer_goes : (cl : Clients) (a : Act) → is_reported a ≡ true → ((k : ℕ) → client_of cl k ≡ answered_in a (client_of x.clients k)) →
+      KeepsUnderway t (a ∷ acts) x p → KeepsUnderway t acts (record x { clients = cl }) (carried_out a p)
+  answer_goes cl (act.Shown c r why status fields lo hi) is reports h =
+      sent_goes cl (act.Shown c r why status fields lo hi) reports h c refl (h.served.0 c refl) refl
+      (λ d to. let u = h.served.0 d to in (u.0, u.1.holder))
+      (record {
+        rows = h.upstreams.rows;
+        numbers = h.upstreams.numbers;
+        over = h.upstreams.over;
+        news = h.upstreams.news;
+        touched = h.upstreams.touched;
+        opens = h.upstreams.opens;
+        names = h.upstreams.names;
+        strangers = h.upstreams.strangers;
+      }) h.plain h.shut
+  answer_goes cl (act.Given c y at bytes) is reports h =
+      sent_goes cl (act.Given c y at bytes) reports h c refl (h.served.0 c refl) refl (λ d to. let u = h.served.0 d to in (u.0, u.1.holder))
+      (record {
+        rows = h.upstreams.rows;
+        numbers = h.upstreams.numbers;
+        over = h.upstreams.over;
+        news = h.upstreams.news;
+        touched = h.upstreams.touched;
+        opens = h.upstreams.opens;
+        names = h.upstreams.names;
+        strangers = h.upstreams.strangers;
+      }) h.plain h.shut
+  answer_goes cl (act.Ended c) is reports h =
+      sent_goes cl (act.Ended c) reports h c refl (h.served.0 c refl) refl (λ d to. let u = h.served.0 d to in (u.0, u.1.holder))
+      (record {
+        rows = h.upstreams.rows;
+        numbers = h.upstreams.numbers;
+        over = h.upstreams.over;
+        news = h.upstreams.news;
+        touched = h.upstreams.touched;
+        opens = h.upstreams.opens;
+        names = h.upstreams.names;
+        strangers = h.upstreams.strangers;
+      }) h.plain h.shut
+  answer_goes cl (act.Failed c cause) is reports h =
+      sent_goes cl (act.Failed c cause) reports h c refl (h.served.0 c refl) refl (λ d to. let u = h.served.0 d to in (u.0, u.1.holder))
+      (record {
+        rows = h.upstreams.rows;
+        numbers = h.upstreams.numbers;
+        over = h.upstreams.over;
+        news = h.upstreams.news;
+        touched = h.upstreams.touched;
+        opens = h.upstreams.opens;
+        names = h.upstreams.names;
+        strangers = h.upstreams.strangers;
+      }) h.plain h.shut
+  answer_goes cl (act.Denied refusal) is reports h =
+      unsaid_goes cl (act.Denied refusal) (same_rows cl (act.Denied refusal) refl reports) h refl (λ d to. absurd (let never : None ≡ Some d = to in cc))
+      (record {
+        rows = h.upstreams.rows;
+        numbers = h.upstreams.numbers;
+        over = h.upstreams.over;
+        news = h.upstreams.news;
+        touched = h.upstreams.touched;
+        opens = h.upstreams.opens;
+        names = h.upstreams.names;
+        strangers = h.upstreams.strangers;
+      }) h.plain h.shut
+  answer_goes cl (act.Pending c wait) is reports h =
+      unsaid_goes cl (act.Pending c wait) (same_rows cl (act.Pending c wait) refl reports) h refl (λ d to. absurd (let never : None ≡ Some d = to in cc))
+      (record {
+        rows = h.upstreams.rows;
+        numbers = h.upstreams.numbers;
+        over = h.upstreams.over;
+        news = h.upstreams.news;
+        touched = h.upstreams.touched;
+        opens = h.upstreams.opens;
+        names = h.upstreams.names;
+        strangers = h.upstreams.strangers;
+      }) h.plain h.shut
+  answer_goes cl (act.Lost r kind) is reports h =
+      unsaid_goes cl (act.Lost r kind) (same_rows cl (act.Lost r kind) refl reports) h refl (λ d to. absurd (let never : None ≡ Some d = to in cc))
+      (record {
+        rows = h.upstreams.rows;
+        numbers = h.upstreams.numbers;
+        over = h.upstreams.over;
+        news = h.upstreams.news;
+        touched = h.upstreams.touched;
+        opens = h.upstreams.opens;
+        names = h.upstreams.names;
+        strangers = h.upstreams.strangers;
+      }) h.plain h.shut
+  answer_goes cl (act.Evicted r) is reports h =
+      unsaid_goes cl (act.Evicted r) (same_rows cl (act.Evicted r) refl reports) h refl (λ d to. absurd (let never : None ≡ Some d = to in cc))
+      (record {
+        rows = h.upstreams.rows;
+        numbers = h.upstreams.numbers;
+        over = h.upstreams.over;
+        news = h.upstreams.news;
+        touched = h.upstreams.touched;
+        opens = h.upstreams.opens;
+        names = h.upstreams.names;
+        strangers = h.upstreams.strangers;
+      }) h.plain h.shut
   answer_goes cl (act.Opened y c need request) is reports h = absurd (let never : false ≡ true = is in cc)
   answer_goes cl (act.Ask y) is reports h = absurd (let never : false ≡ true = is in cc)
   answer_goes cl (act.Close y) is reports h = absurd (let never : false ≡ true = is in cc)
@@ -183,7 +292,8 @@ module _ {B : Type 0} {g : Ghosts B} (t : Turn) (x : loop.Proxy B g) (p : Proxy)
     cache = cache_moves t.frame x (record x { upstreams = up }) p refl refl refl refl h.cache;
     moved = h.moved;
     clients = record { rows = h.clients.rows; order = h.clients.order; listed = h.clients.listed; few = h.clients.few };
-    holders = of_held acts p (act_keeps (act.Ask z) acts p (λ d to. absurd (let never : None ≡ Some d = to in cc)) h.over (held_of (act.Ask z ∷ acts) p h.holders));
+    holders = of_held acts p
+        (act_keeps (act.Ask z) acts p (λ d to. absurd (let never : None ≡ Some d = to in cc)) h.over (held_of (act.Ask z ∷ acts) p h.holders));
     over = h.over;
     served = h.served.1;
     plain = h.plain;

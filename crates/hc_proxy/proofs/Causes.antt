@@ -88,7 +88,8 @@ by_next w w' k wire_error.NoMemory c = record {
 }
 
 -- the writing
-pub by_sink : {A T : Type 0} (w k k' : ℕ) (e : SinkError) → HasSinkCause {T = A} k k' (Err e) → (e ≡ sink_error.NoMemory → k' ≡ k) → HasCauses {T = T} w w k k' (Err (of_sink e))
+pub by_sink : {A T : Type 0} (w k k' : ℕ) (e : SinkError) → HasSinkCause {T = A} k k' (Err e) → (e ≡ sink_error.NoMemory → k' ≡ k) →
+    HasCauses {T = T} w w k k' (Err (of_sink e))
 by_sink w k k' sink_error.SinkFailed c calm = record {
   wire_failed = λ failed. absurd (let never : stop.SinkFailed ≡ stop.WireFailed = err_of stop.SinkFailed stop.WireFailed failed in cc);
   wire_calm = λ off. refl;
@@ -118,7 +119,8 @@ module _ (w w' k k' : ℕ) where
 
   pub ends_wire_calm : (result : Result (Unit {0}) Stop) → HasCauses w w' k k' result → (ended_as result ≡ ended.WireFailed → ⊥) → w' ≡ w
   ends_wire_calm (Ok done) c off = c.wire_calm (λ is. let never : Ok done ≡ Err stop.WireFailed = is in cc)
-  ends_wire_calm (Err stop.SinkFailed) c off = c.wire_calm (λ is. let never : stop.SinkFailed ≡ stop.WireFailed = err_of stop.SinkFailed stop.WireFailed is in cc)
+  ends_wire_calm (Err stop.SinkFailed) c off =
+      c.wire_calm (λ is. let never : stop.SinkFailed ≡ stop.WireFailed = err_of stop.SinkFailed stop.WireFailed is in cc)
   ends_wire_calm (Err stop.WireFailed) c off = absurd (off refl)
   ends_wire_calm (Err stop.NoMemory) c off = c.wire_calm (λ is. let never : stop.NoMemory ≡ stop.WireFailed = err_of stop.NoMemory stop.WireFailed is in cc)
 
@@ -131,5 +133,6 @@ module _ (w w' k k' : ℕ) where
   pub ends_sink_calm : (result : Result (Unit {0}) Stop) → HasCauses w w' k k' result → (ended_as result ≡ ended.SinkFailed → ⊥) → k' ≡ k
   ends_sink_calm (Ok done) c off = c.sink_calm (λ is. let never : Ok done ≡ Err stop.SinkFailed = is in cc)
   ends_sink_calm (Err stop.SinkFailed) c off = absurd (off refl)
-  ends_sink_calm (Err stop.WireFailed) c off = c.sink_calm (λ is. let never : stop.WireFailed ≡ stop.SinkFailed = err_of stop.WireFailed stop.SinkFailed is in cc)
+  ends_sink_calm (Err stop.WireFailed) c off =
+      c.sink_calm (λ is. let never : stop.WireFailed ≡ stop.SinkFailed = err_of stop.WireFailed stop.SinkFailed is in cc)
   ends_sink_calm (Err stop.NoMemory) c off = c.sink_calm (λ is. let never : stop.NoMemory ≡ stop.SinkFailed = err_of stop.NoMemory stop.SinkFailed is in cc)

@@ -77,40 +77,51 @@ module _ {B : Type 0} {g : Ghosts B} (t : Turn) (x : loop.Proxy B g) (p : Proxy)
 
   -- WHERE 512 ARE HERE
 
-  module _ (x' : loop.Proxy B g) (closed : x'.closed.items ≡ x.closed.items ++ k ∷ []) (same : x' ≡ record x { closed = x'.closed }) (full : 512 ≤ length (clients_here p)) where
+  module _ (x' : loop.Proxy B g) (closed : x'.closed.items ≡ x.closed.items ++ k ∷ []) (same : x' ≡ record x { closed = x'.closed })
+      (full : 512 ≤ length (clients_here p)) where
     abbrev v : loop.Proxy B g
     v = record x { closed = x'.closed }
 
     refused_there : (j : ℕ) → j ≡ k → Contains x'.closed.items j
-    refused_there j here = subst (λ ks. Contains ks j) (sym closed) (Contains-append_right x.closed.items (k ∷ []) j (subst (λ n. Contains (n ∷ []) j) here (0, omega arith, refl)))
+    refused_there j here = subst (λ ks. Contains ks j) (sym closed)
+        (Contains-append_right x.closed.items (k ∷ []) j (subst (λ n. Contains (n ∷ []) j) here (0, omega arith, refl)))
 
     was_there : (j : ℕ) → Contains x'.closed.items j → Contains x.closed.items j ⊎ (k ≡ j)
-    was_there j there = elim (Contains-append_cases x.closed.items (k ∷ []) j (subst (λ ks. Contains ks j) closed there)) as (λ _. Contains x.closed.items j ⊎ (k ≡ j)) [
-      | inl before ↦ inl before
-      | inr now ↦ inr (one_of j k now)
-    ]
-
-    refused_all : (j : ℕ) → IsOpen (t.stages j) → IsSome (client_of x.clients j) ⊎ ((y : ℕ) × (u : origin.Upstream) × (upstream_of x.upstreams y ≡ Some u) × (u.k ≡ j)) ⊎ Contains x'.closed.items j
-    refused_all j opens = elim (eq_cases j k) as (λ _. IsSome (client_of x.clients j) ⊎ ((y : ℕ) × (u : origin.Upstream) × (upstream_of x.upstreams y ≡ Some u) × (u.k ≡ j)) ⊎ Contains x'.closed.items j) [
-      | inl here ↦ inr (inr (refused_there j here.1))
-      | inr off ↦ elim (h.wire.all j (subst IsOpen (stage_off j off.0) opens)) as (λ _. IsSome (client_of x.clients j) ⊎ ((y : ℕ) × (u : origin.Upstream) × (upstream_of x.upstreams y ≡ Some u) × (u.k ≡ j)) ⊎ Contains x'.closed.items j) [
-        | inl client ↦ inl client
-        | inr other ↦ elim other as (λ _. IsSome (client_of x.clients j) ⊎ ((y : ℕ) × (u : origin.Upstream) × (upstream_of x.upstreams y ≡ Some u) × (u.k ≡ j)) ⊎ Contains x'.closed.items j) [
-          | inl up ↦ inr (inl up)
-          | inr there ↦ none_in j x.closed.items b.closed there
+    was_there j there = elim (Contains-append_cases x.closed.items (k ∷ []) j (subst (λ ks. Contains ks j) closed there)) as
+        (λ _. Contains x.closed.items j ⊎ (k ≡ j)) [
+          | inl before ↦ inl before
+          | inr now ↦ inr (one_of j k now)
         ]
-      ]
-    ]
+
+    refused_all : (j : ℕ) → IsOpen (t.stages j) →
+        IsSome (client_of x.clients j) ⊎ ((y : ℕ) × (u : origin.Upstream) × (upstream_of x.upstreams y ≡ Some u) × (u.k ≡ j)) ⊎ Contains x'.closed.items j
+    refused_all j opens = elim (eq_cases j k) as
+        (λ _. IsSome (client_of x.clients j) ⊎ ((y : ℕ) × (u : origin.Upstream) × (upstream_of x.upstreams y ≡ Some u) × (u.k ≡ j)) ⊎ Contains
+        x'.closed.items j) [
+          | inl here ↦ inr (inr (refused_there j here.1))
+          | inr off ↦ elim (h.wire.all j (subst IsOpen (stage_off j off.0) opens)) as
+              (λ _. IsSome (client_of x.clients j) ⊎ ((y : ℕ) × (u : origin.Upstream) × (upstream_of x.upstreams y ≡ Some u) × (u.k ≡ j)) ⊎ Contains
+              x'.closed.items j) [
+                | inl client ↦ inl client
+                | inr other ↦ elim other as
+                    (λ _. IsSome (client_of x.clients j) ⊎ ((y : ℕ) × (u : origin.Upstream) × (upstream_of x.upstreams y ≡ Some u) × (u.k ≡ j)) ⊎ Contains
+                    x'.closed.items j) [
+                      | inl up ↦ inr (inl up)
+                      | inr there ↦ none_in j x.closed.items b.closed there
+                    ]
+              ]
+        ]
 
     refused_wire : AtWire t.stages v
     refused_wire = record {
       clients = λ j c is. let was = h.wire.clients j c is in (was.0, stage_off j (was_open j c.reading was.0 was.1) ∙ was.1);
       upstreams = upstreams_at;
       all = refused_all;
-      closed = λ j there. elim (was_there j there) as (λ _. (client_of x.clients j ≡ None) × ((y : ℕ) (u : origin.Upstream) → upstream_of x.upstreams y ≡ Some u → u.k ≢ j)) [
-        | inl before ↦ none_in j x.closed.items b.closed before
-        | inr here ↦ (ap (client_of x.clients) (sym here) ∙ no_client (client_of x.clients k) refl, λ y u is its. no_upstream y u is (its ∙ sym here))
-      ];
+      closed = λ j there. elim (was_there j there) as
+          (λ _. (client_of x.clients j ≡ None) × ((y : ℕ) (u : origin.Upstream) → upstream_of x.upstreams y ≡ Some u → u.k ≢ j)) [
+            | inl before ↦ none_in j x.closed.items b.closed before
+            | inr here ↦ (ap (client_of x.clients) (sym here) ∙ no_client (client_of x.clients k) refl, λ y u is its. no_upstream y u is (its ∙ sym here))
+          ];
     }
 
     refused_known : AreKnown t v
@@ -151,7 +162,8 @@ module _ {B : Type 0} {g : Ghosts B} (t : Turn) (x : loop.Proxy B g) (p : Proxy)
     refused_owed = by_none (is_none (p.client k)) (nat_lt (length (clients_here p)) 512) refl
       where
         by_none : (a d : Bool) → nat_lt (length (clients_here p)) 512 ≡ d → (if a && d then with_new k p else p) ≡ p
-        by_none true true less = absurd (let lt : length (clients_here p) < 512 = grind (arith, nat_tests) in let ge : 512 ≤ length (clients_here p) = full in omega arith)
+        by_none true true less =
+            absurd (let lt : length (clients_here p) < 512 = grind (arith, nat_tests) in let ge : 512 ≤ length (clients_here p) = full in omega arith)
         by_none true false less = refl
         by_none false d less = refl
 
@@ -193,7 +205,8 @@ module _ {B : Type 0} {g : Ghosts B} (t : Turn) (x : loop.Proxy B g) (p : Proxy)
 
     rows : (j : ℕ) → IsClientAt (taken_at t.call j) (client_of s j) (q.client j)
     rows j = elim (eq_cases j k) as (λ _. IsClientAt (taken_at t.call j) (client_of s j) (q.client j)) [
-      | inr off ↦ subst (λ o. IsClientAt (taken_at t.call j) o (q.client j)) (sym (off_now j off.0)) (subst (λ r. IsClientAt (taken_at t.call j) (client_of x.clients j) r) (sym (row_off j off.0)) (h.clients.rows j))
+      | inr off ↦ subst (λ o. IsClientAt (taken_at t.call j) o (q.client j)) (sym (off_now j off.0))
+          (subst (λ r. IsClientAt (taken_at t.call j) (client_of x.clients j) r) (sym (row_off j off.0)) (h.clients.rows j))
       | inl here ↦ subst (λ n. IsClientAt (taken_at t.call n) (client_of s n) (q.client n)) (sym here.1)
           (subst (λ o. IsClientAt (taken_at t.call k) o (q.client k)) (sym here_now)
           (subst (λ r. IsClientAt (taken_at t.call k) (Some peers.new_client) r) (sym row_here)
@@ -227,18 +240,25 @@ module _ {B : Type 0} {g : Ghosts B} (t : Turn) (x : loop.Proxy B g) (p : Proxy)
 
     clients_at : (j : ℕ) (c : peer.Client) → client_of s j ≡ Some c → (ended : Bool) × (t.stages j ≡ Open c.reading ended)
     clients_at j c is = elim (eq_cases j k) as (λ _. (ended : Bool) × (t.stages j ≡ Open c.reading ended)) [
-      | inl here ↦ (false, ap t.stages here.1 ∙ (stage_here ∙ ap (λ (d : peer.Client). Open d.reading false) (some_inj peers.new_client c (sym here_now ∙ (ap (client_of s) (sym here.1) ∙ is)))))
+      | inl here ↦ (
+        false,
+        ap t.stages here.1 ∙
+            (stage_here ∙ ap (λ (d : peer.Client). Open d.reading false) (some_inj peers.new_client c (sym here_now ∙ (ap (client_of s) (sym here.1) ∙ is)))),
+      )
       | inr off ↦ let was = h.wire.clients j c (sym (off_now j off.0) ∙ is) in (was.0, stage_off j off.0 ∙ was.1)
     ]
 
-    come_all : (j : ℕ) → IsOpen (t.stages j) → IsSome (client_of s j) ⊎ ((y : ℕ) × (u : origin.Upstream) × (upstream_of x.upstreams y ≡ Some u) × (u.k ≡ j)) ⊎ Contains x.closed.items j
-    come_all j opens = elim (eq_cases j k) as (λ _. IsSome (client_of s j) ⊎ ((y : ℕ) × (u : origin.Upstream) × (upstream_of x.upstreams y ≡ Some u) × (u.k ≡ j)) ⊎ Contains x.closed.items j) [
-      | inl here ↦ inl (subst (λ n. IsSome (client_of s n)) (sym here.1) (subst IsSome (sym here_now) refl))
-      | inr off ↦ elim (h.wire.all j (subst IsOpen (stage_off j off.0) opens)) as (λ _. IsSome (client_of s j) ⊎ ((y : ℕ) × (u : origin.Upstream) × (upstream_of x.upstreams y ≡ Some u) × (u.k ≡ j)) ⊎ Contains x.closed.items j) [
-        | inl client ↦ inl (subst IsSome (sym (off_now j off.0)) client)
-        | inr other ↦ inr other
-      ]
-    ]
+    come_all : (j : ℕ) → IsOpen (t.stages j) →
+        IsSome (client_of s j) ⊎ ((y : ℕ) × (u : origin.Upstream) × (upstream_of x.upstreams y ≡ Some u) × (u.k ≡ j)) ⊎ Contains x.closed.items j
+    come_all j opens = elim (eq_cases j k) as
+        (λ _. IsSome (client_of s j) ⊎ ((y : ℕ) × (u : origin.Upstream) × (upstream_of x.upstreams y ≡ Some u) × (u.k ≡ j)) ⊎ Contains x.closed.items j) [
+          | inl here ↦ inl (subst (λ n. IsSome (client_of s n)) (sym here.1) (subst IsSome (sym here_now) refl))
+          | inr off ↦ elim (h.wire.all j (subst IsOpen (stage_off j off.0) opens)) as
+              (λ _. IsSome (client_of s j) ⊎ ((y : ℕ) × (u : origin.Upstream) × (upstream_of x.upstreams y ≡ Some u) × (u.k ≡ j)) ⊎ Contains x.closed.items j) [
+                | inl client ↦ inl (subst IsSome (sym (off_now j off.0)) client)
+                | inr other ↦ inr other
+              ]
+        ]
 
     come_wire : AtWire t.stages w
     come_wire = record { clients = clients_at; upstreams = upstreams_at; all = come_all; closed = λ j there. none_in j x.closed.items b.closed there }
@@ -287,5 +307,8 @@ module _ {B : Type 0} {g : Ghosts B} (t : Turn) (x : loop.Proxy B g) (p : Proxy)
 
   -- HOW MANY ARE HERE
 
-  pub count_here : (count : ℕ) → ((ks : List ℕ) → IsStrictlySortedBy nat_cmp ks → ((j : ℕ) → Contains ks j ↔ IsSome (client_of x.clients j)) → count ≡ length ks) → count ≡ length (clients_here p)
-  count_here count all = all (clients_here p) (here_order (record t { stages = b.before }) x p h.clients) (just_here (record t { stages = b.before }) x p h.clients)
+  pub count_here : (count : ℕ) →
+      ((ks : List ℕ) → IsStrictlySortedBy nat_cmp ks → ((j : ℕ) → Contains ks j ↔ IsSome (client_of x.clients j)) → count ≡ length ks) →
+      count ≡ length (clients_here p)
+  count_here count all = all (clients_here p) (here_order (record t { stages = b.before }) x p h.clients)
+      (just_here (record t { stages = b.before }) x p h.clients)

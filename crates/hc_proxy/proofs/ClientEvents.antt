@@ -24,7 +24,8 @@ no_poll (event.Doom key) is = absurd (let never : false ≡ true = is in cc)
 
 module _ (limits : Limits) (h : History) (k : ℕ) (ds : List ℕ) where
   -- a row that keeps what is read, owed and waited for, where no client comes back
-  pub kept_row : (calls : List Called) (p : Proxy) (new old : Client) → new.input ≡ old.input → new.reading ≡ old.reading → new.owed ≡ old.owed → new.reply ≡ old.reply → new.consumer ≡ old.consumer → new.closing ≡ old.closing
+  pub kept_row : (calls : List Called) (p : Proxy) (new old : Client) → new.input ≡ old.input → new.reading ≡ old.reading → new.owed ≡ old.owed →
+      new.reply ≡ old.reply → new.consumer ≡ old.consumer → new.closing ≡ old.closing
       → (new.gone ≡ false → old.gone ≡ false) → IsRow limits h k ds calls p (Some old) → IsRow limits h k ds calls p (Some new)
   kept_row calls p new old input reading owed reply consumer closing gone r = record {
     asked = r.asked;
@@ -41,7 +42,8 @@ module _ (limits : Limits) (h : History) (k : ℕ) (ds : List ℕ) where
   left_row : (calls : List Called) (p : Proxy) (client : Client) → IsRow limits h k ds calls p (Some client) → IsRow limits h k ds calls p (Some (left client))
   left_row calls p client r = kept_row calls p (left client) client refl refl refl refl refl refl (λ g. gone_never g) r
 
-  pub seen_row : (calls : List Called) (call : Called) (p : Proxy) (client : Client) → IsRow limits h k ds calls p (Some client) → IsRow limits h k ds calls p (Some (seen_at call k client))
+  pub seen_row : (calls : List Called) (call : Called) (p : Proxy) (client : Client) → IsRow limits h k ds calls p (Some client) →
+      IsRow limits h k ds calls p (Some (seen_at call k client))
   seen_row calls call p client r = by_test (client.gone || stands call k)
     where
       by_test : (b : Bool) → IsRow limits h k ds calls p (Some (if b then client else record client { gone = true; let_go = true }))
@@ -81,7 +83,8 @@ module _ (limits : Limits) (h : History) (k : ℕ) (ds : List ℕ) where
         cancels (Some c) = other_on limits h k ds calls (event.Cancel c) p tt refl s
 
         gone : S (with_client z left (cancelled limits client.consumer p))
-        gone = change_on limits h k ds calls z left (cancelled limits client.consumer p) (left_row calls (cancelled limits client.consumer p)) (cancels client.consumer)
+        gone = change_on limits h k ds calls z left (cancelled limits client.consumer p) (left_row calls (cancelled limits client.consumer p))
+            (cancels client.consumer)
 
   -- THE EVENT OF A CALL
 
@@ -98,7 +101,8 @@ module _ (limits : Limits) (h : History) (k : ℕ) (ds : List ℕ) where
     abbrev Misses : Type 0
     Misses = exchange_of ds k ≡ None → got_by k call.event call.bytes ≡ []
 
-    read_row : (p : Proxy) (new old : Client) → new.owed ≡ old.owed → new.reply ≡ old.reply → new.consumer ≡ old.consumer → new.closing ≡ old.closing → new.reading ≡ old.reading → new.gone ≡ old.gone
+    read_row : (p : Proxy) (new old : Client) → new.owed ≡ old.owed → new.reply ≡ old.reply → new.consumer ≡ old.consumer → new.closing ≡ old.closing →
+        new.reading ≡ old.reading → new.gone ≡ old.gone
         → (r : IsRow limits h k ds calls p (Some old)) → IsRead k ds more new (starts_of p.holder k p.history) r.asked → IsRow limits h k ds more p (Some new)
     read_row p new old owed reply consumer closing reading gone r read = record {
       asked = r.asked;
@@ -109,13 +113,16 @@ module _ (limits : Limits) (h : History) (k : ℕ) (ds : List ℕ) where
 
     row_passes : Misses → (p : Proxy) (o : Option Client) → IsRow limits h k ds calls p o → IsRow limits h k ds more p o
     row_passes none p None row = record { none = row.none; nobody = row.nobody; unheld = row.unheld }
-    row_passes none p (Some client) r = read_row p client client refl refl refl refl refl refl r (passes k ds calls call client (starts_of p.holder k p.history) r.asked (λ here off. none off) r.read)
+    row_passes none p (Some client) r =
+        read_row p client client refl refl refl refl refl refl r
+        (passes k ds calls call client (starts_of p.holder k p.history) r.asked (λ here off. none off) r.read)
 
     all_pass : Misses → (p : Proxy) → Before p → Behind p
     all_pass none p s = record { all = s.all; row = row_passes none p (p.client k) s.row }
 
     -- it comes
-    new_row : (z : ℕ) (p : Proxy) → call.event ≡ wire.Accepted z → nat_eq k z ≡ true → IsRow limits h k ds more p None → IsRow limits h k ds more p (Some new_client)
+    new_row : (z : ℕ) (p : Proxy) → call.event ≡ wire.Accepted z → nat_eq k z ≡ true → IsRow limits h k ds more p None →
+        IsRow limits h k ds more p (Some new_client)
     new_row z p is same r =
         let at : z ≡ k = grind (arith, nat_tests) in
         record {
@@ -146,13 +153,18 @@ module _ (limits : Limits) (h : History) (k : ℕ) (ds : List ℕ) where
             new_row z p is on (subst (IsRow limits h k ds more p) row s.row)
 
         by_row : (o : Option Client) → p.client z ≡ o → (b : Bool) → Behind (if is_none o && b then with_new z p else p)
-        by_row None none true = record { all = put_all limits h k (inserted z p.accepted) (with z new_client p.client) p.upstream p s.all; row = row_now none (nat_eq k z) refl }
+        by_row None none true = record {
+          all = put_all limits h k (inserted z p.accepted) (with z new_client p.client) p.upstream p s.all;
+          row =
+              row_now none (nat_eq k z) refl;
+        }
         by_row None none false = s
         by_row (Some client) at b = s
 
     -- bytes of it come
     sends_on : (z n : ℕ) (p : Proxy) → call.event ≡ wire.Got z n → exchange_of ds z ≡ None → Before p → Behind (with_client z (client_sends call.bytes) p)
-    sends_on z n p is off s = record { all = put_all limits h k p.accepted (with_client z (client_sends call.bytes) p).client p.upstream p s.all; row = by_number (nat_eq k z) refl }
+    sends_on z n p is off s =
+        record { all = put_all limits h k p.accepted (with_client z (client_sends call.bytes) p).client p.upstream p s.all; row = by_number (nat_eq k z) refl }
       where
         requests : List Request
         requests = starts_of p.holder k p.history
@@ -160,14 +172,19 @@ module _ (limits : Limits) (h : History) (k : ℕ) (ds : List ℕ) where
         got_is : (b : Bool) → nat_eq k z ≡ b → got_by k call.event call.bytes ≡ (if b then call.bytes else [])
         got_is b at = ap (λ (w : WireEvent). got_by k w call.bytes) is ∙ ap (λ (t : Bool). if t then call.bytes else []) at
 
-        waits_on : (client : Client) (r : IsRow limits h k ds calls p (Some client)) → nat_eq k z ≡ true → client.gone ≡ false → IsRow limits h k ds more p (Some (record client { input = client.input ++ call.bytes }))
+        waits_on : (client : Client) (r : IsRow limits h k ds calls p (Some client)) → nat_eq k z ≡ true → client.gone ≡ false →
+            IsRow limits h k ds more p (Some (record client { input = client.input ++ call.bytes }))
         waits_on client r on gone =
             let same : k ≡ z = grind (arith, nat_tests) in
             read_row p (record client { input = client.input ++ call.bytes }) client refl refl refl refl refl refl r
-            (subst (λ (bytes : List ℕ). IsRead k ds more (record client { input = client.input ++ bytes }) requests r.asked) (got_is true on) (waits k ds calls call client requests r.asked gone (ap (exchange_of ds) same ∙ off) r.read))
+            (subst (λ (bytes : List ℕ). IsRead k ds more (record client { input = client.input ++ bytes }) requests r.asked) (got_is true on)
+            (waits k ds calls call client requests r.asked gone (ap (exchange_of ds) same ∙ off) r.read))
 
-        by_gone : (client : Client) → IsRow limits h k ds calls p (Some client) → nat_eq k z ≡ true → (b : Bool) → client.gone ≡ b → IsRow limits h k ds more p (Some (if b then client else record client { input = client.input ++ call.bytes }))
-        by_gone client r on true gone = read_row p client client refl refl refl refl refl refl r (passes k ds calls call client requests r.asked (λ here o. gone_never (sym gone ∙ here)) r.read)
+        by_gone : (client : Client) → IsRow limits h k ds calls p (Some client) → nat_eq k z ≡ true → (b : Bool) → client.gone ≡ b →
+            IsRow limits h k ds more p (Some (if b then client else record client { input = client.input ++ call.bytes }))
+        by_gone client r on true gone =
+            read_row p client client refl refl refl refl refl refl r
+            (passes k ds calls call client requests r.asked (λ here o. gone_never (sym gone ∙ here)) r.read)
         by_gone client r on false gone = waits_on client r on gone
 
         by_row : nat_eq k z ≡ true → (o : Option Client) → IsRow limits h k ds calls p o → IsRow limits h k ds more p (option_map (client_sends call.bytes) o)
@@ -198,7 +215,9 @@ module _ (limits : Limits) (h : History) (k : ℕ) (ds : List ℕ) where
 
     broke_on : (z : ℕ) (o : Option ℕ) (p : Proxy) → Behind p → Behind (broke limits o z p)
     broke_on z None p s = leaves_on more z (p.client z) p s
-    broke_on z (Some x) p s = still limits h k ds more (is_open (p.tables.exchange x)) p (stepped limits (event.Fault x) p) s (other_on limits h k ds more (event.Fault x) p tt refl s)
+    broke_on z (Some x) p s =
+        still limits h k ds more (is_open (p.tables.exchange x)) p (stepped limits (event.Fault x) p) s
+        (other_on limits h k ds more (event.Fault x) p tt refl s)
 
     by_event : (w : WireEvent) (p : Proxy) → call.event ≡ w → Before p → Behind (handled_by limits ds call.bytes w p)
     by_event (wire.Accepted z) p is s = comes_on z p is (all_pass (λ off. ap (λ (w : WireEvent). got_by k w call.bytes) is) p s)

@@ -71,7 +71,8 @@ module _ (limits : Limits) (call : Called) (k : ℕ) (q : Proxy) where
         requests = append-nil (starts_of p.holder k p.history) ∙ s.requests;
         consumers = append-nil (consumers_of p.holder k p.history) ∙ s.consumers;
         less = λ d live. s.less d (other_live limits (event.Poll c 16384) p s.stands tt d live);
-        acts = may_both (acts_in p.part) e.acts s.acts (to_may c e.acts may (polls_alone limits p.history s.stands.run e (subst (λ (t : Tables). IsOwed limits t e) s.stands.same is) c 16384 refl));
+        acts = may_both (acts_in p.part) e.acts s.acts
+            (to_may c e.acts may (polls_alone limits p.history s.stands.run e (subst (λ (t : Tables). IsOwed limits t e) s.stands.same is) c 16384 refl));
       }
 
   one_on : (c : ℕ) (p : Proxy) → is_live (q.tables.consumer c) ≡ true → IsPolled p → IsPolled (polled limits call c p)
@@ -79,7 +80,8 @@ module _ (limits : Limits) (call : Called) (k : ℕ) (q : Proxy) where
     where
       by_test : (b : Bool) → may_be_polled call p (p.holder c) ≡ b → IsPolled (if b then stepped limits (event.Poll c 16384) p else p)
       by_test false off = s
-      by_test true is = poll_on c p (live, ap (may_be_polled call q) (sym (ap (λ (f : ℕ → Option ℕ). f c) s.holder)) ∙ (sym (may_same p s.client (p.holder c)) ∙ is)) s
+      by_test true is = poll_on c p
+          (live, ap (may_be_polled call q) (sym (ap (λ (f : ℕ → Option ℕ). f c) s.holder)) ∙ (sym (may_same p s.client (p.holder c)) ∙ is)) s
 
   first_among : (c : ℕ) (cs : List ℕ) → among c (c ∷ cs) ≡ true
   first_among c cs = let same : nat_eq c c ≡ true = grind (arith, nat_tests) in rw same refl
@@ -91,7 +93,8 @@ module _ (limits : Limits) (call : Called) (k : ℕ) (q : Proxy) where
       by_test true = refl
       by_test false = is
 
-  each_on : (cs : List ℕ) (p : Proxy) → ((d : ℕ) → among d cs ≡ true → is_live (q.tables.consumer d) ≡ true) → IsPolled p → IsPolled (each_polled limits call cs p)
+  each_on : (cs : List ℕ) (p : Proxy) → ((d : ℕ) → among d cs ≡ true → is_live (q.tables.consumer d) ≡ true) → IsPolled p →
+      IsPolled (each_polled limits call cs p)
   each_on [] p live s = s
   each_on (c ∷ cs) p live s = each_on cs (polled limits call c p) (λ d is. live d (later_among d c cs is)) (one_on c p (live c (first_among c cs)) s)
 
@@ -112,7 +115,8 @@ module _ (limits : Limits) (call : Called) (k : ℕ) (q : Proxy) where
   abbrev IsFor : Client → ℕ → Type 0
   IsFor client d = (client.gone ≡ false) × (client.consumer ≡ Some d)
 
-  are_for : (client : Client) → q.client k ≡ Some client → ((d : ℕ) → Holds limits [] k q d → client.gone ≡ false → client.consumer ≡ Some d) → (acts : List Act) → AllMay acts → AreFor q.holder k (IsFor client) acts
+  are_for : (client : Client) → q.client k ≡ Some client → ((d : ℕ) → Holds limits [] k q d → client.gone ≡ false → client.consumer ≡ Some d) →
+      (acts : List Act) → AllMay acts → AreFor q.holder k (IsFor client) acts
   are_for client at live [] may = tt
   are_for client at live (a ∷ acts) may = (λ d to its. it d (may.0 d to) (at_is (q.holder d) its), are_for client at live acts may.1)
     where
@@ -121,7 +125,8 @@ module _ (limits : Limits) (call : Called) (k : ℕ) (q : Proxy) where
           let here : client.gone ≡ false = takes_here client (ap (takes_more call k) (sym at) ∙ (ap (may_be_polled call q) (sym holds) ∙ m.1)) in
           (here, live d (m.0, holds) here)
 
-  module _ (h : History) (acts : List Act) (client : Client) (cs : List ℕ) (asked : List WireRequest) (its : AreIts q.holder k cs) (for : AreFor q.holder k (IsFor client) acts) (o : Owes h cs asked client) where
+  module _ (h : History) (acts : List Act) (client : Client) (cs : List ℕ) (asked : List WireRequest) (its : AreIts q.holder k cs)
+      (for : AreFor q.holder k (IsFor client) acts) (o : Owes h cs asked client) where
     abbrev g : History
     g = all_alone acts h
 
@@ -151,7 +156,8 @@ module _ (limits : Limits) (call : Called) (k : ℕ) (q : Proxy) where
     pub owes_behind : Owes g cs asked (reported_all q.holder k acts client)
     owes_behind = by_gone client.gone refl
       where
-        by_waits : client.gone ≡ false → (l : HasLast h cs asked client) → (client.consumer ≡ None) ⊎ (client.consumer ≡ Some l.c) → Owes g cs asked (reported_all q.holder k acts client)
+        by_waits : client.gone ≡ false → (l : HasLast h cs asked client) → (client.consumer ≡ None) ⊎ (client.consumer ≡ Some l.c) →
+            Owes g cs asked (reported_all q.holder k acts client)
         by_waits here l (inl none) = none_for (λ d is. let never : None ≡ Some d = sym none ∙ is.1 in cc)
         by_waits here l (inr at) = last_for here l at
 
@@ -183,7 +189,8 @@ pub record Rested (limits : Limits) (k : ℕ) (ds : List ℕ) (calls : List Call
   pub row : IsRow limits p.history k ds calls p (p.client k)
 
 -- h was carried out before the turn, q stands before its polls, and p behind them
-module _ (limits : Limits) (h : History) (k : ℕ) (ds : List ℕ) (calls : List Called) (call : Called) (q p : Proxy) (f : Follows limits h k ds calls q) (s : IsPolled limits call k q p) (base : p.history ≡ p.part ++ h) where
+module _ (limits : Limits) (h : History) (k : ℕ) (ds : List ℕ) (calls : List Called) (call : Called) (q p : Proxy) (f : Follows limits h k ds calls q)
+    (s : IsPolled limits call k q p) (base : p.history ≡ p.part ++ h) where
   abbrev acts : List Act
   acts = acts_in p.part
 
@@ -232,7 +239,8 @@ module _ (limits : Limits) (h : History) (k : ℕ) (ds : List ℕ) (calls : List
   abbrev holds : ℕ → Type 0
   holds d = (is_live (p.tables.consumer d) ≡ true) × (q.holder d ≡ Some k)
 
-  row_now : (o : Option Client) → q.client k ≡ o → IsRow limits h k ds calls q o → HasRow limits p.history k ds calls (option_map (reported_all q.holder k acts) o) requests cs holds
+  row_now : (o : Option Client) → q.client k ≡ o → IsRow limits h k ds calls q o →
+      HasRow limits p.history k ds calls (option_map (reported_all q.holder k acts) o) requests cs holds
   row_now None at r = record { none = r.none; nobody = r.nobody; unheld = λ d is. r.unheld d (s.less d is.0, is.1) }
   row_now (Some client) at r = record {
     asked = r.asked;
@@ -279,9 +287,12 @@ module _ (limits : Limits) (h : History) (k : ℕ) (ds : List ℕ) (calls : List
     fresh = λ d lt.
         let is : p'.starts ≡ q.starts = same.starts ∙ s.starts in
         let new : q.starts < d = omega arith in
-        ap (answer_to d) same.history ∙ (answer_now d ∙ (ap (λ (xs : List Act). xs ++ filter (is_answer_to d) acts) (f.all.fresh d new) ∙ none_new d new acts s.acts));
-    row = subst (λ (x : History). HasRow limits x k ds calls (p'.client k) (starts_of p'.holder k p'.history) (consumers_of p'.holder k p'.history) (Holds limits [] k p')) (sym same.history)
-        (row_less limits p.history k ds calls (p'.client k) requests (starts_of p'.holder k p'.history) cs (consumers_of p'.holder k p'.history) holds (Holds limits [] k p')
+        ap (answer_to d) same.history ∙
+        (answer_now d ∙ (ap (λ (xs : List Act). xs ++ filter (is_answer_to d) acts) (f.all.fresh d new) ∙ none_new d new acts s.acts));
+    row = subst (λ (x : History). HasRow limits x k ds calls (p'.client k) (starts_of p'.holder k p'.history) (consumers_of p'.holder k p'.history)
+        (Holds limits [] k p')) (sym same.history)
+        (row_less limits p.history k ds calls (p'.client k) requests (starts_of p'.holder k p'.history) cs (consumers_of p'.holder k p'.history) holds
+        (Holds limits [] k p')
         (ap (λ (x : ℕ → Option ℕ). starts_of x k p'.history) same.holder ∙ (ap (starts_of p.holder k) same.history ∙ s.requests))
         (ap (λ (x : ℕ → Option ℕ). consumers_of x k p'.history) same.holder ∙ (ap (consumers_of p.holder k) same.history ∙ s.consumers))
         (λ d is. (ap (λ (t : Tables). is_live (t.consumer d)) (sym same.tables) ∙ is.0, sym (ap (λ (x : ℕ → Option ℕ). x d) (same.holder ∙ s.holder)) ∙ is.1))
@@ -290,7 +301,8 @@ module _ (limits : Limits) (h : History) (k : ℕ) (ds : List ℕ) (calls : List
 
 -- BEFORE THE POLLS, AND BEHIND THEM
 
-pub polls_on : (limits : Limits) (h : History) (k : ℕ) (ds : List ℕ) (calls : List Called) (call : Called) (q : Proxy) → Follows limits h k ds calls q → IsPolled limits call k q (polled_all limits call q)
+pub polls_on : (limits : Limits) (h : History) (k : ℕ) (ds : List ℕ) (calls : List Called) (call : Called) (q : Proxy) → Follows limits h k ds calls q →
+    IsPolled limits call k q (polled_all limits call q)
 unfolding polled_all
 polls_on limits h k ds calls call q f =
     each_on limits call k q (live_consumers q.tables) q (λ d is. sym (lives_are q.tables (law_of limits q f.all.stands) d) ∙ is) (record {

@@ -96,7 +96,8 @@ module _ (limits : Limits) (h : History) (k : ℕ) where
     pub row : IsRow ds calls p (p.client k)
 
   -- rows alone change
-  pub put_all : (accepted : List ℕ) (rows : ℕ → Option Client) (up : ℕ → Option Upstream) (p : Proxy) → Stays p → Stays (record p { accepted = accepted; client = rows; upstream = up })
+  pub put_all : (accepted : List ℕ) (rows : ℕ → Option Client) (up : ℕ → Option Upstream) (p : Proxy) → Stays p →
+      Stays (record p { accepted = accepted; client = rows; upstream = up })
   put_all accepted rows up p a = record {
     count = a.count;
     clients = a.clients;
@@ -107,9 +108,11 @@ module _ (limits : Limits) (h : History) (k : ℕ) where
     quiet = a.quiet;
   }
 
-  pub row_less : (ds : List ℕ) (calls : List Called) (o : Option Client) (requests requests' : List Request) (cs cs' : List ℕ) (holds holds' : ℕ → Type 0) → requests' ≡ requests → cs' ≡ cs → ((d : ℕ) → holds' d → holds d)
+  pub row_less : (ds : List ℕ) (calls : List Called) (o : Option Client) (requests requests' : List Request) (cs cs' : List ℕ)
+      (holds holds' : ℕ → Type 0) → requests' ≡ requests → cs' ≡ cs → ((d : ℕ) → holds' d → holds d)
       → HasRow ds calls o requests cs holds → HasRow ds calls o requests' cs' holds'
-  row_less ds calls None requests requests' cs cs' holds holds' same these less r = record { none = same ∙ r.none; nobody = these ∙ r.nobody; unheld = λ d is. r.unheld d (less d is) }
+  row_less ds calls None requests requests' cs cs' holds holds' same these less r =
+      record { none = same ∙ r.none; nobody = these ∙ r.nobody; unheld = λ d is. r.unheld d (less d is) }
   row_less ds calls (Some client) requests requests' cs cs' holds holds' same these less r = record {
     asked = r.asked;
     read = subst (λ (rs : List Request). IsRead k ds calls client rs r.asked) (sym same) r.read;
@@ -142,10 +145,12 @@ module _ (limits : Limits) (h : History) (k : ℕ) where
             quiet = quiet_here limits ev p a.stands quiet a.quiet;
           };
           row =
-              row_less ds calls (p.client k) (starts_of p.holder k p.history) (starts_of p.holder k p.history ++ started_by p.holder k ev) (consumers_of p.holder k p.history) (consumers_of p.holder k p.history ++ consumer_by p.holder k ev)
+              row_less ds calls (p.client k) (starts_of p.holder k p.history) (starts_of p.holder k p.history ++ started_by p.holder k ev)
+              (consumers_of p.holder k p.history) (consumers_of p.holder k p.history ++ consumer_by p.holder k ev)
               (Holds p) (Holds (stepped limits ev p))
               (ap (λ (xs : List Request). starts_of p.holder k p.history ++ xs) (other_starts p.holder k ev off) ∙ append-nil (starts_of p.holder k p.history))
-              (ap (λ (xs : List ℕ). consumers_of p.holder k p.history ++ xs) (other_consumers p.holder k ev off) ∙ append-nil (consumers_of p.holder k p.history))
+              (ap (λ (xs : List ℕ). consumers_of p.holder k p.history ++ xs) (other_consumers p.holder k ev off) ∙
+              append-nil (consumers_of p.holder k p.history))
               (λ d is. (other_live limits ev p a.stands off d is.0, is.1)) s.row;
         }
 
@@ -178,15 +183,18 @@ module _ (limits : Limits) (h : History) (k : ℕ) where
           by_test true same at = let it : d ≡ c = grind (arith, nat_tests) in omega arith
           by_test false off at = let le : d ≤ p.starts = a.named d j at in omega arith
 
-      live_before : (d : ℕ) → nat_eq d c ≡ false → is_live ((stepped limits (event.Start c request) held).tables.consumer d) ≡ true → is_live (p.tables.consumer d) ≡ true
+      live_before : (d : ℕ) → nat_eq d c ≡ false → is_live ((stepped limits (event.Start c request) held).tables.consumer d) ≡ true →
+          is_live (p.tables.consumer d) ≡ true
       unfolding with_entry
-      live_before d off live = elim (was_live limits held.tables (owed limits held.tables held.moment (event.Start c request)) (law_of limits held held_stands) (owed_here limits (event.Start c request) held held_stands) d live) [
-        | inl was ↦ was
-        | inr starts ↦ absurd (
-            let is : c ≡ d = subst (Starts d) (event_is limits (event.Start c request) held held_stands) starts in
-            let on : nat_eq d c ≡ true = grind (arith, nat_tests) in
-            let never : true ≡ false = sym on ∙ off in cc)
-      ]
+      live_before d off live =
+          elim (was_live limits held.tables (owed limits held.tables held.moment (event.Start c request)) (law_of limits held held_stands)
+          (owed_here limits (event.Start c request) held held_stands) d live) [
+            | inl was ↦ was
+            | inr starts ↦ absurd (
+                let is : c ≡ d = subst (Starts d) (event_is limits (event.Start c request) held held_stands) starts in
+                let on : nat_eq d c ≡ true = grind (arith, nat_tests) in
+                let never : true ≡ false = sym on ∙ off in cc)
+          ]
 
       holds_less : (d : ℕ) → Holds (stepped limits (event.Start c request) held) d → HoldsOr p z d
       unfolding with_entry
@@ -198,13 +206,17 @@ module _ (limits : Limits) (h : History) (k : ℕ) where
               inr (grind (arith, nat_tests), grind (arith, nat_tests))
           by_test false off at = inl (live_before d off is.0, at)
 
-      pub start_on : HasRow ds calls (p.client k) (starts_of p.holder k p.history ++ (if nat_eq k z then request ∷ [] else [])) (consumers_of p.holder k p.history ++ (if nat_eq k z then c ∷ [] else [])) (HoldsOr p z)
+      pub start_on : HasRow ds calls (p.client k) (starts_of p.holder k p.history ++ (if nat_eq k z then request ∷ [] else []))
+          (consumers_of p.holder k p.history ++ (if nat_eq k z then c ∷ [] else [])) (HoldsOr p z)
           → S (stepped limits (event.Start c request) held)
       unfolding with_entry owed
       start_on row = record {
         all = record {
           count = let is : p.starts ≡ starts_in p.history = a.count in omega arith;
-          clients = ((let is : p.starts ≡ starts_in p.history = a.count in omega arith, subst (λ (o : Option ℕ). IsSome o) (sym itself) refl), clients_kept p.holder c z p.history a.clients lt);
+          clients = (
+            (let is : p.starts ≡ starts_in p.history = a.count in omega arith, subst (λ (o : Option ℕ). IsSome o) (sym itself) refl),
+            clients_kept p.holder c z p.history a.clients lt,
+          );
           stands = (goes_on limits (event.Start c request) held held_stands).stands;
           named = named_on;
           fresh = λ d above. a.fresh d (omega arith);
@@ -212,8 +224,10 @@ module _ (limits : Limits) (h : History) (k : ℕ) where
           quiet = quiet_here limits (event.Start c request) held held_stands refl a.quiet;
         };
         row =
-            row_less ds calls (p.client k) (starts_of p.holder k p.history ++ (if nat_eq k z then request ∷ [] else [])) (starts_of (with c z p.holder) k p.history ++ (if is_at k (with c z p.holder c) then request ∷ [] else []))
-            (consumers_of p.holder k p.history ++ (if nat_eq k z then c ∷ [] else [])) (consumers_of (with c z p.holder) k p.history ++ (if is_at k (with c z p.holder c) then c ∷ [] else []))
+            row_less ds calls (p.client k) (starts_of p.holder k p.history ++ (if nat_eq k z then request ∷ [] else []))
+            (starts_of (with c z p.holder) k p.history ++ (if is_at k (with c z p.holder c) then request ∷ [] else []))
+            (consumers_of p.holder k p.history ++ (if nat_eq k z then c ∷ [] else []))
+            (consumers_of (with c z p.holder) k p.history ++ (if is_at k (with c z p.holder c) then c ∷ [] else []))
             (HoldsOr p z) (Holds (stepped limits (event.Start c request) held))
             (ap (λ (o : Option ℕ). starts_of (with c z p.holder) k p.history ++ (if is_at k o then request ∷ [] else [])) itself
             ∙ ap (λ (xs : List Request). xs ++ (if nat_eq k z then request ∷ [] else [])) (starts_kept p.holder c z k p.history a.clients lt))
@@ -224,11 +238,13 @@ module _ (limits : Limits) (h : History) (k : ℕ) where
 
     -- A CHANGE OF ONE ROW
 
-    pub row_on : (p : Proxy) (change : Client → Client) → ((client : Client) → IsRow ds calls p (Some client) → IsRow ds calls p (Some (change client))) → (o : Option Client) → IsRow ds calls p o → IsRow ds calls p (option_map change o)
+    pub row_on : (p : Proxy) (change : Client → Client) → ((client : Client) → IsRow ds calls p (Some client) → IsRow ds calls p (Some (change client))) →
+        (o : Option Client) → IsRow ds calls p o → IsRow ds calls p (option_map change o)
     row_on p change keeps None row = row
     row_on p change keeps (Some client) row = keeps client row
 
-    pub change_on : (z : ℕ) (change : Client → Client) (p : Proxy) → ((client : Client) → IsRow ds calls p (Some client) → IsRow ds calls p (Some (change client))) → S p → S (with_client z change p)
+    pub change_on : (z : ℕ) (change : Client → Client) (p : Proxy) →
+        ((client : Client) → IsRow ds calls p (Some client) → IsRow ds calls p (Some (change client))) → S p → S (with_client z change p)
     change_on z change p keeps s = record { all = put_all p.accepted (with_client z change p).client p.upstream p s.all; row = by_number (nat_eq k z) }
       where
         by_number : (b : Bool) → IsRow ds calls p (if b then option_map change (p.client k) else p.client k)
@@ -279,21 +295,29 @@ module _ (limits : Limits) (h : History) (k : ℕ) where
       here : (change : Client → Client) (p : Proxy) (client : Client) → p.client k ≡ Some client → (with_client z change p).client k ≡ Some (change client)
       here change p client at = rw (on, at) refl
 
-      put_here : (change : Client → Client) (p : Proxy) (client : Client) → p.client k ≡ Some client → Stays p → IsRow ds calls p (Some (change client)) → S (with_client z change p)
-      put_here change p client at a row = record { all = put_all p.accepted (with_client z change p).client p.upstream p a; row = subst (IsRow ds calls p) (sym (here change p client at)) row }
+      put_here : (change : Client → Client) (p : Proxy) (client : Client) → p.client k ≡ Some client → Stays p → IsRow ds calls p (Some (change client)) →
+          S (with_client z change p)
+      put_here change p client at a row =
+          record { all = put_all p.accepted (with_client z change p).client p.upstream p a; row = subst (IsRow ds calls p) (sym (here change p client at)) row }
 
-      asks_here : (request : WireRequest) (t : Reading) (rest : List ℕ) (p : Proxy) (client : Client) → p.client k ≡ Some client → client.consumer ≡ None → client.closing ≡ false
-          → StandsNext 1 client.reading client.input (Reports (Asks request) t rest) → IsNextAsked (Reports (Asks request) t rest) → IsRow ds calls p (Some client) → Stays p → S (hears limits z (Reports (Asks request) t rest) p)
+      asks_here : (request : WireRequest) (t : Reading) (rest : List ℕ) (p : Proxy) (client : Client) → p.client k ≡ Some client →
+          client.consumer ≡ None → client.closing ≡ false
+          → StandsNext 1 client.reading client.input (Reports (Asks request) t rest) → IsNextAsked (Reports (Asks request) t rest) →
+          IsRow ds calls p (Some client) → Stays p → S (hears limits z (Reports (Asks request) t rest) p)
       asks_here request t rest p client at idle open_still next asked r a =
           start_on z request.request q (put_all p.accepted q.client p.upstream p a)
-          (subst (λ (o : Option Client). HasRow ds calls o (requests ++ (if nat_eq k z then request.request ∷ [] else [])) (cs ++ (if nat_eq k z then c ∷ [] else [])) (HoldsOr p z)) (sym row)
-          (row_less ds calls (Some new) (requests ++ request.request ∷ []) (requests ++ (if nat_eq k z then request.request ∷ [] else [])) (cs ++ c ∷ []) (cs ++ (if nat_eq k z then c ∷ [] else [])) (HoldsOr p z) (HoldsOr p z)
+          (subst (λ (o : Option Client). HasRow ds calls o (requests ++ (if nat_eq k z then request.request ∷ [] else []))
+          (cs ++ (if nat_eq k z then c ∷ [] else [])) (HoldsOr p z)) (sym row)
+          (row_less ds calls (Some new) (requests ++ request.request ∷ []) (requests ++ (if nat_eq k z then request.request ∷ [] else [])) (cs ++ c ∷ [])
+          (cs ++ (if nat_eq k z then c ∷ [] else [])) (HoldsOr p z) (HoldsOr p z)
           (ap (λ (xs : List Request). requests ++ xs) one) (ap (λ (xs : List ℕ). cs ++ xs) (rw on refl)) (λ d is. is)
           (record {
             asked = r.asked ++ request ∷ [];
             read = alike k ds calls new (read_to t rest client) (requests ++ request.request ∷ []) (r.asked ++ request ∷ []) refl refl (λ g. g)
-                (reads_on k ds calls client requests r.asked (request ∷ []) next.front rest t next.whole (reports_leads client.reading next.front (Asks request) t next.reports) (of_head t asked) r.read);
-            owes = owes_asks h cs r.asked (read_to t rest client) c request open_still (a.fresh c (omega arith)) (consumers_below p.holder k c p.history a.clients (let is : p.starts ≡ starts_in p.history = a.count in omega arith))
+                (reads_on k ds calls client requests r.asked (request ∷ []) next.front rest t next.whole
+                (reports_leads client.reading next.front (Asks request) t next.reports) (of_head t asked) r.read);
+            owes = owes_asks h cs r.asked (read_to t rest client) c request open_still (a.fresh c (omega arith))
+                (consumers_below p.holder k c p.history a.clients (let is : p.starts ≡ starts_in p.history = a.count in omega arith))
                 (owes_read h cs r.asked client t rest open_still (no_error t asked) r.owes);
             live = live_now;
           })))
@@ -328,11 +352,13 @@ module _ (limits : Limits) (h : History) (k : ℕ) where
       hears_here (Waits t) p client at idle open_still next asked r s =
           put_here (read_to t []) p client at s.all (record {
             asked = r.asked;
-            read = all_read k ds calls client (starts_of p.holder k p.history) r.asked t (read_all k ds calls client.reading client.input t r.read.asking next) (of_head t asked) r.read;
+            read = all_read k ds calls client (starts_of p.holder k p.history) r.asked t
+                (read_all k ds calls client.reading client.input t r.read.asking next) (of_head t asked) r.read;
             owes = owes_read h (consumers_of p.holder k p.history) r.asked client t [] open_still (no_error t asked) r.owes;
             live = r.live;
           })
-      hears_here (Reports (Asks request) t rest) p client at idle open_still next asked r s = asks_here request t rest p client at idle open_still next asked r s.all
+      hears_here (Reports (Asks request) t rest) p client at idle open_still next asked r s =
+          asks_here request t rest p client at idle open_still next asked r s.all
       hears_here (Reports (Answers response) t rest) p client at idle open_still next asked r s = absurd asked
       hears_here (Reports (Byte b) t rest) p client at idle open_still next asked r s = absurd asked
       hears_here (Brings bytes t rest) p client at idle open_still next asked r s = s
@@ -341,16 +367,19 @@ module _ (limits : Limits) (h : History) (k : ℕ) where
           let failed : Client = read_to (Failed e) [] client in
           let requests : List Request = starts_of p.holder k p.history in
           let cs : List ℕ = consumers_of p.holder k p.history in
-          put_here (refused e) (with_client z (read_to (Failed e) []) p) failed (here (read_to (Failed e) []) p client at) (put_all p.accepted (with_client z (read_to (Failed e) []) p).client p.upstream p s.all) (record {
+          put_here (refused e) (with_client z (read_to (Failed e) []) p) failed (here (read_to (Failed e) []) p client at)
+          (put_all p.accepted (with_client z (read_to (Failed e) []) p).client p.upstream p s.all) (record {
             asked = r.asked;
-            read = alike k ds calls (refused e failed) failed requests r.asked refl refl (λ g. g) (all_read k ds calls client requests r.asked (Failed e) next tt r.read);
+            read = alike k ds calls (refused e failed) failed requests r.asked refl refl (λ g. g)
+                (all_read k ds calls client requests r.asked (Failed e) next tt r.read);
             owes = owes_refused h cs r.asked client e [] open_still idle r.owes;
             live = r.live;
           })
 
     -- EACH OF THEM
 
-    next_on : (z : ℕ) (client : Client) (p : Proxy) → p.client z ≡ Some client → client.consumer ≡ None → client.closing ≡ false → S p → S (hears limits z (next_in 1 client.reading client.input) p)
+    next_on : (z : ℕ) (client : Client) (p : Proxy) → p.client z ≡ Some client → client.consumer ≡ None → client.closing ≡ false → S p →
+        S (hears limits z (next_in 1 client.reading client.input) p)
     next_on z client p at idle open_still s = by_number (nat_eq k z) refl
       where
         by_number : (b : Bool) → nat_eq k z ≡ b → S (hears limits z (next_in 1 client.reading client.input) p)
@@ -359,7 +388,8 @@ module _ (limits : Limits) (h : History) (k : ℕ) where
             let same : k ≡ z = grind (arith, nat_tests) in
             let row : p.client k ≡ Some client = ap p.client same ∙ at in
             let r : IsRow ds calls p (Some client) = subst (IsRow ds calls p) row s.row in
-            hears_here z on (next_in 1 client.reading client.input) p client row idle open_still (stands_next 1 client.reading client.input) (next_asks 1 client.reading client.input r.read.asking) r s
+            hears_here z on (next_in 1 client.reading client.input) p client row idle open_still (stands_next 1 client.reading client.input)
+            (next_asks 1 client.reading client.input r.read.asking) r s
 
     module _ (call : Called) where
       hears_by : (z : ℕ) (o : Option Client) (p : Proxy) → p.client z ≡ o → S p → S (hears_if limits call z o p)

@@ -37,18 +37,24 @@ module _ (limits : Limits) (k : ℕ) where
         let same : _ = carried_is_same q in
         sym same.history ∙ ((turn_part limits dialled call p).first ∙ ap (λ (es : List Entry). es ++ p.history) same.part)
 
-    turned_on : (calls : List Called) (call : Called) (p : Proxy) → Rested limits k (so_far p dialled) calls p → Rested limits k (so_far p dialled) (more_calls k calls call) (turned limits dialled call p)
+    turned_on : (calls : List Called) (call : Called) (p : Proxy) → Rested limits k (so_far p dialled) calls p →
+        Rested limits k (so_far p dialled) (more_calls k calls call) (turned limits dialled call p)
     unfolding turned
     turned_on calls call p s =
         let ds : List ℕ = so_far p dialled in
         let q : Proxy = started_all limits call (heard limits (handled limits ds call (begun call p))) in
-        let f : Follows limits p.history k ds (more_calls k calls call) q = before_polls limits p.history k ds calls call (begun call p) (begins_on ds calls call p s) in
-        carries_on limits p.history k ds (more_calls k calls call) call q (happened limits ds call (begun call p)) f (polls_on limits p.history k ds (more_calls k calls call) call q f) (turn_base call p)
+        let f : Follows limits p.history k ds (more_calls k calls call) q =
+        before_polls limits p.history k ds calls call (begun call p) (begins_on ds calls call p s) in
+        carries_on limits p.history k ds (more_calls k calls call) call q (happened limits ds call (begun call p)) f
+        (polls_on limits p.history k ds (more_calls k calls call) call q f) (turn_base call p)
 
-    weaker : (ds more : List ℕ) (calls : List Called) (p : Proxy) → (exchange_of more k ≡ None → exchange_of ds k ≡ None) → Rested limits k ds calls p → Rested limits k more calls p
-    weaker ds more calls p less s = record { count = s.count; clients = s.clients; stands = s.stands; named = s.named; fresh = s.fresh; row = by_row (p.client k) s.row }
+    weaker : (ds more : List ℕ) (calls : List Called) (p : Proxy) → (exchange_of more k ≡ None → exchange_of ds k ≡ None) → Rested limits k ds calls p →
+        Rested limits k more calls p
+    weaker ds more calls p less s =
+        record { count = s.count; clients = s.clients; stands = s.stands; named = s.named; fresh = s.fresh; row = by_row (p.client k) s.row }
       where
-        read_on : (client : Client) (requests : List Request) (r : IsRow limits p.history k ds calls p (Some client)) → IsRead k ds calls client requests r.asked → IsRead k more calls client requests r.asked
+        read_on : (client : Client) (requests : List Request) (r : IsRow limits p.history k ds calls p (Some client)) →
+            IsRead k ds calls client requests r.asked → IsRead k more calls client requests r.asked
         read_on client requests row r = record {
           behind = r.behind;
           accepted = r.accepted;
@@ -72,7 +78,8 @@ module _ (limits : Limits) (k : ℕ) where
     turn_on calls call p s =
         let ds : List ℕ = so_far p dialled in
         let q : Proxy = turned limits dialled call p in
-        weaker ds (so_far q dialled) (more_calls k calls call) q (place_shorter 1 k p.tables.opened q.tables.opened dialled (turn_goes limits dialled call p s.stands).opened) (turned_on calls call p s)
+        weaker ds (so_far q dialled) (more_calls k calls call) q
+        (place_shorter 1 k p.tables.opened q.tables.opened dialled (turn_goes limits dialled call p s.stands).opened) (turned_on calls call p s)
 
     turns_on : (rest calls : List Called) (p : Proxy) → Now calls p → Now (calls ++ rest) (turned_by limits dialled rest p)
     turns_on [] calls p s = subst (λ (cs : List Called). Now cs p) (sym (append-nil calls)) s
@@ -106,7 +113,15 @@ module _ (limits : Limits) (log : Log) (k : ℕ) where
   OfRow o = IsRow limits p.history k ds log.calls p o
 
   abbrev has_asked : (client : Client) (r : OfRow (Some client)) → HasAsked (got_from k r.read.behind) (starts_of p.holder k p.history)
-  has_asked client r = record { front = r.read.front; rest = client.input ++ r.read.rest; asked = r.asked; reading = client.reading; whole = r.read.whole; reads = r.read.reads; are = r.read.are }
+  has_asked client r = record {
+    front = r.read.front;
+    rest = client.input ++ r.read.rest;
+    asked = r.asked;
+    reading = client.reading;
+    whole = r.read.whole;
+    reads = r.read.reads;
+    are = r.read.are;
+  }
 
   is_asked : (o : Option Client) → OfRow o → IsAsked k log.calls (starts_of p.holder k p.history)
   is_asked None r = nothing r.none
@@ -134,4 +149,5 @@ starts_are_asked limits log =
 pub answers_are_owed : AnswersAreOwed
 answers_are_owed limits log k client at =
     let p : Proxy = behind_all limits log in
-    is_answered limits log k client (subst (λ (o : Option Client). IsRow limits p.history k (so_far p log.dialled) log.calls p o) at (rested_all limits k log).row)
+    is_answered limits log k client
+    (subst (λ (o : Option Client). IsRow limits p.history k (so_far p log.dialled) log.calls p o) at (rested_all limits k log).row)

@@ -56,7 +56,8 @@ module _ (limits : Limits) (p : Proxy) (s : Stands limits p) (e : Entry) (is : I
     where
       by_row : (o : Option Exchange) → p.tables.exchange y ≡ o → (is_open ((after p.tables e).exchange y) ≡ false) × (y ≤ p.tables.opened)
       by_row None row =
-          absurd (had_row limits p.tables e.now (flaw_in e.acts) (is_sound limits p s) e.event y (ap (closes_in y) (sym (acts_are limits p.tables e is taken)) ∙ closes) row)
+          absurd (had_row limits p.tables e.now (flaw_in e.acts) (is_sound limits p s) e.event y
+          (ap (closes_in y) (sym (acts_are limits p.tables e is taken)) ∙ closes) row)
       by_row (Some w) row = (
         ap is_open (accepted_row y taken) ∙ (ap (λ (o : Option Exchange). is_open (exchange_after p.tables e y o)) row ∙ shut_row y w closes),
         within y w row (nat_lt p.tables.opened y) refl,
@@ -67,7 +68,8 @@ module _ (limits : Limits) (p : Proxy) (s : Stands limits p) (e : Entry) (is : I
   shuts y closes = shut_by (is_denied e.acts) refl y closes
 
   -- nor is what wasn't open, of those that were given out
-  stays_shut : (y : ℕ) → is_open (p.tables.exchange y) ≡ false → y ≤ p.tables.opened → (b : Bool) → is_open ((after p.tables e).exchange y) ≡ b → is_open ((after p.tables e).exchange y) ≡ false
+  stays_shut : (y : ℕ) → is_open (p.tables.exchange y) ≡ false → y ≤ p.tables.opened → (b : Bool) → is_open ((after p.tables e).exchange y) ≡ b →
+      is_open ((after p.tables e).exchange y) ≡ false
   stays_shut y off le false now = now
   stays_shut y off le true now = elim (was_open p.tables e y now) as (λ _. is_open ((after p.tables e).exchange y) ≡ false) [
     | inl was ↦ true_false (sym was ∙ off)
@@ -80,7 +82,8 @@ module _ (limits : Limits) (p : Proxy) (s : Stands limits p) (e : Entry) (is : I
   pub closed_behind : (acts : List Act) → AreClosed acts p.tables → AreClosed (acts ++ e.acts) (after p.tables e)
   closed_behind acts was y closes =
       let grows : p.tables.opened ≤ (after p.tables e).opened = opened_grows limits p s e is in
-      elim (or_cases (closes_in y acts) (closes_in y e.acts) (sym (closes_both y acts e.acts) ∙ closes)) as (λ _. (is_open ((after p.tables e).exchange y) ≡ false) × (y ≤ (after p.tables e).opened)) [
+      elim (or_cases (closes_in y acts) (closes_in y e.acts) (sym (closes_both y acts e.acts) ∙ closes)) as
+      (λ _. (is_open ((after p.tables e).exchange y) ≡ false) × (y ≤ (after p.tables e).opened)) [
         | inl first ↦
             let old = was y first in
             let le : y ≤ p.tables.opened = old.1 in

@@ -22,7 +22,8 @@ use Rattle.hc_proxy.proofs.{FinishedOn.{cut_finished, whole_finished}, HandedOn.
 
 -- where more is waited for, the read fails by want of memory alone
 pub only_memory : (z : ℕ) (old new : Upstreams) (out : Result (Option WirePart) MsgError) (e : MsgError) → look_at (upstream_of old z) ≡ look.Waits
-    → ((u : origin.Upstream) → upstream_of old z ≡ Some u → TakesOf z old new u out) → (upstream_of old z ≡ None → out ≡ Ok None) → out ≡ Err e → e ≡ error.NoMemory
+    → ((u : origin.Upstream) → upstream_of old z ≡ Some u → TakesOf z old new u out) → (upstream_of old z ≡ None → out ≡ Ok None) → out ≡ Err e →
+    e ≡ error.NoMemory
 only_memory z old new out e looks takes lacks is = by_row (upstream_of old z) refl
   where
     same_error : (r : Result (Option WirePart) MsgError) (f : MsgError) → r ≡ Err e → r ≡ Err f → e ≡ f
@@ -39,9 +40,13 @@ only_memory z old new out e looks takes lacks is = by_row (upstream_of old z) re
     by_row None none = absurd (let never : Ok None ≡ Err e = sym (lacks none) ∙ is in cc)
     by_row (Some u) row = let to = takes u row in by_takes u to.after (sym (ap look_at row) ∙ looks) to.takes
 
-module _ {B : Type 0} {g : Ghosts B} (z : ℕ) (x : loop.Proxy B g) (s s' : Upstreams) (out : Result (Option WirePart) MsgError) (takes : (u : origin.Upstream) → upstream_of x.upstreams z ≡ Some u → TakesOf z x.upstreams s u out) (took : ListsStay x.upstreams s) (fine : is_err out ≡ false)
-    (row : (u : origin.Upstream) → upstream_of s z ≡ Some u → Becomes z (Some (origins.finished u)) s s') (stays : ListsStay s s') (whole : Bool) (says : (u : origin.Upstream) → upstream_of s z ≡ Some u → whole ≡ is_ok (ending u.reader))
-    (t : Turn) (p : Proxy) (h : KeepsBut z t x p) (on : is_open (p.tables.exchange z) ≡ true) (ended : has_ended_at (upstream_of x.upstreams z) ≡ true) (looks : look_at (upstream_of x.upstreams z) ≡ look.Waits) where
+module _ {B : Type 0} {g : Ghosts B} (z : ℕ) (x : loop.Proxy B g) (s s' : Upstreams) (out : Result (Option WirePart) MsgError)
+    (takes : (u : origin.Upstream) → upstream_of x.upstreams z ≡ Some u → TakesOf z x.upstreams s u out) (took : ListsStay x.upstreams s)
+    (fine : is_err out ≡ false)
+    (row : (u : origin.Upstream) → upstream_of s z ≡ Some u → Becomes z (Some (origins.finished u)) s s') (stays : ListsStay s s') (whole : Bool)
+    (says : (u : origin.Upstream) → upstream_of s z ≡ Some u → whole ≡ is_ok (ending u.reader))
+    (t : Turn) (p : Proxy) (h : KeepsBut z t x p) (on : is_open (p.tables.exchange z) ≡ true) (ended : has_ended_at (upstream_of x.upstreams z) ≡ true)
+    (looks : look_at (upstream_of x.upstreams z) ≡ look.Waits) where
   abbrev u : origin.Upstream
   u = (rows z t x p h on).u
 
@@ -57,18 +62,25 @@ module _ {B : Type 0} {g : Ghosts B} (z : ℕ) (x : loop.Proxy B g) (s s' : Upst
   abbrev y : loop.Proxy B g
   y = record x { upstreams = s' }
 
-  pub cut_goes : whole ≡ false → (x' : loop.Proxy B g) → ((q : Proxy) → HasCache t.frame y q → Stepped t.frame y x' (event.Fault z) q) → RestStays y x' → x'.moved ≡ true → steps x'.cache ≡ steps x.cache + 1 → Goes (HasFinished z t p (steps x.cache)) (faults_in x.cache) x' (closed t.frame.limits z p)
+  pub cut_goes : whole ≡ false → (x' : loop.Proxy B g) → ((q : Proxy) → HasCache t.frame y q → Stepped t.frame y x' (event.Fault z) q) → RestStays y x' →
+      x'.moved ≡ true → steps x'.cache ≡ steps x.cache + 1 → Goes (HasFinished z t p (steps x.cache)) (faults_in x.cache) x' (closed t.frame.limits z p)
   cut_goes cut x' stepped rest moved one =
-      cut_finished z t x p h on ended looks s s' to.after taken to.becomes took (row to.after row_taken) stays (sym (says to.after row_taken) ∙ cut) x' stepped rest moved one
+      cut_finished z t x p h on ended looks s s' to.after taken to.becomes took (row to.after row_taken) stays (sym (says to.after row_taken) ∙ cut) x'
+      stepped rest moved one
 
-  pub whole_goes : whole ≡ true → (x' : loop.Proxy B g) → ((q : Proxy) → HasCache t.frame y q → unread q + bytes_received y.cache + 0 ≤ t.frame.bytes → Stepped t.frame y x' (event.End z) q) → RestStays y x' → x'.moved ≡ true → steps x'.cache ≡ steps x.cache + 1 → Goes (HasFinished z t p (steps x.cache)) (faults_in x.cache) x' (closed t.frame.limits z p)
+  pub whole_goes : whole ≡ true → (x' : loop.Proxy B g) →
+      ((q : Proxy) → HasCache t.frame y q → unread q + bytes_received y.cache + 0 ≤ t.frame.bytes → Stepped t.frame y x' (event.End z) q) →
+      RestStays y x' → x'.moved ≡ true → steps x'.cache ≡ steps x.cache + 1 →
+      Goes (HasFinished z t p (steps x.cache)) (faults_in x.cache) x' (closed t.frame.limits z p)
   whole_goes is x' stepped rest moved one =
       whole_finished z t x p h on ended looks s s' to.after taken to.becomes took (row to.after row_taken) stays (sym (says to.after row_taken) ∙ is) x'
       (λ q hc. stepped q hc (let a : unread q + bytes_received y.cache ≤ t.frame.bytes = hc.small in omega arith)) rest moved one
 
 -- WHAT IS HANDED, THEN THE CLOSE, THEN THE LISTS
 
-pub finish_may : {B : Type 0} {g : Ghosts B} (z : ℕ) (x x' : loop.Proxy B g) → ∥ MayStep 2 z x ∥₁ → ((t : Turn) (p : Proxy) → KeepsBut z t x p → Goes (HasHanded z t p (steps x.cache)) (faults_in x.cache) x' (handed t.frame.limits z p)) → ∥ MayStep 1 z x' ∥₁
+pub finish_may : {B : Type 0} {g : Ghosts B} (z : ℕ) (x x' : loop.Proxy B g) → ∥ MayStep 2 z x ∥₁ →
+    ((t : Turn) (p : Proxy) → KeepsBut z t x p → Goes (HasHanded z t p (steps x.cache)) (faults_in x.cache) x' (handed t.frame.limits z p)) →
+    ∥ MayStep 1 z x' ∥₁
 finish_may z x x' some goes = ∥∥₁_map some (λ s.
     let a = goes s.0 s.1 s.2 in (
       s.0,
@@ -80,7 +92,10 @@ finish_may z x x' some goes = ∥∥₁_map some (λ s.
           omega arith,
     ))
 
-pub hear_goes : {B : Type 0} {g : Ghosts B} (z : ℕ) (t : Turn) (p : Proxy) (x x1 x2 x3 : loop.Proxy B g) (a : Goes (HasHanded z t p (steps x.cache)) (faults_in x.cache) x1 (handed t.frame.limits z p)) (b : Goes (HasFinished z t a.q (steps x1.cache)) (faults_in x1.cache) x2 (closed t.frame.limits z a.q)) → KeepsQuiet t x3 b.q → x3.cache ≡ x2.cache → Goes (HasHeard z t p (steps x.cache)) (faults_in x.cache) x3 (closed t.frame.limits z (handed t.frame.limits z p))
+pub hear_goes : {B : Type 0} {g : Ghosts B} (z : ℕ) (t : Turn) (p : Proxy) (x x1 x2 x3 : loop.Proxy B g)
+    (a : Goes (HasHanded z t p (steps x.cache)) (faults_in x.cache) x1 (handed t.frame.limits z p))
+    (b : Goes (HasFinished z t a.q (steps x1.cache)) (faults_in x1.cache) x2 (closed t.frame.limits z a.q)) → KeepsQuiet t x3 b.q → x3.cache ≡ x2.cache →
+    Goes (HasHeard z t p (steps x.cache)) (faults_in x.cache) x3 (closed t.frame.limits z (handed t.frame.limits z p))
 hear_goes z t p x x1 x2 x3 a b kept cache =
     let steps_are : steps x3.cache ≡ steps x2.cache = ap steps cache in
     let faults_are : faults_in x3.cache ≡ faults_in x2.cache = ap faults_in cache in

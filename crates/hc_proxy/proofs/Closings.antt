@@ -9,13 +9,22 @@ use Rattle.hc_wire.proofs.LogLemmas.{stages-changed, stage_shut}
 use Rattle.hc_proxy.specs.{Logging.{Follows, Dials}, Underway.{closed_among, shut_each, Closes}}
 use Rattle.hc_proxy.proofs.Takers.{apart_stays, sent_stays}
 
-pub reported_on : (reported reported' : Option Log) (log : Log) (f : Log → Log) → (reported ≡ None) ⊎ (reported ≡ Some log) → Reports reported reported' f → (reported' ≡ None) ⊎ (reported' ≡ Some (f log))
+pub reported_on : (reported reported' : Option Log) (log : Log) (f : Log → Log) → (reported ≡ None) ⊎ (reported ≡ Some log) →
+    Reports reported reported' f → (reported' ≡ None) ⊎ (reported' ≡ Some (f log))
 reported_on None reported' log f is reports = inl reports
 reported_on (Some l) reported' log f (inl unreported) reports = absurd (let never : Some l ≡ None = unreported in cc)
 reported_on (Some l) reported' log f (inr same) reports = let it : l ≡ log = cc in inr (reports ∙ ap (λ (x : Log). Some (f x)) it)
 
 pub dials_none : (log : Log) → Dials [] log log
-dials_none log = record { calls = refl; bound = refl; dialled = sym (append-nil log.dialled); sent = λ k. refl; new = λ k among. absurd (let lt = among.1 in omega arith); unseen = λ k is. is }
+dials_none log = record {
+  calls = refl;
+  bound = refl;
+  dialled = sym (append-nil log.dialled);
+  sent = λ k. refl;
+  new =
+      λ k among. absurd (let lt = among.1 in omega arith);
+  unseen = λ k is. is;
+}
 
 twice : (s : Stage) → closed_of (closed_of s) ≡ closed_of s
 twice Unseen = refl
@@ -34,7 +43,8 @@ any_more j (i ∷ ks) k = rw (any_more j ks k) (by_test (nat_eq j i))
     by_test true = refl
     by_test false = refl
 
-one_more : (ks : List ℕ) (k : ℕ) (before : ℕ → Stage) (j : ℕ) → with_stage k (closed_of (closed_among ks before k)) (closed_among ks before) j ≡ closed_among (ks ++ k ∷ []) before j
+one_more : (ks : List ℕ) (k : ℕ) (before : ℕ → Stage) (j : ℕ) →
+    with_stage k (closed_of (closed_among ks before k)) (closed_among ks before) j ≡ closed_among (ks ++ k ∷ []) before j
 one_more ks k before j = elim (cases_Bool (eqb j k)) [
   | inl here ↦
       let same : j ≡ k = eqb-true j k here in

@@ -19,7 +19,8 @@ other_consumers holder k (event.Doom c) off = refl
 
 module _ (holder : ℕ → Option ℕ) (c z : ℕ) where
   event_kept : (k n : ℕ) (ev : Event) → IsNextStart holder n ev → n + count_by ev < c → consumer_by (with c z holder) k ev ≡ consumer_by holder k ev
-  event_kept k n (event.Start d request) next lt = let same : d ≡ n + 1 = next.0 in ap (λ (o : Option ℕ). if is_at k o then d ∷ [] else []) (kept_at holder c z d (omega arith))
+  event_kept k n (event.Start d request) next lt = let same : d ≡ n + 1 = next.0 in
+      ap (λ (o : Option ℕ). if is_at k o then d ∷ [] else []) (kept_at holder c z d (omega arith))
   event_kept k n (event.Poll d want) next lt = refl
   event_kept k n (event.Head x response) next lt = refl
   event_kept k n (event.Piece x bytes) next lt = refl
@@ -86,4 +87,5 @@ module _ (holder : ℕ → Option ℕ) (k : ℕ) where
   pub consumers_below : (m : ℕ) (h : History) → AreClients holder h → starts_in h < m → AreBelow m (consumers_of holder k h)
   consumers_below m [] are lt = tt
   consumers_below m (e ∷ h) are lt =
-      below_both m (consumers_of holder k h) (consumer_by holder k e.event) (consumers_below m h are.1 (omega arith)) (below_by (starts_in h) m e.event are.0 lt)
+      below_both m (consumers_of holder k h) (consumer_by holder k e.event) (consumers_below m h are.1 (omega arith))
+      (below_by (starts_in h) m e.event are.0 lt)

@@ -42,7 +42,8 @@ sent_more : (k j : ℕ) (cs : List Taker) → sent_in (cs ++ fresh k ∷ []) j �
 sent_more k j [] = elim (cases_Bool (eqb k j)) [ inl on ↦ rw on refl | inr off ↦ rw off refl ]
 sent_more k j (c ∷ cs) = elim (cases_Bool (eqb c.k j)) [ inl on ↦ rw on refl | inr off ↦ rw off (sent_more k j cs) ]
 
-module _ (k : ℕ) (log : Log) (reported reported' : Option Log) (before after : ℕ → Stage) (f : Follows reported before log) (d : DialsOne k reported reported' before after) where
+module _ (k : ℕ) (log : Log) (reported reported' : Option Log) (before after : ℕ → Stage) (f : Follows reported before log)
+    (d : DialsOne k reported reported' before after) where
   fresh_yet : stage_in log.takers k ≡ Unseen
   fresh_yet = sym (f.stands k) ∙ d.new
 
@@ -98,7 +99,8 @@ sum_le f g le (n ∷ ns) =
 
 -- THE EXCHANGE ISN'T THERE YET
 
-module _ {B : Type 0} {g : Ghosts B} (t : Turn) (x : loop.Proxy B g) (p : Proxy) (acts : List Act) (y c : ℕ) (need : Need) (request : Request) (h : KeepsUnderway t (act.Opened y c need request ∷ acts) x p) where
+module _ {B : Type 0} {g : Ghosts B} (t : Turn) (x : loop.Proxy B g) (p : Proxy) (acts : List Act) (y c : ℕ) (need : Need) (request : Request)
+    (h : KeepsUnderway t (act.Opened y c need request ∷ acts) x p) where
   pub not_there : upstream_of x.upstreams y ≡ None
   not_there = by_row (upstream_of x.upstreams y) refl
     where
@@ -106,13 +108,15 @@ module _ {B : Type 0} {g : Ghosts B} (t : Turn) (x : loop.Proxy B g) (p : Proxy)
       by_row None is = refl
       by_row (Some u) is = absurd (let never : None ≡ Some u.k = sym (unconnected t.dialled y h.upstreams.opens.0) ∙ h.upstreams.numbers y u is in cc)
 
-  pub none_fresh : (stages : ℕ → Stage) → ((k : ℕ) → stages k ≡ t.stages k) → (z : ℕ) (u : origin.Upstream) → upstream_of x.upstreams z ≡ Some u → stages u.k ≡ Unseen → ⊥
+  pub none_fresh : (stages : ℕ → Stage) → ((k : ℕ) → stages k ≡ t.stages k) → (z : ℕ) (u : origin.Upstream) → upstream_of x.upstreams z ≡ Some u →
+      stages u.k ≡ Unseen → ⊥
   none_fresh stages same z u at unseen =
       let opens = h.wire.upstreams z u at in
       let never : Unseen ≡ Open u.reading opens.0 = sym unseen ∙ (same u.k ∙ opens.1) in cc
 
 -- where only some tables stand for it
-module _ {B : Type 0} {g : Ghosts B} (x : loop.Proxy B g) (stages : ℕ → Stage) (y c : ℕ) (need : Need) (request : Request) (any : ∥ IsNext (act.Opened y c need request) stages x ∥₁) where
+module _ {B : Type 0} {g : Ghosts B} (x : loop.Proxy B g) (stages : ℕ → Stage) (y c : ℕ) (need : Need) (request : Request)
+    (any : ∥ IsNext (act.Opened y c need request) stages x ∥₁) where
   never_by : (IsNext (act.Opened y c need request) stages x → ⊥) → ⊥
   never_by f = ∥∥₁_elim any (λ a b. absurd a) f
 
@@ -121,7 +125,8 @@ module _ {B : Type 0} {g : Ghosts B} (x : loop.Proxy B g) (stages : ℕ → Stag
     where
       by_row : (o : Option origin.Upstream) → upstream_of x.upstreams y ≡ o → o ≡ None
       by_row None is = refl
-      by_row (Some u) is = absurd (never_by (λ n. let none_is = not_there n.0 x n.2 n.1 y c need request n.3 in let never : None ≡ Some u = sym none_is ∙ is in cc))
+      by_row (Some u) is = absurd
+          (never_by (λ n. let none_is = not_there n.0 x n.2 n.1 y c need request n.3 in let never : None ≡ Some u = sym none_is ∙ is in cc))
 
   pub any_fresh : (z : ℕ) (u : origin.Upstream) → upstream_of x.upstreams z ≡ Some u → stages u.k ≡ Unseen → ⊥
   any_fresh z u at unseen = never_by (λ n. none_fresh n.0 x n.2 n.1 y c need request n.3 stages n.4 z u at unseen)
@@ -135,7 +140,8 @@ module _ {B : Type 0} {g : Ghosts B} (x : loop.Proxy B g) (stages : ℕ → Stag
 
 -- THE REQUEST
 
-pub text_is : (request : Request) (empty text : List ℕ) → is_target request.key ≡ true → empty ≡ [] → ((url : Parts) → parse_url None request.key ≡ Ok url → text ≡ empty ++ request_text request url) → text ≡ sent_request request
+pub text_is : (request : Request) (empty text : List ℕ) → is_target request.key ≡ true → empty ≡ [] →
+    ((url : Parts) → parse_url None request.key ≡ Ok url → text ≡ empty ++ request_text request url) → text ≡ sent_request request
 unfolding is_target
 text_is request empty text target none writes = by_result (parse_url None request.key) refl
   where
@@ -156,7 +162,8 @@ becomes_new y k no_body text request old new head is becomes =
 
 -- WHAT IS KEPT
 
-pub taken_none : (t : Turn) (log : Log) (reported : Option Log) (before : ℕ → Stage) (k : ℕ) → OnWire t log reported before → before k ≡ Unseen → taken_at t.call k ≡ 0
+pub taken_none : (t : Turn) (log : Log) (reported : Option Log) (before : ℕ → Stage) (k : ℕ) → OnWire t log reported before → before k ≡ Unseen →
+    taken_at t.call k ≡ 0
 taken_none t log reported before k on new = by_taken (on.taken k)
   where
     by_taken : (t.stages k ≡ Closed) ⊎ (taken_at t.call k ≡ length (sent_in log.takers k)) → taken_at t.call k ≡ 0
@@ -165,7 +172,8 @@ taken_none t log reported before k on new = by_taken (on.taken k)
 
 module _ {B : Type 0} {g : Ghosts B} (t : Turn) (x : loop.Proxy B g) (up : Upstreams) (p : Proxy) (acts : List Act) (y c : ℕ) (need : Need) (request : Request)
     (log : Log) (reported reported' : Option Log) (before after : ℕ → Stage)
-    (o : Opens y request x.upstreams up reported reported' before after) (h : KeepsUnderway t (act.Opened y c need request ∷ acts) x p) (on : OnWire t log reported before) where
+    (o : Opens y request x.upstreams up reported reported' before after) (h : KeepsUnderway t (act.Opened y c need request ∷ acts) x p)
+    (on : OnWire t log reported before) where
   abbrev k : ℕ
   k = o.k
 
@@ -243,7 +251,8 @@ module _ {B : Type 0} {g : Ghosts B} (t : Turn) (x : loop.Proxy B g) (up : Upstr
     strangers = λ j some. nobodys_stays t.dialled k j (h.upstreams.strangers j some) (stranger j some);
   }
     where
-      rows_by : (z : ℕ) → is_open (p.tables.exchange z) ≡ true → z ≤ length (t.dialled ++ k ∷ []) → (b : Bool) → nat_eq z y ≡ b → IsUpstreamAt (taken_at t.call) (upstream_of up z) (with y (opened request) p.upstream z)
+      rows_by : (z : ℕ) → is_open (p.tables.exchange z) ≡ true → z ≤ length (t.dialled ++ k ∷ []) → (b : Bool) → nat_eq z y ≡ b →
+          IsUpstreamAt (taken_at t.call) (upstream_of up z) (with y (opened request) p.upstream z)
       rows_by z live le true is = rw (row_at z is, is) is_new
       rows_by z live le false is =
           let less : z ≤ length t.dialled = let size = longer in let at = next in grind (arith, nat_tests) in
@@ -257,23 +266,28 @@ module _ {B : Type 0} {g : Ghosts B} (t : Turn) (x : loop.Proxy B g) (up : Upstr
       numbers_by z u at false is = connection_stays t.dialled (k ∷ []) z u.k (h.upstreams.numbers z u (sym (row_off z is) ∙ at))
 
       over_by : (z : ℕ) → IsSome (upstream_of up z) → (b : Bool) → nat_eq z y ≡ b → (is_open (p.tables.exchange z) ≡ true) ⊎ (closes_in z acts ≡ true)
-      over_by z some true is = let place : y ≡ z = grind (arith, nat_tests) in subst (λ (n : ℕ). (is_open (p.tables.exchange n) ≡ true) ⊎ (closes_in n acts ≡ true)) place h.plain.0.1
+      over_by z some true is = let place : y ≡ z = grind (arith, nat_tests) in
+          subst (λ (n : ℕ). (is_open (p.tables.exchange n) ≡ true) ⊎ (closes_in n acts ≡ true)) place h.plain.0.1
       over_by z some false is = h.upstreams.over z (subst IsSome (row_off z is) some)
 
-      news_by : (z : ℕ) → is_open (p.tables.exchange z) ≡ true → is_news up z ≡ false → asks_in z acts ≡ false → (b : Bool) → nat_eq z y ≡ b → is_due_by (is_wanted (p.tables.exchange z)) (with y (opened request) p.upstream z) ≡ false
+      news_by : (z : ℕ) → is_open (p.tables.exchange z) ≡ true → is_news up z ≡ false → asks_in z acts ≡ false → (b : Bool) → nat_eq z y ≡ b →
+          is_due_by (is_wanted (p.tables.exchange z)) (with y (opened request) p.upstream z) ≡ false
       news_by z live unheard unasked true is = rw is (quiet (is_wanted (p.tables.exchange z)))
       news_by z live unheard unasked false is = rw is (h.upstreams.news z live (sym (o.news z) ∙ unheard) unasked)
 
-      touched_by : (z : ℕ) (u : origin.Upstream) → upstream_of up z ≡ Some u → is_open (p.tables.exchange z) ≡ true → is_touched up z ≡ false → asks_in z acts ≡ false → (b : Bool) → nat_eq z y ≡ b → (u.unsent ≡ []) × (is_same u.reading (is_wanted (p.tables.exchange z)) ≡ true)
+      touched_by : (z : ℕ) (u : origin.Upstream) → upstream_of up z ≡ Some u → is_open (p.tables.exchange z) ≡ true → is_touched up z ≡ false → asks_in
+          z acts ≡ false → (b : Bool) → nat_eq z y ≡ b → (u.unsent ≡ []) × (is_same u.reading (is_wanted (p.tables.exchange z)) ≡ true)
       touched_by z u at live untouched unasked true is = absurd (let never : true ≡ false = sym (o.touched z ∙ rw is refl) ∙ untouched in cc)
-      touched_by z u at live untouched unasked false is = h.upstreams.touched z u (sym (row_off z is) ∙ at) live (sym (o.touched z ∙ rw is refl) ∙ untouched) unasked
+      touched_by z u at live untouched unasked false is =
+          h.upstreams.touched z u (sym (row_off z is) ∙ at) live (sym (o.touched z ∙ rw is refl) ∙ untouched) unasked
 
       stranger : (j : ℕ) → IsSome (p.client j) → nat_eq k j ≡ false
       stranger j some = by_test (nat_eq k j) refl
         where
           by_test : (b : Bool) → nat_eq k j ≡ b → b ≡ false
           by_test false is = refl
-          by_test true is = let same : k ≡ j = grind (arith, nat_tests) in absurd (let never : false ≡ true = subst IsSome (ap p.client (sym same) ∙ (h.seen k unseen).0) some in cc)
+          by_test true is = let same : k ≡ j = grind (arith, nat_tests) in
+              absurd (let never : false ≡ true = subst IsSome (ap p.client (sym same) ∙ (h.seen k unseen).0) some in cc)
 
   wire : AtWire after x'
   wire = record {
@@ -283,7 +297,8 @@ module _ {B : Type 0} {g : Ghosts B} (t : Turn) (x : loop.Proxy B g) (up : Upstr
     closed = λ j among. ((h.wire.closed j among).0, λ z u at. apart z u at j among (nat_eq z y) refl);
   }
     where
-      upstreams_by : (z : ℕ) (u : origin.Upstream) → upstream_of up z ≡ Some u → (b : Bool) → nat_eq z y ≡ b → (ended : Bool) × (after u.k ≡ Open u.reading ended)
+      upstreams_by : (z : ℕ) (u : origin.Upstream) → upstream_of up z ≡ Some u → (b : Bool) → nat_eq z y ≡ b → (ended : Bool) ×
+          (after u.k ≡ Open u.reading ended)
       upstreams_by z u at true is =
           let same : new ≡ u = some_is new u (sym (row_at z is) ∙ at) in
           subst (λ (v : origin.Upstream). (ended : Bool) × (after v.k ≡ Open v.reading ended)) same (false, o.dials.stands k ∙ rw (same_number k) refl)
@@ -296,7 +311,8 @@ module _ {B : Type 0} {g : Ghosts B} (t : Turn) (x : loop.Proxy B g) (up : Upstr
 
       moved : (j : ℕ) (z : ℕ) (u : origin.Upstream) → upstream_of x.upstreams z ≡ Some u → u.k ≡ j → (b : Bool) → nat_eq z y ≡ b → Place j
       moved j z u at is false off = inr (inl (z, u, row_off z off ∙ at, is))
-      moved j z u at is true same = let place : z ≡ y = grind (arith, nat_tests) in absurd (let never : None ≡ Some u = sym none ∙ (ap (upstream_of x.upstreams) (sym place) ∙ at) in cc)
+      moved j z u at is true same = let place : z ≡ y = grind (arith, nat_tests) in
+          absurd (let never : None ≡ Some u = sym none ∙ (ap (upstream_of x.upstreams) (sym place) ∙ at) in cc)
 
       all_by : (j : ℕ) → IsOpen (after j) → (b : Bool) → nat_eq j k ≡ b → Place j
       all_by j opens true is = let same : k ≡ j = grind (arith, nat_tests) in inr (inl (y, new, row_at y (same_number y), same))
@@ -336,7 +352,8 @@ module _ {B : Type 0} {g : Ghosts B} (t : Turn) (x : loop.Proxy B g) (up : Upstr
     before = h.cache.before;
     unopened = λ z past. let le = within in let off : nat_eq z y ≡ false = grind (arith, nat_tests) in rw off (h.cache.unopened z past);
     headed = headed;
-    small = let fewer = sum_le (λ z. unread_of (p'.upstream z)) (λ z. unread_of (p.upstream z)) less p.tables.openings in let was = h.cache.small in omega arith;
+    small = let fewer = sum_le (λ z. unread_of (p'.upstream z)) (λ z. unread_of (p.upstream z)) less p.tables.openings in let was = h.cache.small in
+        omega arith;
     bounded = h.cache.bounded;
     targets = h.cache.targets;
   }
@@ -379,7 +396,8 @@ module _ {B : Type 0} {g : Ghosts B} (t : Turn) (x : loop.Proxy B g) (up : Upstr
       served = h.served.1;
       plain = h.plain.1;
       shut = h.shut;
-      undialled = λ z past. let size = longer in let at = next in let off : nat_eq z y ≡ false = grind (arith, nat_tests) in rw off (h.undialled z (omega arith));
+      undialled = λ z past. let size = longer in let at = next in let off : nat_eq z y ≡ false = grind (arith, nat_tests) in
+          rw off (h.undialled z (omega arith));
       upstreams = origins;
       heard = heard;
       wire = wire;
@@ -390,7 +408,8 @@ module _ {B : Type 0} {g : Ghosts B} (t : Turn) (x : loop.Proxy B g) (up : Upstr
     };
   }
     where
-      by_taken : (j : ℕ) → (t.stages j ≡ Closed) ⊎ (taken_at t.call j ≡ length (sent_in log.takers j)) → (after j ≡ Closed) ⊎ (taken_at t.call j ≡ length (sent_in (with_dialled k log).takers j))
+      by_taken : (j : ℕ) → (t.stages j ≡ Closed) ⊎ (taken_at t.call j ≡ length (sent_in log.takers j)) →
+          (after j ≡ Closed) ⊎ (taken_at t.call j ≡ length (sent_in (with_dialled k log).takers j))
       by_taken j (inl shut) = inl (stays j (other j (λ gone. let never : Closed ≡ Unseen = sym shut ∙ gone in cc)) ∙ shut)
       by_taken j (inr same) = inr (same ∙ ap length (sym (sent_more k j log.takers)))
 
@@ -401,7 +420,8 @@ module _ {B : Type 0} {g : Ghosts B} (t : Turn) (x : loop.Proxy B g) (up : Upstr
       known_by j among gone true is = fresh_seen j is gone
       known_by j among gone false is = h.known j among (sym (stays j is) ∙ gone)
 
-      seen_by : (j : ℕ) → after j ≡ Unseen → (b : Bool) → nat_eq j k ≡ b → (p.client j ≡ None) × (exchange_of (t.dialled ++ k ∷ []) j ≡ None) × (Contains p.accepted j → ⊥)
+      seen_by : (j : ℕ) → after j ≡ Unseen → (b : Bool) → nat_eq j k ≡ b → (p.client j ≡ None) × (exchange_of (t.dialled ++ k ∷ []) j ≡ None) ×
+          (Contains p.accepted j → ⊥)
       seen_by j gone true is = absurd (fresh_seen j is gone)
       seen_by j gone false is =
           let was = h.seen j (sym (stays j is) ∙ gone) in

@@ -22,7 +22,8 @@ place_at i k x (suc m) [] is = absurd (let never : None ≡ Some x = is in cc)
 place_at i k x (suc m) (j ∷ ks) is = by_test (nat_eq j k) refl is (λ more. place_at (i + 1) k x m ks more)
   where
     by_test : (b : Bool) → nat_eq j k ≡ b → (if b then Some i else place_from (i + 1) k (take m ks)) ≡ Some x
-        → (place_from (i + 1) k (take m ks) ≡ Some x → (i + 1 ≤ x) × (first_of (drop (x - (i + 1)) ks) ≡ Some k)) → (i ≤ x) × (first_of (drop (x - i) (j ∷ ks)) ≡ Some k)
+        → (place_from (i + 1) k (take m ks) ≡ Some x → (i + 1 ≤ x) × (first_of (drop (x - (i + 1)) ks) ≡ Some k)) → (i ≤ x) ×
+        (first_of (drop (x - i) (j ∷ ks)) ≡ Some k)
     by_test true same here more =
         let at : i ≡ x = cc in
         let number : j ≡ k = grind (arith, nat_tests) in
@@ -41,7 +42,9 @@ place_before i k x m (suc n) [] lt is = absurd (let never : None ≡ Some x = is
 place_before i k x zero (suc n) (j ∷ ks) lt is = let low = place_at i k x (suc n) (j ∷ ks) is in let le : i ≤ x = low.0 in absurd (omega arith)
 place_before i k x (suc m) (suc n) (j ∷ ks) lt is = by_test (nat_eq j k) is (λ more. place_before (i + 1) k x m n ks (omega arith) more)
   where
-    by_test : (b : Bool) → (if b then Some i else place_from (i + 1) k (take n ks)) ≡ Some x → (place_from (i + 1) k (take n ks) ≡ Some x → place_from (i + 1) k (take m ks) ≡ Some x) → (if b then Some i else place_from (i + 1) k (take m ks)) ≡ Some x
+    by_test : (b : Bool) → (if b then Some i else place_from (i + 1) k (take n ks)) ≡ Some x →
+        (place_from (i + 1) k (take n ks) ≡ Some x → place_from (i + 1) k (take m ks) ≡ Some x) →
+        (if b then Some i else place_from (i + 1) k (take m ks)) ≡ Some x
     by_test true here more = here
     by_test false later more = more later
 
@@ -52,7 +55,9 @@ place_after i k x (suc m) n [] le is = absurd (let never : None ≡ Some x = is 
 place_after i k x (suc m) zero (j ∷ ks) le is = absurd (omega arith)
 place_after i k x (suc m) (suc n) (j ∷ ks) le is = by_test (nat_eq j k) is (λ more. place_after (i + 1) k x m n ks (omega arith) more)
   where
-    by_test : (b : Bool) → (if b then Some i else place_from (i + 1) k (take m ks)) ≡ Some x → (place_from (i + 1) k (take m ks) ≡ Some x → place_from (i + 1) k (take n ks) ≡ Some x) → (if b then Some i else place_from (i + 1) k (take n ks)) ≡ Some x
+    by_test : (b : Bool) → (if b then Some i else place_from (i + 1) k (take m ks)) ≡ Some x →
+        (place_from (i + 1) k (take m ks) ≡ Some x → place_from (i + 1) k (take n ks) ≡ Some x) →
+        (if b then Some i else place_from (i + 1) k (take n ks)) ≡ Some x
     by_test true here more = here
     by_test false later more = more later
 
@@ -86,7 +91,8 @@ pub any_more : (k : ℕ) (calls : List Called) (call : Called) → has_ended k c
 any_more k [] call is = absurd (let never : false ≡ true = is in cc)
 any_more k (first ∷ calls) call is = by_test (is_end_of k first.event) is (λ more. any_more k calls call more)
   where
-    by_test : (b : Bool) → (b || has_ended k calls) ≡ true → (has_ended k calls ≡ true → has_ended k (calls ++ call ∷ []) ≡ true) → (b || has_ended k (calls ++ call ∷ [])) ≡ true
+    by_test : (b : Bool) → (b || has_ended k calls) ≡ true → (has_ended k calls ≡ true → has_ended k (calls ++ call ∷ []) ≡ true) →
+        (b || has_ended k (calls ++ call ∷ [])) ≡ true
     by_test true is more = refl
     by_test false is more = more is
 

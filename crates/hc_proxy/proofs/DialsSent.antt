@@ -41,7 +41,8 @@ nobody_from n k [] (j ∷ more) none off = by_test (nobody_from (n + 1) k [] mor
     by_test rest true is = let same : j ≡ k = grind (arith, nat_tests) in absurd (off (zero, omega arith, same))
 nobody_from n k (j ∷ dialled) more none off = by_test (λ h. nobody_from (n + 1) k dialled more h off) (nat_eq j k) none
   where
-    by_test : (place_from (n + 1) k dialled ≡ None → place_from (n + 1) k (dialled ++ more) ≡ None) → (b : Bool) → (if b then Some n else place_from (n + 1) k dialled) ≡ None → (if b then Some n else place_from (n + 1) k (dialled ++ more)) ≡ None
+    by_test : (place_from (n + 1) k dialled ≡ None → place_from (n + 1) k (dialled ++ more) ≡ None) → (b : Bool) →
+        (if b then Some n else place_from (n + 1) k dialled) ≡ None → (if b then Some n else place_from (n + 1) k (dialled ++ more)) ≡ None
     by_test rest true h = absurd (let never : Some n ≡ None = h in cc)
     by_test rest false h = rest h
 
@@ -54,7 +55,8 @@ module _ (q : Proxy) (more : List ℕ) (log log' : Log) (d : Dials more log log'
   seen_stage c false is = let never : Closed ≡ Unseen = is in cc
 
   -- one that was there
-  was_there : (c e : Taker) → e.k ≡ c.k → find (is_numbered c.k) log.takers ≡ Some e → c.sent ≡ e.sent → sent_by q c (exchange_of (log.dialled ++ more) c.k) ≡ true
+  was_there : (c e : Taker) → e.k ≡ c.k → find (is_numbered c.k) log.takers ≡ Some e → c.sent ≡ e.sent →
+      sent_by q c (exchange_of (log.dialled ++ more) c.k) ≡ true
   was_there c e number found same = by_whose (exchange_of log.dialled c.k) refl
     where
       before : was_sent log.dialled q e ≡ true
@@ -91,6 +93,7 @@ module _ (q : Proxy) (more : List ℕ) (log log' : Log) (d : Dials more log log'
       sent_as : (c : Taker) → find (is_numbered c.k) log'.takers ≡ Some c → c.sent ≡ sent_in log.takers c.k
       sent_as c found = sym (sent_found c.k c log'.takers found) ∙ d.sent c.k
 
-      by_found : (c : Taker) → find (is_numbered c.k) log'.takers ≡ Some c → (o : Option Taker) → find (is_numbered c.k) log.takers ≡ o → sent_by q c (exchange_of (log.dialled ++ more) c.k) ≡ true
+      by_found : (c : Taker) → find (is_numbered c.k) log'.takers ≡ Some c → (o : Option Taker) → find (is_numbered c.k) log.takers ≡ o →
+          sent_by q c (exchange_of (log.dialled ++ more) c.k) ≡ true
       by_found c found None was = is_new c was (sent_as c found ∙ ap sent_from was)
       by_found c found (Some e) was = was_there c e (found_number c.k e log.takers was) was (sent_as c found ∙ sent_found c.k e log.takers was)

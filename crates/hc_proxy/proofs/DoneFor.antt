@@ -71,10 +71,12 @@ module _ {B : Type 0} {g : Ghosts B} where
       | inl here ↦ subst (λ n. is_news x.upstreams n ≡ false → is_due p n ≡ false) (sym here.1) d.news none
     ]
 
-    touched_all : (y : ℕ) (v : origin.Upstream) → upstream_of x.upstreams y ≡ Some v → is_open (p.tables.exchange y) ≡ true → is_touched x.upstreams y ≡ false → asks_in y (acts_in p.part) ≡ false → (v.unsent ≡ []) × (is_same v.reading (is_wanted (p.tables.exchange y)) ≡ true)
+    touched_all : (y : ℕ) (v : origin.Upstream) → upstream_of x.upstreams y ≡ Some v → is_open (p.tables.exchange y) ≡ true →
+        is_touched x.upstreams y ≡ false → asks_in y (acts_in p.part) ≡ false → (v.unsent ≡ []) × (is_same v.reading (is_wanted (p.tables.exchange y)) ≡ true)
     touched_all y v is on none asks = elim (eq_cases y z) as (λ _. (v.unsent ≡ []) × (is_same v.reading (is_wanted (p.tables.exchange y)) ≡ true)) [
       | inr off ↦ h.upstreams.touched y v off.0 is on none asks
-      | inl here ↦ subst (λ n. (v : origin.Upstream) → upstream_of x.upstreams n ≡ Some v → is_touched x.upstreams n ≡ false → (v.unsent ≡ []) × (is_same v.reading (is_wanted (p.tables.exchange n)) ≡ true)) (sym here.1) d.touched v is none
+      | inl here ↦ subst (λ n. (v : origin.Upstream) → upstream_of x.upstreams n ≡ Some v → is_touched x.upstreams n ≡ false → (v.unsent ≡ []) ×
+          (is_same v.reading (is_wanted (p.tables.exchange n)) ≡ true)) (sym here.1) d.touched v is none
     ]
 
     pub done_all : KeepsQuiet t x p
@@ -107,7 +109,8 @@ module _ {B : Type 0} {g : Ghosts B} where
 
   -- AN ENTRY
 
-  module _ (z : ℕ) (t : Turn) (x x' : loop.Proxy B g) (p : Proxy) (ev : Event) (h : KeepsBut z t x p) (s : Stepped t.frame x x' ev p) (r : RestStays x x') (off : is_poll ev ≡ false) (only : IsOfOnly z ev) where
+  module _ (z : ℕ) (t : Turn) (x x' : loop.Proxy B g) (p : Proxy) (ev : Event) (h : KeepsBut z t x p) (s : Stepped t.frame x x' ev p) (r : RestStays x x')
+      (off : is_poll ev ≡ false) (only : IsOfOnly z ev) where
     abbrev pub q : Proxy
     q = with_entry s.e p
 
@@ -138,7 +141,8 @@ module _ {B : Type 0} {g : Ghosts B} where
     wanted_was : (y : ℕ) → is_wanted ((after p.tables s.e).exchange y) ≡ true → is_wanted (p.tables.exchange y) ≡ true
     wanted_was y on = elim (was_wanted p.tables s.e y on) as (λ _. is_wanted (p.tables.exchange y) ≡ true) [
       | inl before ↦ before
-      | inr other ↦ elim other as (λ _. is_wanted (p.tables.exchange y) ≡ true) [ inl asks ↦ true_false (sym asks ∙ quiet_asks_none y acts quiet) | inr opens ↦ unopened y opens ]
+      | inr other ↦ elim other as (λ _. is_wanted (p.tables.exchange y) ≡ true)
+          [ inl asks ↦ true_false (sym asks ∙ quiet_asks_none y acts quiet) | inr opens ↦ unopened y opens ]
     ]
 
     asked_was : (y : ℕ) → asks_in y (acts_in p.part ++ acts) ≡ false → asks_in y (acts_in p.part) ≡ false
@@ -150,19 +154,23 @@ module _ {B : Type 0} {g : Ghosts B} where
       | inr other ↦ absurd (other.1 (only y (subst (Stops y) s.event_is stops)))
     ]
 
-    over_now : (y : ℕ) → nat_eq y z ≡ false → IsSome (upstream_of x'.upstreams y) → (is_open ((after p.tables s.e).exchange y) ≡ true) ⊎ (closes_in y (acts_in p.part ++ acts) ≡ true)
-    over_now y apart some = elim (h.upstreams.over y apart (subst (λ v. IsSome (upstream_of v y)) r.upstreams some)) as (λ _. (is_open ((after p.tables s.e).exchange y) ≡ true) ⊎ (closes_in y (acts_in p.part ++ acts) ≡ true)) [
-      | inr closes ↦ inr (closes_both y (acts_in p.part) acts ∙ ap (λ (b : Bool). b || closes_in y acts) closes)
-      | inl on ↦ elim (stays_open p.tables s.e y on) as (λ _. (is_open ((after p.tables s.e).exchange y) ≡ true) ⊎ (closes_in y (acts_in p.part ++ acts) ≡ true)) [
-        | inl still ↦ inl still
-        | inr other ↦ elim other as (λ _. (is_open ((after p.tables s.e).exchange y) ≡ true) ⊎ (closes_in y (acts_in p.part ++ acts) ≡ true)) [
-          | inl closes ↦ inr (closes_both y (acts_in p.part) acts ∙ or_right (closes_in y (acts_in p.part)) _ closes)
-          | inr stops ↦ of_other y apart stops
+    over_now : (y : ℕ) → nat_eq y z ≡ false → IsSome (upstream_of x'.upstreams y) →
+        (is_open ((after p.tables s.e).exchange y) ≡ true) ⊎ (closes_in y (acts_in p.part ++ acts) ≡ true)
+    over_now y apart some = elim (h.upstreams.over y apart (subst (λ v. IsSome (upstream_of v y)) r.upstreams some)) as
+        (λ _. (is_open ((after p.tables s.e).exchange y) ≡ true) ⊎ (closes_in y (acts_in p.part ++ acts) ≡ true)) [
+          | inr closes ↦ inr (closes_both y (acts_in p.part) acts ∙ ap (λ (b : Bool). b || closes_in y acts) closes)
+          | inl on ↦ elim (stays_open p.tables s.e y on) as
+              (λ _. (is_open ((after p.tables s.e).exchange y) ≡ true) ⊎ (closes_in y (acts_in p.part ++ acts) ≡ true)) [
+                | inl still ↦ inl still
+                | inr other ↦ elim other as (λ _. (is_open ((after p.tables s.e).exchange y) ≡ true) ⊎ (closes_in y (acts_in p.part ++ acts) ≡ true)) [
+                  | inl closes ↦ inr (closes_both y (acts_in p.part) acts ∙ or_right (closes_in y (acts_in p.part)) _ closes)
+                  | inr stops ↦ of_other y apart stops
+                ]
+              ]
         ]
-      ]
-    ]
 
-    same_want : (y : ℕ) → nat_eq y z ≡ false → is_open ((after p.tables s.e).exchange y) ≡ true → (a b : Bool) → is_wanted (p.tables.exchange y) ≡ a → is_wanted ((after p.tables s.e).exchange y) ≡ b → is_wanted (p.tables.exchange y) ≡ is_wanted ((after p.tables s.e).exchange y)
+    same_want : (y : ℕ) → nat_eq y z ≡ false → is_open ((after p.tables s.e).exchange y) ≡ true → (a b : Bool) → is_wanted (p.tables.exchange y) ≡ a →
+        is_wanted ((after p.tables s.e).exchange y) ≡ b → is_wanted (p.tables.exchange y) ≡ is_wanted ((after p.tables s.e).exchange y)
     same_want y apart on a true before now = wanted_was y now ∙ sym now
     same_want y apart on false false before now = before ∙ sym now
     same_want y apart on true false before now = true_false (sym (stays_wanted p.tables s.e y (λ stops. of_other y apart stops) before on) ∙ now)
@@ -173,9 +181,12 @@ module _ {B : Type 0} {g : Ghosts B} where
       rows = λ y on le. subst (λ v. IsUpstreamAt (taken_at t.call) (upstream_of v y) (p.upstream y)) (sym r.upstreams) (h.upstreams.rows y (was y on) le);
       numbers = λ y v is. h.upstreams.numbers y v (sym (ap (λ u. upstream_of u y) r.upstreams) ∙ is);
       over = over_now;
-      news = λ y apart on none asks. due_stays t.frame.limits (p.upstream y) (is_wanted (p.tables.exchange y)) (is_wanted ((after p.tables s.e).exchange y)) (wanted_was y)
+      news = λ y apart on none asks. due_stays t.frame.limits (p.upstream y) (is_wanted (p.tables.exchange y))
+          (is_wanted ((after p.tables s.e).exchange y)) (wanted_was y)
           (h.upstreams.news y apart (was y on) (sym (ap (λ u. is_news u y) r.upstreams) ∙ none) (asked_was y asks));
-      touched = λ y v apart is on none asks. let old = h.upstreams.touched y v apart (sym (ap (λ u. upstream_of u y) r.upstreams) ∙ is) (was y on) (sym (ap (λ u. is_touched u y) r.upstreams) ∙ none) (asked_was y asks) in
+      touched = λ y v apart is on none asks. let old =
+          h.upstreams.touched y v apart (sym (ap (λ u. upstream_of u y) r.upstreams) ∙ is) (was y on) (sym (ap (λ u. is_touched u y) r.upstreams) ∙ none)
+          (asked_was y asks) in
           (old.0, subst (λ (b : Bool). is_same v.reading b ≡ true) (same_want y apart on _ _ refl refl) old.1);
       opens = entry_opens t.frame.limits p stands s.e s.is_owed (length t.dialled) (acts_in p.part) h.upstreams.opens;
       names = h.upstreams.names;
@@ -194,7 +205,8 @@ module _ {B : Type 0} {g : Ghosts B} where
     waits_not = rw no_poll refl
 
     -- no start and no cancel, of which something moved
-    pub but_stepped : x'.moved ≡ true → steps x'.cache ≡ steps x.cache + 1 → ((c : ℕ) → ev ≡ event.Cancel c → ⊥) → ((c : ℕ) → Starts c ev → ⊥) → KeepsBut z t x' (with_entry s.e p)
+    pub but_stepped : x'.moved ≡ true → steps x'.cache ≡ steps x.cache + 1 → ((c : ℕ) → ev ≡ event.Cancel c → ⊥) → ((c : ℕ) → Starts c ev → ⊥) →
+        KeepsBut z t x' (with_entry s.e p)
     unfolding with_entry
     but_stepped moved one no_cancel no_start =
         let cs = clients_move t x x' p r.clients h.clients in
@@ -202,11 +214,13 @@ module _ {B : Type 0} {g : Ghosts B} where
           cache = s.cache;
           acts = s.acts ∙ ap (λ zs. zs ++ acts) h.acts;
           clients = record { rows = cs.rows; order = cs.order; listed = cs.listed; few = cs.few };
-          consumers = entry_keeps t.frame.limits p s.e law s.is_owed h.consumers (λ c is. no_cancel c (sym s.event_is ∙ is)) (λ c starts. no_start c (subst (Starts c) s.event_is starts));
+          consumers = entry_keeps t.frame.limits p s.e law s.is_owed h.consumers (λ c is. no_cancel c (sym s.event_is ∙ is))
+              (λ c starts. no_start c (subst (Starts c) s.event_is starts));
           upstreams = but_upstreams;
           wire = wire_moves t.stages x x' r.clients r.upstreams r.closed h.wire;
           numbers = (let a : p.starts ≤ steps x.cache = h.numbers in let b : steps x'.cache ≡ steps x.cache + 1 = one in omega arith);
-          opened = (let a : p.tables.opened ≤ steps x.cache = h.opened in let b : steps x'.cache ≡ steps x.cache + 1 = one in let c : (after p.tables s.e).opened ≡ p.tables.opened = opened_same in omega arith);
+          opened = (let a : p.tables.opened ≤ steps x.cache = h.opened in let b : steps x'.cache ≡ steps x.cache + 1 = one in
+              let c : (after p.tables s.e).opened ≡ p.tables.opened = opened_same in omega arith);
           seen = h.seen;
           shut = closed_behind t.frame.limits p stands s.e s.is_owed (acts_in p.part) h.shut;
           known = λ k there. h.known k (subst (λ v. Contains v.items k) r.closed there);

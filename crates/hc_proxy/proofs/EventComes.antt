@@ -46,7 +46,8 @@ unended_open Unseen h = h
 unended_open (Open reads ended) h = tt
 unended_open Closed h = h
 
-stays_ended : (before behind : ℕ → Stage) (k : ℕ) → IsUnended (before k) → ((j : ℕ) → behind j ≡ (if nat_eq j k then ended_of (before k) else before j)) → Stays before behind
+stays_ended : (before behind : ℕ → Stage) (k : ℕ) → IsUnended (before k) → ((j : ℕ) → behind j ≡ (if nat_eq j k then ended_of (before k) else before j)) →
+    Stays before behind
 stays_ended before behind k un same = record {
   on = λ j reads ended is. elim (eq_cases j k) as (λ _. (later : Bool) × (behind j ≡ Open reads later)) [
     | inr off ↦ (ended, same j ∙ (rw off.0 is))
@@ -112,11 +113,13 @@ module _ {B : Type 0} {g : Ghosts B} where
 -- THE SAME EVENT, of a cache that is the same
 
 module _ {B : Type 0} {g : Ghosts B} where
-  pub same_some : (x x' : loop.Proxy B g) → x'.cache ≡ x.cache → x'.record ≡ x.record → x'.now ≡ x.now → x'.starts ≡ x.starts → ∥ StandsForSome x ∥₁ → ∥ StandsForSome x' ∥₁
+  pub same_some : (x x' : loop.Proxy B g) → x'.cache ≡ x.cache → x'.record ≡ x.record → x'.now ≡ x.now → x'.starts ≡ x.starts → ∥ StandsForSome x ∥₁ →
+      ∥ StandsForSome x' ∥₁
   same_some x x' cache text now starts some = ∥∥₁_map some (λ s. (s.0, s.1, cache_moves s.0 x x' s.1 cache text now starts s.2))
 
   pub same_step : (x mid : loop.Proxy B g) (m : Bool) (ev : Event)
-      → ((f : Frame) (p : Proxy) → HasCache f (record x { moved = m }) p → unread p + bytes_received x.cache + received_in ev ≤ f.bytes → Stepped f (record x { moved = m }) mid ev p)
+      → ((f : Frame) (p : Proxy) → HasCache f (record x { moved = m }) p → unread p + bytes_received x.cache + received_in ev ≤ f.bytes →
+      Stepped f (record x { moved = m }) mid ev p)
       → (f : Frame) (p : Proxy) → HasCache f x p → unread p + bytes_received x.cache + received_in ev ≤ f.bytes → Stepped f x mid ev p
   same_step x mid m ev steps f p h room =
       let st = steps f p (cache_moves f x (record x { moved = m }) p refl refl refl refl h) room in
@@ -133,11 +136,15 @@ module _ {B : Type 0} {g : Ghosts B} where
 
   -- WHAT IS TO BE DONE
 
-  pub handled_is : (t : Turn) (x : loop.Proxy B g) (p : Proxy) (ev : WireEvent) (slice : List ℕ) → Begun t x p ev slice → handled t.frame.limits t.dialled t.call p ≡ handled_by t.frame.limits t.dialled (got_bytes ev slice) ev p
+  pub handled_is : (t : Turn) (x : loop.Proxy B g) (p : Proxy) (ev : WireEvent) (slice : List ℕ) → Begun t x p ev slice →
+      handled t.frame.limits t.dialled t.call p ≡ handled_by t.frame.limits t.dialled (got_bytes ev slice) ev p
   unfolding handled
-  handled_is t x p ev slice b = ap (λ e. handled_by t.frame.limits t.dialled t.call.bytes e p) b.event_is ∙ ap (λ z. handled_by t.frame.limits t.dialled z ev p) b.bytes
+  handled_is t x p ev slice b = ap (λ e. handled_by t.frame.limits t.dialled t.call.bytes e p) b.event_is ∙
+      ap (λ z. handled_by t.frame.limits t.dialled z ev p) b.bytes
 
-  idle_goes : (t : Turn) (x : loop.Proxy B g) (p : Proxy) (ev : WireEvent) (slice : List ℕ) (b : Begun t x p ev slice) → ((j : ℕ) → t.stages j ≡ b.before j) → handled_by t.frame.limits t.dialled (got_bytes ev slice) ev p ≡ p → Goes (KeepsQuiet t) (faults_in x.cache) x (handled t.frame.limits t.dialled t.call p)
+  idle_goes : (t : Turn) (x : loop.Proxy B g) (p : Proxy) (ev : WireEvent) (slice : List ℕ) (b : Begun t x p ev slice) →
+      ((j : ℕ) → t.stages j ≡ b.before j) → handled_by t.frame.limits t.dialled (got_bytes ev slice) ev p ≡ p →
+      Goes (KeepsQuiet t) (faults_in x.cache) x (handled t.frame.limits t.dialled t.call p)
   idle_goes t x p ev slice b same none = record {
     q = p;
     keeps = event_quiet t x p ev slice b (stays_same b.before t.stages same);
@@ -145,18 +152,22 @@ module _ {B : Type 0} {g : Ghosts B} where
     same = λ calm. sym (handled_is t x p ev slice b ∙ none);
   }
 
-  pub room_goes : (t : Turn) (x : loop.Proxy B g) (p : Proxy) (k : ℕ) (slice : List ℕ) → Begun t x p (wire.Room k) slice → Goes (KeepsQuiet t) (faults_in x.cache) x (handled t.frame.limits t.dialled t.call p)
+  pub room_goes : (t : Turn) (x : loop.Proxy B g) (p : Proxy) (k : ℕ) (slice : List ℕ) → Begun t x p (wire.Room k) slice →
+      Goes (KeepsQuiet t) (faults_in x.cache) x (handled t.frame.limits t.dialled t.call p)
   room_goes t x p k slice b = idle_goes t x p (wire.Room k) slice b b.stages refl
 
-  pub quiet_goes : (t : Turn) (x : loop.Proxy B g) (p : Proxy) (slice : List ℕ) → Begun t x p wire.Quiet slice → Goes (KeepsQuiet t) (faults_in x.cache) x (handled t.frame.limits t.dialled t.call p)
+  pub quiet_goes : (t : Turn) (x : loop.Proxy B g) (p : Proxy) (slice : List ℕ) → Begun t x p wire.Quiet slice →
+      Goes (KeepsQuiet t) (faults_in x.cache) x (handled t.frame.limits t.dialled t.call p)
   quiet_goes t x p slice b = idle_goes t x p wire.Quiet slice b b.stages refl
 
-  pub event_is_at : (k : ℕ) (x : loop.Proxy B g) (ev : WireEvent) (slice : List ℕ) → (ev ≡ wire.Ended k) ⊎ (ev ≡ wire.Broke k) → ∥ IsBegun x ev slice ∥₁ → ∥ IsAtEvent x k ∥₁
+  pub event_is_at : (k : ℕ) (x : loop.Proxy B g) (ev : WireEvent) (slice : List ℕ) → (ev ≡ wire.Ended k) ⊎ (ev ≡ wire.Broke k) → ∥ IsBegun x ev slice ∥₁ →
+      ∥ IsAtEvent x k ∥₁
   event_is_at k x ev slice (inl is) some = ∥∥₁_map some (λ s. (s.0, s.1, ended_at s.0 x s.1 k slice (subst (λ e. Begun s.0 x s.1 e slice) is s.2)))
   event_is_at k x ev slice (inr is) some = ∥∥₁_map some (λ s. (s.0, s.1, broke_at s.0 x s.1 k slice (subst (λ e. Begun s.0 x s.1 e slice) is s.2)))
 
   -- a number that is accepted is that of no client
-  pub come_free : (x : loop.Proxy B g) (k : ℕ) → ∥ ((slice : List ℕ) × IsBegun x (wire.Accepted k) slice) ∥₁ → (o : Option peer.Client) → client_of x.clients k ≡ o → client_of x.clients k ≡ None
+  pub come_free : (x : loop.Proxy B g) (k : ℕ) → ∥ ((slice : List ℕ) × IsBegun x (wire.Accepted k) slice) ∥₁ → (o : Option peer.Client) →
+      client_of x.clients k ≡ o → client_of x.clients k ≡ None
   come_free x k some None is = is
   come_free x k some (Some d) is = absurd (∥∥₁_elim some (λ a b. absurd a) (λ s.
       let b = s.1.2 in

@@ -39,7 +39,8 @@ module _ (p : Proxy) (law : Lawful p.tables) (h : HasConsumers p) (listed : (k :
   waited_for : (c : ℕ) → is_live (p.tables.consumer c) ≡ true → Among c (map consumer_at (clients_here p))
   waited_for c on =
       let f = h.live c on in
-      among_mapped consumer_at f.0 c (clients_here p) (ap (λ (o : Option Client). unwrap_or (waits_for o) 0) f.1.at ∙ ap (λ (o : Option ℕ). unwrap_or o 0) f.1.consumer) (here f.0 c f.1)
+      among_mapped consumer_at f.0 c (clients_here p)
+      (ap (λ (o : Option Client). unwrap_or (waits_for o) 0) f.1.at ∙ ap (λ (o : Option ℕ). unwrap_or o 0) f.1.consumer) (here f.0 c f.1)
 
   -- no more consumers are live than clients are here
   pub few_live : live p.tables ≤ length (clients_here p)
@@ -52,7 +53,8 @@ module _ (p : Proxy) (law : Lawful p.tables) (h : HasConsumers p) (listed : (k :
       omega arith
 
   -- nor exchanges open
-  pub few_open : (limits : Limits) (hist : History) → IsRun limits no_contents hist → p.tables ≡ tables no_contents hist → open_now p.tables ≤ length (clients_here p)
+  pub few_open : (limits : Limits) (hist : History) → IsRun limits no_contents hist → p.tables ≡ tables no_contents hist →
+      open_now p.tables ≤ length (clients_here p)
   few_open limits hist run same =
       let fewer : open_now p.tables ≤ live p.tables = subst_few in
       let few : live p.tables ≤ length (clients_here p) = few_live in

@@ -39,7 +39,8 @@ none_carried k p = carried_keeps (λ x. Unit {0}) (NoneStays k) (none_out k) p (
 abbrev pub writing : Turn → List ℕ → Turn
 writing t text = record t { frame = record t.frame { written = t.frame.written ++ text } }
 
-module _ {B : Type 0} {g : Ghosts B} (t : Turn) (q : Proxy) (y : loop.Proxy B g) (k : KeepsPolled t y q) (w : Record) (empty : text_of w ≡ []) (last : last_of w ≡ last_of y.record) where
+module _ {B : Type 0} {g : Ghosts B} (t : Turn) (q : Proxy) (y : loop.Proxy B g) (k : KeepsPolled t y q) (w : Record) (empty : text_of w ≡ [])
+    (last : last_of w ≡ last_of y.record) where
   abbrev pub y' : loop.Proxy B g
   y' = record y { «record» = w }
 
@@ -101,7 +102,8 @@ module _ {B : Type 0} {g : Ghosts B} (t : Turn) (q : Proxy) (y : loop.Proxy B g)
         known = k.known;
       }
 
-pub written_wire : (t : Turn) (text : List ℕ) (log : Log) (reported : Option Log) (stages : ℕ → Stage) → OnWire t log reported stages → OnWire (writing t text) log reported stages
+pub written_wire : (t : Turn) (text : List ℕ) (log : Log) (reported : Option Log) (stages : ℕ → Stage) → OnWire t log reported stages →
+    OnWire (writing t text) log reported stages
 written_wire t text log reported stages on = record { follows = on.follows; stands = on.stands; dialled = on.dialled; taken = on.taken }
 
 pub takes_all : (out out' : Option (List ℕ)) (text : List ℕ) → Takes out out' text → TakesPrefix out out' text
@@ -117,7 +119,8 @@ left_none xs ys is = by_length ys (let size = length-append xs ys in let same : 
 
 -- ALL STEPS
 
-module _ {B : Type 0} {g : Ghosts B} (t : Turn) (q : Proxy) (log : Log) (y : loop.Proxy B g) (k : KeepsPolled t y q) (reported : Option Log) (stages : ℕ → Stage) (on : OnWire t log reported stages) where
+module _ {B : Type 0} {g : Ghosts B} (t : Turn) (q : Proxy) (log : Log) (y : loop.Proxy B g) (k : KeepsPolled t y q) (reported : Option Log)
+    (stages : ℕ → Stage) (on : OnWire t log reported stages) where
   nobody : (j : ℕ) → stage_in log.takers j ≡ Unseen → (carried q).client j ≡ None
   nobody j is = none_carried j q (k.keeps.seen j (sym (on.stands j) ∙ (on.follows.stands j ∙ is))).0
 
@@ -153,7 +156,8 @@ module _ {B : Type 0} {g : Ghosts B} (t : Turn) (q : Proxy) (log : Log) (y : loo
         calls = s.dials.calls;
         bound = s.dials.bound;
         dialled = s.dials.dialled;
-        few = let le = s.opened in let same = ap length s.dials.dialled in let a = length-append log.dialled s.more in let b = length-append t.dialled s.more in let d = ap length on.dialled in omega arith;
+        few = let le = s.opened in let same = ap length s.dials.dialled in let a = length-append log.dialled s.more in let b =
+            length-append t.dialled s.more in let d = ap length on.dialled in omega arith;
         sent = dialled_sent s.more s.log' s.dials s.follows.apart;
       }
 
@@ -199,7 +203,8 @@ module _ {B : Type 0} {g : Ghosts B} (t : Turn) (q : Proxy) (log : Log) (y : loo
 
           -- THE TURN IS MADE
 
-          pub finishes : (y4 : loop.Proxy B g) (again : Bool) → Rests behind.frame y4 (carried q) a.log' → again ≡ waits t.frame.limits (carried q) → FinishesTurn t q log y y4 reported2 stages2 out out' again
+          pub finishes : (y4 : loop.Proxy B g) (again : Bool) → Rests behind.frame y4 (carried q) a.log' → again ≡ waits t.frame.limits (carried q) →
+              FinishesTurn t q log y y4 reported2 stages2 out out' again
           finishes y4 again rests waits_so = record {
             log' = a.log';
             more = c.more;

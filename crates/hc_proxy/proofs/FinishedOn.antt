@@ -83,7 +83,8 @@ unread_quiet p e quiet = unread_entry p e (λ o opens. absurd (let never : None 
 module _ {B : Type 0} {g : Ghosts B} where
   -- THE ROW OF A SHUT EXCHANGE is any
 
-  module _ (z : ℕ) (t : Turn) (x : loop.Proxy B g) (q : Proxy) (change : Upstream → Upstream) (h : KeepsBut z t x (with_upstream z change q)) (shut : is_open (q.tables.exchange z) ≡ false) (small : unread q + bytes_received x.cache ≤ t.frame.bytes) where
+  module _ (z : ℕ) (t : Turn) (x : loop.Proxy B g) (q : Proxy) (change : Upstream → Upstream) (h : KeepsBut z t x (with_upstream z change q))
+      (shut : is_open (q.tables.exchange z) ≡ false) (small : unread q + bytes_received x.cache ≤ t.frame.bytes) where
     off_is : (y : ℕ) → nat_eq y z ≡ false → (with_upstream z change q).upstream y ≡ q.upstream y
     off_is y off = rw off refl
 
@@ -104,7 +105,8 @@ module _ {B : Type 0} {g : Ghosts B} where
     ]
 
     cache : HasCache t.frame x q
-    cache = cache_rows t.frame x (with_upstream z change q) q.upstream unopened (λ y v on is. h.cache.headed y v on (off_is y (open_off y on) ∙ is)) small h.cache
+    cache = cache_rows t.frame x (with_upstream z change q) q.upstream unopened (λ y v on is. h.cache.headed y v on (off_is y (open_off y on) ∙ is)) small
+        h.cache
 
     upstreams : HasUpstreamsBut z t x q (acts_in q.part)
     upstreams = record {
@@ -123,7 +125,14 @@ module _ {B : Type 0} {g : Ghosts B} where
       cache = cache;
       acts = h.acts;
       clients = record { rows = h.clients.rows; order = h.clients.order; listed = h.clients.listed; few = h.clients.few };
-      consumers = record { held = λ j c w. h.consumers.held j c (back j c w); started = λ j c w. h.consumers.started j c (back j c w); live = λ c is. (let w = h.consumers.live c is in (w.0, on w.0 c w.1)); alive = λ j c w. h.consumers.alive j c (back j c w); idle = h.consumers.idle };
+      consumers = record {
+        held = λ j c w. h.consumers.held j c (back j c w);
+        started = λ j c w. h.consumers.started j c (back j c w);
+        live =
+            λ c is. (let w = h.consumers.live c is in (w.0, on w.0 c w.1));
+        alive = λ j c w. h.consumers.alive j c (back j c w);
+        idle = h.consumers.idle;
+      };
       upstreams = upstreams;
       wire = h.wire;
       numbers = h.numbers;
@@ -172,7 +181,8 @@ module _ {B : Type 0} {g : Ghosts B} where
       ended_is b is = sym r.alike.ended ∙ (sym (ap has_ended_at r.is_u) ∙ is)
 
       -- its connection hasn't ended
-      pub unended_finished : has_ended_at (upstream_of x.upstreams z) ≡ false → Goes (HasFinished z t p (steps x.cache)) (faults_in x.cache) x (closed t.frame.limits z p)
+      pub unended_finished : has_ended_at (upstream_of x.upstreams z) ≡ false →
+          Goes (HasFinished z t p (steps x.cache)) (faults_in x.cache) x (closed t.frame.limits z p)
       unended_finished off =
           same_finished (ap (λ (o : Option Upstream). closes_if t.frame.limits z o p) r.is_v ∙ rw (ended_is false off) refl)
           (λ v here is ended. true_false (sym ended ∙ (ap (λ (w : Upstream). w.ended) (some_inj v r.v (sym is ∙ r.is_v)) ∙ ended_is false off)))
@@ -194,14 +204,18 @@ module _ {B : Type 0} {g : Ghosts B} where
         part_closes (Fails e) h = true_false (sym h)
 
         -- a part stands next
-        pub part_finished : look_at (upstream_of x.upstreams z) ≡ look.Part → Goes (HasFinished z t p (steps x.cache)) (faults_in x.cache) x (closed t.frame.limits z p)
+        pub part_finished : look_at (upstream_of x.upstreams z) ≡ look.Part →
+            Goes (HasFinished z t p (steps x.cache)) (faults_in x.cache) x (closed t.frame.limits z p)
         part_finished looks =
             let stands : is_part (origins.next_of r.u) ≡ true = looks_part (origins.next_of r.u) (looks_as look.Part looks) in
             same_finished (closed_is (origins.next_of r.u) refl ∙ part_closes (origins.next_of r.u) stands)
-            (λ v here is ends. ap (λ (w : Upstream). is_part (next_of w)) (some_inj v r.v (sym is ∙ r.is_v)) ∙ (ap is_part (next_is z t x p h on (origins.next_of r.u) refl) ∙ stands))
+            (λ v here is ends. ap (λ (w : Upstream). is_part (next_of w)) (some_inj v r.v (sym is ∙ r.is_v)) ∙
+            (ap is_part (next_is z t x p h on (origins.next_of r.u) refl) ∙ stands))
 
         -- an error does
-        pub fails_finished : look_at (upstream_of x.upstreams z) ≡ look.Fails → (x' : loop.Proxy B g) → Stepped t.frame x x' (event.Fault z) p → RestStays x x' → x'.moved ≡ true → steps x'.cache ≡ steps x.cache + 1 → Goes (HasFinished z t p (steps x.cache)) (faults_in x.cache) x' (closed t.frame.limits z p)
+        pub fails_finished : look_at (upstream_of x.upstreams z) ≡ look.Fails → (x' : loop.Proxy B g) → Stepped t.frame x x' (event.Fault z) p →
+            RestStays x x' → x'.moved ≡ true → steps x'.cache ≡ steps x.cache + 1 →
+            Goes (HasFinished z t p (steps x.cache)) (faults_in x.cache) x' (closed t.frame.limits z p)
         fails_finished looks x' st rest moved one =
             let e = looks_fails (origins.next_of r.u) (looks_as look.Fails looks) in
             let count : steps x'.cache ≡ steps x.cache + 1 = one in
@@ -220,7 +234,9 @@ module _ {B : Type 0} {g : Ghosts B} where
 
         -- WHAT CAME IS READ TO ITS END
 
-        module _ (looks : look_at (upstream_of x.upstreams z) ≡ look.Waits) (s s' : Upstreams) (after_take : origin.Upstream) (taken : TakenNone (origins.next_of r.u) r.u after_take) (takes : Becomes z (Some after_take) x.upstreams s) (took : ListsStay x.upstreams s) (finishes : Becomes z (Some (origins.finished after_take)) s s') (stays : ListsStay s s') where
+        module _ (looks : look_at (upstream_of x.upstreams z) ≡ look.Waits) (s s' : Upstreams) (after_take : origin.Upstream)
+            (taken : TakenNone (origins.next_of r.u) r.u after_take) (takes : Becomes z (Some after_take) x.upstreams s) (took : ListsStay x.upstreams s)
+            (finishes : Becomes z (Some (origins.finished after_take)) s s') (stays : ListsStay s s') where
           abbrev y : loop.Proxy B g
           y = record x { upstreams = s' }
 
@@ -243,12 +259,15 @@ module _ {B : Type 0} {g : Ghosts B} where
           has_head_if begun = headed_was z t x p h on (begun_waits 16384 r.u.reader r.u.input taken.reading taken.next begun)
 
           pub read_out : KeepsBut z t y (with_upstream z change p)
-          read_out = read_keeps z t x p h on last [] s' becomes lists (omega arith) (answer_at_end taken.reading, λ begun. has_head_if (begun_at_end taken.reading begun))
+          read_out = read_keeps z t x p h on last [] s' becomes lists (omega arith)
+              (answer_at_end taken.reading, λ begun. has_head_if (begun_at_end taken.reading begun))
 
           closes_as : closed t.frame.limits z p ≡ closes t.frame.limits z (Waits taken.reading) p
           closes_as = closed_is (Waits taken.reading) taken.next
 
-          module _ (ev : Event) (off : is_poll ev ≡ false) (ends_as : event_at_close z (ending taken.reading) ≡ ev) (x' : loop.Proxy B g) (stepped : (q : Proxy) → HasCache t.frame y q → Stepped t.frame y x' ev q) (rest : RestStays y x') (one : steps x'.cache ≡ steps x.cache + 1) where
+          module _ (ev : Event) (off : is_poll ev ≡ false) (ends_as : event_at_close z (ending taken.reading) ≡ ev) (x' : loop.Proxy B g)
+              (stepped : (q : Proxy) → HasCache t.frame y q → Stepped t.frame y x' ev q) (rest : RestStays y x')
+              (one : steps x'.cache ≡ steps x.cache + 1) where
             abbrev st : Stepped t.frame y x' ev (with_upstream z change p)
             st = stepped (with_upstream z change p) read_out.cache
 
@@ -272,7 +291,8 @@ module _ {B : Type 0} {g : Ghosts B} where
             unfolding with_entry
             commutes = refl
 
-            shut_here : is_open ((with_entry st.e (with_upstream z change p)).tables.exchange z) ≡ false → is_open ((with_entry st.e p).tables.exchange z) ≡ false
+            shut_here : is_open ((with_entry st.e (with_upstream z change p)).tables.exchange z) ≡ false →
+                is_open ((with_entry st.e p).tables.exchange z) ≡ false
             unfolding with_entry
             shut_here shut = shut
 
@@ -280,7 +300,9 @@ module _ {B : Type 0} {g : Ghosts B} where
             unfolding with_entry
             apart = let a = apart_step z t y x' (with_upstream z change p) ev off st in record { rows = λ w other. refl; opens = a.opens }
 
-            pub close_goes : KeepsBut z t x' (with_entry st.e (with_upstream z change p)) → is_open ((with_entry st.e (with_upstream z change p)).tables.exchange z) ≡ false → Goes (HasFinished z t p (steps x.cache)) (faults_in x.cache) x' (closed t.frame.limits z p)
+            pub close_goes : KeepsBut z t x' (with_entry st.e (with_upstream z change p)) →
+                is_open ((with_entry st.e (with_upstream z change p)).tables.exchange z) ≡ false →
+                Goes (HasFinished z t p (steps x.cache)) (faults_in x.cache) x' (closed t.frame.limits z p)
             close_goes kept shut =
                 let count : steps x'.cache ≡ steps x.cache + 1 = one in
                 record {
@@ -299,22 +321,29 @@ module _ {B : Type 0} {g : Ghosts B} where
                 }
 
           -- it was cut off
-          pub cut_finished : is_ok (ending after_take.reader) ≡ false → (x' : loop.Proxy B g) → ((q : Proxy) → HasCache t.frame y q → Stepped t.frame y x' (event.Fault z) q) → RestStays y x' → x'.moved ≡ true → steps x'.cache ≡ steps x.cache + 1 → Goes (HasFinished z t p (steps x.cache)) (faults_in x.cache) x' (closed t.frame.limits z p)
+          pub cut_finished : is_ok (ending after_take.reader) ≡ false → (x' : loop.Proxy B g) →
+              ((q : Proxy) → HasCache t.frame y q → Stepped t.frame y x' (event.Fault z) q) → RestStays y x' → x'.moved ≡ true →
+              steps x'.cache ≡ steps x.cache + 1 → Goes (HasFinished z t p (steps x.cache)) (faults_in x.cache) x' (closed t.frame.limits z p)
           cut_finished cut x' stepped rest moved one =
               let st = stepped (with_upstream z change p) read_out.cache in
-              close_goes (event.Fault z) refl (fails_so z (ending taken.reading) (sym (ap (λ (u : origin.Upstream). is_ok (ending u.reader)) taken.now) ∙ cut)) x' stepped rest one
+              close_goes (event.Fault z) refl
+              (fails_so z (ending taken.reading) (sym (ap (λ (u : origin.Upstream). is_ok (ending u.reader)) taken.now) ∙ cut)) x' stepped rest one
               (fault_but z t y x' (with_upstream z change p) read_out st rest moved one) (fault_shuts z t y x' (with_upstream z change p) st)
 
           -- it is whole
-          whole_shuts : is_ok (ending taken.reading) ≡ true → (x' : loop.Proxy B g) (st : Stepped t.frame y x' (event.End z) (with_upstream z change p)) → is_open ((with_entry st.e (with_upstream z change p)).tables.exchange z) ≡ false
+          whole_shuts : is_ok (ending taken.reading) ≡ true → (x' : loop.Proxy B g) (st : Stepped t.frame y x' (event.End z) (with_upstream z change p)) →
+              is_open ((with_entry st.e (with_upstream z change p)).tables.exchange z) ≡ false
           unfolding with_entry
           whole_shuts whole x' st = by_row (p.tables.exchange z) refl on (has_head_if (begun_ending taken.reading whole))
             where
-              by_row : (o : Option Exchange) → p.tables.exchange z ≡ o → is_open o ≡ true → has_head o ≡ true → is_open ((after p.tables st.e).exchange z) ≡ false
+              by_row : (o : Option Exchange) → p.tables.exchange z ≡ o → is_open o ≡ true → has_head o ≡ true →
+                  is_open ((after p.tables st.e).exchange z) ≡ false
               by_row None row runs headed = true_false (sym runs)
               by_row (Some w) row runs headed = accepted.end_closes t.frame.limits p.tables st.e st.is_owed z w row runs st.event_is headed
 
-          pub whole_finished : is_ok (ending after_take.reader) ≡ true → (x' : loop.Proxy B g) → ((q : Proxy) → HasCache t.frame y q → Stepped t.frame y x' (event.End z) q) → RestStays y x' → x'.moved ≡ true → steps x'.cache ≡ steps x.cache + 1 → Goes (HasFinished z t p (steps x.cache)) (faults_in x.cache) x' (closed t.frame.limits z p)
+          pub whole_finished : is_ok (ending after_take.reader) ≡ true → (x' : loop.Proxy B g) →
+              ((q : Proxy) → HasCache t.frame y q → Stepped t.frame y x' (event.End z) q) → RestStays y x' → x'.moved ≡ true →
+              steps x'.cache ≡ steps x.cache + 1 → Goes (HasFinished z t p (steps x.cache)) (faults_in x.cache) x' (closed t.frame.limits z p)
           whole_finished whole x' stepped rest moved one =
               let st = stepped (with_upstream z change p) read_out.cache in
               let ok : is_ok (ending taken.reading) ≡ true = sym (ap (λ (u : origin.Upstream). is_ok (ending u.reader)) taken.now) ∙ whole in

@@ -20,13 +20,15 @@ use Rattle.hc_state.proofs.LeftRows.{all_passing}
 
 all_append : (test : ℕ → Bool) (xs ys : List ℕ) → list_all test xs ≡ true → list_all test ys ≡ true → list_all test (xs ++ ys) ≡ true
 all_append test [] ys a b = b
-all_append test (x ∷ xs) ys a b = both_hold (test x) (list_all test (xs ++ ys)) (and_left (test x) (list_all test xs) a) (all_append test xs ys (and_right (test x) (list_all test xs) a) b)
+all_append test (x ∷ xs) ys a b =
+    both_hold (test x) (list_all test (xs ++ ys)) (and_left (test x) (list_all test xs) a) (all_append test xs ys (and_right (test x) (list_all test xs) a) b)
 
 pub all_reversed : (test : ℕ → Bool) (xs : List ℕ) → list_all test xs ≡ true → list_all test (reverse xs) ≡ true
 all_reversed test [] a = refl
 all_reversed test (x ∷ xs) a =
     ap (list_all test) (reverse-append (x ∷ []) xs)
-    ∙ all_append test (reverse xs) (x ∷ []) (all_reversed test xs (and_right (test x) (list_all test xs) a)) (both_hold (test x) true (and_left (test x) (list_all test xs) a) refl)
+    ∙ all_append test (reverse xs) (x ∷ []) (all_reversed test xs (and_right (test x) (list_all test xs) a))
+    (both_hold (test x) true (and_left (test x) (list_all test xs) a) refl)
 
 -- SMALL TESTS
 
@@ -48,7 +50,8 @@ abbrev reads_of : Stage → Bool
 reads_of (Open reads ended) = reads
 reads_of _ = false
 
-module _ {B : Type 0} {g : Ghosts B} (f : Frame) (x : loop.Proxy B g) (p : Proxy) (log : Log) (r : Rests f x p log) (apart : AreApart log.takers) (call : Called) (reported : call.standings ≡ standings_in log) where
+module _ {B : Type 0} {g : Ghosts B} (f : Frame) (x : loop.Proxy B g) (p : Proxy) (log : Log) (r : Rests f x p log) (apart : AreApart log.takers)
+    (call : Called) (reported : call.standings ≡ standings_in log) where
   -- WHO STANDS
 
   record IsOfClient (c : Taker) : Type 0 where
@@ -101,7 +104,8 @@ module _ {B : Type 0} {g : Ghosts B} (f : Frame) (x : loop.Proxy B g) (p : Proxy
   no_close b (inl is) = is
   no_close b (inr never) = absurd (let no : false ≡ true = never in cc)
 
-  exchange_there : (c : Taker) (y : ℕ) (u : origin.Upstream) → stage_in log.takers c.k ≡ Open c.reads c.ended → upstream_of x.upstreams y ≡ Some u → u.k ≡ c.k → IsOfExchange c
+  exchange_there : (c : Taker) (y : ℕ) (u : origin.Upstream) → stage_in log.takers c.k ≡ Open c.reads c.ended → upstream_of x.upstreams y ≡ Some u →
+      u.k ≡ c.k → IsOfExchange c
   exchange_there c y u stage at number = by_row (upstream_of x.upstreams y) (p.upstream y) at refl (ups.rows y live within)
     where
       live : is_open (p.tables.exchange y) ≡ true
@@ -113,7 +117,8 @@ module _ {B : Type 0} {g : Ghosts B} (f : Frame) (x : loop.Proxy B g) (p : Proxy
       whose_it : exchange_of log.dialled c.k ≡ Some y
       whose_it = subst (λ n. exchange_of log.dialled n ≡ Some y) number (ups.names y u.k (ups.numbers y u at))
 
-      by_row : (o : Option origin.Upstream) (s : Option Upstream) → o ≡ Some u → p.upstream y ≡ s → IsUpstreamAt (taken_at (resting_call log call)) o s → IsOfExchange c
+      by_row : (o : Option origin.Upstream) (s : Option Upstream) → o ≡ Some u → p.upstream y ≡ s → IsUpstreamAt (taken_at (resting_call log call)) o s →
+          IsOfExchange c
       by_row None s is row_is there = absurd (let never : None ≡ Some u = is in cc)
       by_row (Some w) None is row_is there = absurd there
       by_row (Some w) (Some row) is row_is there = record {
@@ -127,9 +132,11 @@ module _ {B : Type 0} {g : Ghosts B} (f : Frame) (x : loop.Proxy B g) (p : Proxy
         row_is = row_is;
         is =
             let same : w ≡ u = some_is w u is in
-            let taken : taken_at (resting_call log call) w.k ≡ taken_at call c.k = ap (λ (v : origin.Upstream). taken_at (resting_call log call) v.k) same ∙ (ap (taken_at (resting_call log call)) number ∙ taken_same c.k) in
+            let taken : taken_at (resting_call log call) w.k ≡ taken_at call c.k =
+            ap (λ (v : origin.Upstream). taken_at (resting_call log call) v.k) same ∙ (ap (taken_at (resting_call log call)) number ∙ taken_same c.k) in
             subst (λ (v : origin.Upstream). IsUpstream (taken_at call c.k) v row) same (subst (λ n. IsUpstream n w row) taken there);
-        reads = let open_now = r.wire.upstreams y u at in reading_is c u.reading open_now.0 stage (subst (λ n. stage_in log.takers n ≡ Open u.reading open_now.0) number open_now.1);
+        reads = let open_now = r.wire.upstreams y u at in
+            reading_is c u.reading open_now.0 stage (subst (λ n. stage_in log.takers n ≡ Open u.reading open_now.0) number open_now.1);
       }
 
   nobody_closed : (k : ℕ) → Contains x.closed.items k → ⊥
@@ -145,7 +152,8 @@ module _ {B : Type 0} {g : Ghosts B} (f : Frame) (x : loop.Proxy B g) (p : Proxy
       stage : stage_in log.takers c.k ≡ Open c.reads c.ended
       stage = taker_stage c.k c log.takers found live
 
-      by_who : IsSome (client_of x.clients c.k) ⊎ ((y : ℕ) × (u : origin.Upstream) × (upstream_of x.upstreams y ≡ Some u) × (u.k ≡ c.k)) ⊎ Contains x.closed.items c.k → IsOfClient c ⊎ IsOfExchange c
+      by_who : IsSome (client_of x.clients c.k) ⊎ ((y : ℕ) × (u : origin.Upstream) × (upstream_of x.upstreams y ≡ Some u) × (u.k ≡ c.k)) ⊎ Contains
+          x.closed.items c.k → IsOfClient c ⊎ IsOfExchange c
       by_who (inl some) = inl (client_there c stage some)
       by_who (inr (inl (y, u, at, number))) = inr (exchange_there c y u stage at number)
       by_who (inr (inr among)) = absurd (nobody_closed c.k among)
@@ -167,7 +175,8 @@ module _ {B : Type 0} {g : Ghosts B} (f : Frame) (x : loop.Proxy B g) (p : Proxy
   client_taken : (c : Taker) → find (is_numbered c.k) log.takers ≡ Some c → c.live ≡ true → taken_at call c.k ≡ length (sent_in log.takers c.k)
   client_taken c found live = taken_found log call reported apart c.k c found live ∙ sym (ap length (sent_found c.k c log.takers found))
 
-  lacks_nothing : (c : Taker) (found : find (is_numbered c.k) log.takers ≡ Some c) (live : c.live ≡ true) (w : IsOfClient c) → nat_eq (length w.w.unsent) 0 ≡ not (has_unsent call c.k w.row)
+  lacks_nothing : (c : Taker) (found : find (is_numbered c.k) log.takers ≡ Some c) (live : c.live ≡ true) (w : IsOfClient c) →
+      nat_eq (length w.w.unsent) 0 ≡ not (has_unsent call c.k w.row)
   lacks_nothing c found live w =
       all_taken (length (sent_in log.takers c.k)) w.w w.row w.rests.is_client
       ∙ ap (λ n. not (nat_lt n (length w.row.owed))) (sym (client_taken c found live))
@@ -179,7 +188,8 @@ module _ {B : Type 0} {g : Ghosts B} (f : Frame) (x : loop.Proxy B g) (p : Proxy
       by_who (inl w) =
           ap (may_stand call p c.k) (client_whose c w)
           ∙ may_client w.row.gone w.row.closing (has_unsent call c.k w.row) w.rests.is_client.here
-          (ap (λ b. b && not (has_unsent call c.k w.row)) (sym w.rests.is_client.closing) ∙ (ap (λ b. w.w.closing && b) (sym (lacks_nothing c found live w)) ∙ w.rests.stays))
+          (ap (λ b. b && not (has_unsent call c.k w.row)) (sym w.rests.is_client.closing) ∙
+          (ap (λ b. w.w.closing && b) (sym (lacks_nothing c found live w)) ∙ w.rests.stays))
       by_who (inr w) = ap (may_stand call p c.k) (exchange_whose c w) ∙ w.live
 
   -- WHO IS READ
@@ -193,7 +203,8 @@ module _ {B : Type 0} {g : Ghosts B} (f : Frame) (x : loop.Proxy B g) (p : Proxy
           ∙ (ap (λ b. is_same b (is_idle w.w)) w.reads ∙ w.rests.reads)
         where
           idle : is_idle w.w ≡ (is_none w.row.consumer && not (has_unsent call c.k w.row))
-          idle = ap (λ o. is_none o && nat_eq (length w.w.unsent) 0) w.rests.is_client.consumer ∙ ap (λ b. is_none w.row.consumer && b) (lacks_nothing c found live w)
+          idle = ap (λ o. is_none o && nat_eq (length w.w.unsent) 0) w.rests.is_client.consumer ∙
+              ap (λ b. is_none w.row.consumer && b) (lacks_nothing c found live w)
       by_who (inr w) =
           ap (is_same c.reads) (ap (is_read call p c.k) (exchange_whose c w))
           ∙ (ap (λ b. is_same b (is_wanted (p.tables.exchange w.y))) w.reads ∙ (r.resting w.y w.u w.at).reads)
@@ -207,7 +218,8 @@ module _ {B : Type 0} {g : Ghosts B} (f : Frame) (x : loop.Proxy B g) (p : Proxy
   short_first true b is = refl
   short_first false b is = absurd (let never : false ≡ true = is in cc)
 
-  one_sent : (c : Taker) → find (is_numbered c.k) log.takers ≡ Some c → c.live ≡ true → (is_at_end c.short (length log.calls) || not (nat_lt (length c.sent) (owed_to p (whose log.dialled p c.k)))) ≡ true
+  one_sent : (c : Taker) → find (is_numbered c.k) log.takers ≡ Some c → c.live ≡ true →
+      (is_at_end c.short (length log.calls) || not (nat_lt (length c.sent) (owed_to p (whose log.dialled p c.k)))) ≡ true
   one_sent c found live = by_who (who_stands c found live)
     where
       taken : taken_at call c.k ≡ length c.sent
@@ -219,13 +231,15 @@ module _ {B : Type 0} {g : Ghosts B} (f : Frame) (x : loop.Proxy B g) (p : Proxy
       empty_length : {A : Type 0} (xs : List A) → xs ≡ [] → length xs ≡ 0
       empty_length xs is = ap length is
 
-      client_by : (w : IsOfClient c) → (w.w.unsent ≡ []) ⊎ (is_short log c.k ≡ true) → (is_at_end c.short (length log.calls) || not (nat_lt (length c.sent) (length w.row.owed))) ≡ true
+      client_by : (w : IsOfClient c) → (w.w.unsent ≡ []) ⊎ (is_short log c.k ≡ true) →
+          (is_at_end c.short (length log.calls) || not (nat_lt (length c.sent) (length w.row.owed))) ≡ true
       client_by w (inr is) = short_first (is_at_end c.short (length log.calls)) _ (short_is c found is)
       client_by w (inl none) =
           none_lacks (is_at_end c.short (length log.calls)) true (length w.w.unsent) (length c.sent) (length w.row.owed) (empty_length w.w.unsent none)
           (lacks_nothing c found live w ∙ ap (λ n. not (nat_lt n (length w.row.owed))) taken)
 
-      origin_by : (w : IsOfExchange c) → (w.u.unsent ≡ []) ⊎ (is_short log w.u.k ≡ true) → (is_at_end c.short (length log.calls) || not (nat_lt (length c.sent) (length w.row.owed))) ≡ true
+      origin_by : (w : IsOfExchange c) → (w.u.unsent ≡ []) ⊎ (is_short log w.u.k ≡ true) →
+          (is_at_end c.short (length log.calls) || not (nat_lt (length c.sent) (length w.row.owed))) ≡ true
       origin_by w (inr is) = short_first (is_at_end c.short (length log.calls)) _ (short_is c found (subst (λ n. is_short log n ≡ true) w.number is))
       origin_by w (inl none) =
           none_lacks (is_at_end c.short (length log.calls)) true (length w.u.unsent) (length c.sent) (length w.row.owed) (empty_length w.u.unsent none)
@@ -234,9 +248,12 @@ module _ {B : Type 0} {g : Ghosts B} (f : Frame) (x : loop.Proxy B g) (p : Proxy
       owed_row : (w : IsOfExchange c) → owed_to p (whose log.dialled p c.k) ≡ length w.row.owed
       owed_row w = ap (owed_to p) (exchange_whose c w) ∙ ap owed_by w.row_is
 
-      by_who : IsOfClient c ⊎ IsOfExchange c → (is_at_end c.short (length log.calls) || not (nat_lt (length c.sent) (owed_to p (whose log.dialled p c.k)))) ≡ true
-      by_who (inl w) = ap (λ n. is_at_end c.short (length log.calls) || not (nat_lt (length c.sent) n)) (ap (owed_to p) (client_whose c w)) ∙ client_by w w.rests.lacks
-      by_who (inr w) = ap (λ n. is_at_end c.short (length log.calls) || not (nat_lt (length c.sent) n)) (owed_row w) ∙ origin_by w (r.resting w.y w.u w.at).lacks
+      by_who : IsOfClient c ⊎ IsOfExchange c →
+          (is_at_end c.short (length log.calls) || not (nat_lt (length c.sent) (owed_to p (whose log.dialled p c.k)))) ≡ true
+      by_who (inl w) = ap (λ n. is_at_end c.short (length log.calls) || not (nat_lt (length c.sent) n)) (ap (owed_to p) (client_whose c w)) ∙
+          client_by w w.rests.lacks
+      by_who (inr w) = ap (λ n. is_at_end c.short (length log.calls) || not (nat_lt (length c.sent) n)) (owed_row w) ∙
+          origin_by w (r.resting w.y w.u w.at).lacks
 
   -- WHO STANDS, of those that are to
 
@@ -262,14 +279,16 @@ module _ {B : Type 0} {g : Ghosts B} (f : Frame) (x : loop.Proxy B g) (p : Proxy
   pub client_there_stands : (k : ℕ) → client_stands call p k (p.client k) ≡ true
   client_there_stands k = by_row (client_of x.clients k) (p.client k) refl (r.clients k)
     where
-      by_end : (row : Client) → (row.gone ≡ true) ⊎ ((row.closing ≡ true) × (length row.owed ≤ length (sent_in log.takers k))) → (row.gone || row.closing || stands call k) ≡ true
+      by_end : (row : Client) → (row.gone ≡ true) ⊎ ((row.closing ≡ true) × (length row.owed ≤ length (sent_in log.takers k))) →
+          (row.gone || row.closing || stands call k) ≡ true
       by_end row (inl gone) = first_of row.gone row.closing (stands call k) gone
       by_end row (inr (closing, all)) = second_of row.gone row.closing (stands call k) closing
 
       by_row : (o : Option peer.Client) (s : Option Client) → client_of x.clients k ≡ o → IsRestingAt log k o s → client_stands call p k s ≡ true
       by_row o None at is = refl
       by_row None (Some row) at is = by_end row is
-      by_row (Some w) (Some row) at is = third_of row.gone row.closing (stands call k) (let open_now = r.wire.clients k w at in open_stands k w.reading open_now.0 open_now.1)
+      by_row (Some w) (Some row) at is =
+          third_of row.gone row.closing (stands call k) (let open_now = r.wire.clients k w at in open_stands k w.reading open_now.0 open_now.1)
 
   -- whose connection is none of these doesn't stand
   pub nobody_stands : (k : ℕ) → client_of x.clients k ≡ None → IsSome (p.client k) → stands call k ≡ false
@@ -292,10 +311,12 @@ module _ {B : Type 0} {g : Ghosts B} (f : Frame) (x : loop.Proxy B g) (p : Proxy
   exchange_there_stands : (y : ℕ) → is_open (p.tables.exchange y) ≡ true → y ≤ p.tables.opened → exchange_stands call log.dialled y ≡ true
   exchange_there_stands y live within = by_row (upstream_of x.upstreams y) (p.upstream y) refl (ups.rows y live (subst (λ n. y ≤ n) (sym r.opened) within))
     where
-      by_row : (o : Option origin.Upstream) (s : Option Upstream) → upstream_of x.upstreams y ≡ o → IsUpstreamAt (taken_at (resting_call log call)) o s → exchange_stands call log.dialled y ≡ true
+      by_row : (o : Option origin.Upstream) (s : Option Upstream) → upstream_of x.upstreams y ≡ o → IsUpstreamAt (taken_at (resting_call log call)) o s →
+          exchange_stands call log.dialled y ≡ true
       by_row None s at is = absurd is
       by_row (Some u) None at is = absurd is
-      by_row (Some u) (Some row) at is = ap (number_stands call) (ups.numbers y u at) ∙ (let open_now = r.wire.upstreams y u at in open_stands u.k u.reading open_now.0 open_now.1)
+      by_row (Some u) (Some row) at is = ap (number_stands call) (ups.numbers y u at) ∙
+          (let open_now = r.wire.upstreams y u at in open_stands u.k u.reading open_now.0 open_now.1)
 
   -- THE CALL FITS
 
@@ -320,7 +341,8 @@ module _ {B : Type 0} {g : Ghosts B} (f : Frame) (x : loop.Proxy B g) (p : Proxy
 
   all_open : list_all (exchange_stands call log.dialled) (open_exchanges p.tables) ≡ true
   all_open = all_reversed (exchange_stands call log.dialled) (filter (λ y. is_open (p.tables.exchange y)) p.tables.openings)
-      (all_passing (exchange_stands call log.dialled) (λ y. is_open (p.tables.exchange y)) p.tables.openings (λ y live. exchange_there_stands y live (opened_within y live)))
+      (all_passing (exchange_stands call log.dialled) (λ y. is_open (p.tables.exchange y)) p.tables.openings
+      (λ y live. exchange_there_stands y live (opened_within y live)))
 
   pub fits_now : length call.bytes ≤ 16384 → call.wait ≡ waits f.limits p → Fits f.limits log.dialled p call
   fits_now few wait = record {
@@ -328,9 +350,11 @@ module _ {B : Type 0} {g : Ghosts B} (f : Frame) (x : loop.Proxy B g) (p : Proxy
     wait = wait;
     stands =
         ap (λ ks. stand_right call ks p) dialled_all
-        ∙ both_hold (list_all (is_right call log.dialled p) call.standings && list_all (λ k. client_stands call p k (p.client k)) p.accepted) (list_all (exchange_stands call log.dialled) (open_exchanges p.tables))
+        ∙ both_hold (list_all (is_right call log.dialled p) call.standings && list_all (λ k. client_stands call p k (p.client k)) p.accepted)
+        (list_all (exchange_stands call log.dialled) (open_exchanges p.tables))
         (both_hold (list_all (is_right call log.dialled p) call.standings) (list_all (λ k. client_stands call p k (p.client k)) p.accepted)
-        (standings_all log call reported apart (is_right call log.dialled p) one_right) (all_hold (λ k. client_stands call p k (p.client k)) p.accepted client_there_stands))
+        (standings_all log call reported apart (is_right call log.dialled p) one_right)
+        (all_hold (λ k. client_stands call p k (p.client k)) p.accepted client_there_stands))
         all_open;
     reads =
         ap (λ ks. reads_right call ks p) dialled_all

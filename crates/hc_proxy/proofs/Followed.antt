@@ -15,9 +15,11 @@ abbrev pub KeepsNumber : (Taker → Taker) → Type 0
 KeepsNumber change = (c : Taker) → (change c).k ≡ c.k
 
 abbrev FoundSo : (Taker → Taker) → ℕ → ℕ → List Taker → Type 0
-FoundSo change k j cs = find (is_numbered j) (changed_at k change cs) ≡ (if nat_eq k j then option_map change (find (is_numbered j) cs) else find (is_numbered j) cs)
+FoundSo change k j cs = find (is_numbered j)
+    (changed_at k change cs) ≡ (if nat_eq k j then option_map change (find (is_numbered j) cs) else find (is_numbered j) cs)
 
-found_first : (change : Taker → Taker) → KeepsNumber change → (k j : ℕ) (c : Taker) (cs : List Taker) → FoundSo change k j cs → (a b : Bool) → nat_eq c.k k ≡ a → nat_eq c.k j ≡ b → FoundSo change k j (c ∷ cs)
+found_first : (change : Taker → Taker) → KeepsNumber change → (k j : ℕ) (c : Taker) (cs : List Taker) → FoundSo change k j cs → (a b : Bool) →
+    nat_eq c.k k ≡ a → nat_eq c.k j ≡ b → FoundSo change k j (c ∷ cs)
 found_first change keeps k j c cs rest true true x y =
     let same : nat_eq k j ≡ true = grind (arith, nat_tests) in
     let moved : nat_eq (change c).k j ≡ true = ap (λ n. nat_eq n j) (keeps c) ∙ y in
@@ -41,14 +43,16 @@ found change keeps k j (c ∷ cs) = found_first change keeps k j c cs (found cha
 
 -- NUMBERS
 
-still_none : (change : Taker → Taker) → KeepsNumber change → (k j : ℕ) (cs : List Taker) → find (is_numbered j) cs ≡ None → find (is_numbered j) (changed_at k change cs) ≡ None
+still_none : (change : Taker → Taker) → KeepsNumber change → (k j : ℕ) (cs : List Taker) → find (is_numbered j) cs ≡ None →
+    find (is_numbered j) (changed_at k change cs) ≡ None
 still_none change keeps k j cs none = found change keeps k j cs ∙ by_test (nat_eq k j)
   where
     by_test : (b : Bool) → (if b then option_map change (find (is_numbered j) cs) else find (is_numbered j) cs) ≡ None
     by_test true = ap (option_map change) none
     by_test false = none
 
-apart_first : (change : Taker → Taker) → KeepsNumber change → (k : ℕ) (c : Taker) (cs : List Taker) → AreApart (c ∷ cs) → AreApart (changed_at k change cs) → (b : Bool) → AreApart (if b then change c ∷ cs else c ∷ changed_at k change cs)
+apart_first : (change : Taker → Taker) → KeepsNumber change → (k : ℕ) (c : Taker) (cs : List Taker) → AreApart (c ∷ cs) →
+    AreApart (changed_at k change cs) → (b : Bool) → AreApart (if b then change c ∷ cs else c ∷ changed_at k change cs)
 apart_first change keeps k c cs apart rest true = (ap (λ n. find (is_numbered n) cs) (keeps c) ∙ apart.0, apart.1)
 apart_first change keeps k c cs apart rest false = (still_none change keeps k c.k cs apart.0, rest)
 
@@ -57,16 +61,20 @@ apart_changed change keeps k [] apart = tt
 apart_changed change keeps k (c ∷ cs) apart = apart_first change keeps k c cs apart (apart_changed change keeps k cs apart.1) (nat_eq c.k k)
 
 -- a new one stands last
-found_more : (j : ℕ) (new : Taker) (cs : List Taker) → find (is_numbered j) (cs ++ new ∷ []) ≡ option_or (find (is_numbered j) cs) (if nat_eq new.k j then Some new else None)
+found_more : (j : ℕ) (new : Taker) (cs : List Taker) →
+    find (is_numbered j) (cs ++ new ∷ []) ≡ option_or (find (is_numbered j) cs) (if nat_eq new.k j then Some new else None)
 found_more j new [] = refl
 found_more j new (c ∷ cs) = by_test (nat_eq c.k j) (found_more j new cs)
   where
-    by_test : (b : Bool) → find (is_numbered j) (cs ++ new ∷ []) ≡ option_or (find (is_numbered j) cs) (if nat_eq new.k j then Some new else None) → (if b then Some c else find (is_numbered j) (cs ++ new ∷ [])) ≡ option_or (if b then Some c else find (is_numbered j) cs) (if nat_eq new.k j then Some new else None)
+    by_test : (b : Bool) → find (is_numbered j) (cs ++ new ∷ []) ≡ option_or (find (is_numbered j) cs) (if nat_eq new.k j then Some new else None) →
+        (if b then Some c else find (is_numbered j) (cs ++ new ∷ [])) ≡ option_or (if b then Some c else find (is_numbered j) cs)
+        (if nat_eq new.k j then Some new else None)
     by_test true rest = refl
     by_test false rest = rest
 
 -- of a number that none has
-pub found_new : (k j : ℕ) (cs : List Taker) → find (is_numbered k) cs ≡ None → find (is_numbered j) (cs ++ fresh k ∷ []) ≡ (if nat_eq j k then Some (fresh k) else find (is_numbered j) cs)
+pub found_new : (k j : ℕ) (cs : List Taker) → find (is_numbered k) cs ≡ None →
+    find (is_numbered j) (cs ++ fresh k ∷ []) ≡ (if nat_eq j k then Some (fresh k) else find (is_numbered j) cs)
 found_new k j cs none = by_test (nat_eq j k) refl
   where
     by_test : (b : Bool) → nat_eq j k ≡ b → find (is_numbered j) (cs ++ fresh k ∷ []) ≡ (if b then Some (fresh k) else find (is_numbered j) cs)
@@ -83,7 +91,8 @@ found_new k j cs none = by_test (nat_eq j k) refl
         or_none None = refl
         or_none (Some c) = refl
 
-new_first : (k : ℕ) (c : Taker) (cs : List Taker) → AreApart (c ∷ cs) → (find (is_numbered k) cs ≡ None → AreApart (cs ++ fresh k ∷ [])) → (b : Bool) → nat_eq c.k k ≡ b → (if b then Some c else find (is_numbered k) cs) ≡ None → AreApart ((c ∷ cs) ++ fresh k ∷ [])
+new_first : (k : ℕ) (c : Taker) (cs : List Taker) → AreApart (c ∷ cs) → (find (is_numbered k) cs ≡ None → AreApart (cs ++ fresh k ∷ [])) → (b : Bool) →
+    nat_eq c.k k ≡ b → (if b then Some c else find (is_numbered k) cs) ≡ None → AreApart ((c ∷ cs) ++ fresh k ∷ [])
 new_first k c cs apart rest true is h = absurd (let never : Some c ≡ None = h in cc)
 new_first k c cs apart rest false is h = (found_new k c.k cs h ∙ rw is apart.0, rest h)
 
@@ -109,14 +118,16 @@ unseen_none k cs h = by_found (find (is_numbered k) cs) refl
 abbrev pub Restages : (Taker → Taker) → (Stage → Stage) → Type 0
 Restages change stage = ((c : Taker) → stage_of (change c) ≡ stage (stage_of c)) × (stage Unseen ≡ Unseen)
 
-pub stage_changed : (change : Taker → Taker) → KeepsNumber change → (stage : Stage → Stage) → Restages change stage → (k j : ℕ) (cs : List Taker) → stage_in (changed_at k change cs) j ≡ with_stage k (stage (stage_in cs k)) (stage_in cs) j
+pub stage_changed : (change : Taker → Taker) → KeepsNumber change → (stage : Stage → Stage) → Restages change stage → (k j : ℕ) (cs : List Taker) →
+    stage_in (changed_at k change cs) j ≡ with_stage k (stage (stage_in cs k)) (stage_in cs) j
 stage_changed change keeps stage does k j cs = ap stage_from (found change keeps k j cs) ∙ by_test (nat_eq k j) (nat_eq j k) refl refl
   where
     by_found : (o : Option Taker) → stage_from (option_map change o) ≡ stage (stage_from o)
     by_found None = sym does.1
     by_found (Some c) = does.0 c
 
-    by_test : (a b : Bool) → nat_eq k j ≡ a → nat_eq j k ≡ b → stage_from (if a then option_map change (find (is_numbered j) cs) else find (is_numbered j) cs) ≡ (if b then stage (stage_in cs k) else stage_in cs j)
+    by_test : (a b : Bool) → nat_eq k j ≡ a → nat_eq j k ≡ b →
+        stage_from (if a then option_map change (find (is_numbered j) cs) else find (is_numbered j) cs) ≡ (if b then stage (stage_in cs k) else stage_in cs j)
     by_test true true x y =
         let same : j ≡ k = grind (arith, nat_tests) in
         by_found (find (is_numbered j) cs) ∙ ap (λ n. stage (stage_in cs n)) same
@@ -132,7 +143,8 @@ stage_new k j cs none = ap stage_from (found_new k j cs none) ∙ by_test (nat_e
     by_test false = refl
 
 -- a change that sends nothing
-pub sent_changed : (change : Taker → Taker) → KeepsNumber change → ((c : Taker) → (change c).sent ≡ c.sent) → (k j : ℕ) (cs : List Taker) → sent_in (changed_at k change cs) j ≡ sent_in cs j
+pub sent_changed : (change : Taker → Taker) → KeepsNumber change → ((c : Taker) → (change c).sent ≡ c.sent) → (k j : ℕ) (cs : List Taker) → sent_in
+    (changed_at k change cs) j ≡ sent_in cs j
 sent_changed change keeps same k j cs = ap sent_from (found change keeps k j cs) ∙ by_test (nat_eq k j) (find (is_numbered j) cs)
   where
     by_test : (b : Bool) (o : Option Taker) → sent_from (if b then option_map change o else o) ≡ sent_from o
@@ -153,7 +165,8 @@ sent_new k j cs none = ap sent_from (found_new k j cs none) ∙ by_test (nat_eq 
 
 module _ (reported reported' : Option Log) (stages stages' : ℕ → Stage) (log : Log) (f : Follows reported stages log) where
   -- one connection is changed
-  changes : (change : Taker → Taker) → KeepsNumber change → (stage : Stage → Stage) → Restages change stage → (k : ℕ) (log' : Log) → log'.takers ≡ changed_at k change log.takers
+  changes : (change : Taker → Taker) → KeepsNumber change → (stage : Stage → Stage) → Restages change stage → (k : ℕ) (log' : Log) →
+      log'.takers ≡ changed_at k change log.takers
       → (reported' ≡ None) ⊎ (reported' ≡ Some log') → ((j : ℕ) → stages' j ≡ with_stage k (stage (stages k)) stages j) → Follows reported' stages' log'
   changes change keeps stage does k log' takers is stands = record {
     reported_is = is;
@@ -165,8 +178,11 @@ module _ (reported reported' : Option Log) (stages stages' : ℕ → Stage) (log
       by_test true j = ap stage (f.stands k)
       by_test false j = f.stands j
 
-  pub follows_closed : (k : ℕ) → Reports reported reported' (with_closed k) → ((j : ℕ) → stages' j ≡ with_stage k (closed_of (stages k)) stages j) → Follows reported' stages' (with_closed k log)
-  follows_closed k reports stands = changes shut (λ c. refl) closed_of (shuts, refl) k (with_closed k log) refl (reported_on reported reported' log (with_closed k) f.reported_is reports) stands
+  pub follows_closed : (k : ℕ) → Reports reported reported' (with_closed k) → ((j : ℕ) → stages' j ≡ with_stage k (closed_of (stages k)) stages j) →
+      Follows reported' stages' (with_closed k log)
+  follows_closed k reports stands =
+      changes shut (λ c. refl) closed_of (shuts, refl) k (with_closed k log) refl
+      (reported_on reported reported' log (with_closed k) f.reported_is reports) stands
     where
       by_live : (b reads ended : Bool) → Closed ≡ closed_of (if b then Open reads ended else Closed)
       by_live true reads ended = refl
@@ -175,8 +191,11 @@ module _ (reported reported' : Option Log) (stages stages' : ℕ → Stage) (log
       shuts : (c : Taker) → stage_of (shut c) ≡ closed_of (stage_of c)
       shuts c = by_live c.live c.reads c.ended
 
-  pub follows_reading : (k : ℕ) (on : Bool) → Reports reported reported' (with_reading k on) → ((j : ℕ) → stages' j ≡ with_stage k (reading_of on (stages k)) stages j) → Follows reported' stages' (with_reading k on log)
-  follows_reading k on reports stands = changes (reading on) (λ c. refl) (reading_of on) (reads_on, refl) k (with_reading k on log) refl (reported_on reported reported' log (with_reading k on) f.reported_is reports) stands
+  pub follows_reading : (k : ℕ) (on : Bool) → Reports reported reported' (with_reading k on) →
+      ((j : ℕ) → stages' j ≡ with_stage k (reading_of on (stages k)) stages j) → Follows reported' stages' (with_reading k on log)
+  follows_reading k on reports stands =
+      changes (reading on) (λ c. refl) (reading_of on) (reads_on, refl) k (with_reading k on log) refl
+      (reported_on reported reported' log (with_reading k on) f.reported_is reports) stands
     where
       by_live : (b reads ended : Bool) → (if b then Open on ended else Closed) ≡ reading_of on (if b then Open reads ended else Closed)
       by_live true reads ended = refl
@@ -185,9 +204,11 @@ module _ (reported reported' : Option Log) (stages stages' : ℕ → Stage) (log
       reads_on : (c : Taker) → stage_of (reading on c) ≡ reading_of on (stage_of c)
       reads_on c = by_live c.live c.reads c.ended
 
-  pub follows_sent : (k : ℕ) (bytes : List ℕ) (short : Bool) → Reports reported reported' (with_sent k bytes short) → ((j : ℕ) → stages' j ≡ stages j) → Follows reported' stages' (with_sent k bytes short log)
+  pub follows_sent : (k : ℕ) (bytes : List ℕ) (short : Bool) → Reports reported reported' (with_sent k bytes short) → ((j : ℕ) → stages' j ≡ stages j) →
+      Follows reported' stages' (with_sent k bytes short log)
   follows_sent k bytes short reports stands =
-      changes (taking bytes short (length log.calls)) (λ c. refl) (λ s. s) (λ c. refl, refl) k (with_sent k bytes short log) refl (reported_on reported reported' log (with_sent k bytes short) f.reported_is reports)
+      changes (taking bytes short (length log.calls)) (λ c. refl) (λ s. s) (λ c. refl, refl) k (with_sent k bytes short log) refl
+      (reported_on reported reported' log (with_sent k bytes short) f.reported_is reports)
       (λ j. stands j ∙ by_test (nat_eq j k) j refl)
     where
       by_test : (b : Bool) (j : ℕ) → nat_eq j k ≡ b → stages j ≡ (if b then stages k else stages j)
@@ -195,7 +216,8 @@ module _ (reported reported' : Option Log) (stages stages' : ℕ → Stage) (log
       by_test false j is = refl
 
   -- a new one
-  news : (k : ℕ) (log' : Log) → stages k ≡ Unseen → log'.takers ≡ log.takers ++ fresh k ∷ [] → (reported' ≡ None) ⊎ (reported' ≡ Some log') → ((j : ℕ) → stages' j ≡ with_stage k Fresh stages j) → Follows reported' stages' log'
+  news : (k : ℕ) (log' : Log) → stages k ≡ Unseen → log'.takers ≡ log.takers ++ fresh k ∷ [] → (reported' ≡ None) ⊎ (reported' ≡ Some log') →
+      ((j : ℕ) → stages' j ≡ with_stage k Fresh stages j) → Follows reported' stages' log'
   news k log' new takers is stands = record {
     reported_is = is;
     stands = λ j. stands j ∙ (by_test (nat_eq j k) j ∙ (sym (stage_new k j log.takers none) ∙ sym (ap (λ cs. stage_in cs j) takers)));
@@ -209,21 +231,28 @@ module _ (reported reported' : Option Log) (stages stages' : ℕ → Stage) (log
       by_test true j = refl
       by_test false j = f.stands j
 
-  pub follows_dialled : (k : ℕ) → stages k ≡ Unseen → Reports reported reported' (with_dialled k) → ((j : ℕ) → stages' j ≡ with_stage k Fresh stages j) → Follows reported' stages' (with_dialled k log)
+  pub follows_dialled : (k : ℕ) → stages k ≡ Unseen → Reports reported reported' (with_dialled k) → ((j : ℕ) → stages' j ≡ with_stage k Fresh stages j) →
+      Follows reported' stages' (with_dialled k log)
   follows_dialled k new reports stands = news k (with_dialled k log) new refl (reported_on reported reported' log (with_dialled k) f.reported_is reports) stands
 
-  same_takers : (log' : Log) → log'.takers ≡ log.takers → (reported' ≡ None) ⊎ (reported' ≡ Some log') → ((j : ℕ) → stages' j ≡ stages j) → Follows reported' stages' log'
+  same_takers : (log' : Log) → log'.takers ≡ log.takers → (reported' ≡ None) ⊎ (reported' ≡ Some log') → ((j : ℕ) → stages' j ≡ stages j) →
+      Follows reported' stages' log'
   same_takers log' takers is stands = record {
     reported_is = is;
     stands = λ j. stands j ∙ (f.stands j ∙ sym (ap (λ cs. stage_in cs j) takers));
     apart = subst AreApart (sym takers) f.apart;
   }
 
-  pub follows_call : (wait : Bool) (moment : ℕ) (what : WireEvent) (bytes : List ℕ) → IsOfOpen what stages → Reports reported reported' (with_call wait moment what bytes) → ((j : ℕ) → stages' j ≡ stages_after what stages j) → Follows reported' stages' (with_call wait moment what bytes log)
-  follows_call wait moment (event.Accepted k) bytes new reports stands = news k (with_call wait moment (event.Accepted k) bytes log) new refl (reported_on reported reported' log _ f.reported_is reports) stands
-  follows_call wait moment (event.Got k n) bytes of_open reports stands = same_takers (with_call wait moment (event.Got k n) bytes log) refl (reported_on reported reported' log _ f.reported_is reports) stands
+  pub follows_call : (wait : Bool) (moment : ℕ) (what : WireEvent) (bytes : List ℕ) → IsOfOpen what stages →
+      Reports reported reported' (with_call wait moment what bytes) → ((j : ℕ) → stages' j ≡ stages_after what stages j) →
+      Follows reported' stages' (with_call wait moment what bytes log)
+  follows_call wait moment (event.Accepted k) bytes new reports stands =
+      news k (with_call wait moment (event.Accepted k) bytes log) new refl (reported_on reported reported' log _ f.reported_is reports) stands
+  follows_call wait moment (event.Got k n) bytes of_open reports stands =
+      same_takers (with_call wait moment (event.Got k n) bytes log) refl (reported_on reported reported' log _ f.reported_is reports) stands
   follows_call wait moment (event.Ended k) bytes of_open reports stands =
-      changes over (λ c. refl) ended_of (ends, refl) k (with_call wait moment (event.Ended k) bytes log) refl (reported_on reported reported' log _ f.reported_is reports) stands
+      changes over (λ c. refl) ended_of (ends, refl) k (with_call wait moment (event.Ended k) bytes log) refl
+      (reported_on reported reported' log _ f.reported_is reports) stands
     where
       by_live : (b reads ended : Bool) → (if b then Open reads true else Closed) ≡ ended_of (if b then Open reads ended else Closed)
       by_live true reads ended = refl
@@ -231,6 +260,9 @@ module _ (reported reported' : Option Log) (stages stages' : ℕ → Stage) (log
 
       ends : (c : Taker) → stage_of (over c) ≡ ended_of (stage_of c)
       ends c = by_live c.live c.reads c.ended
-  follows_call wait moment (event.Broke k) bytes of_open reports stands = same_takers (with_call wait moment (event.Broke k) bytes log) refl (reported_on reported reported' log _ f.reported_is reports) stands
-  follows_call wait moment (event.Room k) bytes of_open reports stands = same_takers (with_call wait moment (event.Room k) bytes log) refl (reported_on reported reported' log _ f.reported_is reports) stands
-  follows_call wait moment event.Quiet bytes of_open reports stands = same_takers (with_call wait moment event.Quiet bytes log) refl (reported_on reported reported' log _ f.reported_is reports) stands
+  follows_call wait moment (event.Broke k) bytes of_open reports stands =
+      same_takers (with_call wait moment (event.Broke k) bytes log) refl (reported_on reported reported' log _ f.reported_is reports) stands
+  follows_call wait moment (event.Room k) bytes of_open reports stands =
+      same_takers (with_call wait moment (event.Room k) bytes log) refl (reported_on reported reported' log _ f.reported_is reports) stands
+  follows_call wait moment event.Quiet bytes of_open reports stands =
+      same_takers (with_call wait moment event.Quiet bytes log) refl (reported_on reported reported' log _ f.reported_is reports) stands

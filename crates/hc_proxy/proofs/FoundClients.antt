@@ -164,7 +164,8 @@ unreported_found : (acts : List Act) (p : Proxy) → consumer_acts acts ≡ [] �
 unreported_found [] p none = tt
 unreported_found (a ∷ acts) p none = by_reported (recipient a) refl (unreported_found acts (carried_out a p)) none
   where
-    by_reported : (o : Option ℕ) → recipient a ≡ o → (consumer_acts acts ≡ [] → AreFound acts (carried_out a p)) → (if is_some o then a ∷ consumer_acts acts else consumer_acts acts) ≡ [] → AreFound (a ∷ acts) p
+    by_reported : (o : Option ℕ) → recipient a ≡ o → (consumer_acts acts ≡ [] → AreFound acts (carried_out a p)) →
+        (if is_some o then a ∷ consumer_acts acts else consumer_acts acts) ≡ [] → AreFound (a ∷ acts) p
     by_reported None at later rest = (λ c sent. absurd (let never : None ≡ Some c = sym at ∙ sent_reported a c sent in cc), later rest)
     by_reported (Some d) at later rest = absurd (let never : (a ∷ consumer_acts acts) ≡ [] = rest in cc)
 
@@ -179,8 +180,12 @@ one_found (a ∷ acts) p k c is w = by_reported (recipient a) refl (one_found ac
     some_is : (d : ℕ) → recipient a ≡ Some c → recipient a ≡ Some d → c ≡ d
     some_is d x y = let same : Some c ≡ Some d = sym x ∙ y in cc
 
-    by_reported : (o : Option ℕ) → recipient a ≡ o → (IsOneTo c (consumer_acts acts) → IsHolder (carried_out a p) k c → AreFound acts (carried_out a p)) → IsOneTo c (if is_some o then a ∷ consumer_acts acts else consumer_acts acts) → AreFound (a ∷ acts) p
-    by_reported None at later rest = (λ d sent. absurd (let never : None ≡ Some d = sym at ∙ sent_reported a d sent in cc), later rest (holder_alike p (carried_out a p) (unsent_same a p (none_sent a at (sent_to a) refl)) k c w))
+    by_reported : (o : Option ℕ) → recipient a ≡ o → (IsOneTo c (consumer_acts acts) → IsHolder (carried_out a p) k c → AreFound acts (carried_out a p)) →
+        IsOneTo c (if is_some o then a ∷ consumer_acts acts else consumer_acts acts) → AreFound (a ∷ acts) p
+    by_reported None at later rest = (
+      λ d sent. absurd (let never : None ≡ Some d = sym at ∙ sent_reported a d sent in cc),
+      later rest (holder_alike p (carried_out a p) (unsent_same a p (none_sent a at (sent_to a) refl)) k c w),
+    )
     by_reported (Some d) at later rest =
         let first = one_first c a (consumer_acts acts) rest in
         (λ b sent. (k, subst (IsHolder p k) (some_is b first.0 (sent_reported a b sent)) w), unreported_found acts (carried_out a p) first.1)

@@ -66,7 +66,8 @@ no_consumers = record {
 }
 
 module _ {B : Type 0} {g : Ghosts B} (f : Frame) (x : loop.Proxy B g) (log : Log) (u : IsUnused f x.cache) (fresh : IsFresh log)
-    (now : x.now ≡ 0) (starts : x.starts ≡ 0) (moved : x.moved ≡ false) (text : text_of x.record ≡ []) (last : last_of x.record ≡ 0) (acts : act_list x.acts ≡ [])
+    (now : x.now ≡ 0) (starts : x.starts ≡ 0) (moved : x.moved ≡ false) (text : text_of x.record ≡ []) (last : last_of x.record ≡ 0)
+    (acts : act_list x.acts ≡ [])
     (clients : (k : ℕ) → client_of x.clients k ≡ None) (upstreams : (y : ℕ) → upstream_of x.upstreams y ≡ None) (closed : x.closed.items ≡ []) where
   no_row : {A : Type 0} (y : ℕ) (v : origin.Upstream) → upstream_of x.upstreams y ≡ Some v → A
   no_row y v is = none_some v (sym (upstreams y) ∙ is)
@@ -84,7 +85,8 @@ module _ {B : Type 0} {g : Ghosts B} (f : Frame) (x : loop.Proxy B g) (log : Log
     limits = u.limits;
     now = now;
     early = omega arith;
-    last = (let a : last_moment x.cache ≡ (tables no_contents []).moment = u.stands.moment in let b : (tables no_contents []).moment ≡ 0 = no_moment in omega arith);
+    last = (let a : last_moment x.cache ≡ (tables no_contents []).moment = u.stands.moment in let b : (tables no_contents []).moment ≡ 0 = no_moment in
+        omega arith);
     starts = starts;
     last_start = (let a : unused.tables.last_start ≡ 0 = none_started in omega arith);
     text = sym (ap (λ (z : List ℕ). z ++ text_of x.record) u.written ∙ text);
@@ -97,7 +99,8 @@ module _ {B : Type 0} {g : Ghosts B} (f : Frame) (x : loop.Proxy B g) (log : Log
     targets = tt;
   }
 
-  first_upstreams : (call : Called) (stages : ℕ → Stage) → HasUpstreams (record { frame = f; call = resting_call log call; dialled = log.dialled; stages = stages }) x unused []
+  first_upstreams : (call : Called) (stages : ℕ → Stage) →
+      HasUpstreams (record { frame = f; call = resting_call log call; dialled = log.dialled; stages = stages }) x unused []
   first_upstreams call stages = record {
     rows = λ y on. none_open y on;
     numbers = λ y v is. no_row y v is;

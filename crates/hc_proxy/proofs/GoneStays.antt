@@ -46,7 +46,8 @@ module _ (limits : Limits) (call : Called) (k : ℕ) (r : Client) (gone : r.gone
           absurd (let never : true ≡ false = sym none ∙ some in cc)
       other none false is = has
 
-      by_tests : (a : Bool) → is_none (p.client z) ≡ a → (b : Bool) → Has (if a && b then record p { accepted = inserted z p.accepted; client = with z new_client p.client } else p)
+      by_tests : (a : Bool) → is_none (p.client z) ≡ a → (b : Bool) →
+          Has (if a && b then record p { accepted = inserted z p.accepted; client = with z new_client p.client } else p)
       by_tests true none true = other none (nat_eq k z) refl
       by_tests true none false = has
       by_tests false none b = has
@@ -59,7 +60,8 @@ module _ (limits : Limits) (call : Called) (k : ℕ) (r : Client) (gone : r.gone
       cancels None = has
       cancels (Some c) = step_has (event.Cancel c) p has
 
-      apart : client.gone ≡ false → (b : Bool) → nat_eq k z ≡ b → (if b then option_map left ((cancelled limits client.consumer p).client k) else (cancelled limits client.consumer p).client k) ≡ Some r
+      apart : client.gone ≡ false → (b : Bool) → nat_eq k z ≡ b →
+          (if b then option_map left ((cancelled limits client.consumer p).client k) else (cancelled limits client.consumer p).client k) ≡ Some r
       apart here true is =
           let same : k ≡ z = grind (arith, nat_tests) in
           let one : Some client ≡ Some r = sym row ∙ (sym (ap p.client same) ∙ has) in
@@ -98,7 +100,8 @@ module _ (limits : Limits) (call : Called) (k : ℕ) (r : Client) (gone : r.gone
   not_here p [] has = refl
   not_here p (j ∷ ks) has = by_test (is_client (p.client j)) refl (not_here p ks has)
     where
-      by_test : (b : Bool) → is_client (p.client j) ≡ b → among k (filter (λ i. is_client (p.client i)) ks) ≡ false → among k (if b then j ∷ filter (λ i. is_client (p.client i)) ks else filter (λ i. is_client (p.client i)) ks) ≡ false
+      by_test : (b : Bool) → is_client (p.client j) ≡ b → among k (filter (λ i. is_client (p.client i)) ks) ≡ false →
+          among k (if b then j ∷ filter (λ i. is_client (p.client i)) ks else filter (λ i. is_client (p.client i)) ks) ≡ false
       by_test false is rest = rest
       by_test true is rest = rw (other (nat_eq k j) refl) rest
         where
@@ -127,7 +130,9 @@ module _ (limits : Limits) (call : Called) (k : ℕ) (r : Client) (gone : r.gone
 
   polls_has : (cs : List ℕ) (p : Proxy) → Has p → Has (each_polled limits call cs p)
   polls_has [] p has = has
-  polls_has (c ∷ cs) p has = polls_has cs (polled limits call c p) (still (may_be_polled call p (p.holder c)) p (stepped limits (event.Poll c 16384) p) has (step_has (event.Poll c 16384) p has))
+  polls_has (c ∷ cs) p has =
+      polls_has cs (polled limits call c p)
+      (still (may_be_polled call p (p.holder c)) p (stepped limits (event.Poll c 16384) p) has (step_has (event.Poll c 16384) p has))
 
   all_polled_has : (p : Proxy) → Has p → Has (polled_all limits call p)
   unfolding polled_all
@@ -140,7 +145,8 @@ module _ (limits : Limits) (call : Called) (k : ℕ) (r : Client) (gone : r.gone
   happened_has dialled p has =
       let q = handled limits dialled call p in
       let now : Has q = by_event dialled call.bytes call.event p has in
-      all_polled_has (started_all limits call (heard limits q)) (starts_has (heard limits q) (ap (λ (f : ℕ → Option Client). f k) (same_clients limits q).0 ∙ now))
+      all_polled_has (started_all limits call (heard limits q))
+      (starts_has (heard limits q) (ap (λ (f : ℕ → Option Client). f k) (same_clients limits q).0 ∙ now))
 
   -- CARRYING OUT
 

@@ -34,15 +34,27 @@ numbered k (Some u) h = record { u = u; is = refl; number = at_number k u h }
 
 -- WHAT A CLIENT SENDS
 
-sent_alike : (taken : ℕ) (bytes : List ℕ) (o : Option peer.Client) (r : Option Client) → IsClientAt taken o r → IsClientAt taken (option_map (clients.received bytes) o) (option_map (client_sends bytes) r)
+sent_alike : (taken : ℕ) (bytes : List ℕ) (o : Option peer.Client) (r : Option Client) → IsClientAt taken o r →
+    IsClientAt taken (option_map (clients.received bytes) o) (option_map (client_sends bytes) r)
 sent_alike taken bytes None None at = tt
 sent_alike taken bytes None (Some r) at = rw at refl
 sent_alike taken bytes (Some c) None at = absurd at
 sent_alike taken bytes (Some c) (Some r) at =
     rw at.here
-    (record { here = refl; reading = at.reading; input = ap (λ z. z ++ bytes) at.input; consumer = at.consumer; reply = at.reply; closing = at.closing; within = at.within; unsent = at.unsent; asking = at.asking })
+    (record {
+      here = refl;
+      reading = at.reading;
+      input = ap (λ z. z ++ bytes) at.input;
+      consumer = at.consumer;
+      reply = at.reply;
+      closing = at.closing;
+      within = at.within;
+      unsent = at.unsent;
+      asking = at.asking;
+    })
 
-sent_reads : (bytes : List ℕ) (o : Option peer.Client) (c : peer.Client) → option_map (clients.received bytes) o ≡ Some c → (old : peer.Client) × (o ≡ Some old) × (c.reading ≡ old.reading)
+sent_reads : (bytes : List ℕ) (o : Option peer.Client) (c : peer.Client) → option_map (clients.received bytes) o ≡ Some c → (old : peer.Client) ×
+    (o ≡ Some old) × (c.reading ≡ old.reading)
 sent_reads bytes None c is = none_some c is
 sent_reads bytes (Some old) c is = (old, refl, ap (λ (w : peer.Client). w.reading) (sym (some_inj (clients.received bytes old) c is)))
 
@@ -63,7 +75,8 @@ module _ {B : Type 0} {g : Ghosts B} (t : Turn) (x : loop.Proxy B g) (p : Proxy)
 
   of_client : (o : Option peer.Client) → client_of x.clients k ≡ o → IsSome o → exchange_of t.dialled k ≡ None
   of_client None is some = absurd (let never : false ≡ true = some in cc)
-  of_client (Some c) is some = h.quiet.keeps.upstreams.strangers k (has_row (taken_at t.call k) (client_of x.clients k) (p.client k) c (h.quiet.keeps.clients.rows k) is)
+  of_client (Some c) is some =
+      h.quiet.keeps.upstreams.strangers k (has_row (taken_at t.call k) (client_of x.clients k) (p.client k) c (h.quiet.keeps.clients.rows k) is)
 
   of_none : ((y : ℕ) → is_at k (upstream_of x.upstreams y) ≡ false) → exchange_of t.dialled k ≡ None
   of_none none = elim (h.quiet.keeps.wire.all k h.opens) [
@@ -88,8 +101,10 @@ module _ {B : Type 0} {g : Ghosts B} (t : Turn) (x : loop.Proxy B g) (p : Proxy)
 
   -- A CLIENT
 
-  module _ (bytes : List ℕ) (none : (y : ℕ) → is_at k (upstream_of x.upstreams y) ≡ false) (s : Clients) (becomes : clients.Becomes k (option_map (clients.received bytes) (client_of x.clients k)) x.clients s) where
-    change : ChangesClient (taken_at t.call k) (client_of x.clients k) (p.client k) (option_map (clients.received bytes) (client_of x.clients k)) (client_sends bytes)
+  module _ (bytes : List ℕ) (none : (y : ℕ) → is_at k (upstream_of x.upstreams y) ≡ false) (s : Clients)
+      (becomes : clients.Becomes k (option_map (clients.received bytes) (client_of x.clients k)) x.clients s) where
+    change : ChangesClient (taken_at t.call k) (client_of x.clients k) (p.client k) (option_map (clients.received bytes) (client_of x.clients k))
+        (client_sends bytes)
     change = record {
       alike = sent_alike (taken_at t.call k) bytes (client_of x.clients k) (p.client k) (h.quiet.keeps.clients.rows k);
       reads = sent_reads bytes (client_of x.clients k);
@@ -100,7 +115,8 @@ module _ {B : Type 0} {g : Ghosts B} (t : Turn) (x : loop.Proxy B g) (p : Proxy)
     some_was j some = row_was t x p k _ (client_sends bytes) s becomes change j some
 
     cache_of : HasCache t.frame (record x { clients = s }) (with_client k (client_sends bytes) p)
-    cache_of = cache_moves t.frame x (record x { clients = s }) (with_client k (client_sends bytes) p) refl refl refl refl (cache_with t.frame x p (with_client k (client_sends bytes) p).client p.accepted h.quiet.keeps.cache)
+    cache_of = cache_moves t.frame x (record x { clients = s }) (with_client k (client_sends bytes) p) refl refl refl refl
+        (cache_with t.frame x p (with_client k (client_sends bytes) p).client p.accepted h.quiet.keeps.cache)
 
     sent_keeps : KeepsQuiet t (record x { clients = s }) (with_client k (client_sends bytes) p)
     sent_keeps = record {
@@ -108,8 +124,10 @@ module _ {B : Type 0} {g : Ghosts B} (t : Turn) (x : loop.Proxy B g) (p : Proxy)
         cache = cache_of;
         acts = h.quiet.keeps.acts;
         clients = changed_clients t x p k _ (client_sends bytes) s becomes change h.quiet.keeps.clients;
-        consumers = of_held (with_client k (client_sends bytes) p) (change_keeps (acts_in p.part) k (client_sends bytes) p (λ r at. sends_keep bytes r) (held_of p h.quiet.keeps.consumers));
-        upstreams = upstreams_move t x (record x { clients = s }) (with_client k (client_sends bytes) p) (acts_in p.part) refl (upstreams_with k t x p (with_client k (client_sends bytes) p).client some_was h.quiet.keeps.upstreams);
+        consumers = of_held (with_client k (client_sends bytes) p)
+            (change_keeps (acts_in p.part) k (client_sends bytes) p (λ r at. sends_keep bytes r) (held_of p h.quiet.keeps.consumers));
+        upstreams = upstreams_move t x (record x { clients = s }) (with_client k (client_sends bytes) p) (acts_in p.part) refl
+            (upstreams_with k t x p (with_client k (client_sends bytes) p).client some_was h.quiet.keeps.upstreams);
         wire = wire_same t x p k _ (client_sends bytes) s becomes change t.stages (sent_some bytes (client_of x.clients k)) h.quiet.keeps.wire;
         numbers = h.quiet.keeps.numbers;
         opened = h.quiet.keeps.opened;
@@ -128,7 +146,10 @@ module _ {B : Type 0} {g : Ghosts B} (t : Turn) (x : loop.Proxy B g) (p : Proxy)
 
   -- AN EXCHANGE
 
-  module _ (bytes : List ℕ) (call : t.call.bytes ≡ bytes) (z : ℕ) (there : is_at k (upstream_of x.upstreams z) ≡ true) (s : Upstreams) (becomes : Becomes z (option_map (origins.received bytes) (upstream_of x.upstreams z)) x.upstreams s) (news : Marks (is_news x.upstreams) (is_news s) z (is_some (upstream_of x.upstreams z))) (touched : (y : ℕ) → is_touched s y ≡ is_touched x.upstreams y) where
+  module _ (bytes : List ℕ) (call : t.call.bytes ≡ bytes) (z : ℕ) (there : is_at k (upstream_of x.upstreams z) ≡ true) (s : Upstreams)
+      (becomes : Becomes z (option_map (origins.received bytes) (upstream_of x.upstreams z)) x.upstreams s)
+      (news : Marks (is_news x.upstreams) (is_news s) z (is_some (upstream_of x.upstreams z)))
+      (touched : (y : ℕ) → is_touched s y ≡ is_touched x.upstreams y) where
     n : HasNumber k (upstream_of x.upstreams z)
     n = numbered k (upstream_of x.upstreams z) there
 
@@ -147,7 +168,8 @@ module _ {B : Type 0} {g : Ghosts B} (t : Turn) (x : loop.Proxy B g) (p : Proxy)
 
     room : unread q + bytes_received x.cache ≤ t.frame.bytes
     room =
-        let grows : unread q ≤ unread p + length bytes = unread_grows p (p.tables.opened + 1) law.order.openings z (origin_sends bytes) (length bytes) (more_by (p.upstream z)) in
+        let grows : unread q ≤ unread p + length bytes =
+        unread_grows p (p.tables.opened + 1) law.order.openings z (origin_sends bytes) (length bytes) (more_by (p.upstream z)) in
         let all : unread p + bytes_received x.cache + length t.call.bytes ≤ t.frame.bytes = h.room in
         let same : length t.call.bytes ≡ length bytes = ap length call in
         omega arith
@@ -167,7 +189,8 @@ module _ {B : Type 0} {g : Ghosts B} (t : Turn) (x : loop.Proxy B g) (p : Proxy)
     done = record {
       over = λ some. open_one z n;
       news = λ off. true_false (sym listed ∙ off);
-      touched = λ v is off. subst (λ (w : origin.Upstream). (w.unsent ≡ []) × (is_same w.reading (is_wanted (p.tables.exchange z)) ≡ true)) (some_inj (origins.received bytes n.u) v (sym row_now ∙ is)) (settled off);
+      touched = λ v is off. subst (λ (w : origin.Upstream). (w.unsent ≡ []) × (is_same w.reading (is_wanted (p.tables.exchange z)) ≡ true))
+          (some_inj (origins.received bytes n.u) v (sym row_now ∙ is)) (settled off);
     }
       where
         no_asks : asks_in z (acts_in p.part) ≡ false
@@ -183,7 +206,10 @@ module _ {B : Type 0} {g : Ghosts B} (t : Turn) (x : loop.Proxy B g) (p : Proxy)
 
   -- ITS END
 
-  module _ (z : ℕ) (there : is_at k (upstream_of x.upstreams z) ≡ true) (s : Upstreams) (becomes : Becomes z (option_map origins.at_its_end (upstream_of x.upstreams z)) x.upstreams s) (news : Marks (is_news x.upstreams) (is_news s) z (is_some (upstream_of x.upstreams z))) (touched : (y : ℕ) → is_touched s y ≡ is_touched x.upstreams y) where
+  module _ (z : ℕ) (there : is_at k (upstream_of x.upstreams z) ≡ true) (s : Upstreams)
+      (becomes : Becomes z (option_map origins.at_its_end (upstream_of x.upstreams z)) x.upstreams s)
+      (news : Marks (is_news x.upstreams) (is_news s) z (is_some (upstream_of x.upstreams z)))
+      (touched : (y : ℕ) → is_touched s y ≡ is_touched x.upstreams y) where
     m : HasNumber k (upstream_of x.upstreams z)
     m = numbered k (upstream_of x.upstreams z) there
 
@@ -218,7 +244,8 @@ module _ {B : Type 0} {g : Ghosts B} (t : Turn) (x : loop.Proxy B g) (p : Proxy)
     end_done = record {
       over = λ some. open_one z m;
       news = λ off. true_false (sym (news z ∙ (rw (same_number z) (ap is_some m.is))) ∙ off);
-      touched = λ v is off. subst (λ (w : origin.Upstream). (w.unsent ≡ []) × (is_same w.reading (is_wanted (p.tables.exchange z)) ≡ true)) (some_inj (origins.at_its_end m.u) v (sym end_row ∙ is)) (settled off);
+      touched = λ v is off. subst (λ (w : origin.Upstream). (w.unsent ≡ []) × (is_same w.reading (is_wanted (p.tables.exchange z)) ≡ true))
+          (some_inj (origins.at_its_end m.u) v (sym end_row ∙ is)) (settled off);
     }
       where
         settled : is_touched s z ≡ false → (m.u.unsent ≡ []) × (is_same m.u.reading (is_wanted (p.tables.exchange z)) ≡ true)
@@ -231,7 +258,9 @@ module _ {B : Type 0} {g : Ghosts B} (t : Turn) (x : loop.Proxy B g) (p : Proxy)
 
   -- IT IS BROKEN
 
-  module _ (z : ℕ) (there : is_at k (upstream_of x.upstreams z) ≡ true) (mid x' : loop.Proxy B g) (stepped : (f : Frame) (p : Proxy) → HasCache f x p → unread p + bytes_received x.cache + 0 ≤ f.bytes → Stepped f x mid (event.Fault z) p) (rest : RestStays x mid) (moved : mid.moved ≡ true) (one : steps mid.cache ≡ steps x.cache + 1) (hangs : HangsUp z mid x') where
+  module _ (z : ℕ) (there : is_at k (upstream_of x.upstreams z) ≡ true) (mid x' : loop.Proxy B g)
+      (stepped : (f : Frame) (p : Proxy) → HasCache f x p → unread p + bytes_received x.cache + 0 ≤ f.bytes → Stepped f x mid (event.Fault z) p)
+      (rest : RestStays x mid) (moved : mid.moved ≡ true) (one : steps mid.cache ≡ steps x.cache + 1) (hangs : HangsUp z mid x') where
     at_z : HasNumber k (upstream_of x.upstreams z)
     at_z = numbered k (upstream_of x.upstreams z) there
 
@@ -257,17 +286,20 @@ module _ {B : Type 0} {g : Ghosts B} (t : Turn) (x : loop.Proxy B g) (p : Proxy)
           q = with_entry st.e p;
           keeps = hung_up t z mid x' (with_entry st.e p) faulted shut hangs;
           later = subst (λ c. faults_in x.cache ≤ faults_in c) (sym hangs.cache) st.later;
-          same = λ same. ap (λ e. with_entry e p) (st.same (ap faults_in (sym hangs.cache) ∙ same)) ∙ sym (broken (is_open (p.tables.exchange z)) (open_one z at_z));
+          same = λ same. ap (λ e. with_entry e p) (st.same (ap faults_in (sym hangs.cache) ∙ same)) ∙
+              sym (broken (is_open (p.tables.exchange z)) (open_one z at_z));
         })
       where
-        broken : (b : Bool) → b ≡ true → (if b then steps_of.stepped t.frame.limits (event.Fault z) p else p) ≡ steps_of.stepped t.frame.limits (event.Fault z) p
+        broken : (b : Bool) → b ≡ true →
+            (if b then steps_of.stepped t.frame.limits (event.Fault z) p else p) ≡ steps_of.stepped t.frame.limits (event.Fault z) p
         broken true on = refl
         broken false on = absurd (let never : false ≡ true = on in cc)
 
 -- WHAT A STEP ASKS FOR
 
 module _ {B : Type 0} {g : Ghosts B} (x : loop.Proxy B g) (k : ℕ) where
-  pub some_cache : (x' : loop.Proxy B g) → x'.cache ≡ x.cache → x'.record ≡ x.record → x'.now ≡ x.now → x'.starts ≡ x.starts → ∥ IsAtEvent x k ∥₁ → ∥ StandsForSome x' ∥₁
+  pub some_cache : (x' : loop.Proxy B g) → x'.cache ≡ x.cache → x'.record ≡ x.record → x'.now ≡ x.now → x'.starts ≡ x.starts → ∥ IsAtEvent x k ∥₁ →
+      ∥ StandsForSome x' ∥₁
   some_cache x' cache text now starts some = ∥∥₁_map some (λ s. (s.0.frame, s.1, cache_moves s.0.frame x x' s.1 cache text now starts s.2.quiet.keeps.cache))
 
   pub small_bytes : ∥ IsAtEvent x k ∥₁ → bytes_received x.cache + 0 < 2 ^ 61
@@ -276,13 +308,15 @@ module _ {B : Type 0} {g : Ghosts B} (x : loop.Proxy B g) (k : ℕ) where
       let b : s.0.frame.bytes ≤ 2 ^ 60 = s.2.quiet.keeps.cache.bounded in
       omega arith)
 
-  holder_of : (t : Turn) (p : Proxy) (c : ℕ) (client : peer.Client) (o : Option peer.Client) (r : Option Client) → IsClientAt (taken_at t.call k) o r → p.client k ≡ r → o ≡ Some client → client.consumer ≡ Some c → IsHolder p k c
+  holder_of : (t : Turn) (p : Proxy) (c : ℕ) (client : peer.Client) (o : Option peer.Client) (r : Option Client) → IsClientAt (taken_at t.call k) o r →
+      p.client k ≡ r → o ≡ Some client → client.consumer ≡ Some c → IsHolder p k c
   holder_of t p c client None r at row is waits = none_some client is
   holder_of t p c client (Some d) None at row is waits = absurd at
   holder_of t p c client (Some d) (Some r) at row is waits =
       record { row = r; at = row; here = at.here; consumer = sym at.consumer ∙ (ap (λ (w : peer.Client). w.consumer) (some_inj d client is) ∙ waits) }
 
-  pub small_consumer : ∥ IsAtEvent x k ∥₁ → steps x.cache < 2 ^ 60 → (client : peer.Client) (c : ℕ) → client_of x.clients k ≡ Some client → client.consumer ≡ Some c → c < 2 ^ 62
+  pub small_consumer : ∥ IsAtEvent x k ∥₁ → steps x.cache < 2 ^ 60 → (client : peer.Client) (c : ℕ) → client_of x.clients k ≡ Some client →
+      client.consumer ≡ Some c → c < 2 ^ 62
   small_consumer some few client c is waits = ∥∥₁_elim some le_prop (λ s.
       let w = holder_of s.0 s.1 c client (client_of x.clients k) (s.1.client k) (s.2.quiet.keeps.clients.rows k) refl is waits in
       let a : c ≤ s.1.starts = s.2.quiet.keeps.consumers.started k c w in

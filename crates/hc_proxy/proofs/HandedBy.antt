@@ -19,7 +19,8 @@ use Rattle.hc_proxy.specs.declared.proxy.Proxy as loop
 use Rattle.hc_proxy.specs.{Hearing.{IsFit, length_of, PartStepped, MayTake, MayStep, HasHanded}, Invariants.{unread}, Keeping.{Turn, HasCache, KeepsBut, Stepped, RestStays, Goes}, Network.{handed, hands}, Rows.{Proxy}}
 use Rattle.hc_proxy.proofs.{HandedOn.{rows, wants_open, wants_handed, waits_goes, fails_goes, end_goes, r, piece_kept, piece_room, piece_goes, head_goes}, HeardOne.{cache_over, may_here, may_few, here_small}, TakenParts.{IsTakenAs, some_taken, none_taken, err_taken, taken_fits}}
 
-module _ {B : Type 0} {g : Ghosts B} (z : ℕ) (x : loop.Proxy B g) (wants : (t : Turn) (p : Proxy) → KeepsBut z t x p → (is_wanted (p.tables.exchange z) && has_news_at (upstream_of x.upstreams z)) ≡ true) where
+module _ {B : Type 0} {g : Ghosts B} (z : ℕ) (x : loop.Proxy B g)
+    (wants : (t : Turn) (p : Proxy) → KeepsBut z t x p → (is_wanted (p.tables.exchange z) && has_news_at (upstream_of x.upstreams z)) ≡ true) where
   abbrev on : (t : Turn) (p : Proxy) → KeepsBut z t x p → is_open (p.tables.exchange z) ≡ true
   on t p h = wants_open z t x p h (wants t p h)
 
@@ -31,8 +32,10 @@ module _ {B : Type 0} {g : Ghosts B} (z : ℕ) (x : loop.Proxy B g) (wants : (t 
   pub hand_small : ∥ MayStep 2 z x ∥₁ → z < 2 ^ 62
   hand_small some = here_small z x (may_here 2 z x some on) (let few : steps x.cache + 2 ≤ 2 ^ 60 = hand_few some in omega arith)
 
-  module _ (s : Upstreams) (out : Result (Option WirePart) MsgError) (takes : (u : origin.Upstream) → upstream_of x.upstreams z ≡ Some u → TakesOf z x.upstreams s u out) where
-    part_fits : (w : WirePart) → out ≡ Ok (Some w) → (upstream_of x.upstreams z ≡ None → out ≡ Ok None) → (o : Option origin.Upstream) → upstream_of x.upstreams z ≡ o → IsFit w
+  module _ (s : Upstreams) (out : Result (Option WirePart) MsgError)
+      (takes : (u : origin.Upstream) → upstream_of x.upstreams z ≡ Some u → TakesOf z x.upstreams s u out) where
+    part_fits : (w : WirePart) → out ≡ Ok (Some w) → (upstream_of x.upstreams z ≡ None → out ≡ Ok None) → (o : Option origin.Upstream) →
+        upstream_of x.upstreams z ≡ o → IsFit w
     part_fits w is lacks None none = absurd (let never : Ok (Some w) ≡ Ok None = sym is ∙ lacks none in cc)
     part_fits w is lacks (Some u) row = let to = takes u row in taken_fits w u to.after (some_taken w u to.after out is to.takes)
 
@@ -65,13 +68,17 @@ module _ {B : Type 0} {g : Ghosts B} (z : ℕ) (x : loop.Proxy B g) (wants : (t 
       )
       may_take part.End taken = (t.frame, p, cache_over t.frame x p s h.cache, small part.End refl)
 
-      part_goes : (w : WirePart) → IsTakenAs w (origins.next_of (rows z t x p h now).u) (rows z t x p h now).u to.after → (x' : loop.Proxy B g) → ((q : Proxy) → HasCache t.frame y q → unread q + bytes_received y.cache + length_of w ≤ t.frame.bytes → PartStepped t.frame y x' z w q) → RestStays y x' → x'.moved ≡ true → Goes (HasHanded z t p (steps x.cache)) (faults_in x.cache) x' (handed t.frame.limits z p)
+      part_goes : (w : WirePart) → IsTakenAs w (origins.next_of (rows z t x p h now).u) (rows z t x p h now).u to.after → (x' : loop.Proxy B g) →
+          ((q : Proxy) → HasCache t.frame y q → unread q + bytes_received y.cache + length_of w ≤ t.frame.bytes → PartStepped t.frame y x' z w q) →
+          RestStays y x' → x'.moved ≡ true → Goes (HasHanded z t p (steps x.cache)) (faults_in x.cache) x' (handed t.frame.limits z p)
       part_goes (part.Head response) taken x' stepped rest moved =
           let st = stepped p (cache_over t.frame x p s h.cache) (small (part.Head response) refl) in
           head_goes z t x p h now as_next s lists to.after to.becomes response taken x' st.0 rest moved st.1
       part_goes (part.Piece bytes) taken x' stepped rest moved =
           piece_goes z t x p h now as_next s lists to.after to.becomes bytes taken x'
-          (stepped (r z t x p h now as_next s lists to.after to.becomes bytes taken) (piece_kept z t x p h now as_next s lists to.after to.becomes bytes taken).cache (piece_room z t x p h now as_next s lists to.after to.becomes bytes taken)) moved
+          (stepped (r z t x p h now as_next s lists to.after to.becomes bytes taken)
+          (piece_kept z t x p h now as_next s lists to.after to.becomes bytes taken).cache
+          (piece_room z t x p h now as_next s lists to.after to.becomes bytes taken)) moved
       part_goes part.End taken x' stepped rest moved =
           end_goes z t x p h now as_next s lists to.after to.becomes taken x'
           (λ q hc. (stepped q hc (let a : unread q + bytes_received y.cache ≤ t.frame.bytes = hc.small in omega arith)).0) rest moved
@@ -79,15 +86,20 @@ module _ {B : Type 0} {g : Ghosts B} (z : ℕ) (x : loop.Proxy B g) (wants : (t 
 
       -- WHAT THEY COME TO
 
-      pub hand_goes : (w : WirePart) → out ≡ Ok (Some w) → (x' : loop.Proxy B g) → ((q : Proxy) → HasCache t.frame y q → unread q + bytes_received y.cache + length_of w ≤ t.frame.bytes → PartStepped t.frame y x' z w q) → RestStays y x' → x'.moved ≡ true → Goes (HasHanded z t p (steps x.cache)) (faults_in x.cache) x' (handed t.frame.limits z p)
+      pub hand_goes : (w : WirePart) → out ≡ Ok (Some w) → (x' : loop.Proxy B g) →
+          ((q : Proxy) → HasCache t.frame y q → unread q + bytes_received y.cache + length_of w ≤ t.frame.bytes → PartStepped t.frame y x' z w q) →
+          RestStays y x' → x'.moved ≡ true → Goes (HasHanded z t p (steps x.cache)) (faults_in x.cache) x' (handed t.frame.limits z p)
       hand_goes w is x' stepped rest moved = part_goes w (some_taken w (rows z t x p h now).u to.after out is to.takes) x' stepped rest moved
 
       pub none_goes : out ≡ Ok None → Goes (HasHanded z t p (steps x.cache)) (faults_in x.cache) y (handed t.frame.limits z p)
       none_goes is = waits_goes z t x p h now as_next s lists to.after to.becomes (none_taken (rows z t x p h now).u to.after out is to.takes)
 
-      pub err_goes : (e : MsgError) → out ≡ Err e → (e ≡ error.NoMemory → ⊥) → (x' : loop.Proxy B g) → ((q : Proxy) → HasCache t.frame y q → Stepped t.frame y x' (event.Fault z) q) → RestStays y x' → x'.moved ≡ true → steps x'.cache ≡ steps y.cache + 1 → Goes (HasHanded z t p (steps x.cache)) (faults_in x.cache) x' (handed t.frame.limits z p)
+      pub err_goes : (e : MsgError) → out ≡ Err e → (e ≡ error.NoMemory → ⊥) → (x' : loop.Proxy B g) →
+          ((q : Proxy) → HasCache t.frame y q → Stepped t.frame y x' (event.Fault z) q) → RestStays y x' → x'.moved ≡ true →
+          steps x'.cache ≡ steps y.cache + 1 → Goes (HasHanded z t p (steps x.cache)) (faults_in x.cache) x' (handed t.frame.limits z p)
       err_goes e is other x' stepped rest moved one =
-          fails_goes z t x p h now as_next s lists to.after to.becomes (err_taken e (rows z t x p h now).u to.after out is other to.takes) x' stepped rest moved one
+          fails_goes z t x p h now as_next s lists to.after to.becomes (err_taken e (rows z t x p h now).u to.after out is other to.takes) x' stepped rest
+          moved one
 
     pub hand_take : ListsStay x.upstreams s → (w : WirePart) → out ≡ Ok (Some w) → ∥ MayStep 2 z x ∥₁ → ∥ MayTake w (record x { upstreams = s }) ∥₁
     hand_take lists w is some = ∥∥₁_map some (λ m.

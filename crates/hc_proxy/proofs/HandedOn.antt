@@ -101,23 +101,39 @@ rows_both taken (Some u) (Some v) at = record { u = u; v = v; is_u = refl; is_v 
 module _ {B : Type 0} {g : Ghosts B} where
   -- EVENTS OF z
 
-  pub head_but : (z : ℕ) (t : Turn) (x x' : loop.Proxy B g) (p : Proxy) (response : Response) → KeepsBut z t x p → (s : Stepped t.frame x x' (event.Head z response) p) → RestStays x x' → x'.moved ≡ true → steps x'.cache ≡ steps x.cache + 1 → KeepsBut z t x' (with_entry s.e p)
-  head_but z t x x' p response h s r moved one = but_stepped z t x x' p (event.Head z response) h s r refl (λ y stops. sym stops) moved one (λ c is. let never : event.Head z response ≡ event.Cancel c = is in cc) (λ c starts. starts)
+  pub head_but : (z : ℕ) (t : Turn) (x x' : loop.Proxy B g) (p : Proxy) (response : Response) → KeepsBut z t x p →
+      (s : Stepped t.frame x x' (event.Head z response) p) → RestStays x x' → x'.moved ≡ true → steps x'.cache ≡ steps x.cache + 1 →
+      KeepsBut z t x' (with_entry s.e p)
+  head_but z t x x' p response h s r moved one =
+      but_stepped z t x x' p (event.Head z response) h s r refl (λ y stops. sym stops) moved one
+      (λ c is. let never : event.Head z response ≡ event.Cancel c = is in cc) (λ c starts. starts)
 
-  pub piece_but : (z : ℕ) (t : Turn) (x x' : loop.Proxy B g) (p : Proxy) (bytes : List ℕ) → KeepsBut z t x p → (s : Stepped t.frame x x' (event.Piece z bytes) p) → RestStays x x' → x'.moved ≡ true → steps x'.cache ≡ steps x.cache + 1 → KeepsBut z t x' (with_entry s.e p)
-  piece_but z t x x' p bytes h s r moved one = but_stepped z t x x' p (event.Piece z bytes) h s r refl (λ y stops. sym stops) moved one (λ c is. let never : event.Piece z bytes ≡ event.Cancel c = is in cc) (λ c starts. starts)
+  pub piece_but : (z : ℕ) (t : Turn) (x x' : loop.Proxy B g) (p : Proxy) (bytes : List ℕ) → KeepsBut z t x p →
+      (s : Stepped t.frame x x' (event.Piece z bytes) p) → RestStays x x' → x'.moved ≡ true → steps x'.cache ≡ steps x.cache + 1 →
+      KeepsBut z t x' (with_entry s.e p)
+  piece_but z t x x' p bytes h s r moved one =
+      but_stepped z t x x' p (event.Piece z bytes) h s r refl (λ y stops. sym stops) moved one
+      (λ c is. let never : event.Piece z bytes ≡ event.Cancel c = is in cc) (λ c starts. starts)
 
-  pub end_but : (z : ℕ) (t : Turn) (x x' : loop.Proxy B g) (p : Proxy) → KeepsBut z t x p → (s : Stepped t.frame x x' (event.End z) p) → RestStays x x' → x'.moved ≡ true → steps x'.cache ≡ steps x.cache + 1 → KeepsBut z t x' (with_entry s.e p)
-  end_but z t x x' p h s r moved one = but_stepped z t x x' p (event.End z) h s r refl (λ y stops. sym stops) moved one (λ c is. let never : event.End z ≡ event.Cancel c = is in cc) (λ c starts. starts)
+  pub end_but : (z : ℕ) (t : Turn) (x x' : loop.Proxy B g) (p : Proxy) → KeepsBut z t x p → (s : Stepped t.frame x x' (event.End z) p) → RestStays x x' →
+      x'.moved ≡ true → steps x'.cache ≡ steps x.cache + 1 → KeepsBut z t x' (with_entry s.e p)
+  end_but z t x x' p h s r moved one =
+      but_stepped z t x x' p (event.End z) h s r refl (λ y stops. sym stops) moved one (λ c is. let never : event.End z ≡ event.Cancel c = is in cc)
+      (λ c starts. starts)
 
-  pub fault_but : (z : ℕ) (t : Turn) (x x' : loop.Proxy B g) (p : Proxy) → KeepsBut z t x p → (s : Stepped t.frame x x' (event.Fault z) p) → RestStays x x' → x'.moved ≡ true → steps x'.cache ≡ steps x.cache + 1 → KeepsBut z t x' (with_entry s.e p)
-  fault_but z t x x' p h s r moved one = but_stepped z t x x' p (event.Fault z) h s r refl (λ y stops. sym stops) moved one (λ c is. let never : event.Fault z ≡ event.Cancel c = is in cc) (λ c starts. starts)
+  pub fault_but : (z : ℕ) (t : Turn) (x x' : loop.Proxy B g) (p : Proxy) → KeepsBut z t x p → (s : Stepped t.frame x x' (event.Fault z) p) →
+      RestStays x x' → x'.moved ≡ true → steps x'.cache ≡ steps x.cache + 1 → KeepsBut z t x' (with_entry s.e p)
+  fault_but z t x x' p h s r moved one =
+      but_stepped z t x x' p (event.Fault z) h s r refl (λ y stops. sym stops) moved one (λ c is. let never : event.Fault z ≡ event.Cancel c = is in cc)
+      (λ c starts. starts)
 
   -- behind them
-  pub apart_step : (z : ℕ) (t : Turn) (x x' : loop.Proxy B g) (p : Proxy) (ev : Event) → is_poll ev ≡ false → (s : Stepped t.frame x x' ev p) → IsApart z p (with_entry s.e p)
+  pub apart_step : (z : ℕ) (t : Turn) (x x' : loop.Proxy B g) (p : Proxy) (ev : Event) → is_poll ev ≡ false → (s : Stepped t.frame x x' ev p) →
+      IsApart z p (with_entry s.e p)
   apart_step z t x x' p ev off s = apart_entry z p s.e (is_quiet_entry t.frame.limits p.tables s.e s.is_owed (ap is_poll s.event_is ∙ off))
 
-  pub fault_shuts : (z : ℕ) (t : Turn) (x x' : loop.Proxy B g) (p : Proxy) (s : Stepped t.frame x x' (event.Fault z) p) → is_open ((with_entry s.e p).tables.exchange z) ≡ false
+  pub fault_shuts : (z : ℕ) (t : Turn) (x x' : loop.Proxy B g) (p : Proxy) (s : Stepped t.frame x x' (event.Fault z) p) →
+      is_open ((with_entry s.e p).tables.exchange z) ≡ false
   unfolding with_entry
   fault_shuts z t x x' p s = by_open (is_open ((after p.tables s.e).exchange z)) refl
     where
@@ -131,13 +147,15 @@ module _ {B : Type 0} {g : Ghosts B} where
 
   -- A ROW AND ITS ROW
 
-  pub open_within : (t : Turn) (z : ℕ) (x : loop.Proxy B g) (p : Proxy) → KeepsBut z t x p → (y : ℕ) → is_open (p.tables.exchange y) ≡ true → y ≤ length t.dialled
+  pub open_within : (t : Turn) (z : ℕ) (x : loop.Proxy B g) (p : Proxy) → KeepsBut z t x p → (y : ℕ) → is_open (p.tables.exchange y) ≡ true →
+      y ≤ length t.dialled
   open_within t z x p h y on =
       let le : y ≤ p.tables.opened = open_number p.tables (law_of t.frame x p h.cache) y on (nat_lt p.tables.opened y) refl in
       let same : length t.dialled ≡ p.tables.opened = quiet_up (acts_in p.part) (length t.dialled) p.tables.opened h.quiet h.upstreams.opens in
       omega arith
 
-  pub both_rows : (t : Turn) (z : ℕ) (x : loop.Proxy B g) (p : Proxy) → KeepsBut z t x p → is_open (p.tables.exchange z) ≡ true → BothRows (taken_at t.call) (upstream_of x.upstreams z) (p.upstream z)
+  pub both_rows : (t : Turn) (z : ℕ) (x : loop.Proxy B g) (p : Proxy) → KeepsBut z t x p → is_open (p.tables.exchange z) ≡ true →
+      BothRows (taken_at t.call) (upstream_of x.upstreams z) (p.upstream z)
   both_rows t z x p h on = rows_both (taken_at t.call) (upstream_of x.upstreams z) (p.upstream z) (h.upstreams.rows z on (open_within t z x p h z on))
 
   module _ (z : ℕ) (t : Turn) (x : loop.Proxy B g) (p : Proxy) (h : KeepsBut z t x p) where
@@ -145,7 +163,8 @@ module _ {B : Type 0} {g : Ghosts B} where
     law = law_of t.frame x p h.cache
 
     -- where no part is wanted, or none may stand next
-    pub wants_not : (v : Upstream) → p.upstream z ≡ Some v → (is_wanted (p.tables.exchange z) && has_news_at (upstream_of x.upstreams z)) ≡ false → (b : Bool) → is_wanted (p.tables.exchange z) ≡ b → (b && has_news v) ≡ false
+    pub wants_not : (v : Upstream) → p.upstream z ≡ Some v → (is_wanted (p.tables.exchange z) && has_news_at (upstream_of x.upstreams z)) ≡ false →
+        (b : Bool) → is_wanted (p.tables.exchange z) ≡ b → (b && has_news v) ≡ false
     wants_not v is off false unwanted = refl
     wants_not v is off true on =
         let r = both_rows t z x p h (wanted_open (p.tables.exchange z) on) in
@@ -160,7 +179,8 @@ module _ {B : Type 0} {g : Ghosts B} where
         by_row None is = refl
         by_row (Some v) is = rw (wants_not v is off (is_wanted (p.tables.exchange z)) refl) refl
 
-    pub none_handed : (is_wanted (p.tables.exchange z) && has_news_at (upstream_of x.upstreams z)) ≡ false → Goes (HasHanded z t p (steps x.cache)) (faults_in x.cache) x (handed t.frame.limits z p)
+    pub none_handed : (is_wanted (p.tables.exchange z) && has_news_at (upstream_of x.upstreams z)) ≡ false →
+        Goes (HasHanded z t p (steps x.cache)) (faults_in x.cache) x (handed t.frame.limits z p)
     none_handed off = record {
       q = p;
       keeps = record { keeps = h; apart = apart_none z p; most = omega arith; once = λ on. omega arith; none = λ shut. omega arith };
@@ -190,7 +210,8 @@ module _ {B : Type 0} {g : Ghosts B} where
       next_is n is = sym (next_same (taken_at t.call rows.u.k) rows.u rows.v rows.alike) ∙ is
 
       -- what stands next is handed, where a part is wanted
-      pub wants_handed : (is_wanted (p.tables.exchange z) && has_news_at (upstream_of x.upstreams z)) ≡ true → (n : Next) → origins.next_of rows.u ≡ n → handed t.frame.limits z p ≡ hands t.frame.limits z n p
+      pub wants_handed : (is_wanted (p.tables.exchange z) && has_news_at (upstream_of x.upstreams z)) ≡ true → (n : Next) → origins.next_of rows.u ≡ n →
+          handed t.frame.limits z p ≡ hands t.frame.limits z n p
       wants_handed wants n is =
           let wanted : is_wanted (p.tables.exchange z) ≡ true = first_on (is_wanted (p.tables.exchange z)) (has_news_at (upstream_of x.upstreams z)) wants in
           let news : has_news rows.v ≡ true =
@@ -201,8 +222,10 @@ module _ {B : Type 0} {g : Ghosts B} where
 
       -- THE ROW IS READ ON
 
-      module _ (reading : Reading) (rest : List ℕ) (s : Upstreams) (becomes : Becomes z (Some (origins.read_to reading rest rows.u)) x.upstreams s) (lists : ListsStay x.upstreams s) (shorter : length rest ≤ length rows.u.input) where
-        alike : (v : Upstream) → IsUpstream (taken_at t.call rows.u.k) rows.u v → IsUpstream (taken_at t.call rows.u.k) (origins.read_to reading rest rows.u) (read_to reading rest v)
+      module _ (reading : Reading) (rest : List ℕ) (s : Upstreams) (becomes : Becomes z (Some (origins.read_to reading rest rows.u)) x.upstreams s)
+          (lists : ListsStay x.upstreams s) (shorter : length rest ≤ length rows.u.input) where
+        alike : (v : Upstream) → IsUpstream (taken_at t.call rows.u.k) rows.u v →
+            IsUpstream (taken_at t.call rows.u.k) (origins.read_to reading rest rows.u) (read_to reading rest v)
         alike v a = record { reading = refl; input = refl; ended = a.ended; within = a.within; unsent = a.unsent }
 
         less_here : (o : Option Upstream) → p.upstream z ≡ o → unread_of (option_map (read_to reading rest) o) ≤ unread_of o + 0
@@ -215,7 +238,8 @@ module _ {B : Type 0} {g : Ghosts B} where
 
         read_room : unread (with_upstream z (read_to reading rest) p) + bytes_received x.cache ≤ t.frame.bytes
         read_room =
-            let grows : unread (with_upstream z (read_to reading rest) p) ≤ unread p + 0 = unread_grows p (p.tables.opened + 1) law.order.openings z (read_to reading rest) 0 (less_here (p.upstream z) refl) in
+            let grows : unread (with_upstream z (read_to reading rest) p) ≤ unread p + 0 =
+            unread_grows p (p.tables.opened + 1) law.order.openings z (read_to reading rest) 0 (less_here (p.upstream z) refl) in
             let all : unread p + bytes_received x.cache ≤ t.frame.bytes = h.cache.small in
             omega arith
 
@@ -236,19 +260,23 @@ module _ {B : Type 0} {g : Ghosts B} where
 
       -- WHAT WAS TAKEN IS HANDED
 
-      module _ (handed_is : (n : Next) → origins.next_of rows.u ≡ n → handed t.frame.limits z p ≡ hands t.frame.limits z n p) (s : Upstreams) (lists : ListsStay x.upstreams s) (new : origin.Upstream) (becomes : Becomes z (Some new) x.upstreams s) where
+      module _ (handed_is : (n : Next) → origins.next_of rows.u ≡ n → handed t.frame.limits z p ≡ hands t.frame.limits z n p) (s : Upstreams)
+          (lists : ListsStay x.upstreams s) (new : origin.Upstream) (becomes : Becomes z (Some new) x.upstreams s) where
         abbrev y : loop.Proxy B g
         y = record x { upstreams = s }
 
-        now_is : (reading : Reading) (rest : List ℕ) → new ≡ origins.read_to reading rest rows.u → Becomes z (Some (origins.read_to reading rest rows.u)) x.upstreams s
+        now_is : (reading : Reading) (rest : List ℕ) → new ≡ origins.read_to reading rest rows.u →
+            Becomes z (Some (origins.read_to reading rest rows.u)) x.upstreams s
         now_is reading rest is = subst (λ (n : origin.Upstream). Becomes z (Some n) x.upstreams s) is becomes
 
         -- nothing
-        pub waits_goes : TakenNone (origins.next_of rows.u) rows.u new → Goes (HasHanded z t p (steps x.cache)) (faults_in x.cache) y (handed t.frame.limits z p)
+        pub waits_goes : TakenNone (origins.next_of rows.u) rows.u new →
+            Goes (HasHanded z t p (steps x.cache)) (faults_in x.cache) y (handed t.frame.limits z p)
         waits_goes taken = record {
           q = with_upstream z (read_to taken.reading []) p;
           keeps = record {
-            keeps = read_keeps taken.reading [] s (now_is taken.reading [] taken.now) lists (omega arith) (answers_next (Waits taken.reading) taken.next, λ begun. headed_was (begun_waits 16384 rows.u.reader rows.u.input taken.reading taken.next begun));
+            keeps = read_keeps taken.reading [] s (now_is taken.reading [] taken.now) lists (omega arith)
+                (answers_next (Waits taken.reading) taken.next, λ begun. headed_was (begun_waits 16384 rows.u.reader rows.u.input taken.reading taken.next begun));
             apart = apart_row z (read_to taken.reading []) p;
             most = omega arith;
             once = λ on. omega arith;
@@ -259,7 +287,9 @@ module _ {B : Type 0} {g : Ghosts B} where
         }
 
         -- an error, by a fault
-        pub fails_goes : TakenErr (origins.next_of rows.u) rows.u new → (x' : loop.Proxy B g) → ((q : Proxy) → HasCache t.frame y q → Stepped t.frame y x' (event.Fault z) q) → RestStays y x' → x'.moved ≡ true → steps x'.cache ≡ steps x.cache + 1 → Goes (HasHanded z t p (steps x.cache)) (faults_in x.cache) x' (handed t.frame.limits z p)
+        pub fails_goes : TakenErr (origins.next_of rows.u) rows.u new → (x' : loop.Proxy B g) →
+            ((q : Proxy) → HasCache t.frame y q → Stepped t.frame y x' (event.Fault z) q) → RestStays y x' → x'.moved ≡ true →
+            steps x'.cache ≡ steps x.cache + 1 → Goes (HasHanded z t p (steps x.cache)) (faults_in x.cache) x' (handed t.frame.limits z p)
         fails_goes taken x' stepped rest moved one =
             let q = with_upstream z (read_to (Failed taken.e) []) p in
             let kept = read_keeps (Failed taken.e) [] s (now_is (Failed taken.e) [] taken.now) lists (omega arith) (refl, λ begun. true_false (sym begun)) in
@@ -279,10 +309,13 @@ module _ {B : Type 0} {g : Ghosts B} where
             }
 
         -- the end
-        pub end_goes : IsTakenAs part.End (origins.next_of rows.u) rows.u new → (x' : loop.Proxy B g) → ((q : Proxy) → HasCache t.frame y q → Stepped t.frame y x' (event.End z) q) → RestStays y x' → x'.moved ≡ true → steps x'.cache ≡ steps x.cache + 1 → Goes (HasHanded z t p (steps x.cache)) (faults_in x.cache) x' (handed t.frame.limits z p)
+        pub end_goes : IsTakenAs part.End (origins.next_of rows.u) rows.u new → (x' : loop.Proxy B g) →
+            ((q : Proxy) → HasCache t.frame y q → Stepped t.frame y x' (event.End z) q) → RestStays y x' → x'.moved ≡ true →
+            steps x'.cache ≡ steps x.cache + 1 → Goes (HasHanded z t p (steps x.cache)) (faults_in x.cache) x' (handed t.frame.limits z p)
         end_goes taken x' stepped rest moved one =
             let q = with_upstream z (read_to Done []) p in
-            let kept = read_keeps Done [] s (now_is Done [] taken.1) lists (omega arith) (refl, λ begun. headed_was (begun_ends 16384 rows.u.reader rows.u.input taken.0)) in
+            let kept = read_keeps Done [] s (now_is Done [] taken.1) lists (omega arith)
+            (refl, λ begun. headed_was (begun_ends 16384 rows.u.reader rows.u.input taken.0)) in
             let st = stepped q kept.cache in
             let count : steps x'.cache ≡ steps x.cache + 1 = one in
             record {
@@ -311,7 +344,11 @@ module _ {B : Type 0} {g : Ghosts B} where
           off = brought_off rows.u.reader rows.u.input bytes taken.0 taken.1 taken.2
 
           pub piece_kept : KeepsBut z t y r
-          piece_kept = read_keeps taken.0 taken.1 s (now_is taken.0 taken.1 taken.3) lists (let all : length taken.1 + length bytes ≤ length rows.u.input = off.all in omega arith) (answers_next (Brings bytes taken.0 taken.1) taken.2, λ begun. headed_was (begun_brings 16384 rows.u.reader rows.u.input bytes taken.0 taken.1 taken.2))
+          piece_kept = read_keeps taken.0 taken.1 s (now_is taken.0 taken.1 taken.3) lists
+              (let all : length taken.1 + length bytes ≤ length rows.u.input = off.all in omega arith) (
+                answers_next (Brings bytes taken.0 taken.1) taken.2,
+                λ begun. headed_was (begun_brings 16384 rows.u.reader rows.u.input bytes taken.0 taken.1 taken.2),
+              )
 
           falls_here : (o : Option Upstream) → p.upstream z ≡ o → unread_of (option_map (read_to taken.0 taken.1) o) + length bytes ≤ unread_of o
           falls_here None is = absurd (let never : None ≡ Some rows.v = sym is ∙ rows.is_v in cc)
@@ -324,7 +361,9 @@ module _ {B : Type 0} {g : Ghosts B} where
 
           pub piece_room : unread r + bytes_received y.cache + length bytes ≤ t.frame.bytes
           piece_room =
-              let falls : unread r + length bytes ≤ unread p = unread_falls p (p.tables.opened + 1) law.order.openings z (read_to taken.0 taken.1) (length bytes) (falls_here (p.upstream z) refl) (open_listed p.tables law z is_open_now) in
+              let falls : unread r + length bytes ≤ unread p =
+              unread_falls p (p.tables.opened + 1) law.order.openings z (read_to taken.0 taken.1) (length bytes) (falls_here (p.upstream z) refl)
+              (open_listed p.tables law z is_open_now) in
               let all : unread p + bytes_received x.cache ≤ t.frame.bytes = h.cache.small in
               omega arith
 
@@ -336,17 +375,20 @@ module _ {B : Type 0} {g : Ghosts B} where
             piece_then = piece_but z t y made.mid r bytes piece_kept made.first made.rest made.moved made.one
 
             apart_piece : IsApart z p (with_entry e r)
-            apart_piece = apart_both z p r (with_entry e r) (apart_row z (read_to taken.0 taken.1) p) (apart_step z t y made.mid r (event.Piece z bytes) refl made.first)
+            apart_piece = apart_both z p r (with_entry e r) (apart_row z (read_to taken.0 taken.1) p)
+                (apart_step z t y made.mid r (event.Piece z bytes) refl made.first)
 
             -- the same as in the definitions, but for what is behind a denial
             same_first : faults_in made.mid.cache ≡ faults_in x.cache → unless_denied t.frame.limits z (with_entry e r) ≡ handed t.frame.limits z p
-            same_first same = ap (λ (d : Entry). unless_denied t.frame.limits z (with_entry d r)) (made.first.same same) ∙ sym (handed_is (Brings bytes taken.0 taken.1) taken.2)
+            same_first same = ap (λ (d : Entry). unless_denied t.frame.limits z (with_entry d r)) (made.first.same same) ∙
+                sym (handed_is (Brings bytes taken.0 taken.1) taken.2)
 
             undenied : is_denied e.acts ≡ false → unless_denied t.frame.limits z (with_entry e r) ≡ with_entry e r
             unfolding with_entry
             undenied on = rw on refl
 
-            denied : is_denied e.acts ≡ true → unless_denied t.frame.limits z (with_entry e r) ≡ steps_of.stepped t.frame.limits (event.Fault z) (with_entry e r)
+            denied : is_denied e.acts ≡ true →
+                unless_denied t.frame.limits z (with_entry e r) ≡ steps_of.stepped t.frame.limits (event.Fault z) (with_entry e r)
             unfolding with_entry
             denied off = rw off refl
 
@@ -360,7 +402,8 @@ module _ {B : Type 0} {g : Ghosts B} where
                   same = λ same. sym (undenied on) ∙ same_first same;
                 }
 
-            two_made : is_denied e.acts ≡ true → FaultStepped t.frame made.mid x' z (with_entry e r) → Goes (HasHanded z t p (steps x.cache)) (faults_in x.cache) x' (handed t.frame.limits z p)
+            two_made : is_denied e.acts ≡ true → FaultStepped t.frame made.mid x' z (with_entry e r) →
+                Goes (HasHanded z t p (steps x.cache)) (faults_in x.cache) x' (handed t.frame.limits z p)
             two_made off fault =
                 let q = with_entry fault.stepped.e (with_entry e r) in
                 let count : steps made.mid.cache ≡ steps x.cache + 1 = made.one in
@@ -387,13 +430,19 @@ module _ {B : Type 0} {g : Ghosts B} where
             pub piece_goes : Goes (HasHanded z t p (steps x.cache)) (faults_in x.cache) x' (handed t.frame.limits z p)
             piece_goes = by_denial made.behind
               where
-                by_denial : ((is_denied e.acts ≡ false) × (x' ≡ made.mid)) ⊎ ((is_denied e.acts ≡ true) × FaultStepped t.frame made.mid x' z (with_entry e r)) → Goes (HasHanded z t p (steps x.cache)) (faults_in x.cache) x' (handed t.frame.limits z p)
-                by_denial (inl on) = subst (λ (w : loop.Proxy B g). Goes (HasHanded z t p (steps x.cache)) (faults_in x.cache) w (handed t.frame.limits z p)) (sym on.1) (one_made on.0)
+                by_denial : ((is_denied e.acts ≡ false) × (x' ≡ made.mid)) ⊎
+                    ((is_denied e.acts ≡ true) × FaultStepped t.frame made.mid x' z (with_entry e r)) →
+                    Goes (HasHanded z t p (steps x.cache)) (faults_in x.cache) x' (handed t.frame.limits z p)
+                by_denial (inl on) = subst
+                    (λ (w : loop.Proxy B g). Goes (HasHanded z t p (steps x.cache)) (faults_in x.cache) w (handed t.frame.limits z p)) (sym on.1)
+                    (one_made on.0)
                 by_denial (inr off) = two_made off.0 off.1
 
         -- A HEAD, which is stepped before the row is read on
 
-        module _ (response : Response) (taken : IsTakenAs (part.Head response) (origins.next_of rows.u) rows.u new) (x' : loop.Proxy B g) (stepped : Stepped t.frame y x' (event.Head z response) p) (rest : RestStays y x') (moved : x'.moved ≡ true) (one : steps x'.cache ≡ steps x.cache + 1) where
+        module _ (response : Response) (taken : IsTakenAs (part.Head response) (origins.next_of rows.u) rows.u new) (x' : loop.Proxy B g)
+            (stepped : Stepped t.frame y x' (event.Head z response) p) (rest : RestStays y x') (moved : x'.moved ≡ true)
+            (one : steps x'.cache ≡ steps x.cache + 1) where
           abbrev unread_yet : loop.Proxy B g
           unread_yet = record x' { upstreams = x.upstreams }
 
@@ -413,16 +462,23 @@ module _ {B : Type 0} {g : Ghosts B} where
           }
 
           before_read : KeepsBut z t unread_yet reported
-          before_read = head_but z t x unread_yet p response h st (record { now = rest.now; starts = rest.starts; clients = rest.clients; upstreams = refl; closed = rest.closed; round = rest.round }) moved one
+          before_read = head_but z t x unread_yet p response h st
+              (record { now = rest.now; starts = rest.starts; clients = rest.clients; upstreams = refl; closed = rest.closed; round = rest.round }) moved one
 
-          row_headed : (o u : Option Exchange) → p.tables.exchange z ≡ o → is_open o ≡ true → (after p.tables stepped.e).exchange z ≡ u → is_open u ≡ true → has_head u ≡ true
+          row_headed : (o u : Option Exchange) → p.tables.exchange z ≡ o → is_open o ≡ true → (after p.tables stepped.e).exchange z ≡ u →
+              is_open u ≡ true → has_head u ≡ true
           row_headed None u row was behind on = true_false (sym was)
           row_headed (Some w) None row was behind on = true_false (sym on)
-          row_headed (Some w) (Some u) row was behind on = accepted.has_head t.frame.limits p.tables stepped.e stepped.is_owed z w row was response stepped.event_is u behind
+          row_headed (Some w) (Some u) row was behind on =
+              accepted.has_head t.frame.limits p.tables stepped.e stepped.is_owed z w row was response stepped.event_is u behind
 
-          heads : (v : Upstream) → is_open (reported.tables.exchange z) ≡ true → reported.upstream z ≡ Some v → IsReadAs (read_to taken.0 taken.1 v).reading (reported.tables.exchange z)
+          heads : (v : Upstream) → is_open (reported.tables.exchange z) ≡ true → reported.upstream z ≡ Some v →
+              IsReadAs (read_to taken.0 taken.1 v).reading (reported.tables.exchange z)
           unfolding with_entry
-          heads v on is = (answers_next (Reports (Answers response) taken.0 taken.1) taken.2, λ begun. row_headed (p.tables.exchange z) ((after p.tables stepped.e).exchange z) refl is_open_now refl on)
+          heads v on is = (
+            answers_next (Reports (Answers response) taken.0 taken.1) taken.2,
+            λ begun. row_headed (p.tables.exchange z) ((after p.tables stepped.e).exchange z) refl is_open_now refl on,
+          )
 
           reported_row : reported.upstream z ≡ p.upstream z
           unfolding with_entry
@@ -432,18 +488,22 @@ module _ {B : Type 0} {g : Ghosts B} where
           shorter = reported_off rows.u.reader rows.u.input (Answers response) taken.0 taken.1 taken.2
 
           less_reported : unread_of (option_map (read_to taken.0 taken.1) (reported.upstream z)) ≤ unread_of (reported.upstream z) + 0
-          less_reported = subst (λ (o : Option Upstream). unread_of (option_map (read_to taken.0 taken.1) o) ≤ unread_of o + 0) (sym reported_row) (less_here taken.0 taken.1 s (now_is taken.0 taken.1 taken.3) lists shorter (p.upstream z) refl)
+          less_reported = subst (λ (o : Option Upstream). unread_of (option_map (read_to taken.0 taken.1) o) ≤ unread_of o + 0) (sym reported_row)
+              (less_here taken.0 taken.1 s (now_is taken.0 taken.1 taken.3) lists shorter (p.upstream z) refl)
 
           reported_room : unread (with_upstream z (read_to taken.0 taken.1) reported) + bytes_received x'.cache ≤ t.frame.bytes
           reported_room =
-              let grows : unread (with_upstream z (read_to taken.0 taken.1) reported) ≤ unread reported + 0 = unread_grows reported (reported.tables.opened + 1) (law_of t.frame unread_yet reported before_read.cache).order.openings z (read_to taken.0 taken.1) 0 less_reported in
+              let grows : unread (with_upstream z (read_to taken.0 taken.1) reported) ≤ unread reported + 0 =
+              unread_grows reported (reported.tables.opened + 1) (law_of t.frame unread_yet reported before_read.cache).order.openings z
+              (read_to taken.0 taken.1) 0 less_reported in
               let all : unread reported + bytes_received x'.cache ≤ t.frame.bytes = stepped.cache.small in
               omega arith
 
           head_kept : KeepsBut z t x' (with_upstream z (read_to taken.0 taken.1) reported)
           head_kept =
               row_changed z t unread_yet reported before_read (read_to taken.0 taken.1) rows.u (origins.read_to taken.0 taken.1 rows.u) rows.is_u x'.upstreams
-              (subst (λ (up : Upstreams). Becomes z (Some (origins.read_to taken.0 taken.1 rows.u)) x.upstreams up) (sym rest.upstreams) (now_is taken.0 taken.1 taken.3))
+              (subst (λ (up : Upstreams). Becomes z (Some (origins.read_to taken.0 taken.1 rows.u)) x.upstreams up) (sym rest.upstreams)
+              (now_is taken.0 taken.1 taken.3))
               refl refl (λ v is a. alike taken.0 taken.1 s (now_is taken.0 taken.1 taken.3) lists shorter v a)
               (λ w apart. ap (λ (up : Upstreams). is_news up w) rest.upstreams ∙ lists.0 w)
               (λ w apart. ap (λ (up : Upstreams). is_touched up w) rest.upstreams ∙ lists.1 w)
@@ -460,7 +520,8 @@ module _ {B : Type 0} {g : Ghosts B} where
                 q = with_upstream z (read_to taken.0 taken.1) reported;
                 keeps = record {
                   keeps = head_kept;
-                  apart = apart_both z p reported (with_upstream z (read_to taken.0 taken.1) reported) (apart_step z t x unread_yet p (event.Head z response) refl st) (apart_row z (read_to taken.0 taken.1) reported);
+                  apart = apart_both z p reported (with_upstream z (read_to taken.0 taken.1) reported)
+                      (apart_step z t x unread_yet p (event.Head z response) refl st) (apart_row z (read_to taken.0 taken.1) reported);
                   most = omega arith;
                   once = λ on. omega arith;
                   none = shut_never;

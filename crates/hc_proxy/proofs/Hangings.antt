@@ -12,7 +12,8 @@ use Rattle.hc_proxy.specs.declared.proxy.Proxy as loop
 use Rattle.hc_proxy.specs.{Invariants.{AreShut}, Keeping.{Turn, HasUpstreams, HangsUp}, Rows.{Proxy}, Underway.{HasHolders, KeepsUnderway}}
 use Rattle.hc_proxy.proofs.{Alike.{cache_moves, clients_move}, CarriedOut.{act_keeps}, HangsOff.{off_row, was_there, open_apart, rows_left, some_there, wire_left, known_left}}
 
-module _ {B : Type 0} {g : Ghosts B} (t : Turn) (z : ℕ) (acts : List Act) (x x' : loop.Proxy B g) (p : Proxy) (h : KeepsUnderway t (act.Close z ∷ acts) x p) (u : HangsUp z x x') where
+module _ {B : Type 0} {g : Ghosts B} (t : Turn) (z : ℕ) (acts : List Act) (x x' : loop.Proxy B g) (p : Proxy)
+    (h : KeepsUnderway t (act.Close z ∷ acts) x p) (u : HangsUp z x x') where
   abbrev ups : HasUpstreams t x p (act.Close z ∷ acts)
   ups = h.upstreams
 

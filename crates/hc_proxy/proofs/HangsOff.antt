@@ -25,7 +25,8 @@ pub one_of : (k j : ℕ) → Contains (j ∷ []) k → j ≡ k
 one_of k j (zero, within, is) = is
 one_of k j (suc n, within, is) = absurd (omega arith)
 
-module _ {B : Type 0} {g : Ghosts B} (t : Turn) (z : ℕ) (x x' : loop.Proxy B g) (p : Proxy) (shut : is_open (p.tables.exchange z) ≡ false) (u : HangsUp z x x') where
+module _ {B : Type 0} {g : Ghosts B} (t : Turn) (z : ℕ) (x x' : loop.Proxy B g) (p : Proxy) (shut : is_open (p.tables.exchange z) ≡ false)
+    (u : HangsUp z x x') where
   gone_here : upstream_of x'.upstreams z ≡ None
   gone_here = u.gone z ∙ rw (same_number z) refl
 
@@ -47,7 +48,8 @@ module _ {B : Type 0} {g : Ghosts B} (t : Turn) (z : ℕ) (x x' : loop.Proxy B g
     | inr other ↦ other.0
   ]
 
-  pub rows_left : ((y : ℕ) → is_open (p.tables.exchange y) ≡ true → y ≤ length t.dialled → IsUpstreamAt (taken_at t.call) (upstream_of x.upstreams y) (p.upstream y))
+  pub rows_left : ((y : ℕ) → is_open (p.tables.exchange y) ≡ true → y ≤ length t.dialled →
+      IsUpstreamAt (taken_at t.call) (upstream_of x.upstreams y) (p.upstream y))
       → (y : ℕ) → is_open (p.tables.exchange y) ≡ true → y ≤ length t.dialled → IsUpstreamAt (taken_at t.call) (upstream_of x'.upstreams y) (p.upstream y)
   rows_left rows y on le = subst (λ o. IsUpstreamAt (taken_at t.call) o (p.upstream y)) (sym (off_row y (open_apart y on))) (rows y on le)
 
@@ -57,7 +59,9 @@ module _ {B : Type 0} {g : Ghosts B} (t : Turn) (z : ℕ) (x x' : loop.Proxy B g
 
   -- THE WIRE
 
-  module _ (clients : HasClients t x p) (numbers : (y : ℕ) (v : origin.Upstream) → upstream_of x.upstreams y ≡ Some v → connection_of t.dialled y ≡ Some v.k) (names : NamesOne t.dialled) (strangers : (k : ℕ) → IsSome (p.client k) → exchange_of t.dialled k ≡ None) (wire : AtWire t.stages x) where
+  module _ (clients : HasClients t x p)
+      (numbers : (y : ℕ) (v : origin.Upstream) → upstream_of x.upstreams y ≡ Some v → connection_of t.dialled y ≡ Some v.k) (names : NamesOne t.dialled)
+      (strangers : (k : ℕ) → IsSome (p.client k) → exchange_of t.dialled k ≡ None) (wire : AtWire t.stages x) where
     same_client : (k : ℕ) → client_of x'.clients k ≡ client_of x.clients k
     same_client k = ap (λ (s : Clients). client_of s k) u.clients
 
@@ -70,31 +74,41 @@ module _ {B : Type 0} {g : Ghosts B} (t : Turn) (z : ℕ) (x x' : loop.Proxy B g
         (Contains-append_right x.closed.items (closed_by (upstream_of x.upstreams z)) k
         (subst (λ o. Contains (closed_by o) k) (sym is) (subst (λ n. Contains (v.k ∷ []) n) same (0, omega arith, refl))))
 
-    open_there : (k : ℕ) → IsOpen (t.stages k) → IsSome (client_of x'.clients k) ⊎ ((y : ℕ) × (v : origin.Upstream) × (upstream_of x'.upstreams y ≡ Some v) × (v.k ≡ k)) ⊎ Contains x'.closed.items k
-    open_there k opens = elim (wire.all k opens) as (λ _. IsSome (client_of x'.clients k) ⊎ ((y : ℕ) × (v : origin.Upstream) × (upstream_of x'.upstreams y ≡ Some v) × (v.k ≡ k)) ⊎ Contains x'.closed.items k) [
-      | inl client ↦ inl (subst IsSome (sym (same_client k)) client)
-      | inr other ↦ elim other as (λ _. IsSome (client_of x'.clients k) ⊎ ((y : ℕ) × (v : origin.Upstream) × (upstream_of x'.upstreams y ≡ Some v) × (v.k ≡ k)) ⊎ Contains x'.closed.items k) [
-        | inr closes ↦ inr (inr (held_before k closes))
-        | inl up ↦ elim (eq_cases up.0 z) as (λ _. IsSome (client_of x'.clients k) ⊎ ((y : ℕ) × (v : origin.Upstream) × (upstream_of x'.upstreams y ≡ Some v) × (v.k ≡ k)) ⊎ Contains x'.closed.items k) [
-          | inl here ↦ inr (inr (held_now k up.1 (ap (upstream_of x.upstreams) (sym here.1) ∙ up.2) up.3))
-          | inr off ↦ inr (inl (up.0, up.1, off_row up.0 off.0 ∙ up.2, up.3))
+    open_there : (k : ℕ) → IsOpen (t.stages k) →
+        IsSome (client_of x'.clients k) ⊎ ((y : ℕ) × (v : origin.Upstream) × (upstream_of x'.upstreams y ≡ Some v) × (v.k ≡ k)) ⊎ Contains x'.closed.items k
+    open_there k opens = elim (wire.all k opens) as
+        (λ _. IsSome (client_of x'.clients k) ⊎ ((y : ℕ) × (v : origin.Upstream) × (upstream_of x'.upstreams y ≡ Some v) × (v.k ≡ k)) ⊎ Contains
+        x'.closed.items k) [
+          | inl client ↦ inl (subst IsSome (sym (same_client k)) client)
+          | inr other ↦ elim other as
+              (λ _. IsSome (client_of x'.clients k) ⊎ ((y : ℕ) × (v : origin.Upstream) × (upstream_of x'.upstreams y ≡ Some v) × (v.k ≡ k)) ⊎ Contains
+              x'.closed.items k) [
+                | inr closes ↦ inr (inr (held_before k closes))
+                | inl up ↦ elim (eq_cases up.0 z) as
+                    (λ _. IsSome (client_of x'.clients k) ⊎ ((y : ℕ) × (v : origin.Upstream) × (upstream_of x'.upstreams y ≡ Some v) × (v.k ≡ k)) ⊎ Contains
+                    x'.closed.items k) [
+                      | inl here ↦ inr (inr (held_now k up.1 (ap (upstream_of x.upstreams) (sym here.1) ∙ up.2) up.3))
+                      | inr off ↦ inr (inl (up.0, up.1, off_row up.0 off.0 ∙ up.2, up.3))
+                    ]
+              ]
         ]
-      ]
-    ]
 
-    shut_before : (k : ℕ) → Contains x.closed.items k → (client_of x'.clients k ≡ None) × ((y : ℕ) (v : origin.Upstream) → upstream_of x'.upstreams y ≡ Some v → v.k ≢ k)
+    shut_before : (k : ℕ) → Contains x.closed.items k → (client_of x'.clients k ≡ None) ×
+        ((y : ℕ) (v : origin.Upstream) → upstream_of x'.upstreams y ≡ Some v → v.k ≢ k)
     shut_before k there =
         let was = wire.closed k there in
         (same_client k ∙ was.0, λ y v is. was.1 y v (was_there y v is).1)
 
-    no_client : (k : ℕ) (v : origin.Upstream) → upstream_of x.upstreams z ≡ Some v → v.k ≡ k → (o : Option peer.Client) → client_of x.clients k ≡ o → client_of x.clients k ≡ None
+    no_client : (k : ℕ) (v : origin.Upstream) → upstream_of x.upstreams z ≡ Some v → v.k ≡ k → (o : Option peer.Client) → client_of x.clients k ≡ o →
+        client_of x.clients k ≡ None
     no_client k v is same None none = none
     no_client k v is same (Some c) row =
         let stranger : exchange_of t.dialled k ≡ None = strangers k (has_row (taken_at t.call k) (client_of x.clients k) (p.client k) c (clients.rows k) row) in
         let named : exchange_of t.dialled v.k ≡ Some z = names z v.k (numbers z v is) in
         none_some z (sym stranger ∙ (ap (exchange_of t.dialled) (sym same) ∙ named))
 
-    shut_now : (k : ℕ) (o : Option origin.Upstream) → upstream_of x.upstreams z ≡ o → Contains (closed_by o) k → (client_of x'.clients k ≡ None) × ((y : ℕ) (v : origin.Upstream) → upstream_of x'.upstreams y ≡ Some v → v.k ≢ k)
+    shut_now : (k : ℕ) (o : Option origin.Upstream) → upstream_of x.upstreams z ≡ o → Contains (closed_by o) k → (client_of x'.clients k ≡ None) ×
+        ((y : ℕ) (v : origin.Upstream) → upstream_of x'.upstreams y ≡ Some v → v.k ≢ k)
     shut_now k None is (n, within, at) = absurd (omega arith)
     shut_now k (Some v) is there =
         let same : v.k ≡ k = one_of k v.k there in (
@@ -112,10 +126,12 @@ module _ {B : Type 0} {g : Ghosts B} (t : Turn) (z : ℕ) (x x' : loop.Proxy B g
       clients = λ k c is. wire.clients k c (sym (same_client k) ∙ is);
       upstreams = λ y v is. wire.upstreams y v (was_there y v is).1;
       all = open_there;
-      closed = λ k there. elim (Contains-append_cases x.closed.items (closed_by (upstream_of x.upstreams z)) k (subst (λ ks. Contains ks k) u.closed there)) as (λ _. (client_of x'.clients k ≡ None) × ((y : ℕ) (v : origin.Upstream) → upstream_of x'.upstreams y ≡ Some v → v.k ≢ k)) [
-        | inl before ↦ shut_before k before
-        | inr now ↦ shut_now k (upstream_of x.upstreams z) refl now
-      ];
+      closed = λ k there. elim
+          (Contains-append_cases x.closed.items (closed_by (upstream_of x.upstreams z)) k (subst (λ ks. Contains ks k) u.closed there)) as
+          (λ _. (client_of x'.clients k ≡ None) × ((y : ℕ) (v : origin.Upstream) → upstream_of x'.upstreams y ≡ Some v → v.k ≢ k)) [
+            | inl before ↦ shut_before k before
+            | inr now ↦ shut_now k (upstream_of x.upstreams z) refl now
+          ];
     }
 
     known_now : (k : ℕ) (o : Option origin.Upstream) → upstream_of x.upstreams z ≡ o → Contains (closed_by o) k → t.stages k ≢ Unseen
@@ -126,7 +142,9 @@ module _ {B : Type 0} {g : Ghosts B} (t : Turn) (z : ℕ) (x x' : loop.Proxy B g
         cc
 
     pub known_left : AreKnown t x → AreKnown t x'
-    known_left known k there = elim (Contains-append_cases x.closed.items (closed_by (upstream_of x.upstreams z)) k (subst (λ ks. Contains ks k) u.closed there)) as (λ _. t.stages k ≢ Unseen) [
-      | inl before ↦ known k before
-      | inr now ↦ known_now k (upstream_of x.upstreams z) refl now
-    ]
+    known_left known k there =
+        elim (Contains-append_cases x.closed.items (closed_by (upstream_of x.upstreams z)) k (subst (λ ks. Contains ks k) u.closed there)) as
+        (λ _. t.stages k ≢ Unseen) [
+          | inl before ↦ known k before
+          | inr now ↦ known_now k (upstream_of x.upstreams z) refl now
+        ]

@@ -20,7 +20,8 @@ use Rattle.hc_proxy.proofs.{Alike.{cache_moves, clients_move}, Ascending.{opens_
 pub news_among : (s : Upstreams) (y : ℕ) → among y (news_of s) ≡ is_news s y
 news_among s y = sym (keys_among y (news_of s))
 
-each_more : (limits : Limits) (xs : List ℕ) (z : ℕ) (p : Proxy) → each_heard limits (xs ++ z ∷ []) p ≡ closed limits z (handed limits z (each_heard limits xs p))
+each_more : (limits : Limits) (xs : List ℕ) (z : ℕ) (p : Proxy) →
+    each_heard limits (xs ++ z ∷ []) p ≡ closed limits z (handed limits z (each_heard limits xs p))
 each_more limits [] z p = refl
 each_more limits (x ∷ xs) z p = each_more limits xs z (closed limits x (handed limits x p))
 
@@ -48,7 +49,8 @@ module _ {B : Type 0} {g : Ghosts B} where
 
     few_opened : open_now p.tables ≤ 512
     few_opened =
-        let a : open_now p.tables ≤ length (clients_here p) = few_open p law k.keeps.consumers k.keeps.clients.listed t.frame.limits p.history (run_of t.frame x p k.keeps.cache) k.keeps.cache.same in
+        let a : open_now p.tables ≤ length (clients_here p) =
+        few_open p law k.keeps.consumers k.keeps.clients.listed t.frame.limits p.history (run_of t.frame x p k.keeps.cache) k.keeps.cache.same in
         let b : length (clients_here p) ≤ 512 = k.keeps.clients.few in
         omega arith
 
@@ -77,7 +79,8 @@ module _ {B : Type 0} {g : Ghosts B} where
     unfolding heard
     same_heard order =
         is_each t.frame.limits (news_of x.upstreams) p
-        ∙ (same_each (heard_one t.frame.limits) (Stands t.frame.limits) (Idle t.frame.limits) (is_skipped t.frame.limits) (news_of x.upstreams) (open_exchanges p.tables) 0 0
+        ∙ (same_each (heard_one t.frame.limits) (Stands t.frame.limits) (Idle t.frame.limits) (is_skipped t.frame.limits) (news_of x.upstreams)
+        (open_exchanges p.tables) 0 0
         (sorted_ascends (news_of x.upstreams) order) (opens_ascend p.tables law) p (stands_of t.frame x p k.keeps.cache)
         (λ y there off. inl (shut_by y false off))
         (λ y there off. inr (unlisted_idle y (shut_by y true there) (sym (news_among x.upstreams y) ∙ off)))
@@ -138,12 +141,16 @@ module _ {B : Type 0} {g : Ghosts B} where
     same = λ same. refl;
   }
     where
-      by_news : (y : ℕ) (v : Upstream) → is_open (p.tables.exchange y) ≡ true → p.upstream y ≡ Some v → v.ended ≡ true → (b : Bool) → is_news x.upstreams y ≡ b → (is_part (next_of v) ≡ true) ⊎ (among y (news_of x.upstreams) ≡ true)
+      by_news : (y : ℕ) (v : Upstream) → is_open (p.tables.exchange y) ≡ true → p.upstream y ≡ Some v → v.ended ≡ true → (b : Bool) →
+          is_news x.upstreams y ≡ b → (is_part (next_of v) ≡ true) ⊎ (among y (news_of x.upstreams) ≡ true)
       by_news y v on is ended true listed = inr (news_among x.upstreams y ∙ listed)
       by_news y v on is ended false off =
           inl (due_part (is_wanted (p.tables.exchange y)) v (sym (ap (is_due_by (is_wanted (p.tables.exchange y))) is) ∙ unlisted_idle t x p k y on off) ended)
 
-  pub hears_next : (t : Turn) (old x x' : loop.Proxy B g) (p : Proxy) (xs : List ℕ) (z : ℕ) (left : List ℕ) → HearsTo t old x p xs (z ∷ left) → ((q : Proxy) → KeepsQuiet t x q → Goes (HasHeard z t q (steps x.cache)) (faults_in x.cache) x' (closed t.frame.limits z (handed t.frame.limits z q))) → HearsTo t old x' p (xs ++ z ∷ []) left
+  pub hears_next : (t : Turn) (old x x' : loop.Proxy B g) (p : Proxy) (xs : List ℕ) (z : ℕ) (left : List ℕ) → HearsTo t old x p xs (z ∷ left) →
+      ((q : Proxy) → KeepsQuiet t x q →
+      Goes (HasHeard z t q (steps x.cache)) (faults_in x.cache) x' (closed t.frame.limits z (handed t.frame.limits z q))) →
+      HearsTo t old x' p (xs ++ z ∷ []) left
   hears_next t old x x' p xs z left to goes =
       let s = goes to.q to.keeps in
       let before : faults_in old.cache ≤ faults_in x.cache = to.later in
@@ -154,10 +161,11 @@ module _ {B : Type 0} {g : Ghosts B} where
         opens = λ y on. to.opens y (s.keeps.apart.opens y on);
         heard = λ y v on is ended. elim (eq_cases y z) as (λ _. (is_part (next_of v) ≡ true) ⊎ (among y left ≡ true)) [
           | inl here ↦ inl (s.keeps.heard v (ap (λ n. is_open (s.q.tables.exchange n)) (sym here.1) ∙ on) (ap s.q.upstream (sym here.1) ∙ is) ended)
-          | inr off ↦ elim (to.heard y v (s.keeps.apart.opens y on) (sym (s.keeps.apart.rows y off.0) ∙ is) ended) as (λ _. (is_part (next_of v) ≡ true) ⊎ (among y left ≡ true)) [
-            | inl part ↦ inl part
-            | inr there ↦ inr (sym (rw off.0 refl) ∙ there)
-          ]
+          | inr off ↦ elim (to.heard y v (s.keeps.apart.opens y on) (sym (s.keeps.apart.rows y off.0) ∙ is) ended) as
+              (λ _. (is_part (next_of v) ≡ true) ⊎ (among y left ≡ true)) [
+                | inl part ↦ inl part
+                | inr there ↦ inr (sym (rw off.0 refl) ∙ there)
+              ]
         ];
         count = by_open (is_open (p.tables.exchange z)) refl;
         later = omega arith;
@@ -172,23 +180,27 @@ module _ {B : Type 0} {g : Ghosts B} where
       shut_still shut false is = is
       shut_still shut true is = true_false (sym (to.opens z is) ∙ shut)
 
-      by_open : (b : Bool) → is_open (p.tables.exchange z) ≡ b → steps x'.cache ≤ steps old.cache + 2 * length (filter (λ y. is_open (p.tables.exchange y)) (xs ++ z ∷ []))
+      by_open : (b : Bool) → is_open (p.tables.exchange z) ≡ b →
+          steps x'.cache ≤ steps old.cache + 2 * length (filter (λ y. is_open (p.tables.exchange y)) (xs ++ z ∷ []))
       by_open true on =
           let s = goes to.q to.keeps in
           let a : steps x.cache ≤ steps old.cache + 2 * length (filter (λ y. is_open (p.tables.exchange y)) xs) = to.count in
           let b : steps x'.cache ≤ steps x.cache + 2 = s.keeps.most in
-          let c : length (filter (λ y. is_open (p.tables.exchange y)) (xs ++ z ∷ [])) ≡ length (filter (λ y. is_open (p.tables.exchange y)) xs) + length (filter (λ y. is_open (p.tables.exchange y)) (z ∷ [])) = filter_both (λ y. is_open (p.tables.exchange y)) xs (z ∷ []) in
+          let c : length (filter (λ y. is_open (p.tables.exchange y)) (xs ++ z ∷ [])) ≡ length (filter (λ y. is_open (p.tables.exchange y)) xs) + length
+          (filter (λ y. is_open (p.tables.exchange y)) (z ∷ [])) = filter_both (λ y. is_open (p.tables.exchange y)) xs (z ∷ []) in
           let d : length (filter (λ y. is_open (p.tables.exchange y)) (z ∷ [])) ≡ 0 + 1 = passes_one (λ y. is_open (p.tables.exchange y)) z [] on in
           omega arith
       by_open false shut =
           let s = goes to.q to.keeps in
           let a : steps x.cache ≤ steps old.cache + 2 * length (filter (λ y. is_open (p.tables.exchange y)) xs) = to.count in
           let b : steps x'.cache ≤ steps x.cache = s.keeps.none (shut_still shut (is_open (to.q.tables.exchange z)) refl) in
-          let c : length (filter (λ y. is_open (p.tables.exchange y)) (xs ++ z ∷ [])) ≡ length (filter (λ y. is_open (p.tables.exchange y)) xs) + length (filter (λ y. is_open (p.tables.exchange y)) (z ∷ [])) = filter_both (λ y. is_open (p.tables.exchange y)) xs (z ∷ []) in
+          let c : length (filter (λ y. is_open (p.tables.exchange y)) (xs ++ z ∷ [])) ≡ length (filter (λ y. is_open (p.tables.exchange y)) xs) + length
+          (filter (λ y. is_open (p.tables.exchange y)) (z ∷ [])) = filter_both (λ y. is_open (p.tables.exchange y)) xs (z ∷ []) in
           omega arith
 
   -- steps are left for the next one
-  pub hears_may : (t : Turn) (old x : loop.Proxy B g) (p : Proxy) (xs : List ℕ) (z : ℕ) (left : List ℕ) → KeepsQuiet t old p → Ascends 0 (xs ++ z ∷ left) → steps old.cache + 1024 ≤ 2 ^ 60 → HearsTo t old x p xs (z ∷ left) → MayStep 2 z x
+  pub hears_may : (t : Turn) (old x : loop.Proxy B g) (p : Proxy) (xs : List ℕ) (z : ℕ) (left : List ℕ) → KeepsQuiet t old p →
+      Ascends 0 (xs ++ z ∷ left) → steps old.cache + 1024 ≤ 2 ^ 60 → HearsTo t old x p xs (z ∷ left) → MayStep 2 z x
   hears_may t old x p xs z left k up few to = (
     t,
     to.q,
@@ -196,18 +208,22 @@ module _ {B : Type 0} {g : Ghosts B} where
     λ on.
         let a : steps x.cache ≤ steps old.cache + 2 * length (filter (λ y. is_open (p.tables.exchange y)) xs) = to.count in
         let b : length (filter (λ y. is_open (p.tables.exchange y)) (xs ++ z ∷ left)) ≤ 512 = few_in t old p k (xs ++ z ∷ left) up in
-        let c : length (filter (λ y. is_open (p.tables.exchange y)) (xs ++ z ∷ left)) ≡ length (filter (λ y. is_open (p.tables.exchange y)) xs) + length (filter (λ y. is_open (p.tables.exchange y)) (z ∷ left)) = filter_both (λ y. is_open (p.tables.exchange y)) xs (z ∷ left) in
-        let d : length (filter (λ y. is_open (p.tables.exchange y)) (z ∷ left)) ≡ length (filter (λ y. is_open (p.tables.exchange y)) left) + 1 = passes_one (λ y. is_open (p.tables.exchange y)) z left (to.opens z on) in
+        let c : length (filter (λ y. is_open (p.tables.exchange y)) (xs ++ z ∷ left)) ≡ length (filter (λ y. is_open (p.tables.exchange y)) xs) + length
+        (filter (λ y. is_open (p.tables.exchange y)) (z ∷ left)) = filter_both (λ y. is_open (p.tables.exchange y)) xs (z ∷ left) in
+        let d : length (filter (λ y. is_open (p.tables.exchange y)) (z ∷ left)) ≡ length (filter (λ y. is_open (p.tables.exchange y)) left) + 1 =
+        passes_one (λ y. is_open (p.tables.exchange y)) z left (to.opens z on) in
         omega arith,
   )
 
-  pub hears_count : (t : Turn) (old x : loop.Proxy B g) (p : Proxy) (xs : List ℕ) → KeepsQuiet t old p → Ascends 0 xs → HearsTo t old x p xs [] → steps x.cache ≤ steps old.cache + 1024
+  pub hears_count : (t : Turn) (old x : loop.Proxy B g) (p : Proxy) (xs : List ℕ) → KeepsQuiet t old p → Ascends 0 xs → HearsTo t old x p xs [] →
+      steps x.cache ≤ steps old.cache + 1024
   hears_count t old x p xs k up to =
       let a : steps x.cache ≤ steps old.cache + 2 * length (filter (λ y. is_open (p.tables.exchange y)) xs) = to.count in
       let b : length (filter (λ y. is_open (p.tables.exchange y)) xs) ≤ 512 = few_in t old p k xs up in
       omega arith
 
-  pub hears_end : (t : Turn) (old x : loop.Proxy B g) (p : Proxy) → KeepsQuiet t old p → IsStrictlySortedBy nat_cmp (news_of old.upstreams) → HearsTo t old x p (news_of old.upstreams) [] → Goes (KeepsHeard t) (faults_in old.cache) x (heard t.frame.limits p)
+  pub hears_end : (t : Turn) (old x : loop.Proxy B g) (p : Proxy) → KeepsQuiet t old p → IsStrictlySortedBy nat_cmp (news_of old.upstreams) →
+      HearsTo t old x p (news_of old.upstreams) [] → Goes (KeepsHeard t) (faults_in old.cache) x (heard t.frame.limits p)
   hears_end t old x p k order to = record {
     q = to.q;
     keeps = record {

@@ -98,7 +98,8 @@ module _ (limits : Limits) (dialled : List ℕ) (x : ℕ) where
   abbrev more_calls : List Called → Called → List Called
   more_calls calls call = calls ++ call ∷ []
 
-  later : (calls behind : List Called) (no_body : Bool) (call : Called) → IsOpened calls behind no_body → IsOpened (more_calls calls call) (more_calls behind call) no_body
+  later : (calls behind : List Called) (no_body : Bool) (call : Called) → IsOpened calls behind no_body →
+      IsOpened (more_calls calls call) (more_calls behind call) no_body
   later calls behind no_body call is = record {
     before = is.before;
     call = is.call;
@@ -108,22 +109,34 @@ module _ (limits : Limits) (dialled : List ℕ) (x : ℕ) where
     kind = is.kind;
   }
 
-  more_sent : (behind : List Called) (call : Called) (no_body : Bool) (tokens : List Token) → HasSent no_body (came behind) tokens → HasSent no_body (came (more_calls behind call)) tokens
+  more_sent : (behind : List Called) (call : Called) (no_body : Bool) (tokens : List Token) → HasSent no_body (came behind) tokens →
+      HasSent no_body (came (more_calls behind call)) tokens
   more_sent behind call no_body tokens s = record {
     front = s.front;
     rest = s.rest ++ new_of call;
     reading = s.reading;
-    whole = sym (append_assoc s.front s.rest (new_of call)) ∙ (ap (λ (xs : List ℕ). xs ++ new_of call) s.whole ∙ sym (came_more (connection_of dialled x) behind call));
+    whole = sym (append_assoc s.front s.rest (new_of call)) ∙
+        (ap (λ (xs : List ℕ). xs ++ new_of call) s.whole ∙ sym (came_more (connection_of dialled x) behind call));
     reads = s.reads;
   }
 
-  more_answered : (behind : List Called) (call : Called) (no_body : Bool) (tokens : List Token) → IsAnswered behind no_body tokens → IsAnswered (more_calls behind call) no_body tokens
+  more_answered : (behind : List Called) (call : Called) (no_body : Bool) (tokens : List Token) → IsAnswered behind no_body tokens →
+      IsAnswered (more_calls behind call) no_body tokens
   unfolding more_sent
   more_answered behind call no_body tokens a = record { sent = more_sent behind call no_body tokens a.sent; whole = by_end a.whole }
     where
-      by_end : (a.sent.reading ≡ Whole) ⊎ IsCut behind a.sent.front a.sent.reading → (a.sent.reading ≡ Whole) ⊎ IsCut (more_calls behind call) a.sent.front a.sent.reading
+      by_end : (a.sent.reading ≡ Whole) ⊎ IsCut behind a.sent.front a.sent.reading →
+          (a.sent.reading ≡ Whole) ⊎ IsCut (more_calls behind call) a.sent.front a.sent.reading
       by_end (inl whole) = inl whole
-      by_end (inr c) = inr (record { first = c.first; last = c.last ++ call ∷ []; calls_are = ap (λ (cs : List Called). cs ++ call ∷ []) c.calls_are ∙ append_assoc c.first c.last (call ∷ []); over = c.over; all = c.all; ends = c.ends })
+      by_end (inr c) = inr (record {
+        first = c.first;
+        last = c.last ++ call ∷ [];
+        calls_are = ap (λ (cs : List Called). cs ++ call ∷ []) c.calls_are ∙
+            append_assoc c.first c.last (call ∷ []);
+        over = c.over;
+        all = c.all;
+        ends = c.ends;
+      })
 
   more_over : (behind : List Called) (call : Called) (v : Upstream) (tokens : List Token) → IsOver behind v tokens → IsOver (more_calls behind call) v tokens
   more_over behind call v tokens o = record { done = o.done; answered = more_answered behind call v.no_body tokens o.answered }
@@ -136,11 +149,18 @@ module _ (limits : Limits) (dialled : List ℕ) (x : ℕ) where
   more_ends calls call (e ∷ h) ends = (λ on. later_end (ends.0 on), more_ends calls call h ends.1)
     where
       later_end : IsEnd calls (received_of x h) → IsEnd (more_calls calls call) (received_of x h)
-      later_end n = record { behind = more_calls n.behind call; no_body = n.no_body; opens = later calls n.behind n.no_body call n.opens; answered = more_answered n.behind call n.no_body (received_of x h) n.answered }
+      later_end n = record {
+        behind = more_calls n.behind call;
+        no_body = n.no_body;
+        opens = later calls n.behind n.no_body call n.opens;
+        answered =
+            more_answered n.behind call n.no_body (received_of x h) n.answered;
+      }
 
   module _ (ds : List ℕ) (calls : List Called) (call : Called) where
     -- none that are its own come
-    passes : (v : Upstream) (tokens : List Token) → ((k : ℕ) → exchange_of ds k ≡ Some x → new_of call ≡ []) → IsHeard ds calls v tokens → IsHeard ds (more_calls calls call) v tokens
+    passes : (v : Upstream) (tokens : List Token) → ((k : ℕ) → exchange_of ds k ≡ Some x → new_of call ≡ []) → IsHeard ds calls v tokens →
+        IsHeard ds (more_calls calls call) v tokens
     passes v tokens none s = record {
       behind = more_calls s.behind call;
       opens = later calls s.behind v.no_body call s.opens;
@@ -155,18 +175,22 @@ module _ (limits : Limits) (dialled : List ℕ) (x : ℕ) where
           front = r.front;
           rest = r.rest ++ new_of call;
           whole =
-              let one : r.front ++ (v.input ++ (r.rest ++ new_of call)) ≡ (r.front ++ (v.input ++ r.rest)) ++ new_of call = ap (λ (xs : List ℕ). r.front ++ xs) (sym (append_assoc v.input r.rest (new_of call))) ∙ sym (append_assoc r.front (v.input ++ r.rest) (new_of call)) in
+              let one : r.front ++ (v.input ++ (r.rest ++ new_of call)) ≡ (r.front ++ (v.input ++ r.rest)) ++ new_of call =
+              ap (λ (xs : List ℕ). r.front ++ xs) (sym (append_assoc v.input r.rest (new_of call))) ∙
+              sym (append_assoc r.front (v.input ++ r.rest) (new_of call)) in
               one ∙ (ap (λ (xs : List ℕ). xs ++ new_of call) r.whole ∙ sym (came_more (connection_of dialled x) s.behind call));
           reads = r.reads;
           all = λ k at. ap (λ (xs : List ℕ). xs ++ new_of call) (r.all k at) ∙ none k at;
         }
 
-        by_place : IsOver s.behind v tokens ⊎ IsReading ds s.behind v tokens → IsOver (more_calls s.behind call) v tokens ⊎ IsReading ds (more_calls s.behind call) v tokens
+        by_place : IsOver s.behind v tokens ⊎ IsReading ds s.behind v tokens →
+            IsOver (more_calls s.behind call) v tokens ⊎ IsReading ds (more_calls s.behind call) v tokens
         by_place (inl o) = inl (more_over s.behind call v tokens o)
         by_place (inr r) = inr (reading_on r)
 
     -- or they wait
-    waits : (v : Upstream) (tokens : List Token) (k : ℕ) → exchange_of ds k ≡ Some x → IsHeard ds calls v tokens → IsHeard ds (more_calls calls call) (origin_sends (new_of call) v) tokens
+    waits : (v : Upstream) (tokens : List Token) (k : ℕ) → exchange_of ds k ≡ Some x → IsHeard ds calls v tokens →
+        IsHeard ds (more_calls calls call) (origin_sends (new_of call) v) tokens
     waits v tokens k at s = record {
       behind = more_calls s.behind call;
       opens = later calls s.behind v.no_body call s.opens;
@@ -182,14 +206,17 @@ module _ (limits : Limits) (dialled : List ℕ) (x : ℕ) where
           rest = [];
           whole =
               let none : r.rest ≡ [] = r.all k at in
-              let before : r.front ++ v.input ≡ came s.behind = ap (λ (xs : List ℕ). r.front ++ xs) (sym (append-nil v.input) ∙ ap (λ (xs : List ℕ). v.input ++ xs) (sym none)) ∙ r.whole in
+              let before : r.front ++ v.input ≡ came s.behind =
+              ap (λ (xs : List ℕ). r.front ++ xs) (sym (append-nil v.input) ∙ ap (λ (xs : List ℕ). v.input ++ xs) (sym none)) ∙ r.whole in
               ap (λ (xs : List ℕ). r.front ++ xs) (append-nil (v.input ++ new_of call)) ∙ (sym (append_assoc r.front v.input (new_of call))
               ∙ (ap (λ (xs : List ℕ). xs ++ new_of call) before ∙ sym (came_more (connection_of dialled x) s.behind call)));
           reads = r.reads;
           all = λ j there. refl;
         }
 
-        by_place : IsOver s.behind v tokens ⊎ IsReading ds s.behind v tokens → IsOver (more_calls s.behind call) (origin_sends (new_of call) v) tokens ⊎ IsReading ds (more_calls s.behind call) (origin_sends (new_of call) v) tokens
+        by_place : IsOver s.behind v tokens ⊎ IsReading ds s.behind v tokens →
+            IsOver (more_calls s.behind call) (origin_sends (new_of call) v) tokens ⊎ IsReading ds (more_calls s.behind call)
+            (origin_sends (new_of call) v) tokens
         by_place (inl o) = let m = more_over s.behind call v tokens o in inl (record { done = m.done; answered = m.answered })
         by_place (inr r) = inr (reading_on r)
 
@@ -207,7 +234,8 @@ module _ (limits : Limits) (dialled : List ℕ) (x : ℕ) where
     still false p q a b = a
 
     -- an event that tells these
-    step_on : (ev : Event) (p : Proxy) (tokens : List Token) → received_by x ev ≡ tokens → Row (p.upstream x) (received_of x p.history ++ tokens) → (is_end x ev ≡ true → IsEnd calls (received_of x p.history)) → HasEnds calls p.history → S (stepped limits ev p)
+    step_on : (ev : Event) (p : Proxy) (tokens : List Token) → received_by x ev ≡ tokens → Row (p.upstream x) (received_of x p.history ++ tokens) →
+        (is_end x ev ≡ true → IsEnd calls (received_of x p.history)) → HasEnds calls p.history → S (stepped limits ev p)
     unfolding with_entry owed
     step_on ev p tokens reports row end ends = (subst (λ (ts : List Token). Row (p.upstream x) (received_of x p.history ++ ts)) (sym reports) row, (end, ends))
 
@@ -217,7 +245,8 @@ module _ (limits : Limits) (dialled : List ℕ) (x : ℕ) where
 
     -- or nothing of x
     other_on : (ev : Event) (p : Proxy) → received_by x ev ≡ [] → is_end x ev ≡ false → S p → S (stepped limits ev p)
-    other_on ev p reports off s = step_on ev p [] reports (subst (Row (p.upstream x)) (sym (append-nil (received_of x p.history))) s.0) (λ on. never_true (sym off ∙ on)) s.1
+    other_on ev p reports off s =
+        step_on ev p [] reports (subst (Row (p.upstream x)) (sym (append-nil (received_of x p.history))) s.0) (λ on. never_true (sym off ∙ on)) s.1
 
     denies : (z : ℕ) (p : Proxy) → S p → S (unless_denied limits z p)
     denies z p s = still (is_last_denied p.part) p (stepped limits (event.Fault z) p) s (other_on (event.Fault z) p refl refl s)
@@ -247,7 +276,8 @@ module _ (limits : Limits) (dialled : List ℕ) (x : ℕ) where
     -- THIS EXCHANGE is heard
 
     -- bytes that tell this were read
-    reads_on : (v : Upstream) (tokens more : List Token) (first rest : List ℕ) (t : Reading) → first ++ rest ≡ v.input → Leads v.reading first more t → is_answer t ≡ true → (r : IsHeard ds calls v tokens) → IsReading ds r.behind v tokens
+    reads_on : (v : Upstream) (tokens more : List Token) (first rest : List ℕ) (t : Reading) → first ++ rest ≡ v.input → Leads v.reading first more t →
+        is_answer t ≡ true → (r : IsHeard ds calls v tokens) → IsReading ds r.behind v tokens
         → IsHeard ds calls (read_to t rest v) (tokens ++ more)
     reads_on v tokens more first rest t is leads answer h r =
         let now : IsReading ds h.behind (read_to t rest v) (tokens ++ more) = record {
@@ -258,15 +288,26 @@ module _ (limits : Limits) (dialled : List ℕ) (x : ℕ) where
           reads = leads_on (heading (Responses v.no_body)) r.front first tokens more v.reading t r.reads leads;
           all = r.all;
         } in
-        record { behind = h.behind; opens = h.opens; sent = sent_of ds h.behind (read_to t rest v) (tokens ++ more) now; answer = answer; on = inr now; shut = h.shut }
+        record {
+          behind = h.behind;
+          opens = h.opens;
+          sent = sent_of ds h.behind (read_to t rest v) (tokens ++ more) now;
+          answer = answer;
+          on = inr now;
+          shut = h.shut;
+        }
 
     -- all of them were, and told nothing
-    all_read : (v : Upstream) (tokens : List Token) (t : Reading) → Leads v.reading v.input [] t → is_answer t ≡ true → (h : IsHeard ds calls v tokens) → IsReading ds h.behind v tokens → IsHeard ds calls (read_to t [] v) tokens
-    all_read v tokens t leads answer h r = subst (IsHeard ds calls (read_to t [] v)) (append-nil tokens) (reads_on v tokens [] v.input [] t (append-nil v.input) leads answer h r)
+    all_read : (v : Upstream) (tokens : List Token) (t : Reading) → Leads v.reading v.input [] t → is_answer t ≡ true → (h : IsHeard ds calls v tokens) →
+        IsReading ds h.behind v tokens → IsHeard ds calls (read_to t [] v) tokens
+    all_read v tokens t leads answer h r =
+        subst (IsHeard ds calls (read_to t [] v)) (append-nil tokens) (reads_on v tokens [] v.input [] t (append-nil v.input) leads answer h r)
 
     -- or it is over
-    over : (v : Upstream) (tokens : List Token) (t : Reading) → t ≡ Done → is_answer t ≡ true → (r : IsHeard ds calls v tokens) → IsAnswered r.behind v.no_body tokens → IsHeard ds calls (read_to t [] v) tokens
-    over v tokens t done answer r a = record { behind = r.behind; opens = r.opens; sent = r.sent; answer = answer; on = inl (record { done = done; answered = a }); shut = r.shut }
+    over : (v : Upstream) (tokens : List Token) (t : Reading) → t ≡ Done → is_answer t ≡ true → (r : IsHeard ds calls v tokens) →
+        IsAnswered r.behind v.no_body tokens → IsHeard ds calls (read_to t [] v) tokens
+    over v tokens t done answer r a =
+        record { behind = r.behind; opens = r.opens; sent = r.sent; answer = answer; on = inl (record { done = done; answered = a }); shut = r.shut }
 
     -- no bytes lead behind an end that was told
     not_done : (v : Upstream) (tokens : List Token) (behind : List Called) → IsReading ds behind v tokens → v.reading ≡ Done → ⊥
@@ -276,7 +317,8 @@ module _ (limits : Limits) (dialled : List ℕ) (x : ℕ) where
     waits_over : (v : Upstream) (n : Next) → n ≡ next_of v → v.reading ≡ Done → n ≡ Waits v.reading
     waits_over v n is done = is ∙ done_takes 16384 v.reading v.input (sym done)
 
-    wait_on : (v : Upstream) (tokens : List Token) (t : Reading) → Waits t ≡ next_of v → IsReadOn v.reading v.input t → is_answer t ≡ true → IsHeard ds calls v tokens → IsHeard ds calls (read_to t [] v) tokens
+    wait_on : (v : Upstream) (tokens : List Token) (t : Reading) → Waits t ≡ next_of v → IsReadOn v.reading v.input t → is_answer t ≡ true →
+        IsHeard ds calls v tokens → IsHeard ds calls (read_to t [] v) tokens
     wait_on v tokens t is next answer r = by_place r.on
       where
         -- an answer that is read on doesn't stand behind its end
@@ -285,11 +327,13 @@ module _ (limits : Limits) (dialled : List ℕ) (x : ℕ) where
         by_next reading (inr done) = absurd (not_done v tokens r.behind reading done.0)
 
         by_place : IsOver r.behind v tokens ⊎ IsReading ds r.behind v tokens → IsHeard ds calls (read_to t [] v) tokens
-        by_place (inl o) = let same : t ≡ v.reading = (let one : Waits t ≡ Waits v.reading = waits_over v (Waits t) is o.done in cc) in over v tokens t (same ∙ o.done) answer r o.answered
+        by_place (inl o) = let same : t ≡ v.reading = (let one : Waits t ≡ Waits v.reading = waits_over v (Waits t) is o.done in cc) in
+            over v tokens t (same ∙ o.done) answer r o.answered
         by_place (inr reading) = by_next reading next
 
     -- so it is read on where no wait stands next
-    reading_of : (v : Upstream) (tokens : List Token) (n : Next) → n ≡ next_of v → ((t : Reading) → n ≡ Waits t → ⊥) → (r : IsHeard ds calls v tokens) → IsReading ds r.behind v tokens
+    reading_of : (v : Upstream) (tokens : List Token) (n : Next) → n ≡ next_of v → ((t : Reading) → n ≡ Waits t → ⊥) → (r : IsHeard ds calls v tokens) →
+        IsReading ds r.behind v tokens
     reading_of v tokens n is off r = by_place r.on
       where
         by_place : IsOver r.behind v tokens ⊎ IsReading ds r.behind v tokens → IsReading ds r.behind v tokens
@@ -297,29 +341,38 @@ module _ (limits : Limits) (dialled : List ℕ) (x : ℕ) where
         by_place (inr reading) = reading
 
     module _ (z : ℕ) (on : nat_eq x z ≡ true) where
-      here : (change : Upstream → Upstream) (p : Proxy) (v : Upstream) (tokens : List Token) → p.upstream x ≡ Some v → IsHeard ds calls (change v) tokens → Row ((with_upstream z change p).upstream x) tokens
+      here : (change : Upstream → Upstream) (p : Proxy) (v : Upstream) (tokens : List Token) → p.upstream x ≡ Some v →
+          IsHeard ds calls (change v) tokens → Row ((with_upstream z change p).upstream x) tokens
       here change p v tokens at r =
           let same : (with_upstream z change p).upstream x ≡ Some (change v) = rw (on, at) refl in
           subst (λ (o : Option Upstream). Row o tokens) (sym same) r
 
-      hands_here : (n : Next) (p : Proxy) (v : Upstream) → p.upstream x ≡ Some v → n ≡ next_of v → StandsNext 16384 v.reading v.input n → IsAnswerNext n → IsHeard ds calls v (received_of x p.history) → S p → S (hands limits z n p)
-      hands_here (Waits t) p v at is next answer r s = (here (read_to t []) p v (received_of x p.history) at (wait_on v (received_of x p.history) t is next answer r), s.1)
+      hands_here : (n : Next) (p : Proxy) (v : Upstream) → p.upstream x ≡ Some v → n ≡ next_of v → StandsNext 16384 v.reading v.input n → IsAnswerNext n →
+          IsHeard ds calls v (received_of x p.history) → S p → S (hands limits z n p)
+      hands_here (Waits t) p v at is next answer r s =
+          (here (read_to t []) p v (received_of x p.history) at (wait_on v (received_of x p.history) t is next answer r), s.1)
       hands_here (Reports (Answers response) t rest) p v at is next answer r s =
           let tokens : List Token = received_of x p.history in
-          let reading : IsReading ds r.behind v tokens = reading_of v tokens (Reports (Answers response) t rest) is (λ u never. let no_wait : Reports (Answers response) t rest ≡ Waits u = never in cc) r in
+          let reading : IsReading ds r.behind v tokens =
+          reading_of v tokens (Reports (Answers response) t rest) is (λ u never. let no_wait : Reports (Answers response) t rest ≡ Waits u = never in cc) r in
           let read : IsHeard ds calls (read_to t rest v) (tokens ++ Answers response ∷ []) =
-          reads_on v tokens (Answers response ∷ []) next.front rest t next.whole (reports_leads v.reading next.front (Answers response) t next.reports) answer r reading in
-          step_on (event.Head z response) (with_upstream z (read_to t rest) p) (Answers response ∷ []) (rw on refl) (here (read_to t rest) p v (tokens ++ Answers response ∷ []) at read) (λ is_not. never_true is_not) s.1
+          reads_on v tokens (Answers response ∷ []) next.front rest t next.whole (reports_leads v.reading next.front (Answers response) t next.reports)
+          answer r reading in
+          step_on (event.Head z response) (with_upstream z (read_to t rest) p) (Answers response ∷ []) (rw on refl)
+          (here (read_to t rest) p v (tokens ++ Answers response ∷ []) at read) (λ is_not. never_true is_not) s.1
       hands_here (Reports (Asks request) t rest) p v at is next answer r s = absurd answer
       hands_here (Reports (Byte b) t rest) p v at is next answer r s = absurd answer
       hands_here (Brings bytes t rest) p v at is next answer r s =
           let tokens : List Token = received_of x p.history in
-          let reading : IsReading ds r.behind v tokens = reading_of v tokens (Brings bytes t rest) is (λ u never. let no_wait : Brings bytes t rest ≡ Waits u = never in cc) r in
+          let reading : IsReading ds r.behind v tokens =
+          reading_of v tokens (Brings bytes t rest) is (λ u never. let no_wait : Brings bytes t rest ≡ Waits u = never in cc) r in
           let read : IsHeard ds calls (read_to t rest v) (tokens ++ byte_tokens bytes) =
           reads_on v tokens (byte_tokens bytes) (next.front ++ bytes) rest t (append_assoc next.front bytes rest ∙ next.whole)
           (leads_on v.reading next.front bytes [] (byte_tokens bytes) next.mid t next.passes next.gives) answer r reading in
           let q : Proxy = with_upstream z (read_to t rest) p in
-          denies z (stepped limits (event.Piece z bytes) q) (step_on (event.Piece z bytes) q (byte_tokens bytes) (rw on refl) (here (read_to t rest) p v (tokens ++ byte_tokens bytes) at read) (λ is_not. never_true is_not) s.1)
+          denies z (stepped limits (event.Piece z bytes) q)
+          (step_on (event.Piece z bytes) q (byte_tokens bytes) (rw on refl) (here (read_to t rest) p v (tokens ++ byte_tokens bytes) at read)
+          (λ is_not. never_true is_not) s.1)
       hands_here Ends p v at is next answer r s =
           let tokens : List Token = received_of x p.history in
           let reading : IsReading ds r.behind v tokens = reading_of v tokens Ends is (λ u never. let no_wait : Ends ≡ Waits u = never in cc) r in
@@ -329,29 +382,34 @@ module _ (limits : Limits) (dialled : List ℕ) (x : ℕ) where
               rest = next.rest ++ reading.rest;
               reading = Whole;
               whole = append_assoc reading.front next.front (next.rest ++ reading.rest)
-                  ∙ (ap (λ (xs : List ℕ). reading.front ++ xs) (sym (append_assoc next.front next.rest reading.rest) ∙ ap (λ (xs : List ℕ). xs ++ reading.rest) next.whole) ∙ reading.whole);
+                  ∙ (ap (λ (xs : List ℕ). reading.front ++ xs)
+                  (sym (append_assoc next.front next.rest reading.rest) ∙ ap (λ (xs : List ℕ). xs ++ reading.rest) next.whole) ∙ reading.whole);
               reads = subst (λ (ts : List Token). Leads (heading (Responses v.no_body)) (reading.front ++ next.front) ts Whole) (append-nil tokens)
                   (leads_on (heading (Responses v.no_body)) reading.front next.front tokens [] v.reading Whole reading.reads next.ends);
             };
             whole = inl refl;
           } in
           let q : Proxy = with_upstream z (read_to Done []) p in
-          end_on z q (record { behind = r.behind; no_body = v.no_body; opens = r.opens; answered = answered }) (here (read_to Done []) p v tokens at (over v tokens Done refl refl r answered), s.1)
+          end_on z q (record { behind = r.behind; no_body = v.no_body; opens = r.opens; answered = answered })
+          (here (read_to Done []) p v tokens at (over v tokens Done refl refl r answered), s.1)
       hands_here (Fails e) p v at is next answer r s =
           let tokens : List Token = received_of x p.history in
           let reading : IsReading ds r.behind v tokens = reading_of v tokens (Fails e) is (λ u never. let no_wait : Fails e ≡ Waits u = never in cc) r in
-          other_on (event.Fault z) (with_upstream z (read_to (Failed e) []) p) refl refl (here (read_to (Failed e) []) p v tokens at (all_read v tokens (Failed e) next refl r reading), s.1)
+          other_on (event.Fault z) (with_upstream z (read_to (Failed e) []) p) refl refl
+          (here (read_to (Failed e) []) p v tokens at (all_read v tokens (Failed e) next refl r reading), s.1)
 
     -- ITS CLOSE, where its connection has ended and all that came was read
 
-    closing : (v : Upstream) (tokens : List Token) (t : Reading) → v.ended ≡ true → Waits t ≡ next_of v → IsReadOn v.reading v.input t → ending t ≡ Ok part.End → IsHeard ds calls v tokens → IsEnd calls tokens
+    closing : (v : Upstream) (tokens : List Token) (t : Reading) → v.ended ≡ true → Waits t ≡ next_of v → IsReadOn v.reading v.input t →
+        ending t ≡ Ok part.End → IsHeard ds calls v tokens → IsEnd calls tokens
     closing v tokens t ended is next ends r = record { behind = r.behind; no_body = v.no_body; opens = r.opens; answered = by_place r.on }
       where
         by_next : IsReading ds r.behind v tokens → IsReadOn v.reading v.input t → IsAnswered r.behind v.no_body tokens
         by_next reading (inl on) =
             let shut : IsShut ds r.behind = r.shut ended in
             let none : reading.rest ≡ [] = reading.all shut.k shut.at in
-            let all : reading.front ++ v.input ≡ came r.behind = ap (λ (xs : List ℕ). reading.front ++ xs) (sym (append-nil v.input) ∙ ap (λ (xs : List ℕ). v.input ++ xs) (sym none)) ∙ reading.whole in
+            let all : reading.front ++ v.input ≡ came r.behind =
+            ap (λ (xs : List ℕ). reading.front ++ xs) (sym (append-nil v.input) ∙ ap (λ (xs : List ℕ). v.input ++ xs) (sym none)) ∙ reading.whole in
             record {
               sent = record {
                 front = reading.front ++ v.input;
@@ -369,7 +427,8 @@ module _ (limits : Limits) (dialled : List ℕ) (x : ℕ) where
         by_place (inl o) = o.answered
         by_place (inr reading) = by_next reading next
 
-    close_here : (z : ℕ) (p : Proxy) (v : Upstream) (n : Next) → v.ended ≡ true → n ≡ next_of v → StandsNext 16384 v.reading v.input n → IsHeard ds calls v (received_of x p.history) → S p → S (closes limits z n p)
+    close_here : (z : ℕ) (p : Proxy) (v : Upstream) (n : Next) → v.ended ≡ true → n ≡ next_of v → StandsNext 16384 v.reading v.input n →
+        IsHeard ds calls v (received_of x p.history) → S p → S (closes limits z n p)
     close_here z p v (Waits t) ended is next r s = by_result (ending t) refl
       where
         by_result : (result : Result WirePart MsgError) → ending t ≡ result → S (stepped limits (event_at_close z result) p)
@@ -441,7 +500,8 @@ module _ (limits : Limits) (dialled : List ℕ) (x : ℕ) where
     -- CLIENTS
 
     starts_on : (k : ℕ) (request : WireRequest) (p : Proxy) → S p → S (started limits k request p)
-    starts_on k request p s = other_on (event.Start (p.starts + 1) request.request) (with_holder (p.starts + 1) k (with_client k (asks (p.starts + 1) request) p)) refl refl s
+    starts_on k request p s =
+        other_on (event.Start (p.starts + 1) request.request) (with_holder (p.starts + 1) k (with_client k (asks (p.starts + 1) request) p)) refl refl s
 
     token_on : (k : ℕ) (token : Token) (p : Proxy) → S p → S (hears_request limits k token p)
     token_on k (Asks request) p s = starts_on k request p s
@@ -458,7 +518,8 @@ module _ (limits : Limits) (dialled : List ℕ) (x : ℕ) where
     module _ (call : Called) where
       client_on : (k : ℕ) (o : Option Client) (p : Proxy) → S p → S (hears_if limits call k o p)
       client_on k None p s = s
-      client_on k (Some client) p s = still (is_ready call k client) p (hears limits k (next_in 1 client.reading client.input) p) s (asks_on k (next_in 1 client.reading client.input) p s)
+      client_on k (Some client) p s =
+          still (is_ready call k client) p (hears limits k (next_in 1 client.reading client.input) p) s (asks_on k (next_in 1 client.reading client.input) p s)
 
       each_asks : (ks : List ℕ) (p : Proxy) → S p → S (starts.each_heard limits call ks p)
       each_asks [] p s = s
@@ -470,7 +531,8 @@ module _ (limits : Limits) (dialled : List ℕ) (x : ℕ) where
 
       polls_on : (cs : List ℕ) (p : Proxy) → S p → S (each_polled limits call cs p)
       polls_on [] p s = s
-      polls_on (c ∷ cs) p s = polls_on cs (polled limits call c p) (still (may_be_polled call p (p.holder c)) p (stepped limits (event.Poll c 16384) p) s (other_on (event.Poll c 16384) p refl refl s))
+      polls_on (c ∷ cs) p s = polls_on cs (polled limits call c p)
+          (still (may_be_polled call p (p.holder c)) p (stepped limits (event.Poll c 16384) p) s (other_on (event.Poll c 16384) p refl refl s))
 
       all_polled : (p : Proxy) → S p → S (polled_all limits call p)
       unfolding polled_all
@@ -511,19 +573,30 @@ module _ (limits : Limits) (dialled : List ℕ) (x : ℕ) where
     NewOnly acts = OpenOnly (λ y. first.tables.opened < y) acts
 
     -- a row that is new
-    new_row : (request : Request) (c : ℕ) (need : Need) (tokens : List Token) → Contains all (act.Opened x c need request) → tokens ≡ [] → IsHeard ds calls (opened request) tokens
+    new_row : (request : Request) (c : ℕ) (need : Need) (tokens : List Token) → Contains all (act.Opened x c need request) → tokens ≡ [] →
+        IsHeard ds calls (opened request) tokens
     new_row request c need tokens among none =
-        let reading : IsReading ds [] (opened request) tokens = record { front = []; rest = []; whole = none_came (connection_of dialled x); reads = (none, refl); all = λ k at. refl } in
+        let reading : IsReading ds [] (opened request) tokens =
+        record { front = []; rest = []; whole = none_came (connection_of dialled x); reads = (none, refl); all = λ k at. refl } in
         record {
           behind = [];
-          opens = record { before = before; call = call; request = request; calls_are = refl; opens = record { c = c; need = need; among = among }; kind = refl };
+          opens = record {
+            before = before;
+            call = call;
+            request = request;
+            calls_are = refl;
+            opens = record { c = c; need = need; among = among };
+            kind =
+                refl;
+          };
           sent = sent_of ds [] (opened request) tokens reading;
           answer = refl;
           on = inr reading;
           shut = λ on. never_true on;
         }
 
-    opens_on : (y c : ℕ) (need : Need) (request : Request) (p : Proxy) → first.tables.opened < y → Contains all (act.Opened y c need request) → IsOld p → Follows ds calls p → Follows ds calls (with_opened y request p)
+    opens_on : (y c : ℕ) (need : Need) (request : Request) (p : Proxy) → first.tables.opened < y → Contains all (act.Opened y c need request) → IsOld p →
+        Follows ds calls p → Follows ds calls (with_opened y request p)
     opens_on y c need request p above among old s = (by_number (nat_eq x y) refl, s.1)
       where
         by_number : (b : Bool) → nat_eq x y ≡ b → HasHeard ds calls (if b then Some (opened request) else p.upstream x) (received_of x p.history)
@@ -549,12 +622,14 @@ module _ (limits : Limits) (dialled : List ℕ) (x : ℕ) where
     act_old (act.Lost q kind) p old = old
     act_old (act.Evicted q) p old = old
 
-    act_on : (a : Act) (acts : List Act) (p : Proxy) → Contains all a → NewOnly (a ∷ acts) → IsOld p → Follows ds calls p → Follows ds calls (carried_out a p) × NewOnly acts
+    act_on : (a : Act) (acts : List Act) (p : Proxy) → Contains all a → NewOnly (a ∷ acts) → IsOld p → Follows ds calls p →
+        Follows ds calls (carried_out a p) × NewOnly acts
     act_on (act.Denied refusal) acts p among only old s = (s, only)
     act_on (act.Opened y c need request) acts p among only old s = (opens_on y c need request p only.0 among old s, only.1)
     act_on (act.Ask y) acts p among only old s = (s, only)
     act_on (act.Close y) acts p among only old s = (s, only)
-    act_on (act.Shown c q why status fields lo hi) acts p among only old s = (answers_on ds calls (p.holder c) (act.Shown c q why status fields lo hi) p s, only)
+    act_on (act.Shown c q why status fields lo hi) acts p among only old s =
+        (answers_on ds calls (p.holder c) (act.Shown c q why status fields lo hi) p s, only)
     act_on (act.Given c y at bytes) acts p among only old s = (answers_on ds calls (p.holder c) (act.Given c y at bytes) p s, only)
     act_on (act.Ended c) acts p among only old s = (answers_on ds calls (p.holder c) (act.Ended c) p s, only)
     act_on (act.Failed c cause) acts p among only old s = (answers_on ds calls (p.holder c) (act.Failed c cause) p s, only)
@@ -619,7 +694,8 @@ module _ (limits : Limits) (dialled : List ℕ) (x : ℕ) where
           by_number true on = let same : z ≡ k = grind (arith, nat_tests) in absurd (off (ap (exchange_of ds) same ∙ at))
 
       -- of this one
-      row_waits : exchange_of ds z ≡ Some x → (o : Option Upstream) (tokens : List Token) → HasHeard ds calls o tokens → HasHeard ds more (option_map (origin_sends call.bytes) o) tokens
+      row_waits : exchange_of ds z ≡ Some x → (o : Option Upstream) (tokens : List Token) → HasHeard ds calls o tokens →
+          HasHeard ds more (option_map (origin_sends call.bytes) o) tokens
       row_waits at None tokens row = row
       row_waits at (Some v) tokens row =
           let same : nat_eq z z ≡ true = grind (arith, nat_tests) in
@@ -641,7 +717,8 @@ module _ (limits : Limits) (dialled : List ℕ) (x : ℕ) where
       got_on None p at s = all_pass (misses (none_is at)) p s
       got_on (Some y) p at s = (by_number (nat_eq x y) refl, more_ends calls call p.history s.1)
         where
-          by_number : (b : Bool) → nat_eq x y ≡ b → HasHeard ds more (if b then option_map (origin_sends call.bytes) (p.upstream x) else p.upstream x) (received_of x p.history)
+          by_number : (b : Bool) → nat_eq x y ≡ b →
+              HasHeard ds more (if b then option_map (origin_sends call.bytes) (p.upstream x) else p.upstream x) (received_of x p.history)
           by_number false apart = row_passes (misses (other_is y apart at)) (p.upstream x) (received_of x p.history) s.0
           by_number true on = let same : y ≡ x = grind (arith, nat_tests) in row_waits (at ∙ ap Some same) (p.upstream x) (received_of x p.history) s.0
 
@@ -650,17 +727,28 @@ module _ (limits : Limits) (dialled : List ℕ) (x : ℕ) where
       no_got : Misses
       no_got = no_bytes (λ k. ap (λ (w : WireEvent). got_by k w call.bytes) is)
 
-      row_ends : exchange_of ds z ≡ Some x → (o : Option Upstream) (tokens : List Token) → HasHeard ds calls o tokens → HasHeard ds more (option_map origin_ends o) tokens
+      row_ends : exchange_of ds z ≡ Some x → (o : Option Upstream) (tokens : List Token) → HasHeard ds calls o tokens →
+          HasHeard ds more (option_map origin_ends o) tokens
       unfolding passes
       row_ends at None tokens row = row
       row_ends at (Some v) tokens row =
           let r : IsHeard ds more v tokens = passes ds calls call v tokens no_got row in
           let its : connection_of dialled x ≡ Some z = its_own z at in
           let end : is_end_of z call.event ≡ true = (let same : nat_eq z z ≡ true = grind (arith, nat_tests) in ap (is_end_of z) is ∙ same) in
-          let over_now : ended_by (connection_of dialled x) (more_calls row.behind call) ≡ true = ap (λ (o : Option ℕ). ended_by o (more_calls row.behind call)) its ∙ any_last z row.behind call end in
-          record { behind = r.behind; opens = r.opens; sent = r.sent; answer = r.answer; on = ended_place r.behind r.on; shut = λ on. record { k = z; at = at; over = over_now } }
+          let over_now : ended_by (connection_of dialled x) (more_calls row.behind call) ≡ true =
+          ap (λ (o : Option ℕ). ended_by o (more_calls row.behind call)) its ∙ any_last z row.behind call end in
+          record {
+            behind = r.behind;
+            opens = r.opens;
+            sent = r.sent;
+            answer = r.answer;
+            on = ended_place r.behind r.on;
+            shut =
+                λ on. record { k = z; at = at; over = over_now };
+          }
         where
-          ended_place : (behind : List Called) → IsOver behind v tokens ⊎ IsReading ds behind v tokens → IsOver behind (origin_ends v) tokens ⊎ IsReading ds behind (origin_ends v) tokens
+          ended_place : (behind : List Called) → IsOver behind v tokens ⊎ IsReading ds behind v tokens →
+              IsOver behind (origin_ends v) tokens ⊎ IsReading ds behind (origin_ends v) tokens
           ended_place behind (inl o) = inl (record { done = o.done; answered = o.answered })
           ended_place behind (inr g) = inr (record { front = g.front; rest = g.rest; whole = g.whole; reads = g.reads; all = g.all })
 
@@ -668,13 +756,15 @@ module _ (limits : Limits) (dialled : List ℕ) (x : ℕ) where
       ends_on None p at s = leaves_on ds more z (p.client z) p (all_pass no_got p s)
       ends_on (Some y) p at s = (by_number (nat_eq x y) refl, more_ends calls call p.history s.1)
         where
-          by_number : (b : Bool) → nat_eq x y ≡ b → HasHeard ds more (if b then option_map origin_ends (p.upstream x) else p.upstream x) (received_of x p.history)
+          by_number : (b : Bool) → nat_eq x y ≡ b →
+              HasHeard ds more (if b then option_map origin_ends (p.upstream x) else p.upstream x) (received_of x p.history)
           by_number false apart = row_passes no_got (p.upstream x) (received_of x p.history) s.0
           by_number true on = let same : y ≡ x = grind (arith, nat_tests) in row_ends (at ∙ ap Some same) (p.upstream x) (received_of x p.history) s.0
 
     broke_on : (z : ℕ) (o : Option ℕ) (p : Proxy) → Behind p → Behind (broke limits o z p)
     broke_on z None p s = leaves_on ds more z (p.client z) p s
-    broke_on z (Some y) p s = still ds more (is_open (p.tables.exchange y)) p (stepped limits (event.Fault y) p) s (other_on ds more (event.Fault y) p refl refl s)
+    broke_on z (Some y) p s =
+        still ds more (is_open (p.tables.exchange y)) p (stepped limits (event.Fault y) p) s (other_on ds more (event.Fault y) p refl refl s)
 
     quiet : (w : WireEvent) → ((k : ℕ) → got_by k w call.bytes ≡ []) → call.event ≡ w → Misses
     quiet w none is = no_bytes (λ k. ap (λ (v : WireEvent). got_by k v call.bytes) is ∙ none k)
@@ -702,15 +792,25 @@ module _ (limits : Limits) (dialled : List ℕ) (x : ℕ) where
   Now calls p = Follows (so_far p dialled) calls p
 
   -- where it has a row it was dialled among the first, or never
-  weaker : (m n : ℕ) (calls : List Called) (o : Option Upstream) (tokens : List Token) → m ≤ n → ((v : Upstream) → o ≡ Some v → x ≤ m) → HasHeard (take m dialled) calls o tokens → HasHeard (take n dialled) calls o tokens
+  weaker : (m n : ℕ) (calls : List Called) (o : Option Upstream) (tokens : List Token) → m ≤ n → ((v : Upstream) → o ≡ Some v → x ≤ m) →
+      HasHeard (take m dialled) calls o tokens → HasHeard (take n dialled) calls o tokens
   weaker m n calls None tokens le low row = row
-  weaker m n calls (Some v) tokens le low r = record { behind = r.behind; opens = r.opens; sent = r.sent; answer = r.answer; on = by_place r.on; shut = λ on. shut_on (r.shut on) }
+  weaker m n calls (Some v) tokens le low r =
+      record { behind = r.behind; opens = r.opens; sent = r.sent; answer = r.answer; on = by_place r.on; shut = λ on. shut_on (r.shut on) }
     where
-      by_place : IsOver r.behind v tokens ⊎ IsReading (take m dialled) r.behind v tokens → IsOver r.behind v tokens ⊎ IsReading (take n dialled) r.behind v tokens
+      by_place : IsOver r.behind v tokens ⊎ IsReading (take m dialled) r.behind v tokens →
+          IsOver r.behind v tokens ⊎ IsReading (take n dialled) r.behind v tokens
       by_place (inl o) = inl o
       by_place (inr g) =
           let few : x ≤ m = low v refl in
-          inr (record { front = g.front; rest = g.rest; whole = g.whole; reads = g.reads; all = λ k at. g.all k (place_before 1 k x m n dialled (omega arith) at) })
+          inr (record {
+            front = g.front;
+            rest = g.rest;
+            whole = g.whole;
+            reads = g.reads;
+            all =
+                λ k at. g.all k (place_before 1 k x m n dialled (omega arith) at);
+          })
 
       shut_on : IsShut (take m dialled) r.behind → IsShut (take n dialled) r.behind
       shut_on s = record { k = s.k; at = place_after 1 s.k x m n dialled le s.at; over = s.over }
@@ -718,7 +818,8 @@ module _ (limits : Limits) (dialled : List ℕ) (x : ℕ) where
   abbrev pub tables_behind : List Called → Proxy
   tables_behind calls = turned_by limits dialled calls unused
 
-  turn_on : (calls : List Called) (call : Called) → Now calls (tables_behind calls) → Now (more_calls calls call) (turned limits dialled call (tables_behind calls))
+  turn_on : (calls : List Called) (call : Called) → Now calls (tables_behind calls) →
+      Now (more_calls calls call) (turned limits dialled call (tables_behind calls))
   unfolding turned
   turn_on calls call s =
       let p : Proxy = tables_behind calls in
@@ -726,10 +827,15 @@ module _ (limits : Limits) (dialled : List ℕ) (x : ℕ) where
       let ds : List ℕ = so_far p dialled in
       let h : Proxy = happened limits ds call (begun call p) in
       let now : Follows ds (more_calls calls call) h = happened_on ds p.tables.opened refl calls call (begun call p) s in
-      let off : p.upstream x ≡ None → h.upstream x ≡ None = happened_keeps limits (λ q r. q.upstream x ≡ None → r.upstream x ≡ None) (no_row limits x) ds call (begun call p) in
-      let opens : (p.tables.opened ≤ h.tables.opened) × OpenOnly (λ y. (p.tables.opened < y) × (y ≤ h.tables.opened)) (acts_in h.part) = turn_opens limits ds call p known.stands in
+      let off : p.upstream x ≡ None → h.upstream x ≡ None =
+      happened_keeps limits (λ q r. q.upstream x ≡ None → r.upstream x ≡ None) (no_row limits x) ds call (begun call p) in
+      let opens : (p.tables.opened ≤ h.tables.opened) × OpenOnly (λ y. (p.tables.opened < y) × (y ≤ h.tables.opened)) (acts_in h.part) =
+      turn_opens limits ds call p known.stands in
       let grows : p.tables.opened ≤ (carried h).tables.opened = subst (λ (t : Tables). p.tables.opened ≤ t.opened) (sym (carried_is_same h).tables) opens.0 in
-      let dialled_so : Follows (so_far (carried h) dialled) (more_calls calls call) h = (weaker p.tables.opened (carried h).tables.opened (more_calls calls call) (h.upstream x) (received_of x h.history) grows (low p known h off) now.0, now.1) in
+      let dialled_so : Follows (so_far (carried h) dialled) (more_calls calls call) h = (
+        weaker p.tables.opened (carried h).tables.opened (more_calls calls call) (h.upstream x) (received_of x h.history) grows (low p known h off) now.0,
+        now.1,
+      ) in
       carries_on (so_far (carried h) dialled) calls call h
       (ap acts_in (sym (carried_is_same h).part))
       (open_more (λ y. (p.tables.opened < y) × (y ≤ h.tables.opened)) (λ y. p.tables.opened < y) (λ y f. f.0) (acts_in h.part) opens.1)
@@ -739,13 +845,15 @@ module _ (limits : Limits) (dialled : List ℕ) (x : ℕ) where
       by_row p known None at = inl at
       by_row p known (Some u) at = inr (known.known x u at)
 
-      low : (p : Proxy) → StandsKnown limits p → (h : Proxy) → (p.upstream x ≡ None → h.upstream x ≡ None) → (v : Upstream) → h.upstream x ≡ Some v → x ≤ p.tables.opened
+      low : (p : Proxy) → StandsKnown limits p → (h : Proxy) → (p.upstream x ≡ None → h.upstream x ≡ None) → (v : Upstream) → h.upstream x ≡ Some v →
+          x ≤ p.tables.opened
       low p known h off v at = elim (by_row p known (p.upstream x) refl) [
         | inl none ↦ absurd (let never : None ≡ Some v = sym (off none) ∙ at in cc)
         | inr le ↦ le
       ]
 
-      old : (ds : List ℕ) (cs : List Called) (p : Proxy) → StandsKnown limits p → (h : Proxy) → (p.upstream x ≡ None → h.upstream x ≡ None) → Follows ds cs h → p.tables.opened < x → received_of x h.history ≡ []
+      old : (ds : List ℕ) (cs : List Called) (p : Proxy) → StandsKnown limits p → (h : Proxy) → (p.upstream x ≡ None → h.upstream x ≡ None) →
+          Follows ds cs h → p.tables.opened < x → received_of x h.history ≡ []
       old ds cs p known h off now above = elim (by_row p known (p.upstream x) refl) [
         | inl none ↦ subst (λ (o : Option Upstream). HasHeard ds cs o (received_of x h.history)) (off none) now.0
         | inr le ↦ absurd (omega arith)
@@ -754,5 +862,6 @@ module _ (limits : Limits) (dialled : List ℕ) (x : ℕ) where
   pub turns_on : (rest calls : List Called) → Now calls (tables_behind calls) → Now (calls ++ rest) (tables_behind (calls ++ rest))
   turns_on [] calls s = subst (λ (cs : List Called). Now cs (tables_behind cs)) (sym (append-nil calls)) s
   turns_on (call ∷ rest) calls s =
-      let next : Now (more_calls calls call) (tables_behind (more_calls calls call)) = subst (Now (more_calls calls call)) (sym (turned_more limits dialled calls call unused)) (turn_on calls call s) in
+      let next : Now (more_calls calls call) (tables_behind (more_calls calls call)) =
+      subst (Now (more_calls calls call)) (sym (turned_more limits dialled calls call unused)) (turn_on calls call s) in
       subst (λ (cs : List Called). Now cs (tables_behind cs)) (append_assoc calls (call ∷ []) rest) (turns_on rest (more_calls calls call) next)

@@ -41,7 +41,8 @@ none_any test (x ∷ xs) none =
     either false b h = h
 
 -- those so far, and one more
-pub none_more : (test : ℕ → Bool) (xs : List ℕ) (z : ℕ) → ((y : ℕ) → among y xs ≡ true → test y ≡ false) → test z ≡ false → (y : ℕ) → among y (xs ++ z ∷ []) ≡ true → test y ≡ false
+pub none_more : (test : ℕ → Bool) (xs : List ℕ) (z : ℕ) → ((y : ℕ) → among y xs ≡ true → test y ≡ false) → test z ≡ false → (y : ℕ) →
+    among y (xs ++ z ∷ []) ≡ true → test y ≡ false
 none_more test xs z none off y there = by_place (among_both xs) (among y xs) refl (nat_eq y z) refl
   where
     split_or : (a b d : Bool) → (a || (b || d)) ≡ ((a || b) || d)
@@ -59,7 +60,8 @@ none_more test xs z none off y there = by_place (among_both xs) (among y xs) ref
 
 -- ONE ROW
 
-row_alike : (taken : ℕ → ℕ) (o : Option origin.Upstream) (r : Option Upstream) → IsUpstreamAt taken o r → (has_news_at o && has_next (look_at o)) ≡ brings_by true r
+row_alike : (taken : ℕ → ℕ) (o : Option origin.Upstream) (r : Option Upstream) → IsUpstreamAt taken o r →
+    (has_news_at o && has_next (look_at o)) ≡ brings_by true r
 row_alike taken None r is = absurd is
 row_alike taken (Some u) None is = absurd is
 row_alike taken (Some u) (Some v) is = rw (news_same (taken u.k) u v is, next_same (taken u.k) u v is) refl
@@ -101,10 +103,12 @@ module _ {B : Type 0} {g : Ghosts B} (f : Frame) (x : loop.Proxy B g) (p : Proxy
       let same : length log.dialled ≡ p.tables.opened = r.opened in
       omega arith
 
-  pub brings_same : (y : ℕ) → (is_wanted (p.tables.exchange y) && has_news_at (upstream_of x.upstreams y) && has_next (look_at (upstream_of x.upstreams y))) ≡ brings p y
+  pub brings_same : (y : ℕ) →
+      (is_wanted (p.tables.exchange y) && has_news_at (upstream_of x.upstreams y) && has_next (look_at (upstream_of x.upstreams y))) ≡ brings p y
   brings_same y = by_wanted (is_wanted (p.tables.exchange y)) refl
     where
-      by_wanted : (b : Bool) → is_wanted (p.tables.exchange y) ≡ b → (b && has_news_at (upstream_of x.upstreams y) && has_next (look_at (upstream_of x.upstreams y))) ≡ brings_by b (p.upstream y)
+      by_wanted : (b : Bool) → is_wanted (p.tables.exchange y) ≡ b →
+          (b && has_news_at (upstream_of x.upstreams y) && has_next (look_at (upstream_of x.upstreams y))) ≡ brings_by b (p.upstream y)
       by_wanted false off = sym (none_wanted (p.upstream y))
       by_wanted true on =
           let opens : is_open (p.tables.exchange y) ≡ true = wanted_open (p.tables.exchange y) on in
@@ -117,7 +121,8 @@ module _ {B : Type 0} {g : Ghosts B} (f : Frame) (x : loop.Proxy B g) (p : Proxy
 
   pub some_heard : (z : ℕ) → brings p z ≡ true → true ≡ not (hears_nothing f.limits p)
   some_heard z on =
-      let opens : is_open (p.tables.exchange z) ≡ true = wanted_open (p.tables.exchange z) (brings_wanted (is_wanted (p.tables.exchange z)) (p.upstream z) on) in
+      let opens : is_open (p.tables.exchange z) ≡ true =
+      wanted_open (p.tables.exchange z) (brings_wanted (is_wanted (p.tables.exchange z)) (p.upstream z) on) in
       let any : list_any (brings p) (open_exchanges p.tables) ≡ true = any_there (brings p) (open_exchanges p.tables) z (opens_are p.tables law z ∙ opens) on in
       sym (ap not (answer ∙ ap not any))
 
@@ -125,7 +130,8 @@ module _ {B : Type 0} {g : Ghosts B} (f : Frame) (x : loop.Proxy B g) (p : Proxy
 
   pub none_heard : ((y : ℕ) → among y (news_of x.upstreams) ≡ true → brings p y ≡ false) → false ≡ not (hears_nothing f.limits p)
   none_heard none =
-      let any : list_any (brings p) (open_exchanges p.tables) ≡ false = none_any (brings p) (open_exchanges p.tables) (λ z there. by_news z there (is_news x.upstreams z) refl) in
+      let any : list_any (brings p) (open_exchanges p.tables) ≡ false =
+      none_any (brings p) (open_exchanges p.tables) (λ z there. by_news z there (is_news x.upstreams z) refl) in
       sym (ap not (answer ∙ ap not any))
     where
       by_news : (z : ℕ) → among z (open_exchanges p.tables) ≡ true → (b : Bool) → is_news x.upstreams z ≡ b → brings p z ≡ false

@@ -50,7 +50,8 @@ pub record IsChanged (k : ℕ) (change : Client → Client) (p : Proxy) (j : ℕ
   pub at : p.client j ≡ Some old
   pub is : r ≡ change old
 
-pub changed_row : (k : ℕ) (change : Client → Client) (p : Proxy) (j : ℕ) (r : Client) → (with_client k change p).client j ≡ Some r → IsChanged k change p j r ⊎ ((p.client j ≡ Some r) × (j ≡ k → ⊥))
+pub changed_row : (k : ℕ) (change : Client → Client) (p : Proxy) (j : ℕ) (r : Client) → (with_client k change p).client j ≡ Some r →
+    IsChanged k change p j r ⊎ ((p.client j ≡ Some r) × (j ≡ k → ⊥))
 changed_row k change p j r is =
     elim (eq_cases j k) [
       | inl here ↦ inl (by_row (p.client j) refl here.1 (rw here.0 at is))
@@ -73,7 +74,8 @@ pub record KeepsWho (r q : Client) : Type 0 where
   pub consumer : q.consumer ≡ r.consumer
   pub shuts : q.closing ≡ true → (r.closing ≡ true) ⊎ (r.consumer ≡ None)
 
-module _ (acts : List Act) (k : ℕ) (change : Client → Client) (p : Proxy) (keeps : (r : Client) → p.client k ≡ Some r → KeepsWho r (change r)) (h : HeldBy acts p) where
+module _ (acts : List Act) (k : ℕ) (change : Client → Client) (p : Proxy) (keeps : (r : Client) → p.client k ≡ Some r → KeepsWho r (change r))
+    (h : HeldBy acts p) where
   abbrev q : Proxy
   q = with_client k change p
 
@@ -85,7 +87,13 @@ module _ (acts : List Act) (k : ℕ) (change : Client → Client) (p : Proxy) (k
     | inr off ↦ record { row = w.row; at = off.0; here = w.here; consumer = w.consumer }
     | inl z ↦
         let s = keeps z.old (at_k j z.old z.same z.at) in
-        record { row = z.old; at = z.at; here = sym s.gone ∙ (ap (λ (r : Client). r.gone) (sym z.is) ∙ w.here); consumer = sym s.consumer ∙ (ap (λ (r : Client). r.consumer) (sym z.is) ∙ w.consumer) }
+        record {
+          row = z.old;
+          at = z.at;
+          here = sym s.gone ∙ (ap (λ (r : Client). r.gone) (sym z.is) ∙ w.here);
+          consumer = sym s.consumer ∙
+              (ap (λ (r : Client). r.consumer) (sym z.is) ∙ w.consumer);
+        }
   ]
 
   on : (j c : ℕ) → IsHolder p j c → IsHolder q j c
@@ -93,16 +101,24 @@ module _ (acts : List Act) (k : ℕ) (change : Client → Client) (p : Proxy) (k
     | inr off ↦ record { row = w.row; at = changed_off k change p j off.1 ∙ w.at; here = w.here; consumer = w.consumer }
     | inl here ↦
         let s = keeps w.row (at_k j w.row here.1 w.at) in
-        record { row = change w.row; at = ap q.client here.1 ∙ changed_here k change p w.row (at_k j w.row here.1 w.at); here = s.gone ∙ w.here; consumer = s.consumer ∙ w.consumer }
+        record {
+          row = change w.row;
+          at = ap q.client here.1 ∙ changed_here k change p w.row (at_k j w.row here.1 w.at);
+          here = s.gone ∙ w.here;
+          consumer = s.consumer ∙ w.consumer;
+        }
   ]
 
   shut : (j : ℕ) (r : Client) → q.client j ≡ Some r → r.closing ≡ true → r.consumer ≡ None
   shut j r at closing = elim (changed_row k change p j r at) as (λ _. r.consumer ≡ None) [
     | inr off ↦ h.idle j r off.0 closing
-    | inl z ↦ ap (λ (u : Client). u.consumer) z.is ∙ ((keeps z.old (at_k j z.old z.same z.at)).consumer ∙ by_old z.old z.at (keeps z.old (at_k j z.old z.same z.at)).shuts (ap (λ (u : Client). u.closing) (sym z.is) ∙ closing))
+    | inl z ↦ ap (λ (u : Client). u.consumer) z.is ∙
+        ((keeps z.old (at_k j z.old z.same z.at)).consumer ∙
+        by_old z.old z.at (keeps z.old (at_k j z.old z.same z.at)).shuts (ap (λ (u : Client). u.closing) (sym z.is) ∙ closing))
   ]
     where
-      by_old : (old : Client) → p.client j ≡ Some old → ((change old).closing ≡ true → (old.closing ≡ true) ⊎ (old.consumer ≡ None)) → (change old).closing ≡ true → old.consumer ≡ None
+      by_old : (old : Client) → p.client j ≡ Some old → ((change old).closing ≡ true → (old.closing ≡ true) ⊎ (old.consumer ≡ None)) →
+          (change old).closing ≡ true → old.consumer ≡ None
       by_old old row shuts now = elim (shuts now) [ inl was ↦ h.idle j old row was | inr none ↦ none ]
 
   pub change_keeps : HeldBy acts q
@@ -179,7 +195,8 @@ module _ (limits : Limits) (p : Proxy) (e : Entry) (law : Lawful p.tables) (is :
   entry_keeps h other new = record {
     held = λ k c w. h.held k c (entry_back k c w);
     started = λ k c w. h.started k c (entry_back k c w);
-    live = λ c now. elim (was_live limits p.tables e law is c now) as (λ _. (k : ℕ) × IsHolder (with_entry e p) k c) [ inl was ↦ (let w = h.live c was in (w.0, entry_on w.0 c w.1)) | inr starts ↦ absurd (new c starts) ];
+    live = λ c now. elim (was_live limits p.tables e law is c now) as (λ _. (k : ℕ) × IsHolder (with_entry e p) k c)
+        [ inl was ↦ (let w = h.live c was in (w.0, entry_on w.0 c w.1)) | inr starts ↦ absurd (new c starts) ];
     alive = λ k c w. alive_behind c (other c) (h.alive k c (entry_back k c w));
     idle = h.idle;
   }
@@ -215,7 +232,8 @@ module _ (limits : Limits) (p : Proxy) (e : Entry) (law : Lawful p.tables) (is :
     ]
       where
         over : d ≡ c → ⊥
-        over same = let never : true ≡ false = sym now ∙ (ap (λ (n : ℕ). is_live ((after p.tables e).consumer n)) same ∙ cancelled_over limits p.tables e law is c at) in cc
+        over same = let never : true ≡ false = sym now ∙
+            (ap (λ (n : ℕ). is_live ((after p.tables e).consumer n)) same ∙ cancelled_over limits p.tables e law is c at) in cc
 
     left_idle : (j : ℕ) (r : Client) → gone_now.client j ≡ Some r → r.closing ≡ true → r.consumer ≡ None
     unfolding with_entry
@@ -244,7 +262,9 @@ module _ (limits : Limits) (p : Proxy) (e : Entry) (law : Lawful p.tables) (is :
   -- A START
 
   -- of a client that waits for nothing, by the next number
-  module _ (k : ℕ) (r : Client) (request : WireRequest) (row : p.client k ≡ Some r) (here : r.gone ≡ false) (none : r.consumer ≡ None) (unshut : r.closing ≡ false) (last : p.tables.last_start ≤ p.starts) (few : live p.tables < 1024) (at : e.event ≡ event.Start (p.starts + 1) request.request) (h : HasConsumers p) where
+  module _ (k : ℕ) (r : Client) (request : WireRequest) (row : p.client k ≡ Some r) (here : r.gone ≡ false) (none : r.consumer ≡ None)
+      (unshut : r.closing ≡ false) (last : p.tables.last_start ≤ p.starts) (few : live p.tables < 1024)
+      (at : e.event ≡ event.Start (p.starts + 1) request.request) (h : HasConsumers p) where
     abbrev c : ℕ
     c = p.starts + 1
 
@@ -304,7 +324,8 @@ module _ (limits : Limits) (p : Proxy) (e : Entry) (law : Lawful p.tables) (is :
     begun_alive : (j d : ℕ) → IsHolder begun_now j d → IsAlive (acts_in begun_now.part) begun_now d
     unfolding with_entry
     begun_alive j d u = elim (begun_back j d u) as (λ _. IsAlive (acts_in begun_now.part) begun_now d) [
-      | inl new ↦ inl (ap (λ (n : ℕ). is_live ((after p.tables e).consumer n)) new.1 ∙ starts_live limits p.tables e is c request.request at (omega arith) few new_row)
+      | inl new ↦ inl (ap (λ (n : ℕ). is_live ((after p.tables e).consumer n)) new.1 ∙
+          starts_live limits p.tables e is c request.request at (omega arith) few new_row)
       | inr old ↦ alive_behind d (λ cancels. let never : event.Start c request.request ≡ event.Cancel d = sym at ∙ cancels in cc) (h.alive j d old.0)
     ]
 
@@ -312,7 +333,8 @@ module _ (limits : Limits) (p : Proxy) (e : Entry) (law : Lawful p.tables) (is :
     unfolding with_entry
     begun_idle j z is_row closing = elim (changed_row k (asks c request) p j z is_row) as (λ _. z.consumer ≡ None) [
       | inr off ↦ h.idle j z off.0 closing
-      | inl u ↦ absurd (let same : u.old ≡ r = some_inj u.old r (sym u.at ∙ (ap p.client u.same ∙ row)) in let never : false ≡ true = sym unshut ∙ (ap (λ (q : Client). q.closing) (sym same) ∙ (ap (λ (q : Client). q.closing) (sym u.is) ∙ closing)) in cc)
+      | inl u ↦ absurd (let same : u.old ≡ r = some_inj u.old r (sym u.at ∙ (ap p.client u.same ∙ row)) in let never : false ≡ true = sym unshut ∙
+          (ap (λ (q : Client). q.closing) (sym same) ∙ (ap (λ (q : Client). q.closing) (sym u.is) ∙ closing)) in cc)
     ]
 
     pub start_keeps : HasConsumers begun_now

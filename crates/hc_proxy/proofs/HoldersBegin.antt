@@ -13,7 +13,8 @@ use Rattle.hc_proxy.proofs.{Holders.{IsAlive, HeldBy, held_of, of_held}, Turning
 
 -- CLIENTS AND TABLES STAY
 
-module _ (acts : List Act) (p q : Proxy) (clients : q.client ≡ p.client) (holders : q.holder ≡ p.holder) (starts : q.starts ≡ p.starts) (tables : q.tables ≡ p.tables) (h : HeldBy acts p) where
+module _ (acts : List Act) (p q : Proxy) (clients : q.client ≡ p.client) (holders : q.holder ≡ p.holder) (starts : q.starts ≡ p.starts)
+    (tables : q.tables ≡ p.tables) (h : HeldBy acts p) where
   alike_back : (k c : ℕ) → IsHolder q k c → IsHolder p k c
   alike_back k c w = record { row = w.row; at = sym (ap (λ (f : ℕ → Option Client). f k) clients) ∙ w.at; here = w.here; consumer = w.consumer }
 
@@ -44,7 +45,8 @@ module _ (acts : List Act) (k : ℕ) (p : Proxy) (new : p.client k ≡ None) (h 
   comes_back : (j c : ℕ) → IsHolder (with_new k p) j c → IsHolder p j c
   comes_back j c w = elim (eq_cases j k) as (λ _. IsHolder p j c) [
     | inr off ↦ record { row = w.row; at = rw off.0 at w.at; here = w.here; consumer = w.consumer }
-    | inl here ↦ absurd (let made : Some new_client ≡ Some w.row = rw here.0 at w.at in let never : None ≡ Some c = ap (λ (r : Client). r.consumer) (some_inj new_client w.row made) ∙ w.consumer in cc)
+    | inl here ↦ absurd (let made : Some new_client ≡ Some w.row = rw here.0 at w.at in let never : None ≡ Some c =
+        ap (λ (r : Client). r.consumer) (some_inj new_client w.row made) ∙ w.consumer in cc)
   ]
 
   comes_on : (j c : ℕ) → IsHolder p j c → IsHolder (with_new k p) j c
@@ -92,7 +94,8 @@ module _ (call : Called) (p : Proxy) (stand : AllStand call p) (h : HeldBy [] p)
       by_row (Some old) at made = record { old = old; at = at; is = sym (some_inj (seen_at call k old) q made) }
 
   -- one that is here was, as it is
-  still_here : (b : Bool) (r : Client) → (if b then r else record r { gone = true; let_go = true }).gone ≡ false → (if b then r else record r { gone = true; let_go = true }) ≡ r
+  still_here : (b : Bool) (r : Client) → (if b then r else record r { gone = true; let_go = true }).gone ≡ false →
+      (if b then r else record r { gone = true; let_go = true }) ≡ r
   still_here true r here = refl
   still_here false r here = absurd (let never : true ≡ false = here in cc)
 
@@ -100,7 +103,13 @@ module _ (call : Called) (p : Proxy) (stand : AllStand call p) (h : HeldBy [] p)
   begun_back k c w =
       let s = seen k w.row w.at in
       let same : w.row ≡ s.old = s.is ∙ still_here (s.old.gone || stands call k) s.old (ap (λ (r : Client). r.gone) (sym s.is) ∙ w.here) in
-      record { row = s.old; at = s.at; here = ap (λ (r : Client). r.gone) (sym same) ∙ w.here; consumer = ap (λ (r : Client). r.consumer) (sym same) ∙ w.consumer }
+      record {
+        row = s.old;
+        at = s.at;
+        here = ap (λ (r : Client). r.gone) (sym same) ∙ w.here;
+        consumer = ap (λ (r : Client). r.consumer) (sym same) ∙
+            w.consumer;
+      }
 
   begun_on : (k c : ℕ) → IsHolder p k c → IsHolder next k c
   begun_on k c w = record { row = w.row; at = ap (option_map (seen_at call k)) w.at ∙ ap Some stays; here = w.here; consumer = w.consumer }

@@ -8,7 +8,8 @@ use Rattle.hc_proxy.specs.declared.proxy.Proxy as loop
 use Rattle.hc_proxy.specs.{Carrying.{acts_in}, Keeping.{Turn, HasUpstreams, HasUpstreamsBut, KeepsBut, KeepsQuiet, HangsUp}, Rows.{Proxy}}
 use Rattle.hc_proxy.proofs.{Alike.{cache_moves, clients_move}, HangsOff.{off_row, was_there, open_apart, rows_left, some_there, wire_left, known_left}}
 
-module _ {B : Type 0} {g : Ghosts B} (t : Turn) (z : ℕ) (x x' : loop.Proxy B g) (p : Proxy) (h : KeepsBut z t x p) (shut : is_open (p.tables.exchange z) ≡ false) (u : HangsUp z x x') where
+module _ {B : Type 0} {g : Ghosts B} (t : Turn) (z : ℕ) (x x' : loop.Proxy B g) (p : Proxy) (h : KeepsBut z t x p)
+    (shut : is_open (p.tables.exchange z) ≡ false) (u : HangsUp z x x') where
   abbrev ups : HasUpstreamsBut z t x p (acts_in p.part)
   ups = h.upstreams
 
@@ -26,7 +27,8 @@ module _ {B : Type 0} {g : Ghosts B} (t : Turn) (z : ℕ) (x x' : loop.Proxy B g
     numbers = λ y v is. ups.numbers y v (was_there t z x x' p shut u y v is).1;
     over = over;
     news = λ y on none asks. ups.news y (apart y on) on (sym (u.news y ∙ rw (apart y on) refl) ∙ none) asks;
-    touched = λ y v is on none asks. ups.touched y v (apart y on) (was_there t z x x' p shut u y v is).1 on (sym (u.touched y ∙ rw (apart y on) refl) ∙ none) asks;
+    touched = λ y v is on none asks. ups.touched y v (apart y on) (was_there t z x x' p shut u y v is).1 on
+        (sym (u.touched y ∙ rw (apart y on) refl) ∙ none) asks;
     opens = ups.opens;
     names = ups.names;
     strangers = ups.strangers;

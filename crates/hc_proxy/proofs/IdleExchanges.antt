@@ -104,7 +104,8 @@ module _ (limits : Limits) where
 
     handed_apart : (o : Option Upstream) (p : Proxy) → ApartOn x p (hands_if limits z o p)
     handed_apart None p = same x p
-    handed_apart (Some upstream) p = either x (is_wanted (p.tables.exchange z) && has_news upstream) p (hands limits z (next_of upstream) p) (hands_apart (next_of upstream) p)
+    handed_apart (Some upstream) p =
+        either x (is_wanted (p.tables.exchange z) && has_news upstream) p (hands limits z (next_of upstream) p) (hands_apart (next_of upstream) p)
 
     close_apart : (r : Result WirePart MsgError) (p : Proxy) → ApartOn x p (stepped limits (event_at_close z r) p)
     close_apart (Ok part) p = steps x (event.End z) refl p
@@ -119,7 +120,8 @@ module _ (limits : Limits) where
 
     closed_apart : (o : Option Upstream) (p : Proxy) → ApartOn x p (closes_if limits z o p)
     closed_apart None p = same x p
-    closed_apart (Some upstream) p = either x (upstream.ended && is_open (p.tables.exchange z)) p (closes limits z (next_of upstream) p) (closes_apart (next_of upstream) p)
+    closed_apart (Some upstream) p =
+        either x (upstream.ended && is_open (p.tables.exchange z)) p (closes limits z (next_of upstream) p) (closes_apart (next_of upstream) p)
 
     pub heard_apart : (p : Proxy) → ApartOn x p (heard_one z p)
     heard_apart p =
@@ -142,9 +144,11 @@ module _ (limits : Limits) where
 
   pub idle_apart : (x : ℕ) (p q : Proxy) → Apart x p q → Idle p x → Idle q x
   idle_apart x p q a (inl shut) =
-      inl (elim (bool_cases (is_open (q.tables.exchange x))) as (λ _. is_open (q.tables.exchange x) ≡ false) [ inl now ↦ true_false (sym (a.opens now) ∙ shut) | inr off ↦ off ])
+      inl (elim (bool_cases (is_open (q.tables.exchange x))) as (λ _. is_open (q.tables.exchange x) ≡ false)
+      [ inl now ↦ true_false (sym (a.opens now) ∙ shut) | inr off ↦ off ])
   idle_apart x p q a (inr off) =
-      inr (ap (λ (o : Option Upstream). is_due_by (is_wanted (q.tables.exchange x)) o) a.row ∙ due_stays (p.upstream x) (is_wanted (p.tables.exchange x)) (is_wanted (q.tables.exchange x)) a.wants off)
+      inr (ap (λ (o : Option Upstream). is_due_by (is_wanted (q.tables.exchange x)) o) a.row ∙
+      due_stays (p.upstream x) (is_wanted (p.tables.exchange x)) (is_wanted (q.tables.exchange x)) a.wants off)
 
   -- WHO IS IDLE IS PASSED OVER
 
@@ -156,7 +160,8 @@ module _ (limits : Limits) where
   not_handed x p idle None row = refl
   not_handed x p (inl shut) (Some v) row = rw (unwanted (p.tables.exchange x) shut) refl
   not_handed x p (inr off) (Some v) row =
-      let due : is_due_by (is_wanted (p.tables.exchange x)) (Some v) ≡ false = sym (ap (λ (o : Option Upstream). is_due_by (is_wanted (p.tables.exchange x)) o) row) ∙ off in
+      let due : is_due_by (is_wanted (p.tables.exchange x)) (Some v) ≡ false =
+      sym (ap (λ (o : Option Upstream). is_due_by (is_wanted (p.tables.exchange x)) o) row) ∙ off in
       rw (first (is_wanted (p.tables.exchange x) && has_news v) _ due) refl
     where
       first : (a b : Bool) → (a || b) ≡ false → a ≡ false
@@ -184,7 +189,8 @@ module _ (limits : Limits) where
       second false b g = g
 
       due : (v.ended && not (is_part (next_of v))) ≡ false
-      due = second (is_wanted (p.tables.exchange x) && has_news v) _ (sym (ap (λ (o : Option Upstream). is_due_by (is_wanted (p.tables.exchange x)) o) row) ∙ off)
+      due = second (is_wanted (p.tables.exchange x) && has_news v) _
+          (sym (ap (λ (o : Option Upstream). is_due_by (is_wanted (p.tables.exchange x)) o) row) ∙ off)
 
       is_not : (b : Bool) → not b ≡ false → b ≡ true
       is_not true h = refl

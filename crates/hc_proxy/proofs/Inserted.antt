@@ -52,7 +52,8 @@ pub inserted_on : (i k : ℕ) (xs : List ℕ) → among i xs ≡ true → among 
 inserted_on i k [] there = absurd (let never : false ≡ true = there in cc)
 inserted_on i k (j ∷ js) there = by_test (nat_lt k j) (nat_eq i j) there (λ h. inserted_on i k js h)
   where
-    by_test : (b a : Bool) → (a || among i js) ≡ true → (among i js ≡ true → among i (inserted k js) ≡ true) → among i (if b then k ∷ j ∷ js else j ∷ inserted k js) ≡ true
+    by_test : (b a : Bool) → (a || among i js) ≡ true → (among i js ≡ true → among i (inserted k js) ≡ true) →
+        among i (if b then k ∷ j ∷ js else j ∷ inserted k js) ≡ true
     by_test true a h rest = or_later (nat_eq i k) _ there
     by_test false a h rest = by_first (nat_eq i j) there rest
       where
@@ -68,7 +69,8 @@ inserted_back i k (j ∷ js) off there = by_test (nat_lt k j) there (λ h. inser
     by_first true g more = refl
     by_first false g more = more g
 
-    by_test : (b : Bool) → among i (if b then k ∷ j ∷ js else j ∷ inserted k js) ≡ true → (among i (inserted k js) ≡ true → among i js ≡ true) → (nat_eq i j || among i js) ≡ true
+    by_test : (b : Bool) → among i (if b then k ∷ j ∷ js else j ∷ inserted k js) ≡ true → (among i (inserted k js) ≡ true → among i js ≡ true) →
+        (nat_eq i j || among i js) ≡ true
     by_test true h rest = rw off at h
     by_test false h rest = by_first (nat_eq i j) h rest
 
@@ -82,7 +84,8 @@ one_more test k [] = by_test (test k)
     by_test false = omega arith
 one_more test k (j ∷ js) = by_tests (nat_lt k j) (test k) (test j) (one_more test k js)
   where
-    by_first : (b d : Bool) (ys : List ℕ) → length (if b then k ∷ (if d then j ∷ ys else ys) else (if d then j ∷ ys else ys)) ≤ length (if d then j ∷ ys else ys) + 1
+    by_first : (b d : Bool) (ys : List ℕ) →
+        length (if b then k ∷ (if d then j ∷ ys else ys) else (if d then j ∷ ys else ys)) ≤ length (if d then j ∷ ys else ys) + 1
     by_first true d ys = omega arith
     by_first false d ys = omega arith
 
@@ -90,7 +93,8 @@ one_more test k (j ∷ js) = by_tests (nat_lt k j) (test k) (test j) (one_more t
     by_later true ys zs le = omega arith
     by_later false ys zs le = le
 
-    by_tests : (less b d : Bool) → length (filter test (inserted k js)) ≤ length (filter test js) + 1 → length (filter test (if less then k ∷ j ∷ js else j ∷ inserted k js)) ≤ length (filter test (j ∷ js)) + 1
+    by_tests : (less b d : Bool) → length (filter test (inserted k js)) ≤ length (filter test js) + 1 →
+        length (filter test (if less then k ∷ j ∷ js else j ∷ inserted k js)) ≤ length (filter test (j ∷ js)) + 1
     by_tests true b d le = by_first (test k) (test j) (filter test js)
     by_tests false b d le = by_later (test j) (filter test js) (filter test (inserted k js)) le
 
@@ -104,7 +108,8 @@ same_others f h k (j ∷ js) off same =
     ∙ ap (λ (ys : List ℕ). if h j then j ∷ ys else ys) rest
 
 -- of those that pass, one more at most, where the others pass as before
-pub passed_more : (f h : ℕ → Bool) (k : ℕ) (xs : List ℕ) → among k xs ≡ false → ((j : ℕ) → nat_eq j k ≡ false → f j ≡ h j) → length (filter f (inserted k xs)) ≤ length (filter h xs) + 1
+pub passed_more : (f h : ℕ → Bool) (k : ℕ) (xs : List ℕ) → among k xs ≡ false → ((j : ℕ) → nat_eq j k ≡ false → f j ≡ h j) →
+    length (filter f (inserted k xs)) ≤ length (filter h xs) + 1
 passed_more f h k xs off same =
     let le : length (filter f (inserted k xs)) ≤ length (filter f xs) + 1 = one_more f k xs in
     let is : length (filter f xs) ≡ length (filter h xs) = ap length (same_others f h k xs off same) in

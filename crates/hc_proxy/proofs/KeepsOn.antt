@@ -71,7 +71,9 @@ both_ways false false on back = refl
 module _ {B : Type 0} {g : Ghosts B} where
   -- THE CONNECTIONS TO THE ORIGIN
 
-  module _ (t : Turn) (x : loop.Proxy B g) (p : Proxy) (acts : List Act) (s : Stands t.frame.limits p) (unopened : (y : ℕ) → p.tables.opened < y → p.upstream y ≡ None) (h : HasUpstreams t x p acts) (e : Entry) (is : IsOwed t.frame.limits p.tables e) (none : (y : ℕ) → Stops y e.event → ⊥) where
+  module _ (t : Turn) (x : loop.Proxy B g) (p : Proxy) (acts : List Act) (s : Stands t.frame.limits p)
+      (unopened : (y : ℕ) → p.tables.opened < y → p.upstream y ≡ None) (h : HasUpstreams t x p acts) (e : Entry) (is : IsOwed t.frame.limits p.tables e)
+      (none : (y : ℕ) → Stops y e.event → ⊥) where
     -- what is opened isn't dialled yet
     is_next : (y : ℕ) → OpensIt y (opening_in e.acts) → p.tables.opened < y
     is_next y o =
@@ -86,7 +88,8 @@ module _ {B : Type 0} {g : Ghosts B} where
         absurd (omega arith)
 
     was_open_here : (y : ℕ) → y ≤ length t.dialled → is_open ((after p.tables e).exchange y) ≡ true → is_open (p.tables.exchange y) ≡ true
-    was_open_here y le now = elim (was_open p.tables e y now) as (λ _. is_open (p.tables.exchange y) ≡ true) [ inl was ↦ was | inr opens ↦ absurd (undialled y opens le) ]
+    was_open_here y le now =
+        elim (was_open p.tables e y now) as (λ _. is_open (p.tables.exchange y) ≡ true) [ inl was ↦ was | inr opens ↦ absurd (undialled y opens le) ]
 
     closed_first : (y : ℕ) → closes_in y acts ≡ true → closes_in y (acts ++ e.acts) ≡ true
     closed_first y c = closes_both y acts e.acts ∙ or_left _ _ c
@@ -94,12 +97,15 @@ module _ {B : Type 0} {g : Ghosts B} where
     closed_second : (y : ℕ) → closes_in y e.acts ≡ true → closes_in y (acts ++ e.acts) ≡ true
     closed_second y c = closes_both y acts e.acts ∙ or_right _ _ c
 
-    over_behind : (y : ℕ) → (is_open (p.tables.exchange y) ≡ true) ⊎ (closes_in y acts ≡ true) → (is_open ((after p.tables e).exchange y) ≡ true) ⊎ (closes_in y (acts ++ e.acts) ≡ true)
+    over_behind : (y : ℕ) → (is_open (p.tables.exchange y) ≡ true) ⊎ (closes_in y acts ≡ true) →
+        (is_open ((after p.tables e).exchange y) ≡ true) ⊎ (closes_in y (acts ++ e.acts) ≡ true)
     over_behind y (inr closes) = inr (closed_first y closes)
-    over_behind y (inl was) = elim (stays_open p.tables e y was) as (λ _. (is_open ((after p.tables e).exchange y) ≡ true) ⊎ (closes_in y (acts ++ e.acts) ≡ true)) [
-      | inl now ↦ inl now
-      | inr other ↦ elim other as (λ _. (is_open ((after p.tables e).exchange y) ≡ true) ⊎ (closes_in y (acts ++ e.acts) ≡ true)) [ inl closes ↦ inr (closed_second y closes) | inr stops ↦ absurd (none y stops) ]
-    ]
+    over_behind y (inl was) =
+        elim (stays_open p.tables e y was) as (λ _. (is_open ((after p.tables e).exchange y) ≡ true) ⊎ (closes_in y (acts ++ e.acts) ≡ true)) [
+          | inl now ↦ inl now
+          | inr other ↦ elim other as (λ _. (is_open ((after p.tables e).exchange y) ≡ true) ⊎ (closes_in y (acts ++ e.acts) ≡ true))
+              [ inl closes ↦ inr (closed_second y closes) | inr stops ↦ absurd (none y stops) ]
+        ]
 
     first_unasked : (y : ℕ) → asks_in y (acts ++ e.acts) ≡ false → asks_in y acts ≡ false
     first_unasked y off = or_first _ (asks_in y e.acts) (sym (asks_both y acts e.acts) ∙ off)
@@ -108,28 +114,34 @@ module _ {B : Type 0} {g : Ghosts B} where
     then_unasked y off = or_second (asks_in y acts) _ (sym (asks_both y acts e.acts) ∙ off)
 
     -- of what was open before
-    was_wanted_here : (y : ℕ) → asks_in y e.acts ≡ false → (OpensIt y (opening_in e.acts) → ⊥) → is_wanted ((after p.tables e).exchange y) ≡ true → is_wanted (p.tables.exchange y) ≡ true
+    was_wanted_here : (y : ℕ) → asks_in y e.acts ≡ false → (OpensIt y (opening_in e.acts) → ⊥) → is_wanted ((after p.tables e).exchange y) ≡ true →
+        is_wanted (p.tables.exchange y) ≡ true
     was_wanted_here y off old now = elim (was_wanted p.tables e y now) as (λ _. is_wanted (p.tables.exchange y) ≡ true) [
       | inl was ↦ was
-      | inr other ↦ elim other as (λ _. is_wanted (p.tables.exchange y) ≡ true) [ inl asks ↦ absurd (let never : true ≡ false = sym asks ∙ off in cc) | inr opens ↦ absurd (old opens) ]
+      | inr other ↦ elim other as (λ _. is_wanted (p.tables.exchange y) ≡ true)
+          [ inl asks ↦ absurd (let never : true ≡ false = sym asks ∙ off in cc) | inr opens ↦ absurd (old opens) ]
     ]
 
     no_row : (o : Option Upstream) (wanted : Bool) → o ≡ None → is_due_by wanted o ≡ false
     no_row o wanted none_there = ap (is_due_by wanted) none_there
 
-    news_behind : (y : ℕ) → is_open ((after p.tables e).exchange y) ≡ true → is_news x.upstreams y ≡ false → asks_in y (acts ++ e.acts) ≡ false → is_due_by (is_wanted ((after p.tables e).exchange y)) (p.upstream y) ≡ false
+    news_behind : (y : ℕ) → is_open ((after p.tables e).exchange y) ≡ true → is_news x.upstreams y ≡ false → asks_in y (acts ++ e.acts) ≡ false →
+        is_due_by (is_wanted ((after p.tables e).exchange y)) (p.upstream y) ≡ false
     news_behind y now off unasked = elim (was_open p.tables e y now) as (λ _. is_due_by (is_wanted ((after p.tables e).exchange y)) (p.upstream y) ≡ false) [
       | inr opens ↦ no_row (p.upstream y) _ (unopened y (is_next y opens))
       | inl was ↦ by_row (p.upstream y) refl (h.news y was off (first_unasked y unasked))
     ]
       where
-        by_row : (o : Option Upstream) → p.upstream y ≡ o → is_due_by (is_wanted (p.tables.exchange y)) (p.upstream y) ≡ false → is_due_by (is_wanted ((after p.tables e).exchange y)) (p.upstream y) ≡ false
+        by_row : (o : Option Upstream) → p.upstream y ≡ o → is_due_by (is_wanted (p.tables.exchange y)) (p.upstream y) ≡ false →
+            is_due_by (is_wanted ((after p.tables e).exchange y)) (p.upstream y) ≡ false
         by_row None row due = no_row (p.upstream y) _ row
         by_row (Some v) row due =
             less_due (is_wanted (p.tables.exchange y)) (is_wanted ((after p.tables e).exchange y)) (p.upstream y)
             (was_wanted_here y (then_unasked y unasked) (λ o. let never : None ≡ Some v = sym (unopened y (is_next y o)) ∙ row in cc)) due
 
-    touched_behind : (y : ℕ) (u : origin.Upstream) → upstream_of x.upstreams y ≡ Some u → is_open ((after p.tables e).exchange y) ≡ true → is_touched x.upstreams y ≡ false → asks_in y (acts ++ e.acts) ≡ false → (u.unsent ≡ []) × (is_same u.reading (is_wanted ((after p.tables e).exchange y)) ≡ true)
+    touched_behind : (y : ℕ) (u : origin.Upstream) → upstream_of x.upstreams y ≡ Some u → is_open ((after p.tables e).exchange y) ≡ true →
+        is_touched x.upstreams y ≡ false → asks_in y (acts ++ e.acts) ≡ false → (u.unsent ≡ []) ×
+        (is_same u.reading (is_wanted ((after p.tables e).exchange y)) ≡ true)
     touched_behind y u at now off unasked =
         let le : y ≤ length t.dialled = dialled_within t.dialled y u.k (h.numbers y u at) in
         let before = h.touched y u at (was_open_here y le now) off (first_unasked y unasked) in
@@ -154,7 +166,11 @@ module _ {B : Type 0} {g : Ghosts B} where
 
   -- ALL OF IT
 
-  pub keeps_on : (t : Turn) (x x' : loop.Proxy B g) (ev : Event) (p : Proxy) → Stands t.frame.limits p → ((y : ℕ) → p.tables.opened < y → p.upstream y ≡ None) → HasActs x p → HasClients t x p → HasUpstreams t x p (acts_in p.part) → AtWire t.stages x → AreSeen t p → AreClosed (acts_in p.part) p.tables → AreKnown t x → (s : Stepped t.frame x x' ev p) → RestStays x x' → ((y : ℕ) → Stops y s.e.event → ⊥) → HasConsumers (with_entry s.e p) → p.starts ≤ steps x'.cache → p.tables.opened + 1 ≤ steps x'.cache → Keeps t x' (with_entry s.e p)
+  pub keeps_on : (t : Turn) (x x' : loop.Proxy B g) (ev : Event) (p : Proxy) → Stands t.frame.limits p →
+      ((y : ℕ) → p.tables.opened < y → p.upstream y ≡ None) → HasActs x p → HasClients t x p → HasUpstreams t x p (acts_in p.part) → AtWire t.stages x →
+      AreSeen t p → AreClosed (acts_in p.part) p.tables → AreKnown t x → (s : Stepped t.frame x x' ev p) → RestStays x x' →
+      ((y : ℕ) → Stops y s.e.event → ⊥) → HasConsumers (with_entry s.e p) → p.starts ≤ steps x'.cache → p.tables.opened + 1 ≤ steps x'.cache →
+      Keeps t x' (with_entry s.e p)
   unfolding with_entry
   keeps_on t x x' ev p stands unopened acts clients upstreams wire seen shut known s rest none consumers numbers opened =
       let on = upstreams_on t x p (acts_in p.part) stands unopened upstreams s.e s.is_owed none in
@@ -174,7 +190,8 @@ module _ {B : Type 0} {g : Ghosts B} where
       }
 
   -- who had been heard out is so
-  pub heard_on : (f : Frame) (x : loop.Proxy B g) (p : Proxy) (e : Entry) → HasCache f x p → IsOwed f.limits p.tables e → IsHeardOut p → IsHeardOut (with_entry e p)
+  pub heard_on : (f : Frame) (x : loop.Proxy B g) (p : Proxy) (e : Entry) → HasCache f x p → IsOwed f.limits p.tables e → IsHeardOut p →
+      IsHeardOut (with_entry e p)
   unfolding with_entry
   heard_on f x p e h is heard y v now row ended =
       elim (was_open p.tables e y now) as (λ _. is_part (next_of v) ≡ true) [

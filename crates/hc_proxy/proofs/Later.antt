@@ -33,7 +33,8 @@ either_later true c d e x y = x
 either_later false c d e x y = y
 
 change_later : (change : Client → Client) → IsChange change → (c : Client) → IsLater c (change c)
-change_later _ (kinds.sends_more bytes) c = either_later c.gone c c (record c { input = c.input ++ bytes }) (later_same c) (record { more = []; owed = sym (append-nil c.owed); gone = λ g. g })
+change_later _ (kinds.sends_more bytes) c =
+    either_later c.gone c c (record c { input = c.input ++ bytes }) (later_same c) (record { more = []; owed = sym (append-nil c.owed); gone = λ g. g })
 change_later _ (kinds.is_read reading rest) c = record { more = []; owed = sym (append-nil c.owed); gone = λ g. g }
 change_later _ (kinds.asks_next d request) c = record { more = []; owed = sym (append-nil c.owed); gone = λ g. g }
 change_later _ (kinds.is_refused e) c = record { more = empty_answer (error_status e); owed = refl; gone = λ g. g }
@@ -56,7 +57,8 @@ answered_later a c = by_test c.gone
     by_test false = record { more = rendering c.reply a; owed = refl; gone = λ g. g }
 
 seen_later : (call : Called) (k : ℕ) (c : Client) → IsLater c (seen_at call k c)
-seen_later call k c = either_later (c.gone || stands call k) c c (record c { gone = true; let_go = true }) (later_same c) (record { more = []; owed = sym (append-nil c.owed); gone = λ g. refl })
+seen_later call k c = either_later (c.gone || stands call k) c c (record c { gone = true; let_go = true }) (later_same c)
+    (record { more = []; owed = sym (append-nil c.owed); gone = λ g. refl })
 
 -- THE CLIENT OF A CONNECTION
 
@@ -69,7 +71,8 @@ pub record HasLater (old : Client) (o : Option Client) : Type 0 where
 abbrev pub ClientGrows : ℕ → Proxy → Proxy → Type 0
 ClientGrows k p q = (old : Client) → p.client k ≡ Some old → HasLater old (q.client k)
 
-changed_row : (change : Client → Client) → ((c : Client) → IsLater c (change c)) → (b : Bool) (o : Option Client) (old : Client) → o ≡ Some old → HasLater old (if b then option_map change o else o)
+changed_row : (change : Client → Client) → ((c : Client) → IsLater c (change c)) → (b : Bool) (o : Option Client) (old : Client) → o ≡ Some old →
+    HasLater old (if b then option_map change o else o)
 changed_row change later true o old row = record { new = change old; row = ap (option_map change) row; later = later old }
 changed_row change later false o old row = record { new = old; row = row; later = later_same old }
 
@@ -77,7 +80,8 @@ other_test : (k j : ℕ) → (j ≡ k → ⊥) → nat_eq k j ≡ false
 other_test k j other = grind (arith, nat_tests)
 
 -- a new client stands where none stood
-new_row : (p : Proxy) (k j : ℕ) (new : Option Client) (old : Client) → p.client j ≡ None → (b : Bool) → nat_eq k j ≡ b → p.client k ≡ Some old → HasLater old (if b then new else p.client k)
+new_row : (p : Proxy) (k j : ℕ) (new : Option Client) (old : Client) → p.client j ≡ None → (b : Bool) → nat_eq k j ≡ b → p.client k ≡ Some old →
+    HasLater old (if b then new else p.client k)
 new_row p k j new old none true same row =
     let at : k ≡ j = grind (arith, nat_tests) in
     let never : Some old ≡ None = sym row ∙ (ap p.client at ∙ none) in
@@ -127,7 +131,8 @@ module _ (limits : Limits) (k : ℕ) where
   pub client_grows_on : (dialled : List ℕ) (calls : List Called) (p : Proxy) → ClientGrows k p (turned_by limits dialled calls p)
   client_grows_on dialled [] p = λ old row. record { new = old; row = row; later = later_same old }
   client_grows_on dialled (call ∷ calls) p =
-      both_rows p (turned limits dialled call p) (turned_by limits dialled calls (turned limits dialled call p)) (client_grows dialled call p) (client_grows_on dialled calls (turned limits dialled call p))
+      both_rows p (turned limits dialled call p) (turned_by limits dialled calls (turned limits dialled call p)) (client_grows dialled call p)
+      (client_grows_on dialled calls (turned limits dialled call p))
 
 -- WHAT CARRYING OUT KEEPS
 
@@ -179,7 +184,8 @@ origin_change _ (kinds.sends_more bytes) u = refl
 origin_change _ kinds.ends_here u = refl
 origin_change _ (kinds.is_read reading rest) u = refl
 
-origin_row : (change : Upstream → Upstream) → IsOriginChange change → (b : Bool) (o : Option Upstream) (old : Upstream) → o ≡ Some old → HasSameOwed old (if b then option_map change o else o)
+origin_row : (change : Upstream → Upstream) → IsOriginChange change → (b : Bool) (o : Option Upstream) (old : Upstream) → o ≡ Some old →
+    HasSameOwed old (if b then option_map change o else o)
 origin_row change is true o old row = record { new = change old; row = ap (option_map change) row; owed = origin_change change is old }
 origin_row change is false o old row = record { new = old; row = row; owed = refl }
 
@@ -218,7 +224,8 @@ module _ (limits : Limits) (x : ℕ) where
   }
 
   -- In a turn whose acts don't open x.
-  pub origin_stays : (dialled : List ℕ) (call : Called) (p : Proxy) → OpenOnly (OtherThan x) (acts_in (happened limits (so_far p dialled) call (begun call p)).part) → OriginStays x p (turned limits dialled call p)
+  pub origin_stays : (dialled : List ℕ) (call : Called) (p : Proxy) →
+      OpenOnly (OtherThan x) (acts_in (happened limits (so_far p dialled) call (begun call p)).part) → OriginStays x p (turned limits dialled call p)
   origin_stays dialled call p only =
       turned_keeps limits (OtherThan x) (OriginStays x) origins_stay origins_stay_out dialled call p only
       (λ old row. record { new = old; row = row; owed = refl })

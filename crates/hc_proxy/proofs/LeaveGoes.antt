@@ -22,13 +22,16 @@ use Rattle.hc_proxy.proofs.{Alike.{cache_moves, clients_move, cache_with, upstre
 
 -- WHAT IS KEPT BESIDE ANY ONE is kept of all
 
-pub beside_any : {B : Type 0} {g : Ghosts B} (t : Turn) (x : loop.Proxy B g) (p : Proxy) (acts : List Act) → HasUpstreamsBut 0 t x p acts → HasUpstreamsBut 1 t x p acts → HasUpstreams t x p acts
+pub beside_any : {B : Type 0} {g : Ghosts B} (t : Turn) (x : loop.Proxy B g) (p : Proxy) (acts : List Act) → HasUpstreamsBut 0 t x p acts →
+    HasUpstreamsBut 1 t x p acts → HasUpstreams t x p acts
 beside_any t x p acts a b = record {
   rows = a.rows;
   numbers = a.numbers;
-  over = λ y some. elim (eq_cases y 0) as (λ _. (is_open (p.tables.exchange y) ≡ true) ⊎ (closes_in y acts ≡ true)) [ inr off ↦ a.over y off.0 some | inl here ↦ b.over y (other y here.1) some ];
+  over = λ y some. elim (eq_cases y 0) as (λ _. (is_open (p.tables.exchange y) ≡ true) ⊎ (closes_in y acts ≡ true))
+      [ inr off ↦ a.over y off.0 some | inl here ↦ b.over y (other y here.1) some ];
   news = λ y on none asks. elim (eq_cases y 0) [ inr off ↦ a.news y off.0 on none asks | inl here ↦ b.news y (other y here.1) on none asks ];
-  touched = λ y v is on none asks. elim (eq_cases y 0) as (λ _. (v.unsent ≡ []) × (is_same v.reading (is_wanted (p.tables.exchange y)) ≡ true)) [ inr off ↦ a.touched y v off.0 is on none asks | inl here ↦ b.touched y v (other y here.1) is on none asks ];
+  touched = λ y v is on none asks. elim (eq_cases y 0) as (λ _. (v.unsent ≡ []) × (is_same v.reading (is_wanted (p.tables.exchange y)) ≡ true))
+      [ inr off ↦ a.touched y v off.0 is on none asks | inl here ↦ b.touched y v (other y here.1) is on none asks ];
   opens = a.opens;
   names = a.names;
   strangers = a.strangers;
@@ -50,7 +53,8 @@ left_here (Some r) on = absurd (let never : false ≡ true = on in cc)
 pub left_change : (taken : ℕ) (o : Option peer.Client) (r : Option Client) → ChangesClient taken o r None left
 left_change taken o r = record { alike = left_alike taken r; reads = λ c is. none_some c is; here = left_here r }
 
-module _ {B : Type 0} {g : Ghosts B} (t : Turn) (x : loop.Proxy B g) (p : Proxy) (k : ℕ) (h : AtEvent t x p k) (none : (y : ℕ) → is_at k (upstream_of x.upstreams y) ≡ false) (s : Clients) (becomes : clients.Becomes k None x.clients s) where
+module _ {B : Type 0} {g : Ghosts B} (t : Turn) (x : loop.Proxy B g) (p : Proxy) (k : ℕ) (h : AtEvent t x p k)
+    (none : (y : ℕ) → is_at k (upstream_of x.upstreams y) ≡ false) (s : Clients) (becomes : clients.Becomes k None x.clients s) where
   pub gone_clients : HasClients t (record x { clients = s }) (with_client k left p)
   gone_clients = changed_clients t x p k None left s becomes (left_change (taken_at t.call k) (client_of x.clients k) (p.client k)) h.quiet.keeps.clients
 
@@ -67,39 +71,57 @@ module _ {B : Type 0} {g : Ghosts B} (t : Turn) (x : loop.Proxy B g) (p : Proxy)
   -- behind it, whatever the cache is
   pub gone_wire : (x' : loop.Proxy B g) → x'.clients ≡ s → x'.upstreams ≡ x.upstreams → x'.closed.items ≡ x.closed.items ++ k ∷ [] → AtWire t.stages x'
   gone_wire x' cs us vs = record {
-    clients = λ j d is. reads_as t x p k None left s becomes (left_change (taken_at t.call k) (client_of x.clients k) (p.client k)) t.stages h.quiet.keeps.wire j d (sym (ap (λ z. client_of z j) cs) ∙ is);
+    clients = λ j d is. reads_as t x p k None left s becomes (left_change (taken_at t.call k) (client_of x.clients k) (p.client k)) t.stages
+        h.quiet.keeps.wire j d (sym (ap (λ z. client_of z j) cs) ∙ is);
     upstreams = λ y u is. h.quiet.keeps.wire.upstreams y u (sym (ap (λ z. upstream_of z y) us) ∙ is);
     all = all;
     closed = closed;
   }
     where
       Owner : ℕ → Type 0
-      Owner j = IsSome (client_of x'.clients j) ⊎ ((y : ℕ) × (v : origin.Upstream) × (upstream_of x'.upstreams y ≡ Some v) × (v.k ≡ j)) ⊎ Contains x'.closed.items j
+      Owner j = IsSome (client_of x'.clients j) ⊎ ((y : ℕ) × (v : origin.Upstream) × (upstream_of x'.upstreams y ≡ Some v) × (v.k ≡ j)) ⊎ Contains
+          x'.closed.items j
 
-      of_client : (j : ℕ) → IsSome (client_of x.clients j) → IsSome (client_of x'.clients j) ⊎ ((y : ℕ) × (v : origin.Upstream) × (upstream_of x'.upstreams y ≡ Some v) × (v.k ≡ j)) ⊎ Contains x'.closed.items j
-      of_client j some = elim (eq_cases j k) as (λ _. IsSome (client_of x'.clients j) ⊎ ((y : ℕ) × (v : origin.Upstream) × (upstream_of x'.upstreams y ≡ Some v) × (v.k ≡ j)) ⊎ Contains x'.closed.items j) [
-        | inr off ↦ inl (subst IsSome (sym (ap (λ z. client_of z j) cs ∙ (becomes j ∙ rw off.0 refl))) some)
-        | inl here ↦ inr (inr (subst (λ ks. Contains ks j) (sym vs) (Contains-append_right x.closed.items (k ∷ []) j (0, omega arith, sym here.1))))
-      ]
+      of_client : (j : ℕ) → IsSome (client_of x.clients j) →
+          IsSome (client_of x'.clients j) ⊎ ((y : ℕ) × (v : origin.Upstream) × (upstream_of x'.upstreams y ≡ Some v) × (v.k ≡ j)) ⊎ Contains x'.closed.items j
+      of_client j some = elim (eq_cases j k) as
+          (λ _. IsSome (client_of x'.clients j) ⊎ ((y : ℕ) × (v : origin.Upstream) × (upstream_of x'.upstreams y ≡ Some v) × (v.k ≡ j)) ⊎ Contains
+          x'.closed.items j) [
+            | inr off ↦ inl (subst IsSome (sym (ap (λ z. client_of z j) cs ∙ (becomes j ∙ rw off.0 refl))) some)
+            | inl here ↦ inr (inr (subst (λ ks. Contains ks j) (sym vs) (Contains-append_right x.closed.items (k ∷ []) j (0, omega arith, sym here.1))))
+          ]
 
-      all : (j : ℕ) → IsOpen (t.stages j) → IsSome (client_of x'.clients j) ⊎ ((y : ℕ) × (v : origin.Upstream) × (upstream_of x'.upstreams y ≡ Some v) × (v.k ≡ j)) ⊎ Contains x'.closed.items j
-      all j opens = elim (h.quiet.keeps.wire.all j opens) as (λ _. IsSome (client_of x'.clients j) ⊎ ((y : ℕ) × (v : origin.Upstream) × (upstream_of x'.upstreams y ≡ Some v) × (v.k ≡ j)) ⊎ Contains x'.closed.items j) [
-        | inl some ↦ of_client j some
-        | inr other ↦ elim other as (λ _. IsSome (client_of x'.clients j) ⊎ ((y : ℕ) × (v : origin.Upstream) × (upstream_of x'.upstreams y ≡ Some v) × (v.k ≡ j)) ⊎ Contains x'.closed.items j) [
-          | inl up ↦ inr (inl (up.0, up.1, ap (λ z. upstream_of z up.0) us ∙ up.2, up.3))
-          | inr there ↦ inr (inr (subst (λ ks. Contains ks j) (sym vs) (Contains-append_left x.closed.items (k ∷ []) j there)))
-        ]
-      ]
+      all : (j : ℕ) → IsOpen (t.stages j) →
+          IsSome (client_of x'.clients j) ⊎ ((y : ℕ) × (v : origin.Upstream) × (upstream_of x'.upstreams y ≡ Some v) × (v.k ≡ j)) ⊎ Contains x'.closed.items j
+      all j opens = elim (h.quiet.keeps.wire.all j opens) as
+          (λ _. IsSome (client_of x'.clients j) ⊎ ((y : ℕ) × (v : origin.Upstream) × (upstream_of x'.upstreams y ≡ Some v) × (v.k ≡ j)) ⊎ Contains
+          x'.closed.items j) [
+            | inl some ↦ of_client j some
+            | inr other ↦ elim other as
+                (λ _. IsSome (client_of x'.clients j) ⊎ ((y : ℕ) × (v : origin.Upstream) × (upstream_of x'.upstreams y ≡ Some v) × (v.k ≡ j)) ⊎ Contains
+                x'.closed.items j) [
+                  | inl up ↦ inr (inl (up.0, up.1, ap (λ z. upstream_of z up.0) us ∙ up.2, up.3))
+                  | inr there ↦ inr (inr (subst (λ ks. Contains ks j) (sym vs) (Contains-append_left x.closed.items (k ∷ []) j there)))
+                ]
+          ]
 
       no_number : (y : ℕ) (u : origin.Upstream) → upstream_of x.upstreams y ≡ Some u → u.k ≢ k
       no_number y u is its = true_false (sym (ap (is_at k) is ∙ (let same : nat_eq u.k k ≡ true = grind (arith, nat_tests) in same)) ∙ none y)
 
-      closed : (j : ℕ) → Contains x'.closed.items j → (client_of x'.clients j ≡ None) × ((y : ℕ) (u : origin.Upstream) → upstream_of x'.upstreams y ≡ Some u → u.k ≢ j)
-      closed j there = elim (Contains-append_cases x.closed.items (k ∷ []) j (subst (λ ks. Contains ks j) vs there)) as (λ _. (client_of x'.clients j ≡ None) × ((y : ℕ) (u : origin.Upstream) → upstream_of x'.upstreams y ≡ Some u → u.k ≢ j)) [
-        | inl before ↦ (let was = h.quiet.keeps.wire.closed j before in
-            (ap (λ z. client_of z j) cs ∙ none_stays t x p k None left s becomes (left_change (taken_at t.call k) (client_of x.clients k) (p.client k)) j was.0, λ y u is. was.1 y u (sym (ap (λ z. upstream_of z y) us) ∙ is)))
-        | inr now ↦ (ap (λ z. client_of z j) cs ∙ (ap (client_of s) (sym (one_of j now)) ∙ gone_here), λ y u is its. no_number y u (sym (ap (λ z. upstream_of z y) us) ∙ is) (its ∙ sym (one_of j now)))
-      ]
+      closed : (j : ℕ) → Contains x'.closed.items j → (client_of x'.clients j ≡ None) ×
+          ((y : ℕ) (u : origin.Upstream) → upstream_of x'.upstreams y ≡ Some u → u.k ≢ j)
+      closed j there = elim (Contains-append_cases x.closed.items (k ∷ []) j (subst (λ ks. Contains ks j) vs there)) as
+          (λ _. (client_of x'.clients j ≡ None) × ((y : ℕ) (u : origin.Upstream) → upstream_of x'.upstreams y ≡ Some u → u.k ≢ j)) [
+            | inl before ↦ (let was = h.quiet.keeps.wire.closed j before in (
+              ap (λ z. client_of z j) cs ∙
+                  none_stays t x p k None left s becomes (left_change (taken_at t.call k) (client_of x.clients k) (p.client k)) j was.0,
+              λ y u is. was.1 y u (sym (ap (λ z. upstream_of z y) us) ∙ is),
+            ))
+            | inr now ↦ (
+              ap (λ z. client_of z j) cs ∙ (ap (client_of s) (sym (one_of j now)) ∙ gone_here),
+              λ y u is its. no_number y u (sym (ap (λ z. upstream_of z y) us) ∙ is) (its ∙ sym (one_of j now)),
+            )
+          ]
 
   not_unseen : (stage : Stage) → IsOpen stage → stage ≡ Unseen → ⊥
   not_unseen Unseen opens is = opens
@@ -115,7 +137,10 @@ module _ {B : Type 0} {g : Ghosts B} (t : Turn) (x : loop.Proxy B g) (p : Proxy)
 
   -- IT WAITED FOR c
 
-  module _ (client : peer.Client) (is_row : client_of x.clients k ≡ Some client) (c : ℕ) (waits : client.consumer ≡ Some c) (mid : loop.Proxy B g) (st : Stepped t.frame x mid (event.Cancel c) p) (cs : mid.clients ≡ s) (us : mid.upstreams ≡ x.upstreams) (vs : mid.closed.items ≡ x.closed.items ++ k ∷ []) (rest_now : mid.now ≡ x.now) (rest_starts : mid.starts ≡ x.starts) (rest_round : mid.round ≡ x.round) (moved : mid.moved ≡ true) (one : steps mid.cache ≡ steps x.cache + 1) where
+  module _ (client : peer.Client) (is_row : client_of x.clients k ≡ Some client) (c : ℕ) (waits : client.consumer ≡ Some c) (mid : loop.Proxy B g)
+      (st : Stepped t.frame x mid (event.Cancel c) p) (cs : mid.clients ≡ s) (us : mid.upstreams ≡ x.upstreams)
+      (vs : mid.closed.items ≡ x.closed.items ++ k ∷ []) (rest_now : mid.now ≡ x.now) (rest_starts : mid.starts ≡ x.starts)
+      (rest_round : mid.round ≡ x.round) (moved : mid.moved ≡ true) (one : steps mid.cache ≡ steps x.cache + 1) where
     -- the same with the client that is gone
     abbrev still : loop.Proxy B g
     still = record mid { clients = x.clients; closed = x.closed }
@@ -156,7 +181,8 @@ module _ {B : Type 0} {g : Ghosts B} (t : Turn) (x : loop.Proxy B g) (p : Proxy)
     owed_it : client_leaves t.frame.limits k p ≡ with_client k left (steps_of.stepped t.frame.limits (event.Cancel c) p)
     owed_it = ap (λ o. leaves t.frame.limits k o p) w.at ∙ by_gone w.row.gone w.here w.row.consumer w.consumer
       where
-        by_gone : (b : Bool) → b ≡ false → (o : Option ℕ) → o ≡ Some c → (if b then p else with_client k left (cancelled t.frame.limits o p)) ≡ with_client k left (steps_of.stepped t.frame.limits (event.Cancel c) p)
+        by_gone : (b : Bool) → b ≡ false → (o : Option ℕ) → o ≡ Some c →
+            (if b then p else with_client k left (cancelled t.frame.limits o p)) ≡ with_client k left (steps_of.stepped t.frame.limits (event.Cancel c) p)
         by_gone true here o is = true_false here
         by_gone false here o is = ap (λ z. with_client k left (cancelled t.frame.limits z p)) is
 
@@ -185,17 +211,21 @@ module _ {B : Type 0} {g : Ghosts B} (t : Turn) (x : loop.Proxy B g) (p : Proxy)
               touched = ups.touched;
               opens = ups.opens;
               names = ups.names;
-              strangers = λ j some. h.quiet.keeps.upstreams.strangers j (row_was t x p k None left s becomes (left_change (taken_at t.call k) (client_of x.clients k) (p.client k)) j some);
+              strangers = λ j some. h.quiet.keeps.upstreams.strangers j
+                  (row_was t x p k None left s becomes (left_change (taken_at t.call k) (client_of x.clients k) (p.client k)) j some);
             };
             wire = gone_wire mid cs us vs;
             numbers = (let a : p.starts ≤ steps x.cache = h.quiet.keeps.numbers in let b : steps mid.cache ≡ steps x.cache + 1 = one in omega arith);
             opened = (let a : p.tables.opened ≤ steps x.cache = h.quiet.keeps.opened in let b : steps mid.cache ≡ steps x.cache + 1 = one in
-                let d : (after p.tables st.e).opened ≡ p.tables.opened = opened_same 0 t x still p (event.Cancel c) (but_it 0 t x p h.quiet) st_still rest_still refl (λ y stops. absurd stops) in omega arith);
-            seen = seen_still t x p k None left s becomes (left_change (taken_at t.call k) (client_of x.clients k) (p.client k)) t.stages t.dialled h.quiet.keeps.seen;
+                let d : (after p.tables st.e).opened ≡ p.tables.opened =
+                opened_same 0 t x still p (event.Cancel c) (but_it 0 t x p h.quiet) st_still rest_still refl (λ y stops. absurd stops) in omega arith);
+            seen = seen_still t x p k None left s becomes (left_change (taken_at t.call k) (client_of x.clients k) (p.client k)) t.stages t.dialled
+                h.quiet.keeps.seen;
             shut = closed_behind t.frame.limits p (stands_of t.frame x p h.quiet.keeps.cache) st.e st.is_owed (acts_in p.part) h.quiet.keeps.shut;
             known = known_there mid vs;
           };
-          moved = moved ∙ sym (ap (λ b. not (b && list_all is_waiting p.part)) (waits_not 0 t x still p (event.Cancel c) (but_it 0 t x p h.quiet) st_still rest_still refl (λ y stops. absurd stops)));
+          moved = moved ∙ sym (ap (λ b. not (b && list_all is_waiting p.part))
+              (waits_not 0 t x still p (event.Cancel c) (but_it 0 t x p h.quiet) st_still rest_still refl (λ y stops. absurd stops)));
           quiet = quiet_both (acts_in p.part) st.e.acts h.quiet.quiet quiet_acts;
         }
 
@@ -209,8 +239,12 @@ module _ {B : Type 0} {g : Ghosts B} (t : Turn) (x : loop.Proxy B g) (p : Proxy)
 
   -- IT WAITED FOR NOTHING
 
-  module _ (client : peer.Client) (is_row : client_of x.clients k ≡ Some client) (idle : client.consumer ≡ None) (x' : loop.Proxy B g) (cs : x'.clients ≡ s) (us : x'.upstreams ≡ x.upstreams) (vs : x'.closed.items ≡ x.closed.items ++ k ∷ []) (cache_is : x'.cache ≡ x.cache) (text_is : x'.record ≡ x.record) (acts_is : x'.acts ≡ x.acts) (now_is : x'.now ≡ x.now) (starts_are : x'.starts ≡ x.starts) (moved_is : x'.moved ≡ x.moved) where
-    row_by : (o : Option peer.Client) (r : Option Client) → IsClientAt (taken_at t.call k) o r → o ≡ Some client → (z : Client) × (r ≡ Some z) × (z.gone ≡ false) × (z.consumer ≡ None)
+  module _ (client : peer.Client) (is_row : client_of x.clients k ≡ Some client) (idle : client.consumer ≡ None) (x' : loop.Proxy B g)
+      (cs : x'.clients ≡ s) (us : x'.upstreams ≡ x.upstreams) (vs : x'.closed.items ≡ x.closed.items ++ k ∷ []) (cache_is : x'.cache ≡ x.cache)
+      (text_is : x'.record ≡ x.record) (acts_is : x'.acts ≡ x.acts) (now_is : x'.now ≡ x.now) (starts_are : x'.starts ≡ x.starts)
+      (moved_is : x'.moved ≡ x.moved) where
+    row_by : (o : Option peer.Client) (r : Option Client) → IsClientAt (taken_at t.call k) o r → o ≡ Some client → (z : Client) × (r ≡ Some z) ×
+        (z.gone ≡ false) × (z.consumer ≡ None)
     row_by None r at is = none_some client is
     row_by (Some d) None at is = absurd at
     row_by (Some d) (Some r) at is = (r, refl, at.here, sym at.consumer ∙ (ap (λ (w : peer.Client). w.consumer) (some_inj d client is) ∙ idle))
@@ -221,23 +255,27 @@ module _ {B : Type 0} {g : Ghosts B} (t : Turn) (x : loop.Proxy B g) (p : Proxy)
     idle_owed : client_leaves t.frame.limits k p ≡ with_client k left p
     idle_owed = ap (λ o. leaves t.frame.limits k o p) r.1 ∙ by_gone r.0.gone r.2 r.0.consumer r.3
       where
-        by_gone : (b : Bool) → b ≡ false → (o : Option ℕ) → o ≡ None → (if b then p else with_client k left (cancelled t.frame.limits o p)) ≡ with_client k left p
+        by_gone : (b : Bool) → b ≡ false → (o : Option ℕ) → o ≡ None →
+            (if b then p else with_client k left (cancelled t.frame.limits o p)) ≡ with_client k left p
         by_gone true here o is = true_false here
         by_gone false here o is = ap (λ z. with_client k left (cancelled t.frame.limits z p)) is
 
     idle_keeps : KeepsQuiet t x' (with_client k left p)
     idle_keeps = record {
       keeps = record {
-        cache = cache_moves t.frame x x' (with_client k left p) cache_is text_is now_is starts_are (cache_with t.frame x p (with_client k left p).client p.accepted h.quiet.keeps.cache);
+        cache = cache_moves t.frame x x' (with_client k left p) cache_is text_is now_is starts_are
+            (cache_with t.frame x p (with_client k left p).client p.accepted h.quiet.keeps.cache);
         acts = ap act_list acts_is ∙ h.quiet.keeps.acts;
         clients = clients_move t (record x { clients = s }) x' (with_client k left p) cs gone_clients;
         consumers = idle_leave_keeps k r.0 p r.1 r.3 h.quiet.keeps.consumers;
         upstreams = upstreams_move t x x' (with_client k left p) (acts_in p.part) us (upstreams_with k t x p (with_client k left p).client
-            (λ j some. row_was t x p k None left s becomes (left_change (taken_at t.call k) (client_of x.clients k) (p.client k)) j some) h.quiet.keeps.upstreams);
+            (λ j some. row_was t x p k None left s becomes (left_change (taken_at t.call k) (client_of x.clients k) (p.client k)) j some)
+            h.quiet.keeps.upstreams);
         wire = gone_wire x' cs us vs;
         numbers = subst (λ c. p.starts ≤ steps c) (sym cache_is) h.quiet.keeps.numbers;
         opened = subst (λ c. p.tables.opened ≤ steps c) (sym cache_is) h.quiet.keeps.opened;
-        seen = seen_still t x p k None left s becomes (left_change (taken_at t.call k) (client_of x.clients k) (p.client k)) t.stages t.dialled h.quiet.keeps.seen;
+        seen = seen_still t x p k None left s becomes (left_change (taken_at t.call k) (client_of x.clients k) (p.client k)) t.stages t.dialled
+            h.quiet.keeps.seen;
         shut = h.quiet.keeps.shut;
         known = known_there x' vs;
       };
@@ -256,8 +294,10 @@ module _ {B : Type 0} {g : Ghosts B} (t : Turn) (x : loop.Proxy B g) (p : Proxy)
   -- by what the step tells
 
   pub leave_by : (client : peer.Client) (c : ℕ) (y mid : loop.Proxy B g) → client_of x.clients k ≡ Some client → client.consumer ≡ Some c
-      → ((f : Frame) (p : Proxy) → HasCache f (record x { clients = s; closed = y.closed }) p → unread p + bytes_received x.cache + 0 ≤ f.bytes → Stepped f (record x { clients = s; closed = y.closed }) mid (event.Cancel c) p)
-      → RestStays (record x { clients = s; closed = y.closed }) mid → mid.moved ≡ true → steps mid.cache ≡ steps x.cache + 1 → y.closed.items ≡ x.closed.items ++ k ∷ []
+      → ((f : Frame) (p : Proxy) → HasCache f (record x { clients = s; closed = y.closed }) p → unread p + bytes_received x.cache + 0 ≤ f.bytes →
+      Stepped f (record x { clients = s; closed = y.closed }) mid (event.Cancel c) p)
+      → RestStays (record x { clients = s; closed = y.closed }) mid → mid.moved ≡ true → steps mid.cache ≡ steps x.cache + 1 →
+      y.closed.items ≡ x.closed.items ++ k ∷ []
       → Goes (KeepsQuiet t) (faults_in x.cache) mid (client_leaves t.frame.limits k p)
   leave_by client c y mid is_row waits stepped rest moved one items =
       let st = stepped t.frame p (cache_moves t.frame x (record x { clients = s; closed = y.closed }) p refl refl refl refl h.quiet.keeps.cache)
@@ -270,6 +310,8 @@ module _ {B : Type 0} {g : Ghosts B} (t : Turn) (x : loop.Proxy B g) (p : Proxy)
   none_by None un = refl
   none_by (Some c) un = absurd (un c refl)
 
-  pub idle_by : (client : peer.Client) (y : loop.Proxy B g) → client_of x.clients k ≡ Some client → ((c : ℕ) → client.consumer ≡ Some c → ⊥) → y.closed.items ≡ x.closed.items ++ k ∷ []
+  pub idle_by : (client : peer.Client) (y : loop.Proxy B g) → client_of x.clients k ≡ Some client → ((c : ℕ) → client.consumer ≡ Some c → ⊥) →
+      y.closed.items ≡ x.closed.items ++ k ∷ []
       → Goes (KeepsQuiet t) (faults_in x.cache) (record x { clients = s; closed = y.closed }) (client_leaves t.frame.limits k p)
-  idle_by client y is_row un items = idle_goes client is_row (none_by client.consumer un) (record x { clients = s; closed = y.closed }) refl refl items refl refl refl refl refl refl
+  idle_by client y is_row un items =
+      idle_goes client is_row (none_by client.consumer un) (record x { clients = s; closed = y.closed }) refl refl items refl refl refl refl refl refl

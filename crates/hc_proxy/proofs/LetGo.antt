@@ -51,7 +51,8 @@ answered_alike a c = alike_if c.gone c (record c {
 itself : (o : Option Client) (new : Client) → o ≡ Some new → new.let_go ≡ true → WasLetGo o new
 itself o new row is = record { old = new; row = row; let_go = is; gone = λ g. g }
 
-changed_row : (change : Client → Client) → ((c : Client) → Alike c (change c)) → (b : Bool) (o : Option Client) (new : Client) → (if b then option_map change o else o) ≡ Some new → new.let_go ≡ true → WasLetGo o new
+changed_row : (change : Client → Client) → ((c : Client) → Alike c (change c)) → (b : Bool) (o : Option Client) (new : Client) →
+    (if b then option_map change o else o) ≡ Some new → new.let_go ≡ true → WasLetGo o new
 changed_row change alike false o new row is = itself o new row is
 changed_row change alike true None new row is = absurd (let never : None ≡ Some new = row in cc)
 changed_row change alike true (Some old) new row is =

@@ -29,7 +29,8 @@ use Rattle.hc_state.proofs.LeftRows.{all_passing}
 -- all of the record was taken, and nothing is lacking of the last turn's
 whole_turns : (limits : Limits) (log : Log) (out out' : Option (List ℕ)) → Takes out out' (record_of (behind_all limits log)) → TakesTurns limits log out out'
 whole_turns limits log out out' takes =
-    let all : behind_calls limits log (length log.calls) ≡ behind_all limits log = ap (λ cs. turned_by limits log.dialled cs unused) (take_all (length log.calls) log.calls (omega arith)) in
+    let all : behind_calls limits log (length log.calls) ≡ behind_all limits log =
+    ap (λ cs. turned_by limits log.dialled cs unused) (take_all (length log.calls) log.calls (omega arith)) in
     record {
       turns = length log.calls;
       all_but_one = omega arith;
@@ -42,7 +43,8 @@ whole_turns limits log out out' takes =
 
 -- BETWEEN TURNS
 
-pub record IsTurning {B : Type 0} {g : Ghosts B} (n m : ℕ) (limits : Limits) (before : Log) (x : loop.Proxy B g) (reported : Option Log) (stages : ℕ → Stage) (out out' : Option (List ℕ)) (wait : Bool) : Type 0 where
+pub record IsTurning {B : Type 0} {g : Ghosts B} (n m : ℕ) (limits : Limits) (before : Log) (x : loop.Proxy B g) (reported : Option Log)
+    (stages : ℕ → Stage) (out out' : Option (List ℕ)) (wait : Bool) : Type 0 where
   pub f : Frame
   pub p : Proxy
   pub log : Log
@@ -67,7 +69,8 @@ fresh_of_loop limits log fresh = record {
 }
 
 module _ {B : Type 0} {g : Ghosts B} where
-  pub turning_begins : (n : ℕ) (f : Frame) (x : loop.Proxy B g) (before : Log) (reported : Option Log) (stages : ℕ → Stage) (out : Option (List ℕ)) → Begins n f x before reported stages → IsTurning n 0 f.limits before x reported stages out out true
+  pub turning_begins : (n : ℕ) (f : Frame) (x : loop.Proxy B g) (before : Log) (reported : Option Log) (stages : ℕ → Stage) (out : Option (List ℕ)) →
+      Begins n f x before reported stages → IsTurning n 0 f.limits before x reported stages out out true
   turning_begins n f x before reported stages out b = record {
     f = f;
     p = unused;
@@ -81,9 +84,11 @@ module _ {B : Type 0} {g : Ghosts B} where
     of_loop = fresh_of_loop f.limits before b.fresh;
   }
 
-  module _ (n m : ℕ) (limits : Limits) (before : Log) (x : loop.Proxy B g) (reported : Option Log) (stages : ℕ → Stage) (out out' : Option (List ℕ)) (wait : Bool) (t : IsTurning n m limits before x reported stages out out' wait) where
+  module _ (n m : ℕ) (limits : Limits) (before : Log) (x : loop.Proxy B g) (reported : Option Log) (stages : ℕ → Stage) (out out' : Option (List ℕ))
+      (wait : Bool) (t : IsTurning n m limits before x reported stages out out' wait) where
     -- one more turn
-    pub turning_on : (n' : ℕ) (x' : loop.Proxy B g) (reported' : Option Log) (stages' : ℕ → Stage) (new : Option (List ℕ)) (again : Bool) → TurnsTo n' t.f t.p t.log x x' reported' stages' out' new again → faults_in x'.cache ≡ faults_in x.cache
+    pub turning_on : (n' : ℕ) (x' : loop.Proxy B g) (reported' : Option Log) (stages' : ℕ → Stage) (new : Option (List ℕ)) (again : Bool) →
+        TurnsTo n' t.f t.p t.log x x' reported' stages' out' new again → faults_in x'.cache ≡ faults_in x.cache
         → IsTurning n' (m + 1) limits before x' reported' stages' out new again
     turning_on n' x' reported' stages' new again to none = record {
       f = to.f';
@@ -103,13 +108,16 @@ module _ {B : Type 0} {g : Ghosts B} where
 
     -- WHERE IT ENDS
 
-    by_stop : (turns : ℕ) (log : Log) (new : Option (List ℕ)) (e : Stop) → IsLog limits log → length log.calls ≤ turns → TakesTurns limits log out new → Serves limits turns log out new (ended_by e)
+    by_stop : (turns : ℕ) (log : Log) (new : Option (List ℕ)) (e : Stop) → IsLog limits log → length log.calls ≤ turns → TakesTurns limits log out new →
+        Serves limits turns log out new (ended_by e)
     by_stop turns log new stop.SinkFailed is few front = Serves.unwritten is few front
     by_stop turns log new stop.WireFailed is few front = Serves.unwired is few front
     by_stop turns log new stop.NoMemory is few front = Serves.wanting is few front
 
     -- a turn is cut short
-    pub turning_stops : (turns : ℕ) (x' : loop.Proxy B g) (reported' : Option Log) (new : Option (List ℕ)) (P : Stop → Type 0) (result : Result (Unit {0}) Stop) → IsErrAnd result P → m < turns → TurnStops t.f t.p t.log x x' reported' out' new → faults_in x'.cache ≡ faults_in x.cache
+    pub turning_stops : (turns : ℕ) (x' : loop.Proxy B g) (reported' : Option Log) (new : Option (List ℕ)) (P : Stop → Type 0)
+        (result : Result (Unit {0}) Stop) → IsErrAnd result P → m < turns → TurnStops t.f t.p t.log x x' reported' out' new → faults_in
+        x'.cache ≡ faults_in x.cache
         → EndsBy limits turns before reported' out new (ended_as result)
     turning_stops turns x' reported' new P (Ok done) stops less cut none = absurd stops
     turning_stops turns x' reported' new P (Err e) stops less cut none =
@@ -146,7 +154,8 @@ module _ {B : Type 0} {g : Ghosts B} where
     all_taken = subst (Takes out out') (sym record_so ∙ ap record_of tables_now) t.takes
 
     -- memory was refused behind the last turn
-    pub turning_wants : (turns : ℕ) (reported' : Option Log) (P : Stop → Type 0) (result : Result (Unit {0}) Stop) → IsErrAnd result P → m ≤ turns → reported' ≡ reported → EndsBy limits turns before reported' out out' (ended_as result)
+    pub turning_wants : (turns : ℕ) (reported' : Option Log) (P : Stop → Type 0) (result : Result (Unit {0}) Stop) → IsErrAnd result P → m ≤ turns →
+        reported' ≡ reported → EndsBy limits turns before reported' out out' (ended_as result)
     turning_wants turns reported' P (Ok done) stops few same = absurd stops
     turning_wants turns reported' P (Err e) stops few same = record {
       log' = t.log;
@@ -169,7 +178,8 @@ shut_found : (k : ℕ) (cs : List Taker) → find (is_numbered k) (map shut cs) 
 shut_found k [] = refl
 shut_found k (c ∷ cs) = by_test (nat_eq c.k k) (shut_found k cs)
   where
-    by_test : (b : Bool) → find (is_numbered k) (map shut cs) ≡ option_map shut (find (is_numbered k) cs) → (if b then Some (shut c) else find (is_numbered k) (map shut cs)) ≡ option_map shut (if b then Some c else find (is_numbered k) cs)
+    by_test : (b : Bool) → find (is_numbered k) (map shut cs) ≡ option_map shut (find (is_numbered k) cs) →
+        (if b then Some (shut c) else find (is_numbered k) (map shut cs)) ≡ option_map shut (if b then Some c else find (is_numbered k) cs)
     by_test true rest = refl
     by_test false rest = rest
 
@@ -188,7 +198,8 @@ none_left taken owed unsent within is none =
     let size : length unsent ≡ length owed - taken = ap length is ∙ length-drop taken owed in
     omega arith
 
-owed_resting : (log : Log) (k : ℕ) (w : peer.Client) (row : Client) → IsRestingClient log k w row → (length row.owed ≤ length (sent_in log.takers k)) ⊎ (is_short log k ≡ true)
+owed_resting : (log : Log) (k : ℕ) (w : peer.Client) (row : Client) → IsRestingClient log k w row →
+    (length row.owed ≤ length (sent_in log.takers k)) ⊎ (is_short log k ≡ true)
 owed_resting log k w row is = by_lack is.lacks
   where
     by_lack : (w.unsent ≡ []) ⊎ (is_short log k ≡ true) → (length row.owed ≤ length (sent_in log.takers k)) ⊎ (is_short log k ≡ true)
@@ -201,21 +212,26 @@ each_holds test (k ∷ ks) each = both_hold (test k) (list_all test ks) (each k)
 
 module _ {B : Type 0} {g : Ghosts B} (f : Frame) (x : loop.Proxy B g) (p : Proxy) (log : Log) (r : Rests f x p log) where
   -- who is found has taken all, or less than it was offered
-  taken_by : (k owed : ℕ) (c : Taker) → find (is_numbered k) log.takers ≡ Some c → (owed ≤ length (sent_in log.takers k)) ⊎ (is_short log k ≡ true) → is_taken (length log.calls) owed (find (is_numbered k) log.takers) ≡ true
+  taken_by : (k owed : ℕ) (c : Taker) → find (is_numbered k) log.takers ≡ Some c → (owed ≤ length (sent_in log.takers k)) ⊎ (is_short log k ≡ true) →
+      is_taken (length log.calls) owed (find (is_numbered k) log.takers) ≡ true
   taken_by k owed c found (inl all) =
       ap (is_taken (length log.calls) owed) found
-      ∙ or_right (is_at_end c.short (length log.calls)) (not (nat_lt (length c.sent) owed)) (not_less (length c.sent) owed (let size = ap length (sent_found k c log.takers found) in omega arith))
+      ∙ or_right (is_at_end c.short (length log.calls)) (not (nat_lt (length c.sent) owed))
+      (not_less (length c.sent) owed (let size = ap length (sent_found k c log.takers found) in omega arith))
   taken_by k owed c found (inr short) =
       ap (is_taken (length log.calls) owed) found
-      ∙ or_left (is_at_end c.short (length log.calls)) (not (nat_lt (length c.sent) owed)) (ap (λ o. is_at_end (short_from o) (length log.calls)) (sym found) ∙ short)
+      ∙ or_left (is_at_end c.short (length log.calls)) (not (nat_lt (length c.sent) owed))
+      (ap (λ o. is_at_end (short_from o) (length log.calls)) (sym found) ∙ short)
 
   client_sent : (k : ℕ) → client_is_sent log k (p.client k) ≡ true
   client_sent k = by_row (client_of x.clients k) (p.client k) refl refl (r.clients k)
     where
-      by_taker : (row : Client) → p.client k ≡ Some row → (length row.owed ≤ length (sent_in log.takers k)) ⊎ (is_short log k ≡ true) → is_taken (length log.calls) (length row.owed) (find (is_numbered k) log.takers) ≡ true
+      by_taker : (row : Client) → p.client k ≡ Some row → (length row.owed ≤ length (sent_in log.takers k)) ⊎ (is_short log k ≡ true) →
+          is_taken (length log.calls) (length row.owed) (find (is_numbered k) log.takers) ≡ true
       by_taker row at lacks = by_found (find (is_numbered k) log.takers) refl
         where
-          by_found : (o : Option Taker) → find (is_numbered k) log.takers ≡ o → is_taken (length log.calls) (length row.owed) (find (is_numbered k) log.takers) ≡ true
+          by_found : (o : Option Taker) → find (is_numbered k) log.takers ≡ o →
+              is_taken (length log.calls) (length row.owed) (find (is_numbered k) log.takers) ≡ true
           by_found None found = absurd (let never : None ≡ Some row = sym (r.seen k (ap stage_from found)).0 ∙ at in cc)
           by_found (Some c) found = taken_by k (length row.owed) c found lacks
 
@@ -229,7 +245,9 @@ module _ {B : Type 0} {g : Ghosts B} (f : Frame) (x : loop.Proxy B g) (p : Proxy
     abbrev any_call : Called
     any_call = record { wait = true; moment = 0; event = event.Quiet; bytes = []; standings = standings_in log }
 
-    origin_lacks : (u : origin.Upstream) (row : Upstream) (c : Taker) → find (is_numbered u.k) log.takers ≡ Some c → c.live ≡ true → IsUpstream (taken_at any_call u.k) u row → (u.unsent ≡ []) ⊎ (is_short log u.k ≡ true) → (length row.owed ≤ length (sent_in log.takers u.k)) ⊎ (is_short log u.k ≡ true)
+    origin_lacks : (u : origin.Upstream) (row : Upstream) (c : Taker) → find (is_numbered u.k) log.takers ≡ Some c → c.live ≡ true →
+        IsUpstream (taken_at any_call u.k) u row → (u.unsent ≡ []) ⊎ (is_short log u.k ≡ true) →
+        (length row.owed ≤ length (sent_in log.takers u.k)) ⊎ (is_short log u.k ≡ true)
     origin_lacks u row c found live is (inr short) = inr short
     origin_lacks u row c found live is (inl none) =
         let taken : taken_at any_call u.k ≡ length c.sent = taken_found log any_call refl apart u.k c found live in
@@ -246,7 +264,8 @@ module _ {B : Type 0} {g : Ghosts B} (f : Frame) (x : loop.Proxy B g) (p : Proxy
         within : y ≤ length log.dialled
         within = let le = opened_within f x p log r apart any_call refl y live in let same = r.opened in omega arith
 
-        by_row : (o : Option origin.Upstream) (s : Option Upstream) → upstream_of x.upstreams y ≡ o → p.upstream y ≡ s → IsUpstreamAt (taken_at any_call) o s → exchange_is_sent log p y ≡ true
+        by_row : (o : Option origin.Upstream) (s : Option Upstream) → upstream_of x.upstreams y ≡ o → p.upstream y ≡ s →
+            IsUpstreamAt (taken_at any_call) o s → exchange_is_sent log p y ≡ true
         by_row None s at at' is = absurd is
         by_row (Some u) None at at' is = absurd is
         by_row (Some u) (Some row) at at' is =
@@ -259,19 +278,25 @@ module _ {B : Type 0} {g : Ghosts B} (f : Frame) (x : loop.Proxy B g) (p : Proxy
     pub all_sent : all_is_sent log p ≡ true
     all_sent = both_hold (list_all (λ k. client_is_sent log k (p.client k)) p.accepted) (list_all (exchange_is_sent log p) (open_exchanges p.tables))
         (each_holds (λ k. client_is_sent log k (p.client k)) p.accepted client_sent)
-        (all_reversed (exchange_is_sent log p) (filter (λ y. is_open (p.tables.exchange y)) p.tables.openings) (all_passing (exchange_is_sent log p) (λ y. is_open (p.tables.exchange y)) p.tables.openings exchange_sent))
+        (all_reversed (exchange_is_sent log p) (filter (λ y. is_open (p.tables.exchange y)) p.tables.openings)
+        (all_passing (exchange_is_sent log p) (λ y. is_open (p.tables.exchange y)) p.tables.openings exchange_sent))
 
 -- the same behind the closing
 client_shut : (log : Log) (k : ℕ) (o : Option Client) → client_is_sent (all_closed log) k o ≡ client_is_sent log k o
 client_shut log k None = refl
-client_shut log k (Some row) = ap (λ b. row.gone || b) (ap (is_taken (length log.calls) (length row.owed)) (shut_found k log.takers) ∙ shut_taken (length log.calls) (length row.owed) (find (is_numbered k) log.takers))
+client_shut log k (Some row) =
+    ap (λ b. row.gone || b) (ap (is_taken (length log.calls) (length row.owed)) (shut_found k log.takers) ∙
+    shut_taken (length log.calls) (length row.owed) (find (is_numbered k) log.takers))
 
 exchange_shut : (log : Log) (p : Proxy) (y : ℕ) → exchange_is_sent (all_closed log) p y ≡ exchange_is_sent log p y
 exchange_shut log p y = by_number (connection_of log.dialled y)
   where
-    by_number : (o : Option ℕ) → is_taken (length log.calls) (owed_by (p.upstream y)) (taker_of (all_closed log) o) ≡ is_taken (length log.calls) (owed_by (p.upstream y)) (taker_of log o)
+    by_number : (o : Option ℕ) →
+        is_taken (length log.calls) (owed_by (p.upstream y)) (taker_of (all_closed log) o) ≡ is_taken (length log.calls) (owed_by (p.upstream y))
+        (taker_of log o)
     by_number None = refl
-    by_number (Some k) = ap (is_taken (length log.calls) (owed_by (p.upstream y))) (shut_found k log.takers) ∙ shut_taken (length log.calls) (owed_by (p.upstream y)) (find (is_numbered k) log.takers)
+    by_number (Some k) = ap (is_taken (length log.calls) (owed_by (p.upstream y))) (shut_found k log.takers) ∙
+        shut_taken (length log.calls) (owed_by (p.upstream y)) (find (is_numbered k) log.takers)
 
 each_same : (f h : ℕ → Bool) → ((k : ℕ) → f k ≡ h k) → (ks : List ℕ) → list_all f ks ≡ list_all h ks
 each_same f h same [] = refl
@@ -279,10 +304,13 @@ each_same f h same (k ∷ ks) = ap (λ b. b && list_all f ks) (same k) ∙ ap (�
 
 all_shut : (log : Log) (p : Proxy) → all_is_sent (all_closed log) p ≡ all_is_sent log p
 all_shut log p =
-    ap (λ b. b && list_all (exchange_is_sent (all_closed log) p) (open_exchanges p.tables)) (each_same (λ k. client_is_sent (all_closed log) k (p.client k)) (λ k. client_is_sent log k (p.client k)) (λ k. client_shut log k (p.client k)) p.accepted)
-    ∙ ap (λ b. list_all (λ k. client_is_sent log k (p.client k)) p.accepted && b) (each_same (exchange_is_sent (all_closed log) p) (exchange_is_sent log p) (exchange_shut log p) (open_exchanges p.tables))
+    ap (λ b. b && list_all (exchange_is_sent (all_closed log) p) (open_exchanges p.tables))
+    (each_same (λ k. client_is_sent (all_closed log) k (p.client k)) (λ k. client_is_sent log k (p.client k)) (λ k. client_shut log k (p.client k)) p.accepted)
+    ∙ ap (λ b. list_all (λ k. client_is_sent log k (p.client k)) p.accepted && b)
+    (each_same (exchange_is_sent (all_closed log) p) (exchange_is_sent log p) (exchange_shut log p) (open_exchanges p.tables))
 
-module _ {B : Type 0} {g : Ghosts B} (n m : ℕ) (limits : Limits) (before : Log) (x : loop.Proxy B g) (reported : Option Log) (stages : ℕ → Stage) (out out' : Option (List ℕ)) (wait : Bool) (t : IsTurning n m limits before x reported stages out out' wait) where
+module _ {B : Type 0} {g : Ghosts B} (n m : ℕ) (limits : Limits) (before : Log) (x : loop.Proxy B g) (reported : Option Log) (stages : ℕ → Stage)
+    (out out' : Option (List ℕ)) (wait : Bool) (t : IsTurning n m limits before x reported stages out out' wait) where
   -- all turns were made, and all connections are closed
   pub turning_ends : (reported' : Option Log) → IsClosed t.log reported' → EndsBy limits m before reported' out out' ended.Done
   turning_ends reported' closed =
@@ -301,7 +329,8 @@ module _ {B : Type 0} {g : Ghosts B} (n m : ℕ) (limits : Limits) (before : Log
             })
             t.calls
             (record {
-              sent = subst (λ (r : Proxy). all_is_sent (all_closed t.log) r ≡ true) same (all_shut t.log t.p ∙ all_sent t.f x t.p t.log t.still.rests t.still.follows.apart);
+              sent = subst (λ (r : Proxy). all_is_sent (all_closed t.log) r ≡ true) same
+                  (all_shut t.log t.p ∙ all_sent t.f x t.p t.log t.still.rests t.still.follows.apart);
               dialled = t.still.rests.opened ∙ ap (λ (r : Proxy). r.tables.opened) same;
               closed = shut_closed t.log.takers;
             })
@@ -326,7 +355,8 @@ fresh_first (Some log) fresh = fresh
 abbrev pub frame_of : Limits → Frame
 frame_of limits = record { limits = limits; written = []; bytes = 0 }
 
-module _ {B : Type 0} {g : Ghosts B} (n : ℕ) (limits : Limits) (x : loop.Proxy B g) (reported : Option Log) (stages : ℕ → Stage) (fresh : IfSome reported IsFresh) (unseen : (k : ℕ) → stages k ≡ Unseen)
+module _ {B : Type 0} {g : Ghosts B} (n : ℕ) (limits : Limits) (x : loop.Proxy B g) (reported : Option Log) (stages : ℕ → Stage)
+    (fresh : IfSome reported IsFresh) (unseen : (k : ℕ) → stages k ≡ Unseen)
     (rests : (log : Log) → IsFresh log → Rests (frame_of limits) x unused log) (none : steps x.cache ≡ 0) (written : text_of x.record ≡ []) where
   pub loop_begins : Begins n (frame_of limits) x (log_of reported) reported stages
   loop_begins =
@@ -347,7 +377,8 @@ module _ {B : Type 0} {g : Ghosts B} (n : ℕ) (limits : Limits) (x : loop.Proxy
       }
 
 -- what the wire tells
-pub reported_ends : (limits : Limits) (turns : ℕ) (log : Log) (reported reported' : Option Log) (out out' : Option (List ℕ)) (end : Ended) → (reported ≡ None) ⊎ (reported ≡ Some log) → EndsBy limits turns log reported' out out' end → ServesAs limits turns reported reported' out out' end
+pub reported_ends : (limits : Limits) (turns : ℕ) (log : Log) (reported reported' : Option Log) (out out' : Option (List ℕ)) (end : Ended) →
+    (reported ≡ None) ⊎ (reported ≡ Some log) → EndsBy limits turns log reported' out out' end → ServesAs limits turns reported reported' out out' end
 reported_ends limits turns log reported None out out' end is e = tt
 reported_ends limits turns log reported (Some l) out out' end is e = by_reported e.reported_is
   where
@@ -363,4 +394,5 @@ reported_ends limits turns log reported (Some l) out out' end is e = by_reported
     by_reported (inl none) = absurd (let never : Some l ≡ None = none in cc)
     by_reported (inr same) =
         let it : l ≡ e.log' = some_is l e.log' same in
-        subst (λ (z : Log). ServesAs limits turns reported (Some z) out out' end) (sym it) (e.serves, loops_are_runs limits e.log', by_old reported is e.log' e.bound)
+        subst (λ (z : Log). ServesAs limits turns reported (Some z) out out' end) (sym it)
+        (e.serves, loops_are_runs limits e.log', by_old reported is e.log' e.bound)

@@ -63,7 +63,8 @@ pub among_passes : (test : ℕ → Bool) (k : ℕ) (ks : List ℕ) → among k k
 among_passes test k [] there passes = there
 among_passes test k (j ∷ ks) there passes = by_tests (nat_eq k j) refl (test j) refl there (λ h. among_passes test k ks h passes)
   where
-    by_tests : (a : Bool) → nat_eq k j ≡ a → (b : Bool) → test j ≡ b → (a || among k ks) ≡ true → (among k ks ≡ true → among k (filter test ks) ≡ true) → among k (if b then j ∷ filter test ks else filter test ks) ≡ true
+    by_tests : (a : Bool) → nat_eq k j ≡ a → (b : Bool) → test j ≡ b → (a || among k ks) ≡ true → (among k ks ≡ true → among k (filter test ks) ≡ true) →
+        among k (if b then j ∷ filter test ks else filter test ks) ≡ true
     by_tests true here true on h rest = rw here refl
     by_tests true here false off h rest =
         let same : j ≡ k = grind (arith, nat_tests) in
@@ -82,11 +83,13 @@ passed_among test k (j ∷ ks) h = by_test (test j) refl h (λ g. passed_among t
         or_later true b g = refl
         or_later false b g = g
 
-    by_number : (b : Bool) → nat_eq k j ≡ b → test j ≡ true → (b || among k (filter test ks)) ≡ true → (among k (filter test ks) ≡ true → (among k ks ≡ true) × (test k ≡ true)) → (among k (j ∷ ks) ≡ true) × (test k ≡ true)
+    by_number : (b : Bool) → nat_eq k j ≡ b → test j ≡ true → (b || among k (filter test ks)) ≡ true →
+        (among k (filter test ks) ≡ true → (among k ks ≡ true) × (test k ≡ true)) → (among k (j ∷ ks) ≡ true) × (test k ≡ true)
     by_number true here on g rest = let same : j ≡ k = grind (arith, nat_tests) in (rw here refl, ap test (sym same) ∙ on)
     by_number false other on g rest = later (rest g)
 
-    by_test : (b : Bool) → test j ≡ b → among k (if b then j ∷ filter test ks else filter test ks) ≡ true → (among k (filter test ks) ≡ true → (among k ks ≡ true) × (test k ≡ true)) → (among k (j ∷ ks) ≡ true) × (test k ≡ true)
+    by_test : (b : Bool) → test j ≡ b → among k (if b then j ∷ filter test ks else filter test ks) ≡ true →
+        (among k (filter test ks) ≡ true → (among k ks ≡ true) × (test k ≡ true)) → (among k (j ∷ ks) ≡ true) × (test k ≡ true)
     by_test true on g rest = by_number (nat_eq k j) refl on g rest
     by_test false off g rest = later (rest g)
 

@@ -17,7 +17,8 @@ place_more : (n k x : ℕ) (xs more : List ℕ) → place_from n k xs ≡ Some x
 place_more n k x [] more h = none_some x h
 place_more n k x (j ∷ xs) more h = by_test (nat_eq j k) h (place_more (n + 1) k x xs more)
   where
-    by_test : (b : Bool) → (if b then Some n else place_from (n + 1) k xs) ≡ Some x → (place_from (n + 1) k xs ≡ Some x → place_from (n + 1) k (xs ++ more) ≡ Some x) → (if b then Some n else place_from (n + 1) k (xs ++ more)) ≡ Some x
+    by_test : (b : Bool) → (if b then Some n else place_from (n + 1) k xs) ≡ Some x →
+        (place_from (n + 1) k xs ≡ Some x → place_from (n + 1) k (xs ++ more) ≡ Some x) → (if b then Some n else place_from (n + 1) k (xs ++ more)) ≡ Some x
     by_test true here later = here
     by_test false there later = later there
 
@@ -25,7 +26,9 @@ place_new : (n k : ℕ) (xs more : List ℕ) → place_from n k xs ≡ None → 
 place_new n k [] more h = let e : n ≡ n + 0 = omega arith in ap (λ (m : ℕ). place_from m k more) e
 place_new n k (j ∷ xs) more h = by_test (nat_eq j k) h (place_new (n + 1) k xs more)
   where
-    by_test : (b : Bool) → (if b then Some n else place_from (n + 1) k xs) ≡ None → (place_from (n + 1) k xs ≡ None → place_from (n + 1) k (xs ++ more) ≡ place_from ((n + 1) + length xs) k more) → (if b then Some n else place_from (n + 1) k (xs ++ more)) ≡ place_from (n + length (j ∷ xs)) k more
+    by_test : (b : Bool) → (if b then Some n else place_from (n + 1) k xs) ≡ None →
+        (place_from (n + 1) k xs ≡ None → place_from (n + 1) k (xs ++ more) ≡ place_from ((n + 1) + length xs) k more) →
+        (if b then Some n else place_from (n + 1) k (xs ++ more)) ≡ place_from (n + length (j ∷ xs)) k more
     by_test true here later = none_some n (sym here)
     by_test false there later = let e : (n + 1) + length xs ≡ n + length (j ∷ xs) = omega arith in later there ∙ ap (λ (m : ℕ). place_from m k more) e
 
@@ -70,7 +73,8 @@ first_cases (suc n) k j (i ∷ xs) h =
 pub connection_stays : (dialled more : List ℕ) (x k : ℕ) → connection_of dialled x ≡ Some k → connection_of (dialled ++ more) x ≡ Some k
 connection_stays dialled more x k h = by_test (nat_eq x 0) h
   where
-    by_test : (b : Bool) → (if b then None else first_of (drop (x - 1) dialled)) ≡ Some k → (if b then None else first_of (drop (x - 1) (dialled ++ more))) ≡ Some k
+    by_test : (b : Bool) → (if b then None else first_of (drop (x - 1) dialled)) ≡ Some k →
+        (if b then None else first_of (drop (x - 1) (dialled ++ more))) ≡ Some k
     by_test true none = none
     by_test false there = first_more (x - 1) k dialled more there
 
@@ -82,10 +86,12 @@ connection_comes dialled k =
     rw (off, e) (first_last k dialled)
 
 -- no other one has more than before
-pub connection_was : (dialled : List ℕ) (k x j : ℕ) → connection_of (dialled ++ k ∷ []) x ≡ Some j → (connection_of dialled x ≡ Some j) ⊎ ((x ≡ length dialled + 1) × (k ≡ j))
+pub connection_was : (dialled : List ℕ) (k x j : ℕ) → connection_of (dialled ++ k ∷ []) x ≡ Some j →
+    (connection_of dialled x ≡ Some j) ⊎ ((x ≡ length dialled + 1) × (k ≡ j))
 connection_was dialled k x j h = by_test (nat_eq x 0) refl h
   where
-    by_test : (b : Bool) → nat_eq x 0 ≡ b → (if b then None else first_of (drop (x - 1) (dialled ++ k ∷ []))) ≡ Some j → ((if b then None else first_of (drop (x - 1) dialled)) ≡ Some j) ⊎ ((x ≡ length dialled + 1) × (k ≡ j))
+    by_test : (b : Bool) → nat_eq x 0 ≡ b → (if b then None else first_of (drop (x - 1) (dialled ++ k ∷ []))) ≡ Some j →
+        ((if b then None else first_of (drop (x - 1) dialled)) ≡ Some j) ⊎ ((x ≡ length dialled + 1) × (k ≡ j))
     by_test true is none = inl none
     by_test false is there = elim (first_cases (x - 1) k j dialled there) [
       | inl before ↦ inl before

@@ -18,11 +18,14 @@ module _ (limits : Limits) (dialled more : List ℕ) where
   turn_same call p enough = ap (λ xs. carried (happened limits xs call (begun call p))) (dials_same p enough)
 
   -- there are enough before, where there are behind
-  enough_before : (calls : List Called) (p : Proxy) → Stands limits p → (turned_by limits dialled calls p).tables.opened ≤ length dialled → p.tables.opened ≤ length dialled
-  enough_before calls p s enough = let grows : p.tables.opened ≤ (turned_by limits dialled calls p).tables.opened = (turns_go limits dialled calls p s).opened in omega arith
+  enough_before : (calls : List Called) (p : Proxy) → Stands limits p → (turned_by limits dialled calls p).tables.opened ≤ length dialled →
+      p.tables.opened ≤ length dialled
+  enough_before calls p s enough = let grows : p.tables.opened ≤ (turned_by limits dialled calls p).tables.opened =
+      (turns_go limits dialled calls p s).opened in omega arith
 
   -- The tables behind calls are the same with more dials.
-  pub turns_same : (calls : List Called) (p : Proxy) → Stands limits p → (turned_by limits dialled calls p).tables.opened ≤ length dialled → turned_by limits (dialled ++ more) calls p ≡ turned_by limits dialled calls p
+  pub turns_same : (calls : List Called) (p : Proxy) → Stands limits p → (turned_by limits dialled calls p).tables.opened ≤ length dialled →
+      turned_by limits (dialled ++ more) calls p ≡ turned_by limits dialled calls p
   turns_same [] p s enough = refl
   turns_same (call ∷ calls) p s enough =
       ap (turned_by limits (dialled ++ more) calls) (turn_same call p (enough_before (call ∷ calls) p s enough))
@@ -53,7 +56,8 @@ module _ (limits : Limits) (dialled more : List ℕ) where
       }
 
   -- Calls that fit do so with more dials.
-  pub all_fit : (calls : List Called) (p : Proxy) → Stands limits p → (turned_by limits dialled calls p).tables.opened ≤ length dialled → AllFit limits dialled p calls → AllFit limits (dialled ++ more) p calls
+  pub all_fit : (calls : List Called) (p : Proxy) → Stands limits p → (turned_by limits dialled calls p).tables.opened ≤ length dialled →
+      AllFit limits dialled p calls → AllFit limits (dialled ++ more) p calls
   all_fit [] p s enough fit = tt
   all_fit (call ∷ calls) p s enough fit =
       let before = enough_before (call ∷ calls) p s enough in (
@@ -63,7 +67,8 @@ module _ (limits : Limits) (dialled more : List ℕ) where
       )
 
   -- And calls that fit with more do without them.
-  pub all_fit_back : (calls : List Called) (p : Proxy) → Stands limits p → (turned_by limits dialled calls p).tables.opened ≤ length dialled → AllFit limits (dialled ++ more) p calls → AllFit limits dialled p calls
+  pub all_fit_back : (calls : List Called) (p : Proxy) → Stands limits p → (turned_by limits dialled calls p).tables.opened ≤ length dialled →
+      AllFit limits (dialled ++ more) p calls → AllFit limits dialled p calls
   all_fit_back [] p s enough fit = tt
   all_fit_back (call ∷ calls) p s enough fit =
       let before = enough_before (call ∷ calls) p s enough in (

@@ -48,7 +48,8 @@ module _ (limits : Limits) (R : Proxy → Proxy → Type 0) (kept : IsKeptByNetw
 
   handed_by : (x : ℕ) (o : Option Upstream) (p : Proxy) → R p (hands_if limits x o p)
   handed_by x None p = kept.none p
-  handed_by x (Some upstream) p = either (is_wanted (p.tables.exchange x) && has_news upstream) p (hands limits x (next_of upstream) p) (hands_by x (next_of upstream) p)
+  handed_by x (Some upstream) p =
+      either (is_wanted (p.tables.exchange x) && has_news upstream) p (hands limits x (next_of upstream) p) (hands_by x (next_of upstream) p)
 
   close_by : (x : ℕ) (r : Result WirePart MsgError) (p : Proxy) → R p (stepped limits (event_at_close x r) p)
   close_by x (Ok part) p = kept.steps (event.End x) refl p
@@ -63,15 +64,18 @@ module _ (limits : Limits) (R : Proxy → Proxy → Type 0) (kept : IsKeptByNetw
 
   pub closed_by : (x : ℕ) (o : Option Upstream) (p : Proxy) → R p (closes_if limits x o p)
   closed_by x None p = kept.none p
-  closed_by x (Some upstream) p = either (upstream.ended && is_open (p.tables.exchange x)) p (closes limits x (next_of upstream) p) (closes_by x (next_of upstream) p)
+  closed_by x (Some upstream) p =
+      either (upstream.ended && is_open (p.tables.exchange x)) p (closes limits x (next_of upstream) p) (closes_by x (next_of upstream) p)
 
   pub heard_one_keeps : (x : ℕ) (p : Proxy) → R p (closed limits x (handed limits x p))
   heard_one_keeps x p =
-      kept.both p (handed limits x p) (closed limits x (handed limits x p)) (handed_by x (p.upstream x) p) (closed_by x ((handed limits x p).upstream x) (handed limits x p))
+      kept.both p (handed limits x p) (closed limits x (handed limits x p)) (handed_by x (p.upstream x) p)
+      (closed_by x ((handed limits x p).upstream x) (handed limits x p))
 
   pub each_keeps : (xs : List ℕ) (p : Proxy) → R p (each_heard limits xs p)
   each_keeps [] p = kept.none p
-  each_keeps (x ∷ xs) p = kept.both p (closed limits x (handed limits x p)) (each_heard limits xs (closed limits x (handed limits x p))) (heard_one_keeps x p) (each_keeps xs (closed limits x (handed limits x p)))
+  each_keeps (x ∷ xs) p = kept.both p (closed limits x (handed limits x p)) (each_heard limits xs (closed limits x (handed limits x p)))
+      (heard_one_keeps x p) (each_keeps xs (closed limits x (handed limits x p)))
 
   pub heard_keeps : (p : Proxy) → R p (heard limits p)
   unfolding heard

@@ -76,7 +76,10 @@ module _ {B : Type 0} {g : Ghosts B} where
     pub may_there : ∥ IsQuiet old ∥₁ → steps old.cache + 1024 ≤ 2 ^ 60 → ∥ MayStep 2 z x ∥₁
     may_there some few = ∥∥₁_map some (λ s. hears_may s.0 old x s.1 (take i r) z (drop (i + 1) r) s.2 up few (to_of s.0 s.1 s.2))
 
-    pub at_next : (x' : loop.Proxy B g) → ((t : Turn) (q : Proxy) → KeepsQuiet t x q → Goes (HasHeard z t q (steps x.cache)) (faults_in x.cache) x' (closed t.frame.limits z (handed t.frame.limits z q))) → NewsOff z x x' → HearsAt old x' r (i + 1)
+    pub at_next : (x' : loop.Proxy B g) →
+        ((t : Turn) (q : Proxy) → KeepsQuiet t x q →
+        Goes (HasHeard z t q (steps x.cache)) (faults_in x.cache) x' (closed t.frame.limits z (handed t.frame.limits z q))) → NewsOff z x x' →
+        HearsAt old x' r (i + 1)
     at_next x' goes off = record {
       goes = λ t p k.
           subst (λ (xs : List ℕ). HearsTo t old x' p xs (drop (i + 1) r)) (sym (take_more r i d lt))
@@ -84,7 +87,8 @@ module _ {B : Type 0} {g : Ghosts B} where
       news = λ y there. off y (rest_apart r i d lt (sorted_ascends r order) y there) ∙ h.news y (rest_among r i d lt y there);
     }
 
-  module _ (old x : loop.Proxy B g) (r : List ℕ) (i : ℕ) (is : r ≡ news_of old.upstreams) (over : length r ≤ i) (order : IsStrictlySortedBy nat_cmp (news_of old.upstreams)) (h : HearsAt old x r i) where
+  module _ (old x : loop.Proxy B g) (r : List ℕ) (i : ℕ) (is : r ≡ news_of old.upstreams) (over : length r ≤ i)
+      (order : IsStrictlySortedBy nat_cmp (news_of old.upstreams)) (h : HearsAt old x r i) where
     all_of : (t : Turn) (p : Proxy) → KeepsQuiet t old p → HearsTo t old x p (news_of old.upstreams) []
     all_of t p k =
         subst (λ (xs : List ℕ). HearsTo t old x p xs []) (take_all i r over ∙ is)
@@ -94,4 +98,5 @@ module _ {B : Type 0} {g : Ghosts B} where
     all_heard t p k = hears_end t old x p k order (all_of t p k)
 
     pub few_steps : ∥ IsQuiet old ∥₁ → steps x.cache ≤ steps old.cache + 1024
-    few_steps some = ∥∥₁_elim some le_prop (λ s. hears_count s.0 old x s.1 (news_of old.upstreams) s.2 (sorted_ascends (news_of old.upstreams) order) (all_of s.0 s.1 s.2))
+    few_steps some = ∥∥₁_elim some le_prop
+        (λ s. hears_count s.0 old x s.1 (news_of old.upstreams) s.2 (sorted_ascends (news_of old.upstreams) order) (all_of s.0 s.1 s.2))

@@ -43,7 +43,9 @@ byte_asked scan text b = by_length (nat_lt (length text) 32768)
     by_scan true = tt
     by_scan false = asked_step (asked_in (text ++ b ∷ []))
 
-    by_begins : (d : Bool) → IsMoveAsked (if not d then Goes (fails error.BadHead) else if is_open (scan_byte scan b) then Goes (quiet (Heading Requests (scan_byte scan b) (text ++ b ∷ []))) else EndsHead Requests (text ++ b ∷ []))
+    by_begins : (d : Bool) →
+        IsMoveAsked (if not d then Goes (fails error.BadHead) else if is_open (scan_byte scan b) then
+        Goes (quiet (Heading Requests (scan_byte scan b) (text ++ b ∷ []))) else EndsHead Requests (text ++ b ∷ []))
     by_begins true = by_scan (is_open (scan_byte scan b))
     by_begins false = tt
 
@@ -51,7 +53,8 @@ byte_asked scan text b = by_length (nat_lt (length text) 32768)
     by_length true = by_begins (begins_request (text ++ b ∷ []))
     by_length false = tt
 
-reported_asked : (tokens : List Token) (next : Reading) (input : List ℕ) (go_on : Reading → Next) → ((s : Reading) → IsOfRequests s → IsNextAsked (go_on s)) → IsStepAsked tokens next → IsNextAsked (reported_or tokens next input go_on)
+reported_asked : (tokens : List Token) (next : Reading) (input : List ℕ) (go_on : Reading → Next) →
+    ((s : Reading) → IsOfRequests s → IsNextAsked (go_on s)) → IsStepAsked tokens next → IsNextAsked (reported_or tokens next input go_on)
 reported_asked [] next input go_on rest is = rest next is
 reported_asked (Asks request ∷ more) next input go_on rest is = is
 reported_asked (Answers response ∷ more) next input go_on rest is = absurd is
@@ -73,7 +76,8 @@ next_asks most _ input is = absurd is
 pub ready_idle : (call : Called) (k : ℕ) (r : Client) → is_ready call k r ≡ true → (r.consumer ≡ None) × (r.closing ≡ false)
 ready_idle call k r is = by_parts (nat_lt 0 (length r.input)) r.consumer (has_unsent call k r) r.closing refl refl is
   where
-    by_parts : (a : Bool) (o : Option ℕ) (b d : Bool) → r.consumer ≡ o → r.closing ≡ d → (a && is_none o && not b && not d) ≡ true → (r.consumer ≡ None) × (r.closing ≡ false)
+    by_parts : (a : Bool) (o : Option ℕ) (b d : Bool) → r.consumer ≡ o → r.closing ≡ d → (a && is_none o && not b && not d) ≡ true → (r.consumer ≡ None) ×
+        (r.closing ≡ false)
     by_parts false o b d x y h = absurd (let never : false ≡ true = h in cc)
     by_parts true (Some c) b d x y h = absurd (let never : false ≡ true = h in cc)
     by_parts true None true d x y h = absurd (let never : false ≡ true = h in cc)

@@ -31,7 +31,8 @@ head_off : (kind : Kind) (text : List ℕ) → IsOff (step_of (EndsHead kind tex
 head_off Requests text = asked_off (asked_in text)
 head_off (Responses no_body) text = heard_off no_body (heard_in no_body text)
 
-move_off : (kind : Kind) (scan : Scan) (text : List ℕ) → (a b : Bool) → IsOff (step_of (if not a then Goes (fails error.BadHead) else if b then Goes (quiet (Heading kind scan text)) else EndsHead kind text))
+move_off : (kind : Kind) (scan : Scan) (text : List ℕ) → (a b : Bool) →
+    IsOff (step_of (if not a then Goes (fails error.BadHead) else if b then Goes (quiet (Heading kind scan text)) else EndsHead kind text))
 move_off kind scan text false b none = refl
 move_off kind scan text true true none = refl
 move_off kind scan text true false none = head_off kind text none
@@ -44,7 +45,8 @@ byte_off kind scan text b = by_length (nat_lt (length text) 32768)
     by_length true none = move_off kind (scan_byte scan b) (text ++ b ∷ []) (begins_head kind (text ++ b ∷ [])) (is_open (scan_byte scan b)) none
     by_length false none = refl
 
-reported_off : (tokens : List Token) (s : Reading) (rest : List ℕ) (go_on : Reading → Next) → (tokens ≡ [] → IsUnbegun (go_on s)) → IsUnbegun (reported_or tokens s rest go_on)
+reported_off : (tokens : List Token) (s : Reading) (rest : List ℕ) (go_on : Reading → Next) → (tokens ≡ [] → IsUnbegun (go_on s)) →
+    IsUnbegun (reported_or tokens s rest go_on)
 reported_off [] s rest go_on h = h refl
 reported_off (token ∷ more) s rest go_on h = tt
 
@@ -78,7 +80,8 @@ begun_waits most s input t is begun =
     (λ off. let still : is_begun t ≡ false = subst IsUnbegun is off in let never : true ≡ false = sym begun ∙ still in cc)
     (is_begun s) refl
 
-pub begun_brings : (most : ℕ) (s : Reading) (input bytes : List ℕ) (t : Reading) (rest : List ℕ) → next_in most s input ≡ Brings bytes t rest → is_begun s ≡ true
+pub begun_brings : (most : ℕ) (s : Reading) (input bytes : List ℕ) (t : Reading) (rest : List ℕ) → next_in most s input ≡ Brings bytes t rest →
+    is_begun s ≡ true
 begun_brings most s input bytes t rest is = by_begun most s input (λ off. subst IsUnbegun is off) (is_begun s) refl
 
 pub begun_ends : (most : ℕ) (s : Reading) (input : List ℕ) → next_in most s input ≡ Ends → is_begun s ≡ true

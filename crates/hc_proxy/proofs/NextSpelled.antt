@@ -7,7 +7,8 @@ use Rattle.hc_msg.proofs.{Leading.{reports_leads}, NextParts.{stands_next}, Spel
 use Rattle.hc_sched.specs.{FirstLines.{is_method}, Schedule.{IsEvent}}
 
 -- what is told next has a spelling
-pub reported_spelled : (most : ℕ) (s : Reading) (input : List ℕ) (token : Token) (t : Reading) (rest : List ℕ) → next_in most s input ≡ Reports token t rest → IsSpelled token
+pub reported_spelled : (most : ℕ) (s : Reading) (input : List ℕ) (token : Token) (t : Reading) (rest : List ℕ) → next_in
+    most s input ≡ Reports token t rest → IsSpelled token
 reported_spelled most s input token t rest is =
     let first : IsReportedFirst s input token t rest = subst (StandsNext most s input) is (stands_next most s input) in
     All-head IsSpelled token [] (tokens_spelled s first.front (token ∷ []) t (reports_leads s first.front token t first.reports))

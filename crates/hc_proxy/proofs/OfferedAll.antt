@@ -28,7 +28,8 @@ pub not_listed : (k : ℕ) (ks : List ℕ) → list_any (nat_eq k) ks ≡ false 
 not_listed k [] off = refl
 not_listed k (x ∷ ks) off = by_test (not_listed k ks) (nat_eq k x) refl off
   where
-    by_test : (list_any (nat_eq k) ks ≡ false → list_any (is_at (nat_cmp k)) ks ≡ false) → (b : Bool) → nat_eq k x ≡ b → (b || list_any (nat_eq k) ks) ≡ false → (is_at (nat_cmp k) x || list_any (is_at (nat_cmp k)) ks) ≡ false
+    by_test : (list_any (nat_eq k) ks ≡ false → list_any (is_at (nat_cmp k)) ks ≡ false) → (b : Bool) → nat_eq k x ≡ b →
+        (b || list_any (nat_eq k) ks) ≡ false → (is_at (nat_cmp k) x || list_any (is_at (nat_cmp k)) ks) ≡ false
     by_test rest true here none = absurd (let never : true ≡ false = none in cc)
     by_test rest false there none = rw (other_number k x there) (rest none)
 
@@ -94,7 +95,8 @@ module _ (p : Proxy) (log : Log) (up : Upstreams) where
     follows = follows;
     sends = sends_none p log;
     has = has;
-    sent = λ k none. settled_sent log k (client_of cl k) (settled k (not_listed k (touched_of cl) (subst (λ (ks : List ℕ). list_any (nat_eq k) ks ≡ false) listed none)));
+    sent = λ k none. settled_sent log k (client_of cl k)
+        (settled k (not_listed k (touched_of cl) (subst (λ (ks : List ℕ). list_any (nat_eq k) ks ≡ false) listed none)));
   }
 
   module _ {W : Type 0} (stages : W → ℕ → Stage) (reports : W → Option Log) (wire wire' : W) (cl cl' : Clients) (k : ℕ) (left : List ℕ)
@@ -158,7 +160,8 @@ module _ (p : Proxy) (log : Log) (cl : Clients) where
         }
       where
         by_number : (l : Log) (z : ℕ) → list_any (nat_eq z) left ≡ false → (b : Bool) → nat_eq z y ≡ b → IsSentOriginAt p l y (upstream_of up' y)
-            → (nat_eq z y ≡ false → IsSentOriginAt p u.log' z (upstream_of up z) → IsSentOriginAt p l z (upstream_of up' z)) → IsSentOriginAt p l z (upstream_of up' z)
+            → (nat_eq z y ≡ false → IsSentOriginAt p u.log' z (upstream_of up z) → IsSentOriginAt p l z (upstream_of up' z)) →
+            IsSentOriginAt p l z (upstream_of up' z)
         by_number l z none true here sent others =
             let number : z ≡ y = grind (arith, nat_tests) in
             subst (λ i. IsSentOriginAt p l i (upstream_of up' i)) (sym number) sent

@@ -33,7 +33,8 @@ was_same false false is = refl
 
 -- OTHERS
 
-pub known_same : (log log' : Log) (k : ℕ) (o : Option peer.Client) (r : Option Client) → taken_in log' k ≡ taken_in log k → IsKnownAt log k o r → IsKnownAt log' k o r
+pub known_same : (log log' : Log) (k : ℕ) (o : Option peer.Client) (r : Option Client) → taken_in log' k ≡ taken_in log k → IsKnownAt log k o r →
+    IsKnownAt log' k o r
 known_same log log' k None None same is = tt
 known_same log log' k None (Some r) same (inl gone) = inl gone
 known_same log log' k None (Some r) same (inr all) = inr (all.0, (let le = all.1 in omega arith))
@@ -51,14 +52,16 @@ sent_same log log' k (Some c) same is = record {
   ];
 }
 
-pub upstream_same : (taken taken' : ℕ → ℕ) (o : Option origin.Upstream) (v : Option Upstream) → ((u : origin.Upstream) → o ≡ Some u → taken' u.k ≡ taken u.k) → IsUpstreamAt taken o v → IsUpstreamAt taken' o v
+pub upstream_same : (taken taken' : ℕ → ℕ) (o : Option origin.Upstream) (v : Option Upstream) →
+    ((u : origin.Upstream) → o ≡ Some u → taken' u.k ≡ taken u.k) → IsUpstreamAt taken o v → IsUpstreamAt taken' o v
 upstream_same taken taken' (Some u) (Some v) same is = subst (λ n. IsUpstream n u v) (sym (same u refl)) is
 upstream_same taken taken' (Some u) None same is = is
 upstream_same taken taken' None (Some v) same is = is
 upstream_same taken taken' None None same is = is
 
 -- what was found as before is as before
-module _ (p : Proxy) (k : ℕ) (bytes : List ℕ) (less : Bool) (stage : Stage) (log log' : Log) (m : MovesAt p k bytes less stage log log') (j : ℕ) (off : nat_eq j k ≡ false) where
+module _ (p : Proxy) (k : ℕ) (bytes : List ℕ) (less : Bool) (stage : Stage) (log log' : Log) (m : MovesAt p k bytes less stage log log') (j : ℕ)
+    (off : nat_eq j k ≡ false) where
   pub taken_off : taken_in log' j ≡ taken_in log j
   taken_off = ap (λ (o : Option Taker). length (sent_from o)) (m.others j off)
 
@@ -69,7 +72,8 @@ module _ (p : Proxy) (k : ℕ) (bytes : List ℕ) (less : Bool) (stage : Stage) 
   short_off = by_both (find (is_numbered j) log'.takers) (find (is_numbered j) log.takers) (m.others j off)
     where
       by_both : (a b : Option Taker) → a ≡ b → is_at_end (short_from a) (length log'.calls) ≡ is_at_end (short_from b) (length log.calls)
-      by_both a b same = ap (λ (o : Option Taker). is_at_end (short_from o) (length log'.calls)) same ∙ ap (λ n. is_at_end (short_from b) n) (ap length m.sends.calls)
+      by_both a b same = ap (λ (o : Option Taker). is_at_end (short_from o) (length log'.calls)) same ∙
+          ap (λ n. is_at_end (short_from b) n) (ap length m.sends.calls)
 
 -- THE CLIENT
 
@@ -104,7 +108,8 @@ module _ (p : Proxy) (cl : Clients) (up : Upstreams) (log : Log) (h : HasConnect
           none_some y (sym stranger ∙ (ap (exchange_of log.dialled) (sym number) ∙ h.names y u.k (h.numbers y u its)))
 
   pub client_moves : (n : ℕ) (less : Bool) → MovesAt p k (take n c.unsent) less (Open c.reading opens.0) log (with_sent k (take n c.unsent) less log)
-  client_moves n less = moves_sent p k (take n c.unsent) less log c.reading opens.0 opens.1 (client_front p log k r row.1 stranger c.unsent n less is_client.unsent)
+  client_moves n less = moves_sent p k (take n c.unsent) less log c.reading opens.0 opens.1
+      (client_front p log k r row.1 stranger c.unsent n less is_client.unsent)
 
   module _ (n : ℕ) (within : n ≤ length c.unsent) where
     abbrev c' : peer.Client
@@ -184,12 +189,14 @@ module _ (p : Proxy) (cl : Clients) (up : Upstreams) (log : Log) (h : HasConnect
         clients_by j true on =
             let number : j ≡ k = grind (arith, nat_tests) in
             subst (λ i. IsKnownAt log' i (client_of cl' i) (p.client i)) (sym number)
-            (subst (λ (o : Option peer.Client). IsKnownAt log' k o (p.client k)) (sym row_on) (subst (λ (o : Option Client). IsKnownAt log' k row' o) (sym row.1) known))
+            (subst (λ (o : Option peer.Client). IsKnownAt log' k o (p.client k)) (sym row_on)
+            (subst (λ (o : Option Client). IsKnownAt log' k row' o) (sym row.1) known))
         clients_by j false off =
             subst (λ (o : Option peer.Client). IsKnownAt log' j o (p.client j)) (sym (row_off j off))
             (known_same log log' j (client_of cl j) (p.client j) (taken_off p k _ _ stage' log log' m j off) (h.clients j))
 
-        read_by : (j : ℕ) (u : peer.Client) → client_of cl' j ≡ Some u → (b : Bool) → nat_eq j k ≡ b → (ended : Bool) × (stage_in log'.takers j ≡ Open u.reading ended)
+        read_by : (j : ℕ) (u : peer.Client) → client_of cl' j ≡ Some u → (b : Bool) → nat_eq j k ≡ b → (ended : Bool) ×
+            (stage_in log'.takers j ≡ Open u.reading ended)
         read_by j u its true on =
             let number : j ≡ k = grind (arith, nat_tests) in
             let now = stands u (sym row_on ∙ (ap (client_of cl') (sym number) ∙ its)) in
@@ -316,7 +323,8 @@ module _ {W : Type 0} (stages : W → ℕ → Stage) (reports : W → Option Log
           others = others_go Closed (with_closed k mid) m None gone;
         }
 
-    goes_on : (log' : Log) → is_over after ≡ false → MovesAt p k (take n c.unsent) less (Open (is_idle after) ended) log log' → Follows (reports wire') (stages wire') log'
+    goes_on : (log' : Log) → is_over after ≡ false → MovesAt p k (take n c.unsent) less (Open (is_idle after) ended) log log' →
+        Follows (reports wire') (stages wire') log'
         → ClientGoes p cl cl' up log (reports wire') (stages wire') k
     goes_on log' stays m follows =
         let becomes : Becomes k (Some (record after { reading = is_idle after })) cl cl' = rw stays at o.becomes in
@@ -365,10 +373,16 @@ module _ {W : Type 0} (stages : W → ℕ → Stage) (reports : W → Option Log
   pub client_goes : IsOffered stages reports k cl cl' wire wire' → ClientGoes p cl cl' up log (reports wire') (stages wire') k
   client_goes offered = by_row (client_of cl k) refl offered
     where
-      by_row : (u : Option peer.Client) → client_of cl k ≡ u → IsOfferedAt stages reports k u cl cl' wire wire' → ClientGoes p cl cl' up log (reports wire') (stages wire') k
+      by_row : (u : Option peer.Client) → client_of cl k ≡ u → IsOfferedAt stages reports k u cl cl' wire wire' →
+          ClientGoes p cl cl' up log (reports wire') (stages wire') k
       by_row None is (same, reported, stands) = record {
         log' = log;
-        follows = record { reported_is = subst (λ (l : Option Log). (l ≡ None) ⊎ (l ≡ Some log)) (sym reported) f.reported_is; stands = λ j. stands j ∙ f.stands j; apart = f.apart };
+        follows = record {
+          reported_is = subst (λ (l : Option Log). (l ≡ None) ⊎ (l ≡ Some log)) (sym reported) f.reported_is;
+          stands = λ j. stands j ∙
+              f.stands j;
+          apart = f.apart;
+        };
         sends = sends_none p log;
         has = same_has p cl cl' up log h same;
         sent = subst (λ (o : Option peer.Client). IsSentAt log k o) (sym (same k ∙ is)) tt;
@@ -382,4 +396,5 @@ module _ {W : Type 0} (stages : W → ℕ → Stage) (reports : W → Option Log
     where
       by_row : (u : Option peer.Client) → client_of cl k ≡ u → OffersSome k (unsent_at u) (reports wire) (reports wire') → SentSome p log (reports wire')
       by_row None is part = some_sent p log k (reports wire) (reports wire') [] part f.reported_is (λ n less. none_front p log k n less)
-      by_row (Some c) is part = some_sent p log k (reports wire) (reports wire') c.unsent part f.reported_is (λ n less all. (client_moves p cl up log h k c is n less).sends.sent all)
+      by_row (Some c) is part =
+          some_sent p log k (reports wire) (reports wire') c.unsent part f.reported_is (λ n less all. (client_moves p cl up log h k c is n less).sends.sent all)

@@ -25,14 +25,17 @@ known_some log j c (Some r) is = refl
 
 -- THE CONNECTION
 
-module _ (p : Proxy) (cl : Clients) (up : Upstreams) (log : Log) (h : HasConnections p cl up log) (y : ℕ) (u : origin.Upstream) (at : upstream_of up y ≡ Some u) where
+module _ (p : Proxy) (cl : Clients) (up : Upstreams) (log : Log) (h : HasConnections p cl up log) (y : ℕ) (u : origin.Upstream)
+    (at : upstream_of up y ≡ Some u) where
   some : IsSome (upstream_of up y)
   some = subst IsSome (sym at) refl
 
   pub row : (v : Upstream) × (p.upstream y ≡ Some v) × IsUpstream (taken_in log u.k) u v
-  row = by_row (p.upstream y) refl (subst (λ (o : Option origin.Upstream). IsUpstreamAt (taken_in log) o (p.upstream y)) at (h.rows y (h.over y some) (h.within y some)))
+  row = by_row (p.upstream y) refl
+      (subst (λ (o : Option origin.Upstream). IsUpstreamAt (taken_in log) o (p.upstream y)) at (h.rows y (h.over y some) (h.within y some)))
     where
-      by_row : (o : Option Upstream) → p.upstream y ≡ o → IsUpstreamAt (taken_in log) (Some u) o → (v : Upstream) × (p.upstream y ≡ Some v) × IsUpstream (taken_in log u.k) u v
+      by_row : (o : Option Upstream) → p.upstream y ≡ o → IsUpstreamAt (taken_in log) (Some u) o → (v : Upstream) × (p.upstream y ≡ Some v) ×
+          IsUpstream (taken_in log u.k) u v
       by_row None is has = absurd has
       by_row (Some v) is has = (v, is, has)
 
@@ -71,7 +74,8 @@ module _ (p : Proxy) (cl : Clients) (up : Upstreams) (log : Log) (h : HasConnect
           absurd (let never : true ≡ false = sym (same_number z) ∙ (ap (nat_eq z) one ∙ other) in cc)
 
   pub origin_moves : (n : ℕ) (less : Bool) → MovesAt p u.k (take n u.unsent) less (Open u.reading opens.0) log (with_sent u.k (take n u.unsent) less log)
-  origin_moves n less = moves_sent p u.k (take n u.unsent) less log u.reading opens.0 opens.1 (origin_front p log u.k y v row.1 its u.unsent n less is_upstream.unsent)
+  origin_moves n less = moves_sent p u.k (take n u.unsent) less log u.reading opens.0 opens.1
+      (origin_front p log u.k y v row.1 its u.unsent n less is_upstream.unsent)
 
   module _ (n : ℕ) (within : n ≤ length u.unsent) (on : Bool) (wanted : on ≡ is_wanted (p.tables.exchange y)) (log' : Log)
       (m : MovesAt p u.k (take n u.unsent) (nat_lt n (length u.unsent)) (Open on opens.0) log log') (up' : Upstreams) where
@@ -115,14 +119,17 @@ module _ (p : Proxy) (cl : Clients) (up : Upstreams) (log : Log) (h : HasConnect
       clients_by j None is known = known_none log log' j (client_of cl j) known
       clients_by j (Some r) is known = known_same log log' j (client_of cl j) (Some r) (taken_other j (no_client j (subst IsSome (sym is) refl))) known
 
-      rows_by : (z : ℕ) → is_open (p.tables.exchange z) ≡ true → z ≤ length log.dialled → (b : Bool) → nat_eq z y ≡ b → IsUpstreamAt (taken_in log') (upstream_of up' z) (p.upstream z)
+      rows_by : (z : ℕ) → is_open (p.tables.exchange z) ≡ true → z ≤ length log.dialled → (b : Bool) → nat_eq z y ≡ b →
+          IsUpstreamAt (taken_in log') (upstream_of up' z) (p.upstream z)
       rows_by z live le true on_it =
           let number : z ≡ y = grind (arith, nat_tests) in
           subst (λ i. IsUpstreamAt (taken_in log') (upstream_of up' i) (p.upstream i)) (sym number)
-          (subst (λ (o : Option origin.Upstream). IsUpstreamAt (taken_in log') o (p.upstream y)) (sym row_on) (subst (λ (o : Option Upstream). IsUpstreamAt (taken_in log') (Some u') o) (sym row.1) is_upstream_now))
+          (subst (λ (o : Option origin.Upstream). IsUpstreamAt (taken_in log') o (p.upstream y)) (sym row_on)
+          (subst (λ (o : Option Upstream). IsUpstreamAt (taken_in log') (Some u') o) (sym row.1) is_upstream_now))
       rows_by z live le false off =
           subst (λ (o : Option origin.Upstream). IsUpstreamAt (taken_in log') o (p.upstream z)) (sym (row_off z off))
-          (upstream_same (taken_in log) (taken_in log') (upstream_of up z) (p.upstream z) (λ w is. taken_other w.k (other_number z w is off)) (h.rows z live le))
+          (upstream_same (taken_in log) (taken_in log') (upstream_of up z) (p.upstream z) (λ w is. taken_other w.k (other_number z w is off))
+          (h.rows z live le))
 
       -- of the exchange itself, what is there now
       it_is : (z : ℕ) (w : origin.Upstream) → upstream_of up' z ≡ Some w → nat_eq z y ≡ true → (z ≡ y) × (u' ≡ w)
@@ -131,7 +138,8 @@ module _ (p : Proxy) (cl : Clients) (up : Upstreams) (log : Log) (h : HasConnect
           (number, some_is u' w (sym row_on ∙ (ap (upstream_of up') (sym number) ∙ is)))
 
       numbers_by : (z : ℕ) (w : origin.Upstream) → upstream_of up' z ≡ Some w → (b : Bool) → nat_eq z y ≡ b → connection_of log.dialled z ≡ Some w.k
-      numbers_by z w is true on_it = let both = it_is z w is on_it in ap (connection_of log.dialled) both.0 ∙ (h.numbers y u at ∙ ap (λ (o : origin.Upstream). Some o.k) both.1)
+      numbers_by z w is true on_it = let both = it_is z w is on_it in ap (connection_of log.dialled) both.0 ∙
+          (h.numbers y u at ∙ ap (λ (o : origin.Upstream). Some o.k) both.1)
       numbers_by z w is false off = h.numbers z w (sym (row_off z off) ∙ is)
 
       there_by : (z : ℕ) → IsSome (upstream_of up' z) → (b : Bool) → nat_eq z y ≡ b → IsSome (upstream_of up z)
@@ -156,15 +164,18 @@ module _ (p : Proxy) (cl : Clients) (up : Upstreams) (log : Log) (h : HasConnect
           → (w.unsent ≡ []) × (is_same w.reading (is_wanted (p.tables.exchange z)) ≡ true)
       touched_by z w is untouched true on_it =
           let both = it_is z w is on_it in
-          let off : (is_touched up y && lacks_at (upstream_of up' y)) ≡ false = sym (touches y ∙ rw (same_number y) refl) ∙ (ap (is_touched up') (sym both.0) ∙ untouched) in
+          let off : (is_touched up y && lacks_at (upstream_of up' y)) ≡ false = sym (touches y ∙ rw (same_number y) refl) ∙
+          (ap (is_touched up') (sym both.0) ∙ untouched) in
           let off' : (is_touched up y && lacks_at (Some u')) ≡ false = ap (λ (o : Option origin.Upstream). is_touched up y && lacks_at o) (sym row_on) ∙ off in
           let none : drop n u.unsent ≡ [] = untouched_by (is_touched up y) refl off' in (
             ap (λ (o : origin.Upstream). o.unsent) (sym both.1) ∙ none,
-            ap (λ (o : origin.Upstream). is_same o.reading (is_wanted (p.tables.exchange z))) (sym both.1) ∙ (ap (λ i. is_same on (is_wanted (p.tables.exchange i))) both.0 ∙ reads_wanted),
+            ap (λ (o : origin.Upstream). is_same o.reading (is_wanted (p.tables.exchange z))) (sym both.1) ∙
+                (ap (λ i. is_same on (is_wanted (p.tables.exchange i))) both.0 ∙ reads_wanted),
           )
       touched_by z w is untouched false off = h.touched z w (sym (row_off z off) ∙ is) (sym (touches z ∙ rw off refl) ∙ untouched)
 
-      read_by : (z : ℕ) (w : origin.Upstream) → upstream_of up' z ≡ Some w → (b : Bool) → nat_eq z y ≡ b → (ended : Bool) × (stage_in log'.takers w.k ≡ Open w.reading ended)
+      read_by : (z : ℕ) (w : origin.Upstream) → upstream_of up' z ≡ Some w → (b : Bool) → nat_eq z y ≡ b → (ended : Bool) ×
+          (stage_in log'.takers w.k ≡ Open w.reading ended)
       read_by z w is true on_it =
           let both = it_is z w is on_it in
           (opens.0, subst (λ (o : origin.Upstream). stage_in log'.takers o.k ≡ Open o.reading opens.0) both.1 m.stage_is)
@@ -249,7 +260,8 @@ pub record OriginGoes (p : Proxy) (cl : Clients) (up up' : Upstreams) (log : Log
   pub sent : IsSentOriginAt p log' y (upstream_of up' y)
   pub others : (z : ℕ) → nat_eq z y ≡ false → IsSentOriginAt p log z (upstream_of up z) → IsSentOriginAt p log' z (upstream_of up' z)
 
-module _ {W : Type 0} (stages : W → ℕ → Stage) (reports : W → Option Log) (wire wire' : W) (p : Proxy) (cl : Clients) (up up' : Upstreams) (log : Log) (y : ℕ) (on : Bool)
+module _ {W : Type 0} (stages : W → ℕ → Stage) (reports : W → Option Log) (wire wire' : W) (p : Proxy) (cl : Clients) (up up' : Upstreams) (log : Log)
+    (y : ℕ) (on : Bool)
     (h : HasConnections p cl up log) (f : Follows (reports wire) (stages wire) log) where
   unreported : Follows None (stages wire) log
   unreported = record { reported_is = inl refl; stands = f.stands; apart = f.apart }
@@ -278,7 +290,8 @@ module _ {W : Type 0} (stages : W → ℕ → Stage) (reports : W → Option Log
       reported_now : (reports wire' ≡ None) ⊎ (reports wire' ≡ Some (reading_reported u.k u.reading on mid))
       reported_now = reported_on (reports wire) (reports wire') log (λ l. reading_reported u.k u.reading on (sent_of u.k n u.unsent l)) f.reported_is o.reported
 
-      goes_on : (log' : Log) → MovesAt p u.k (take n u.unsent) less (Open on ended) log log' → Follows (reports wire') (stages wire') log' → OriginGoes p cl up up' log (reports wire') (stages wire') y
+      goes_on : (log' : Log) → MovesAt p u.k (take n u.unsent) less (Open on ended) log log' → Follows (reports wire') (stages wire') log' →
+          OriginGoes p cl up up' log (reports wire') (stages wire') y
       goes_on log' m follows = record {
         log' = log';
         follows = follows;
@@ -306,11 +319,17 @@ module _ {W : Type 0} (stages : W → ℕ → Stage) (reports : W → Option Log
               (record { reported_is = it; stands = goes.stands; apart = goes.apart })
 
     -- nothing is there
-    same_goes : upstream_of up y ≡ None → ((z : ℕ) → upstream_of up' z ≡ upstream_of up z) → reports wire' ≡ reports wire → ((j : ℕ) → stages wire' j ≡ stages wire j)
+    same_goes : upstream_of up y ≡ None → ((z : ℕ) → upstream_of up' z ≡ upstream_of up z) → reports wire' ≡ reports wire →
+        ((j : ℕ) → stages wire' j ≡ stages wire j)
         → OriginGoes p cl up up' log (reports wire') (stages wire') y
     same_goes none same reported stands = record {
       log' = log;
-      follows = record { reported_is = subst (λ (l : Option Log). (l ≡ None) ⊎ (l ≡ Some log)) (sym reported) f.reported_is; stands = λ j. stands j ∙ f.stands j; apart = f.apart };
+      follows = record {
+        reported_is = subst (λ (l : Option Log). (l ≡ None) ⊎ (l ≡ Some log)) (sym reported) f.reported_is;
+        stands = λ j. stands j ∙
+            f.stands j;
+        apart = f.apart;
+      };
       sends = sends_none p log;
       has = record {
         clients = h.clients;
@@ -346,7 +365,8 @@ module _ {W : Type 0} (stages : W → ℕ → Stage) (reports : W → Option Log
     pub origin_goes : IsOfferedOrigin stages reports y on up up' wire wire' → OriginGoes p cl up up' log (reports wire') (stages wire') y
     origin_goes offered = by_row (upstream_of up y) refl offered
       where
-        by_row : (o : Option origin.Upstream) → upstream_of up y ≡ o → IsOfferedUpAt stages reports y on o up up' wire wire' → OriginGoes p cl up up' log (reports wire') (stages wire') y
+        by_row : (o : Option origin.Upstream) → upstream_of up y ≡ o → IsOfferedUpAt stages reports y on o up up' wire wire' →
+            OriginGoes p cl up up' log (reports wire') (stages wire') y
         by_row None is (same, reported, stands) = same_goes is same reported stands
         by_row (Some u) is to = goes_to u is to
 
@@ -354,6 +374,9 @@ module _ {W : Type 0} (stages : W → ℕ → Stage) (reports : W → Option Log
   pub origin_fails : OffersSome (number_at (upstream_of up y)) (unsent_up (upstream_of up y)) (reports wire) (reports wire') → SentSome p log (reports wire')
   origin_fails some = by_row (upstream_of up y) refl some
     where
-      by_row : (o : Option origin.Upstream) → upstream_of up y ≡ o → OffersSome (number_at o) (unsent_up o) (reports wire) (reports wire') → SentSome p log (reports wire')
+      by_row : (o : Option origin.Upstream) → upstream_of up y ≡ o → OffersSome (number_at o) (unsent_up o) (reports wire) (reports wire') →
+          SentSome p log (reports wire')
       by_row None is part = some_sent p log 0 (reports wire) (reports wire') [] part f.reported_is (λ n less. none_front p log 0 n less)
-      by_row (Some u) is part = some_sent p log u.k (reports wire) (reports wire') u.unsent part f.reported_is (λ n less all. (origin_moves p cl up log h y u is n less).sends.sent all)
+      by_row (Some u) is part =
+          some_sent p log u.k (reports wire) (reports wire') u.unsent part f.reported_is
+          (λ n less all. (origin_moves p cl up log h y u is n less).sends.sent all)

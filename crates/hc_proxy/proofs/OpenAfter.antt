@@ -9,11 +9,13 @@ use Rattle.hc_text.proofs.Basics.{and_left as and_first, and_right as and_second
 use Rattle.hc_effects.proofs.Vocabulary.{Opening, opening_in, asks_in, closes_in, is_denied, Event, Entry, exchange_after, exchange_heard, exchange_acted, exchange_made, exchange_opened, with_head, with_piece, is_open, is_wanted, Tables, Exchange, after, after_accepted, after_denied, event}
 
 -- the rows behind an entry: as they were, or as an accepted one leaves them
-pub exchange_behind : (t : Tables) (e : Entry) (x : ℕ) → ((after t e).exchange x ≡ t.exchange x) ⊎ ((after t e).exchange x ≡ exchange_after t e x (t.exchange x))
+pub exchange_behind : (t : Tables) (e : Entry) (x : ℕ) →
+    ((after t e).exchange x ≡ t.exchange x) ⊎ ((after t e).exchange x ≡ exchange_after t e x (t.exchange x))
 unfolding after
 exchange_behind t e x = by_test (is_denied e.acts)
   where
-    by_test : (b : Bool) → ((if b then after_denied t e else after_accepted t e).exchange x ≡ t.exchange x) ⊎ ((if b then after_denied t e else after_accepted t e).exchange x ≡ exchange_after t e x (t.exchange x))
+    by_test : (b : Bool) → ((if b then after_denied t e else after_accepted t e).exchange x ≡ t.exchange x) ⊎
+        ((if b then after_denied t e else after_accepted t e).exchange x ≡ exchange_after t e x (t.exchange x))
     by_test true = inl refl
     by_test false = inr refl
 
@@ -58,7 +60,8 @@ row_open t e x (Some w) h = inl (heard_open t e x e.event w (and_second _ _ h))
 pub was_open : (t : Tables) (e : Entry) (x : ℕ) → is_open ((after t e).exchange x) ≡ true → (is_open (t.exchange x) ≡ true) ⊎ OpensIt x (opening_in e.acts)
 was_open t e x h = by_row (exchange_behind t e x)
   where
-    by_row : ((after t e).exchange x ≡ t.exchange x) ⊎ ((after t e).exchange x ≡ exchange_after t e x (t.exchange x)) → (is_open (t.exchange x) ≡ true) ⊎ OpensIt x (opening_in e.acts)
+    by_row : ((after t e).exchange x ≡ t.exchange x) ⊎ ((after t e).exchange x ≡ exchange_after t e x (t.exchange x)) →
+        (is_open (t.exchange x) ≡ true) ⊎ OpensIt x (opening_in e.acts)
     by_row (inl same) = inl (sym (ap is_open same) ∙ h)
     by_row (inr is) = row_open t e x (t.exchange x) (sym (ap is_open is) ∙ h)
 
@@ -93,31 +96,37 @@ acted_closed : (closes was : Bool) → was ≡ true → ((not closes && was) ≡
 acted_closed true was h = inr refl
 acted_closed false was h = inl h
 
-row_stays : (t : Tables) (e : Entry) (x : ℕ) (w : Exchange) → w.is_open ≡ true → (is_open (exchange_after t e x (Some w)) ≡ true) ⊎ (closes_in x e.acts ≡ true) ⊎ Stops x e.event
+row_stays : (t : Tables) (e : Entry) (x : ℕ) (w : Exchange) → w.is_open ≡ true →
+    (is_open (exchange_after t e x (Some w)) ≡ true) ⊎ (closes_in x e.acts ≡ true) ⊎ Stops x e.event
 unfolding exchange_after
 row_stays t e x w h = by_heard (heard_closed t e x e.event w h)
   where
-    by_acts : ((not (closes_in x e.acts) && (exchange_heard t e x e.event w).is_open) ≡ true) ⊎ (closes_in x e.acts ≡ true) → (is_open (Some (exchange_acted x e.acts (exchange_heard t e x e.event w))) ≡ true) ⊎ (closes_in x e.acts ≡ true) ⊎ Stops x e.event
+    by_acts : ((not (closes_in x e.acts) && (exchange_heard t e x e.event w).is_open) ≡ true) ⊎ (closes_in x e.acts ≡ true) →
+        (is_open (Some (exchange_acted x e.acts (exchange_heard t e x e.event w))) ≡ true) ⊎ (closes_in x e.acts ≡ true) ⊎ Stops x e.event
     by_acts (inl was) = inl was
     by_acts (inr closes) = inr (inl closes)
 
-    by_heard : ((exchange_heard t e x e.event w).is_open ≡ true) ⊎ Stops x e.event → (is_open (Some (exchange_acted x e.acts (exchange_heard t e x e.event w))) ≡ true) ⊎ (closes_in x e.acts ≡ true) ⊎ Stops x e.event
+    by_heard : ((exchange_heard t e x e.event w).is_open ≡ true) ⊎ Stops x e.event →
+        (is_open (Some (exchange_acted x e.acts (exchange_heard t e x e.event w))) ≡ true) ⊎ (closes_in x e.acts ≡ true) ⊎ Stops x e.event
     by_heard (inl was) = by_acts (acted_closed (closes_in x e.acts) _ was)
     by_heard (inr stops) = inr (inr stops)
 
 -- what was open before an entry is open behind it, unless the acts close it, or the event is of it
-pub stays_open : (t : Tables) (e : Entry) (x : ℕ) → is_open (t.exchange x) ≡ true → (is_open ((after t e).exchange x) ≡ true) ⊎ (closes_in x e.acts ≡ true) ⊎ Stops x e.event
+pub stays_open : (t : Tables) (e : Entry) (x : ℕ) → is_open (t.exchange x) ≡ true →
+    (is_open ((after t e).exchange x) ≡ true) ⊎ (closes_in x e.acts ≡ true) ⊎ Stops x e.event
 stays_open t e x h = by_row (exchange_behind t e x)
   where
     by_old : (o : Option Exchange) → is_open o ≡ true → (is_open (exchange_after t e x o) ≡ true) ⊎ (closes_in x e.acts ≡ true) ⊎ Stops x e.event
     by_old None g = absurd (let never : false ≡ true = g in cc)
     by_old (Some w) g = row_stays t e x w g
 
-    moved : (is_open (exchange_after t e x (t.exchange x)) ≡ true) ⊎ (closes_in x e.acts ≡ true) ⊎ Stops x e.event → (after t e).exchange x ≡ exchange_after t e x (t.exchange x) → (is_open ((after t e).exchange x) ≡ true) ⊎ (closes_in x e.acts ≡ true) ⊎ Stops x e.event
+    moved : (is_open (exchange_after t e x (t.exchange x)) ≡ true) ⊎ (closes_in x e.acts ≡ true) ⊎ Stops x e.event →
+        (after t e).exchange x ≡ exchange_after t e x (t.exchange x) → (is_open ((after t e).exchange x) ≡ true) ⊎ (closes_in x e.acts ≡ true) ⊎ Stops x e.event
     moved (inl was) is = inl (ap is_open is ∙ was)
     moved (inr other) is = inr other
 
-    by_row : ((after t e).exchange x ≡ t.exchange x) ⊎ ((after t e).exchange x ≡ exchange_after t e x (t.exchange x)) → (is_open ((after t e).exchange x) ≡ true) ⊎ (closes_in x e.acts ≡ true) ⊎ Stops x e.event
+    by_row : ((after t e).exchange x ≡ t.exchange x) ⊎ ((after t e).exchange x ≡ exchange_after t e x (t.exchange x)) →
+        (is_open ((after t e).exchange x) ≡ true) ⊎ (closes_in x e.acts ≡ true) ⊎ Stops x e.event
     by_row (inl same) = inl (ap is_open same ∙ h)
     by_row (inr is) = moved (by_old (t.exchange x) h) is
 
@@ -162,14 +171,16 @@ heard_wanted t e x (event.Fault y) w h = by_test (nat_eq y x) h
 heard_wanted t e x (event.Cancel c) w h = h
 heard_wanted t e x (event.Doom key) w h = h
 
-acted_wanted : (closes was none asks asked : Bool) → ((not closes && was) && (none || (asks || asked))) ≡ true → ((was && (none || asked)) ≡ true) ⊎ (asks ≡ true)
+acted_wanted : (closes was none asks asked : Bool) → ((not closes && was) && (none || (asks || asked))) ≡ true →
+    ((was && (none || asked)) ≡ true) ⊎ (asks ≡ true)
 acted_wanted true was none asks asked g = absurd (let never : false ≡ true = g in cc)
 acted_wanted false false none asks asked g = absurd (let never : false ≡ true = g in cc)
 acted_wanted false true true asks asked g = inl refl
 acted_wanted false true false true asked g = inr refl
 acted_wanted false true false false asked g = inl g
 
-row_wanted : (t : Tables) (e : Entry) (x : ℕ) (o : Option Exchange) → is_wanted (exchange_after t e x o) ≡ true → (is_wanted o ≡ true) ⊎ (asks_in x e.acts ≡ true) ⊎ OpensIt x (opening_in e.acts)
+row_wanted : (t : Tables) (e : Entry) (x : ℕ) (o : Option Exchange) → is_wanted (exchange_after t e x o) ≡ true →
+    (is_wanted o ≡ true) ⊎ (asks_in x e.acts ≡ true) ⊎ OpensIt x (opening_in e.acts)
 unfolding exchange_after
 row_wanted t e x None h = inr (inr (made_open t e x (opening_in e.acts) (wanted_is_open (exchange_made t e x (opening_in e.acts)) h)))
   where
@@ -181,14 +192,17 @@ row_wanted t e x (Some w) h = by_acts (acted_wanted (closes_in x e.acts) heard.i
     heard : Exchange
     heard = exchange_heard t e x e.event w
 
-    by_acts : (is_wanted (Some (exchange_heard t e x e.event w)) ≡ true) ⊎ (asks_in x e.acts ≡ true) → (is_wanted (Some w) ≡ true) ⊎ (asks_in x e.acts ≡ true) ⊎ OpensIt x (opening_in e.acts)
+    by_acts : (is_wanted (Some (exchange_heard t e x e.event w)) ≡ true) ⊎ (asks_in x e.acts ≡ true) →
+        (is_wanted (Some w) ≡ true) ⊎ (asks_in x e.acts ≡ true) ⊎ OpensIt x (opening_in e.acts)
     by_acts (inl was) = inl (heard_wanted t e x e.event w was)
     by_acts (inr asks) = inr (inl asks)
 
-pub was_wanted : (t : Tables) (e : Entry) (x : ℕ) → is_wanted ((after t e).exchange x) ≡ true → (is_wanted (t.exchange x) ≡ true) ⊎ (asks_in x e.acts ≡ true) ⊎ OpensIt x (opening_in e.acts)
+pub was_wanted : (t : Tables) (e : Entry) (x : ℕ) → is_wanted ((after t e).exchange x) ≡ true →
+    (is_wanted (t.exchange x) ≡ true) ⊎ (asks_in x e.acts ≡ true) ⊎ OpensIt x (opening_in e.acts)
 was_wanted t e x h = by_row (exchange_behind t e x)
   where
-    by_row : ((after t e).exchange x ≡ t.exchange x) ⊎ ((after t e).exchange x ≡ exchange_after t e x (t.exchange x)) → (is_wanted (t.exchange x) ≡ true) ⊎ (asks_in x e.acts ≡ true) ⊎ OpensIt x (opening_in e.acts)
+    by_row : ((after t e).exchange x ≡ t.exchange x) ⊎ ((after t e).exchange x ≡ exchange_after t e x (t.exchange x)) →
+        (is_wanted (t.exchange x) ≡ true) ⊎ (asks_in x e.acts ≡ true) ⊎ OpensIt x (opening_in e.acts)
     by_row (inl same) = inl (sym (ap is_wanted same) ∙ h)
     by_row (inr is) = row_wanted t e x (t.exchange x) (sym (ap is_wanted is) ∙ h)
 
@@ -220,7 +234,8 @@ heard_same t e x w (event.Fault y) other = by_test (nat_eq y x) refl
 heard_same t e x w (event.Cancel c) other = refl
 heard_same t e x w (event.Doom key) other = refl
 
-acted_stays : (closes was none asks asked : Bool) → (was && (none || asked)) ≡ true → (not closes && was) ≡ true → ((not closes && was) && (none || (asks || asked))) ≡ true
+acted_stays : (closes was none asks asked : Bool) → (was && (none || asked)) ≡ true → (not closes && was) ≡ true →
+    ((not closes && was) && (none || (asks || asked))) ≡ true
 acted_stays true was none asks asked wanted runs = absurd (let never : false ≡ true = runs in cc)
 acted_stays false false none asks asked wanted runs = absurd (let never : false ≡ true = runs in cc)
 acted_stays false true true asks asked wanted runs = refl
@@ -228,7 +243,8 @@ acted_stays false true false true asked wanted runs = refl
 acted_stays false true false false asked wanted runs = wanted
 
 -- what is wanted before an entry and open behind it is wanted behind it, unless the event is of it
-pub stays_wanted : (t : Tables) (e : Entry) (x : ℕ) → (Stops x e.event → ⊥) → is_wanted (t.exchange x) ≡ true → is_open ((after t e).exchange x) ≡ true → is_wanted ((after t e).exchange x) ≡ true
+pub stays_wanted : (t : Tables) (e : Entry) (x : ℕ) → (Stops x e.event → ⊥) → is_wanted (t.exchange x) ≡ true → is_open ((after t e).exchange x) ≡ true →
+    is_wanted ((after t e).exchange x) ≡ true
 unfolding exchange_after
 stays_wanted t e x other wanted runs = by_row (exchange_behind t e x)
   where
@@ -236,8 +252,10 @@ stays_wanted t e x other wanted runs = by_row (exchange_behind t e x)
     by_old None was there = absurd (let never : false ≡ true = was in cc)
     by_old (Some w) was there =
         let Goes : Exchange → Type 0 = λ u. is_open (Some (exchange_acted x e.acts u)) ≡ true → is_wanted (Some (exchange_acted x e.acts u)) ≡ true in
-        subst Goes (sym (heard_same t e x w e.event other)) (λ on. acted_stays (closes_in x e.acts) w.is_open (is_none w.head) (asks_in x e.acts) w.asked was on) there
+        subst Goes (sym (heard_same t e x w e.event other))
+        (λ on. acted_stays (closes_in x e.acts) w.is_open (is_none w.head) (asks_in x e.acts) w.asked was on) there
 
-    by_row : ((after t e).exchange x ≡ t.exchange x) ⊎ ((after t e).exchange x ≡ exchange_after t e x (t.exchange x)) → is_wanted ((after t e).exchange x) ≡ true
+    by_row : ((after t e).exchange x ≡ t.exchange x) ⊎ ((after t e).exchange x ≡ exchange_after t e x (t.exchange x)) →
+        is_wanted ((after t e).exchange x) ≡ true
     by_row (inl same) = ap is_wanted same ∙ wanted
     by_row (inr is) = ap is_wanted is ∙ by_old (t.exchange x) wanted (sym (ap is_open is) ∙ runs)

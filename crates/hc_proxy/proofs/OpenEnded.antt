@@ -85,7 +85,9 @@ byte_off : (s : Reading) (b : ℕ) → is_done s ≡ false → OffMove (move_of 
 unfolding move_of
 byte_off (Heading kind scan text) b off = by_length (nat_lt (length text) 32768) (begins_head kind (text ++ b ∷ [])) (is_open (scan_byte scan b))
   where
-    by_length : (a c d : Bool) → OffMove (if a then (if not c then Goes (fails error.BadHead) else if d then Goes (quiet (Heading kind (scan_byte scan b) (text ++ b ∷ []))) else EndsHead kind (text ++ b ∷ [])) else Goes (fails error.HeadTooLong))
+    by_length : (a c d : Bool) →
+        OffMove (if a then (if not c then Goes (fails error.BadHead) else if d then Goes (quiet (Heading kind (scan_byte scan b) (text ++ b ∷ []))) else
+        EndsHead kind (text ++ b ∷ [])) else Goes (fails error.HeadTooLong))
     by_length true true true = refl
     by_length true true false = tt
     by_length true false d = refl
@@ -94,7 +96,8 @@ byte_off (Counts left) b off = counts_off (left - 1)
 byte_off Runs b off = refl
 byte_off (Sizing text) b off = by_length (nat_lt (length text) 1024) (b == 10)
   where
-    by_length : (a c : Bool) → OffMove (if a then (if c then EndsLine (text ++ b ∷ []) else Goes (quiet (Sizing (text ++ b ∷ [])))) else Goes (fails error.BadChunk))
+    by_length : (a c : Bool) →
+        OffMove (if a then (if c then EndsLine (text ++ b ∷ []) else Goes (quiet (Sizing (text ++ b ∷ [])))) else Goes (fails error.BadChunk))
     by_length true true = tt
     by_length true false = refl
     by_length false c = refl

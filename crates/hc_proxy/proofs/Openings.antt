@@ -80,7 +80,8 @@ module _ (limits : Limits) (t : Tables) (now : ℕ) where
   abbrev accepted : Event → Flaw → List Act
   accepted ev flaw = accepted_acts limits t now ev flaw
 
-  outside_open : (ev : Event) (flaw : Flaw) → OpenOnly (IsFirst (accepted ev flaw)) (map act.Evicted (evicted limits t now ev) ++ (loss_acts flaw ++ close_acts t now ev flaw))
+  outside_open : (ev : Event) (flaw : Flaw) →
+      OpenOnly (IsFirst (accepted ev flaw)) (map act.Evicted (evicted limits t now ev) ++ (loss_acts flaw ++ close_acts t now ev flaw))
   outside_open ev flaw =
       open_both _ (map act.Evicted (evicted limits t now ev)) _ (evicts_open _ (evicted limits t now ev))
       (open_both _ (loss_acts flaw) _ (lost_open _ flaw)
@@ -95,10 +96,18 @@ module _ (limits : Limits) (t : Tables) (now : ℕ) where
   poll_open : (c want : ℕ) (flaw : Flaw) → OpenOnly (IsFirst (accepted (event.Poll c want) flaw)) (poll_acts t now want c flaw)
   poll_open c want NoFlaw =
       move_open _ c (poll_move t now want c (t.consumer c))
-      (λ x need request is. (record { x = x; c = c; need = need; request = request }, ap (λ m. opening_in (acts_of c m ++ (close_acts t now (event.Poll c want) NoFlaw ++ []))) is, refl))
+      (λ x need request is. (
+        record { x = x; c = c; need = need; request = request },
+        ap (λ m. opening_in (acts_of c m ++ (close_acts t now (event.Poll c want) NoFlaw ++ []))) is,
+        refl,
+      ))
   poll_open c want (Loses r kind) =
       move_open _ c (poll_move t now want c (t.consumer c))
-      (λ x need request is. (record { x = x; c = c; need = need; request = request }, ap (λ m. opening_in (acts_of c m ++ (close_acts t now (event.Poll c want) (Loses r kind) ++ loss_acts (Loses r kind)))) is, refl))
+      (λ x need request is. (
+        record { x = x; c = c; need = need; request = request },
+        ap (λ m. opening_in (acts_of c m ++ (close_acts t now (event.Poll c want) (Loses r kind) ++ loss_acts (Loses r kind)))) is,
+        refl,
+      ))
   poll_open c want (Misreads r) = tt
 
   accepted_open : (ev : Event) (flaw : Flaw) → OpenOnly (IsFirst (accepted ev flaw)) (accepted ev flaw)
@@ -129,7 +138,8 @@ entry_opens limits t e s is false taken =
   where
     next : (x : ℕ) → IsFirst e.acts x → IsNext t e x
     next x f =
-        let number : f.0.x ≡ t.opened + 1 = opens_next limits t e.now (flaw_in e.acts) s e.event f.0 (goes limits t e is taken) (ap opening_in (sym (acts_are limits t e is taken)) ∙ f.1) in
+        let number : f.0.x ≡ t.opened + 1 =
+        opens_next limits t e.now (flaw_in e.acts) s e.event f.0 (goes limits t e is taken) (ap opening_in (sym (acts_are limits t e is taken)) ∙ f.1) in
         let here : f.0.x ≡ x = f.2 in
         let counts : f.0.x ≤ opened_after (opening_in e.acts) t.opened = first_counts t.opened (opening_in e.acts) f.0 f.1 in
         (omega arith, rw taken (omega arith))
@@ -161,8 +171,10 @@ module _ (limits : Limits) (n : ℕ) where
         opens =
             open_both _ (acts_in p.part) (owed limits p.tables p.moment ev).acts
             (open_more _ _ (λ x h. let low : n < x = h.0 in let high : x ≤ p.tables.opened = h.1 in (low, omega arith)) (acts_in p.part) s.opens)
-            (open_more (IsNext p.tables (owed limits p.tables p.moment ev)) _ (λ x h. let is : x ≡ p.tables.opened + 1 = h.0 in (omega arith, h.1)) (owed limits p.tables p.moment ev).acts
-            (entry_opens limits p.tables (owed limits p.tables p.moment ev) (is_sound limits p s.stands) (owed_here limits ev p s.stands) (is_denied (owed limits p.tables p.moment ev).acts) refl));
+            (open_more (IsNext p.tables (owed limits p.tables p.moment ev)) _ (λ x h. let is : x ≡ p.tables.opened + 1 = h.0 in (omega arith, h.1))
+            (owed limits p.tables p.moment ev).acts
+            (entry_opens limits p.tables (owed limits p.tables p.moment ev) (is_sound limits p s.stands) (owed_here limits ev p s.stands)
+            (is_denied (owed limits p.tables p.moment ev).acts) refl));
       }
 
   opens_behind : IsKept limits (OpensBehind limits n)
@@ -177,7 +189,9 @@ module _ (limits : Limits) (n : ℕ) where
   }
 
 -- The acts of a turn open exchanges behind those before it, and these are counted behind it.
-pub turn_opens : (limits : Limits) (dialled : List ℕ) (call : Called) (p : Proxy) → Stands limits p → (let h = happened limits dialled call (begun call p) in (p.tables.opened ≤ h.tables.opened) × OpenOnly (λ x. (p.tables.opened < x) × (x ≤ h.tables.opened)) (acts_in h.part))
+pub turn_opens : (limits : Limits) (dialled : List ℕ) (call : Called) (p : Proxy) → Stands limits p →
+    (let h = happened limits dialled call (begun call p) in (p.tables.opened ≤ h.tables.opened) ×
+    OpenOnly (λ x. (p.tables.opened < x) × (x ≤ h.tables.opened)) (acts_in h.part))
 turn_opens limits dialled call p s =
     let at_first : OpensOn limits p.tables.opened (begun call p) = record { stands = (begins_turn limits call p s).stands; from = omega arith; opens = tt } in
     let there : OpensOn limits p.tables.opened (happened limits dialled call (begun call p)) =
@@ -193,12 +207,14 @@ KnownTo n p = (x : ℕ) (u : Upstream) → p.upstream x ≡ Some u → x ≤ n
 abbrev KnownOn : ℕ → Proxy → Proxy → Type 0
 KnownOn n p q = KnownTo n p → KnownTo n q
 
-changed_known : (n x : ℕ) (change : Upstream → Upstream) (b : Bool) (o : Option Upstream) → ((u : Upstream) → o ≡ Some u → x ≤ n) → (u : Upstream) → (if b then option_map change o else o) ≡ Some u → x ≤ n
+changed_known : (n x : ℕ) (change : Upstream → Upstream) (b : Bool) (o : Option Upstream) → ((u : Upstream) → o ≡ Some u → x ≤ n) → (u : Upstream) →
+    (if b then option_map change o else o) ≡ Some u → x ≤ n
 changed_known n x change false o known u is = known u is
 changed_known n x change true None known u is = absurd (let never : None ≡ Some u = is in cc)
 changed_known n x change true (Some v) known u is = known v refl
 
-opened_known : (n x y : ℕ) (new o : Option Upstream) → y ≤ n → (b : Bool) → nat_eq x y ≡ b → ((u : Upstream) → o ≡ Some u → x ≤ n) → (u : Upstream) → (if b then new else o) ≡ Some u → x ≤ n
+opened_known : (n x y : ℕ) (new o : Option Upstream) → y ≤ n → (b : Bool) → nat_eq x y ≡ b → ((u : Upstream) → o ≡ Some u → x ≤ n) → (u : Upstream) →
+    (if b then new else o) ≡ Some u → x ≤ n
 opened_known n x y new o may false test known u is = known u is
 opened_known n x y new o may true test known u is = let same : x ≡ y = grind (arith, nat_tests) in omega arith
 
@@ -264,11 +280,13 @@ pub unused_known : (limits : Limits) → StandsKnown limits unused
 unused_known limits = record { stands = unused_stands limits; known = λ x u row. absurd (let never : None ≡ Some u = row in cc) }
 
 -- Behind all turns.
-pub turns_know : (limits : Limits) (dialled : List ℕ) (calls : List Called) (p : Proxy) → StandsKnown limits p → StandsKnown limits (turned_by limits dialled calls p)
+pub turns_know : (limits : Limits) (dialled : List ℕ) (calls : List Called) (p : Proxy) → StandsKnown limits p →
+    StandsKnown limits (turned_by limits dialled calls p)
 turns_know limits dialled [] p s = s
 turns_know limits dialled (call ∷ calls) p s = turns_know limits dialled calls (turned limits dialled call p) (turn_knows limits dialled call p s)
 
-pub origin_grows_on : (limits : Limits) (dialled : List ℕ) (calls : List Called) (p : Proxy) → StandsKnown limits p → (x : ℕ) → OriginStays x p (turned_by limits dialled calls p)
+pub origin_grows_on : (limits : Limits) (dialled : List ℕ) (calls : List Called) (p : Proxy) → StandsKnown limits p → (x : ℕ) →
+    OriginStays x p (turned_by limits dialled calls p)
 origin_grows_on limits dialled [] p s x = λ old row. record { new = old; row = row; owed = refl }
 origin_grows_on limits dialled (call ∷ calls) p s x =
     both_origins limits x p (turned limits dialled call p) (turned_by limits dialled calls (turned limits dialled call p))

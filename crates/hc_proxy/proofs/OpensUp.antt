@@ -65,10 +65,12 @@ once_before (act.Pending c wait ∷ xs) ys once none = once_before xs ys once no
 once_before (act.Lost r kind ∷ xs) ys once none = once_before xs ys once none
 once_before (act.Evicted r ∷ xs) ys once none = once_before xs ys once none
 
-once_up : (acts : List Act) (n : ℕ) → OpenOnce acts → ((o : Opening) → opening_in acts ≡ Some o → o.x ≡ n + 1) → OpensUp n acts (opened_after (opening_in acts) n)
+once_up : (acts : List Act) (n : ℕ) → OpenOnce acts → ((o : Opening) → opening_in acts ≡ Some o → o.x ≡ n + 1) →
+    OpensUp n acts (opened_after (opening_in acts) n)
 once_up [] n once next = refl
 once_up (act.Denied refusal ∷ acts) n once next = once_up acts n once next
-once_up (act.Opened x c need request ∷ acts) n once next = let is : x ≡ n + 1 = next (record { x = x; c = c; need = need; request = request }) refl in (is, none_up acts (n + 1) x (sym is) once)
+once_up (act.Opened x c need request ∷ acts) n once next = let is : x ≡ n + 1 = next (record { x = x; c = c; need = need; request = request }) refl in
+    (is, none_up acts (n + 1) x (sym is) once)
 once_up (act.Ask x ∷ acts) n once next = once_up acts n once next
 once_up (act.Close x ∷ acts) n once next = once_up acts n once next
 once_up (act.Shown c r why status fields lo hi ∷ acts) n once next = once_up acts n once next
@@ -140,7 +142,9 @@ module _ (limits : Limits) (t : Tables) (now : ℕ) where
 
   pub accepted_once : (ev : Event) (flaw : Flaw) → OpenOnce (accepted_acts limits t now ev flaw)
   accepted_once (event.Start c request) flaw = none_once (accepted_acts limits t now (event.Start c request) flaw) (outside_none (event.Start c request) flaw)
-  accepted_once (event.Poll c want) flaw = once_before (poll_acts t now want c flaw) (close_acts t now (event.Poll c want) flaw ++ loss_acts flaw) (poll_once c want flaw) (behind_none (event.Poll c want) flaw)
+  accepted_once (event.Poll c want) flaw =
+      once_before (poll_acts t now want c flaw) (close_acts t now (event.Poll c want) flaw ++ loss_acts flaw) (poll_once c want flaw)
+      (behind_none (event.Poll c want) flaw)
   accepted_once (event.Head x response) flaw = none_once (accepted_acts limits t now (event.Head x response) flaw) (outside_none (event.Head x response) flaw)
   accepted_once (event.Piece x bytes) flaw = none_once (accepted_acts limits t now (event.Piece x bytes) flaw) (outside_none (event.Piece x bytes) flaw)
   accepted_once (event.End x) flaw = none_once (accepted_acts limits t now (event.End x) flaw) (outside_none (event.End x) flaw)

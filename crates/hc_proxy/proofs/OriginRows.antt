@@ -25,9 +25,11 @@ pub record HasRow (taken : ℕ → ℕ) (u : origin.Upstream) (o : Option Upstre
 pub row_of : (taken : ℕ → ℕ) (u : origin.Upstream) (c : Option origin.Upstream) (o : Option Upstream) → c ≡ Some u → IsUpstreamAt taken c o → HasRow taken u o
 row_of taken u None o is at = none_some u is
 row_of taken u (Some w) None is at = absurd at
-row_of taken u (Some w) (Some v) is at = let same : w ≡ u = some_inj w u is in record { v = v; is = refl; alike = subst (λ (n : origin.Upstream). IsUpstream (taken n.k) n v) same at }
+row_of taken u (Some w) (Some v) is at = let same : w ≡ u = some_inj w u is in
+    record { v = v; is = refl; alike = subst (λ (n : origin.Upstream). IsUpstream (taken n.k) n v) same at }
 
-module _ {B : Type 0} {g : Ghosts B} (z : ℕ) (t : Turn) (x : loop.Proxy B g) (p : Proxy) (h : KeepsBut z t x p) (change : Upstream → Upstream) (old new : origin.Upstream) (row : upstream_of x.upstreams z ≡ Some old) (s : Upstreams) (becomes : Becomes z (Some new) x.upstreams s) where
+module _ {B : Type 0} {g : Ghosts B} (z : ℕ) (t : Turn) (x : loop.Proxy B g) (p : Proxy) (h : KeepsBut z t x p) (change : Upstream → Upstream)
+    (old new : origin.Upstream) (row : upstream_of x.upstreams z ≡ Some old) (s : Upstreams) (becomes : Becomes z (Some new) x.upstreams s) where
   abbrev pub q : Proxy
   q = with_upstream z change p
 
@@ -44,8 +46,14 @@ module _ {B : Type 0} {g : Ghosts B} (z : ℕ) (t : Turn) (x : loop.Proxy B g) (
   off_is y off = rw off refl
 
   -- the numbers, and what the wire was told, stay
-  module _ (k : new.k ≡ old.k) (reads : new.reading ≡ old.reading) (alike : (v : Upstream) → p.upstream z ≡ Some v → IsUpstream (taken_at t.call old.k) old v → IsUpstream (taken_at t.call new.k) new (change v)) (news : (y : ℕ) → nat_eq y z ≡ false → is_news s y ≡ is_news x.upstreams y) (touched : (y : ℕ) → nat_eq y z ≡ false → is_touched s y ≡ is_touched x.upstreams y) (heads : (v : Upstream) → is_open (p.tables.exchange z) ≡ true → p.upstream z ≡ Some v → IsReadAs (change v).reading (p.tables.exchange z)) (room : unread (with_upstream z change p) + bytes_received x.cache ≤ t.frame.bytes) where
-    headed_here : (o : Option Upstream) → p.upstream z ≡ o → (v : Upstream) → is_open (p.tables.exchange z) ≡ true → option_map change o ≡ Some v → IsReadAs v.reading (p.tables.exchange z)
+  module _ (k : new.k ≡ old.k) (reads : new.reading ≡ old.reading)
+      (alike : (v : Upstream) → p.upstream z ≡ Some v → IsUpstream (taken_at t.call old.k) old v → IsUpstream (taken_at t.call new.k) new (change v))
+      (news : (y : ℕ) → nat_eq y z ≡ false → is_news s y ≡ is_news x.upstreams y)
+      (touched : (y : ℕ) → nat_eq y z ≡ false → is_touched s y ≡ is_touched x.upstreams y)
+      (heads : (v : Upstream) → is_open (p.tables.exchange z) ≡ true → p.upstream z ≡ Some v → IsReadAs (change v).reading (p.tables.exchange z))
+      (room : unread (with_upstream z change p) + bytes_received x.cache ≤ t.frame.bytes) where
+    headed_here : (o : Option Upstream) → p.upstream z ≡ o → (v : Upstream) → is_open (p.tables.exchange z) ≡ true → option_map change o ≡ Some v →
+        IsReadAs v.reading (p.tables.exchange z)
     headed_here None is v on at = none_some v at
     headed_here (Some w) is v on at = subst (λ (u : Upstream). IsReadAs u.reading (p.tables.exchange z)) (some_inj (change w) v at) (heads w on is)
 
@@ -57,7 +65,8 @@ module _ {B : Type 0} {g : Ghosts B} (z : ℕ) (t : Turn) (x : loop.Proxy B g) (
     ]
 
     cache : HasCache t.frame (record x { upstreams = s }) q
-    cache = cache_rows t.frame (record x { upstreams = s }) p q.upstream unopened headed room (cache_moves t.frame x (record x { upstreams = s }) p refl refl refl refl h.cache)
+    cache = cache_rows t.frame (record x { upstreams = s }) p q.upstream unopened headed room
+        (cache_moves t.frame x (record x { upstreams = s }) p refl refl refl refl h.cache)
       where
         unopened : (y : ℕ) → p.tables.opened < y → q.upstream y ≡ None
         unopened y lt = elim (eq_cases y z) as (λ _. q.upstream y ≡ None) [
@@ -73,8 +82,10 @@ module _ {B : Type 0} {g : Ghosts B} (z : ℕ) (t : Turn) (x : loop.Proxy B g) (
 
     rows : (y : ℕ) → is_open (p.tables.exchange y) ≡ true → y ≤ length t.dialled → IsUpstreamAt (taken_at t.call) (upstream_of s y) (q.upstream y)
     rows y on le = elim (eq_cases y z) as (λ _. IsUpstreamAt (taken_at t.call) (upstream_of s y) (q.upstream y)) [
-      | inr off ↦ subst (λ o. IsUpstreamAt (taken_at t.call) o (q.upstream y)) (sym (off_row y off.0)) (subst (λ o. IsUpstreamAt (taken_at t.call) (upstream_of x.upstreams y) o) (sym (off_is y off.0)) (h.upstreams.rows y on le))
-      | inl here ↦ subst (λ n. is_open (p.tables.exchange n) ≡ true → n ≤ length t.dialled → IsUpstreamAt (taken_at t.call) (upstream_of s n) (q.upstream n)) (sym here.1) at_here on le
+      | inr off ↦ subst (λ o. IsUpstreamAt (taken_at t.call) o (q.upstream y)) (sym (off_row y off.0))
+          (subst (λ o. IsUpstreamAt (taken_at t.call) (upstream_of x.upstreams y) o) (sym (off_is y off.0)) (h.upstreams.rows y on le))
+      | inl here ↦ subst (λ n. is_open (p.tables.exchange n) ≡ true → n ≤ length t.dialled →
+          IsUpstreamAt (taken_at t.call) (upstream_of s n) (q.upstream n)) (sym here.1) at_here on le
     ]
 
     -- who had one has one, of the same number
@@ -89,7 +100,13 @@ module _ {B : Type 0} {g : Ghosts B} (z : ℕ) (t : Turn) (x : loop.Proxy B g) (
       | inr off ↦ record { v = u; is = sym (off_row y off.0) ∙ is; number = refl; reading = refl }
       | inl here ↦
           let same : new ≡ u = some_inj new u (sym here_row ∙ (ap (upstream_of s) (sym here.1) ∙ is)) in
-          record { v = old; is = ap (upstream_of x.upstreams) here.1 ∙ row; number = ap (λ (w : origin.Upstream). w.k) (sym same) ∙ k; reading = ap (λ (w : origin.Upstream). w.reading) (sym same) ∙ reads }
+          record {
+            v = old;
+            is = ap (upstream_of x.upstreams) here.1 ∙ row;
+            number = ap (λ (w : origin.Upstream). w.k) (sym same) ∙ k;
+            reading =
+                ap (λ (w : origin.Upstream). w.reading) (sym same) ∙ reads;
+          }
     ]
 
     changed_upstreams : HasUpstreamsBut z t (record x { upstreams = s }) q (acts_in p.part)
@@ -97,7 +114,8 @@ module _ {B : Type 0} {g : Ghosts B} (z : ℕ) (t : Turn) (x : loop.Proxy B g) (
       rows = rows;
       numbers = λ y u is. let w = was y u is in h.upstreams.numbers y w.v w.is ∙ ap Some (sym w.number);
       over = λ y off some. h.upstreams.over y off (subst IsSome (off_row y off) some);
-      news = λ y off on none asks. ap (λ o. is_due_by (is_wanted (p.tables.exchange y)) o) (off_is y off) ∙ h.upstreams.news y off on (sym (news y off) ∙ none) asks;
+      news = λ y off on none asks. ap (λ o. is_due_by (is_wanted (p.tables.exchange y)) o) (off_is y off) ∙
+          h.upstreams.news y off on (sym (news y off) ∙ none) asks;
       touched = λ y u off is on none asks. h.upstreams.touched y u off (sym (off_row y off) ∙ is) on (sym (touched y off) ∙ none) asks;
       opens = h.upstreams.opens;
       names = h.upstreams.names;
@@ -109,16 +127,25 @@ module _ {B : Type 0} {g : Ghosts B} (z : ℕ) (t : Turn) (x : loop.Proxy B g) (
       clients = h.wire.clients;
       upstreams = λ y u is. let w = was y u is in let old_stage = h.wire.upstreams y w.v w.is in
           (old_stage.0, ap t.stages w.number ∙ (old_stage.1 ∙ ap (λ b. Open b old_stage.0) (sym w.reading)));
-      all = λ j opens. elim (h.wire.all j opens) as (λ _. IsSome (client_of x.clients j) ⊎ ((y : ℕ) × (v : origin.Upstream) × (upstream_of s y ≡ Some v) × (v.k ≡ j)) ⊎ Contains x.closed.items j) [
-        | inl there ↦ inl there
-        | inr other ↦ elim other as (λ _. IsSome (client_of x.clients j) ⊎ ((y : ℕ) × (v : origin.Upstream) × (upstream_of s y ≡ Some v) × (v.k ≡ j)) ⊎ Contains x.closed.items j) [
-          | inr there ↦ inr (inr there)
-          | inl up ↦ elim (eq_cases up.0 z) as (λ _. IsSome (client_of x.clients j) ⊎ ((y : ℕ) × (v : origin.Upstream) × (upstream_of s y ≡ Some v) × (v.k ≡ j)) ⊎ Contains x.closed.items j) [
-            | inr off ↦ inr (inl (up.0, up.1, off_row up.0 off.0 ∙ up.2, up.3))
-            | inl here ↦ inr (inl (z, new, here_row, k ∙ (ap (λ (w : origin.Upstream). w.k) (some_inj old up.1 (sym row ∙ (ap (upstream_of x.upstreams) (sym here.1) ∙ up.2))) ∙ up.3)))
-          ]
-        ]
-      ];
+      all = λ j opens. elim (h.wire.all j opens) as
+          (λ _. IsSome (client_of x.clients j) ⊎ ((y : ℕ) × (v : origin.Upstream) × (upstream_of s y ≡ Some v) × (v.k ≡ j)) ⊎ Contains x.closed.items j) [
+            | inl there ↦ inl there
+            | inr other ↦ elim other as
+                (λ _. IsSome (client_of x.clients j) ⊎ ((y : ℕ) × (v : origin.Upstream) × (upstream_of s y ≡ Some v) × (v.k ≡ j)) ⊎ Contains x.closed.items j) [
+                  | inr there ↦ inr (inr there)
+                  | inl up ↦ elim (eq_cases up.0 z) as
+                      (λ _. IsSome (client_of x.clients j) ⊎ ((y : ℕ) × (v : origin.Upstream) × (upstream_of s y ≡ Some v) × (v.k ≡ j)) ⊎ Contains x.closed.items j) [
+                        | inr off ↦ inr (inl (up.0, up.1, off_row up.0 off.0 ∙ up.2, up.3))
+                        | inl here ↦ inr (inl (
+                          z,
+                          new,
+                          here_row,
+                          k ∙
+                              (ap (λ (w : origin.Upstream). w.k) (some_inj old up.1 (sym row ∙ (ap (upstream_of x.upstreams) (sym here.1) ∙ up.2))) ∙ up.3),
+                        ))
+                      ]
+                ]
+          ];
       closed = λ j there. let shut = h.wire.closed j there in (shut.0, λ y u is its. let w = was y u is in shut.1 y w.v w.is (sym w.number ∙ its));
     }
 
@@ -127,7 +154,14 @@ module _ {B : Type 0} {g : Ghosts B} (z : ℕ) (t : Turn) (x : loop.Proxy B g) (
       cache = cache;
       acts = h.acts;
       clients = record { rows = h.clients.rows; order = h.clients.order; listed = h.clients.listed; few = h.clients.few };
-      consumers = record { held = λ j c w. h.consumers.held j c (back j c w); started = λ j c w. h.consumers.started j c (back j c w); live = λ c is. (let w = h.consumers.live c is in (w.0, on w.0 c w.1)); alive = λ j c w. h.consumers.alive j c (back j c w); idle = h.consumers.idle };
+      consumers = record {
+        held = λ j c w. h.consumers.held j c (back j c w);
+        started = λ j c w. h.consumers.started j c (back j c w);
+        live =
+            λ c is. (let w = h.consumers.live c is in (w.0, on w.0 c w.1));
+        alive = λ j c w. h.consumers.alive j c (back j c w);
+        idle = h.consumers.idle;
+      };
       upstreams = changed_upstreams;
       wire = wire;
       numbers = h.numbers;

@@ -134,17 +134,20 @@ module _ (holder : ℕ → Option ℕ) (k : ℕ) where
   -- WHERE NONE IS SENT TO IT
 
   module _ (cs : List ℕ) (asked : List WireRequest) (its : AreIts cs) where
-    pub owes_past : (acts : List Act) (h : History) (client : Client) → AreFor (λ d. ⊥) acts → Owes h cs asked client → Owes (all_alone acts h) cs asked (reported_all acts client)
+    pub owes_past : (acts : List Act) (h : History) (client : Client) → AreFor (λ d. ⊥) acts → Owes h cs asked client →
+        Owes (all_alone acts h) cs asked (reported_all acts client)
     owes_past [] h client none o = o
     owes_past (a ∷ acts) h client none o = owes_past acts (alone a ∷ h) (reported a client) none.1 (by_act (sends a))
       where
         by_act : Sends a → Owes (alone a ∷ h) cs asked (reported a client)
         by_act (to d at is) = absurd (none.0 d at is)
-        by_act (past off) = subst (Owes (alone a ∷ h) cs asked) (sym (past_same a client off)) (owes_by (alone a ∷ h) h cs asked client (others_same a h cs off its) o)
+        by_act (past off) = subst (Owes (alone a ∷ h) cs asked) (sym (past_same a client off))
+            (owes_by (alone a ∷ h) h cs asked client (others_same a h cs off its) o)
 
   -- WHERE ALL ARE SENT TO ITS LAST CONSUMER
 
-  module _ (ds : List ℕ) (c : ℕ) (qs : List WireRequest) (r : WireRequest) (sizes : length qs ≡ length ds) (below : AreBelow c ds) (its : AreIts (ds ++ c ∷ [])) where
+  module _ (ds : List ℕ) (c : ℕ) (qs : List WireRequest) (r : WireRequest) (sizes : length qs ≡ length ds) (below : AreBelow c ds)
+      (its : AreIts (ds ++ c ∷ [])) where
     abbrev whole : Reply
     whole = reply_to r
 
@@ -169,7 +172,8 @@ module _ (holder : ℕ → Option ℕ) (k : ℕ) where
         let it : answer_to c (alone a ∷ h) ≡ answer_to c h = to_other c a h (past_answers a c off (last_its ds its)) in
         record {
           here = o.here;
-          owed_is = o.owed_is ∙ (ap (λ (t : List ℕ). t ++ rendered whole (answer_to c h)) (sym firsts) ∙ ap (λ (acts : List Act). answers_to qs ds (alone a ∷ h) ++ rendered whole acts) (sym it));
+          owed_is = o.owed_is ∙ (ap (λ (t : List ℕ). t ++ rendered whole (answer_to c h)) (sym firsts) ∙
+              ap (λ (acts : List Act). answers_to qs ds (alone a ∷ h) ++ rendered whole acts) (sym it));
           reply = o.reply ∙ ap (reply_behind whole) (sym it);
           waits = o.waits;
         }
@@ -187,7 +191,8 @@ module _ (holder : ℕ → Option ℕ) (k : ℕ) where
         let acts : List Act = answer_to c h in
         let firsts : answers_to qs ds (alone a ∷ h) ≡ answers_to qs ds h = answers_same (alone a ∷ h) h qs ds (below_same c a h ds at below) in
         let it : answer_to c (alone a ∷ h) ≡ acts ++ a ∷ [] = to_it c a h at in
-        let more : rendered whole (acts ++ a ∷ []) ≡ rendered whole acts ++ rendering (reply_behind whole acts) a = rendered_both whole acts (a ∷ []) ∙ ap (λ (t : List ℕ). rendered whole acts ++ t) (append-nil (rendering (reply_behind whole acts) a)) in
+        let more : rendered whole (acts ++ a ∷ []) ≡ rendered whole acts ++ rendering (reply_behind whole acts) a = rendered_both whole acts (a ∷ []) ∙
+        ap (λ (t : List ℕ). rendered whole acts ++ t) (append-nil (rendering (reply_behind whole acts) a)) in
         record {
           here = o.here;
           owed_is =
@@ -204,7 +209,8 @@ module _ (holder : ℕ → Option ℕ) (k : ℕ) where
     answered_here : (a : Act) (client : Client) → client.gone ≡ false → answered a client ≡ behind a client
     answered_here a client here = ap (λ (b : Bool). if b then client else behind a client) here
 
-    all_last : (acts : List Act) (h : History) (client : Client) → AreFor (λ d. d ≡ c) acts → OwesLast h client → OwesLast (all_alone acts h) (reported_all acts client)
+    all_last : (acts : List Act) (h : History) (client : Client) → AreFor (λ d. d ≡ c) acts → OwesLast h client →
+        OwesLast (all_alone acts h) (reported_all acts client)
     all_last [] h client for o = o
     all_last (a ∷ acts) h client for o = all_last acts (alone a ∷ h) (reported a client) for.1 (by_act (sends a))
       where
@@ -215,7 +221,8 @@ module _ (holder : ℕ → Option ℕ) (k : ℕ) where
             subst (OwesLast (alone a ∷ h)) (sym (to_answered a client d at is ∙ answered_here a client o.here)) (last_to a h client whom o)
 
     pub owes_last : (acts : List Act) (h : History) (client : Client) → AreFor (λ d. d ≡ c) acts → client.gone ≡ false
-        → client.owed ≡ answers_to qs ds h ++ rendered whole (answer_to c h) → client.reply ≡ reply_behind whole (answer_to c h) → (client.consumer ≡ None) ⊎ (client.consumer ≡ Some c) → error_answer client.reading ≡ []
+        → client.owed ≡ answers_to qs ds h ++ rendered whole (answer_to c h) → client.reply ≡ reply_behind whole (answer_to c h) →
+        (client.consumer ≡ None) ⊎ (client.consumer ≡ Some c) → error_answer client.reading ≡ []
         → Owes (all_alone acts h) (ds ++ c ∷ []) (qs ++ r ∷ []) (reported_all acts client)
     owes_last acts h client for here owed reply waits none =
         let g : History = all_alone acts h in
@@ -225,7 +232,19 @@ module _ (holder : ℕ → Option ℕ) (k : ℕ) where
         record {
           owed_is = o.owed_is ∙ (sym (answers_more qs ds r c g sizes) ∙ (sym (append-nil all) ∙ ap (λ (t : List ℕ). all ++ t) (sym still)));
           error = inl still;
-          last = inr (record { ds = ds; c = c; qs = qs; r = r; cs_are = refl; asked_are = refl; sizes = sizes; below = below; reply = o.reply; waits = o.waits });
+          last = inr (record {
+            ds = ds;
+            c = c;
+            qs = qs;
+            r = r;
+            cs_are = refl;
+            asked_are = refl;
+            sizes = sizes;
+            below = below;
+            reply = o.reply;
+            waits =
+                o.waits;
+          });
         }
 
   -- WHO IS WAITED FOR
@@ -244,10 +263,12 @@ module _ (holder : ℕ → Option ℕ) (k : ℕ) where
       by_gone true = refl
       by_gone false = ap (λ (b : Bool). if b then None else client.consumer) off
 
-  pub all_wait : (c : ℕ) (acts : List Act) (client : Client) → leaves_in c acts ≡ false → AreFor (λ d. d ≡ c) acts → (reported_all acts client).consumer ≡ client.consumer
+  pub all_wait : (c : ℕ) (acts : List Act) (client : Client) → leaves_in c acts ≡ false → AreFor (λ d. d ≡ c) acts →
+      (reported_all acts client).consumer ≡ client.consumer
   all_wait c [] client stays for = refl
   all_wait c (a ∷ acts) client stays for =
-      all_wait c acts (reported a client) (not_true (leaves_in c acts) (λ later. false_true (leaves_in c (a ∷ acts)) stays (later_leaves c a acts later))) for.1 ∙ by_act (sends a)
+      all_wait c acts (reported a client) (not_true (leaves_in c acts) (λ later. false_true (leaves_in c (a ∷ acts)) stays (later_leaves c a acts later)))
+      for.1 ∙ by_act (sends a)
     where
       by_act : Sends a → (reported a client).consumer ≡ client.consumer
       by_act (past off) = ap (λ (r : Client). r.consumer) (past_same a client off)
@@ -265,7 +286,8 @@ module _ (holder : ℕ → Option ℕ) (k : ℕ) where
       none_row None = refl
       none_row (Some c) = refl
 
-      by_test : (j : ℕ) (b : Bool) (o : Option Client) → (if b then option_map (answered a) o else o) ≡ option_map (λ (c : Client). if b then answered a c else c) o
+      by_test : (j : ℕ) (b : Bool) (o : Option Client) →
+          (if b then option_map (answered a) o else o) ≡ option_map (λ (c : Client). if b then answered a c else c) o
       by_test j true None = refl
       by_test j true (Some c) = refl
       by_test j false None = refl
@@ -279,7 +301,8 @@ module _ (holder : ℕ → Option ℕ) (k : ℕ) where
       by_whom None = none_row (rows k)
       by_whom (Some d) = by_holder (holder d)
 
-  two_rows : (acts : List Act) (a : Act) (o : Option Client) → option_map (reported_all acts) (option_map (reported a) o) ≡ option_map (reported_all (a ∷ acts)) o
+  two_rows : (acts : List Act) (a : Act) (o : Option Client) →
+      option_map (reported_all acts) (option_map (reported a) o) ≡ option_map (reported_all (a ∷ acts)) o
   two_rows acts a None = refl
   two_rows acts a (Some c) = refl
 

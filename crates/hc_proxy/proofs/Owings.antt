@@ -25,7 +25,8 @@ pub rendered_both : (reply : Reply) (xs ys : List Act) → rendered reply (xs ++
 rendered_both reply [] ys = refl
 rendered_both reply (a ∷ xs) ys =
     let next : Reply = record reply { form = form_behind reply a } in
-    ap (λ (t : List ℕ). rendering reply a ++ t) (rendered_both next xs ys) ∙ sym (append_assoc (rendering reply a) (rendered next xs) (rendered (reply_behind next xs) ys))
+    ap (λ (t : List ℕ). rendering reply a ++ t) (rendered_both next xs ys) ∙
+    sym (append_assoc (rendering reply a) (rendered next xs) (rendered (reply_behind next xs) ys))
 
 pub behind_both : (reply : Reply) (xs ys : List Act) → reply_behind reply (xs ++ ys) ≡ reply_behind (reply_behind reply xs) ys
 behind_both reply [] ys = refl
@@ -36,7 +37,8 @@ behind_both reply (a ∷ xs) ys = behind_both (record reply { form = form_behind
 size_never : {X : Type 0} (n : ℕ) → 0 ≡ suc n → X
 size_never n is = absurd (omega arith)
 
-pub answers_more : (qs : List WireRequest) (ds : List ℕ) (r : WireRequest) (c : ℕ) (h : History) → length qs ≡ length ds → answers_to (qs ++ r ∷ []) (ds ++ c ∷ []) h ≡ answers_to qs ds h ++ rendered (reply_to r) (answer_to c h)
+pub answers_more : (qs : List WireRequest) (ds : List ℕ) (r : WireRequest) (c : ℕ) (h : History) → length qs ≡ length ds →
+    answers_to (qs ++ r ∷ []) (ds ++ c ∷ []) h ≡ answers_to qs ds h ++ rendered (reply_to r) (answer_to c h)
 answers_more [] [] r c h same = append-nil (rendered (reply_to r) (answer_to c h))
 answers_more [] (d ∷ ds) r c h same = size_never (length ds) same
 answers_more (q ∷ qs) [] r c h same = size_never (length qs) (sym same)
@@ -97,7 +99,8 @@ pub answer_alone : (c : ℕ) (acts : List Act) (h : History) → answer_to c (al
 answer_alone c [] h = sym (append-nil (answer_to c h))
 answer_alone c (a ∷ acts) h = answer_alone c acts (alone a ∷ h) ∙ by_test (is_answer_to c a)
   where
-    by_test : (b : Bool) → (answer_to c h ++ (if b then a ∷ [] else [])) ++ filter (is_answer_to c) acts ≡ answer_to c h ++ (if b then a ∷ filter (is_answer_to c) acts else filter (is_answer_to c) acts)
+    by_test : (b : Bool) → (answer_to c h ++ (if b then a ∷ [] else [])) ++ filter (is_answer_to c) acts ≡ answer_to c h ++
+        (if b then a ∷ filter (is_answer_to c) acts else filter (is_answer_to c) acts)
     by_test true = append_assoc (answer_to c h) (a ∷ []) (filter (is_answer_to c) acts)
     by_test false = ap (λ (xs : List Act). xs ++ filter (is_answer_to c) acts) (append-nil (answer_to c h))
 
@@ -155,7 +158,8 @@ new_owes h = record { owed_is = refl; error = inl refl; last = inl (record { non
 
 module _ (h : History) (cs : List ℕ) (asked : List WireRequest) where
   -- a change that leaves these alone
-  module _ (new old : Client) (owed : new.owed ≡ old.owed) (reply : new.reply ≡ old.reply) (consumer : new.consumer ≡ old.consumer) (closing : new.closing ≡ old.closing) where
+  module _ (new old : Client) (owed : new.owed ≡ old.owed) (reply : new.reply ≡ old.reply) (consumer : new.consumer ≡ old.consumer)
+      (closing : new.closing ≡ old.closing) where
     last_alike : IsNew cs asked old ⊎ HasLast h cs asked old → IsNew cs asked new ⊎ HasLast h cs asked new
     last_alike (inl n) = inl (record { none = n.none; nothing = n.nothing; waits = consumer ∙ n.waits })
     last_alike (inr l) = inr (record {
@@ -187,7 +191,8 @@ module _ (h : History) (cs : List ℕ) (asked : List WireRequest) where
   none_behind client off (inl none) = none
   none_behind client off (inr is) = absurd (let never : false ≡ true = sym off ∙ is.closing in cc)
 
-  pub owes_read : (client : Client) (reading : Reading) (rest : List ℕ) → client.closing ≡ false → error_answer reading ≡ [] → Owes h cs asked client → Owes h cs asked (read_to reading rest client)
+  pub owes_read : (client : Client) (reading : Reading) (rest : List ℕ) → client.closing ≡ false → error_answer reading ≡ [] → Owes h cs asked client →
+      Owes h cs asked (read_to reading rest client)
   owes_read client reading rest off none o = record {
     owed_is = o.owed_is ∙ ap (λ (t : List ℕ). answers_to asked cs h ++ t) (none_behind client off o.error ∙ sym none);
     error = inl none;
@@ -195,7 +200,8 @@ module _ (h : History) (cs : List ℕ) (asked : List WireRequest) where
   }
 
   -- its error answer stands behind all answers
-  pub owes_refused : (client : Client) (e : MsgError) (rest : List ℕ) → client.closing ≡ false → client.consumer ≡ None → Owes h cs asked client → Owes h cs asked (refused e (read_to (Failed e) rest client))
+  pub owes_refused : (client : Client) (e : MsgError) (rest : List ℕ) → client.closing ≡ false → client.consumer ≡ None → Owes h cs asked client →
+      Owes h cs asked (refused e (read_to (Failed e) rest client))
   owes_refused client e rest off none o =
       let bytes : List ℕ = empty_answer (error_status e) in
       record {
@@ -207,9 +213,22 @@ module _ (h : History) (cs : List ℕ) (asked : List WireRequest) where
         last = by_last o.last;
       }
     where
-      by_last : IsNew cs asked client ⊎ HasLast h cs asked client → IsNew cs asked (refused e (read_to (Failed e) rest client)) ⊎ HasLast h cs asked (refused e (read_to (Failed e) rest client))
+      by_last : IsNew cs asked client ⊎ HasLast h cs asked client →
+          IsNew cs asked (refused e (read_to (Failed e) rest client)) ⊎ HasLast h cs asked (refused e (read_to (Failed e) rest client))
       by_last (inl n) = inl (record { none = n.none; nothing = n.nothing; waits = n.waits })
-      by_last (inr l) = inr (record { ds = l.ds; c = l.c; qs = l.qs; r = l.r; cs_are = l.cs_are; asked_are = l.asked_are; sizes = l.sizes; below = l.below; reply = l.reply; waits = l.waits })
+      by_last (inr l) = inr (record {
+        ds = l.ds;
+        c = l.c;
+        qs = l.qs;
+        r = l.r;
+        cs_are = l.cs_are;
+        asked_are = l.asked_are;
+        sizes = l.sizes;
+        below =
+            l.below;
+        reply = l.reply;
+        waits = l.waits;
+      })
 
   -- as many requests as consumers
   sizes_are : (client : Client) → IsNew cs asked client ⊎ HasLast h cs asked client → length asked ≡ length cs
@@ -225,7 +244,8 @@ module _ (h : History) (cs : List ℕ) (asked : List WireRequest) where
       one_more (q ∷ qs) (d ∷ ds) same = ap suc (one_more qs ds (omega arith))
 
   -- it asks for more, by a consumer that nothing was told to
-  pub owes_asks : (client : Client) (c : ℕ) (r : WireRequest) → client.closing ≡ false → answer_to c h ≡ [] → AreBelow c cs → Owes h cs asked client → Owes h (cs ++ c ∷ []) (asked ++ r ∷ []) (asks c r client)
+  pub owes_asks : (client : Client) (c : ℕ) (r : WireRequest) → client.closing ≡ false → answer_to c h ≡ [] → AreBelow c cs → Owes h cs asked client →
+      Owes h (cs ++ c ∷ []) (asked ++ r ∷ []) (asks c r client)
   owes_asks client c r off unreported below o =
       let same : length asked ≡ length cs = sizes_are client o.last in
       record {

@@ -40,7 +40,8 @@ unfolding turned
 turn_part limits dialled call p =
     let h = happened limits (so_far p dialled) call (begun call p) in
     let s : IsPart p.history (max p.moment call.moment) h =
-    happened_keeps limits (PartOn p.history (max p.moment call.moment)) (parts_on limits p.history (max p.moment call.moment)) (so_far p dialled) call (begun call p)
+    happened_keeps limits (PartOn p.history (max p.moment call.moment)) (parts_on limits p.history (max p.moment call.moment)) (so_far p dialled) call
+    (begun call p)
     (record { first = refl; moment = refl; at = tt }) in
     let same = carried_is_same h in
     record {

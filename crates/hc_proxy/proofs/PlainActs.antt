@@ -51,7 +51,8 @@ once_plain (act.Evicted r ∷ acts) t once h = once_plain acts t once h
 abbrev StaysOr : Tables → Tables → List Act → Type 0
 StaysOr t u ys = (x : ℕ) → is_open (t.exchange x) ≡ true → (is_open (u.exchange x) ≡ true) ⊎ (closes_in x ys ≡ true)
 
-still_plain : (t u : Tables) (x : ℕ) (xs ys : List Act) → StaysOr t u ys → (is_open (t.exchange x) ≡ true) ⊎ (closes_in x xs ≡ true) → (is_open (u.exchange x) ≡ true) ⊎ (closes_in x (xs ++ ys) ≡ true)
+still_plain : (t u : Tables) (x : ℕ) (xs ys : List Act) → StaysOr t u ys → (is_open (t.exchange x) ≡ true) ⊎ (closes_in x xs ≡ true) →
+    (is_open (u.exchange x) ≡ true) ⊎ (closes_in x (xs ++ ys) ≡ true)
 still_plain t u x xs ys stays (inr closes) = inr (closes_both x xs ys ∙ or_left _ _ closes)
 still_plain t u x xs ys stays (inl on) = elim (stays x on) as (λ _. (is_open (u.exchange x) ≡ true) ⊎ (closes_in x (xs ++ ys) ≡ true)) [
   | inl now ↦ inl now
@@ -94,7 +95,8 @@ quiet_plain (act.Evicted r ∷ acts) t h = quiet_plain acts t h
 denied_once : (acts : List Act) → IsDenied acts → OpenOnce acts
 denied_once _ (denied refusal) = tt
 
-module _ (limits : Limits) (p : Proxy) (s : Stands limits p) (e : Entry) (is : IsOwed limits p.tables e) (law : Lawful (after p.tables e)) (asked : RequestsAreForTargets (after p.tables e)) where
+module _ (limits : Limits) (p : Proxy) (s : Stands limits p) (e : Entry) (is : IsOwed limits p.tables e) (law : Lawful (after p.tables e))
+    (asked : RequestsAreForTargets (after p.tables e)) where
   -- the row of what is opened
   new_row : (o : Opening) → opening_in e.acts ≡ Some o → (after p.tables e).exchange o.x ≡ Some (exchange_opened p.tables e o)
   unfolding after exchange_after
@@ -127,5 +129,6 @@ module _ (limits : Limits) (p : Proxy) (s : Stands limits p) (e : Entry) (is : I
       stays : StaysOr p.tables (after p.tables e) e.acts
       stays x on = elim (stays_open p.tables e x on) as (λ _. (is_open ((after p.tables e).exchange x) ≡ true) ⊎ (closes_in x e.acts ≡ true)) [
         | inl now ↦ inl now
-        | inr other ↦ elim other as (λ _. (is_open ((after p.tables e).exchange x) ≡ true) ⊎ (closes_in x e.acts ≡ true)) [ inl closes ↦ inr closes | inr stops ↦ absurd (none x stops) ]
+        | inr other ↦ elim other as (λ _. (is_open ((after p.tables e).exchange x) ≡ true) ⊎ (closes_in x e.acts ≡ true))
+            [ inl closes ↦ inr closes | inr stops ↦ absurd (none x stops) ]
       ]

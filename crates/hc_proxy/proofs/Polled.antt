@@ -13,7 +13,8 @@ use Rattle.hc_proxy.proofs.{ServedActs.{IsReceived, ReportsUp, UpBy}, SkippedSte
 
 -- LISTS OF ACTS
 
-up_less : (o : Option ℕ) (acts : List Act) (m n : ℕ) → m ≤ n → UpBy o n (λ l. ReportsUp l acts) → ((l k : ℕ) → l ≤ k → ReportsUp k acts → ReportsUp l acts) → UpBy o m (λ l. ReportsUp l acts)
+up_less : (o : Option ℕ) (acts : List Act) (m n : ℕ) → m ≤ n → UpBy o n (λ l. ReportsUp l acts) →
+    ((l k : ℕ) → l ≤ k → ReportsUp k acts → ReportsUp l acts) → UpBy o m (λ l. ReportsUp l acts)
 up_less None acts m n le up rest = rest m n le up
 up_less (Some c) acts m n le up rest = let at : n ≤ c = up.0 in (omega arith, up.1)
 
@@ -25,7 +26,8 @@ reports_less (a ∷ acts) m n le up = up_less (addressee a) acts m n le up (λ l
 abbrev pub ReportsBelow : ℕ → List Act → Type 0
 ReportsBelow m acts = (c : ℕ) → IsReceived c acts → c + 1 ≤ m
 
-join_by : (a : Act) (o : Option ℕ) (xs ys : List Act) (n m : ℕ) → addressee a ≡ o → UpBy o n (λ l. ReportsUp l xs) → ReportsBelow m (a ∷ xs) → n ≤ m → ReportsUp m ys → ((l : ℕ) → ReportsUp l xs → l ≤ m → ReportsUp l (xs ++ ys)) → UpBy o n (λ l. ReportsUp l (xs ++ ys))
+join_by : (a : Act) (o : Option ℕ) (xs ys : List Act) (n m : ℕ) → addressee a ≡ o → UpBy o n (λ l. ReportsUp l xs) → ReportsBelow m (a ∷ xs) → n ≤ m →
+    ReportsUp m ys → ((l : ℕ) → ReportsUp l xs → l ≤ m → ReportsUp l (xs ++ ys)) → UpBy o n (λ l. ReportsUp l (xs ++ ys))
 join_by a None xs ys n m to up below le rest go = go n up le
 join_by a (Some c) xs ys n m to up below le rest go = (up.0, go (c + 1) up.1 (below c (inl to)))
 
@@ -37,7 +39,8 @@ reports_both (a ∷ xs) ys n m up below le rest =
 pub reported_either : (xs ys : List Act) (c : ℕ) → IsReceived c (xs ++ ys) → IsReceived c xs ⊎ IsReceived c ys
 reported_either [] ys c reported = inr reported
 reported_either (a ∷ xs) ys c (inl to) = inl (inl to)
-reported_either (a ∷ xs) ys c (inr reported) = elim (reported_either xs ys c reported) as (λ _. IsReceived c (a ∷ xs) ⊎ IsReceived c ys) [ inl first ↦ inl (inr first) | inr second ↦ inr second ]
+reported_either (a ∷ xs) ys c (inr reported) =
+    elim (reported_either xs ys c reported) as (λ _. IsReceived c (a ∷ xs) ⊎ IsReceived c ys) [ inl first ↦ inl (inr first) | inr second ↦ inr second ]
 
 -- ACTS OF ONE POLL
 
@@ -56,7 +59,8 @@ addressed_reported (act.Lost r kind) c h = absurd (let never : None ≡ Some c =
 addressed_reported (act.Evicted r) c h = absurd (let never : None ≡ Some c = h in cc)
 
 -- of acts that tell c one thing at most, nobody else is sent anything
-first_said : (a : Act) (acts : List Act) (c d : ℕ) → ((IsOneTo c (consumer_acts acts)) → IsReceived d acts → d ≡ c) → (b : Bool) → is_some (recipient a) ≡ b → IsOneTo c (if b then a ∷ consumer_acts acts else consumer_acts acts) → (addressee a ≡ Some d) ⊎ IsReceived d acts → d ≡ c
+first_said : (a : Act) (acts : List Act) (c d : ℕ) → ((IsOneTo c (consumer_acts acts)) → IsReceived d acts → d ≡ c) → (b : Bool) →
+    is_some (recipient a) ≡ b → IsOneTo c (if b then a ∷ consumer_acts acts else consumer_acts acts) → (addressee a ≡ Some d) ⊎ IsReceived d acts → d ≡ c
 first_said a acts c d rest false is single (inl to) =
     absurd (let no : is_some (recipient a) ≡ true = ap is_some (addressed_reported a d to) in let never : true ≡ false = sym no ∙ is in cc)
 first_said a acts c d rest false is single (inr reported) = rest single reported
@@ -79,7 +83,8 @@ only_one [] c d single reported = absurd reported
 only_one (a ∷ acts) c d single reported = first_said a acts c d (λ o t. only_one acts c d o t) (is_some (recipient a)) refl single reported
 
 -- and they stand in order alone
-up_alone : (a : Act) (acts : List Act) (c n : ℕ) → n ≤ c → IsOneTo c (consumer_acts (a ∷ acts)) → ((IsOneTo c (consumer_acts acts)) → ReportsUp n acts) → (consumer_acts acts ≡ [] → ReportsUp (c + 1) acts) → (o : Option ℕ) → addressee a ≡ o → UpBy o n (λ m. ReportsUp m acts)
+up_alone : (a : Act) (acts : List Act) (c n : ℕ) → n ≤ c → IsOneTo c (consumer_acts (a ∷ acts)) → ((IsOneTo c (consumer_acts acts)) → ReportsUp n acts) →
+    (consumer_acts acts ≡ [] → ReportsUp (c + 1) acts) → (o : Option ℕ) → addressee a ≡ o → UpBy o n (λ m. ReportsUp m acts)
 up_alone a acts c n le single rest none None to = by_reporting (is_some (recipient a)) refl single
   where
     by_one : (xs : List Act) → xs ≡ a ∷ consumer_acts acts → IsOneTo c xs → ReportsUp n acts
@@ -104,15 +109,19 @@ up_alone a acts c n le single rest none (Some d) to = by_reporting (is_some (rec
         let number : d ≡ c = some_is d c (sym (addressed_reported a d to) ∙ (sym (ap recipient here) ∙ to_c)) in
         (omega arith, subst (λ m. ReportsUp (m + 1) acts) (sym number) (none empty))
 
-    by_reporting : (b : Bool) → is_some (recipient a) ≡ b → IsOneTo c (if b then a ∷ consumer_acts acts else consumer_acts acts) → (n ≤ d) × ReportsUp (d + 1) acts
+    by_reporting : (b : Bool) → is_some (recipient a) ≡ b → IsOneTo c (if b then a ∷ consumer_acts acts else consumer_acts acts) → (n ≤ d) ×
+        ReportsUp (d + 1) acts
     by_reporting true is one_to = by_one (a ∷ consumer_acts acts) refl one_to
-    by_reporting false is one_to = absurd (let yes : is_some (recipient a) ≡ true = ap is_some (addressed_reported a d to) in let never : true ≡ false = sym yes ∙ is in cc)
+    by_reporting false is one_to =
+        absurd (let yes : is_some (recipient a) ≡ true = ap is_some (addressed_reported a d to) in let never : true ≡ false = sym yes ∙ is in cc)
 
 -- nobody is sent anything by acts that tell nobody
-silent_by : (a : Act) (acts : List Act) (n : ℕ) → (consumer_acts acts ≡ [] → ReportsUp n acts) → (b : Bool) → is_some (recipient a) ≡ b → (if b then a ∷ consumer_acts acts else consumer_acts acts) ≡ [] → (o : Option ℕ) → addressee a ≡ o → UpBy o n (λ m. ReportsUp m acts)
+silent_by : (a : Act) (acts : List Act) (n : ℕ) → (consumer_acts acts ≡ [] → ReportsUp n acts) → (b : Bool) → is_some (recipient a) ≡ b →
+    (if b then a ∷ consumer_acts acts else consumer_acts acts) ≡ [] → (o : Option ℕ) → addressee a ≡ o → UpBy o n (λ m. ReportsUp m acts)
 silent_by a acts n rest true is none o to = absurd (let never : a ∷ consumer_acts acts ≡ [] = none in cc)
 silent_by a acts n rest false is none None to = rest none
-silent_by a acts n rest false is none (Some d) to = absurd (let yes : is_some (recipient a) ≡ true = ap is_some (addressed_reported a d to) in let never : true ≡ false = sym yes ∙ is in cc)
+silent_by a acts n rest false is none (Some d) to =
+    absurd (let yes : is_some (recipient a) ≡ true = ap is_some (addressed_reported a d to) in let never : true ≡ false = sym yes ∙ is in cc)
 
 pub silent_up : (acts : List Act) (n : ℕ) → consumer_acts acts ≡ [] → ReportsUp n acts
 silent_up [] n none = tt
@@ -134,7 +143,8 @@ pub record IsPollOf (limits : Limits) (p : Proxy) (e : Entry) (c : ℕ) : Type 0
 pub data PollsBy (limits : Limits) (call : Called) : List ℕ → Proxy → Proxy → Type 0 where
   over : (p : Proxy) → PollsBy limits call [] p p
   skips : (c : ℕ) (cs : List ℕ) (p q : Proxy) → may_be_polled call p (p.holder c) ≡ false → PollsBy limits call cs p q → PollsBy limits call (c ∷ cs) p q
-  polls : (c : ℕ) (cs : List ℕ) (p q : Proxy) (e : Entry) → may_be_polled call p (p.holder c) ≡ true → IsPollOf limits p e c → PollsBy limits call cs (with_entry e p) q → PollsBy limits call (c ∷ cs) p q
+  polls : (c : ℕ) (cs : List ℕ) (p q : Proxy) (e : Entry) → may_be_polled call p (p.holder c) ≡ true → IsPollOf limits p e c →
+      PollsBy limits call cs (with_entry e p) q → PollsBy limits call (c ∷ cs) p q
 
 module _ (limits : Limits) (call : Called) where
   -- the tables are those of a run behind an entry that is owed, too
@@ -172,12 +182,14 @@ module _ (limits : Limits) (call : Called) where
       either true b g = refl
       either false b g = g
 
-  after_poll : (c n : ℕ) (cs : List ℕ) (p q : Proxy) (e : Entry) → n ≤ c → may_be_polled call p (p.holder c) ≡ true → Stands limits p → IsPollOf limits p e c → Adds (c + 1) cs (with_entry e p) q → Adds n (c ∷ cs) p q
+  after_poll : (c n : ℕ) (cs : List ℕ) (p q : Proxy) (e : Entry) → n ≤ c → may_be_polled call p (p.holder c) ≡ true → Stands limits p →
+      IsPollOf limits p e c → Adds (c + 1) cs (with_entry e p) q → Adds n (c ∷ cs) p q
   unfolding with_entry
   after_poll c n cs p q e le polled s is rest = record {
     more = e.acts ++ rest.more;
     acts = rest.acts ∙ append_assoc (acts_in p.part) e.acts rest.more;
-    up = reports_both e.acts rest.more n (c + 1) (one_up e.acts c n le (reports_one p e c s is)) (λ d reported. let same : d ≡ c = only_one e.acts c d (reports_one p e c s is) reported in omega arith) (omega arith) rest.up;
+    up = reports_both e.acts rest.more n (c + 1) (one_up e.acts c n le (reports_one p e c s is))
+        (λ d reported. let same : d ≡ c = only_one e.acts c d (reports_one p e c s is) reported in omega arith) (omega arith) rest.up;
     polled = λ d reported. elim (reported_either e.acts rest.more d reported) as (λ _. (among d (c ∷ cs) ≡ true) × (may_be_polled call p (p.holder d) ≡ true)) [
       | inl first ↦ (let same : c ≡ d = sym (only_one e.acts c d (reports_one p e c s is) first) in
           (subst (λ m. among m (c ∷ cs) ≡ true) same (first_among c cs), subst (λ m. may_be_polled call p (p.holder m) ≡ true) same polled))

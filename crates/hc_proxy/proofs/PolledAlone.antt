@@ -21,7 +21,8 @@ none_to : (c : ℕ) (acts : List Act) → consumer_acts acts ≡ [] → AreTo c 
 none_to c [] none = tt
 none_to c (a ∷ acts) none = by_reported (recipient a) refl (none_to c acts) none
   where
-    by_reported : (o : Option ℕ) → recipient a ≡ o → (consumer_acts acts ≡ [] → AreTo c acts) → (if is_some o then a ∷ consumer_acts acts else consumer_acts acts) ≡ [] → AreTo c (a ∷ acts)
+    by_reported : (o : Option ℕ) → recipient a ≡ o → (consumer_acts acts ≡ [] → AreTo c acts) →
+        (if is_some o then a ∷ consumer_acts acts else consumer_acts acts) ≡ [] → AreTo c (a ∷ acts)
     by_reported None at later rest = (λ d says. absurd (let never : None ≡ Some d = sym at ∙ says in cc), later rest)
     by_reported (Some d) at later rest = absurd (let never : (a ∷ consumer_acts acts) ≡ [] = rest in cc)
 
@@ -29,7 +30,8 @@ one_to : (c : ℕ) (acts : List Act) → IsOneTo c (consumer_acts acts) → AreT
 one_to c [] is = tt
 one_to c (a ∷ acts) is = by_reported (recipient a) refl (one_to c acts) is
   where
-    by_reported : (o : Option ℕ) → recipient a ≡ o → (IsOneTo c (consumer_acts acts) → AreTo c acts) → IsOneTo c (if is_some o then a ∷ consumer_acts acts else consumer_acts acts) → AreTo c (a ∷ acts)
+    by_reported : (o : Option ℕ) → recipient a ≡ o → (IsOneTo c (consumer_acts acts) → AreTo c acts) →
+        IsOneTo c (if is_some o then a ∷ consumer_acts acts else consumer_acts acts) → AreTo c (a ∷ acts)
     by_reported None at later rest = (λ d says. absurd (let never : None ≡ Some d = sym at ∙ says in cc), later rest)
     by_reported (Some d) at later rest =
         let first = one_first c a (consumer_acts acts) rest in

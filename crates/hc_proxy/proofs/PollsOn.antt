@@ -22,10 +22,12 @@ use Rattle.hc_proxy.proofs.Polled as by
 -- POLLS, one more
 
 module _ (limits : Limits) (call : Called) where
-  polls_more : (cs : List ℕ) (c : ℕ) (p q : Proxy) (e : Entry) → PollsBy limits call cs p q → may_be_polled call q (q.holder c) ≡ true → IsPollOf limits q e c → PollsBy limits call (cs ++ c ∷ []) p (with_entry e q)
+  polls_more : (cs : List ℕ) (c : ℕ) (p q : Proxy) (e : Entry) → PollsBy limits call cs p q → may_be_polled call q (q.holder c) ≡ true →
+      IsPollOf limits q e c → PollsBy limits call (cs ++ c ∷ []) p (with_entry e q)
   polls_more _ c p _ e (by.over _) may is = by.polls c [] p (with_entry e p) e may is (by.over (with_entry e p))
   polls_more _ c p q e (by.skips d cs _ _ off rest) may is = by.skips d (cs ++ c ∷ []) p (with_entry e q) off (polls_more cs c p q e rest may is)
-  polls_more _ c p q e (by.polls d cs _ _ f on made rest) may is = by.polls d (cs ++ c ∷ []) p (with_entry e q) f on made (polls_more cs c (with_entry f p) q e rest may is)
+  polls_more _ c p q e (by.polls d cs _ _ f on made rest) may is =
+      by.polls d (cs ++ c ∷ []) p (with_entry e q) f on made (polls_more cs c (with_entry f p) q e rest may is)
 
   each_more : (cs : List ℕ) (c : ℕ) (p : Proxy) → each_polled limits call (cs ++ c ∷ []) p ≡ polled limits call c (each_polled limits call cs p)
   each_more [] c p = refl
@@ -147,7 +149,9 @@ module _ {B : Type 0} {g : Ghosts B} where
     same = λ none. refl;
   }
 
-  pub polls_next : (t : Turn) (old x x' : loop.Proxy B g) (p : Proxy) (cs : List ℕ) (c : ℕ) → may_be_polled t.call p (p.holder c) ≡ true → PollsTo t old x p cs → ((q : Proxy) → Keeps t x q → PolledBy t.frame x x' c q) → RestStays x x' → steps x'.cache ≡ steps x.cache + 1 → PollsTo t old x' p (cs ++ c ∷ [])
+  pub polls_next : (t : Turn) (old x x' : loop.Proxy B g) (p : Proxy) (cs : List ℕ) (c : ℕ) → may_be_polled t.call p (p.holder c) ≡ true →
+      PollsTo t old x p cs → ((q : Proxy) → Keeps t x q → PolledBy t.frame x x' c q) → RestStays x x' → steps x'.cache ≡ steps x.cache + 1 →
+      PollsTo t old x' p (cs ++ c ∷ [])
   unfolding with_entry
   polls_next t old x x' p cs c may to polls rest count =
       let q = to.q in
@@ -158,7 +162,8 @@ module _ {B : Type 0} {g : Ghosts B} where
       let may_q : may_be_polled t.call q (q.holder c) ≡ true =
       ap (λ (f : ℕ → Option ℕ). may_be_polled t.call q (f c)) to.holders ∙ (may_alike t.frame.limits t.call p q to.clients (p.holder c) ∙ may) in
       let consumers : HasConsumers (with_entry s.e q) =
-      entry_keeps t.frame.limits q s.e law s.is_owed to.keeps.consumers (λ d at. no_cancel c d s.e.event s.event_is at) (λ d at. no_start c d s.e.event s.event_is at) in
+      entry_keeps t.frame.limits q s.e law s.is_owed to.keeps.consumers (λ d at. no_cancel c d s.e.event s.event_is at)
+      (λ d at. no_start c d s.e.event s.event_is at) in
       let waits : is_poll s.e.event ≡ true = ap is_poll s.event_is in
       let number : q.starts ≤ steps x.cache = to.keeps.numbers in
       let counted : steps x'.cache ≡ steps x.cache + 1 = count in
@@ -166,7 +171,9 @@ module _ {B : Type 0} {g : Ghosts B} where
       let behind : faults_in x.cache ≤ faults_in x'.cache = s.later in
       record {
         q = with_entry s.e q;
-        keeps = keeps_on t x x' (event.Poll c 16384) q (stands_of t.frame x q h) h.unopened to.keeps.acts to.keeps.clients to.keeps.upstreams to.keeps.wire to.keeps.seen to.keeps.shut to.keeps.known s rest (λ y at. no_stop c y s.e.event s.event_is at) consumers (omega arith) (let le : q.tables.opened ≤ steps x.cache = to.keeps.opened in omega arith);
+        keeps = keeps_on t x x' (event.Poll c 16384) q (stands_of t.frame x q h) h.unopened to.keeps.acts to.keeps.clients to.keeps.upstreams
+            to.keeps.wire to.keeps.seen to.keeps.shut to.keeps.known s rest (λ y at. no_stop c y s.e.event s.event_is at) consumers (omega arith)
+            (let le : q.tables.opened ≤ steps x.cache = to.keeps.opened in omega arith);
         moved =
             made.moved ∙ (ap (λ (b : Bool). b || not (pends s.e.acts)) to.moved
             ∙ (moved_more (list_all is_waiting q.part) (pends s.e.acts)
@@ -208,7 +215,8 @@ module _ {B : Type 0} {g : Ghosts B} where
     at_by c (Some i) at there = record { j = i; holder = holder_of t x p k.quiet.keeps.clients c i at }
 
     at_of : (c : ℕ) → among c round ≡ true → IsAt c
-    at_of c there = at_by c (tree.get nat_cmp x.clients.live c) refl (sym (lives_among x.clients c) ∙ (passed_among (peers.takes_more x.clients) c (consumers_of x.clients) there).0)
+    at_of c there = at_by c (tree.get nat_cmp x.clients.live c) refl
+        (sym (lives_among x.clients c) ∙ (passed_among (peers.takes_more x.clients) c (consumers_of x.clients) there).0)
 
     pub round_live : (c : ℕ) → among c round ≡ true → is_live (p.tables.consumer c) ≡ true
     round_live c there =
@@ -229,7 +237,9 @@ module _ {B : Type 0} {g : Ghosts B} where
     round_started c there = let a = at_of c there in k.quiet.keeps.consumers.started a.j c a.holder
 
     -- no more are polled than clients are here
-    pub round_few : (count : ℕ) → ((ks : List ℕ) → IsStrictlySortedBy nat_cmp ks → ((j : ℕ) → Contains ks j ↔ IsSome (client_of x.clients j)) → count ≡ length ks) → length (consumers_of x.clients) ≤ count → length round ≤ 512
+    pub round_few : (count : ℕ) →
+        ((ks : List ℕ) → IsStrictlySortedBy nat_cmp ks → ((j : ℕ) → Contains ks j ↔ IsSome (client_of x.clients j)) → count ≡ length ks) →
+        length (consumers_of x.clients) ≤ count → length round ≤ 512
     round_few count all few =
         let h = k.quiet.keeps.clients in
         let same : count ≡ length (clients_here p) = all (clients_here p) (here_order t x p h) (just_here t x p h) in
@@ -245,7 +255,8 @@ module _ {B : Type 0} {g : Ghosts B} where
         ap (may_be_polled t.call p) (k.quiet.keeps.consumers.held w.0 c w.1) ∙ sym (taking_is t x p k.quiet.keeps.clients w.0 c w.1) in
         by_test w.0 w.1 at (peers.takes_more x.clients c) refl
       where
-        by_test : (j : ℕ) → IsHolder p j c → may_be_polled t.call p (p.holder c) ≡ peers.takes_more x.clients c → (b : Bool) → peers.takes_more x.clients c ≡ b → may_be_polled t.call p (p.holder c) ≡ false
+        by_test : (j : ℕ) → IsHolder p j c → may_be_polled t.call p (p.holder c) ≡ peers.takes_more x.clients c → (b : Bool) →
+            peers.takes_more x.clients c ≡ b → may_be_polled t.call p (p.holder c) ≡ false
         by_test j w at false is = at ∙ is
         by_test j w at true is =
             let listed : among c (consumers_of x.clients) ≡ true = lives_among x.clients c ∙ ap is_some (live_at t x p k.quiet.keeps.clients j c w) in
@@ -253,13 +264,15 @@ module _ {B : Type 0} {g : Ghosts B} where
             absurd (cc)
 
     none_else : (c : ℕ) → among c round ≡ true → among c (live_consumers p.tables) ≡ false → IsUnpolled t.frame.limits t.call p c
-    none_else c there off = absurd (let never : true ≡ false = sym (lives_are p.tables (law_of t.frame x p k.quiet.keeps.cache) c ∙ round_live c there) ∙ off in cc)
+    none_else c there off = absurd (let never : true ≡ false = sym (lives_are p.tables (law_of t.frame x p k.quiet.keeps.cache) c ∙ round_live c there) ∙
+        off in cc)
 
     same_polls : each_polled t.frame.limits t.call round p ≡ polled_all t.frame.limits t.call p
     unfolding polled_all
     same_polls =
         polls_are_each t.frame.limits t.call round p
-        ∙ (same_each (polled_one t.frame.limits t.call) (λ z. Unit {0}) (IsUnpolled t.frame.limits t.call) (unpolled_skipped t.frame.limits t.call) round (live_consumers p.tables) 0 0 round_up
+        ∙ (same_each (polled_one t.frame.limits t.call) (λ z. Unit {0}) (IsUnpolled t.frame.limits t.call) (unpolled_skipped t.frame.limits t.call) round
+        (live_consumers p.tables) 0 0 round_up
         (lives_ascend p.tables (law_of t.frame x p k.quiet.keeps.cache)) p tt none_else others_idle
         ∙ sym (polls_are_each t.frame.limits t.call (live_consumers p.tables) p))
 
@@ -278,7 +291,8 @@ module _ {B : Type 0} {g : Ghosts B} where
         shut = λ y closes. (to.keeps.shut y closes).0;
         plain = to.plain;
         undialled = λ y past.
-            let all : length t.dialled ≡ p.tables.opened = quiet_up (acts_in p.part) (length t.dialled) p.tables.opened k.quiet.quiet k.quiet.keeps.upstreams.opens in
+            let all : length t.dialled ≡ p.tables.opened =
+            quiet_up (acts_in p.part) (length t.dialled) p.tables.opened k.quiet.quiet k.quiet.keeps.upstreams.opens in
             ap (λ (f : ℕ → Option Upstream). f y) to.upstreams ∙ k.quiet.keeps.cache.unopened y (omega arith);
         known = to.keeps.known;
       };
@@ -288,10 +302,13 @@ module _ {B : Type 0} {g : Ghosts B} where
 
   -- WHERE SOME TABLES STAND
 
-  pub few_of : (x : loop.Proxy B g) → ∥ IsHeard x ∥₁ → IsStrictlySortedBy nat_cmp (consumers_of x.clients) → (count : ℕ) → ((ks : List ℕ) → IsStrictlySortedBy nat_cmp ks → ((j : ℕ) → Contains ks j ↔ IsSome (client_of x.clients j)) → count ≡ length ks) → length (consumers_of x.clients) ≤ count → length (filter (peers.takes_more x.clients) (consumers_of x.clients)) ≤ 512
+  pub few_of : (x : loop.Proxy B g) → ∥ IsHeard x ∥₁ → IsStrictlySortedBy nat_cmp (consumers_of x.clients) → (count : ℕ) →
+      ((ks : List ℕ) → IsStrictlySortedBy nat_cmp ks → ((j : ℕ) → Contains ks j ↔ IsSome (client_of x.clients j)) → count ≡ length ks) →
+      length (consumers_of x.clients) ≤ count → length (filter (peers.takes_more x.clients) (consumers_of x.clients)) ≤ 512
   few_of x some order count all few = ∥∥₁_elim some le_prop (λ s. round_few s.0 x s.1 s.2 order count all few)
 
-  pub small_of : (x : loop.Proxy B g) → ∥ IsHeard x ∥₁ → IsStrictlySortedBy nat_cmp (consumers_of x.clients) → (c : ℕ) → among c (filter (peers.takes_more x.clients) (consumers_of x.clients)) ≡ true → c ≤ steps x.cache
+  pub small_of : (x : loop.Proxy B g) → ∥ IsHeard x ∥₁ → IsStrictlySortedBy nat_cmp (consumers_of x.clients) → (c : ℕ) →
+      among c (filter (peers.takes_more x.clients) (consumers_of x.clients)) ≡ true → c ≤ steps x.cache
   small_of x some order c there = ∥∥₁_elim some le_prop (λ s.
       let a : c ≤ s.1.starts = round_started s.0 x s.1 s.2 order c there in
       let b : s.1.starts ≤ steps x.cache = s.2.quiet.keeps.numbers in

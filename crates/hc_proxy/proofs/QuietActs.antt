@@ -62,7 +62,8 @@ module _ (limits : Limits) (t : Tables) where
   pub is_quiet_entry : (e : Entry) → IsOwed limits t e → is_poll e.event ≡ false → AreQuiet e.acts
   unfolding answer
   is_quiet_entry e o h =
-      subst AreQuiet (sym o.acts) (by_denial (denial t e.event) (accepted_acts limits t e.now e.event (flaw_in e.acts)) (accepted e.now e.event (flaw_in e.acts) h))
+      subst AreQuiet (sym o.acts)
+      (by_denial (denial t e.event) (accepted_acts limits t e.now e.event (flaw_in e.acts)) (accepted e.now e.event (flaw_in e.acts) h))
 
 -- WHAT SUCH ACTS DON'T SAY
 

@@ -9,11 +9,13 @@ use Rattle.hc_proxy.specs.{Asked.{got_from}, Connections.{connection_of}, Rows.{
 use Rattle.hc_proxy.proofs.{DialsHeard.{came_by, is_end, IsCutBy}, HeardRows.{IsHeard, IsEnd, HasEnds, HasHeard, turns_on}}
 
 module _ (limits : Limits) (log : Log) (x : ℕ) where
-  is_sent : (v : Upstream) (tokens : List Token) → IsHeard limits log.dialled x (so_far (behind_all limits log) log.dialled) log.calls v tokens → IsReceived limits log x tokens
+  is_sent : (v : Upstream) (tokens : List Token) → IsHeard limits log.dialled x (so_far (behind_all limits log) log.dialled) log.calls v tokens →
+      IsReceived limits log x tokens
   is_sent v tokens r = by_connection (connection_of log.dialled x) refl r.sent
     where
       by_connection : (o : Option ℕ) → connection_of log.dialled x ≡ o → HasSent v.no_body (came_by o r.behind) tokens → IsReceived limits log x tokens
-      by_connection None at s = nothing (subst (λ (xs : List ℕ). Leads (heading (Responses v.no_body)) xs tokens s.reading) (front_nil s.front s.rest s.whole) s.reads).0
+      by_connection None at s =
+          nothing (subst (λ (xs : List ℕ). Leads (heading (Responses v.no_body)) xs tokens s.reading) (front_nil s.front s.rest s.whole) s.reads).0
       by_connection (Some k) at s = since (record {
         call = r.opens.call;
         p = turned_by limits log.dialled r.opens.before unused;
@@ -32,15 +34,18 @@ module _ (limits : Limits) (log : Log) (x : ℕ) where
       nobody : (sent : HasSent n.no_body [] tokens) → (sent.reading ≡ Whole) ⊎ IsCutBy None n.behind sent.front sent.reading → ⊥
       nobody sent (inr c) = never_true c.over
       nobody sent (inl whole) =
-          let leads : Leads (heading (Responses n.no_body)) [] tokens sent.reading = subst (λ (xs : List ℕ). Leads (heading (Responses n.no_body)) xs tokens sent.reading) (front_nil sent.front sent.rest sent.whole) sent.reads in
+          let leads : Leads (heading (Responses n.no_body)) [] tokens sent.reading =
+          subst (λ (xs : List ℕ). Leads (heading (Responses n.no_body)) xs tokens sent.reading) (front_nil sent.front sent.rest sent.whole) sent.reads in
           let never : heading (Responses n.no_body) ≡ Whole = sym leads.1 ∙ whole in
           cc
 
-      by_close : (k : ℕ) (front : List ℕ) (reading : Reading) → (reading ≡ Whole) ⊎ IsCutBy (Some k) n.behind front reading → (reading ≡ Whole) ⊎ IsClosed k n.behind front reading
+      by_close : (k : ℕ) (front : List ℕ) (reading : Reading) → (reading ≡ Whole) ⊎ IsCutBy (Some k) n.behind front reading →
+          (reading ≡ Whole) ⊎ IsClosed k n.behind front reading
       by_close k front reading (inl whole) = inl whole
       by_close k front reading (inr c) = inr (record { until = c.first; later = c.last; calls_are = c.calls_are; over = c.over; all = c.all; ends = c.ends })
 
-      by_connection : (o : Option ℕ) → connection_of log.dialled x ≡ o → (sent : HasSent n.no_body (came_by o n.behind) tokens) → (sent.reading ≡ Whole) ⊎ IsCutBy o n.behind sent.front sent.reading → IsWhole limits log x tokens
+      by_connection : (o : Option ℕ) → connection_of log.dialled x ≡ o → (sent : HasSent n.no_body (came_by o n.behind) tokens) →
+          (sent.reading ≡ Whole) ⊎ IsCutBy o n.behind sent.front sent.reading → IsWhole limits log x tokens
       by_connection None at sent whole = absurd (nobody sent whole)
       by_connection (Some k) at sent whole = record {
         reported = record {
@@ -51,17 +56,26 @@ module _ (limits : Limits) (log : Log) (x : ℕ) where
           opened = n.opens.opens;
           k = k;
           connection = at;
-          sent = record { front = sent.front; rest = sent.rest; reading = sent.reading; whole = sent.whole; reads = subst (λ (b : Bool). Leads (heading (Responses b)) sent.front tokens sent.reading) n.opens.kind sent.reads };
+          sent = record {
+            front = sent.front;
+            rest = sent.rest;
+            reading = sent.reading;
+            whole = sent.whole;
+            reads =
+                subst (λ (b : Bool). Leads (heading (Responses b)) sent.front tokens sent.reading) n.opens.kind sent.reads;
+          };
         };
         whole = by_close k sent.front sent.reading whole;
       }
 
   -- each end among the events
-  end_at : (later earlier : History) (e : Entry) → HasEnds limits log.dialled x log.calls (later ++ e ∷ earlier) → is_end x e.event ≡ true → IsEnd limits log.dialled x log.calls (received_of x earlier)
+  end_at : (later earlier : History) (e : Entry) → HasEnds limits log.dialled x log.calls (later ++ e ∷ earlier) → is_end x e.event ≡ true →
+      IsEnd limits log.dialled x log.calls (received_of x earlier)
   end_at [] earlier e ends on = ends.0 on
   end_at (d ∷ later) earlier e ends on = end_at later earlier e ends.1 on
 
-  is_reported : (o : Option Upstream) (tokens : List Token) → HasHeard limits log.dialled x (so_far (behind_all limits log) log.dialled) log.calls o tokens → IsReceived limits log x tokens
+  is_reported : (o : Option Upstream) (tokens : List Token) →
+      HasHeard limits log.dialled x (so_far (behind_all limits log) log.dialled) log.calls o tokens → IsReceived limits log x tokens
   is_reported None tokens row = nothing row
   is_reported (Some v) tokens row = is_sent v tokens row
 

@@ -57,7 +57,8 @@ number_within y k dialled is = by_test (nat_eq y 0) refl is
 
 -- BEFORE THE OFFERS
 
-known_at : (log : Log) (taken k : ℕ) (o : Option peer.Client) (r : Option Client) → ((c : peer.Client) → o ≡ Some c → taken ≡ taken_in log k) → IsClientAt taken o r → IsKnownAt log k o r
+known_at : (log : Log) (taken k : ℕ) (o : Option peer.Client) (r : Option Client) → ((c : peer.Client) → o ≡ Some c → taken ≡ taken_in log k) →
+    IsClientAt taken o r → IsKnownAt log k o r
 known_at log taken k None None same is = tt
 known_at log taken k None (Some r) same is = inl is
 known_at log taken k (Some c) None same is = is
@@ -89,13 +90,17 @@ module _ {B : Type 0} {g : Ghosts B} where
       ∙ (ap (λ a. let z : loop.Proxy B g = record y { cache = x'.cache; «record» = x'.record; acts = a } in z) (sym o.acts)
       ∙ (ap (λ n. let z : loop.Proxy B g = record y { cache = x'.cache; «record» = x'.record; acts = x'.acts; now = n } in z) (sym o.now)
       ∙ (ap (λ n. let z : loop.Proxy B g = record y { cache = x'.cache; «record» = x'.record; acts = x'.acts; now = x'.now; starts = n } in z) (sym o.starts)
-      ∙ (ap (λ b. let z : loop.Proxy B g = record y { cache = x'.cache; «record» = x'.record; acts = x'.acts; now = x'.now; starts = x'.starts; moved = b } in z) (sym o.moved)
-      ∙ ap (λ c. let z : loop.Proxy B g = record y { cache = x'.cache; «record» = x'.record; acts = x'.acts; now = x'.now; starts = x'.starts; moved = x'.moved; closed = c } in z) (sym o.closed))))))
+      ∙ (ap (λ b. let z : loop.Proxy B g =
+      record y { cache = x'.cache; «record» = x'.record; acts = x'.acts; now = x'.now; starts = x'.starts; moved = b } in z) (sym o.moved)
+      ∙ ap (λ c. let z : loop.Proxy B g =
+      record y { cache = x'.cache; «record» = x'.record; acts = x'.acts; now = x'.now; starts = x'.starts; moved = x'.moved; closed = c } in z)
+      (sym o.closed))))))
 
   pub cache_kept : (f : Frame) (x x' : loop.Proxy B g) (p : Proxy) → OthersStay x x' → HasCache f x p → HasCache f x' p
   cache_kept f x x' p o h = cache_moves f x x' p o.cache o.text o.now o.starts h
 
-module _ {B : Type 0} {g : Ghosts B} (t : Turn) (x : loop.Proxy B g) (p : Proxy) (log : Log) (reported : Option Log) (stages : ℕ → Stage) (keeps : KeepsCarried t x p) (on : OnWire t log reported stages) where
+module _ {B : Type 0} {g : Ghosts B} (t : Turn) (x : loop.Proxy B g) (p : Proxy) (log : Log) (reported : Option Log) (stages : ℕ → Stage)
+    (keeps : KeepsCarried t x p) (on : OnWire t log reported stages) where
   stage_is : (k : ℕ) → stage_in log.takers k ≡ t.stages k
   stage_is k = sym (on.follows.stands k) ∙ on.stands k
 
@@ -130,7 +135,8 @@ module _ {B : Type 0} {g : Ghosts B} (t : Turn) (x : loop.Proxy B g) (p : Proxy)
         (keeps.upstreams.rows y live (subst (λ (ks : List ℕ). y ≤ length ks) on.dialled le));
     numbers = λ y u is. ap (λ (ks : List ℕ). connection_of ks y) on.dialled ∙ keeps.upstreams.numbers y u is;
     over = λ y some. let it = some_open y some in upstream_open y it.0 it.1;
-    within = λ y some. let it = some_open y some in number_within y it.0.k log.dialled (ap (λ (ks : List ℕ). connection_of ks y) on.dialled ∙ keeps.upstreams.numbers y it.0 it.1);
+    within = λ y some. let it = some_open y some in number_within
+        y it.0.k log.dialled (ap (λ (ks : List ℕ). connection_of ks y) on.dialled ∙ keeps.upstreams.numbers y it.0 it.1);
     news = λ y live unheard. keeps.upstreams.news y live unheard refl;
     touched = λ y u is untouched. keeps.upstreams.touched y u is (upstream_open y u is) untouched refl;
     names = subst NamesOne (sym on.dialled) keeps.upstreams.names;
@@ -146,14 +152,16 @@ module _ {B : Type 0} {g : Ghosts B} (t : Turn) (x : loop.Proxy B g) (p : Proxy)
 
   -- BEHIND THE OFFERS
 
-  module _ (x' : loop.Proxy B g) (reported' : Option Log) (stages' : ℕ → Stage) (o : OthersStay x x') (s : SendsToOrigins p log [] x'.clients x'.upstreams reported' stages') where
+  module _ (x' : loop.Proxy B g) (reported' : Option Log) (stages' : ℕ → Stage) (o : OthersStay x x')
+      (s : SendsToOrigins p log [] x'.clients x'.upstreams reported' stages') where
     resting_at : (k : ℕ) (c : Option peer.Client) (r : Option Client) → IsKnownAt s.log' k c r → IsSentAt s.log' k c → IsRestingAt s.log' k c r
     resting_at k None None is sent = tt
     resting_at k None (Some r) is sent = is
     resting_at k (Some c) None is sent = is
     resting_at k (Some c) (Some r) is sent = record { is_client = is; reads = sent.reads; stays = sent.stays; lacks = sent.lacks }
 
-    taken_resting : (call : Called) (k : ℕ) (reads ended : Bool) → stage_in s.log'.takers k ≡ Open reads ended → taken_at (resting_call s.log' call) k ≡ taken_in s.log' k
+    taken_resting : (call : Called) (k : ℕ) (reads ended : Bool) → stage_in s.log'.takers k ≡ Open reads ended →
+        taken_at (resting_call s.log' call) k ≡ taken_in s.log' k
     taken_resting call k reads ended opens = standing_taken (length s.log'.calls) k s.log'.takers reads ended opens
 
     dialled_is : s.log'.dialled ≡ t.dialled
@@ -162,7 +170,8 @@ module _ {B : Type 0} {g : Ghosts B} (t : Turn) (x : loop.Proxy B g) (p : Proxy)
     opened_is : length s.log'.dialled ≡ p.tables.opened
     opened_is = ap length dialled_is ∙ keeps.upstreams.opens
 
-    upstreams_here : (call : Called) (after : ℕ → Stage) → HasUpstreams (record { frame = t.frame; call = resting_call s.log' call; dialled = s.log'.dialled; stages = after }) (with_tables x x') p []
+    upstreams_here : (call : Called) (after : ℕ → Stage) →
+        HasUpstreams (record { frame = t.frame; call = resting_call s.log' call; dialled = s.log'.dialled; stages = after }) (with_tables x x') p []
     upstreams_here call after = record {
       rows = λ y live le. upstream_same (taken_in s.log') (taken_at (resting_call s.log' call)) (upstream_of x'.upstreams y) (p.upstream y)
           (λ u is. let open_now = s.has.read_upstreams y u is in taken_resting call u.k u.reading open_now.0 open_now.1) (s.has.rows y live le);
@@ -225,7 +234,8 @@ module _ {B : Type 0} {g : Ghosts B} (t : Turn) (x : loop.Proxy B g) (p : Proxy)
 
   -- the clients first, and then the connections to the origin
   pub sent_both : (one two : loop.Proxy B g) (reported1 reported2 : Option Log) (stages1 stages2 : ℕ → Stage) → OthersStay x one → OthersStay one two
-      → (s : SendsToClients p log [] one.clients one.upstreams reported1 stages1) → SendsToOrigins p s.log' [] two.clients two.upstreams reported2 stages2 → SentAll t p log two reported2 stages2
+      → (s : SendsToClients p log [] one.clients one.upstreams reported1 stages1) →
+      SendsToOrigins p s.log' [] two.clients two.upstreams reported2 stages2 → SentAll t p log two reported2 stages2
   sent_both one two reported1 reported2 stages1 stages2 o1 o2 s all = sent_all two reported2 stages2 (others_both x one two o1 o2) (record {
     log' = all.log';
     follows = all.follows;

@@ -21,7 +21,8 @@ module _ {B : Type 0} {g : Ghosts B} (f : Frame) (x x' : loop.Proxy B g) (p : Pr
     few = r.few;
     consumers = r.consumers;
     alive = r.alive;
-    upstreams = λ call stages. upstreams_move (record { frame = f; call = resting_call log call; dialled = log.dialled; stages = stages }) x x' p [] o.upstreams (r.upstreams call stages);
+    upstreams = λ call stages. upstreams_move (record { frame = f; call = resting_call log call; dialled = log.dialled; stages = stages }) x x' p []
+        o.upstreams (r.upstreams call stages);
     resting = λ y u at. r.resting y u (sym (ap (λ s. upstream_of s y) o.upstreams) ∙ at);
     opened = r.opened;
     heard = r.heard;
@@ -41,7 +42,8 @@ waits_not limits p moved is on = by_test (list_all is_waiting p.part) (sym is �
     by_test true off = absurd (let never : false ≡ true = off in cc)
     by_test false off = refl
 
-pub waits_so : (limits : Limits) (p : Proxy) (moved hears : Bool) → moved ≡ not (list_all is_waiting p.part) → moved ≡ false → hears ≡ not (hears_nothing limits p) → not hears ≡ waits limits p
+pub waits_so : (limits : Limits) (p : Proxy) (moved hears : Bool) → moved ≡ not (list_all is_waiting p.part) → moved ≡ false →
+    hears ≡ not (hears_nothing limits p) → not hears ≡ waits limits p
 waits_so limits p moved hears is off heard = by_test (list_all is_waiting p.part) (sym is ∙ off)
   where
     by_nothing : (h b : Bool) → h ≡ not b → not h ≡ b

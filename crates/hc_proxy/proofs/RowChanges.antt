@@ -21,7 +21,8 @@ pub fewer : (f h : ℕ → Bool) (xs : List ℕ) → ((n : ℕ) → h n ≡ true
 fewer f h [] less = omega arith
 fewer f h (n ∷ xs) less = by_tests (f n) (h n) refl refl (fewer f h xs less)
   where
-    by_tests : (a b : Bool) → f n ≡ a → h n ≡ b → length (filter h xs) ≤ length (filter f xs) → length (if b then n ∷ filter h xs else filter h xs) ≤ length (if a then n ∷ filter f xs else filter f xs)
+    by_tests : (a b : Bool) → f n ≡ a → h n ≡ b → length (filter h xs) ≤ length (filter f xs) →
+        length (if b then n ∷ filter h xs else filter h xs) ≤ length (if a then n ∷ filter f xs else filter f xs)
     by_tests true true on is rest = omega arith
     by_tests true false on is rest = omega arith
     by_tests false true on is rest = absurd (let never : false ≡ true = sym on ∙ less n is in cc)
@@ -36,7 +37,8 @@ pub record ChangesClient (taken : ℕ) (o : Option peer.Client) (r : Option Clie
 module _ {B : Type 0} {g : Ghosts B} where
   -- A CLIENT
 
-  module _ (t : Turn) (x : loop.Proxy B g) (p : Proxy) (k : ℕ) (now : Option peer.Client) (change : Client → Client) (s : Clients) (becomes : clients.Becomes k now x.clients s) (c : ChangesClient (taken_at t.call k) (client_of x.clients k) (p.client k) now change) where
+  module _ (t : Turn) (x : loop.Proxy B g) (p : Proxy) (k : ℕ) (now : Option peer.Client) (change : Client → Client) (s : Clients)
+      (becomes : clients.Becomes k now x.clients s) (c : ChangesClient (taken_at t.call k) (client_of x.clients k) (p.client k) now change) where
     abbrev pub q : Proxy
     q = with_client k change p
 
@@ -68,9 +70,11 @@ module _ {B : Type 0} {g : Ghosts B} where
     module _ (h : HasClients t x p) where
       rows : (j : ℕ) → IsClientAt (taken_at t.call j) (client_of s j) (q.client j)
       rows j = elim (eq_cases j k) as (λ _. IsClientAt (taken_at t.call j) (client_of s j) (q.client j)) [
-        | inr off ↦ subst (λ o. IsClientAt (taken_at t.call j) o (q.client j)) (sym (client_off j off.0)) (subst (λ r. IsClientAt (taken_at t.call j) (client_of x.clients j) r) (sym (row_off j off.0)) (h.rows j))
+        | inr off ↦ subst (λ o. IsClientAt (taken_at t.call j) o (q.client j)) (sym (client_off j off.0))
+            (subst (λ r. IsClientAt (taken_at t.call j) (client_of x.clients j) r) (sym (row_off j off.0)) (h.rows j))
         | inl here ↦ subst (λ n. IsClientAt (taken_at t.call n) (client_of s n) (q.client n)) (sym here.1)
-            (subst (λ o. IsClientAt (taken_at t.call k) o (q.client k)) (sym client_here) (subst (λ r. IsClientAt (taken_at t.call k) now r) (sym row_here) c.alike))
+            (subst (λ o. IsClientAt (taken_at t.call k) o (q.client k)) (sym client_here)
+            (subst (λ r. IsClientAt (taken_at t.call k) now r) (sym row_here) c.alike))
       ]
 
       here_was : (j : ℕ) → is_client (q.client j) ≡ true → is_client (p.client j) ≡ true
@@ -84,10 +88,12 @@ module _ {B : Type 0} {g : Ghosts B} where
         rows = rows;
         order = h.order;
         listed = λ j some. h.listed j (row_was j some);
-        few = (let a : length (clients_here q) ≤ length (clients_here p) = fewer (λ j. is_client (p.client j)) (λ j. is_client (q.client j)) p.accepted here_was in let b : length (clients_here p) ≤ 512 = h.few in omega arith);
+        few = (let a : length (clients_here q) ≤ length (clients_here p) =
+            fewer (λ j. is_client (p.client j)) (λ j. is_client (q.client j)) p.accepted here_was in let b : length (clients_here p) ≤ 512 = h.few in omega arith);
       }
 
-    pub reads_as : (stages : ℕ → Stage) → AtWire stages x → (j : ℕ) (d : peer.Client) → client_of s j ≡ Some d → (ended : Bool) × (stages j ≡ Open d.reading ended)
+    pub reads_as : (stages : ℕ → Stage) → AtWire stages x → (j : ℕ) (d : peer.Client) → client_of s j ≡ Some d → (ended : Bool) ×
+        (stages j ≡ Open d.reading ended)
     reads_as stages w j d is = elim (eq_cases j k) as (λ _. (ended : Bool) × (stages j ≡ Open d.reading ended)) [
       | inr off ↦ w.clients j d (sym (client_off j off.0) ∙ is)
       | inl here ↦
@@ -112,20 +118,24 @@ module _ {B : Type 0} {g : Ghosts B} where
     wire_same stages still w = record {
       clients = reads_as stages w;
       upstreams = w.upstreams;
-      all = λ j opens. elim (w.all j opens) as (λ _. IsSome (client_of s j) ⊎ ((y : ℕ) × (v : origin.Upstream) × (upstream_of x.upstreams y ≡ Some v) × (v.k ≡ j)) ⊎ Contains x.closed.items j) [
-        | inl there ↦ inl (some_stays j there)
-        | inr other ↦ inr other
-      ];
+      all = λ j opens. elim (w.all j opens) as
+          (λ _. IsSome (client_of s j) ⊎ ((y : ℕ) × (v : origin.Upstream) × (upstream_of x.upstreams y ≡ Some v) × (v.k ≡ j)) ⊎ Contains x.closed.items j) [
+            | inl there ↦ inl (some_stays j there)
+            | inr other ↦ inr other
+          ];
       closed = λ j there. let was = w.closed j there in (none_stays j was.0, was.1);
     }
       where
         some_stays : (j : ℕ) → IsSome (client_of x.clients j) → IsSome (client_of s j)
         some_stays j there = elim (eq_cases j k) as (λ _. IsSome (client_of s j)) [
           | inr off ↦ subst IsSome (sym (client_off j off.0)) there
-          | inl here ↦ subst (λ n. IsSome (client_of s n)) (sym here.1) (subst IsSome (sym client_here) (still (subst (λ n. IsSome (client_of x.clients n)) here.1 there)))
+          | inl here ↦ subst (λ n. IsSome (client_of s n)) (sym here.1)
+              (subst IsSome (sym client_here) (still (subst (λ n. IsSome (client_of x.clients n)) here.1 there)))
         ]
 
-    pub seen_still : (stages : ℕ → Stage) (dialled : List ℕ) → ((j : ℕ) → stages j ≡ Unseen → (p.client j ≡ None) × (exchange_of dialled j ≡ None) × (Contains p.accepted j → ⊥)) → (j : ℕ) → stages j ≡ Unseen → ((with_client k change p).client j ≡ None) × (exchange_of dialled j ≡ None) × (Contains p.accepted j → ⊥)
+    pub seen_still : (stages : ℕ → Stage) (dialled : List ℕ) →
+        ((j : ℕ) → stages j ≡ Unseen → (p.client j ≡ None) × (exchange_of dialled j ≡ None) × (Contains p.accepted j → ⊥)) → (j : ℕ) → stages j ≡ Unseen →
+        ((with_client k change p).client j ≡ None) × (exchange_of dialled j ≡ None) × (Contains p.accepted j → ⊥)
     seen_still stages dialled seen j unseen = (none_row (q.client j) refl, (seen j unseen).1, (seen j unseen).2)
       where
         none_row : (o : Option Client) → q.client j ≡ o → q.client j ≡ None

@@ -66,18 +66,22 @@ module _ (call : Called) (k : ℕ) (c : peer.Client) (r : Client) (h : IsClient 
 module _ {B : Type 0} {g : Ghosts B} (t : Turn) (x : loop.Proxy B g) (p : Proxy) (h : HasClients t x p) where
   -- BY CONNECTION
 
-  here_rows : (k : ℕ) (o : Option peer.Client) (r : Option Client) (row : Client) → IsClientAt (taken_at t.call k) o r → r ≡ Some row → row.gone ≡ false → (c : peer.Client) × (o ≡ Some c) × IsClient (taken_at t.call k) c row
+  here_rows : (k : ℕ) (o : Option peer.Client) (r : Option Client) (row : Client) → IsClientAt (taken_at t.call k) o r → r ≡ Some row → row.gone ≡ false →
+      (c : peer.Client) × (o ≡ Some c) × IsClient (taken_at t.call k) c row
   here_rows k None None row is at here = absurd (let never : None ≡ Some row = at in cc)
-  here_rows k None (Some r) row is at here = absurd (let same : r ≡ row = some_is r row at in let never : true ≡ false = sym is ∙ (ap (λ (z : Client). z.gone) same ∙ here) in cc)
+  here_rows k None (Some r) row is at here =
+      absurd (let same : r ≡ row = some_is r row at in let never : true ≡ false = sym is ∙ (ap (λ (z : Client). z.gone) same ∙ here) in cc)
   here_rows k (Some c) None row is at here = absurd is
   here_rows k (Some c) (Some r) row is at here = (c, refl, subst (λ (z : Client). IsClient (taken_at t.call k) c z) (some_is r row at) is)
 
-  pub client_here : (k : ℕ) (row : Client) → p.client k ≡ Some row → row.gone ≡ false → (c : peer.Client) × (client_of x.clients k ≡ Some c) × IsClient (taken_at t.call k) c row
+  pub client_here : (k : ℕ) (row : Client) → p.client k ≡ Some row → row.gone ≡ false → (c : peer.Client) × (client_of x.clients k ≡ Some c) ×
+      IsClient (taken_at t.call k) c row
   client_here k row at here = here_rows k (client_of x.clients k) (p.client k) row (h.rows k) at here
 
   -- BY CONSUMER
 
-  holder_rows : (k c : ℕ) (o : Option peer.Client) (r : Option Client) → IsClientAt (taken_at t.call k) o r → p.client k ≡ r → consumer_at o ≡ Some c → IsHolder p k c
+  holder_rows : (k c : ℕ) (o : Option peer.Client) (r : Option Client) → IsClientAt (taken_at t.call k) o r → p.client k ≡ r → consumer_at o ≡ Some c →
+      IsHolder p k c
   holder_rows k c None r is at on = absurd (let never : None ≡ Some c = on in cc)
   holder_rows k c (Some q) None is at on = absurd is
   holder_rows k c (Some q) (Some row) is at on = record { row = row; at = at; here = is.here; consumer = sym is.consumer ∙ on }

@@ -32,14 +32,16 @@ is_less m n lt = let on : nat_lt m n ≡ true = grind (arith, nat_tests) in ap n
 
 -- A CALL
 
-fit_at : (limits : Limits) (dialled : List ℕ) (before after : List Called) (call : Called) (p : Proxy) → AllFit limits dialled p (before ++ call ∷ after) → Fits limits dialled (turned_by limits dialled before p) call
+fit_at : (limits : Limits) (dialled : List ℕ) (before after : List Called) (call : Called) (p : Proxy) →
+    AllFit limits dialled p (before ++ call ∷ after) → Fits limits dialled (turned_by limits dialled before p) call
 fit_at limits dialled [] after call p all = all.0
 fit_at limits dialled (first ∷ before) after call p all = fit_at limits dialled before after call (turned limits dialled first p) all.1
 
 stands_of : (call : Called) (p : Proxy) (k : ℕ) (w : Whose) → may_stand call p k w ≡ true → MayStand call p k w
 stands_of call p k (OfClient client) is = (
   not_false client.gone (and_left (not client.gone) (not client.closing || has_unsent call k client) is),
-  λ closing. or_second (not client.closing) (has_unsent call k client) (and_right (not client.gone) (not client.closing || has_unsent call k client) is) (ap not closing),
+  λ closing. or_second (not client.closing) (has_unsent call k client) (and_right (not client.gone) (not client.closing || has_unsent call k client) is)
+      (ap not closing),
 )
 stands_of call p k (OfExchange x) is = is
 stands_of call p k OfNobody is = let never : false ≡ true = is in cc
@@ -48,11 +50,13 @@ number_of : (call : Called) (o : Option ℕ) → number_stands call o ≡ true �
 number_of call None is = absurd (let never : false ≡ true = is in cc)
 number_of call (Some k) is = (k, refl, is)
 
-client_stays : (call : Called) (p : Proxy) (k : ℕ) (client : Client) (o : Option Client) → o ≡ Some client → client_stands call p k o ≡ true → client.gone ≡ false → client.closing ≡ false → stands call k ≡ true
+client_stays : (call : Called) (p : Proxy) (k : ℕ) (client : Client) (o : Option Client) → o ≡ Some client → client_stands call p k o ≡ true →
+    client.gone ≡ false → client.closing ≡ false → stands call k ≡ true
 client_stays call p k client None at is here stays = absurd (let never : None ≡ Some client = at in cc)
 client_stays call p k client (Some r) at is here stays =
     let same : r ≡ client = some_is r client at in
-    or_second (r.gone || r.closing) (stands call k) is (both_off r.gone r.closing (ap (λ (c : Client). c.gone) same ∙ here) (ap (λ (c : Client). c.closing) same ∙ stays))
+    or_second (r.gone || r.closing) (stands call k) is
+    (both_off r.gone r.closing (ap (λ (c : Client). c.gone) same ∙ here) (ap (λ (c : Client). c.closing) same ∙ stays))
   where
     some_is : (a b : Client) → Some a ≡ Some b → a ≡ b
     some_is a b h = cc
@@ -66,10 +70,14 @@ call_said limits log call p fits =
     let two : (each && clients) ≡ true = and_left (each && clients) exchanges fits.stands in
     record {
       waits_so = fits.wait;
-      reads = λ s there. was_same s.reads (is_read call p s.k (whose_at log p s.k)) (all_of (λ (z : Standing). is_same z.reads (is_read call p z.k (whose_at log p z.k))) call.standings s fits.reads there);
-      sends = λ s there lt. or_first s.short (not (nat_lt s.taken (owed_to p (whose_at log p s.k)))) (all_of (is_sent dialled p) call.standings s fits.sends there) (is_less s.taken (owed_to p (whose_at log p s.k)) lt);
-      dials = λ x there. number_of call (connection_of dialled x) (all_of (exchange_stands call dialled) (open_exchanges p.tables) x (and_right (each && clients) exchanges fits.stands) there);
-      stays = λ k client there at here stays. client_stays call p k client (p.client k) at (all_of (λ j. client_stands call p j (p.client j)) p.accepted k (and_right each clients two) there) here stays;
+      reads = λ s there. was_same s.reads (is_read call p s.k (whose_at log p s.k))
+          (all_of (λ (z : Standing). is_same z.reads (is_read call p z.k (whose_at log p z.k))) call.standings s fits.reads there);
+      sends = λ s there lt. or_first s.short (not (nat_lt s.taken (owed_to p (whose_at log p s.k))))
+          (all_of (is_sent dialled p) call.standings s fits.sends there) (is_less s.taken (owed_to p (whose_at log p s.k)) lt);
+      dials = λ x there. number_of call (connection_of dialled x)
+          (all_of (exchange_stands call dialled) (open_exchanges p.tables) x (and_right (each && clients) exchanges fits.stands) there);
+      stays = λ k client there at here stays. client_stays call p k client (p.client k) at
+          (all_of (λ j. client_stands call p j (p.client j)) p.accepted k (and_right each clients two) there) here stays;
       closes = λ s there. stands_of call p s.k (whose_at log p s.k) (all_of (is_right call dialled p) call.standings s (and_left each clients two) there);
     }
 
@@ -92,7 +100,8 @@ module _ (limits : Limits) (log : Log) where
   events_are (suc n) le =
       let next = take_next n log.calls (omega arith) in
       let before = behind_calls limits log n in
-      let turns : behind_calls limits log (suc n) ≡ turned limits log.dialled next.0 before = ap (λ cs. turned_by limits log.dialled cs unused) next.1 ∙ turned_more limits log.dialled (take n log.calls) next.0 unused in
+      let turns : behind_calls limits log (suc n) ≡ turned limits log.dialled next.0 before = ap (λ cs. turned_by limits log.dialled cs unused) next.1 ∙
+      turned_more limits log.dialled (take n log.calls) next.0 unused in
       let rest : events_of before ≡ events_till limits log n = events_are n (omega arith) in
       ap events_of turns
       ∙ (events_more next.0 before
@@ -109,7 +118,8 @@ module _ (limits : Limits) (log : Log) where
 
 counted : (acts : List Act) (n m : ℕ) → OpensUp n acts m → m ≡ n + opened_in acts
 counted [] n m up = let same : n ≡ n + 0 = omega arith in sym up ∙ same
-counted (act.Opened x c need request ∷ acts) n m up = let sum : n + 1 + opened_in acts ≡ n + (opened_in acts + 1) = omega arith in counted acts (n + 1) m up.1 ∙ sum
+counted (act.Opened x c need request ∷ acts) n m up = let sum : n + 1 + opened_in acts ≡ n + (opened_in acts + 1) = omega arith in
+    counted acts (n + 1) m up.1 ∙ sum
 counted (act.Denied refusal ∷ acts) n m up = counted acts n m up
 counted (act.Ask x ∷ acts) n m up = counted acts n m up
 counted (act.Close x ∷ acts) n m up = counted acts n m up
@@ -139,7 +149,8 @@ opened_said limits log =
 pub logs_said : LogsAreAsSaid
 logs_said limits log l = record {
   calls = λ call p at.
-      let fits : Fits limits log.dialled (turned_by limits log.dialled at.before unused) call = fit_at limits log.dialled at.before at.after call unused (subst (AllFit limits log.dialled unused) at.calls l.fit) in
+      let fits : Fits limits log.dialled (turned_by limits log.dialled at.before unused) call =
+      fit_at limits log.dialled at.before at.after call unused (subst (AllFit limits log.dialled unused) at.calls l.fit) in
       call_said limits log call p (subst (λ (q : Proxy). Fits limits log.dialled q call) (sym at.tables) fits);
   text = text_said limits log;
   dials = subst (λ n. length log.dialled ≤ n) (opened_said limits log) l.dialled;
@@ -151,7 +162,8 @@ short_at : (calls n : ℕ) (taker : Taker) (o : Option Taker) → o ≡ Some tak
 short_at calls n taker None at is lt = absurd (let never : None ≡ Some taker = at in cc)
 short_at calls n taker (Some c) at is lt =
     let same : c ≡ taker = some_is c taker at in
-    by_short taker.short (or_first (is_at_end taker.short calls) (not (nat_lt (length taker.sent) n)) (subst (λ (d : Taker). (is_at_end d.short calls || not (nat_lt (length d.sent) n)) ≡ true) same is) (is_less (length taker.sent) n lt))
+    by_short taker.short (or_first (is_at_end taker.short calls) (not (nat_lt (length taker.sent) n))
+    (subst (λ (d : Taker). (is_at_end d.short calls || not (nat_lt (length d.sent) n)) ≡ true) same is) (is_less (length taker.sent) n lt))
   where
     some_is : (a b : Taker) → Some a ≡ Some b → a ≡ b
     some_is a b h = cc
@@ -169,7 +181,9 @@ ends_said limits log l f =
       dials = f.dialled ∙ opened_said limits log;
       closed = λ taker there. not_false taker.live (all_of (λ (c : Taker). not c.live) log.takers taker f.closed there);
       clients = λ k client taker there at here found lt.
-          let sent : client_is_sent log k (Some client) ≡ true = subst (λ (o : Option Client). client_is_sent log k o ≡ true) at (all_of (λ j. client_is_sent log j (p.client j)) p.accepted k (and_left clients exchanges f.sent) there) in
+          let sent : client_is_sent log k (Some client) ≡ true =
+          subst (λ (o : Option Client). client_is_sent log k o ≡ true) at
+          (all_of (λ j. client_is_sent log j (p.client j)) p.accepted k (and_left clients exchanges f.sent) there) in
           short_at (length log.calls) (length client.owed) taker (find (is_numbered k) log.takers) found
           (or_second client.gone (is_taken (length log.calls) (length client.owed) (find (is_numbered k) log.takers)) sent here) lt;
       exchanges = λ x k taker there at found lt.

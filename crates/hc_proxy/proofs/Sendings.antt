@@ -20,7 +20,8 @@ both f {a} {a'} {b} {b'} one two = ap (λ x. f x b) one ∙ ap (λ y. f a' y) tw
 
 -- ONE ACT
 
-module _ (a : Act) (c : ℕ) (to : peers.addressee a ≡ Some c) (p : Proxy) (k : ℕ) (holder : IsHolder p k c) (held : (j : ℕ) → IsHolder p j c → p.holder c ≡ Some j) where
+module _ (a : Act) (c : ℕ) (to : peers.addressee a ≡ Some c) (p : Proxy) (k : ℕ) (holder : IsHolder p k c)
+    (held : (j : ℕ) → IsHolder p j c → p.holder c ≡ Some j) where
   abbrev q : Proxy
   q = with_client k (answered a) p
 
@@ -56,7 +57,8 @@ module _ (a : Act) (c : ℕ) (to : peers.addressee a ≡ Some c) (p : Proxy) (k 
       }
 
   -- who waits for another is another
-  apart : (j : ℕ) (n : ℕ) (cl : peer.Client) (r : Client) → p.client j ≡ Some r → IsClient n cl r → nat_eq j k ≡ false → (o : Option ℕ) → cl.consumer ≡ o → is_same_consumer (Some c) o ≡ false
+  apart : (j : ℕ) (n : ℕ) (cl : peer.Client) (r : Client) → p.client j ≡ Some r → IsClient n cl r → nat_eq j k ≡ false → (o : Option ℕ) →
+      cl.consumer ≡ o → is_same_consumer (Some c) o ≡ false
   apart j n cl r at is off None none = refl
   apart j n cl r at is off (Some d) its = by_test (nat_eq c d) refl
     where
@@ -68,7 +70,8 @@ module _ (a : Act) (c : ℕ) (to : peers.addressee a ≡ Some c) (p : Proxy) (k 
           let place : j ≡ k = some_is j k (sym (held j u) ∙ held k holder) in
           absurd (let never : true ≡ false = sym (same_number j) ∙ (ap (nat_eq j) place ∙ off) in cc)
 
-  row_goes : (n j : ℕ) (o : Option peer.Client) (r : Option Client) → p.client j ≡ r → IsClientAt n o r → (b : Bool) → nat_eq j k ≡ b → IsClientAt n (answered_in a o) (if b then option_map (answered a) r else r)
+  row_goes : (n j : ℕ) (o : Option peer.Client) (r : Option Client) → p.client j ≡ r → IsClientAt n o r → (b : Bool) → nat_eq j k ≡ b →
+      IsClientAt n (answered_in a o) (if b then option_map (answered a) r else r)
   row_goes n j None None at is true on = tt
   row_goes n j None None at is false on = tt
   row_goes n j None (Some r) at is true on = ap (λ (u : Client). u.gone) (gone_is r is) ∙ is
@@ -111,7 +114,8 @@ module _ (a : Act) (c : ℕ) (to : peers.addressee a ≡ Some c) (p : Proxy) (k 
       by_test true None = refl
       by_test true (Some r) = ap not (gone_same r r.gone refl)
 
-  module _ {B : Type 0} {g : Ghosts B} (t : Turn) (x : loop.Proxy B g) (cl : Clients) (reports : (j : ℕ) → client_of cl j ≡ answered_in a (client_of x.clients j)) where
+  module _ {B : Type 0} {g : Ghosts B} (t : Turn) (x : loop.Proxy B g) (cl : Clients)
+      (reports : (j : ℕ) → client_of cl j ≡ answered_in a (client_of x.clients j)) where
     abbrev x' : loop.Proxy B g
     x' = record x { clients = cl }
 
@@ -121,7 +125,8 @@ module _ (a : Act) (c : ℕ) (to : peers.addressee a ≡ Some c) (p : Proxy) (k 
           (row_goes (taken_at t.call j) j (client_of x.clients j) (p.client j) refl (h.rows j) (nat_eq j k) refl);
       order = h.order;
       listed = λ j some. h.listed j (some_stays j some);
-      few = let same = ap length (filter_same (λ j. is_client (q.client j)) (λ j. is_client (p.client j)) client_same p.accepted) in let was = h.few in omega arith;
+      few = let same = ap length (filter_same (λ j. is_client (q.client j)) (λ j. is_client (p.client j)) client_same p.accepted) in let was = h.few in
+          omega arith;
     }
 
     -- the row of who is there was there, and is read as before

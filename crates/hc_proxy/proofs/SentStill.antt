@@ -36,7 +36,8 @@ no_bytes (b ∷ bs) is = absurd (let never : nat_eq (length (b ∷ bs)) 0 ≡ fa
 
 -- ONE OF THE ORIGIN
 
-origin_still : (sent : List ℕ) (o o' : Option Upstream) → ((v : Upstream) → o ≡ Some v → (w : Upstream) × (o' ≡ Some w) × (w.owed ≡ v.owed)) → upstream_was_sent sent o ≡ true → upstream_was_sent sent o' ≡ true
+origin_still : (sent : List ℕ) (o o' : Option Upstream) → ((v : Upstream) → o ≡ Some v → (w : Upstream) × (o' ≡ Some w) × (w.owed ≡ v.owed)) →
+    upstream_was_sent sent o ≡ true → upstream_was_sent sent o' ≡ true
 origin_still sent None o' stays is = ap (λ s. upstream_was_sent s o') (no_bytes sent is) ∙ origin_unsent o'
 origin_still sent (Some v) o' stays is =
     let w = stays v refl in
@@ -63,7 +64,9 @@ module _ (limits : Limits) (log : Log) (apart : AreApart log.takers) (p : Proxy)
   abbrev log' : Log
   log' = with_call wait moment what bytes log
 
-  module _ (known : StandsKnown limits p) (gone : AreGone p) (served : AreServed call (happened limits (so_far p log.dialled) call (begun call p)) (acts_in (happened limits (so_far p log.dialled) call (begun call p)).part))
+  module _ (known : StandsKnown limits p) (gone : AreGone p)
+      (served : AreServed call (happened limits (so_far p log.dialled) call (begun call p))
+      (acts_in (happened limits (so_far p log.dialled) call (begun call p)).part))
       (ended : (k : ℕ) (r : Client) → p.client k ≡ Some r → (r.gone ≡ true) ⊎ (stands call k ≡ true) ⊎ (length r.owed ≤ length (sent_in log.takers k)))
       (sent : list_all (was_sent log.dialled p) log.takers ≡ true) where
     h : Proxy
@@ -123,7 +126,8 @@ module _ (limits : Limits) (log : Log) (apart : AreApart log.takers) (p : Proxy)
           let parts = both_of (is_prefix taken old.owed) (nat_le old.before (length taken)) (not old.let_go || nat_eq (length taken) (length old.owed)) is in
           let later = client_grows limits k log.dialled call p old at in
           ap (client_was_sent taken) later.row
-          ∙ all_three (is_prefix taken later.new.owed) (nat_le later.new.before (length taken)) (not later.new.let_go || nat_eq (length taken) (length later.new.owed))
+          ∙ all_three (is_prefix taken later.new.owed) (nat_le later.new.before (length taken))
+          (not later.new.let_go || nat_eq (length taken) (length later.new.owed))
           (ap (is_prefix taken) later.later.owed ∙ front_more taken old.owed later.later.more parts.0)
           (before_by later.new later.row parts.1)
           (gone_all later.new.let_go (length taken) (length later.new.owed) (λ go. all_by later.new later.row parts.0 parts.2 go))
@@ -150,18 +154,21 @@ module _ (limits : Limits) (log : Log) (apart : AreApart log.takers) (p : Proxy)
               by_from (inr le) = grind (arith, nat_tests)
 
           -- who is let go behind the turn was so where it began, and is gone
-          all_by : (new : Client) → q.client k ≡ Some new → is_prefix taken old.owed ≡ true → (not old.let_go || nat_eq (length taken) (length old.owed)) ≡ true → new.let_go ≡ true → length taken ≡ length new.owed
+          all_by : (new : Client) → q.client k ≡ Some new → is_prefix taken old.owed ≡ true →
+              (not old.let_go || nat_eq (length taken) (length old.owed)) ≡ true → new.let_go ≡ true → length taken ≡ length new.owed
           all_by new row front was go =
               let earlier = turn_lets_go limits k log.dialled call p new row go in
               let same : earlier.old ≡ seen_at call k old = some_is earlier.old (seen_at call k old) (sym earlier.row ∙ begun_row) in
               let went : (seen_at call k old).let_go ≡ true = ap (λ (c : Client). c.let_go) (sym same) ∙ earlier.let_go in
-              let stays : new ≡ seen_at call k old = some_is new (seen_at call k old) (sym row ∙ gone_stays k (seen_at call k old) begun_row (seen_gone went)) in
+              let stays : new ≡ seen_at call k old =
+              some_is new (seen_at call k old) (sym row ∙ gone_stays k (seen_at call k old) begun_row (seen_gone went)) in
               taken_all (ended k old at) went ∙ sym (ap (λ (c : Client). length c.owed) stays ∙ ap length (owed_if (old.gone || stands call k)))
             where
               seen_gone : (seen_at call k old).let_go ≡ true → (seen_at call k old).gone ≡ true
               seen_gone = by_test (old.gone || stands call k)
                 where
-                  by_test : (b : Bool) → (if b then old else record old { gone = true; let_go = true }).let_go ≡ true → (if b then old else record old { gone = true; let_go = true }).gone ≡ true
+                  by_test : (b : Bool) → (if b then old else record old { gone = true; let_go = true }).let_go ≡ true →
+                      (if b then old else record old { gone = true; let_go = true }).gone ≡ true
                   by_test true is_so = gone k old at is_so
                   by_test false is_so = refl
 
@@ -177,9 +184,12 @@ module _ (limits : Limits) (log : Log) (apart : AreApart log.takers) (p : Proxy)
               or_right true b x = refl
               or_right false b x = x
 
-              taken_all : (old.gone ≡ true) ⊎ (stands call k ≡ true) ⊎ (length old.owed ≤ length (sent_in log.takers k)) → (seen_at call k old).let_go ≡ true → length taken ≡ length old.owed
-              taken_all (inl is_gone) went = all_of_gone old.let_go (length taken) (length old.owed) was (kept (old.gone || stands call k) (or_left old.gone (stands call k) is_gone) went)
-              taken_all (inr (inl on)) went = all_of_gone old.let_go (length taken) (length old.owed) was (kept (old.gone || stands call k) (or_right old.gone (stands call k) on) went)
+              taken_all : (old.gone ≡ true) ⊎ (stands call k ≡ true) ⊎ (length old.owed ≤ length (sent_in log.takers k)) →
+                  (seen_at call k old).let_go ≡ true → length taken ≡ length old.owed
+              taken_all (inl is_gone) went =
+                  all_of_gone old.let_go (length taken) (length old.owed) was (kept (old.gone || stands call k) (or_left old.gone (stands call k) is_gone) went)
+              taken_all (inr (inl on)) went =
+                  all_of_gone old.let_go (length taken) (length old.owed) was (kept (old.gone || stands call k) (or_right old.gone (stands call k) on) went)
               taken_all (inr (inr all)) went =
                   let within : length taken ≤ length old.owed = front_within taken old.owed front in
                   let size : length (sent_in log.takers k) ≡ length taken = ap length in_log in
@@ -192,7 +202,8 @@ module _ (limits : Limits) (log : Log) (apart : AreApart log.takers) (p : Proxy)
         → (o ≡ None → client_was_sent taken (q.client k) ≡ true) × ((x : ℕ) → o ≡ Some x → upstream_was_sent taken (q.upstream x) ≡ true)
     connection_still k taken in_log at_call o client_so origin_so = (
       (λ none. by_client (p.client k) refl (client_so none)),
-      (λ x is. origin_still taken (p.upstream x) (q.upstream x) (λ v row. let grows = origin_grows limits log.dialled call p known x v row in (grows.new, grows.row, grows.owed)) (origin_so x is)),
+      (λ x is. origin_still taken (p.upstream x) (q.upstream x)
+          (λ v row. let grows = origin_grows limits log.dialled call p known x v row in (grows.new, grows.row, grows.owed)) (origin_so x is)),
     )
       where
         by_client : (c : Option Client) → p.client k ≡ c → client_was_sent taken c ≡ true → client_was_sent taken (q.client k) ≡ true
@@ -201,14 +212,16 @@ module _ (limits : Limits) (log : Log) (apart : AreApart log.takers) (p : Proxy)
 
     -- ALL OF THEM
 
-    pub sent_still : AreApart log'.takers → ((j : ℕ) → what ≡ event.Accepted j → find (is_numbered j) log.takers ≡ None) → ((j : ℕ) → find (is_numbered j) log.takers ≡ None → p.client j ≡ None)
+    pub sent_still : AreApart log'.takers → ((j : ℕ) → what ≡ event.Accepted j → find (is_numbered j) log.takers ≡ None) →
+        ((j : ℕ) → find (is_numbered j) log.takers ≡ None → p.client j ≡ None)
         → list_all (was_sent log'.dialled q) log'.takers ≡ true
     sent_still apart' new nobody = all_found (was_sent log.dialled q) log'.takers apart' (λ c found. by_found c found (find (is_numbered c.k) log.takers) refl)
       where
         sent_as : (c : Taker) → find (is_numbered c.k) log'.takers ≡ Some c → sent_in log.takers c.k ≡ c.sent
         sent_as c found = sym (sent_by_call c.k what log.takers new) ∙ sent_found c.k c log'.takers found
 
-        by_whose : (c : Taker) (o : Option ℕ) → (o ≡ None → client_was_sent c.sent (q.client c.k) ≡ true) × ((x : ℕ) → o ≡ Some x → upstream_was_sent c.sent (q.upstream x) ≡ true) → sent_by q c o ≡ true
+        by_whose : (c : Taker) (o : Option ℕ) → (o ≡ None → client_was_sent c.sent (q.client c.k) ≡ true) ×
+            ((x : ℕ) → o ≡ Some x → upstream_was_sent c.sent (q.upstream x) ≡ true) → sent_by q c o ≡ true
         by_whose c None is = is.0 refl
         by_whose c (Some x) is = is.1 x refl
 
@@ -223,13 +236,15 @@ module _ (limits : Limits) (log : Log) (apart : AreApart log.takers) (p : Proxy)
           (λ x here. ap (λ s. upstream_was_sent s (p.upstream x)) same ∙ (ap (λ n. upstream_was_sent e.sent (p.upstream n)) (sym (some_is y x here)) ∙ is)),
         )
 
-        unsent_so : (c : Taker) → c.sent ≡ [] → p.client c.k ≡ None → (o : Option ℕ) → (o ≡ None → client_was_sent c.sent (p.client c.k) ≡ true) × ((x : ℕ) → o ≡ Some x → upstream_was_sent c.sent (p.upstream x) ≡ true)
+        unsent_so : (c : Taker) → c.sent ≡ [] → p.client c.k ≡ None → (o : Option ℕ) → (o ≡ None → client_was_sent c.sent (p.client c.k) ≡ true) ×
+            ((x : ℕ) → o ≡ Some x → upstream_was_sent c.sent (p.upstream x) ≡ true)
         unsent_so c nothing none o = (
           (λ is. ap (client_was_sent c.sent) none ∙ ap (λ s. nat_eq (length s) 0) nothing),
           (λ x is. ap (λ s. upstream_was_sent s (p.upstream x)) nothing ∙ origin_unsent (p.upstream x)),
         )
 
-        by_found : (c : Taker) → find (is_numbered c.k) log'.takers ≡ Some c → (o : Option Taker) → find (is_numbered c.k) log.takers ≡ o → was_sent log.dialled q c ≡ true
+        by_found : (c : Taker) → find (is_numbered c.k) log'.takers ≡ Some c → (o : Option Taker) → find (is_numbered c.k) log.takers ≡ o →
+            was_sent log.dialled q c ≡ true
         by_found c found None was =
             let taken : taken_at call c.k ≡ 0 = taken_missing log call refl apart c.k was in
             by_whose c (exchange_of log.dialled c.k)
@@ -240,5 +255,6 @@ module _ (limits : Limits) (log : Log) (apart : AreApart log.takers) (p : Proxy)
             let same : c.sent ≡ e.sent = sym (sent_as c found) ∙ sent_found c.k e log.takers was in
             let le : taken_at call c.k ≤ length e.sent = taken_within log call refl apart c.k e was in
             let le' : taken_at call c.k ≤ length c.sent = subst (λ (s : List ℕ). taken_at call c.k ≤ length s) (sym same) le in
-            let so = sent_so c e number same (exchange_of log.dialled c.k) (ap (exchange_of log.dialled) number) (ap (λ n. sent_by p e (exchange_of log.dialled n)) (sym number) ∙ all_give (was_sent log.dialled p) c.k e log.takers sent was) in
+            let so = sent_so c e number same (exchange_of log.dialled c.k) (ap (exchange_of log.dialled) number)
+            (ap (λ n. sent_by p e (exchange_of log.dialled n)) (sym number) ∙ all_give (was_sent log.dialled p) c.k e log.takers sent was) in
             by_whose c (exchange_of log.dialled c.k) (connection_still c.k c.sent (sent_as c found) le' (exchange_of log.dialled c.k) so.0 so.1)

@@ -55,7 +55,8 @@ module _ (limits : Limits) (call : Called) where
       by_parts false true g = absurd (let never : false ≡ true = g in cc)
       by_parts false false g = refl
 
-  pub served_now : (p : Proxy) → HasConsumers p → (c : ℕ) → is_live (p.tables.consumer c) ≡ true → may_be_polled call p (p.holder c) ≡ true → (k : ℕ) × IsServed call p k c
+  pub served_now : (p : Proxy) → HasConsumers p → (c : ℕ) → is_live (p.tables.consumer c) ≡ true → may_be_polled call p (p.holder c) ≡ true → (k : ℕ) ×
+      IsServed call p k c
   served_now p h c live may =
       let has = h.live c live in
       let holds : p.holder c ≡ Some has.0 = h.held has.0 c has.1 in
@@ -70,10 +71,13 @@ module _ (limits : Limits) (call : Called) where
   }
 
   -- Behind polls of live consumers, where the acts before were quiet.
-  pub served_behind : (cs : List ℕ) (p q : Proxy) → HasConsumers p → AreQuiet (acts_in p.part) → ((c : ℕ) → among c cs ≡ true → is_live (p.tables.consumer c) ≡ true) → Adds limits call 0 cs p q → AreServed call q (acts_in q.part)
+  pub served_behind : (cs : List ℕ) (p q : Proxy) → HasConsumers p → AreQuiet (acts_in p.part) →
+      ((c : ℕ) → among c cs ≡ true → is_live (p.tables.consumer c) ≡ true) → Adds limits call 0 cs p q → AreServed call q (acts_in q.part)
   served_behind cs p q h quiet live adds =
       are_served call (acts_in q.part) 0 q
-      (subst (ReportsUp 0) (sym adds.acts) (reports_both (acts_in p.part) adds.more 0 0 (quiet_up (acts_in p.part) 0 quiet) (λ c reported. absurd (quiet_unreported (acts_in p.part) c quiet reported)) (omega arith) adds.up))
+      (subst (ReportsUp 0) (sym adds.acts)
+      (reports_both (acts_in p.part) adds.more 0 0 (quiet_up (acts_in p.part) 0 quiet)
+      (λ c reported. absurd (quiet_unreported (acts_in p.part) c quiet reported)) (omega arith) adds.up))
       (λ c reported. by_part c (reported_either (acts_in p.part) adds.more c (subst (IsReceived c) adds.acts reported)))
     where
       by_part : (c : ℕ) → IsReceived c (acts_in p.part) ⊎ IsReceived c adds.more → (k : ℕ) × IsServed call q k c
@@ -85,7 +89,9 @@ module _ (limits : Limits) (call : Called) where
 
   -- THE DEFINITIONS' POLLS
 
-  by_test : (c : ℕ) (cs : List ℕ) (p : Proxy) (b : Bool) → may_be_polled call p (p.holder c) ≡ b → Stands limits p → ((r : Proxy) → Stands limits r → PollsBy limits call cs r (each_polled limits call cs r)) → PollsBy limits call (c ∷ cs) p (each_polled limits call cs (if b then stepped limits (event.Poll c 16384) p else p))
+  by_test : (c : ℕ) (cs : List ℕ) (p : Proxy) (b : Bool) → may_be_polled call p (p.holder c) ≡ b → Stands limits p →
+      ((r : Proxy) → Stands limits r → PollsBy limits call cs r (each_polled limits call cs r)) →
+      PollsBy limits call (c ∷ cs) p (each_polled limits call cs (if b then stepped limits (event.Poll c 16384) p else p))
   unfolding owed
   by_test c cs p true is s rest =
       let e = owed limits p.tables p.moment (event.Poll c 16384) in

@@ -24,7 +24,8 @@ abbrev pub ReportsUp : ℕ → List Act → Type 0
 ReportsUp n [] = Unit {0}
 ReportsUp n (a ∷ acts) = UpBy (addressee a) n (λ m. ReportsUp m acts)
 
-received_by : (o : Option ℕ) (acts : List Act) (n c : ℕ) → UpBy o n (λ m. ReportsUp m acts) → (o ≡ Some c) ⊎ IsReceived c acts → ((m : ℕ) → ReportsUp m acts → IsReceived c acts → m ≤ c) → n ≤ c
+received_by : (o : Option ℕ) (acts : List Act) (n c : ℕ) → UpBy o n (λ m. ReportsUp m acts) → (o ≡ Some c) ⊎ IsReceived c acts →
+    ((m : ℕ) → ReportsUp m acts → IsReceived c acts → m ≤ c) → n ≤ c
 received_by None acts n c up (inl is) rest = absurd (let never : None ≡ Some c = is in cc)
 received_by None acts n c up (inr reported) rest = rest n up reported
 received_by (Some d) acts n c up (inl is) rest = let same : d ≡ c = some_is d c is in let le : n ≤ d = up.0 in omega arith
@@ -64,18 +65,22 @@ module _ (call : Called) where
   }
 
   -- the act is for c, which is served; d is another
-  answer_keeps : (p : Proxy) (a : Act) (k c j d : ℕ) → IsServed call p k c → IsServed call p j d → nat_eq c d ≡ false → IsServed call (answers (p.holder c) a p) j d
+  answer_keeps : (p : Proxy) (a : Act) (k c j d : ℕ) → IsServed call p k c → IsServed call p j d → nat_eq c d ≡ false →
+      IsServed call (answers (p.holder c) a p) j d
   answer_keeps p a k c j d served other off =
       subst (λ (o : Option ℕ). IsServed call (answers o a p) j d) (sym served.held)
       (moved p k j d (answered a) (other_client p k c j d served.holder other.holder off) other)
 
   -- and of an act for nobody
-  pub act_keeps : (p : Proxy) (a : Act) (j d : ℕ) → ((c : ℕ) → addressee a ≡ Some c → ((k : ℕ) × IsServed call p k c) × (nat_eq c d ≡ false)) → IsServed call p j d → IsServed call (carried_out a p) j d
+  pub act_keeps : (p : Proxy) (a : Act) (j d : ℕ) → ((c : ℕ) → addressee a ≡ Some c → ((k : ℕ) × IsServed call p k c) × (nat_eq c d ≡ false)) →
+      IsServed call p j d → IsServed call (carried_out a p) j d
   act_keeps p (act.Denied refusal) j d reported s = s
-  act_keeps p (act.Opened x c need request) j d reported s = record { holder = record { row = s.holder.row; at = s.holder.at; here = s.holder.here; consumer = s.holder.consumer }; held = s.held; all = s.all }
+  act_keeps p (act.Opened x c need request) j d reported s =
+      record { holder = record { row = s.holder.row; at = s.holder.at; here = s.holder.here; consumer = s.holder.consumer }; held = s.held; all = s.all }
   act_keeps p (act.Ask x) j d reported s = s
   act_keeps p (act.Close x) j d reported s = s
-  act_keeps p (act.Shown c r why status fields lo hi) j d reported s = let t = reported c refl in answer_keeps p (act.Shown c r why status fields lo hi) t.0.0 c j d t.0.1 s t.1
+  act_keeps p (act.Shown c r why status fields lo hi) j d reported s = let t = reported c refl in
+      answer_keeps p (act.Shown c r why status fields lo hi) t.0.0 c j d t.0.1 s t.1
   act_keeps p (act.Given c x at bytes) j d reported s = let t = reported c refl in answer_keeps p (act.Given c x at bytes) t.0.0 c j d t.0.1 s t.1
   act_keeps p (act.Ended c) j d reported s = let t = reported c refl in answer_keeps p (act.Ended c) t.0.0 c j d t.0.1 s t.1
   act_keeps p (act.Failed c cause) j d reported s = let t = reported c refl in answer_keeps p (act.Failed c cause) t.0.0 c j d t.0.1 s t.1
@@ -85,7 +90,8 @@ module _ (call : Called) where
 
   -- ALL OF THEM
 
-  rest_served : (a : Act) (acts : List Act) (p : Proxy) (m : ℕ) → ReportsUp m acts → ((c : ℕ) → addressee a ≡ Some c → c + 1 ≤ m) → ((c : ℕ) → IsReceived c (a ∷ acts) → (k : ℕ) × IsServed call p k c) → (d : ℕ) → IsReceived d acts → (k : ℕ) × IsServed call (carried_out a p) k d
+  rest_served : (a : Act) (acts : List Act) (p : Proxy) (m : ℕ) → ReportsUp m acts → ((c : ℕ) → addressee a ≡ Some c → c + 1 ≤ m) →
+      ((c : ℕ) → IsReceived c (a ∷ acts) → (k : ℕ) × IsServed call p k c) → (d : ℕ) → IsReceived d acts → (k : ℕ) × IsServed call (carried_out a p) k d
   rest_served a acts p m rest last all d reported =
       let old = all d (inr reported) in
       (old.0, act_keeps p a old.0 d (λ c to. (all c (inl to), apart_from c (last c to))) old.1)
@@ -93,13 +99,16 @@ module _ (call : Called) where
       apart_from : (c : ℕ) → c + 1 ≤ m → nat_eq c d ≡ false
       apart_from c lt = let le : m ≤ d = reported_from acts m d rest reported in grind (arith, nat_tests)
 
-  by_addressee : (a : Act) (acts : List Act) (n : ℕ) (p : Proxy) → ((m : ℕ) → ReportsUp m acts → ((c : ℕ) → addressee a ≡ Some c → c + 1 ≤ m) → AreServed call (carried_out a p) acts) → (o : Option ℕ) → addressee a ≡ o → UpBy o n (λ m. ReportsUp m acts) → AreServed call (carried_out a p) acts
+  by_addressee : (a : Act) (acts : List Act) (n : ℕ) (p : Proxy) →
+      ((m : ℕ) → ReportsUp m acts → ((c : ℕ) → addressee a ≡ Some c → c + 1 ≤ m) → AreServed call (carried_out a p) acts) → (o : Option ℕ) →
+      addressee a ≡ o → UpBy o n (λ m. ReportsUp m acts) → AreServed call (carried_out a p) acts
   by_addressee a acts n p go None to rest = go n rest (λ c at. absurd (let never : None ≡ Some c = sym to ∙ at in cc))
   by_addressee a acts n p go (Some d) to rest =
       go (d + 1) rest.1 (λ c at. let same : d ≡ c = some_is d c (sym to ∙ at) in omega arith)
 
   -- Acts that are sent to consumers in ascending order, each of which is served.
-  pub are_served : (acts : List Act) (n : ℕ) (p : Proxy) → ReportsUp n acts → ((c : ℕ) → IsReceived c acts → (k : ℕ) × IsServed call p k c) → AreServed call p acts
+  pub are_served : (acts : List Act) (n : ℕ) (p : Proxy) → ReportsUp n acts → ((c : ℕ) → IsReceived c acts → (k : ℕ) × IsServed call p k c) →
+      AreServed call p acts
   are_served [] n p up all = tt
   are_served (a ∷ acts) n p up all = (
     λ c to. all c (inl to),

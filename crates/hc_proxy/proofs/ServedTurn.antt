@@ -49,7 +49,8 @@ module _ (k : ℕ) (change : Client → Client) (p : Proxy) where
       by_test false o some = some
 
   -- who is here was
-  here_was : ((r : Client) → p.client k ≡ Some r → (change r).gone ≡ false → r.gone ≡ false) → (j : ℕ) → is_client (q.client j) ≡ true → is_client (p.client j) ≡ true
+  here_was : ((r : Client) → p.client k ≡ Some r → (change r).gone ≡ false → r.gone ≡ false) → (j : ℕ) → is_client (q.client j) ≡ true →
+      is_client (p.client j) ≡ true
   here_was back j = by_test (nat_eq j k) refl
     where
       number : nat_eq j k ≡ true → j ≡ k
@@ -150,7 +151,8 @@ step_held limits ev p is w = record {
       entry_keeps limits p (owed limits p.tables p.moment ev) (law_of limits p w.stands) (e_owed limits ev p w) w.holders
       (λ c cancels. let at : ev ≡ event.Cancel c = sym (event_is limits ev p w) ∙ cancels in let never : true ≡ false = sym is ∙ ap is_of_exchange at in cc)
       (λ c starts. no_start ev c is (subst (Starts c) (event_is limits ev p w) starts));
-  last = start_by p.tables (owed limits p.tables p.moment ev) p.starts w.last (subst (IsNumbered p.starts) (sym (event_is limits ev p w)) (numbered_by ev p.starts is)) (is_denied (owed limits p.tables p.moment ev).acts) refl;
+  last = start_by p.tables (owed limits p.tables p.moment ev) p.starts w.last
+      (subst (IsNumbered p.starts) (sym (event_is limits ev p w)) (numbered_by ev p.starts is)) (is_denied (owed limits p.tables p.moment ev).acts) refl;
   listed = w.listed;
   few = w.few;
   quiet = quiet_now limits ev p w (no_poll ev is);
@@ -186,7 +188,8 @@ module _ (limits : Limits) where
   comes_held : (k : ℕ) (p : Proxy) → among k p.accepted ≡ false → Held p (client_comes k p)
   comes_held k p off w = by_row (p.client k) refl (nat_lt (length (clients_here p)) 512) refl
     where
-      by_row : (o : Option Client) → p.client k ≡ o → (b : Bool) → nat_lt (length (clients_here p)) 512 ≡ b → WellHeld limits (if is_none o && b then with_new k p else p)
+      by_row : (o : Option Client) → p.client k ≡ o → (b : Bool) → nat_lt (length (clients_here p)) 512 ≡ b →
+          WellHeld limits (if is_none o && b then with_new k p else p)
       by_row None at true less = come_held k p at off (grind (arith, nat_tests)) w
       by_row None at false less = w
       by_row (Some r) at b less = w
@@ -200,7 +203,8 @@ module _ (limits : Limits) where
     listed = λ j some. w.listed j (some_was k left p j some);
     few =
         let le : length (clients_here (with_client k left p)) ≤ length (clients_here p) =
-        fewer (λ j. is_client (p.client j)) (λ j. is_client ((with_client k left p).client j)) p.accepted (here_was k left p (λ s at off. absurd (let never : true ≡ false = off in cc))) in
+        fewer (λ j. is_client (p.client j)) (λ j. is_client ((with_client k left p).client j)) p.accepted
+        (here_was k left p (λ s at off. absurd (let never : true ≡ false = off in cc))) in
         let few = w.few in omega arith;
     quiet = w.quiet;
   }
@@ -209,12 +213,15 @@ module _ (limits : Limits) where
   unfolding with_entry
   busy_left k c p holder w = record {
     stands = let s = (goes_on limits (event.Cancel c) p w.stands).stands in record { run = s.run; same = s.same; later = s.later };
-    holders = leave_keeps limits p (owed limits p.tables p.moment (event.Cancel c)) (law_of limits p w.stands) (e_owed limits (event.Cancel c) p w) k c holder (event_is limits (event.Cancel c) p w) w.holders;
-    last = start_by p.tables (owed limits p.tables p.moment (event.Cancel c)) p.starts w.last (subst (IsNumbered p.starts) (sym (event_is limits (event.Cancel c) p w)) tt) (is_denied (owed limits p.tables p.moment (event.Cancel c)).acts) refl;
+    holders = leave_keeps limits p (owed limits p.tables p.moment (event.Cancel c)) (law_of limits p w.stands) (e_owed limits (event.Cancel c) p w) k c
+        holder (event_is limits (event.Cancel c) p w) w.holders;
+    last = start_by p.tables (owed limits p.tables p.moment (event.Cancel c)) p.starts w.last
+        (subst (IsNumbered p.starts) (sym (event_is limits (event.Cancel c) p w)) tt) (is_denied (owed limits p.tables p.moment (event.Cancel c)).acts) refl;
     listed = λ j some. w.listed j (some_was k left p j some);
     few =
         let le : length (clients_here (with_client k left p)) ≤ length (clients_here p) =
-        fewer (λ j. is_client (p.client j)) (λ j. is_client ((with_client k left p).client j)) p.accepted (here_was k left p (λ s at off. absurd (let never : true ≡ false = off in cc))) in
+        fewer (λ j. is_client (p.client j)) (λ j. is_client ((with_client k left p).client j)) p.accepted
+        (here_was k left p (λ s at off. absurd (let never : true ≡ false = off in cc))) in
         let few = w.few in omega arith;
     quiet = quiet_now limits (event.Cancel c) p w refl;
   }
@@ -243,7 +250,8 @@ module _ (limits : Limits) where
   broke_held k None p w = leaves_held k (p.client k) p refl w
   broke_held k (Some x) p w = either_held (is_open (p.tables.exchange x)) p (stepped limits (event.Fault x) p) (step_held limits (event.Fault x) p refl) w
 
-  by_event : (dialled bytes : List ℕ) (what : WireEvent) (p : Proxy) → ((k : ℕ) → what ≡ wire.Accepted k → among k p.accepted ≡ false) → Held p (handled_by limits dialled bytes what p)
+  by_event : (dialled bytes : List ℕ) (what : WireEvent) (p : Proxy) → ((k : ℕ) → what ≡ wire.Accepted k → among k p.accepted ≡ false) →
+      Held p (handled_by limits dialled bytes what p)
   by_event dialled bytes (wire.Accepted k) p new w = comes_held k p (new k refl) w
   by_event dialled bytes (wire.Got k n) p new w = sends_held k bytes (exchange_of dialled k) p w
   by_event dialled bytes (wire.Ended k) p new w = ends_held k (exchange_of dialled k) p w
@@ -251,7 +259,8 @@ module _ (limits : Limits) where
   by_event dialled bytes (wire.Room k) p new w = w
   by_event dialled bytes wire.Quiet p new w = w
 
-  handled_held : (dialled : List ℕ) (call : Called) (p : Proxy) → ((k : ℕ) → call.event ≡ wire.Accepted k → among k p.accepted ≡ false) → Held p (handled limits dialled call p)
+  handled_held : (dialled : List ℕ) (call : Called) (p : Proxy) → ((k : ℕ) → call.event ≡ wire.Accepted k → among k p.accepted ≡ false) →
+      Held p (handled limits dialled call p)
   unfolding handled
   handled_held dialled call p new w = by_event dialled call.bytes call.event p new w
 
@@ -272,21 +281,26 @@ module _ (limits : Limits) where
   Both p q = WellHeld limits q × Stay p q
 
   reads_held : (k : ℕ) (reading : Reading) (rest : List ℕ) (p : Proxy) → WellHeld limits p → Both p (with_client k (read_to reading rest) p)
-  reads_held k reading rest p w = (change_held k (read_to reading rest) p limits (λ r at. reads_keep reading rest r) w, stay_by k (read_to reading rest) p (λ r at. refl))
+  reads_held k reading rest p w =
+      (change_held k (read_to reading rest) p limits (λ r at. reads_keep reading rest r) w, stay_by k (read_to reading rest) p (λ r at. refl))
 
-  starts_held : (k : ℕ) (r : Client) (request : WireRequest) (p : Proxy) → p.client k ≡ Some r → r.gone ≡ false → r.consumer ≡ None → r.closing ≡ false → WellHeld limits p → Both p (started limits k request p)
+  starts_held : (k : ℕ) (r : Client) (request : WireRequest) (p : Proxy) → p.client k ≡ Some r → r.gone ≡ false → r.consumer ≡ None → r.closing ≡ false →
+      WellHeld limits p → Both p (started limits k request p)
   unfolding with_entry
   starts_held k r request p row here none open_still w = (
     record {
       stands = (goes_on limits (event.Start (p.starts + 1) request.request) asked asked_stands).stands;
-      holders = start_keeps limits p (owed limits p.tables p.moment (event.Start (p.starts + 1) request.request)) (law_of limits p w.stands) (e_owed limits (event.Start (p.starts + 1) request.request) p w)
+      holders = start_keeps limits p (owed limits p.tables p.moment (event.Start (p.starts + 1) request.request)) (law_of limits p w.stands)
+          (e_owed limits (event.Start (p.starts + 1) request.request) p w)
           k r request row here none open_still w.last few_now (event_is limits (event.Start (p.starts + 1) request.request) p w) w.holders;
       last = start_by p.tables (owed limits p.tables p.moment (event.Start (p.starts + 1) request.request)) (p.starts + 1) (let le = w.last in omega arith)
-          (subst (IsNumbered (p.starts + 1)) (sym (event_is limits (event.Start (p.starts + 1) request.request) p w)) (omega arith)) (is_denied (owed limits p.tables p.moment (event.Start (p.starts + 1) request.request)).acts) refl;
+          (subst (IsNumbered (p.starts + 1)) (sym (event_is limits (event.Start (p.starts + 1) request.request) p w)) (omega arith))
+          (is_denied (owed limits p.tables p.moment (event.Start (p.starts + 1) request.request)).acts) refl;
       listed = λ j some. w.listed j (some_was k (asks (p.starts + 1) request) p j some);
       few =
           let le : length (clients_here (with_client k (asks (p.starts + 1) request) p)) ≤ length (clients_here p) =
-          fewer (λ j. is_client (p.client j)) (λ j. is_client ((with_client k (asks (p.starts + 1) request) p).client j)) p.accepted (here_was k (asks (p.starts + 1) request) p (λ s at off. off)) in
+          fewer (λ j. is_client (p.client j)) (λ j. is_client ((with_client k (asks (p.starts + 1) request) p).client j)) p.accepted
+          (here_was k (asks (p.starts + 1) request) p (λ s at off. off)) in
           let few = w.few in omega arith;
       quiet = quiet_now limits (event.Start (p.starts + 1) request.request) p w refl;
     },
@@ -304,7 +318,8 @@ module _ (limits : Limits) where
           let le : live p.tables ≤ length (clients_here p) = few_live p (law_of limits p w.stands) w.holders w.listed in
           let few = w.few in omega arith
 
-  token_held : (k : ℕ) (r : Client) (token : Token) (p : Proxy) → p.client k ≡ Some r → r.gone ≡ false → r.consumer ≡ None → r.closing ≡ false → WellHeld limits p → Both p (hears_request limits k token p)
+  token_held : (k : ℕ) (r : Client) (token : Token) (p : Proxy) → p.client k ≡ Some r → r.gone ≡ false → r.consumer ≡ None → r.closing ≡ false →
+      WellHeld limits p → Both p (hears_request limits k token p)
   token_held k r (Asks request) p row here none open_still w = starts_held k r request p row here none open_still w
   token_held k r (Answers response) p row here none open_still w = (w, λ j h. h)
   token_held k r (Byte b) p row here none open_still w = (w, λ j h. h)
@@ -312,18 +327,21 @@ module _ (limits : Limits) where
   two_held : (p q s : Proxy) → Both p q → (WellHeld limits q → Both q s) → Both p s
   two_held p q s a b = let second = b a.0 in (second.0, λ j h. second.1 j (a.1 j h))
 
-  hears_held : (k : ℕ) (r : Client) (n : Next) (p : Proxy) → p.client k ≡ Some r → r.gone ≡ false → r.consumer ≡ None → r.closing ≡ false → WellHeld limits p → Both p (hears limits k n p)
+  hears_held : (k : ℕ) (r : Client) (n : Next) (p : Proxy) → p.client k ≡ Some r → r.gone ≡ false → r.consumer ≡ None → r.closing ≡ false →
+      WellHeld limits p → Both p (hears limits k n p)
   hears_held k r (Waits reading) p row here none open_still w = reads_held k reading [] p w
   hears_held k r (Reports token reading rest) p row here none open_still w =
       two_held p (with_client k (read_to reading rest) p) (hears limits k (Reports token reading rest) p) (reads_held k reading rest p w)
-      (λ v. token_held k (read_to reading rest r) token (with_client k (read_to reading rest) p) (changed_here k (read_to reading rest) p r row) here none open_still v)
+      (λ v. token_held k (read_to reading rest r) token (with_client k (read_to reading rest) p) (changed_here k (read_to reading rest) p r row) here none
+      open_still v)
   hears_held k r (Brings bytes reading rest) p row here none open_still w = (w, λ j h. h)
   hears_held k r Ends p row here none open_still w = (w, λ j h. h)
   hears_held k r (Fails e) p row here none open_still w =
       two_held p (with_client k (read_to (Failed e) []) p) (hears limits k (Fails e) p) (reads_held k (Failed e) [] p w)
       (λ v. (
         change_held k (refused e) (with_client k (read_to (Failed e) []) p) limits
-            (λ s at. refused_keeps e s (ap (λ (c : Client). c.consumer) (some_is s (read_to (Failed e) [] r) (sym at ∙ changed_here k (read_to (Failed e) []) p r row)) ∙ none)) v,
+            (λ s at. refused_keeps e s
+            (ap (λ (c : Client). c.consumer) (some_is s (read_to (Failed e) [] r) (sym at ∙ changed_here k (read_to (Failed e) []) p r row)) ∙ none)) v,
         stay_by k (refused e) (with_client k (read_to (Failed e) []) p) (λ s at. refl),
       ))
 
@@ -361,7 +379,8 @@ module _ (limits : Limits) where
           by_gone true h = absurd (let never : false ≡ true = h in cc)
           by_gone false h = refl
 
-      by_test : AllHere p (filter (λ j. is_client (p.client j)) ks) → (b : Bool) → is_client (p.client k) ≡ b → AllHere p (if b then k ∷ filter (λ j. is_client (p.client j)) ks else filter (λ j. is_client (p.client j)) ks)
+      by_test : AllHere p (filter (λ j. is_client (p.client j)) ks) → (b : Bool) → is_client (p.client k) ≡ b →
+          AllHere p (if b then k ∷ filter (λ j. is_client (p.client j)) ks else filter (λ j. is_client (p.client j)) ks)
       by_test rest false is = rest
       by_test rest true is = (here_by (p.client k) refl is, rest)
 
@@ -377,11 +396,13 @@ module _ (limits : Limits) where
       let law = law_of limits p w.stands in
       served_behind limits call (live_consumers p.tables) p (each_polled limits call (live_consumers p.tables) p) w.holders w.quiet
       (λ c there. sym (lives_are p.tables law c) ∙ there)
-      (polls_add limits call (live_consumers p.tables) 0 p (each_polled limits call (live_consumers p.tables) p) (lives_ascend p.tables law) w.stands (each_is_by limits call (live_consumers p.tables) p w.stands))
+      (polls_add limits call (live_consumers p.tables) 0 p (each_polled limits call (live_consumers p.tables) p) (lives_ascend p.tables law) w.stands
+      (each_is_by limits call (live_consumers p.tables) p w.stands))
 
   -- A TURN
 
-  pub happened_served : (dialled : List ℕ) (call : Called) (p : Proxy) → ((k : ℕ) → call.event ≡ wire.Accepted k → among k p.accepted ≡ false) → WellHeld limits p → AreServed call (happened limits dialled call p) (acts_in (happened limits dialled call p).part)
+  pub happened_served : (dialled : List ℕ) (call : Called) (p : Proxy) → ((k : ℕ) → call.event ≡ wire.Accepted k → among k p.accepted ≡ false) →
+      WellHeld limits p → AreServed call (happened limits dialled call p) (acts_in (happened limits dialled call p).part)
   happened_served dialled call p new w =
       polled_served call (started_all limits call (heard limits (handled limits dialled call p)))
       (started_held call (heard limits (handled limits dialled call p)) (heard_held (handled limits dialled call p) (handled_held dialled call p new w)))

@@ -23,17 +23,21 @@ module _ {B : Type 0} {g : Ghosts B} where
   wire_lists stages x s stays w = record {
     clients = w.clients;
     upstreams = λ y u is. w.upstreams y u (sym (stays y) ∙ is);
-    all = λ k opens. elim (w.all k opens) as (λ _. IsSome (client_of x.clients k) ⊎ ((y : ℕ) × (v : origin.Upstream) × (upstream_of s y ≡ Some v) × (v.k ≡ k)) ⊎ Contains x.closed.items k) [
-      | inl here ↦ inl here
-      | inr other ↦ elim other as (λ _. IsSome (client_of x.clients k) ⊎ ((y : ℕ) × (v : origin.Upstream) × (upstream_of s y ≡ Some v) × (v.k ≡ k)) ⊎ Contains x.closed.items k) [
-        | inl up ↦ inr (inl (up.0, up.1, stays up.0 ∙ up.2, up.3))
-        | inr there ↦ inr (inr there)
-      ]
-    ];
+    all = λ k opens. elim (w.all k opens) as
+        (λ _. IsSome (client_of x.clients k) ⊎ ((y : ℕ) × (v : origin.Upstream) × (upstream_of s y ≡ Some v) × (v.k ≡ k)) ⊎ Contains x.closed.items k) [
+          | inl here ↦ inl here
+          | inr other ↦ elim other as
+              (λ _. IsSome (client_of x.clients k) ⊎ ((y : ℕ) × (v : origin.Upstream) × (upstream_of s y ≡ Some v) × (v.k ≡ k)) ⊎ Contains x.closed.items k) [
+                | inl up ↦ inr (inl (up.0, up.1, stays up.0 ∙ up.2, up.3))
+                | inr there ↦ inr (inr there)
+              ]
+        ];
     closed = λ k there. let was = w.closed k there in (was.0, λ y u is. was.1 y u (sym (stays y) ∙ is));
   }
 
-  module _ (z : ℕ) (t : Turn) (x : loop.Proxy B g) (p : Proxy) (h : KeepsBut z t x p) (s : Upstreams) (stays : Stays x.upstreams s) (news : (y : ℕ) → nat_eq y z ≡ false → is_news s y ≡ is_news x.upstreams y) (touched : (y : ℕ) → nat_eq y z ≡ false → is_touched s y ≡ is_touched x.upstreams y) where
+  module _ (z : ℕ) (t : Turn) (x : loop.Proxy B g) (p : Proxy) (h : KeepsBut z t x p) (s : Upstreams) (stays : Stays x.upstreams s)
+      (news : (y : ℕ) → nat_eq y z ≡ false → is_news s y ≡ is_news x.upstreams y)
+      (touched : (y : ℕ) → nat_eq y z ≡ false → is_touched s y ≡ is_touched x.upstreams y) where
     ups : HasUpstreamsBut z t (record x { upstreams = s }) p (acts_in p.part)
     ups = record {
       rows = λ y on le. subst (λ o. IsUpstreamAt (taken_at t.call) o (p.upstream y)) (sym (stays y)) (h.upstreams.rows y on le);
@@ -65,7 +69,9 @@ module _ {B : Type 0} {g : Ghosts B} where
 
   -- WHERE IT IS OPEN
 
-  module _ (z : ℕ) (t : Turn) (x : loop.Proxy B g) (p : Proxy) (h : KeepsBut z t x p) (heard : IsHeardAt z p) (listed : is_news x.upstreams z ≡ true) (on : is_open (p.tables.exchange z) ≡ true) (s : Upstreams) (stays : Stays x.upstreams s) (news : (y : ℕ) → is_news s y ≡ is_news x.upstreams y) (touched : Marks (is_touched x.upstreams) (is_touched s) z true) where
+  module _ (z : ℕ) (t : Turn) (x : loop.Proxy B g) (p : Proxy) (h : KeepsBut z t x p) (heard : IsHeardAt z p) (listed : is_news x.upstreams z ≡ true)
+      (on : is_open (p.tables.exchange z) ≡ true) (s : Upstreams) (stays : Stays x.upstreams s) (news : (y : ℕ) → is_news s y ≡ is_news x.upstreams y)
+      (touched : Marks (is_touched x.upstreams) (is_touched s) z true) where
     touched_off : (y : ℕ) → nat_eq y z ≡ false → is_touched s y ≡ is_touched x.upstreams y
     touched_off y off = touched y ∙ rw off refl
 
@@ -84,7 +90,8 @@ module _ {B : Type 0} {g : Ghosts B} where
     })
 
     -- it leaves them
-    module _ (off : (is_wanted (p.tables.exchange z) && has_news_at (upstream_of s z)) ≡ false) (s' : Upstreams) (still : Stays s s') (forgets : Marks (is_news s) (is_news s') z false) (same : (y : ℕ) → is_touched s' y ≡ is_touched s y) where
+    module _ (off : (is_wanted (p.tables.exchange z) && has_news_at (upstream_of s z)) ≡ false) (s' : Upstreams) (still : Stays s s')
+        (forgets : Marks (is_news s) (is_news s') z false) (same : (y : ℕ) → is_touched s' y ≡ is_touched s y) where
       none_due : (o : Option Upstream) → p.upstream z ≡ o → is_due_by (is_wanted (p.tables.exchange z)) o ≡ false
       none_due None is = refl
       none_due (Some v) is = rw (wants_not z t (record x { upstreams = s }) p touched_but v is off (is_wanted (p.tables.exchange z)) refl) (by_end v.ended refl)

@@ -89,21 +89,24 @@ module _ {P : Type 0} (step : ℕ → P → P) where
     itself : (x : ℕ) → nat_eq x x ≡ true
     itself x = grind (arith, nat_tests)
 
-    less_left : (x y : ℕ) (xs ys : List ℕ) → x + 1 ≤ y → Same xs (y ∷ ys) → (n m : ℕ) → Ascends n (x ∷ xs) → Ascends m (y ∷ ys) → (p : P) → Inv p → IdleBut (x ∷ xs) (y ∷ ys) p → IdleBut (y ∷ ys) (x ∷ xs) p → each (x ∷ xs) p ≡ each (y ∷ ys) p
+    less_left : (x y : ℕ) (xs ys : List ℕ) → x + 1 ≤ y → Same xs (y ∷ ys) → (n m : ℕ) → Ascends n (x ∷ xs) → Ascends m (y ∷ ys) → (p : P) → Inv p →
+        IdleBut (x ∷ xs) (y ∷ ys) p → IdleBut (y ∷ ys) (x ∷ xs) p → each (x ∷ xs) p ≡ each (y ∷ ys) p
     less_left x y xs ys less rest n m up_x up_y p inv a b =
         let none : among x (y ∷ ys) ≡ false = not_below (x + 1) (y ∷ ys) (less, up_y.1) x (omega arith) in
         let one : among x (x ∷ xs) ≡ true = rw (itself x) refl in
         let skip : step x p ≡ p = s.skips x p inv (a x one none) in
         rw skip (rest (x + 1) m up_x.1 up_y p inv (drop_idle x xs (y ∷ ys) p a) (widen_idle x xs (y ∷ ys) p b none))
 
-    less_right : (x y : ℕ) (xs ys : List ℕ) → y + 1 ≤ x → Same (x ∷ xs) ys → (n m : ℕ) → Ascends n (x ∷ xs) → Ascends m (y ∷ ys) → (p : P) → Inv p → IdleBut (x ∷ xs) (y ∷ ys) p → IdleBut (y ∷ ys) (x ∷ xs) p → each (x ∷ xs) p ≡ each (y ∷ ys) p
+    less_right : (x y : ℕ) (xs ys : List ℕ) → y + 1 ≤ x → Same (x ∷ xs) ys → (n m : ℕ) → Ascends n (x ∷ xs) → Ascends m (y ∷ ys) → (p : P) → Inv p →
+        IdleBut (x ∷ xs) (y ∷ ys) p → IdleBut (y ∷ ys) (x ∷ xs) p → each (x ∷ xs) p ≡ each (y ∷ ys) p
     less_right x y xs ys less rest n m up_x up_y p inv a b =
         let none : among y (x ∷ xs) ≡ false = not_below (y + 1) (x ∷ xs) (less, up_x.1) y (omega arith) in
         let one : among y (y ∷ ys) ≡ true = rw (itself y) refl in
         let skip : step y p ≡ p = s.skips y p inv (b y one none) in
         rw skip (rest n (y + 1) up_x up_y.1 p inv (widen_idle y ys (x ∷ xs) p a none) (drop_idle y ys (x ∷ xs) p b))
 
-    same_first : (x : ℕ) (xs ys : List ℕ) → Same xs ys → (n m : ℕ) → Ascends n (x ∷ xs) → Ascends m (x ∷ ys) → (p : P) → Inv p → IdleBut (x ∷ xs) (x ∷ ys) p → IdleBut (x ∷ ys) (x ∷ xs) p → each (x ∷ xs) p ≡ each (x ∷ ys) p
+    same_first : (x : ℕ) (xs ys : List ℕ) → Same xs ys → (n m : ℕ) → Ascends n (x ∷ xs) → Ascends m (x ∷ ys) → (p : P) → Inv p →
+        IdleBut (x ∷ xs) (x ∷ ys) p → IdleBut (x ∷ ys) (x ∷ xs) p → each (x ∷ xs) p ≡ each (x ∷ ys) p
     same_first x xs ys rest n m up_x up_y p inv a b =
         rest (x + 1) (x + 1) up_x.1 up_y.1 (step x p) (s.keeps x p inv) (rest_idle x xs ys p inv up_x.1 a) (rest_idle x ys xs p inv up_y.1 b)
 
@@ -115,7 +118,8 @@ module _ {P : Type 0} (step : ℕ → P → P) where
         by_tests false true is off = inr (inl (grind (arith, nat_tests)))
         by_tests false false is off = inr (inr (grind (arith, nat_tests)))
 
-    by_order : (x y : ℕ) (xs ys : List ℕ) → Same xs (y ∷ ys) → Same (x ∷ xs) ys → ((y ≡ x) → Same xs ys) → (x + 1 ≤ y) ⊎ (y + 1 ≤ x) ⊎ (y ≡ x) → Same (x ∷ xs) (y ∷ ys)
+    by_order : (x y : ℕ) (xs ys : List ℕ) → Same xs (y ∷ ys) → Same (x ∷ xs) ys → ((y ≡ x) → Same xs ys) → (x + 1 ≤ y) ⊎ (y + 1 ≤ x) ⊎ (y ≡ x) →
+        Same (x ∷ xs) (y ∷ ys)
     by_order x y xs ys left right both (inl less) = less_left x y xs ys less left
     by_order x y xs ys left right both (inr (inl less)) = less_right x y xs ys less right
     by_order x y xs ys left right both (inr (inr same)) =

@@ -46,7 +46,8 @@ pub nobody_left : (c : ℕ) (old new : Clients) → HearsNext c old new reported
 nobody_left c old new (clients.nobody none is stays) = none
 nobody_left c old new (clients.somebody w) = never_nobody w.k (next_in 1 w.client.reader w.client.input) w.result_is
 
-pub one_less : (c : ℕ) (old new : Clients) (result : NextRequest) → (result ≡ reported.Nobody → ⊥) → HearsNext c old new result → IsNext true (ready_of old) (ready_of new)
+pub one_less : (c : ℕ) (old new : Clients) (result : NextRequest) → (result ≡ reported.Nobody → ⊥) → HearsNext c old new result →
+    IsNext true (ready_of old) (ready_of new)
 one_less c old new result some (clients.nobody none is stays) = absurd (some is)
 one_less c old new result some (clients.somebody w) = (w.k, w.first ∙ ap (λ (ks : List ℕ). w.k ∷ ks) (sym w.others))
 
@@ -83,7 +84,8 @@ module _ {B : Type 0} {g : Ghosts B} where
       omega arith)
 
   -- nobody waits for the next number
-  pub new_number : (x : loop.Proxy B g) → ∥ IsHeard x ∥₁ → (k : ℕ) (client : peer.Client) → client_of x.clients k ≡ Some client → client.consumer ≢ Some (x.starts + 1)
+  pub new_number : (x : loop.Proxy B g) → ∥ IsHeard x ∥₁ → (k : ℕ) (client : peer.Client) → client_of x.clients k ≡ Some client →
+      client.consumer ≢ Some (x.starts + 1)
   new_number x some k client row is = ∥∥₁_elim some (λ a b. absurd a) (λ s.
       let keeps = s.2.quiet.keeps in
       let w = holder_of s.0 x s.1 keeps.clients (x.starts + 1) k (x.clients.alive.1 (x.starts + 1) k (ap consumer_at row ∙ is)) in
@@ -120,11 +122,14 @@ module _ {B : Type 0} {g : Ghosts B} where
   -- WHAT IS DONE
 
   module _ (t : Turn) (x : loop.Proxy B g) (p : Proxy) (h : KeepsHeard t x p) (s : Clients) where
-    pub goes_nobody : HearsNext (x.starts + 1) x.clients s reported.Nobody → Goes (KeepsHeard t) (faults_in x.cache) (record x { clients = s }) (each_heard t.frame.limits t.call (first_ready (ready_of x.clients)) p)
+    pub goes_nobody : HearsNext (x.starts + 1) x.clients s reported.Nobody →
+        Goes (KeepsHeard t) (faults_in x.cache) (record x { clients = s }) (each_heard t.frame.limits t.call (first_ready (ready_of x.clients)) p)
     goes_nobody (clients.nobody none is stays) = nobody_goes t x p h s stays none
     goes_nobody (clients.somebody w) = never_nobody w.k (next_in 1 w.client.reader w.client.input) w.result_is
 
-    nothing_by : (w : clients.IsHeard (x.starts + 1) x.clients s reported.Nothing) (n : Next) → IsNextAsked n → clients.Becomes w.k (Some (hearing (x.starts + 1) n w.client)) x.clients s → reported.Nothing ≡ outcome_of w.k n → Goes (KeepsHeard t) (faults_in x.cache) (record x { clients = s }) (hears t.frame.limits w.k n p)
+    nothing_by : (w : clients.IsHeard (x.starts + 1) x.clients s reported.Nothing) (n : Next) → IsNextAsked n →
+        clients.Becomes w.k (Some (hearing (x.starts + 1) n w.client)) x.clients s → reported.Nothing ≡ outcome_of w.k n →
+        Goes (KeepsHeard t) (faults_in x.cache) (record x { clients = s }) (hears t.frame.limits w.k n p)
     nothing_by w (Waits reading) of becomes is = waits_goes t x p h w.k w.rest w.client w.first w.row reading s (of_head reading of) becomes
     nothing_by w (Reports (Asks request) reading rest) of becomes is = asks_nothing w.k request.request (sym is)
     nothing_by w (Reports (Answers response) reading rest) of becomes is = absurd of
@@ -133,14 +138,17 @@ module _ {B : Type 0} {g : Ghosts B} where
     nothing_by w Ends of becomes is = absurd of
     nothing_by w (Fails e) of becomes is = fails_goes t x p h w.k w.rest w.client w.first w.row e s becomes
 
-    pub goes_nothing : HearsNext (x.starts + 1) x.clients s reported.Nothing → Goes (KeepsHeard t) (faults_in x.cache) (record x { clients = s }) (each_heard t.frame.limits t.call (first_ready (ready_of x.clients)) p)
+    pub goes_nothing : HearsNext (x.starts + 1) x.clients s reported.Nothing →
+        Goes (KeepsHeard t) (faults_in x.cache) (record x { clients = s }) (each_heard t.frame.limits t.call (first_ready (ready_of x.clients)) p)
     goes_nothing (clients.nobody none is stays) = absurd (let never : reported.Nothing ≡ reported.Nobody = is in cc)
     goes_nothing (clients.somebody w) =
         subst (λ q. Goes (KeepsHeard t) (faults_in x.cache) (record x { clients = s }) q) (sym (each_is t x p h w.k w.rest w.client w.first w.row))
-        (nothing_by w (next_in 1 w.client.reader w.client.input) (next_asks 1 w.client.reader w.client.input (of_requests t x p h w.k w.rest w.client w.first w.row)) w.becomes w.result_is)
+        (nothing_by w (next_in 1 w.client.reader w.client.input)
+        (next_asks 1 w.client.reader w.client.input (of_requests t x p h w.k w.rest w.client w.first w.row)) w.becomes w.result_is)
 
     module _ (k : ℕ) (r : Request) (x' : loop.Proxy B g)
-        (steps_by : (f : Frame) (q : Proxy) → HasCache f (record x { clients = s; starts = x.starts + 1 }) q → unread q + bytes_received x.cache + 0 ≤ f.bytes → Stepped f (record x { clients = s; starts = x.starts + 1 }) x' (event.Start (x.starts + 1) r) q)
+        (steps_by : (f : Frame) (q : Proxy) → HasCache f (record x { clients = s; starts = x.starts + 1 }) q →
+        unread q + bytes_received x.cache + 0 ≤ f.bytes → Stepped f (record x { clients = s; starts = x.starts + 1 }) x' (event.Start (x.starts + 1) r) q)
         (stay : RestStays (record x { clients = s; starts = x.starts + 1 }) x') (moved : x'.moved ≡ true) (count : steps x'.cache ≡ steps x.cache + 1) where
       asked_by : (w : clients.IsHeard (x.starts + 1) x.clients s (reported.Asks k r)) (n : Next) → IsNextAsked n → clients.Becomes w.k (Some (hearing (x.starts + 1) n w.client)) x.clients s → reported.Asks k r ≡ outcome_of w.k n → Goes (KeepsHeard t) (faults_in x.cache) x' (hears t.frame.limits w.k n p)
       asked_by w (Reports (Asks request) reading left) of becomes is =
@@ -154,8 +162,10 @@ module _ {B : Type 0} {g : Ghosts B} where
       asked_by w Ends of becomes is = absurd of
       asked_by w (Fails e) of becomes is = asks_nothing k r is
 
-      pub goes_asks : HearsNext (x.starts + 1) x.clients s (reported.Asks k r) → Goes (KeepsHeard t) (faults_in x.cache) x' (each_heard t.frame.limits t.call (first_ready (ready_of x.clients)) p)
+      pub goes_asks : HearsNext (x.starts + 1) x.clients s (reported.Asks k r) →
+          Goes (KeepsHeard t) (faults_in x.cache) x' (each_heard t.frame.limits t.call (first_ready (ready_of x.clients)) p)
       goes_asks (clients.nobody none is stays) = absurd (let never : reported.Asks k r ≡ reported.Nobody = is in cc)
       goes_asks (clients.somebody w) =
           subst (λ q. Goes (KeepsHeard t) (faults_in x.cache) x' q) (sym (each_is t x p h w.k w.rest w.client w.first w.row))
-          (asked_by w (next_in 1 w.client.reader w.client.input) (next_asks 1 w.client.reader w.client.input (of_requests t x p h w.k w.rest w.client w.first w.row)) w.becomes w.result_is)
+          (asked_by w (next_in 1 w.client.reader w.client.input)
+          (next_asks 1 w.client.reader w.client.input (of_requests t x p h w.k w.rest w.client w.first w.row)) w.becomes w.result_is)

@@ -39,7 +39,8 @@ both_changes k f h all = fun_ext (λ j. at j (nat_eq j k) (all j))
     mapped None = refl
     mapped (Some r) = refl
 
-    at : (j : ℕ) (b : Bool) (o : Option Client) → (if b then option_map f (if b then option_map h o else o) else (if b then option_map h o else o)) ≡ (if b then option_map (λ r. f (h r)) o else o)
+    at : (j : ℕ) (b : Bool) (o : Option Client) →
+        (if b then option_map f (if b then option_map h o else o) else (if b then option_map h o else o)) ≡ (if b then option_map (λ r. f (h r)) o else o)
     at j true o = mapped o
     at j false o = refl
 
@@ -62,13 +63,36 @@ none_on k f all j none = by_test (nat_eq j k) (all j) none
 
 -- WHAT THE ROW BECOMES
 
-read_is : (taken : ℕ) (client : peer.Client) (r : Client) (reading : Reading) (left : List ℕ) → IsOfRequests reading → IsClient taken client r → IsClient taken (peers.read_to reading left client) (read_to reading left r)
+read_is : (taken : ℕ) (client : peer.Client) (r : Client) (reading : Reading) (left : List ℕ) → IsOfRequests reading → IsClient taken client r →
+    IsClient taken (peers.read_to reading left client) (read_to reading left r)
 read_is taken client r reading left of is =
-    record { here = is.here; reading = refl; input = refl; consumer = is.consumer; reply = is.reply; closing = is.closing; within = is.within; unsent = is.unsent; asking = of }
+    record {
+      here = is.here;
+      reading = refl;
+      input = refl;
+      consumer = is.consumer;
+      reply = is.reply;
+      closing = is.closing;
+      within = is.within;
+      unsent =
+          is.unsent;
+      asking = of;
+    }
 
-asks_is : (taken c d : ℕ) (client : peer.Client) (r : Client) (request : WireRequest) → c ≡ d → IsClient taken client r → IsClient taken (peers.asks c request client) (asks d request r)
+asks_is : (taken c d : ℕ) (client : peer.Client) (r : Client) (request : WireRequest) → c ≡ d → IsClient taken client r →
+    IsClient taken (peers.asks c request client) (asks d request r)
 asks_is taken c d client r request same is =
-    record { here = is.here; reading = is.reading; input = is.input; consumer = ap Some same; reply = refl; closing = is.closing; within = is.within; unsent = is.unsent; asking = is.asking }
+    record {
+      here = is.here;
+      reading = is.reading;
+      input = is.input;
+      consumer = ap Some same;
+      reply = refl;
+      closing = is.closing;
+      within = is.within;
+      unsent = is.unsent;
+      asking = is.asking;
+    }
 
 refused_is : (taken : ℕ) (client : peer.Client) (r : Client) (e : MsgError) → IsClient taken client r → IsClient taken (peers.refused e client) (refused e r)
 refused_is taken client r e is =
@@ -109,10 +133,11 @@ module _ {B : Type 0} {g : Ghosts B} (t : Turn) (x : loop.Proxy B g) (p : Proxy)
         wire = record {
           clients = λ j c is. keeps.wire.clients j c (sym (stays j) ∙ is);
           upstreams = keeps.wire.upstreams;
-          all = λ j opens. elim (keeps.wire.all j opens) as (λ _. IsSome (client_of s j) ⊎ ((y : ℕ) × (u : origin.Upstream) × (upstream_of x.upstreams y ≡ Some u) × (u.k ≡ j)) ⊎ Contains x.closed.items j) [
-            | inl there ↦ inl (subst IsSome (sym (stays j)) there)
-            | inr other ↦ inr other
-          ];
+          all = λ j opens. elim (keeps.wire.all j opens) as
+              (λ _. IsSome (client_of s j) ⊎ ((y : ℕ) × (u : origin.Upstream) × (upstream_of x.upstreams y ≡ Some u) × (u.k ≡ j)) ⊎ Contains x.closed.items j) [
+                | inl there ↦ inl (subst IsSome (sym (stays j)) there)
+                | inr other ↦ inr other
+              ];
           closed = λ j there. let was = keeps.wire.closed j there in (stays j ∙ was.0, was.1);
         };
         numbers = keeps.numbers;
@@ -127,7 +152,8 @@ module _ {B : Type 0} {g : Ghosts B} (t : Turn) (x : loop.Proxy B g) (p : Proxy)
     heard = h.heard;
   }
 
-  pub nobody_goes : (s : Clients) → clients.Stays x.clients s → ready_of x.clients ≡ [] → Goes (KeepsHeard t) (faults_in x.cache) (record x { clients = s }) (each_heard t.frame.limits t.call (first_ready (ready_of x.clients)) p)
+  pub nobody_goes : (s : Clients) → clients.Stays x.clients s → ready_of x.clients ≡ [] →
+      Goes (KeepsHeard t) (faults_in x.cache) (record x { clients = s }) (each_heard t.frame.limits t.call (first_ready (ready_of x.clients)) p)
   nobody_goes s stays none = record {
     q = p;
     keeps = stays_heard s stays;
@@ -143,7 +169,8 @@ module _ {B : Type 0} {g : Ghosts B} (t : Turn) (x : loop.Proxy B g) (p : Proxy)
     pub is : IsClient (taken_at t.call k) client row
     pub ready : is_ready t.call k row ≡ true
 
-  one_by : (k : ℕ) (client : peer.Client) (o : Option peer.Client) (r : Option Client) → IsClientAt (taken_at t.call k) o r → p.client k ≡ r → o ≡ Some client → ready_at o ≡ true → IsReadOne k client
+  one_by : (k : ℕ) (client : peer.Client) (o : Option peer.Client) (r : Option Client) → IsClientAt (taken_at t.call k) o r → p.client k ≡ r →
+      o ≡ Some client → ready_at o ≡ true → IsReadOne k client
   one_by k client None r at row is on = none_some client is
   one_by k client (Some d) None at row is on = absurd at
   one_by k client (Some d) (Some r) at row is on =
@@ -168,7 +195,8 @@ module _ {B : Type 0} {g : Ghosts B} (t : Turn) (x : loop.Proxy B g) (p : Proxy)
     n = next_in 1 client.reader client.input
 
     parts : (is_none one.row.consumer ≡ true) × (not one.row.closing ≡ true)
-    parts = ready_parts (nat_lt 0 (length one.row.input)) (is_none one.row.consumer) (not (nat_lt (taken_at t.call k) (length one.row.owed))) (not one.row.closing) one.ready
+    parts = ready_parts (nat_lt 0 (length one.row.input)) (is_none one.row.consumer) (not (nat_lt (taken_at t.call k) (length one.row.owed)))
+        (not one.row.closing) one.ready
 
     waits_not : one.row.consumer ≡ None
     waits_not = none_of one.row.consumer parts.0
@@ -190,11 +218,17 @@ module _ {B : Type 0} {g : Ghosts B} (t : Turn) (x : loop.Proxy B g) (p : Proxy)
 
     -- ITS ROW CHANGES
 
-    module _ (now : peer.Client) (change : Client → Client) (s : Clients) (becomes : clients.Becomes k (Some now) x.clients s) (alike : IsClient (taken_at t.call k) now (change one.row)) (reads : now.reading ≡ client.reading) where
+    module _ (now : peer.Client) (change : Client → Client) (s : Clients) (becomes : clients.Becomes k (Some now) x.clients s)
+        (alike : IsClient (taken_at t.call k) now (change one.row)) (reads : now.reading ≡ client.reading) where
       change_is : ChangesClient (taken_at t.call k) (client_of x.clients k) (p.client k) (Some now) change
       change_is = record {
         alike = subst (λ r. IsClientAt (taken_at t.call k) (Some now) (option_map change r)) (sym one.at) alike;
-        reads = λ d same. (client, is_row, ap (λ (z : peer.Client). z.reading) (let some : Some now ≡ Some d = same in let back : d ≡ now = cc in back) ∙ reads);
+        reads = λ d same. (
+          client,
+          is_row,
+          ap (λ (z : peer.Client). z.reading) (let some : Some now ≡ Some d = same in let back : d ≡ now = cc in back) ∙
+              reads,
+        );
         here = λ on. ap is_client one.at ∙ ap not one.is.here;
       }
 
@@ -209,11 +243,13 @@ module _ {B : Type 0} {g : Ghosts B} (t : Turn) (x : loop.Proxy B g) (p : Proxy)
         changed_heard = record {
           quiet = record {
             keeps = record {
-              cache = cache_moves t.frame x (record x { clients = s }) (with_client k change p) refl refl refl refl (cache_with t.frame x p (with_client k change p).client p.accepted keeps.cache);
+              cache = cache_moves t.frame x (record x { clients = s }) (with_client k change p) refl refl refl refl
+                  (cache_with t.frame x p (with_client k change p).client p.accepted keeps.cache);
               acts = keeps.acts;
               clients = clients_now;
               consumers = of_held (with_client k change p) (change_keeps (acts_in p.part) k change p who (held_of p keeps.consumers));
-              upstreams = upstreams_move t x (record x { clients = s }) (with_client k change p) (acts_in p.part) refl (upstreams_with k t x p (with_client k change p).client (λ j some. row_was t x p k (Some now) change s becomes change_is j some) keeps.upstreams);
+              upstreams = upstreams_move t x (record x { clients = s }) (with_client k change p) (acts_in p.part) refl
+                  (upstreams_with k t x p (with_client k change p).client (λ j some. row_was t x p k (Some now) change s becomes change_is j some) keeps.upstreams);
               wire = wire_now;
               numbers = keeps.numbers;
               opened = keeps.opened;
@@ -229,22 +265,26 @@ module _ {B : Type 0} {g : Ghosts B} (t : Turn) (x : loop.Proxy B g) (p : Proxy)
 
     -- NOTHING YET
 
-    pub waits_goes : (reading : Reading) (s : Clients) → IsOfRequests reading → clients.Becomes k (Some (peers.read_to reading [] client)) x.clients s → Goes (KeepsHeard t) (faults_in x.cache) (record x { clients = s }) (with_client k (read_to reading []) p)
+    pub waits_goes : (reading : Reading) (s : Clients) → IsOfRequests reading → clients.Becomes k (Some (peers.read_to reading [] client)) x.clients s →
+        Goes (KeepsHeard t) (faults_in x.cache) (record x { clients = s }) (with_client k (read_to reading []) p)
     waits_goes reading s of becomes = record {
       q = with_client k (read_to reading []) p;
-      keeps = changed_heard (peers.read_to reading [] client) (read_to reading []) s becomes (read_is (taken_at t.call k) client one.row reading [] of one.is) refl (λ r at. reads_keep reading [] r);
+      keeps = changed_heard (peers.read_to reading [] client) (read_to reading []) s becomes
+          (read_is (taken_at t.call k) client one.row reading [] of one.is) refl (λ r at. reads_keep reading [] r);
       later = omega arith;
       same = λ calm. refl;
     }
 
     -- AN ERROR
 
-    pub fails_goes : (e : MsgError) (s : Clients) → clients.Becomes k (Some (peers.refused e (peers.read_to (Failed e) [] client))) x.clients s → Goes (KeepsHeard t) (faults_in x.cache) (record x { clients = s }) (with_client k (refused e) (with_client k (read_to (Failed e) []) p))
+    pub fails_goes : (e : MsgError) (s : Clients) → clients.Becomes k (Some (peers.refused e (peers.read_to (Failed e) [] client))) x.clients s →
+        Goes (KeepsHeard t) (faults_in x.cache) (record x { clients = s }) (with_client k (refused e) (with_client k (read_to (Failed e) []) p))
     fails_goes e s becomes = record {
       q = with_client k (λ r. refused e (read_to (Failed e) [] r)) p;
       keeps =
           changed_heard (peers.refused e (peers.read_to (Failed e) [] client)) (λ r. refused e (read_to (Failed e) [] r)) s becomes
-          (refused_is (taken_at t.call k) (peers.read_to (Failed e) [] client) (read_to (Failed e) [] one.row) e (read_is (taken_at t.call k) client one.row (Failed e) [] tt one.is)) refl
+          (refused_is (taken_at t.call k) (peers.read_to (Failed e) [] client) (read_to (Failed e) [] one.row) e
+          (read_is (taken_at t.call k) client one.row (Failed e) [] tt one.is)) refl
           (λ r at. record { gone = refl; consumer = refl; shuts = λ on. inr (idle r at) });
       later = omega arith;
       same = λ calm. ap (λ (all : ℕ → Option Client). record p { client = all }) (sym (both_changes k (refused e) (read_to (Failed e) []) p.client));
@@ -255,7 +295,8 @@ module _ {B : Type 0} {g : Ghosts B} (t : Turn) (x : loop.Proxy B g) (p : Proxy)
 
     -- A REQUEST
 
-    module _ (request : WireRequest) (reading : Reading) (left : List ℕ) (of : IsOfRequests reading) (s : Clients) (becomes : clients.Becomes k (Some (peers.asks (x.starts + 1) request (peers.read_to reading left client))) x.clients s) where
+    module _ (request : WireRequest) (reading : Reading) (left : List ℕ) (of : IsOfRequests reading) (s : Clients)
+        (becomes : clients.Becomes k (Some (peers.asks (x.starts + 1) request (peers.read_to reading left client))) x.clients s) where
       abbrev pub mid : loop.Proxy B g
       mid = record x { clients = s; starts = x.starts + 1 }
 
@@ -348,7 +389,8 @@ module _ {B : Type 0} {g : Ghosts B} (t : Turn) (x : loop.Proxy B g) (p : Proxy)
           let most : length (clients_here p) ≤ 512 = keeps.clients.few in
           omega arith
 
-      module _ (r : Request) (r_is : r ≡ request.request) (x' : loop.Proxy B g) (st : Stepped t.frame mid x' (event.Start (x.starts + 1) r) asked) (stay : RestStays mid x') (moved : x'.moved ≡ true) (count : steps x'.cache ≡ steps x.cache + 1) where
+      module _ (r : Request) (r_is : r ≡ request.request) (x' : loop.Proxy B g) (st : Stepped t.frame mid x' (event.Start (x.starts + 1) r) asked)
+          (stay : RestStays mid x') (moved : x'.moved ≡ true) (count : steps x'.cache ≡ steps x.cache + 1) where
         event_same : event.Start (x.starts + 1) r ≡ event.Start c request.request
         event_same = ap (λ (m : ℕ). event.Start m r) numbers_same ∙ ap (event.Start c) r_is
 
@@ -366,12 +408,14 @@ module _ {B : Type 0} {g : Ghosts B} (t : Turn) (x : loop.Proxy B g) (p : Proxy)
 
         consumers : HasConsumers (with_entry st.e asked)
         consumers =
-            start_keeps t.frame.limits read st.e (law_of t.frame x p keeps.cache) st.is_owed k (read_to reading left one.row) request read_row one.is.here waits_not unshut
+            start_keeps t.frame.limits read st.e (law_of t.frame x p keeps.cache) st.is_owed k (read_to reading left one.row) request read_row one.is.here
+            waits_not unshut
             keeps.cache.last_start few event_is read_keeps
 
         on : Keeps t x' (with_entry st.e asked)
         on =
-            keeps_on t mid x' (event.Start (x.starts + 1) r) asked (stands_of t.frame mid asked asked_cache) keeps.cache.unopened keeps.acts asked_clients asked_upstreams asked_wire asked_seen
+            keeps_on t mid x' (event.Start (x.starts + 1) r) asked (stands_of t.frame mid asked asked_cache) keeps.cache.unopened keeps.acts asked_clients
+            asked_upstreams asked_wire asked_seen
             keeps.shut keeps.known st stay stops_none consumers
             (let le : p.starts ≤ steps x.cache = keeps.numbers in let n1 : steps x'.cache ≡ steps x.cache + 1 = count in omega arith)
             (let le : p.tables.opened ≤ steps x.cache = keeps.opened in let n1 : steps x'.cache ≡ steps x.cache + 1 = count in omega arith)

@@ -45,14 +45,18 @@ module _ {B : Type 0} {g : Ghosts B} where
     is_here k w = rw (w.at, w.here) refl
 
     pub among_here : (k : ℕ) → IsHere k → among k (clients_here p) ≡ true
-    among_here k w = among_passes (λ j. is_client (p.client j)) k p.accepted (among_contained k p.accepted (h.listed k (subst IsSome (sym w.at) refl))) (is_here k w)
+    among_here k w = among_passes (λ j. is_client (p.client j)) k p.accepted (among_contained k p.accepted (h.listed k (subst IsSome (sym w.at) refl)))
+        (is_here k w)
 
     here_among : (k : ℕ) → among k (clients_here p) ≡ true → IsHere k
     here_among k there = client_by k (p.client k) refl (passed_among (λ j. is_client (p.client j)) k p.accepted there).1
 
     -- the clients of the definitions that are here are just those of the code
     pub just_here : (k : ℕ) → Contains (clients_here p) k ↔ IsSome (client_of x.clients k)
-    just_here k = (λ has. there_by k (here_among k (among_contained k (clients_here p) has)), λ there. contained_among k (clients_here p) (among_here k (here_of k there)))
+    just_here k = (
+      λ has. there_by k (here_among k (among_contained k (clients_here p) has)),
+      λ there. contained_among k (clients_here p) (among_here k (here_of k there)),
+    )
 
     pub here_order : IsStrictlySortedBy nat_cmp (clients_here p)
     here_order = IsStrictlySortedBy-filter nat_cmp (λ j. is_client (p.client j)) p.accepted h.order
@@ -75,11 +79,13 @@ module _ {B : Type 0} {g : Ghosts B} where
         ap (ready_by t.frame.limits t.call k) w.at
         ∙ (sym (readies t.call k q.0 w.row q.2) ∙ (sym (ap ready_at q.1) ∙ (sym (ready_among x.clients k) ∙ off)))
 
-    pub same_starts : IsStrictlySortedBy nat_cmp (ready_of x.clients) → each_heard t.frame.limits t.call (ready_of x.clients) p ≡ started_all t.frame.limits t.call p
+    pub same_starts : IsStrictlySortedBy nat_cmp (ready_of x.clients) →
+        each_heard t.frame.limits t.call (ready_of x.clients) p ≡ started_all t.frame.limits t.call p
     unfolding started_all
     same_starts order =
         starts_are_each t.frame.limits t.call (ready_of x.clients) p
-        ∙ (same_each (started_one t.frame.limits t.call) (λ z. Unit {0}) (IsUnready t.frame.limits t.call) (unready_skipped t.frame.limits t.call) (ready_of x.clients) (clients_here p) 0 0
+        ∙ (same_each (started_one t.frame.limits t.call) (λ z. Unit {0}) (IsUnready t.frame.limits t.call) (unready_skipped t.frame.limits t.call)
+        (ready_of x.clients) (clients_here p) 0 0
         (sorted_ascends (ready_of x.clients) order) (sorted_ascends (clients_here p) here_order) p tt none_else others_idle
         ∙ sym (starts_are_each t.frame.limits t.call (clients_here p) p))
 
@@ -92,7 +98,10 @@ module _ {B : Type 0} {g : Ghosts B} where
     pub later : faults_in old.cache ≤ faults_in x.cache
     pub same : faults_in x.cache ≡ faults_in old.cache → each_heard t.frame.limits t.call left q ≡ each_heard t.frame.limits t.call (ready_of old.clients) p
 
-  pub starts_next : (t : Turn) (old x x' : loop.Proxy B g) (p : Proxy) (k : ℕ) (rest : List ℕ) → ready_of x.clients ≡ k ∷ rest → StartsTo t old x p (ready_of x.clients) → ((q : Proxy) → KeepsHeard t x q → Goes (KeepsHeard t) (faults_in x.cache) x' (each_heard t.frame.limits t.call (first_ready (ready_of x.clients)) q)) → StartsTo t old x' p rest
+  pub starts_next : (t : Turn) (old x x' : loop.Proxy B g) (p : Proxy) (k : ℕ) (rest : List ℕ) → ready_of x.clients ≡ k ∷ rest →
+      StartsTo t old x p (ready_of x.clients) →
+      ((q : Proxy) → KeepsHeard t x q →
+      Goes (KeepsHeard t) (faults_in x.cache) x' (each_heard t.frame.limits t.call (first_ready (ready_of x.clients)) q)) → StartsTo t old x' p rest
   starts_next t old x x' p k rest first to goes =
       let s = goes to.q to.keeps in
       let before : faults_in old.cache ≤ faults_in x.cache = to.later in
@@ -104,12 +113,14 @@ module _ {B : Type 0} {g : Ghosts B} where
         same = λ none.
             let calm : faults_in x'.cache ≡ faults_in old.cache = none in
             let one : s.q ≡ each_heard t.frame.limits t.call (first_ready (ready_of x.clients)) to.q = s.same (omega arith) in
-            let all : each_heard t.frame.limits t.call (ready_of x.clients) to.q ≡ each_heard t.frame.limits t.call (ready_of old.clients) p = to.same (omega arith) in
+            let all : each_heard t.frame.limits t.call (ready_of x.clients) to.q ≡ each_heard t.frame.limits t.call (ready_of old.clients) p =
+            to.same (omega arith) in
             ap (each_heard t.frame.limits t.call rest) (one ∙ ap (λ (ks : List ℕ). each_heard t.frame.limits t.call (first_ready ks) to.q) first)
             ∙ (ap (λ (ks : List ℕ). each_heard t.frame.limits t.call ks to.q) (sym first) ∙ all);
       }
 
-  pub starts_end : (t : Turn) (x x' : loop.Proxy B g) (p : Proxy) → KeepsHeard t x p → IsStrictlySortedBy nat_cmp (ready_of x.clients) → StartsTo t x x' p [] → Goes (KeepsHeard t) (faults_in x.cache) x' (started_all t.frame.limits t.call p)
+  pub starts_end : (t : Turn) (x x' : loop.Proxy B g) (p : Proxy) → KeepsHeard t x p → IsStrictlySortedBy nat_cmp (ready_of x.clients) →
+      StartsTo t x x' p [] → Goes (KeepsHeard t) (faults_in x.cache) x' (started_all t.frame.limits t.call p)
   starts_end t x x' p k order to = record {
     q = to.q;
     keeps = to.keeps;
@@ -118,7 +129,9 @@ module _ {B : Type 0} {g : Ghosts B} where
   }
 
   -- Where nobody is left.
-  pub starts_stop : (t : Turn) (old x x' : loop.Proxy B g) (p : Proxy) → ready_of x.clients ≡ [] → StartsTo t old x p (ready_of x.clients) → ((q : Proxy) → KeepsHeard t x q → Goes (KeepsHeard t) (faults_in x.cache) x' (each_heard t.frame.limits t.call (first_ready (ready_of x.clients)) q)) → StartsTo t old x' p []
+  pub starts_stop : (t : Turn) (old x x' : loop.Proxy B g) (p : Proxy) → ready_of x.clients ≡ [] → StartsTo t old x p (ready_of x.clients) →
+      ((q : Proxy) → KeepsHeard t x q →
+      Goes (KeepsHeard t) (faults_in x.cache) x' (each_heard t.frame.limits t.call (first_ready (ready_of x.clients)) q)) → StartsTo t old x' p []
   starts_stop t old x x' p none to goes =
       let s = goes to.q to.keeps in
       let before : faults_in old.cache ≤ faults_in x.cache = to.later in
@@ -130,14 +143,17 @@ module _ {B : Type 0} {g : Ghosts B} where
         same = λ calm.
             let same : faults_in x'.cache ≡ faults_in old.cache = calm in
             let one : s.q ≡ each_heard t.frame.limits t.call (first_ready (ready_of x.clients)) to.q = s.same (omega arith) in
-            let all : each_heard t.frame.limits t.call (ready_of x.clients) to.q ≡ each_heard t.frame.limits t.call (ready_of old.clients) p = to.same (omega arith) in
+            let all : each_heard t.frame.limits t.call (ready_of x.clients) to.q ≡ each_heard t.frame.limits t.call (ready_of old.clients) p =
+            to.same (omega arith) in
             one
             ∙ (ap (λ (ks : List ℕ). each_heard t.frame.limits t.call (first_ready ks) to.q) none
             ∙ (ap (λ (ks : List ℕ). each_heard t.frame.limits t.call ks to.q) (sym none) ∙ all));
       }
 
   -- no more are read than clients are here
-  pub few_ready : (x : loop.Proxy B g) → ∥ IsHeard x ∥₁ → (count : ℕ) → ((ks : List ℕ) → IsStrictlySortedBy nat_cmp ks → ((k : ℕ) → Contains ks k ↔ IsSome (client_of x.clients k)) → count ≡ length ks) → length (ready_of x.clients) ≤ count → length (ready_of x.clients) ≤ 512
+  pub few_ready : (x : loop.Proxy B g) → ∥ IsHeard x ∥₁ → (count : ℕ) →
+      ((ks : List ℕ) → IsStrictlySortedBy nat_cmp ks → ((k : ℕ) → Contains ks k ↔ IsSome (client_of x.clients k)) → count ≡ length ks) →
+      length (ready_of x.clients) ≤ count → length (ready_of x.clients) ≤ 512
   few_ready x some count all few = ∥∥₁_elim some le_prop (λ s.
       let h = s.2.quiet.keeps.clients in
       let same : count ≡ length (clients_here s.1) = all (clients_here s.1) (here_order s.0 x s.1 h) (just_here s.0 x s.1 h) in

@@ -58,7 +58,8 @@ module _ (limits : Limits) (t : Tables) (e : Entry) (law : Lawful t) (is : IsOwe
 pub over_keeps : (limits : Limits) (p : Proxy) (e : Entry) → Lawful p.tables → IsOwed limits p.tables e → HasOver p → HasOver (with_entry e p)
 unfolding with_entry
 over_keeps limits p e law is h c leaves =
-    elim (or_cases (leaves_in c (acts_in p.part)) (leaves_in c e.acts) (sym (leaves_append c (acts_in p.part) e.acts) ∙ leaves)) as (λ _. IsOver (after p.tables e) c) [
+    elim (or_cases (leaves_in c (acts_in p.part)) (leaves_in c e.acts) (sym (leaves_append c (acts_in p.part) e.acts) ∙ leaves)) as
+    (λ _. IsOver (after p.tables e) c) [
       | inl before ↦ over_stays limits p.tables e law is c (h c before)
       | inr now ↦ reported_is_over limits p.tables e law is c now
     ]

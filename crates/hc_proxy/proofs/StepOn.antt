@@ -80,7 +80,8 @@ started_by (event.Fault x) n starts le is = le
 started_by (event.Cancel c) n starts le is = le
 started_by (event.Doom key) n starts le is = le
 
-pub start_by : (t : Tables) (e : Entry) (starts : ℕ) → t.last_start ≤ starts → IsNumbered starts e.event → (b : Bool) → is_denied e.acts ≡ b → (after t e).last_start ≤ starts
+pub start_by : (t : Tables) (e : Entry) (starts : ℕ) → t.last_start ≤ starts → IsNumbered starts e.event → (b : Bool) → is_denied e.acts ≡ b →
+    (after t e).last_start ≤ starts
 unfolding after
 start_by t e starts le is true denied = rw denied le
 start_by t e starts le is false accepted = rw accepted (started_by e.event t.last_start starts le is)
@@ -107,7 +108,9 @@ module _ {B : Type 0} {g : Ghosts B} where
 
   -- ONE STEP
 
-  module _ (f : Frame) (x x' : loop.Proxy B g) (ev : Event) (p : Proxy) (h : HasCache f x p) (room : unread p + bytes_received x.cache + received_in ev ≤ f.bytes) (numbered : IsNumbered x.starts ev) (spelled : IsEvent ev) (s : Steps x.cache x'.cache (act_list x.acts) (act_list x'.acts) x.now ev) where
+  module _ (f : Frame) (x x' : loop.Proxy B g) (ev : Event) (p : Proxy) (h : HasCache f x p)
+      (room : unread p + bytes_received x.cache + received_in ev ≤ f.bytes) (numbered : IsNumbered x.starts ev) (spelled : IsEvent ev)
+      (s : Steps x.cache x'.cache (act_list x.acts) (act_list x'.acts) x.now ev) where
     abbrev pub entry : Entry
     entry = record { now = x.now; event = ev; acts = s.acts }
 
@@ -142,7 +145,9 @@ module _ {B : Type 0} {g : Ghosts B} where
     numbered_here : IsNumbered p.starts entry.event
     numbered_here = subst (λ (n : ℕ). IsNumbered n ev) h.starts numbered
 
-    module _ (moment : last_moment x'.cache ≡ x.now) (received : bytes_received x'.cache ≡ bytes_received x.cache + received_in ev) (text : text_of x'.record ≡ text_of x.record ++ timed_text (last_of x.record) (record { now = x.now; event = ev })) (last : last_of x'.record ≡ x.now) (rest : RestStays x x') where
+    module _ (moment : last_moment x'.cache ≡ x.now) (received : bytes_received x'.cache ≡ bytes_received x.cache + received_in ev)
+        (text : text_of x'.record ≡ text_of x.record ++ timed_text (last_of x.record) (record { now = x.now; event = ev }))
+        (last : last_of x'.record ≡ x.now) (rest : RestStays x x') where
       text_is : record_of (with_entry entry p) ≡ f.written ++ text_of x'.record
       unfolding with_entry
       text_is =
@@ -166,7 +171,8 @@ module _ {B : Type 0} {g : Ghosts B} where
         text = text_is;
         recorded = last;
         before = (let b : x.now ≡ p.moment = h.now in omega arith);
-        unopened = λ y lt. h.unopened y (let le : p.tables.opened ≤ (after p.tables entry).opened = opened_grows f.limits p stands entry is_owed in omega arith);
+        unopened = λ y lt. h.unopened y (let le : p.tables.opened ≤ (after p.tables entry).opened = opened_grows f.limits p stands entry is_owed in
+            omega arith);
         headed = headed_on p entry unopened_next h.headed;
         small =
             let a : unread (with_entry entry p) ≡ unread p = unread_same in

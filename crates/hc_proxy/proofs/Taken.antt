@@ -18,7 +18,8 @@ use Rattle.hc_proxy.proofs.{Followed.{KeepsNumber, found}, Closings.{reported_on
 -- what comes next is taken
 front_more : (sent owed unsent : List ℕ) (n : ℕ) → unsent ≡ drop (length sent) owed → is_prefix sent owed ≡ true → is_prefix (sent ++ take n unsent) owed ≡ true
 front_more sent owed unsent n left is =
-    let whole : owed ≡ sent ++ unsent = sym (take-append-drop (length sent) owed) ∙ (ap (λ xs. xs ++ drop (length sent) owed) (same_bytes (take (length sent) owed) sent is) ∙ ap (λ xs. sent ++ xs) (sym left)) in
+    let whole : owed ≡ sent ++ unsent = sym (take-append-drop (length sent) owed) ∙
+    (ap (λ xs. xs ++ drop (length sent) owed) (same_bytes (take (length sent) owed) sent is) ∙ ap (λ xs. sent ++ xs) (sym left)) in
     bytes_eq-same (take (length (sent ++ take n unsent)) owed) (sent ++ take n unsent)
     (ap (λ xs. take (length (sent ++ take n unsent)) xs) whole
     ∙ (ap (λ i. take i (sent ++ unsent)) (length-append sent (take n unsent))
@@ -29,12 +30,14 @@ none_left : (xs : List ℕ) (i : ℕ) → i ≡ length xs → drop i xs ≡ []
 none_left [] i is = drop-nil i
 none_left (x ∷ xs) i is = rw is (none_left xs (length xs) refl)
 
-client_more : (sent unsent : List ℕ) (r : Client) (n : ℕ) → unsent ≡ drop (length sent) r.owed → client_was_sent sent (Some r) ≡ true → client_was_sent (sent ++ take n unsent) (Some r) ≡ true
+client_more : (sent unsent : List ℕ) (r : Client) (n : ℕ) → unsent ≡ drop (length sent) r.owed → client_was_sent sent (Some r) ≡ true →
+    client_was_sent (sent ++ take n unsent) (Some r) ≡ true
 client_more sent unsent r n left was =
     let parts = three (is_prefix sent r.owed) (nat_le r.before (length sent)) (not r.let_go || length sent == length r.owed) was in
     let longer : length (sent ++ take n unsent) ≡ length sent + length (take n unsent) = length-append sent (take n unsent) in
     let early : nat_le r.before (length sent) ≡ true = parts.1 in
-    all_three (is_prefix (sent ++ take n unsent) r.owed) (nat_le r.before (length (sent ++ take n unsent))) (not r.let_go || length (sent ++ take n unsent) == length r.owed)
+    all_three (is_prefix (sent ++ take n unsent) r.owed) (nat_le r.before (length (sent ++ take n unsent)))
+    (not r.let_go || length (sent ++ take n unsent) == length r.owed)
     (front_more sent r.owed unsent n left parts.0)
     (grind (arith, nat_tests))
     (by_end r.let_go parts.2)
@@ -78,7 +81,8 @@ all_changed k change test (c ∷ cs) does all = elim (cases_Bool (eqb c.k k)) [
       rw (on, first) (and_second (test c) (list_all test cs) all)
   | inr off ↦
       let first : test c ≡ true = and_first (test c) (list_all test cs) all in
-      let rest : list_all test (changed_at k change cs) ≡ true = all_changed k change test cs (λ d is. does d (rw off is)) (and_second (test c) (list_all test cs) all) in
+      let rest : list_all test (changed_at k change cs) ≡ true =
+      all_changed k change test cs (λ d is. does d (rw off is)) (and_second (test c) (list_all test cs) all) in
       rw (off, first) rest
 ]
 
@@ -90,7 +94,8 @@ module _ (p : Proxy) (log : Log) (k : ℕ) (r : Client) (at : p.client k ≡ Som
       ∙ ap (client_was_sent d.sent) (ap p.client number ∙ at)
 
   pub client_front : (unsent : List ℕ) (n : ℕ) (less : Bool) → unsent ≡ drop (length (sent_in log.takers k)) r.owed
-      → (d : Taker) → find (is_numbered k) log.takers ≡ Some d → was_sent log.dialled p d ≡ true → was_sent log.dialled p (taking (take n unsent) less (length log.calls) d) ≡ true
+      → (d : Taker) → find (is_numbered k) log.takers ≡ Some d → was_sent log.dialled p d ≡ true →
+      was_sent log.dialled p (taking (take n unsent) less (length log.calls) d) ≡ true
   client_front unsent n less left d is was =
       let number = found_number k log.takers d is in
       let its : sent_in log.takers k ≡ d.sent = ap sent_from is in
@@ -105,7 +110,8 @@ module _ (p : Proxy) (log : Log) (k y : ℕ) (v : Upstream) (at : p.upstream y �
       ∙ ap (upstream_was_sent d.sent) at
 
   pub origin_front : (unsent : List ℕ) (n : ℕ) (less : Bool) → unsent ≡ drop (length (sent_in log.takers k)) v.owed
-      → (d : Taker) → find (is_numbered k) log.takers ≡ Some d → was_sent log.dialled p d ≡ true → was_sent log.dialled p (taking (take n unsent) less (length log.calls) d) ≡ true
+      → (d : Taker) → find (is_numbered k) log.takers ≡ Some d → was_sent log.dialled p d ≡ true →
+      was_sent log.dialled p (taking (take n unsent) less (length log.calls) d) ≡ true
   origin_front unsent n less left d is was =
       let number = found_number k log.takers d is in
       let same : sent_in log.takers k ≡ d.sent = ap sent_from is in
@@ -127,7 +133,8 @@ never_unseen None reads ended is = absurd (let never : Unseen ≡ Open reads end
 never_unseen (Some d) reads ended is = (d, refl)
 
 module _ (p : Proxy) (k : ℕ) (bytes : List ℕ) (less : Bool) (log : Log) (reads ended : Bool) (opens : stage_in log.takers k ≡ Open reads ended)
-    (front : (d : Taker) → find (is_numbered k) log.takers ≡ Some d → was_sent log.dialled p d ≡ true → was_sent log.dialled p (taking bytes less (length log.calls) d) ≡ true) where
+    (front : (d : Taker) → find (is_numbered k) log.takers ≡ Some d → was_sent log.dialled p d ≡ true →
+    was_sent log.dialled p (taking bytes less (length log.calls) d) ≡ true) where
   abbrev change : Taker → Taker
   change = taking bytes less (length log.calls)
 
@@ -209,7 +216,8 @@ module _ (p : Proxy) (k : ℕ) (bytes : List ℕ) (less : Bool) (log mid : Log) 
   moves_closed = moves_on shut (λ c. refl) (λ c. refl) (λ c. refl) (λ c. refl) Closed (λ d is. refl) (λ is. let never : Closed ≡ Unseen = is in cc)
 
   pub moves_reading : (on : Bool) → MovesAt p k bytes less (Open on ended) log (with_reading k on mid)
-  moves_reading on = moves_on (reading on) (λ c. refl) (λ c. refl) (λ c. refl) (λ c. refl) (Open on ended) (λ d is. by_life d.live d.reads d.ended is) (λ is. let never : Open on ended ≡ Unseen = is in cc)
+  moves_reading on = moves_on (reading on) (λ c. refl) (λ c. refl) (λ c. refl) (λ c. refl) (Open on ended) (λ d is. by_life d.live d.reads d.ended is)
+      (λ is. let never : Open on ended ≡ Unseen = is in cc)
     where
       by_life : (live r e : Bool) → (if live then Open r e else Closed) ≡ Open reads ended → (if live then Open on e else Closed) ≡ Open on ended
       by_life true r e is = ap (λ (s : Stage). reading_of on s) is
@@ -229,12 +237,15 @@ none_front p log k n less all = all_changed k (taking (take n []) less (length l
         take_none zero = refl
         take_none (suc m) = refl
 
-    same : (d : Taker) → find (is_numbered k) log.takers ≡ Some d → was_sent log.dialled p d ≡ true → was_sent log.dialled p (taking (take n []) less (length log.calls) d) ≡ true
+    same : (d : Taker) → find (is_numbered k) log.takers ≡ Some d → was_sent log.dialled p d ≡ true →
+        was_sent log.dialled p (taking (take n []) less (length log.calls) d) ≡ true
     same d is was =
         ap (λ (xs : List ℕ). was_sent log.dialled p (let t : Taker = record d { sent = xs } in t)) (ap (λ xs. d.sent ++ xs) none ∙ append-nil d.sent) ∙ was
 
-pub some_sent : (p : Proxy) (log : Log) (k : ℕ) (reported reported' : Option Log) (unsent : List ℕ) → (o : OffersSome k unsent reported reported') → (reported ≡ None) ⊎ (reported ≡ Some log)
-    → ((n : ℕ) (less : Bool) → list_all (was_sent log.dialled p) log.takers ≡ true → list_all (was_sent log.dialled p) (with_sent k (take n unsent) less log).takers ≡ true)
+pub some_sent : (p : Proxy) (log : Log) (k : ℕ) (reported reported' : Option Log) (unsent : List ℕ) → (o : OffersSome k unsent reported reported') →
+    (reported ≡ None) ⊎ (reported ≡ Some log)
+    → ((n : ℕ) (less : Bool) → list_all (was_sent log.dialled p) log.takers ≡ true →
+    list_all (was_sent log.dialled p) (with_sent k (take n unsent) less log).takers ≡ true)
     → SentSome p log reported'
 some_sent p log k reported reported' unsent o is front = record {
   log' = with_sent k (take o.n unsent) o.short log;

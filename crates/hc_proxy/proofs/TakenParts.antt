@@ -58,20 +58,24 @@ taken_none (Brings bytes reading rest) old new r is t = none_part r (part.Piece 
 taken_none Ends old new r is t = none_part r part.End is t.0
 taken_none (Fails e) old new r is t = ok_err r None e is t.0
 
-pub none_taken : (old new : origin.Upstream) (r : Result (Option WirePart) MsgError) → r ≡ Ok None → origins.Takes old new r → TakenNone (origins.next_of old) old new
+pub none_taken : (old new : origin.Upstream) (r : Result (Option WirePart) MsgError) → r ≡ Ok None → origins.Takes old new r →
+    TakenNone (origins.next_of old) old new
 none_taken old new r is (inl failed) = ok_err r None error.NoMemory is failed
 none_taken old new r is (inr taken) = taken_none (origins.next_of old) old new r is taken
 
 -- a part
 abbrev pub IsTakenAs : WirePart → Next → origin.Upstream → origin.Upstream → Type 0
-IsTakenAs (part.Head response) n old new = (reading : Reading) × (rest : List ℕ) × (n ≡ Reports (Answers response) reading rest) × (new ≡ origins.read_to reading rest old)
+IsTakenAs (part.Head response) n old new = (reading : Reading) × (rest : List ℕ) × (n ≡ Reports (Answers response) reading rest) ×
+    (new ≡ origins.read_to reading rest old)
 IsTakenAs (part.Piece bytes) n old new = (reading : Reading) × (rest : List ℕ) × (n ≡ Brings bytes reading rest) × (new ≡ origins.read_to reading rest old)
 IsTakenAs part.End n old new = (n ≡ Ends) × (new ≡ origins.read_to Done [] old)
 
-taken_some : (w : WirePart) (n : Next) (old new : origin.Upstream) (r : Result (Option WirePart) MsgError) → r ≡ Ok (Some w) → origins.IsTaken n old new r → IsTakenAs w n old new
+taken_some : (w : WirePart) (n : Next) (old new : origin.Upstream) (r : Result (Option WirePart) MsgError) → r ≡ Ok (Some w) →
+    origins.IsTaken n old new r → IsTakenAs w n old new
 taken_some w (Waits reading) old new r is t = none_part r w t.0 is
 taken_some w (Reports (Answers response) reading rest) old new r is t =
-    subst (λ (v : WirePart). IsTakenAs v (Reports (Answers response) reading rest) old new) (same_part r (part.Head response) w t.0 is) (reading, rest, refl, t.1)
+    subst (λ (v : WirePart). IsTakenAs v (Reports (Answers response) reading rest) old new) (same_part r (part.Head response) w t.0 is)
+    (reading, rest, refl, t.1)
 taken_some w (Reports (Asks request) reading rest) old new r is t = absurd t
 taken_some w (Reports (Byte b) reading rest) old new r is t = absurd t
 taken_some w (Brings bytes reading rest) old new r is t =
@@ -80,7 +84,8 @@ taken_some w Ends old new r is t =
     subst (λ (v : WirePart). IsTakenAs v Ends old new) (same_part r part.End w t.0 is) (refl, t.1)
 taken_some w (Fails e) old new r is t = ok_err r (Some w) e is t.0
 
-pub some_taken : (w : WirePart) (old new : origin.Upstream) (r : Result (Option WirePart) MsgError) → r ≡ Ok (Some w) → origins.Takes old new r → IsTakenAs w (origins.next_of old) old new
+pub some_taken : (w : WirePart) (old new : origin.Upstream) (r : Result (Option WirePart) MsgError) → r ≡ Ok (Some w) → origins.Takes old new r →
+    IsTakenAs w (origins.next_of old) old new
 some_taken w old new r is (inl failed) = ok_err r (Some w) error.NoMemory is failed
 some_taken w old new r is (inr taken) = taken_some w (origins.next_of old) old new r is taken
 
@@ -90,7 +95,8 @@ pub record TakenErr (n : Next) (old new : origin.Upstream) : Type 0 where
   pub next : n ≡ Fails e
   pub now : new ≡ origins.read_to (Failed e) [] old
 
-taken_err : (e : MsgError) (n : Next) (old new : origin.Upstream) (r : Result (Option WirePart) MsgError) → r ≡ Err e → origins.IsTaken n old new r → TakenErr n old new
+taken_err : (e : MsgError) (n : Next) (old new : origin.Upstream) (r : Result (Option WirePart) MsgError) → r ≡ Err e → origins.IsTaken n old new r →
+    TakenErr n old new
 taken_err e (Waits reading) old new r is t = ok_err r None e t.0 is
 taken_err e (Reports (Answers response) reading rest) old new r is t = ok_err r (Some (part.Head response)) e t.0 is
 taken_err e (Reports (Asks request) reading rest) old new r is t = absurd t
@@ -99,7 +105,8 @@ taken_err e (Brings bytes reading rest) old new r is t = ok_err r (Some (part.Pi
 taken_err e Ends old new r is t = ok_err r (Some part.End) e t.0 is
 taken_err e (Fails f) old new r is t = record { e = f; next = refl; now = t.1 }
 
-pub err_taken : (e : MsgError) (old new : origin.Upstream) (r : Result (Option WirePart) MsgError) → r ≡ Err e → (e ≡ error.NoMemory → ⊥) → origins.Takes old new r → TakenErr (origins.next_of old) old new
+pub err_taken : (e : MsgError) (old new : origin.Upstream) (r : Result (Option WirePart) MsgError) → r ≡ Err e → (e ≡ error.NoMemory → ⊥) →
+    origins.Takes old new r → TakenErr (origins.next_of old) old new
 err_taken e old new r is other (inl failed) = absurd (other (same_error r e error.NoMemory is failed))
   where
     same_error : (r : Result (Option WirePart) MsgError) (e f : MsgError) → r ≡ Err e → r ≡ Err f → e ≡ f
@@ -107,9 +114,11 @@ err_taken e old new r is other (inl failed) = absurd (other (same_error r e erro
 err_taken e old new r is other (inr taken) = taken_err e (origins.next_of old) old new r is taken
 
 -- nothing yet, where no error was answered
-pub waits_taken : (old new : origin.Upstream) (r : Result (Option WirePart) MsgError) (reading : Reading) → origins.next_of old ≡ Waits reading → is_err r ≡ false → origins.Takes old new r → TakenNone (origins.next_of old) old new
+pub waits_taken : (old new : origin.Upstream) (r : Result (Option WirePart) MsgError) (reading : Reading) → origins.next_of old ≡ Waits reading →
+    is_err r ≡ false → origins.Takes old new r → TakenNone (origins.next_of old) old new
 waits_taken old new r reading is fine (inl failed) = absurd (let never : true ≡ false = sym (ap is_err failed) ∙ fine in cc)
-waits_taken old new r reading is fine (inr taken) = record { reading = reading; next = is; now = (subst (λ (n : Next). origins.IsTaken n old new r) is taken).1 }
+waits_taken old new r reading is fine (inr taken) =
+    record { reading = reading; next = is; now = (subst (λ (n : Next). origins.IsTaken n old new r) is taken).1 }
 
 -- HOW MUCH WAS READ
 
@@ -128,7 +137,8 @@ brought_off s input bytes t rest is = of_first (subst (StandsNext 16384 s input)
         let c : length (bytes ++ rest) ≡ length bytes + length rest = length-append bytes rest in
         record { all = omega arith; most = (let d = f.longest in omega arith) }
 
-pub reported_off : (s : Reading) (input : List ℕ) (token : Token) (t : Reading) (rest : List ℕ) → next_in 16384 s input ≡ Reports token t rest → length rest ≤ length input
+pub reported_off : (s : Reading) (input : List ℕ) (token : Token) (t : Reading) (rest : List ℕ) → next_in 16384 s input ≡ Reports token t rest →
+    length rest ≤ length input
 reported_off s input token t rest is =
     let f = subst (StandsNext 16384 s input) is (stands_next 16384 s input) in
     let a : length (f.front ++ rest) ≡ length input = ap length f.whole in

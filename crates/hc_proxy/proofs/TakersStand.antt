@@ -36,7 +36,8 @@ found_first c cs = by_test (nat_eq c.k c.k) (same_test c.k)
     by_test true is = refl
     by_test false is = absurd (let never : false ≡ true = is in cc)
 
-pub all_found : (test : Taker → Bool) (cs : List Taker) → AreApart cs → ((c : Taker) → find (is_numbered c.k) cs ≡ Some c → test c ≡ true) → list_all test cs ≡ true
+pub all_found : (test : Taker → Bool) (cs : List Taker) → AreApart cs → ((c : Taker) → find (is_numbered c.k) cs ≡ Some c → test c ≡ true) →
+    list_all test cs ≡ true
 all_found test [] apart each = refl
 all_found test (c ∷ cs) apart each =
     both_hold (test c) (list_all test cs) (each c (found_first c cs)) (all_found test cs apart.1 (λ d is. each d (found_later c d cs apart.0 is)))
@@ -50,12 +51,14 @@ pub live_standing : ℕ → Option Taker → Option Standing
 live_standing n None = None
 live_standing n (Some c) = live_by n c c.live
 
-standing_found : (n k : ℕ) (cs : List Taker) → AreApart cs → find (is_of k) (map (standing_of n) (filter is_taking cs)) ≡ live_standing n (find (is_numbered k) cs)
+standing_found : (n k : ℕ) (cs : List Taker) → AreApart cs →
+    find (is_of k) (map (standing_of n) (filter is_taking cs)) ≡ live_standing n (find (is_numbered k) cs)
 unfolding live_standing live_by
 standing_found n k [] apart = refl
 standing_found n k (c ∷ cs) apart = by_tests (standing_found n k cs apart.1) c.live (nat_eq c.k k) refl ∙ sym (is_by (nat_eq c.k k))
   where
-    is_by : (b : Bool) → live_standing n (if b then Some c else find (is_numbered k) cs) ≡ (if b then live_by n c c.live else live_standing n (find (is_numbered k) cs))
+    is_by : (b : Bool) → live_standing n
+        (if b then Some c else find (is_numbered k) cs) ≡ (if b then live_by n c c.live else live_standing n (find (is_numbered k) cs))
     is_by true = refl
     is_by false = refl
 
@@ -64,11 +67,15 @@ standing_found n k (c ∷ cs) apart = by_tests (standing_found n k cs apart.1) c
         let number : c.k ≡ k = grind (arith, nat_tests) in
         sym (ap (λ (m : ℕ). find (is_numbered m) cs) number) ∙ apart.0
 
-    head : find (is_of k) (map (standing_of n) (filter is_taking cs)) ≡ live_standing n (find (is_numbered k) cs) → (b : Bool) → nat_eq c.k k ≡ b → (if nat_eq c.k k then Some (standing_of n c) else find (is_of k) (map (standing_of n) (filter is_taking cs))) ≡ (if b then Some (standing_of n c) else live_standing n (find (is_numbered k) cs))
+    head : find (is_of k) (map (standing_of n) (filter is_taking cs)) ≡ live_standing n (find (is_numbered k) cs) → (b : Bool) → nat_eq c.k k ≡ b →
+        (if nat_eq c.k k then Some (standing_of n c) else find (is_of k) (map (standing_of n) (filter is_taking cs))) ≡ (if b then
+        Some (standing_of n c) else live_standing n (find (is_numbered k) cs))
     head first true at = rw at refl
     head first false at = rw at first
 
-    by_tests : find (is_of k) (map (standing_of n) (filter is_taking cs)) ≡ live_standing n (find (is_numbered k) cs) → (a b : Bool) → nat_eq c.k k ≡ b → find (is_of k) (map (standing_of n) (if a then c ∷ filter is_taking cs else filter is_taking cs)) ≡ (if b then live_by n c a else live_standing n (find (is_numbered k) cs))
+    by_tests : find (is_of k) (map (standing_of n) (filter is_taking cs)) ≡ live_standing n (find (is_numbered k) cs) → (a b : Bool) → nat_eq c.k k ≡ b →
+        find (is_of k) (map (standing_of n) (if a then c ∷ filter is_taking cs else filter is_taking cs)) ≡ (if b then live_by n c a else
+        live_standing n (find (is_numbered k) cs))
     by_tests first true true at = head first true at
     by_tests first true false at = head first false at
     by_tests first false true at = first ∙ ap (live_standing n) (missing at)
@@ -78,7 +85,8 @@ any_found : (k : ℕ) (ss : List Standing) → list_any (is_of k) ss ≡ is_some
 any_found k [] = refl
 any_found k (s ∷ ss) = by_test (is_of k s) (any_found k ss)
   where
-    by_test : (b : Bool) → list_any (is_of k) ss ≡ is_some (find (is_of k) ss) → (b || list_any (is_of k) ss) ≡ is_some (if b then Some s else find (is_of k) ss)
+    by_test : (b : Bool) → list_any (is_of k) ss ≡ is_some (find (is_of k) ss) →
+        (b || list_any (is_of k) ss) ≡ is_some (if b then Some s else find (is_of k) ss)
     by_test true rest = refl
     by_test false rest = rest
 
@@ -131,21 +139,30 @@ module _ (log : Log) (call : Called) (reported : call.standings ≡ standings_in
       by_taken m is_so = rw is_so (little c.live)
 
   -- what holds of each open one holds of all that it tells of
-  pub standings_all : (test : Standing → Bool) → ((c : Taker) → find (is_numbered c.k) log.takers ≡ Some c → c.live ≡ true → test (standing_of (length log.calls) c) ≡ true) → list_all test call.standings ≡ true
+  pub standings_all : (test : Standing → Bool) →
+      ((c : Taker) → find (is_numbered c.k) log.takers ≡ Some c → c.live ≡ true → test (standing_of (length log.calls) c) ≡ true) →
+      list_all test call.standings ≡ true
   standings_all test each =
       ap (list_all test) reported
-      ∙ (by_list log.takers ∙ all_found (λ (c : Taker). if c.live then test (standing_of (length log.calls) c) else true) log.takers apart (λ c is. by_live c c.live refl (each c is)))
+      ∙ (by_list log.takers ∙ all_found (λ (c : Taker). if c.live then test (standing_of (length log.calls) c) else true) log.takers apart
+      (λ c is. by_live c c.live refl (each c is)))
     where
-      by_live : (c : Taker) (b : Bool) → c.live ≡ b → (c.live ≡ true → test (standing_of (length log.calls) c) ≡ true) → (if b then test (standing_of (length log.calls) c) else true) ≡ true
+      by_live : (c : Taker) (b : Bool) → c.live ≡ b → (c.live ≡ true → test (standing_of (length log.calls) c) ≡ true) →
+          (if b then test (standing_of (length log.calls) c) else true) ≡ true
       by_live c true is holds = holds is
       by_live c false is holds = refl
 
-      by_list : (cs : List Taker) → list_all test (map (standing_of (length log.calls)) (filter is_taking cs)) ≡ list_all (λ (c : Taker). if c.live then test (standing_of (length log.calls) c) else true) cs
+      by_list : (cs : List Taker) →
+          list_all test (map (standing_of (length log.calls)) (filter is_taking cs)) ≡ list_all
+          (λ (c : Taker). if c.live then test (standing_of (length log.calls) c) else true) cs
       by_list [] = refl
       by_list (c ∷ cs) = by_one c.live (by_list cs)
         where
-          by_one : (b : Bool) → list_all test (map (standing_of (length log.calls)) (filter is_taking cs)) ≡ list_all (λ (d : Taker). if d.live then test (standing_of (length log.calls) d) else true) cs
-              → list_all test (map (standing_of (length log.calls)) (if b then c ∷ filter is_taking cs else filter is_taking cs)) ≡ ((if b then test (standing_of (length log.calls) c) else true) && list_all (λ (d : Taker). if d.live then test (standing_of (length log.calls) d) else true) cs)
+          by_one : (b : Bool) → list_all test (map (standing_of (length log.calls)) (filter is_taking cs)) ≡ list_all
+              (λ (d : Taker). if d.live then test (standing_of (length log.calls) d) else true) cs
+              → list_all test (map (standing_of (length log.calls)) (if b then c ∷ filter is_taking cs else filter is_taking cs)) ≡
+              ((if b then test (standing_of (length log.calls) c) else true) && list_all
+              (λ (d : Taker). if d.live then test (standing_of (length log.calls) d) else true) cs)
           by_one true rest = ap (λ (b : Bool). test (standing_of (length log.calls) c) && b) rest
           by_one false rest = rest
 
@@ -165,7 +182,8 @@ open_taker k reads ended cs is = by_found (find (is_numbered k) cs) refl is
     reads_of (Open r e) = r
     reads_of Closed = false
 
-    by_live : (c : Taker) (b : Bool) → c.live ≡ b → find (is_numbered k) cs ≡ Some c → (if b then Open c.reads c.ended else Closed) ≡ Open reads ended → IsOpenTaker k reads ended cs
+    by_live : (c : Taker) (b : Bool) → c.live ≡ b → find (is_numbered k) cs ≡ Some c → (if b then Open c.reads c.ended else Closed) ≡ Open reads ended →
+        IsOpenTaker k reads ended cs
     by_live c true live found at = record { c = c; found = found; live = live; reads_so = ap reads_of at }
     by_live c false live found at = absurd (let never : Closed ≡ Open reads ended = at in cc)
 

@@ -26,7 +26,8 @@ ends_at : (h : History) → end_of 0 (map timed_of (reverse h)) ≡ last_event h
 ends_at [] = refl
 ends_at (e ∷ h) = ap (end_of 0) (turned_more e h) ∙ end_more 0 (map timed_of (reverse h)) (timed_of e)
 
-pub record_more : (e : Entry) (h : History) → text_behind 0 (map timed_of (reverse (e ∷ h))) ≡ text_behind 0 (map timed_of (reverse h)) ++ timed_text (last_event h) (timed_of e)
+pub record_more : (e : Entry) (h : History) → text_behind 0 (map timed_of (reverse (e ∷ h))) ≡ text_behind 0 (map timed_of (reverse h)) ++
+    timed_text (last_event h) (timed_of e)
 record_more e h =
     ap (text_behind 0) (turned_more e h)
     ∙ (text_more 0 (map timed_of (reverse h)) (timed_of e)

@@ -26,7 +26,8 @@ few_got (event.Room k) slice room fits = omega arith
 few_got event.Quiet slice room fits = omega arith
 
 -- a new taker was sent nothing, and no event sends anything
-pub sent_by_call : (k : ℕ) (what : WireEvent) (cs : List Taker) → ((j : ℕ) → what ≡ event.Accepted j → find (is_numbered j) cs ≡ None) → sent_in (takers_with what cs) k ≡ sent_in cs k
+pub sent_by_call : (k : ℕ) (what : WireEvent) (cs : List Taker) → ((j : ℕ) → what ≡ event.Accepted j → find (is_numbered j) cs ≡ None) → sent_in
+    (takers_with what cs) k ≡ sent_in cs k
 sent_by_call k (event.Accepted j) cs new = sent_new j k cs (new j refl)
 sent_by_call k (event.Got j n) cs new = refl
 sent_by_call k (event.Ended j) cs new = sent_changed over (λ c. refl) (λ c. refl) j k cs
@@ -65,8 +66,10 @@ mapped_some change (Some a) some = refl
 mapped_none : {A : Type 0} (change : A → A) (o : Option A) → o ≡ None → option_map change o ≡ None
 mapped_none change o is = ap (option_map change) is
 
-module _ {B : Type 0} {g : Ghosts B} (n : ℕ) (f : Frame) (x : loop.Proxy B g) (p : Proxy) (log : Log) (reported reported' : Option Log) (stages stages' : ℕ → Stage) (s : IsStill n f x p log reported stages)
-    (wait : Bool) (moment : ℕ) (what : WireEvent) (slice : List ℕ) (of_open : IsOfOpen what stages) (stand : (k : ℕ) → stages' k ≡ stages_after what stages k) (fits : FitsIn what 16384) (early : moment < 2 ^ 62) (many : n + 1 ≤ 2 ^ 45) where
+module _ {B : Type 0} {g : Ghosts B} (n : ℕ) (f : Frame) (x : loop.Proxy B g) (p : Proxy) (log : Log) (reported reported' : Option Log)
+    (stages stages' : ℕ → Stage) (s : IsStill n f x p log reported stages)
+    (wait : Bool) (moment : ℕ) (what : WireEvent) (slice : List ℕ) (of_open : IsOfOpen what stages)
+    (stand : (k : ℕ) → stages' k ≡ stages_after what stages k) (fits : FitsIn what 16384) (early : moment < 2 ^ 62) (many : n + 1 ≤ 2 ^ 45) where
   abbrev pub call : Called
   call = called log wait moment what (got_bytes what slice)
 
@@ -148,11 +151,13 @@ module _ {B : Type 0} {g : Ghosts B} (n : ℕ) (f : Frame) (x : loop.Proxy B g) 
   client_row : (k : ℕ) → IsClientAt (taken_at call k) (client_of x.clients k) (option_map (seen_at call k) (p.client k))
   client_row k = by_row (client_of x.clients k) (p.client k) refl refl (r.clients k)
     where
-      by_end : (row : Client) → client_of x.clients k ≡ None → p.client k ≡ Some row → (row.gone ≡ true) ⊎ ((row.closing ≡ true) × (length row.owed ≤ length (sent_in log.takers k))) → (row.gone ≡ true) ⊎ (stands call k ≡ false)
+      by_end : (row : Client) → client_of x.clients k ≡ None → p.client k ≡ Some row →
+          (row.gone ≡ true) ⊎ ((row.closing ≡ true) × (length row.owed ≤ length (sent_in log.takers k))) → (row.gone ≡ true) ⊎ (stands call k ≡ false)
       by_end row none at (inl gone) = inl gone
       by_end row none at (inr ends) = inr (nobody_stands f x p log r s.follows.apart call refl k none (ap is_some at))
 
-      by_row : (o : Option peer.Client) (q : Option Client) → client_of x.clients k ≡ o → p.client k ≡ q → IsRestingAt log k o q → IsClientAt (taken_at call k) o (option_map (seen_at call k) q)
+      by_row : (o : Option peer.Client) (q : Option Client) → client_of x.clients k ≡ o → p.client k ≡ q → IsRestingAt log k o q →
+          IsClientAt (taken_at call k) o (option_map (seen_at call k) q)
       by_row None None at at' is = tt
       by_row None (Some row) at at' is = seen_gone k row (by_end row at at' is)
       by_row (Some w) None at at' is = absurd is
@@ -178,14 +183,23 @@ module _ {B : Type 0} {g : Ghosts B} (n : ℕ) (f : Frame) (x : loop.Proxy B g) 
     rows = client_row;
     order = r.order;
     listed = λ k some. r.listed k (mapped_some (seen_at call k) (p.client k) some);
-    few = let fewer_here : length (clients_here (begun call p)) ≤ length (clients_here p) = fewer (λ k. is_client (p.client k)) (λ k. is_client (option_map (seen_at call k) (p.client k))) p.accepted here_before in let le = r.few in omega arith;
+    few = let fewer_here : length (clients_here (begun call p)) ≤ length (clients_here p) =
+        fewer (λ k. is_client (p.client k)) (λ k. is_client (option_map (seen_at call k) (p.client k))) p.accepted here_before in let le = r.few in omega arith;
   }
 
   all_stand : AllStand call p
   all_stand k row at = sym (ap (client_stands call p k) at) ∙ client_there_stands f x p log r s.follows.apart call refl k
 
   consumers : HasConsumers (begun call p)
-  consumers = begin_keeps call p all_stand (record { held = r.consumers.held; started = r.consumers.started; live = r.consumers.live; alive = λ k c w. inl (r.alive k c w); idle = r.consumers.idle })
+  consumers = begin_keeps call p all_stand
+      (record {
+        held = r.consumers.held;
+        started = r.consumers.started;
+        live = r.consumers.live;
+        alive = λ k c w. inl (r.alive k c w);
+        idle =
+            r.consumers.idle;
+      })
 
   -- THE WIRE
 
@@ -198,7 +212,18 @@ module _ {B : Type 0} {g : Ghosts B} (n : ℕ) (f : Frame) (x : loop.Proxy B g) 
   }
 
   ups : HasUpstreams (record turn { stages = stages }) x p []
-  ups = let u = r.upstreams call stages in record { rows = u.rows; numbers = u.numbers; over = u.over; news = u.news; touched = u.touched; opens = u.opens; names = u.names; strangers = u.strangers }
+  ups = let u = r.upstreams call stages in
+      record {
+        rows = u.rows;
+        numbers = u.numbers;
+        over = u.over;
+        news = u.news;
+        touched = u.touched;
+        opens = u.opens;
+        names = u.names;
+        strangers =
+            u.strangers;
+      }
 
   pub begins : Begun turn x' (begun call p) what slice
   begins = record {
@@ -240,11 +265,13 @@ module _ {B : Type 0} {g : Ghosts B} (n : ℕ) (f : Frame) (x : loop.Proxy B g) 
   pub ended : (k : ℕ) (row : Client) → p.client k ≡ Some row → (row.gone ≡ true) ⊎ (stands call k ≡ true) ⊎ (length row.owed ≤ length (sent_in log.takers k))
   ended k row at = by_row (client_of x.clients k) refl (subst (IsRestingAt log k (client_of x.clients k)) at (r.clients k))
     where
-      by_end : (row.gone ≡ true) ⊎ ((row.closing ≡ true) × (length row.owed ≤ length (sent_in log.takers k))) → (row.gone ≡ true) ⊎ (stands call k ≡ true) ⊎ (length row.owed ≤ length (sent_in log.takers k))
+      by_end : (row.gone ≡ true) ⊎ ((row.closing ≡ true) × (length row.owed ≤ length (sent_in log.takers k))) →
+          (row.gone ≡ true) ⊎ (stands call k ≡ true) ⊎ (length row.owed ≤ length (sent_in log.takers k))
       by_end (inl is) = inl is
       by_end (inr (closing, all)) = inr (inr all)
 
-      by_row : (o : Option peer.Client) → client_of x.clients k ≡ o → IsRestingAt log k o (Some row) → (row.gone ≡ true) ⊎ (stands call k ≡ true) ⊎ (length row.owed ≤ length (sent_in log.takers k))
+      by_row : (o : Option peer.Client) → client_of x.clients k ≡ o → IsRestingAt log k o (Some row) →
+          (row.gone ≡ true) ⊎ (stands call k ≡ true) ⊎ (length row.owed ≤ length (sent_in log.takers k))
       by_row None there is = by_end is
       by_row (Some w) there is = let open_now = r.wire.clients k w there in inr (inl (stands_open k w.reading open_now.0 open_now.1))
 
@@ -262,12 +289,17 @@ module _ {B : Type 0} {g : Ghosts B} (n : ℕ) (f : Frame) (x : loop.Proxy B g) 
   taken_same : (k : ℕ) → (stages' k ≡ Closed) ⊎ (taken_at call k ≡ length (sent_in log'.takers k))
   taken_same k = by_found (find (is_numbered k) log.takers) refl
     where
-      by_live : (c : Taker) → find (is_numbered k) log.takers ≡ Some c → (b : Bool) → c.live ≡ b → (stages' k ≡ Closed) ⊎ (taken_at call k ≡ length (sent_in log'.takers k))
-      by_live c found true live = inr (taken_found log call refl s.follows.apart k c found live ∙ (sym (ap length (sent_found k c log.takers found)) ∙ sym (ap length (sent_same k))))
-      by_live c found false live = inl (stand k ∙ closed_by_call k what stages of_open (s.follows.stands k ∙ (ap stage_from found ∙ ap (λ b. if b then Open c.reads c.ended else Closed) live)))
+      by_live : (c : Taker) → find (is_numbered k) log.takers ≡ Some c → (b : Bool) → c.live ≡ b →
+          (stages' k ≡ Closed) ⊎ (taken_at call k ≡ length (sent_in log'.takers k))
+      by_live c found true live =
+          inr (taken_found log call refl s.follows.apart k c found live ∙ (sym (ap length (sent_found k c log.takers found)) ∙ sym (ap length (sent_same k))))
+      by_live c found false live =
+          inl (stand k ∙ closed_by_call k what stages of_open
+          (s.follows.stands k ∙ (ap stage_from found ∙ ap (λ b. if b then Open c.reads c.ended else Closed) live)))
 
       by_found : (o : Option Taker) → find (is_numbered k) log.takers ≡ o → (stages' k ≡ Closed) ⊎ (taken_at call k ≡ length (sent_in log'.takers k))
-      by_found None found = inr (taken_missing log call refl s.follows.apart k found ∙ (sym (ap (λ o. length (sent_from o)) found) ∙ sym (ap length (sent_same k))))
+      by_found None found = inr
+          (taken_missing log call refl s.follows.apart k found ∙ (sym (ap (λ o. length (sent_from o)) found) ∙ sym (ap length (sent_same k))))
       by_found (Some c) found = by_live c found c.live refl
 
   pub on_wire : Reports reported reported' (with_call wait moment what (got_bytes what slice)) → OnWire turn log' reported' stages'

@@ -20,7 +20,8 @@ use Rattle.hc_peers.proofs.Outcomes.{err-map, if_ok-map}
 
 -- THE RECORD grows
 
-grown : (es : List Entry) (h : History) → (more : List ℕ) × (text_behind 0 (map timed_of (reverse (es ++ h))) ≡ text_behind 0 (map timed_of (reverse h)) ++ more)
+grown : (es : List Entry) (h : History) → (more : List ℕ) ×
+    (text_behind 0 (map timed_of (reverse (es ++ h))) ≡ text_behind 0 (map timed_of (reverse h)) ++ more)
 grown [] h = ([], sym (append-nil (text_behind 0 (map timed_of (reverse h)))))
 grown (e ∷ es) h =
     let rest = grown es h in
@@ -31,7 +32,8 @@ grown (e ∷ es) h =
 
 -- THE LOG, with one more call and more dials
 
-module _ (limits : Limits) (log : Log) (p : Proxy) (call : Called) (l : IsOfLoop limits log p) (enough : p.tables.opened ≤ length log.dialled) (fits : Fits limits log.dialled p call) where
+module _ (limits : Limits) (log : Log) (p : Proxy) (call : Called) (l : IsOfLoop limits log p) (enough : p.tables.opened ≤ length log.dialled)
+    (fits : Fits limits log.dialled p call) where
   abbrev q : Proxy
   q = turned limits log.dialled call p
 
@@ -56,7 +58,9 @@ module _ (limits : Limits) (log : Log) (p : Proxy) (call : Called) (l : IsOfLoop
     pub before_on : behind_calls limits log' (length log.calls) ≡ p
     before_on =
         ap (λ ks. turned_by limits ks (take (length log.calls) log'.calls) unused) dialled
-        ∙ (ap (λ cs. turned_by limits (log.dialled ++ more) cs unused) (ap (take (length log.calls)) calls ∙ (take-append-le (length log.calls) log.calls (call ∷ []) (omega arith) ∙ take_all (length log.calls) log.calls (omega arith)))
+        ∙ (ap (λ cs. turned_by limits (log.dialled ++ more) cs unused)
+        (ap (take (length log.calls)) calls ∙
+        (take-append-le (length log.calls) log.calls (call ∷ []) (omega arith) ∙ take_all (length log.calls) log.calls (omega arith)))
         ∙ behind_same)
 
     pub fit_on : AllFit limits log'.dialled unused log'.calls
@@ -69,7 +73,8 @@ module _ (limits : Limits) (log : Log) (p : Proxy) (call : Called) (l : IsOfLoop
 
 -- BETWEEN TURNS
 
-module _ {B : Type 0} {g : Ghosts B} (n : ℕ) (f : Frame) (x : loop.Proxy B g) (p : Proxy) (log : Log) (reported : Option Log) (stages : ℕ → Stage) (s : IsStill n f x p log reported stages) where
+module _ {B : Type 0} {g : Ghosts B} (n : ℕ) (f : Frame) (x : loop.Proxy B g) (p : Proxy) (log : Log) (reported : Option Log) (stages : ℕ → Stage)
+    (s : IsStill n f x p log reported stages) where
   -- what is written is the record of the turns before
   written_so : f.written ≡ record_of p
   written_so = sym (s.rests.cache.text ∙ (ap (λ (z : List ℕ). f.written ++ z) s.written ∙ append-nil f.written))
@@ -89,7 +94,8 @@ module _ {B : Type 0} {g : Ghosts B} (n : ℕ) (f : Frame) (x : loop.Proxy B g) 
       };
       turns = length log.calls;
       all_but_one = omega arith;
-      written_is = written_so ∙ ap record_of (l.tables ∙ sym (ap (λ cs. turned_by f.limits log.dialled cs unused) (take_all (length log.calls) log.calls (omega arith))));
+      written_is = written_so ∙
+          ap record_of (l.tables ∙ sym (ap (λ cs. turned_by f.limits log.dialled cs unused) (take_all (length log.calls) log.calls (omega arith))));
       text = [];
       takes = record { front = []; rest = []; whole = refl; takes = takes_none out };
       record_is = ap record_of (sym l.tables) ∙ (s.rests.cache.text ∙ ap (λ (z : List ℕ). f.written ++ z) s.written);
@@ -98,8 +104,10 @@ module _ {B : Type 0} {g : Ghosts B} (n : ℕ) (f : Frame) (x : loop.Proxy B g) 
 
 -- A TURN
 
-module _ {B : Type 0} {g : Ghosts B} (n : ℕ) (f : Frame) (x : loop.Proxy B g) (p : Proxy) (log : Log) (reported reported' : Option Log) (stages stages' : ℕ → Stage) (s : IsStill n f x p log reported stages)
-    (wait : Bool) (moment : ℕ) (what : WireEvent) (slice : List ℕ) (of_open : IsOfOpen what stages) (stand : (k : ℕ) → stages' k ≡ stages_after what stages k) (fits : FitsIn what 16384) (early : moment < 2 ^ 62) (many : n + 1 ≤ 2 ^ 45)
+module _ {B : Type 0} {g : Ghosts B} (n : ℕ) (f : Frame) (x : loop.Proxy B g) (p : Proxy) (log : Log) (reported reported' : Option Log)
+    (stages stages' : ℕ → Stage) (s : IsStill n f x p log reported stages)
+    (wait : Bool) (moment : ℕ) (what : WireEvent) (slice : List ℕ) (of_open : IsOfOpen what stages)
+    (stand : (k : ℕ) → stages' k ≡ stages_after what stages k) (fits : FitsIn what 16384) (early : moment < 2 ^ 62) (many : n + 1 ≤ 2 ^ 45)
     (reports : Reports reported reported' (with_call wait moment what (got_bytes what slice))) (waits_so : wait ≡ waits f.limits p) where
   abbrev pub call : Called
   call = begins.call n f x p log reported reported' stages stages' s wait moment what slice of_open stand fits early many
@@ -131,7 +139,8 @@ module _ {B : Type 0} {g : Ghosts B} (n : ℕ) (f : Frame) (x : loop.Proxy B g) 
   turned_is = ap (λ ks. carried (happened f.limits ks call (begun call p))) dials_so
 
   call_fits : Fits f.limits log.dialled p call
-  call_fits = fits_now f x p log s.rests s.follows.apart call refl (begins.few_bytes n f x p log reported reported' stages stages' s wait moment what slice of_open stand fits early many) waits_so
+  call_fits = fits_now f x p log s.rests s.follows.apart call refl
+      (begins.few_bytes n f x p log reported reported' stages stages' s wait moment what slice of_open stand fits early many) waits_so
 
   -- WHO IS SERVED
 
@@ -227,7 +236,8 @@ module _ {B : Type 0} {g : Ghosts B} (n : ℕ) (f : Frame) (x : loop.Proxy B g) 
     calls_on l' same = ap length same ∙ length-append log.calls (call ∷ [])
 
     -- it was cut short
-    pub stops_late : (x1 : loop.Proxy B g) (reported1 : Option Log) (out out' : Option (List ℕ)) → x1.cache ≡ y.cache → CutsTurn goes.q log' y reported1 out out' → TurnStops f p log x x1 reported1 out out'
+    pub stops_late : (x1 : loop.Proxy B g) (reported1 : Option Log) (out out' : Option (List ℕ)) → x1.cache ≡ y.cache →
+        CutsTurn goes.q log' y reported1 out out' → TurnStops f p log x x1 reported1 out out'
     stops_late x1 reported1 out out' cache c = record {
       log' = c.log';
       reported_is = c.reported_is;
@@ -238,14 +248,17 @@ module _ {B : Type 0} {g : Ghosts B} (n : ℕ) (f : Frame) (x : loop.Proxy B g) 
       where
         by_loop : faults_in y.cache ≡ faults_in x.cache → IsOfLoop f.limits log p → IsCutShort f.limits c.log' f.written out out'
         by_loop none l =
-            let is : behind_all f.limits c.log' ≡ carried goes.q = tables_on f.limits log p call l enough call_fits c.more c.log' c.calls c.dialled ∙ sym (same_tables none) in
+            let is : behind_all f.limits c.log' ≡ carried goes.q = tables_on f.limits log p call l enough call_fits c.more c.log' c.calls c.dialled ∙
+            sym (same_tables none) in
             let same = carried_is_same goes.q in
-            let sent_here : list_all (was_sent log'.dialled (carried goes.q)) log'.takers ≡ true = subst (λ (r : Proxy). list_all (was_sent log'.dialled r) log'.takers ≡ true) (sym (same_tables none)) (sent_turned l) in
+            let sent_here : list_all (was_sent log'.dialled (carried goes.q)) log'.takers ≡ true =
+            subst (λ (r : Proxy). list_all (was_sent log'.dialled r) log'.takers ≡ true) (sym (same_tables none)) (sent_turned l) in
             record {
               is_log = record {
                 fit = fit_on f.limits log p call l enough call_fits c.more c.log' c.calls c.dialled;
                 sent = subst (λ (r : Proxy). list_all (was_sent c.log'.dialled r) c.log'.takers ≡ true) (sym is) (c.sent sent_here);
-                dialled = subst (λ (r : Proxy). length c.log'.dialled ≤ r.tables.opened) (sym is) (let le = c.few in let t = ap (λ (u : _). u.opened) same.tables in omega arith);
+                dialled = subst (λ (r : Proxy). length c.log'.dialled ≤ r.tables.opened) (sym is)
+                    (let le = c.few in let t = ap (λ (u : _). u.opened) same.tables in omega arith);
               };
               turns = length log.calls;
               all_but_one = let is = calls_on c.log' c.calls in omega arith;
@@ -256,7 +269,8 @@ module _ {B : Type 0} {g : Ghosts B} (n : ℕ) (f : Frame) (x : loop.Proxy B g) 
             }
 
     -- it was made
-    pub turns_on : (x1 : loop.Proxy B g) (reported1 : Option Log) (stages1 : ℕ → Stage) (out out' : Option (List ℕ)) (again : Bool) → x1.cache ≡ y.cache → steps y.cache ≤ steps x.cache + 2049
+    pub turns_on : (x1 : loop.Proxy B g) (reported1 : Option Log) (stages1 : ℕ → Stage) (out out' : Option (List ℕ)) (again : Bool) → x1.cache ≡ y.cache →
+        steps y.cache ≤ steps x.cache + 2049
         → FinishesTurn turn goes.q log' y x1 reported1 stages1 out out' again → TurnsTo (n + 1) f p log x x1 reported1 stages1 out out' again
     turns_on x1 reported1 stages1 out out' again cache few e = record {
       f' = record turn.frame { written = turn.frame.written ++ text_of y.record };
@@ -289,20 +303,25 @@ module _ {B : Type 0} {g : Ghosts B} (n : ℕ) (f : Frame) (x : loop.Proxy B g) 
         }
 
   -- the turn begins at the greater moment
-  module _ (m : ℕ) (greater : m ≡ max x.now moment) (y : loop.Proxy B g) (happens : (t : Turn) (q : Proxy) → Begun t (record x { now = m; moved = false }) q what slice → Goes (KeepsPolled t) (faults_in x.cache) y (happened t.frame.limits t.dialled t.call q)) where
+  module _ (m : ℕ) (greater : m ≡ max x.now moment) (y : loop.Proxy B g)
+      (happens : (t : Turn) (q : Proxy) → Begun t (record x { now = m; moved = false }) q what slice →
+      Goes (KeepsPolled t) (faults_in x.cache) y (happened t.frame.limits t.dialled t.call q)) where
     abbrev went : Goes (KeepsPolled turn) (faults_in x.cache) y owed_by
     went = happens turn (begun call p) (subst (λ (n : ℕ). Begun turn (record x { now = n; moved = false }) (begun call p) what slice) (sym greater) b)
 
     pub polled_on : IsPolledOn reported' stages' y
     polled_on = (turn, went.q, log', went.keeps, on_wire)
 
-    module _ (result : Result Bool Stop) (x1 : loop.Proxy B g) (reported1 : Option Log) (stages1 : ℕ → Stage) (out out' : Option (List ℕ)) (same : x1.cache ≡ y.cache) where
+    module _ (result : Result Bool Stop) (x1 : loop.Proxy B g) (reported1 : Option Log) (stages1 : ℕ → Stage) (out out' : Option (List ℕ))
+        (same : x1.cache ≡ y.cache) where
       pub turned_ok : (events : ℕ) → events ≡ n + 1 → steps y.cache ≤ steps x.cache + 2049
-          → ((t : Turn) (q : Proxy) (l : Log) → KeepsPolled t y q → OnWire t l reported' stages' → IfOk result (FinishesTurn t q l y x1 reported1 stages1 out out'))
+          → ((t : Turn) (q : Proxy) (l : Log) → KeepsPolled t y q → OnWire t l reported' stages' →
+          IfOk result (FinishesTurn t q l y x1 reported1 stages1 out out'))
           → IfOk result (TurnsTo events f p log x x1 reported1 stages1 out out')
       turned_ok events one few finishes =
           if_ok-map result _ _
-          (λ again e. subst (λ (k : ℕ). TurnsTo k f p log x x1 reported1 stages1 out out' again) (sym one) (turns_on y went x1 reported1 stages1 out out' again same few e))
+          (λ again e. subst (λ (k : ℕ). TurnsTo k f p log x x1 reported1 stages1 out out' again) (sym one)
+          (turns_on y went x1 reported1 stages1 out out' again same few e))
           (finishes turn went.q log' went.keeps on_wire)
 
       pub turned_err : ((t : Turn) (q : Proxy) (l : Log) → KeepsPolled t y q → OnWire t l reported' stages' → OnErr result (CutsTurn q l y reported1 out out'))

@@ -182,7 +182,8 @@ module _ (limits : Limits) (R : Proxy → Proxy → Type 0) (kept : IsKept limit
 
   hears_by : (k : ℕ) (n : Next) (p : Proxy) → R p (hears limits k n p)
   hears_by k (Waits reading) p = reads_to k reading [] p
-  hears_by k (Reports token reading rest) p = kept.both p _ _ (reads_to k reading rest p) (hears_by_token k token (with_client k (starts.read_to reading rest) p))
+  hears_by k (Reports token reading rest) p =
+      kept.both p _ _ (reads_to k reading rest p) (hears_by_token k token (with_client k (starts.read_to reading rest) p))
   hears_by k (Brings bytes reading rest) p = kept.none p
   hears_by k Ends p = kept.none p
   hears_by k (Fails e) p = kept.both p _ _ (reads_to k (Failed e) [] p) (kept.client k (refused e) _ (is_refused e))
@@ -234,10 +235,14 @@ module _ (MayOpen : ℕ → Type 0) (R : Proxy → Proxy → Type 0) (out : IsCa
   all_out (act.Opened x c need request ∷ acts) p only = out.both p _ _ (out.opens x request p only.0) (all_out acts (with_opened x request p) only.1)
   all_out (act.Ask x ∷ acts) p only = all_out acts p only
   all_out (act.Close x ∷ acts) p only = all_out acts p only
-  all_out (act.Shown c r why status fields lo hi ∷ acts) p only = out.both p _ _ (answers_by (p.holder c) (act.Shown c r why status fields lo hi) p) (all_out acts (answers (p.holder c) (act.Shown c r why status fields lo hi) p) only)
-  all_out (act.Given c x at bytes ∷ acts) p only = out.both p _ _ (answers_by (p.holder c) (act.Given c x at bytes) p) (all_out acts (answers (p.holder c) (act.Given c x at bytes) p) only)
+  all_out (act.Shown c r why status fields lo hi ∷ acts) p only =
+      out.both p _ _ (answers_by (p.holder c) (act.Shown c r why status fields lo hi) p)
+      (all_out acts (answers (p.holder c) (act.Shown c r why status fields lo hi) p) only)
+  all_out (act.Given c x at bytes ∷ acts) p only =
+      out.both p _ _ (answers_by (p.holder c) (act.Given c x at bytes) p) (all_out acts (answers (p.holder c) (act.Given c x at bytes) p) only)
   all_out (act.Ended c ∷ acts) p only = out.both p _ _ (answers_by (p.holder c) (act.Ended c) p) (all_out acts (answers (p.holder c) (act.Ended c) p) only)
-  all_out (act.Failed c cause ∷ acts) p only = out.both p _ _ (answers_by (p.holder c) (act.Failed c cause) p) (all_out acts (answers (p.holder c) (act.Failed c cause) p) only)
+  all_out (act.Failed c cause ∷ acts) p only =
+      out.both p _ _ (answers_by (p.holder c) (act.Failed c cause) p) (all_out acts (answers (p.holder c) (act.Failed c cause) p) only)
   all_out (act.Pending c wait ∷ acts) p only = all_out acts p only
   all_out (act.Lost r kind ∷ acts) p only = all_out acts p only
   all_out (act.Evicted r ∷ acts) p only = all_out acts p only
@@ -264,7 +269,8 @@ open_any (act.Evicted r ∷ acts) = open_any acts
 -- A TURN
 
 module _ (limits : Limits) (MayOpen : ℕ → Type 0) (R : Proxy → Proxy → Type 0) (kept : IsKept limits R) (out : IsCarried MayOpen R) where
-  pub turned_keeps : (dialled : List ℕ) (call : Called) (p : Proxy) → OpenOnly MayOpen (acts_in (happened limits (so_far p dialled) call (begun call p)).part) → R p (begun call p) → R p (turned limits dialled call p)
+  pub turned_keeps : (dialled : List ℕ) (call : Called) (p : Proxy) →
+      OpenOnly MayOpen (acts_in (happened limits (so_far p dialled) call (begun call p)).part) → R p (begun call p) → R p (turned limits dialled call p)
   unfolding turned
   turned_keeps dialled call p only begins =
       kept.both p (begun call p) _ begins

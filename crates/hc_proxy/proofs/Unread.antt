@@ -25,7 +25,8 @@ same_below x n f g same (y ∷ ys) le down =
     omega arith
 
 -- it has no more than so much more
-grows_by : (x more y n : ℕ) (f g : ℕ → ℕ) → OthersSame x f g → g x ≤ f x + more → (ys : List ℕ) → Descends n (y ∷ ys) → sum_by g ys ≤ sum_by f ys + more → (t : Bool) → nat_eq y x ≡ t → sum_by g (y ∷ ys) ≤ sum_by f (y ∷ ys) + more
+grows_by : (x more y n : ℕ) (f g : ℕ → ℕ) → OthersSame x f g → g x ≤ f x + more → (ys : List ℕ) → Descends n (y ∷ ys) → sum_by g ys ≤ sum_by f ys + more →
+    (t : Bool) → nat_eq y x ≡ t → sum_by g (y ∷ ys) ≤ sum_by f (y ∷ ys) + more
 grows_by x more y n f g same le ys down rest true is =
     let here : y ≡ x = grind (arith, nat_tests) in
     let first : g y ≤ f y + more = (let F : ℕ → Type 0 = λ z. g z ≤ f z + more in subst F (sym here) le) in
@@ -49,7 +50,9 @@ abbrev pub among : ℕ → List ℕ → Bool
 among x [] = false
 among x (y ∷ ys) = nat_eq y x || among x ys
 
-falls_by : (x less y n : ℕ) (f g : ℕ → ℕ) → OthersSame x f g → g x + less ≤ f x → (ys : List ℕ) → Descends n (y ∷ ys) → (among x ys ≡ true → sum_by g ys + less ≤ sum_by f ys) → (t : Bool) → nat_eq y x ≡ t → (t || among x ys) ≡ true → sum_by g (y ∷ ys) + less ≤ sum_by f (y ∷ ys)
+falls_by : (x less y n : ℕ) (f g : ℕ → ℕ) → OthersSame x f g → g x + less ≤ f x → (ys : List ℕ) → Descends n (y ∷ ys) →
+    (among x ys ≡ true → sum_by g ys + less ≤ sum_by f ys) → (t : Bool) → nat_eq y x ≡ t → (t || among x ys) ≡ true →
+    sum_by g (y ∷ ys) + less ≤ sum_by f (y ∷ ys)
 falls_by x less y n f g same le ys down rest true is here =
     let at : y ≡ x = grind (arith, nat_tests) in
     let first : g y + less ≤ f y = (let F : ℕ → Type 0 = λ z. g z + less ≤ f z in subst F (sym at) le) in
@@ -64,7 +67,8 @@ falls_by x less y n f g same le ys down rest false is here =
     let b : sum_by f (y ∷ ys) ≡ f y + sum_by f ys = sum_by-cons f y ys in
     omega arith
 
-pub sum_falls : (x less : ℕ) (f g : ℕ → ℕ) → OthersSame x f g → g x + less ≤ f x → (n : ℕ) (xs : List ℕ) → Descends n xs → among x xs ≡ true → sum_by g xs + less ≤ sum_by f xs
+pub sum_falls : (x less : ℕ) (f g : ℕ → ℕ) → OthersSame x f g → g x + less ≤ f x → (n : ℕ) (xs : List ℕ) → Descends n xs → among x xs ≡ true →
+    sum_by g xs + less ≤ sum_by f xs
 sum_falls x less f g same le n [] down here = absurd (let never : false ≡ true = here in cc)
 sum_falls x less f g same le n (y ∷ ys) down here =
     falls_by x less y n f g same le ys down (λ h. sum_falls x less f g same le y ys down.1 h) (nat_eq y x) refl here
@@ -85,12 +89,17 @@ module _ (p : Proxy) (n : ℕ) (down : Descends n p.tables.openings) (x : ℕ) (
   itself = let one : nat_eq x x ≡ true = grind (arith, nat_tests) in rw one refl
 
   -- so many bytes more came of it
-  pub unread_grows : (more : ℕ) → unread_of (option_map change (p.upstream x)) ≤ unread_of (p.upstream x) + more → unread (with_upstream x change p) ≤ unread p + more
-  unread_grows more le = sum_grows x more before behind others (let at : behind x ≡ unread_of (option_map change (p.upstream x)) = itself in omega arith) n p.tables.openings down
+  pub unread_grows : (more : ℕ) → unread_of (option_map change (p.upstream x)) ≤ unread_of (p.upstream x) + more →
+      unread (with_upstream x change p) ≤ unread p + more
+  unread_grows more le = sum_grows x more before behind others (let at : behind x ≡ unread_of (option_map change (p.upstream x)) = itself in omega arith)
+      n p.tables.openings down
 
   -- so many were read of it
-  pub unread_falls : (less : ℕ) → unread_of (option_map change (p.upstream x)) + less ≤ unread_of (p.upstream x) → among x p.tables.openings ≡ true → unread (with_upstream x change p) + less ≤ unread p
-  unread_falls less le here = sum_falls x less before behind others (let at : behind x ≡ unread_of (option_map change (p.upstream x)) = itself in omega arith) n p.tables.openings down here
+  pub unread_falls : (less : ℕ) → unread_of (option_map change (p.upstream x)) + less ≤ unread_of (p.upstream x) → among x p.tables.openings ≡ true →
+      unread (with_upstream x change p) + less ≤ unread p
+  unread_falls less le here =
+      sum_falls x less before behind others (let at : behind x ≡ unread_of (option_map change (p.upstream x)) = itself in omega arith) n p.tables.openings
+      down here
 
 -- AN ENTRY, which opens an exchange of which nothing came
 

@@ -70,7 +70,9 @@ pub filter_both : (test : ℕ → Bool) (xs ys : List ℕ) → length (filter te
 filter_both test [] ys = omega arith
 filter_both test (x ∷ xs) ys = by_test (test x) (filter_both test xs ys)
   where
-    by_test : (b : Bool) → length (filter test (xs ++ ys)) ≡ length (filter test xs) + length (filter test ys) → length (if b then x ∷ filter test (xs ++ ys) else filter test (xs ++ ys)) ≡ length (if b then x ∷ filter test xs else filter test xs) + length (filter test ys)
+    by_test : (b : Bool) → length (filter test (xs ++ ys)) ≡ length (filter test xs) + length (filter test ys) →
+        length (if b then x ∷ filter test (xs ++ ys) else filter test (xs ++ ys)) ≡ length (if b then x ∷ filter test xs else filter test xs) + length
+        (filter test ys)
     by_test true rest = omega arith
     by_test false rest = rest
 

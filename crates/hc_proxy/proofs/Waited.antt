@@ -50,12 +50,14 @@ module _ (limits : Limits) where
   next_waits Ends off = true_false off
   next_waits (Fails e) off = true_false off
 
-  not_ended : (z : ℕ) (q : Proxy) (v : Upstream) (reading : Reading) → IsHeardAt z q → is_open (q.tables.exchange z) ≡ true → q.upstream z ≡ Some v → next_of v ≡ Waits reading → (b : Bool) → v.ended ≡ b → v.ended ≡ false
+  not_ended : (z : ℕ) (q : Proxy) (v : Upstream) (reading : Reading) → IsHeardAt z q → is_open (q.tables.exchange z) ≡ true → q.upstream z ≡ Some v →
+      next_of v ≡ Waits reading → (b : Bool) → v.ended ≡ b → v.ended ≡ false
   not_ended z q v reading heard on row waits false is = is
   not_ended z q v reading heard on row waits true is = absurd (let never : false ≡ true = sym (ap is_part waits) ∙ heard v on row is in cc)
 
   -- it is wanted, and nothing whole stands next
-  waits_unmoved : (z : ℕ) (q : Proxy) (v : Upstream) → q.upstream z ≡ Some v → IsHeardAt z q → (is_wanted (q.tables.exchange z) && has_news v) ≡ true → is_wanted (q.tables.exchange z) ≡ true → has_next (look_of (next_of v)) ≡ false → IsUnmoved z q (heard_one limits z q)
+  waits_unmoved : (z : ℕ) (q : Proxy) (v : Upstream) → q.upstream z ≡ Some v → IsHeardAt z q → (is_wanted (q.tables.exchange z) && has_news v) ≡ true →
+      is_wanted (q.tables.exchange z) ≡ true → has_next (look_of (next_of v)) ≡ false → IsUnmoved z q (heard_one limits z q)
   waits_unmoved z q v row heard wants wanted off =
       let w = next_waits (next_of v) off in
       let r = with_upstream z (read_to w.0 []) q in
@@ -66,7 +68,8 @@ module _ (limits : Limits) where
       let second : closed limits z r ≡ r = ap (λ (o : Option Upstream). closes_if limits z o r) here ∙ rw ended refl in
       subst (IsUnmoved z q) (sym (ap (closed limits z) first ∙ second)) (record { tables = refl; part = refl; rows = λ y apart. rw apart refl })
 
-  idle_by : (z : ℕ) (q : Proxy) (v : Upstream) → q.upstream z ≡ Some v → IsHeardAt z q → (is_wanted (q.tables.exchange z) && has_news v) ≡ false → (b : Bool) → is_open (q.tables.exchange z) ≡ b → Idle limits q z
+  idle_by : (z : ℕ) (q : Proxy) (v : Upstream) → q.upstream z ≡ Some v → IsHeardAt z q → (is_wanted (q.tables.exchange z) && has_news v) ≡ false →
+      (b : Bool) → is_open (q.tables.exchange z) ≡ b → Idle limits q z
   idle_by z q v row heard unwanted false shut = inl shut
   idle_by z q v row heard unwanted true on = inr (ap (is_due_by (is_wanted (q.tables.exchange z))) row ∙ rw unwanted (by_end v.ended refl))
     where
@@ -78,11 +81,13 @@ module _ (limits : Limits) where
   pub one_idle : (z : ℕ) (q : Proxy) → IsHeardAt z q → brings q z ≡ false → IsUnmoved z q (heard_one limits z q)
   one_idle z q heard off = by_row (q.upstream z) refl
     where
-      by_want : (v : Upstream) → q.upstream z ≡ Some v → (b : Bool) → is_wanted (q.tables.exchange z) ≡ b → (c : Bool) → has_news v ≡ c → brings q z ≡ false → IsUnmoved z q (heard_one limits z q)
+      by_want : (v : Upstream) → q.upstream z ≡ Some v → (b : Bool) → is_wanted (q.tables.exchange z) ≡ b → (c : Bool) → has_news v ≡ c →
+          brings q z ≡ false → IsUnmoved z q (heard_one limits z q)
       by_want v row false unwanted c news none =
           subst (IsUnmoved z q) (sym (idle_skips limits z q (idle_by z q v row heard (rw unwanted refl) (is_open (q.tables.exchange z)) refl))) (unmoved z q)
       by_want v row true wanted false news none =
-          subst (IsUnmoved z q) (sym (idle_skips limits z q (idle_by z q v row heard (rw (wanted, news) refl) (is_open (q.tables.exchange z)) refl))) (unmoved z q)
+          subst (IsUnmoved z q) (sym (idle_skips limits z q (idle_by z q v row heard (rw (wanted, news) refl) (is_open (q.tables.exchange z)) refl)))
+          (unmoved z q)
       by_want v row true wanted true news none =
           waits_unmoved z q v row heard (rw (wanted, news) refl) wanted
           (sym (rw (wanted, news) refl) ∙ (sym (ap (brings_by (is_wanted (q.tables.exchange z))) row) ∙ none))
@@ -102,7 +107,8 @@ module _ (limits : Limits) where
   hands_some z (Reports (Asks request) reading rest) q answers next = absurd answers
   hands_some z (Reports (Byte b) reading rest) q answers next = absurd answers
   hands_some z (Brings bytes reading rest) q answers next =
-      by_denial (stepped limits (event.Piece z bytes) (with_upstream z (read_to reading rest) q)) (is_last_denied (stepped limits (event.Piece z bytes) (with_upstream z (read_to reading rest) q)).part) (omega arith)
+      by_denial (stepped limits (event.Piece z bytes) (with_upstream z (read_to reading rest) q))
+      (is_last_denied (stepped limits (event.Piece z bytes) (with_upstream z (read_to reading rest) q)).part) (omega arith)
     where
       by_denial : (r : Proxy) (b : Bool) → 1 ≤ length r.part → 1 ≤ length (if b then stepped limits (event.Fault z) r else r).part
       by_denial r true some = omega arith
@@ -111,10 +117,13 @@ module _ (limits : Limits) where
   hands_some z (Fails e) q answers next = omega arith
 
   -- something is brought
-  pub one_busy : (z : ℕ) (q : Proxy) → ((v : Upstream) → is_open (q.tables.exchange z) ≡ true → q.upstream z ≡ Some v → IsReadAs v.reading (q.tables.exchange z)) → brings q z ≡ true → 1 ≤ length (heard_one limits z q).part
+  pub one_busy : (z : ℕ) (q : Proxy) →
+      ((v : Upstream) → is_open (q.tables.exchange z) ≡ true → q.upstream z ≡ Some v → IsReadAs v.reading (q.tables.exchange z)) → brings q z ≡ true →
+      1 ≤ length (heard_one limits z q).part
   one_busy z q headed on =
       let made : 1 ≤ length (handed limits z q).part = by_row (q.upstream z) refl in
-      let more : length (handed limits z q).part ≤ length (closed limits z (handed limits z q)).part = closed_by limits (λ p r. length p.part ≤ length r.part) grows z ((handed limits z q).upstream z) (handed limits z q) in
+      let more : length (handed limits z q).part ≤ length (closed limits z (handed limits z q)).part =
+      closed_by limits (λ p r. length p.part ≤ length r.part) grows z ((handed limits z q).upstream z) (handed limits z q) in
       omega arith
     where
       first : (a b : Bool) → (a && b) ≡ true → a ≡ true
@@ -125,9 +134,11 @@ module _ (limits : Limits) where
       second true b g = g
       second false b g = true_false (sym g)
 
-      by_parts : (v : Upstream) → q.upstream z ≡ Some v → (is_wanted (q.tables.exchange z) && has_news v && has_next (look_of (next_of v))) ≡ true → 1 ≤ length (handed limits z q).part
+      by_parts : (v : Upstream) → q.upstream z ≡ Some v → (is_wanted (q.tables.exchange z) && has_news v && has_next (look_of (next_of v))) ≡ true →
+          1 ≤ length (handed limits z q).part
       by_parts v row all =
-          let both : (is_wanted (q.tables.exchange z) && has_news v) ≡ true = first (is_wanted (q.tables.exchange z) && has_news v) (has_next (look_of (next_of v))) all in
+          let both : (is_wanted (q.tables.exchange z) && has_news v) ≡ true =
+          first (is_wanted (q.tables.exchange z) && has_news v) (has_next (look_of (next_of v))) all in
           let next : has_next (look_of (next_of v)) ≡ true = second (is_wanted (q.tables.exchange z) && has_news v) (has_next (look_of (next_of v))) all in
           let wanted : is_wanted (q.tables.exchange z) ≡ true = first (is_wanted (q.tables.exchange z)) (has_news v) both in
           let news : has_news v ≡ true = second (is_wanted (q.tables.exchange z)) (has_news v) both in
@@ -157,7 +168,8 @@ module _ (limits : Limits) where
     heard_as : (q : Proxy) (z : ℕ) (xs : List ℕ) → IsStill q (z ∷ xs) → IsHeardAt z q
     heard_as q z xs s v on row = heard_out z v (sym (open_as q z s.tables) ∙ on) (sym (s.rows z (among_first z xs)) ∙ row)
 
-    read_as : (q : Proxy) (z : ℕ) (xs : List ℕ) → IsStill q (z ∷ xs) → (v : Upstream) → is_open (q.tables.exchange z) ≡ true → q.upstream z ≡ Some v → IsReadAs v.reading (q.tables.exchange z)
+    read_as : (q : Proxy) (z : ℕ) (xs : List ℕ) → IsStill q (z ∷ xs) → (v : Upstream) → is_open (q.tables.exchange z) ≡ true → q.upstream z ≡ Some v →
+        IsReadAs v.reading (q.tables.exchange z)
     read_as q z xs s v on row =
         subst (λ t. IsReadAs v.reading (t.exchange z)) (sym s.tables) (headed z v (sym (open_as q z s.tables) ∙ on) (sym (s.rows z (among_first z xs)) ∙ row))
 
@@ -166,7 +178,8 @@ module _ (limits : Limits) where
         ap (λ t. brings_by (is_wanted (t.exchange z)) (q.upstream z)) s.tables
         ∙ ap (brings_by (is_wanted (p.tables.exchange z))) (s.rows z (among_first z xs))
 
-    still_on : (q : Proxy) (n z : ℕ) (xs : List ℕ) → IsStill q (z ∷ xs) → Ascends n (z ∷ xs) → IsUnmoved z q (heard_one limits z q) → IsStill (heard_one limits z q) xs
+    still_on : (q : Proxy) (n z : ℕ) (xs : List ℕ) → IsStill q (z ∷ xs) → Ascends n (z ∷ xs) → IsUnmoved z q (heard_one limits z q) →
+        IsStill (heard_one limits z q) xs
     still_on q n z xs s up u = record {
       tables = u.tables ∙ s.tables;
       part = u.part ∙ s.part;
@@ -187,14 +200,17 @@ module _ (limits : Limits) where
     some_left : (n : ℕ) → 1 ≤ n → (n == 0) ≡ false
     some_left n some = grind (arith, nat_tests)
 
-    pub any_brings : (xs : List ℕ) (n : ℕ) (q : Proxy) → Ascends n xs → IsStill q xs → (length (each_heard limits xs q).part == 0) ≡ not (list_any (brings p) xs)
+    pub any_brings : (xs : List ℕ) (n : ℕ) (q : Proxy) → Ascends n xs → IsStill q xs →
+        (length (each_heard limits xs q).part == 0) ≡ not (list_any (brings p) xs)
     any_brings [] n q up s = ap (λ es. length es == 0) s.part
     any_brings (z ∷ xs) n q up s = by_test (λ next. any_brings xs (z + 1) (heard_one limits z q) up.1 next) (brings p z) refl
       where
-        by_test : (IsStill (heard_one limits z q) xs → (length (each_heard limits xs (heard_one limits z q)).part == 0) ≡ not (list_any (brings p) xs)) → (b : Bool) → brings p z ≡ b → (length (each_heard limits (z ∷ xs) q).part == 0) ≡ not (list_any (brings p) (z ∷ xs))
+        by_test : (IsStill (heard_one limits z q) xs → (length (each_heard limits xs (heard_one limits z q)).part == 0) ≡ not (list_any (brings p) xs)) →
+            (b : Bool) → brings p z ≡ b → (length (each_heard limits (z ∷ xs) q).part == 0) ≡ not (list_any (brings p) (z ∷ xs))
         by_test rest true on =
             let made : 1 ≤ length (heard_one limits z q).part = one_busy z q (read_as q z xs s) (brings_as q z xs s ∙ on) in
-            let more : length (heard_one limits z q).part ≤ length (each_heard limits xs (heard_one limits z q)).part = each_keeps limits (λ a b. length a.part ≤ length b.part) grows xs (heard_one limits z q) in
+            let more : length (heard_one limits z q).part ≤ length (each_heard limits xs (heard_one limits z q)).part =
+            each_keeps limits (λ a b. length a.part ≤ length b.part) grows xs (heard_one limits z q) in
             some_left (length (each_heard limits xs (heard_one limits z q)).part) (omega arith) ∙ rw on refl
         by_test rest false off =
             rest (still_on q n z xs s up (one_idle z q (heard_as q z xs s) (brings_as q z xs s ∙ off)))

@@ -6,7 +6,8 @@ use Rattle.hc_range.specs.{declared.range.{RangeSpec.TheVariants.{From, FromTo},
 positions-decimal : (first last : ℕ) → first ≤ last → last < 2 ^ 62 → SpellsPositions (decimal first ++ 45 ∷ [] ++ decimal last) first last
 positions-decimal first last up small = (decimal first, decimal last, IsNumber-decimal first (omega arith), IsNumber-decimal last small, up, refl)
 
-spec-written : (whole : Bool) (lo last : ℕ) → lo ≤ last → last < 2 ^ 62 → SpellsSpec (decimal lo ++ 45 ∷ [] ++ cond whole [] (decimal last)) (cond whole (From lo) (FromTo lo last))
+spec-written : (whole : Bool) (lo last : ℕ) → lo ≤ last → last < 2 ^ 62 →
+    SpellsSpec (decimal lo ++ 45 ∷ [] ++ cond whole [] (decimal last)) (cond whole (From lo) (FromTo lo last))
 spec-written true lo last up small = (decimal lo, IsNumber-decimal lo (omega arith), append-nil (decimal lo ++ 45 ∷ []))
 spec-written false lo last up small = positions-decimal lo last up small
 
@@ -19,7 +20,8 @@ range_text_spells span total h = (
   refl,
 )
 
-pub content_range_text_spells : (span : Span) (total : ℕ) → IsWithin span total → SpellsContentRange (content_range_text span total) (Part span.lo (span.hi - 1) (Some total))
+pub content_range_text_spells : (span : Span) (total : ℕ) → IsWithin span total →
+    SpellsContentRange (content_range_text span total) (Part span.lo (span.hi - 1) (Some total))
 content_range_text_spells span total h =
     let last = span.hi - 1 in (
       98 ∷ 121 ∷ 116 ∷ 101 ∷ 115 ∷ 32 ∷ [],

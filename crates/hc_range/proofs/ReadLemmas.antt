@@ -37,7 +37,8 @@ LacksByte-digits c [] past h = refl
 LacksByte-digits c (b ∷ text) past h =
     let is_other : other c b ≡ true =
     elim (cases_Bool (eqb b c)) [
-      | inl same ↦ let e : digit_value b ≡ digit_value c = ap digit_value (eqb-true b c same) in let low : digit_value b < 10 = h.0 in absurd (omega (arith, past, e, low))
+      | inl same ↦ let e : digit_value b ≡ digit_value c = ap digit_value (eqb-true b c same) in let low : digit_value b < 10 = h.0 in
+          absurd (omega (arith, past, e, low))
       | inr differs ↦ not_from_false (eqb b c) differs
     ] in
     and_from (other c b) (list_all (other c) text) is_other (LacksByte-digits c text past h.1)
@@ -116,13 +117,16 @@ pub lacks_slash : (text : List ℕ) (first last : ℕ) → SpellsPositions text 
 lacks_slash text first last h =
     let a = h.0 in
     let b = h.1 in
-    subst (LacksByte 47) (sym h.5) (LacksByte-append 47 (a ++ 45 ∷ []) b (LacksByte-append 47 a (45 ∷ []) (LacksByte-number 47 a first (lit≤ tt) h.2) refl) (LacksByte-number 47 b last (lit≤ tt) h.3))
+    subst (LacksByte 47) (sym h.5)
+    (LacksByte-append 47 (a ++ 45 ∷ []) b (LacksByte-append 47 a (45 ∷ []) (LacksByte-number 47 a first (lit≤ tt) h.2) refl)
+    (LacksByte-number 47 b last (lit≤ tt) h.3))
 
 pub star_positions : (text : List ℕ) (first last : ℕ) → text ≡ 42 ∷ [] → SpellsPositions text first last → ⊥
 star_positions text first last star h =
     let a = h.0 in
     let b = h.1 in
-    let long : length text ≡ length a + 1 + length b = ap length h.5 ∙ length-append (a ++ 45 ∷ []) b ∙ ap (λ (n : ℕ). n + length b) (length-append a (45 ∷ [])) in
+    let long : length text ≡ length a + 1 + length b = ap length h.5 ∙ length-append (a ++ 45 ∷ []) b ∙
+    ap (λ (n : ℕ). n + length b) (length-append a (45 ∷ [])) in
     omega (arith, h.2.1.0, h.3.1.0, long, ap length star)
 
 -- what a text tells that is cut at its first slash
@@ -140,7 +144,8 @@ response_at text p t e lacks (Unsatisfied total) h =
     let one = split_unique 47 (42 ∷ []) h.0 p t refl lacks (sym h.2 ∙ e) in
     (sym one.0, rw (← one.1) h.1)
 
-pub reports_unsatisfied : (p t : List ℕ) (range : ContentRange) → p ≡ 42 ∷ [] → SpellsParts p t range → (total : ℕ) × (range ≡ Unsatisfied total) × IsNumber t total
+pub reports_unsatisfied : (p t : List ℕ) (range : ContentRange) → p ≡ 42 ∷ [] → SpellsParts p t range → (total : ℕ) × (range ≡ Unsatisfied total) ×
+    IsNumber t total
 reports_unsatisfied p t (Part first last total) star h = absurd (star_positions p first last star h.0)
 reports_unsatisfied p t (Unsatisfied total) star h = (total, refl, h.1)
 
@@ -153,7 +158,8 @@ gives_part p t (Unsatisfied total) differs h = absurd (differs h.0)
 pub same_last : (r : Option (ℕ × ℕ)) (x y first last : ℕ) → r ≡ Some (x, y) → r ≡ Some (first, last) → y ≡ last
 same_last r x y first last read spelled = let pair : ◌≡◌ {A = ℕ × ℕ} (x, y) (first, last) = cc in ap (λ (p : ℕ × ℕ). p.1) pair
 
-pub same_positions : (r : Option (ℕ × ℕ)) (x y first last : ℕ) (asked : RangeSpec) → r ≡ Some (x, y) → r ≡ Some (first, last) → asked ≡ FromTo first last → Some (FromTo x y) ≡ Some asked
+pub same_positions : (r : Option (ℕ × ℕ)) (x y first last : ℕ) (asked : RangeSpec) → r ≡ Some (x, y) → r ≡ Some (first, last) →
+    asked ≡ FromTo first last → Some (FromTo x y) ≡ Some asked
 same_positions r x y first last asked read spelled is = grind (arith, nat_tests)
 
 pub same_part : (r : Option (ℕ × ℕ)) (x y first last : ℕ) (s : Option (Option ℕ)) (z total : Option ℕ) (range : ContentRange)

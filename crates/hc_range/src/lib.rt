@@ -7,7 +7,7 @@ mod span;
 mod split;
 mod write;
 
-pub use range::{RangeSpec, ContentRange, Span};
+pub use range::{ContentRange, RangeSpec, Span};
 pub use read::{read_content_range, read_range};
 pub use span::resolve;
 pub use write::{write_content_range, write_range};

@@ -4,7 +4,7 @@ ghost use Rattle.hc_range.specs.declared.range.RangeSpec.{RangeSpec};
 ghost use Rattle.hc_range.specs.declared.range.ContentRange.{ContentRange};
 ghost use Rattle.hc_range.specs.Ranges.{SpellsRange, SpellsSpec, SpellsPositions, SpellsTotal, SpellsResponse, SpellsContentRange};
 
-use crate::range::{RangeSpec, ContentRange};
+use crate::range::{ContentRange, RangeSpec};
 use crate::split::split_once;
 use hc_text::read_number;
 

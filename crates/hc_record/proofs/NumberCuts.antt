@@ -7,7 +7,8 @@ use Rattle.hc_record.specs.Lines.{IsSmall}
 pub tested : IsNumeralModel (λ ds. list_all is_ascii_digit ds ≡ true) (digits_value 10)
 tested = numerals_by_value _ (search rules)
 
-pub plain_is : (ds : List ℕ) (n : ℕ) → list_all is_ascii_digit ds ≡ true → n ≡ digits_value 10 ds → 0 < length ds → (get_or ds 0 0 ≡ 48 → length ds ≡ 1) → n < 2 ^ 62 → IsPlain ds n
+pub plain_is : (ds : List ℕ) (n : ℕ) → list_all is_ascii_digit ds ≡ true → n ≡ digits_value 10 ds → 0 < length ds → (get_or ds 0 0 ≡ 48 → length ds ≡ 1) →
+    n < 2 ^ 62 → IsPlain ds n
 plain_is ds n all is some first small =
     let within : digits_value 10 ds < 2 ^ 64 = omega (arith, small, is) in
     (small, sym (ap decimal is ∙ decimal-digits_value tested ds all some first within))
@@ -30,7 +31,8 @@ pub front_is : (e m i : ℕ) (after text : List ℕ) → decimal m ++ e ∷ afte
 front_is e m i after text is le = ap (take i) (sym is) ∙ take-append-le i (decimal m) (e ∷ after) le
 
 -- what ends at the byte is the number
-pub number_is : (e m i : ℕ) (after text : List ℕ) → e < 48 → IsSmall m → decimal m ++ e ∷ after ≡ text → lacks e (take i text) ≡ true → take i text ++ e ∷ drop (i + 1) text ≡ text → take i text ≡ decimal m
+pub number_is : (e m i : ℕ) (after text : List ℕ) → e < 48 → IsSmall m → decimal m ++ e ∷ after ≡ text → lacks e (take i text) ≡ true → take i text ++ e ∷
+    drop (i + 1) text ≡ text → take i text ≡ decimal m
 number_is e m i after text below small is lacking whole =
     sym (cut_once e (decimal m) after (take i text) (drop (i + 1) text) (lacks-decimal e m below small) lacking (is ∙ sym whole)).0
 
@@ -42,7 +44,8 @@ all_digits m small = tested-AllDigits (decimal m) (decimal_is_IsNumeral m (omega
 
 list_all-take : (p : ℕ → Bool) (ds : List ℕ) (i : ℕ) → list_all p ds ≡ true → list_all p (take i ds) ≡ true
 list_all-take p ds i all =
-    (and_parts (list_all p (take i ds)) (list_all p (drop i ds)) (sym (ap (list_all p) (sym (take-append-drop i ds)) ∙ list_all-append p (take i ds) (drop i ds)) ∙ all)).0
+    (and_parts (list_all p (take i ds)) (list_all p (drop i ds))
+    (sym (ap (list_all p) (sym (take-append-drop i ds)) ∙ list_all-append p (take i ds) (drop i ds)) ∙ all)).0
 
 -- one byte more is still of the number
 pub next_in : (e m i : ℕ) (after text : List ℕ) → IsSmall m → decimal m ++ e ∷ after ≡ text → lacks e (take (i + 1) text) ≡ true

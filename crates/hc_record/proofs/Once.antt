@@ -13,7 +13,8 @@ use Rattle.hc_record.proofs.Totals.{length-total_text, IsNumber-total}
 -- a number and the byte behind it
 pub ended_once : (e n m : ℕ) (r s : List ℕ) → e < 48 → IsSmall n → IsSmall m → number_and_end e n ++ r ≡ number_and_end e m ++ s → (n ≡ m) × (r ≡ s)
 ended_once e n m r s below small_n small_m same =
-    let cut = cut_once e (decimal n) r (decimal m) s (lacks-decimal e n below small_n) (lacks-decimal e m below small_m) (sym (append_assoc (decimal n) (e ∷ []) r) ∙ (same ∙ append_assoc (decimal m) (e ∷ []) s)) in
+    let cut = cut_once e (decimal n) r (decimal m) s (lacks-decimal e n below small_n) (lacks-decimal e m below small_m)
+    (sym (append_assoc (decimal n) (e ∷ []) r) ∙ (same ∙ append_assoc (decimal m) (e ∷ []) s)) in
     (decimal_injective n m (omega arith) (omega arith) cut.0, cut.1)
 
 kind_of : ℕ → Kind
@@ -61,36 +62,43 @@ pub seal_once : (k l : Kind) (t u : Option ℕ) (r s : List ℕ) → IsSmallTota
 seal_once k l t u r s small_t small_u same =
     let bytes : kind_byte k ≡ kind_byte l = cc in
     let rests : (total_text t ++ 10 ∷ []) ++ r ≡ (total_text u ++ 10 ∷ []) ++ s = cc in
-    let totals = total_once t u (10 ∷ r) (10 ∷ s) small_t small_u (sym (append_assoc (total_text t) (10 ∷ []) r) ∙ (rests ∙ append_assoc (total_text u) (10 ∷ []) s)) in
+    let totals = total_once t u (10 ∷ r) (10 ∷ s) small_t small_u
+    (sym (append_assoc (total_text t) (10 ∷ []) r) ∙ (rests ∙ append_assoc (total_text u) (10 ∷ []) s)) in
     let ends = totals.1 in
     record { kind = kind_once k l bytes; total = totals.0; rest = cc }
 
 -- the line of numbers, number by number
-pub numbers_apart : (a b c d e : ℕ) (r : List ℕ) → numbers_line a b c d e ++ r ≡ number_and_end 32 a ++ (number_and_end 32 b ++ (number_and_end 32 c ++ (number_and_end 32 d ++ (number_and_end 10 e ++ r))))
+pub numbers_apart : (a b c d e : ℕ) (r : List ℕ) → numbers_line a b c d e ++ r ≡ number_and_end 32 a ++
+    (number_and_end 32 b ++ (number_and_end 32 c ++ (number_and_end 32 d ++ (number_and_end 10 e ++ r))))
 numbers_apart a b c d e r = simp append_assoc
 
 -- a text in which no line ends behind kind and total
-pub no_line_end : (k l : Kind) (t u : Option ℕ) (text mid behind rest after : List ℕ) → kind_byte k ∷ mid ≡ text → 32 ∷ behind ≡ mid → IsSmallTotal t → total_text t ++ rest ≡ behind → ((more : List ℕ) → 10 ∷ more ≢ rest) → IsSmallTotal u → seal_line l u ++ after ≢ text
+pub no_line_end : (k l : Kind) (t u : Option ℕ) (text mid behind rest after : List ℕ) → kind_byte k ∷ mid ≡ text → 32 ∷ behind ≡ mid → IsSmallTotal t →
+    total_text t ++ rest ≡ behind → ((more : List ℕ) → 10 ∷ more ≢ rest) → IsSmallTotal u → seal_line l u ++ after ≢ text
 no_line_end k l t u text mid behind rest after kind_is space_is small_t total_is none small_u same =
     let rests : (total_text u ++ 10 ∷ []) ++ after ≡ behind = cc in
     let totals = total_once u t (10 ∷ after) rest small_u small_t (sym (append_assoc (total_text u) (10 ∷ []) after) ∙ (rests ∙ sym total_is)) in
     none after totals.1
 
 -- a text that goes on otherwise behind some of the numbers
-pub no_second : (n : Numbers) (a : ℕ) (text one after : List ℕ) → IsSmall a → number_and_end 32 a ++ one ≡ text → ((b : ℕ) (more : List ℕ) → IsSmall b → number_and_end 32 b ++ more ≢ one) → AreSmall n → numbers_text n ++ after ≢ text
+pub no_second : (n : Numbers) (a : ℕ) (text one after : List ℕ) → IsSmall a → number_and_end 32 a ++ one ≡ text →
+    ((b : ℕ) (more : List ℕ) → IsSmall b → number_and_end 32 b ++ more ≢ one) → AreSmall n → numbers_text n ++ after ≢ text
 no_second n a text one after small_a is_a none small same =
     let apart = sym (numbers_apart n.status n.requested n.answered n.vary_count n.count after) ∙ same in
     let first = ended_once 32 n.status a _ one (omega arith) small.status small_a (apart ∙ sym is_a) in
     none n.requested _ small.requested first.1
 
-pub no_third : (n : Numbers) (a b : ℕ) (text one two after : List ℕ) → IsSmall a → number_and_end 32 a ++ one ≡ text → IsSmall b → number_and_end 32 b ++ two ≡ one → ((c : ℕ) (more : List ℕ) → IsSmall c → number_and_end 32 c ++ more ≢ two) → AreSmall n → numbers_text n ++ after ≢ text
+pub no_third : (n : Numbers) (a b : ℕ) (text one two after : List ℕ) → IsSmall a → number_and_end 32 a ++ one ≡ text → IsSmall b → number_and_end 32 b ++
+    two ≡ one → ((c : ℕ) (more : List ℕ) → IsSmall c → number_and_end 32 c ++ more ≢ two) → AreSmall n → numbers_text n ++ after ≢ text
 no_third n a b text one two after small_a is_a small_b is_b none small same =
     let apart = sym (numbers_apart n.status n.requested n.answered n.vary_count n.count after) ∙ same in
     let first = ended_once 32 n.status a _ one (omega arith) small.status small_a (apart ∙ sym is_a) in
     let second = ended_once 32 n.requested b _ two (omega arith) small.requested small_b (first.1 ∙ sym is_b) in
     none n.answered _ small.answered second.1
 
-pub no_fourth : (n : Numbers) (a b c : ℕ) (text one two three after : List ℕ) → IsSmall a → number_and_end 32 a ++ one ≡ text → IsSmall b → number_and_end 32 b ++ two ≡ one → IsSmall c → number_and_end 32 c ++ three ≡ two → ((d : ℕ) (more : List ℕ) → IsSmall d → number_and_end 32 d ++ more ≢ three) → AreSmall n → numbers_text n ++ after ≢ text
+pub no_fourth : (n : Numbers) (a b c : ℕ) (text one two three after : List ℕ) → IsSmall a → number_and_end 32 a ++ one ≡ text → IsSmall b →
+    number_and_end 32 b ++ two ≡ one → IsSmall c → number_and_end 32 c ++ three ≡ two →
+    ((d : ℕ) (more : List ℕ) → IsSmall d → number_and_end 32 d ++ more ≢ three) → AreSmall n → numbers_text n ++ after ≢ text
 no_fourth n a b c text one two three after small_a is_a small_b is_b small_c is_c none small same =
     let apart = sym (numbers_apart n.status n.requested n.answered n.vary_count n.count after) ∙ same in
     let first = ended_once 32 n.status a _ one (omega arith) small.status small_a (apart ∙ sym is_a) in
@@ -98,7 +106,9 @@ no_fourth n a b c text one two three after small_a is_a small_b is_b small_c is_
     let third = ended_once 32 n.answered c _ three (omega arith) small.answered small_c (second.1 ∙ sym is_c) in
     none n.vary_count _ small.vary_count third.1
 
-pub no_fifth : (n : Numbers) (a b c d : ℕ) (text one two three four after : List ℕ) → IsSmall a → number_and_end 32 a ++ one ≡ text → IsSmall b → number_and_end 32 b ++ two ≡ one → IsSmall c → number_and_end 32 c ++ three ≡ two → IsSmall d → number_and_end 32 d ++ four ≡ three → ((e : ℕ) (more : List ℕ) → IsSmall e → number_and_end 10 e ++ more ≢ four) → AreSmall n → numbers_text n ++ after ≢ text
+pub no_fifth : (n : Numbers) (a b c d : ℕ) (text one two three four after : List ℕ) → IsSmall a → number_and_end 32 a ++ one ≡ text → IsSmall b →
+    number_and_end 32 b ++ two ≡ one → IsSmall c → number_and_end 32 c ++ three ≡ two → IsSmall d → number_and_end 32 d ++ four ≡ three →
+    ((e : ℕ) (more : List ℕ) → IsSmall e → number_and_end 10 e ++ more ≢ four) → AreSmall n → numbers_text n ++ after ≢ text
 no_fifth n a b c d text one two three four after small_a is_a small_b is_b small_c is_c small_d is_d none small same =
     let apart = sym (numbers_apart n.status n.requested n.answered n.vary_count n.count after) ∙ same in
     let first = ended_once 32 n.status a _ one (omega arith) small.status small_a (apart ∙ sym is_a) in
@@ -117,7 +127,8 @@ pub record SameNumbers (n m : Numbers) (r s : List ℕ) : Type 0 where
 
 pub numbers_once : (n m : Numbers) (r s : List ℕ) → AreSmall n → AreSmall m → numbers_text n ++ r ≡ numbers_text m ++ s → SameNumbers n m r s
 numbers_once n m r s small_n small_m same =
-    let apart = sym (numbers_apart n.status n.requested n.answered n.vary_count n.count r) ∙ (same ∙ numbers_apart m.status m.requested m.answered m.vary_count m.count s) in
+    let apart = sym (numbers_apart n.status n.requested n.answered n.vary_count n.count r) ∙
+    (same ∙ numbers_apart m.status m.requested m.answered m.vary_count m.count s) in
     let first = ended_once 32 n.status m.status _ _ (omega arith) small_n.status small_m.status apart in
     let second = ended_once 32 n.requested m.requested _ _ (omega arith) small_n.requested small_m.requested first.1 in
     let third = ended_once 32 n.answered m.answered _ _ (omega arith) small_n.answered small_m.answered second.1 in

@@ -26,9 +26,11 @@ same a b v w rest own_a own_b is =
     regroup (first_text (first_of v a)) (tag_line v (joining_text a.joining)) (fields_text a.vary_fields) (fields_text a.fields) rest
     ∙ (ap (λ (l : List ℕ). l ++ rest) (sym (spelling-parts v a)) ∙ (is ∙ spelling-parts w b)) in
     let first = first_once (first_of v a) (first_of w b) _ _ (AreFirst-of v a own_a) (AreFirst-of w b own_b) whole in
-    let tags = tag_once w (joining_text a.joining) (joining_text b.joining) tail (field_lines b) (lacks-own a own_a v _ refl) (lacks-own b own_b w _ refl) (rw first.version at first.numbers.rest) in
+    let tags = tag_once w (joining_text a.joining) (joining_text b.joining) tail (field_lines b) (lacks-own a own_a v _ refl) (lacks-own b own_b w _ refl)
+    (rw first.version at first.numbers.rest) in
     let vary = fields_once a.vary_fields b.vary_fields _ _ own_a.vary_list.fields own_b.vary_list.fields first.numbers.vary_count tags.1 in
-    let last = fields_once a.fields b.fields rest [] own_a.list.fields own_b.list.fields first.numbers.count (vary.1 ∙ sym (append-nil (fields_text b.fields))) in
+    let last = fields_once a.fields b.fields rest [] own_a.list.fields own_b.list.fields first.numbers.count
+    (vary.1 ∙ sym (append-nil (fields_text b.fields))) in
     record {
       version = first.version;
       kind = first.seal.kind;
@@ -59,6 +61,7 @@ pub same_head : (a b : Head) (v w : Version) → IsHead a → IsHead b → spell
 same_head a b v w own_a own_b is =
     let s = same a b v w [] own_a own_b (append-nil (spelling v a) ∙ is) in
     let joining : a.joining ≡ b.joining = own_a.own_joining ∙ (ap joining_of s.fields ∙ sym own_b.own_joining) in
-    let heads : make a.kind a.total a.status a.requested a.answered a.joining a.vary_fields a.fields ≡ make b.kind b.total b.status b.requested b.answered b.joining b.vary_fields b.fields =
+    let heads : make a.kind a.total a.status a.requested a.answered a.joining a.vary_fields a.fields ≡ make b.kind b.total b.status b.requested b.answered
+    b.joining b.vary_fields b.fields =
     rw (s.kind, s.total, s.status, s.requested, s.answered, joining, s.vary_fields, s.fields) refl in
     (heads, s.version)

@@ -104,7 +104,8 @@ first_once a b r s own_a own_b same =
     record { version = versions.0; seal = seals; numbers = ns; status = own_a.status_is ∙ (ns.status ∙ sym own_b.status_is) }
 
 -- one tag
-pub tag_once : (v : Version) (t u r s : List ℕ) → lacks 10 t ≡ true → lacks 10 u ≡ true → tag_line v t ++ r ≡ tag_line v u ++ s → (tag_line v t ≡ tag_line v u) × (r ≡ s)
+pub tag_once : (v : Version) (t u r s : List ℕ) → lacks 10 t ≡ true → lacks 10 u ≡ true → tag_line v t ++ r ≡ tag_line v u ++ s →
+    (tag_line v t ≡ tag_line v u) × (r ≡ s)
 tag_once First t u r s lacks_t lacks_u same = (refl, same)
 tag_once Second t u r s lacks_t lacks_u same =
     let behind : (t ++ 10 ∷ []) ++ r ≡ (u ++ 10 ∷ []) ++ s = cc same in
@@ -136,16 +137,24 @@ module _ (head : Head) (own : IsHead head) (version : Version) (text : List ℕ)
       pub after_tag : (tag_line first.version (joining_text head.joining) ≡ tag_line first.version tag) × (field_lines head ≡ lines)
       after_tag = tag_once first.version (joining_text head.joining) tag (field_lines head) lines lacks-own lacking (tag_first ∙ sym tag_is)
 
-      pub after_vary : (fs : List (List ℕ × List ℕ)) (left : List ℕ) → IsListOf first.numbers.vary_count fs → fields_text fs ++ left ≡ lines → (fs ≡ head.vary_fields) × (left ≡ fields_text head.fields)
+      pub after_vary : (fs : List (List ℕ × List ℕ)) (left : List ℕ) → IsListOf first.numbers.vary_count fs → fields_text fs ++ left ≡ lines →
+          (fs ≡ head.vary_fields) × (left ≡ fields_text head.fields)
       after_vary fs left of_fs is_fs =
-          fields_once fs head.vary_fields left (fields_text head.fields) of_fs.list.fields own.vary_list.fields (of_fs.count_is ∙ sym vary_of.count_is) (is_fs ∙ sym after_tag.1)
+          fields_once fs head.vary_fields left (fields_text head.fields) of_fs.list.fields own.vary_list.fields (of_fs.count_is ∙ sym vary_of.count_is)
+          (is_fs ∙ sym after_tag.1)
 
-      pub after_fields : (fs gs : List (List ℕ × List ℕ)) (left end : List ℕ) → IsListOf first.numbers.vary_count fs → fields_text fs ++ left ≡ lines → IsListOf first.numbers.count gs → fields_text gs ++ end ≡ left → (gs ≡ head.fields) × (end ≡ [])
+      pub after_fields : (fs gs : List (List ℕ × List ℕ)) (left end : List ℕ) → IsListOf first.numbers.vary_count fs → fields_text fs ++ left ≡ lines →
+          IsListOf first.numbers.count gs → fields_text gs ++ end ≡ left → (gs ≡ head.fields) × (end ≡ [])
       after_fields fs gs left end of_fs is_fs of_gs is_gs =
-          fields_once gs head.fields end [] of_gs.list.fields own.list.fields (of_gs.count_is ∙ sym fields_of.count_is) (is_gs ∙ ((after_vary fs left of_fs is_fs).1 ∙ sym (append-nil (fields_text head.fields))))
+          fields_once gs head.fields end [] of_gs.list.fields own.list.fields (of_gs.count_is ∙ sym fields_of.count_is)
+          (is_gs ∙ ((after_vary fs left of_fs is_fs).1 ∙ sym (append-nil (fields_text head.fields))))
 
 -- the parts that were read are the record of the head that they make
-pub assembled : (head : Head) (first : FirstLines) (text rest tag lines left end : List ℕ) → AreFirst first → first_text first ++ rest ≡ text → tag_line first.version tag ++ lines ≡ rest → fields_text head.vary_fields ++ left ≡ lines → fields_text head.fields ++ end ≡ left → end ≡ [] → tag_line first.version tag ≡ tag_line first.version (joining_text head.joining) → head.kind ≡ first.seal.kind → head.total ≡ first.seal.total → head.status ≡ first.numbers.status → head.requested ≡ first.numbers.requested → head.answered ≡ first.numbers.answered → length head.vary_fields ≡ first.numbers.vary_count → length head.fields ≡ first.numbers.count → spelling first.version head ≡ text
+pub assembled : (head : Head) (first : FirstLines) (text rest tag lines left end : List ℕ) → AreFirst first → first_text first ++ rest ≡ text →
+    tag_line first.version tag ++ lines ≡ rest → fields_text head.vary_fields ++ left ≡ lines → fields_text head.fields ++ end ≡ left → end ≡ [] →
+    tag_line first.version tag ≡ tag_line first.version (joining_text head.joining) → head.kind ≡ first.seal.kind → head.total ≡ first.seal.total →
+    head.status ≡ first.numbers.status → head.requested ≡ first.numbers.requested → head.answered ≡ first.numbers.answered →
+    length head.vary_fields ≡ first.numbers.vary_count → length head.fields ≡ first.numbers.count → spelling first.version head ≡ text
 assembled head first text rest tag lines left end fit is tag_is vary_is fields_is none own kind total status requested answered vary_count count =
     let fields : fields_text head.fields ≡ left = sym (append-nil (fields_text head.fields)) ∙ rw none at fields_is in
     let behind : field_lines head ≡ lines = ap (λ (l : List ℕ). fields_text head.vary_fields ++ l) fields ∙ vary_is in
@@ -159,14 +168,18 @@ pub no_tag : (text : List ℕ) → ((after : List ℕ) → codes "tag " ++ after
 no_tag text none tag after same = none (tag ++ 10 ∷ after) (sym (tag_regroup tag after) ∙ same)
 
 -- a text without a line of numbers behind kind and total
-pub no_numbers : (version : Version) (seal : Seal) (text one two : List ℕ) → version_line version ++ one ≡ text → IsSmallSeal seal → seal_text seal ++ two ≡ one → ((n : Numbers) (after : List ℕ) → AreSmall n → numbers_text n ++ after ≢ two) → (first : FirstLines) (after : List ℕ) → AreFirst first → first_text first ++ after ≢ text
+pub no_numbers : (version : Version) (seal : Seal) (text one two : List ℕ) → version_line version ++ one ≡ text → IsSmallSeal seal → seal_text seal ++
+    two ≡ one → ((n : Numbers) (after : List ℕ) → AreSmall n → numbers_text n ++ after ≢ two) → (first : FirstLines) (after : List ℕ) → AreFirst first →
+    first_text first ++ after ≢ text
 no_numbers version seal text one two version_is small seal_is none first after fit same =
     let versions = version_once first.version version _ one (sym (first_parts first after) ∙ (same ∙ sym version_is)) in
     let seals = seal_once first.seal.kind seal.kind first.seal.total seal.total _ two fit.seal small (versions.1 ∙ sym seal_is) in
     none first.numbers after fit.numbers seals.rest
 
 -- a text whose status is of no founding head
-pub no_status : (version : Version) (seal : Seal) (n : Numbers) (text one two three : List ℕ) → version_line version ++ one ≡ text → IsSmallSeal seal → seal_text seal ++ two ≡ one → AreSmall n → numbers_text n ++ three ≡ two → (brings_whole n.status || brings_part n.status) ≡ false → (first : FirstLines) (after : List ℕ) → AreFirst first → first_text first ++ after ≢ text
+pub no_status : (version : Version) (seal : Seal) (n : Numbers) (text one two three : List ℕ) → version_line version ++ one ≡ text → IsSmallSeal seal →
+    seal_text seal ++ two ≡ one → AreSmall n → numbers_text n ++ three ≡ two → (brings_whole n.status || brings_part n.status) ≡ false →
+    (first : FirstLines) (after : List ℕ) → AreFirst first → first_text first ++ after ≢ text
 no_status version seal n text one two three version_is small seal_is small_n n_is other first after fit same =
     let versions = version_once first.version version _ one (sym (first_parts first after) ∙ (same ∙ sym version_is)) in
     let seals = seal_once first.seal.kind seal.kind first.seal.total seal.total _ two fit.seal small (versions.1 ∙ sym seal_is) in

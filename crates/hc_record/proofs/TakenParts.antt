@@ -5,12 +5,14 @@ use Rattle.hc_record.specs.Lines.{IsSmall, IsSmallTotal, total_text}
 use Rattle.hc_record.proofs.Totals.{length-total_text, IsNumber-total}
 
 -- the first 20 bytes are no total
-pub no_total : (text : List ℕ) → ((total : Option ℕ) → IsSmallTotal total → total_text total ≢ take 20 text) → (total : Option ℕ) (after : List ℕ) → IsSmallTotal total → total_text total ++ after ≢ text
+pub no_total : (text : List ℕ) → ((total : Option ℕ) → IsSmallTotal total → total_text total ≢ take 20 text) → (total : Option ℕ) (after : List ℕ) →
+    IsSmallTotal total → total_text total ++ after ≢ text
 no_total text none total after small same =
     none total small (sym (take_at (total_text total) after 20 (length-total_text total small)) ∙ ap (take 20) same)
 
 -- 20 bytes that are neither hyphens nor a number are no total
-pub no_total_text : (text hyphens : List ℕ) → hyphens ≡ replicate 20 45 → false ≡ bytes_eq text hyphens → ((n : ℕ) → ¬ (IsNumber text n)) → (total : Option ℕ) → IsSmallTotal total → total_text total ≢ text
+pub no_total_text : (text hyphens : List ℕ) → hyphens ≡ replicate 20 45 → false ≡ bytes_eq text hyphens → ((n : ℕ) → ¬ (IsNumber text n)) →
+    (total : Option ℕ) → IsSmallTotal total → total_text total ≢ text
 no_total_text text hyphens is differs none None small same =
     both_ways _ (sym differs) ((bytes_eq-Decides text hyphens).1 (sym same ∙ sym is))
 no_total_text text hyphens is differs none (Some n) small same = none n (IsNumber-total n text (small n refl) same)

@@ -15,7 +15,8 @@ length-total_text (Some n) small =
     ∙ omega (arith, le, length-replicate {A = ℕ} (20 - length (decimal n)) 48)
 
 -- kind and total stand at their places
-pub sealed-spelling : (kind : Kind) (total : Option ℕ) (version : Version) (head : Head) → IsSmallTotal head.total → sealed_record kind total (spelling version head) ≡ spelling version (sealed_head kind total head)
+pub sealed-spelling : (kind : Kind) (total : Option ℕ) (version : Version) (head : Head) → IsSmallTotal head.total →
+    sealed_record kind total (spelling version head) ≡ spelling version (sealed_head kind total head)
 sealed-spelling kind total First head small =
     let later = later_lines First head in
     let rest : drop 20 ((total_text head.total ++ 10 ∷ []) ++ later) ≡ 10 ∷ later =

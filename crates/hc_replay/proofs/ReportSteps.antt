@@ -36,9 +36,11 @@ module _ {B : Type 0} {g : Ghosts B} where
   abbrev spent : Cache B g → Cache B g → Type 0
   spent s u = has_failed u ≡ true
 
-  leads_stand : (s u : Cache B g) (h : steps.History) (contents : Contents) (before : History) → StandsFor s contents before → Leads answers s h u → StandsFor u contents (run_of h ++ before)
+  leads_stand : (s u : Cache B g) (h : steps.History) (contents : Contents) (before : History) → StandsFor s contents before → Leads answers s h u →
+      StandsFor u contents (run_of h ++ before)
   leads_stand s _ _ contents before stands nothing = stands
-  leads_stand s _ _ contents before stands (more h e t u leads answered) = answered.stands contents (run_of h ++ before) (leads_stand s t h contents before stands leads)
+  leads_stand s _ _ contents before stands (more h e t u leads answered) =
+      answered.stands contents (run_of h ++ before) (leads_stand s t h contents before stands leads)
 
   pub leads_limits : (s u : Cache B g) (h : steps.History) → Leads answers s h u → limits_in u ≡ limits_in s
   leads_limits s _ _ nothing = refl
@@ -58,7 +60,8 @@ module _ {B : Type 0} {g : Ghosts B} where
       let one = answered.number in
       omega arith
 
-  goes_on : (s u : Cache B g) (h : steps.History) → Leads answers s h u → (contents : Contents) (before : History) → StandsFor s contents before → GoesOn s u h contents before
+  goes_on : (s u : Cache B g) (h : steps.History) → Leads answers s h u → (contents : Contents) (before : History) → StandsFor s contents before →
+      GoesOn s u h contents before
   goes_on s u h leads contents before stood =
       let stands = leads_stand s u h contents before stood leads in
       record {
@@ -70,27 +73,34 @@ module _ {B : Type 0} {g : Ghosts B} where
       }
 
   pub replayed : (s u : Cache B g) (events : List Timed) (h : steps.History) → events_in h ≡ events → Leads answers s h u → IsReplayed s u events h
-  replayed s u events h are leads = record { events_are = are; goes_on = goes_on s u h leads; counted = leads_counted s u h leads; number = leads_number s u h leads }
+  replayed s u events h are leads =
+      record { events_are = are; goes_on = goes_on s u h leads; counted = leads_counted s u h leads; number = leads_number s u h leads }
 
   -- how far they were stepped, they were replayed
-  replays_so : (s u : Cache B g) (out out' : Option (List ℕ)) (how : How) (events : List Timed) → Steps answers spent s u out out' how events → Replays s u out out' how events
+  replays_so : (s u : Cache B g) (out out' : Option (List ℕ)) (how : How) (events : List Timed) → Steps answers spent s u out out' how events →
+      Replays s u out out' how events
   replays_so s u out out' _ events (steps.wholly h are leads taken) = replays.wholly h (replayed s u events h are leads) taken
   replays_so s u out out' _ events (steps.up_to_last h are leads taken) = replays.up_to_last h (replayed s u events h are leads) taken
   replays_so s u out out' _ events (steps.up_to_want h last are leads taken led) = replays.up_to_want h last (replayed s last events h are leads) taken led
 
-  pub replays_all : (s u : Cache B g) (moment : ℕ) (left left' out out' : Option (List ℕ)) (e : Ended) → Ends (Steps answers spent s u out out') moment left left' e → Ends (Replays s u out out') moment left left' e
+  pub replays_all : (s u : Cache B g) (moment : ℕ) (left left' out out' : Option (List ℕ)) (e : Ended) →
+      Ends (Steps answers spent s u out out') moment left left' e → Ends (Replays s u out out') moment left left' e
   replays_all s u moment left left' out out' e ends = ends_so _ _ (replays_so s u out out') moment left left' e ends
 
 -- COMPLETENESS
 
-completes : (moment : ℕ) (left left' : Option (List ℕ)) (text : List ℕ) (r : Refused) → Gives left left' text → IsRefused moment text r → Completes moment left (ended.Refused r)
+completes : (moment : ℕ) (left left' : Option (List ℕ)) (text : List ℕ) (r : Refused) → Gives left left' text → IsRefused moment text r →
+    Completes moment left (ended.Refused r)
 completes moment None left' text r gives is = tt
 completes moment (Some old) None text r gives is = absurd gives
-completes moment (Some old) (Some rest) text r gives is = λ items spells. some_none r (sym (ap (refusal_of moment) gives ∙ is rest) ∙ (is_read moment old items spells).0)
+completes moment (Some old) (Some rest) text r gives is =
+    λ items spells. some_none r (sym (ap (refusal_of moment) gives ∙ is rest) ∙ (is_read moment old items spells).0)
 
-completes_short : (moment : ℕ) (left left' : Option (List ℕ)) (text : List ℕ) (r : Refused) → GivesAll left left' text → refusal_of moment text ≡ Some r → Completes moment left (ended.Refused r)
+completes_short : (moment : ℕ) (left left' : Option (List ℕ)) (text : List ℕ) (r : Refused) → GivesAll left left' text → refusal_of moment text ≡ Some r →
+    Completes moment left (ended.Refused r)
 completes_short moment None left' text r gives is = tt
-completes_short moment (Some old) left' text r gives is = λ items spells. some_none r (sym (ap (refusal_of moment) (sym gives.0) ∙ is) ∙ (is_read moment old items spells).0)
+completes_short moment (Some old) left' text r gives is =
+    λ items spells. some_none r (sym (ap (refusal_of moment) (sym gives.0) ∙ is) ∙ (is_read moment old items spells).0)
 
 none_complete : (moment : ℕ) (left : Option (List ℕ)) (e : Ended) → ((refused : Refused) → e ≡ ended.Refused refused → ⊥) → Completes moment left e
 none_complete moment left (ended.Refused r) off = absurd (off r refl)
@@ -105,7 +115,8 @@ none_complete moment (Some text) ended.WireFailed off = tt
 none_complete moment None ended.NoMemory off = tt
 none_complete moment (Some text) ended.NoMemory off = tt
 
-pub completes_all : (Went : How → List Timed → Type 0) (moment : ℕ) (left left' : Option (List ℕ)) (e : Ended) → Ends Went moment left left' e → Completes moment left e
+pub completes_all : (Went : How → List Timed → Type 0) (moment : ℕ) (left left' : Option (List ℕ)) (e : Ended) → Ends Went moment left left' e →
+    Completes moment left e
 completes_all Went moment left left' _ (endings.refused _ text r read (endings.within at_once) went) = completes moment left left' text r read at_once.refuses
 completes_all Went moment left left' _ (endings.refused _ text r read (endings.at_end unrefused is) went) = completes_short moment left left' text r read is
 completes_all Went moment left left' _ (endings.done text items gives spells went) = none_complete moment left ended.Done (λ r h. cc)

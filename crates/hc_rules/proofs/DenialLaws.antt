@@ -113,18 +113,21 @@ piece-last : (x : OpenExchange) (n : ℕ) → x.headed ≡ true → x.asked ≡ 
 piece-last x n headed asked some s h = grind (arith, nat_tests)
 
 -- no piece that fits its promise is stopped
-piece-none : (x : OpenExchange) (n : ℕ) → x.headed ≡ true → x.asked ≡ true → n ≢ 0 → ((promised : ℕ) → x.promised ≡ Some promised → x.delivered + n ≤ promised) → (s : Refusal) → StopsPiece (Some x) n s → ⊥
+piece-none : (x : OpenExchange) (n : ℕ) → x.headed ≡ true → x.asked ≡ true → n ≢ 0 →
+    ((promised : ℕ) → x.promised ≡ Some promised → x.delivered + n ≤ promised) → (s : Refusal) → StopsPiece (Some x) n s → ⊥
 piece-none x n headed asked some fits s h = grind (arith, nat_tests)
 
 fits-same : (m promised n : ℕ) → Some m ≡ Some promised → n ≤ m → n ≤ promised
 fits-same m promised n same h = let e : m ≡ promised = cc in omega arith
 
-promise-least : (x : OpenExchange) (n : ℕ) (promised : Option ℕ) → x.promised ≡ promised → x.headed ≡ true → x.asked ≡ true → n ≢ 0 → IsLeast (StopsPiece (Some x) n) (overlong promised (x.delivered + n))
+promise-least : (x : OpenExchange) (n : ℕ) (promised : Option ℕ) → x.promised ≡ promised → x.headed ≡ true → x.asked ≡ true → n ≢ 0 →
+    IsLeast (StopsPiece (Some x) n) (overlong promised (x.delivered + n))
 promise-least x n None is headed asked some = piece-none x n headed asked some (λ promised reported. let e : None ≡ Some promised = cc in absurd (cc))
 promise-least x n (Some m) is headed asked some =
     either (IsLeast (StopsPiece (Some x) n)) (ltb m (x.delivered + n)) _ _
     (λ h. ((is, ltb-lt m (x.delivered + n) h), piece-last x n headed asked some))
-    (λ h. piece-none x n headed asked some (λ promised reported. let e : Some m ≡ Some promised = sym is ∙ reported in fits-same m promised (x.delivered + n) e (ltb-le m (x.delivered + n) h)))
+    (λ h. piece-none x n headed asked some
+    (λ promised reported. let e : Some m ≡ Some promised = sym is ∙ reported in fits-same m promised (x.delivered + n) e (ltb-le m (x.delivered + n) h)))
 
 piece-least : (x : Option OpenExchange) (n : ℕ) → IsLeast (StopsPiece x n) (piece_refusal x n)
 piece-least None n = (tt, closed-least)

@@ -16,14 +16,16 @@ lt-leb m n h = grind (arith, nat_tests)
 same_part : (first last n start total : ℕ) → first ≡ start → n ≡ total → Some (Part first last (Some n)) ≡ Some (Part start last (Some total))
 same_part first last n start total a b = cc
 
-fills-some : (o : Option ContentRange) (total : ℕ) (hole : Span) → fills o total hole ≡ true → (last : ℕ) × ((o ≡ Some (Part hole.lo last (Some total))) × (last < hole.hi))
+fills-some : (o : Option ContentRange) (total : ℕ) (hole : Span) → fills o total hole ≡ true → (last : ℕ) ×
+    ((o ≡ Some (Part hole.lo last (Some total))) × (last < hole.hi))
 fills-some (Some (Part first last (Some n))) total hole h =
     let a = and_parts (eqb n total && eqb first hole.lo) (leb (last + 1) hole.hi) h in
     let b = and_parts (eqb n total) (eqb first hole.lo) a.0 in
     (last, (same_part first last n hole.lo total (eqb-true first hole.lo b.1) (eqb-true n total b.0), leb-lt last hole.hi a.1))
 fills-some _ total hole h = absurd (cc)
 
-strong-some : (fields : List (List ℕ × List ℕ)) (weak : Bool) (opaque : List ℕ) → strongly_equals fields weak opaque ≡ true → (weak ≡ false) × (strong_of fields ≡ Some opaque)
+strong-some : (fields : List (List ℕ × List ℕ)) (weak : Bool) (opaque : List ℕ) → strongly_equals fields weak opaque ≡ true → (weak ≡ false) ×
+    (strong_of fields ≡ Some opaque)
 strong-some fields true opaque h = absurd (cc)
 strong-some fields false opaque h = elim (seen (strong_of fields)) [
   | inl none ↦ let e : false ≡ true = sym (ap (λ (o : Option (List ℕ)). is_same_tag o opaque) none) ∙ h in absurd (cc)
@@ -32,7 +34,8 @@ strong-some fields false opaque h = elim (seen (strong_of fields)) [
       (refl, is ∙ ap (λ (t : List ℕ). Some t) (same_bytes other opaque e))
 ]
 
-join-some : (tag : Bool × List ℕ) (total : ℕ) (hole : Span) (answer : Response) → joins tag total hole answer ≡ true → (last : ℕ) × IsJoin tag total hole answer last
+join-some : (tag : Bool × List ℕ) (total : ℕ) (hole : Span) (answer : Response) → joins tag total hole answer ≡ true → (last : ℕ) × IsJoin
+    tag total hole answer last
 unfolding joins
 join-some tag total hole answer h =
     let status = brings_part answer.status in
@@ -45,16 +48,19 @@ join-some tag total hole answer h =
     let (strict, same) = strong-some answer.fields tag.0 tag.1 d.1 in
     (last, record { status = d.0; strict = strict; same = same; reported = reported; within = within; kept = denied (of_response answer.fields).no_store a.1 })
 
-strong-same : (fields : List (List ℕ × List ℕ)) (weak : Bool) (opaque : List ℕ) → weak ≡ false → strong_of fields ≡ Some opaque → strongly_equals fields weak opaque ≡ true
+strong-same : (fields : List (List ℕ × List ℕ)) (weak : Bool) (opaque : List ℕ) → weak ≡ false → strong_of fields ≡ Some opaque →
+    strongly_equals fields weak opaque ≡ true
 strong-same fields true opaque strict same = absurd (cc)
 strong-same fields false opaque strict same = ap (λ (o : Option (List ℕ)). is_same_tag o opaque) same ∙ bytes_eq-same opaque opaque refl
 
 fills-part : (o : Option ContentRange) (last total : ℕ) (hole : Span) → o ≡ Some (Part hole.lo last (Some total)) → last < hole.hi → fills o total hole ≡ true
 fills-part o last total hole reported within =
     ap (λ (p : Option ContentRange). fills p total hole) reported
-    ∙ and_from (eqb total total && eqb hole.lo hole.lo) (leb (last + 1) hole.hi) (and_from (eqb total total) (eqb hole.lo hole.lo) (eqb-same total) (eqb-same hole.lo)) (lt-leb last hole.hi within)
+    ∙ and_from (eqb total total && eqb hole.lo hole.lo) (leb (last + 1) hole.hi)
+    (and_from (eqb total total) (eqb hole.lo hole.lo) (eqb-same total) (eqb-same hole.lo)) (lt-leb last hole.hi within)
 
-some-join : (tag : Bool × List ℕ) (total : ℕ) (hole : Span) (answer : Response) (last : ℕ) → IsJoin tag total hole answer last → joins tag total hole answer ≡ true
+some-join : (tag : Bool × List ℕ) (total : ℕ) (hole : Span) (answer : Response) (last : ℕ) → IsJoin tag total hole answer last →
+    joins tag total hole answer ≡ true
 unfolding joins
 some-join tag total hole answer last h =
     let strong = strong-same answer.fields tag.0 tag.1 h.strict h.same in

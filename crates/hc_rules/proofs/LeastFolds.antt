@@ -15,7 +15,8 @@ least-append (m ∷ ns) n = ap (λ (o : Option ℕ). lesser o m) (least-append n
 
 -- with the next element, where it passes the test and where it doesn't
 pub least_more : {A : Type 0} (p : A → Bool) (key : A → ℕ) (xs : List A) (i : ℕ) (d : A) → i < length xs
-    → least (map key (filter p (take (i + 1) xs))) ≡ cond (p (get_or xs i d)) (lesser (least (map key (filter p (take i xs)))) (key (get_or xs i d))) (least (map key (filter p (take i xs))))
+    → least (map key (filter p (take (i + 1) xs))) ≡ cond (p (get_or xs i d)) (lesser (least (map key (filter p (take i xs)))) (key (get_or xs i d)))
+    (least (map key (filter p (take i xs))))
 least_more p key xs i d within =
     let x = get_or xs i d in
     let front = filter p (take i xs) in
@@ -34,7 +35,8 @@ least_counted key xs i d so_far next within before is =
 
 -- an element that passes the test counts
 pub least_taken : {A : Type 0} (p : A → Bool) (key : A → ℕ) (xs : List A) (i : ℕ) (d : A) (so_far next : Option ℕ) → i < length xs
-    → so_far ≡ least (map key (filter p (take i xs))) → p (get_or xs i d) ≡ true → next ≡ lesser so_far (key (get_or xs i d)) → next ≡ least (map key (filter p (take (i + 1) xs)))
+    → so_far ≡ least (map key (filter p (take i xs))) → p (get_or xs i d) ≡ true → next ≡ lesser so_far (key (get_or xs i d)) →
+    next ≡ least (map key (filter p (take (i + 1) xs)))
 least_taken p key xs i d so_far next within before passes is =
     rw (least_more p key xs i d within, passes) (is ∙ ap (λ (o : Option ℕ). lesser o (key (get_or xs i d))) before)
 

@@ -52,18 +52,22 @@ none-bound : (bound : List Bound) → numbers bound ≡ [] → bound ≡ []
 none-bound [] e = refl
 none-bound (b ∷ bound) e = absurd (cc)
 
-holes-right : (bound : List Bound) (ranged holes : Bool) (o : Option ℕ) → holes ≡ true → IsLeastOf (numbers bound) o → IsRightAdmission bound ranged holes (with_holes o)
+holes-right : (bound : List Bound) (ranged holes : Bool) (o : Option ℕ) → holes ≡ true → IsLeastOf (numbers bound) o →
+    IsRightAdmission bound ranged holes (with_holes o)
 holes-right bound ranged holes None there h = (there, none-bound bound h)
 holes-right bound ranged holes (Some d) there h = h.0
 
-exclusive-right : (bound : List Bound) (ranged holes : Bool) (o : Option ℕ) → those (is_of kind.Shared) bound ≡ [] → IsLeastOf (those (is_of kind.Exclusive) bound) o
+exclusive-right : (bound : List Bound) (ranged holes : Bool) (o : Option ℕ) → those (is_of kind.Shared) bound ≡ [] →
+    IsLeastOf (those (is_of kind.Exclusive) bound) o
     → IsRightAdmission bound ranged holes (beside_exclusive o (cond holes (with_holes (least_bound bound)) admission.Reader))
 exclusive-right bound ranged holes None none h = grind (arith, nat_tests, either, holes-right, least-is)
 exclusive-right bound ranged holes (Some d) none h = contains-filter (is_of kind.Exclusive) bound d h.0
 
 writer_group-right : (bound : List Bound) (ranged holes : Bool) (o : Option ℕ) → IsLeastOf (those (is_of kind.Shared) bound) o
-    → IsRightAdmission bound ranged holes (beside_group o ranged (beside_exclusive (least_of kind.Exclusive bound) (cond holes (with_holes (least_bound bound)) admission.Reader)))
-writer_group-right bound ranged holes None h = exclusive-right bound ranged holes (least_of kind.Exclusive bound) h (least-is (those (is_of kind.Exclusive) bound))
+    → IsRightAdmission bound ranged holes
+    (beside_group o ranged (beside_exclusive (least_of kind.Exclusive bound) (cond holes (with_holes (least_bound bound)) admission.Reader)))
+writer_group-right bound ranged holes None h =
+    exclusive-right bound ranged holes (least_of kind.Exclusive bound) h (least-is (those (is_of kind.Exclusive) bound))
 writer_group-right bound ranged holes (Some d) h =
     either (IsRightAdmission bound ranged holes) ranged _ _
     (λ part. contains-filter (is_of kind.Shared) bound d h.0)

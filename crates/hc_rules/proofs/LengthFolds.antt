@@ -9,7 +9,8 @@ with_elements-append so_far [] ys = refl
 with_elements-append so_far (x ∷ xs) ys = with_elements-append (with_element so_far x) xs ys
 
 -- the elements of one more value
-pub one_more : (so_far next : Length) (values : List (List ℕ)) (i : ℕ) (value : List ℕ) → slice_get values i ≡ Some value → next ≡ with_elements so_far (elements value)
+pub one_more : (so_far next : Length) (values : List (List ℕ)) (i : ℕ) (value : List ℕ) → slice_get values i ≡ Some value →
+    next ≡ with_elements so_far (elements value)
     → with_elements next (flat_map elements (drop (i + 1) values)) ≡ with_elements so_far (flat_map elements (drop i values))
 one_more so_far next values i value is next_is =
     rw (drop_more values i [] (slice_get_within values i value is), get_or_from_slice_get values i value [] is, next_is)
@@ -26,7 +27,8 @@ promise_stays n (e ∷ es) = elim (cases_Bool (is_same_number (Some n) (number_o
   | inr other ↦ rw other (bad_stays es)
 ]
 
-first_reports : (number : Option ℕ) (es : List (List ℕ)) → with_elements (promised_or_bad number) es ≡ cond (is_same_number number number && all_spell number es) (promised_or_bad number) Bad
+first_reports : (number : Option ℕ) (es : List (List ℕ)) →
+    with_elements (promised_or_bad number) es ≡ cond (is_same_number number number && all_spell number es) (promised_or_bad number) Bad
 first_reports None es = bad_stays es
 first_reports (Some n) es = rw (eqb-same n) (promise_stays n es)
 

@@ -49,7 +49,9 @@ module _ (need : Need) (request : Request) (response : Response) (body : has_no_
   turned route.Direct status h = absurd (both_ways _ refl h)
   turned _ status h = (h, λ is. absurd (cc))
 
-  part : (said : Length) (reported_range : Option ContentRange) → content_range_of response.fields ≡ reported_range → Reported (declared_in response) said → gives_part (route_of need) response.status ≡ true → IsRightLength need request response (part_length said reported_range)
+  part : (said : Length) (reported_range : Option ContentRange) → content_range_of response.fields ≡ reported_range →
+      Reported (declared_in response) said → gives_part (route_of need) response.status ≡ true →
+      IsRightLength need request response (part_length said reported_range)
   part said (Some (range.Part first last total)) is t reports =
       let turn = turned (route_of need) response.status reports in
       either (IsRightLength need request response) (agrees said (last + 1 - first)) _ _

@@ -24,7 +24,8 @@ IsNumber-tests text is = grind (arith, nat_tests, leb-le, ltb-lt, digits.to)
 pub IsNumber-reported : (text : List ℕ) (n : ℕ) → number_of text ≡ Some n → IsNumber text n
 IsNumber-reported text n reported =
     elim (cases_Bool (is_number text)) [
-      | inl is ↦ let e : Some (digits_value 10 text) ≡ Some n = rw is at reported in let same : digits_value 10 text ≡ n = cc in rw (← same) (IsNumber-tests text is)
+      | inl is ↦ let e : Some (digits_value 10 text) ≡ Some n = rw is at reported in let same : digits_value 10 text ≡ n = cc in
+          rw (← same) (IsNumber-tests text is)
       | inr isnt ↦ let e : None ≡ Some n = rw isnt at reported in absurd (cc)
     ]
 

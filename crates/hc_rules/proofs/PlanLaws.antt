@@ -27,7 +27,8 @@ some_why kept allowed h = grind (arith, nat_tests)
 
 -- whoever doesn't wait for the turn of another has it, or has passed and may still read
 turn_held : (passed only : Bool) (kept : Option ℕ) (allowed : Option Why) (turn c : ℕ) → only ≡ false
-    → ((not passed || (is_none kept && is_none allowed)) && not (eqb turn c) && not only) ≡ false → (turn ≡ c) ⊎ ((passed ≡ true) × IsSome (why_by kept allowed))
+    → ((not passed || (is_none kept && is_none allowed)) && not (eqb turn c) && not only) ≡ false →
+    (turn ≡ c) ⊎ ((passed ≡ true) × IsSome (why_by kept allowed))
 turn_held passed true kept allowed turn c plain h = absurd (cc)
 turn_held true false kept allowed turn c plain h = elim (cases_Bool (eqb turn c)) [
   | inl same ↦ inl (eqb-true turn c same)
@@ -47,17 +48,21 @@ turn_other waits turn c only h same = grind (arith, nat_tests)
 bound-right : (v : PlanView) (span hole : Span) (least : Option ℕ) → (v.class.only ≡ false → HasTurn v) → IsBare v (by_bound v span hole least)
 bound-right v span hole least turn = grind (arith, nat_tests)
 
-hole-right : (v : PlanView) (s : Candidate) (why : Why) (span : Span) (hole : Option Span) → (v.class.only ≡ false → HasTurn v) → MayRead v why → IsBare v (by_hole v s why span hole)
+hole-right : (v : PlanView) (s : Candidate) (why : Why) (span : Span) (hole : Option Span) → (v.class.only ≡ false → HasTurn v) → MayRead v why →
+    IsBare v (by_hole v s why span hole)
 hole-right v s why span hole turn may = grind (arith, nat_tests)
 
-exclusive-right : (v : PlanView) (s : Candidate) (why : Why) (span : Span) (d : Option ℕ) → (v.class.only ≡ false → HasTurn v) → MayRead v why → IsBare v (by_exclusive v s why span d)
+exclusive-right : (v : PlanView) (s : Candidate) (why : Why) (span : Span) (d : Option ℕ) → (v.class.only ≡ false → HasTurn v) → MayRead v why →
+    IsBare v (by_exclusive v s why span d)
 exclusive-right v s why span d turn may = grind (arith, nat_tests)
 
-wanted-right : (v : PlanView) (s : Candidate) (why : Why) (want : Wanted) → (v.class.only ≡ false → HasTurn v) → MayRead v why → IsBare v (by_wanted v s why want)
+wanted-right : (v : PlanView) (s : Candidate) (why : Why) (want : Wanted) → (v.class.only ≡ false → HasTurn v) → MayRead v why →
+    IsBare v (by_wanted v s why want)
 wanted-right v s why (wants.Interval span) turn may = either (IsBare v) s.writer_group _ _ (λ _. refl) (λ _. exclusive-right v s why span s.exclusive turn may)
 wanted-right v s why _ turn may = refl
 
-why-right : (v : PlanView) (s : Candidate) (why : Option Why) → (v.class.only ≡ false → HasTurn v) → why_by v.kept (allowed_by v.current) ≡ why → IsBare v (by_why v s why)
+why-right : (v : PlanView) (s : Candidate) (why : Option Why) → (v.class.only ≡ false → HasTurn v) → why_by v.kept (allowed_by v.current) ≡ why →
+    IsBare v (by_why v s why)
 why-right v s None turn is = (refl, turn)
 why-right v s (Some why) turn is = either (IsBare v) (is_none v.class.range && s.writer_group) _ _ (λ _. is) (λ _. wanted-right v s why s.span turn is)
 
@@ -73,7 +78,8 @@ timed-right v (Fetch n) plain h = (plain, h.0, h.1 plain)
 timed-right v (Bind why span) plain h = h
 timed-right v (FirstHole span hole) plain h = (plain, h plain)
 timed-right v Miss plain h = absurd h
-timed-right v _ plain h = either (IsRightPlan v) (leb (v.since + 20) v.moment) _ _ (λ _. (plain, refl)) (λ early. (plain, h, leb-lt (v.since + 20) v.moment early))
+timed-right v _ plain h =
+    either (IsRightPlan v) (leb (v.since + 20) v.moment) _ _ (λ _. (plain, refl)) (λ early. (plain, h, leb-lt (v.since + 20) v.moment early))
 
 stored-right : (v : PlanView) (p : Plan) → v.class.only ≡ true → IsBare v p → IsRightPlan v (from_store p)
 stored-right v (Bind why span) only h = h
@@ -82,4 +88,5 @@ stored-right v _ only h = only
 pub plans-right : PlansAreRight
 unfolding plan_of
 plans-right v =
-    either (IsRightPlan v) v.class.only _ _ (λ only. stored-right v (bare_plan v) only (bare-right v)) (λ plain. timed-right v (bare_plan v) plain (bare-right v))
+    either (IsRightPlan v) v.class.only _ _ (λ only. stored-right v (bare_plan v) only (bare-right v))
+    (λ plain. timed-right v (bare_plan v) plain (bare-right v))

@@ -80,12 +80,14 @@ spec_in-spelled text (From first) h =
     ap spec_in is ∙ spec_in-cut a [] (From first) (LacksByte-number 45 a first (lit≤ tt) number) (from-number a first number)
 spec_in-spelled text (FromTo first last) h =
     let (a, b, na, nb, up, is) = h in
-    ap spec_in (is ∙ append_assoc a (45 ∷ []) b) ∙ spec_in-cut a b (FromTo first last) (LacksByte-number 45 a first (lit≤ tt) na) (from_to-numbers a b first last na nb up)
+    ap spec_in (is ∙ append_assoc a (45 ∷ []) b) ∙
+    spec_in-cut a b (FromTo first last) (LacksByte-number 45 a first (lit≤ tt) na) (from_to-numbers a b first last na nb up)
 spec_in-spelled text (Last n) h =
     let (b, number, is) = h in
     ap spec_in is ∙ spec_in-cut [] b (Last n) refl (rw (number_of-number b n number) refl)
 
-from_to-some : (m n : Option ℕ) (asked : RangeSpec) → from_to m n ≡ Some asked → (a : ℕ) × ((b : ℕ) × ((m ≡ Some a) × ((n ≡ Some b) × ((a ≤ b) × (FromTo a b ≡ asked)))))
+from_to-some : (m n : Option ℕ) (asked : RangeSpec) → from_to m n ≡ Some asked → (a : ℕ) ×
+    ((b : ℕ) × ((m ≡ Some a) × ((n ≡ Some b) × ((a ≤ b) × (FromTo a b ≡ asked)))))
 from_to-some None n asked h = absurd (cc)
 from_to-some (Some a) None asked h = absurd (cc)
 from_to-some (Some a) (Some b) asked h =
@@ -123,17 +125,20 @@ asked_in-some text asked h =
     (take 6 text, drop 6 text, same_bytes _ _ unit.0, spec_in-some (drop 6 text) asked unit.1, sym (take-append-drop 6 text))
 
 -- what is read by the grammar is what is defined
-pub asked_in-read : (text : List ℕ) (r : Option RangeSpec) → IfSome r (SpellsRange text) → ((asked : RangeSpec) → SpellsRange text asked → r ≡ Some asked) → r ≡ asked_in text
+pub asked_in-read : (text : List ℕ) (r : Option RangeSpec) → IfSome r (SpellsRange text) →
+    ((asked : RangeSpec) → SpellsRange text asked → r ≡ Some asked) → r ≡ asked_in text
 asked_in-read text (Some asked) found spelled = sym (asked_in-spelled text asked found)
 asked_in-read text None found spelled = elim (seen (asked_in text)) [
   | inl none ↦ sym none
   | inr (asked, is) ↦ let e = spelled asked (asked_in-some text asked is) in absurd (cc)
 ]
 
-with_total-spelled : (text : List ℕ) (first last : ℕ) (total : Option ℕ) → SpellsTotal text last total → with_total first last (number_of text) text ≡ Some (Part first last total)
+with_total-spelled : (text : List ℕ) (first last : ℕ) (total : Option ℕ) → SpellsTotal text last total →
+    with_total first last (number_of text) text ≡ Some (Part first last total)
 with_total-spelled text first last total h = search (arith, number_of-number, lt-ltb)
 
-response_in-cut : (positions text : List ℕ) (range : ContentRange) → LacksByte 47 positions → content_range_from positions text (spec_in positions) ≡ Some range → response_in (positions ++ 47 ∷ text) ≡ Some range
+response_in-cut : (positions text : List ℕ) (range : ContentRange) → LacksByte 47 positions →
+    content_range_from positions text (spec_in positions) ≡ Some range → response_in (positions ++ 47 ∷ text) ≡ Some range
 response_in-cut positions text range lacks h = ap response_from (split_at-cut 47 positions text lacks) ∙ h
 
 response_in-spelled : (text : List ℕ) (range : ContentRange) → SpellsResponse text range → response_in text ≡ Some range
@@ -163,19 +168,22 @@ without_part-some positions text range h =
     let (total, reported, same) = mapped_from Unsatisfied (number_of text) range star.1 in
     (total, (same_bytes positions (42 ∷ []) star.0, (reported, same)))
 
-spells-response : (text positions whole : List ℕ) (o : Option RangeSpec) (range : ContentRange) → text ≡ positions ++ 47 ∷ whole → o ≡ spec_in positions → content_range_from positions whole o ≡ Some range → SpellsResponse text range
+spells-response : (text positions whole : List ℕ) (o : Option RangeSpec) (range : ContentRange) → text ≡ positions ++ 47 ∷ whole → o ≡ spec_in positions →
+    content_range_from positions whole o ≡ Some range → SpellsResponse text range
 spells-response text positions whole None range is spec h =
     let (total, (star, (reported, same))) = without_part-some positions whole range h in
     subst (SpellsResponse text) same (whole, IsNumber-reported whole total reported, is ∙ ap (λ (p : List ℕ). p ++ 47 ∷ whole) star)
 spells-response text positions whole (Some (FromTo first last)) range is spec h =
     let (total, (same, reported)) = with_total-some first last (number_of whole) whole range refl h in
-    subst (SpellsResponse text) same (positions, whole, spec_in-some positions (FromTo first last) (sym spec), reported, is ∙ sym (append_assoc positions (47 ∷ []) whole))
+    subst (SpellsResponse text) same
+    (positions, whole, spec_in-some positions (FromTo first last) (sym spec), reported, is ∙ sym (append_assoc positions (47 ∷ []) whole))
 spells-response text positions whole _ range is spec h = absurd (cc)
 
 response_in-some : (text : List ℕ) (range : ContentRange) → response_in text ≡ Some range → SpellsResponse text range
 response_in-some text range h = elim (seen (split_at 47 text)) [
   | inl none ↦ let e : None ≡ Some range = sym (ap response_from none) ∙ h in absurd (cc)
-  | inr (parts, is) ↦ spells-response text parts.0 parts.1 (spec_in parts.0) range (split_at-some 47 text parts.0 parts.1 is) refl (sym (ap response_from is) ∙ h)
+  | inr (parts, is) ↦ spells-response text parts.0 parts.1 (spec_in parts.0) range (split_at-some 47 text parts.0 parts.1 is) refl
+      (sym (ap response_from is) ∙ h)
 ]
 
 pub content_range_in-spelled : (text : List ℕ) (range : ContentRange) → SpellsContentRange text range → content_range_in text ≡ Some range
@@ -190,7 +198,8 @@ content_range_in-some text range h =
     let unit = if_passes _ (response_in (drop 6 text)) range h in
     (take 6 text, drop 6 text, same_bytes _ _ unit.0, response_in-some (drop 6 text) range unit.1, sym (take-append-drop 6 text))
 
-pub content_range_in-read : (text : List ℕ) (r : Option ContentRange) → IfSome r (SpellsContentRange text) → ((range : ContentRange) → SpellsContentRange text range → r ≡ Some range) → r ≡ content_range_in text
+pub content_range_in-read : (text : List ℕ) (r : Option ContentRange) → IfSome r (SpellsContentRange text) →
+    ((range : ContentRange) → SpellsContentRange text range → r ≡ Some range) → r ≡ content_range_in text
 content_range_in-read text (Some range) found spelled = sym (content_range_in-spelled text range found)
 content_range_in-read text None found spelled = elim (seen (content_range_in text)) [
   | inl none ↦ sym none

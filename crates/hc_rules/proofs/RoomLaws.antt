@@ -14,12 +14,15 @@ fewer-over : (most all weight count : ℕ) (idle : List ℕ) → most < all → 
 fewer-over most all weight count idle over fewest fewer below = search (arith, sum-cons)
 
 -- one more in front, which had to give way
-one-first : (most all weight : ℕ) (idle : List ℕ) (o : Option ℕ) → most < all → IsShortest most (all - weight) idle o → IsShortest most all (weight ∷ idle) (option_map suc o)
-one-first most all weight idle None over h = let e : most < all - weight - sum idle = h in let g : most < all - (weight + sum idle) = omega arith in rw (sum-cons weight idle) g
+one-first : (most all weight : ℕ) (idle : List ℕ) (o : Option ℕ) → most < all → IsShortest most (all - weight) idle o →
+    IsShortest most all (weight ∷ idle) (option_map suc o)
+one-first most all weight idle None over h = let e : most < all - weight - sum idle = h in let g : most < all - (weight + sum idle) = omega arith in
+    rw (sum-cons weight idle) g
 one-first most all weight idle (Some count) over h =
     let (within, fits, fewest) = h in (
       let e : suc count ≤ suc (length idle) = omega arith in e,
-      let f : all - weight - sum (take count idle) ≤ most = fits in let g : all - (weight + sum (take count idle)) ≤ most = omega arith in rw (sum-cons weight (take count idle)) g,
+      let f : all - weight - sum (take count idle) ≤ most = fits in let g : all - (weight + sum (take count idle)) ≤ most = omega arith in
+          rw (sum-cons weight (take count idle)) g,
       fewer-over most all weight count idle over fewest,
     )
 

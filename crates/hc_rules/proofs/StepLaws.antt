@@ -19,10 +19,12 @@ fails-right v due is nothing = grind (arith, nat_tests)
 held-right : (v : ReadView) → v.stored ≡ None → IsRightStep v (held_or v.held (fails_or v.due (waits_or v.source (opens v))))
 held-right v absent = either (IsRightStep v) v.held _ _ (λ held. (absent, held)) (λ free. fails-right v v.due refl (absent, free))
 
-stored-is : (v : ReadView) (stored : Option ℕ) (end : ℕ) → v.stored ≡ stored → stored ≡ Some end → IsSome v.stored × IfSome v.stored (λ n. cut_at v.hi end ≤ n) × IfSome v.hi (λ n. cut_at v.hi end ≤ n)
+stored-is : (v : ReadView) (stored : Option ℕ) (end : ℕ) → v.stored ≡ stored → stored ≡ Some end → IsSome v.stored ×
+    IfSome v.stored (λ n. cut_at v.hi end ≤ n) × IfSome v.hi (λ n. cut_at v.hi end ≤ n)
 stored-is v stored end is some = grind (arith, nat_tests)
 
-stored-right : (v : ReadView) (stored : Option ℕ) → v.stored ≡ stored → IsRightStep v (stored_or v.hi stored (held_or v.held (fails_or v.due (waits_or v.source (opens v)))))
+stored-right : (v : ReadView) (stored : Option ℕ) → v.stored ≡ stored →
+    IsRightStep v (stored_or v.hi stored (held_or v.held (fails_or v.due (waits_or v.source (opens v)))))
 stored-right v stored is = grind (arith, nat_tests)
 
 pub steps-right : StepsAreRight

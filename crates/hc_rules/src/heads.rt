@@ -9,7 +9,7 @@ use crate::status::{brings_part, brings_whole};
 use crate::tag_text::strong_of;
 use hc_cachectl::{read_request, read_response};
 use hc_event::{Need, Request, Response};
-use hc_range::{RangeSpec, ContentRange, resolve};
+use hc_range::{ContentRange, RangeSpec, resolve};
 
 /// What a head is to the exchange that it answers, and to what is stored.
 #[derive(Clone, Copy, Debug, PartialEq, Eq)]

@@ -5,7 +5,7 @@ ghost use Rattle.hc_rules.specs.Lengths.{IsPartInOrder};
 ghost use Rattle.hc_rules.specs.RangeTexts.{asked_in, content_range_in, content_range_of};
 
 use hc_fields::{Fields, only_value};
-use hc_range::{RangeSpec, ContentRange, read_content_range, read_range};
+use hc_range::{ContentRange, RangeSpec, read_content_range, read_range};
 
 /// The range that the value asks for, where it is one that is read.
 pub(crate) fn asked_in(text: &[u8]) -> Option<RangeSpec>

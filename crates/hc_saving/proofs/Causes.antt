@@ -11,7 +11,8 @@ named e (Ok x) is = absurd is
 named e (Err x) is = ap Err is
 
 -- a fault that is told was the cause
-pub is_fault : {T : Type 0} (e : RecoverError) (result : Result T RecoverError) → IsErrAnd result (λ (x : RecoverError). x ≡ e) → result ≡ Err error.SourceFailed → e ≡ error.SourceFailed
+pub is_fault : {T : Type 0} (e : RecoverError) (result : Result T RecoverError) → IsErrAnd result (λ (x : RecoverError). x ≡ e) →
+    result ≡ Err error.SourceFailed → e ≡ error.SourceFailed
 is_fault {T} e result is failed = sym (subst (λ (r : Result T RecoverError). IsErrAnd r (λ (x : RecoverError). x ≡ e)) failed is)
 
 -- what is found is no error

@@ -17,7 +17,8 @@ use Rattle.hc_saving.specs.Leaving as leaving_all
 
 -- ONE LEAVES
 
-module _ (limits : Limits) (t : Tables) (law : Lawful t) (e : Entry) (c : ℕ) (is : IsOwed limits t e) (at : e.event ≡ event.Cancel c) (alive : is_live (t.consumer c) ≡ true) where
+module _ (limits : Limits) (t : Tables) (law : Lawful t) (e : Entry) (c : ℕ) (is : IsOwed limits t e) (at : e.event ≡ event.Cancel c)
+    (alive : is_live (t.consumer c) ≡ true) where
   gone : Leaves t e c
   gone = leaver_goes limits t law e c is at alive
 
@@ -46,10 +47,12 @@ module _ (limits : Limits) (t : Tables) (law : Lawful t) (e : Entry) (c : ℕ) (
 
   one_less : live (after t e) + 1 ≡ live t
   one_less =
-      let moves = counted_moves (λ d. is_live (t.consumer d)) (λ d. is_live ((after t e).consumer d)) c (t.last_start + 1) t.starts law.order.starts (law.sound.numbered.lists.started c (there (t.consumer c) alive)) others in
+      let moves = counted_moves (λ d. is_live (t.consumer d)) (λ d. is_live ((after t e).consumer d)) c (t.last_start + 1) t.starts law.order.starts
+      (law.sound.numbered.lists.started c (there (t.consumer c) alive)) others in
       let was = one_of (is_live (t.consumer c)) alive in
       let now = none_of (is_live ((after t e).consumer c)) gone.over in
-      let same : live (after t e) ≡ counted (λ d. is_live ((after t e).consumer d)) t.starts = ap (counted (λ d. is_live ((after t e).consumer d))) starts_same in
+      let same : live (after t e) ≡ counted (λ d. is_live ((after t e).consumer d)) t.starts =
+      ap (counted (λ d. is_live ((after t e).consumer d))) starts_same in
       omega (arith, moves, was, now, same)
 
 module _ {B : Type 0} {g : Ghosts B} where
@@ -67,7 +70,8 @@ module _ {B : Type 0} {g : Ghosts B} where
 
   -- THE CACHE
 
-  module _ (s u : Cache B g) (now c : ℕ) (acts : List Act) (answered : Answers s u now (event.Cancel c) acts) (none : failures_in acts ≡ 0) (is_now : now ≡ last_moment s) where
+  module _ (s u : Cache B g) (now c : ℕ) (acts : List Act) (answered : Answers s u now (event.Cancel c) acts) (none : failures_in acts ≡ 0)
+      (is_now : now ≡ last_moment s) where
     abbrev entry : Entry
     entry = record { now = now; event = event.Cancel c; acts = acts }
 
@@ -103,7 +107,8 @@ module _ {B : Type 0} {g : Ghosts B} where
   pub leaves_none : (s : Cache B g) (contents : Contents) (h : History) → StandsFor s contents h → IsLeaving s s contents h
   leaves_none s contents h stands = record { so_far = h; stands = stands; number = refl; onward = λ left all. all }
 
-  pub leaves_more : (s t u : Cache B g) (now c : ℕ) (acts : List Act) → Answers t u now (event.Cancel c) acts → failures_in acts ≡ 0 → now ≡ last_moment t → limits_in t ≡ limits_in s
+  pub leaves_more : (s t u : Cache B g) (now c : ℕ) (acts : List Act) → Answers t u now (event.Cancel c) acts → failures_in acts ≡ 0 →
+      now ≡ last_moment t → limits_in t ≡ limits_in s
       → ((contents : Contents) (h : History) → StandsFor t contents h → IsLeastLive (tables contents h) c)
       → (contents : Contents) (h : History) → IsLeaving s t contents h → IsLeaving s u contents h
   leaves_more s t u now c acts answered none is_now limits least contents h q =
@@ -114,7 +119,9 @@ module _ {B : Type 0} {g : Ghosts B} where
         so_far = e ∷ q.so_far;
         stands = stands_on t u now c acts answered none is_now contents q.so_far q.stands;
         number = (let before = q.number in let one = answered.number in omega (arith, before, one));
-        onward = λ left all. q.onward left (leaving_all.lowest q.so_far left c (least contents q.so_far q.stands) (subst (λ (z : Entry). AllLeave (limits_in s) contents (z ∷ q.so_far) left) is all));
+        onward = λ left all. q.onward left
+            (leaving_all.lowest q.so_far left c (least contents q.so_far q.stands)
+            (subst (λ (z : Entry). AllLeave (limits_in s) contents (z ∷ q.so_far) left) is all));
       }
 
 -- THE LOOP
@@ -140,7 +147,8 @@ module _ {B : Type 0} {g : Ghosts B} where
     each = leaves_none s;
   }
 
-  module _ (s t u : Cache B g) (now c : ℕ) (before out : List Act) (q : LeavesOn s t now) (step : Steps t u before out now (event.Cancel c)) (calm : faults_in u ≡ faults_in t)
+  module _ (s t u : Cache B g) (now c : ℕ) (before out : List Act) (q : LeavesOn s t now) (step : Steps t u before out now (event.Cancel c))
+      (calm : faults_in u ≡ faults_in t)
       (least : (contents : Contents) (h : History) → StandsFor t contents h → IsLeastLive (tables contents h) c) where
     none : failures_in step.acts ≡ 0
     none = let counted = step.answered.counted in omega (arith, counted, calm)
@@ -148,11 +156,17 @@ module _ {B : Type 0} {g : Ghosts B} where
     pub fewer_live : live_in u + 1 ≤ live_in t
     fewer_live =
         ∥∥₁_elim q.some le_prop
-        (λ any. let less = less_live t u now c step.acts step.answered none q.now_is any.contents any.h any.stands (least any.contents any.h any.stands) in omega (arith, less))
+        (λ any. let less = less_live t u now c step.acts step.answered none q.now_is any.contents any.h any.stands
+        (least any.contents any.h any.stands) in omega (arith, less))
 
     pub leaves_next : last_moment u ≡ now → bytes_received u ≡ bytes_received t → LeavesOn s u now
     leaves_next moment received = record {
-      some = ∥∥₁_map q.some (λ any. record { contents = any.contents; h = record { now = now; event = event.Cancel c; acts = step.acts } ∷ any.h; stands = stands_on t u now c step.acts step.answered none q.now_is any.contents any.h any.stands });
+      some = ∥∥₁_map q.some (λ any. record {
+        contents = any.contents;
+        h = record { now = now; event = event.Cancel c; acts = step.acts } ∷ any.h;
+        stands =
+            stands_on t u now c step.acts step.answered none q.now_is any.contents any.h any.stands;
+      });
       now_is = sym moment;
       limits = step.answered.limits ∙ q.limits;
       received = received ∙ q.received;
@@ -161,7 +175,8 @@ module _ {B : Type 0} {g : Ghosts B} where
       each = λ contents h stands. leaves_more s t u now c step.acts step.answered none q.now_is q.limits least contents h (q.each contents h stands);
     }
 
-  pub has_left : (s u : Cache B g) (now : ℕ) → LeavesOn s u now → live_in u ≡ 0 → (contents : Contents) (h : History) → StandsFor s contents h → HasLeft s u contents h
+  pub has_left : (s u : Cache B g) (now : ℕ) → LeavesOn s u now → live_in u ≡ 0 → (contents : Contents) (h : History) → StandsFor s contents h →
+      HasLeft s u contents h
   has_left s u now q nobody contents h stands =
       let each = q.each contents h stands in
       record {

@@ -33,7 +33,8 @@ use Rattle.hc_saving.proofs.{Leaves.{nobody_lives}, Opened.{behind, fitting}, Sa
 
 -- WHAT IS LEFT
 
-module _ {B : Type 0} {g : Ghosts B} (s u : Cache B g) (contents : Contents) (h : History) (q : HasLeft s u contents h) (limits : limits_in u ≡ limits_in s) (nobody : live_in u ≡ 0) (few : steps_in u ≤ steps_in s + 1024) where
+module _ {B : Type 0} {g : Ghosts B} (s u : Cache B g) (contents : Contents) (h : History) (q : HasLeft s u contents h)
+    (limits : limits_in u ≡ limits_in s) (nobody : live_in u ≡ 0) (few : steps_in u ≤ steps_in s + 1024) where
   pub left_behind : (found : Contents) → found ≡ contents_of (tables contents q.left) → IsLeftBehind (limits_in s) contents h found
   left_behind found reported = record {
     left = q.left;
@@ -49,12 +50,15 @@ module _ {B : Type 0} {g : Ghosts B} (s u : Cache B g) (contents : Contents) (h 
     };
   }
 
-module _ {B : Type 0} {g : Ghosts B} (limits : Limits) (contents : Contents) (s u : Cache B g) (begun : BeginsWith limits contents s) (same : limits_in u ≡ limits_in s) (calm : (v : Cache B g) → faults_in v ≡ 0)
-    (events : List Timed) (h : steps.History) (is : IsReplayed s u events h) (found : Contents) (left : (before : Contents) (earlier : History) → StandsFor u before earlier → IsLeftBehind (limits_in u) before earlier found)
+module _ {B : Type 0} {g : Ghosts B} (limits : Limits) (contents : Contents) (s u : Cache B g) (begun : BeginsWith limits contents s)
+    (same : limits_in u ≡ limits_in s) (calm : (v : Cache B g) → faults_in v ≡ 0)
+    (events : List Timed) (h : steps.History) (is : IsReplayed s u events h) (found : Contents)
+    (left : (before : Contents) (earlier : History) → StandsFor u before earlier → IsLeftBehind (limits_in u) before earlier found)
     (fits : found.next_exchange ≤ 2 ^ 60 → may_begin (limits_in u) found ≡ true) where
   on : (before : Contents) (earlier : History) → StandsFor s before earlier → IsLeftBehind limits before (run_of h ++ earlier) found
   on before earlier stands =
-      subst (λ (l : Limits). IsLeftBehind l before (run_of h ++ earlier) found) (same ∙ begun.limited) (left before (run_of h ++ earlier) (is.goes_on before earlier stands).stands)
+      subst (λ (l : Limits). IsLeftBehind l before (run_of h ++ earlier) found) (same ∙ begun.limited)
+      (left before (run_of h ++ earlier) (is.goes_on before earlier stands).stands)
 
   pub recovered : IsRecovered limits contents events found
   recovered = record {
@@ -82,7 +86,8 @@ module _ (s u : Silent) (moment : ℕ) (left left' : Option (List ℕ)) where
   abbrev Went : How → List Timed → Type 0
   Went = Goes AnswersSilently never IsSpent 0 s u None None
 
-  were_stepped : (events : List Timed) → Went Wholly events → (h : steps.History) × IsReplayed s.cache u.cache events h × (limits_in u.cache ≡ limits_in s.cache)
+  were_stepped : (events : List Timed) → Went Wholly events → (h : steps.History) × IsReplayed s.cache u.cache events h ×
+      (limits_in u.cache ≡ limits_in s.cache)
   were_stepped events (courses.wholly h are leads off taken) =
       let q = stepped 0 s u h leads in
       (q.history, replayed s.cache u.cache events q.history (q.events_are ∙ are) q.leads, leads_limits s.cache u.cache q.history q.leads)
@@ -107,13 +112,15 @@ module _ (s u : Silent) (moment : ℕ) (left left' : Option (List ℕ)) where
   is_unstepped _ (breaks.wanting text first rest gives at_once went) = recovers.lacking text gives
   is_unstepped _ (breaks.wanting_answer text first rest next gives at_once went) = recovers.lacking text gives
 
-module _ {B : Type 0} {g : Ghosts B} (contents : Contents) (s u : Cache B g) (left left' : Option (List ℕ)) (stands : StandsFor s contents []) (q : IsStepped s contents.now left left' u) where
+module _ {B : Type 0} {g : Ghosts B} (contents : Contents) (s u : Cache B g) (left left' : Option (List ℕ)) (stands : StandsFor s contents [])
+    (q : IsStepped s contents.now left left' u) where
   pub stands_behind : StandsFor u contents (run_of q.history)
   stands_behind = subst (StandsFor u contents) (append-nil (run_of q.history)) (q.replayed.goes_on contents [] stands).stands
 
   pub still_early : contents.now < 2 ^ 62 → last_moment u < 2 ^ 62
   still_early small =
-      let timed : AreTimed contents.now (steps.events_in q.history) = subst (AreTimed contents.now) (sym q.replayed.events_are) (brings_timed contents.now q.text small) in
+      let timed : AreTimed contents.now (steps.events_in q.history) =
+      subst (AreTimed contents.now) (sym q.replayed.events_are) (brings_timed contents.now q.text small) in
       let early = moment_of q.history contents contents.now small timed in
       let at = stands_behind.moment in
       omega (arith, at, early)
@@ -137,7 +144,8 @@ pub image_whole : (text : List ℕ) (used : ℕ) (contents : Contents) → Spell
 image_whole text used contents front most = subst (λ (l : List ℕ). SpellsImage l contents) (take_all used text most) front
 
 -- memory was refused
-pub unread_lacking : {T : Type 0} (image : Option (List ℕ)) (result : Result T RecoverError) → IsErrAnd result (λ (e : RecoverError). e ≡ error.NoMemory) → IfErr result (IsUnread image)
+pub unread_lacking : {T : Type 0} (image : Option (List ℕ)) (result : Result T RecoverError) →
+    IsErrAnd result (λ (e : RecoverError). e ≡ error.NoMemory) → IfErr result (IsUnread image)
 unread_lacking image (Ok x) is = absurd is
 unread_lacking image (Err e) is = subst (IsUnread image) (sym is) recovers.lacking
 
@@ -156,14 +164,16 @@ module _ (limits : Limits) (image left : Option (List ℕ)) (result : Result cod
       by_cause _ (recovers.none has) = recovers.bad_image has refl
       by_cause _ recovers.lacking = recovers.wanting [] (gives_none left)
 
-  pub unbegun_ends : (contents : Contents) (e : BeginError) → BeginsAs image contents → IsErrAnd result (λ (x : RecoverError). x ≡ of_begin e) → IsUnbegun limits contents e → Recovers limits image left left result
+  pub unbegun_ends : (contents : Contents) (e : BeginError) → BeginsAs image contents → IsErrAnd result (λ (x : RecoverError). x ≡ of_begin e) →
+      IsUnbegun limits contents e → Recovers limits image left left result
   unbegun_ends contents e has is why = subst (Recovers limits image left left) (sym (named (of_begin e) result is)) (by_cause e why)
     where
       by_cause : (e : BeginError) → IsUnbegun limits contents e → Recovers limits image left left (Err (of_begin e))
       by_cause _ (begins.refused cause says) = recovers.unfit contents cause has says refl
       by_cause _ begins.lacking = recovers.wanting [] (gives_none left)
 
-  pub unstepped_ends : (left' : Option (List ℕ)) (contents : Contents) (e : RecoverError) → BeginsAs image contents → unfit_of limits contents ≡ None → IsErrAnd result (λ (x : RecoverError). x ≡ e) → IsUnstepped contents.now left left' e
+  pub unstepped_ends : (left' : Option (List ℕ)) (contents : Contents) (e : RecoverError) → BeginsAs image contents → unfit_of limits contents ≡ None →
+      IsErrAnd result (λ (x : RecoverError). x ≡ e) → IsUnstepped contents.now left left' e
       → Recovers limits image left left' result
   unstepped_ends left' contents e has fits is why = subst (Recovers limits image left left') (sym (named e result is)) (by_cause e why)
     where
@@ -173,12 +183,16 @@ module _ (limits : Limits) (image left : Option (List ℕ)) (result : Result cod
       by_cause _ (recovers.lacking text gives) = recovers.wanting text gives
 
   -- memory was refused once all was read
-  pub unleft_ends : (left' : Option (List ℕ)) (text : List ℕ) → GivesAll left left' text → IsErrAnd result (λ (x : RecoverError). x ≡ error.NoMemory) → Recovers limits image left left' result
-  unleft_ends left' text gives is = subst (Recovers limits image left left') (sym (named error.NoMemory result is)) (recovers.wanting text (gives_front left left' text gives))
+  pub unleft_ends : (left' : Option (List ℕ)) (text : List ℕ) → GivesAll left left' text → IsErrAnd result (λ (x : RecoverError). x ≡ error.NoMemory) →
+      Recovers limits image left left' result
+  unleft_ends left' text gives is =
+      subst (Recovers limits image left left') (sym (named error.NoMemory result is)) (recovers.wanting text (gives_front left left' text gives))
 
 -- it was found
-pub found_ends : {B : Type 0} {g : Ghosts B} (limits : Limits) (image left left' : Option (List ℕ)) (contents : Contents) (s u : Cache B g) (found : coded.Contents) → BeginsAs image contents → BeginsWith limits contents s → ((v : Cache B g) → faults_in v ≡ 0)
-    → (q : IsStepped s contents.now left left' u) → ((before : Contents) (earlier : History) → StandsFor u before earlier → IsLeftBehind (limits_in u) before earlier (plain_contents found))
+pub found_ends : {B : Type 0} {g : Ghosts B} (limits : Limits) (image left left' : Option (List ℕ)) (contents : Contents) (s u : Cache B g)
+    (found : coded.Contents) → BeginsAs image contents → BeginsWith limits contents s → ((v : Cache B g) → faults_in v ≡ 0)
+    → (q : IsStepped s contents.now left left' u) →
+    ((before : Contents) (earlier : History) → StandsFor u before earlier → IsLeftBehind (limits_in u) before earlier (plain_contents found))
     → (found.next_exchange ≤ 2 ^ 60 → may_begin (limits_in u) (plain_contents found) ≡ true) → Recovers limits image left left' (Ok found)
 found_ends limits image left left' contents s u found has begun calm q left_is fits =
     recovers.found contents q.text (events_from contents.now q.text) found has begun.fits q.gives q.unrefused (whole_events contents.now q.text)
@@ -191,7 +205,8 @@ begins_once None a b p q = p ∙ sym q
 begins_once (Some image) a b p q = (image_once image image a b [] [] p q refl).0
 
 -- what is refused whatever follows is no first part of a schedule
-no_part : (moment : ℕ) (left left' : Option (List ℕ)) (text read more : List ℕ) (r : Refused) (items : List Item) → left ≡ Some text → Gives left left' read → IsRefused moment read r → ¬ Spells moment (text ++ more) items
+no_part : (moment : ℕ) (left left' : Option (List ℕ)) (text read more : List ℕ) (r : Refused) (items : List Item) → left ≡ Some text →
+    Gives left left' read → IsRefused moment read r → ¬ Spells moment (text ++ more) items
 no_part moment left left' text read more r items here gives refuses spells = by_rest left' (subst (λ (l : Option (List ℕ)). Gives l left' read) here gives)
   where
     by_rest : (o : Option (List ℕ)) → Gives (Some text) o read → ⊥
@@ -200,8 +215,10 @@ no_part moment left left' text read more r items here gives refuses spells = by_
         let whole : read ++ (rest ++ more) ≡ text ++ more = sym (append_assoc read rest more) ∙ ap (λ (l : List ℕ). l ++ more) (sym given) in
         some_none r (sym (ap (refusal_of moment) (sym whole) ∙ refuses (rest ++ more)) ∙ (is_read moment (text ++ more) items spells).0)
 
-pub always_taken : (limits : Limits) (image left left' : Option (List ℕ)) (result : Result coded.Contents RecoverError) → Recovers limits image left left' result
-    → (contents : Contents) (text more : List ℕ) (items : List Item) → BeginsAs image contents → may_begin limits contents ≡ true → left ≡ Some text → Spells contents.now (text ++ more) items → IsTaken result
+pub always_taken : (limits : Limits) (image left left' : Option (List ℕ)) (result : Result coded.Contents RecoverError) →
+    Recovers limits image left left' result
+    → (contents : Contents) (text more : List ℕ) (items : List Item) → BeginsAs image contents → may_begin limits contents ≡ true → left ≡ Some text →
+    Spells contents.now (text ++ more) items → IsTaken result
 always_taken limits image left left' _ (recovers.found c t events f is fits gives unrefused whole left_is) contents text more items begins may here spells = tt
 always_taken limits image left left' _ (recovers.bad_image none same) contents text more items begins may here spells = none contents begins
 always_taken limits image left left' _ (recovers.unfit c why is says same) contents text more items begins may here spells =

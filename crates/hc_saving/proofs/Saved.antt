@@ -33,7 +33,8 @@ module _ (limits : Limits) (h : History) (found : Contents) (q : IsLeftBehind li
   next_few : found.next_exchange ≤ 2 ^ 60
   unfolding contents_of
   next_few =
-      let opened : (tables no_contents q.left).opened ≤ no_contents.next_exchange - 1 + length q.left = openings_counted limits no_contents q.left q.leaves.begins q.leaves.run in
+      let opened : (tables no_contents q.left).opened ≤ no_contents.next_exchange - 1 + length q.left =
+      openings_counted limits no_contents q.left q.leaves.begins q.leaves.run in
       let next : found.next_exchange ≡ (tables no_contents q.left).opened + 1 = ap (λ (c : Contents). c.next_exchange) reported in
       let long = q.few in
       omega (arith, opened, next, long, few)
@@ -72,14 +73,17 @@ stepped n s u _ (courses.more h e t _ leads off reports) =
     }
 
 -- the moment behind what was stepped is small
-pub moment_of : (h : steps.History) (contents : Contents) (last : ℕ) → contents.now < 2 ^ 62 → AreTimed last (steps.events_in h) → (tables contents (run_of h)).moment < 2 ^ 62
+pub moment_of : (h : steps.History) (contents : Contents) (last : ℕ) → contents.now < 2 ^ 62 → AreTimed last (steps.events_in h) →
+    (tables contents (run_of h)).moment < 2 ^ 62
 unfolding tables after
 moment_of [] contents last early timed = early
 moment_of (e ∷ h) contents last early timed =
     let back = timed_back last (steps.events_in h) (e.timed ∷ []) timed in
     by_denial (is_denied e.acts) back.1
   where
-    by_denial : (b : Bool) → e.timed.now < 2 ^ 62 → (if b then after_denied (tables contents (run_of h)) (record { now = e.timed.now; event = e.timed.event; acts = e.acts }) else after_accepted (tables contents (run_of h)) (record { now = e.timed.now; event = e.timed.event; acts = e.acts })).moment < 2 ^ 62
+    by_denial : (b : Bool) → e.timed.now < 2 ^ 62 →
+        (if b then after_denied (tables contents (run_of h)) (record { now = e.timed.now; event = e.timed.event; acts = e.acts }) else
+        after_accepted (tables contents (run_of h)) (record { now = e.timed.now; event = e.timed.event; acts = e.acts })).moment < 2 ^ 62
     by_denial true small = small
     by_denial false small = small
 
@@ -113,7 +117,8 @@ module _ (s u : Silent) (left left' : Option (List ℕ)) (new : StandsFor s.cach
       let q = stepped 0 s u h leads in
       let events : steps.events_in q.history ≡ events_of 0 items = q.events_are ∙ are in
       let r = replayed s.cache u.cache (events_of 0 items) q.history events q.leads in
-      let stands : StandsFor u.cache no_contents (run_of q.history) = subst (StandsFor u.cache no_contents) (append-nil (run_of q.history)) (r.goes_on no_contents [] new).stands in
+      let stands : StandsFor u.cache no_contents (run_of q.history) =
+      subst (StandsFor u.cache no_contents) (append-nil (run_of q.history)) (r.goes_on no_contents [] new).stands in
       let timed : AreTimed 0 (steps.events_in q.history) = subst (AreTimed 0) ((is_read 0 text items spells).1 ∙ sym events) (brought_timed text) in
       let early = moment_of q.history no_contents 0 (omega arith) timed in
       let number = r.number in
@@ -150,7 +155,8 @@ module _ (s u : Silent) (left left' : Option (List ℕ)) (new : StandsFor s.cach
   -- WHAT CAME OF IT
 
   -- without an image
-  pub not_saved : (limits : Limits) (out : Option (List ℕ)) (e : Ended) → Ends Went 0 left left' e → e ≢ ended.Done → e ≢ ended.SinkFailed → Saves limits left left' out out e
+  pub not_saved : (limits : Limits) (out : Option (List ℕ)) (e : Ended) → Ends Went 0 left left' e → e ≢ ended.Done → e ≢ ended.SinkFailed →
+      Saves limits left left' out out e
   not_saved limits out _ (endings.done text items gives spells went) off calm = absurd (off refl)
   not_saved limits out _ (endings.over text first rest gives at_once went) off calm = absurd (off refl)
   not_saved limits out _ (endings.refused reach text r read refused went) off calm = saves.refused reach text r read refused refl
@@ -170,7 +176,8 @@ module _ (s u : Silent) (left left' : Option (List ℕ)) (new : StandsFor s.cach
       is_left = is;
     }
 
-    pub image_saved : (out out' : Option (List ℕ)) (e : Ended) → Writes (limits_in s.cache) (run_of q.history) out out' e → Saves (limits_in s.cache) left left' out out' e
+    pub image_saved : (out out' : Option (List ℕ)) (e : Ended) → Writes (limits_in s.cache) (run_of q.history) out out' e →
+        Saves (limits_in s.cache) left left' out out' e
     image_saved out out' _ (saves.all image is takes) = saves.done q.text image q.items q.gives q.spells (is_saved image is) takes
     image_saved out out' _ (saves.part image is takes) = saves.unwritten q.text image q.items q.gives q.spells (is_saved image is) takes
     image_saved out out' _ (saves.short image is takes) = saves.wanting q.text image q.items q.gives q.spells (is_saved image is) takes

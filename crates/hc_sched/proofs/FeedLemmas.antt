@@ -66,7 +66,8 @@ pub record Passes (p : Place) (line text rest : List ℕ) (step : Step) : Type 0
   pub leads : after (Reads p line) text ≡ after step.next rest
   pub brings : events_in (Reads p line) text ≡ step.events ++ events_in step.next rest
 
-stops_here : (p : Place) (line seg rest : List ℕ) (b : ℕ) → not (b == 10) ≡ true → 140000 ≤ length line → Passes p line (b ∷ seg) rest (refuse p why.LineTooLong)
+stops_here : (p : Place) (line seg rest : List ℕ) (b : ℕ) → not (b == 10) ≡ true → 140000 ≤ length line →
+    Passes p line (b ∷ seg) rest (refuse p why.LineTooLong)
 stops_here p line seg rest b other le =
     let step = byte_passes p line b other le in
     let r : Refused = record { line = p.lines + 1; why = why.LineTooLong } in
@@ -87,7 +88,8 @@ line_passes p line (b ∷ seg) rest none le =
           let same = ap (join_line p) (joined line seg b) in
           record {
             leads = ap (λ (s : Step). after s.next (seg ++ 10 ∷ rest)) step ∙ (more.leads ∙ ap (λ (s : Step). after s.next rest) same);
-            brings = ap (λ (s : Step). s.events ++ events_in s.next (seg ++ 10 ∷ rest)) step ∙ (more.brings ∙ ap (λ (s : Step). s.events ++ events_in s.next rest) same);
+            brings = ap (λ (s : Step). s.events ++ events_in s.next (seg ++ 10 ∷ rest)) step ∙
+                (more.brings ∙ ap (λ (s : Step). s.events ++ events_in s.next rest) same);
           }
       | inr full ↦
           let long = join_long p (line ++ b ∷ seg) (omega (arith, length-append line (b ∷ seg))) in
@@ -157,8 +159,10 @@ module _ (start : Progress) (piece : List ℕ) (old : List Timed) where
       }
 
   -- the line is refused
-  pub Still-refused : (p q : Place) (line seg rest text : List ℕ) (out new : List Timed) (r : Refused) → Still start piece old p line text out → lacks 10 seg ≡ true
-      → length line ≤ 140000 → seg ++ 10 ∷ rest ≡ text → Takes (join_line p (line ++ seg)) (Err (error.Refused r)) q out new → ReadsOn start piece (Stopped r) old new
+  pub Still-refused : (p q : Place) (line seg rest text : List ℕ) (out new : List Timed) (r : Refused) → Still start piece old p line text out →
+      lacks 10 seg ≡ true
+      → length line ≤ 140000 → seg ++ 10 ∷ rest ≡ text → Takes (join_line p (line ++ seg)) (Err (error.Refused r)) q out new →
+      ReadsOn start piece (Stopped r) old new
   Still-refused p q line seg rest text out new r h none le is takes =
       let passes = rw is at (line_passes p line seg rest none le) in
       let step = join_line p (line ++ seg) in
@@ -167,7 +171,8 @@ module _ (start : Progress) (piece : List ℕ) (old : List Timed) where
       ap (λ (l : List Timed). l ++ events_in step.next rest) takes.1 ∙ (ap (λ (s : Progress). events_in s rest) next ∙ events_in-stopped r rest) in
       record {
         leads = h.leads ∙ (passes.leads ∙ (ap (λ (s : Progress). after s rest) next ∙ after-stopped r rest));
-        adds = takes.2 ∙ (h.adds ∙ ap (λ (l : List Timed). old ++ l) (sym (h.brings ∙ (ap (λ (l : List Timed). h.some ++ l) (passes.brings ∙ quiet_) ∙ append-nil h.some))));
+        adds = takes.2 ∙ (h.adds ∙
+            ap (λ (l : List Timed). old ++ l) (sym (h.brings ∙ (ap (λ (l : List Timed). h.some ++ l) (passes.brings ∙ quiet_) ∙ append-nil h.some))));
       }
 
   -- memory was refused
@@ -175,13 +180,15 @@ module _ (start : Progress) (piece : List ℕ) (old : List Timed) where
   Still-spent p line text out new h same =
       record { some = h.some; rest = events_in (Reads p line) text; whole = sym h.brings; adds = same ∙ h.adds }
 
-  Still-error : (p q : Place) (line seg rest text : List ℕ) (out new : List Timed) (e : FeedError) (s : Progress) → Still start piece old p line text out → lacks 10 seg ≡ true
+  Still-error : (p q : Place) (line seg rest text : List ℕ) (out new : List Timed) (e : FeedError) (s : Progress) →
+      Still start piece old p line text out → lacks 10 seg ≡ true
       → length line ≤ 140000 → seg ++ 10 ∷ rest ≡ text → Takes (join_line p (line ++ seg)) (Err e) q out new → Feeds start piece (Err e) s old new
   Still-error p q line seg rest text out new (error.Refused r) s h none le is takes = Still-refused p q line seg rest text out new r h none le is takes
   Still-error p q line seg rest text out new error.NoMemory s h none le is takes = Still-spent p line text out new h takes
 
   -- an error at a line is the reader's
-  pub Still-fails : (p q : Place) (line seg rest text : List ℕ) (out new : List Timed) (e : FeedError) (taken given : Result (Unit {0}) FeedError) (s : Progress)
+  pub Still-fails : (p q : Place) (line seg rest text : List ℕ) (out new : List Timed) (e : FeedError) (taken given : Result (Unit {0}) FeedError)
+      (s : Progress)
       → Still start piece old p line text out → lacks 10 seg ≡ true → length line ≤ 140000 → seg ++ 10 ∷ rest ≡ text
       → Takes (join_line p (line ++ seg)) taken q out new → taken ≡ Err e → given ≡ Err e → Feeds start piece given s old new
   Still-fails p q line seg rest text out new e taken given s h none le is takes was same =
@@ -193,7 +200,8 @@ pub ReadsOn-from : (s t : Progress) (text : List ℕ) → Leads s text t → Rea
 ReadsOn-from s t text h = record { leads = h.leads; adds = sym h.none }
 
 -- an error is answered again
-pub feeds_again : (e : FeedError) (reader : Reader) (s : Progress) (piece : List ℕ) (old : List Timed) → progress_of (Some e) reader ≡ s → Feeds s piece (Err e) s old old
+pub feeds_again : (e : FeedError) (reader : Reader) (s : Progress) (piece : List ℕ) (old : List Timed) → progress_of (Some e) reader ≡ s →
+    Feeds s piece (Err e) s old old
 feeds_again (error.Refused r) reader s piece old is =
     rw (← is) (record {
       leads = after-stopped r piece;

@@ -32,5 +32,6 @@ Follows-from_test fields field h =
     }
 
 -- such a field is refused for want of memory alone
-pub never_refused : (e : FieldError) (fields : List Pair) (field : Pair) → Follows fields field → length fields < 64 → (e ≡ error.NoMemory → ⊥) → Refuses e fields field.0 field.1 → ⊥
+pub never_refused : (e : FieldError) (fields : List Pair) (field : Pair) → Follows fields field → length fields < 64 → (e ≡ error.NoMemory → ⊥) →
+    Refuses e fields field.0 field.1 → ⊥
 never_refused e fields field h few other refused = grind (arith, nat_tests)

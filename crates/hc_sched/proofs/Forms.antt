@@ -78,7 +78,13 @@ how_of-is : (kind : Load) (target : List ℕ) (count : ℕ) → IsShortTarget ta
     → how_of (load_word kind ++ 32 ∷ (target ++ 32 ∷ decimal count)) ≡ Some (kind, target, count)
 unfolding how_of
 how_of-is kind target count h few =
-    rw (cut-first 32 (load_word kind) (target ++ 32 ∷ decimal count) (load-brief kind).spaces, load_of-word kind, cut-first 32 target (decimal count) h.spaces, plain_within-is 0 64 count (omega arith) few (omega arith), is_word-target target h) refl
+    rw (
+      cut-first 32 (load_word kind) (target ++ 32 ∷ decimal count) (load-brief kind).spaces,
+      load_of-word kind,
+      cut-first 32 target (decimal count) h.spaces,
+      plain_within-is 0 64 count (omega arith) few (omega arith),
+      is_word-target target h,
+    ) refl
 
 start_of-is : (c : ℕ) (method : List ℕ) (kind : Load) (target : List ℕ) (count : ℕ) → IsSmall c → is_method method ≡ true → IsShortTarget target → count ≤ 64
     → start_of (decimal c ++ 32 ∷ (method ++ 32 ∷ (load_word kind ++ 32 ∷ (target ++ 32 ∷ decimal count)))) ≡ Some (Starts c method kind target count)
@@ -93,7 +99,12 @@ head_of-is : (x status count : ℕ) → IsSmall x → 200 ≤ status → status 
     → head_of (decimal x ++ 32 ∷ (decimal status ++ 32 ∷ decimal count)) ≡ Some (Heads x status count)
 unfolding head_of
 head_of-is x status count small low high few =
-    rw (numbered-is x (decimal status ++ 32 ∷ decimal count) small, cut-first 32 (decimal status) (decimal count) (lacks-decimal 32 status (omega arith) (omega arith)), plain_within-is 200 599 status low high (omega arith), plain_within-is 0 64 count (omega arith) few (omega arith)) refl
+    rw (
+      numbered-is x (decimal status ++ 32 ∷ decimal count) small,
+      cut-first 32 (decimal status) (decimal count) (lacks-decimal 32 status (omega arith) (omega arith)),
+      plain_within-is 200 599 status low high (omega arith),
+      plain_within-is 0 64 count (omega arith) few (omega arith),
+    ) refl
 
 piece_of-is : (x : ℕ) (bytes : List ℕ) → IsSmall x → IsPiece bytes → piece_of (decimal x ++ 32 ∷ piece_text bytes) ≡ Some (Brings x (piece_text bytes))
 unfolding piece_of
@@ -169,7 +180,14 @@ line-short (Happens (event.Head x response)) h =
     let rest = decimal response.status ++ 32 ∷ decimal (length response.fields) in
     record {
       feeds = then_words (decimal x) rest n.0 (then_words (decimal response.status) (decimal (length response.fields)) status.0 count.0);
-      short = omega (arith, n.1, status.1, count.1, length-append (decimal x) (32 ∷ rest), length-append (decimal response.status) (32 ∷ decimal (length response.fields)));
+      short = omega (
+        arith,
+        n.1,
+        status.1,
+        count.1,
+        length-append (decimal x) (32 ∷ rest),
+        length-append (decimal response.status) (32 ∷ decimal (length response.fields)),
+      );
     }
 line-short (Happens (event.Piece x bytes)) h =
     let n = decimal-line x h.0 in

@@ -9,7 +9,7 @@ use Rattle.hc_event.specs.declared.event.Event.TheVariants as event
 use Rattle.hc_fields.specs.Lines.{fields_text}
 use Rattle.hc_text.proofs.Cuts.{cut_once}
 use Rattle.hc_fields.proofs.FieldTexts.{fields_once}
-use Rattle.hc_sched.specs.{declared.{begun.Begun.{Begun}, schedule.{Refused.{Refused}, Timed.{Timed}}}, Pieces.{bytes_of}, FirstLines.{First, Sets, Starts, Heads, Brings, Dooms, Reports, first_of}, Reading.{Progress, Reads, Stopped, Spent, after, events_in, beginning, refusal_of}, Feeding.{is_between}, Schedule.{Item, Moment, Happens, item_line, item_fields, item_text, text_of, IsHead, IsItem, IsSmall, IsSchedule, Spells, moment_after, events_of}, Laws.{HasRead, AreTimed, refusal_at}}
+use Rattle.hc_sched.specs.{declared.{begun.Begun.{Begun}, schedule.{Refused.{Refused}, Timed.{Timed}}}, Pieces.{bytes_of}, FirstLines.{First, Sets, Starts, Heads, Brings, Dooms, Reports, first_of}, Reading.{Progress, Reads, Stopped, Spent, after, events_in, beginning, refusal_of, is_between, refusal_at}, Schedule.{Item, Moment, Happens, item_line, item_fields, item_text, text_of, IsHead, IsItem, IsSmall, IsSchedule, Spells, moment_after, events_of}, Laws.{HasRead, AreTimed}}
 use Rattle.hc_sched.specs.declared.schedule.SchedRefusal.TheVariants as why
 use Rattle.hc_sched.proofs.{FieldReads.{Pair}, FeedLemmas.{after-append, after-stopped, events_in-append}, Forms.{first_for, first_of-line, line-short}, Hex.{bytes_of-piece_text}, Spelled.{items_read}, Standing.{StandsFor, begun_text, text_step}}
 
@@ -27,7 +27,8 @@ nothing_left None [] h = (refl, refl)
 nothing_left None (b ∷ line) h = absurd (omega (arith, eqb-true (length (b ∷ line)) 0 h))
 nothing_left (Some b) line h = cc h
 
-spelled_at : (now : ℕ) (text : List ℕ) (es : List Timed) (s : Progress) → StandsFor now text es s → refusal_at s ≡ None → (items : List Item) × Spells now text items
+spelled_at : (now : ℕ) (text : List ℕ) (es : List Timed) (s : Progress) → StandsFor now text es s → refusal_at s ≡ None → (items : List Item) ×
+    Spells now text items
 spelled_at now text es (Reads p line) h none =
     elim (cases_Bool (is_between p line)) [
       | inl rest ↦
@@ -76,7 +77,8 @@ pub brings_all : (now : ℕ) (items : List Item) (rest : List ℕ) → IsSchedul
 brings_all now items rest h =
     let off = items_read now 0 items h in (
       events_in (after (beginning now) (text_of items)) rest,
-      events_in-append (beginning now) (text_of items) rest ∙ ap (λ (l : List Timed). l ++ events_in (after (beginning now) (text_of items)) rest) off.gives.brings,
+      events_in-append (beginning now) (text_of items) rest ∙
+          ap (λ (l : List Timed). l ++ events_in (after (beginning now) (text_of items)) rest) off.gives.brings,
     )
 
 -- An item by its first line and its fields.
@@ -106,7 +108,11 @@ count_is (Happens (event.Doom key)) = refl
 count_is (Happens _) = refl
 
 no_fields : IsHead []
-no_fields = record { list = record { fields = λ k d lt. absurd (omega arith); sorted = refl; few = omega arith; small = omega arith }; within_limits = record { few = omega arith; small = omega arith } }
+no_fields = record {
+  list = record { fields = λ k d lt. absurd (omega arith); sorted = refl; few = omega arith; small = omega arith };
+  within_limits =
+      record { few = omega arith; small = omega arith };
+}
 
 fields_are : (item : Item) → IsItem item → IsHead (item_fields item)
 fields_are (Happens (event.Start c request)) h = h.3
@@ -124,7 +130,8 @@ item_once x y r s hx hy same =
     let first : first_for x ≡ first_for y = cc read in
     let count : length (item_fields x) ≡ length (item_fields y) = sym (count_is x) ∙ (ap count_in first ∙ count_is y) in
     let fields = fields_once (item_fields x) (item_fields y) r s (fields_are x hx).list.fields (fields_are y hy).list.fields count lines.1 in (
-      sym (item_is x hx) ∙ (ap (λ (f : First). item_from f (item_fields x)) first ∙ (ap (λ (l : List Pair). item_from (first_for y) l) fields.0 ∙ item_is y hy)),
+      sym (item_is x hx) ∙ (ap (λ (f : First). item_from f (item_fields x)) first ∙
+          (ap (λ (l : List Pair). item_from (first_for y) l) fields.0 ∙ item_is y hy)),
       fields.1,
     )
 
@@ -144,7 +151,8 @@ items_once now (x ∷ xs) (y ∷ ys) hx hy same =
 pub one_spelling : (now : ℕ) (text : List ℕ) (xs ys : List Item) → Spells now text xs → Spells now text ys → xs ≡ ys
 one_spelling now text xs ys hx hy = items_once now xs ys hx.schedule hy.schedule (hx.text_is ∙ sym hy.text_is)
 
-stays_at : (s : Progress) (more : List ℕ) (refused : Refused) → refusal_at s ≡ Some refused → refused.why ≢ why.CutShort → refusal_at (after s more) ≡ Some refused
+stays_at : (s : Progress) (more : List ℕ) (refused : Refused) → refusal_at s ≡ Some refused → refused.why ≢ why.CutShort →
+    refusal_at (after s more) ≡ Some refused
 stays_at (Reads p line) more refused is other =
     elim (cases_Bool (is_between p line)) [
       | inl rest ↦ cc (rw rest at is)
@@ -155,6 +163,7 @@ stays_at (Reads p line) more refused is other =
 stays_at (Stopped r) more refused is other = ap refusal_at (after-stopped r more) ∙ is
 stays_at Spent more refused is other = cc is
 
-pub stays_refused : (now : ℕ) (text more : List ℕ) (refused : Refused) → refusal_of now text ≡ Some refused → refused.why ≢ why.CutShort → refusal_of now (text ++ more) ≡ Some refused
+pub stays_refused : (now : ℕ) (text more : List ℕ) (refused : Refused) → refusal_of now text ≡ Some refused → refused.why ≢ why.CutShort →
+    refusal_of now (text ++ more) ≡ Some refused
 stays_refused now text more refused is other =
     ap refusal_at (after-append (beginning now) text more) ∙ stays_at (after (beginning now) text) more refused is other

@@ -164,7 +164,8 @@ says_doom line f h =
     ]
 
 -- the forms of a keyword and a number, before others
-says_number : (keyword line : List ℕ) (g : ℕ → First) (f : First) (other : Option First) → or_else (behind keyword line) (λ words. option_map g (plain_of words)) other ≡ Some f
+says_number : (keyword line : List ℕ) (g : ℕ → First) (f : First) (other : Option First) → or_else
+    (behind keyword line) (λ words. option_map g (plain_of words)) other ≡ Some f
     → ((n : ℕ) → IsSmall n → keyword ++ decimal n ≡ line → Says line (g n)) → (other ≡ Some f → Says line f) → Says line f
 says_number keyword line g f other h says rest =
     elim (or_else-parts (behind keyword line) (λ words. option_map g (plain_of words)) other f h) [

@@ -45,7 +45,8 @@ take_line-field : (m n : ℕ) (o : Opening) (fs : List Pair) (missing bytes : �
     ≡ take_field (within m n o fs missing bytes) (record { opening = o; fields = fs; missing = missing; bytes = bytes }) (length (line_of f)) (Some f)
 unfolding take_line
 take_line-field m n o fs missing bytes f h =
-    ap (λ (field : Option Pair). take_field (within m n o fs missing bytes) (record { opening = o; fields = fs; missing = missing; bytes = bytes }) (length (line_of f)) field) (field_of-line fs f h)
+    ap (λ (field : Option Pair). take_field (within m n o fs missing bytes) (record { opening = o; fields = fs; missing = missing; bytes = bytes })
+    (length (line_of f)) field) (field_of-line fs f h)
 
 -- the last field line
 last_field : (m n : ℕ) (o : Opening) (fs : List Pair) (bytes : ℕ) (f : Pair) → IsHead (fs ++ f ∷ [])
@@ -71,9 +72,11 @@ step_gives p line step none short is = rw (← is) (one_line p line none short)
 
 -- all field lines of an item
 fields_read : (m n : ℕ) (o : Opening) (fs : List Pair) (bytes : ℕ) (f : Pair) (rest : List Pair) → IsHead (fs ++ f ∷ rest)
-    → Gives (Reads (within m n o fs (length (f ∷ rest)) bytes) []) (fields_text (f ∷ rest)) (Reads (at_rest m (n + length (f ∷ rest))) []) (timed m (event_of o (fs ++ f ∷ rest)))
+    → Gives (Reads (within m n o fs (length (f ∷ rest)) bytes) []) (fields_text (f ∷ rest)) (Reads (at_rest m (n + length (f ∷ rest))) [])
+    (timed m (event_of o (fs ++ f ∷ rest)))
 fields_read m n o fs bytes f [] h =
-    let gives = step_gives (within m n o fs 1 bytes) (line_of f) _ (lacks-field f (IsField-last fs f h.list)) (field-short fs f h) (last_field m n o fs bytes f h) in
+    let gives = step_gives (within m n o fs 1 bytes) (line_of f) _ (lacks-field f (IsField-last fs f h.list)) (field-short fs f h)
+    (last_field m n o fs bytes f h) in
     let text : line_of f ++ 10 ∷ [] ≡ field_text f ++ [] = sym (field_text-line f) ∙ sym (append-nil (field_text f)) in
     Gives-same _ _ _ _ _ _ _ _ refl text refl refl gives
 fields_read m n o fs bytes f (g ∷ rest) h =
@@ -99,15 +102,18 @@ opened : (m n : ℕ) (o : Opening) (line : List ℕ) (bytes : ℕ) (fields : Lis
     → Gives (Reads (at_rest m n) []) (line ++ 10 ∷ fields_text fields) (Reads (at_rest m (n + 1 + length fields)) []) (timed m (event_of o fields))
 opened m n o line bytes [] h short is =
     let lines : n + 1 ≡ n + 1 + 0 = omega arith in
-    Gives-same _ _ _ _ _ _ _ _ refl refl (ap (λ (l : ℕ). Reads (at_rest m l) []) lines) refl (step_gives (at_rest m n) line (happen (at_rest m n) (event_of o [])) short.feeds short.short is)
+    Gives-same _ _ _ _ _ _ _ _ refl refl (ap (λ (l : ℕ). Reads (at_rest m l) []) lines) refl
+    (step_gives (at_rest m n) line (happen (at_rest m n) (event_of o [])) short.feeds short.short is)
 opened m n o line bytes (f ∷ rest) h short is =
     let other : (length (f ∷ rest) == 0) ≡ false = ne_eqb (length (f ∷ rest)) 0 (λ e. omega (arith, e)) in
-    let begins : begin (at_rest m n) o (length (f ∷ rest)) bytes ≡ record { next = Reads (within m (n + 1) o [] (length (f ∷ rest)) (bytes + 1)) []; events = [] } = rw other refl in
+    let begins : begin (at_rest m n) o (length (f ∷ rest)) bytes ≡ record
+    { next = Reads (within m (n + 1) o [] (length (f ∷ rest)) (bytes + 1)) []; events = [] } = rw other refl in
     let first = step_gives (at_rest m n) line _ short.feeds short.short (is ∙ begins) in
     let more = fields_read m (n + 1) o [] (bytes + 1) f rest h in
     Gives-same _ _ _ _ _ _ _ _ refl (append_assoc line (10 ∷ []) (fields_text (f ∷ rest))) refl refl (Gives-append _ _ _ _ _ _ _ first more)
 
-take_line-first : (m n : ℕ) (line : List ℕ) (first : First) → first_of line ≡ Some first → take_line (at_rest m n) line ≡ take_first (at_rest m n) (length line) (Some first)
+take_line-first : (m n : ℕ) (line : List ℕ) (first : First) → first_of line ≡ Some first →
+    take_line (at_rest m n) line ≡ take_first (at_rest m n) (length line) (Some first)
 unfolding take_line
 take_line-first m n line first is = ap (take_first (at_rest m n) (length line)) is
 

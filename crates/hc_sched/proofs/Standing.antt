@@ -17,7 +17,8 @@ use Rattle.hc_text.proofs.Cutting.{none_or_some, append-cut, append-behind}
 
 -- the first line of an item with so many fields
 abbrev pub opening_line : Opening → ℕ → List ℕ
-opening_line (opening.Start c method key kind) count = codes "start " ++ (decimal c ++ 32 ∷ (method ++ 32 ∷ (load_word kind ++ 32 ∷ (key ++ 32 ∷ decimal count))))
+opening_line (opening.Start c method key kind) count = codes "start " ++
+    (decimal c ++ 32 ∷ (method ++ 32 ∷ (load_word kind ++ 32 ∷ (key ++ 32 ∷ decimal count))))
 opening_line (opening.Head x status) count = codes "head " ++ (decimal x ++ 32 ∷ (decimal status ++ 32 ∷ decimal count))
 
 abbrev pub IsOpening : Opening → Type 0
@@ -69,7 +70,8 @@ StepsTo start text es step = StandsFor start text (es ++ step.events) step.next
 -- items behind items
 text_of-push : (items : List Item) (item : Item) → text_of (items ++ item ∷ []) ≡ text_of items ++ item_text item
 text_of-push [] item = append-nil (item_text item)
-text_of-push (i ∷ items) item = ap (λ (l : List ℕ). item_text i ++ l) (text_of-push items item) ∙ sym (append_assoc (item_text i) (text_of items) (item_text item))
+text_of-push (i ∷ items) item = ap (λ (l : List ℕ). item_text i ++ l) (text_of-push items item) ∙
+    sym (append_assoc (item_text i) (text_of items) (item_text item))
 
 moment_end-push : (now : ℕ) (items : List Item) (item : Item) → moment_end now (items ++ item ∷ []) ≡ moment_after (moment_end now items) item
 moment_end-push now [] item = refl
@@ -81,12 +83,14 @@ events_of-push now (i ∷ items) item =
     ap (λ (l : List Timed). event_at now i ++ l) (events_of-push (moment_after now i) items item)
     ∙ sym (append_assoc (event_at now i) (events_of (moment_after now i) items) (event_at (moment_end (moment_after now i) items) item))
 
-IsSchedule-push : (now : ℕ) (items : List Item) (item : Item) → IsSchedule now items → IsItem item → moment_end now items ≤ moment_after (moment_end now items) item → IsSchedule now (items ++ item ∷ [])
+IsSchedule-push : (now : ℕ) (items : List Item) (item : Item) → IsSchedule now items → IsItem item →
+    moment_end now items ≤ moment_after (moment_end now items) item → IsSchedule now (items ++ item ∷ [])
 IsSchedule-push now [] item h is later = (is, later, tt)
 IsSchedule-push now (i ∷ items) item h is later = (h.0, h.1, IsSchedule-push (moment_after now i) items item h.2 is later)
 
 -- the text goes on, and no item more is read of it
-stops : (start : ℕ) (text more : List ℕ) (es : List Timed) (m : ℕ) (begun : Option Begun) (line : List ℕ) → Stands start text es m begun line → HasRead start (text ++ more) (es ++ [])
+stops : (start : ℕ) (text more : List ℕ) (es : List Timed) (m : ℕ) (begun : Option Begun) (line : List ℕ) → Stands start text es m begun line →
+    HasRead start (text ++ more) (es ++ [])
 stops start text more es m begun line h = record {
   items = h.items;
   rest = begun_text begun ++ line ++ more;
@@ -97,7 +101,8 @@ stops start text more es m begun line h = record {
 
 module _ (start : ℕ) where
   -- an item ends with the line
-  ends_item : (text line : List ℕ) (es : List Timed) (m : ℕ) (begun : Option Begun) (item : Item) (h : Stands start text es m begun line) → IsItem item → m ≤ moment_after m item
+  ends_item : (text line : List ℕ) (es : List Timed) (m : ℕ) (begun : Option Begun) (item : Item) (h : Stands start text es m begun line) → IsItem item →
+      m ≤ moment_after m item
       → item_text item ≡ begun_text begun ++ (line ++ 10 ∷ []) → Stands start (text ++ 10 ∷ []) (es ++ event_at m item) (moment_after m item) None []
   ends_item text line es m begun item h is later spelled =
       let last : moment_end start h.items ≤ moment_after (moment_end start h.items) item = rw h.moment_is at later in
@@ -111,25 +116,37 @@ module _ (start : ℕ) where
       }
 
   -- one line is an item
-  one_item : (text line : List ℕ) (es : List Timed) (m : ℕ) (item : Item) → Stands start text es m None line → IsItem item → m ≤ moment_after m item → item_line item ≡ line → item_fields item ≡ []
+  one_item : (text line : List ℕ) (es : List Timed) (m : ℕ) (item : Item) → Stands start text es m None line → IsItem item → m ≤ moment_after m item →
+      item_line item ≡ line → item_fields item ≡ []
       → Stands start (text ++ 10 ∷ []) (es ++ event_at m item) (moment_after m item) None []
   one_item text line es m item h is later same none =
       ends_item text line es m None item h is later (ap (λ (l : List Pair). item_line item ++ 10 ∷ fields_text l) none ∙ ap (λ (l : List ℕ). l ++ 10 ∷ []) same)
 
   -- the first line of an item with fields
-  begins_item : (text line : List ℕ) (es : List Timed) (p : Place) (o : Opening) (count bytes : ℕ) → Stands start text es p.moment None line → IsOpening o → opening_line o count ≡ line → count ≤ 64
+  begins_item : (text line : List ℕ) (es : List Timed) (p : Place) (o : Opening) (count bytes : ℕ) → Stands start text es p.moment None line →
+      IsOpening o → opening_line o count ≡ line → count ≤ 64
       → StepsTo start (text ++ 10 ∷ []) es (begin p o count bytes)
   begins_item text line es p o count bytes h is same few =
       elim (cases_eq count 0) [
         | inl zero ↦
             let event = event_of o [] in
-            let none : IsHead [] = record { list = record { fields = λ k d lt. absurd (omega arith); sorted = refl; few = omega arith; small = omega arith }; within_limits = record { few = omega arith; small = omega arith } } in
+            let none : IsHead [] = record {
+              list = record { fields = λ k d lt. absurd (omega arith); sorted = refl; few = omega arith; small = omega arith };
+              within_limits =
+                  record { few = omega arith; small = omega arith };
+            } in
             let line_is : item_line (Happens event) ≡ line = event_line-opening o [] ∙ (ap (opening_line o) (sym zero) ∙ same) in
-            rw (eq-eqb count 0 zero) (one_item text line es p.moment (Happens event) h (IsEvent-opening o [] is none) (omega arith) line_is (fields_in-opening o []))
+            rw (eq-eqb count 0 zero)
+            (one_item text line es p.moment (Happens event) h (IsEvent-opening o [] is none) (omega arith) line_is (fields_in-opening o []))
         | inr some ↦
-            let none : IsHead [] = record { list = record { fields = λ k d lt. absurd (omega arith); sorted = refl; few = omega arith; small = omega arith }; within_limits = record { few = omega arith; small = omega arith } } in
+            let none : IsHead [] = record {
+              list = record { fields = λ k d lt. absurd (omega arith); sorted = refl; few = omega arith; small = omega arith };
+              within_limits =
+                  record { few = omega arith; small = omega arith };
+            } in
             let front = ap (λ k. text_of h.items ++ (opening_line o k ++ 10 ∷ [])) (zero-add count) in
-            let stands : Stands start (text ++ 10 ∷ []) (es ++ []) p.moment (Some (record { opening = o; fields = []; missing = count; bytes = bytes + 1 })) [] = record {
+            let stands : Stands start (text ++ 10 ∷ []) (es ++ []) p.moment
+            (Some (record { opening = o; fields = []; missing = count; bytes = bytes + 1 })) [] = record {
               items = h.items;
               schedule = h.schedule;
               whole = rw (append-nil, ← h.whole, ← same, append_assoc) front;
@@ -164,7 +181,8 @@ module _ (start : ℕ) where
       ]
   says_step text line es p bytes (Reports event) h says = one_item text line es p.moment (Happens event) h says.1 (omega arith) says.0 says.2
 
-  first_step : (text line : List ℕ) (es : List Timed) (p : Place) (bytes : ℕ) → Stands start text es p.moment None line → StepsTo start (text ++ 10 ∷ []) es (take_first p bytes (first_of line))
+  first_step : (text line : List ℕ) (es : List Timed) (p : Place) (bytes : ℕ) → Stands start text es p.moment None line →
+      StepsTo start (text ++ 10 ∷ []) es (take_first p bytes (first_of line))
   first_step text line es p bytes h =
       elim (none_or_some (first_of line)) [
         | inl none ↦ rw none (stops start text (10 ∷ []) es p.moment None line h)
@@ -211,7 +229,8 @@ grown : (o : Opening) (count : ℕ) (fields : List Pair) (f : Pair) (line : List
 grown o count fields f line is = search (arith, append_assoc, field_text-line, fields_text-push)
 
 module _ (start : ℕ) where
-  next_step : (text line : List ℕ) (es : List Timed) (p : Place) (b : Begun) (bytes : ℕ) (f : Pair) → Stands start text es p.moment (Some b) line → IsNext b.fields line f
+  next_step : (text line : List ℕ) (es : List Timed) (p : Place) (b : Begun) (bytes : ℕ) (f : Pair) → Stands start text es p.moment (Some b) line →
+      IsNext b.fields line f
       → StepsTo start (text ++ 10 ∷ []) es (take_field p b bytes (Some f))
   next_step text line es p b bytes f h next =
       let fields = field_list_with f.0 f.1 b.fields in
@@ -222,10 +241,13 @@ module _ (start : ℕ) where
             let count : length b.fields + b.missing ≡ length fields = omega (arith, more, one) in
             let spelled : item_text (Happens (event_of b.opening fields)) ≡ begun_text (Some b) ++ (line ++ 10 ∷ []) =
             rw (fields_in-opening, event_line-opening, ← count, next.put_is) (sym lines) in
-            rw (eq-eqb b.missing 1 one) (ends_item start text line es p.moment (Some b) (Happens (event_of b.opening fields)) h (IsEvent-opening b.opening fields h.under.is_opening next.head) (omega arith) spelled)
+            rw (eq-eqb b.missing 1 one)
+            (ends_item start text line es p.moment (Some b) (Happens (event_of b.opening fields)) h
+            (IsEvent-opening b.opening fields h.under.is_opening next.head) (omega arith) spelled)
         | inr others ↦
             let count : length fields + (b.missing - 1) ≡ length b.fields + b.missing = omega (arith, more, h.under.some) in
-            let stands : Stands start (text ++ 10 ∷ []) (es ++ []) p.moment (Some (record { opening = b.opening; fields = fields; missing = b.missing - 1; bytes = b.bytes + bytes + 1 })) [] = record {
+            let stands : Stands start (text ++ 10 ∷ []) (es ++ []) p.moment
+            (Some (record { opening = b.opening; fields = fields; missing = b.missing - 1; bytes = b.bytes + bytes + 1 })) [] = record {
               items = h.items;
               schedule = h.schedule;
               whole = rw (append-nil, count, next.put_is, ← lines, ← h.whole) (simp append_assoc);
@@ -241,7 +263,8 @@ module _ (start : ℕ) where
             rw (ne_eqb b.missing 1 others) stands
       ]
 
-  line_step : (text line : List ℕ) (es : List Timed) (p : Place) (begun : Option Begun) → Stands start text es p.moment begun line → StepsTo start (text ++ 10 ∷ []) es (take_next p begun line)
+  line_step : (text line : List ℕ) (es : List Timed) (p : Place) (begun : Option Begun) → Stands start text es p.moment begun line →
+      StepsTo start (text ++ 10 ∷ []) es (take_next p begun line)
   line_step text line es p None h = first_step start text line es p (length line) h
   line_step text line es p (Some b) h =
       elim (none_or_some (field_of b.fields line)) [
@@ -283,7 +306,8 @@ module _ (start : ℕ) where
   }
   byte_step text es Spent b h = absurd h
 
-  pub text_step : (done text : List ℕ) (es : List Timed) (s : Progress) → StandsFor start done es s → StandsFor start (done ++ text) (es ++ events_in s text) (after s text)
+  pub text_step : (done text : List ℕ) (es : List Timed) (s : Progress) → StandsFor start done es s →
+      StandsFor start (done ++ text) (es ++ events_in s text) (after s text)
   text_step done [] es s h = rw (append-nil done, append-nil es) h
   text_step done (b ∷ text) es s h =
       rw (← append_assoc done (b ∷ []) text, ← append_assoc es (take_byte s b).events (events_in (take_byte s b).next text))

@@ -8,7 +8,7 @@ use Rattle.hc_sched.specs.declared.schedule.FeedError.TheVariants as error
 use Rattle.hc_sched.specs.declared.schedule.SchedRefusal.TheVariants as why
 use Rattle.hc_sched.specs.declared.schedule.Timed.{Timed}
 use Rattle.hc_sched.specs.Limits.{MayBegun}
-use Rattle.hc_sched.specs.Reading.{Progress, Reads, Stopped, Spent, Step, first_place, refuse, take_line, after, events_in}
+use Rattle.hc_sched.specs.Reading.{Progress, Reads, Stopped, Spent, Step, first_place, refuse, take_line, after, events_in, is_between}
 
 -- what a feed stands for, by its error
 abbrev pub progress_of : Option FeedError → Reader → Progress
@@ -79,10 +79,6 @@ StandsAt (Err error.NoMemory) progress = progress ≡ Spent
 unfoldable pub join_line : Place → List ℕ → Step
 join_line place line =
     if nat_lt 140000 (length line) then refuse place why.LineTooLong else take_line place line
-
--- nothing is left of a line or of an item
-abbrev pub is_between : Place → List ℕ → Bool
-is_between place line = is_none place.begun && length line == 0
 
 -- the refusal of a text that ends here
 abbrev pub ending : Progress → Result (Unit {0}) FeedError

@@ -4,8 +4,7 @@ use Rattle.hc_sched.specs.declared.place.Place.{Place}
 use Rattle.hc_sched.specs.declared.schedule.Refused.{Refused}
 use Rattle.hc_sched.specs.declared.schedule.SchedRefusal.TheVariants as why
 use Rattle.hc_sched.specs.declared.schedule.Timed.{Timed}
-use Rattle.hc_sched.specs.Reading.{Progress, Reads, Stopped, Spent, after, events_in, refusal_of, beginning}
-use Rattle.hc_sched.specs.Feeding.{is_between}
+use Rattle.hc_sched.specs.Reading.{Progress, Reads, Stopped, Spent, after, events_in, refusal_of, beginning, is_between}
 use Rattle.hc_sched.specs.Schedule.{Item, IsEvent, IsSmall, IsSchedule, Spells, text_of, events_of, timed_text}
 
 -- between two items, behind so many lines
@@ -24,14 +23,6 @@ IsReadBack last timed =
     (lines : ℕ) → (more : ℕ)
     × Gives (Reads (at_rest last lines) []) (timed_text last timed)
     (Reads (at_rest timed.now more) []) (timed ∷ [])
-
--- the refusal of a text that ends where the reading stands
-abbrev pub refusal_at : Progress → Option Refused
-refusal_at (Reads place line) =
-    if is_between place line then None
-    else Some (record { line = place.lines + 1; why = why.CutShort })
-refusal_at (Stopped refused) = Some refused
-refusal_at Spent = None
 
 -- The text begins with these items of a schedule, and brings their events.
 pub record HasRead (now : ℕ) (text : List ℕ) (events : List Timed) : Type 0 where

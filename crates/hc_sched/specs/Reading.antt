@@ -1,5 +1,5 @@
 -- How a schedule is read, line by line: what stands after each byte, and the events on the way.
-use Rattle.std.specs.Prelude.{ℕ, ◌+◌, ◌-◌, ◌==◌, nat_lt, List, [], ◌∷◌, ◌++◌, length, Option, Some, None, if◌then◌else◌}
+use Rattle.std.specs.Prelude.{Bool, ◌&&◌, is_none, ℕ, ◌+◌, ◌-◌, ◌==◌, nat_lt, List, [], ◌∷◌, ◌++◌, length, Option, Some, None, if◌then◌else◌}
 use Rattle.hc_event.specs.declared.event.Event.{Event}
 use Rattle.hc_event.specs.declared.event.Event.TheVariants as event
 use Rattle.hc_fields.specs.FieldList.{field_list_with}
@@ -15,14 +15,6 @@ use Rattle.hc_target.specs.Targets.{is_target}
 use Rattle.hc_sched.specs.Pieces.{bytes_of}
 use Rattle.hc_sched.specs.FirstLines.{First, Sets, Starts, Heads, Brings, Dooms, Reports, first_of}
 use Rattle.hc_sched.specs.FieldLines.{field_of}
-
--- the reading of a text at its beginning, at this moment
-abbrev pub beginning : ℕ → Progress
-beginning moment = Reads (first_place moment) []
-
--- the first refusal of a text that begins at this moment
-abbrev pub refusal_of : ℕ → List ℕ → Option Refused
-refusal_of now text = refusal_at (after (beginning now) text)
 
 -- Where the reading of a schedule stands.
 pub data Progress : Type 0 where
@@ -134,3 +126,23 @@ abbrev pub events_in : Progress → List ℕ → List Timed
 events_in progress [] = []
 events_in progress (b ∷ text) =
     (take_byte progress b).events ++ events_in (take_byte progress b).next text
+
+-- the reading of a text at its beginning, at this moment
+abbrev pub beginning : ℕ → Progress
+beginning moment = Reads (first_place moment) []
+
+-- nothing is left of a line or of an item
+abbrev pub is_between : Place → List ℕ → Bool
+is_between place line = is_none place.begun && length line == 0
+
+-- the refusal of a text that ends where the reading stands
+abbrev pub refusal_at : Progress → Option Refused
+refusal_at (Reads place line) =
+    if is_between place line then None
+    else Some (record { line = place.lines + 1; why = why.CutShort })
+refusal_at (Stopped refused) = Some refused
+refusal_at Spent = None
+
+-- the first refusal of a text that begins at this moment
+abbrev pub refusal_of : ℕ → List ℕ → Option Refused
+refusal_of now text = refusal_at (after (beginning now) text)

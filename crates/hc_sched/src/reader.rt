@@ -31,8 +31,8 @@ fn next_line(text: &[u8]) -> Option<(&[u8], &[u8])>
 }
 
 impl Reader {
-    ghost use Rattle.hc_sched.specs.Feeding.{IsWithin, Feeds, join_line, is_between, held_in};
-    ghost use Rattle.hc_sched.specs.Reading.{beginning};
+    ghost use Rattle.hc_sched.specs.Feeding.{IsWithin, Feeds, join_line, held_in};
+    ghost use Rattle.hc_sched.specs.Reading.{is_between, beginning};
 
     /// The reading at the beginning, at this moment.
     pub(crate) fn new(alloc: Global, moment: u64) -> Reader

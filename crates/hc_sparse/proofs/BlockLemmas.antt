@@ -16,10 +16,12 @@ offset-is : (p i : ℕ) → p % 4096 + i < 4096 → (p + i) % 4096 ≡ p % 4096 
 offset-is p i lt = omega arith
 
 -- An offset's mark, by the position.
-pub marks-here : (m : BTreeMap ℕ Block) (p i : ℕ) (b : Block) → get nat_cmp m (p / 4096) ≡ Some b → p % 4096 + i < 4096 → marks m (p + i) ≡ marks_in b (p % 4096 + i)
+pub marks-here : (m : BTreeMap ℕ Block) (p i : ℕ) (b : Block) → get nat_cmp m (p / 4096) ≡ Some b → p % 4096 + i < 4096 → marks m (p + i) ≡ marks_in
+    b (p % 4096 + i)
 marks-here m p i b there lt = rw (block-is p i lt, offset-is p i lt, there) refl
 
-pub free-here : (m : BTreeMap ℕ Block) (p len : ℕ) (b : Block) → get nat_cmp m (p / 4096) ≡ Some b → p % 4096 + len ≤ 4096 → AreFree (marks m) p (p + len) → AreFree (marks_in b) (p % 4096) (p % 4096 + len)
+pub free-here : (m : BTreeMap ℕ Block) (p len : ℕ) (b : Block) → get nat_cmp m (p / 4096) ≡ Some b → p % 4096 + len ≤ 4096 →
+    AreFree (marks m) p (p + len) → AreFree (marks_in b) (p % 4096) (p % 4096 + len)
 free-here m p len b there within free q ge lt =
     let i : ℕ = q - p % 4096 in
     let place : p % 4096 + i ≡ q = omega arith in
@@ -27,10 +29,12 @@ free-here m p len b there within free q ge lt =
 
 kept-cell : (bytes piece : List ℕ) (o : Option Mark) → is_within (length bytes) o ≡ true → cell_of (bytes ++ piece) o ≡ cell_of bytes o
 kept-cell bytes piece None within = refl
-kept-cell bytes piece (Some mark) within = let lt : mark.place < length bytes = ltb-true mark.place (length bytes) within in rw (get_or_append_left bytes piece 0 mark.place lt) refl
+kept-cell bytes piece (Some mark) within = let lt : mark.place < length bytes = ltb-true mark.place (length bytes) within in
+    rw (get_or_append_left bytes piece 0 mark.place lt) refl
 
 -- Positions are given to an exchange, whose bytes come behind all others: they are put.
-pub put-cells : (f g : Marks) (bytes piece : List ℕ) (at x : ℕ) → AreWithin f (length bytes) → ((q : ℕ) → g q ≡ claimed_marks at (length piece) x (length bytes) f q)
+pub put-cells : (f g : Marks) (bytes piece : List ℕ) (at x : ℕ) → AreWithin f (length bytes) →
+    ((q : ℕ) → g q ≡ claimed_marks at (length piece) x (length bytes) f q)
     → (q : ℕ) → cells_by g (bytes ++ piece) q ≡ cells_with at x piece (cells_by f bytes) q
 put-cells f g bytes piece at x within own q =
     let mine = own q in
@@ -60,12 +64,14 @@ x_of None = 0
 x_of (Some cell) = cell.x
 
 -- A byte of an exchange is told by a mark of it.
-other-mark : (bytes : List ℕ) (o : Option Mark) (x byte : ℕ) → ((place : ℕ) → o ≢ Some (record { x = x; place = place })) → cell_of bytes o ≢ Some (record { byte = byte; x = x })
+other-mark : (bytes : List ℕ) (o : Option Mark) (x byte : ℕ) → ((place : ℕ) → o ≢ Some (record { x = x; place = place })) →
+    cell_of bytes o ≢ Some (record { byte = byte; x = x })
 other-mark bytes None x byte not is = cc
 other-mark bytes (Some own) x byte not is = not own.place (let same : own.x ≡ x = ap x_of is in rw (← same) refl)
 
 -- The extent of a position, from there on.
-pub extent-here : (m : BTreeMap ℕ Block) (p : ℕ) (b : Block) (e : Extent) → AreBelow m → get nat_cmp m (p / 4096) ≡ Some b → IsExtentFrom b.extents.items (p % 4096) e → e.at ≤ p % 4096
+pub extent-here : (m : BTreeMap ℕ Block) (p : ℕ) (b : Block) (e : Extent) → AreBelow m → get nat_cmp m (p / 4096) ≡ Some b →
+    IsExtentFrom b.extents.items (p % 4096) e → e.at ≤ p % 4096
     → IsExtentAt (marks m) p (rest_of e p (p % 4096 - e.at))
 extent-here m p b e below there is by = grind (arith, nat_tests)
 
@@ -74,7 +80,8 @@ pub extent-within : (f : Marks) (count p : ℕ) (e : Extent) → AreWithin f cou
 extent-within f count p e within is = grind (arith, nat_tests)
 
 -- A whole extent's bytes are the longest stretch.
-pub whole-longest : (f : Marks) (bytes : List ℕ) (p want : ℕ) (e : Extent) → AreWithin f (length bytes) → IsWhole f p want e → IsLongest (cells_by f bytes) p want (record { x = e.x; at = p; bytes = take e.len (drop e.from bytes) })
+pub whole-longest : (f : Marks) (bytes : List ℕ) (p want : ℕ) (e : Extent) → AreWithin f (length bytes) → IsWhole f p want e →
+    IsLongest (cells_by f bytes) p want (record { x = e.x; at = p; bytes = take e.len (drop e.from bytes) })
 whole-longest f bytes p want e within is =
     let fits = extent-within f (length bytes) p e within is.extent in
     let all : List ℕ = take e.len (drop e.from bytes) in
@@ -86,13 +93,16 @@ pub record IsKept (f : Marks) (bytes : List ℕ) : Type 0 where
   pub within : AreWithin f (length bytes)
   pub counts : length bytes ≡ size (cells_by f bytes)
 
-pub put-kept : {T E : Type 0} (r : Result T E) (f g : Marks) (bytes more piece : List ℕ) (at x : ℕ) → IsKept f bytes → AreAbsent (cells_by f bytes) at (at + length piece) → at + length piece ≤ 2 ^ 62
-    → OnOk r ((q : ℕ) → g q ≡ claimed_marks at (length piece) x (length bytes) f q) → OnOk r (more ≡ bytes ++ piece) → OnErr r ((q : ℕ) → g q ≡ f q) → OnErr r (more ≡ bytes) → IsKept g more
+pub put-kept : {T E : Type 0} (r : Result T E) (f g : Marks) (bytes more piece : List ℕ) (at x : ℕ) → IsKept f bytes →
+    AreAbsent (cells_by f bytes) at (at + length piece) → at + length piece ≤ 2 ^ 62
+    → OnOk r ((q : ℕ) → g q ≡ claimed_marks at (length piece) x (length bytes) f q) → OnOk r (more ≡ bytes ++ piece) → OnErr r ((q : ℕ) → g q ≡ f q) →
+    OnErr r (more ≡ bytes) → IsKept g more
 put-kept (Ok v) f g bytes more piece at x kept absent end own longer same unchanged =
     let len : length more ≡ length bytes + length piece = ap length longer ∙ length-append bytes piece in
     record {
       within = rw len (put-within f g at (length piece) x (length bytes) kept.within own);
-      counts = len ∙ (ap (λ n. n + length piece) kept.counts ∙ sym (size-put (cells_by f bytes) (cells_by g more) at x piece (λ q. rw longer (put-cells f g bytes piece at x kept.within own q)) absent end));
+      counts = len ∙ (ap (λ n. n + length piece) kept.counts ∙
+          sym (size-put (cells_by f bytes) (cells_by g more) at x piece (λ q. rw longer (put-cells f g bytes piece at x kept.within own q)) absent end));
     }
 put-kept (Err e) f g bytes more piece at x kept absent end own longer same unchanged = record {
   within = rw unchanged (same-within f g (length bytes) same kept.within);

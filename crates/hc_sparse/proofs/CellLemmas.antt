@@ -21,11 +21,16 @@ two-writes false true v w o same = refl
 two-writes _ false v w o same = refl
 
 -- Bytes written one after another are written at once.
-pub written-append : (at x : ℕ) (bytes more : List ℕ) (f : Cells) (p : ℕ) → cells_with at x (bytes ++ more) f p ≡ cells_with (at + length bytes) x more (cells_with at x bytes f) p
+pub written-append : (at x : ℕ) (bytes more : List ℕ) (f : Cells) (p : ℕ) →
+    cells_with at x (bytes ++ more) f p ≡ cells_with (at + length bytes) x more (cells_with at x bytes f) p
 written-append at x bytes more f p =
     let len = length-append bytes more in
     elim (inside-cases at (length bytes) p) [
-      | inl here ↦ rw (here.0, inside-yes at (length (bytes ++ more)) p (omega arith) (omega arith), inside-before (at + length bytes) (length more) p (omega arith))
+      | inl here ↦ rw (
+        here.0,
+        inside-yes at (length (bytes ++ more)) p (omega arith) (omega arith),
+        inside-before (at + length bytes) (length more) p (omega arith),
+      )
           (let lt : p - at < length bytes = omega arith in rw (get_or_append_left bytes more 0 (p - at) lt) refl)
       | inr off ↦ elim (inside-cases (at + length bytes) (length more) p) [
         | inl there ↦ rw (there.0, inside-yes at (length (bytes ++ more)) p (omega arith) (omega arith))

@@ -97,9 +97,11 @@ partitioned n p (e ∷ es) asc (suc i) zero d le lt by = absurd (omega arith)
 partitioned n p (e ∷ es) asc (suc i) (suc j) d le lt by =
     partitioned (end_of e) p es (ascend-cons n e es asc).2 i j d (omega arith) (omega arith) by
 
-pub place-is : (p : ℕ) (es : List Extent) (i : ℕ) → i ≤ length es → IsPartitionPoint (λ e. nat_le (end_of e) p ≡ true) (λ e. nat_le (end_of e) p ≡ false) es i → i ≡ place_of p es
+pub place-is : (p : ℕ) (es : List Extent) (i : ℕ) → i ≤ length es →
+    IsPartitionPoint (λ e. nat_le (end_of e) p ≡ true) (λ e. nat_le (end_of e) p ≡ false) es i → i ≡ place_of p es
 place-is p [] i le point = omega arith
 place-is p (e ∷ es) zero le point = rw (point.1 0 e (omega arith) (omega arith)) refl
 place-is p (e ∷ es) (suc i) le point =
-    let rest = place-is p es i (omega arith) ((λ k d lo hi. point.0 (suc k) d (omega arith) (omega arith)), (λ k d lo hi. point.1 (suc k) d (omega arith) (omega arith))) in
+    let rest = place-is p es i (omega arith)
+    ((λ k d lo hi. point.0 (suc k) d (omega arith) (omega arith)), (λ k d lo hi. point.1 (suc k) d (omega arith) (omega arith))) in
     rw (point.0 0 e (omega arith) (omega arith)) (omega arith)

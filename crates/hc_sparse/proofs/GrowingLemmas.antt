@@ -34,7 +34,8 @@ whole-at (s ∷ ss) zero all lt = (whole-cons s ss all).0
 whole-at (s ∷ ss) (suc i) all lt = whole-at ss i (whole-cons s ss all).1 (omega arith)
 
 -- What stands from a place in a segment on begins with the rest of the segment.
-pub rest-whole : (ss : List (List ℕ)) (last : List ℕ) (i o : ℕ) → are_whole ss ≡ true → i < length ss → o ≤ 16384 → (more : List ℕ) × (drop (i * 16384 + o) (concat ss ++ last) ≡ drop o (get_or ss i []) ++ more)
+pub rest-whole : (ss : List (List ℕ)) (last : List ℕ) (i o : ℕ) → are_whole ss ≡ true → i < length ss → o ≤ 16384 → (more : List ℕ) ×
+    (drop (i * 16384 + o) (concat ss ++ last) ≡ drop o (get_or ss i []) ++ more)
 rest-whole [] last i o all lt le = absurd (omega arith)
 rest-whole (s ∷ ss) last zero o all lt le =
     let len = (whole-cons s ss all).0 in
@@ -55,17 +56,20 @@ pub begin-append : (bytes all more : List ℕ) → all ≡ bytes ++ more → Beg
 begin-append bytes all more is = rw is (take-append_seam bytes more)
 
 -- The rest of the segment in which a place is begins what stands from there on.
-pub begin-whole : (ss : List (List ℕ)) (last : List ℕ) (from : ℕ) → are_whole ss ≡ true → from / 16384 < length ss → Begin (drop (from % 16384) (get_or ss (from / 16384) [])) (drop from (concat ss ++ last))
+pub begin-whole : (ss : List (List ℕ)) (last : List ℕ) (from : ℕ) → are_whole ss ≡ true → from / 16384 < length ss → Begin
+    (drop (from % 16384) (get_or ss (from / 16384) [])) (drop from (concat ss ++ last))
 begin-whole ss last from all lt =
     let rest = rest-whole ss last (from / 16384) (from % 16384) all lt (omega arith) in
     let place : from / 16384 * 16384 + from % 16384 ≡ from = omega arith in
     begin-append (drop (from % 16384) (get_or ss (from / 16384) [])) (drop from (concat ss ++ last)) rest.0 (rw place at rest.1)
 
 -- A place that is in no segment is among the last bytes.
-pub last-place : (ss : List (List ℕ)) (last : List ℕ) (from : ℕ) → are_whole ss ≡ true → length ss ≤ from / 16384 → length last < 16384 → from < length (concat ss ++ last) → (from / 16384 ≡ length ss) × (from % 16384 < length last)
+pub last-place : (ss : List (List ℕ)) (last : List ℕ) (from : ℕ) → are_whole ss ≡ true → length ss ≤ from / 16384 → length last < 16384 →
+    from < length (concat ss ++ last) → (from / 16384 ≡ length ss) × (from % 16384 < length last)
 last-place ss last from all ge few within = search (arith, whole-length, length-append)
 
-pub begin-last : (ss : List (List ℕ)) (last : List ℕ) (from : ℕ) → are_whole ss ≡ true → length ss ≤ from / 16384 → length last < 16384 → from < length (concat ss ++ last) → Begin (drop (from % 16384) last) (drop from (concat ss ++ last))
+pub begin-last : (ss : List (List ℕ)) (last : List ℕ) (from : ℕ) → are_whole ss ≡ true → length ss ≤ from / 16384 → length last < 16384 →
+    from < length (concat ss ++ last) → Begin (drop (from % 16384) last) (drop from (concat ss ++ last))
 begin-last ss last from all ge few within =
     let there = last-place ss last from all ge few within in
     let place : length ss * 16384 + from % 16384 ≡ from = let n = there.0 in omega (arith, n) in
@@ -73,12 +77,15 @@ begin-last ss last from all ge few within =
     rw (rw place at rest) (take_all (length (drop (from % 16384) last)) (drop (from % 16384) last) (omega arith))
 
 -- Bytes that go on are the first of the others.
-pub begin-more : (bytes more all : List ℕ) (n from : ℕ) → bytes ≡ take n (drop from all) → Begin more (drop (from + n) all) → bytes ++ more ≡ take (n + length more) (drop from all)
+pub begin-more : (bytes more all : List ℕ) (n from : ℕ) → bytes ≡ take n (drop from all) → Begin more (drop (from + n) all) → bytes ++
+    more ≡ take (n + length more) (drop from all)
 begin-more bytes more all n from is begins =
-    rw is (ap (λ xs. take n (drop from all) ++ xs) (sym begins ∙ ap (take (length more)) (sym (drop-drop n from all))) ∙ sym (take-add n (length more) (drop from all)))
+    rw is (ap (λ xs. take n (drop from all) ++ xs) (sym begins ∙ ap (take (length more)) (sym (drop-drop n from all))) ∙
+    sym (take-add n (length more) (drop from all)))
 
 -- One more segment.
-pub segment-more : (ss : List (List ℕ)) (bytes s : List ℕ) (n : ℕ) → are_whole ss ≡ true → concat ss ≡ take (n * 16384) bytes → s ≡ take 16384 (drop (n * 16384) bytes) → length s ≡ 16384
+pub segment-more : (ss : List (List ℕ)) (bytes s : List ℕ) (n : ℕ) → are_whole ss ≡ true → concat ss ≡ take (n * 16384) bytes →
+    s ≡ take 16384 (drop (n * 16384) bytes) → length s ≡ 16384
     → (are_whole (ss ++ s ∷ []) ≡ true) × (concat (ss ++ s ∷ []) ≡ take ((n + 1) * 16384) bytes)
 segment-more ss bytes s n all is more len =
     let place : (n + 1) * 16384 ≡ n * 16384 + 16384 = omega arith in
@@ -95,18 +102,22 @@ part-whole ss last from len all lt fits =
     let whole = whole-at ss (from / 16384) all lt in
     let rest = length-drop (from % 16384) segment in
     let count : from % 16384 + len - from % 16384 ≡ len = omega arith in
-    rw count (ap (take len) (sym (begin-whole ss last from all lt)) ∙ take-take len (length (drop (from % 16384) segment)) (drop from (concat ss ++ last)) (omega (arith, whole, rest)))
+    rw count (ap (take len) (sym (begin-whole ss last from all lt)) ∙
+    take-take len (length (drop (from % 16384) segment)) (drop from (concat ss ++ last)) (omega (arith, whole, rest)))
 
 -- What an answer says, in other words.
 pub ok-says : {T E : Type 0} (r : Result T E) (P Q : T → Type 0) → ((x : T) → P x → Q x) → IfOk r P → IfOk r Q
 ok-says r P Q f is = grind (arith, nat_tests)
 
 -- Whole segments and one more behind them, and others.
-pub filled-whole : (ss ts : List (List ℕ)) (full : List ℕ) → are_whole ss ≡ true → are_whole ts ≡ true → length full ≡ 16384 → are_whole ((ss ++ full ∷ []) ++ ts) ≡ true
+pub filled-whole : (ss ts : List (List ℕ)) (full : List ℕ) → are_whole ss ≡ true → are_whole ts ≡ true → length full ≡ 16384 →
+    are_whole ((ss ++ full ∷ []) ++ ts) ≡ true
 filled-whole ss ts full all more len = search (arith, whole-append)
 
 -- All bytes, where a segment was completed and others stand behind it.
-pub filled : (ss ts : List (List ℕ)) (last first more full rest : List ℕ) (n : ℕ) → full ≡ last ++ first → concat ts ≡ take n more → rest ≡ drop n more → concat ((ss ++ full ∷ []) ++ ts) ++ rest ≡ (concat ss ++ last) ++ (first ++ more)
+pub filled : (ss ts : List (List ℕ)) (last first more full rest : List ℕ) (n : ℕ) → full ≡ last ++ first → concat ts ≡ take n more → rest ≡ drop n more →
+    concat ((ss ++ full ∷ []) ++ ts) ++ rest ≡ (concat ss ++ last) ++ (first ++ more)
 filled ss ts last first more full rest n is parts behind =
     rw (concat-append (ss ++ full ∷ []) ts, concat-append ss (full ∷ []), append-nil full, is, parts, behind)
-    (append_assoc (concat ss ++ (last ++ first)) (take n more) (drop n more) ∙ rw (take-append-drop n more, ← append_assoc (concat ss) last first) (append_assoc (concat ss ++ last) first more))
+    (append_assoc (concat ss ++ (last ++ first)) (take n more) (drop n more) ∙
+    rw (take-append-drop n more, ← append_assoc (concat ss) last first) (append_assoc (concat ss ++ last) first more))

@@ -38,7 +38,8 @@ made-append : (f : Cells) (os more : List SparseOp) → cells_after f (os ++ mor
 made-append f [] more = refl
 made-append f (o ∷ os) more = made-append (after o f) os more
 
-answers-append : (f : Cells) (os : List SparseOp) (rest : List SparseAnswer) (o : SparseOp) (a : SparseAnswer) → AreAnswers f os rest → IsAnswer (cells_after f os) o a → AreAnswers f (os ++ o ∷ []) (rest ++ a ∷ [])
+answers-append : (f : Cells) (os : List SparseOp) (rest : List SparseAnswer) (o : SparseOp) (a : SparseAnswer) → AreAnswers f os rest →
+    IsAnswer (cells_after f os) o a → AreAnswers f (os ++ o ∷ []) (rest ++ a ∷ [])
 answers-append f [] [] o a are is = (is, tt)
 answers-append f [] (b ∷ rest) o a are is = absurd are
 answers-append f (p ∷ os) [] o a are is = absurd are
@@ -51,5 +52,6 @@ pub made-more : (f g h : Cells) (os : List SparseOp) (o : SparseOp) → g ≡ ce
 made-more f g h os o has makes = makes ∙ (ap (after o) has ∙ sym (made-append f os (o ∷ [])))
 
 -- One operation more.
-pub answered-more : (f g h : Cells) (os : List SparseOp) (rest : List SparseAnswer) (o : SparseOp) (a : SparseAnswer) → HasAnswered f g os rest → IsAnswer g o a → h ≡ after o g → HasAnswered f h (os ++ o ∷ []) (rest ++ a ∷ [])
+pub answered-more : (f g h : Cells) (os : List SparseOp) (rest : List SparseAnswer) (o : SparseOp) (a : SparseAnswer) → HasAnswered f g os rest →
+    IsAnswer g o a → h ≡ after o g → HasAnswered f h (os ++ o ∷ []) (rest ++ a ∷ [])
 answered-more f g h os rest o a has is makes = search (arith, answers-append, made-more)

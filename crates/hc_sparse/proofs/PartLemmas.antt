@@ -5,7 +5,8 @@ use Rattle.hc_sparse.specs.{Cells.{Cells, Covers, GoesTo}, Runs.{cells_of, IsRun
 use Rattle.hc_sparse.proofs.StretchLemmas.{bytes-append}
 
 -- What a part has of a stretch.
-pub part-of : (f : Cells) (p x : ℕ) (bytes : List ℕ) (most : ℕ) → IsPart f p x bytes → let part = take most bytes in bytes_from f x p most ≡ part ++ bytes_from f x (p + length part) (most - length part)
+pub part-of : (f : Cells) (p x : ℕ) (bytes : List ℕ) (most : ℕ) → IsPart f p x bytes → let part = take most bytes in bytes_from f x p most ≡ part ++
+    bytes_from f x (p + length part) (most - length part)
 part-of f p x bytes most is =
     let part : List ℕ = take most bytes in
     let len : length part ≤ most = omega (arith, length-take most bytes) in

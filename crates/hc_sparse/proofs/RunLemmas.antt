@@ -97,11 +97,13 @@ partitioned n p (r ∷ rs) asc (suc i) zero d le lt by = absurd (omega arith)
 partitioned n p (r ∷ rs) asc (suc i) (suc j) d le lt by =
     partitioned (end_of r) p rs (ascend-cons n r rs asc).2 i j d (omega arith) (omega arith) by
 
-pub place-is : (p : ℕ) (rs : List Run) (i : ℕ) → i ≤ length rs → IsPartitionPoint (λ r. nat_le (end_of r) p ≡ true) (λ r. nat_le (end_of r) p ≡ false) rs i → i ≡ place_of p rs
+pub place-is : (p : ℕ) (rs : List Run) (i : ℕ) → i ≤ length rs →
+    IsPartitionPoint (λ r. nat_le (end_of r) p ≡ true) (λ r. nat_le (end_of r) p ≡ false) rs i → i ≡ place_of p rs
 place-is p [] i le point = omega arith
 place-is p (r ∷ rs) zero le point = rw (point.1 0 r (omega arith) (omega arith)) refl
 place-is p (r ∷ rs) (suc i) le point =
-    let rest = place-is p rs i (omega arith) ((λ k d lo hi. point.0 (suc k) d (omega arith) (omega arith)), (λ k d lo hi. point.1 (suc k) d (omega arith) (omega arith))) in
+    let rest = place-is p rs i (omega arith)
+    ((λ k d lo hi. point.0 (suc k) d (omega arith) (omega arith)), (λ k d lo hi. point.1 (suc k) d (omega arith) (omega arith))) in
     rw (point.0 0 r (omega arith) (omega arith)) (omega arith)
 
 -- The first position of that run from there on is the next that is present.

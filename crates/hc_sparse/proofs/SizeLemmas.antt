@@ -24,16 +24,19 @@ pub size-le : (f : Cells) → size f ≤ 2 ^ 62
 unfolding size
 size-le f = below-le f (2 ^ 62)
 
-below-written : (f : Cells) (from x : ℕ) (bytes : List ℕ) (n : ℕ) → AreAbsent f from (from + length bytes) → size_below (cells_with from x bytes f) n ≡ size_below f n + (min n (from + length bytes) - from)
+below-written : (f : Cells) (from x : ℕ) (bytes : List ℕ) (n : ℕ) → AreAbsent f from (from + length bytes) →
+    size_below (cells_with from x bytes f) n ≡ size_below f n + (min n (from + length bytes) - from)
 unfolding size_below
 below-written f from x bytes zero absent = omega arith
 below-written f from x bytes (suc n) absent =
     let rest = below-written f from x bytes n absent in
     grind (arith, nat_tests)
 
-pub size-written : (f : Cells) (from x : ℕ) (bytes : List ℕ) → AreAbsent f from (from + length bytes) → from + length bytes ≤ 2 ^ 62 → size (cells_with from x bytes f) ≡ size f + length bytes
+pub size-written : (f : Cells) (from x : ℕ) (bytes : List ℕ) → AreAbsent f from (from + length bytes) → from + length bytes ≤ 2 ^ 62 →
+    size (cells_with from x bytes f) ≡ size f + length bytes
 unfolding size
 size-written f from x bytes absent end = let all = below-written f from x bytes (2 ^ 62) absent in omega (arith, all)
 
-pub size-put : (f g : Cells) (at x : ℕ) (bytes : List ℕ) → ((p : ℕ) → g p ≡ cells_with at x bytes f p) → AreAbsent f at (at + length bytes) → at + length bytes ≤ 2 ^ 62 → size g ≡ size f + length bytes
+pub size-put : (f g : Cells) (at x : ℕ) (bytes : List ℕ) → ((p : ℕ) → g p ≡ cells_with at x bytes f p) → AreAbsent f at (at + length bytes) →
+    at + length bytes ≤ 2 ^ 62 → size g ≡ size f + length bytes
 size-put f g at x bytes is absent end = size-same g (cells_with at x bytes f) is ∙ size-written f at x bytes absent end

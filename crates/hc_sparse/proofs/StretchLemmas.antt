@@ -10,7 +10,9 @@ use Rattle.hc_sparse.specs.{Cells.{Cells, Cell, AreOf, AreAbsent, cells_with}, S
 use Rattle.hc_sparse.proofs.CellLemmas.{inside-yes, inside-before, inside-past, inside-cases}
 
 -- Bytes of x that stand one after another.
-pub bytes-append : (f : Cells) (x : ℕ) (bytes : List ℕ) (p m : ℕ) → ((i : ℕ) → i < length bytes → f (p + i) ≡ Some (record { byte = get_or bytes i 0; x = x })) → bytes_from f x p (length bytes + m) ≡ bytes ++ bytes_from f x (p + length bytes) m
+pub bytes-append : (f : Cells) (x : ℕ) (bytes : List ℕ) (p m : ℕ) →
+    ((i : ℕ) → i < length bytes → f (p + i) ≡ Some (record { byte = get_or bytes i 0; x = x })) → bytes_from f x p (length bytes + m) ≡ bytes ++
+    bytes_from f x (p + length bytes) m
 bytes-append f x [] p m h = rw (zero-add m) (let e : p + 0 ≡ p = omega arith in rw e refl)
 bytes-append f x (b ∷ bs) p m h =
     let more : length (b ∷ bs) + m ≡ suc (length bs + m) = omega arith in
@@ -28,7 +30,9 @@ pub record IsPrefix (f : Cells) (x p n : ℕ) (bytes : List ℕ) : Type 0 where
 cell-of : (cell : Cell) (x : ℕ) → cell.x ≡ x → cell ≡ record { byte = cell.byte; x = x }
 cell-of cell x same = rw (← same) refl
 
-each-of : (f : Cells) (x p : ℕ) (rest : List ℕ) (cell : Cell) → f p ≡ Some (record { byte = cell.byte; x = x }) → ((i : ℕ) → i < length rest → f (p + 1 + i) ≡ Some (record { byte = get_or rest i 0; x = x })) → (i : ℕ) → i < suc (length rest) → f (p + i) ≡ Some (record { byte = get_or (cell.byte ∷ rest) i 0; x = x })
+each-of : (f : Cells) (x p : ℕ) (rest : List ℕ) (cell : Cell) → f p ≡ Some (record { byte = cell.byte; x = x }) →
+    ((i : ℕ) → i < length rest → f (p + 1 + i) ≡ Some (record { byte = get_or rest i 0; x = x })) → (i : ℕ) → i < suc (length rest) →
+    f (p + i) ≡ Some (record { byte = get_or (cell.byte ∷ rest) i 0; x = x })
 each-of f x p rest cell here each i lt = grind (arith, nat_tests)
 
 front-of : (f : Cells) (x p n : ℕ) (rest : List ℕ) → IsPrefix f x (p + 1) n rest → (o : Option Cell) → f p ≡ o → IsPrefix f x p (suc n) (goes_on x o rest)
@@ -95,21 +99,24 @@ unfolding stretch
 stretch-only f p want run is = search (arith, bytes_from, front-unique)
 
 -- What a put changes.
-same-of : (f g : Cells) (p want : ℕ) (o : Option Cell) → ((cell : Cell) → o ≡ Some cell → bytes_from g cell.x p want ≡ bytes_from f cell.x p want) → stretch_of g p want o ≡ stretch_of f p want o
+same-of : (f g : Cells) (p want : ℕ) (o : Option Cell) → ((cell : Cell) → o ≡ Some cell → bytes_from g cell.x p want ≡ bytes_from f cell.x p want) →
+    stretch_of g p want o ≡ stretch_of f p want o
 same-of f g p want o same = grind (arith, nat_tests)
 
 pub stretch-behind : (f : Cells) (at x : ℕ) (bytes : List ℕ) (p want : ℕ) → at + length bytes ≤ p → stretch (cells_with at x bytes f) p want ≡ stretch f p want
 unfolding stretch
 stretch-behind f at x bytes p want past = search (arith, inside-past, same-of, bytes-same)
 
-bytes-of_other : (f : Cells) (at x y : ℕ) (bytes : List ℕ) (p n : ℕ) → AreAbsent f at (at + length bytes) → y ≢ x → bytes_from (cells_with at x bytes f) y p n ≡ bytes_from f y p n
+bytes-of_other : (f : Cells) (at x y : ℕ) (bytes : List ℕ) (p n : ℕ) → AreAbsent f at (at + length bytes) → y ≢ x →
+    bytes_from (cells_with at x bytes f) y p n ≡ bytes_from f y p n
 bytes-of_other f at x y bytes p zero absent other = refl
 bytes-of_other f at x y bytes p (suc n) absent other = elim (inside-cases at (length bytes) p) [
   | inl here ↦ let off : eqb x y ≡ false = grind (arith, nat_tests) in rw (here.0, absent p here.1 here.2, off) refl
   | inr out ↦ rw (out.0, bytes-of_other f at x y bytes (p + 1) n absent other) refl
 ]
 
-pub stretch-of_other : (f : Cells) (at x : ℕ) (bytes : List ℕ) (p want : ℕ) (cell : Cell) → AreAbsent f at (at + length bytes) → f p ≡ Some cell → cell.x ≢ x → stretch (cells_with at x bytes f) p want ≡ stretch f p want
+pub stretch-of_other : (f : Cells) (at x : ℕ) (bytes : List ℕ) (p want : ℕ) (cell : Cell) → AreAbsent f at (at + length bytes) → f p ≡ Some cell →
+    cell.x ≢ x → stretch (cells_with at x bytes f) p want ≡ stretch f p want
 unfolding stretch
 stretch-of_other f at x bytes p want cell absent here other = search (arith, inside-cases, bytes-of_other)
 
@@ -121,27 +128,33 @@ reached-length f x p at le of_x =
       | inl less ↦ absurd (let there = of_x (p + length (bytes_from f x p (at - p))) (omega arith) (omega arith) in is.ends less there.0 there.1)
     ]
 
-pub bytes-reaching : (f : Cells) (at x : ℕ) (bytes : List ℕ) (p want : ℕ) → p ≤ at → AreOf x f p at → bytes_from (cells_with at x bytes f) x p want ≡ take want (bytes_from f x p (at - p) ++ bytes ++ bytes_from f x (at + length bytes) want)
+pub bytes-reaching : (f : Cells) (at x : ℕ) (bytes : List ℕ) (p want : ℕ) → p ≤ at → AreOf x f p at →
+    bytes_from (cells_with at x bytes f) x p want ≡ take want (bytes_from f x p (at - p) ++ bytes ++ bytes_from f x (at + length bytes) want)
 bytes-reaching f at x bytes p want le of_x =
     let g : Cells = cells_with at x bytes f in
     let up-to : List ℕ = bytes_from f x p (at - p) in
     let len : length up-to ≡ at - p = reached-length f x p at le of_x in
-    let before : bytes_from g x p (length up-to + (length bytes + want)) ≡ up-to ++ bytes_from g x (p + length up-to) (length bytes + want) = bytes-append g x up-to p (length bytes + want) (λ i lt.
+    let before : bytes_from g x p (length up-to + (length bytes + want)) ≡ up-to ++ bytes_from g x (p + length up-to) (length bytes + want) =
+    bytes-append g x up-to p (length bytes + want) (λ i lt.
     rw (inside-before at (length bytes) (p + i) (omega arith)) ((front f x p (at - p)).each i lt)) in
     let put : bytes_from g x at (length bytes + want) ≡ bytes ++ bytes_from g x (at + length bytes) want = bytes-append g x bytes at want (λ i lt.
     let place : at + i - at ≡ i = omega arith in
     rw (inside-yes at (length bytes) (at + i) (omega arith) (omega arith), place) refl) in
-    let behind : bytes_from g x (at + length bytes) want ≡ bytes_from f x (at + length bytes) want = bytes-same g f x (at + length bytes) want (λ q ge. rw (inside-past at (length bytes) q ge) refl) in
+    let behind : bytes_from g x (at + length bytes) want ≡ bytes_from f x (at + length bytes) want =
+    bytes-same g f x (at + length bytes) want (λ q ge. rw (inside-past at (length bytes) q ge) refl) in
     let joint : p + length up-to ≡ at = omega arith in
     sym (bytes-take g x p want (length up-to + (length bytes + want)) (omega arith)) ∙ ap (take want) (before ∙ rw (joint, put, behind) (simp append_assoc))
 
-here-of : (f : Cells) (at x : ℕ) (bytes : List ℕ) (p : ℕ) → 0 < length bytes → p ≤ at → AreOf x f p at → (byte : ℕ) × (cells_with at x bytes f p ≡ Some (record { byte = byte; x = x }))
+here-of : (f : Cells) (at x : ℕ) (bytes : List ℕ) (p : ℕ) → 0 < length bytes → p ≤ at → AreOf x f p at → (byte : ℕ) ×
+    (cells_with at x bytes f p ≡ Some (record { byte = byte; x = x }))
 here-of f at x bytes p some le of_x = elim (split p at) [
   | inl before ↦ let there = of_x p (omega arith) before in (there.0, rw (inside-before at (length bytes) p before) there.1)
   | inr is ↦ (get_or bytes (p - at) 0, rw (inside-yes at (length bytes) p is (omega arith)) refl)
 ]
 
-pub stretch-reaching : (f : Cells) (at x : ℕ) (bytes : List ℕ) (p want : ℕ) → 0 < length bytes → p ≤ at → AreOf x f p at → stretch (cells_with at x bytes f) p want ≡ Some (record { x = x; at = p; bytes = take want (bytes_from f x p (at - p) ++ bytes ++ bytes_from f x (at + length bytes) want) })
+pub stretch-reaching : (f : Cells) (at x : ℕ) (bytes : List ℕ) (p want : ℕ) → 0 < length bytes → p ≤ at → AreOf x f p at →
+    stretch (cells_with at x bytes f) p want ≡ Some
+    (record { x = x; at = p; bytes = take want (bytes_from f x p (at - p) ++ bytes ++ bytes_from f x (at + length bytes) want) })
 unfolding stretch
 stretch-reaching f at x bytes p want some le of_x =
     let here = here-of f at x bytes p some le of_x in

@@ -4,7 +4,8 @@ use Rattle.hc_text.proofs.Basics.{lt_or as split}
 use Rattle.hc_sparse.specs.{Extents.{Mark, Marks, longer_extent, Follows, IsExtentAt, IsWhole}, declared.extents.Extent.{Extent}}
 
 -- Extents whose positions and bytes stand one behind another are one.
-pub extents-join : (f : Marks) (p : ℕ) (e next : Extent) → IsExtentAt f p e → IsExtentAt f (e.at + e.len) next → Follows e next → IsExtentAt f p (longer_extent e next.len)
+pub extents-join : (f : Marks) (p : ℕ) (e next : Extent) → IsExtentAt f p e → IsExtentAt f (e.at + e.len) next → Follows e next →
+    IsExtentAt f p (longer_extent e next.len)
 extents-join f p e next is on follows =
     let at = is.at in
     let some = is.some in
@@ -37,9 +38,11 @@ pub ends-none : (f : Marks) (p : ℕ) (e : Extent) → e.at ≡ p → f (e.at + 
 ends-none f p e at none place there = grind (arith, nat_tests)
 
 -- Behind an extent another exchange's stands.
-pub ends-other : (f : Marks) (p : ℕ) (e next : Extent) → e.at ≡ p → IsExtentAt f (e.at + e.len) next → next.x ≢ e.x → (place : ℕ) → f (p + e.len) ≢ Some (record { x = e.x; place = place })
+pub ends-other : (f : Marks) (p : ℕ) (e next : Extent) → e.at ≡ p → IsExtentAt f (e.at + e.len) next → next.x ≢ e.x → (place : ℕ) →
+    f (p + e.len) ≢ Some (record { x = e.x; place = place })
 ends-other f p e next at on other place there = grind (arith, nat_tests)
 
 -- The first positions of an extent that ends its exchange's, or all.
-pub whole-of : (f : Marks) (p want n : ℕ) (e : Extent) → IsExtentAt f p e → 0 < want → n ≤ e.len → n ≤ want → (n < want → n ≡ e.len) → 0 < n → (e.len < want → (place : ℕ) → f (p + e.len) ≢ Some (record { x = e.x; place = place })) → IsWhole f p want (record e { len = n })
+pub whole-of : (f : Marks) (p want n : ℕ) (e : Extent) → IsExtentAt f p e → 0 < want → n ≤ e.len → n ≤ want → (n < want → n ≡ e.len) → 0 < n →
+    (e.len < want → (place : ℕ) → f (p + e.len) ≢ Some (record { x = e.x; place = place })) → IsWhole f p want (record e { len = n })
 whole-of f p want n e is wanted most fits all some ends = grind (arith, nat_tests)

@@ -23,7 +23,8 @@ or_offs a b d off = grind (arith, nat_tests)
 
 -- where it is bound, it is kept that it is
 pub user_at : (t : Tables) (law : Lawful t) (c : ℕ) (v : rows.Consumer) → t.consumer c ≡ Some v → (a : Shelf) → KeepsEntries t a → IsUserAt v.place c a
-user_at t law c v row = user_kept t law.sound.numbered.lists.started c v row (λ q lo hi how at. law.sound.numbered.bound_to q c v (sound.is_bound lo hi how row at))
+user_at t law c v row = user_kept t law.sound.numbered.lists.started c v row
+    (λ q lo hi how at. law.sound.numbered.bound_to q c v (sound.is_bound lo hi how row at))
 
 -- WHERE IT STANDS APART
 
@@ -39,12 +40,14 @@ module _ (t : Tables) (law : Lawful t) (c : ℕ) (v z : rows.Consumer) (row : t.
 
   -- KEYS
 
-  module _ (no_line : (key : List ℕ) → is_in_line key (Some z) ≡ false) (no_passed : (key : List ℕ) → is_passed key (Some z) ≡ false) (no_away : (key : List ℕ) → is_away t key (Some z) ≡ false) where
+  module _ (no_line : (key : List ℕ) → is_in_line key (Some z) ≡ false) (no_passed : (key : List ℕ) → is_passed key (Some z) ≡ false)
+      (no_away : (key : List ℕ) → is_away t key (Some z) ≡ false) where
     no_turn : (key : List ℕ) → has_turn key (Some z) ≡ false
     no_turn key = and_false _ _ (no_line key)
 
     -- nothing was said of it
-    says_nothing : (key : List ℕ) → is_in_line key (Some v) ≡ false → is_passed key (Some v) ≡ false → is_away t key (Some v) ≡ false → SaysOfIt t c (Some z) key
+    says_nothing : (key : List ℕ) → is_in_line key (Some v) ≡ false → is_passed key (Some v) ≡ false → is_away t key (Some v) ≡ false →
+        SaysOfIt t c (Some z) key
     says_nothing key line passed away = record {
       in_line = no_line key ∙ sym (ap (is_in_line key) row ∙ line);
       passed = no_passed key ∙ sym (ap (is_passed key) row ∙ passed);
@@ -55,7 +58,8 @@ module _ (t : Tables) (law : Lawful t) (c : ℕ) (v z : rows.Consumer) (row : t.
     says_other : (key : List ℕ) → bytes_eq v.request.key key ≡ false → SaysOfIt t c (Some z) key
     says_other key off = says_nothing key (rw off refl) (rw off refl) (rw off refl)
 
-    says_here : (a : keyed.Kept) → KeepsKey t v.request.key a → (is_among c a.in_line || is_among c a.passed || is_among c a.away) ≡ false → SaysOfIt t c (Some z) v.request.key
+    says_here : (a : keyed.Kept) → KeepsKey t v.request.key a → (is_among c a.in_line || is_among c a.passed || is_among c a.away) ≡ false →
+        SaysOfIt t c (Some z) v.request.key
     says_here a kept off =
         let offs = or_offs (is_among c a.in_line) (is_among c a.passed) (is_among c a.away) off in
         let key = v.request.key in
@@ -65,7 +69,8 @@ module _ (t : Tables) (law : Lawful t) (c : ℕ) (v z : rows.Consumer) (row : t.
         (sym (ap (is_away t key) row) ∙ (sym (kept.away c) ∙ offs.1.1))
 
     -- what is kept by key represents it
-    pub keys_apart : (a b : KeyTable) → ((key : List ℕ) → KeepsKey t key (kept_of a key)) → LeavesKey c v.request.key a b → (key : List ℕ) → KeepsKey s key (kept_of b key)
+    pub keys_apart : (a b : KeyTable) → ((key : List ℕ) → KeepsKey t key (kept_of a key)) → LeavesKey c v.request.key a b → (key : List ℕ) →
+        KeepsKey s key (kept_of b key)
     keys_apart a b kept leave = by_test (is_in c (line_of a v.request.key)) refl leave
       where
         by_key : (key : List ℕ) (q : Bool) → is_in c (line_of a v.request.key) ≡ false → bytes_eq v.request.key key ≡ q → SaysOfIt t c (Some z) key
@@ -75,8 +80,12 @@ module _ (t : Tables) (law : Lawful t) (c : ℕ) (v z : rows.Consumer) (row : t.
             subst (SaysOfIt t c (Some z)) one (says_here (kept_of a v.request.key) (kept v.request.key) out)
 
         by_test : (q : Bool) → is_in c (line_of a v.request.key) ≡ q → LeftIf q c v.request.key a b → (key : List ℕ) → KeepsKey s key (kept_of b key)
-        by_test true is left = keys_with t c (Some z) (on_line (left_by c)) v.request.key a b kept left (leaves_key t c (Some z) v.request.key (kept_of a v.request.key) (no_line v.request.key) (no_passed v.request.key) (no_away v.request.key) (no_turn v.request.key)) says_other
-        by_test false is stays = λ key. rw (stays key) (key_with t c (Some z) key (kept_of a key) (kept_of a key) (kept key) (key_stays t c (Some z) key (kept_of a key) (kept key) (by_key key (bytes_eq v.request.key key) is refl)))
+        by_test true is left = keys_with t c (Some z) (on_line (left_by c)) v.request.key a b kept left
+            (leaves_key t c (Some z) v.request.key (kept_of a v.request.key) (no_line v.request.key) (no_passed v.request.key) (no_away v.request.key)
+            (no_turn v.request.key)) says_other
+        by_test false is stays =
+            λ key. rw (stays key) (key_with t c (Some z) key (kept_of a key) (kept_of a key) (kept key)
+            (key_stays t c (Some z) key (kept_of a key) (kept key) (by_key key (bytes_eq v.request.key key) is refl)))
 
   -- REPRESENTATIONS
 

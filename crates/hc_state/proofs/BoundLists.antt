@@ -30,7 +30,8 @@ module _ (t : Tables) (n : ℕ) (k : Kept) (v : Representation) (entry : IsEntry
 bound_row : (n : ℕ) (z : Option rows.Consumer) → is_bound n z ≡ true → is_some z ≡ true
 bound_row n z is = grind (arith, nat_tests)
 
-module _ (t : Tables) (started : (c : ℕ) → is_some (t.consumer c) ≡ true → Among c t.starts) (n : ℕ) (k : Kept) (v : Representation) (entry : IsEntry t n k v) where
+module _ (t : Tables) (started : (c : ℕ) → is_some (t.consumer c) ≡ true → Among c t.starts) (n : ℕ) (k : Kept) (v : Representation)
+    (entry : IsEntry t n k v) where
   pub bound_some : is_nobody k.bound ≡ false → bound t n ≢ []
   unfolding bound
   bound_some some = grind (arith, nat_tests, first_user, is_bound, filter_some, bound_row)

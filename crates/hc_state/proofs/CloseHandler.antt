@@ -83,7 +83,8 @@ module _ (now q : ℕ) (t : Tables) (x : ℕ) where
   line_not_direct : (y : ℕ) → place.Line ≡ place.Direct y → ⊥
   line_not_direct y h = cc
 
-  pub unread_go : ((d : ℕ) (k : rows.Consumer) → t.consumer d ≡ Some k → k.place ≡ place.Direct x → ⊥) → (d : ℕ) (u : rows.Consumer) → (let_go now q t).consumer d ≡ Some u → u.place ≡ place.Direct x → ⊥
+  pub unread_go : ((d : ℕ) (k : rows.Consumer) → t.consumer d ≡ Some k → k.place ≡ place.Direct x → ⊥) → (d : ℕ) (u : rows.Consumer) →
+      (let_go now q t).consumer d ≡ Some u → u.place ≡ place.Direct x → ⊥
   unread_go nobody d u is at = grind (arith, nat_tests)
 
   line_not_bound : (r lo : ℕ) (hi : Option ℕ) (how : BoundBy) → place.Line ≡ place.Bound r lo hi how → ⊥
@@ -97,15 +98,18 @@ module _ (now q : ℕ) (t : Tables) (x : ℕ) where
 
 -- WHERE IT STOPS
 
-module _ {B : Type 0} {g : Ghosts B} (limits : Limits) (u : Rows B g) (t : Tables) (facts : Facts limits t) (f : ℕ → Option rows.Consumer) (x : ℕ) (alone : Option ℕ) (stop : MayStop t f x alone) (now faults : ℕ) (before out : List Act) where
+module _ {B : Type 0} {g : Ghosts B} (limits : Limits) (u : Rows B g) (t : Tables) (facts : Facts limits t) (f : ℕ → Option rows.Consumer) (x : ℕ)
+    (alone : Option ℕ) (stop : MayStop t f x alone) (now faults : ℕ) (before out : List Act) where
   abbrev s : Tables
   s = with_consumers f t
 
-  pub quiet : (o : Option ℕ) → going_with t (Some x) ≡ o → out ≡ before → RowsStand limits u (let_some_go now o (tables_after_close x s)) → HasStopped limits faults u t f before out now x
+  pub quiet : (o : Option ℕ) → going_with t (Some x) ≡ o → out ≡ before → RowsStand limits u (let_some_go now o (tables_after_close x s)) →
+      HasStopped limits faults u t f before out now x
   quiet o going acts rows = quietly acts (subst (λ (z : Option ℕ). RowsStand limits u (let_some_go now z (tables_after_close x s))) (sym going) rows)
 
   -- nothing that isn't gone is stored by it
-  pub stopped_nothing : (r : Rows B g) → RowsStand limits r s → KeepsRest r u → u.consumers ≡ r.consumers → exch.Becomes known.without_exchange x r.exchanges u.exchanges → IsApartNow t x → out ≡ before → HasStopped limits faults u t f before out now x
+  pub stopped_nothing : (r : Rows B g) → RowsStand limits r s → KeepsRest r u → u.consumers ≡ r.consumers →
+      exch.Becomes known.without_exchange x r.exchanges u.exchanges → IsApartNow t x → out ≡ before → HasStopped limits faults u t f before out now x
   stopped_nothing r stands rest consumers becomes apart acts = by_test (is_unkeepable (t.representation x)) refl
     where
       rows : RowsStand limits u (tables_after_close x s)
@@ -125,7 +129,8 @@ module _ {B : Type 0} {g : Ghosts B} (limits : Limits) (u : Rows B g) (t : Table
       by_test true on = quiet (Some x) (rw on refl) acts (subst (RowsStand limits u) (sym (by_row (t.representation x) refl on)) rows)
 
   -- a whole that can't be completed later goes
-  stopped_gone : (r : Rows B g) → RowsStand limits r (let_go now x s) → KeepsRest r u → u.consumers ≡ r.consumers → exch.Becomes known.without_exchange x r.exchanges u.exchanges → GoesWith t x x stop.w → out ≡ before → HasStopped limits faults u t f before out now x
+  stopped_gone : (r : Rows B g) → RowsStand limits r (let_go now x s) → KeepsRest r u → u.consumers ≡ r.consumers →
+      exch.Becomes known.without_exchange x r.exchanges u.exchanges → GoesWith t x x stop.w → out ≡ before → HasStopped limits faults u t f before out now x
   stopped_gone r stands rest consumers becomes goes acts =
       quiet (Some x) (rw (goes.row, goes.unkept) refl) acts
       (stands_unstored r u (let_go now x s) x stands (unawaited_go now x s x stop.unawaited) apart rest.last_start consumers rest.keys rest.entries becomes)
@@ -141,28 +146,37 @@ module _ {B : Type 0} {g : Ghosts B} (limits : Limits) (u : Rows B g) (t : Table
       ]
 
   -- whatever it is called
-  pub stopped_going : (q : ℕ) (r : Rows B g) → RowsStand limits r (let_go now q s) → KeepsRest r u → u.consumers ≡ r.consumers → exch.Becomes known.without_exchange x r.exchanges u.exchanges → GoesWith t x q stop.w → out ≡ before → HasStopped limits faults u t f before out now x
+  pub stopped_going : (q : ℕ) (r : Rows B g) → RowsStand limits r (let_go now q s) → KeepsRest r u → u.consumers ≡ r.consumers →
+      exch.Becomes known.without_exchange x r.exchanges u.exchanges → GoesWith t x q stop.w → out ≡ before → HasStopped limits faults u t f before out now x
   stopped_going q r stands rest consumers becomes goes acts =
-      stopped_gone r (subst (λ (n : ℕ). RowsStand limits r (let_go now n s)) goes.here stands) rest consumers becomes (subst (λ (n : ℕ). GoesWith t x n stop.w) goes.here goes) acts
+      stopped_gone r (subst (λ (n : ℕ). RowsStand limits r (let_go now n s)) goes.here stands) rest consumers becomes
+      (subst (λ (n : ℕ). GoesWith t x n stop.w) goes.here goes) acts
 
 -- WHERE ITS CONSUMER LEFT
 
 -- it told that it is closed
-pub has_left : {B : Type 0} {g : Ghosts B} {limits : Limits} (u : Rows B g) (t : Tables) (c : ℕ) (v : rows.Consumer) (x now faults : ℕ) (before mid out : List Act) → left_by t c v ≡ Some x → mid ≡ before ++ (act.Close x ∷ []) → HasStopped limits faults u t (once_left t c v) mid out now x → HasLeft limits faults u t before out now c v
+pub has_left : {B : Type 0} {g : Ghosts B} {limits : Limits} (u : Rows B g) (t : Tables) (c : ℕ) (v : rows.Consumer) (x now faults : ℕ)
+    (before mid out : List Act) → left_by t c v ≡ Some x → mid ≡ before ++ (act.Close x ∷ []) →
+    HasStopped limits faults u t (once_left t c v) mid out now x → HasLeft limits faults u t before out now c v
 has_left {limits = limits} u t c v x now faults before mid out left first (quietly same rows) =
     leaving.quietly (same ∙ (first ∙ ap (λ (z : Option ℕ). before ++ map act.Close (with_item_first z [])) (sym left)))
-    (subst (λ (z : Option ℕ). RowsStand limits u (let_some_go now (going_with t z) (with_consumer c (Some (as_over v)) (all_closed (with_item_first z []) t)))) (sym left) rows)
+    (subst (λ (z : Option ℕ). RowsStand limits u
+    (let_some_go now (going_with t z) (with_consumer c (Some (as_over v)) (all_closed (with_item_first z []) t)))) (sym left) rows)
 has_left {limits = limits} u t c v x now faults before mid out left first (unsealed f) = leaving.unsealed (record {
   x = x;
   left = left;
   sealed = f.sealed;
   acts = act_and before mid out (act.Close x) (act.Lost f.sealed.r kind.Fault ∷ []) first f.acts;
   failed = f.failed;
-  rows = subst (λ (z : Option ℕ). RowsStand limits u (let_go now f.sealed.r (with_representation f.sealed.r (Some (lost_to (exclusive t f.sealed.r f.sealed.v) f.sealed.v)) (with_consumer c (Some (as_over v)) (all_closed (with_item_first z []) t))))) (sym left) f.rows;
+  rows = subst (λ (z : Option ℕ). RowsStand limits u
+      (let_go now f.sealed.r (with_representation f.sealed.r (Some (lost_to (exclusive t f.sealed.r f.sealed.v) f.sealed.v))
+      (with_consumer c (Some (as_over v)) (all_closed (with_item_first z []) t))))) (sym left) f.rows;
 })
 
 -- where it leaves nothing
-pub leaves_nothing : {B : Type 0} {g : Ghosts B} {limits : Limits} (u : Rows B g) (t : Tables) (c : ℕ) (v : rows.Consumer) (now faults : ℕ) (before : List Act) → left_by t c v ≡ None → RowsStand limits u (with_consumer c (Some (as_over v)) t) → HasLeft limits faults u t before before now c v
+pub leaves_nothing : {B : Type 0} {g : Ghosts B} {limits : Limits} (u : Rows B g) (t : Tables) (c : ℕ) (v : rows.Consumer) (now faults : ℕ)
+    (before : List Act) → left_by t c v ≡ None → RowsStand limits u (with_consumer c (Some (as_over v)) t) → HasLeft limits faults u t before before now c v
 leaves_nothing {limits = limits} u t c v now faults before none rows =
     leaving.quietly (sym (append-nil before) ∙ ap (λ (z : Option ℕ). before ++ map act.Close (with_item_first z [])) (sym none))
-    (subst (λ (z : Option ℕ). RowsStand limits u (let_some_go now (going_with t z) (with_consumer c (Some (as_over v)) (all_closed (with_item_first z []) t)))) (sym none) rows)
+    (subst (λ (z : Option ℕ). RowsStand limits u
+    (let_some_go now (going_with t z) (with_consumer c (Some (as_over v)) (all_closed (with_item_first z []) t)))) (sym none) rows)

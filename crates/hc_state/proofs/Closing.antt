@@ -54,14 +54,17 @@ module _ (t : Tables) (x : ℕ) where
   others : (y : ℕ) → x ≢ y → s.exchange y ≡ t.exchange y
   others y ne = rw (eqb-other x y ne) refl
 
-  pub exchange_closed : (y : ℕ) (before after : Known) → after ≡ (if nat_eq x y then without_exchange before else before) → KeepsExchange t y before → KeepsExchange s y after
+  pub exchange_closed : (y : ℕ) (before after : Known) → after ≡ (if nat_eq x y then without_exchange before else before) → KeepsExchange t y before →
+      KeepsExchange s y after
   exchange_closed y before after is kept = elim (same_or x y) [
     | inl e ↦
         let at : after ≡ without_exchange before = is ∙ rw (e, eqb-same y) refl in
         let row : s.exchange y ≡ option_map over (t.exchange y) = rw (e, eqb-same y) refl in
         record {
           running = rw at (subst (λ (o : Option Exchange). KeepsRunning s y None o) (sym row) (not_open (t.exchange y)));
-          held = rw at (kept.held ∙ sym (ap (held_for s y) row ∙ subst (λ (n : ℕ). held_for s n (option_map over (t.exchange n)) ≡ held_for t n (t.exchange n)) e (held_over (t.exchange x))));
+          held = rw at (kept.held ∙
+              sym (ap (held_for s y) row ∙
+              subst (λ (n : ℕ). held_for s n (option_map over (t.exchange n)) ≡ held_for t n (t.exchange n)) e (held_over (t.exchange x))));
         }
     | inr ne ↦
         let at : after ≡ before = is ∙ rw (eqb-other x y ne) refl in
@@ -76,7 +79,14 @@ module _ (t : Tables) (x : ℕ) where
 
   pub key_closed : NobodyAwaits t x → (key : List ℕ) (k : keyed.Kept) → KeepsKey t key k → KeepsKey s key k
   unfolding current
-  key_closed nobody key k kept = key_same t s key k (record { current = refl; in_line = λ d. refl; passed = λ d. refl; away = λ d. away_closed nobody key d (t.consumer d) refl; turn = λ d. refl }) kept
+  key_closed nobody key k kept =
+      key_same t s key k (record {
+        current = refl;
+        in_line = λ d. refl;
+        passed = λ d. refl;
+        away = λ d. away_closed nobody key d (t.consumer d) refl;
+        turn = λ d. refl;
+      }) kept
 
   -- REPRESENTATIONS
 
@@ -91,7 +101,8 @@ module _ (t : Tables) (x : ℕ) where
   growing_apart q apart = grind (arith, nat_tests)
 
   -- of what isn't gone it brings nothing
-  pub entry_closed : (q : ℕ) (k : Option Kept) (o : Option Representation) → ((v : Representation) → o ≡ Some v → v.is_gone ≡ false → IsApart q) → KeepsEntry t q k o → KeepsEntry s q k o
+  pub entry_closed : (q : ℕ) (k : Option Kept) (o : Option Representation) → ((v : Representation) → o ≡ Some v → v.is_gone ≡ false → IsApart q) →
+      KeepsEntry t q k o → KeepsEntry s q k o
   unfolding bound
   entry_closed q None None apart kept = tt
   entry_closed q None (Some v) apart kept = record { gone = kept.gone; unused = kept.unused }
@@ -107,7 +118,8 @@ module _ (t : Tables) (x : ℕ) where
         (λ (c : ℕ). kept.first c ∙ sym (first_row t s (λ n. refl) q (t.consumer c))),
       )
 
-  pub entries_closed : (shelf : Shelf) → ((q : ℕ) (v : Representation) → t.representation q ≡ Some v → v.is_gone ≡ false → IsApart q) → KeepsEntries t shelf → KeepsEntries s shelf
+  pub entries_closed : (shelf : Shelf) → ((q : ℕ) (v : Representation) → t.representation q ≡ Some v → v.is_gone ≡ false → IsApart q) →
+      KeepsEntries t shelf → KeepsEntries s shelf
   entries_closed shelf apart kept = record {
     each = λ q. entry_closed q (shelf.kept q) (t.representation q) (apart q) (kept.each q);
     order = kept.order;
@@ -157,8 +169,10 @@ module _ {B : Type 0} {g : Ghosts B} {limits : Limits} (r u : Rows B g) (t : Tab
       ]
 
 -- it brings nothing of what isn't gone
-pub stands_unstored : {B : Type 0} {g : Ghosts B} {limits : Limits} (r u : Rows B g) (t : Tables) (x : ℕ) → RowsStand limits r t → NobodyAwaits t x → ((q : ℕ) (v : Representation) → t.representation q ≡ Some v → v.is_gone ≡ false → IsApart t x q)
-    → u.last_start ≡ r.last_start → u.consumers ≡ r.consumers → u.keys ≡ r.keys → u.entries ≡ r.entries → exch.Becomes without_exchange x r.exchanges u.exchanges → RowsStand limits u (tables_after_close x t)
+pub stands_unstored : {B : Type 0} {g : Ghosts B} {limits : Limits} (r u : Rows B g) (t : Tables) (x : ℕ) → RowsStand limits r t → NobodyAwaits t x →
+    ((q : ℕ) (v : Representation) → t.representation q ≡ Some v → v.is_gone ≡ false → IsApart t x q)
+    → u.last_start ≡ r.last_start → u.consumers ≡ r.consumers → u.keys ≡ r.keys → u.entries ≡ r.entries →
+    exch.Becomes without_exchange x r.exchanges u.exchanges → RowsStand limits u (tables_after_close x t)
 stands_unstored r u t x stands unawaited apart last consumers keys same_entries becomes =
     stands_closed r u t x stands unawaited last consumers keys becomes (ap (λ z. (shelf_of z).limits) same_entries)
     (subst (λ z. KeepsEntries (tables_after_close x t) (shelf_of z)) (sym same_entries) (entries_closed t x (shelf_of r.entries) apart stands.entries))

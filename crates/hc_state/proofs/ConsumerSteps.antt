@@ -25,10 +25,13 @@ module _ (t : Tables) (c : ℕ) (row : Option rows.Consumer) where
 
   -- the consumers that are kept represent it
   pub all_kept_with : {B : Type 0} {g : Ghosts B} (r u : Rows B g) (o : Option Consumer) → BecomesAt r.consumers u.consumers c o → KeepsConsumer t o row
-      → ((d : ℕ) → KeepsConsumer t (get nat_eq r.consumers d) (t.consumer d)) → (d : ℕ) → KeepsConsumer (with_consumer c row t) (get nat_eq u.consumers d) ((with_consumer c row t).consumer d)
+      → ((d : ℕ) → KeepsConsumer t (get nat_eq r.consumers d) (t.consumer d)) → (d : ℕ) →
+      KeepsConsumer (with_consumer c row t) (get nat_eq u.consumers d) ((with_consumer c row t).consumer d)
   all_kept_with r u o becomes kept each d = elim (same_or c d) [
-    | inl here ↦ subst (λ (z : ℕ). KeepsConsumer (with_consumer c row t) (get nat_eq u.consumers z) ((with_consumer c row t).consumer z)) here (rw (becomes.places c, eqb-same c) (kept_with o kept))
-    | inr ne ↦ rw (becomes.places d, eqb-other c d ne) (consumer_same t (with_consumer c row t) (get nat_eq r.consumers d) (t.consumer d) (λ v is. sees_same v.place) (each d))
+    | inl here ↦ subst (λ (z : ℕ). KeepsConsumer (with_consumer c row t) (get nat_eq u.consumers z) ((with_consumer c row t).consumer z)) here
+        (rw (becomes.places c, eqb-same c) (kept_with o kept))
+    | inr ne ↦ rw (becomes.places d, eqb-other c d ne)
+        (consumer_same t (with_consumer c row t) (get nat_eq r.consumers d) (t.consumer d) (λ v is. sees_same v.place) (each d))
   ]
 
   -- KEYS
@@ -41,7 +44,8 @@ module _ (t : Tables) (c : ℕ) (row : Option rows.Consumer) where
     pub away : (d : ℕ) → is_among d b.away ≡ cond (eqb c d) (is_away t key row) (is_among d a.away)
     pub holder : (d : ℕ) → is_held_by d b.holder ≡ cond (eqb c d) (has_turn key row) (is_held_by d a.holder)
 
-  by_one : (f : Option rows.Consumer → Bool) (g h : ℕ → Bool) → ((d : ℕ) → h d ≡ cond (eqb c d) (f row) (g d)) → ((d : ℕ) → g d ≡ f (t.consumer d)) → (d : ℕ) → h d ≡ f ((with_consumer c row t).consumer d)
+  by_one : (f : Option rows.Consumer → Bool) (g h : ℕ → Bool) → ((d : ℕ) → h d ≡ cond (eqb c d) (f row) (g d)) → ((d : ℕ) → g d ≡ f (t.consumer d)) →
+      (d : ℕ) → h d ≡ f ((with_consumer c row t).consumer d)
   by_one f g h is was d = grind (arith, nat_tests)
 
   pub key_with : (key : List ℕ) (a b : keyed.Kept) → KeepsKey t key a → KeyAfter key a b → KeepsKey (with_consumer c row t) key b
@@ -74,12 +78,14 @@ module _ (t : Tables) (c : ℕ) (row : Option rows.Consumer) where
   }
 
   -- one key changes, and of every other the same is said
-  pub keys_with : (f : keyed.Kept → keyed.Kept) (its : List ℕ) (a b : KeyTable) → ((k : List ℕ) → KeepsKey t k (kept_of a k)) → keys.Becomes f its a b → KeyAfter its (kept_of a its) (f (kept_of a its))
+  pub keys_with : (f : keyed.Kept → keyed.Kept) (its : List ℕ) (a b : KeyTable) → ((k : List ℕ) → KeepsKey t k (kept_of a k)) → keys.Becomes f its a b →
+      KeyAfter its (kept_of a its) (f (kept_of a its))
       → ((other : List ℕ) → bytes_eq its other ≡ false → SaysOfIt other) → (k : List ℕ) → KeepsKey (with_consumer c row t) k (kept_of b k)
   keys_with f its a b kept becomes after others k = by_test (bytes_eq its k) refl
     where
       by_test : (q : Bool) → bytes_eq its k ≡ q → KeepsKey (with_consumer c row t) k (kept_of b k)
       by_test true is =
           let one : its ≡ k = same_bytes its k is in
-          rw (becomes k, is) (subst (λ (z : List ℕ). KeepsKey (with_consumer c row t) z (f (kept_of a its))) one (key_with its (kept_of a its) (f (kept_of a its)) (kept its) after))
+          rw (becomes k, is) (subst (λ (z : List ℕ). KeepsKey (with_consumer c row t) z (f (kept_of a its))) one
+          (key_with its (kept_of a its) (f (kept_of a its)) (kept its) after))
       by_test false is = rw (becomes k, is) (key_with k (kept_of a k) (kept_of a k) (kept k) (key_stays k (kept_of a k) (kept k) (others k is)))

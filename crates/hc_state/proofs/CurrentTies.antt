@@ -24,25 +24,30 @@ pub total_reported : (t : Tables) (q : ℕ) (e : Kept) (p : Representation) → 
 total_reported t q e p is stays = grind (arith, nat_tests)
 
 -- what the store covers is covered
-pub covers_as : (t : Tables) (q : ℕ) (e : Kept) (p : Representation) → IsEntry t q e p → EndsBy p.reach p.stored → (b : Bool) (lo hi : ℕ) → (IsTrue b ↔ Covers e.cells lo hi) → b ≡ covers p.stored p.reach lo hi
+pub covers_as : (t : Tables) (q : ℕ) (e : Kept) (p : Representation) → IsEntry t q e p → EndsBy p.reach p.stored → (b : Bool) (lo hi : ℕ) →
+    (IsTrue b ↔ Covers e.cells lo hi) → b ≡ covers p.stored p.reach lo hi
 covers_as t q e p is ends b lo hi reports = same_test b (covers p.stored p.reach lo hi)
     (λ on. covers_yes p.stored p.reach lo hi ends (λ n low up. ap (λ z. is_some z) (sym (is.cells n)) ∙ reports.0 on n low up))
     (λ on. reports.1 (λ n low up. ap (λ z. is_some z) (is.cells n) ∙ covers_all p.stored p.reach lo hi on n low up))
 
 module _ {B : Type 0} {g : Ghosts B} {limits : Limits} (r : Rows B g) (t : Tables) (stands : RowsStand limits r t) where
   -- what is kept is an entry
-  pub kept_entry : (q : ℕ) (p : Representation) → t.representation q ≡ Some p → is_kept (shelf_of r.entries) q ≡ true → (e : Kept) × ((shelf_of r.entries).kept q ≡ Some e) × IsEntry t q e p
+  pub kept_entry : (q : ℕ) (p : Representation) → t.representation q ≡ Some p → is_kept (shelf_of r.entries) q ≡ true → (e : Kept) ×
+      ((shelf_of r.entries).kept q ≡ Some e) × IsEntry t q e p
   kept_entry q p here kept = by_kept ((shelf_of r.entries).kept q) refl kept (subst (KeepsEntry t q ((shelf_of r.entries).kept q)) here (stands.entries.each q))
     where
-      by_kept : (o : Option Kept) → (shelf_of r.entries).kept q ≡ o → is_some o ≡ true → KeepsEntry t q o (Some p) → (e : Kept) × ((shelf_of r.entries).kept q ≡ Some e) × IsEntry t q e p
+      by_kept : (o : Option Kept) → (shelf_of r.entries).kept q ≡ o → is_some o ≡ true → KeepsEntry t q o (Some p) → (e : Kept) ×
+          ((shelf_of r.entries).kept q ≡ Some e) × IsEntry t q e p
       by_kept None at on each = false_true on
       by_kept (Some e) at on each = (e, at, each)
 
   -- what isn't gone is kept
-  pub stays_kept : (q : ℕ) (p : Representation) → t.representation q ≡ Some p → p.is_gone ≡ false → (e : Kept) × ((shelf_of r.entries).kept q ≡ Some e) × IsEntry t q e p
+  pub stays_kept : (q : ℕ) (p : Representation) → t.representation q ≡ Some p → p.is_gone ≡ false → (e : Kept) × ((shelf_of r.entries).kept q ≡ Some e) ×
+      IsEntry t q e p
   stays_kept q p here stays = by_kept ((shelf_of r.entries).kept q) refl (subst (KeepsEntry t q ((shelf_of r.entries).kept q)) here (stands.entries.each q))
     where
-      by_kept : (o : Option Kept) → (shelf_of r.entries).kept q ≡ o → KeepsEntry t q o (Some p) → (e : Kept) × ((shelf_of r.entries).kept q ≡ Some e) × IsEntry t q e p
+      by_kept : (o : Option Kept) → (shelf_of r.entries).kept q ≡ o → KeepsEntry t q o (Some p) → (e : Kept) × ((shelf_of r.entries).kept q ≡ Some e) ×
+          IsEntry t q e p
       by_kept None at each = false_true (sym stays ∙ each.gone)
       by_kept (Some e) at each = (e, at, each)
 
@@ -69,14 +74,17 @@ pub viewed_entry : (o : Option Kept) (view : EntryView) → option_map view_of o
 viewed_entry None view is = none_some view is
 viewed_entry (Some e) view is = (e, refl, some_is (view_of e) view is)
 
-module _ {B : Type 0} {g : Ghosts B} {limits : Limits} (r : Rows B g) (t : Tables) (stands : RowsStand limits r t) (q : ℕ) (e : Kept) (kept : (shelf_of r.entries).kept q ≡ Some e) where
+module _ {B : Type 0} {g : Ghosts B} {limits : Limits} (r : Rows B g) (t : Tables) (stands : RowsStand limits r t) (q : ℕ) (e : Kept)
+    (kept : (shelf_of r.entries).kept q ≡ Some e) where
   -- it has a row
   pub entry_row : (p : Representation) × (t.representation q ≡ Some p) × IsEntry t q e p
   entry_row = by_row (t.representation q) refl (subst (λ (o : Option Kept). KeepsEntry t q o (t.representation q)) kept (stands.entries.each q))
     where
-      by_row : (o : Option Representation) → t.representation q ≡ o → KeepsEntry t q (Some e) o → (p : Representation) × (t.representation q ≡ Some p) × IsEntry t q e p
+      by_row : (o : Option Representation) → t.representation q ≡ o → KeepsEntry t q (Some e) o → (p : Representation) × (t.representation q ≡ Some p) ×
+          IsEntry t q e p
       by_row None at each = absurd each
       by_row (Some p) at each = (p, at, each)
 
   pub entry_at : (p : Representation) → t.representation q ≡ Some p → IsEntry t q e p
-  entry_at p here = subst (λ (o : Option Representation). KeepsEntry t q (Some e) o) here (subst (λ (o : Option Kept). KeepsEntry t q o (t.representation q)) kept (stands.entries.each q))
+  entry_at p here = subst (λ (o : Option Representation). KeepsEntry t q (Some e) o) here
+      (subst (λ (o : Option Kept). KeepsEntry t q o (t.representation q)) kept (stands.entries.each q))

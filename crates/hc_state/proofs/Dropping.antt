@@ -23,7 +23,8 @@ use Rattle.hc_state.proofs.LiveCounts as counts
 -- HOW MANY ARE LIVE
 
 -- one that was live isn't
-pub live_without : (t : Tables) (law : Lawful t) (c n m : ℕ) (v w : rows.Consumer) → t.consumer c ≡ Some v → is_live (Some v) ≡ true → is_live (Some w) ≡ false → n + 1 ≡ m + 0 → m ≡ live t → n ≡ live (with_consumer c (Some w) t)
+pub live_without : (t : Tables) (law : Lawful t) (c n m : ℕ) (v w : rows.Consumer) → t.consumer c ≡ Some v → is_live (Some v) ≡ true →
+    is_live (Some w) ≡ false → n + 1 ≡ m + 0 → m ≡ live t → n ≡ live (with_consumer c (Some w) t)
 live_without t law c n m v w row was is len count =
     let f : ℕ → Bool = λ d. is_live (t.consumer d) in
     let h : ℕ → Bool = λ d. is_live ((with_consumer c (Some w) t).consumer d) in
@@ -104,7 +105,8 @@ module _ (t : Tables) (law : Lawful t) (c : ℕ) (v : rows.Consumer) (row : t.co
   unstored_off : (z : Tables) (y : ℕ) (w : Exchange) (p : Representation) (u : rows.Consumer) → is_number u.own y ≡ false → unstored_bytes z y w p (Some u) ≡ []
   unstored_off z y w p u off = rw (then_false (is_bound_place (family y w) u.place) (is_number u.own y) off) refl
 
-  unstored_other : (y d : ℕ) (w : Exchange) (p : Representation) (o : Option rows.Consumer) → d ≢ c → t.consumer d ≡ o → is_number v.own y ≡ true → unstored_bytes s y w p o ≡ []
+  unstored_other : (y d : ℕ) (w : Exchange) (p : Representation) (o : Option rows.Consumer) → d ≢ c → t.consumer d ≡ o → is_number v.own y ≡ true →
+      unstored_bytes s y w p o ≡ []
   unstored_other y d w p None ne is on = refl
   unstored_other y d w p (Some u) ne is on = unstored_off s y w p u (not_its d y u ne is on)
 
@@ -145,8 +147,10 @@ module _ (t : Tables) (law : Lawful t) (c : ℕ) (v : rows.Consumer) (row : t.co
   -- KEYS
 
   -- what is kept by key represents it
-  keys_left : (a b : KeyTable) → ((key : List ℕ) → KeepsKey t key (kept_of a key)) → LeavesKey c v.request.key a b → (key : List ℕ) → KeepsKey s key (kept_of b key)
-  keys_left = keys_apart t law c v moved row (moved_bound v at_now nowhere) (moved_line v at_now nowhere) (moved_passed v at_now nowhere) (moved_away v at_now nowhere t)
+  keys_left : (a b : KeyTable) → ((key : List ℕ) → KeepsKey t key (kept_of a key)) → LeavesKey c v.request.key a b → (key : List ℕ) →
+      KeepsKey s key (kept_of b key)
+  keys_left = keys_apart t law c v moved row (moved_bound v at_now nowhere) (moved_line v at_now nowhere) (moved_passed v at_now nowhere)
+      (moved_away v at_now nowhere t)
 
   -- what is kept of representations represents it
   entries_left : (a b : Shelf) → KeepsEntries t a → UnbindsAt v.place c a b → KeepsEntries s b
@@ -154,7 +158,8 @@ module _ (t : Tables) (law : Lawful t) (c : ℕ) (v : rows.Consumer) (row : t.co
 
   -- EXCHANGES
 
-  pub exchange_left : (y : ℕ) (before after : Known) → after ≡ (if is_number v.own y then forgotten before else before) → KeepsExchange t y before → KeepsExchange s y after
+  pub exchange_left : (y : ℕ) (before after : Known) → after ≡ (if is_number v.own y then forgotten before else before) → KeepsExchange t y before →
+      KeepsExchange s y after
   exchange_left y before after is kept = by_test (is_number v.own y) refl is
     where
       by_test : (b : Bool) → is_number v.own y ≡ b → after ≡ (if b then forgotten before else before) → KeepsExchange s y after
@@ -175,33 +180,42 @@ merely_user _ c a some h = tt
 
 -- ALL OF IT
 
-module _ {B : Type 0} {g : Ghosts B} {limits : Limits} (r u : Rows B g) (t : Tables) (law : Lawful t) (c : ℕ) (k : Consumer) (v : rows.Consumer) (row : t.consumer c ≡ Some v) (at : get nat_eq r.consumers c ≡ Some k) (stands : RowsStand limits r t)
+module _ {B : Type 0} {g : Ghosts B} {limits : Limits} (r u : Rows B g) (t : Tables) (law : Lawful t) (c : ℕ) (k : Consumer) (v : rows.Consumer)
+    (row : t.consumer c ≡ Some v) (at : get nat_eq r.consumers c ≡ Some k) (stands : RowsStand limits r t)
     (last : u.last_start ≡ r.last_start)
-    (line : LeavesKey c k.request.key r.keys u.keys) (forgets : Forgets k.own r.exchanges u.exchanges) (unbinds : UnbindsAt k.place c (shelf_of r.entries) (shelf_of u.entries)) where
+    (line : LeavesKey c k.request.key r.keys u.keys) (forgets : Forgets k.own r.exchanges u.exchanges)
+    (unbinds : UnbindsAt k.place c (shelf_of r.entries) (shelf_of u.entries)) where
   pub kept : IsKept t k v
   kept = subst (λ o. KeepsConsumer t o (Some v)) at (subst (KeepsConsumer t (get nat_eq r.consumers c)) row (stands.consumers c))
 
   -- it stands there now
-  stands_moved : (p : Place) → IsNowhere p → (o : Option Consumer) → BecomesAt r.consumers u.consumers c o → hash_map_len u.consumers ≡ live (with_consumer c (Some (moved_to p v)) t) → KeepsConsumer t o (Some (moved_to p v)) → RowsStand limits u (with_consumer c (Some (moved_to p v)) t)
+  stands_moved : (p : Place) → IsNowhere p → (o : Option Consumer) → BecomesAt r.consumers u.consumers c o →
+      hash_map_len u.consumers ≡ live (with_consumer c (Some (moved_to p v)) t) → KeepsConsumer t o (Some (moved_to p v)) →
+      RowsStand limits u (with_consumer c (Some (moved_to p v)) t)
   stands_moved p nowhere o becomes count now = record {
     limits = unbinds_limits k.place c (shelf_of r.entries) (shelf_of u.entries) unbinds ∙ stands.limits;
     last_start = last ∙ stands.last_start;
     next = forgets.next ∙ stands.next;
     count = count;
     consumers = all_kept_with t c (Some (moved_to p v)) r u o becomes now stands.consumers;
-    exchanges = λ y. exchange_left t law c v row p nowhere y (table_of r.exchanges y) (table_of u.exchanges y) (subst (λ (o : Option ℕ). table_of u.exchanges y ≡ (if is_number o y then forgotten (table_of r.exchanges y) else table_of r.exchanges y)) kept.own (forgets.table y)) (stands.exchanges y);
+    exchanges = λ y. exchange_left t law c v row p nowhere y (table_of r.exchanges y) (table_of u.exchanges y)
+        (subst (λ (o : Option ℕ). table_of u.exchanges y ≡ (if is_number o y then forgotten (table_of r.exchanges y) else table_of r.exchanges y)) kept.own
+        (forgets.table y)) (stands.exchanges y);
     keys = keys_left t law c v row p nowhere r.keys u.keys stands.keys (subst (λ (q : Request). LeavesKey c q.key r.keys u.keys) kept.request line);
-    entries = entries_left t law c v row p nowhere (shelf_of r.entries) (shelf_of u.entries) stands.entries (subst (λ p. UnbindsAt p c (shelf_of r.entries) (shelf_of u.entries)) kept.place unbinds);
+    entries = entries_left t law c v row p nowhere (shelf_of r.entries) (shelf_of u.entries) stands.entries
+        (subst (λ p. UnbindsAt p c (shelf_of r.entries) (shelf_of u.entries)) kept.place unbinds);
   }
 
   -- it is gone
   pub stands_left : BecomesAt r.consumers u.consumers c None → RowsStand limits u (with_consumer c (Some (as_over v)) t)
   stands_left becomes =
       stands_moved place.Over (over refl) None becomes
-      (live_without t law c (hash_map_len u.consumers) (hash_map_len r.consumers) v (as_over v) row kept.is_there refl (ap (λ (o : Option Consumer). hash_map_len u.consumers + one o) (sym at) ∙ becomes.len) stands.count) refl
+      (live_without t law c (hash_map_len u.consumers) (hash_map_len r.consumers) v (as_over v) row kept.is_there refl
+      (ap (λ (o : Option Consumer). hash_map_len u.consumers + one o) (sym at) ∙ becomes.len) stands.count) refl
 
   -- it is to fail, and was shown nothing
-  pub stands_down : (why : Cause) → answer_for t v ≡ None → ChangesAt r.consumers u.consumers c (put_down why) → RowsStand limits u (with_consumer c (Some (moved_to (place.Down why) v)) t)
+  pub stands_down : (why : Cause) → answer_for t v ≡ None → ChangesAt r.consumers u.consumers c (put_down why) →
+      RowsStand limits u (with_consumer c (Some (moved_to (place.Down why) v)) t)
   stands_down why unanswered changes =
       stands_moved (place.Down why) (down why refl) (Some (put_down why k)) (becomes_by r.consumers u.consumers c k (put_down why) at changes)
       (changes.len ∙ (stands.count ∙ sym (live_same t (with_consumer c (Some (moved_to (place.Down why) v)) t) refl lives)))
@@ -221,7 +235,8 @@ module _ {B : Type 0} {g : Ghosts B} {limits : Limits} (r u : Rows B g) (t : Tab
       ]
 
 -- where the consumer stands, it is bound
-pub user_of : {B : Type 0} {g : Ghosts B} {limits : Limits} (r : Rows B g) (t : Tables) (law : Lawful t) (c : ℕ) (k : Consumer) → get nat_eq r.consumers c ≡ Some k → RowsStand limits r t → IsUserAt k.place c (shelf_of r.entries)
+pub user_of : {B : Type 0} {g : Ghosts B} {limits : Limits} (r : Rows B g) (t : Tables) (law : Lawful t) (c : ℕ) (k : Consumer) →
+    get nat_eq r.consumers c ≡ Some k → RowsStand limits r t → IsUserAt k.place c (shelf_of r.entries)
 user_of r t law c k at stands =
     let found = kept_row t k (t.consumer c) (subst (λ o. KeepsConsumer t o (t.consumer c)) at (stands.consumers c)) in
     subst (λ p. IsUserAt p c (shelf_of r.entries)) (sym found.2.place) (user_at t law c found.0 found.1 (shelf_of r.entries) stands.entries)

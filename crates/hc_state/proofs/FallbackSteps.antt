@@ -24,21 +24,26 @@ first_alike t q o p it4 = grind (arith, nat_tests)
 
 -- as many as before, where whoever is live is the same
 pub live_same : (t s : Tables) → s.starts ≡ t.starts → ((d : ℕ) → is_live (s.consumer d) ≡ is_live (t.consumer d)) → live s ≡ live t
-live_same t s starts lives = ap (λ cs. length (filter (λ d. is_live (s.consumer d)) cs)) starts ∙ ap length (filters_same (λ d. is_live (t.consumer d)) (λ d. is_live (s.consumer d)) lives t.starts)
+live_same t s starts lives = ap (λ cs. length (filter (λ d. is_live (s.consumer d)) cs)) starts ∙
+    ap length (filters_same (λ d. is_live (t.consumer d)) (λ d. is_live (s.consumer d)) lives t.starts)
 
 one_is : {A : Type 0} (o : Option A) → is_some o ≡ true → one o ≡ 1
 one_is o is = grind (arith, nat_tests)
 
 -- what stays there isn't counted anew
-pub length_same : {B : Type 0} {g : Ghosts B} {limits : Limits} (r u : Rows B g) (t : Tables) (c : ℕ) (v : rows.Consumer) (q : Consumer) → RowsStand limits r t → t.consumer c ≡ Some v → is_live_place v.place ≡ true → BecomesAt r.consumers u.consumers c (Some q) → hash_map_len u.consumers ≡ hash_map_len r.consumers
+pub length_same : {B : Type 0} {g : Ghosts B} {limits : Limits} (r u : Rows B g) (t : Tables) (c : ℕ) (v : rows.Consumer) (q : Consumer) →
+    RowsStand limits r t → t.consumer c ≡ Some v → is_live_place v.place ≡ true → BecomesAt r.consumers u.consumers c (Some q) →
+    hash_map_len u.consumers ≡ hash_map_len r.consumers
 length_same r u t c v q stands row lives becomes = grind (arith, nat_tests)
 
 -- ALL OF IT
 
-module _ {B : Type 0} {g : Ghosts B} {limits : Limits} (r u : Rows B g) (t : Tables) (c : ℕ) (v w : rows.Consumer) (q : Consumer) (stands : RowsStand limits r t) (row : t.consumer c ≡ Some v)
+module _ {B : Type 0} {g : Ghosts B} {limits : Limits} (r u : Rows B g) (t : Tables) (c : ℕ) (v w : rows.Consumer) (q : Consumer)
+    (stands : RowsStand limits r t) (row : t.consumer c ≡ Some v)
     (was : reads v.place ≡ false) (is_now : reads w.place ≡ false) (lived : is_live_place v.place ≡ true) (lives : is_live_place w.place ≡ true)
     (last : u.last_start ≡ r.last_start) (exchanges : u.exchanges ≡ r.exchanges) (entries : u.entries ≡ r.entries)
-    (becomes : BecomesAt r.consumers u.consumers c (Some q)) (kept : KeepsConsumer t (Some q) (Some w)) (keys : (key : List ℕ) → KeepsKey (with_consumer c (Some w) t) key (kept_of u.keys key)) where
+    (becomes : BecomesAt r.consumers u.consumers c (Some q)) (kept : KeepsConsumer t (Some q) (Some w))
+    (keys : (key : List ℕ) → KeepsKey (with_consumer c (Some w) t) key (kept_of u.keys key)) where
   abbrev s : Tables
   s = with_consumer c (Some w) t
 
@@ -68,7 +73,9 @@ module _ {B : Type 0} {g : Ghosts B} {limits : Limits} (r u : Rows B g) (t : Tab
     next = rw exchanges stands.next;
     count = length_same r u t c v q stands row lived becomes ∙ (stands.count ∙ sym (live_same t s refl live_each));
     consumers = all_kept_with t c (Some w) r u (Some q) becomes kept stands.consumers;
-    exchanges = λ x. rw exchanges (exchange_same t s x (table_of r.exchanges x) (record { row = refl; brings = λ z at. refl; held = held x (t.exchange x) }) (stands.exchanges x));
+    exchanges = λ x. rw exchanges
+        (exchange_same t s x (table_of r.exchanges x) (record { row = refl; brings = λ z at. refl; held = held x (t.exchange x) }) (stands.exchanges x));
     keys = keys;
-    entries = rw entries (entries_same t s (shelf_of r.entries) (λ n. refl) refl refl (λ n d. users_alike t s alike n d) (λ n d. first_alike t n (t.consumer d) (s.consumer d) (alike d)) (λ n. refl) (λ y on. on) stands.entries);
+    entries = rw entries (entries_same t s (shelf_of r.entries) (λ n. refl) refl refl (λ n d. users_alike t s alike n d)
+        (λ n d. first_alike t n (t.consumer d) (s.consumer d) (alike d)) (λ n. refl) (λ y on. on) stands.entries);
   }

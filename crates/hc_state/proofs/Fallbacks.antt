@@ -29,11 +29,13 @@ answer_fallback t k idle = grind (arith, nat_tests)
 pub unread_fallback : (x : ℕ) (w : Exchange) (row : Option Consumer) → is_fallback row ≡ true → unread x w row ≡ []
 unread_fallback x w row is = grind (arith, nat_tests)
 
-pub unstored_fallback : (t : Tables) (x : ℕ) (w : Exchange) (v : Representation) (row : Option Consumer) → is_fallback row ≡ true → unstored_bytes t x w v row ≡ []
+pub unstored_fallback : (t : Tables) (x : ℕ) (w : Exchange) (v : Representation) (row : Option Consumer) → is_fallback row ≡ true →
+    unstored_bytes t x w v row ≡ []
 unstored_fallback t x w v row is = grind (arith, nat_tests)
 
 -- what isn't stored is the same for other tables, since it stands where it is bound
-pub unstored_moved : (t s : Tables) (x : ℕ) (w : Exchange) (v : Representation) (row : Option Consumer) → unstored_bytes s x w v row ≡ unstored_bytes t x w v row
+pub unstored_moved : (t s : Tables) (x : ℕ) (w : Exchange) (v : Representation) (row : Option Consumer) →
+    unstored_bytes s x w v row ≡ unstored_bytes t x w v row
 unstored_moved t s x w v row = grind (arith, nat_tests)
 
 module _ (t s : Tables) (alike : (d : ℕ) → IsAlike (t.consumer d) (s.consumer d)) where
@@ -57,7 +59,8 @@ module _ (t s : Tables) (alike : (d : ℕ) → IsAlike (t.consumer d) (s.consume
   held_alike x w same_row = ap (held_of s x w) same_row ∙ of_alike x w (t.representation (family x w))
 
   -- also where a representation goes, whose bytes stay
-  pub held_gone : (b : Bool) (x : ℕ) (w : Exchange) → s.representation (family x w) ≡ (if b then option_map as_gone (t.representation (family x w)) else t.representation (family x w))
+  pub held_gone : (b : Bool) (x : ℕ) (w : Exchange) →
+      s.representation (family x w) ≡ (if b then option_map as_gone (t.representation (family x w)) else t.representation (family x w))
       → held_for s x (Some w) ≡ held_for t x (Some w)
   held_gone b x w is = ap (held_of s x w) is ∙ (by_row b (t.representation (family x w)) ∙ of_alike x w (t.representation (family x w)))
     where

@@ -31,7 +31,8 @@ pub off_turn : (key : List ℕ) (k : rows.Consumer) → bytes_eq k.request.key k
 off_turn key k off = and_false (is_in_line key (Some k)) (holds_place k.place) (off_line key k off)
 
 -- nothing is said of it for another key
-pub says_elsewhere : (t : Tables) (c : ℕ) (v w : rows.Consumer) (key : List ℕ) → t.consumer c ≡ Some v → w.request ≡ v.request → bytes_eq v.request.key key ≡ false → SaysOfIt t c (Some w) key
+pub says_elsewhere : (t : Tables) (c : ℕ) (v w : rows.Consumer) (key : List ℕ) → t.consumer c ≡ Some v → w.request ≡ v.request →
+    bytes_eq v.request.key key ≡ false → SaysOfIt t c (Some w) key
 says_elsewhere t c v w key row same off =
     let off_then : bytes_eq w.request.key key ≡ false = rw same off in
     record {
@@ -42,7 +43,8 @@ says_elsewhere t c v w key row same off =
     }
 
 -- it stands in the line of its key
-pub lined : (k : rows.Consumer) → stands_in_line k.place ≡ true → is_disabled k.request ≡ false → is_only k.request ≡ false → is_in_line k.request.key (Some k) ≡ true
+pub lined : (k : rows.Consumer) → stands_in_line k.place ≡ true → is_disabled k.request ≡ false → is_only k.request ≡ false →
+    is_in_line k.request.key (Some k) ≡ true
 lined k at cached asks = rw (bytes_eq-same k.request.key k.request.key refl, at, cached, asks) refl
 
 -- who goes past the store, or is for what is stored alone, stands in none
@@ -62,7 +64,8 @@ pub record IsUnsaid (t : Tables) (key : List ℕ) (o : Option rows.Consumer) : T
   pub turn : has_turn key o ≡ false
 
 -- nor was anything
-pub says_none : (t : Tables) (c : ℕ) (v w : rows.Consumer) (key : List ℕ) → t.consumer c ≡ Some v → IsUnsaid t key (Some v) → IsUnsaid t key (Some w) → SaysOfIt t c (Some w) key
+pub says_none : (t : Tables) (c : ℕ) (v w : rows.Consumer) (key : List ℕ) → t.consumer c ≡ Some v → IsUnsaid t key (Some v) → IsUnsaid t key (Some w) →
+    SaysOfIt t c (Some w) key
 says_none t c v w key row was now = record {
   in_line = now.in_line ∙ sym (ap (is_in_line key) row ∙ was.in_line);
   passed = now.passed ∙ sym (ap (is_passed key) row ∙ was.passed);
@@ -71,7 +74,8 @@ says_none t c v w key row was now = record {
 }
 
 -- who stands elsewhere waits for no key
-pub apart_unsaid : (t : Tables) (key : List ℕ) (w : rows.Consumer) → stands_in_line w.place ≡ false → has_passed w.place ≡ false → is_away_at t w.place ≡ false → IsUnsaid t key (Some w)
+pub apart_unsaid : (t : Tables) (key : List ℕ) (w : rows.Consumer) → stands_in_line w.place ≡ false → has_passed w.place ≡ false →
+    is_away_at t w.place ≡ false → IsUnsaid t key (Some w)
 apart_unsaid t key w off unpassed here =
     let line : is_in_line key (Some w) ≡ false = not_lined key w off in
     record {
@@ -82,7 +86,8 @@ apart_unsaid t key w off unpassed here =
     }
 
 -- who goes past the store, or is for what is stored alone, waits for none as it stands in line
-pub unqueued_unsaid : (t : Tables) (key : List ℕ) (v : rows.Consumer) → v.place ≡ place.Line → (not (is_disabled v.request) && not (is_only v.request)) ≡ false → IsUnsaid t key (Some v)
+pub unqueued_unsaid : (t : Tables) (key : List ℕ) (v : rows.Consumer) → v.place ≡ place.Line →
+    (not (is_disabled v.request) && not (is_only v.request)) ≡ false → IsUnsaid t key (Some v)
 unqueued_unsaid t key v at off =
     let line : is_in_line key (Some v) ≡ false = unlined key v off in
     record {
@@ -115,28 +120,34 @@ module _ (t : Tables) (c : ℕ) (row : Option rows.Consumer) (key : List ℕ) (a
   freed off d = released_is c a.holder d ∙ ap (λ (b : Bool). cond (eqb c d) b (is_held_by d a.holder)) (sym off)
 
   -- it is in line, and doesn't hold the turn
-  pub comes_back : is_in_line key row ≡ true → is_passed key row ≡ false → is_away t key row ≡ false → has_turn key row ≡ false → KeyAfter t c row key a (on_line (come_back c) a)
+  pub comes_back : is_in_line key row ≡ true → is_passed key row ≡ false → is_away t key row ≡ false → has_turn key row ≡ false →
+      KeyAfter t c row key a (on_line (come_back c) a)
   comes_back line passed away turn =
       assumption (among a.in_line line, apart a.passed passed, apart a.away away, freed turn)
 
   -- it has passed
-  pub passes_key : is_in_line key row ≡ false → is_passed key row ≡ true → is_away t key row ≡ false → has_turn key row ≡ false → KeyAfter t c row key a (on_line (line_after_pass c) a)
+  pub passes_key : is_in_line key row ≡ false → is_passed key row ≡ true → is_away t key row ≡ false → has_turn key row ≡ false →
+      KeyAfter t c row key a (on_line (line_after_pass c) a)
   passes_key line passed away turn =
       assumption (apart a.in_line line, among a.passed passed, apart a.away away, freed turn)
 
   -- it waits for the key no more
-  pub leaves_key : is_in_line key row ≡ false → is_passed key row ≡ false → is_away t key row ≡ false → has_turn key row ≡ false → KeyAfter t c row key a (on_line (left_by c) a)
+  pub leaves_key : is_in_line key row ≡ false → is_passed key row ≡ false → is_away t key row ≡ false → has_turn key row ≡ false →
+      KeyAfter t c row key a (on_line (left_by c) a)
   leaves_key line passed away turn =
       assumption (apart a.in_line line, apart a.passed passed, apart a.away away, freed turn)
 
   -- it is away
-  pub away_key : is_in_line key row ≡ false → is_passed key row ≡ false → is_away t key row ≡ true → has_turn key row ≡ false → KeyAfter t c row key a (on_line (gone_away c) a)
+  pub away_key : is_in_line key row ≡ false → is_passed key row ≡ false → is_away t key row ≡ true → has_turn key row ≡ false →
+      KeyAfter t c row key a (on_line (gone_away c) a)
   away_key line_off passed away turn =
       assumption (apart a.in_line line_off, apart a.passed passed, among a.away away, freed turn)
 
   -- it holds the turn, which nobody held
-  pub holds_key : KeepsKey t key a → a.holder ≡ None → is_in_line key (t.consumer c) ≡ true → is_passed key (t.consumer c) ≡ false → is_away t key (t.consumer c) ≡ false
-      → is_in_line key row ≡ true → is_passed key row ≡ false → is_away t key row ≡ false → has_turn key row ≡ true → KeyAfter t c row key a (on_line (held_by c) a)
+  pub holds_key : KeepsKey t key a → a.holder ≡ None → is_in_line key (t.consumer c) ≡ true → is_passed key (t.consumer c) ≡ false →
+      is_away t key (t.consumer c) ≡ false
+      → is_in_line key row ≡ true → is_passed key row ≡ false → is_away t key row ≡ false → has_turn key row ≡ true →
+      KeyAfter t c row key a (on_line (held_by c) a)
   holds_key kept free was unpassed here line passed away turn = record {
     current = refl;
     in_line = at_it t c row (λ d. is_among d a.in_line) _ (kept.in_line c ∙ (was ∙ sym line));

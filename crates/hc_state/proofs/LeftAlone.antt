@@ -18,12 +18,14 @@ unwritten_none t v none = rw none (then_false (not v.is_lost) false refl)
 -- it is its own, or that of the writing that it reads as the last one
 pub data HowLeft (t : Tables) (c x : ℕ) (k : Consumer) : Type 0 where
   own : k.own ≡ Some x → own_open t k ≡ Some x → HowLeft t c x k
-  shared_by : (r lo : ℕ) (hi : Option ℕ) (how : BoundBy) (v : Representation) → k.place ≡ place.Bound r lo hi how → t.representation r ≡ Some v → is_written t v ≡ true → v.writer ≡ Some x → HowLeft t c x k
+  shared_by : (r lo : ℕ) (hi : Option ℕ) (how : BoundBy) (v : Representation) → k.place ≡ place.Bound r lo hi how → t.representation r ≡ Some v →
+      is_written t v ≡ true → v.writer ≡ Some x → HowLeft t c x k
 
 pub how_left : (t : Tables) (c x : ℕ) (k : Consumer) → left_by t c k ≡ Some x → HowLeft t c x k
 how_left t c x k left = by_own (own_open t k) refl left
   where
-    by_row : (r lo : ℕ) (hi : Option ℕ) (how : BoundBy) → k.place ≡ place.Bound r lo hi how → (z : Option Representation) → t.representation r ≡ z → group_in t z ≡ Some x → HowLeft t c x k
+    by_row : (r lo : ℕ) (hi : Option ℕ) (how : BoundBy) → k.place ≡ place.Bound r lo hi how → (z : Option Representation) → t.representation r ≡ z →
+        group_in t z ≡ Some x → HowLeft t c x k
     by_row r lo hi how at None row h = none_some x h
     by_row r lo hi how at (Some v) row h = let both = test_some (is_written t v) v.writer x h in shared_by r lo hi how v at row both.0 both.1
 
@@ -48,7 +50,8 @@ module _ (t : Tables) (law : Lawful t) (c : ℕ) (k : Consumer) (row : t.consume
   over_not_bound : (r lo : ℕ) (hi : Option ℕ) (by : BoundBy) → place.Over ≡ place.Bound r lo hi by → ⊥
   over_not_bound r lo hi by h = cc
 
-  headed_writer : (r lo : ℕ) (hi : Option ℕ) (by : BoundBy) (v : Representation) → t.representation r ≡ Some v → is_written t v ≡ true → v.writer ≡ Some x → is_headless (t.exchange x) ≡ false
+  headed_writer : (r lo : ℕ) (hi : Option ℕ) (by : BoundBy) (v : Representation) → t.representation r ≡ Some v → is_written t v ≡ true →
+      v.writer ≡ Some x → is_headless (t.exchange x) ≡ false
   headed_writer r lo hi by v there written writer =
       let grows = (law.sound.rows r v there).growing x written writer in
       let g = grows.1 in
@@ -67,7 +70,8 @@ module _ (t : Tables) (law : Lawful t) (c : ℕ) (k : Consumer) (row : t.consume
     | inr ne ↦ by_way ne (other_row d u ne is) how
   ]
     where
-      by_row : (w : Exchange) → d ≢ c → t.consumer d ≡ Some u → t.exchange x ≡ Some w → k.own ≡ Some x → (on : Bool) (h : Option Response) → w.is_open ≡ on → w.head ≡ h → (on && is_none h) ≡ false
+      by_row : (w : Exchange) → d ≢ c → t.consumer d ≡ Some u → t.exchange x ≡ Some w → k.own ≡ Some x → (on : Bool) (h : Option Response) →
+          w.is_open ≡ on → w.head ≡ h → (on && is_none h) ≡ false
       by_row w ne there ex mine true None opened bare =
           let first = law.owned.first_own d r lo x hi u there at in
           let awaits = law.owned.waiting x w ex opened bare in
@@ -87,7 +91,8 @@ module _ (t : Tables) (law : Lawful t) (c : ℕ) (k : Consumer) (row : t.consume
 
   -- WHO WROTE ALONE
 
-  pub exclusive_left : (w : Exchange) (r : ℕ) (v : Representation) → t.exchange x ≡ Some w → w.is_open ≡ true → is_some w.head ≡ true → family x w ≡ r → t.representation r ≡ Some v → v.is_lost ≡ false
+  pub exclusive_left : (w : Exchange) (r : ℕ) (v : Representation) → t.exchange x ≡ Some w → w.is_open ≡ true → is_some w.head ≡ true → family x w ≡ r →
+      t.representation r ≡ Some v → v.is_lost ≡ false
       → exclusive t r v ≡ (if is_number k.own x then Some c else None)
   exclusive_left w r v ex opened headed of_r there kept = by_way how
     where
@@ -110,7 +115,8 @@ module _ (t : Tables) (law : Lawful t) (c : ℕ) (k : Consumer) (row : t.consume
       by_had mine opened_own (sound.own d u reader owns undue exclusive_writer) =
           by_reader mine opened_own d u reader ((own_open_of t u x owns).own) undue exclusive_writer
         where
-          by_reader : k.own ≡ Some x → own_open t k ≡ Some x → (d : ℕ) (u : Consumer) → IsBound t r d u → u.own ≡ Some x → u.due ≡ None → IsExclusiveWriter t r v d → exclusive t r v ≡ Some c
+          by_reader : k.own ≡ Some x → own_open t k ≡ Some x → (d : ℕ) (u : Consumer) → IsBound t r d u → u.own ≡ Some x → u.due ≡ None →
+              IsExclusiveWriter t r v d → exclusive t r v ≡ Some c
           by_reader mine opened_own d u (sound.is_bound lo hi way is at) its undue exclusive_writer =
               let one : d ≡ c = law.owned.one d c x u k is row its mine in
               let same_k : u ≡ k = same_row (t.consumer c) u k (subst (λ (n : ℕ). t.consumer n ≡ Some u) one is) row in
@@ -146,7 +152,8 @@ module _ (t : Tables) (law : Lawful t) (c : ℕ) (k : Consumer) (row : t.consume
 -- WHAT IS HELD
 
 -- nothing is held for it, since it has left
-pub nothing_left : (t : Tables) (c r : ℕ) (k : Consumer) (v : Representation) (b : Bool) (alone : Option ℕ) → alone ≡ (if b then Some c else None) → HoldsNothing (with_consumer c (Some (as_over k)) t) r v alone
+pub nothing_left : (t : Tables) (c r : ℕ) (k : Consumer) (v : Representation) (b : Bool) (alone : Option ℕ) → alone ≡ (if b then Some c else None) →
+    HoldsNothing (with_consumer c (Some (as_over k)) t) r v alone
 nothing_left t c r k v b alone is y z there of_r = ap (held_alone (with_consumer c (Some (as_over k)) t) y z v) is ∙ by_test b
   where
     by_test : (b : Bool) → held_alone (with_consumer c (Some (as_over k)) t) y z v (if b then Some c else None) ≡ []
@@ -166,7 +173,8 @@ may_without t c k row may = record {
   ];
   waits = λ d r kept u is at. elim (same_or d c) [
     | inl e ↦ absurd (over_not_passed d r kept u e is at)
-    | inr ne ↦ let w = may.waits d r kept u (sym (other_same d ne) ∙ is) at in record { v = w.v; row = w.row; key_is = w.key_is; not_gone = w.not_gone; queues = w.queues }
+    | inr ne ↦ let w = may.waits d r kept u (sym (other_same d ne) ∙ is) at in
+        record { v = w.v; row = w.row; key_is = w.key_is; not_gone = w.not_gone; queues = w.queues }
   ];
 }
   where
@@ -176,7 +184,8 @@ may_without t c k row may = record {
     never : (r : ℕ) (kept : Option ℕ) → place.Over ≡ place.Passed r kept → ⊥
     never r kept h = cc
 
-    over_not_passed : (d r : ℕ) (kept : Option ℕ) (u : Consumer) → d ≡ c → (with_consumer c (Some (as_over k)) t).consumer d ≡ Some u → u.place ≡ place.Passed r kept → ⊥
+    over_not_passed : (d r : ℕ) (kept : Option ℕ) (u : Consumer) → d ≡ c → (with_consumer c (Some (as_over k)) t).consumer d ≡ Some u →
+        u.place ≡ place.Passed r kept → ⊥
     over_not_passed d r kept u e is at =
         let here : (with_consumer c (Some (as_over k)) t).consumer c ≡ Some (as_over k) = rw (eqb-same c) refl in
         let mine : u ≡ as_over k = some_is u (as_over k) (sym (subst (λ (n : ℕ). (with_consumer c (Some (as_over k)) t).consumer n ≡ Some u) e is) ∙ here) in
@@ -188,7 +197,8 @@ may_without t c k row may = record {
 abbrev pub once_left : Tables → ℕ → Consumer → ℕ → Option Consumer
 once_left t c k d = if c == d then Some (as_over k) else t.consumer d
 
-pub leave_stops : (t : Tables) (law : Lawful t) (c : ℕ) (k : Consumer) → t.consumer c ≡ Some k → (x : ℕ) → left_by t c k ≡ Some x → (w : Exchange) → t.exchange x ≡ Some w → w.is_open ≡ true → (alone : Option ℕ) → alone ≡ (if is_number k.own x then Some c else None) → MayStop t (once_left t c k) x alone
+pub leave_stops : (t : Tables) (law : Lawful t) (c : ℕ) (k : Consumer) → t.consumer c ≡ Some k → (x : ℕ) → left_by t c k ≡ Some x → (w : Exchange) →
+    t.exchange x ≡ Some w → w.is_open ≡ true → (alone : Option ℕ) → alone ≡ (if is_number k.own x then Some c else None) → MayStop t (once_left t c k) x alone
 leave_stops t law c k row x left w ex opened alone is = record {
   w = w;
   row = ex;

@@ -30,7 +30,8 @@ counted_same f g c (x ∷ xs) off same =
     counted-cons g x xs ∙ (ap (λ n. n + one (g x)) rest ∙ (ap (λ b. counted f xs + one b) (same x (λ is. off (inl is))) ∙ sym (counted-cons f x xs)))
 
 -- one of them changes
-pub counted_moves : (f g : ℕ → Bool) (c n : ℕ) (xs : List ℕ) → Descends n xs → Among c xs → ((d : ℕ) → d ≢ c → g d ≡ f d) → counted g xs + one (f c) ≡ counted f xs + one (g c)
+pub counted_moves : (f g : ℕ → Bool) (c n : ℕ) (xs : List ℕ) → Descends n xs → Among c xs → ((d : ℕ) → d ≢ c → g d ≡ f d) →
+    counted g xs + one (f c) ≡ counted f xs + one (g c)
 counted_moves f g c n [] d h same = absurd h
 counted_moves f g c n (x ∷ xs) d (inl is) same =
     let rest : counted g xs ≡ counted f xs = counted_same f g c xs (λ h. not_among x c xs d.1 (rw is (omega arith)) h) same in
@@ -65,7 +66,8 @@ filter_only f c n (x ∷ xs) d (inr later) passes others =
     let first : f x ≡ false = others x (λ same. not_among x c xs d.1 (rw same (omega arith)) later) in
     rw first (filter_only f c x xs d.1 later passes others)
 
-appended : (f : ℕ → Bool) (x : ℕ) (xs ys : List ℕ) (b : Bool) → f x ≡ b → filter f (xs ++ ys) ≡ filter f xs ++ filter f ys → filter f (x ∷ (xs ++ ys)) ≡ filter f (x ∷ xs) ++ filter f ys
+appended : (f : ℕ → Bool) (x : ℕ) (xs ys : List ℕ) (b : Bool) → f x ≡ b → filter f (xs ++ ys) ≡ filter f xs ++ filter f ys →
+    filter f (x ∷ (xs ++ ys)) ≡ filter f (x ∷ xs) ++ filter f ys
 appended f x xs ys b is rest = grind (arith, nat_tests)
 
 filter-append : (f : ℕ → Bool) (xs ys : List ℕ) → filter f (xs ++ ys) ≡ filter f xs ++ filter f ys
@@ -75,7 +77,8 @@ filter-append f (x ∷ xs) ys = appended f x xs ys (f x) refl (filter-append f x
 pub filter-reverse : (f : ℕ → Bool) (xs : List ℕ) → filter f (reverse xs) ≡ reverse (filter f xs)
 filter-reverse f [] = refl
 filter-reverse f (x ∷ xs) =
-    ap (filter f) (reverse-append (x ∷ []) xs) ∙ (filter-append f (reverse xs) (x ∷ []) ∙ (ap (λ zs. zs ++ filter f (x ∷ [])) (filter-reverse f xs) ∙ by_test (f x) refl))
+    ap (filter f) (reverse-append (x ∷ []) xs) ∙
+    (filter-append f (reverse xs) (x ∷ []) ∙ (ap (λ zs. zs ++ filter f (x ∷ [])) (filter-reverse f xs) ∙ by_test (f x) refl))
   where
     by_test : (b : Bool) → f x ≡ b → reverse (filter f xs) ++ filter f (x ∷ []) ≡ reverse (filter f (x ∷ xs))
     by_test true is = rw is (sym (reverse-append (x ∷ []) (filter f xs)))

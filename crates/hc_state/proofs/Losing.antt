@@ -34,7 +34,8 @@ module _ (t : Tables) (r : ℕ) (v : Representation) (alone : Option ℕ) (row :
   others q ne = rw (eqb-other r q ne) refl
 
   -- what a loss leaves is told as before
-  reported_same : {A : Type 0} (f : Option Representation → A) → f (Some (lost_to alone v)) ≡ f (Some v) → (q : ℕ) → f (s.representation q) ≡ f (t.representation q)
+  reported_same : {A : Type 0} (f : Option Representation → A) → f (Some (lost_to alone v)) ≡ f (Some v) → (q : ℕ) →
+      f (s.representation q) ≡ f (t.representation q)
   reported_same f leaves q = grind (arith, nat_tests)
 
   first_same : (q : ℕ) (o : Option rows.Consumer) → is_first s q o ≡ is_first t q o
@@ -53,7 +54,8 @@ module _ (t : Tables) (r : ℕ) (v : Representation) (alone : Option ℕ) (row :
 
   current_same : (key : List ℕ) → current s key ≡ current t key
   unfolding current
-  current_same key = finds_same (λ q. is_usable key (t.representation q)) (λ q. is_usable key (s.representation q)) (reported_same (is_usable key) refl) t.founded
+  current_same key = finds_same (λ q. is_usable key (t.representation q)) (λ q. is_usable key (s.representation q)) (reported_same (is_usable key) refl)
+      t.founded
 
   -- WHAT MAY BE LET GO
 
@@ -61,7 +63,13 @@ module _ (t : Tables) (r : ℕ) (v : Representation) (alone : Option ℕ) (row :
   row_as q u is = elim (same_or r q) [
     | inl e ↦
         let mine : u ≡ lost_to alone v = same_row (s.representation r) u (lost_to alone v) (ap s.representation e ∙ is) here in
-        record { old = v; was = sym (ap t.representation e) ∙ row; key_is = ap (λ (z : Representation). z.key) mine; gone_is = ap (λ (z : Representation). z.is_gone) mine }
+        record {
+          old = v;
+          was = sym (ap t.representation e) ∙ row;
+          key_is = ap (λ (z : Representation). z.key) mine;
+          gone_is =
+              ap (λ (z : Representation). z.is_gone) mine;
+        }
     | inr ne ↦ record { old = u; was = sym (others q ne) ∙ is; key_is = refl; gone_is = refl }
   ]
 
@@ -79,7 +87,13 @@ module _ (t : Tables) (r : ℕ) (v : Representation) (alone : Option ℕ) (row :
         elim (same_or r q) [
           | inl e ↦
               let one : w.v ≡ v = same_row (t.representation r) w.v v (ap t.representation e ∙ w.row) row in
-              record { v = lost_to alone v; row = sym (ap s.representation e) ∙ here; key_is = ap (λ (z : Representation). z.key) (sym one) ∙ w.key_is; not_gone = ap (λ (z : Representation). z.is_gone) (sym one) ∙ w.not_gone; queues = w.queues }
+              record {
+                v = lost_to alone v;
+                row = sym (ap s.representation e) ∙ here;
+                key_is = ap (λ (z : Representation). z.key) (sym one) ∙ w.key_is;
+                not_gone = ap (λ (z : Representation). z.is_gone) (sym one) ∙ w.not_gone;
+                queues = w.queues;
+              }
           | inr ne ↦ record { v = w.v; row = others q ne ∙ w.row; key_is = w.key_is; not_gone = w.not_gone; queues = w.queues }
         ];
   }
@@ -94,16 +108,21 @@ module _ (t : Tables) (r : ℕ) (v : Representation) (alone : Option ℕ) (row :
     where
       by_length : KnowsLength e v → KnowsLength (kept_as_lost alone e) (lost_to alone v)
       by_length (reported same) = reported same
-      by_length (unreported u) = unreported (record { gone = u.gone; unreported = u.unreported; total = u.total; known = u.known; came = u.came; first = u.first })
+      by_length (unreported u) =
+          unreported (record { gone = u.gone; unreported = u.unreported; total = u.total; known = u.known; came = u.came; first = u.first })
 
-  entries_lost : (a b : Shelf) → KeepsEntries t a → shelf.Becomes (option_map (kept_as_lost alone)) same_order r a b → shelf.is_kept a r ≡ true → KeepsEntries s b
+  entries_lost : (a b : Shelf) → KeepsEntries t a → shelf.Becomes (option_map (kept_as_lost alone)) same_order r a b → shelf.is_kept a r ≡ true →
+      KeepsEntries s b
   unfolding bound kind_of
   entries_lost a b kept becomes there = record {
     each = λ q. elim (same_or r q) [
       | inl e ↦ subst (λ n. KeepsEntry s n (b.kept n) (s.representation n)) e (by_kept (a.kept r) refl)
-      | inr ne ↦ rw (becomes.kept q, eqb-other r q ne) (entry_same t s q (a.kept q) (t.representation q) refl (record { users = λ d. refl; first = λ d. first_same q (t.consumer d); list = refl; kind = λ p at. refl; overs = λ y on. on }) (kept.each q))
+      | inr ne ↦ rw (becomes.kept q, eqb-other r q ne)
+          (entry_same t s q (a.kept q) (t.representation q) refl
+          (record { users = λ d. refl; first = λ d. first_same q (t.consumer d); list = refl; kind = λ p at. refl; overs = λ y on. on }) (kept.each q))
     ];
-    order = becomes.order ∙ (kept.order ∙ sym (filters_same (λ q. is_usable_row (t.representation q)) (λ q. is_usable_row (s.representation q)) (reported_same is_usable_row refl) t.used));
+    order = becomes.order ∙ (kept.order ∙
+        sym (filters_same (λ q. is_usable_row (t.representation q)) (λ q. is_usable_row (s.representation q)) (reported_same is_usable_row refl) t.used));
   }
     where
       by_kept : (k : Option Kept) → a.kept r ≡ k → KeepsEntry s r (b.kept r) (s.representation r)
@@ -115,9 +134,11 @@ module _ (t : Tables) (r : ℕ) (v : Representation) (alone : Option ℕ) (row :
 
 -- ALL OF IT
 
-pub stands_lost : {B : Type 0} {g : Ghosts B} {limits : Limits} (r u : Rows B g) (t : Tables) (q : ℕ) (v : Representation) (alone : Option ℕ) (row : t.representation q ≡ Some v) → RowsStand limits r t → v.alone ≡ None → HoldsNothing t q v alone
+pub stands_lost : {B : Type 0} {g : Ghosts B} {limits : Limits} (r u : Rows B g) (t : Tables) (q : ℕ) (v : Representation) (alone : Option ℕ)
+    (row : t.representation q ≡ Some v) → RowsStand limits r t → v.alone ≡ None → HoldsNothing t q v alone
     → u.last_start ≡ r.last_start → u.consumers ≡ r.consumers → u.keys ≡ r.keys → u.exchanges ≡ r.exchanges
-    → shelf.Becomes (option_map (kept_as_lost alone)) same_order q (shelf_of r.entries) (shelf_of u.entries) → shelf.is_kept (shelf_of r.entries) q ≡ true → RowsStand limits u (with_representation q (Some (lost_to alone v)) t)
+    → shelf.Becomes (option_map (kept_as_lost alone)) same_order q (shelf_of r.entries) (shelf_of u.entries) →
+    shelf.is_kept (shelf_of r.entries) q ≡ true → RowsStand limits u (with_representation q (Some (lost_to alone v)) t)
 stands_lost r u t q v alone row stands nobody nothing last consumers keys exchanges becomes there =
     let z : Tables = with_representation q (Some (lost_to alone v)) t in
     record {
@@ -125,8 +146,18 @@ stands_lost r u t q v alone row stands nobody nothing last consumers keys exchan
       last_start = last ∙ stands.last_start;
       next = ap (λ z. next_of z) exchanges ∙ stands.next;
       count = ap (λ z. hash_map_len z) consumers ∙ stands.count;
-      consumers = λ d. rw consumers (consumer_same t z (get nat_eq r.consumers d) (t.consumer d) (λ k at. record { past = λ x is. refl; length = λ n lo hi how is. reported_same t q v alone row total_in refl n }) (stands.consumers d));
-      exchanges = λ y. rw exchanges (exchange_same t z y (table_of r.exchanges y) (record { row = refl; brings = λ w at. reported_same t q v alone row (λ o. is_some o) refl (family y w); held = held_lost t q v alone row nobody nothing y (t.exchange y) refl }) (stands.exchanges y));
-      keys = λ key. rw keys (key_same t z key (kept_of r.keys key) (record { current = current_same t q v alone row key; in_line = λ d. refl; passed = λ d. refl; away = λ d. refl; turn = λ d. refl }) (stands.keys key));
+      consumers = λ d. rw consumers
+          (consumer_same t z (get nat_eq r.consumers d) (t.consumer d)
+          (λ k at. record { past = λ x is. refl; length = λ n lo hi how is. reported_same t q v alone row total_in refl n }) (stands.consumers d));
+      exchanges = λ y. rw exchanges
+          (exchange_same t z y (table_of r.exchanges y)
+          (record {
+            row = refl;
+            brings = λ w at. reported_same t q v alone row (λ o. is_some o) refl (family y w);
+            held =
+                held_lost t q v alone row nobody nothing y (t.exchange y) refl;
+          }) (stands.exchanges y));
+      keys = λ key. rw keys (key_same t z key (kept_of r.keys key)
+          (record { current = current_same t q v alone row key; in_line = λ d. refl; passed = λ d. refl; away = λ d. refl; turn = λ d. refl }) (stands.keys key));
       entries = entries_lost t q v alone row (shelf_of r.entries) (shelf_of u.entries) stands.entries becomes there;
     }

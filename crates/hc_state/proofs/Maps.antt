@@ -8,7 +8,8 @@ use Rattle.hc_state.specs.Changes.{Numbered, ChangesAt, BecomesAt, one}
 
 -- MAPS
 
-pub removed : {A : Type 0} (m n : Numbered A) (c : ℕ) (o : Option A) → UpdatesBy nat_eq (nat_eq c) m n None → o ≡ get_by (nat_eq c) m → hash_map_len n + one o ≡ hash_map_len m → BecomesAt m n c None
+pub removed : {A : Type 0} (m n : Numbered A) (c : ℕ) (o : Option A) → UpdatesBy nat_eq (nat_eq c) m n None → o ≡ get_by (nat_eq c) m →
+    hash_map_len n + one o ≡ hash_map_len m → BecomesAt m n c None
 removed m n c o updates value len = record {
   places = updates.0;
   len = (let left : hash_map_len n + one (get nat_eq m c) ≡ hash_map_len m = ap (λ z. hash_map_len n + one z) (sym value) ∙ len in omega (arith, left));
@@ -17,7 +18,8 @@ removed m n c o updates value len = record {
 one_more : {A : Type 0} (n m : ℕ) (v : A) (o : Option A) → n ≡ m + (if is_some o then 0 else 1) → n + one o ≡ m + one (Some v)
 one_more n m v o is = grind (arith, nat_tests)
 
-pub inserted : {A : Type 0} (m n : Numbered A) (c : ℕ) (v : A) (o : Option A) → UpdatesBy nat_eq (nat_eq c) m n (Some v) → o ≡ get nat_eq m c → hash_map_len n ≡ hash_map_len m + (if is_some o then 0 else 1) → BecomesAt m n c (Some v)
+pub inserted : {A : Type 0} (m n : Numbered A) (c : ℕ) (v : A) (o : Option A) → UpdatesBy nat_eq (nat_eq c) m n (Some v) → o ≡ get nat_eq m c →
+    hash_map_len n ≡ hash_map_len m + (if is_some o then 0 else 1) → BecomesAt m n c (Some v)
 inserted m n c v o updates was len = record {
   places = updates.0;
   len = ap (λ z. hash_map_len n + one z) (sym was) ∙ one_more (hash_map_len n) (hash_map_len m) v o len;
@@ -68,7 +70,8 @@ pub held_is : (c : ℕ) (o : Option ℕ) → is_held_by c o ≡ true → o ≡ S
 held_is c o on = grind (arith, nat_tests)
 
 -- a value that is there changes twice
-pub becomes_then : {A : Type 0} (m n u : Numbered A) (c : ℕ) (k : A) (f h : A → A) → get nat_eq m c ≡ Some k → ChangesAt m n c f → ChangesAt n u c h → BecomesAt m u c (Some (h (f k)))
+pub becomes_then : {A : Type 0} (m n u : Numbered A) (c : ℕ) (k : A) (f h : A → A) → get nat_eq m c ≡ Some k → ChangesAt m n c f → ChangesAt n u c h →
+    BecomesAt m u c (Some (h (f k)))
 becomes_then m n u c k f h there first second = record {
   places = λ d. elim (same_or c d) [
     | inl e ↦ second.places d ∙ (rw (← e, eqb-same c) (ap (option_map h) mid))
@@ -85,6 +88,8 @@ pub merely_number : {P : Type 0} (o : Option ℕ) (n : ℕ) → ∥ P ∥₁ →
 merely_number o n some h = held_is n o (merely_true (is_held_by n o) some (λ p. ap (is_held_by n) (h p) ∙ eqb-same n))
 
 -- a range that is in order wherever there is some past
-pub merely_ordered : {P : Type 0} (range : Option RangeSpec) → ∥ P ∥₁ → (P → (asked : RangeSpec) → range ≡ Some asked → IsInOrder asked) → IfSome range IsInOrder
-merely_ordered (Some (asked.FromTo first last)) some h = let below : first < last + 1 = merely_below first (last + 1) some (λ p. let le : first ≤ last = h p (asked.FromTo first last) refl in omega arith) in omega arith
+pub merely_ordered : {P : Type 0} (range : Option RangeSpec) → ∥ P ∥₁ → (P → (asked : RangeSpec) → range ≡ Some asked → IsInOrder asked) →
+    IfSome range IsInOrder
+merely_ordered (Some (asked.FromTo first last)) some h = let below : first < last + 1 =
+    merely_below first (last + 1) some (λ p. let le : first ≤ last = h p (asked.FromTo first last) refl in omega arith) in omega arith
 merely_ordered _ some h = tt

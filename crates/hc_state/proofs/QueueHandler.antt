@@ -17,7 +17,8 @@ use Rattle.hc_txn.specs.{declared.transaction.Transaction.{Transaction as Consum
 use Rattle.hc_state.proofs.{FallbackSteps.{falls_back}, ConsumerSteps.{keys_with}, KeySteps.{says_elsewhere, lined, comes_back}}
 
 -- a consumer that is there is another
-pub becomes_by : (r u : Numbered Consumer) (c : ℕ) (k : Consumer) (f : Consumer → Consumer) → get nat_eq r c ≡ Some k → ChangesAt r u c f → BecomesAt r u c (Some (f k))
+pub becomes_by : (r u : Numbered Consumer) (c : ℕ) (k : Consumer) (f : Consumer → Consumer) → get nat_eq r c ≡ Some k → ChangesAt r u c f →
+    BecomesAt r u c (Some (f k))
 becomes_by r u c k f there changes = record {
   places = λ d. rw there at changes.places d;
   len = rw there (ap (λ n. n + 1) changes.len);
@@ -39,7 +40,8 @@ changes_still m c k there at = record { places = by_number; len = refl }
       | inr ne ↦ rw (eqb-other c d ne) refl
     ]
 
-in_line_kept : (t : Tables) (k : Consumer) (v : rows.Consumer) (q : ℕ) (how : Option ℕ) → v.place ≡ place.Passed q how → IsKept t k v → IsKept t (lined_up k) (in_line v)
+in_line_kept : (t : Tables) (k : Consumer) (v : rows.Consumer) (q : ℕ) (how : Option ℕ) → v.place ≡ place.Passed q how → IsKept t k v →
+    IsKept t (lined_up k) (in_line v)
 in_line_kept t k v q how at kept =
     assumption (kept, kept.answer ∙ by_shown v.shown refl, kept.begins ∙ ap (lo_of t) at, kept.ends ∙ ap (hi_of t) at)
   where
@@ -47,7 +49,8 @@ in_line_kept t k v q how at kept =
     by_shown true is = rw is refl
     by_shown false is = rw (is, at) refl
 
-module _ {B : Type 0} {g : Ghosts B} {limits : Limits} (r u : Rows B g) (t : Tables) (law : Lawful t) (c : ℕ) (k : Consumer) (v : rows.Consumer) (stands : RowsStand limits r t) (there : get nat_eq r.consumers c ≡ Some k) (row : t.consumer c ≡ Some v)
+module _ {B : Type 0} {g : Ghosts B} {limits : Limits} (r u : Rows B g) (t : Tables) (law : Lawful t) (c : ℕ) (k : Consumer) (v : rows.Consumer)
+    (stands : RowsStand limits r t) (there : get nat_eq r.consumers c ≡ Some k) (row : t.consumer c ≡ Some v)
     (last : u.last_start ≡ r.last_start) (exchanges : u.exchanges ≡ r.exchanges) (entries : u.entries ≡ r.entries) where
   kept : IsKept t k v
   kept = subst (KeepsConsumer t (Some k)) row (subst (λ o. KeepsConsumer t o (t.consumer c)) there (stands.consumers c))
@@ -68,7 +71,8 @@ module _ {B : Type 0} {g : Ghosts B} {limits : Limits} (r u : Rows B g) (t : Tab
         entries = rw entries stands.entries;
       })
 
-  module _ (q : ℕ) (how : Option ℕ) (at : k.place ≡ place.Passed q how) (changes : ChangesAt r.consumers u.consumers c lined_up) (back : keys.Becomes (on_line (come_back c)) k.request.key r.keys u.keys) where
+  module _ (q : ℕ) (how : Option ℕ) (at : k.place ≡ place.Passed q how) (changes : ChangesAt r.consumers u.consumers c lined_up)
+      (back : keys.Becomes (on_line (come_back c)) k.request.key r.keys u.keys) where
     v_at : v.place ≡ place.Passed q how
     v_at = sym kept.place ∙ at
 
@@ -80,9 +84,11 @@ module _ {B : Type 0} {g : Ghosts B} {limits : Limits} (r u : Rows B g) (t : Tab
 
     keys_then : (key : List ℕ) → KeepsKey (with_consumer c (Some (in_line v)) t) key (kept_of u.keys key)
     keys_then =
-        keys_with t c (Some (in_line v)) (on_line (come_back c)) v.request.key r.keys u.keys stands.keys (subst (λ (key : List ℕ). keys.Becomes (on_line (come_back c)) key r.keys u.keys) same_key back)
+        keys_with t c (Some (in_line v)) (on_line (come_back c)) v.request.key r.keys u.keys stands.keys
+        (subst (λ (key : List ℕ). keys.Becomes (on_line (come_back c)) key r.keys u.keys) same_key back)
         (comes_back t c (Some (in_line v)) v.request.key (kept_of r.keys v.request.key) line_then
-        (then_false (bytes_eq v.request.key v.request.key) false refl) (then_false (bytes_eq v.request.key v.request.key) false refl) (then_false (is_in_line v.request.key (Some (in_line v))) false refl))
+        (then_false (bytes_eq v.request.key v.request.key) false refl) (then_false (bytes_eq v.request.key v.request.key) false refl)
+        (then_false (is_in_line v.request.key (Some (in_line v))) false refl))
         (λ other off. says_elsewhere t c v (in_line v) other row refl off)
 
     pub stands_back : RowsStand limits u (with_consumer c (Some (in_line v)) t)

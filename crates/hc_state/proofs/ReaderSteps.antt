@@ -22,7 +22,8 @@ pub entries_read : (t : Tables) (a b : Shelf) → shelf.Stays a b → KeepsEntri
 entries_read t a b stays kept = record { each = λ q. rw (stays.kept q) (kept.each q); order = stays.order ∙ kept.order }
 
 -- what stands over a store stands after a read of it
-pub stands_read : {B : Type 0} {g : Ghosts B} {limits : Limits} (r u : Rows B g) (t : Tables) → u.last_start ≡ r.last_start → u.consumers ≡ r.consumers → u.exchanges ≡ r.exchanges → u.keys ≡ r.keys → shelf.Stays (shelf_of r.entries) (shelf_of u.entries) → RowsStand limits r t → RowsStand limits u t
+pub stands_read : {B : Type 0} {g : Ghosts B} {limits : Limits} (r u : Rows B g) (t : Tables) → u.last_start ≡ r.last_start → u.consumers ≡ r.consumers →
+    u.exchanges ≡ r.exchanges → u.keys ≡ r.keys → shelf.Stays (shelf_of r.entries) (shelf_of u.entries) → RowsStand limits r t → RowsStand limits u t
 stands_read r u t last consumers exchanges same_keys read stands = record {
   limits = read.limits ∙ stands.limits;
   last_start = last ∙ stands.last_start;
@@ -34,7 +35,8 @@ stands_read r u t last consumers exchanges same_keys read stands = record {
   entries = entries_read t (shelf_of r.entries) (shelf_of u.entries) read stands.entries;
 }
 
-pub some_read : {B : Type 0} {g : Ghosts B} (r u : Rows B g) → u.last_start ≡ r.last_start → u.consumers ≡ r.consumers → u.exchanges ≡ r.exchanges → u.keys ≡ r.keys → shelf.Stays (shelf_of r.entries) (shelf_of u.entries) → Stands r → Stands u
+pub some_read : {B : Type 0} {g : Ghosts B} (r u : Rows B g) → u.last_start ≡ r.last_start → u.consumers ≡ r.consumers → u.exchanges ≡ r.exchanges →
+    u.keys ≡ r.keys → shelf.Stays (shelf_of r.entries) (shelf_of u.entries) → Stands r → Stands u
 some_read r u last consumers exchanges same_keys read s = record {
   limits = s.limits;
   t = s.t;
@@ -46,7 +48,8 @@ some_read r u last consumers exchanges same_keys read s = record {
 }
 
 -- who answers after a read of the store answers before it
-pub answered_since : {B : Type 0} {g : Ghosts B} (limits : Limits) (a b : ℕ) (u : Rows B g) (t : Tables) (before out : List Act) (now : ℕ) (event : Event) → a ≤ b → Answered limits b u t before out now event → Answered limits a u t before out now event
+pub answered_since : {B : Type 0} {g : Ghosts B} (limits : Limits) (a b : ℕ) (u : Rows B g) (t : Tables) (before out : List Act) (now : ℕ)
+    (event : Event) → a ≤ b → Answered limits b u t before out now event → Answered limits a u t before out now event
 answered_since limits a b u t before out now event le answered = record {
   flaw = answered.flaw;
   acts = answered.acts;
@@ -72,11 +75,13 @@ module _ (t : Tables) (c : ℕ) (v : rows.Consumer) (shown : Bool) (given : ℕ)
   -- WHAT IS HELD
 
   module _ (y : ℕ) (z : Exchange) (past : z.c ≡ c → unread y z (Some w) ≡ unread y z (Some v))
-      (lost : (p : Representation) → t.representation (family y z) ≡ Some p → p.alone ≡ Some c → unstored_bytes t y z p (Some w) ≡ unstored_bytes t y z p (Some v)) where
+      (lost : (p : Representation) → t.representation (family y z) ≡ Some p → p.alone ≡ Some c →
+      unstored_bytes t y z p (Some w) ≡ unstored_bytes t y z p (Some v)) where
     past_same : (d : ℕ) → z.c ≡ d → unread y z (s.consumer d) ≡ unread y z (t.consumer d)
     past_same d opener = grind (arith, nat_tests)
 
-    lost_same : (p : Representation) → t.representation (family y z) ≡ Some p → (d : ℕ) → p.alone ≡ Some d → unstored_bytes s y z p (s.consumer d) ≡ unstored_bytes t y z p (t.consumer d)
+    lost_same : (p : Representation) → t.representation (family y z) ≡ Some p → (d : ℕ) → p.alone ≡ Some d →
+        unstored_bytes s y z p (s.consumer d) ≡ unstored_bytes t y z p (t.consumer d)
     lost_same p there d alone = grind (arith, nat_tests)
 
     alone_same : (p : Representation) → t.representation (family y z) ≡ Some p → (o : Option ℕ) → p.alone ≡ o → held_alone s y z p o ≡ held_alone t y z p o
@@ -113,8 +118,10 @@ module _ (t : Tables) (c : ℕ) (v : rows.Consumer) (shown : Bool) (given : ℕ)
   exchange_reading y known same kept = exchange_same t s y known (record { row = refl; brings = λ z at. refl; held = same }) kept
 
   module _ {B : Type 0} {g : Ghosts B} {limits : Limits} (r u : Rows B g) (stands : RowsStand limits r t) (lived : is_live_place v.place ≡ true)
-      (last : u.last_start ≡ r.last_start) (same_keys : u.keys ≡ r.keys) (next : next_of u.exchanges ≡ next_of r.exchanges) (read : shelf.Stays (shelf_of r.entries) (shelf_of u.entries))
-      (q : Consumer) (becomes : BecomesAt r.consumers u.consumers c (Some q)) (kept : IsKept t q w) (exchanges : (y : ℕ) → KeepsExchange s y (table_of u.exchanges y)) where
+      (last : u.last_start ≡ r.last_start) (same_keys : u.keys ≡ r.keys) (next : next_of u.exchanges ≡ next_of r.exchanges)
+      (read : shelf.Stays (shelf_of r.entries) (shelf_of u.entries))
+      (q : Consumer) (becomes : BecomesAt r.consumers u.consumers c (Some q)) (kept : IsKept t q w)
+      (exchanges : (y : ℕ) → KeepsExchange s y (table_of u.exchanges y)) where
     pub stands_reading : RowsStand limits u s
     stands_reading = record {
       limits = read.limits ∙ stands.limits;
@@ -123,6 +130,9 @@ module _ (t : Tables) (c : ℕ) (v : rows.Consumer) (shown : Bool) (given : ℕ)
       count = length_same r u t c v q stands row lived becomes ∙ (stands.count ∙ sym (live_same t s refl live_each));
       consumers = all_kept_with t c (Some w) r u (Some q) becomes kept stands.consumers;
       exchanges = exchanges;
-      keys = λ key. rw same_keys (key_with t c (Some w) key (kept_of r.keys key) (kept_of r.keys key) (stands.keys key) (key_stays t c (Some w) key (kept_of r.keys key) (stands.keys key) (says_same key)));
-      entries = entries_same t s (shelf_of u.entries) (λ n. refl) refl refl users firsts (λ n. refl) (λ y on. on) (entries_read t (shelf_of r.entries) (shelf_of u.entries) read stands.entries);
+      keys = λ key. rw same_keys
+          (key_with t c (Some w) key (kept_of r.keys key) (kept_of r.keys key) (stands.keys key)
+          (key_stays t c (Some w) key (kept_of r.keys key) (stands.keys key) (says_same key)));
+      entries = entries_same t s (shelf_of u.entries) (λ n. refl) refl refl users firsts (λ n. refl) (λ y on. on)
+          (entries_read t (shelf_of r.entries) (shelf_of u.entries) read stands.entries);
     }

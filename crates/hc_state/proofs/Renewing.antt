@@ -18,7 +18,8 @@ within_limits_reported fields on =
     let second : nat_le (size_of fields) 32768 ≡ true = and_right (nat_le (length fields) 64) _ on in
     record { few = grind (arith, nat_tests, first); small = grind (arith, nat_tests, second) }
 
-pub renewed_is : (head : Head) (requested answered : ℕ) (from : FieldPairs) → IsHead head → requested < 2 ^ 62 → answered < 2 ^ 62 → IsFieldList (updated_fields head.fields from) → IsHead (renewed_head requested answered from head)
+pub renewed_is : (head : Head) (requested answered : ℕ) (from : FieldPairs) → IsHead head → requested < 2 ^ 62 → answered < 2 ^ 62 →
+    IsFieldList (updated_fields head.fields from) → IsHead (renewed_head requested answered from head)
 renewed_is head requested answered from is asked came list = record {
   known_status = is.known_status;
   small_total = is.small_total;
@@ -27,15 +28,19 @@ renewed_is head requested answered from is asked came list = record {
   own_joining = is.own_joining ∙ ap one_strong_opaque (sym (values_kept (codes "etag") refl head.fields from));
   vary_list = is.vary_list;
   list = list;
-  within_limits = within_limits_reported (updated_fields head.fields from) (within_limits_kept head.fields from (within_limits_test head.fields is.within_limits));
+  within_limits = within_limits_reported (updated_fields head.fields from)
+      (within_limits_kept head.fields from (within_limits_test head.fields is.within_limits));
 }
 
 -- when it was opened
-pub opened_moment : (op : Opening) (running : Option Open) (o : Open) → Some (opened_with op) ≡ option_map begins_with running → running ≡ Some o → op.moment ≡ o.moment
+pub opened_moment : (op : Opening) (running : Option Open) (o : Open) → Some (opened_with op) ≡ option_map begins_with running → running ≡ Some o →
+    op.moment ≡ o.moment
 opened_moment op running o is at = grind (arith, nat_tests)
 
 -- a renewed head is what is kept then
-pub renewed_by : (a b : Shelf) (r requested moment now : ℕ) (from : FieldPairs) (old new : Head) → new ≡ renewed_head requested now from old → requested ≡ moment → Becomes (option_map (with_head new)) same_order r a b → Becomes (option_map (with_head (renewed_head moment now from old))) same_order r a b
+pub renewed_by : (a b : Shelf) (r requested moment now : ℕ) (from : FieldPairs) (old new : Head) → new ≡ renewed_head requested now from old →
+    requested ≡ moment → Becomes (option_map (with_head new)) same_order r a b →
+    Becomes (option_map (with_head (renewed_head moment now from old))) same_order r a b
 renewed_by a b r requested moment now from old new is opened becomes =
     subst (λ (h : Head). Becomes (option_map (with_head h)) same_order r a b) (is ∙ ap (λ (m : ℕ). renewed_head m now from old) opened) becomes
 
@@ -52,7 +57,8 @@ after_stays f a b c r stays becomes = record {
 }
 
 -- the head that was read is renewed
-pub renews_read : (a b c : Shelf) (r moment now : ℕ) (from : FieldPairs) (old : Head) → head_at a r ≡ Some old → Stays a b → Becomes (option_map (with_head (renewed_head moment now from old))) same_order r b c → Renews moment now from r a c
+pub renews_read : (a b c : Shelf) (r moment now : ℕ) (from : FieldPairs) (old : Head) → head_at a r ≡ Some old → Stays a b →
+    Becomes (option_map (with_head (renewed_head moment now from old))) same_order r b c → Renews moment now from r a c
 renews_read a b c r moment now from old its stays becomes = λ k at.
     subst (λ (h : Head). Becomes (option_map (with_head (renewed_head moment now from h))) same_order r a c) (head_is a r old k its at)
     (after_stays (option_map (with_head (renewed_head moment now from old))) a b c r stays becomes)

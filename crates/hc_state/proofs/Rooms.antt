@@ -49,7 +49,8 @@ module _ {B : Type 0} {g : Ghosts B} {limits : Limits} (r : Rows B g) (t : Table
   is_current_here : (q : ℕ) (v : Representation) → t.representation q ≡ Some v → v.is_gone ≡ false → is_current t v.key q ≡ true
   is_current_here q v row fresh = ap (λ o. is_number o q) (current_may t may q v row fresh) ∙ eqb-same q
 
-  row_idle : (q : ℕ) (o : Option Kept) (z : Option Representation) → t.representation q ≡ z → KeepsEntry t q o z → is_idle t q z ≡ (is_usable_row z && is_unused o)
+  row_idle : (q : ℕ) (o : Option Kept) (z : Option Representation) → t.representation q ≡ z → KeepsEntry t q o z →
+      is_idle t q z ≡ (is_usable_row z && is_unused o)
   row_idle q None None row entry = refl
   row_idle q (Some k) None row entry = absurd entry
   row_idle q None (Some v) row entry = rw (not_current q v row entry.gone, entry.gone) refl
@@ -157,15 +158,18 @@ none_gone r now before whole = record {
   faults = refl;
 }
 
-module _ {B : Type 0} {g : Ghosts B} (r u : Rows B g) (now i : ℕ) (before out : List Act) (whole spare : ℕ) (gone : HaveGone r u now i before out whole spare) where
+module _ {B : Type 0} {g : Ghosts B} (r u : Rows B g) (now i : ℕ) (before out : List Act) (whole spare : ℕ)
+    (gone : HaveGone r u now i before out whole spare) where
   -- what is idle then
   idle_then : {limits : Limits} (t : Tables) → MayMakeRoom t → RowsStand limits r t → idle (shelf_of u.entries) ≡ drop i (idle_now t)
   idle_then t law stands =
       idle_is u (let_all_go now (take i (idle_now t)) t) (keeps_may_all now (take i (idle_now t)) t law.may) (gone.gone _ t law stands).rows
       ∙ idle_after now (take i (idle_now t)) (drop i (idle_now t)) t law.may law.used (sym (take_rest i (idle_now t)))
 
-  pub one_gone : (next : Rows B g) (n : ℕ) (after : List Act) (left : ℕ) → Some n ≡ first_of (idle (shelf_of u.entries)) → after ≡ out ++ (act.Evicted n ∷ []) → left + 1 ≡ spare
-      → ((limits : Limits) (t : Tables) → MayLetGo t → RowsStand limits u t → RowsStand limits next (let_go now n t)) → next.last_start ≡ u.last_start → next.exchanges ≡ u.exchanges
+  pub one_gone : (next : Rows B g) (n : ℕ) (after : List Act) (left : ℕ) → Some n ≡ first_of (idle (shelf_of u.entries)) → after ≡ out ++
+      (act.Evicted n ∷ []) → left + 1 ≡ spare
+      → ((limits : Limits) (t : Tables) → MayLetGo t → RowsStand limits u t → RowsStand limits next (let_go now n t)) → next.last_start ≡ u.last_start →
+      next.exchanges ≡ u.exchanges
       → (shelf_of next.entries).faults ≡ (shelf_of u.entries).faults → HaveGone r next now (i + 1) before after whole left
   one_gone next n after left first acts less goes last exchanges faults = record {
     gone = λ limits t law stands.
@@ -176,9 +180,14 @@ module _ {B : Type 0} {g : Ghosts B} (r u : Rows B g) (now i : ℕ) (before out 
         record {
           acts = acts ∙ (ap (λ zs. zs ++ (act.Evicted n ∷ [])) was.acts ∙ (append_assoc before (map act.Evicted (take i xs)) (act.Evicted n ∷ [])
               ∙ (ap (λ zs. before ++ zs) (sym (map-append (take i xs) (n ∷ []))) ∙ ap (λ zs. before ++ map act.Evicted zs) (sym more))));
-          rows = subst (RowsStand limits next) (sym (ap (λ zs. let_all_go now zs t) more ∙ all_more now (take i xs) (n ∷ []) t)) (goes _ (let_all_go now (take i xs) t) (keeps_may_all now (take i xs) t law.may) was.rows);
+          rows = subst (RowsStand limits next) (sym (ap (λ zs. let_all_go now zs t) more ∙ all_more now (take i xs) (n ∷ []) t))
+              (goes _ (let_all_go now (take i xs) t) (keeps_may_all now (take i xs) t law.may) was.rows);
         };
-    appends = (gone.appends.0 ++ (act.Evicted n ∷ []), acts ∙ (ap (λ zs. zs ++ (act.Evicted n ∷ [])) gone.appends.1 ∙ append_assoc before gone.appends.0 (act.Evicted n ∷ [])));
+    appends = (
+      gone.appends.0 ++ (act.Evicted n ∷ []),
+      acts ∙
+          (ap (λ zs. zs ++ (act.Evicted n ∷ [])) gone.appends.1 ∙ append_assoc before gone.appends.0 (act.Evicted n ∷ [])),
+    );
     fits = (let fits = gone.fits in omega (arith, fits, less));
     last_start = last ∙ gone.last_start;
     exchanges = exchanges ∙ gone.exchanges;
@@ -186,24 +195,31 @@ module _ {B : Type 0} {g : Ghosts B} (r u : Rows B g) (now i : ℕ) (before out 
   }
 
   -- the room is that of the tables
-  way_is : (write : Write) (count : ℕ) → room_for_write r write ≡ room.After count → (limits : Limits) (t : Tables) → MayMakeRoom t → RowsStand limits r t → giving_way limits t write ≡ take count (idle_now t)
+  way_is : (write : Write) (count : ℕ) → room_for_write r write ≡ room.After count → (limits : Limits) (t : Tables) → MayMakeRoom t →
+      RowsStand limits r t → giving_way limits t write ≡ take count (idle_now t)
   way_is write count is limits t law stands = ap (first_idle t) (sym (room_is r t law stands write) ∙ is)
 
-  pub all_gone : (write : Write) (count : ℕ) → room_for_write r write ≡ room.After count → i ≡ count → (limits : Limits) (t : Tables) → MayMakeRoom t → RowsStand limits r t → GivesWay limits u t now (giving_way limits t write) before out
+  pub all_gone : (write : Write) (count : ℕ) → room_for_write r write ≡ room.After count → i ≡ count → (limits : Limits) (t : Tables) → MayMakeRoom t →
+      RowsStand limits r t → GivesWay limits u t now (giving_way limits t write) before out
   all_gone write count is end limits t law stands =
-      subst (λ zs. GivesWay limits u t now zs before out) (ap (λ n. take n (idle_now t)) end ∙ sym (way_is write count is _ t law stands)) (gone.gone _ t law stands)
+      subst (λ zs. GivesWay limits u t now zs before out) (ap (λ n. take n (idle_now t)) end ∙ sym (way_is write count is _ t law stands))
+      (gone.gone _ t law stands)
 
   -- nothing more is idle
-  pub no_more : (write : Write) (count : ℕ) → room_for_write r write ≡ room.After count → i ≤ count → None ≡ first_of (idle (shelf_of u.entries)) → (limits : Limits) (t : Tables) → MayMakeRoom t → RowsStand limits r t → GivesWay limits u t now (giving_way limits t write) before out
+  pub no_more : (write : Write) (count : ℕ) → room_for_write r write ≡ room.After count → i ≤ count → None ≡ first_of (idle (shelf_of u.entries)) →
+      (limits : Limits) (t : Tables) → MayMakeRoom t → RowsStand limits r t → GivesWay limits u t now (giving_way limits t write) before out
   no_more write count is le none limits t law stands =
       let empty : drop i (idle_now t) ≡ [] = none_first (drop i (idle_now t)) (none ∙ ap first_of (idle_then t law stands)) in
-      subst (λ zs. GivesWay limits u t now zs before out) (sym (take_all i count (idle_now t) le empty) ∙ sym (way_is write count is _ t law stands)) (gone.gone _ t law stands)
+      subst (λ zs. GivesWay limits u t now zs before out) (sym (take_all i count (idle_now t) le empty) ∙ sym (way_is write count is _ t law stands))
+      (gone.gone _ t law stands)
 
 -- nothing gives way where that makes no room
-pub none_way : {B : Type 0} {g : Ghosts B} (r : Rows B g) (now : ℕ) (write : Write) (before : List Act) → ((count : ℕ) → room_for_write r write ≡ room.After count → ⊥) → (limits : Limits) (t : Tables) → MayMakeRoom t → RowsStand limits r t
+pub none_way : {B : Type 0} {g : Ghosts B} (r : Rows B g) (now : ℕ) (write : Write) (before : List Act) →
+    ((count : ℕ) → room_for_write r write ≡ room.After count → ⊥) → (limits : Limits) (t : Tables) → MayMakeRoom t → RowsStand limits r t
     → GivesWay limits r t now (giving_way limits t write) before before
 none_way r now write before never limits t law stands =
-    subst (λ zs. GivesWay limits r t now zs before before) (sym (by_room (room_for_write r write) refl)) (record { acts = sym (append-nil before); rows = stands })
+    subst (λ zs. GivesWay limits r t now zs before before) (sym (by_room (room_for_write r write) refl))
+    (record { acts = sym (append-nil before); rows = stands })
   where
     by_room : (z : Room) → room_for_write r write ≡ z → giving_way limits t write ≡ []
     by_room (room.After count) is = absurd (never count is)

@@ -30,12 +30,15 @@ whole_covers v n is known = by_test (is_complete v) refl is
     by_front true h = cc
     by_front false h = cc
 
-    by_test : (b : Bool) → is_complete v ≡ b → (if b then kinds.Whole else if is_prefix v then kinds.Truncated else kinds.Ranges) ≡ kinds.Whole → Covers v.stored 0 n
-    by_test true all h = holes.covers_all v.stored v.reach 0 n (let reported_all : covers_all v (Some n) ≡ true = ap (covers_all v) (sym known) ∙ all in reported_all)
+    by_test : (b : Bool) → is_complete v ≡ b → (if b then kinds.Whole else if is_prefix v then kinds.Truncated else kinds.Ranges) ≡ kinds.Whole →
+        Covers v.stored 0 n
+    by_test true all h = holes.covers_all v.stored v.reach 0 n
+        (let reported_all : covers_all v (Some n) ≡ true = ap (covers_all v) (sym known) ∙ all in reported_all)
     by_test false off h = absurd (by_front (is_prefix v) h)
 
 -- one exchange at most brings what is stored
-pub nothing_else : (t : Tables) → Lawful t → (x q : ℕ) (p : Representation) → t.representation q ≡ Some p → Grows t x q → (y : ℕ) → x ≢ y → brings_to q y (t.exchange y) ≡ false
+pub nothing_else : (t : Tables) → Lawful t → (x q : ℕ) (p : Representation) → t.representation q ≡ Some p → Grows t x q → (y : ℕ) → x ≢ y →
+    brings_to q y (t.exchange y) ≡ false
 nothing_else t law x q p there grows y ne = by_row (t.exchange y) refl
   where
     headed_by : (z : Exchange) → t.exchange y ≡ Some z → family y z ≡ q → (h : Option Response) → z.head ≡ h → is_some h ≡ true
@@ -56,7 +59,8 @@ nothing_else t law x q p there grows y ne = by_row (t.exchange y) refl
     by_row None row = refl
     by_row (Some z) row = by_tests z row z.is_open (nat_eq (family y z) q) refl refl
 
-module _ (limits : Limits) (t : Tables) (facts : Facts limits t) (f : ℕ → Option rows.Consumer) (x : ℕ) (w : Exchange) (ex : t.exchange x ≡ Some w) (opened : w.is_open ≡ true) (shelf_before : Shelf) (q : ℕ) where
+module _ (limits : Limits) (t : Tables) (facts : Facts limits t) (f : ℕ → Option rows.Consumer) (x : ℕ) (w : Exchange) (ex : t.exchange x ≡ Some w)
+    (opened : w.is_open ≡ true) (shelf_before : Shelf) (q : ℕ) where
   abbrev s : Tables
   s = with_consumers f t
 
@@ -67,8 +71,10 @@ module _ (limits : Limits) (t : Tables) (facts : Facts limits t) (f : ℕ → Op
     -- nothing else brings it
     only_grower : (y : ℕ) → brings_to q y ((tables_after_close x s).exchange y) ≡ false
     only_grower y = elim (same_or x y) [
-      | inl e ↦ (let after : (tables_after_close x s).exchange y ≡ option_map over (t.exchange y) = rw (e, eqb-same y) refl in ap (brings_to q y) after ∙ not_over (t.exchange y))
-      | inr ne ↦ (let after : (tables_after_close x s).exchange y ≡ t.exchange y = rw (eqb-other x y ne) refl in ap (brings_to q y) after ∙ nothing_else t facts.law x q stays.p stays.row grows_here y ne)
+      | inl e ↦ (let after : (tables_after_close x s).exchange y ≡ option_map over (t.exchange y) = rw (e, eqb-same y) refl in ap (brings_to q y) after ∙
+          not_over (t.exchange y))
+      | inr ne ↦ (let after : (tables_after_close x s).exchange y ≡ t.exchange y = rw (eqb-other x y ne) refl in ap (brings_to q y) after ∙ nothing_else
+          t facts.law x q stays.p stays.row grows_here y ne)
     ]
       where
         not_over : (o : Option Exchange) → brings_to q y (option_map over o) ≡ false
@@ -77,9 +83,11 @@ module _ (limits : Limits) (t : Tables) (facts : Facts limits t) (f : ℕ → Op
 
     kind_is : kind_of (tables_after_close x s) q stays.p ≡ kind_left stays.p
     unfolding kind_of
-    kind_is = (let still : is_growing (tables_after_close x s) q ≡ false = any_none (λ y. brings_to q y ((tables_after_close x s).exchange y)) t.openings only_grower in rw still refl)
+    kind_is = (let still : is_growing (tables_after_close x s) q ≡ false =
+        any_none (λ y. brings_to q y ((tables_after_close x s).exchange y)) t.openings only_grower in rw still refl)
 
-    sealed_entry : (sort : Kind) (total : Option ℕ) → sort ≡ kind_left stays.p → total ≡ stays.e.head.total → IsEntry (tables_after_close x s) q (entry.sealed_kept sort total stays.e) stays.p
+    sealed_entry : (sort : Kind) (total : Option ℕ) → sort ≡ kind_left stays.p → total ≡ stays.e.head.total →
+        IsEntry (tables_after_close x s) q (entry.sealed_kept sort total stays.e) stays.p
     unfolding bound
     sealed_entry sort total sort_is total_is =
         let is = stays.is in
@@ -102,11 +110,14 @@ module _ (limits : Limits) (t : Tables) (facts : Facts limits t) (f : ℕ → Op
         by_length (reported same) = same
         by_length (unreported u) = false_true (sym stays.stays ∙ u.gone)
 
-    entries_sealed : (b : Shelf) (sort : Kind) (total : Option ℕ) → sort ≡ kind_left stays.p → total ≡ stays.e.head.total → KeepsEntries s shelf_before → shelf.Becomes (option_map (entry.sealed_kept sort total)) same_order q shelf_before b → KeepsEntries (tables_after_close x s) b
+    entries_sealed : (b : Shelf) (sort : Kind) (total : Option ℕ) → sort ≡ kind_left stays.p → total ≡ stays.e.head.total → KeepsEntries s shelf_before →
+        shelf.Becomes (option_map (entry.sealed_kept sort total)) same_order q shelf_before b → KeepsEntries (tables_after_close x s) b
     entries_sealed b sort total sort_is total_is kept becomes = record {
       each = λ n. elim (same_or q n) [
         | inl e ↦ subst (λ m. KeepsEntry (tables_after_close x s) m (b.kept m) ((tables_after_close x s).representation m)) e by_seal
-        | inr ne ↦ rw (becomes.kept n, eqb-other q n ne) (entry_closed s x n (shelf_before.kept n) (t.representation n) (λ p there here. ap (brings_to n x) ex ∙ then_false w.is_open (nat_eq (family x w) n) (rw stays.of_q (eqb-other q n ne))) (kept.each n))
+        | inr ne ↦ rw (becomes.kept n, eqb-other q n ne)
+            (entry_closed s x n (shelf_before.kept n) (t.representation n)
+            (λ p there here. ap (brings_to n x) ex ∙ then_false w.is_open (nat_eq (family x w) n) (rw stays.of_q (eqb-other q n ne))) (kept.each n))
       ];
       order = becomes.order ∙ kept.order;
     }
@@ -114,21 +125,29 @@ module _ (limits : Limits) (t : Tables) (facts : Facts limits t) (f : ℕ → Op
         by_seal : KeepsEntry (tables_after_close x s) q (b.kept q) (t.representation q)
         by_seal =
             let after : b.kept q ≡ Some (entry.sealed_kept sort total stays.e) = becomes.kept q ∙ rw (eqb-same q, stays.kept) refl in
-            subst (λ k. KeepsEntry (tables_after_close x s) q k (t.representation q)) (sym after) (subst (KeepsEntry (tables_after_close x s) q (Some (entry.sealed_kept sort total stays.e))) (sym stays.row) (sealed_entry sort total sort_is total_is))
+            subst (λ k. KeepsEntry (tables_after_close x s) q k (t.representation q)) (sym after)
+            (subst (KeepsEntry (tables_after_close x s) q (Some (entry.sealed_kept sort total stays.e))) (sym stays.row)
+            (sealed_entry sort total sort_is total_is))
 
 -- WHERE IT STOPS
 
-module _ {B : Type 0} {g : Ghosts B} (limits : Limits) (r u : Rows B g) (t : Tables) (facts : Facts limits t) (f : ℕ → Option rows.Consumer) (x : ℕ) (alone : Option ℕ) (stop : MayStop t f x alone) (now faults : ℕ) (before out : List Act) (q : ℕ) (stays : Stays t (with_consumers f t) (shelf_of r.entries) x q stop.w) where
+module _ {B : Type 0} {g : Ghosts B} (limits : Limits) (r u : Rows B g) (t : Tables) (facts : Facts limits t) (f : ℕ → Option rows.Consumer) (x : ℕ)
+    (alone : Option ℕ) (stop : MayStop t f x alone) (now faults : ℕ) (before out : List Act) (q : ℕ)
+    (stays : Stays t (with_consumers f t) (shelf_of r.entries) x q stop.w) where
   abbrev after : Tables
   after = with_consumers f t
 
   -- it is sealed
-  pub stopped_sealed : RowsStand limits r after → u.last_start ≡ r.last_start → u.consumers ≡ r.consumers → u.keys ≡ r.keys → exch.Becomes known.without_exchange x r.exchanges u.exchanges
-      → (sort : Kind) (total : Option ℕ) → sort ≡ kind_left stays.p → total ≡ stays.e.head.total → shelf.Becomes (option_map (entry.sealed_kept sort total)) same_order q (shelf_of r.entries) (shelf_of u.entries) → out ≡ before → HasStopped limits faults u t f before out now x
+  pub stopped_sealed : RowsStand limits r after → u.last_start ≡ r.last_start → u.consumers ≡ r.consumers → u.keys ≡ r.keys →
+      exch.Becomes known.without_exchange x r.exchanges u.exchanges
+      → (sort : Kind) (total : Option ℕ) → sort ≡ kind_left stays.p → total ≡ stays.e.head.total →
+      shelf.Becomes (option_map (entry.sealed_kept sort total)) same_order q (shelf_of r.entries) (shelf_of u.entries) → out ≡ before →
+      HasStopped limits faults u t f before out now x
   stopped_sealed stands last consumers keys becomes sort total sort_is total_is seals acts =
       quiet limits u t facts f x alone stop now faults before out None stays.keeps acts
       (stands_closed r u after x stands stop.unawaited last consumers keys becomes seals.limits
-      (entries_sealed limits t facts f x stop.w stop.row stop.is_open (shelf_of r.entries) q stays (shelf_of u.entries) sort total sort_is total_is stands.entries seals))
+      (entries_sealed limits t facts f x stop.w stop.row stop.is_open (shelf_of r.entries) q stays (shelf_of u.entries) sort total sort_is total_is
+      stands.entries seals))
 
   not_lost : stays.p.is_lost ≡ false
   not_lost = grind (arith, nat_tests)
@@ -150,14 +169,17 @@ module _ {B : Type 0} {g : Ghosts B} (limits : Limits) (r u : Rows B g) (t : Tab
   lost_now = with_representation q (Some (lost_to alone stays.p)) after
 
   -- its seal failed
-  pub stopped_lost : (mid : Rows B g) → RowsStand limits mid (let_go now q lost_now) → KeepsRest mid u → u.consumers ≡ mid.consumers → exch.Becomes known.without_exchange x mid.exchanges u.exchanges → faults < (shelf_of u.entries).faults → out ≡ before ++ (act.Lost q kind.Fault ∷ []) → HasStopped limits faults u t f before out now x
+  pub stopped_lost : (mid : Rows B g) → RowsStand limits mid (let_go now q lost_now) → KeepsRest mid u → u.consumers ≡ mid.consumers →
+      exch.Becomes known.without_exchange x mid.exchanges u.exchanges → faults < (shelf_of u.entries).faults → out ≡ before ++
+      (act.Lost q kind.Fault ∷ []) → HasStopped limits faults u t f before out now x
   stopped_lost mid stands rest consumers becomes failed acts = unsealed (record {
     sealed = record { w = stop.w; r = q; v = stays.p; row = stop.row; of_r = stays.of_q; there = stays.row; stays = stays.stays; kept = stays.keeps };
     acts = acts;
     failed = failed;
     rows =
         subst (λ (z : Option ℕ). RowsStand limits u (let_go now q (with_representation q (Some (lost_to z stays.p)) (tables_after_close x after)))) who_is
-        (stands_unstored mid u (let_go now q lost_now) x stands (unawaited_go now q lost_now x stop.unawaited) apart rest.last_start consumers rest.keys rest.entries becomes);
+        (stands_unstored mid u (let_go now q lost_now) x stands (unawaited_go now q lost_now x stop.unawaited) apart rest.last_start consumers rest.keys
+        rest.entries becomes);
   })
     where
       gone_there : (o : Option Representation) (p : Representation) → option_map as_gone o ≡ Some p → p.is_gone ≡ true
@@ -190,7 +212,8 @@ seal_kept x q running s is = by_brought (brought_by running) is
     by_goes n e at true h = absurd (not_let_go n h)
     by_goes n e at false h = subst (λ m. shelf.is_kept s m ≡ true) (seal_of n h) (ap (λ z. is_some z) at)
 
-    by_gone : (n : ℕ) (e : Kept) → s.kept n ≡ Some e → (b : Bool) → (if b then stop.Nothing else if goes_with x n (view_of e) then stop.LetGo n else stop.Seal n) ≡ stop.Seal q → shelf.is_kept s q ≡ true
+    by_gone : (n : ℕ) (e : Kept) → s.kept n ≡ Some e → (b : Bool) →
+        (if b then stop.Nothing else if goes_with x n (view_of e) then stop.LetGo n else stop.Seal n) ≡ stop.Seal q → shelf.is_kept s q ≡ true
     by_gone n e at true h = absurd (not_nothing h)
     by_gone n e at false h = by_goes n e at (goes_with x n (view_of e)) h
 
@@ -203,10 +226,12 @@ seal_kept x q running s is = by_brought (brought_by running) is
     by_brought (Some n) h = by_kept n (s.kept n) refl h
 
 -- the view of what is kept
-pub viewed : (s : Shelf) (q : ℕ) (e : Kept) (o : Option EntryView) (entry : EntryView) → s.kept q ≡ Some e → o ≡ option_map view_of (s.kept q) → o ≡ Some entry → entry ≡ view_of e
+pub viewed : (s : Shelf) (q : ℕ) (e : Kept) (o : Option EntryView) (entry : EntryView) → s.kept q ≡ Some e → o ≡ option_map view_of (s.kept q) →
+    o ≡ Some entry → entry ≡ view_of e
 viewed s q e o entry at is some = some_is entry (view_of e) (sym some ∙ (is ∙ ap (option_map view_of) at))
 
-pub reported_kept : (s : Shelf) (q : ℕ) (e : Kept) (p : Representation) (entry : EntryView) → s.kept q ≡ Some e → entry ≡ view_of e → IsViewOf p e.cells (view_of e) → IsViewOf p (shelf.cells_at s q) entry
+pub reported_kept : (s : Shelf) (q : ℕ) (e : Kept) (p : Representation) (entry : EntryView) → s.kept q ≡ Some e → entry ≡ view_of e →
+    IsViewOf p e.cells (view_of e) → IsViewOf p (shelf.cells_at s q) entry
 reported_kept s q e p entry at is is_reported = record {
   total = ap (λ (z : EntryView). z.total) is ∙ is_reported.total;
   size = ap (λ (z : EntryView). z.size) is ∙ is_reported.size;

@@ -13,8 +13,10 @@ found_only f x r (y ∷ ys) (inr later) is off = elim (same_or x y) [
 ]
 
 -- of what stands in its tables as to be sealed
-module _ (t : Tables) (law : Lawful t) (e : Entry) (x : ℕ) (w : Exchange) (r : ℕ) (v : Representation) (ex : t.exchange x ≡ Some w) (of_r : family x w ≡ r) (there : t.representation r ≡ Some v) (stays : v.is_gone ≡ false)
-    (stops_at : (y : ℕ) → (stops y e.event || closes_in y e.acts) ≡ nat_eq x y) (lasting : (z : Exchange) → t.exchange r ≡ Some z → (stops_early z r e.event || closes_in r e.acts) ≡ true → is_unkeepable (Some v) ≡ false) where
+module _ (t : Tables) (law : Lawful t) (e : Entry) (x : ℕ) (w : Exchange) (r : ℕ) (v : Representation) (ex : t.exchange x ≡ Some w)
+    (of_r : family x w ≡ r) (there : t.representation r ≡ Some v) (stays : v.is_gone ≡ false)
+    (stops_at : (y : ℕ) → (stops y e.event || closes_in y e.acts) ≡ nat_eq x y)
+    (lasting : (z : Exchange) → t.exchange r ≡ Some z → (stops_early z r e.event || closes_in r e.acts) ≡ true → is_unkeepable (Some v) ≡ false) where
   early : (ends_early t e r v && not (is_keepable v)) ≡ false
   early = by_row (t.exchange r) refl
     where
@@ -23,7 +25,8 @@ module _ (t : Tables) (law : Lawful t) (e : Entry) (x : ℕ) (w : Exchange) (r :
       by_tests false true k = refl
       by_tests false false k = refl
 
-      by_closing : (o b : Bool) (z : Exchange) → t.exchange r ≡ Some z → (stops_early z r e.event || closes_in r e.acts) ≡ b → ((o && b) && is_unkeepable (Some v)) ≡ false
+      by_closing : (o b : Bool) (z : Exchange) → t.exchange r ≡ Some z → (stops_early z r e.event || closes_in r e.acts) ≡ b →
+          ((o && b) && is_unkeepable (Some v)) ≡ false
       by_closing true true z row on = lasting z row on
       by_closing true false z row off = refl
       by_closing false b z row is = refl
@@ -46,9 +49,12 @@ module _ (t : Tables) (law : Lawful t) (e : Entry) (x : ℕ) (w : Exchange) (r :
   sealed_lasting = found_only (seals_at t e) x r t.openings (law.sound.numbered.lists.opened x (ap (λ z. is_some z) ex)) seals_here seals_no_other
 
 -- where it doesn't go with the exchange that founded it
-pub sealed_stopping : (t : Tables) → Lawful t → (e : Entry) (x : ℕ) (w : Exchange) (r : ℕ) (v : Representation) → t.exchange x ≡ Some w → family x w ≡ r → t.representation r ≡ Some v → v.is_gone ≡ false → going_with t (Some x) ≡ None
-    → ((y : ℕ) → (stops y e.event || closes_in y e.acts) ≡ nat_eq x y) → ((y : ℕ) (z : Exchange) → (stops_early z y e.event || closes_in y e.acts) ≡ true → nat_eq x y ≡ true) → sealed_representation t e ≡ Some r
-sealed_stopping t law e x w r v ex of_r there stays kept stops_at early_at = sealed_lasting t law e x w r v ex of_r there stays stops_at (λ z row on. keepable (sym (eq_reports x r (early_at r z on))))
+pub sealed_stopping : (t : Tables) → Lawful t → (e : Entry) (x : ℕ) (w : Exchange) (r : ℕ) (v : Representation) → t.exchange x ≡ Some w → family x w ≡ r →
+    t.representation r ≡ Some v → v.is_gone ≡ false → going_with t (Some x) ≡ None
+    → ((y : ℕ) → (stops y e.event || closes_in y e.acts) ≡ nat_eq x y) →
+    ((y : ℕ) (z : Exchange) → (stops_early z y e.event || closes_in y e.acts) ≡ true → nat_eq x y ≡ true) → sealed_representation t e ≡ Some r
+sealed_stopping t law e x w r v ex of_r there stays kept stops_at early_at =
+    sealed_lasting t law e x w r v ex of_r there stays stops_at (λ z row on. keepable (sym (eq_reports x r (early_at r z on))))
   where
     keepable : r ≡ x → is_unkeepable (Some v) ≡ false
     keepable same = ap is_unkeepable (sym (ap t.representation (sym same) ∙ there)) ∙ by_test (is_unkeepable (t.representation x)) refl kept
@@ -58,7 +64,10 @@ sealed_stopping t law e x w r v ex of_r there stays kept stops_at early_at = sea
         by_test true is h = none_some x (sym h)
 
 -- where it is closed for a leaver
-pub sealed_leaving : (t : Tables) → Lawful t → (e : Entry) (x : ℕ) (w : Exchange) (r : ℕ) (v : Representation) → t.exchange x ≡ Some w → family x w ≡ r → t.representation r ≡ Some v → v.is_gone ≡ false → going_with t (Some x) ≡ None
-    → ((y : ℕ) → stops y e.event ≡ false) → ((y : ℕ) (z : Exchange) → stops_early z y e.event ≡ false) → ((y : ℕ) → closes_in y e.acts ≡ nat_eq x y) → sealed_representation t e ≡ Some r
+pub sealed_leaving : (t : Tables) → Lawful t → (e : Entry) (x : ℕ) (w : Exchange) (r : ℕ) (v : Representation) → t.exchange x ≡ Some w → family x w ≡ r →
+    t.representation r ≡ Some v → v.is_gone ≡ false → going_with t (Some x) ≡ None
+    → ((y : ℕ) → stops y e.event ≡ false) → ((y : ℕ) (z : Exchange) → stops_early z y e.event ≡ false) → ((y : ℕ) → closes_in y e.acts ≡ nat_eq x y) →
+    sealed_representation t e ≡ Some r
 sealed_leaving t law e x w r v ex of_r there stays kept goes_on whole closes =
-    sealed_stopping t law e x w r v ex of_r there stays kept (λ y. rw (goes_on y) (closes y)) (λ y z on. sym (closes y) ∙ (sym (ap (λ b. b || closes_in y e.acts) (whole y z)) ∙ on))
+    sealed_stopping t law e x w r v ex of_r there stays kept (λ y. rw (goes_on y) (closes y))
+    (λ y z on. sym (closes y) ∙ (sym (ap (λ b. b || closes_in y e.acts) (whole y z)) ∙ on))

@@ -49,7 +49,8 @@ Means t s shelf x w stop.Nothing = IsApartNow t x
 Means t s shelf x w (stop.LetGo q) = GoesWith t x q w
 Means t s shelf x w (stop.Seal q) = Stays t s shelf x q w
 
-module _ {B : Type 0} {g : Ghosts B} {limits : Limits} (r : Rows B g) (t : Tables) (facts : Facts limits t) (f : ℕ → Option rows.Consumer) (stands : RowsStand limits r (with_consumers f t))
+module _ {B : Type 0} {g : Ghosts B} {limits : Limits} (r : Rows B g) (t : Tables) (facts : Facts limits t) (f : ℕ → Option rows.Consumer)
+    (stands : RowsStand limits r (with_consumers f t))
     (x : ℕ) (w : Exchange) (row : t.exchange x ≡ Some w) (opened : w.is_open ≡ true) where
   abbrev s : Tables
   s = with_consumers f t
@@ -102,8 +103,11 @@ module _ {B : Type 0} {g : Ghosts B} {limits : Limits} (r : Rows B g) (t : Table
 
   apart_gone : (p : Representation) → t.representation (family x w) ≡ Some p → p.is_gone ≡ true → IsApartNow t x
   apart_gone p here gone = record {
-    apart = λ q p2 there stays. brings_only q (λ same. false_true (sym stays ∙ (ap (λ (z : Representation). z.is_gone) (same_row (t.representation q) p2 p there (sym (ap t.representation same) ∙ here)) ∙ gone)));
-    went = λ p2 there unkept. ap (λ (z : Representation). z.is_gone) (same_row (t.representation x) p2 p there (sym (ap t.representation (founded_own p2 there)) ∙ here)) ∙ gone;
+    apart = λ q p2 there stays. brings_only q
+        (λ same. false_true (sym stays ∙
+        (ap (λ (z : Representation). z.is_gone) (same_row (t.representation q) p2 p there (sym (ap t.representation same) ∙ here)) ∙ gone)));
+    went = λ p2 there unkept. ap (λ (z : Representation). z.is_gone)
+        (same_row (t.representation x) p2 p there (sym (ap t.representation (founded_own p2 there)) ∙ here)) ∙ gone;
   }
 
   module _ (q : ℕ) (e : Kept) (p : Representation) (here : t.representation q ≡ Some p) (is : IsEntry s q e p) (stays : p.is_gone ≡ false) where
@@ -131,7 +135,8 @@ module _ {B : Type 0} {g : Ghosts B} {limits : Limits} (r : Rows B g) (t : Table
     unfolding is_keepable
     completes =
         let joins : is_some e.head.joining ≡ is_some p.head.joining = ap (λ (h : Head). is_some h.joining) is.head in
-        let takes : Rattle.hc_stored.specs.Heads.refuses_ranges e.head ≡ Rattle.hc_model.specs.Gone.refuses_ranges p = ap (λ (h : Head). Rattle.hc_stored.specs.Heads.refuses_ranges h) is.head in
+        let takes : Rattle.hc_stored.specs.Heads.refuses_ranges e.head ≡ Rattle.hc_model.specs.Gone.refuses_ranges p =
+        ap (λ (h : Head). Rattle.hc_stored.specs.Heads.refuses_ranges h) is.head in
         rw (joins, total_as, reported_is.size, takes) refl
 
     status_as : e.head.status ≡ p.head.status
@@ -144,11 +149,14 @@ module _ {B : Type 0} {g : Ghosts B} {limits : Limits} (r : Rows B g) (t : Table
       going_off : (o : Option Representation) → (o ≡ t.representation x) → is_unkeepable o ≡ false → going_with t (Some x) ≡ None
       going_off o at off = (let kept : is_unkeepable (t.representation x) ≡ false = ap is_unkeepable (sym at) ∙ off in rw kept refl)
 
-      unkeepable_by : (e : Kept) (p : Representation) → t.representation (family x w) ≡ Some p → IsEntry s (family x w) e p → p.is_gone ≡ false → goes_with x (family x w) (view_of e) ≡ (nat_eq x (family x w) && is_unkeepable (Some p))
+      unkeepable_by : (e : Kept) (p : Representation) → t.representation (family x w) ≡ Some p → IsEntry s (family x w) e p → p.is_gone ≡ false →
+          goes_with x (family x w) (view_of e) ≡ (nat_eq x (family x w) && is_unkeepable (Some p))
       unkeepable_by e p here is stays =
           rw (status_as (family x w) e p here is stays, completes (family x w) e p here is stays) (grind (arith, nat_tests))
 
-      goes_keeps : (e : Kept) (p : Representation) → t.representation (family x w) ≡ Some p → goes_with x (family x w) (view_of e) ≡ false → goes_with x (family x w) (view_of e) ≡ (nat_eq x (family x w) && is_unkeepable (Some p)) → (o : Option Representation) → t.representation x ≡ o → is_unkeepable o ≡ false
+      goes_keeps : (e : Kept) (p : Representation) → t.representation (family x w) ≡ Some p → goes_with x (family x w) (view_of e) ≡ false →
+          goes_with x (family x w) (view_of e) ≡ (nat_eq x (family x w) && is_unkeepable (Some p)) → (o : Option Representation) →
+          t.representation x ≡ o → is_unkeepable o ≡ false
       goes_keeps e p here off alike None at = refl
       goes_keeps e p here off alike (Some p2) at =
           let own = founded_own p2 at in
@@ -164,7 +172,9 @@ module _ {B : Type 0} {g : Ghosts B} {limits : Limits} (r : Rows B g) (t : Table
       both_are true b on = (refl, on)
       both_are false b on = false_true on
 
-      by_goes : (e : Kept) (p : Representation) → t.representation (family x w) ≡ Some p → shelf.kept (family x w) ≡ Some e → IsEntry s (family x w) e p → p.is_gone ≡ false → (b : Bool) → goes_with x (family x w) (view_of e) ≡ b → Means t s shelf x w (if b then stop.LetGo (family x w) else stop.Seal (family x w))
+      by_goes : (e : Kept) (p : Representation) → t.representation (family x w) ≡ Some p → shelf.kept (family x w) ≡ Some e → IsEntry s (family x w) e p →
+          p.is_gone ≡ false → (b : Bool) → goes_with x (family x w) (view_of e) ≡ b →
+          Means t s shelf x w (if b then stop.LetGo (family x w) else stop.Seal (family x w))
       by_goes e p here kept is stays true goes =
           let tests = both_are (nat_eq x (family x w)) (is_unkeepable (Some p)) (sym (unkeepable_by e p here is stays) ∙ goes) in
           let own : family x w ≡ x = (let test = tests.0 in grind (arith, nat_tests, test)) in
@@ -182,17 +192,21 @@ module _ {B : Type 0} {g : Ghosts B} {limits : Limits} (r : Rows B g) (t : Table
         keeps = going_off (t.representation x) refl (goes_keeps e p here off (unkeepable_by e p here is stays) (t.representation x) refl);
       }
 
-      by_gone : (e : Kept) (p : Representation) → t.representation (family x w) ≡ Some p → shelf.kept (family x w) ≡ Some e → IsEntry s (family x w) e p → (b : Bool) → e.is_gone ≡ b → Means t s shelf x w (if b then stop.Nothing else if goes_with x (family x w) (view_of e) then stop.LetGo (family x w) else stop.Seal (family x w))
+      by_gone : (e : Kept) (p : Representation) → t.representation (family x w) ≡ Some p → shelf.kept (family x w) ≡ Some e → IsEntry s (family x w) e p →
+          (b : Bool) → e.is_gone ≡ b →
+          Means t s shelf x w (if b then stop.Nothing else if goes_with x (family x w) (view_of e) then stop.LetGo (family x w) else stop.Seal (family x w))
       by_gone e p here kept is true gone = apart_gone p here (sym is.is_gone ∙ gone)
       by_gone e p here kept is false stays = by_goes e p here kept is (sym is.is_gone ∙ stays) (goes_with x (family x w) (view_of e)) refl
 
-      by_kept : (p : Representation) → t.representation (family x w) ≡ Some p → (k : Option Kept) → shelf.kept (family x w) ≡ k → KeepsEntry s (family x w) k (Some p) → Means t s shelf x w (stop_by x (family x w) k)
+      by_kept : (p : Representation) → t.representation (family x w) ≡ Some p → (k : Option Kept) → shelf.kept (family x w) ≡ k →
+          KeepsEntry s (family x w) k (Some p) → Means t s shelf x w (stop_by x (family x w) k)
       by_kept p here None kept each = apart_gone p here each.gone
       by_kept p here (Some e) kept each = by_gone e p here kept each e.is_gone refl
 
       by_row : (o : Option Representation) → t.representation (family x w) ≡ o → Means t s shelf x w (stop_of x running shelf)
       by_row None at = subst (Means t s shelf x w) (sym (ap (stop_at x shelf) (brought_none at))) (apart_none at)
-      by_row (Some p) at = subst (Means t s shelf x w) (sym (ap (stop_at x shelf) (brought_some p at))) (by_kept p at (shelf.kept (family x w)) refl (subst (KeepsEntry s (family x w) (shelf.kept (family x w))) at (stands.entries.each (family x w))))
+      by_row (Some p) at = subst (Means t s shelf x w) (sym (ap (stop_at x shelf) (brought_some p at)))
+          (by_kept p at (shelf.kept (family x w)) refl (subst (KeepsEntry s (family x w) (shelf.kept (family x w))) at (stands.entries.each (family x w))))
 
   -- what the code decided means that
   pub means_it : (decided : Disposition) → decided ≡ stop_of x running shelf → Means t s shelf x w decided

@@ -21,7 +21,8 @@ module _ (v : Representation) (cells : Cells) (entry : EntryView) (is : IsViewOf
   incomplete_as none = ap (covers_all v) (sym none ∙ is.total)
 
   pub front_as : (b : Bool) → 0 < entry.size → (IsTrue b ↔ Covers cells 0 entry.size) → b ≡ is_prefix v
-  front_as b some reports = covers_as b entry.size reports ∙ (ap (λ n. covers v.stored v.reach 0 n) is.size ∙ sym (by_test (nat_lt 0 v.size) (tests v.size (subst (λ n. 0 < n) is.size some))))
+  front_as b some reports = covers_as b entry.size reports ∙
+      (ap (λ n. covers v.stored v.reach 0 n) is.size ∙ sym (by_test (nat_lt 0 v.size) (tests v.size (subst (λ n. 0 < n) is.size some))))
     where
       tests : (n : ℕ) → 0 < n → nat_lt 0 n ≡ true
       tests n lt = grind (arith, nat_tests, lt)

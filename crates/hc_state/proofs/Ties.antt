@@ -146,10 +146,13 @@ pub record LooksSame (t s : Tables) (x : ℕ) : Type 0 where
 abbrev role_with : Tables → ℕ → Exchange → Bool → Role
 role_with t x w founded = if is_none w.head then role_awaited (route_of w.need) w.aim else if founded then role.Body (family x w) else role.Direct
 
-running_same : (t s : Tables) (x : ℕ) (o : Open) (w : Exchange) → is_some (s.representation (family x w)) ≡ is_some (t.representation (family x w)) → IsRunning t x o w → IsRunning s x o w
+running_same : (t s : Tables) (x : ℕ) (o : Open) (w : Exchange) → is_some (s.representation (family x w)) ≡ is_some (t.representation (family x w)) →
+    IsRunning t x o w → IsRunning s x o w
 running_same t s x o w brings is = assumption (is, is.role ∙ ap (role_with t x w) (sym brings))
 
-pub runs_same : (t s : Tables) (x : ℕ) (o : Option Open) (row : Option Exchange) → ((w : Exchange) → row ≡ Some w → is_some (s.representation (family x w)) ≡ is_some (t.representation (family x w))) → KeepsRunning t x o row → KeepsRunning s x o row
+pub runs_same : (t s : Tables) (x : ℕ) (o : Option Open) (row : Option Exchange) →
+    ((w : Exchange) → row ≡ Some w → is_some (s.representation (family x w)) ≡ is_some (t.representation (family x w))) → KeepsRunning t x o row →
+    KeepsRunning s x o row
 runs_same t s x None row brings kept = kept
 runs_same t s x (Some o) None brings kept = kept
 runs_same t s x (Some o) (Some w) brings kept = running_same t s x o w (brings w refl) kept

@@ -63,7 +63,8 @@ pub least_alike : (xs ys : List ℕ) → ((c : ℕ) → is_among c xs ≡ is_amo
 least_alike xs ys alike = by_least (least xs) refl
   where
     by_other : (m : ℕ) → least xs ≡ Some m → (o : Option ℕ) → least ys ≡ o → least xs ≡ least ys
-    by_other m some None none = let here = (least_some xs m some).among in let empty = least_none ys none in let never : is_among m ys ≡ true = sym (alike m) ∙ here in false_true (rw empty at never)
+    by_other m some None none = let here = (least_some xs m some).among in let empty = least_none ys none in let never : is_among m ys ≡ true =
+        sym (alike m) ∙ here in false_true (rw empty at never)
     by_other m some (Some k) other =
         let a = least_some xs m some in
         let b = least_some ys k other in
@@ -73,7 +74,8 @@ least_alike xs ys alike = by_least (least xs) refl
 
     by_none : least xs ≡ None → (o : Option ℕ) → least ys ≡ o → least xs ≡ least ys
     by_none none None other = none ∙ sym other
-    by_none none (Some k) other = let there = (least_some ys k other).among in let empty = least_none xs none in let never : is_among k xs ≡ true = alike k ∙ there in false_true (rw empty at never)
+    by_none none (Some k) other = let there = (least_some ys k other).among in let empty = least_none xs none in let never : is_among k xs ≡ true =
+        alike k ∙ there in false_true (rw empty at never)
 
     by_least : (o : Option ℕ) → least xs ≡ o → least xs ≡ least ys
     by_least None none = by_none none (least ys) refl
@@ -142,7 +144,9 @@ and_then a b off on = grind (arith, nat_tests)
 
 module _ (t : Tables) (key : List ℕ) (a : Kept) (lists : IsListed t) (kept : KeepsKey t key a) where
   holder_by : (o : Option ℕ) → a.holder ≡ o → holder t key ≡ o
-  holder_by None is = find_off (λ c. holds_turn (t.consumer c)) (line t key) (λ c there. and_then (is_in_line key (t.consumer c)) (holds_turn (t.consumer c)) (sym (kept.holder c) ∙ ap (is_held_by c) is) (sym (line_is t key c lists) ∙ there))
+  holder_by None is = find_off (λ c. holds_turn (t.consumer c)) (line t key)
+      (λ c there. and_then (is_in_line key (t.consumer c)) (holds_turn (t.consumer c)) (sym (kept.holder c) ∙ ap (is_held_by c) is)
+      (sym (line_is t key c lists) ∙ there))
   holder_by (Some d) is =
       let held : has_turn key (t.consumer d) ≡ true = sym (kept.holder d) ∙ (ap (is_held_by d) is ∙ eqb-same d) in
       let parts = and_parts (is_in_line key (t.consumer d)) (holds_turn (t.consumer d)) held in
@@ -162,7 +166,8 @@ module _ (t : Tables) (key : List ℕ) (a : Kept) (lists : IsListed t) (kept : K
   turn_of_is = grind (arith, nat_tests, holder, least, line, holder_by, least_is)
 
   -- who is next, and doesn't hold the turn yet, has it, and nobody holds it
-  pub turn_is : (c : ℕ) → unwrap_or (turn_with c (line_in a)) c ≡ c → is_in_line key (t.consumer c) ≡ true → has_turn key (t.consumer c) ≡ false → (a.holder ≡ None) × (turn_of (line_in a) ≡ Some c)
+  pub turn_is : (c : ℕ) → unwrap_or (turn_with c (line_in a)) c ≡ c → is_in_line key (t.consumer c) ≡ true → has_turn key (t.consumer c) ≡ false →
+      (a.holder ≡ None) × (turn_of (line_in a) ≡ Some c)
   turn_is c next in_line idle = by_holder a.holder refl
     where
       first : a.holder ≡ None → (m : ℕ) → least a.in_line ≡ Some m → turn_of (line_in a) ≡ Some c
@@ -179,7 +184,8 @@ module _ (t : Tables) (key : List ℕ) (a : Kept) (lists : IsListed t) (kept : K
           false_true (sym (kept.holder c ∙ idle) ∙ rw (is, same) (eqb-same c))
 
 -- Once it stands in line, it has the turn: of the others as many stand there, and nobody holds it.
-pub turn_next : (c : ℕ) (a b : Kept) → ((d : ℕ) → d ≢ c → is_among d b.in_line ≡ is_among d a.in_line) → ((d : ℕ) → is_held_by d b.holder ≡ is_held_by d a.holder) → is_held_by c a.holder ≡ false
+pub turn_next : (c : ℕ) (a b : Kept) → ((d : ℕ) → d ≢ c → is_among d b.in_line ≡ is_among d a.in_line) →
+    ((d : ℕ) → is_held_by d b.holder ≡ is_held_by d a.holder) → is_held_by c a.holder ≡ false
     → is_among c b.in_line ≡ true → turn_with c (line_in a) ≡ Some c → (b.holder ≡ None) × (turn_of (line_in b) ≡ Some c)
 turn_next c a b others holders idle there next = by_holder a.holder refl
   where

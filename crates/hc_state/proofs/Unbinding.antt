@@ -21,7 +21,8 @@ pub without_is : (c : ℕ) (cs : List ℕ) (d : ℕ) → is_among d (without its
 without_is c cs d = has-without itself d c cs ∙ grind (arith, nat_tests)
 
 -- it is bound to nothing then
-module _ (t : Tables) (started : (d : ℕ) → is_some (t.consumer d) ≡ true → Among d t.starts) (c : ℕ) (v w : rows.Consumer) (row : t.consumer c ≡ Some v) (free : (q : ℕ) → is_bound_place q w.place ≡ false) where
+module _ (t : Tables) (started : (d : ℕ) → is_some (t.consumer d) ≡ true → Among d t.starts) (c : ℕ) (v w : rows.Consumer) (row : t.consumer c ≡ Some v)
+    (free : (q : ℕ) → is_bound_place q w.place ≡ false) where
   abbrev s : Tables
   s = with_consumer c (Some w) t
 
@@ -38,9 +39,17 @@ module _ (t : Tables) (started : (d : ℕ) → is_some (t.consumer d) ≡ true �
   firsts q off d = grind (arith, nat_tests)
 
   -- that it wasn't bound to
-  entry_stays : (q : ℕ) (k : Option Kept) (o : Option Representation) → t.representation q ≡ o → is_bound q (Some v) ≡ false → KeepsEntry t q k o → KeepsEntry s q k o
+  entry_stays : (q : ℕ) (k : Option Kept) (o : Option Representation) → t.representation q ≡ o → is_bound q (Some v) ≡ false → KeepsEntry t q k o →
+      KeepsEntry s q k o
   unfolding kind_of
-  entry_stays q k o at off kept = entry_same t s q k o at (record { users = users q off; first = firsts q off; list = bound_same t s q refl (users q off); kind = λ p is. refl; overs = λ y on. on }) kept
+  entry_stays q k o at off kept =
+      entry_same t s q k o at (record {
+        users = users q off;
+        first = firsts q off;
+        list = bound_same t s q refl (users q off);
+        kind = λ p is. refl;
+        overs = λ y on. on;
+      }) kept
 
   bound_started : (z : Tables) (q d : ℕ) → z.starts ≡ t.starts → is_bound q (z.consumer d) ≡ true → is_some (t.consumer d) ≡ true → bound z q ≢ []
   unfolding bound
@@ -106,9 +115,11 @@ module _ (t : Tables) (started : (d : ℕ) → is_some (t.consumer d) ≡ true �
 
       by_length : KnowsLength e p → KnowsLength (without_user c e) p
       by_length (reported same) = reported same
-      by_length (unreported u) = unreported (record { gone = u.gone; unreported = u.unreported; total = u.total; known = u.known; came = u.came; first = ap (unless_it c) u.first })
+      by_length (unreported u) =
+          unreported (record { gone = u.gone; unreported = u.unreported; total = u.total; known = u.known; came = u.came; first = ap (unless_it c) u.first })
 
-      left_by_test : (b : Bool) → (e.is_gone && is_nobody (without itself c e.bound)) ≡ b → KeepsEntry s q (if b then None else Some (without_user c e)) (Some p)
+      left_by_test : (b : Bool) → (e.is_gone && is_nobody (without itself c e.bound)) ≡ b →
+          KeepsEntry s q (if b then None else Some (without_user c e)) (Some p)
       unfolding kind_of
       left_by_test true on =
           let both = gone_by_test e.is_gone (is_nobody (without itself c e.bound)) on in
@@ -143,7 +154,8 @@ module _ (t : Tables) (started : (d : ℕ) → is_some (t.consumer d) ≡ true �
           let left : shelf.Becomes (option_and_then (entry.left_by c)) same_order q0 a b = subst (λ p. UnbindsAt p c a b) at unbinds in
           record {
             each = λ q. elim (same_or q0 q) [
-              | inl e ↦ subst (λ n. KeepsEntry s n (b.kept n) (s.representation n)) e (rw (left.kept q0, eqb-same q0) (entry_left q0 (rw at (eqb-same q0)) (a.kept q0) (t.representation q0) (kept.each q0)))
+              | inl e ↦ subst (λ n. KeepsEntry s n (b.kept n) (s.representation n)) e
+                  (rw (left.kept q0, eqb-same q0) (entry_left q0 (rw at (eqb-same q0)) (a.kept q0) (t.representation q0) (kept.each q0)))
               | inr ne ↦ rw (left.kept q, eqb-other q0 q ne) (entry_stays q (a.kept q) (t.representation q) refl (rw at (eqb-other q0 q ne)) (kept.each q))
             ];
             order = left.order ∙ kept.order;
@@ -152,7 +164,8 @@ module _ (t : Tables) (started : (d : ℕ) → is_some (t.consumer d) ≡ true �
 
 -- WHO IS BOUND IS KEPT AS BOUND
 
-module _ (t : Tables) (started : (d : ℕ) → is_some (t.consumer d) ≡ true → Among d t.starts) (c : ℕ) (v : rows.Consumer) (row : t.consumer c ≡ Some v) (stored : (q lo : ℕ) (hi : Option ℕ) (how : BoundBy) → v.place ≡ place.Bound q lo hi how → is_some (t.representation q) ≡ true) where
+module _ (t : Tables) (started : (d : ℕ) → is_some (t.consumer d) ≡ true → Among d t.starts) (c : ℕ) (v : rows.Consumer) (row : t.consumer c ≡ Some v)
+    (stored : (q lo : ℕ) (hi : Option ℕ) (how : BoundBy) → v.place ≡ place.Bound q lo hi how → is_some (t.representation q) ≡ true) where
   nobody_else : (q : ℕ) → is_bound q (t.consumer c) ≡ true → bound t q ≢ []
   unfolding bound
   nobody_else q on = filter_some (λ n. is_bound q (t.consumer n)) c t.starts (started c (ap (λ z. is_some z) row)) on
@@ -161,7 +174,8 @@ module _ (t : Tables) (started : (d : ℕ) → is_some (t.consumer d) ≡ true �
   pub user_kept : (a : Shelf) → KeepsEntries t a → IsUserAt v.place c a
   user_kept a kept = by_place v.place refl
     where
-      by_kept : (q : ℕ) → is_bound q (Some v) ≡ true → is_some (t.representation q) ≡ true → (k : Option Kept) (o : Option Representation) → t.representation q ≡ o → KeepsEntry t q k o → has itself c (bound_in k) ≡ true
+      by_kept : (q : ℕ) → is_bound q (Some v) ≡ true → is_some (t.representation q) ≡ true → (k : Option Kept) (o : Option Representation) →
+          t.representation q ≡ o → KeepsEntry t q k o → has itself c (bound_in k) ≡ true
       by_kept q on there None None at each = false_true (sym (ap (λ z. is_some z) at) ∙ there)
       by_kept q on there None (Some p) at each = absurd (nobody_else q (ap (is_bound q) row ∙ on) each.unused)
       by_kept q on there (Some e) None at each = absurd each

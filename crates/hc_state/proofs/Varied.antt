@@ -46,7 +46,8 @@ module _ (p : Pair → Bool) (same : (f g : Pair) → has_name g.0 f ≡ true �
   left_is ys (f ∷ xs) = by_test (p f) refl (ap (λ (zs : FieldPairs). left_by (out zs) xs) (sym (append_assoc ys (f ∷ []) xs)) ∙ left_is (ys ++ (f ∷ [])) xs)
     where
       by_test : (a : Bool) → p f ≡ a → left_by (out (ys ++ (f ∷ xs))) xs ≡ filter p xs → left_by (out (ys ++ (f ∷ xs))) (f ∷ xs) ≡ filter p (f ∷ xs)
-      by_test true on rest = let none : is_renewed (out (ys ++ (f ∷ xs))) f ≡ false = none_renews (ys ++ (f ∷ xs)) f on in rw (none, on) (ap (λ (zs : FieldPairs). f ∷ zs) rest)
+      by_test true on rest = let none : is_renewed (out (ys ++ (f ∷ xs))) f ≡ false = none_renews (ys ++ (f ∷ xs)) f on in
+          rw (none, on) (ap (λ (zs : FieldPairs). f ∷ zs) rest)
       by_test false off rest = let some : is_renewed (out (ys ++ (f ∷ xs))) f ≡ true = self_renews ys xs f off in rw (some, off) rest
 
 -- WHAT VARY NAMES
@@ -56,34 +57,41 @@ abbrev pub unnamed : FieldPairs → FieldPairs → FieldPairs
 unnamed reported fs = filter (λ f. not (is_varied reported f)) fs
 
 by_name : (reported : FieldPairs) (f g : Pair) → has_name g.0 f ≡ true → is_varied reported f ≡ is_varied reported g
-by_name reported f g is = ap (λ (name : List ℕ). list_any (λ element. bytes_eq (lowercase element) name) (elements_in (codes "vary") reported)) (same_bytes f.0 g.0 is)
+by_name reported f g is =
+    ap (λ (name : List ℕ). list_any (λ element. bytes_eq (lowercase element) name) (elements_in (codes "vary") reported)) (same_bytes f.0 g.0 is)
 
 pub varied-first : (asked reported : FieldPairs) → left_by (unnamed reported asked) asked ≡ varied_by asked reported
 varied-first asked reported = left_is (is_varied reported) (by_name reported) [] asked
 
 -- as the code tests it
-pub varied-lower : (reported : FieldPairs) (name value : List ℕ) → lowercase name ≡ name → list_any (is_named_by name) (elements_in (codes "vary") reported) ≡ is_varied reported (name, value)
+pub varied-lower : (reported : FieldPairs) (name value : List ℕ) → lowercase name ≡ name →
+    list_any (is_named_by name) (elements_in (codes "vary") reported) ≡ is_varied reported (name, value)
 varied-lower reported name value lower = ap (λ (n : List ℕ). list_any (λ element. bytes_eq (lowercase element) n) (elements_in (codes "vary") reported)) lower
 
-pub unnamed-more : (reported asked : FieldPairs) (i : ℕ) (g : Pair) → slice_get asked i ≡ Some g → is_varied reported g ≡ false → unnamed reported (drop i asked) ≡ g ∷ unnamed reported (drop (i + 1) asked)
+pub unnamed-more : (reported asked : FieldPairs) (i : ℕ) (g : Pair) → slice_get asked i ≡ Some g → is_varied reported g ≡ false →
+    unnamed reported (drop i asked) ≡ g ∷ unnamed reported (drop (i + 1) asked)
 unnamed-more reported asked i g is off = rw (drop_more asked i g (slice_get_within asked i g is), get_or_from_slice_get asked i g g is, off) refl
 
-pub unnamed-named : (reported asked : FieldPairs) (i : ℕ) (g : Pair) → slice_get asked i ≡ Some g → is_varied reported g ≡ true → unnamed reported (drop i asked) ≡ unnamed reported (drop (i + 1) asked)
+pub unnamed-named : (reported asked : FieldPairs) (i : ℕ) (g : Pair) → slice_get asked i ≡ Some g → is_varied reported g ≡ true →
+    unnamed reported (drop i asked) ≡ unnamed reported (drop (i + 1) asked)
 unnamed-named reported asked i g is on = rw (drop_more asked i g (slice_get_within asked i g is), get_or_from_slice_get asked i g g is, on) refl
 
 -- one field more is looked at
-module _ (reported asked fields : FieldPairs) (i : ℕ) (g : Pair) (list : IsFieldList asked) (is : slice_get asked i ≡ Some g) (left : left_by (unnamed reported (drop i asked)) fields ≡ varied_by asked reported) where
+module _ (reported asked fields : FieldPairs) (i : ℕ) (g : Pair) (list : IsFieldList asked) (is : slice_get asked i ≡ Some g)
+    (left : left_by (unnamed reported (drop i asked)) fields ≡ varied_by asked reported) where
   lower : lowercase g.0 ≡ g.0
   lower = (field_at asked i g list is).is_lower
 
-  pub varied-removed : list_any (is_named_by g.0) (elements_in (codes "vary") reported) ≡ false → (after : FieldPairs) → after ≡ without (lowercase g.0) fields → left_by (unnamed reported (drop (i + 1) asked)) after ≡ varied_by asked reported
+  pub varied-removed : list_any (is_named_by g.0) (elements_in (codes "vary") reported) ≡ false → (after : FieldPairs) →
+      after ≡ without (lowercase g.0) fields → left_by (unnamed reported (drop (i + 1) asked)) after ≡ varied_by asked reported
   varied-removed off after removed =
       let rest = unnamed reported (drop (i + 1) asked) in
       ap (left_by rest) (removed ∙ ap (λ (n : List ℕ). without n fields) lower)
       ∙ (left_by-more g rest fields
       ∙ (ap (λ (t : FieldPairs). left_by t fields) (sym (unnamed-more reported asked i g is (sym (varied-lower reported g.0 g.1 lower) ∙ off))) ∙ left))
 
-  pub varied-kept : list_any (is_named_by g.0) (elements_in (codes "vary") reported) ≡ true → left_by (unnamed reported (drop (i + 1) asked)) fields ≡ varied_by asked reported
+  pub varied-kept : list_any (is_named_by g.0) (elements_in (codes "vary") reported) ≡ true →
+      left_by (unnamed reported (drop (i + 1) asked)) fields ≡ varied_by asked reported
   varied-kept on = ap (λ (t : FieldPairs). left_by t fields) (sym (unnamed-named reported asked i g is (sym (varied-lower reported g.0 g.1 lower) ∙ on))) ∙ left
 
 -- WHAT IS STORED

@@ -17,5 +17,5 @@ pub use consumer::awaited;
 pub use founded::{Founding, founded_head};
 pub use hc_txn::Transaction;
 pub use rows::Rows;
-pub use stop::{Readers, Disposition};
+pub use stop::{Disposition, Readers};
 pub use stored::renewed;

@@ -31,7 +31,8 @@ module _ (n : ℕ) (entry_contents : Option Held) (slots : Slots) where
   below-with zero lt = absurd (omega arith)
   below-with (suc k) lt =
       elim (eqb_tells n k) [
-        | inl same ↦ subst (λ (j : ℕ). weight_below (with_slot n entry_contents slots) (suc j) + weigh (slots n) ≡ weight_below slots (suc j) + weigh entry_contents) same.1
+        | inl same ↦ subst (λ (j : ℕ). weight_below (with_slot n entry_contents slots) (suc j) + weigh (slots n) ≡ weight_below slots (suc j) + weigh
+            entry_contents) same.1
             (rw at-same (let rest = below-other n (omega arith) in omega arith))
         | inr off ↦ rw off.0 (let rest = below-with k (let ne = off.1 in omega arith) in omega arith)
       ]
@@ -55,13 +56,15 @@ pub weight-none : (a : Slots) → ((m : ℕ) → a m ≡ None) → weight a ≡ 
 unfolding weight
 weight-none a none = below-none a (2 ^ 64) none
 
-weigh-puts : (from x : ℕ) (bytes : List ℕ) (last : Option Kind) (o : Option Held) → is_some o ≡ true → AreAbsent (λ p. cells_held o p) from (from + length bytes) → from + length bytes ≤ 2 ^ 62
+weigh-puts : (from x : ℕ) (bytes : List ℕ) (last : Option Kind) (o : Option Held) → is_some o ≡ true →
+    AreAbsent (λ p. cells_held o p) from (from + length bytes) → from + length bytes ≤ 2 ^ 62
     → weigh (option_map (puts from x bytes last) o) ≡ weigh o + length bytes
 weigh-puts from x bytes last None is absent end = absurd (let never : false ≡ true = is in cc)
 weigh-puts from x bytes last (Some h) is absent end = let more = size-written h.cells from x bytes absent end in omega arith
 
 -- Bytes that are put weigh what they are.
-pub weight-put : (a b : Slots) (n from x : ℕ) (bytes : List ℕ) (last : Option Kind) → n < 2 ^ 64 → is_some (a n) ≡ true → AreAbsent (cells_in a n) from (from + length bytes) → from + length bytes ≤ 2 ^ 62
+pub weight-put : (a b : Slots) (n from x : ℕ) (bytes : List ℕ) (last : Option Kind) → n < 2 ^ 64 → is_some (a n) ≡ true →
+    AreAbsent (cells_in a n) from (from + length bytes) → from + length bytes ≤ 2 ^ 62
     → ((m : ℕ) → b m ≡ slots_after (puts from x bytes last) n a m) → weight b ≡ weight a + length bytes
 weight-put a b n from x bytes last lt live absent end is =
     let one = weight-slot a b n (option_map (puts from x bytes last) (a n)) lt is in
@@ -73,7 +76,8 @@ weigh-kept f None same = refl
 weigh-kept f (Some h) same = rw (same h) refl
 
 -- What keeps the bytes of one slot keeps the sum.
-pub weight-kept : (a b : Slots) (n : ℕ) (f : Held → Held) → n < 2 ^ 64 → ((h : Held) → (f h).cells ≡ h.cells) → ((m : ℕ) → b m ≡ slots_after f n a m) → weight b ≡ weight a
+pub weight-kept : (a b : Slots) (n : ℕ) (f : Held → Held) → n < 2 ^ 64 → ((h : Held) → (f h).cells ≡ h.cells) → ((m : ℕ) → b m ≡ slots_after f n a m) →
+    weight b ≡ weight a
 weight-kept a b n f lt same is =
     let one = weight-slot a b n (option_map f (a n)) lt is in
     let here = weigh-kept f (a n) same in
@@ -90,7 +94,8 @@ weigh-none None is = refl
 weigh-none (Some h) is = absurd (let never : true ≡ false = is in cc)
 
 -- A slot that is made weighs 32,768.
-pub weight-new : (a b : Slots) (n : ℕ) (head : Head) → n < 2 ^ 64 → is_some (a n) ≡ false → ((m : ℕ) → b m ≡ with_slot n (Some (bare head)) a m) → weight b ≡ weight a + 32768
+pub weight-new : (a b : Slots) (n : ℕ) (head : Head) → n < 2 ^ 64 → is_some (a n) ≡ false → ((m : ℕ) → b m ≡ with_slot n (Some (bare head)) a m) →
+    weight b ≡ weight a + 32768
 weight-new a b n head lt gone is =
     let one = weight-slot a b n (Some (bare head)) lt is in
     let was = weigh-none (a n) gone in
@@ -108,13 +113,15 @@ written entries n old new there = Updates-with_value entries n new (rw there ref
 now-at : (entries : Slab Entry) (n m : ℕ) (old new : Entry) → get entries n ≡ Some old → n ≡ m → get (with_value entries n new) m ≡ Some new
 now-at entries n m old new there same = ap (get (with_value entries n new)) (sym same) ∙ (written entries n old new there).changed
 
-pub changed-entry : (entries : Slab Entry) (n : ℕ) (old new : Entry) (f : Held → Held) → get entries n ≡ Some old → entry_contents new ≡ f (entry_contents old) → (m : ℕ) → slots_of (with_value entries n new) m ≡ slots_after f n (slots_of entries) m
+pub changed-entry : (entries : Slab Entry) (n : ℕ) (old new : Entry) (f : Held → Held) → get entries n ≡ Some old →
+    entry_contents new ≡ f (entry_contents old) → (m : ℕ) → slots_of (with_value entries n new) m ≡ slots_after f n (slots_of entries) m
 changed-entry entries n old new f there is m = elim (eqb_tells n m) [
   | inl same ↦ rw same.0 (ap held_at (now-at entries n m old new there same.1) ∙ (ap Some is ∙ ap (λ o. option_map f (held_at o)) (sym there)))
   | inr off ↦ rw off.0 (ap held_at ((written entries n old new there).others m (λ e. off.1 (sym e))))
 ]
 
-pub same-entry : (entries : Slab Entry) (n : ℕ) (old new : Entry) → get entries n ≡ Some old → entry_contents new ≡ entry_contents old → (m : ℕ) → slots_of (with_value entries n new) m ≡ slots_of entries m
+pub same-entry : (entries : Slab Entry) (n : ℕ) (old new : Entry) → get entries n ≡ Some old → entry_contents new ≡ entry_contents old → (m : ℕ) →
+    slots_of (with_value entries n new) m ≡ slots_of entries m
 same-entry entries n old new there is m = elim (eqb_tells n m) [
   | inl same ↦ ap held_at (now-at entries n m old new there same.1) ∙ (ap Some is ∙ ap held_at (sym (ap (get entries) (sym same.1) ∙ there)))
   | inr off ↦ ap held_at ((written entries n old new there).others m (λ e. off.1 (sym e)))

@@ -41,7 +41,8 @@ module _ {rows : Rows} {order : List ℕ} {slots : Slots} (good : AreShelved row
       | inr off ↦ rw (changes q, off) refl
     ]
 
-    pub ordered-first : is_current (rows r) ≡ true → ((a : Row) → (f a).is_gone ≡ a.is_gone) → (q : ℕ) → has itself q (r ∷ without itself r order) ≡ is_current (new_rows q)
+    pub ordered-first : is_current (rows r) ≡ true → ((a : Row) → (f a).is_gone ≡ a.is_gone) → (q : ℕ) →
+        has itself q (r ∷ without itself r order) ≡ is_current (new_rows q)
     ordered-first current same q = elim (cases_Bool (eqb r q)) [
       | inl on ↦ rw (changes q, on) (sym current ∙ sym (current-same f same (rows r)))
       | inr off ↦ rw (changes q, off) (others q off)
@@ -77,14 +78,16 @@ module _ {rows : Rows} {order : List ℕ} {slots : Slots} (good : AreShelved row
 
 -- WHAT A ROW ADMITS
 
-current-kept : (c : ℕ) (row : Row) (o : Option Held) → admits c (option_map (kept_of row) o) ≡ true → (is_current (Some row) ≡ true) × (has itself c row.bound ≡ false)
+current-kept : (c : ℕ) (row : Row) (o : Option Held) → admits c (option_map (kept_of row) o) ≡ true → (is_current (Some row) ≡ true) ×
+    (has itself c row.bound ≡ false)
 current-kept c row None admits = absurd (let never : false ≡ true = admits in cc)
 current-kept c row (Some held) admits =
     let parts = and_parts (not row.is_gone) (not (has itself c row.bound)) admits in
     (parts.0, not_true (has itself c row.bound) parts.1)
 
 -- it is current, and the consumer isn't bound to it
-pub admits-row : (slots : Slots) (c : ℕ) (o : Option Row) → admits c (kept_by slots o) ≡ true → (n : ℕ) × (slot_at o ≡ Some n) × (is_current o ≡ true) × (has itself c (users_at o) ≡ false)
+pub admits-row : (slots : Slots) (c : ℕ) (o : Option Row) → admits c (kept_by slots o) ≡ true → (n : ℕ) × (slot_at o ≡ Some n) × (is_current o ≡ true) ×
+    (has itself c (users_at o) ≡ false)
 admits-row slots c None admits = absurd (let never : false ≡ true = admits in cc)
 admits-row slots c (Some row) admits = let is = current-kept c row (slots row.slot) admits in (row.slot, refl, is.0, is.1)
 
@@ -114,7 +117,8 @@ absent-user c (Some row) a is absent = let e : row ≡ a = cc in ap (λ (b : Row
 -- A ROW THAT GOES
 
 -- a row keeps its slot
-pub slot-before : (f : Row → Row) → ((a : Row) → (f a).slot ≡ a.slot) → (o p : Option Row) (n : ℕ) → p ≡ option_map f o → slot_at p ≡ Some n → slot_at o ≡ Some n
+pub slot-before : (f : Row → Row) → ((a : Row) → (f a).slot ≡ a.slot) → (o p : Option Row) (n : ℕ) → p ≡ option_map f o → slot_at p ≡ Some n →
+    slot_at o ≡ Some n
 slot-before f keeps None p n is slot = sym (ap slot_at is) ∙ slot
 slot-before f keeps (Some a) p n is slot = ap Some (sym (keeps a)) ∙ (sym (ap slot_at is) ∙ slot)
 
@@ -133,7 +137,8 @@ module _ (rows : Rows) {new_rows : Rows} (r : ℕ) (f : Row → Row) (changes : 
   over-after a is = ap is_over (row-after ∙ ap (option_map f) is)
 
 -- it isn't over once it is gone: somebody is bound
-pub used-gone : (rows : Rows) {new_rows : Rows} (r : ℕ) → Changes going r rows new_rows → is_over (new_rows r) ≡ false → (a : Row) → rows r ≡ Some a → is_nobody a.bound ≡ false
+pub used-gone : (rows : Rows) {new_rows : Rows} (r : ℕ) → Changes going r rows new_rows → is_over (new_rows r) ≡ false → (a : Row) → rows r ≡ Some a →
+    is_nobody a.bound ≡ false
 used-gone rows r changes over a is = sym (over-after rows r going changes a is) ∙ over
 
 -- it isn't over once one has left

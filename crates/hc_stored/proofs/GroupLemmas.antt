@@ -6,14 +6,16 @@ use Rattle.hc_writers.specs.Group.{Group, consumer_of, is_member, resumed, stand
 use Rattle.hc_writers.proofs.NumberLemmas.{has_numbers, with_numbers, without_numbers, first_numbers, moved_numbers}
 use Rattle.hc_stored.specs.Groups.{IsGrouped, HasMembers, MayJoin, joined_unless, left_if_member, moved_if_member}
 
-pub may_join : (c : ℕ) (bound : List ℕ) (reach : ℕ) (group : Option Group) → has itself c bound ≡ false → IfSome group (HasMembers bound reach) → IfSome group (MayJoin c)
+pub may_join : (c : ℕ) (bound : List ℕ) (reach : ℕ) (group : Option Group) → has itself c bound ≡ false → IfSome group (HasMembers bound reach) →
+    IfSome group (MayJoin c)
 may_join c bound reach None off h = tt
 may_join c bound reach (Some w) off h = record { new = has_numbers c w.members ∙ (ap (has itself c) h.members ∙ off); shared = h.shared }
 
 joined : (c : ℕ) (bound : List ℕ) (reach : ℕ) (group : Option Group) → IfSome group (HasMembers bound reach)
     → IfSome (joined_unless false c group) (HasMembers (with_item itself c bound) reach)
 joined c bound reach None h = tt
-joined c bound reach (Some w) h = record { shared = h.shared; members = with_numbers (standing_at c 0) w.members ∙ ap (with_item itself c) h.members; end = h.end }
+joined c bound reach (Some w) h =
+    record { shared = h.shared; members = with_numbers (standing_at c 0) w.members ∙ ap (with_item itself c) h.members; end = h.end }
 
 pub joined_grouped : (lost : Bool) (c : ℕ) (bound : List ℕ) (reach : ℕ) (group : Option Group) → IsGrouped lost bound reach group
     → IsGrouped lost (with_item itself c bound) reach (joined_unless lost c group)

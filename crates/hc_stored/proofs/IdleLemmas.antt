@@ -12,7 +12,8 @@ unused-row : (slots : Slots) (o : Option Row) → ((row : Row) → o ≡ Some ro
 unused-row slots None each = refl
 unused-row slots (Some row) each = unused-held row (slots row.slot) (each row refl).live
 
-pub unused-kept : {rows : Rows} {order : List ℕ} {slots : Slots} → AreShelved rows order slots → (r : ℕ) → is_unused_row (rows r) ≡ is_unused (kept_by slots (rows r))
+pub unused-kept : {rows : Rows} {order : List ℕ} {slots : Slots} → AreShelved rows order slots → (r : ℕ) →
+    is_unused_row (rows r) ≡ is_unused (kept_by slots (rows r))
 unused-kept {rows} {order} {slots} good r = unused-row slots (rows r) (good.each r)
 
 -- the last one of the order is the first one of those that are left
@@ -27,7 +28,8 @@ module _ (test : ℕ → Bool) where
   idle-last es rest n u is passes = ap (filter test) (last-first es rest n u is) ∙ (rw passes refl)
 
 -- one more gives way
-pub gives-more : (count most left weight : ℕ) (idle : List ℕ) (all : Option ℕ) → most < left → option_map (λ (n : ℕ). count + n) (gives_way most left (weight ∷ idle)) ≡ all
+pub gives-more : (count most left weight : ℕ) (idle : List ℕ) (all : Option ℕ) → most < left →
+    option_map (λ (n : ℕ). count + n) (gives_way most left (weight ∷ idle)) ≡ all
     → option_map (λ (n : ℕ). count + 1 + n) (gives_way most (left - weight) idle) ≡ all
 gives-more count most left weight idle all over is =
     let e : leb left most ≡ false = grind (arith, nat_tests) in

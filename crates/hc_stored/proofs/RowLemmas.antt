@@ -20,7 +20,8 @@ summary-is b summary is = let e = is in cc
 lifetime-sealed : (kind : Kind) (total : Option ℕ) (head : Head) (age : Option ℕ) → lifetime_by age (sealed_head kind total head) ≡ lifetime_by age head
 lifetime-sealed kind total head age = grind (arith, nat_tests)
 
-summary-sealed : (kind : Kind) (total : Option ℕ) (head : Head) → summary_of (sealed_head kind total head) ≡ record (summary_of head) { kind = kind; total = total }
+summary-sealed : (kind : Kind) (total : Option ℕ) (head : Head) →
+    summary_of (sealed_head kind total head) ≡ record (summary_of head) { kind = kind; total = total }
 unfolding corrected_initial_age lifetime
 summary-sealed kind total head =
     ap (λ (n : ℕ). record (summary_of head) { facts = record (head_facts head) { lifetime = n }; kind = kind; total = total })
@@ -36,10 +37,12 @@ pub shelved-filled : (at x : ℕ) (bytes : List ℕ) (last : Option Kind) (a : R
     → IsShelved (Some (puts at x bytes last b)) (reaching (at + length bytes) last a)
 shelved-filled at x bytes last a b some h = search (arith, summary-with, summary-is)
 
-pub shelved-sealed : (kind : Kind) (total : Option ℕ) (a : Row) (b : Held) → IsShelved (Some b) a → IsShelved (Some (seals kind total b)) (sealed_as kind total a)
+pub shelved-sealed : (kind : Kind) (total : Option ℕ) (a : Row) (b : Held) → IsShelved (Some b) a →
+    IsShelved (Some (seals kind total b)) (sealed_as kind total a)
 shelved-sealed kind total a b h = search (arith, summary-sealed, summary-is)
 
-pub shelved-rewritten : (head : Head) (summary : Summary) (a : Row) (b : Held) → summary ≡ summary_of head → IsShelved (Some b) a → IsShelved (Some (rewrites head b)) (with_summary summary a)
+pub shelved-rewritten : (head : Head) (summary : Summary) (a : Row) (b : Held) → summary ≡ summary_of head → IsShelved (Some b) a →
+    IsShelved (Some (rewrites head b)) (with_summary summary a)
 shelved-rewritten head summary a b is h = search arith
 
 -- CONSUMERS
@@ -87,7 +90,8 @@ among-without c first bound among = search (arith, has-without, itself)
 used-still : (gone nobody : Bool) → gone && nobody ≡ false → gone ≡ true → nobody ≡ false
 used-still gone nobody is gone1 = cc
 
-pub shelved-left : (c : ℕ) (a : Row) (b : Held) → a.is_gone && is_nobody (without itself c a.bound) ≡ false → IsShelved (Some b) a → IsShelved (Some b) (unused_by c a)
+pub shelved-left : (c : ℕ) (a : Row) (b : Held) → a.is_gone && is_nobody (without itself c a.bound) ≡ false → IsShelved (Some b) a →
+    IsShelved (Some b) (unused_by c a)
 shelved-left c a b kept h = record {
   number = h.number;
   live = refl;

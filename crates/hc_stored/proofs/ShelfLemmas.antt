@@ -76,7 +76,13 @@ module _ {rows : Rows} {order : List ℕ} {slots : Slots} (good : AreShelved row
       | inl same ↦
           let e : rows owner.r ≡ Some row = ap rows (sym (eqb-true r owner.r same)) ∙ there in
           let is : owner.row ≡ row = let f = owner.there in cc in
-          record { r = r; row = new; there = changes r ∙ (let t : eqb r r ≡ true = grind (arith, nat_tests) in rw t refl); slot = slot ∙ (ap (λ (a : Row). a.slot) (sym is) ∙ owner.slot) }
+          record {
+            r = r;
+            row = new;
+            there = changes r ∙ (let t : eqb r r ≡ true = grind (arith, nat_tests) in rw t refl);
+            slot = slot ∙
+                (ap (λ (a : Row). a.slot) (sym is) ∙ owner.slot);
+          }
       | inr off ↦ record { r = owner.r; row = owner.row; there = is-old owner.r off ∙ owner.there; slot = owner.slot }
     ]
 
@@ -86,11 +92,14 @@ module _ {rows : Rows} {order : List ℕ} {slots : Slots} (good : AreShelved row
       | inr off ↦ sym (ap is_some (puts n ∙ rw off refl)) ∙ live
     ]
 
-    pub changed-shelved : {new_order : List ℕ} → IsShelved (Some held) new → ((q : ℕ) → has itself q new_order ≡ is_current (new_rows q)) → AreShelved new_rows new_order new_slots
+    pub changed-shelved : {new_order : List ℕ} → IsShelved (Some held) new → ((q : ℕ) → has itself q new_order ≡ is_current (new_rows q)) →
+        AreShelved new_rows new_order new_slots
     changed-shelved shelved ordered = record {
       each = λ q b is. elim (cases_Bool (eqb r q)) [
-        | inl same ↦ subst (λ (a : Row). IsShelved (new_slots a.slot) a) (is-new q b same is) (subst (λ (o : Option Held). IsShelved o new) (sym own-held) shelved)
-        | inr off ↦ let before : rows q ≡ Some b = sym (is-old q off) ∙ is in subst (λ (o : Option Held). IsShelved o b) (sym (other-held q b off before)) (good.each q b before)
+        | inl same ↦ subst (λ (a : Row). IsShelved (new_slots a.slot) a) (is-new q b same is)
+            (subst (λ (o : Option Held). IsShelved o new) (sym own-held) shelved)
+        | inr off ↦ let before : rows q ≡ Some b = sym (is-old q off) ∙ is in
+            subst (λ (o : Option Held). IsShelved o b) (sym (other-held q b off before)) (good.each q b before)
       ];
       apart = λ q k a b ia ib same.
           let wa = was q a ia in let wb = was k b ib in
@@ -102,7 +111,8 @@ module _ {rows : Rows} {order : List ℕ} {slots : Slots} (good : AreShelved row
     pub changed-kept : (f : Option Kept → Option Kept) → f (Some (kept_of row (standing good r row there).held)) ≡ Some (kept_of new held)
         → (q : ℕ) → kept_by new_slots (new_rows q) ≡ cond (eqb r q) (f (kept_by slots (rows r))) (kept_by slots (rows q))
     changed-kept f is q = elim (cases_Bool (eqb r q)) [
-      | inl same ↦ rw same (ap (kept_by new_slots) (now-new q same) ∙ (ap (option_map (kept_of new)) own-held ∙ (sym is ∙ ap f (sym (kept-there good r row there)))))
+      | inl same ↦ rw same (ap (kept_by new_slots) (now-new q same) ∙
+          (ap (option_map (kept_of new)) own-held ∙ (sym is ∙ ap f (sym (kept-there good r row there)))))
       | inr off ↦ rw (off, is-old q off) (kept-still slots new_slots (rows q) (λ b is. other-held q b off is))
     ]
 
@@ -151,7 +161,8 @@ kept-slots slots n m = elim (cases_Bool (eqb n m)) [
 -- A ROW GOES
 
 module _ {rows : Rows} {order : List ℕ} {slots : Slots} (good : AreShelved rows order slots) (r n : ℕ) (slot : slot_at (rows r) ≡ Some n)
-    {new_rows : Rows} {new_slots : Slots} (drops : (q : ℕ) → new_rows q ≡ with_row r None rows q) (frees : (m : ℕ) → new_slots m ≡ with_slot n None slots m) where
+    {new_rows : Rows} {new_slots : Slots} (drops : (q : ℕ) → new_rows q ≡ with_row r None rows q)
+    (frees : (m : ℕ) → new_slots m ≡ with_slot n None slots m) where
   abbrev gone-row : (row : Row) × (rows r ≡ Some row) × (row.slot ≡ n)
   gone-row = slot-there (rows r) n slot
 
@@ -197,8 +208,10 @@ module _ {rows : Rows} {order : List ℕ} {slots : Slots} (good : AreShelved row
 
 -- A ROW MORE
 
-module _ {rows : Rows} {order : List ℕ} {slots : Slots} (good : AreShelved rows order slots) (r : ℕ) (new : Row) (held : Held) (absent : rows r ≡ None) (free : is_live slots new.slot ≡ false)
-    {new_rows : Rows} {new_slots : Slots} (adds : (q : ℕ) → new_rows q ≡ with_row r (Some new) rows q) (makes : (m : ℕ) → new_slots m ≡ with_slot new.slot (Some held) slots m) where
+module _ {rows : Rows} {order : List ℕ} {slots : Slots} (good : AreShelved rows order slots) (r : ℕ) (new : Row) (held : Held) (absent : rows r ≡ None)
+    (free : is_live slots new.slot ≡ false)
+    {new_rows : Rows} {new_slots : Slots} (adds : (q : ℕ) → new_rows q ≡ with_row r (Some new) rows q)
+    (makes : (m : ℕ) → new_slots m ≡ with_slot new.slot (Some held) slots m) where
   -- every other row is of another slot
   off-new : (q : ℕ) (b : Row) → rows q ≡ Some b → eqb new.slot b.slot ≡ false
   off-new q b is = elim (cases_Bool (eqb new.slot b.slot)) [
@@ -217,7 +230,8 @@ module _ {rows : Rows} {order : List ℕ} {slots : Slots} (good : AreShelved row
 
   each-added : IsShelved (Some held) new → (q : ℕ) (b : Row) → new_rows q ≡ Some b → IsShelved (new_slots b.slot) b
   each-added shelved q b is = elim (cases_Bool (eqb r q)) [
-    | inl same ↦ subst (λ (a : Row). IsShelved (new_slots a.slot) a) (is-added q b same is) (subst (λ (o : Option Held). IsShelved o new) (sym added-held) shelved)
+    | inl same ↦ subst (λ (a : Row). IsShelved (new_slots a.slot) a) (is-added q b same is)
+        (subst (λ (o : Option Held). IsShelved o new) (sym added-held) shelved)
     | inr off ↦
         let before = was-there q b off is in
         let same : new_slots b.slot ≡ slots b.slot = makes b.slot ∙ rw (off-new q b before) refl in
@@ -251,11 +265,18 @@ module _ {rows : Rows} {order : List ℕ} {slots : Slots} (good : AreShelved row
 
   owned-added : (m : ℕ) → is_live new_slots m ≡ true → ∥ Owner new_rows m ∥₁
   owned-added m live = elim (cases_Bool (eqb new.slot m)) [
-    | inl same ↦ merely (record { r = r; row = new; there = adds r ∙ (let e : eqb r r ≡ true = grind (arith, nat_tests) in rw e refl); slot = eqb-true new.slot m same })
+    | inl same ↦ merely (record {
+      r = r;
+      row = new;
+      there = adds r ∙ (let e : eqb r r ≡ true = grind (arith, nat_tests) in rw e refl);
+      slot =
+          eqb-true new.slot m same;
+    })
     | inr off ↦ ∥∥₁_map (good.owned m (sym (ap is_some (makes m ∙ rw off refl)) ∙ live)) (old-owner m)
   ]
 
-  pub added-shelved : {new_order : List ℕ} → IsShelved (Some held) new → ((q : ℕ) → has itself q new_order ≡ is_current (new_rows q)) → AreShelved new_rows new_order new_slots
+  pub added-shelved : {new_order : List ℕ} → IsShelved (Some held) new → ((q : ℕ) → has itself q new_order ≡ is_current (new_rows q)) →
+      AreShelved new_rows new_order new_slots
   added-shelved shelved ordered = record {
     each = each-added shelved;
     apart = apart-added;
@@ -265,7 +286,8 @@ module _ {rows : Rows} {order : List ℕ} {slots : Slots} (good : AreShelved row
 
 -- WHAT IS SEEN
 
-pub same-shelved : {rows new_rows : Rows} {order : List ℕ} {slots : Slots} → AreShelved rows order slots → ((q : ℕ) → new_rows q ≡ rows q) → AreShelved new_rows order slots
+pub same-shelved : {rows new_rows : Rows} {order : List ℕ} {slots : Slots} → AreShelved rows order slots → ((q : ℕ) → new_rows q ≡ rows q) →
+    AreShelved new_rows order slots
 same-shelved {rows} {new_rows} {order} {slots} good same = subst (λ (rs : Rows). AreShelved rs order slots) (sym (fun_ext same)) good
 
 cells-of : (row : Row) (o : Option Held) (p : ℕ) → cells_held o p ≡ cells_in (option_map (kept_of row) o) p
@@ -280,8 +302,10 @@ cells-kept slots (Some row) n is p =
     ap (λ (k : ℕ). cells_held (slots k) p) (sym e) ∙ cells-of row (slots row.slot) p
 
 -- what is kept of the others stays where one row and one slot more are there
-module _ {rows : Rows} {order : List ℕ} {slots : Slots} (good : AreShelved rows order slots) (r : ℕ) (new : Row) (held : Held) (free : is_live slots new.slot ≡ false)
-    {new_rows : Rows} {new_slots : Slots} (adds : (q : ℕ) → new_rows q ≡ with_row r (Some new) rows q) (makes : (m : ℕ) → new_slots m ≡ with_slot new.slot (Some held) slots m) where
+module _ {rows : Rows} {order : List ℕ} {slots : Slots} (good : AreShelved rows order slots) (r : ℕ) (new : Row) (held : Held)
+    (free : is_live slots new.slot ≡ false)
+    {new_rows : Rows} {new_slots : Slots} (adds : (q : ℕ) → new_rows q ≡ with_row r (Some new) rows q)
+    (makes : (m : ℕ) → new_slots m ≡ with_slot new.slot (Some held) slots m) where
   kept-new : (q : ℕ) → eqb r q ≡ true → kept_by new_slots (new_rows q) ≡ Some (kept_of new held)
   kept-new q same =
       let here : new_rows q ≡ Some new = adds q ∙ rw same refl in
@@ -311,7 +335,8 @@ slots-back n o slots made free is = fun_ext at-each where
     | inr off ↦ rw off (ap (λ (s : Slots). s m) is ∙ rw off refl)
   ]
 
-pub same-slots : {rows : Rows} {order new_order : List ℕ} {slots new_slots : Slots} → AreShelved rows order slots → new_order ≡ order → new_slots ≡ slots → AreShelved rows new_order new_slots
+pub same-slots : {rows : Rows} {order new_order : List ℕ} {slots new_slots : Slots} → AreShelved rows order slots → new_order ≡ order →
+    new_slots ≡ slots → AreShelved rows new_order new_slots
 same-slots {rows} {order} {new_order} {slots} {new_slots} good moved same =
     subst (λ (ns : List ℕ). AreShelved rows ns new_slots) (sym moved) (subst (λ (s : Slots). AreShelved rows order s) (sym same) good)
 

@@ -106,7 +106,8 @@ module _ (own : Own) (slots : Slots) (r n : ℕ) (rs : List ℕ) (mine : own r �
   sums-other [] off = refl
   sums-other (q ∷ qs) off =
       let rest = sums-other qs off.1 in
-      let first : weigh_own (with_slot n None slots) (but r own q) ≡ weigh_own slots (own q) = ap (weigh_own (with_slot n None slots)) (but-other q off.0) ∙ weighs-other q off.0 (own q) refl in
+      let first : weigh_own (with_slot n None slots) (but r own q) ≡ weigh_own slots (own q) =
+      ap (weigh_own (with_slot n None slots)) (but-other q off.0) ∙ weighs-other q off.0 (own q) refl in
       sum_by-cons (λ k. weigh_own (with_slot n None slots) (but r own k)) q qs
       ∙ (ap (λ (a : ℕ). a + sum_by (λ k. weigh_own (with_slot n None slots) (but r own k)) qs) first
       ∙ (ap (λ (b : ℕ). weigh_own slots (own q) + b) rest ∙ sym (sum_by-cons (λ k. weigh_own slots (own k)) q qs)))
@@ -143,7 +144,8 @@ weighs-kept slots (Some row) = of (slots row.slot) where
   of None = refl
   of (Some held) = refl
 
-sums-kept : (slots : Slots) (rows : Rows) (rs : List ℕ) → sum_by (λ r. weigh_own slots (slot_at (rows r))) rs ≡ sum_by (λ r. weigh_kept (kept_by slots (rows r))) rs
+sums-kept : (slots : Slots) (rows : Rows) (rs : List ℕ) →
+    sum_by (λ r. weigh_own slots (slot_at (rows r))) rs ≡ sum_by (λ r. weigh_kept (kept_by slots (rows r))) rs
 sums-kept slots rows [] = refl
 sums-kept slots rows (r ∷ rs) =
     let rest = sums-kept slots rows rs in

@@ -82,7 +82,8 @@ label_passes p (Some front) back h =
       | inr some ↦ rw some h.1
     ]
 
-no_number : (last : List ℕ) → list_all is_host_byte last ≡ true → ((not (is_empty last) && list_all is_ascii_digit last) || is_number (parse_number last)) ≡ false
+no_number : (last : List ℕ) → list_all is_host_byte last ≡ true →
+    ((not (is_empty last) && list_all is_ascii_digit last) || is_number (parse_number last)) ≡ false
 unfolding parse_number
 no_number [] h = refl
 no_number (b ∷ last) h =
@@ -230,7 +231,8 @@ query_is : (query : Option (List ℕ)) → QueryPasses query → IfSome query (A
 query_is None h = tt
 query_is (Some query) h = All-passing is_query_byte (IsKept SPECIAL_QUERY) keeps_query query h
 
-url_is : (host path : List ℕ) (query : Option (List ℕ)) → 1 ≤ length host → list_all is_host_byte host ≡ true → is_plain_path true path ≡ true → QueryPasses query
+url_is : (host path : List ℕ) (query : Option (List ℕ)) → 1 ≤ length host → list_all is_host_byte host ≡ true → is_plain_path true path ≡ true →
+    QueryPasses query
     → IsValid (plain_url host path query)
 unfolding default_port scheme_type
 url_is host path query some h k q = record {
@@ -341,7 +343,8 @@ path_bytes begins (b ∷ path) h =
     let byte = and_parts (is_path_byte b) (not (begins && begins_dots b)) outer.0 in
     and_from (is_plain_byte b) (list_all is_plain_byte path) (path_plain b byte.0) (path_bytes (b == 47) path outer.1)
 
-rest_bytes : (path : List ℕ) (query : Option (List ℕ)) → is_plain_path true path ≡ true → QueryPasses query → list_all is_plain_byte (with_query path query) ≡ true
+rest_bytes : (path : List ℕ) (query : Option (List ℕ)) → is_plain_path true path ≡ true → QueryPasses query →
+    list_all is_plain_byte (with_query path query) ≡ true
 rest_bytes path None h q = path_bytes true path h
 rest_bytes path (Some query) h q =
     append_pass is_plain_byte path (63 ∷ query) (path_bytes true path h) (all_pass is_query_byte is_plain_byte query_plain query q)
@@ -349,7 +352,8 @@ rest_bytes path (Some query) h q =
 plain_bytes : (text : List ℕ) → IsPlain text → list_all is_plain_byte text ≡ true
 plain_bytes text p =
     let q = p.behind_host in
-    let rest : list_all is_plain_byte p.rest ≡ true = subst (λ (t : List ℕ). list_all is_plain_byte t ≡ true) q.whole (rest_bytes q.path q.query q.path_passes q.query_passes) in
+    let rest : list_all is_plain_byte p.rest ≡ true =
+    subst (λ (t : List ℕ). list_all is_plain_byte t ≡ true) q.whole (rest_bytes q.path q.query q.path_passes q.query_passes) in
     let host : list_all is_plain_byte p.host ≡ true = all_pass is_host_byte is_plain_byte host_plain p.host p.host_passes in
     subst (λ (t : List ℕ). list_all is_plain_byte t ≡ true) p.whole
     (append_pass is_plain_byte (codes "http://") (p.host ++ 47 ∷ p.rest) refl (append_pass is_plain_byte p.host (47 ∷ p.rest) host rest))
@@ -372,7 +376,8 @@ plain_target text word plain =
     let url = plain_url p.host q.path q.query in
     let valid = url_is p.host q.path q.query p.some p.host_passes q.path_passes q.query_passes in
     let same : serialize url ≡ text = text_is p.host q.path q.query ∙ ap (λ (l : List ℕ). codes "http://" ++ (p.host ++ 47 ∷ l)) q.whole ∙ p.whole in
-    let read : parse_url None text ≡ Ok url = subst (λ (t : List ℕ). parse_url None t ≡ Ok url) same (parse_url-serialize_special url None valid (kind_is p.host q.path q.query)) in
+    let read : parse_url None text ≡ Ok url =
+    subst (λ (t : List ℕ). parse_url None t ≡ Ok url) same (parse_url-serialize_special url None valid (kind_is p.host q.path q.query)) in
     let utf8 : IsUtf8 text = IsUtf8-from_ascii text (subst IsAscii same (IsAscii-serialize url valid)) in
     let own : has_own_text url text ≡ true = rw ((bytes_eq-Decides (serialize url) text).1 same) refl in (
       sym (is_target-own text text url true word refl utf8 read (sym own)),

@@ -11,5 +11,5 @@ mod vector;
 pub use calls::{Calls, report_all};
 pub use fault::Fault;
 pub use lines::fields_of;
-pub use values::{quote, show, note};
+pub use values::{note, quote, show};
 pub use vector::{Vector, read_vector};

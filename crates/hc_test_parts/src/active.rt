@@ -78,7 +78,10 @@ impl Binding {
         let least = self.entry.least_bound();
         let writer_group = self.entry.is_group();
         let alone = self.entry.exclusive();
-        write!(to, "least {least:?}, writing {writing}, alone {alone:?}")?;
+        write!(
+            to,
+            "least {least:?}, writing {writer_group}, alone {alone:?}"
+        )?;
         Ok(())
     }
 }

@@ -10,7 +10,7 @@ use hc_rules::Write;
 use hc_sparse::{Presence, Span2};
 use hc_store::{Backend, Failing, Memory, StoreError};
 use hc_stored::Entries;
-use hc_test_frame::{Fault, Vector, quote, note};
+use hc_test_frame::{Fault, Vector, note, quote};
 use hc_text::{Key, NoMemory};
 
 /// Past the last position that there may be.

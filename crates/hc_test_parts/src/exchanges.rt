@@ -7,7 +7,7 @@ use crate::samples::response_of;
 use hc_event::{Event, Load, Need, Request};
 use hc_exch::{Exchanges, Role};
 use hc_fields::Fields;
-use hc_test_frame::{Fault, Vector, quote, note};
+use hc_test_frame::{Fault, Vector, note, quote};
 use hc_text::{Bytes, Key, MethodName};
 use std::alloc::Global;
 

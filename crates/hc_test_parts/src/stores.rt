@@ -155,7 +155,12 @@ impl Cupboard {
         }
     }
 
-    fn report_of_slot(&mut self, sample: &Sample, v: &Vector, to: &mut String) -> Result<(), Fault> {
+    fn report_of_slot(
+        &mut self,
+        sample: &Sample,
+        v: &Vector,
+        to: &mut String,
+    ) -> Result<(), Fault> {
         match &mut self.kept {
             Some(kept) => kept.note(sample, v, to),
             None => Err(Fault::NoSuchCall),

@@ -1,7 +1,7 @@
 //! How values are written.
 use hc_sparse::Run;
 use hc_store::StoreError;
-use hc_test_frame::{Fault, quote, note};
+use hc_test_frame::{Fault, note, quote};
 use hc_text::NoMemory;
 use std::fmt::Debug;
 

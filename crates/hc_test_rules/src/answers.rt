@@ -3,7 +3,7 @@ ghost use Rattle.std.specs.Prelude.{◌<◌};
 
 use crate::reported::{CUTS, report_bytes, report_response};
 use hc_msg::{MsgError, ResponseReader, Taken, WirePart};
-use hc_test_frame::{Fault, Vector, quote, note};
+use hc_test_frame::{Fault, Vector, note, quote};
 use std::alloc::Global;
 
 /// Writes what is told of an answer to a GET or a HEAD, and also what is told where it is cut

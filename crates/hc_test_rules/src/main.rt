@@ -11,9 +11,9 @@ mod given;
 mod heads;
 mod messages;
 mod plans;
+mod reported;
 mod requests;
 mod schedules;
-mod reported;
 mod validation;
 mod words;
 

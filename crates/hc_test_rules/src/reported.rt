@@ -1,7 +1,7 @@
 //! How events, heads and fields are written as values.
 use hc_event::{Event, Request, Response};
 use hc_fields::Fields;
-use hc_test_frame::{Fault, quote, show, note};
+use hc_test_frame::{Fault, note, quote, show};
 
 /// Of more bytes only their number and the first three are written.
 const MOST_SHOWN: usize = 400;

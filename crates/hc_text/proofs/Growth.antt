@@ -2,7 +2,8 @@
 use Rattle.std.{proofs.{Common.{◌≡◌, ℕ, zero, suc, ◌+◌, List, [], ◌∷◌, ◌++◌, take, Some, refl, arith, append_assoc}, lemmas.List.{append-nil}}, specs.List.{slice_get}}
 
 -- the text of a list whose elements are written one after another
-module _ {X : Type 0} (text : X → List ℕ) (texts : List X → List ℕ) (none : texts [] ≡ []) (one : (x : X) (xs : List X) → texts (x ∷ xs) ≡ text x ++ texts xs) where
+module _ {X : Type 0} (text : X → List ℕ) (texts : List X → List ℕ) (none : texts [] ≡ [])
+    (one : (x : X) (xs : List X) → texts (x ∷ xs) ≡ text x ++ texts xs) where
   pub texts_more : (xs : List X) (i : ℕ) (x : X) → slice_get xs i ≡ Some x → texts (take (i + 1) xs) ≡ texts (take i xs) ++ text x
   texts_more [] i x at = cc
   texts_more (y ∷ xs) zero x at = let same : y ≡ x = cc in rw (one y [], none, append-nil, same) refl

@@ -35,5 +35,6 @@ pub tested-AllDigits : (text : List ℕ) → AllDigits 10 text → list_all is_a
 tested-AllDigits text h = tested.from text h
 
 -- what has bytes that are digits alone, and not too many, is a number
-pub IsNumber-tested : (text : List ℕ) (n : ℕ) → 0 < length text → length text ≤ 20 → list_all is_ascii_digit text ≡ true → n ≡ digits_value 10 text → n < 2 ^ 62 → IsNumber text n
+pub IsNumber-tested : (text : List ℕ) (n : ℕ) → 0 < length text → length text ≤ 20 → list_all is_ascii_digit text ≡ true → n ≡ digits_value 10 text →
+    n < 2 ^ 62 → IsNumber text n
 IsNumber-tested text n some few all is small = (small, (some, tested.to text all), few, sym is)

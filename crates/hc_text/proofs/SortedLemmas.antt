@@ -157,7 +157,8 @@ module _ {X : Type 0} (number : X → ℕ) where
       let here = found-place n xs d up (place-has n xs up there) in
       elim (cases_Bool (eqb (number (get_or xs (place number n xs) d)) n)) [
         | inl same ↦ here ∙ rw same refl
-        | inr off ↦ absurd (let none : item_with number n xs ≡ None = here ∙ rw off refl in let some : is_some (item_with number n xs) ≡ true = sym (has-found n xs) ∙ there in let never : false ≡ true = rw none at some in cc)
+        | inr off ↦ absurd (let none : item_with number n xs ≡ None = here ∙ rw off refl in let some : is_some (item_with number n xs) ≡ true =
+            sym (has-found n xs) ∙ there in let never : false ≡ true = rw none at some in cc)
       ]
 
   -- what an insertion at the place leaves
@@ -240,7 +241,8 @@ module _ {X : Type 0} (number : X → ℕ) where
   ]
 
   -- what a write at the place leaves, where one is there
-  pub set-place : (y : X) (xs : List X) → is_sorted number xs ≡ true → has number (number y) xs ≡ true → set xs (place number (number y) xs) y ≡ with_replacement number y xs
+  pub set-place : (y : X) (xs : List X) → is_sorted number xs ≡ true → has number (number y) xs ≡ true →
+      set xs (place number (number y) xs) y ≡ with_replacement number y xs
   set-place y [] up there = refl
   set-place y (x ∷ xs) up there = elim (cases_Bool (leb (number y) (number x))) [
     | inl reached ↦
@@ -319,5 +321,7 @@ module _ {X : Type 0} (number : X → ℕ) where
         let e = eqb-true (number x) m gone in
         rw (gone, has-without n m xs, e) (and_or (eqb m n) (has number n xs))
     | inr kept ↦
-        rw (kept, has-without n m xs) (kept_or (eqb (number x) n) (eqb m n) (has number n xs) (λ at on. let ne = eqb-false (number x) m kept in ne (eqb-true (number x) n at ∙ sym (eqb-true m n on))))
+        rw (kept, has-without n m xs)
+        (kept_or (eqb (number x) n) (eqb m n) (has number n xs)
+        (λ at on. let ne = eqb-false (number x) m kept in ne (eqb-true (number x) n at ∙ sym (eqb-true m n on))))
   ]

@@ -35,13 +35,15 @@ own-decimal n h =
     let some = some-decimal n h in
     let first = is_blank-digit (slice_index (decimal n) 0) (digit_at (decimal n) 0 (AllDigits-decimal n h) some) in
     let last = last-decimal n h in
-    rw (values-decimal n h) (or_right (length (decimal n) == 0) (not (is_blank (slice_index (decimal n) 0) || is_blank (slice_index (decimal n) (length (decimal n) - 1)))) (rw (first, last) refl))
+    rw (values-decimal n h) (or_right (length (decimal n) == 0)
+    (not (is_blank (slice_index (decimal n) 0) || is_blank (slice_index (decimal n) (length (decimal n) - 1)))) (rw (first, last) refl))
 
 pub short-decimal : (n : ℕ) → n < 2 ^ 64 → length (decimal n) ≤ 20
 short-decimal n h = length-decimal-le 20 n (omega arith) (omega (arith, h)) h
 
 -- a text that begins with no blank and ends with a number is a value of a field
-own-ends : (front : List ℕ) (n : ℕ) → n < 2 ^ 64 → 0 < length front → list_all is_value_byte front ≡ true → is_blank (slice_index front 0) ≡ false → is_own_value (front ++ decimal n) ≡ true
+own-ends : (front : List ℕ) (n : ℕ) → n < 2 ^ 64 → 0 < length front → list_all is_value_byte front ≡ true → is_blank (slice_index front 0) ≡ false →
+    is_own_value (front ++ decimal n) ≡ true
 own-ends front n h longer bytes first =
     let some = some-decimal n h in
     let all : list_all is_value_byte (front ++ decimal n) ≡ true = list_all-append is_value_byte front (decimal n) ∙ rw (bytes, values-decimal n h) refl in
@@ -49,7 +51,8 @@ own-ends front n h longer bytes first =
     let begins : slice_index (front ++ decimal n) 0 ≡ slice_index front 0 = get_or_append_left front (decimal n) 0 0 longer in
     let place : length (front ++ decimal n) - 1 - length front ≡ length (decimal n) - 1 = omega arith in
     let ends : slice_index (front ++ decimal n) (length (front ++ decimal n) - 1) ≡ slice_index (decimal n) (length (decimal n) - 1) =
-    get_or-append_right front (decimal n) (length front) (length (front ++ decimal n) - 1) 0 refl (omega arith) ∙ ap (λ (i : ℕ). slice_index (decimal n) i) place in
+    get_or-append_right front (decimal n) (length front) (length (front ++ decimal n) - 1) 0 refl (omega arith) ∙
+    ap (λ (i : ℕ). slice_index (decimal n) i) place in
     rw all (or_right (length (front ++ decimal n) == 0)
     (not (is_blank (slice_index (front ++ decimal n) 0) || is_blank (slice_index (front ++ decimal n) (length (front ++ decimal n) - 1))))
     (rw (begins, ends, first, last-decimal n h) refl))
@@ -64,7 +67,8 @@ own-content_range span total within =
     (simp list_all-append (rw (values-decimal span.lo first_fits, values-decimal (span.hi - 1) last_fits) refl)) refl
 
 -- a text that begins with no blank and ends with one more byte, which is none, is a value of a field
-own-last : (front : List ℕ) (b : ℕ) → 0 < length front → list_all is_value_byte front ≡ true → is_blank (slice_index front 0) ≡ false → is_value_byte b ≡ true → is_blank b ≡ false → is_own_value (front ++ b ∷ []) ≡ true
+own-last : (front : List ℕ) (b : ℕ) → 0 < length front → list_all is_value_byte front ≡ true → is_blank (slice_index front 0) ≡ false →
+    is_value_byte b ≡ true → is_blank b ≡ false → is_own_value (front ++ b ∷ []) ≡ true
 own-last front b longer bytes first value last =
     let all : list_all is_value_byte (front ++ b ∷ []) ≡ true = list_all-append is_value_byte front (b ∷ []) ∙ rw (bytes, value) refl in
     let count = length-append front (b ∷ []) in
@@ -88,7 +92,8 @@ own-range span total within = by_test (span.hi == total)
 
     by_test : (b : Bool) → is_own_value (codes "bytes=" ++ decimal span.lo ++ codes "-" ++ (if b then codes "" else decimal (span.hi - 1))) ≡ true
     by_test true = subst (λ (text : List ℕ). is_own_value text ≡ true) (sym (append-nil (codes "bytes=" ++ decimal span.lo ++ codes "-")))
-        (own-last (codes "bytes=" ++ decimal span.lo) 45 (simp length-append (omega arith)) (simp list_all-append (rw (values-decimal span.lo first_fits) refl)) refl refl refl)
+        (own-last (codes "bytes=" ++ decimal span.lo) 45 (simp length-append (omega arith))
+        (simp list_all-append (rw (values-decimal span.lo first_fits) refl)) refl refl refl)
     by_test false =
         own-ends (codes "bytes=" ++ decimal span.lo ++ codes "-") (span.hi - 1) last_fits
         (simp length-append (omega arith)) (simp list_all-append (rw (values-decimal span.lo first_fits) refl)) refl

@@ -24,10 +24,12 @@ pub left_by-nil : (fields : FieldPairs) → left_by [] fields ≡ fields
 left_by-nil [] = refl
 left_by-nil (f ∷ fs) = ap (λ (l : FieldPairs). f ∷ l) (left_by-nil fs)
 
-pub taken-more : (from : FieldPairs) (i : ℕ) (g : List ℕ × List ℕ) → slice_get from i ≡ Some g → is_fixed g ≡ false → changeable_fields (drop i from) ≡ g ∷ changeable_fields (drop (i + 1) from)
+pub taken-more : (from : FieldPairs) (i : ℕ) (g : List ℕ × List ℕ) → slice_get from i ≡ Some g → is_fixed g ≡ false →
+    changeable_fields (drop i from) ≡ g ∷ changeable_fields (drop (i + 1) from)
 taken-more from i g is other = rw (drop_more from i g (slice_get_within from i g is), get_or_from_slice_get from i g g is, other) refl
 
-pub taken-fixed : (from : FieldPairs) (i : ℕ) (g : List ℕ × List ℕ) → slice_get from i ≡ Some g → is_fixed g ≡ true → changeable_fields (drop i from) ≡ changeable_fields (drop (i + 1) from)
+pub taken-fixed : (from : FieldPairs) (i : ℕ) (g : List ℕ × List ℕ) → slice_get from i ≡ Some g → is_fixed g ≡ true →
+    changeable_fields (drop i from) ≡ changeable_fields (drop (i + 1) from)
 taken-fixed from i g is fixed = rw (drop_more from i g (slice_get_within from i g is), get_or_from_slice_get from i g g is, fixed) refl
 
 pub length-with_all : (new fields : FieldPairs) → length (with_all new fields) ≡ length fields + length new
@@ -39,7 +41,8 @@ size_of-with_all [] fields = omega arith
 size_of-with_all (f ∷ new) fields = omega (arith, size_of-with_all new (field_list_with f.0 f.1 fields), size_of-put f.0 f.1 fields)
 
 -- where a field is refused, the list would be too large
-pub refused_large : (e : FieldError) (g : List ℕ × List ℕ) (new fields : FieldPairs) → IsField g → Refuses e fields g.0 g.1 → is_within_limits (with_all (g ∷ new) fields) ≡ false
+pub refused_large : (e : FieldError) (g : List ℕ × List ℕ) (new fields : FieldPairs) → IsField g → Refuses e fields g.0 g.1 →
+    is_within_limits (with_all (g ∷ new) fields) ≡ false
 refused_large BadName g new fields field refused = absurd (refused field.is_name)
 refused_large BadValue g new fields field refused = absurd (both_ways (is_own_value g.1) refused.1 field.is_value)
 refused_large TooMany g new fields field refused =
@@ -47,7 +50,8 @@ refused_large TooMany g new fields field refused =
 refused_large TooLong g new fields field refused = elim refused.3 [
   | inl long ↦ absurd (omega (arith, long, field.is_short))
   | inr large ↦
-      rw (lt-leb (size_of (with_all (g ∷ new) fields)) 32768 (omega (arith, large, size_of-with_all new (field_list_with g.0 g.1 fields), size_of-put g.0 g.1 fields)))
+      rw (lt-leb (size_of (with_all (g ∷ new) fields)) 32768
+      (omega (arith, large, size_of-with_all new (field_list_with g.0 g.1 fields), size_of-put g.0 g.1 fields)))
       (and-false (nat_le (length (with_all (g ∷ new) fields)) 64))
 ]
 refused_large NoMemory g new fields field refused = absurd refused

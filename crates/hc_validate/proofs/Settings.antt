@@ -30,7 +30,8 @@ pub record IsSettable (n v : List ℕ) (fields : FieldPairs) : Type 0 where
   pub few : length fields < 80
   pub small : size_of fields + (length n + length v) ≤ 49152
 
-pub never_refused : (e : FieldError) (name value : List ℕ) (fields : FieldPairs) → IsSettable name value fields → Refuses e (without (lowercase name) fields) name value → ⊥
+pub never_refused : (e : FieldError) (name value : List ℕ) (fields : FieldPairs) → IsSettable name value fields →
+    Refuses e (without (lowercase name) fields) name value → ⊥
 never_refused BadName name value fields may refused = refused may.name
 never_refused BadValue name value fields may refused = both_ways (is_own_value value) refused.1 may.value
 never_refused TooMany name value fields may refused =

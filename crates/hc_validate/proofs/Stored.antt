@@ -15,7 +15,8 @@ at_first f values zero value field rest is =
     subst IsFit same (record { own = field.is_value; short = field.is_short })
 at_first f values (suc i) value field rest is = rest i is
 
-value_fits : (name : List ℕ) (fields : FieldPairs) (i : ℕ) (value : List ℕ) → All IsField fields → slice_get (values_of name fields) i ≡ Some value → IsFit value
+value_fits : (name : List ℕ) (fields : FieldPairs) (i : ℕ) (value : List ℕ) → All IsField fields → slice_get (values_of name fields) i ≡ Some value →
+    IsFit value
 value_fits name [] i value all is = cc
 value_fits name (f ∷ fs) i value all is =
     let rest : All IsField fs = λ k d within. all (suc k) d (omega arith) in

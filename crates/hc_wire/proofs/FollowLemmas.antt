@@ -25,7 +25,8 @@ module _ (cs : List Taker) (last room off : ℕ) (item : Scripted) (p : ℕ × W
     | inr out ↦ let h = rw out at comes in cc
   ]
 
-  pub stands : (script : List Scripted) (at : ℕ) → at < length script → item ≡ get_or script at item → left_at script at off ≡ behind_past cs (drop at script) off
+  pub stands : (script : List Scripted) (at : ℕ) → at < length script → item ≡ get_or script at item →
+      left_at script at off ≡ behind_past cs (drop at script) off
   stands script at lt is = rw (item_at script at item lt is) (sym (stands_of (drop (at + 1) script)))
 
   pub comes_at : (script : List Scripted) (at : ℕ) → at < length script → item ≡ get_or script at item → p ≡ coming_in cs last room (drop at script) off

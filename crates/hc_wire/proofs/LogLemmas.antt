@@ -89,7 +89,8 @@ stages-fresh k (c ∷ cs) j new = elim (cases_Bool (eqb c.k k)) [
 ]
 
 -- what an event says of connections
-pub stages-joined : (what : WireEvent) (cs : List Taker) → IsOfOpen what (stage_in cs) → (j : ℕ) → stage_in (takers_with what cs) j ≡ stages_after what (stage_in cs) j
+pub stages-joined : (what : WireEvent) (cs : List Taker) → IsOfOpen what (stage_in cs) → (j : ℕ) → stage_in
+    (takers_with what cs) j ≡ stages_after what (stage_in cs) j
 stages-joined (event.Accepted k) cs new j = stages-fresh k cs j new
 stages-joined (event.Got k n) cs is j = refl
 stages-joined (event.Ended k) cs is j = stages-changed k over (λ c. refl) ended_of refl stage_over cs j
@@ -139,7 +140,8 @@ module _ (k : ℕ) (f : Taker → Taker) where
     | inr off ↦ let h = rw off at le in rw off (ap (λ (l : List Taker). c ∷ l) (kept-all cs (omega (arith, h))))
   ]
 
-  pub changed-some : (cs : List Taker) (i : ℕ) (old new : Taker) → position (is_numbered k) cs ≡ Some i → old ≡ get_or cs i old → new ≡ f old → set cs i new ≡ changed_at k f cs
+  pub changed-some : (cs : List Taker) (i : ℕ) (old new : Taker) → position (is_numbered k) cs ≡ Some i → old ≡ get_or cs i old → new ≡ f old →
+      set cs i new ≡ changed_at k f cs
   changed-some cs i old new is at_i changed = elim (cases_Bool (ltb (position_or_len (is_numbered k) cs) (length cs))) [
     | inl within ↦
         let here : position_or_len (is_numbered k) cs ≡ i = let h = rw within at is in cc in

@@ -4,7 +4,8 @@ use Rattle.hc_wire.specs.{declared.{event.WireEvent.{WireEvent}, script.ScriptWi
 use Rattle.hc_wire.specs.declared.event.WireEvent.TheVariants as event
 
 -- whether it is Quiet doesn't hang on the room
-quiet_by : (cs : List Taker) (last r q off : ℕ) (s : Scripted) (e : WireEvent) → is_quiet (coming_by cs last r off s e).1 ≡ is_quiet (coming_by cs last q off s e).1
+quiet_by : (cs : List Taker) (last r q off : ℕ) (s : Scripted) (e : WireEvent) →
+    is_quiet (coming_by cs last r off s e).1 ≡ is_quiet (coming_by cs last q off s e).1
 quiet_by cs last r q off s (event.Accepted k) = refl
 quiet_by cs last r q off s (event.Got k n) = elim (cases_Bool (is_reading cs k)) [
   | inl on ↦ rw on refl
@@ -15,7 +16,8 @@ quiet_by cs last r q off s (event.Broke k) = refl
 quiet_by cs last r q off s (event.Room k) = refl
 quiet_by cs last r q off s event.Quiet = refl
 
-quiet_in : (cs : List Taker) (last r q : ℕ) (items : List Scripted) (off : ℕ) → is_quiet (coming_in cs last r items off).1 ≡ is_quiet (coming_in cs last q items off).1
+quiet_in : (cs : List Taker) (last r q : ℕ) (items : List Scripted) (off : ℕ) →
+    is_quiet (coming_in cs last r items off).1 ≡ is_quiet (coming_in cs last q items off).1
 quiet_in cs last r q [] off = refl
 quiet_in cs last r q (s ∷ rest) off = quiet_by cs last r q off s s.event
 

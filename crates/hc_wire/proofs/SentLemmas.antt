@@ -26,7 +26,8 @@ reports-none k (Some log) = ap Some (sym (sent-none k log))
 taking-both : (n : ℕ) (a b : List ℕ) (s : Bool) (c : Taker) → taking b s n (taking a false n c) ≡ taking (a ++ b) s n c
 taking-both n a b s c = rw (append_assoc c.sent a b) refl
 
-changed-both : (k n : ℕ) (a b : List ℕ) (s : Bool) (cs : List Taker) → changed_at k (taking b s n) (changed_at k (taking a false n) cs) ≡ changed_at k (taking (a ++ b) s n) cs
+changed-both : (k n : ℕ) (a b : List ℕ) (s : Bool) (cs : List Taker) →
+    changed_at k (taking b s n) (changed_at k (taking a false n) cs) ≡ changed_at k (taking (a ++ b) s n) cs
 changed-both k n a b s [] = refl
 changed-both k n a b s (c ∷ cs) = elim (cases_Bool (eqb c.k k)) [
   | inl on ↦ rw on (rw on (ap (λ (d : Taker). d ∷ cs) (taking-both n a b s c)))
@@ -36,6 +37,7 @@ changed-both k n a b s (c ∷ cs) = elim (cases_Bool (eqb c.k k)) [
 pub sent-both : (k : ℕ) (a b : List ℕ) (s : Bool) (log : Log) → with_sent k b s (with_sent k a false log) ≡ with_sent k (a ++ b) s log
 sent-both k a b s log = ap (λ (cs : List Taker). let l : Log = record log { takers = cs } in l) (changed-both k (length log.calls) a b s log.takers)
 
-pub reports-both : (k : ℕ) (a b : List ℕ) (s : Bool) (l m n : Option Log) → Reports l m (with_sent k a false) → Reports m n (with_sent k b s) → Reports l n (with_sent k (a ++ b) s)
+pub reports-both : (k : ℕ) (a b : List ℕ) (s : Bool) (l m n : Option Log) → Reports l m (with_sent k a false) → Reports m n (with_sent k b s) →
+    Reports l n (with_sent k (a ++ b) s)
 reports-both k a b s None m n first second = let h = rw first at second in h
 reports-both k a b s (Some log) m n first second = let h = rw first at second in h ∙ ap Some (sent-both k a b s log)

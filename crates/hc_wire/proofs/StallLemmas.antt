@@ -21,7 +21,8 @@ found_new new (x ∷ xs) =
     ]
 
 -- and every other one has what it had
-found_old : (j : ℕ) (new : Stall) (xs : List Stall) → (new.k == j) ≡ false → find (is_stall_of j) (filter (is_other new.k) xs ++ new ∷ []) ≡ find (is_stall_of j) xs
+found_old : (j : ℕ) (new : Stall) (xs : List Stall) → (new.k == j) ≡ false →
+    find (is_stall_of j) (filter (is_other new.k) xs ++ new ∷ []) ≡ find (is_stall_of j) xs
 found_old j new [] apart = rw apart refl
 found_old j new (x ∷ xs) apart =
     elim (cases_Bool (x.k == new.k)) [
@@ -41,7 +42,8 @@ pub stalled_anew : (new : Stall) (xs : List Stall) (j len : ℕ)
 stalled_anew new xs j len =
     elim (cases_Bool (new.k == j)) [
       | inl own ↦
-          let same : find (is_stall_of j) (filter (is_other new.k) xs ++ new ∷ []) ≡ Some new = ap (λ (n : ℕ). find (is_stall_of n) (filter (is_other new.k) xs ++ new ∷ [])) (sym (eqb-true new.k j own)) ∙ found_new new xs in
+          let same : find (is_stall_of j) (filter (is_other new.k) xs ++ new ∷ []) ≡ Some new =
+          ap (λ (n : ℕ). find (is_stall_of n) (filter (is_other new.k) xs ++ new ∷ [])) (sym (eqb-true new.k j own)) ∙ found_new new xs in
           rw own (ap (λ (s : Option Stall). room_from s len) same)
       | inr other ↦ rw other (ap (λ (s : Option Stall). room_from s len) (found_old j new xs other))
     ]
@@ -76,7 +78,8 @@ pub unstalled : (k : ℕ) (xs : List Stall) (j len : ℕ) → room_in (filter (i
 unstalled k xs j len =
     elim (cases_Bool (k == j)) [
       | inl own ↦
-          let same : find (is_stall_of j) (filter (is_other k) xs) ≡ None = ap (λ (n : ℕ). find (is_stall_of n) (filter (is_other k) xs)) (sym (eqb-true k j own)) ∙ found_none k xs in
+          let same : find (is_stall_of j) (filter (is_other k) xs) ≡ None =
+          ap (λ (n : ℕ). find (is_stall_of n) (filter (is_other k) xs)) (sym (eqb-true k j own)) ∙ found_none k xs in
           rw own (ap (λ (s : Option Stall). room_from s len) same)
       | inr other ↦ rw other (ap (λ (s : Option Stall). room_from s len) (found_kept j k xs other))
     ]
@@ -125,7 +128,8 @@ module _ (k n : ℕ) where
     | inr off ↦ let h = rw off at le in rw off (ap (λ (l : List Stall). x ∷ l) (kept-all xs (omega (arith, h))))
   ]
 
-  pub used-some : (xs : List Stall) (i : ℕ) (old new : Stall) → position (is_stall_of k) xs ≡ Some i → old ≡ get_or xs i old → new ≡ used n old → set xs i new ≡ used_at k n xs
+  pub used-some : (xs : List Stall) (i : ℕ) (old new : Stall) → position (is_stall_of k) xs ≡ Some i → old ≡ get_or xs i old → new ≡ used n old →
+      set xs i new ≡ used_at k n xs
   used-some xs i old new is at_i changed = elim (cases_Bool (nat_lt (position_or_len (is_stall_of k) xs) (length xs))) [
     | inl within ↦
         let here : position_or_len (is_stall_of k) xs ≡ i = let h = rw within at is in cc in

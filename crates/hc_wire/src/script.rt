@@ -346,7 +346,8 @@ impl Wire for ScriptWire {
         ensures fresh { IfOk result (λ k. stage_in self.old.connections.items k ≡ Unseen) }
         ensures stages { IfOk result (λ k. (j : ℕ) → stage_in self.new.connections.items j
             ≡ with_stage k Fresh (stage_in self.old.connections.items) j) }
-        ensures ok { IfOk result (λ k. Reports (reported self.old) (reported self.new) (with_dialled k)) }
+        ensures ok { IfOk result (λ k. Reports (reported self.old) (reported self.new)
+            (with_dialled k)) }
         ensures err { OnErr result (reported self.new ≡ reported self.old) }
         ensures err_stages { OnErr result ((k : ℕ) → stage_in self.new.connections.items k
             ≡ stage_in self.old.connections.items k) }

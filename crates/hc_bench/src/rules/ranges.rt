@@ -3,7 +3,7 @@ ghost use Rattle.hc_range.specs.Spans.{IsInOrder, IsWithin};
 
 use crate::error::{BenchError, expect};
 use hc_range::{
-    RangeSpec, ContentRange, Span, read_content_range, read_range, resolve, write_content_range,
+    ContentRange, RangeSpec, Span, read_content_range, read_range, resolve, write_content_range,
     write_range,
 };
 

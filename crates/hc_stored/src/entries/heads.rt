@@ -7,7 +7,7 @@ ghost use Rattle.hc_store.specs.Causes.{HasCause, HasNoLimit};
 ghost use Rattle.hc_stored.specs.Kept.{with_head, sealed_kept};
 
 use super::Entries;
-use crate::rows::{seal_in, slot_in, report_in};
+use crate::rows::{report_in, seal_in, slot_in};
 use crate::summary::HeadSummary;
 use hc_record::{Kind, StoredHead};
 use hc_store::{Backend, StoreError};

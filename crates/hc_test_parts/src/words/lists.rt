@@ -78,7 +78,12 @@ pub(crate) fn report_read(
     }
 }
 
-fn report_fields(fields: &Fields, len: usize, text: &[u8], to: &mut String) -> Result<(), NoMemory> {
+fn report_fields(
+    fields: &Fields,
+    len: usize,
+    text: &[u8],
+    to: &mut String,
+) -> Result<(), NoMemory> {
     let lines = lines_of(fields)?;
     let how = if text.get(..len) == Some(lines.as_slice()) {
         "written again"

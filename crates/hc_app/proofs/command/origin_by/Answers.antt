@@ -10,4 +10,6 @@ returns-in_default-clause-none c =
     no_address _ _ _ (subst (λ (text : List ℕ). (a : Address) → IsAddress text a → ⊥) c.as_bytes.ensures.value c.in_default.ensures.none)
 
 pub returns-clause-found : goal.returns-clause-found
-returns-clause-found c = is_origin _ _ _ c.in-Some.listen c.in-Some-read_plain.turns (not_false _ (rw c.as_str.ensures.value at (sym c.ne.ensures ∙ c.if-ne.false))) (rw c.as_bytes.ensures.value at c.in-Some.ensures.found) (rw c.as_bytes-2.ensures.value at c.in-Some-read_plain.ensures.found)
+returns-clause-found c = is_origin
+    _ _ _ c.in-Some.listen c.in-Some-read_plain.turns (not_false _ (rw c.as_str.ensures.value at (sym c.ne.ensures ∙ c.if-ne.false)))
+    (rw c.as_bytes.ensures.value at c.in-Some.ensures.found) (rw c.as_bytes-2.ensures.value at c.in-Some-read_plain.ensures.found)

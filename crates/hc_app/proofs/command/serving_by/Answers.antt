@@ -15,5 +15,7 @@ returns-in_default-read_address-clause-none c =
 
 pub returns-clause-found : goal.returns-clause-found
 returns-clause-found c =
-    is_serving _ _ _ _ c.in-Some.listen c.in-Some-read_address.origin c.in-Some-read_plain.turns (not_false _ (rw c.as_str.ensures.value at (sym c.ne.ensures ∙ c.if-ne.false)))
-    (rw c.as_bytes.ensures.value at c.in-Some.ensures.found) (rw c.as_bytes-2.ensures.value at c.in-Some-read_address.ensures.found) (rw c.as_bytes-3.ensures.value at c.in-Some-read_plain.ensures.found)
+    is_serving _ _ _ _ c.in-Some.listen c.in-Some-read_address.origin
+    c.in-Some-read_plain.turns (not_false _ (rw c.as_str.ensures.value at (sym c.ne.ensures ∙ c.if-ne.false)))
+    (rw c.as_bytes.ensures.value at c.in-Some.ensures.found) (rw c.as_bytes-2.ensures.value at c.in-Some-read_address.ensures.found)
+    (rw c.as_bytes-3.ensures.value at c.in-Some-read_plain.ensures.found)

@@ -11,11 +11,14 @@ returns-in_default-clause-does g c = wanting_all refl
 pub returns-clause-does : goal.returns-clause-does
 returns-clause-does g c =
     does_fetch c.args.plan _ _ _ _ _ _ _ _ _ _ c.fetch-end.result c.conclude_fetch.result
-    (subst (λ (l : Limits). Fetches l c.args.plan (g.S.Source.left c.args.input.now) (g.S.Source.left c.fetch-end.new.turns) (g.K.Sink.taken c.args.out.now) (g.K.Sink.taken c.fetch-end.new.sink) c.fetch-end.result) c.in-Ok.ensures.limits c.fetch-end.ensures.ends)
+    (subst (λ (l : Limits). Fetches l c.args.plan (g.S.Source.left c.args.input.now) (g.S.Source.left c.fetch-end.new.turns)
+    (g.K.Sink.taken c.args.out.now) (g.K.Sink.taken c.fetch-end.new.sink) c.fetch-end.result) c.in-Ok.ensures.limits c.fetch-end.ensures.ends)
     c.conclude_fetch.ensures c.fetch-end.ensures.sink c.fetch-end.ensures.sink_calm
 
 pub returns-clause-stream_faults : goal.returns-clause-stream_faults
-returns-clause-stream_faults g c = stream_status _ _ _ _ _ _ _ _ _ _ c.conclude_fetch.ensures c.fetch-end.ensures.source c.fetch-end.ensures.source_calm c.fetch-end.ensures.sink c.fetch-end.ensures.sink_calm
+returns-clause-stream_faults g c =
+    stream_status _ _ _ _ _ _ _ _ _ _ c.conclude_fetch.ensures c.fetch-end.ensures.source c.fetch-end.ensures.source_calm c.fetch-end.ensures.sink
+    c.fetch-end.ensures.sink_calm
 
 pub returns-clause-wireless : goal.returns-clause-wireless
 returns-clause-wireless g c = wireless _ _ _ _ _ _ c.conclude_fetch.ensures

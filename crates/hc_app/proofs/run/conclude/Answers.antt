@@ -9,7 +9,9 @@ pub returns-in-Ok : goal.returns-in-Ok
 returns-in-Ok g c = is_reported _ _ _ _ c.args.end c.in-Refused.refused c.in-Refused.is c.in-Ok.ensures.said c.in-Ok.ensures.calm
 
 pub returns-in-Err : goal.returns-in-Err
-returns-in-Err g c = rw c.stopped.ensures (is_unreported _ _ _ _ c.args.end c.in-Refused.refused _ c.in-Refused.is c.say_refusal.ensures.front c.in-Err.ensures.cause.failed c.in-Err.ensures.no_fault)
+returns-in-Err g c = rw c.stopped.ensures
+    (is_unreported _ _ _ _ c.args.end c.in-Refused.refused _ c.in-Refused.is c.say_refusal.ensures.front c.in-Err.ensures.cause.failed
+    c.in-Err.ensures.no_fault)
 
 pub returns-in-SourceFailed : goal.returns-in-SourceFailed
 returns-in-SourceFailed g c = is_quiet _ _ c.args.end _ _ c.in-SourceFailed.is unreadable

@@ -19,11 +19,14 @@ conclude-requires g c = record { wireless = never_wire _ _ _ _ _ c.replay_front-
 
 pub returns-clause-does : goal.returns-clause-does
 returns-clause-does g c =
-    does_front c.new-front.result (c.new-front.ensures.stands no_contents c.in-Ok.ensures.stands) (c.new-front.ensures.limits ∙ c.in-Ok.ensures.limits) (λ u. refl) _ _ _ _ _ _ _ _ _ _ _ _ _
+    does_front c.new-front.result (c.new-front.ensures.stands no_contents c.in-Ok.ensures.stands) (c.new-front.ensures.limits ∙ c.in-Ok.ensures.limits)
+    (λ u. refl) _ _ _ _ _ _ _ _ _ _ _ _ _
     c.replay_front-end.ensures.ends c.conclude.ensures c.replay_front-end.ensures.sink c.replay_front-end.ensures.sink_calm
 
 pub returns-clause-stream_faults : goal.returns-clause-stream_faults
-returns-clause-stream_faults g c = stream_status _ _ _ _ _ _ _ _ _ _ c.conclude.ensures c.replay_front-end.ensures.source c.replay_front-end.ensures.source_calm c.replay_front-end.ensures.sink c.replay_front-end.ensures.sink_calm
+returns-clause-stream_faults g c =
+    stream_status _ _ _ _ _ _ _ _ _ _ c.conclude.ensures c.replay_front-end.ensures.source c.replay_front-end.ensures.source_calm
+    c.replay_front-end.ensures.sink c.replay_front-end.ensures.sink_calm
 
 pub returns-clause-wireless : goal.returns-clause-wireless
 returns-clause-wireless g c = wireless _ _ _ _ _ _ c.conclude.ensures

@@ -14,10 +14,14 @@ pub conclude-requires : goal.conclude-requires
 conclude-requires g c = record { wireless = never_wire _ _ _ _ _ c.replay-end.ensures.ends }
 
 pub returns-clause-does : goal.returns-clause-does
-returns-clause-does g c = does_replay c.in-Ok.cache c.in-Ok.ensures.stands c.in-Ok.ensures.limits (λ u. refl) _ _ _ _ _ _ _ _ _ _ _ _ _ c.replay-end.ensures.ends c.conclude.ensures c.replay-end.ensures.sink c.replay-end.ensures.sink_calm
+returns-clause-does g c =
+    does_replay c.in-Ok.cache c.in-Ok.ensures.stands c.in-Ok.ensures.limits (λ u. refl) _ _ _ _ _ _ _ _ _ _ _ _ _ c.replay-end.ensures.ends
+    c.conclude.ensures c.replay-end.ensures.sink c.replay-end.ensures.sink_calm
 
 pub returns-clause-stream_faults : goal.returns-clause-stream_faults
-returns-clause-stream_faults g c = stream_status _ _ _ _ _ _ _ _ _ _ c.conclude.ensures c.replay-end.ensures.source c.replay-end.ensures.source_calm c.replay-end.ensures.sink c.replay-end.ensures.sink_calm
+returns-clause-stream_faults g c =
+    stream_status _ _ _ _ _ _ _ _ _ _ c.conclude.ensures c.replay-end.ensures.source c.replay-end.ensures.source_calm c.replay-end.ensures.sink
+    c.replay-end.ensures.sink_calm
 
 pub returns-clause-wireless : goal.returns-clause-wireless
 returns-clause-wireless g c = wireless _ _ _ _ _ _ c.conclude.ensures

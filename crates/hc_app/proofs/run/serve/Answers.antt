@@ -12,7 +12,8 @@ returns-in_default-clause-serves g c = serving.wanting_all refl refl
 pub returns-in-Ok-bind-clause-serves : goal.returns-in-Ok-bind-clause-serves
 returns-in-Ok-bind-clause-serves g c =
     serving.served _ _ _ c.in-Ok-bind.ensures.ok
-    (subst (λ (l : Limits). ServesAs l c.args.turns (g.W.Wire.log c.bind.new.self) (g.W.Wire.log c.serve_on.new.wire) (g.K.Sink.taken c.args.out.now) (g.K.Sink.taken c.serve_on.new.log) c.serve_on.result)
+    (subst (λ (l : Limits). ServesAs l c.args.turns (g.W.Wire.log c.bind.new.self) (g.W.Wire.log c.serve_on.new.wire) (g.K.Sink.taken c.args.out.now)
+    (g.K.Sink.taken c.serve_on.new.log) c.serve_on.result)
     c.in-Ok.ensures.limits (c.serve_on.ensures.serves (λ a b. refl)))
     c.served.ensures
 
@@ -27,7 +28,8 @@ returns-in-Ok-bind-clause-sink_calm g c = λ off. c.serve_on.ensures.sink_calm (
 
 pub returns-in-Ok-bind-clause-wire_faults : goal.returns-in-Ok-bind-clause-wire_faults
 returns-in-Ok-bind-clause-wire_faults g c = record {
-  failed = λ is. subst (λ (n : ℕ). HasRisen n (g.W.Wire.faults c.serve_on.new.wire)) c.in-Ok-bind.ensures.cause.calm (c.serve_on.ensures.wire (wire_is _ _ c.served.ensures is));
+  failed = λ is. subst (λ (n : ℕ). HasRisen n (g.W.Wire.faults c.serve_on.new.wire)) c.in-Ok-bind.ensures.cause.calm
+      (c.serve_on.ensures.wire (wire_is _ _ c.served.ensures is));
   calm = λ off. c.serve_on.ensures.wire_calm (wire_off _ _ c.served.ensures off) ∙ c.in-Ok-bind.ensures.cause.calm;
 }
 

@@ -7,4 +7,5 @@ use Rattle.hc_cachectl.proofs.found.find.Goals as goal
 pub loop-i-preserved : goal.loop-i-preserved
 loop-i-preserved c =
     let value = rw c.unwrap.ensures at c.value.ensures in
-    one_more c.loop-i.found c.take_list.new.self (values_of (lowercase c.args.name.now) c.args.fields.now) c.loop-i.i c.unwrap.result.now (sym value) c.take_list.ensures ∙ c.loop-i.invariant
+    one_more c.loop-i.found c.take_list.new.self (values_of (lowercase c.args.name.now) c.args.fields.now) c.loop-i.i c.unwrap.result.now (sym value)
+    c.take_list.ensures ∙ c.loop-i.invariant

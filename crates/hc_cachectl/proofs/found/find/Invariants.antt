@@ -7,4 +7,5 @@ use Rattle.hc_cachectl.proofs.found.find.Given as goal
 
 abbrev pub invariant-loop-i : goal.invariant-loop-i
 invariant-loop-i l =
-    with_elements l.found (flat_map elements (drop l.i (values_of (lowercase l.name) l.fields))) ≡ with_elements nothing_found (elements_in (lowercase l.name) l.fields)
+    with_elements l.found (flat_map elements (drop l.i (values_of (lowercase l.name) l.fields))) ≡ with_elements nothing_found
+    (elements_in (lowercase l.name) l.fields)

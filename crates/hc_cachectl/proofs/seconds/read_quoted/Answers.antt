@@ -12,7 +12,8 @@ returns-in_err-with_digit c =
       | then-text-at-eq92 w ↦ inl (w.if-text-at-eq92.true, w.at-is)
       | else-text-at-eq92 w ↦ inr (w.if-text-at-eq92.false, w.at-is)
     ] in
-    let other = next_other c.loop-at.seconds text c.loop-at.at c.if-text-at-eq92.at c.loop-at-test.true c.if-text-at-ne34.true says c.in_err-with_digit.ensures in
+    let other = next_other c.loop-at.seconds text c.loop-at.at c.if-text-at-eq92.at c.loop-at-test.true c.if-text-at-ne34.true says
+    c.in_err-with_digit.ensures in
     c.from_residual.ensures ∙ sym other ∙ c.loop-at.invariant.seconds
 
 pub loop-at-preserved : goal.loop-at-preserved
@@ -26,7 +27,8 @@ loop-at-preserved c =
       | then-text-at-eq92 w ↦ rw w.at-is c.loop-at-test.true
       | else-text-at-eq92 w ↦ let is = w.at-is in let lt = c.loop-at-test.true in omega arith
     ] in
-    let digit = next_digit c.loop-at.seconds text c.loop-at.at c.if-text-at-eq92.at c.loop-at-test.true c.if-text-at-ne34.true says c.in_ok-with_digit.ensures.0 in
+    let digit = next_digit c.loop-at.seconds text c.loop-at.at c.if-text-at-eq92.at c.loop-at-test.true c.if-text-at-ne34.true says
+    c.in_ok-with_digit.ensures.0 in
     let more = c.in_ok-with_digit.ensures.1 in
     record {
       inside = omega arith;

@@ -8,4 +8,5 @@ some_same None = refl
 some_same (Some list) = refl
 
 pub returns : goal.returns
-returns c = c.is_some.ensures ∙ some_same c.in_ok-list.list ∙ ap is_some (sym (list_is c.args.text.now c.in_ok-list.list c.in_ok-list.ensures.found c.in_ok-list.ensures.none))
+returns c = c.is_some.ensures ∙ some_same c.in_ok-list.list ∙
+    ap is_some (sym (list_is c.args.text.now c.in_ok-list.list c.in_ok-list.ensures.found c.in_ok-list.ensures.none))

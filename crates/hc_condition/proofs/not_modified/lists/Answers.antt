@@ -8,4 +8,5 @@ use Rattle.hc_condition.proofs.not_modified.lists.Goals as goal
 pub returns : goal.returns
 returns c =
     c.is_listed.ensures
-    ∙ ap (λ (o : Option Listed). lists o (tag_of c.args.fields.now)) (sym (list_is c.args.text.now c.in_ok-list.list c.in_ok-list.ensures.found c.in_ok-list.ensures.none))
+    ∙ ap (λ (o : Option Listed). lists o (tag_of c.args.fields.now))
+    (sym (list_is c.args.text.now c.in_ok-list.list c.in_ok-list.ensures.found c.in_ok-list.ensures.none))

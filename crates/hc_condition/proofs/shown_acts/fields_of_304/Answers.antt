@@ -22,7 +22,8 @@ loop-i-preserved c =
     let field = field_at from c.loop-i.i g c.len-i-end.ensures.list c.at.ensures in
     let more = unreported-more from c.loop-i.i g c.at.ensures (sym c.is_reported.ensures ∙ c.if-is_reported.false) in
     let left = c.remove.ensures.left ∙ ap (λ (n : List ℕ). without n c.loop-i.reported) field.is_lower in
-    ap (left_reported (c.loop-i.i + 1) from) left ∙ left_by-more g (unreported (drop (c.loop-i.i + 1) from)) c.loop-i.reported ∙ ap (λ (t : FieldPairs). left_by t c.loop-i.reported) (sym more) ∙ c.loop-i.invariant
+    ap (left_reported (c.loop-i.i + 1) from) left ∙ left_by-more g (unreported (drop (c.loop-i.i + 1) from)) c.loop-i.reported ∙
+    ap (λ (t : FieldPairs). left_by t c.loop-i.reported) (sym more) ∙ c.loop-i.invariant
 
 pub returns : goal.returns
 returns c =

@@ -32,8 +32,10 @@ returns-then-not-fits c =
     let all : length (map plain_item c.args.contents.now.items) ≤ c.in_ok-good.good = omega (arith, more) in
     let on : c.has_good_numbers.result ≡ true = first_of (search (rules, c.if-not-has_good_numbers.false), grind (arith, c.if-not-has_good_numbers.false)) in
     let off : c.fits.result ≡ false = first_of (search (rules, c.if-not-fits.true), grind (arith, c.if-not-fits.true)) in
-    let heavy : c.fits.result ≡ nat_le (weights_of (map plain_item c.args.contents.now.items)) c.args.limits.max_total = c.fits.ensures ∙ ap (λ (zs : List coded.Content). nat_le (weights_of (map plain_item zs)) c.args.limits.max_total) c.as_slice-items.ensures in
-    let why = too_heavy c.args.limits (plain_contents c.args.contents.now) c.in_ok-good.good c.in_ok-good.ensures all (sym on ∙ c.has_good_numbers.ensures) (sym off ∙ heavy) in
+    let heavy : c.fits.result ≡ nat_le (weights_of (map plain_item c.args.contents.now.items)) c.args.limits.max_total = c.fits.ensures ∙
+    ap (λ (zs : List coded.Content). nat_le (weights_of (map plain_item zs)) c.args.limits.max_total) c.as_slice-items.ensures in
+    let why = too_heavy c.args.limits (plain_contents c.args.contents.now) c.in_ok-good.good c.in_ok-good.ensures all
+    (sym on ∙ c.has_good_numbers.ensures) (sym off ∙ heavy) in
     record { why = why; begins = begins_by c.args.limits (plain_contents c.args.contents.now) _ why }
 
 pub returns : goal.returns
@@ -44,6 +46,8 @@ returns c =
     let all : length (map plain_item c.args.contents.now.items) ≤ c.in_ok-good.good = omega (arith, more) in
     let on : c.has_good_numbers.result ≡ true = first_of (search (rules, c.if-not-has_good_numbers.false), grind (arith, c.if-not-has_good_numbers.false)) in
     let fit : c.fits.result ≡ true = first_of (search (rules, c.if-not-fits.false), grind (arith, c.if-not-fits.false)) in
-    let light : c.fits.result ≡ nat_le (weights_of (map plain_item c.args.contents.now.items)) c.args.limits.max_total = c.fits.ensures ∙ ap (λ (zs : List coded.Content). nat_le (weights_of (map plain_item zs)) c.args.limits.max_total) c.as_slice-items.ensures in
-    let why = all_fit c.args.limits (plain_contents c.args.contents.now) c.in_ok-good.good c.in_ok-good.ensures all (sym on ∙ c.has_good_numbers.ensures) (sym fit ∙ light) in
+    let light : c.fits.result ≡ nat_le (weights_of (map plain_item c.args.contents.now.items)) c.args.limits.max_total = c.fits.ensures ∙
+    ap (λ (zs : List coded.Content). nat_le (weights_of (map plain_item zs)) c.args.limits.max_total) c.as_slice-items.ensures in
+    let why = all_fit c.args.limits (plain_contents c.args.contents.now) c.in_ok-good.good c.in_ok-good.ensures all (sym on ∙ c.has_good_numbers.ensures)
+    (sym fit ∙ light) in
     record { why = why; begins = begins_by c.args.limits (plain_contents c.args.contents.now) _ why }

@@ -9,7 +9,8 @@ returns-then-says_nothing-clause-changes c =
     let there = row-there c.as_slice-bytes.result.now c.args.key.now c.args.rows.now _ same c.in-Some.ensures.value in
     let row : KeyRow = record { line = c.in-Some.row.now.line; current = None } in
     let put = (c.get_mut.follows.holds row).3 (search rules) in
-    row-gone (with_current None) c.as_slice-bytes.result.now c.args.key.now c.args.rows.now (c.get_mut.follows.lender row) c.remove.new.self row same put c.remove.ensures.updates
+    row-gone (with_current None) c.as_slice-bytes.result.now c.args.key.now c.args.rows.now (c.get_mut.follows.lender row) c.remove.new.self row same put
+    c.remove.ensures.updates
     (row-changes c.as_slice-bytes.result.now c.args.rows.now _ _ put c.args.key.now same (with_current None)
     (sym (ap (λ (o : Option KeyRow). with_current None (kept_by o)) there)))
     c.if-says_nothing.ensures.nothing

@@ -14,7 +14,8 @@ returns-then-says_nothing-clause-changes c =
     let same = c.as_slice-bytes.ensures.value ∙ c.key.view_is in
     let row : KeyRow = record { line = c.leave.new.self; current = c.in-Some.row.now.current } in
     let put = (c.get_mut.follows.holds row).3 (search rules) in
-    row-gone (on_line (left_by c.args.c)) c.as_slice-bytes.result.now c.args.key.now c.args.rows.now (c.get_mut.follows.lender row) c.remove.new.self row same put c.remove.ensures.updates
+    row-gone (on_line (left_by c.args.c)) c.as_slice-bytes.result.now c.args.key.now c.args.rows.now (c.get_mut.follows.lender row) c.remove.new.self row
+    same put c.remove.ensures.updates
     (line-changes c.as_slice-bytes.result.now c.args.key.now c.args.rows.now _ c.in-Some.row.now c.leave.new.self (left_by c.args.c) same
     c.in-Some.ensures.value c.leave.ensures refl put)
     c.if-says_nothing.ensures.nothing

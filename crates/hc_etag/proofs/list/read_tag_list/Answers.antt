@@ -14,7 +14,8 @@ some_values [] some is = some refl
 some_values (t ∷ items) some is = absurd (let never : [] ≡ values_of (t ∷ items) = sym is in cc)
 
 pub returns-then-eq-clause-value : goal.returns-then-eq-clause-value
-returns-then-eq-clause-value c = any_listed c.args.text.now ((bytes_eq-Decides c.args.text.now any_text).0 (let same : bytes_eq c.args.text.now any_text ≡ true = cc in same))
+returns-then-eq-clause-value c =
+    any_listed c.args.text.now ((bytes_eq-Decides c.args.text.now any_text).0 (let same : bytes_eq c.args.text.now any_text ≡ true = cc in same))
 
 pub returns-in_default-clause-value : goal.returns-in_default-clause-value
 returns-in_default-clause-value c =
@@ -27,10 +28,16 @@ pub returns-then-is_empty-clause-value : goal.returns-then-is_empty-clause-value
 returns-then-is_empty-clause-value c =
     none_read c.args.text.now (
       not_any c.args.text.now (let off : bytes_eq c.args.text.now any_text ≡ false = cc in off),
-      λ tags is. is.1 (sym ((rw c.in-Some.is at c.in_ok-items.ensures.only) tags is.0) ∙ no_values c.in-Some.items.items (let none : c.in-Some.items.len ≡ 0 = eqb-true c.in-Some.items.len 0 (sym c.is_empty.ensures ∙ c.if-is_empty.true) in omega (arith, none))),
+      λ tags is. is.1 (sym ((rw c.in-Some.is at c.in_ok-items.ensures.only) tags is.0) ∙
+          no_values c.in-Some.items.items
+          (let none : c.in-Some.items.len ≡ 0 = eqb-true c.in-Some.items.len 0 (sym c.is_empty.ensures ∙ c.if-is_empty.true) in omega (arith, none))),
     )
 
 pub returns-clause-value : goal.returns-clause-value
 returns-clause-value c =
-    tags_read c.args.text.now (values_of c.in-Some.items.items)
-    (rw c.in-Some.is at c.in_ok-items.ensures.found, some_values c.in-Some.items.items (λ none. let empty : c.in-Some.items.len ≡ 0 = omega (arith, none) in absurd (let never : true ≡ false = sym (eq-eqb c.in-Some.items.len 0 empty) ∙ sym c.is_empty.ensures ∙ c.if-is_empty.false in cc)))
+    tags_read c.args.text.now (values_of c.in-Some.items.items) (
+      rw c.in-Some.is at c.in_ok-items.ensures.found,
+      some_values c.in-Some.items.items
+          (λ none. let empty : c.in-Some.items.len ≡ 0 = omega (arith, none) in
+          absurd (let never : true ≡ false = sym (eq-eqb c.in-Some.items.len 0 empty) ∙ sym c.is_empty.ensures ∙ c.if-is_empty.false in cc)),
+    )

@@ -25,5 +25,6 @@ no_token m not =
 pub returns-in-Err : goal.returns-in-Err
 returns-in-Err c =
     sym (no_token c.args.method.now (λ token.
-    let ok = c.from_bytes.ensures.no_memory_needed (rw (c.as_slice.ensures.value, c.method.view_is) token) (rw c.as_slice.ensures.value (omega (arith, c.method.inside.bytes.ok.0))) in
+    let ok = c.from_bytes.ensures.no_memory_needed (rw (c.as_slice.ensures.value, c.method.view_is) token)
+    (rw c.as_slice.ensures.value (omega (arith, c.method.inside.bytes.ok.0))) in
     cc (sym (rw c.in-Err.is at ok))))

@@ -5,7 +5,8 @@ use Rattle.hc_exch.proofs.exchanges.list.Goals as goal
 
 pub returns-in-None : goal.returns-in-None
 returns-in-None c =
-    rw c.leave.ensures (agrees-leaves c.args.x c.args.wishes.now (rows_of c.args.rows.now) c.requires (sym c.running_in.ensures ∙ ap option_copied c.in-None.is))
+    rw c.leave.ensures (agrees-leaves c.args.x c.args.wishes.now (rows_of c.args.rows.now) c.requires
+    (sym c.running_in.ensures ∙ ap option_copied c.in-None.is))
 
 pub returns-then-is_idle : goal.returns-then-is_idle
 returns-then-is_idle c =

@@ -9,20 +9,23 @@ go_through-requires-clause-later g c = let at = new_moment c.args.cache c.requir
 
 pub returns-in-Done-clause-ends : goal.returns-in-Done-clause-ends
 returns-in-Done-clause-ends g c =
-    (done_ends (limits_in c.args.cache) c.args.plan c.requires.plan c.new-fetching.result c.go_through.new.on c.new-fetching.ensures.stands c.new-fetching.ensures.plan (ap limits_in c.new-fetching.ensures.cache) _ _ _ _
+    (done_ends (limits_in c.args.cache) c.args.plan c.requires.plan c.new-fetching.result c.go_through.new.on c.new-fetching.ensures.stands
+    c.new-fetching.ensures.plan (ap limits_in c.new-fetching.ensures.cache) _ _ _ _
     c.go_through.result c.answer.result c.answer.ensures.decided c.answer.ensures.open c.go_through.ensures.ends c.in-Done.is).0
 
 pub returns-in-Done-clause-source : goal.returns-in-Done-clause-source
 returns-in-Done-clause-source g c = λ same.
     let own =
-    (done_ends (limits_in c.args.cache) c.args.plan c.requires.plan c.new-fetching.result c.go_through.new.on c.new-fetching.ensures.stands c.new-fetching.ensures.plan (ap limits_in c.new-fetching.ensures.cache) _ _ _ _
+    (done_ends (limits_in c.args.cache) c.args.plan c.requires.plan c.new-fetching.result c.go_through.new.on c.new-fetching.ensures.stands
+    c.new-fetching.ensures.plan (ap limits_in c.new-fetching.ensures.cache) _ _ _ _
     c.go_through.result c.answer.result c.answer.ensures.decided c.answer.ensures.open c.go_through.ensures.ends c.in-Done.is).1 in
     absurd (subst IsOwn same own)
 
 pub returns-in-Done-clause-sink : goal.returns-in-Done-clause-sink
 returns-in-Done-clause-sink g c = λ same.
     let own =
-    (done_ends (limits_in c.args.cache) c.args.plan c.requires.plan c.new-fetching.result c.go_through.new.on c.new-fetching.ensures.stands c.new-fetching.ensures.plan (ap limits_in c.new-fetching.ensures.cache) _ _ _ _
+    (done_ends (limits_in c.args.cache) c.args.plan c.requires.plan c.new-fetching.result c.go_through.new.on c.new-fetching.ensures.stands
+    c.new-fetching.ensures.plan (ap limits_in c.new-fetching.ensures.cache) _ _ _ _
     c.go_through.result c.answer.result c.answer.ensures.decided c.answer.ensures.open c.go_through.ensures.ends c.in-Done.is).1 in
     absurd (subst IsOwn same own)
 
@@ -32,7 +35,8 @@ cut_off-requires-clause-wire g c = no_wire c.go_through.result c.go_through.ensu
 pub returns : goal.returns
 returns g c = record {
   ends = subst (Fetches _ _ _ _ _ _) (sym c.cut_off.ensures)
-      (cut_ends (limits_in c.args.cache) c.args.plan c.requires.plan c.new-fetching.result c.go_through.new.on c.new-fetching.ensures.stands c.new-fetching.ensures.plan (ap limits_in c.new-fetching.ensures.cache) _ _ _ _
+      (cut_ends (limits_in c.args.cache) c.args.plan c.requires.plan c.new-fetching.result c.go_through.new.on c.new-fetching.ensures.stands
+      c.new-fetching.ensures.plan (ap limits_in c.new-fetching.ensures.cache) _ _ _ _
       c.go_through.result c.go_through.ensures.ends c.in_default.not-Done);
   source = λ failed. c.go_through.ensures.source (source_back c.go_through.result (sym c.cut_off.ensures ∙ failed));
   source_calm = λ calm. c.go_through.ensures.source_calm (λ failed. calm (c.cut_off.ensures ∙ ap ended_as failed));

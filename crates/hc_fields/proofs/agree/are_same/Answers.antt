@@ -12,8 +12,11 @@ returns-then-ne c =
     let in_a : n ≤ length a.rest.now = omega (arith, c.split_at.ensures.back_len) in
     let in_b : n ≤ length b.rest.now = omega (arith, c.split_at-in-loop-a.ensures.back_len) in
     let others : take n a.rest.now ≢ take n b.rest.now = λ e. other (c.split_at.ensures.front ∙ e ∙ sym c.split_at-in-loop-a.ensures.front) in
-    let differs = differ n a.rest.now b.rest.now (behind (option_copied a.value) (drop a.next (all_values a))) (behind (option_copied b.value) (drop b.next (all_values b))) in_a in_b others in
-    (λ (impossible : false ≡ true). cc, λ same. absurd (differs (c.advance.ensures.left ∙ (c.loop-a.invariant.same.1 same) ∙ sym c.advance-in-loop-a.ensures.left)))
+    let differs = differ n a.rest.now b.rest.now (behind (option_copied a.value) (drop a.next (all_values a)))
+    (behind (option_copied b.value) (drop b.next (all_values b))) in_a in_b others in (
+      λ (impossible : false ≡ true). cc,
+      λ same. absurd (differs (c.advance.ensures.left ∙ (c.loop-a.invariant.same.1 same) ∙ sym c.advance-in-loop-a.ensures.left)),
+    )
 
 pub loop-a-preserved : goal.loop-a-preserved
 loop-a-preserved c =

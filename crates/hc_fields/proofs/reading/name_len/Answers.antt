@@ -11,4 +11,5 @@ returns c = position-none ends c.args.text.now (λ k lt. ap not (c.loop-i.invari
 
 pub returns-then-not-is_lower_char : goal.returns-then-not-is_lower_char
 returns-then-not-is_lower_char c =
-    position-some ends c.args.text.now c.loop-i.i c.loop-i-test.true (λ k lt. ap not (c.loop-i.invariant k lt)) (ap not (sym c.is_lower_char.ensures ∙ c.if-not-is_lower_char.true))
+    position-some ends c.args.text.now c.loop-i.i c.loop-i-test.true (λ k lt. ap not (c.loop-i.invariant k lt))
+    (ap not (sym c.is_lower_char.ensures ∙ c.if-not-is_lower_char.true))

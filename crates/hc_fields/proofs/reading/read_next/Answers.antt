@@ -15,7 +15,8 @@ returns-then-len-ge80-clause-none c = λ f after list same.
     let value = c.in-Some.value.now in
     let own = same_next text marks c.args.read c.requires name value found.0 found.1 f after list (IsField-last _ f list) same in
     elim c.then-len-ge80.branch [
-      | then-len-ge80-via-then-len-ge80 w ↦ too_many text marks c.args.read c.requires name value found.0 found.1 own (omega (arith, w.if-len-ge80.true, c.len.ensures, c.args.marks.now.ok.0))
+      | then-len-ge80-via-then-len-ge80 w ↦ too_many text marks c.args.read c.requires name value found.0 found.1 own
+          (omega (arith, w.if-len-ge80.true, c.len.ensures, c.args.marks.now.ok.0))
       | then-len-ge80-via-else-len-ge80+then-size-gt49152 w ↦ too_long text marks c.args.read c.requires name value found.0 found.1 own w.if-size-gt49152.true
       | then-len-ge80-via-else-len-ge80+else-size-gt49152+then-not-is_last w ↦ too_early text marks c.args.read c.requires name value found.0 found.1 own
           (rw (w.deref.ensures.value, fields-whole text marks c.args.read c.requires) at (sym w.is_last.ensures ∙ w.if-not-is_last.true))
@@ -31,6 +32,7 @@ returns-clause-found c =
       IsRead-push text marks c.args.read c.requires name value found.0 found.1
           (omega (arith, c.if-len-ge80.false, c.len.ensures, c.args.marks.now.ok.0)) c.if-size-gt49152.false
           (rw (c.deref.ensures.value, fields-whole text marks c.args.read c.requires) at (sym c.is_last.ensures ∙ c.if-not-is_last.false))
-          c.push.new.self.items _ (c.in_ok-push.ensures.items ∙ rw c.new-mark.ensures refl) (rw c.new-mark.ensures (omega (arith, length-field_text name value))) refl,
+          c.push.new.self.items _ (c.in_ok-push.ensures.items ∙ rw c.new-mark.ensures refl)
+          (rw c.new-mark.ensures (omega (arith, length-field_text name value))) refl,
       c.in_ok-push.ensures.len,
     )

@@ -18,5 +18,6 @@ returns-then-not-has_value_chars-clause-none c = λ start rest all is.
 pub returns-clause-found : goal.returns-clause-found
 returns-clause-found c =
     let cut = cut-position 10 c.args.text.now c.in_ok-end.end (sym c.in_ok-end.ensures) in
-    let all = take_all (length c.args.text.now - (c.in_ok-end.end + 1)) (drop (c.in_ok-end.end + 1) c.args.text.now) (omega (arith, length-drop (c.in_ok-end.end + 1) c.args.text.now)) in
+    let all = take_all (length c.args.text.now - (c.in_ok-end.end + 1)) (drop (c.in_ok-end.end + 1) c.args.text.now)
+    (omega (arith, length-drop (c.in_ok-end.end + 1) c.args.text.now)) in
     (sym c.if-not-has_value_chars.ensures, rw all cut.whole)

@@ -37,7 +37,8 @@ returns-clause-place c =
     let fs = fields_at c.args.text.now c.args.marks.now in
     let len = length-map c.args.marks.now (field_at c.args.text.now) in
     let past = c.loop-end-test.false in
-    sym (position_or_len_is (is_behind (lowercase c.args.name.now)) fs (length c.args.marks.now) ([], []) (omega (arith, len)) (λ k lt. c.loop-end.invariant k (omega (arith, past, lt)))
+    sym (position_or_len_is (is_behind (lowercase c.args.name.now)) fs (length c.args.marks.now) ([], []) (omega (arith, len))
+    (λ k lt. c.loop-end.invariant k (omega (arith, past, lt)))
     (λ lt. absurd (omega (arith, len, lt))))
 
 pub returns-clause-order : goal.returns-clause-order

@@ -27,5 +27,6 @@ returns-clause-place c =
     let len = length-map c.args.marks.now (field_at c.args.text.now) in
     let past = c.loop-start-test.false in
     let within = c.loop-start.auto.start-end in
-    sym (position_or_len_is (has_name (lowercase c.args.name.now)) fs (length c.args.marks.now) ([], []) (omega (arith, len)) (λ k lt. c.loop-start.invariant k (omega (arith, past, lt)))
+    sym (position_or_len_is (has_name (lowercase c.args.name.now)) fs (length c.args.marks.now) ([], []) (omega (arith, len))
+    (λ k lt. c.loop-start.invariant k (omega (arith, past, lt)))
     (λ lt. absurd (omega (arith, len, lt))))

@@ -8,7 +8,8 @@ pub bytes_of-requires-clause-small : goal.bytes_of-requires-clause-small
 bytes_of-requires-clause-small c =
     let small = c.requires.list.small in
     let parts = size_of-parts (lowercase c.args.name.now) (fields_at c.args.text.now c.args.marks.now) in
-    rw (fields_at-named c.args.text.now c.args.marks.now (lowercase c.args.name.now) c.places-start.result.0 c.places-start.result.1 c.requires.list.sorted c.places-start.ensures.start c.places-start.ensures.end)
+    rw (fields_at-named c.args.text.now c.args.marks.now (lowercase c.args.name.now) c.places-start.result.0 c.places-start.result.1
+    c.requires.list.sorted c.places-start.ensures.start c.places-start.ensures.end)
     (omega (arith, parts, small))
 
 pub returns : goal.returns
@@ -24,7 +25,8 @@ returns c =
     let lengths = length-parts name fs in
     let sizes = size_of-parts name fs in
     let len = length-fields_at c.args.text.now c.args.marks.now in
-    let bytes = rw (fields_at-named c.args.text.now c.args.marks.now name c.places-start.result.0 c.places-start.result.1 c.requires.list.sorted start_is last) at c.bytes_of.ensures in
+    let bytes = rw (fields_at-named c.args.text.now c.args.marks.now name c.places-start.result.0 c.places-start.result.1 c.requires.list.sorted start_is
+    last) at c.bytes_of.ensures in
     record {
       start_is = start_is;
       end_is = omega (arith, end_is, start_is, last);

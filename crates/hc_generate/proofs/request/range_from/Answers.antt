@@ -16,5 +16,6 @@ unreachable-requires c =
     elim c.in-Err.ensures.answer [
       | inl memory ↦ c.in_default.not-NoMemory memory.0
       | inr refused ↦
-          range-never_refused c.in-Err.e c.in_ok-fields.fields c.as_slice.result.now c.args.l empty (c.as_slice.ensures.value ∙ c.in_ok-text.ensures) c.ranges.l.fits refused
+          range-never_refused c.in-Err.e c.in_ok-fields.fields c.as_slice.result.now c.args.l empty (c.as_slice.ensures.value ∙ c.in_ok-text.ensures)
+          c.ranges.l.fits refused
     ]

@@ -11,7 +11,9 @@ pass_on-requires-clause-present c = there_at c.args.headers.now c.loop-header.he
 
 pub loop-header-preserved : goal.loop-header-preserved
 loop-header-preserved c = record {
-  same = kept_next c.args.leaving (fields_in c.args.headers.now) c.loop-header.fields _ _ c.args.headers.now c.loop-header.header-index _ c.loop-header-test.true c.in_ok-pass_on.ensures.value c.loop-header.invariant.same;
+  same = kept_next c.args.leaving (fields_in c.args.headers.now) c.loop-header.fields _ _ c.args.headers.now c.loop-header.header-index _
+      c.loop-header-test.true c.in_ok-pass_on.ensures.value c.loop-header.invariant.same;
   few = omega (arith, c.in_ok-pass_on.ensures.count, c.loop-header.invariant.few);
-  small = kept_small c.loop-header.fields c.pass_on.new.fields c.args.headers.now c.loop-header.header-index _ c.loop-header-test.true c.in_ok-pass_on.ensures.size c.loop-header.invariant.small;
+  small = kept_small c.loop-header.fields c.pass_on.new.fields c.args.headers.now c.loop-header.header-index _ c.loop-header-test.true
+      c.in_ok-pass_on.ensures.size c.loop-header.invariant.small;
 }

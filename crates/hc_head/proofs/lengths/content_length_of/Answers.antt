@@ -10,4 +10,5 @@ loop-header-init c = reported_is (elements_in (codes "content-length") (fields_i
 
 pub loop-header-preserved : goal.loop-header-preserved
 loop-header-preserved c =
-    length_next c.loop-header.length c.length_with-length.result _ c.args.headers.now c.loop-header.header-index _ c.loop-header-test.true c.length_with-length.ensures c.loop-header.invariant
+    length_next c.loop-header.length c.length_with-length.result _ c.args.headers.now c.loop-header.header-index _ c.loop-header-test.true
+    c.length_with-length.ensures c.loop-header.invariant

@@ -6,7 +6,8 @@ use Rattle.hc_head.proofs.lengths.is_chunked.Goals as goal
 
 pub loop-header-preserved : goal.loop-header-preserved
 loop-header-preserved c =
-    coding_next c.loop-header.coding c.coding_with-coding.result _ c.args.headers.now c.loop-header.header-index _ c.loop-header-test.true c.coding_with-coding.ensures c.loop-header.invariant
+    coding_next c.loop-header.coding c.coding_with-coding.result _ c.args.headers.now c.loop-header.header-index _ c.loop-header-test.true
+    c.coding_with-coding.ensures c.loop-header.invariant
 
 pub returns : goal.returns
 returns c =

@@ -30,9 +30,12 @@ returns-else-head-gt-MOST_FIELDS-clause-call c =
     let at = rw c.in-Ok-Complete.field-0-is at c.in-Ok-Complete.ensures.complete in
     let count = same_count _ at.0.fields at.1.fields in
     let same : fields_in c.parse.new.self.headers.now ≡ fields_of at.0.fields = ap (map lowercase_field) at.1.fields in
-    let method_is : c.as_bytes-method.result.now ≡ at.0.method = c.as_bytes-method.ensures.value ∙ same_value _ _ _ (ap option_copied c.unwrap.ensures) at.1.method in
-    let target_is : c.as_bytes-target.result.now ≡ at.0.target = c.as_bytes-target.ensures.value ∙ same_value _ _ _ (ap option_copied c.unwrap-in-Ok-Complete.ensures) at.1.path in
-    whole_call c.args.text.now _ c.as_bytes-method.result.now c.as_bytes-target.result.now c.unwrap-minor.result _ at.0 c.asked_of.result at.1.reads c.if-len-text.false (omega (arith, count)) method_is target_is (same_value _ _ _ c.unwrap-minor.ensures at.1.version) same c.asked_of.ensures
+    let method_is : c.as_bytes-method.result.now ≡ at.0.method = c.as_bytes-method.ensures.value ∙
+    same_value _ _ _ (ap option_copied c.unwrap.ensures) at.1.method in
+    let target_is : c.as_bytes-target.result.now ≡ at.0.target = c.as_bytes-target.ensures.value ∙
+    same_value _ _ _ (ap option_copied c.unwrap-in-Ok-Complete.ensures) at.1.path in
+    whole_call c.args.text.now _ c.as_bytes-method.result.now c.as_bytes-target.result.now c.unwrap-minor.result _ at.0 c.asked_of.result at.1.reads
+    c.if-len-text.false (omega (arith, count)) method_is target_is (same_value _ _ _ c.unwrap-minor.ensures at.1.version) same c.asked_of.ensures
 
 pub returns-in-Ok-Partial-clause-call : goal.returns-in-Ok-Partial-clause-call
 returns-in-Ok-Partial-clause-call c = no_call c.args.text.now (rw c.in-Ok-Partial.field-0-is at c.in-Ok-Partial.ensures.partial)

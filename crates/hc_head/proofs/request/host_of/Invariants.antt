@@ -6,4 +6,5 @@ use Rattle.hc_head.proofs.request.host_of.Given as goal
 
 abbrev pub invariant-loop-header : goal.invariant-loop-header
 invariant-loop-header l =
-    only_with (option_copied l.host) (values_of (codes "host") (fields_in (drop l.header-index l.headers))) ≡ only_of (values_of (codes "host") (fields_in l.headers))
+    only_with (option_copied l.host) (values_of (codes "host") (fields_in (drop l.header-index l.headers))) ≡ only_of
+    (values_of (codes "host") (fields_in l.headers))

@@ -30,7 +30,8 @@ returns-else-head-gt-MOST_FIELDS c =
     let at = rw c.in-Ok-Complete.field-0-is at c.in-Ok-Complete.ensures.complete in
     let count = same_count _ at.0.fields at.1.fields in
     let same : fields_in c.parse.new.self.headers.now ≡ fields_of at.0.fields = ap (map lowercase_field) at.1.fields in
-    whole_reply c.args.no_body c.args.text.now _ c.unwrap-status.result _ at.0 c.heard_of.result at.1.reads c.if-len-text.false (omega (arith, count)) (same_some _ _ _ c.unwrap-status.ensures at.1.code) same c.heard_of.ensures
+    whole_reply c.args.no_body c.args.text.now _ c.unwrap-status.result _ at.0 c.heard_of.result at.1.reads c.if-len-text.false (omega (arith, count))
+    (same_some _ _ _ c.unwrap-status.ensures at.1.code) same c.heard_of.ensures
 
 pub returns-in-Ok-Partial : goal.returns-in-Ok-Partial
 returns-in-Ok-Partial c = no_reply c.args.no_body c.args.text.now (rw c.in-Ok-Partial.field-0-is at c.in-Ok-Partial.ensures.partial)

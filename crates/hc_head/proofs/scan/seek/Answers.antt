@@ -4,7 +4,8 @@ use Rattle.hc_head.proofs.scan.seek.Goals as goal
 
 pub returns-then-not-is_open : goal.returns-then-not-is_open
 returns-then-not-is_open c =
-    Passed-ends _ _ _ _ _ _ _ c.byte-scan.result c.loop-at.invariant c.in-Some.ensures c.line.ensures.value c.line.ensures.open c.byte-scan.ensures (search rules)
+    Passed-ends _ _ _ _ _ _ _ c.byte-scan.result c.loop-at.invariant c.in-Some.ensures c.line.ensures.value c.line.ensures.open c.byte-scan.ensures
+    (search rules)
 
 pub loop-at-preserved : goal.loop-at-preserved
 loop-at-preserved c =
@@ -15,4 +16,5 @@ loop-at-preserved c =
     rw all (Passed-line _ _ _ _ _ _ _ c.byte-scan.result c.loop-at.invariant c.in-Some.ensures c.line.ensures.value c.byte-scan.ensures (search rules))
 
 pub returns : goal.returns
-returns c = Passed-rest c.args.scan c.args.bytes.now c.loop-at.used c.loop-at.scan c.loop-at.rest.now c.line-2.result c.loop-at.invariant c.line-2.ensures.value c.line-2.ensures.open
+returns c = Passed-rest c.args.scan c.args.bytes.now c.loop-at.used c.loop-at.scan c.loop-at.rest.now c.line-2.result c.loop-at.invariant
+    c.line-2.ensures.value c.line-2.ensures.open

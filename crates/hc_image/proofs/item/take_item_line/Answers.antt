@@ -14,5 +14,7 @@ pub returns-in_default-take_item_numbers : goal.returns-in_default-take_item_num
 returns-in_default-take_item_numbers c = λ line after has same.
     let some = rw c.in-Some-2.is at c.in_ok-key.ensures in
     let zero = append_cancel_left (codes "item ") _ _ (sym (item_apart line.key line.numbers.r line.numbers.count after) ∙ (same ∙ sym c.in-Some.ensures)) in
-    let keys = cut_once 32 line.key _ c.in-Some-2.key c.take_key.new.rest (lacks-target line.key has.key) (lacks-target c.in-Some-2.key some.0) (zero ∙ (sym some.1 ∙ append_assoc c.in-Some-2.key (32 ∷ []) c.take_key.new.rest)) in
-    c.in_default-take_item_numbers.ensures line.numbers after has.numbers (append_assoc (number_and_end 32 line.numbers.r) (number_and_end 10 line.numbers.count) after ∙ keys.1)
+    let keys = cut_once 32 line.key _ c.in-Some-2.key c.take_key.new.rest (lacks-target line.key has.key) (lacks-target c.in-Some-2.key some.0)
+    (zero ∙ (sym some.1 ∙ append_assoc c.in-Some-2.key (32 ∷ []) c.take_key.new.rest)) in
+    c.in_default-take_item_numbers.ensures line.numbers after has.numbers
+    (append_assoc (number_and_end 32 line.numbers.r) (number_and_end 10 line.numbers.count) after ∙ keys.1)

@@ -6,7 +6,8 @@ use Rattle.hc_image.proofs.read.take_items.Goals as goal
 pub returns-in_default : goal.returns-in_default
 returns-in_default c = λ items whole after are.
     let read = c.loop.invariant in
-    no_items (map plain_item c.loop.items) c.args.count read.part c.loop.rest c.args.rest.now read.spells (omega (arith, c.loop-test.true, read.count_is)) read.text_is (rw c.in_default.is at c.in_ok-item.ensures) items whole after are
+    no_items (map plain_item c.loop.items) c.args.count read.part c.loop.rest c.args.rest.now read.spells (omega (arith, c.loop-test.true, read.count_is))
+    read.text_is (rw c.in_default.is at c.in_ok-item.ensures) items whole after are
 
 pub loop-preserved : goal.loop-preserved
 loop-preserved c =

@@ -11,14 +11,16 @@ pub returns-in_err-counts : goal.returns-in_err-counts
 returns-in_err-counts c = rw c.from_residual-in_err-counts.ensures (λ v head after own same.
     let line = c.in_ok-version.ensures in
     let seal = c.in_ok-_seal.ensures in
-    let n = after_seal v head after c.args.rest.now own same c.in_ok-version.version.now c.take_to.new.self line.0 line.1 c.in_ok-_seal._seal.now c.take_to-2.new.self seal.0 seal.1 in
+    let n = after_seal v head after c.args.rest.now own same c.in_ok-version.version.now c.take_to.new.self line.0 line.1 c.in_ok-_seal._seal.now
+    c.take_to-2.new.self seal.0 seal.1 in
     c.in_err-counts.ensures head _ own n)
 
 pub returns-in_err-skip_tag : goal.returns-in_err-skip_tag
 returns-in_err-skip_tag c = rw c.from_residual-in_err-skip_tag.ensures (λ v head after own same.
     let line = c.in_ok-version.ensures in
     let seal = c.in_ok-_seal.ensures in
-    let n = after_seal v head after c.args.rest.now own same c.in_ok-version.version.now c.take_to.new.self line.0 line.1 c.in_ok-_seal._seal.now c.take_to-2.new.self seal.0 seal.1 in
+    let n = after_seal v head after c.args.rest.now own same c.in_ok-version.version.now c.take_to.new.self line.0 line.1 c.in_ok-_seal._seal.now
+    c.take_to-2.new.self seal.0 seal.1 in
     let text = sym (after_version v head after c.args.rest.now own same c.in_ok-version.version.now c.take_to.new.self line.0 line.1).0 in
     let counts = c.in_ok-counts.ensures head _ own n in
     c.in_err-skip_tag.ensures v head _ own text (sym counts.1))
@@ -27,7 +29,8 @@ pub returns-in_err-skip_fields : goal.returns-in_err-skip_fields
 returns-in_err-skip_fields c = rw c.from_residual-in_err-skip_fields.ensures (λ v head after own same.
     let line = c.in_ok-version.ensures in
     let seal = c.in_ok-_seal.ensures in
-    let n = after_seal v head after c.args.rest.now own same c.in_ok-version.version.now c.take_to.new.self line.0 line.1 c.in_ok-_seal._seal.now c.take_to-2.new.self seal.0 seal.1 in
+    let n = after_seal v head after c.args.rest.now own same c.in_ok-version.version.now c.take_to.new.self line.0 line.1 c.in_ok-_seal._seal.now
+    c.take_to-2.new.self seal.0 seal.1 in
     let text = sym (after_version v head after c.args.rest.now own same c.in_ok-version.version.now c.take_to.new.self line.0 line.1).0 in
     let counts = c.in_ok-counts.ensures head _ own n in
     let tag = c.in_ok-skip_tag.ensures v head _ own text (sym counts.1) in
@@ -37,7 +40,8 @@ pub returns-in_err-skip_fields-2 : goal.returns-in_err-skip_fields-2
 returns-in_err-skip_fields-2 c = rw c.from_residual-in_err-skip_fields-2.ensures (λ v head after own same.
     let line = c.in_ok-version.ensures in
     let seal = c.in_ok-_seal.ensures in
-    let n = after_seal v head after c.args.rest.now own same c.in_ok-version.version.now c.take_to.new.self line.0 line.1 c.in_ok-_seal._seal.now c.take_to-2.new.self seal.0 seal.1 in
+    let n = after_seal v head after c.args.rest.now own same c.in_ok-version.version.now c.take_to.new.self line.0 line.1 c.in_ok-_seal._seal.now
+    c.take_to-2.new.self seal.0 seal.1 in
     let text = sym (after_version v head after c.args.rest.now own same c.in_ok-version.version.now c.take_to.new.self line.0 line.1).0 in
     let counts = c.in_ok-counts.ensures head _ own n in
     let tag = c.in_ok-skip_tag.ensures v head _ own text (sym counts.1) in
@@ -48,7 +52,8 @@ pub returns : goal.returns
 returns c = λ v head after own same.
     let line = c.in_ok-version.ensures in
     let seal = c.in_ok-_seal.ensures in
-    let n = after_seal v head after c.args.rest.now own same c.in_ok-version.version.now c.take_to.new.self line.0 line.1 c.in_ok-_seal._seal.now c.take_to-2.new.self seal.0 seal.1 in
+    let n = after_seal v head after c.args.rest.now own same c.in_ok-version.version.now c.take_to.new.self line.0 line.1 c.in_ok-_seal._seal.now
+    c.take_to-2.new.self seal.0 seal.1 in
     let text = sym (after_version v head after c.args.rest.now own same c.in_ok-version.version.now c.take_to.new.self line.0 line.1).0 in
     let counts = c.in_ok-counts.ensures head _ own n in
     let tag = c.in_ok-skip_tag.ensures v head _ own text (sym counts.1) in

@@ -11,6 +11,7 @@ returns-in_default c = λ run after has same.
 pub returns-in_default-take_block : goal.returns-in_default-take_block
 returns-in_default-take_block c = λ run after has same.
     let line = c.in-Some.ensures in
-    let once = run_line_once run.x c.in-Some.line.x run.at c.in-Some.line.at (length run.bytes) c.in-Some.line.count _ _ has.x line.0.x has.place line.0.place has.count line.0.count
+    let once = run_line_once run.x c.in-Some.line.x run.at c.in-Some.line.at (length run.bytes) c.in-Some.line.count _ _ has.x line.0.x has.place
+    line.0.place has.count line.0.count
     (sym (append_assoc (run_line run.x run.at (length run.bytes)) (run.bytes ++ 10 ∷ []) after) ∙ (same ∙ sym line.1)) in
     c.in_default-take_block.ensures run.bytes after once.0 (sym (append_assoc run.bytes (10 ∷ []) after) ∙ once.1)

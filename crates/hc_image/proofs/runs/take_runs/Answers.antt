@@ -15,6 +15,10 @@ loop-preserved c =
     let inv = c.loop.invariant in
     let pushed = c.in_ok-push.ensures.ok in
     rw pushed (record {
-      are = record { each = All-push HasRunText c.loop.runs c.in-Some.run' inv.are.each some.0; count_is = omega (arith, inv.are.count_is, length-append c.loop.runs (c.in-Some.run' ∷ [])) };
+      are = record {
+        each = All-push HasRunText c.loop.runs c.in-Some.run' inv.are.each some.0;
+        count_is =
+            omega (arith, inv.are.count_is, length-append c.loop.runs (c.in-Some.run' ∷ []));
+      };
       is = one_more_run c.loop.runs c.in-Some.run' c.args.rest.now c.loop.rest c.take_run.new.rest inv.is some.1;
     })

@@ -15,7 +15,8 @@ returns-in_err-write_runs-clause-err c =
     c.in_ok-write_record.ensures.ok
     ∙ (ap (λ (t : List ℕ). t ++ head) c.in_ok-write_item_line.ensures.ok
     ∙ append_assoc old.items line head) in
-    let kept = begins_with old.items (line ++ head) c.write_runs.new.to.items old.len was.len old.ok.0 (c.in_err-write_runs.ensures.err ∙ is) (was.ok.0 ∙ ap length is) in
+    let kept = begins_with old.items (line ++ head) c.write_runs.new.to.items old.len was.len old.ok.0 (c.in_err-write_runs.ensures.err ∙ is)
+    (was.ok.0 ∙ ap length is) in
     let p = err_from_is_err_and c.from_residual-in_err-write_runs.result c.from_residual-in_err-write_runs.ensures.1 in rw p.1 kept
 
 pub returns-clause-ok : goal.returns-clause-ok

@@ -11,4 +11,5 @@ pub unreachable-requires-in_default-e : goal.unreachable-requires-in_default-e
 unreachable-requires-in_default-e c =
     let same : c.deref.result.now ≡ c.args.key.now = search rules in
     let tokens = c.in-Ok.ensures.cases in
-    target_faults c.args.key.now c.in-Ok.text.now c.in-Err.e c.requires (tokens.0 ∙ same) c.in-Err.ensures c.in_default-e.not-OutOfMemory c.in_default-e.not-Overflow
+    target_faults c.args.key.now c.in-Ok.text.now c.in-Err.e c.requires (tokens.0 ∙ same) c.in-Err.ensures c.in_default-e.not-OutOfMemory
+    c.in_default-e.not-Overflow

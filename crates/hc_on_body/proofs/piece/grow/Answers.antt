@@ -39,8 +39,11 @@ returns-in-Some-clause-answers g c = ok_then c.lose_shared_piece.result c.lose_s
     let there = sym (ap t.representation it.of_q) ∙ it.there in
     let writes = some_one c.writer_group.result (sym c.is_some-writer_group.ensures ∙ c.if-writer_group.true) in
     let on = (writes_it r t facts stands c.args.r it.v there writes.0 (sym c.writer_group.ensures ∙ writes.1)).0 in
-    shared_answered r put t facts stands c.args.now c.args.x c.args.r c.args.bytes.now goes it c.in-Some.kind (act_list c.args.out.now) (act_list c.store_piece.new.out) (refused.refuses _ t facts stands goes) on
-    c.lose_shared_piece.new.rows (act_list c.lose_shared_piece.new.out) (λ may stood. lost _ (let_all_go c.args.now (evicted limits t c.args.now (event.Piece c.args.x c.args.bytes.now)) t) it.w it.v may stood) (from_same c.lose_shared_piece.ensures.faults))
+    shared_answered r put t facts stands c.args.now c.args.x c.args.r c.args.bytes.now goes it c.in-Some.kind (act_list c.args.out.now)
+    (act_list c.store_piece.new.out) (refused.refuses _ t facts stands goes) on
+    c.lose_shared_piece.new.rows (act_list c.lose_shared_piece.new.out)
+    (λ may stood. lost _ (let_all_go c.args.now (evicted limits t c.args.now (event.Piece c.args.x c.args.bytes.now)) t) it.w it.v may stood)
+    (from_same c.lose_shared_piece.ensures.faults))
 
 pub returns-in-Some-2-clause-answers : goal.returns-in-Some-2-clause-answers
 returns-in-Some-2-clause-answers g c = ok_then c.lose_own_piece.result c.lose_own_piece.ensures.lost (λ lost limits t facts stands goes.
@@ -49,7 +52,11 @@ returns-in-Some-2-clause-answers g c = ok_then c.lose_own_piece.result c.lose_ow
     let refused = c.in_ok-store_piece.ensures.refused c.in-Some.kind (reported c.in_ok-store_piece.field-0 (Some c.in-Some.kind) c.in-Some.is) in
     let it = stores_of r t facts c.args.x c.args.r c.args.bytes.now stands goes c.requires.comes.stored in
     let there = sym (ap t.representation it.of_q) ∙ it.there in
-    let off = unwritten r t facts stands c.args.r it.v there (sym c.writer_group.ensures ∙ none_at c.writer_group.result (sym c.is_some-writer_group.ensures ∙ c.if-writer_group.false)) in
-    own_answered r put t facts stands c.args.now c.args.x c.args.r c.args.bytes.now goes it c.in-Some.kind (act_list c.args.out.now) (act_list c.store_piece.new.out) (refused.refuses _ t facts stands goes) off
+    let off = unwritten r t facts stands c.args.r it.v there
+    (sym c.writer_group.ensures ∙ none_at c.writer_group.result (sym c.is_some-writer_group.ensures ∙ c.if-writer_group.false)) in
+    own_answered r put t facts stands c.args.now c.args.x c.args.r c.args.bytes.now goes it c.in-Some.kind (act_list c.args.out.now)
+    (act_list c.store_piece.new.out) (refused.refuses _ t facts stands goes) off
     c.exclusive-alone.result (c.exclusive-alone.ensures _ t it.v facts stands there it.fresh)
-    c.lose_own_piece.new.rows (act_list c.lose_own_piece.new.out) (λ may stood. lost _ (let_all_go c.args.now (evicted limits t c.args.now (event.Piece c.args.x c.args.bytes.now)) t) it.w it.v may stood) c.lose_own_piece.ensures.acts (from_same c.lose_own_piece.ensures.faults))
+    c.lose_own_piece.new.rows (act_list c.lose_own_piece.new.out)
+    (λ may stood. lost _ (let_all_go c.args.now (evicted limits t c.args.now (event.Piece c.args.x c.args.bytes.now)) t) it.w it.v may stood)
+    c.lose_own_piece.ensures.acts (from_same c.lose_own_piece.ensures.faults))

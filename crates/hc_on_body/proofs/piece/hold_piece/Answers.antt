@@ -7,4 +7,5 @@ piece-requires-clause-below g c = comes_below c.args.rows.now c.args.x _ _ c.req
 
 pub returns-clause-answers : goal.returns-clause-answers
 returns-clause-answers g c = λ now before limits t facts stands goes.
-    held_answered c.args.rows.now _ t facts stands now c.args.x c.args.bytes.now goes c.requires.comes.stored refl refl refl refl c.in_ok-piece.ensures.ok before
+    held_answered c.args.rows.now _ t facts stands now c.args.x c.args.bytes.now goes c.requires.comes.stored refl refl refl refl c.in_ok-piece.ensures.ok
+    before

@@ -14,10 +14,14 @@ returns-clause-ok g c = ok_then c.put.result c.put.ensures.ok (λ fills o runnin
     let x = c.args.x in
     let bytes = c.args.bytes.now in
     let last = c.last_kind-last.result in
-    let view_is : c.unwrap-view.result ≡ view_of x o = some_is c.unwrap-view.result (view_of x o) (sym c.unwrap-view.ensures ∙ (c.view.ensures ∙ ap (option_map (view_of x)) running)) in
+    let view_is : c.unwrap-view.result ≡ view_of x o =
+    some_is c.unwrap-view.result (view_of x o) (sym c.unwrap-view.ensures ∙ (c.view.ensures ∙ ap (option_map (view_of x)) running)) in
     record {
       last = last;
-      fills = subst (λ (e : ExchangeView). shelf.Becomes (option_map (kept_with_bytes (e.base + e.delivered) x bytes last)) same_order c.args.r (shelf_of c.args.rows.now.entries) (shelf_of c.put.new.self)) view_is fills;
+      fills = subst (λ (e : ExchangeView). shelf.Becomes (option_map (kept_with_bytes (e.base + e.delivered) x bytes last)) same_order c.args.r
+          (shelf_of c.args.rows.now.entries) (shelf_of c.put.new.self)) view_is fills;
       kind = λ k v kept reported. subst (λ (e : ExchangeView). IsLastKind (is_all e.promised (e.delivered + length bytes)) v last) view_is
-          (c.last_kind-last.ensures x bytes v k refl kept (subst (λ (e : ExchangeView). IsViewOf v (cells_with (e.base + e.delivered) x bytes k.cells) (larger_view (length bytes) (views.view_of k))) (sym view_is) reported));
+          (c.last_kind-last.ensures x bytes v k refl kept
+          (subst (λ (e : ExchangeView). IsViewOf v (cells_with (e.base + e.delivered) x bytes k.cells) (larger_view (length bytes) (views.view_of k)))
+          (sym view_is) reported));
     })

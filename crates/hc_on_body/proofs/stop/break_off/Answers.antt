@@ -21,5 +21,6 @@ returns-clause-broken g c = λ limits t w facts stands broken.
     breaks_off r mid _ t facts stands c.args.x w broken c.readers-readers.result c.readers-readers.ensures c.args.cause due.rest due.exchanges due.consumers
     (shelf_of r.entries).faults c.args.now (act_list c.args.out.now) _
     (λ f may rows.
-    subst (λ n. HasStopped limits n c.stop_bringing.new.rows t f (act_list c.args.out.now) (act_list c.stop_bringing.new.out) c.args.now c.args.x) (ap (λ z. (shelf_of z).faults) due.rest.entries)
+    subst (λ n. HasStopped limits n c.stop_bringing.new.rows t f (act_list c.args.out.now) (act_list c.stop_bringing.new.out) c.args.now c.args.x)
+    (ap (λ z. (shelf_of z).faults) due.rest.entries)
     (c.stop_bringing.ensures.stopped _ t f facts (subst (λ o. MayStop t f c.args.x o) (sym c.alone.ensures) may) rows))

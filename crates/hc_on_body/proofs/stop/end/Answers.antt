@@ -15,8 +15,10 @@ returns-in-Some-clause-answers g c = λ limits t facts stands accepts.
     let seen = viewed r t x c.view.result view stands c.view.ensures c.unwrap-view.ensures in
     let promises : promised_bytes seen.w ≡ Some p = sym seen.promised_is ∙ c.in-Some.is in
     let broken = is_broken r t stands facts.law x view seen (inl (seen.headed ∙ (end_of t x seen.w seen.row accepts).headed)) in
-    short_answered limits (shelf_of r.entries).faults _ t facts c.args.now x seen.w broken p promises accepts (act_list c.args.out.now) (act_list c.break_off.new.out)
-    (subst (λ n. BrokeOff limits (shelf_of r.entries).faults c.break_off.new.rows t (act_list c.args.out.now) (act_list c.break_off.new.out) c.args.now x seen.w (cause.Short x n p)) seen.delivered (c.break_off.ensures.broken _ t seen.w facts stands broken))
+    short_answered limits (shelf_of r.entries).faults _ t facts c.args.now x seen.w broken p promises accepts (act_list c.args.out.now)
+    (act_list c.break_off.new.out)
+    (subst (λ n. BrokeOff limits (shelf_of r.entries).faults c.break_off.new.rows t (act_list c.args.out.now) (act_list c.break_off.new.out) c.args.now x
+    seen.w (cause.Short x n p)) seen.delivered (c.break_off.ensures.broken _ t seen.w facts stands broken))
 
 pub returns-in-None-clause-answers : goal.returns-in-None-clause-answers
 returns-in-None-clause-answers g c = λ limits t facts stands accepts.

@@ -35,7 +35,8 @@ returns-in-None-clause-answers g c = λ limits t facts stands accepts reports.
     let x = c.args.x in
     let view = c.unwrap-view.result in
     let seen = viewed r t x c.view.result view stands c.view.ensures c.unwrap-view.ensures in
-    let unreported : promised_bytes seen.w ≡ None = ap (λ z. promised_bytes z) (same_row (t.exchange x) seen.w reports.w seen.row reports.row) ∙ reports.unreported in
+    let unreported : promised_bytes seen.w ≡ None = ap (λ z. promised_bytes z) (same_row (t.exchange x) seen.w reports.w seen.row reports.row) ∙
+    reports.unreported in
     past_answered limits t facts c.args.now x seen.w seen.row unreported accepts (shelf_of r.entries).faults r _ (act_list c.args.out.now) view.c view.delivered
     (unbrought r t facts stands x seen.w seen.row seen.is_open c.brought.result c.brought.ensures c.in-None.is) seen.delivered seen.c_is stands
     refl refl refl c.close.ensures c.know_end.ensures
@@ -48,15 +49,21 @@ returns-in-Some-clause-answers g c = λ limits t facts stands accepts reports.
     let view = c.unwrap-view.result in
     let mid = c.seal_whole.new.rows in
     let seen = viewed r t x c.view.result view stands c.view.ensures c.unwrap-view.ensures in
-    let unreported : promised_bytes seen.w ≡ None = ap (λ z. promised_bytes z) (same_row (t.exchange x) seen.w reports.w seen.row reports.row) ∙ reports.unreported in
+    let unreported : promised_bytes seen.w ≡ None = ap (λ z. promised_bytes z) (same_row (t.exchange x) seen.w reports.w seen.row reports.row) ∙
+    reports.unreported in
     let b = brought_row r t facts stands x seen.w seen.row seen.is_open q c.brought.result c.brought.ensures c.in-Some.is in
     let one : q ≡ x = b.2 ∙ own_family limits t facts c.args.now x seen.w seen.row unreported accepts b.0 b.1 in
     let there_q = ap t.representation b.2 ∙ b.1 in
     let sealed = c.seal_whole.ensures.sealed _ t b.0 (may_let_go t facts.law) there_q (λ stays. nobody_alone t facts.law q b.0 there_q stays) stands in
-    whole_answered limits t facts c.args.now x seen.w seen.row unreported accepts b.0 b.1 (shelf_of r.entries).faults r mid _ stands (act_list c.args.out.now) (act_list c.seal_whole.new.out)
+    whole_answered limits t facts c.args.now x seen.w seen.row unreported accepts b.0 b.1 (shelf_of r.entries).faults r mid _ stands
+    (act_list c.args.out.now) (act_list c.seal_whole.new.out)
     refl refl refl c.close-in-Some.ensures
-    (subst (λ (n : ℕ). ChangesAmong mid.consumers c.know_ends.new.consumers (λ d. has itself d (bound_in ((shelf_of mid.entries).kept x))) (with_end n)) seen.delivered
-    (subst (λ (n : ℕ). ChangesAmong mid.consumers c.know_ends.new.consumers (λ d. has itself d (bound_in ((shelf_of mid.entries).kept n))) (with_end view.delivered)) one
+    (subst (λ (n : ℕ). ChangesAmong mid.consumers c.know_ends.new.consumers (λ d. has itself d (bound_in ((shelf_of mid.entries).kept x))) (with_end n))
+    seen.delivered
+    (subst (λ (n : ℕ). ChangesAmong mid.consumers c.know_ends.new.consumers (λ d. has itself d (bound_in ((shelf_of mid.entries).kept n)))
+    (with_end view.delivered)) one
     (subst (λ xs. ChangesAmong mid.consumers c.know_ends.new.consumers (λ d. has itself d xs) (with_end view.delivered)) c.bound.ensures c.know_ends.ensures)))
-    (subst (λ (n : ℕ). SealedWhole limits (shelf_of r.entries).faults r mid t (act_list c.args.out.now) (act_list c.seal_whole.new.out) c.args.now x b.0 n) seen.delivered
-    (subst (λ (n : ℕ). SealedWhole limits (shelf_of r.entries).faults r mid t (act_list c.args.out.now) (act_list c.seal_whole.new.out) c.args.now n b.0 view.delivered) one sealed))
+    (subst (λ (n : ℕ). SealedWhole limits (shelf_of r.entries).faults r mid t (act_list c.args.out.now) (act_list c.seal_whole.new.out) c.args.now x b.0
+    n) seen.delivered
+    (subst (λ (n : ℕ). SealedWhole limits (shelf_of r.entries).faults r mid t (act_list c.args.out.now) (act_list c.seal_whole.new.out) c.args.now n b.0
+    view.delivered) one sealed))

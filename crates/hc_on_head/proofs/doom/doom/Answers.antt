@@ -42,6 +42,7 @@ pub returns-clause-doomed : goal.returns-clause-doomed
 returns-clause-doomed g c =
     let step = c.close_awaited.ensures in
     let wakes = c.wake.ensures in
-    dooms c.args.rows.now c.close_awaited.new.rows c.wake.new.rows c.args.now c.args.key.now c.args.refused (act_list c.args.out.now) (act_list c.close_awaited.new.out) c.requires.unheard
+    dooms c.args.rows.now c.close_awaited.new.rows c.wake.new.rows c.args.now c.args.key.now c.args.refused (act_list c.args.out.now)
+    (act_list c.close_awaited.new.out) c.requires.unheard
     step.closes step.rest.consumers step.rest.rest wakes.consumers wakes.keys wakes.entries wakes.bounded wakes.rest.last_start wakes.rest.exchanges
     c.current-current.result c.let_some_go.new.rows c.current-current.ensures c.let_some_go.ensures.stands

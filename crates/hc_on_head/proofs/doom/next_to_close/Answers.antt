@@ -8,8 +8,10 @@ loop-i-init g c = rw c.nearer-next.ensures (none_seen c.args.rows.now c.args.key
 pub loop-i-preserved : goal.loop-i-preserved
 loop-i-preserved g c =
     rw c.nearer-next-in-loop-i.ensures
-    (more_seen c.args.rows.now c.args.key.now c.args.refused (behind c.args.last) c.loop-i.i c.loop-i.next c.awaited_at.result c.loop-i.invariant c.awaited_at.ensures.there
+    (more_seen c.args.rows.now c.args.key.now c.args.refused (behind c.args.last) c.loop-i.i c.loop-i.next c.awaited_at.result c.loop-i.invariant
+    c.awaited_at.ensures.there
     (λ x is. rw is at c.awaited_at.ensures.inside))
 
 pub returns : goal.returns
-returns g c = all_seen c.args.rows.now c.args.key.now c.args.refused (behind c.args.last) c.seats-i-end.result c.loop-i.i c.loop-i.next c.seats-i-end.ensures c.loop-i-test.false c.loop-i.invariant
+returns g c = all_seen c.args.rows.now c.args.key.now c.args.refused (behind c.args.last) c.seats-i-end.result c.loop-i.i c.loop-i.next
+    c.seats-i-end.ensures c.loop-i-test.false c.loop-i.invariant

@@ -11,5 +11,6 @@ returns-clause-answers g c = λ limits t facts rows accepted.
     let r = c.args.rows.now in
     let key = c.args.key.now in
     let doomed = c.doom.ensures.doomed _ t facts.law rows in
-    does_answered limits (shelf_of r.entries).faults _ t _ (act_list c.args.out.now) _ _ c.args.now (event.Doom key) (doom_does limits t facts.law c.args.now key)
+    does_answered limits (shelf_of r.entries).faults _ t _ (act_list c.args.out.now) _ _ c.args.now (event.Doom key)
+    (doom_does limits t facts.law c.args.now key)
     refl (flawless (awaited_and t key None)) doomed.acts (stands_counted _ _ c.args.now (event.Doom key) refl doomed.rows)

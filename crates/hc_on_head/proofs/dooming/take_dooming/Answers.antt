@@ -32,13 +32,15 @@ pub have_answer-requires-clause-accepted : goal.have_answer-requires-clause-acce
 have_answer-requires-clause-accepted g c =
     let unheard = unheard_as (table_of c.args.rows.now.exchanges) c.args.heard.x c.unwrap.result c.in_ok-key.key c.requires.comes.accepted
     (sym (ap (option_map opened_with) c.unwrap.ensures) ∙ c.opening.ensures) c.in_ok-key.ensures c.requires.past.opened in
-    accepted_then c.args.rows.now c.doom-2.new.rows c.args.heard.now c.args.heard.x c.in_ok-key.key c.args.response.now (act_list c.args.out.now) _ unheard c.requires.comes.stands c.doom-2.ensures.doomed
+    accepted_then c.args.rows.now c.doom-2.new.rows c.args.heard.now c.args.heard.x c.in_ok-key.key c.args.response.now (act_list c.args.out.now) _
+    unheard c.requires.comes.stands c.doom-2.ensures.doomed
 
 pub have_answer-requires-clause-good : goal.have_answer-requires-clause-good
 have_answer-requires-clause-good g c =
     let unheard = unheard_as (table_of c.args.rows.now.exchanges) c.args.heard.x c.unwrap.result c.in_ok-key.key c.requires.comes.accepted
     (sym (ap (option_map opened_with) c.unwrap.ensures) ∙ c.opening.ensures) c.in_ok-key.ensures c.requires.past.opened in
-    good_then c.args.rows.now c.doom-2.new.rows c.args.heard.now c.args.heard.x c.in_ok-key.key c.args.response.now (act_list c.args.out.now) _ unheard c.requires.comes.stands c.doom-2.ensures.doomed
+    good_then c.args.rows.now c.doom-2.new.rows c.args.heard.now c.args.heard.x c.in_ok-key.key c.args.response.now (act_list c.args.out.now) _ unheard
+    c.requires.comes.stands c.doom-2.ensures.doomed
     (c.requires.past.good (ap is_bad_case (taken_case c.args.case c.requires.past.case_is c.in_default.not-DirectBad)))
 
 pub returns-clause-answers : goal.returns-clause-answers

@@ -19,6 +19,8 @@ returns-clause-ok g c =
       last_start = refl;
       consumers = c.read_founded.ensures;
       exchanges = brings_founded x c.args.response.now r.exchanges c.turn_into.new.self c.head.new.self c.turn_into.ensures c.requires.good c.head.ensures.good;
-      keys = current_of c.unwrap-opening.result (table_of r.exchanges x).running x r.keys c.make_current.new.self (sym (ap (option_map opened_with) c.unwrap-opening.ensures) ∙ c.opening.ensures) c.in_ok-make_current.ensures.ok;
-      entries = subst (λ (n : Option ℕ). Becomes (λ _. Some (founded_kept f.key (plain f.head) c.args.heard.c (not f.shared) n)) (first_in x) x (shelf_of r.entries) (shelf_of c.found.new.self)) writer_is c.in_ok-found.ensures.ok;
+      keys = current_of c.unwrap-opening.result (table_of r.exchanges x).running x r.keys c.make_current.new.self
+          (sym (ap (option_map opened_with) c.unwrap-opening.ensures) ∙ c.opening.ensures) c.in_ok-make_current.ensures.ok;
+      entries = subst (λ (n : Option ℕ). Becomes (λ _. Some (founded_kept f.key (plain f.head) c.args.heard.c (not f.shared) n)) (first_in x) x
+          (shelf_of r.entries) (shelf_of c.found.new.self)) writer_is c.in_ok-found.ensures.ok;
     }

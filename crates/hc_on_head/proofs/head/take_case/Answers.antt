@@ -21,7 +21,8 @@ returns-in-DirectBad-clause-answers g c = λ limits t w facts stands goes row is
     c.put_down.ensures.answers c.args.case on _ t w facts stands goes row is doomless (downs_none t w c.args.response.now c.args.case on)
 
 pub returns-in-DirectTaken-clause-answers : goal.returns-in-DirectTaken-clause-answers
-returns-in-DirectTaken-clause-answers g c = ok_then c.answer_past.result c.answer_past.ensures.stands (λ stood limits t w facts stands goes row is doomless same.
+returns-in-DirectTaken-clause-answers g c = ok_then
+    c.answer_past.result c.answer_past.ensures.stands (λ stood limits t w facts stands goes row is doomless same.
     let r = c.args.rows.now in
     let u = c.answer_past.new.rows in
     let now = c.args.heard.now in
@@ -35,28 +36,35 @@ returns-in-DirectTaken-clause-answers g c = ok_then c.answer_past.result c.answe
     (stood _ t w a.v (alone_taken r u t facts now x response goes w a.v a.awaits a.stands taken) for_it stands))
 
 pub returns-in-TurnServerError-clause-answers : goal.returns-in-TurnServerError-clause-answers
-returns-in-TurnServerError-clause-answers g c = ok_then c.go_past.result c.go_past.ensures.answers (λ answers. answers c.args.case (act_list c.args.out.now) (past_case c.args.case c.in-TurnServerError.is))
+returns-in-TurnServerError-clause-answers g c = ok_then
+    c.go_past.result c.go_past.ensures.answers (λ answers. answers c.args.case (act_list c.args.out.now) (past_case c.args.case c.in-TurnServerError.is))
 
 pub returns-in-FirstChanged-clause-answers : goal.returns-in-FirstChanged-clause-answers
 returns-in-FirstChanged-clause-answers g c = c.start_anew.ensures.answers c.args.case (anew_case c.args.case (inr c.in-FirstChanged.is))
 
 pub returns-in-LaterBad-clause-answers : goal.returns-in-LaterBad-clause-answers
-returns-in-LaterBad-clause-answers g c = c.close_hole.ensures.answers c.args.case (ap breaks_off c.in-LaterBad.is) (ap (broken_by c.args.heard.x) (sym c.in-LaterBad.is))
+returns-in-LaterBad-clause-answers g c =
+    c.close_hole.ensures.answers c.args.case (ap breaks_off c.in-LaterBad.is) (ap (broken_by c.args.heard.x) (sym c.in-LaterBad.is))
 
 pub returns-in-LaterChanged-clause-answers : goal.returns-in-LaterChanged-clause-answers
-returns-in-LaterChanged-clause-answers g c = c.close_hole-in-LaterChanged.ensures.answers c.args.case (ap breaks_off c.in-LaterChanged.is) (ap (broken_by c.args.heard.x) (sym c.in-LaterChanged.is))
+returns-in-LaterChanged-clause-answers g c =
+    c.close_hole-in-LaterChanged.ensures.answers c.args.case (ap breaks_off c.in-LaterChanged.is) (ap (broken_by c.args.heard.x) (sym c.in-LaterChanged.is))
 
 pub unwrap-requires : goal.unwrap-requires
-unwrap-requires g c = aim_some c.args.rows.now c.args.heard.x c.view.result c.unwrap-role.result c.aim_of.result c.args.response.now c.requires.comes.accepted c.view.ensures c.unwrap-role.ensures c.aim_of.ensures (c.requires.fits.joins (join_case c.args.case c.in-FirstJoins.is))
+unwrap-requires g c = aim_some c.args.rows.now c.args.heard.x c.view.result c.unwrap-role.result c.aim_of.result c.args.response.now
+    c.requires.comes.accepted c.view.ensures c.unwrap-role.ensures c.aim_of.ensures (c.requires.fits.joins (join_case c.args.case c.in-FirstJoins.is))
 
 pub join-requires-clause-about : goal.join-requires-clause-about
 join-requires-clause-about g c = record {
-  about = about_this c.args.rows.now c.args.heard.x c.view.result c.unwrap-role.result c.aim_of.result c.args.response.now c.requires.comes.accepted c.view.ensures c.unwrap-role.ensures c.aim_of.ensures c.unwrap.result c.unwrap.ensures;
-  there = kept_this c.args.rows.now c.args.heard.x c.view.result c.unwrap-role.result c.aim_of.result c.args.response.now c.requires.comes.accepted c.view.ensures c.unwrap-role.ensures c.aim_of.ensures c.unwrap.result c.unwrap.ensures (c.requires.fits.joins (join_case c.args.case c.in-FirstJoins.is));
+  about = about_this c.args.rows.now c.args.heard.x c.view.result c.unwrap-role.result c.aim_of.result c.args.response.now c.requires.comes.accepted
+      c.view.ensures c.unwrap-role.ensures c.aim_of.ensures c.unwrap.result c.unwrap.ensures;
+  there = kept_this c.args.rows.now c.args.heard.x c.view.result c.unwrap-role.result c.aim_of.result c.args.response.now c.requires.comes.accepted
+      c.view.ensures c.unwrap-role.ensures c.aim_of.ensures c.unwrap.result c.unwrap.ensures (c.requires.fits.joins (join_case c.args.case c.in-FirstJoins.is));
 }
 
 pub join-requires-clause-good : goal.join-requires-clause-good
 join-requires-clause-good g c = c.requires.fits.good (good_join c.args.case c.in-FirstJoins.is)
 
 pub returns-in-FirstJoins-clause-answers : goal.returns-in-FirstJoins-clause-answers
-returns-in-FirstJoins-clause-answers g c = ok_then c.join.result c.join.ensures.answers (λ answers. answers c.args.case c.args.goes (join_case c.args.case c.in-FirstJoins.is))
+returns-in-FirstJoins-clause-answers g c = ok_then
+    c.join.result c.join.ensures.answers (λ answers. answers c.args.case c.args.goes (join_case c.args.case c.in-FirstJoins.is))

@@ -11,6 +11,9 @@ returns-clause-ok g c =
     let stays = c.head.ensures.same in
     record {
       rest = record { last_start = renewed.rest.last_start; consumers = renewed.rest.consumers; exchanges = renewed.rest.exchanges; keys = renewed.rest.keys };
-      reports = λ k at. sym c.if-not-selects.false ∙ (c.selects.ensures ∙ ap (λ (h : Head). selects h c.args.response.now) (head_is (shelf_of c.args.rows.now.entries) c.args.r (plain c.in_ok-head.head) k c.in_ok-head.ensures.head at));
-      head = λ o there. renews_read (shelf_of c.args.rows.now.entries) (shelf_of c.head.new.self) (shelf_of c.renew.new.rows.entries) c.args.r o.moment c.args.heard.now c.args.response.now.fields (plain c.in_ok-head.head) c.in_ok-head.ensures.head stays (renewed.renews o there);
+      reports = λ k at. sym c.if-not-selects.false ∙
+          (c.selects.ensures ∙ ap (λ (h : Head). selects h c.args.response.now)
+          (head_is (shelf_of c.args.rows.now.entries) c.args.r (plain c.in_ok-head.head) k c.in_ok-head.ensures.head at));
+      head = λ o there. renews_read (shelf_of c.args.rows.now.entries) (shelf_of c.head.new.self) (shelf_of c.renew.new.rows.entries) c.args.r o.moment
+          c.args.heard.now c.args.response.now.fields (plain c.in_ok-head.head) c.in_ok-head.ensures.head stays (renewed.renews o there);
     }

@@ -22,7 +22,8 @@ returns-in_default-clause-answers g c = λ limits t w facts stands goes row abou
     let response = c.args.response.now in
     let h = key_heard r x c.args.aim c.still_current.result c.requires.comes.accepted c.still_current.ensures in
     let off = not_still (kept_of r.keys h.0.request.key).current c.args.aim (sym (none_is c.still_current.result c.in_default.not-Some) ∙ h.2) in
-    c.start_anew.ensures.answers case.NotValidated refl _ t w facts stands goes row (case_unselected (head_view t false w response) is (unstill_as r t x h.0 w c.args.aim response stands h.1 row about off)) refl about
+    c.start_anew.ensures.answers case.NotValidated refl _ t w facts stands goes row
+    (case_unselected (head_view t false w response) is (unstill_as r t x h.0 w c.args.aim response stands h.1 row about off)) refl about
 
 pub select-requires : goal.select-requires
 select-requires g c =
@@ -64,10 +65,15 @@ returns-in-Ok-true-clause-answers g c = λ limits t w facts stands goes row abou
     let for_it = asked_by r t x c.args.heard.c w stands c.requires.comes.accepted c.requires.comes.asker row in
     let found : c.select.result ≡ Ok true = cc in
     let sel = selected_of r mid x now q response c.select.result true found c.select.ensures.ok in
-    let stood = subst (λ (d : ℕ). RowsStand limits thr (with_consumer d (Some (record a.v { place = place.Passed q (Some x) })) (with_representation q (Some (with_refreshed_head now response w s.v)) t))) (sym for_it)
-    (c.let_through.ensures.stands _ t w a.v (with_refreshed_head now response w s.v) facts.law a.awaits for_it (at_turn r mid thr u t facts stands now x response goes w a is q s.v s.named s.cur s.row before before) (stands_selected r mid t x now h.0 w q response stands h.1 row s sel)) in
+    let stood = subst (λ (d : ℕ). RowsStand limits thr
+    (with_consumer d (Some (record a.v { place = place.Passed q (Some x) })) (with_representation q (Some (with_refreshed_head now response w s.v)) t)))
+    (sym for_it)
+    (c.let_through.ensures.stands _ t w a.v (with_refreshed_head now response w s.v) facts.law a.awaits for_it
+    (at_turn r mid thr u t facts stands now x response goes w a is q s.v s.named s.cur s.row before before)
+    (stands_selected r mid t x now h.0 w q response stands h.1 row s sel)) in
     validated_answered r mid thr u t facts stands now x response goes w a is q s.v s.named s.cur s.row before (act_list c.refuse.new.out)
-    (sym (reports_selected r mid t x now h.0 w q response stands h.1 row s true sel)) stood c.refuse.ensures.acts c.refuse.ensures.rest.rest c.refuse.ensures.rest.consumers c.refuse.ensures.closed
+    (sym (reports_selected r mid t x now h.0 w q response stands h.1 row s true sel)) stood c.refuse.ensures.acts c.refuse.ensures.rest.rest
+    c.refuse.ensures.rest.consumers c.refuse.ensures.closed
 
 pub returns-in-Ok-false-clause-answers : goal.returns-in-Ok-false-clause-answers
 returns-in-Ok-false-clause-answers g c = λ limits t w facts stands goes row about is.
@@ -90,7 +96,8 @@ returns-in-Ok-false-clause-answers g c = λ limits t w facts stands goes row abo
     (unselected_case r mid mid u t facts stands now x response goes w a is q s.v s.named s.cur s.row before before off) refl about)
 
 pub lose_asked-requires-clause-comes : goal.lose_asked-requires-clause-comes
-lose_asked-requires-clause-comes g c = (let kept = c.in-Err-Fault.ensures.fails.err in heard_on c.args.rows.now c.select.new.rows kept.rest c.args.heard kept.same c.requires.comes)
+lose_asked-requires-clause-comes g c =
+    (let kept = c.in-Err-Fault.ensures.fails.err in heard_on c.args.rows.now c.select.new.rows kept.rest c.args.heard kept.same c.requires.comes)
 
 pub lose_asked-requires-clause-current : goal.lose_asked-requires-clause-current
 lose_asked-requires-clause-current g c =
@@ -114,4 +121,5 @@ returns-in-Err-Fault-clause-answers g c = λ limits t w facts stands goes row ab
     let kept = c.in-Err-Fault.ensures.fails.err in
     let h = key_heard r x c.args.aim c.still_current.result c.requires.comes.accepted c.still_current.ensures in
     let s = current_still r t x h.0 w c.args.aim q stands h.1 row about (sym c.in-Some.is ∙ h.2) in
-    c.lose_asked.ensures.answers (shelf_of r.entries).faults _ t w facts (stands_unrenewed r mid t kept.rest kept.same stands) goes row s.named s.cur is (c.select.ensures.fails.cause.fault (c.in-Err-Fault.is ∙ ap Err c.in-Err-Fault.field-0-is))
+    c.lose_asked.ensures.answers (shelf_of r.entries).faults _ t w facts (stands_unrenewed r mid t kept.rest kept.same stands) goes row s.named s.cur is
+    (c.select.ensures.fails.cause.fault (c.in-Err-Fault.is ∙ ap Err c.in-Err-Fault.field-0-is))

@@ -13,7 +13,8 @@ returns-clause-answers g c = λ k on because limits t w facts stands goes row is
     let mid = c.refuse.new.rows in
     let a = asker_of r t facts now x response w stands goes row in
     let for_it = asked_by r t x c.args.heard.c w stands c.requires.comes.accepted c.requires.comes.asker row in
-    late_answered r first mid t facts now x response goes w a.v a.awaits (act_list c.args.out.now) _ c.refuse.ensures.acts c.refuse.ensures.rest.rest c.refuse.ensures.rest.consumers c.refuse.ensures.closed
+    late_answered r first mid t facts now x response goes w a.v a.awaits (act_list c.args.out.now) _ c.refuse.ensures.acts c.refuse.ensures.rest.rest
+    c.refuse.ensures.rest.consumers c.refuse.ensures.closed
     _ c.args.goes k a.stands on is same
     (due_then r first t facts now x c.args.heard.c response w a c.args.cause k goes stands for_it because refl refl refl refl c.make_due.ensures)
     (λ m may after. c.let_some_go.ensures.stands _ m may after)

@@ -16,7 +16,8 @@ returns-clause-answers g c = λ k before on limits t w facts stands goes row is 
     let a = asker_of r t facts now x response w stands goes row in
     let for_it = asked_by r t x c.args.heard.c w stands c.requires.comes.accepted c.requires.comes.asker row in
     let alone = alone_past r mid mid t facts now x response goes w a.v a.awaits a.stands c.args.goes before k on is in
-    let fallback = subst (λ (d : ℕ). RowsStand limits first (with_consumer d (Some (record a.v { place = place.Direct x })) t)) (sym for_it) (c.fall_back.ensures.stands _ t x w a.v facts a.awaits for_it refl stands) in
+    let fallback = subst (λ (d : ℕ). RowsStand limits first (with_consumer d (Some (record a.v { place = place.Direct x })) t)) (sym for_it)
+    (c.fall_back.ensures.stands _ t x w a.v facts a.awaits for_it refl stands) in
     past_answered r mid _ t facts now x response goes w a.v a.awaits a.stands c.args.goes before k on is same
     (c.in_ok-answer_past.ensures.stands _ _ w _ alone for_it fallback)
     (λ may after. c.let_some_go.ensures.stands _ _ may after)

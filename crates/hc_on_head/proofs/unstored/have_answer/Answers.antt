@@ -11,7 +11,10 @@ end_of-end-requires g c = subst EndsInRange (sym c.length_of-length.ensures) (en
 pub returns-clause-stands : goal.returns-clause-stands
 returns-clause-stands g c = λ limits t w v alone for_it stands.
     let r = c.args.rows.now in
-    stands_answered_as r _ t c.args.heard.now c.args.heard.x c.args.heard.c c.args.response.now c.args.answer w v c.unwrap-opening.result c.length_of-length.result c.turn_into.new.self stands alone for_it
-    c.requires.accepted (sym (ap (option_map opened_with) c.unwrap-opening.ensures) ∙ c.opening.ensures) c.length_of-length.ensures c.requires.good c.requires.copied refl refl refl
+    stands_answered_as r _ t c.args.heard.now c.args.heard.x c.args.heard.c c.args.response.now c.args.answer w v c.unwrap-opening.result
+    c.length_of-length.result c.turn_into.new.self stands alone for_it
+    c.requires.accepted (sym (ap (option_map opened_with) c.unwrap-opening.ensures) ∙ c.opening.ensures) c.length_of-length.ensures c.requires.good
+    c.requires.copied refl refl refl
     c.turn_into.ensures c.head.ensures.good
-    (changes_as_reported r.consumers c.take_answer.new.consumers c.args.heard.c c.args.answer c.length_of-length.result c.base.result c.end_of-end.result c.base.ensures c.end_of-end.ensures c.take_answer.ensures)
+    (changes_as_reported r.consumers c.take_answer.new.consumers c.args.heard.c c.args.answer c.length_of-length.result c.base.result c.end_of-end.result
+    c.base.ensures c.end_of-end.ensures c.take_answer.ensures)

@@ -12,7 +12,8 @@ returns-clause-answers g c = λ k on limits t w facts stands goes row is doomles
     let mid = c.fall_back.new.rows in
     let a = asker_of r t facts c.args.heard.now x c.args.response.now w stands goes row in
     let for_it = asked_by r t x c.args.heard.c w stands c.requires.comes.accepted c.requires.comes.asker row in
-    put_down_answered r mid _ t facts c.args.heard.now x c.args.response.now goes w a.v a.awaits (act_list c.args.out.now) _ c.refuse.ensures.acts c.refuse.ensures.rest.rest c.refuse.ensures.rest.consumers c.refuse.ensures.closed
+    put_down_answered r mid _ t facts c.args.heard.now x c.args.response.now goes w a.v a.awaits (act_list c.args.out.now) _ c.refuse.ensures.acts
+    c.refuse.ensures.rest.rest c.refuse.ensures.rest.consumers c.refuse.ensures.closed
     k on is doomless
     (subst (λ (d : ℕ). RowsStand limits mid (with_consumer d (Some (record a.v { place = place.Down (cause.BadHead x) })) t)) (sym for_it)
     (c.fall_back.ensures.stands _ t x w a.v facts a.awaits for_it tt stands))

@@ -14,7 +14,8 @@ returns-clause-answers g c = λ k on limits t w facts stands goes row is doomles
     let mid = c.refuse.new.rows in
     let a = asker_of r t facts now x response w stands goes row in
     let for_it = asked_by r t x c.args.heard.c w stands c.requires.comes.accepted c.requires.comes.asker row in
-    anew_answered r first mid t facts now x response goes w a.v a.awaits (act_list c.args.out.now) _ c.refuse.ensures.acts c.refuse.ensures.rest.rest c.refuse.ensures.rest.consumers c.refuse.ensures.closed
+    anew_answered r first mid t facts now x response goes w a.v a.awaits (act_list c.args.out.now) _ c.refuse.ensures.acts c.refuse.ensures.rest.rest
+    c.refuse.ensures.rest.consumers c.refuse.ensures.closed
     _ c.args.goes k on is same
     (subst (λ (d : ℕ). RowsStand limits first (with_consumer d (Some (back_in_line now a.v)) t)) (sym for_it)
     (c.send_back.ensures.stands _ t x w a.v facts a.awaits for_it (awaits_anew t x w a.v response k a.awaits.asker a.stands on is) stands))

@@ -7,5 +7,6 @@ returns-then-not-is_current-clause-stands g c = lets_none_go c.args.rows.now c.a
 
 pub returns-clause-stands : goal.returns-clause-stands
 returns-clause-stands g c =
-    lets_go c.args.rows.now _ c.args.now c.args.r c.in-Some.key.now c.passed_back.new.self c.in-Some.ensures (sym c.is_current.ensures ∙ c.if-not-is_current.false) refl refl
+    lets_go c.args.rows.now _ c.args.now c.args.r c.in-Some.key.now c.passed_back.new.self c.in-Some.ensures
+    (sym c.is_current.ensures ∙ c.if-not-is_current.false) refl refl
     c.start_passed_over.ensures c.passed_back.ensures c.clear_current.ensures c.forget.ensures.changed

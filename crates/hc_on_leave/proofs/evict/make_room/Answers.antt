@@ -16,16 +16,19 @@ returns-in_default g c = record {
 
 pub returns-in_default-first_idle-clause-gives : goal.returns-in_default-first_idle-clause-gives
 returns-in_default-first_idle-clause-gives g c =
-    no_more c.args.rows.now c.loop-i.rows c.args.now c.loop-i.i (act_list c.args.out.now) (act_list c.loop-i.out) (spare c.args.out.now) (spare c.loop-i.out) c.loop-i.invariant
+    no_more c.args.rows.now c.loop-i.rows c.args.now c.loop-i.i (act_list c.args.out.now) (act_list c.loop-i.out) (spare c.args.out.now)
+    (spare c.loop-i.out) c.loop-i.invariant
     c.args.write c.in-After.count (sym c.room.ensures ∙ c.in-After.is) (omega arith) (sym c.in_default-first_idle.is ∙ c.first_idle.ensures)
 
 pub loop-i-preserved : goal.loop-i-preserved
 loop-i-preserved g c =
-    one_gone c.args.rows.now c.loop-i.rows c.args.now c.loop-i.i (act_list c.args.out.now) (act_list c.loop-i.out) (spare c.args.out.now) (spare c.loop-i.out) c.loop-i.invariant
+    one_gone c.args.rows.now c.loop-i.rows c.args.now c.loop-i.i (act_list c.args.out.now) (act_list c.loop-i.out) (spare c.args.out.now)
+    (spare c.loop-i.out) c.loop-i.invariant
     c.let_go.new.rows c.in-Some.r (act_list c.put.new.out) (spare c.put.new.out) (sym c.in-Some.is ∙ c.first_idle.ensures) c.put.ensures.acts c.put.ensures.room
     c.let_go.ensures.stands c.let_go.ensures.around.last_start c.let_go.ensures.around.exchanges c.let_go.ensures.around.faults
 
 pub returns-clause-gives : goal.returns-clause-gives
 returns-clause-gives g c =
-    all_gone c.args.rows.now c.loop-i.rows c.args.now c.loop-i.i (act_list c.args.out.now) (act_list c.loop-i.out) (spare c.args.out.now) (spare c.loop-i.out) c.loop-i.invariant
+    all_gone c.args.rows.now c.loop-i.rows c.args.now c.loop-i.i (act_list c.args.out.now) (act_list c.loop-i.out) (spare c.args.out.now)
+    (spare c.loop-i.out) c.loop-i.invariant
     c.args.write c.in-After.count (sym c.room.ensures ∙ c.in-After.is) (let end = c.loop-i.auto.i-end in omega (arith, end))

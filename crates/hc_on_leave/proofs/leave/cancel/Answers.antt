@@ -8,4 +8,5 @@ pub returns-clause-answers : goal.returns-clause-answers
 returns-clause-answers g c = λ limits t facts stands accepted.
     let r = c.args.rows.now in
     let v = live_row r t c.args.c c.requires.live stands in
-    cancel_answered limits (shelf_of r.entries).faults _ t facts.law c.args.now c.args.c v.0 v.1 (act_list c.args.out.now) _ (c.leave.ensures.left _ t v.0 facts stands v.1)
+    cancel_answered limits (shelf_of r.entries).faults _ t facts.law c.args.now c.args.c v.0 v.1 (act_list c.args.out.now) _
+    (c.leave.ensures.left _ t v.0 facts stands v.1)

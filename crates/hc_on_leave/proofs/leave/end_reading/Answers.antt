@@ -6,4 +6,5 @@ use Rattle.hc_on_leave.proofs.leave.end_reading.Goals as goal
 pub returns-clause-answers : goal.returns-clause-answers
 returns-clause-answers g c = λ want limits t v facts stands row moves.
     let r = c.args.rows.now in
-    end_answered limits (shelf_of r.entries).faults _ t facts.law c.args.now c.args.c v row want (act_list c.args.out.now) (act_list c.put.new.out) _ moves c.put.ensures.acts (c.leave.ensures.left _ t v facts stands row)
+    end_answered limits (shelf_of r.entries).faults _ t facts.law c.args.now c.args.c v row want (act_list c.args.out.now) (act_list c.put.new.out) _
+    moves c.put.ensures.acts (c.leave.ensures.left _ t v facts stands row)

@@ -17,14 +17,17 @@ stop_bringing-requires-clause-may g c =
     record {
       running = merely_true (is_some (table_of mid.exchanges x).running) may.stands (λ s.
           let law = s.facts.law in
-          left_runs r mid s.t law c.args.c x c.remove_consumer.result may.live c.remove_consumer.ensures.left c.in-Some.is s.rows (λ v row. leaves _ s.t v law row s.rows));
+          left_runs r mid s.t law c.args.c x c.remove_consumer.result may.live c.remove_consumer.ensures.left c.in-Some.is s.rows
+          (λ v row. leaves _ s.t v law row s.rows));
       short = shorts_left r mid c.args.c may.stands may.live leaves;
     }
 
 pub returns-in_default-clause-left : goal.returns-in_default-clause-left
 returns-in_default-clause-left g c = λ limits t v facts stands row.
     let r = c.args.rows.now in
-    leaves_nothing _ t c.args.c v c.args.now _ _ (sym (left_is r t facts.law c.args.c v row stands c.remove_consumer.result c.remove_consumer.ensures.left) ∙ none_is c.remove_consumer.result c.in_default.not-Some) (c.remove_consumer.ensures.stands _ t v facts.law row stands)
+    leaves_nothing _ t c.args.c v c.args.now _ _
+    (sym (left_is r t facts.law c.args.c v row stands c.remove_consumer.result c.remove_consumer.ensures.left) ∙
+    none_is c.remove_consumer.result c.in_default.not-Some) (c.remove_consumer.ensures.stands _ t v facts.law row stands)
 
 pub returns-clause-left : goal.returns-clause-left
 returns-clause-left g c = λ limits t v facts stands row.
@@ -34,8 +37,11 @@ returns-clause-left g c = λ limits t v facts stands row.
     let alone = c.if_own.result in
     let removed = c.remove_consumer.ensures in
     let left = sym (left_is r t facts.law n v row stands c.remove_consumer.result removed.left) ∙ c.in-Some.is in
-    let own = own_is r t facts.law n v row stands x alone (own_known (get nat_eq r.consumers n) c.unwrap.result.now n x alone (lent c.get.result (get nat_eq r.consumers n) c.unwrap.result c.get.ensures.value c.unwrap.ensures) c.if_own.ensures) in
+    let own = own_is r t facts.law n v row stands x alone
+    (own_known (get nat_eq r.consumers n) c.unwrap.result.now n x alone
+    (lent c.get.result (get nat_eq r.consumers n) c.unwrap.result c.get.ensures.value c.unwrap.ensures) c.if_own.ensures) in
     let e = open_left t facts.law n v row x left in
-    let stopped = c.stop_bringing.ensures.stopped _ t (once_left t n v) facts (leave_stops t facts.law n v row x left e.0 e.1 e.2 alone own) (removed.stands _ t v facts.law row stands) in
+    let stopped = c.stop_bringing.ensures.stopped _ t (once_left t n v) facts (leave_stops t facts.law n v row x left e.0 e.1 e.2 alone own)
+    (removed.stands _ t v facts.law row stands) in
     subst (λ (m : ℕ). HasLeft limits m c.stop_bringing.new.rows t (act_list c.args.out.now) (act_list c.stop_bringing.new.out) c.args.now n v) removed.faults
     (has_left _ t n v x c.args.now _ (act_list c.args.out.now) (act_list c.put.new.out) _ left c.put.ensures.acts stopped)

@@ -11,6 +11,8 @@ lose_shared-survivor-requires g c = ap (λ o. is_some o) (c.report_offsets.ensur
 pub returns-clause-lost : goal.returns-clause-lost
 returns-clause-lost g c = λ limits t v may stands.
     let lost = c.lose_shared-survivor in
-    loses_shared c.args.rows.now _ c.report_offsets.new.entries lost.new.self c.part.new.consumers t c.args.now c.args.r c.args.x v lost.result may stands c.requires.there
+    loses_shared c.args.rows.now _ c.report_offsets.new.entries lost.new.self c.part.new.consumers t c.args.now c.args.r c.args.x v lost.result may stands
+    c.requires.there
     c.report_offsets.ensures.stays c.report_offsets.ensures.reported lost.ensures.group lost.ensures.survivor lost.ensures.changed
-    (subst (λ (cs : List ℕ). ChangesEach c.args.rows.now.consumers c.part.new.consumers (λ d. has itself d cs) (after_parting lost.result c.args.x (cause.StoreWrite c.args.r))) c.bound.ensures c.part.ensures) c.let_go.ensures.stands
+    (subst (λ (cs : List ℕ). ChangesEach c.args.rows.now.consumers c.part.new.consumers (λ d. has itself d cs)
+    (after_parting lost.result c.args.x (cause.StoreWrite c.args.r))) c.bound.ensures c.part.ensures) c.let_go.ensures.stands

@@ -23,11 +23,15 @@ loop-i-preserved g c =
       | in-Some w ↦
           let k = w.in-Some.consumer.now in
           let offset = w.saturating_add-offset.result in
-          let at = subst (λ (xs : List ℕ). get nat_eq consumers (get_or xs i 0) ≡ Some k) bound_is (lent c.get.result (get nat_eq consumers (get_or cs i 0)) w.in-Some.consumer c.get.ensures.value w.in-Some.is) in
-          let reported = subst (λ (xs : List ℕ). group_of w.note.new.self r ≡ option_map (moved_if_member (get_or xs i 0) offset) (group_of mid r)) bound_is w.note.ensures.group in
+          let at = subst (λ (xs : List ℕ). get nat_eq consumers (get_or xs i 0) ≡ Some k) bound_is
+          (lent c.get.result (get nat_eq consumers (get_or cs i 0)) w.in-Some.consumer c.get.ensures.value w.in-Some.is) in
+          let reported = subst (λ (xs : List ℕ). group_of w.note.new.self r ≡ option_map (moved_if_member (get_or xs i 0) offset) (group_of mid r))
+          bound_is w.note.ensures.group in
           subst (λ z. ReportedSoFar old z consumers r (i + 1)) (sym w.entries-is)
-          (reported_next old consumers r i 0 mid w.note.new.self within before w.note.ensures.stays w.note.ensures.faults k offset at w.saturating_add-offset.ensures reported)
+          (reported_next old consumers r i 0 mid w.note.new.self within
+          before w.note.ensures.stays w.note.ensures.faults k offset at w.saturating_add-offset.ensures reported)
       | in_default w ↦
-          let gone = subst (λ (xs : List ℕ). get nat_eq consumers (get_or xs i 0) ≡ None) bound_is (sym c.get.ensures.value ∙ ap option_copied (none_is c.get.result w.in_default.not-Some)) in
+          let gone = subst (λ (xs : List ℕ). get nat_eq consumers (get_or xs i 0) ≡ None) bound_is
+          (sym c.get.ensures.value ∙ ap option_copied (none_is c.get.result w.in_default.not-Some)) in
           subst (λ z. ReportedSoFar old z consumers r (i + 1)) (sym w.entries-is) (reported_skips old consumers r i 0 mid within before gone)
     ]

@@ -23,7 +23,9 @@ returns-in-LetGo-clause-stopped g c = λ limits t f facts may stands.
     (record { last_start = refl; keys = refl; entries = refl }) refl c.close-in-LetGo.ensures goes refl
 
 pub seal_stopped-requires-clause-there : goal.seal_stopped-requires-clause-there
-seal_stopped-requires-clause-there g c = seal_kept c.args.x c.in-Seal.r (table_of c.args.rows.now.exchanges c.args.x).running (shelf_of c.args.rows.now.entries) (sym c.stop_of.ensures ∙ c.in-Seal.is)
+seal_stopped-requires-clause-there g c =
+    seal_kept c.args.x c.in-Seal.r (table_of c.args.rows.now.exchanges c.args.x).running (shelf_of c.args.rows.now.entries)
+    (sym c.stop_of.ensures ∙ c.in-Seal.is)
 
 pub returns-in-Seal-clause-stopped : goal.returns-in-Seal-clause-stopped
 returns-in-Seal-clause-stopped g c = λ limits t f facts may stands.

@@ -24,7 +24,8 @@ has_more-requires-clause-counts g c =
     let t = s.t in
     let facts = s.facts in
     let (p, here, is) = entry_row r t s.rows q e kept in
-    alone_below r t facts s.rows q p here e is n (alone_row r t facts s.rows q p here e is n (ap (λ (z : EntryView). z.first) seen ∙ c.in_ok-c.was)) c.in_ok-consumer.consumer.now at s.numbers (few_received s.received))
+    alone_below r t facts s.rows q p here e is n (alone_row r t facts s.rows q p here e is n (ap (λ (z : EntryView). z.first) seen ∙ c.in_ok-c.was))
+    c.in_ok-consumer.consumer.now at s.numbers (few_received s.received))
 
 pub returns-then-is_some-2 : goal.returns-then-is_some-2
 returns-then-is_some-2 g c = λ limits t p facts stands here stays.

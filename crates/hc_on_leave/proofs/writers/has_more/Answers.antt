@@ -6,7 +6,8 @@ use Rattle.hc_on_leave.proofs.writers.has_more.Goals as goal
 
 pub returns-then-is_some : goal.returns-then-is_some
 returns-then-is_some g c = λ limits t v p facts stands kept here stays.
-    more_own c.args.rows.now t stands c.args.consumer.now v kept p (ap (λ o. is_some o) (sym c.if_running.ensures) ∙ (sym c.is_some.ensures ∙ c.if-is_some.true))
+    more_own c.args.rows.now t stands c.args.consumer.now v kept p
+    (ap (λ o. is_some o) (sym c.if_running.ensures) ∙ (sym c.is_some.ensures ∙ c.if-is_some.true))
 
 pub returns-in-Some : goal.returns-in-Some
 returns-in-Some g c = λ limits t v p facts stands kept here stays.
@@ -16,4 +17,5 @@ returns-in-Some g c = λ limits t v p facts stands kept here stays.
 
 pub returns-in-None : goal.returns-in-None
 returns-in-None g c = λ limits t v p facts stands kept here stays.
-    more_none c.args.rows.now t stands c.args.consumer.now v kept p (ap (λ o. is_some o) (sym c.if_running.ensures) ∙ (sym c.is_some.ensures ∙ c.if-is_some.false)) c.in-None.is
+    more_none c.args.rows.now t stands c.args.consumer.now v kept p
+    (ap (λ o. is_some o) (sym c.if_running.ensures) ∙ (sym c.is_some.ensures ∙ c.if-is_some.false)) c.in-None.is

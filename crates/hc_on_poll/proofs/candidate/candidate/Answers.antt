@@ -73,7 +73,8 @@ returns g c = λ limits t v p facts stands row here.
     let reported = sym c.entry.ensures ∙ c.unwrap-entry.ensures in
     let (e, kept, viewed) = viewed_entry shelved c.unwrap-entry.result reported in
     let head_is = head_at_is shelved e c.args.head.now kept c.requires.current.head in
-    let stays = current_stays t v.request.key q p (current_as r t k v q stands k_kept (known_of (get nat_eq r.consumers c.args.c) k (HasCurrent r.keys q) at c.requires.current.current)) here in
+    let stays = current_stays t v.request.key q p
+    (current_as r t k v q stands k_kept (known_of (get nat_eq r.consumers c.args.c) k (HasCurrent r.keys q) at c.requires.current.current)) here in
     c.candidate.ensures
     ∙ seen_as r t facts stands now q k v k_kept p here stays e kept _ c.unwrap-entry.result c.args.head.now
     (ap (λ (h : Head). allowed h k.request now) (sym head_is)) viewed head_is refl

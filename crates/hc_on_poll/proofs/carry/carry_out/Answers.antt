@@ -23,7 +23,8 @@ carry_out_bare-requires-clause-plan g c = λ limits t v facts stands row.
     let k = c.unwrap-consumer.result.now in
     let at = lent c.get.result at_row c.unwrap-consumer.result c.get.ensures.value c.unwrap-consumer.ensures in
     let kept = subst (KeepsConsumer t (Some k)) row (subst (λ o. KeepsConsumer t o (t.consumer c.args.c)) at (stands.consumers c.args.c)) in
-    unlooked_plan r t facts stands c.args.c k v row kept (known_of at_row k IsIdle at c.requires.idle) c.args.now c.look_up-looked.result.view c.look_up-looked.ensures.view c.look_up-looked.result.current c.look_up-looked.ensures.current c.in_default.is
+    unlooked_plan r t facts stands c.args.c k v row kept (known_of at_row k IsIdle at c.requires.idle) c.args.now c.look_up-looked.result.view
+    c.look_up-looked.ensures.view c.look_up-looked.result.current c.look_up-looked.ensures.current c.in_default.is
 
 pub head-requires : goal.head-requires
 head-requires g c =
@@ -32,7 +33,8 @@ head-requires g c =
     let k = c.unwrap-consumer.result.now in
     let at = lent c.get.result at_row c.unwrap-consumer.result c.get.ensures.value c.unwrap-consumer.ensures in
     current_kept r (∥∥₁_map c.requires.stands (λ u. u.0)) c.args.now c.args.c c.requires.idle c.in-Some.r
-    (some_that at_row k (HasCurrent r.keys c.in-Some.r) at (looked_current k r.keys c.look_up-looked.result.view c.look_up-looked.result.current c.in-Some.r c.look_up-looked.ensures.current c.in-Some.is))
+    (some_that at_row k (HasCurrent r.keys c.in-Some.r) at
+    (looked_current k r.keys c.look_up-looked.result.view c.look_up-looked.result.current c.in-Some.r c.look_up-looked.ensures.current c.in-Some.is))
 
 pub candidate-current-requires-clause-stands : goal.candidate-current-requires-clause-stands
 candidate-current-requires-clause-stands g c = read_until c.args.rows.now c.head.new.self c.head.ensures.same c.args.now c.requires.stands
@@ -44,10 +46,13 @@ candidate-current-requires-clause-current g c =
     let k = c.unwrap-consumer.result.now in
     let at = lent c.get.result at_row c.unwrap-consumer.result c.get.ensures.value c.unwrap-consumer.ensures in
     read_current r c.head.new.self c.head.ensures.same c.args.c c.in-Some.r (plain c.in-Ok.head)
-    (some_that at_row k (HasCurrent r.keys c.in-Some.r) at (looked_current k r.keys c.look_up-looked.result.view c.look_up-looked.result.current c.in-Some.r c.look_up-looked.ensures.current c.in-Some.is)) c.in-Ok.ensures.head
+    (some_that at_row k (HasCurrent r.keys c.in-Some.r) at
+    (looked_current k r.keys c.look_up-looked.result.view c.look_up-looked.result.current c.in-Some.r c.look_up-looked.ensures.current c.in-Some.is))
+    c.in-Ok.ensures.head
 
 pub carry_out_plan-requires-clause-opens : goal.carry_out_plan-requires-clause-opens
-carry_out_plan-requires-clause-opens g c = record { stands = read_some c.args.rows.now c.head.new.self c.head.ensures.same c.args.now c.requires.stands; few = c.requires.few }
+carry_out_plan-requires-clause-opens g c =
+    record { stands = read_some c.args.rows.now c.head.new.self c.head.ensures.same c.args.now c.requires.stands; few = c.requires.few }
 
 pub carry_out_plan-requires-clause-plan : goal.carry_out_plan-requires-clause-plan
 carry_out_plan-requires-clause-plan g c = λ limits t v facts stands row.
@@ -57,9 +62,12 @@ carry_out_plan-requires-clause-plan g c = λ limits t v facts stands row.
     let at = lent c.get.result at_row c.unwrap-consumer.result c.get.ensures.value c.unwrap-consumer.ensures in
     let kept = subst (KeepsConsumer t (Some k)) row (subst (λ o. KeepsConsumer t o (t.consumer c.args.c)) at (stands.consumers c.args.c)) in
     let held = looked_current k r.keys c.look_up-looked.result.view c.look_up-looked.result.current c.in-Some.r c.look_up-looked.ensures.current c.in-Some.is in
-    some_plan_at (record r { entries = c.head.new.self }) t facts stands c.args.c k v row kept (known_of at_row k IsIdle at c.requires.idle) c.args.now c.look_up-looked.result.view c.look_up-looked.ensures.view
+    some_plan_at (record r { entries = c.head.new.self }) t facts stands c.args.c k v row kept (known_of at_row k IsIdle at c.requires.idle) c.args.now
+    c.look_up-looked.result.view c.look_up-looked.ensures.view
     c.in-Some.r c.candidate-current.result held (c.candidate-current.ensures _ t v) c.decide-plan.result
-    (known_of at_row k (λ j. c.decide-plan.result ≡ plan_of (plan_view_by c.args.now c.args.c c.look_up-looked.result.view.turn (Some c.candidate-current.result) j)) at c.decide-plan.ensures ∙ decided r c.args.now c.args.c k c.look_up-looked.result.view c.look_up-looked.ensures.view (Some c.candidate-current.result))
+    (known_of at_row k (λ j. c.decide-plan.result ≡ plan_of
+    (plan_view_by c.args.now c.args.c c.look_up-looked.result.view.turn (Some c.candidate-current.result) j)) at c.decide-plan.ensures ∙
+    decided r c.args.now c.args.c k c.look_up-looked.result.view c.look_up-looked.ensures.view (Some c.candidate-current.result))
 
 pub misread_by-requires-clause-stands : goal.misread_by-requires-clause-stands
 misread_by-requires-clause-stands g c = read_some c.args.rows.now c.head.new.self c.head.ensures.same c.args.now c.requires.stands
@@ -67,7 +75,8 @@ misread_by-requires-clause-stands g c = read_some c.args.rows.now c.head.new.sel
 pub returns-in-Ok-clause-answers : goal.returns-in-Ok-clause-answers
 returns-in-Ok-clause-answers g c =
     ok_then c.carry_out_plan.result c.carry_out_plan.ensures.answers
-    (read_answers c.args.rows.now c.head.new.self c.head.ensures.same c.head.ensures.cause.later c.carry_out_plan.new.rows (act_list c.args.out.now) (act_list c.carry_out_plan.new.out) c.args.now c.args.c)
+    (read_answers c.args.rows.now c.head.new.self c.head.ensures.same c.head.ensures.cause.later c.carry_out_plan.new.rows (act_list c.args.out.now)
+    (act_list c.carry_out_plan.new.out) c.args.now c.args.c)
 
 pub returns-in-Err-clause-answers : goal.returns-in-Err-clause-answers
 returns-in-Err-clause-answers g c =
@@ -76,6 +85,8 @@ returns-in-Err-clause-answers g c =
     let k = c.unwrap-consumer.result.now in
     let at = lent c.get.result at_row c.unwrap-consumer.result c.get.ensures.value c.unwrap-consumer.ensures in
     on_ok_two c.misread_by.result c.misread_by.ensures.failed c.misread_by.ensures.answers (λ other.
-    read_fault r c.head.new.self c.head.ensures.same (c.head.ensures.cause.fault (fault_only c.head.result c.in-Err.error c.in-Err.is c.head.ensures.no_limit other))
+    read_fault r c.head.new.self c.head.ensures.same
+    (c.head.ensures.cause.fault (fault_only c.head.result c.in-Err.error c.in-Err.is c.head.ensures.no_limit other))
     c.misread_by.new.rows (act_list c.args.out.now) (act_list c.misread_by.new.out) c.args.now c.args.c c.in-Some.r c.requires.idle
-    (some_that at_row k (HasCurrent r.keys c.in-Some.r) at (looked_current k r.keys c.look_up-looked.result.view c.look_up-looked.result.current c.in-Some.r c.look_up-looked.ensures.current c.in-Some.is)))
+    (some_that at_row k (HasCurrent r.keys c.in-Some.r) at
+    (looked_current k r.keys c.look_up-looked.result.view c.look_up-looked.result.current c.in-Some.r c.look_up-looked.ensures.current c.in-Some.is)))

@@ -18,25 +18,33 @@ pub returns-in-Direct-clause-answers : goal.returns-in-Direct-clause-answers
 returns-in-Direct-clause-answers g c =
     let r = c.args.rows.now in
     let is = plan_same r c.args.now c.args.c _ (plan.Direct c.in-Direct.need) c.requires.plan (sym c.plan_of.ensures ∙ c.in-Direct.is) in
-    ok_then c.open_past.result c.open_past.ensures.answers (direct_answers r c.requires.opens.stands c.args.now c.args.c c.requires.idle c.open_past.new.rows (act_list c.args.out.now) (act_list c.open_past.new.out) c.in-Direct.need is)
+    ok_then c.open_past.result c.open_past.ensures.answers
+    (direct_answers r c.requires.opens.stands c.args.now c.args.c c.requires.idle c.open_past.new.rows (act_list c.args.out.now)
+    (act_list c.open_past.new.out) c.in-Direct.need is)
 
 pub returns-in-Turn-clause-answers : goal.returns-in-Turn-clause-answers
 returns-in-Turn-clause-answers g c =
     let r = c.args.rows.now in
     let is = plan_same r c.args.now c.args.c _ (plan.Turn c.in-Turn.d) c.requires.plan (sym c.plan_of.ensures ∙ c.in-Turn.is) in
-    turn_answers r c.requires.opens.stands c.args.now c.args.c c.requires.idle c.wait_for_turn.new.rows (act_list c.args.out.now) (act_list c.wait_for_turn.new.out) c.in-Turn.d is c.wait_for_turn.ensures.answers
+    turn_answers r c.requires.opens.stands c.args.now c.args.c c.requires.idle c.wait_for_turn.new.rows (act_list c.args.out.now)
+    (act_list c.wait_for_turn.new.out) c.in-Turn.d is c.wait_for_turn.ensures.answers
 
 pub returns-in-Miss-clause-answers : goal.returns-in-Miss-clause-answers
 returns-in-Miss-clause-answers g c =
     let r = c.args.rows.now in
     let is = plan_same r c.args.now c.args.c _ plan.Miss c.requires.plan (sym c.plan_of.ensures ∙ c.in-Miss.is) in
-    miss_answers r c.requires.opens.stands c.args.now c.args.c c.requires.idle c.fail.new.rows (act_list c.args.out.now) (act_list c.fail.new.out) is c.fail.ensures.answers
+    miss_answers r c.requires.opens.stands c.args.now c.args.c c.requires.idle c.fail.new.rows (act_list c.args.out.now) (act_list c.fail.new.out) is
+    c.fail.ensures.answers
 
 pub bypass-requires-clause-asks : goal.bypass-requires-clause-asks
-bypass-requires-clause-asks g c = planned_asks c.args.rows.now c.requires.opens.stands c.args.now c.args.c c.requires.idle _ c.in-Fetch.need c.requires.plan (sym c.plan_of.ensures ∙ c.in-Fetch.is)
+bypass-requires-clause-asks g c =
+    planned_asks c.args.rows.now c.requires.opens.stands c.args.now c.args.c c.requires.idle _ c.in-Fetch.need c.requires.plan
+    (sym c.plan_of.ensures ∙ c.in-Fetch.is)
 
 pub fetch-requires-clause-asks : goal.fetch-requires-clause-asks
-fetch-requires-clause-asks g c = planned_asks c.args.rows.now c.requires.opens.stands c.args.now c.args.c c.requires.idle _ c.in-Fetch.need c.requires.plan (sym c.plan_of.ensures ∙ c.in-Fetch.is)
+fetch-requires-clause-asks g c =
+    planned_asks c.args.rows.now c.requires.opens.stands c.args.now c.args.c c.requires.idle _ c.in-Fetch.need c.requires.plan
+    (sym c.plan_of.ensures ∙ c.in-Fetch.is)
 
 pub fetch-requires-clause-turns : goal.fetch-requires-clause-turns
 fetch-requires-clause-turns g c = fetch_route c.args.view.now c.in-Fetch.need (sym c.plan_of.ensures ∙ c.in-Fetch.is)
@@ -47,7 +55,8 @@ returns-in-Bypass-clause-answers g c =
     let at = sym c.plan_of.ensures ∙ (c.in-Fetch.is ∙ ap plan.Fetch c.in-Bypass.is) in
     let is = plan_same r c.args.now c.args.c _ (plan.Fetch needs.Bypass) c.requires.plan at in
     ok_then c.bypass.result c.bypass.ensures.answers
-    (fetch_answers r c.requires.opens.stands c.args.now c.args.c c.requires.idle c.bypass.new.rows (act_list c.args.out.now) (act_list c.bypass.new.out) needs.Bypass (bare_validates c.args.view.now needs.Bypass c.requires.bare at) is)
+    (fetch_answers r c.requires.opens.stands c.args.now c.args.c c.requires.idle c.bypass.new.rows (act_list c.args.out.now) (act_list c.bypass.new.out)
+    needs.Bypass (bare_validates c.args.view.now needs.Bypass c.requires.bare at) is)
 
 pub returns-in_default-clause-answers : goal.returns-in_default-clause-answers
 returns-in_default-clause-answers g c =
@@ -55,7 +64,8 @@ returns-in_default-clause-answers g c =
     let at = sym c.plan_of.ensures ∙ c.in-Fetch.is in
     let is = plan_same r c.args.now c.args.c _ (plan.Fetch c.in-Fetch.need) c.requires.plan at in
     ok_then c.fetch.result c.fetch.ensures.answers
-    (fetch_answers r c.requires.opens.stands c.args.now c.args.c c.requires.idle c.fetch.new.rows (act_list c.args.out.now) (act_list c.fetch.new.out) c.in-Fetch.need (bare_validates c.args.view.now c.in-Fetch.need c.requires.bare at) is)
+    (fetch_answers r c.requires.opens.stands c.args.now c.args.c c.requires.idle c.fetch.new.rows (act_list c.args.out.now) (act_list c.fetch.new.out)
+    c.in-Fetch.need (bare_validates c.args.view.now c.in-Fetch.need c.requires.bare at) is)
 
 pub unreachable-requires : goal.unreachable-requires
 unreachable-requires g c =

@@ -16,23 +16,28 @@ open_past-requires-clause-leaves g c = may_leave_line c.args.rows.now c.requires
 
 pub open_past-requires-clause-past : goal.open_past-requires-clause-past
 open_past-requires-clause-past g c =
-    planned_past c.args.rows.now c.requires.opens.stands c.args.now c.args.c c.requires.idle c.in-Direct.need (plan_same c.args.rows.now c.args.now c.args.c _ (plan.Direct c.in-Direct.need) c.requires.plan c.in-Direct.is)
+    planned_past c.args.rows.now c.requires.opens.stands c.args.now c.args.c c.requires.idle c.in-Direct.need
+    (plan_same c.args.rows.now c.args.now c.args.c _ (plan.Direct c.in-Direct.need) c.requires.plan c.in-Direct.is)
 
 pub wait_for_turn-requires-clause-queues : goal.wait_for_turn-requires-clause-queues
 wait_for_turn-requires-clause-queues g c = may_queue c.args.rows.now c.requires.opens.stands c.args.now c.args.c c.requires.idle
 
 pub revalidate-requires-clause-asks : goal.revalidate-requires-clause-asks
-revalidate-requires-clause-asks g c = planned_asks c.args.rows.now c.requires.opens.stands c.args.now c.args.c c.requires.idle c.args.plan c.in-Fetch.need c.requires.plan c.in-Fetch.is
+revalidate-requires-clause-asks g c =
+    planned_asks c.args.rows.now c.requires.opens.stands c.args.now c.args.c c.requires.idle c.args.plan c.in-Fetch.need c.requires.plan c.in-Fetch.is
 
 pub bypass-requires-clause-asks : goal.bypass-requires-clause-asks
-bypass-requires-clause-asks g c = planned_asks c.args.rows.now c.requires.opens.stands c.args.now c.args.c c.requires.idle c.args.plan c.in-Fetch.need c.requires.plan c.in-Fetch.is
+bypass-requires-clause-asks g c =
+    planned_asks c.args.rows.now c.requires.opens.stands c.args.now c.args.c c.requires.idle c.args.plan c.in-Fetch.need c.requires.plan c.in-Fetch.is
 
 pub fetch-requires-clause-asks : goal.fetch-requires-clause-asks
-fetch-requires-clause-asks g c = planned_asks c.args.rows.now c.requires.opens.stands c.args.now c.args.c c.requires.idle c.args.plan c.in-Fetch.need c.requires.plan c.in-Fetch.is
+fetch-requires-clause-asks g c =
+    planned_asks c.args.rows.now c.requires.opens.stands c.args.now c.args.c c.requires.idle c.args.plan c.in-Fetch.need c.requires.plan c.in-Fetch.is
 
 pub fetch-requires-clause-turns : goal.fetch-requires-clause-turns
 fetch-requires-clause-turns g c =
-    planned_route c.args.rows.now c.requires.opens.stands c.args.now c.args.c c.requires.idle c.in-Fetch.need (plan_same c.args.rows.now c.args.now c.args.c _ (plan.Fetch c.in-Fetch.need) c.requires.plan c.in-Fetch.is)
+    planned_route c.args.rows.now c.requires.opens.stands c.args.now c.args.c c.requires.idle c.in-Fetch.need
+    (plan_same c.args.rows.now c.args.now c.args.c _ (plan.Fetch c.in-Fetch.need) c.requires.plan c.in-Fetch.is)
 
 pub bind-requires-clause-leaves : goal.bind-requires-clause-leaves
 bind-requires-clause-leaves g c = may_leave_line c.args.rows.now c.requires.opens.stands c.args.now c.args.c c.requires.idle
@@ -43,7 +48,8 @@ bind-requires-clause-admits g c = current_admits c.args.rows.now c.requires.open
 pub bind-requires-clause-part : goal.bind-requires-clause-part
 bind-requires-clause-part g c =
     let r = c.args.rows.now in
-    part_there r c.requires.opens.stands c.args.now c.args.c c.requires.idle c.args.r c.args.head c.requires.current.current c.requires.current.head c.in-Bind.why c.in-Bind.span
+    part_there r c.requires.opens.stands c.args.now c.args.c c.requires.idle c.args.r c.args.head c.requires.current.current c.requires.current.head
+    c.in-Bind.why c.in-Bind.span
     (plan_same r c.args.now c.args.c _ (plan.Bind c.in-Bind.why c.in-Bind.span) c.requires.plan c.in-Bind.is)
 
 pub open_first_hole-requires-clause-within_limits : goal.open_first_hole-requires-clause-within_limits
@@ -52,81 +58,95 @@ open_first_hole-requires-clause-within_limits g c = limits_there c.args.rows.now
 pub open_first_hole-requires-clause-passes : goal.open_first_hole-requires-clause-passes
 open_first_hole-requires-clause-passes g c =
     let r = c.args.rows.now in
-    filling_passes r c.requires.opens.stands c.args.now c.args.c c.requires.idle c.args.r c.args.head c.requires.current.current c.requires.current.head c.in-FirstHole.span c.in-FirstHole.hole
+    filling_passes r c.requires.opens.stands c.args.now c.args.c c.requires.idle c.args.r c.args.head c.requires.current.current c.requires.current.head
+    c.in-FirstHole.span c.in-FirstHole.hole
     (plan_same r c.args.now c.args.c _ (plan.FirstHole c.in-FirstHole.span c.in-FirstHole.hole) c.requires.plan c.in-FirstHole.is)
 
 pub open_first_hole-requires-clause-admits : goal.open_first_hole-requires-clause-admits
 open_first_hole-requires-clause-admits g c =
     let r = c.args.rows.now in
-    filling_alone r c.requires.opens.stands c.args.now c.args.c c.requires.idle c.args.r c.args.head c.requires.current.current c.requires.current.head c.in-FirstHole.span c.in-FirstHole.hole
+    filling_alone r c.requires.opens.stands c.args.now c.args.c c.requires.idle c.args.r c.args.head c.requires.current.current c.requires.current.head
+    c.in-FirstHole.span c.in-FirstHole.hole
     (plan_same r c.args.now c.args.c _ (plan.FirstHole c.in-FirstHole.span c.in-FirstHole.hole) c.requires.plan c.in-FirstHole.is)
 
 pub open_first_hole-requires-clause-hole : goal.open_first_hole-requires-clause-hole
 open_first_hole-requires-clause-hole g c =
     let r = c.args.rows.now in
-    filling_hole r c.requires.opens.stands c.args.now c.args.c c.requires.idle c.args.r c.args.head c.requires.current.current c.requires.current.head c.in-FirstHole.span c.in-FirstHole.hole
+    filling_hole r c.requires.opens.stands c.args.now c.args.c c.requires.idle c.args.r c.args.head c.requires.current.current c.requires.current.head
+    c.in-FirstHole.span c.in-FirstHole.hole
     (plan_same r c.args.now c.args.c _ (plan.FirstHole c.in-FirstHole.span c.in-FirstHole.hole) c.requires.plan c.in-FirstHole.is)
 
 pub wait_for_use-requires-clause-passes : goal.wait_for_use-requires-clause-passes
 wait_for_use-requires-clause-passes g c =
-    may_pass c.args.rows.now c.requires.opens.stands c.args.now c.args.c c.requires.idle c.in-Busy.d c.in-Busy.kept (plan_same c.args.rows.now c.args.now c.args.c _ (plan.Busy c.in-Busy.d c.in-Busy.kept) c.requires.plan c.in-Busy.is)
+    may_pass c.args.rows.now c.requires.opens.stands c.args.now c.args.c c.requires.idle c.in-Busy.d c.in-Busy.kept
+    (plan_same c.args.rows.now c.args.now c.args.c _ (plan.Busy c.in-Busy.d c.in-Busy.kept) c.requires.plan c.in-Busy.is)
 
 pub returns-in-Direct-clause-answers : goal.returns-in-Direct-clause-answers
 returns-in-Direct-clause-answers g c =
     let r = c.args.rows.now in
     let is = plan_same r c.args.now c.args.c _ (plan.Direct c.in-Direct.need) c.requires.plan c.in-Direct.is in
-    ok_then c.open_past.result c.open_past.ensures.answers (direct_answers r c.requires.opens.stands c.args.now c.args.c c.requires.idle c.open_past.new.rows (act_list c.args.out.now) (act_list c.open_past.new.out) c.in-Direct.need is)
+    ok_then c.open_past.result c.open_past.ensures.answers
+    (direct_answers r c.requires.opens.stands c.args.now c.args.c c.requires.idle c.open_past.new.rows (act_list c.args.out.now)
+    (act_list c.open_past.new.out) c.in-Direct.need is)
 
 pub returns-in-Turn-clause-answers : goal.returns-in-Turn-clause-answers
 returns-in-Turn-clause-answers g c =
     let r = c.args.rows.now in
     let is = plan_same r c.args.now c.args.c _ (plan.Turn c.in-Turn.d) c.requires.plan c.in-Turn.is in
-    turn_answers r c.requires.opens.stands c.args.now c.args.c c.requires.idle c.wait_for_turn.new.rows (act_list c.args.out.now) (act_list c.wait_for_turn.new.out) c.in-Turn.d is c.wait_for_turn.ensures.answers
+    turn_answers r c.requires.opens.stands c.args.now c.args.c c.requires.idle c.wait_for_turn.new.rows (act_list c.args.out.now)
+    (act_list c.wait_for_turn.new.out) c.in-Turn.d is c.wait_for_turn.ensures.answers
 
 pub returns-in-Validate-clause-answers : goal.returns-in-Validate-clause-answers
 returns-in-Validate-clause-answers g c =
     let r = c.args.rows.now in
     let is = plan_same r c.args.now c.args.c _ (plan.Fetch needs.Validate) c.requires.plan (c.in-Fetch.is ∙ ap plan.Fetch c.in-Validate.is) in
     ok_then c.revalidate.result c.revalidate.ensures.answers
-    (validate_answers r c.requires.opens.stands c.args.now c.args.c c.requires.idle c.revalidate.new.rows (act_list c.args.out.now) (act_list c.revalidate.new.out) c.args.r c.args.head c.requires.current.current c.requires.current.head is)
+    (validate_answers r c.requires.opens.stands c.args.now c.args.c c.requires.idle c.revalidate.new.rows (act_list c.args.out.now)
+    (act_list c.revalidate.new.out) c.args.r c.args.head c.requires.current.current c.requires.current.head is)
 
 pub returns-in-Bypass-clause-answers : goal.returns-in-Bypass-clause-answers
 returns-in-Bypass-clause-answers g c =
     let r = c.args.rows.now in
     let is = plan_same r c.args.now c.args.c _ (plan.Fetch needs.Bypass) c.requires.plan (c.in-Fetch.is ∙ ap plan.Fetch c.in-Bypass.is) in
     ok_then c.bypass.result c.bypass.ensures.answers
-    (fetch_answers r c.requires.opens.stands c.args.now c.args.c c.requires.idle c.bypass.new.rows (act_list c.args.out.now) (act_list c.bypass.new.out) needs.Bypass (λ same. let never : needs.Bypass ≡ needs.Validate = same in cc) is)
+    (fetch_answers r c.requires.opens.stands c.args.now c.args.c c.requires.idle c.bypass.new.rows (act_list c.args.out.now) (act_list c.bypass.new.out)
+    needs.Bypass (λ same. let never : needs.Bypass ≡ needs.Validate = same in cc) is)
 
 pub returns-in-Fetch-clause-answers : goal.returns-in-Fetch-clause-answers
 returns-in-Fetch-clause-answers g c =
     let r = c.args.rows.now in
     let is = plan_same r c.args.now c.args.c _ (plan.Fetch c.in-Fetch.need) c.requires.plan c.in-Fetch.is in
     ok_then c.fetch.result c.fetch.ensures.answers
-    (fetch_answers r c.requires.opens.stands c.args.now c.args.c c.requires.idle c.fetch.new.rows (act_list c.args.out.now) (act_list c.fetch.new.out) c.in-Fetch.need c.in_default.not-Validate is)
+    (fetch_answers r c.requires.opens.stands c.args.now c.args.c c.requires.idle c.fetch.new.rows (act_list c.args.out.now) (act_list c.fetch.new.out)
+    c.in-Fetch.need c.in_default.not-Validate is)
 
 pub returns-in-Busy-clause-answers : goal.returns-in-Busy-clause-answers
 returns-in-Busy-clause-answers g c =
     let r = c.args.rows.now in
     let is = plan_same r c.args.now c.args.c _ (plan.Busy c.in-Busy.d c.in-Busy.kept) c.requires.plan c.in-Busy.is in
-    busy_answers r c.requires.opens.stands c.args.now c.args.c c.requires.idle c.wait_for_use.new.rows (act_list c.args.out.now) (act_list c.wait_for_use.new.out) c.in-Busy.d c.in-Busy.kept is c.wait_for_use.ensures.answers
+    busy_answers r c.requires.opens.stands c.args.now c.args.c c.requires.idle c.wait_for_use.new.rows (act_list c.args.out.now)
+    (act_list c.wait_for_use.new.out) c.in-Busy.d c.in-Busy.kept is c.wait_for_use.ensures.answers
 
 -- where its plan is to fail
 pub returns-clause-answers : goal.returns-clause-answers
 returns-clause-answers g c =
     let r = c.args.rows.now in
     let is = plan_same r c.args.now c.args.c _ plan.Miss c.requires.plan c.in-Miss.is in
-    miss_answers r c.requires.opens.stands c.args.now c.args.c c.requires.idle c.fail.new.rows (act_list c.args.out.now) (act_list c.fail.new.out) is c.fail.ensures.answers
+    miss_answers r c.requires.opens.stands c.args.now c.args.c c.requires.idle c.fail.new.rows (act_list c.args.out.now) (act_list c.fail.new.out) is
+    c.fail.ensures.answers
 
 pub returns-in-Bind-clause-answers : goal.returns-in-Bind-clause-answers
 returns-in-Bind-clause-answers g c =
     let r = c.args.rows.now in
     let is = plan_same r c.args.now c.args.c _ (plan.Bind c.in-Bind.why c.in-Bind.span) c.requires.plan c.in-Bind.is in
     ok_then c.bind.result c.bind.ensures.answers
-    (bind_answers r c.requires.opens.stands c.args.now c.args.c c.requires.idle c.bind.new.rows (act_list c.args.out.now) (act_list c.bind.new.out) c.in-Bind.why c.in-Bind.span c.args.r c.args.head c.requires.current.current c.requires.current.head is)
+    (bind_answers r c.requires.opens.stands c.args.now c.args.c c.requires.idle c.bind.new.rows (act_list c.args.out.now) (act_list c.bind.new.out)
+    c.in-Bind.why c.in-Bind.span c.args.r c.args.head c.requires.current.current c.requires.current.head is)
 
 pub returns-in-FirstHole-clause-answers : goal.returns-in-FirstHole-clause-answers
 returns-in-FirstHole-clause-answers g c =
     let r = c.args.rows.now in
     let is = plan_same r c.args.now c.args.c _ (plan.FirstHole c.in-FirstHole.span c.in-FirstHole.hole) c.requires.plan c.in-FirstHole.is in
     ok_then c.open_first_hole.result c.open_first_hole.ensures.answers
-    (filling_answers r c.requires.opens.stands c.args.now c.args.c c.requires.idle c.args.r c.args.head c.requires.current.current c.requires.current.head c.in-FirstHole.span c.in-FirstHole.hole is c.open_first_hole.new.rows (act_list c.args.out.now) (act_list c.open_first_hole.new.out))
+    (filling_answers r c.requires.opens.stands c.args.now c.args.c c.requires.idle c.args.r c.args.head c.requires.current.current c.requires.current.head
+    c.in-FirstHole.span c.in-FirstHole.hole is c.open_first_hole.new.rows (act_list c.args.out.now) (act_list c.open_first_hole.new.out))

@@ -6,7 +6,8 @@ use Rattle.hc_on_poll.proofs.HoleAsked.{IsRangeText, range_fits, lent_or, first_
 use Rattle.hc_on_poll.proofs.hole.hole_request.Goals as goal
 
 range : (c : goal.After-as_slice) → IsRangeText c.as_slice.result.now
-range c = range_fits c.args.head.now.total c.args.hole c.unwrap_or.result _ _ _ c.requires.within c.unwrap_or.ensures c.as_slice.ensures.value c.in_ok-write_range.ensures.ok c.new-range.ensures.items
+range c = range_fits c.args.head.now.total c.args.hole c.unwrap_or.result _ _ _ c.requires.within
+    c.unwrap_or.ensures c.as_slice.ensures.value c.in_ok-write_range.ensures.ok c.new-range.ensures.items
 
 pub set_field-requires-clause-name : goal.set_field-requires-clause-name
 set_field-requires-clause-name c = IsToken-range
@@ -27,7 +28,8 @@ set_field-requires-clause-small c =
 tag : (c : goal.After-set_field-arg-6-1) → IsFit c.unwrap_or-tag.result.now
 tag c =
     let head = c.args.head.now in
-    let same = ap (λ (z : Bor (List ℕ)). z.now) c.unwrap_or-tag.ensures ∙ (lent_or c.get.result c.as_slice-2.result ∙ rw (c.get.ensures, c.as_slice-2.ensures) refl) in
+    let same = ap (λ (z : Bor (List ℕ)). z.now) c.unwrap_or-tag.ensures ∙
+    (lent_or c.get.result c.as_slice-2.result ∙ rw (c.get.ensures, c.as_slice-2.ensures) refl) in
     subst IsFit (sym same) (first_or_fits (codes "etag") head.fields head.own.list)
 
 pub set_field-requires-2-clause-name : goal.set_field-requires-2-clause-name
@@ -41,7 +43,8 @@ set_field-requires-2-clause-short c = (tag c).short
 
 pub set_field-requires-2-clause-small : goal.set_field-requires-2-clause-small
 set_field-requires-2-clause-small c =
-    let fits = range_fits c.args.head.now.total c.args.hole c.unwrap_or.result _ _ _ c.requires.within c.unwrap_or.ensures c.as_slice.ensures.value c.in_ok-write_range.ensures.ok c.new-range.ensures.items in
+    let fits = range_fits c.args.head.now.total c.args.hole c.unwrap_or.result _ _ _ c.requires.within
+    c.unwrap_or.ensures c.as_slice.ensures.value c.in_ok-write_range.ensures.ok c.new-range.ensures.items in
     let most = fits.short in
     let tagged = (tag c).short in
     let same = ap (λ (z : Request). size_of z.fields) c.in_ok-request.ensures in

@@ -25,8 +25,11 @@ returns-clause-answers g c =
     some_that at_row k _ at (λ wants want limits t v facts stands row is.
     let kept = subst (KeepsConsumer t (Some k)) row (subst (λ o. KeepsConsumer t o (t.consumer c.args.c)) at (stands.consumers c.args.c)) in
     let total = current_total r t v.request.key c.args.r head stands (current_as r t k v c.args.r stands kept now_is) c.requires.current.head in
-    filling_answered r c.launch.new.self c.bind_first.new.self c.away.new.self c.bind_first-2.new.consumers t facts.law c.args.now c.args.c c.in_ok-x.x c.args.r c.args.span hole c.in_ok-request.request k v stands at row idle now_is c.requires.admits refl
+    filling_answered r c.launch.new.self c.bind_first.new.self c.away.new.self c.bind_first-2.new.consumers t facts.law c.args.now c.args.c c.in_ok-x.x
+    c.args.r c.args.span hole c.in_ok-request.request k v stands at row idle now_is c.requires.admits refl
     launch.number launch.next launch.ok c.in_ok-bind_first.ensures.ok
-    (subst (λ (key : List ℕ). keys.Becomes (on_line (gone_away c.args.c)) key r.keys c.away.new.self) (ap (λ (z : Request). z.key) made) c.away.ensures) c.bind_first-2.ensures
+    (subst (λ (key : List ℕ). keys.Becomes (on_line (gone_away c.args.c)) key r.keys c.away.new.self) (ap (λ (z : Request). z.key) made) c.away.ensures)
+    c.bind_first-2.ensures
     (shelf_of r.entries).faults want (act_list c.args.out.now) (act_list c.open.new.out) c.args.hole.lo c.args.hole.hi refl head.total total wants
-    (is ∙ (ap (λ (x : ℕ). Opens x hole (hole_request head k.request c.args.hole (unwrap_or head.total 0))) (sym launch.number) ∙ ap (λ (z : Request). Opens c.in_ok-x.x hole z) (sym made))) c.open.ensures)
+    (is ∙ (ap (λ (x : ℕ). Opens x hole (hole_request head k.request c.args.hole (unwrap_or head.total 0))) (sym launch.number) ∙
+    ap (λ (z : Request). Opens c.in_ok-x.x hole z) (sym made))) c.open.ensures)

@@ -19,4 +19,7 @@ returns-in-Err-clause-answers g c =
     let (head, head_is, within) = there (head_at (shelf_of r.entries) c.args.r) (IsInLength c.args.hole) c.requires.hole in
     on_ok_two c.misread_by.result c.misread_by.ensures.failed c.misread_by.ensures.answers (λ other answers.
     some_that (get nat_eq r.consumers c.args.c) k _ at (some_that (head_at (shelf_of r.entries) c.args.r) head _ head_is (λ want limits t v facts stands row is.
-    misread_answered r c.head.new.self c.head.ensures.same (c.head.ensures.cause.fault (fault_only c.head.result c.in-Err.error c.in-Err.is c.head.ensures.no_limit other)) c.misread_by.new.rows (act_list c.args.out.now) (act_list c.misread_by.new.out) c.args.now c.args.c c.args.r k at reads.0.2 (reads.0.0, reads.0.1, reads.0.3) answers want _ t facts stands)))
+    misread_answered r c.head.new.self c.head.ensures.same
+    (c.head.ensures.cause.fault (fault_only c.head.result c.in-Err.error c.in-Err.is c.head.ensures.no_limit other)) c.misread_by.new.rows
+    (act_list c.args.out.now) (act_list c.misread_by.new.out) c.args.now c.args.c c.args.r k at reads.0.2 (reads.0.0, reads.0.1, reads.0.3) answers want _
+    t facts stands)))

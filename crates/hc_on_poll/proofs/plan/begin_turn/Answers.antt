@@ -42,7 +42,9 @@ returns-clause-begun g c =
     record {
       number = number;
       rows = λ limits t v facts stands row_is.
-          stands_turned r c.queue_again.new.rows c.launch.new.self c.hold.new.self c.take_turn.new.consumers t facts.law c.args.now c.args.c c.in_ok-x.x c.args.need c.args.request.now c.current-aim.result k v stands at row_is
+          stands_turned r c.queue_again.new.rows c.launch.new.self c.hold.new.self c.take_turn.new.consumers t facts.law c.args.now c.args.c c.in_ok-x.x
+          c.args.need c.args.request.now c.current-aim.result k v stands at row_is
           asks.idle asks.next c.requires.turns (known_of row k (IsOfItsKey c.args.request.now) at c.requires.key) number c.current-aim.ensures
-          queued.stands queued.consumer queued.rest.last_start queued.rest.entries queued.rest.exchanges launch.next launch.ok c.hold.ensures c.take_turn.ensures;
+          queued.stands queued.consumer queued.rest.last_start queued.rest.entries queued.rest.exchanges launch.next launch.ok c.hold.ensures
+          c.take_turn.ensures;
     }

@@ -16,5 +16,7 @@ returns-clause-answers g c =
     let k = c.unwrap-consumer.result.now in
     let at = lent c.get.result (get nat_eq r.consumers c.args.c) c.unwrap-consumer.result c.get.ensures.value c.unwrap-consumer.ensures in
     some_that (get nat_eq r.consumers c.args.c) k _ at (λ want limits t v facts stands row is.
-    bypassed r c.begin_turn.new.rows c.let_some_go.new.rows t facts c.args.now c.args.c want c.in_ok-x.x k v stands at row c.in_ok-request.request c.in_ok-request.ensures c.current-current.result c.current-current.ensures
-    is c.in_ok-x.ensures.begun.number c.in_ok-x.ensures.begun.rows c.let_some_go.ensures.stands (act_list c.args.out.now) (act_list c.open.new.out) c.open.ensures)
+    bypassed r c.begin_turn.new.rows c.let_some_go.new.rows t facts c.args.now c.args.c want c.in_ok-x.x k v stands at row c.in_ok-request.request
+    c.in_ok-request.ensures c.current-current.result c.current-current.ensures
+    is c.in_ok-x.ensures.begun.number c.in_ok-x.ensures.begun.rows c.let_some_go.ensures.stands (act_list c.args.out.now) (act_list c.open.new.out)
+    c.open.ensures)

@@ -16,4 +16,5 @@ returns-in_default-clause-stands g c = λ limits t v law rows row now_is.
     let r = c.args.rows.now in
     let k = c.unwrap-consumer.result.now in
     let at = lent c.get.result (get nat_eq r.consumers c.args.c) c.unwrap-consumer.result c.get.ensures.value c.unwrap-consumer.ensures in
-    stands_passed r r t law c.args.c c.args.r k v rows at row now_is refl refl refl (known_of (get nat_eq r.consumers c.args.c) k (MayPass r.keys c.args.c) at c.requires.passes).idle c.in_default.not-Line refl refl
+    stands_passed r r t law c.args.c c.args.r k v rows at row now_is refl refl refl
+    (known_of (get nat_eq r.consumers c.args.c) k (MayPass r.keys c.args.c) at c.requires.passes).idle c.in_default.not-Line refl refl

@@ -18,5 +18,7 @@ returns-clause-answers g c =
     let k = c.unwrap-consumer.result.now in
     let at = lent c.get.result (get nat_eq r.consumers c.args.c) c.unwrap-consumer.result c.get.ensures.value c.unwrap-consumer.ensures in
     some_that (get nat_eq r.consumers c.args.c) k _ at (λ want limits t v facts stands row is.
-    asked_answered r c.begin_turn.new.rows t facts c.args.now c.args.c want c.in_ok-x.x v stands row needs.Validate refl (λ same. let never : needs.Validate ≡ needs.Bypass = same in cc) c.in_ok-request.request (conditional (plain c.args.head.now) k.request) c.in_ok-request.ensures
+    asked_answered r c.begin_turn.new.rows t facts c.args.now c.args.c want c.in_ok-x.x v stands row needs.Validate refl
+    (λ same. let never : needs.Validate ≡ needs.Bypass = same in cc) c.in_ok-request.request (conditional (plain c.args.head.now) k.request)
+    c.in_ok-request.ensures
     is c.in_ok-x.ensures.begun (act_list c.args.out.now) (act_list c.open.new.out) c.open.ensures)

@@ -12,4 +12,5 @@ returns-clause-answers g c = λ now want limits t v facts rows row is.
     let (k, at, held) = there (get nat_eq r.consumers c.args.c) (HasCurrent r.keys c.args.r) c.requires.current in
     let kept = subst (KeepsConsumer t (Some k)) row (subst (λ o. KeepsConsumer t o (t.consumer c.args.c)) at (rows.consumers c.args.c)) in
     let now_is = current_as r t k v c.args.r rows kept held in
-    use_waits limits (shelf_of r.entries).faults _ t facts.law now c.args.c want c.args.r c.args.d v row (act_list c.args.out.now) (act_list c.wait.new.out) now_is is c.wait.ensures.acts (c.pass.ensures.stands _ t v facts.law rows row now_is)
+    use_waits limits (shelf_of r.entries).faults _ t facts.law now c.args.c want c.args.r c.args.d v row (act_list c.args.out.now)
+    (act_list c.wait.new.out) now_is is c.wait.ensures.acts (c.pass.ensures.stands _ t v facts.law rows row now_is)

@@ -42,7 +42,9 @@ read_bound-requires-clause-reads g c =
 -- the reader is c
 pub returns-in-Bound-2-clause-answers : goal.returns-in-Bound-2-clause-answers
 returns-in-Bound-2-clause-answers g c =
-    subst (λ (z : Reader). OnOk c.read_bound.result (Answers c.args.rows.now c.read_bound.new.rows (act_list c.args.out.now) (act_list c.read_bound.new.out) c.args.now (event.Poll z.c c.args.want))) c.of-reader.ensures c.read_bound.ensures.answers
+    subst (λ (z : Reader). OnOk c.read_bound.result
+    (Answers c.args.rows.now c.read_bound.new.rows (act_list c.args.out.now) (act_list c.read_bound.new.out) c.args.now (event.Poll z.c c.args.want)))
+    c.of-reader.ensures c.read_bound.ensures.answers
 
 pub unreachable-requires : goal.unreachable-requires
 unreachable-requires g c =

@@ -20,5 +20,6 @@ returns g c =
     record {
       next = c.next_present.result;
       next_is = c.next_present.ensures.next;
-      is = unstored_as table ((shelf_of r.entries).kept a.r) view a c.next_present.result c.if-goes_alone.result c.source.result (sym c.entry.ensures ∙ c.unwrap-entry.ensures) held c.source.ensures;
+      is = unstored_as table ((shelf_of r.entries).kept a.r) view a c.next_present.result c.if-goes_alone.result c.source.result
+          (sym c.entry.ensures ∙ c.unwrap-entry.ensures) held c.source.ensures;
     }

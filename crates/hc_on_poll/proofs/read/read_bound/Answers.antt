@@ -21,8 +21,10 @@ returns-in-Some-clause-answers g c =
     let (k, at, its) = there (get nat_eq r.consumers a.c) (Reads a) c.requires.reads in
     λ limits t facts rows accepted.
     let rd = row_of r a.c a.r k at its.shown t facts rows in
-    head_waits limits (shelf_of r.entries).faults r t facts.law c.args.now a.c c.args.want rd.v rd.row (act_list c.args.out.now) (act_list c.wait.new.out) c.in-Some.x
-    (head_move r t facts rows a.c a.r its.shown.0.2 k rd c.args.now c.args.want its.shown.1 c.in-Some.x (sym (ap (λ (z : Reader). headless_own (table_of r.exchanges) z.own) its.is) ∙ (sym c.headless_own.ensures ∙ c.in-Some.is))) c.wait.ensures.acts rows
+    head_waits limits (shelf_of r.entries).faults r t facts.law c.args.now a.c c.args.want rd.v rd.row (act_list c.args.out.now) (act_list c.wait.new.out)
+    c.in-Some.x
+    (head_move r t facts rows a.c a.r its.shown.0.2 k rd c.args.now c.args.want its.shown.1 c.in-Some.x
+    (sym (ap (λ (z : Reader). headless_own (table_of r.exchanges) z.own) its.is) ∙ (sym c.headless_own.ensures ∙ c.in-Some.is))) c.wait.ensures.acts rows
 
 pub most-count-requires : goal.most-count-requires
 most-count-requires g c =
@@ -39,11 +41,14 @@ returns-then-count-eq0-clause-answers g c =
     let a = c.args.reader in
     let want = c.args.want in
     let (k, at, its) = there (get nat_eq r.consumers a.c) (Reads a) c.requires.reads in
-    let none : most k.hi (k.lo + k.given) want ≡ 0 = sym (ap (λ (z : Reader). most z.hi z.offset want) its.is) ∙ (sym c.most-count.ensures ∙ c.if-count-eq0.true) in
+    let none : most k.hi (k.lo + k.given) want ≡ 0 = sym (ap (λ (z : Reader). most z.hi z.offset want) its.is) ∙
+    (sym c.most-count.ensures ∙ c.if-count-eq0.true) in
     λ limits t facts rows accepted.
     let rd = row_of r a.c a.r k at its.shown t facts rows in
     let heard = sym (ap (λ (z : Reader). headless_own (table_of r.exchanges) z.own) its.is) ∙ (sym c.headless_own.ensures ∙ c.in_default.is) in
-    c.end_reading.ensures.answers want _ t rd.v facts rows rd.row (ends_move r t facts rows a.c a.r its.shown.0.2 k rd c.args.now want its.shown.1 heard c.requires.wants _ refl (none_more want c.requires.wants k.hi (k.lo + k.given) none))
+    c.end_reading.ensures.answers want _ t rd.v facts rows rd.row
+    (ends_move r t facts rows a.c a.r its.shown.0.2 k rd c.args.now want its.shown.1 heard c.requires.wants _ refl
+    (none_more want c.requires.wants k.hi (k.lo + k.given) none))
 
 pub run_at-requires-clause-there : goal.run_at-requires-clause-there
 run_at-requires-clause-there g c =
@@ -60,9 +65,11 @@ give-requires-clause-fits g c =
     let mid = record r { entries = c.run_at.new.self } in
     let stays = c.run_at.ensures.same in
     let run = c.in-Ok-Some.field-0 in
-    let ahead = ahead_after (shelf_of r.entries) (shelf_of c.run_at.new.self) stays a c.args.want k its.is run c.most-count.result c.most-count.ensures c.if-count-eq0.false c.in-Ok-Some.ensures.run in
+    let ahead = ahead_after (shelf_of r.entries) (shelf_of c.run_at.new.self) stays a c.args.want k its.is run c.most-count.result c.most-count.ensures
+    c.if-count-eq0.false c.in-Ok-Some.ensures.run in
     let stands = ∥∥₁_map c.requires.opens.stands (λ s. some_read r mid refl refl refl refl stays s) in
-    some_that (get nat_eq r.consumers a.c) k (λ j. j.given + length c.in-Ok-Some.run'.bytes ≤ 2 ^ 62) at (run_fits mid a.c a.r k at its.shown stands c.args.want c.requires.wants run ahead c.in-Ok-Some.run' c.in-Ok-Some.field-0-is)
+    some_that (get nat_eq r.consumers a.c) k (λ j. j.given + length c.in-Ok-Some.run'.bytes ≤ 2 ^ 62) at
+    (run_fits mid a.c a.r k at its.shown stands c.args.want c.requires.wants run ahead c.in-Ok-Some.run' c.in-Ok-Some.field-0-is)
 
 pub read_on-requires-clause-opens : goal.read_on-requires-clause-opens
 read_on-requires-clause-opens g c =
@@ -81,8 +88,10 @@ read_on-requires-clause-reads g c =
     some_that (get nat_eq r.consumers a.c) k (ReadsUnstored (record r { entries = c.run_at.new.self }) a) at (record {
       reads = its;
       heard = sym (ap (λ (z : Reader). headless_own (table_of r.exchanges) z.own) its.is) ∙ (sym c.headless_own.ensures ∙ c.in_default.is);
-      before_end = before_end want k.hi (k.lo + k.given) (λ none. c.if-count-eq0.false (c.most-count.ensures ∙ (ap (λ (z : Reader). most z.hi z.offset want) its.is ∙ none)));
-      missing = unstored_after (shelf_of r.entries) (shelf_of c.run_at.new.self) c.run_at.ensures.same a k its.is c.in-Ok-None.field-0 c.most-count.result c.in-Ok-None.ensures.run c.in-Ok-None.field-0-is;
+      before_end = before_end want k.hi (k.lo + k.given)
+          (λ none. c.if-count-eq0.false (c.most-count.ensures ∙ (ap (λ (z : Reader). most z.hi z.offset want) its.is ∙ none)));
+      missing = unstored_after (shelf_of r.entries) (shelf_of c.run_at.new.self) c.run_at.ensures.same a k its.is c.in-Ok-None.field-0 c.most-count.result
+          c.in-Ok-None.ensures.run c.in-Ok-None.field-0-is;
     })
 
 pub misread_by-requires-clause-stands : goal.misread_by-requires-clause-stands
@@ -99,19 +108,26 @@ returns-in-Ok-Some-clause-answers g c =
     let mid = record r { entries = c.run_at.new.self } in
     let stays = c.run_at.ensures.same in
     let run = c.in-Ok-Some.field-0 in
-    let ahead = ahead_after (shelf_of r.entries) (shelf_of c.run_at.new.self) stays a want k its.is run c.most-count.result c.most-count.ensures c.if-count-eq0.false c.in-Ok-Some.ensures.run in
+    let ahead = ahead_after (shelf_of r.entries) (shelf_of c.run_at.new.self) stays a want k its.is run c.most-count.result c.most-count.ensures
+    c.if-count-eq0.false c.in-Ok-Some.ensures.run in
     let heard = sym (ap (λ (z : Reader). headless_own (table_of r.exchanges) z.own) its.is) ∙ (sym c.headless_own.ensures ∙ c.in_default.is) in
-    let off = before_end want k.hi (k.lo + k.given) (λ none. c.if-count-eq0.false (c.most-count.ensures ∙ (ap (λ (z : Reader). most z.hi z.offset want) its.is ∙ none))) in
+    let off = before_end want k.hi (k.lo + k.given)
+    (λ none. c.if-count-eq0.false (c.most-count.ensures ∙ (ap (λ (z : Reader). most z.hi z.offset want) its.is ∙ none))) in
     let rest = c.give.ensures.rest in
-    answers_after r mid c.give.new.rows (record { last_start = refl; consumers = refl; exchanges = refl; keys = refl; entries = stays }) (act_list c.args.out.now) (act_list c.give.new.out) c.args.now a.c a.r (event.Poll a.c want) c.run_at.ensures.cause.later (λ limits t facts rows accepted.
-    gives_stored mid a.c a.r k at its.shown c.give.new.rows (act_list c.args.out.now) (act_list c.give.new.out) c.args.now want c.requires.wants run ahead heard rest.last_start rest.keys rest.entries t facts rows
+    answers_after r mid c.give.new.rows (record { last_start = refl; consumers = refl; exchanges = refl; keys = refl; entries = stays })
+    (act_list c.args.out.now) (act_list c.give.new.out) c.args.now a.c a.r (event.Poll a.c want) c.run_at.ensures.cause.later (λ limits t facts rows accepted.
+    gives_stored mid a.c a.r k at its.shown c.give.new.rows (act_list c.args.out.now) (act_list c.give.new.out) c.args.now want c.requires.wants run ahead
+    heard rest.last_start rest.keys rest.entries t facts rows
     off c.in-Ok-Some.run' c.in-Ok-Some.field-0-is c.give.ensures.acts c.give.ensures.exchanges c.give.ensures.consumers)
 
 pub returns-in-Ok-None-clause-answers : goal.returns-in-Ok-None-clause-answers
 returns-in-Ok-None-clause-answers g c =
     let r = c.args.rows.now in
-    ok_then c.read_on.result c.read_on.ensures.answers (answers_after r (record r { entries = c.run_at.new.self }) c.read_on.new.rows (record { last_start = refl; consumers = refl; exchanges = refl; keys = refl; entries = c.run_at.ensures.same })
-    (act_list c.args.out.now) (act_list c.read_on.new.out) c.args.now c.args.reader.c c.args.reader.r (event.Poll c.args.reader.c c.args.want) c.run_at.ensures.cause.later)
+    ok_then c.read_on.result c.read_on.ensures.answers
+    (answers_after r (record r { entries = c.run_at.new.self }) c.read_on.new.rows
+    (record { last_start = refl; consumers = refl; exchanges = refl; keys = refl; entries = c.run_at.ensures.same })
+    (act_list c.args.out.now) (act_list c.read_on.new.out) c.args.now c.args.reader.c c.args.reader.r (event.Poll c.args.reader.c c.args.want)
+    c.run_at.ensures.cause.later)
 
 pub returns-in-Err-clause-answers : goal.returns-in-Err-clause-answers
 returns-in-Err-clause-answers g c =
@@ -119,6 +135,7 @@ returns-in-Err-clause-answers g c =
     let a = c.args.reader in
     let (k, at, its) = there (get nat_eq r.consumers a.c) (Reads a) c.requires.reads in
     on_ok_two c.misread_by.result c.misread_by.ensures.failed c.misread_by.ensures.answers (λ other answers.
-    λ limits t facts rows accepted. misread_after r (record r { entries = c.run_at.new.self }) c.misread_by.new.rows (record { last_start = refl; consumers = refl; exchanges = refl; keys = refl; entries = c.run_at.ensures.same })
+    λ limits t facts rows accepted. misread_after r (record r { entries = c.run_at.new.self }) c.misread_by.new.rows
+    (record { last_start = refl; consumers = refl; exchanges = refl; keys = refl; entries = c.run_at.ensures.same })
     (act_list c.args.out.now) (act_list c.misread_by.new.out) c.args.now a.c a.r k at its.shown.0.2 (its.shown.0.0, its.shown.0.1, its.shown.0.3)
     (c.run_at.ensures.cause.fault (fault_only c.run_at.result c.in-Err.error c.in-Err.is c.run_at.ensures.no_limit other)) answers c.args.want _ t facts rows)

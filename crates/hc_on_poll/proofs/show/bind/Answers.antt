@@ -25,7 +25,17 @@ returns-clause-answers g c =
     let response : Response = record { status = c.in_ok-shown.shown.status; fields = c.in_ok-shown.shown.fields } in
     let from = c.bounds_of-lo.ensures.from in
     let to = c.bounds_of-lo.ensures.to in
-    bind_answered r (record r { entries = c.bind.new.self; keys = c.leave_line_in.new.keys }) c.bind.new.self c.bind_shown.new.consumers t facts.law c.args.c c.args.r lo hi k v stands at row idle now_is
+    bind_answered r (record r { entries = c.bind.new.self; keys = c.leave_line_in.new.keys }) c.bind.new.self c.bind_shown.new.consumers t facts.law
+    c.args.c c.args.r lo hi k v stands at row idle now_is
     (part_ends (t.representation c.args.r) head c.args.span hi to same)
-    (record { last_start = refl; consumers = refl; exchanges = refl; entries = refl; line = some_that at_row k (IsLeft r.keys c.leave_line_in.new.keys c.args.c) at c.leave_line_in.ensures }) c.in_ok-bind.ensures.ok c.bind_shown.ensures _ now want c.args.why response (act_list c.args.out.now) (act_list c.put_shown.new.out)
-    (is ∙ shows_reported c.args.r head c.args.why c.args.span k lo hi _ response from to c.is_some-ranged.ensures (c.in_ok-shown.ensures ∙ ap (λ s. shown_response head c.args.why s c.is_some-ranged.result) c.span_to.ensures)) c.put_shown.ensures)
+    (record {
+      last_start = refl;
+      consumers = refl;
+      exchanges = refl;
+      entries = refl;
+      line =
+          some_that at_row k (IsLeft r.keys c.leave_line_in.new.keys c.args.c) at c.leave_line_in.ensures;
+    }) c.in_ok-bind.ensures.ok c.bind_shown.ensures _ now
+    want c.args.why response (act_list c.args.out.now) (act_list c.put_shown.new.out)
+    (is ∙ shows_reported c.args.r head c.args.why c.args.span k lo hi _ response from to c.is_some-ranged.ensures
+    (c.in_ok-shown.ensures ∙ ap (λ s. shown_response head c.args.why s c.is_some-ranged.result) c.span_to.ensures)) c.put_shown.ensures)

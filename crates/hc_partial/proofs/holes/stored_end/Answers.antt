@@ -4,7 +4,8 @@ use Rattle.hc_partial.proofs.holes.stored_end.Goals as goal
 
 pub returns-then-covers : goal.returns-then-covers
 returns-then-covers g c =
-    absent_from_is (g.P.Presence.cells c.args.store.now) c.args.from c.args.hi c.args.hi c.requires (omega arith) (c.covers.ensures.0 c.if-covers.true) (λ lt. absurd (omega arith))
+    absent_from_is (g.P.Presence.cells c.args.store.now) c.args.from c.args.hi c.args.hi c.requires (omega arith) (c.covers.ensures.0 c.if-covers.true)
+    (λ lt. absurd (omega arith))
 
 pub returns : goal.returns
 returns g c =

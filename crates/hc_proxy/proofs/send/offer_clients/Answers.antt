@@ -14,7 +14,8 @@ loop-k-preserved g c = record {
       let i = c.loop-k.k-index in
       let lt : i < length ks = let on = c.loop-k-test.true in search rules in
       clients_next p log up g.W.Wire.stages g.W.Wire.log c.loop-k.wire c.offer.new.wire c.loop-k.clients c.offer.new.self (get_or ks i 0) (drop (i + 1) ks)
-      (subst (λ (left : List ℕ). SendsToClients p log left c.loop-k.clients up (g.W.Wire.log c.loop-k.wire) (g.W.Wire.stages c.loop-k.wire)) (next_left ks i lt) (c.loop-k.invariant.sends p log up s))
+      (subst (λ (left : List ℕ). SendsToClients p log left c.loop-k.clients up (g.W.Wire.log c.loop-k.wire) (g.W.Wire.stages c.loop-k.wire))
+      (next_left ks i lt) (c.loop-k.invariant.sends p log up s))
       c.in_ok-offer.ensures.ok;
   events = c.in_ok-offer.ensures.events ∙ c.loop-k.invariant.events;
   faults = c.in_ok-offer.ensures.cause.calm ∙ c.loop-k.invariant.faults;
@@ -27,7 +28,8 @@ returns-in_err-offer-clause-err g c = λ p log up s.
     let lt : i < length ks = let on = c.loop-k-test.true in search rules in
     on_err c.from_residual.result _
     (clients_fail p log up g.W.Wire.stages g.W.Wire.log c.loop-k.wire c.offer.new.wire c.loop-k.clients c.offer.new.self (get_or ks i 0) (drop (i + 1) ks)
-    (subst (λ (left : List ℕ). SendsToClients p log left c.loop-k.clients up (g.W.Wire.log c.loop-k.wire) (g.W.Wire.stages c.loop-k.wire)) (next_left ks i lt) (c.loop-k.invariant.sends p log up s))
+    (subst (λ (left : List ℕ). SendsToClients p log left c.loop-k.clients up (g.W.Wire.log c.loop-k.wire) (g.W.Wire.stages c.loop-k.wire))
+    (next_left ks i lt) (c.loop-k.invariant.sends p log up s))
     c.in_err-offer.ensures.err)
 
 pub returns-clause-ok : goal.returns-clause-ok
@@ -35,4 +37,5 @@ returns-clause-ok g c = λ p log up s.
     let ks = c.args.ks.now in
     let i = c.loop-k.k-index in
     let all : length ks ≤ i = let off = c.loop-k-test.false in search rules in
-    subst (λ (left : List ℕ). SendsToClients p log left c.loop-k.clients up (g.W.Wire.log c.loop-k.wire) (g.W.Wire.stages c.loop-k.wire)) (drop_all i ks all) (c.loop-k.invariant.sends p log up s)
+    subst (λ (left : List ℕ). SendsToClients p log left c.loop-k.clients up (g.W.Wire.log c.loop-k.wire) (g.W.Wire.stages c.loop-k.wire))
+    (drop_all i ks all) (c.loop-k.invariant.sends p log up s)

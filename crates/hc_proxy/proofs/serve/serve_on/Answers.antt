@@ -13,8 +13,10 @@ serve-requires g c = record {
       ∣ (
         frame_of (limits_in cache),
         log_of (g.W.Wire.log c.args.wire.now),
-        loop_begins (g.W.Wire.events c.args.wire.now) (limits_in cache) c.new-proxy.result (g.W.Wire.log c.args.wire.now) (g.W.Wire.stages c.args.wire.now) c.requires.fresh c.requires.unseen
-            (λ log fresh. c.new-proxy.ensures.rests (frame_of (limits_in cache)) log (record { stands = c.requires.new; limits = refl; received = omega arith; written = refl; bounded = omega arith }) fresh)
+        loop_begins (g.W.Wire.events c.args.wire.now) (limits_in cache) c.new-proxy.result (g.W.Wire.log c.args.wire.now)
+            (g.W.Wire.stages c.args.wire.now) c.requires.fresh c.requires.unseen
+            (λ log fresh. c.new-proxy.ensures.rests (frame_of (limits_in cache)) log
+            (record { stands = c.requires.new; limits = refl; received = omega arith; written = refl; bounded = omega arith }) fresh)
             (ap steps c.new-proxy.ensures.cache ∙ omega arith) c.new-proxy.ensures.written,
       ) ∣₁;
 }
@@ -24,10 +26,13 @@ returns-in-Ok-clause-serves g c = λ none.
     let cache = c.args.cache in
     let reported = g.W.Wire.log c.args.wire.now in
     let zero : steps cache + bytes_received cache ≡ 0 = c.requires.unused in
-    reported_ends (limits_in cache) c.args.turns (log_of reported) reported (g.W.Wire.log c.serve.new.wire) (g.K.Sink.taken c.args.log.now) (g.K.Sink.taken c.serve.new.log) ended.Done (reported_first reported)
+    reported_ends (limits_in cache) c.args.turns (log_of reported) reported (g.W.Wire.log c.serve.new.wire) (g.K.Sink.taken c.args.log.now)
+    (g.K.Sink.taken c.serve.new.log) ended.Done (reported_first reported)
     (c.in-Ok.ensures.serves none (frame_of (limits_in cache)) (log_of reported)
-    (loop_begins (g.W.Wire.events c.args.wire.now) (limits_in cache) c.new-proxy.result reported (g.W.Wire.stages c.args.wire.now) c.requires.fresh c.requires.unseen
-    (λ log fresh. c.new-proxy.ensures.rests (frame_of (limits_in cache)) log (record { stands = c.requires.new; limits = refl; received = omega arith; written = refl; bounded = omega arith }) fresh)
+    (loop_begins (g.W.Wire.events c.args.wire.now) (limits_in cache) c.new-proxy.result reported (g.W.Wire.stages c.args.wire.now) c.requires.fresh
+    c.requires.unseen
+    (λ log fresh. c.new-proxy.ensures.rests (frame_of (limits_in cache)) log
+    (record { stands = c.requires.new; limits = refl; received = omega arith; written = refl; bounded = omega arith }) fresh)
     (ap steps c.new-proxy.ensures.cache ∙ omega arith) c.new-proxy.ensures.written))
 
 pub returns-clause-serves : goal.returns-clause-serves
@@ -35,30 +40,46 @@ returns-clause-serves g c = λ none.
     let cache = c.args.cache in
     let reported = g.W.Wire.log c.args.wire.now in
     let zero : steps cache + bytes_received cache ≡ 0 = c.requires.unused in
-    subst (ServesAs (limits_in cache) c.args.turns reported (g.W.Wire.log c.serve.new.wire) (g.K.Sink.taken c.args.log.now) (g.K.Sink.taken c.serve.new.log)) (sym c.ended.ensures)
-    (reported_ends (limits_in cache) c.args.turns (log_of reported) reported (g.W.Wire.log c.serve.new.wire) (g.K.Sink.taken c.args.log.now) (g.K.Sink.taken c.serve.new.log) (ended_by c.in-Err.stop) (reported_first reported)
+    subst (ServesAs (limits_in cache) c.args.turns reported (g.W.Wire.log c.serve.new.wire) (g.K.Sink.taken c.args.log.now)
+    (g.K.Sink.taken c.serve.new.log)) (sym c.ended.ensures)
+    (reported_ends (limits_in cache) c.args.turns (log_of reported) reported (g.W.Wire.log c.serve.new.wire) (g.K.Sink.taken c.args.log.now)
+    (g.K.Sink.taken c.serve.new.log) (ended_by c.in-Err.stop) (reported_first reported)
     (c.in-Err.ensures.serves none (frame_of (limits_in cache)) (log_of reported)
-    (loop_begins (g.W.Wire.events c.args.wire.now) (limits_in cache) c.new-proxy.result reported (g.W.Wire.stages c.args.wire.now) c.requires.fresh c.requires.unseen
-    (λ log fresh. c.new-proxy.ensures.rests (frame_of (limits_in cache)) log (record { stands = c.requires.new; limits = refl; received = omega arith; written = refl; bounded = omega arith }) fresh)
+    (loop_begins (g.W.Wire.events c.args.wire.now) (limits_in cache) c.new-proxy.result reported (g.W.Wire.stages c.args.wire.now) c.requires.fresh
+    c.requires.unseen
+    (λ log fresh. c.new-proxy.ensures.rests (frame_of (limits_in cache)) log
+    (record { stands = c.requires.new; limits = refl; received = omega arith; written = refl; bounded = omega arith }) fresh)
     (ap steps c.new-proxy.ensures.cache ∙ omega arith) c.new-proxy.ensures.written)))
 
 pub returns-in-Ok-clause-wire_calm : goal.returns-in-Ok-clause-wire_calm
-returns-in-Ok-clause-wire_calm g c = λ off. ends_wire_calm (g.W.Wire.faults c.args.wire.now) (g.W.Wire.faults c.serve.new.wire) (g.K.Sink.faults c.args.log.now) (g.K.Sink.faults c.serve.new.log) (Ok tt) c.in-Ok.ensures.causes off
+returns-in-Ok-clause-wire_calm g c =
+    λ off. ends_wire_calm (g.W.Wire.faults c.args.wire.now) (g.W.Wire.faults c.serve.new.wire) (g.K.Sink.faults c.args.log.now)
+    (g.K.Sink.faults c.serve.new.log) (Ok tt) c.in-Ok.ensures.causes off
 
 pub returns-in-Ok-clause-sink_calm : goal.returns-in-Ok-clause-sink_calm
-returns-in-Ok-clause-sink_calm g c = λ off. ends_sink_calm (g.W.Wire.faults c.args.wire.now) (g.W.Wire.faults c.serve.new.wire) (g.K.Sink.faults c.args.log.now) (g.K.Sink.faults c.serve.new.log) (Ok tt) c.in-Ok.ensures.causes off
+returns-in-Ok-clause-sink_calm g c =
+    λ off. ends_sink_calm (g.W.Wire.faults c.args.wire.now) (g.W.Wire.faults c.serve.new.wire) (g.K.Sink.faults c.args.log.now)
+    (g.K.Sink.faults c.serve.new.log) (Ok tt) c.in-Ok.ensures.causes off
 
 pub returns-clause-ends : goal.returns-clause-ends
 returns-clause-ends g c = subst MayEnd (sym c.ended.ensures) (may_end (Err c.in-Err.stop))
 
 pub returns-clause-wire : goal.returns-clause-wire
-returns-clause-wire g c = λ is. ends_wire (g.W.Wire.faults c.args.wire.now) (g.W.Wire.faults c.serve.new.wire) (g.K.Sink.faults c.args.log.now) (g.K.Sink.faults c.serve.new.log) (Err c.in-Err.stop) c.in-Err.ensures.causes (sym c.ended.ensures ∙ is)
+returns-clause-wire g c =
+    λ is. ends_wire (g.W.Wire.faults c.args.wire.now) (g.W.Wire.faults c.serve.new.wire) (g.K.Sink.faults c.args.log.now)
+    (g.K.Sink.faults c.serve.new.log) (Err c.in-Err.stop) c.in-Err.ensures.causes (sym c.ended.ensures ∙ is)
 
 pub returns-clause-wire_calm : goal.returns-clause-wire_calm
-returns-clause-wire_calm g c = λ off. ends_wire_calm (g.W.Wire.faults c.args.wire.now) (g.W.Wire.faults c.serve.new.wire) (g.K.Sink.faults c.args.log.now) (g.K.Sink.faults c.serve.new.log) (Err c.in-Err.stop) c.in-Err.ensures.causes (λ is. off (c.ended.ensures ∙ is))
+returns-clause-wire_calm g c =
+    λ off. ends_wire_calm (g.W.Wire.faults c.args.wire.now) (g.W.Wire.faults c.serve.new.wire) (g.K.Sink.faults c.args.log.now)
+    (g.K.Sink.faults c.serve.new.log) (Err c.in-Err.stop) c.in-Err.ensures.causes (λ is. off (c.ended.ensures ∙ is))
 
 pub returns-clause-sink : goal.returns-clause-sink
-returns-clause-sink g c = λ is. ends_sink (g.W.Wire.faults c.args.wire.now) (g.W.Wire.faults c.serve.new.wire) (g.K.Sink.faults c.args.log.now) (g.K.Sink.faults c.serve.new.log) (Err c.in-Err.stop) c.in-Err.ensures.causes (sym c.ended.ensures ∙ is)
+returns-clause-sink g c =
+    λ is. ends_sink (g.W.Wire.faults c.args.wire.now) (g.W.Wire.faults c.serve.new.wire) (g.K.Sink.faults c.args.log.now)
+    (g.K.Sink.faults c.serve.new.log) (Err c.in-Err.stop) c.in-Err.ensures.causes (sym c.ended.ensures ∙ is)
 
 pub returns-clause-sink_calm : goal.returns-clause-sink_calm
-returns-clause-sink_calm g c = λ off. ends_sink_calm (g.W.Wire.faults c.args.wire.now) (g.W.Wire.faults c.serve.new.wire) (g.K.Sink.faults c.args.log.now) (g.K.Sink.faults c.serve.new.log) (Err c.in-Err.stop) c.in-Err.ensures.causes (λ is. off (c.ended.ensures ∙ is))
+returns-clause-sink_calm g c =
+    λ off. ends_sink_calm (g.W.Wire.faults c.args.wire.now) (g.W.Wire.faults c.serve.new.wire) (g.K.Sink.faults c.args.log.now)
+    (g.K.Sink.faults c.serve.new.log) (Err c.in-Err.stop) c.in-Err.ensures.causes (λ is. off (c.ended.ensures ∙ is))

@@ -60,4 +60,5 @@ returns-clause-spelled c = λ asked h.
     let some = eqb-false (length first) 0 (sym c.is_empty.ensures ∙ c.if-is_empty.false) in
     let more = eqb-false (length last) 0 (sym c.is_empty-2.ensures ∙ c.if-is_empty-2.false) in
     let asks = asks_positions text first last c.in_ok-first.ensures.found c.in_ok-first.ensures.first some more asked h in
-    same_positions c.read_positions.result c.in_ok-first-3.first c.in_ok-first-3.last asks.0 asks.1 asked c.in_ok-first-3.was (c.read_positions.ensures.spelled asks.0 asks.1 asks.3) asks.2
+    same_positions c.read_positions.result c.in_ok-first-3.first c.in_ok-first-3.last asks.0 asks.1 asked c.in_ok-first-3.was
+    (c.read_positions.ensures.spelled asks.0 asks.1 asks.3) asks.2

@@ -29,5 +29,7 @@ below m n h = grind (arith, nat_tests)
 pub returns : goal.returns
 returns c =
     let ds = c.args.digits.now in
-    let more = some ds (sym c.is_empty.ensures ∙ c.if-is_empty.false) in
-    (λ small. plain_is ds c.args.n c.requires.digits c.requires.value more (λ e. absurd (c.if-digits-eq48.false e)) (below _ _ small), λ plain. lt-ltb _ _ plain.0)
+    let more = some ds (sym c.is_empty.ensures ∙ c.if-is_empty.false) in (
+      λ small. plain_is ds c.args.n c.requires.digits c.requires.value more (λ e. absurd (c.if-digits-eq48.false e)) (below _ _ small),
+      λ plain. lt-ltb _ _ plain.0,
+    )

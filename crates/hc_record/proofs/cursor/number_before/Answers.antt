@@ -7,7 +7,8 @@ pub returns-else-is_plain-clause-none : goal.returns-else-is_plain-clause-none
 returns-else-is_plain-clause-none c = λ m after small is.
     let text = c.args.text.now in
     let i = c.loop-i.i in
-    let whole : take i text ++ c.args.end ∷ drop (i + 1) text ≡ text = rw (← c.if-b-end.true) (rw (← drop_more text i 0 c.loop-i-test.true) (take-append-drop i text)) in
+    let whole : take i text ++ c.args.end ∷ drop (i + 1) text ≡ text =
+    rw (← c.if-b-end.true) (rw (← drop_more text i 0 c.loop-i-test.true) (take-append-drop i text)) in
     let same = number_is c.args.end m i after text c.requires small is c.loop-i.invariant.2 whole in
     let value : c.loop-i.n ≡ m = c.loop-i.invariant.0 ∙ (ap (digits_value 10) same ∙ value_is m small) in
     both_ways _ c.if-is_plain.false (c.is_plain.ensures.1 (rw value (small, same)))

@@ -9,7 +9,8 @@ values_with : (key : List ℕ) (fs : List (List ℕ × List ℕ)) (i : ℕ) (nam
 values_with key fs i name value is same =
     let f : List ℕ × List ℕ = (name, value) in
     let at : get_or fs i f ≡ f = get_or_from_slice_get fs i f f is in
-    let next : filter (has_name key) (take (i + 1) fs) ≡ filter (has_name key) (take i fs) ++ cond (has_name key (get_or fs i f)) (get_or fs i f ∷ []) [] = filter_more (has_name key) fs i f (slice_get_within fs i f is) in
+    let next : filter (has_name key) (take (i + 1) fs) ≡ filter (has_name key) (take i fs) ++
+    cond (has_name key (get_or fs i f)) (get_or fs i f ∷ []) [] = filter_more (has_name key) fs i f (slice_get_within fs i f is) in
     let more = rw (at, same) at next in
     ap (map (λ (g : List ℕ × List ℕ). g.1)) more ∙ map-append (λ (g : List ℕ × List ℕ). g.1) (filter (has_name key) (take i fs)) (f ∷ [])
 
@@ -19,7 +20,8 @@ values_without : (key : List ℕ) (fs : List (List ℕ × List ℕ)) (i : ℕ) (
 values_without key fs i name value is differs =
     let f : List ℕ × List ℕ = (name, value) in
     let at : get_or fs i f ≡ f = get_or_from_slice_get fs i f f is in
-    let next : filter (has_name key) (take (i + 1) fs) ≡ filter (has_name key) (take i fs) ++ cond (has_name key (get_or fs i f)) (get_or fs i f ∷ []) [] = filter_more (has_name key) fs i f (slice_get_within fs i f is) in
+    let next : filter (has_name key) (take (i + 1) fs) ≡ filter (has_name key) (take i fs) ++
+    cond (has_name key (get_or fs i f)) (get_or fs i f ∷ []) [] = filter_more (has_name key) fs i f (slice_get_within fs i f is) in
     let more = rw (at, differs) at next in
     ap (map (λ (g : List ℕ × List ℕ). g.1)) (more ∙ append-nil (filter (has_name key) (take i fs)))
 
@@ -44,7 +46,9 @@ loop-i-preserved c =
     elim c.if-eq.branch [
       | then-eq w ↦
           let same : bytes_eq name key ≡ true = rw c.as_slice.ensures at (sym c.eq.ensures ∙ w.if-eq.true) in
-          rw (w.count-is, w.found-is) (counted (values_of key (take i fs)) (values_of key (take (i + 1) fs)) c.loop-i.count i value inv.0 inv.1 (values_with key fs i name value c.at.ensures same))
+          rw (w.count-is, w.found-is)
+          (counted (values_of key (take i fs)) (values_of key (take (i + 1) fs)) c.loop-i.count i value inv.0 inv.1
+          (values_with key fs i name value c.at.ensures same))
       | else-eq w ↦
           let differs : bytes_eq name key ≡ false = rw c.as_slice.ensures at (sym c.eq.ensures ∙ w.if-eq.false) in
           let stays = values_without key fs i name value c.at.ensures differs in

@@ -7,7 +7,8 @@ abbrev quoted : List ℕ → List ℕ
 quoted inside = quote ∷ inside ++ quote ∷ []
 
 -- a text between quotes is compared by what stands between them
-reported : (text rest found inside : List ℕ) (first last : ℕ) (b : Bool) → text ≡ first ∷ rest → rest ≡ found ++ last ∷ [] → first ≡ quote → last ≡ quote → b ≡ bytes_eq found inside → IsTrue b ↔ (text ≡ quoted inside)
+reported : (text rest found inside : List ℕ) (first last : ℕ) (b : Bool) → text ≡ first ∷ rest → rest ≡ found ++ last ∷ [] → first ≡ quote →
+    last ≡ quote → b ≡ bytes_eq found inside → IsTrue b ↔ (text ≡ quoted inside)
 reported text rest found inside first last b begins ends is_first is_last reports =
     let whole : text ≡ quoted found = rw (begins, ends, is_first, is_last) refl in (
       λ same. whole ∙ ap quoted ((bytes_eq-Decides found inside).0 (sym reports ∙ same)),

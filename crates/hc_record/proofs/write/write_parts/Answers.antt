@@ -13,7 +13,8 @@ returns-in_err-write_numbers-clause-err c =
     c.in_ok-write_seal.ensures.ok
     ∙ (ap (λ (t : List ℕ). t ++ seal) c.in_ok-extend_from_slice.ensures.items
     ∙ append_assoc old.items (version_line Second) seal) in
-    let kept = begins_with old.items more c.write_numbers.new.to.items old.len was.len old.ok.0 (c.in_err-write_numbers.ensures.err ∙ is) (was.ok.0 ∙ ap length is) in
+    let kept = begins_with old.items more c.write_numbers.new.to.items old.len was.len old.ok.0 (c.in_err-write_numbers.ensures.err ∙ is)
+    (was.ok.0 ∙ ap length is) in
     let p = err_from_is_err_and c.from_residual-in_err-write_numbers.result c.from_residual-in_err-write_numbers.ensures.1 in rw p.1 kept
 
 pub returns-in_err-write_tag_line-clause-err : goal.returns-in_err-write_tag_line-clause-err
@@ -29,5 +30,6 @@ returns-in_err-write_tag_line-clause-err c =
     ∙ (ap (λ (t : List ℕ). t ++ seal) c.in_ok-extend_from_slice.ensures.items
     ∙ append_assoc old.items (version_line Second) seal))
     ∙ append_assoc old.items (version_line Second ++ seal) numbers) in
-    let kept = begins_with old.items more c.write_tag_line.new.to.items old.len was.len old.ok.0 (c.in_err-write_tag_line.ensures.err ∙ is) (was.ok.0 ∙ ap length is) in
+    let kept = begins_with old.items more c.write_tag_line.new.to.items old.len was.len old.ok.0 (c.in_err-write_tag_line.ensures.err ∙ is)
+    (was.ok.0 ∙ ap length is) in
     let p = err_from_is_err_and c.from_residual-in_err-write_tag_line.result c.from_residual-in_err-write_tag_line.ensures.1 in rw p.1 kept

@@ -9,4 +9,5 @@ loop-i-init c = reported_is (elements_in (codes "content-length") c.args.fields.
 pub loop-i-preserved : goal.loop-i-preserved
 loop-i-preserved c =
     let value = rw c.unwrap.ensures at c.value.ensures in
-    one_more c.loop-i.length c.with_list-length.result (values_of (codes "content-length") c.args.fields.now) c.loop-i.i c.unwrap.result.now (sym value) c.with_list-length.ensures ∙ c.loop-i.invariant
+    one_more c.loop-i.length c.with_list-length.result (values_of (codes "content-length") c.args.fields.now) c.loop-i.i c.unwrap.result.now (sym value)
+    c.with_list-length.ensures ∙ c.loop-i.invariant

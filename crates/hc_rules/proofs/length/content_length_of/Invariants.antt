@@ -6,4 +6,5 @@ use Rattle.hc_rules.proofs.length.content_length_of.Given as goal
 
 abbrev pub invariant-loop-i : goal.invariant-loop-i
 invariant-loop-i l =
-    with_elements l.length (flat_map elements (drop l.i (values_of (codes "content-length") l.fields))) ≡ content_length_of (elements_in (codes "content-length") l.fields)
+    with_elements l.length (flat_map elements (drop l.i (values_of (codes "content-length") l.fields))) ≡ content_length_of
+    (elements_in (codes "content-length") l.fields)

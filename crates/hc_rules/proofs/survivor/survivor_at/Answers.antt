@@ -7,6 +7,8 @@ use Rattle.hc_rules.proofs.survivor.survivor_at.Goals as goal
 pub loop-member-preserved : goal.loop-member-preserved
 loop-member-preserved c =
     elim c.if-member-end.branch [
-      | then-member-end w ↦ least_taken (stands_at c.args.end) (λ (m : Member). m.c) c.args.members.now c.loop-member.member-index _ _ _ c.loop-member-test.true c.loop-member.invariant (eq-eqb _ _ w.if-member-end.true) (w.least-is ∙ w.lesser-least.ensures)
-      | else-member-end w ↦ least_left (stands_at c.args.end) (λ (m : Member). m.c) c.args.members.now c.loop-member.member-index _ _ _ c.loop-member-test.true c.loop-member.invariant (eqb-other _ _ w.if-member-end.false) w.least-is
+      | then-member-end w ↦ least_taken (stands_at c.args.end) (λ (m : Member). m.c) c.args.members.now c.loop-member.member-index _ _ _
+          c.loop-member-test.true c.loop-member.invariant (eq-eqb _ _ w.if-member-end.true) (w.least-is ∙ w.lesser-least.ensures)
+      | else-member-end w ↦ least_left (stands_at c.args.end) (λ (m : Member). m.c) c.args.members.now c.loop-member.member-index _ _ _
+          c.loop-member-test.true c.loop-member.invariant (eqb-other _ _ w.if-member-end.false) w.least-is
     ]

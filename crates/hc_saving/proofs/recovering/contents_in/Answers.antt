@@ -10,7 +10,8 @@ returns-in_err-read-clause-none c = unread_lacking (recovers.bytes_of c.args.ima
 
 pub returns-in_default-2-clause-none : goal.returns-in_default-2-clause-none
 returns-in_default-2-clause-none c =
-    rw c.in-Some.is (recovers.none (none_begun c.in-Some.image.items (subst BeginsWithNone c.as_slice.ensures.value (rw c.in_default-2.is at c.in_ok-read.ensures.none))))
+    rw c.in-Some.is (recovers.none
+    (none_begun c.in-Some.image.items (subst BeginsWithNone c.as_slice.ensures.value (rw c.in_default-2.is at c.in_ok-read.ensures.none))))
 
 pub returns-then-read-len-clause-none : goal.returns-then-read-len-clause-none
 returns-then-read-len-clause-none c =
@@ -19,4 +20,5 @@ returns-then-read-len-clause-none c =
     let less = c.if-read-len.true in
     let len = c.len.ensures in
     rw c.in-Some.is (recovers.none (none_within c.in-Some.image.items used (plain_contents c.in-Some-2.read.contents)
-    (subst (λ (l : List ℕ). SpellsImage (take used l) (plain_contents c.in-Some-2.read.contents)) c.as_slice.ensures.value found.spells) (omega (arith, less, len))))
+    (subst (λ (l : List ℕ). SpellsImage (take used l) (plain_contents c.in-Some-2.read.contents)) c.as_slice.ensures.value found.spells)
+    (omega (arith, less, len))))

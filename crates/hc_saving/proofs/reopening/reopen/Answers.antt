@@ -28,11 +28,13 @@ returns-in-Err-clause-saved g c = λ h image schedule is here.
 
 pub returns-in-Err-begin-clause-ends : goal.returns-in-Err-begin-clause-ends
 returns-in-Err-begin-clause-ends g c =
-    rw c.from.ensures (unbegun_ends c.args.limits _ _ _ c.in-Ok.text.items c.in-Ok-parts_of.parts.schedule.items (plain_contents c.in-Ok-parts_of.parts.contents) c.in-Err-begin.e c.in-Ok.ensures.ok c.in-Ok-parts_of.ensures.found c.in-Err-begin.ensures.none)
+    rw c.from.ensures (unbegun_ends c.args.limits _ _ _ c.in-Ok.text.items c.in-Ok-parts_of.parts.schedule.items
+    (plain_contents c.in-Ok-parts_of.parts.contents) c.in-Err-begin.e c.in-Ok.ensures.ok c.in-Ok-parts_of.ensures.found c.in-Err-begin.ensures.none)
 
 pub returns-in-Err-begin-clause-complete : goal.returns-in-Err-begin-clause-complete
 returns-in-Err-begin-clause-complete g c =
-    rw c.from.ensures (unbegun_completes c.args.limits _ _ c.in-Ok.text.items c.in-Ok-parts_of.parts.schedule.items (plain_contents c.in-Ok-parts_of.parts.contents) c.in-Err-begin.e c.in-Ok.ensures.ok c.in-Ok-parts_of.ensures.found c.in-Err-begin.ensures.none)
+    rw c.from.ensures (unbegun_completes c.args.limits _ _ c.in-Ok.text.items c.in-Ok-parts_of.parts.schedule.items
+    (plain_contents c.in-Ok-parts_of.parts.contents) c.in-Err-begin.e c.in-Ok.ensures.ok c.in-Ok-parts_of.ensures.found c.in-Err-begin.ensures.none)
 
 pub returns-in-Err-begin-clause-begins : goal.returns-in-Err-begin-clause-begins
 returns-in-Err-begin-clause-begins g c = λ contents image schedule is may here.
@@ -49,11 +51,13 @@ replay-requires-clause-later g c =
 
 pub returns-clause-ends : goal.returns-clause-ends
 returns-clause-ends g c =
-    reopened_ends c.args.limits _ _ _ _ _ c.in-Ok.text.items c.in-Ok-parts_of.parts.schedule.items c.new-schedule.result.left (plain_contents c.in-Ok-parts_of.parts.contents) c.in-Ok-begin.cache c.replay.new.cache c.replay.result
+    reopened_ends c.args.limits _ _ _ _ _ c.in-Ok.text.items c.in-Ok-parts_of.parts.schedule.items c.new-schedule.result.left
+    (plain_contents c.in-Ok-parts_of.parts.contents) c.in-Ok-begin.cache c.replay.new.cache c.replay.result
     c.in-Ok.ensures.ok c.in-Ok-parts_of.ensures.found (ap (λ (s : PlainState). s.left) c.new-schedule.ensures) c.in-Ok-begin.ensures.begun (λ v. refl)
     (λ failed. never_risen (c.replay.ensures.source failed)) c.replay.ensures.ends
 
 pub returns-clause-complete : goal.returns-clause-complete
 returns-clause-complete g c =
-    reopened_completes c.args.limits _ _ c.in-Ok.text.items c.in-Ok-parts_of.parts.schedule.items c.new-schedule.result.left (plain_contents c.in-Ok-parts_of.parts.contents) c.replay.result
+    reopened_completes c.args.limits _ _ c.in-Ok.text.items c.in-Ok-parts_of.parts.schedule.items c.new-schedule.result.left
+    (plain_contents c.in-Ok-parts_of.parts.contents) c.replay.result
     c.in-Ok.ensures.ok c.in-Ok-parts_of.ensures.found (ap (λ (s : PlainState). s.left) c.new-schedule.ensures) c.replay.ensures.complete

@@ -24,7 +24,8 @@ unreachable-requires c =
           never_refused c.in-Err.e c.args.fields.now (c.args.name.now, c.args.value.now) follows c.requires.few c.in_default.not-NoMemory refused
     ]
 
-put_is : (name value : List ℕ) (old new : List (List ℕ × List ℕ)) → lowercase name ≡ name → new ≡ field_list_with (lowercase name) value old → new ≡ field_list_with name value old
+put_is : (name value : List ℕ) (old new : List (List ℕ × List ℕ)) → lowercase name ≡ name → new ≡ field_list_with (lowercase name) value old →
+    new ≡ field_list_with name value old
 put_is name value old new low is = rw low at is
 
 pub returns-in-Ok : goal.returns-in-Ok

@@ -14,5 +14,6 @@ returns-then-want-eq-USUAL_WANT-clause-ok c =
     let number = rw c.unwrap-2.ensures at c.write_number.ensures.ok in
     let end = rw c.unwrap-then-want-eq-USUAL_WANT.ensures at c.extend_from_slice-then-want-eq-USUAL_WANT.ensures.items in
     rw (c.if-want-eq-USUAL_WANT.true, usual)
-    (joined c.args.to.now.items c.reserve.new.self.items (codes "poll ") (decimal c.args.c) (codes "16384") c.extend_from_slice.new.self.items c.write_number.new.to.items
+    (joined c.args.to.now.items c.reserve.new.self.items (codes "poll ") (decimal c.args.c) (codes "16384") c.extend_from_slice.new.self.items
+    c.write_number.new.to.items
     c.extend_from_slice-then-want-eq-USUAL_WANT.new.self.items c.reserve.ensures.items word number end)

@@ -15,7 +15,9 @@ returns-clause-ok c =
     let request = c.args.request.now in
     let count = rw c.len.ensures.value at c.in_ok-write_number-2.ensures.ok in
     mapped c.write_lines.result _ _
-    (joined c.args.to.now.items (codes "start ") (decimal c.args.c) request.method (load_word request.load) request.key (decimal (length request.fields)) _ c.extend_from_slice.new.self.items c.write_number.new.to.items
-    c.push.new.self.items c.write_asked.new.to.items c.write_number-2.new.to.items c.push-2.new.self.items c.write_lines.new.to.items c.in_ok-extend_from_slice.ensures.items c.in_ok-write_number.ensures.ok
+    (joined c.args.to.now.items (codes "start ") (decimal c.args.c) request.method (load_word request.load) request.key (decimal (length request.fields))
+    _ c.extend_from_slice.new.self.items c.write_number.new.to.items
+    c.push.new.self.items c.write_asked.new.to.items c.write_number-2.new.to.items c.push-2.new.self.items c.write_lines.new.to.items
+    c.in_ok-extend_from_slice.ensures.items c.in_ok-write_number.ensures.ok
     c.in_ok-push.ensures.items c.in_ok-write_asked.ensures.ok count c.in_ok-push-2.ensures.items)
     c.write_lines.ensures.ok

@@ -7,4 +7,5 @@ pub loop-part-preserved : goal.loop-part-preserved
 loop-part-preserved c =
     let parts = c.args.parts.now in
     let i = c.loop-part.part-index in
-    texts_grow part_text parts_text refl (λ _ _. refl) parts i _ c.args.to.now.items _ _ (slice_get-get_or parts i _ c.loop-part-test.true) c.loop-part.invariant c.in_ok-write_part.ensures.ok
+    texts_grow part_text parts_text refl (λ _ _. refl) parts i _ c.args.to.now.items _ _ (slice_get-get_or parts i _ c.loop-part-test.true)
+    c.loop-part.invariant c.in_ok-write_part.ensures.ok

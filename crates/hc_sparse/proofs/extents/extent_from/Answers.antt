@@ -8,7 +8,8 @@ past_all : (runs : List Extent) (place : ℕ) (o : Option (Bor Extent)) → IsIt
 past_all runs place None item is = grind (arith, nat_tests)
 past_all runs place (Some r) item is = absurd cc
 
-at_place : (runs : List Extent) (place p : ℕ) (o : Option (Bor Extent)) → ascend 0 runs ≡ true → place ≡ place_of p runs → IsItemAt runs place o → IfSome o (λ run. IsExtentFrom runs p run.now)
+at_place : (runs : List Extent) (place p : ℕ) (o : Option (Bor Extent)) → ascend 0 runs ≡ true → place ≡ place_of p runs → IsItemAt runs place o →
+    IfSome o (λ run. IsExtentFrom runs p run.now)
 at_place runs place p None asc there item = tt
 at_place runs place p (Some r) asc there item =
     let lt : place_of p runs < length runs = rw there at item.3.0 in
@@ -17,7 +18,8 @@ at_place runs place p (Some r) asc there item =
 
 pub returns-clause-none : goal.returns-clause-none
 returns-clause-none c = λ is.
-    none-from_place c.args.o c.args.extents.now (let past = past_all c.args.extents.now c.place_of.result c.get.result c.get.ensures.lookup is in rw (c.place_of.ensures.place) at past)
+    none-from_place c.args.o c.args.extents.now
+    (let past = past_all c.args.extents.now c.place_of.result c.get.result c.get.ensures.lookup is in rw (c.place_of.ensures.place) at past)
 
 pub returns-clause-some : goal.returns-clause-some
 returns-clause-some c = at_place c.args.extents.now c.place_of.result c.args.o c.get.result c.requires c.place_of.ensures.place c.get.ensures.lookup

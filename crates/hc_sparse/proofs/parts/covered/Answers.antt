@@ -16,5 +16,7 @@ loop-p-smaller g c = let on = c.in-Some.ensures.some in let past = on.past in le
 pub returns-in-None : goal.returns-in-None
 returns-in-None g c =
     let none = c.in-None.ensures.none refl in
-    let before = c.loop-p.invariant in
-    (λ t. absurd (search rules), λ covers. absurd (let here = covers c.loop-p.p before.0 c.loop-p-test.true in let never : false ≡ true = rw none at here in cc))
+    let before = c.loop-p.invariant in (
+      λ t. absurd (search rules),
+      λ covers. absurd (let here = covers c.loop-p.p before.0 c.loop-p-test.true in let never : false ≡ true = rw none at here in cc),
+    )

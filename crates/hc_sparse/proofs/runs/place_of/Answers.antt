@@ -5,5 +5,6 @@ use Rattle.hc_sparse.proofs.runs.place_of.Goals as goal
 
 pub returns-clause-place : goal.returns-clause-place
 returns-clause-place c =
-    let point = IsPartitionPoint-from_clause (λ r. nat_le (end_of r) c.args.p) _ _ c.partition_point.ensures.partitioned (partitioned 0 c.args.p c.args.runs.now c.requires) (λ a r q k. search rules) in
+    let point = IsPartitionPoint-from_clause (λ r. nat_le (end_of r) c.args.p) _ _ c.partition_point.ensures.partitioned
+    (partitioned 0 c.args.p c.args.runs.now c.requires) (λ a r q k. search rules) in
     place-is c.args.p c.args.runs.now c.partition_point.result c.partition_point.ensures.bound point

@@ -16,7 +16,8 @@ returns c =
     let some = is.some in
     let wanted = c.requires.wanted in
     let least = c.min.ensures in
-    whole-of f c.args.p c.args.want c.min.result whole is wanted (omega (arith, least)) (omega (arith, least)) (λ lt. omega (arith, least)) (omega (arith, least)) (λ lt. elim c.loop-whole-test.branch [
+    whole-of f c.args.p c.args.want c.min.result whole is wanted (omega (arith, least)) (omega (arith, least)) (λ lt. omega (arith, least))
+    (omega (arith, least)) (λ lt. elim c.loop-whole-test.branch [
       | else-loop-whole-test w ↦ absurd (let reached = w.loop-whole-test.false in omega arith)
       | then-loop-whole-test+in_default-2 w ↦ ends-other f c.args.p whole w.in-Some.next is.at w.in-Some.ensures.some w.if-next-whole.false
       | then-loop-whole-test+in_default w ↦ ends-none f c.args.p whole is.at (w.extent-in-loop-whole.ensures.none (rw w.in_default.is refl))

@@ -5,7 +5,8 @@ use Rattle.hc_state.proofs.founded.founded_head.Goals as goal
 
 pub invariant_of-result : goal.invariant_of-result
 invariant_of-result c =
-    let kept = c.remove-2.ensures.left ∙ ap (without (codes "content-length")) (c.remove.ensures.left ∙ ap (without (codes "content-range")) c.in_ok-fields.ensures) in
+    let kept = c.remove-2.ensures.left ∙
+    ap (without (codes "content-length")) (c.remove.ensures.left ∙ ap (without (codes "content-range")) c.in_ok-fields.ensures) in
     record {
       strong = c.in_ok-joining.ensures.strong;
       own = record {

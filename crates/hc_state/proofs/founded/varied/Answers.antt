@@ -11,8 +11,11 @@ pub loop-i-preserved : goal.loop-i-preserved
 loop-i-preserved c =
     let field : List ℕ × List ℕ = (c.at.result.0.now, c.at.result.1.now) in
     elim c.if-not-is_varied.branch [
-      | then-not-is_varied w ↦ varied-removed c.args.reported.now c.args.asked.now c.loop-i.fields c.loop-i.i field c.len-i-end.ensures.list c.at.ensures c.loop-i.invariant (sym c.is_varied.ensures ∙ w.if-not-is_varied.true) c.if-not-is_varied.fields (w.fields-is ∙ w.remove.ensures.left)
-      | else-not-is_varied w ↦ ap (left_by (unnamed c.args.reported.now (drop (c.loop-i.i + 1) c.args.asked.now))) w.fields-is ∙ (varied-kept c.args.reported.now c.args.asked.now c.loop-i.fields c.loop-i.i field c.len-i-end.ensures.list c.at.ensures c.loop-i.invariant (sym c.is_varied.ensures ∙ w.if-not-is_varied.false))
+      | then-not-is_varied w ↦ varied-removed c.args.reported.now c.args.asked.now c.loop-i.fields c.loop-i.i field c.len-i-end.ensures.list c.at.ensures
+          c.loop-i.invariant (sym c.is_varied.ensures ∙ w.if-not-is_varied.true) c.if-not-is_varied.fields (w.fields-is ∙ w.remove.ensures.left)
+      | else-not-is_varied w ↦ ap (left_by (unnamed c.args.reported.now (drop (c.loop-i.i + 1) c.args.asked.now))) w.fields-is ∙
+          (varied-kept c.args.reported.now c.args.asked.now c.loop-i.fields c.loop-i.i field c.len-i-end.ensures.list c.at.ensures c.loop-i.invariant
+          (sym c.is_varied.ensures ∙ w.if-not-is_varied.false))
     ]
 
 pub returns : goal.returns

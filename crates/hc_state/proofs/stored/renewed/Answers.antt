@@ -10,6 +10,8 @@ invariant_of-result c =
     let old : Head = plain c.args.head in
     record {
       strong = c.args.head.strong;
-      own = subst (λ (fields : FieldPairs). IsHead (record old { requested = c.args.requested; answered = c.args.answered; fields = fields })) (sym c.in_ok-fields.ensures)
-          (renewed_is old c.args.requested c.args.answered c.args.from.now c.args.head.own c.requires.requested c.requires.answered (subst IsFieldList c.in_ok-fields.ensures c.len-count.ensures.list));
+      own = subst (λ (fields : FieldPairs). IsHead (record old { requested = c.args.requested; answered = c.args.answered; fields = fields }))
+          (sym c.in_ok-fields.ensures)
+          (renewed_is old c.args.requested c.args.answered c.args.from.now c.args.head.own c.requires.requested c.requires.answered
+          (subst IsFieldList c.in_ok-fields.ensures c.len-count.ensures.list));
     }

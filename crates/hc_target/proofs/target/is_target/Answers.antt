@@ -8,7 +8,8 @@ returns-in_default-clause-value c = sym (is_target-not_utf8 c.args.text.now c.in
 pub returns-in-Ok-parse-clause-value : goal.returns-in-Ok-parse-clause-value
 returns-in-Ok-parse-clause-value c =
     let reported = c.in-Ok.ensures.cases in
-    is_target-own c.args.text.now c.in-Ok.text.now c.in-Ok-parse.url c.has_own_text.result (search rules) reported.0 reported.1 c.in-Ok-parse.ensures c.has_own_text.ensures
+    is_target-own c.args.text.now c.in-Ok.text.now c.in-Ok-parse.url c.has_own_text.result (search rules) reported.0 reported.1 c.in-Ok-parse.ensures
+    c.has_own_text.ensures
 
 pub returns-then-is_plain_target-clause-value : goal.returns-then-is_plain_target-clause-value
 returns-then-is_plain_target-clause-value c =

@@ -18,12 +18,14 @@ loop-at-preserved-then-text-at-eq34 c =
     record {
       from = omega arith;
       inside = omega arith;
-      piece = cut_on text c.args.start (at + 1) c.string_end-at.result Outside Within Outside (omega arith) c.string_end-at.ensures.bounds.0 opened c.string_end-at.ensures.string;
+      piece = cut_on text c.args.start (at + 1) c.string_end-at.result Outside Within
+          Outside (omega arith) c.string_end-at.ensures.bounds.0 opened c.string_end-at.ensures.string;
     }
 
 pub loop-at-preserved : goal.loop-at-preserved
 loop-at-preserved c = record {
   from = omega arith;
   inside = omega arith;
-  piece = cut_plain c.args.text.now c.args.start c.loop-at.at c.loop-at.invariant.from c.loop-at-test.true c.if-text-at-ne44.true c.if-text-at-eq34.false c.loop-at.invariant.piece;
+  piece = cut_plain c.args.text.now c.args.start c.loop-at.at c.loop-at.invariant.from c.loop-at-test.true c.if-text-at-ne44.true c.if-text-at-eq34.false
+      c.loop-at.invariant.piece;
 }

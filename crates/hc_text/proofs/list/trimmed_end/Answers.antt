@@ -14,7 +14,8 @@ loop-end-preserved c =
     record {
       after = before;
       within = omega arith;
-      same = c.loop-end.invariant.same ∙ ap (λ n. trim_end (slice_range text start n)) (sym more) ∙ trim_end_less text start last (omega arith) (omega arith) blank;
+      same = c.loop-end.invariant.same ∙ ap (λ n. trim_end (slice_range text start n)) (sym more) ∙
+          trim_end_less text start last (omega arith) (omega arith) blank;
       blanks = blanks_more text last c.args.stop blank (λ k from below. c.loop-end.invariant.blanks k (omega arith) below);
     }
 

@@ -4,7 +4,8 @@ use Rattle.hc_text.proofs.number.read_number.Goals as goal
 
 pub returns-in_err-digit-clause-none : goal.returns-in_err-digit-clause-none
 returns-in_err-digit-clause-none c = rw c.from_residual.ensures (λ n h.
-    both_ways _ (list_all_at is_ascii_digit c.args.text.now c.loop-b.b-index 0 c.loop-b-test.true c.in_err-digit.ensures) (tested-AllDigits c.args.text.now h.1.1))
+    both_ways _ (list_all_at is_ascii_digit c.args.text.now c.loop-b.b-index 0 c.loop-b-test.true c.in_err-digit.ensures)
+    (tested-AllDigits c.args.text.now h.1.1))
 
 pub returns-then-n-clause-none : goal.returns-then-n-clause-none
 returns-then-n-clause-none c = λ n h.

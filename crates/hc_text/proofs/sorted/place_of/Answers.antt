@@ -8,4 +8,5 @@ returns-clause-place g c =
     let items = c.args.items.now in
     let low = IsNonDecreasingBy-is_sorted number items c.requires in
     place_is number c.args.n items c.partition_point.result c.partition_point.ensures.bound
-    (c.partition_point.ensures.partitioned (λ x. ltb (number x) c.args.n) (always_returns_same _ _ _ (λ a r f k. search (rules, of_calls))) (IsPartitionedBy-ltb number items c.args.n low))
+    (c.partition_point.ensures.partitioned (λ x. ltb (number x) c.args.n) (always_returns_same _ _ _ (λ a r f k. search (rules, of_calls)))
+    (IsPartitionedBy-ltb number items c.args.n low))

@@ -8,5 +8,11 @@ returns-clause-ok g c =
 
 pub returns-clause-ordered : goal.returns-clause-ordered
 returns-clause-ordered g c =
-    rw (c.in_ok-insert.ensures.items, c.place_of-at.ensures.place, c.number.ensures, c.as_slice.ensures.value, insert-place g.T.Numbered.number c.args.item c.args.items.now.items)
+    rw (
+      c.in_ok-insert.ensures.items,
+      c.place_of-at.ensures.place,
+      c.number.ensures,
+      c.as_slice.ensures.value,
+      insert-place g.T.Numbered.number c.args.item c.args.items.now.items,
+    )
     (is_sorted-with g.T.Numbered.number c.args.item c.args.items.now.items c.requires.ordered c.requires.absent)

@@ -11,5 +11,12 @@ returns-clause-items g c =
 pub returns-clause-ordered : goal.returns-clause-ordered
 returns-clause-ordered g c =
     let ok : is_ok c.insert.result ≡ true = c.insert.ensures.succeeds c.requires.room in
-    rw (c.insert.ensures.items, ok, c.place_of-at.ensures.place, c.number.ensures, c.as_slice.ensures.value, insert-place g.T.Numbered.number c.args.item c.args.items.now.items)
+    rw (
+      c.insert.ensures.items,
+      ok,
+      c.place_of-at.ensures.place,
+      c.number.ensures,
+      c.as_slice.ensures.value,
+      insert-place g.T.Numbered.number c.args.item c.args.items.now.items,
+    )
     (is_sorted-with g.T.Numbered.number c.args.item c.args.items.now.items c.requires.ordered c.requires.absent)

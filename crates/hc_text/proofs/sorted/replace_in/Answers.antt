@@ -19,5 +19,10 @@ returns-clause-items g c =
 
 pub returns-clause-ordered : goal.returns-clause-ordered
 returns-clause-ordered g c =
-    rw (c.place_of-at.ensures.place, c.number.ensures, c.as_slice.ensures.value, set-place g.T.Numbered.number c.args.item c.args.items.now.items c.requires.ordered c.requires.there)
+    rw (
+      c.place_of-at.ensures.place,
+      c.number.ensures,
+      c.as_slice.ensures.value,
+      set-place g.T.Numbered.number c.args.item c.args.items.now.items c.requires.ordered c.requires.there,
+    )
     (is_sorted-replaced g.T.Numbered.number c.args.item c.args.items.now.items c.requires.ordered)

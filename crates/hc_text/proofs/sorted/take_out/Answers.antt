@@ -23,5 +23,10 @@ returns-clause-items g c =
 
 pub returns-clause-ordered : goal.returns-clause-ordered
 returns-clause-ordered g c =
-    rw (c.remove.ensures.items, c.place_of-at.ensures.place, c.as_slice.ensures.value, remove-place g.T.Numbered.number c.args.n c.args.items.now.items c.requires.ordered c.requires.there)
+    rw (
+      c.remove.ensures.items,
+      c.place_of-at.ensures.place,
+      c.as_slice.ensures.value,
+      remove-place g.T.Numbered.number c.args.n c.args.items.now.items c.requires.ordered c.requires.there,
+    )
     (is_sorted-filter g.T.Numbered.number (λ x. not (is_at g.T.Numbered.number c.args.n x)) c.args.items.now.items c.requires.ordered)

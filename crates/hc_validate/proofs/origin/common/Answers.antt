@@ -16,5 +16,7 @@ pub set_field-requires-3-clause-value : goal.set_field-requires-3-clause-value
 set_field-requires-3-clause-value c =
     let text : c.as_slice.result.now ≡ quoted c.args.size =
     c.as_slice.ensures.value ∙ c.in_ok-push-2.ensures.items
-    ∙ ap (λ (t : List ℕ). t ++ 34 ∷ []) (c.in_ok-write_number.ensures.ok ∙ ap (λ (t : List ℕ). t ++ decimal c.args.size) (c.in_ok-push.ensures.items ∙ ap (λ (t : List ℕ). t ++ 34 ∷ []) c.new-tag.ensures.items)) in
+    ∙ ap (λ (t : List ℕ). t ++ 34 ∷ [])
+    (c.in_ok-write_number.ensures.ok ∙
+    ap (λ (t : List ℕ). t ++ decimal c.args.size) (c.in_ok-push.ensures.items ∙ ap (λ (t : List ℕ). t ++ 34 ∷ []) c.new-tag.ensures.items)) in
     ap is_own_value text ∙ own-quoted c.args.size c.ranges.size.fits

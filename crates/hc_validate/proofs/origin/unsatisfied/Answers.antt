@@ -14,5 +14,7 @@ set_field-requires-clause-name c = IsToken-content_range
 
 pub set_field-requires-clause-value : goal.set_field-requires-clause-value
 set_field-requires-clause-value c =
-    let text = c.as_slice.ensures.value ∙ c.in_ok-write_number.ensures.ok ∙ ap (λ (t : List ℕ). t ++ decimal c.args.size) (c.in_ok-extend_from_slice.ensures.items ∙ ap (λ (t : List ℕ). t ++ codes "bytes */") c.new-text.ensures.items) in
+    let text = c.as_slice.ensures.value ∙ c.in_ok-write_number.ensures.ok ∙
+    ap (λ (t : List ℕ). t ++ decimal c.args.size)
+    (c.in_ok-extend_from_slice.ensures.items ∙ ap (λ (t : List ℕ). t ++ codes "bytes */") c.new-text.ensures.items) in
     ap is_own_value text ∙ own-unsatisfied c.args.size c.ranges.size.fits

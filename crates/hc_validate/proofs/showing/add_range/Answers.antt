@@ -12,5 +12,6 @@ set_field-requires-clause-name c = IsToken-content_range
 
 pub set_field-requires-clause-value : goal.set_field-requires-clause-value
 set_field-requires-clause-value c =
-    let text = c.as_slice.ensures.value ∙ c.in_ok-write_content_range.ensures.ok ∙ ap (λ (t : List ℕ). t ++ content_range_text c.args.span c.args.total) c.new-text.ensures.items in
+    let text = c.as_slice.ensures.value ∙ c.in_ok-write_content_range.ensures.ok ∙
+    ap (λ (t : List ℕ). t ++ content_range_text c.args.span c.args.total) c.new-text.ensures.items in
     ap is_own_value text ∙ own-content_range c.args.span c.args.total c.requires.within

@@ -26,6 +26,8 @@ loop-c-preserved c =
             | inr not_less ↦
                 let le = ltb-false c.loop-c.greatest item.k not_less in
                 let kept : c.max-greatest.result ≡ c.loop-c.greatest = omega arith in
-                kept ∙ c.loop-c.invariant.least (unseen-less c.loop-c.greatest (take c.loop-c.c-index cs) item (subst (λ (n : ℕ). stage_in (take c.loop-c.c-index cs ++ item ∷ []) n ≡ Unseen) kept there))
+                kept ∙ c.loop-c.invariant.least
+                (unseen-less c.loop-c.greatest (take c.loop-c.c-index cs) item
+                (subst (λ (n : ℕ). stage_in (take c.loop-c.c-index cs ++ item ∷ []) n ≡ Unseen) kept there))
           ];
     }

@@ -9,4 +9,5 @@ returns-in-Some c =
     (rw c.as_slice.ensures.value at (sym c.place_of.ensures ∙ c.in-Some.is)) c.index_mut.ensures.value c.read.ensures
 
 pub returns-in_default : goal.returns-in_default
-returns-in_default c = changed-none c.args.k (reading c.args.on) c.args.connections.now.items (rw c.as_slice.ensures.value at (sym c.place_of.ensures ∙ c.in_default.is))
+returns-in_default c = changed-none c.args.k (reading c.args.on) c.args.connections.now.items
+    (rw c.as_slice.ensures.value at (sym c.place_of.ensures ∙ c.in_default.is))

@@ -10,7 +10,8 @@ returns c = λ earlier items knows.
     record {
       keys = λ k.
           key_added c.args.self.now.keys c.insert.new.self c.key.inside.bytes c.in_ok-insert.field-0 c.in_ok-insert.ensures.added c.in_ok-insert.ensures.keys k
-          ∙ ap (λ (items : List ℕ). bytes_eq items k || contains_by (λ stored. bytes_eq k stored.items) c.args.self.now.keys) (c.key.view_is ∙ c.in_ok-key.ensures)
+          ∙ ap (λ (items : List ℕ). bytes_eq items k || contains_by (λ stored. bytes_eq k stored.items) c.args.self.now.keys)
+          (c.key.view_is ∙ c.in_ok-key.ensures)
           ∙ ap (λ b. bytes_eq key k || b) (knows.keys k);
       said = λ x. said_more (plain_item c.args.item.now) earlier x _ _ _ (knows.said x) (c.in_ok-insert-2.ensures.updates.0 x)
           (c.in_ok-say_runs.ensures x

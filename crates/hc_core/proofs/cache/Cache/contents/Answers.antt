@@ -5,7 +5,15 @@ use Rattle.hc_core.proofs.cache.Cache.contents.Goals as goal
 pub invariant_of-self : goal.invariant_of-self
 invariant_of-self g c =
     let good = c.args.self.now.good c.if-self.false in
-    record { good = λ _. (∥∥₁_map good.0 (λ at. good_still c.args.self.now.rows _ c.args.self.now.received c.args.self.now.last_moment refl refl refl refl c.items_of.ensures.same at), good.1, good.2, good.3) }
+    record {
+      good = λ _. (
+        ∥∥₁_map good.0
+            (λ at. good_still c.args.self.now.rows _ c.args.self.now.received c.args.self.now.last_moment refl refl refl refl c.items_of.ensures.same at),
+        good.1,
+        good.2,
+        good.3,
+      );
+    }
 
 pub returns-clause-reported : goal.returns-clause-reported
 returns-clause-reported g c = contents_reported c.args.self.now _ refl refl c.next_number.ensures c.in_ok-items.ensures.items

@@ -7,7 +7,14 @@ invariant_of-result g c =
     let none : (d : ℕ) → get nat_eq c.new.result d ≡ None = λ d. (let empty = c.new.ensures.empty in rw empty refl) in
     let first = c.new-2.ensures.next in
     let entries = c.in_ok-new.ensures in
-    record { good = λ _. (∣ begins_good _ refl first c.new.ensures.len none c.new-2.ensures.none c.new-3.ensures entries.nothing entries.order ∣₁, omega (arith, first), omega arith, omega arith) }
+    record {
+      good = λ _. (
+        ∣ begins_good _ refl first c.new.ensures.len none c.new-2.ensures.none c.new-3.ensures entries.nothing entries.order ∣₁,
+        omega (arith, first),
+        omega arith,
+        omega arith,
+      );
+    }
 
 pub returns-clause-stands : goal.returns-clause-stands
 returns-clause-stands g c =

@@ -18,13 +18,19 @@ invariant_of-self-2 g c =
     let few = good.1 in
     let some = ∥∥₁_map good.0 (until_at c.args.self.now.rows c.args.self.now.received c.args.self.now.last_moment) in
     let done = c.in_ok-answer.ensures in
-    let next = next_after c.args.self.now.rows c.answer.new.rows (act_list c.args.out.now) (act_list c.answer.new.out) c.args.now c.args.event.now done.denied done.accepted c.args.self.now.received (small_part _ c.requires.small) c.args.self.now.last_moment some in
+    let next = next_after c.args.self.now.rows c.answer.new.rows (act_list c.args.out.now) (act_list c.answer.new.out) c.args.now c.args.event.now
+    done.denied done.accepted c.args.self.now.received (small_part _ c.requires.small) c.args.self.now.last_moment some in
     record {
       good = λ _. (
-        subst (λ (n : ℕ). ∥ StandsAt c.answer.new.rows (c.args.self.now.received + n) c.args.now ∥₁) (sym c.received_in.ensures) (∥∥₁_map some (some_after c.args.self.now.rows c.answer.new.rows c.args.now c.args.event.now (act_list c.args.out.now) (act_list c.answer.new.out) done.denied done.accepted done.faults c.args.self.now.received (small_part _ c.requires.small) c.requires.within_limits c.args.self.now.last_moment c.requires.later)),
+        subst (λ (n : ℕ). ∥ StandsAt c.answer.new.rows (c.args.self.now.received + n) c.args.now ∥₁) (sym c.received_in.ensures)
+            (∥∥₁_map some (some_after c.args.self.now.rows c.answer.new.rows c.args.now c.args.event.now (act_list c.args.out.now) (act_list c.answer.new.out)
+            done.denied done.accepted done.faults c.args.self.now.received (small_part _ c.requires.small) c.requires.within_limits
+            c.args.self.now.last_moment c.requires.later)),
         omega (arith, few, next),
         c.requires.early,
-        small_starts c.args.self.now.rows c.answer.new.rows c.args.now c.args.event.now (act_list c.args.out.now) (act_list c.answer.new.out) done.denied done.accepted done.faults c.args.self.now.received (small_part _ c.requires.small) c.requires.within_limits c.args.self.now.last_moment c.requires.later some good.3,
+        small_starts c.args.self.now.rows c.answer.new.rows c.args.now c.args.event.now (act_list c.args.out.now) (act_list c.answer.new.out) done.denied
+            done.accepted done.faults c.args.self.now.received (small_part _ c.requires.small) c.requires.within_limits c.args.self.now.last_moment
+            c.requires.later some good.3,
       );
     }
 
@@ -32,7 +38,9 @@ pub returns-clause-answered : goal.returns-clause-answered
 returns-clause-answered g c =
     let good = c.args.self.now.good c.if-self.false in
     let done = c.in_ok-answer.ensures in
-    steps_on c.args.self.now _ c.args.now c.args.event.now (act_list c.args.out.now) (act_list c.answer.new.out) done.denied done.accepted c.requires.later refl done.faults (small_part _ c.requires.small) (∥∥₁_map good.0 (until_at c.args.self.now.rows c.args.self.now.received c.args.self.now.last_moment)) refl
+    steps_on c.args.self.now _ c.args.now c.args.event.now (act_list c.args.out.now) (act_list c.answer.new.out) done.denied done.accepted
+    c.requires.later refl done.faults (small_part _ c.requires.small)
+    (∥∥₁_map good.0 (until_at c.args.self.now.rows c.args.self.now.received c.args.self.now.last_moment)) refl
 
 pub returns-clause-denied : goal.returns-clause-denied
 returns-clause-denied g c = λ some.

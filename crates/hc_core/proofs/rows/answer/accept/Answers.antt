@@ -10,20 +10,26 @@ few_bytes : 2 ^ 61 - 1 < 2 ^ 61
 few_bytes = omega arith
 
 pub start-requires-clause-ascending : goal.start-requires-clause-ascending
-start-requires-clause-ascending g c = start_ascends (gate_of c.args.rows.now (event.Start c.in-Start.c c.in-Start.request)) c.in-Start.c c.in-Start.request (rw c.in-Start.is at c.requires.accepted)
+start-requires-clause-ascending g c =
+    start_ascends (gate_of c.args.rows.now (event.Start c.in-Start.c c.in-Start.request)) c.in-Start.c c.in-Start.request
+    (rw c.in-Start.is at c.requires.accepted)
 
 pub poll-requires-clause-live : goal.poll-requires-clause-live
-poll-requires-clause-live g c = poll_lives (gate_of c.args.rows.now (event.Poll c.in-Poll.c c.in-Poll.want)) c.in-Poll.c c.in-Poll.want (rw c.in-Poll.is at c.requires.accepted)
+poll-requires-clause-live g c =
+    poll_lives (gate_of c.args.rows.now (event.Poll c.in-Poll.c c.in-Poll.want)) c.in-Poll.c c.in-Poll.want (rw c.in-Poll.is at c.requires.accepted)
 
 pub poll-requires-clause-wants : goal.poll-requires-clause-wants
-poll-requires-clause-wants g c = poll_wants (gate_of c.args.rows.now (event.Poll c.in-Poll.c c.in-Poll.want)) c.in-Poll.c c.in-Poll.want (rw c.in-Poll.is at c.requires.accepted)
+poll-requires-clause-wants g c =
+    poll_wants (gate_of c.args.rows.now (event.Poll c.in-Poll.c c.in-Poll.want)) c.in-Poll.c c.in-Poll.want (rw c.in-Poll.is at c.requires.accepted)
 
 pub take_head-requires-clause-accepted : goal.take_head-requires-clause-accepted
-take_head-requires-clause-accepted g c = head_free (gate_of c.args.rows.now (event.Head c.in-Head.x c.in-Head.response)) c.in-Head.x c.in-Head.response (rw c.in-Head.is at c.requires.accepted)
+take_head-requires-clause-accepted g c =
+    head_free (gate_of c.args.rows.now (event.Head c.in-Head.x c.in-Head.response)) c.in-Head.x c.in-Head.response (rw c.in-Head.is at c.requires.accepted)
 
 pub take_piece-requires-clause-accepted : goal.take_piece-requires-clause-accepted
 take_piece-requires-clause-accepted g c =
-    let free = piece_free (gate_of c.args.rows.now (event.Piece c.in-Piece.x c.in-Piece.bytes)) c.in-Piece.x c.in-Piece.bytes (rw c.in-Piece.is at c.requires.accepted) in
+    let free = piece_free (gate_of c.args.rows.now (event.Piece c.in-Piece.x c.in-Piece.bytes)) c.in-Piece.x c.in-Piece.bytes
+    (rw c.in-Piece.is at c.requires.accepted) in
     ap (λ n. piece_refusal (open_at c.args.rows.now c.in-Piece.x) n) (ap length c.as_slice.ensures) ∙ free
 
 pub end-requires-clause-accepted : goal.end-requires-clause-accepted
@@ -36,7 +42,8 @@ pub cancel-requires-clause-live : goal.cancel-requires-clause-live
 cancel-requires-clause-live g c = cancel_lives (gate_of c.args.rows.now (event.Cancel c.in-Cancel.c)) c.in-Cancel.c (rw c.in-Cancel.is at c.requires.accepted)
 
 pub take_doom-requires-clause-room : goal.take_doom-requires-clause-room
-take_doom-requires-clause-room g c = let few = few_kept c.args.rows.now (∥∥₁_map c.requires.stands (λ until. stands_of_runs c.args.rows.now _ few_bytes until.0)) in omega (arith, few)
+take_doom-requires-clause-room g c = let few =
+    few_kept c.args.rows.now (∥∥₁_map c.requires.stands (λ until. stands_of_runs c.args.rows.now _ few_bytes until.0)) in omega (arith, few)
 
 pub start-requires-clause-stands : goal.start-requires-clause-stands
 start-requires-clause-stands g c = ∥∥₁_map c.requires.stands (λ until. stands_of_runs c.args.rows.now _ few_bytes until.0)

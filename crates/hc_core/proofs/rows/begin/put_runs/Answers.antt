@@ -32,6 +32,8 @@ loop-run-preserved g c =
     let u = shelf_of c.put.new.self in
     let placed = is_placed 0 0 c.args.runs.now c.loop-run.run-index run c.requires.ascending c.loop-run-test.true c.run-item.is in
     let done = c.in_ok-put.ensures in
-    let puts : Becomes (option_map (kept_with_bytes run.at run.x run.bytes None)) same_order c.args.r m u = subst (λ (bs : List ℕ). Becomes (option_map (kept_with_bytes run.at run.x bs None)) same_order c.args.r m u) c.bytes_of.ensures done.ok in
-    more_put (shelf_of c.args.entries.now) m u c.args.r c.loop-run.run-index c.args.runs.now run c.requires.there c.loop-run-test.true c.run-item.is placed c.loop-run.invariant puts
+    let puts : Becomes (option_map (kept_with_bytes run.at run.x run.bytes None)) same_order c.args.r m u =
+    subst (λ (bs : List ℕ). Becomes (option_map (kept_with_bytes run.at run.x bs None)) same_order c.args.r m u) c.bytes_of.ensures done.ok in
+    more_put (shelf_of c.args.entries.now) m u c.args.r c.loop-run.run-index c.args.runs.now run c.requires.there c.loop-run-test.true c.run-item.is
+    placed c.loop-run.invariant puts
     (done.used ∙ ap (λ (bs : List ℕ). m.used + length bs) c.bytes_of.ensures) (calm_ok _ _ c.in_ok-put.field-0 done.cause) c.requires.ends

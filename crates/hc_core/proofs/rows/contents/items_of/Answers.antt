@@ -10,7 +10,8 @@ use Rattle.hc_core.proofs.rows.contents.items_of.Goals as goal
 pub content_of-requires : goal.content_of-requires
 content_of-requires g c =
     let r = get_or c.deref-r-items.result.now c.loop-r.r-index 0 in
-    ap is_some (c.loop-r.invariant.same.kept r) ∙ idle_at (shelf_of c.args.entries.now) c.deref-r-items.result.now c.loop-r.r-index (c.deref-r-items.ensures.value ∙ c.in_ok-idle.ensures) c.loop-r-test.true
+    ap is_some (c.loop-r.invariant.same.kept r) ∙
+    idle_at (shelf_of c.args.entries.now) c.deref-r-items.result.now c.loop-r.r-index (c.deref-r-items.ensures.value ∙ c.in_ok-idle.ensures) c.loop-r-test.true
 
 pub loop-r-preserved : goal.loop-r-preserved
 loop-r-preserved g c =
@@ -23,11 +24,13 @@ loop-r-preserved g c =
     let item = c.in_ok-content_of.field-0 in
     let one = one_back a m r (plain_item item) inv.same c.in_ok-content_of.ensures.item in
     let more : take (i + 1) rs ≡ take i rs ++ r ∷ [] = take_next rs i r c.loop-r-test.true (any_default rs i 0 r c.loop-r-test.true) in
-    let all : map plain_item c.push.new.self ≡ map plain_item c.loop-r.items ++ plain_item item ∷ [] = ap (λ (zs : List coded.Content). map plain_item zs) c.in_ok-push.ensures.ok ∙ map-append plain_item c.loop-r.items (item ∷ []) in
+    let all : map plain_item c.push.new.self ≡ map plain_item c.loop-r.items ++ plain_item item ∷ [] =
+    ap (λ (zs : List coded.Content). map plain_item zs) c.in_ok-push.ensures.ok ∙ map-append plain_item c.loop-r.items (item ∷ []) in
     record {
       same = stays_then a m (shelf_of c.content_of.new.entries) inv.same c.content_of.ensures.same;
       reported =
           subst (λ (qs : List ℕ). AreContentsOf a qs (map plain_item c.push.new.self)) (sym more)
-          (subst (λ (zs : List Content). AreContentsOf a (take i rs ++ r ∷ []) zs) (sym all) (reports_more a (take i rs) (map plain_item c.loop-r.items) r (plain_item item) inv.reported one));
+          (subst (λ (zs : List Content). AreContentsOf a (take i rs ++ r ∷ []) zs) (sym all)
+          (reports_more a (take i rs) (map plain_item c.loop-r.items) r (plain_item item) inv.reported one));
       faults = calm_ok _ _ item c.in_ok-content_of.ensures.cause ∙ inv.faults;
     }

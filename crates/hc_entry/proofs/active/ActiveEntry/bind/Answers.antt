@@ -14,8 +14,11 @@ returns c =
     let ok = i.consumers.ok in
     let len = c.put_reserved.ensures.len in
     let room = c.put_reserved.ensures.capacity in
-    let all : are_all c.args.kind (map (bound_as i.kind) i.consumers.items) ≡ true = ap (λ (u : Users). are_all c.args.kind u.bound) c.self.view_is ∙ c.requires.same in
+    let all : are_all c.args.kind (map (bound_as i.kind) i.consumers.items) ≡ true = ap (λ (u : Users). are_all c.args.kind u.bound) c.self.view_is ∙
+    c.requires.same in
     made i.r i.gone _ _ (vec_capacity c.put_reserved.new.items - vec_len c.put_reserved.new.items) (vec_capacity i.consumers - vec_len i.consumers - 1)
-    (rw c.put_reserved.ensures.items (with-map c.args.kind c.args.c i.consumers.items ∙ ap (with_item consumer_of (bound_as c.args.kind c.args.c)) (map-kind i.kind c.args.kind i.consumers.items all)))
+    (rw c.put_reserved.ensures.items
+    (with-map c.args.kind c.args.c i.consumers.items ∙
+    ap (with_item consumer_of (bound_as c.args.kind c.args.c)) (map-kind i.kind c.args.kind i.consumers.items all)))
     (omega arith)
     ∙ ap (with_user c.args.kind c.args.c) c.self.view_is

@@ -12,4 +12,5 @@ pub returns-else-is_shared : goal.returns-else-is_shared
 returns-else-is_shared c =
     let i = c.self.inside in
     sym c.self.view_is
-    ∙ (made i.r i.gone _ _ _ _ (sym (unshared-map i.kind i.consumers.items (sym c.is_shared.ensures ∙ c.if-is_shared.false))) refl ∙ ap all_unshared c.self.view_is)
+    ∙ (made i.r i.gone _ _ _ _ (sym (unshared-map i.kind i.consumers.items (sym c.is_shared.ensures ∙ c.if-is_shared.false))) refl ∙
+    ap all_unshared c.self.view_is)

@@ -6,7 +6,9 @@ use Rattle.hc_entry.proofs.UserLemmas.{admission-map, admitted-same, admitted-al
 use Rattle.hc_entry.proofs.active.ActiveEntry.kind_for.Goals as goal
 
 by : (c : goal.After-kind_by) → c.kind_by.result ≡ kind_by (admission_by c.self.inside.kind (first_of c.self.inside.consumers.items) c.args.ranged c.args.holes)
-by c = c.kind_by.ensures ∙ ap kind_by (c.admission_by.ensures ∙ ap (λ o. admission_by c.self.inside.kind o c.args.ranged c.args.holes) (c.first_of-least.ensures ∙ ap first_of c.as_slice.ensures.value))
+by c = c.kind_by.ensures ∙
+    ap kind_by (c.admission_by.ensures ∙
+    ap (λ o. admission_by c.self.inside.kind o c.args.ranged c.args.holes) (c.first_of-least.ensures ∙ ap first_of c.as_slice.ensures.value))
 
 pub returns-clause-kind : goal.returns-clause-kind
 returns-clause-kind c =

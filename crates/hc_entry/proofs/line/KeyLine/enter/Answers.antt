@@ -35,9 +35,12 @@ returns-clause-ok c =
     let is : c.insert_reserved.result ≡ p = c.insert_reserved.ensures.key ∙ sym c.vacant_key-place.ensures.value in
     rw (← c.self.view_is) (record {
       line = rw (
-        entered-in_line i.seats.entries i.places.slots i.in_line i.holder c.self.invariant c.args.c p absent c.insert.new.self.entries (record { changes = c.in_ok-insert.ensures.updates.0; distinct = c.in_ok-insert.ensures.unique }),
-        entered-other i.seats.entries i.places.slots i.in_line i.holder c.self.invariant c.args.c p absent c.insert.new.self.entries (record { changes = c.in_ok-insert.ensures.updates.0; distinct = c.in_ok-insert.ensures.unique }) stand.Passed refl,
-        entered-other i.seats.entries i.places.slots i.in_line i.holder c.self.invariant c.args.c p absent c.insert.new.self.entries (record { changes = c.in_ok-insert.ensures.updates.0; distinct = c.in_ok-insert.ensures.unique }) stand.Away refl,
+        entered-in_line i.seats.entries i.places.slots i.in_line i.holder c.self.invariant c.args.c p absent c.insert.new.self.entries
+            (record { changes = c.in_ok-insert.ensures.updates.0; distinct = c.in_ok-insert.ensures.unique }),
+        entered-other i.seats.entries i.places.slots i.in_line i.holder c.self.invariant c.args.c p absent c.insert.new.self.entries
+            (record { changes = c.in_ok-insert.ensures.updates.0; distinct = c.in_ok-insert.ensures.unique }) stand.Passed refl,
+        entered-other i.seats.entries i.places.slots i.in_line i.holder c.self.invariant c.args.c p absent c.insert.new.self.entries
+            (record { changes = c.in_ok-insert.ensures.updates.0; distinct = c.in_ok-insert.ensures.unique }) stand.Away refl,
       ) refl;
       free = sym (ap (λ (l : List (Option ℕ)). at l p) kept) ∙ c.vacant_key-place.ensures.vacant;
       there = ap (at c.insert_reserved.new.self.slots) (sym is) ∙ c.insert_reserved.ensures.updates.changed;

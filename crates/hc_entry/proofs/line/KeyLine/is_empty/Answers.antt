@@ -14,5 +14,6 @@ returns-clause-free c = free c.is_empty.result refl where
   free : (b : Bool) → c.is_empty.result ≡ b → OnTrue b (c.args.self.now.holder ≡ None)
   free true on =
       let i = c.self.inside in
-      sym (ap (λ (l : Line). l.holder) c.self.view_is) ∙ free-seats i.seats.entries i.holder (no-entries i.seats.entries (c.is_empty.ensures.0 on)) c.self.invariant.holds
+      sym (ap (λ (l : Line). l.holder) c.self.view_is) ∙
+      free-seats i.seats.entries i.holder (no-entries i.seats.entries (c.is_empty.ensures.0 on)) c.self.invariant.holds
   free false off = tt

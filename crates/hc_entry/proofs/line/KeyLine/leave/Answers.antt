@@ -23,8 +23,11 @@ returns c =
     let i = c.self.inside in
     let is = sym c.remove.ensures.value ∙ c.in-Some.is in
     let rise = c.self.invariant.distinct in
-    line-left i.seats.entries i.places.slots i.holder rise c.args.c c.in-Some.seat.place c.remove.new.self.entries c.released-self-inside.result c.released-self-inside.ensures
+    line-left i.seats.entries i.places.slots i.holder rise c.args.c c.in-Some.seat.place c.remove.new.self.entries c.released-self-inside.result
+    c.released-self-inside.ensures
     c.remove-2.new.self.slots
-    (c.remove-2.ensures.slots ∙ sym (places-left i.seats.entries i.places.slots i.in_line i.holder c.self.invariant c.args.c c.in-Some.seat is c.remove.new.self.entries (record { changes = c.remove.ensures.updates.0; distinct = c.remove.ensures.unique })))
+    (c.remove-2.ensures.slots ∙
+    sym (places-left i.seats.entries i.places.slots i.in_line i.holder c.self.invariant c.args.c c.in-Some.seat is c.remove.new.self.entries
+    (record { changes = c.remove.ensures.updates.0; distinct = c.remove.ensures.unique })))
     (record { changes = c.remove.ensures.updates.0; distinct = c.remove.ensures.unique })
     ∙ ap (left_by c.args.c) c.self.view_is

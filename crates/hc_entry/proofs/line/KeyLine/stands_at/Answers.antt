@@ -30,6 +30,7 @@ pub returns : goal.returns
 returns c =
     let i = c.self.inside in
     let rise = c.self.invariant.distinct in
-    line-moved i.seats.entries i.places.slots i.holder rise c.args.c c.reseat-place.result c.reseat-place.new.seats.entries c.released-self-inside.result c.released-self-inside.ensures c.args.stand
+    line-moved i.seats.entries i.places.slots i.holder rise c.args.c c.reseat-place.result c.reseat-place.new.seats.entries c.released-self-inside.result
+    c.released-self-inside.ensures c.args.stand
     (record { changes = c.reseat-place.ensures.seats; distinct = c.reseat-place.ensures.distinct })
     ∙ ap (moved_to c.args.stand c.args.c) c.self.view_is

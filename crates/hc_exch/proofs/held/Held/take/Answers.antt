@@ -5,7 +5,8 @@ use Rattle.hc_exch.proofs.held.Held.take.Goals as goal
 -- what is wanted of what is left
 count_is : (c : goal.After-self-2-1) → c.min-count.result ≡ min c.args.want (length c.args.self.now)
 count_is c =
-    c.min-count.ensures ∙ ap (λ k. min c.args.want k) (sym (length-view c.self.inside.pieces.items c.self.inside.read c.self.inside.len c.self.invariant) ∙ ap length c.self.view_is)
+    c.min-count.ensures ∙ ap (λ k. min c.args.want k)
+    (sym (length-view c.self.inside.pieces.items c.self.inside.read c.self.inside.len c.self.invariant) ∙ ap length c.self.view_is)
 
 pub invariant_of-self-2 : goal.invariant_of-self-2
 invariant_of-self-2 c =

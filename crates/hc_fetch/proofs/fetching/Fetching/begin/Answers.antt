@@ -16,7 +16,8 @@ returns c =
     let few = c.if-self-gt1.false in
     let step = c.in_ok-step.ensures in
     let answered = step.answered.answered in
-    let came = subst (λ (ev : Event). bytes_received c.step.new.self ≡ bytes_received c.args.self.now.cache + received_in ev) c.in_ok-start.ensures step.received in
+    let came = subst (λ (ev : Event). bytes_received c.step.new.self ≡ bytes_received c.args.self.now.cache + received_in ev) c.in_ok-start.ensures
+    step.received in
     begins_one c.args.self.now _ c.args.now step.answered.acts (omega (arith, some, few)) c.requires.few
     (record { plan = refl; moment = refl; count = refl; first = refl; ended = refl; gathered = refl; decided = refl; limits = answered.limits })
     (subst (λ (ev : Event). Answers c.args.self.now.cache c.step.new.self c.args.now ev step.answered.acts) c.in_ok-start.ensures answered)

@@ -7,4 +7,5 @@ pub returns-then-is_done : goal.returns-then-is_done
 returns-then-is_done c = λ f stand. ap ended.Done c.written-written.ensures ∙ ended_so c.args.self.now f true stand (sym c.if-is_done.true ∙ c.is_done.ensures)
 
 pub returns-else-is_done : goal.returns-else-is_done
-returns-else-is_done c = λ f stand. ap ended.Unfinished c.written-written.ensures ∙ ended_so c.args.self.now f false stand (sym c.if-is_done.false ∙ c.is_done.ensures)
+returns-else-is_done c = λ f stand. ap ended.Unfinished c.written-written.ensures ∙
+    ended_so c.args.self.now f false stand (sym c.if-is_done.false ∙ c.is_done.ensures)

@@ -9,15 +9,19 @@ loop-act-preserved c =
     let here = c.in_ok-hear_act.ensures in (
       here.others.decided ∙ c.loop-act.invariant.0,
       λ u after result takes.
-          let rest = subst (λ (q : Option FetchEnded). Takes c.hear_act.new.self u (drop (c.loop-act.act-index + 1) c.args.acts.now) c.hear_act.new.text.items after q result) c.or-decides.ensures takes in
-          let both = takes_then c.loop-act.self c.hear_act.new.self u c.act-item.result (drop (c.loop-act.act-index + 1) c.args.acts.now) c.loop-act.text.items c.hear_act.new.text.items after c.loop-act.decides _ result here rest in
+          let rest = subst (λ (q : Option FetchEnded). Takes c.hear_act.new.self u (drop (c.loop-act.act-index + 1) c.args.acts.now)
+          c.hear_act.new.text.items after q result) c.or-decides.ensures takes in
+          let both = takes_then c.loop-act.self c.hear_act.new.self u c.act-item.result (drop (c.loop-act.act-index + 1) c.args.acts.now)
+          c.loop-act.text.items c.hear_act.new.text.items after c.loop-act.decides _ result here rest in
           c.loop-act.invariant.1 u after result
-          (subst (λ (l : List Act). Takes c.loop-act.self u l c.loop-act.text.items after c.loop-act.decides result) (sym (next_act c.args.acts.now c.loop-act.act-index c.act-item.result c.loop-act-test.true c.act-item.is)) both),
+          (subst (λ (l : List Act). Takes c.loop-act.self u l c.loop-act.text.items after c.loop-act.decides result)
+          (sym (next_act c.args.acts.now c.loop-act.act-index c.act-item.result c.loop-act-test.true c.act-item.is)) both),
     )
 
 pub returns : goal.returns
 returns c =
     let past = c.loop-act-test.false in
     c.loop-act.invariant.1 c.loop-act.self c.loop-act.text.items c.loop-act.decides
-    (subst (λ (l : List Act). Takes c.loop-act.self c.loop-act.self l c.loop-act.text.items c.loop-act.text.items c.loop-act.decides c.loop-act.decides) (sym (no_more c.args.acts.now c.loop-act.act-index (omega (arith, past))))
+    (subst (λ (l : List Act). Takes c.loop-act.self c.loop-act.self l c.loop-act.text.items c.loop-act.text.items c.loop-act.decides c.loop-act.decides)
+    (sym (no_more c.args.acts.now c.loop-act.act-index (omega (arith, past))))
     (takes_none c.loop-act.self c.loop-act.text.items c.loop-act.decides))

@@ -10,6 +10,8 @@ invariant_of-self-clause-short c =
 
 pub returns-then-is_none : goal.returns-then-is_none
 returns-then-is_none c =
-    sees_new c.args.self.now _ (record { c = c.args.c; r = c.args.r; status = c.args.status; fields = c.args.fields.now }) c.decision-decides.result c.decision-decides.ensures
-    c.if-c-eq1.true (none_is c.args.self.now.first c.if-is_none.ensures) (ap (λ (t : Option ℕ). Some (record { r = c.args.r; total = t })) (c.total_of.ensures c.args.c c.args.r))
+    sees_new c.args.self.now _ (record { c = c.args.c; r = c.args.r; status = c.args.status; fields = c.args.fields.now }) c.decision-decides.result
+    c.decision-decides.ensures
+    c.if-c-eq1.true (none_is c.args.self.now.first c.if-is_none.ensures)
+    (ap (λ (t : Option ℕ). Some (record { r = c.args.r; total = t })) (c.total_of.ensures c.args.c c.args.r))
     (record { plan = refl; cache = refl; moment = refl; count = refl; decided = refl }) refl refl

@@ -10,21 +10,24 @@ pub loop-at-preserved : goal.loop-at-preserved
 loop-at-preserved c = λ f k.
     let so_far = c.loop-at.invariant f k in
     let same : c.in-Some.bytes ≡ c.as_slice.result.now = sym c.as_slice.ensures in
-    let but = subst (λ (bytes : List ℕ). KeepsBut c.take_next.new.self.ahead c.take_next.new.self.written f c.in-Some.at bytes) same (c.in-Some.ensures.some f so_far.0) in
+    let but = subst (λ (bytes : List ℕ). KeepsBut c.take_next.new.self.ahead c.take_next.new.self.written f c.in-Some.at bytes) same
+    (c.in-Some.ensures.some f so_far.0) in
     (c.in_ok-write.ensures.keeps f but, appends_more f _ _ _ _ _ _ so_far.1 (rw c.take_next.ensures.written at (c.in_ok-write.ensures.text f but)))
 
 pub loop-at-preserved-in_ok-write : goal.loop-at-preserved-in_ok-write
 loop-at-preserved-in_ok-write c = λ f k.
     let so_far = c.loop-at.invariant f k in
     let same : c.in-Some.bytes ≡ c.as_slice.result.now = sym c.as_slice.ensures in
-    let but = subst (λ (bytes : List ℕ). KeepsBut c.take_next.new.self.ahead c.take_next.new.self.written f c.in-Some.at bytes) same (c.in-Some.ensures.some f so_far.0) in
+    let but = subst (λ (bytes : List ℕ). KeepsBut c.take_next.new.self.ahead c.take_next.new.self.written f c.in-Some.at bytes) same
+    (c.in-Some.ensures.some f so_far.0) in
     (c.in_ok-write.ensures.keeps f but, appends_more f _ _ _ _ _ _ so_far.1 (rw c.take_next.ensures.written at (c.in_ok-write.ensures.text f but)))
 
 pub loop-at-preserved-in_ok-write-2 : goal.loop-at-preserved-in_ok-write-2
 loop-at-preserved-in_ok-write-2 c = λ f k.
     let so_far = c.loop-at.invariant f k in
     let same : c.in-Some.bytes ≡ c.as_slice.result.now = sym c.as_slice.ensures in
-    let but = subst (λ (bytes : List ℕ). KeepsBut c.take_next.new.self.ahead c.take_next.new.self.written f c.in-Some.at bytes) same (c.in-Some.ensures.some f so_far.0) in
+    let but = subst (λ (bytes : List ℕ). KeepsBut c.take_next.new.self.ahead c.take_next.new.self.written f c.in-Some.at bytes) same
+    (c.in-Some.ensures.some f so_far.0) in
     (c.in_ok-write.ensures.keeps f but, appends_more f _ _ _ _ _ _ so_far.1 (rw c.take_next.ensures.written at (c.in_ok-write.ensures.text f but)))
 
 pub returns-clause-keeps : goal.returns-clause-keeps

@@ -16,4 +16,5 @@ pub returns-in_ok-join-in-len1-up : goal.returns-in_ok-join-in-len1-up
 returns-in_ok-join-in-len1-up c =
     let text = c.self.inside.text.items in
     let named = rw (c.deref.ensures.value, c.deref-2.ensures.value, c.self.view_is) at c.named.ensures.fields in
-    rw named at (joined_of-rest text c.named.result.now no_mark c.in_ok-join-in-len1-up.field-0 c.in-len1-up.len_at_least (rw (c.value-first.ensures, c.deref-in-len1-up.ensures.value, c.deref-in-len1-up-2.ensures.value) at c.in_ok-join-in-len1-up.ensures))
+    rw named at (joined_of-rest text c.named.result.now no_mark c.in_ok-join-in-len1-up.field-0 c.in-len1-up.len_at_least
+    (rw (c.value-first.ensures, c.deref-in-len1-up.ensures.value, c.deref-in-len1-up-2.ensures.value) at c.in_ok-join-in-len1-up.ensures))

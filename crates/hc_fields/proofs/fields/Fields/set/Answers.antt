@@ -8,11 +8,14 @@ pub returns-clause-values : goal.returns-clause-values
 returns-clause-values c =
     let name = lowercase c.args.name.now in
     let fs = c.args.self.now in
-    on_ok_weaker c.set_checked.result (λ is. rw is (values_of-put_same name c.args.value.now (without name fs) (sorted-without name fs c.set_checked.ensures.list)
+    on_ok_weaker c.set_checked.result
+    (λ is. rw is (values_of-put_same name c.args.value.now (without name fs) (sorted-without name fs c.set_checked.ensures.list)
     ∙ ap (λ (l : List (List ℕ)). l ++ c.args.value.now ∷ []) (values_of-without_same name fs))) c.set_checked.ensures.ok
 
 pub returns-clause-others : goal.returns-clause-others
 returns-clause-others c =
     let name = lowercase c.args.name.now in
     let fs = c.args.self.now in
-    on_ok_weaker c.set_checked.result (λ is other differ. rw is (values_of-put_other name c.args.value.now other (without name fs) differ ∙ values_of-without_other name other fs differ)) c.set_checked.ensures.ok
+    on_ok_weaker c.set_checked.result
+    (λ is other differ. rw is (values_of-put_other name c.args.value.now other (without name fs) differ ∙ values_of-without_other name other fs differ))
+    c.set_checked.ensures.ok

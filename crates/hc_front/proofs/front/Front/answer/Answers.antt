@@ -9,5 +9,7 @@ returns-in_ok-step-in-Cancel-clause-stepped g c =
 
 pub returns-in_default-clause-stepped : goal.returns-in_default-clause-stepped
 returns-in_default-clause-stepped g c =
-    on_four c.step-in_default.result c.step-in_default.ensures.answered c.step-in_default.ensures.moment c.step-in_default.ensures.ready c.step-in_default.ensures.received
-    (λ q moment ready received. has_passed c.args.self.now _ c.args.now _ _ c.args.event.now moment received ready q refl c.in_default.not-Start c.in_default.not-Poll c.in_default.not-Cancel)
+    on_four c.step-in_default.result c.step-in_default.ensures.answered c.step-in_default.ensures.moment c.step-in_default.ensures.ready
+    c.step-in_default.ensures.received
+    (λ q moment ready received. has_passed c.args.self.now _ c.args.now _ _ c.args.event.now moment received ready q refl c.in_default.not-Start
+    c.in_default.not-Poll c.in_default.not-Cancel)

@@ -9,7 +9,34 @@ use prog.Wp.{WpFn}
 use contract.Monad.{fact, fact_i}
 use contract.BorrowLft.{◌⊑◌}
 use contract.Running.{tables}
-use types.Kit.{‵, raw, ◌⊛◌, some, later, at_ret, ◌$◌, ◌∵◌, !, qed, by, move, keep, drop, split, split3, join, fsplit, fjoin, pick, suffices, use0, use1, await, rewrite, feq_i}
+use types.Kit.{
+  ‵,
+  raw,
+  ◌⊛◌,
+  some,
+  later,
+  at_ret,
+  ◌$◌,
+  ◌∵◌,
+  !,
+  qed,
+  by,
+  move,
+  keep,
+  drop,
+  split,
+  split3,
+  join,
+  fsplit,
+  fjoin,
+  pick,
+  suffices,
+  use0,
+  use1,
+  await,
+  rewrite,
+  feq_i,
+}
 use types.Run.{stop, fld, of_opd, no_more, and_then, first, blocks, exec, returns, enter}
 use types.ByLocal.{alloc_all, pass_all, free_all, look_at, get, get_in, sets, lands_last, env}
 use types.Part.{sub, whole}
@@ -48,12 +75,17 @@ unfolding Rattle.hc_handle.proofs.Destruct++none.drop.Code.code
 into_box_spec {M} 𝓤 𝓛 𝓜 𝓡 wired =
     let H = 𝓛.H in let 𝓣 = tables 𝓤 H 𝓜 𝓡 𝓡.env in let c = clauses 𝓛 𝓜.mem 𝓡.returns in let fn = code.function in
     let al = E.al in let w = wired in
-    proved_at 𝓛 ended stayed c 𝓜 𝓡 (Goes-dropped 𝓛 0 (plain (λ _. S)) yes (λ κs x f. refl), (Goes-dropped 𝓛 0 (plain (λ _. global.the_row)) yes (λ κs x f. refl), tt)) #self fn (code.unfolded 𝓤 H 𝓜 𝓡 wired) (λ z are.
-    let d = z.0.3.0 in let a = z.0.3.1.0 in let Post : Val → SProp 𝓤 = (walk_of 𝓛 ended stayed c).post z in let Run : List Val → SProp 𝓤 = λ ws. WpFn 𝓤 H 𝓣.C 𝓣.Λ fn ws Post in
-    qed 𝓛 ((‵ ftrue ⊛ ‵ (owns (types_at ended.signature.params z.0.0) z.0.3 z.0.4)) ∷ raw (fact 𝓤 (has_session d.session ≡ true)) ∷ []) ∵ move ! (1 ∷ []) $ heard ! _ (λ has. let x = (some_of d.session has).0 in let is : d.session ≡ Some x = (some_of d.session has).1 in split ! $ drop ! $ fsplit ! $
+    proved_at 𝓛 ended stayed c 𝓜 𝓡
+    (Goes-dropped 𝓛 0 (plain (λ _. S)) yes (λ κs x f. refl), (Goes-dropped 𝓛 0 (plain (λ _. global.the_row)) yes (λ κs x f. refl), tt)) #self fn
+    (code.unfolded 𝓤 H 𝓜 𝓡 wired) (λ z are.
+    let d = z.0.3.0 in let a = z.0.3.1.0 in let Post : Val → SProp 𝓤 = (walk_of 𝓛 ended stayed c).post z in let Run : List Val → SProp 𝓤 =
+    λ ws. WpFn 𝓤 H 𝓣.C 𝓣.Λ fn ws Post in
+    qed 𝓛 ((‵ ftrue ⊛ ‵ (owns (types_at ended.signature.params z.0.0) z.0.3 z.0.4)) ∷ raw (fact 𝓤 (has_session d.session ≡ true)) ∷ []) ∵ move ! (1 ∷ [])
+    $ heard ! _ (λ has. let x = (some_of d.session has).0 in let is : d.session ≡ Some x = (some_of d.session has).1 in split ! $ drop ! $ fsplit ! $
     pointer_out ! d z.0.4.0 x is (λ b o e ws. move ! (1 ∷ []) $ fsplit ! $ handle_tells al ! a z.0.4.1.0 (λ h us fits.
     let k = triple_of 𝓛 (callee.signature R Z al.g al.d al.drops) (callee.spec R Z al.g al.d al.drops 𝓛 𝓜.mem 𝓡.returns) in let B = box.B E in
-    suffices ! (Run (word b o ∷ h ∷ [])) (subst (λ (vs : List Val). ent 𝓤 (Run (word b o ∷ h ∷ [])) (Run vs)) (sym (λ i. ws i ++ (us i ++ []))) (id⊢ 𝓤 (Run (word b o ∷ h ∷ [])))) $
+    suffices ! (Run (word b o ∷ h ∷ []))
+    (subst (λ (vs : List Val). ent 𝓤 (Run (word b o ∷ h ∷ [])) (Run vs)) (sym (λ i. ws i ++ (us i ++ []))) (id⊢ 𝓤 (Run (word b o ∷ h ∷ [])))) $
     enter ! 𝓣.C 𝓣.Λ fn (word b o ∷ h ∷ []) Post $ alloc_all ! (λ l. pass_all ! refl (word_good b o, (fits, tt)) $ let Ev = env fn.locals l in
     sets ! (of_opd ! (get_in ! (fld ! refl (stop !)) (sub ! 0 refl (whole !)))) refl (tt, tt) $
     -- [the handle; nothing; the box's memory; the locals]
@@ -65,9 +97,13 @@ into_box_spec {M} 𝓤 𝓛 𝓜 𝓡 wired =
     move ! (4 ∷ []) $ feq_i ! (List Val) (vptr b o ∷ []) (vptr b o ∷ []) refl $ fjoin ! $ move ! (4 ∷ 0 ∷ []) $ fjoin ! $
     nothing ! $ move ! (3 ∷ 0 ∷ []) $ join ! $ move ! (3 ∷ 0 ∷ []) $ join ! $ join ! $ join ! $ use1 𝓛 (raw (k.pre y)) (id⊢ 𝓤 _) $
     calls_at_last ! (fm 𝓛 𝓜 𝓡) k (met 𝓤 𝓛 𝓜 𝓡 (code.calls-std_alloc::boxed::Box::from_raw 𝓡.env w) R Z E.laws al.laws al.g al.d al.drops
-    (heap_met.passed 𝓡.env (code.calls-std_heap::GlobalAllocator::allocate 𝓡.env w) (code.calls-std_heap::GlobalAllocator::deallocate 𝓡.env w) (code.calls-std_heap::GlobalAllocator::grow 𝓡.env w) (code.calls-std_heap::GlobalAllocator::shrink 𝓡.env w) M 𝓤 𝓛 𝓜 𝓡)
-    (glues "hc_handle::Destruct++none::drop" 𝓡.env (code.calls-hc_handle::Destruct++none::drop 𝓡.env w) Z al.laws M 𝓤 𝓛 𝓜 𝓡)) y (and_then ! (get ! refl) (and_then ! (get ! refl) (no_more !))) (λ u.
-    use1 𝓛 (later (some (λ (r : B.Denot). (toks ⊛ ‵ (B.own_val r (u ∷ []))) ⊛ some (λ (ls : Lasts (callee.ended R Z al.g al.d al.drops) (κ, (ρ, tt)) y.0.3). ‵ (lasts (callee.ended R Z al.g al.d al.drops) (κ, (ρ, tt)) y.0.3 ls) ⊛ (raw (fact 𝓤 (r.value ≡ x)) ⊛ raw (fact 𝓤 (r.alloc ≡ a))))))) (id⊢ 𝓤 (k.post y u)) $
+    (heap_met.passed 𝓡.env (code.calls-std_heap::GlobalAllocator::allocate 𝓡.env w) (code.calls-std_heap::GlobalAllocator::deallocate 𝓡.env w)
+    (code.calls-std_heap::GlobalAllocator::grow 𝓡.env w) (code.calls-std_heap::GlobalAllocator::shrink 𝓡.env w) M 𝓤 𝓛 𝓜 𝓡)
+    (glues "hc_handle::Destruct++none::drop" 𝓡.env (code.calls-hc_handle::Destruct++none::drop 𝓡.env w) Z al.laws M 𝓤 𝓛 𝓜 𝓡)) y
+    (and_then ! (get ! refl) (and_then ! (get ! refl) (no_more !))) (λ u.
+    use1 𝓛 (later (some (λ (r : B.Denot). (toks ⊛ ‵ (B.own_val r (u ∷ []))) ⊛ some
+    (λ (ls : Lasts (callee.ended R Z al.g al.d al.drops) (κ, (ρ, tt)) y.0.3). ‵ (lasts (callee.ended R Z al.g al.d al.drops) (κ, (ρ, tt)) y.0.3 ls) ⊛
+    (raw (fact 𝓤 (r.value ≡ x)) ⊛ raw (fact 𝓤 (r.alloc ≡ a))))))) (id⊢ 𝓤 (k.post y u)) $
     await ! tt $ pick ! (λ r. split ! $ move ! (1 ∷ []) $ pick ! (λ _. split3 ! $ drop ! $ heard ! (r.value ≡ x) (λ ev. drop ! $ split ! $ drop ! $
     box_out E ! r (u ∷ []) (λ b' o' h' e' us' fits'. box_in E ! r b' o' r.value e' refl $ rewrite ! 0 (λ (xs : List Val). ‵ (B.own_val r xs)) (sym us') refl $
     let good : box_good u = subst box_good (sym (ap only us')) (box.box_typed E h' b' o' fits') in

@@ -10,4 +10,5 @@ returns-in-None-clause-moves c = λ most.
 pub returns-in-Some-clause-moves : goal.returns-in-Some-clause-moves
 returns-in-Some-clause-moves c = λ most.
     let says = rw c.in-Some.is at c.in_ok-whole_line.ensures.sized in
-    line_moves c.args.self.now.held.items c.args.rest.now c.args.at most c.in-Some.size _ c.requires.line c.requires.short c.requires.within says (c.after_size-self.ensures.reading c.whole_line.new.self.no_body c.whole_line.new.self.held.items)
+    line_moves c.args.self.now.held.items c.args.rest.now c.args.at most c.in-Some.size _ c.requires.line c.requires.short c.requires.within
+    says (c.after_size-self.ensures.reading c.whole_line.new.self.no_body c.whole_line.new.self.held.items)

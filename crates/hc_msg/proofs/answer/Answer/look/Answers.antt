@@ -9,7 +9,8 @@ returns-then-is_empty c =
     let is : c.stopped.result ≡ look_of (stopped (reading_of a)) = c.stopped.ensures a.no_body a.held.items in
     elim c.then-is_empty.branch [
       | then-is_empty-via-then-is_empty w ↦ empty_looks (reading_of a) c.args.piece.now c.stopped.result (search rules) is
-      | then-is_empty-via-else-is_empty+then-not-goes_on w ↦ (let over : goes_on (reading_of a) ≡ false = search rules in over_looks (reading_of a) c.args.piece.now c.stopped.result over is)
+      | then-is_empty-via-else-is_empty+then-not-goes_on w ↦
+          (let over : goes_on (reading_of a) ≡ false = search rules in over_looks (reading_of a) c.args.piece.now c.stopped.result over is)
     ]
 
 pub returns-then-is_in_body : goal.returns-then-is_in_body

@@ -14,4 +14,5 @@ pub returns-in_ok-extend_from_slice-in-None-clause-moves : goal.returns-in_ok-ex
 returns-in_ok-extend_from_slice-in-None-clause-moves c = λ most.
     let found = rw c.in-None.is at c.in_ok-at.ensures in
     let tokens = rw c.as_slice.ensures.value at found in
-    line_stays c.args.self.now.held.items c.args.rest.now c.extend_from_slice.new.self.items most _ tokens.0 tokens.1 (search rules) (ap (λ (s : State). reading_by c.args.self.now.no_body s c.extend_from_slice.new.self.items) c.requires.sizing) c.requires.some
+    line_stays c.args.self.now.held.items c.args.rest.now c.extend_from_slice.new.self.items most _ tokens.0 tokens.1 (search rules)
+    (ap (λ (s : State). reading_by c.args.self.now.no_body s c.extend_from_slice.new.self.items) c.requires.sizing) c.requires.some

@@ -6,7 +6,8 @@ use Rattle.hc_msg.proofs.call.Call.take.Goals as goal
 pub returns-in_default-clause-takes : goal.returns-in_default-clause-takes
 returns-in_default-clause-takes c =
     let call = c.args.self.now in
-    not_begun call.scan call.start call.held.items c.as_slice-held.result.now c.args.piece.now c.find_end-found.result c.head_count-count.result c.requires.sound.short c.requires.sound.begins
+    not_begun call.scan call.start call.held.items c.as_slice-held.result.now c.args.piece.now c.find_end-found.result c.head_count-count.result
+    c.requires.sound.short c.requires.sound.begins
     c.as_slice-held.ensures.value c.find_end-found.ensures c.head_count-count.ensures c.in_default.ensures
 
 pub returns-in_err-request-in-Ok-Ends-clause-takes : goal.returns-in_err-request-in-Ok-Ends-clause-takes
@@ -17,8 +18,10 @@ returns-in_err-request-in-Ok-Ends-clause-takes c =
     let is : c.find_end-found.result ≡ Ok (sought.Ends c.in-Ok-Ends.n) = search rules in
     let found = rw is at c.find_end-found.ensures in
     let tokens = rw c.as_slice-held.ensures.value at found in
-    let begins = rw is at (begun call.start c.in-Some.start call.held.items c.as_slice-held.result.now c.args.piece.now c.find_end-found.result c.head_count-count.result c.requires.sound.begins c.as_slice-held.ensures.value c.head_count-count.ensures c.in-Some.ensures) in
-    rw same (call_fails call.scan call.held.items c.args.piece.now c.in-Ok-Ends.n e c.whole_head.result tokens.0 tokens.1 begins c.whole_head.ensures.called c.in_err-request-in-Ok-Ends.was)
+    let begins = rw is at (begun call.start c.in-Some.start call.held.items c.as_slice-held.result.now c.args.piece.now c.find_end-found.result
+    c.head_count-count.result c.requires.sound.begins c.as_slice-held.ensures.value c.head_count-count.ensures c.in-Some.ensures) in
+    rw same (call_fails call.scan call.held.items c.args.piece.now c.in-Ok-Ends.n e c.whole_head.result tokens.0 tokens.1 begins
+    c.whole_head.ensures.called c.in_err-request-in-Ok-Ends.was)
 
 pub returns-in_ok-request-in-Ok-Ends-clause-takes : goal.returns-in_ok-request-in-Ok-Ends-clause-takes
 returns-in_ok-request-in-Ok-Ends-clause-takes c =
@@ -27,8 +30,12 @@ returns-in_ok-request-in-Ok-Ends-clause-takes c =
     let found = rw is at c.find_end-found.ensures in
     let tokens = rw c.as_slice-held.ensures.value at found in
     let none = c.in_ok-request-in-Ok-Ends.ensures.empty in
-    let begins = rw is at (begun call.start c.in-Some.start call.held.items c.as_slice-held.result.now c.args.piece.now c.find_end-found.result c.head_count-count.result c.requires.sound.begins c.as_slice-held.ensures.value c.head_count-count.ensures c.in-Some.ensures) in
-    (tokens.2, rw none (call_reports call.scan call.held.items c.args.piece.now c.in-Ok-Ends.n c.in_ok-request-in-Ok-Ends.request c.whole_head.result tokens.0 tokens.1 begins c.whole_head.ensures.called c.in_ok-request-in-Ok-Ends.was))
+    let begins = rw is at (begun call.start c.in-Some.start call.held.items c.as_slice-held.result.now c.args.piece.now c.find_end-found.result
+    c.head_count-count.result c.requires.sound.begins c.as_slice-held.ensures.value c.head_count-count.ensures c.in-Some.ensures) in (
+      tokens.2,
+      rw none (call_reports call.scan call.held.items c.args.piece.now c.in-Ok-Ends.n c.in_ok-request-in-Ok-Ends.request c.whole_head.result
+          tokens.0 tokens.1 begins c.whole_head.ensures.called c.in_ok-request-in-Ok-Ends.was),
+    )
 
 pub returns-in_ok-extend_from_slice-in-Ok-Open-clause-takes : goal.returns-in_ok-extend_from_slice-in-Ok-Open-clause-takes
 returns-in_ok-extend_from_slice-in-Ok-Open-clause-takes c =
@@ -36,10 +43,17 @@ returns-in_ok-extend_from_slice-in-Ok-Open-clause-takes c =
     let is : c.find_end-found.result ≡ Ok (sought.Open c.in-Ok-Open.next) = search rules in
     let found = rw is at c.find_end-found.ensures in
     let tokens = rw c.as_slice-held.ensures.value at found in
-    let begins = rw is at (begun call.start c.in-Some.start call.held.items c.as_slice-held.result.now c.args.piece.now c.find_end-found.result c.head_count-count.result c.requires.sound.begins c.as_slice-held.ensures.value c.head_count-count.ensures c.in-Some.ensures) in
+    let begins = rw is at (begun call.start c.in-Some.start call.held.items c.as_slice-held.result.now c.args.piece.now c.find_end-found.result
+    c.head_count-count.result c.requires.sound.begins c.as_slice-held.ensures.value c.head_count-count.ensures c.in-Some.ensures) in
     let all : take (length c.args.piece.now) c.args.piece.now ≡ c.args.piece.now = take_all (length c.args.piece.now) c.args.piece.now (omega arith) in
-    let whole = rw all at begins in
-    (omega arith, (refl, call_open call.scan c.in-Ok-Open.next call.held.items c.args.piece.now c.extend_from_slice.new.self.items tokens.0 tokens.1 whole (search rules)))
+    let whole = rw all at begins in (
+      omega arith,
+      (
+        refl,
+        call_open call.scan c.in-Ok-Open.next call.held.items c.args.piece.now c.extend_from_slice.new.self.items tokens.0 tokens.1 whole
+            (search rules),
+      ),
+    )
 
 pub returns-in-Err-clause-takes : goal.returns-in-Err-clause-takes
 returns-in-Err-clause-takes c =
@@ -47,5 +61,6 @@ returns-in-Err-clause-takes c =
     let is : c.find_end-found.result ≡ Err c.in-Err.e = search rules in
     let found = rw is at c.find_end-found.ensures in
     let tokens = rw c.as_slice-held.ensures.value at found in
-    let begins = rw is at (begun call.start c.in-Some.start call.held.items c.as_slice-held.result.now c.args.piece.now c.find_end-found.result c.head_count-count.result c.requires.sound.begins c.as_slice-held.ensures.value c.head_count-count.ensures c.in-Some.ensures) in
+    let begins = rw is at (begun call.start c.in-Some.start call.held.items c.as_slice-held.result.now c.args.piece.now c.find_end-found.result
+    c.head_count-count.result c.requires.sound.begins c.as_slice-held.ensures.value c.head_count-count.ensures c.in-Some.ensures) in
     call_long call.scan call.held.items c.args.piece.now c.in-Err.e tokens.0 tokens.1 begins

@@ -19,7 +19,8 @@ returns-in-Done-clause-next c = done_takes c.args.most c.args.self.now c.args.pi
 pub returns-in-Ok-clause-next : goal.returns-in-Ok-clause-next
 returns-in-Ok-clause-next c =
     let same : reading_of c.self.inside.answer ≡ c.args.self.now = c.self.view_is in
-    let next = takes_next c.args.most (reading_of c.self.inside.answer) c.args.piece.now (Ok c.in-Ok.taken) (reading_of c.take.new.self) c.in-Ok.ensures.takes in
+    let next = takes_next c.args.most (reading_of c.self.inside.answer) c.args.piece.now (Ok c.in-Ok.taken) (reading_of c.take.new.self)
+    c.in-Ok.ensures.takes in
     subst (λ (s : Reading). TakesNext c.args.most s c.args.piece.now (Ok c.in-Ok.taken) (reading_of c.take.new.self)) same next
 
 pub returns-in-Err : goal.returns-in-Err
@@ -35,4 +36,5 @@ returns-in-Err c =
     }
 
 pub returns-in-Ok-clause-spelled : goal.returns-in-Ok-clause-spelled
-returns-in-Ok-clause-spelled c = part_spelled (reading_of c.self.inside.answer) c.args.piece.now c.args.most (Ok c.in-Ok.taken) (reading_of c.take.new.self) c.in-Ok.ensures.takes
+returns-in-Ok-clause-spelled c =
+    part_spelled (reading_of c.self.inside.answer) c.args.piece.now c.args.most (Ok c.in-Ok.taken) (reading_of c.take.new.self) c.in-Ok.ensures.takes

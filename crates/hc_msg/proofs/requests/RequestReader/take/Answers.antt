@@ -14,7 +14,9 @@ pub returns-in-Some-clause-next : goal.returns-in-Some-clause-next
 returns-in-Some-clause-next c = error_next 1 c.args.self.now c.args.piece.now c.in-Some.e (returns-in-Some-clause-takes c)
 
 pub returns-in-Ok-clause-next : goal.returns-in-Ok-clause-next
-returns-in-Ok-clause-next c = call_next c.self.inside.error c.self.inside.call c.take.new.self c.args.self.now c.args.piece.now c.in-Ok.taken c.in_default.not-Some c.self.view_is c.in-Ok.ensures.takes
+returns-in-Ok-clause-next c =
+    call_next c.self.inside.error c.self.inside.call c.take.new.self c.args.self.now c.args.piece.now c.in-Ok.taken c.in_default.not-Some c.self.view_is
+    c.in-Ok.ensures.takes
 
 pub returns-in-Err-clause-next : goal.returns-in-Err-clause-next
 returns-in-Err-clause-next c =

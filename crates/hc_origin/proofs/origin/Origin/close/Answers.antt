@@ -10,5 +10,6 @@ returns-clause-goes g c = λ reports log follows leaves. record {
   calls = refl;
   bound = refl;
   holds = left-kept c.args.k log _ _ _ leaves
-      (map-own c.args.self.now.asking c.remove.new.self c.args.k _ c.remove.ensures.updates) (map-other c.args.self.now.asking c.remove.new.self c.args.k _ c.remove.ensures.updates);
+      (map-own c.args.self.now.asking c.remove.new.self c.args.k _ c.remove.ensures.updates)
+      (map-other c.args.self.now.asking c.remove.new.self c.args.k _ c.remove.ensures.updates);
 }

@@ -8,7 +8,8 @@ use Rattle.hc_origin.proofs.origin.Origin.take.Goals as goal
 pub returns-in-Ok-clause-handles : goal.returns-in-Ok-clause-handles
 returns-in-Ok-clause-handles g c = λ reports log follows taken.
     handles-kept reports c.go_on.new.self log _ _ c.go_on.result follows
-    (c.go_on.ensures log (subst (λ (r : Result (Taken WireRequest) MsgError). IsTaken c.args.k r log (asking_in c.args.self.now) c.args.self.now.answering.items) c.in-Ok.is taken))
+    (c.go_on.ensures log (subst
+    (λ (r : Result (Taken WireRequest) MsgError). IsTaken c.args.k r log (asking_in c.args.self.now) c.args.self.now.answering.items) c.in-Ok.is taken))
 
 pub returns-in-Err-clause-handles : goal.returns-in-Err-clause-handles
 returns-in-Err-clause-handles g c = λ reports log follows taken.

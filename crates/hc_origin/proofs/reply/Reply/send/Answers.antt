@@ -16,7 +16,8 @@ pub loop-self-preserved : goal.loop-self-preserved
 loop-self-preserved g c = (
   sends-all (g.W.Wire.log c.args.wire.now) (g.W.Wire.log c.loop-self.wire) (g.W.Wire.log c.send.new.self) c.args.self.now.k c.self.inside.k c.in_ok-n.n
       c.args.self.now.bytes c.loop-self.self.bytes c.piece-piece.result.now c.skip.new.self.bytes c.loop-self.invariant.0
-      (ap (λ (u : Unsent). u.k) c.self.view_is ∙ c.loop-self.invariant.1) c.piece-piece.ensures c.in_ok-n.ensures.within c.if-n-len.false c.skip.ensures.bytes c.in_ok-n.ensures.ok,
+      (ap (λ (u : Unsent). u.k) c.self.view_is ∙ c.loop-self.invariant.1) c.piece-piece.ensures c.in_ok-n.ensures.within
+      c.if-n-len.false c.skip.ensures.bytes c.in_ok-n.ensures.ok,
   c.skip.ensures.number ∙ c.loop-self.invariant.1,
   (λ j. c.send.ensures.stages j ∙ c.loop-self.invariant.2 j),
   c.in_ok-n.ensures.cause.calm ∙ c.loop-self.invariant.3,

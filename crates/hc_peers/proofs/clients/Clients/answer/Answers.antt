@@ -77,7 +77,8 @@ returns c =
     let client = c.in-Some-get_mut.client.now in
     let has : client.consumer ≡ Some c.in-Some.c = ap consumer_at (sym at) ∙ who in
     ok-map c.list_ready.result _ _ (λ same. at-each (λ j. hash.get nat_eq now j ≡ answered_in c.args.act (hash.get nat_eq s.rows j)) k
-    (change.here ∙ (ap Some (same ∙ c.in_ok-answer.ensures.ok) ∙ (sym (answered-here c.args.act client c.in-Some.c to has) ∙ ap (answered_in c.args.act) (sym at))))
+    (change.here ∙ (ap Some (same ∙ c.in_ok-answer.ensures.ok) ∙
+    (sym (answered-here c.args.act client c.in-Some.c to has) ∙ ap (answered_in c.args.act) (sym at))))
     (λ j ne. change.apart j ne ∙ sym (answered-apart c.args.act (hash.get nat_eq s.rows j) c.in-Some.c to
     (λ e. absurd (let same_live : Some j ≡ Some k = sym (s.alive.1 c.in-Some.c j e) ∙ sym c.in-Some-get.ensures.value in ne (let g : j ≡ k = cc in g))))))
     c.list_ready.ensures.ok

@@ -13,10 +13,12 @@ invariant_of-self c =
     either c.insert.result _ _ _ c.insert.ensures.updates c.insert.ensures.err
     (λ up. let change = changed-hash k (Some n) s.rows now up in
     record {
-      alive = live-kept s.rows now k (Some n) change s.live s.live s.alive (ap (λ (x : Client). consumer_at (Some x)) c.new.ensures ∙ sym (ap consumer_at c.requires)) (λ d. refl);
+      alive = live-kept s.rows now k (Some n) change s.live s.live s.alive
+          (ap (λ (x : Client). consumer_at (Some x)) c.new.ensures ∙ sym (ap consumer_at c.requires)) (λ d. refl);
       due = ready-now s.rows now k (Some n) change s.ready s.ready s.due
           (changed-none k _ _ (s.due k ∙ (ap ready_at c.requires ∙ sym (ap (λ (x : Client). ready_at (Some x)) c.new.ensures))));
-      unsettled = touched-now s.rows now k (Some n) change s.touched s.touched s.unsettled (λ j ne off. off) (λ off. ap (λ (x : Client). settled_at (Some x)) c.new.ensures);
+      unsettled = touched-now s.rows now k (Some n) change s.touched s.touched s.unsettled (λ j ne off. off)
+          (λ off. ap (λ (x : Client). settled_at (Some x)) c.new.ensures);
     })
     (λ same. let change = changed-same k _ _ (hash-unchanged s.rows now same) in
     record {

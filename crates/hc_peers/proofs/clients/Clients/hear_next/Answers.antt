@@ -26,7 +26,8 @@ invariant_of-self-in-Ok-None c =
     let empty = none-left c.in-Some-get_mut.client.now w (rw c.in-Ok-None.field-0-is at c.in-Ok-None.ensures.reads) in
     record {
       alive = live-kept s.rows now k (Some w) change s.live s.live s.alive (ap (λ (x : Client). consumer_at (Some x)) others ∙ ap consumer_at was) (λ d. refl);
-      due = ready-now s.rows now k (Some w) change s.ready c.pop_first.new.self s.due (record { here = popped.here ∙ sym (empty-not-ready w empty); apart = popped.apart });
+      due = ready-now s.rows now k (Some w) change s.ready c.pop_first.new.self s.due
+          (record { here = popped.here ∙ sym (empty-not-ready w empty); apart = popped.apart });
       unsettled = touched-now s.rows now k (Some w) change s.touched s.touched s.unsettled (λ j ne off. off)
           (λ off. ap (λ (x : Client). settled_at (Some x)) others ∙ (ap settled_at was ∙ s.unsettled k off));
     }
@@ -43,8 +44,10 @@ invariant_of-self-in-Err-list_live c =
     let popped = changed-set k false s.ready c.pop_first.new.self c.in-Some.ensures.updates in
     let others = c.in-Ok-Some.ensures.others in
     record {
-      alive = live-kept s.rows now k (Some w) change s.live c.list_live.new.live s.alive (ap (λ (x : Client). consumer_at (Some x)) others ∙ ap consumer_at was) c.in-Err-list_live.ensures.err;
-      due = ready-now s.rows now k (Some w) change s.ready c.pop_first.new.self s.due (record { here = popped.here ∙ sym (empty-not-ready w c.clear.ensures); apart = popped.apart });
+      alive = live-kept s.rows now k (Some w) change s.live c.list_live.new.live s.alive
+          (ap (λ (x : Client). consumer_at (Some x)) others ∙ ap consumer_at was) c.in-Err-list_live.ensures.err;
+      due = ready-now s.rows now k (Some w) change s.ready c.pop_first.new.self s.due
+          (record { here = popped.here ∙ sym (empty-not-ready w c.clear.ensures); apart = popped.apart });
       unsettled = touched-now s.rows now k (Some w) change s.touched c.list_live.new.touched s.unsettled
           (λ j ne off. not-before (set.contains nat_cmp s.touched j) (set.contains nat_cmp c.list_live.new.touched j) (c.list_live.ensures.more j) off)
           (λ off. ap (λ (x : Client). settled_at (Some x)) others ∙ (ap settled_at was
@@ -61,7 +64,8 @@ invariant_of-self-in-Ok-Some c =
     let popped = changed-set k false s.ready c.pop_first.new.self c.in-Some.ensures.updates in
     let none = ready-consumer (hash.get nat_eq s.rows k) (sym (s.due k) ∙ c.in-Some.ensures.member) in
     record {
-      alive = live-new s.rows now k (Some w) change c.args.c s.live c.list_live.new.live s.alive (changed-by c.args.c (Some k) _ _ c.in_default-list_live.ensures.ok) none
+      alive = live-new s.rows now k (Some w) change c.args.c s.live c.list_live.new.live s.alive
+          (changed-by c.args.c (Some k) _ _ c.in_default-list_live.ensures.ok) none
           (ap (λ (x : Client). consumer_at (Some x)) c.ask.ensures) (λ j. nobody-at c.args.c (hash.get nat_eq s.rows j) (λ x is. c.requires j x is));
       due = ready-now s.rows now k (Some w) change s.ready c.pop_first.new.self s.due
           (record { here = popped.here ∙ sym (ap (λ (x : Client). ready_at (Some x)) c.ask.ensures); apart = popped.apart });
@@ -82,7 +86,8 @@ invariant_of-self-in-NoMemory c =
     let others = c.in-Err.ensures.others in
     record {
       alive = live-kept s.rows now k (Some w) change s.live s.live s.alive (ap (λ (x : Client). consumer_at (Some x)) others ∙ ap consumer_at was) (λ d. refl);
-      due = ready-now s.rows now k (Some w) change s.ready c.pop_first.new.self s.due (record { here = popped.here ∙ sym (empty-not-ready w c.in-Err.ensures.err); apart = popped.apart });
+      due = ready-now s.rows now k (Some w) change s.ready c.pop_first.new.self s.due
+          (record { here = popped.here ∙ sym (empty-not-ready w c.in-Err.ensures.err); apart = popped.apart });
       unsettled = touched-now s.rows now k (Some w) change s.touched s.touched s.unsettled (λ j ne off. off)
           (λ off. ap (λ (x : Client). settled_at (Some x)) others ∙ (ap settled_at was ∙ s.unsettled k off));
     }
@@ -100,7 +105,8 @@ invariant_of-self-in-Break-1 c =
     let still = set-unchanged s.touched c.insert.new.self c.in_err-insert-in_default-e.ensures.err in
     record {
       alive = live-kept s.rows now k (Some w) change s.live s.live s.alive (ap (λ (x : Client). consumer_at (Some x)) others ∙ ap consumer_at was) (λ d. refl);
-      due = ready-now s.rows now k (Some w) change s.ready c.pop_first.new.self s.due (record { here = popped.here ∙ sym (empty-not-ready w c.in-Err.ensures.err); apart = popped.apart });
+      due = ready-now s.rows now k (Some w) change s.ready c.pop_first.new.self s.due
+          (record { here = popped.here ∙ sym (empty-not-ready w c.in-Err.ensures.err); apart = popped.apart });
       unsettled = touched-now s.rows now k (Some w) change s.touched c.insert.new.self s.unsettled (λ j ne off. sym (still j) ∙ off)
           (λ off. ap (λ (x : Client). settled_at (Some x)) others ∙ (ap settled_at was ∙ s.unsettled k (sym (still k) ∙ off)));
     }
@@ -117,8 +123,10 @@ invariant_of-self-in_default-e c =
     let others = c.in-Err.ensures.others in
     let more = changed-set k true s.touched c.insert.new.self c.in_ok-insert-in_default-e.ensures.updates in
     record {
-      alive = live-kept s.rows now k (Some w) change s.live s.live s.alive (c.refuse.ensures.consumer ∙ (ap (λ (x : Client). consumer_at (Some x)) others ∙ ap consumer_at was)) (λ d. refl);
-      due = ready-now s.rows now k (Some w) change s.ready c.pop_first.new.self s.due (record { here = popped.here ∙ sym (closing-not-ready w c.refuse.ensures.closing); apart = popped.apart });
+      alive = live-kept s.rows now k (Some w) change s.live s.live s.alive
+          (c.refuse.ensures.consumer ∙ (ap (λ (x : Client). consumer_at (Some x)) others ∙ ap consumer_at was)) (λ d. refl);
+      due = ready-now s.rows now k (Some w) change s.ready c.pop_first.new.self s.due
+          (record { here = popped.here ∙ sym (closing-not-ready w c.refuse.ensures.closing); apart = popped.apart });
       unsettled = touched-now s.rows now k (Some w) change s.touched c.insert.new.self s.unsettled (λ j ne off. sym (more.apart j ne) ∙ off)
           (λ off. absurd (let on = more.here in cc));
     }

@@ -21,7 +21,8 @@ invariant_of-self-in-Break-1 g c =
     record {
       alive = live-kept s.rows now k (Some w) change s.live s.live s.alive (ap consumer_at was) (λ d. refl);
       due = ready-now s.rows now k (Some w) change s.ready s.ready s.due
-          (changed-none k _ _ (s.due k ∙ (sym (ap ready_at was) ∙ (owed-not-ready client c.in_err-offer.ensures.some ∙ sym (owed-not-ready w c.in_err-offer.ensures.left)))));
+          (changed-none k _ _ (s.due k ∙
+          (sym (ap ready_at was) ∙ (owed-not-ready client c.in_err-offer.ensures.some ∙ sym (owed-not-ready w c.in_err-offer.ensures.left)))));
       unsettled = touched-now s.rows now k (Some w) change s.touched s.touched s.unsettled (λ j ne off. off)
           (λ off. absurd (let on = ap settled_at was ∙ s.unsettled k off in let not_so = owed-not-settled client c.in_err-offer.ensures.some in cc));
     }
@@ -72,7 +73,8 @@ invariant_of-self-in_default-list_ready g c =
       alive = live-kept s.rows now k (Some w) change s.live s.live s.alive (ap (λ (x : Client). consumer_at (Some x)) others ∙ ap consumer_at was) (λ d. refl);
       due = ready-now s.rows now k (Some w) change s.ready c.list_ready.new.ready s.due (changed-by k _ _ _ c.list_ready.ensures.listed);
       unsettled = touched-now s.rows now k (Some w) change s.touched s.touched s.unsettled (λ j ne off. off)
-          (λ off. ap (λ (x : Client). settled_at (Some x)) others ∙ settled-sent client c.offer.new.self sent.n sent.left (ap settled_at was ∙ s.unsettled k off));
+          (λ off. ap (λ (x : Client). settled_at (Some x)) others ∙
+          settled-sent client c.offer.new.self sent.n sent.left (ap settled_at was ∙ s.unsettled k off));
     }
 
 pub invariant_of-self-then-is_settled : goal.invariant_of-self-then-is_settled

@@ -12,7 +12,8 @@ invariant_of-self-2 c =
     let change = changed-hash k (Some w) s.rows now ((c.get_mut.follows.holds w).3 (search rules)) in
     let was = c.in-Some.ensures.value in
     record {
-      alive = live-kept s.rows now k (Some w) change s.live s.live s.alive (ap (λ (x : Client). consumer_at (Some x)) c.list_ready.ensures.others ∙ ap consumer_at was) (λ d. refl);
+      alive = live-kept s.rows now k (Some w) change s.live s.live s.alive
+          (ap (λ (x : Client). consumer_at (Some x)) c.list_ready.ensures.others ∙ ap consumer_at was) (λ d. refl);
       due = ready-now s.rows now k (Some w) change s.ready c.list_ready.new.ready s.due (changed-by k _ _ _ c.list_ready.ensures.listed);
       unsettled = touched-now s.rows now k (Some w) change s.touched s.touched s.unsettled (λ j ne off. off)
           (λ off. ap (λ (x : Client). settled_at (Some x)) c.list_ready.ensures.others ∙ (ap settled_at was ∙ s.unsettled k off));

@@ -4,7 +4,8 @@ use Rattle.hc_peers.proofs.queue.Queue.offer.Goals as goal
 
 pub returns-then-is_empty-clause-ok : goal.returns-then-is_empty-clause-ok
 returns-then-is_empty-clause-ok g c =
-    offers-none c.args.k c.args.self.now (g.W.Wire.log c.args.wire.now) (nil_from_length c.args.self.now (eqb-true _ _ (sym c.is_empty.ensures ∙ c.if-is_empty.true)))
+    offers-none c.args.k c.args.self.now (g.W.Wire.log c.args.wire.now)
+    (nil_from_length c.args.self.now (eqb-true _ _ (sym c.is_empty.ensures ∙ c.if-is_empty.true)))
 
 pub returns-in_err-n-clause-err : goal.returns-in_err-n-clause-err
 returns-in_err-n-clause-err g c =

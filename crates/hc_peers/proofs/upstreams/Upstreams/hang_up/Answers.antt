@@ -11,5 +11,6 @@ invariant_of-self-2 c =
     record {
       inverse = dialled-gone s.rows c.remove-3.new.self s.dialled c.remove-4.new.self x u c.in_ok-upstream.ensures.value change
           (changed-hash u.k None s.dialled c.remove-4.new.self c.remove-4.ensures.updates) s.inverse;
-      there = there-gone s.rows c.remove-3.new.self s.news c.remove.new.self x None change (changed-set x false s.news c.remove.new.self c.remove.ensures.updates) s.there;
+      there = there-gone s.rows c.remove-3.new.self s.news c.remove.new.self x None change
+          (changed-set x false s.news c.remove.new.self c.remove.ensures.updates) s.there;
     }

@@ -6,13 +6,16 @@ use Rattle.hc_peers.proofs.Outcomes.{err-map, ok-map}
 use Rattle.hc_record.proofs.JoiningLemmas.{on_err}
 
 pub open-requires-clause-new : goal.open-requires-clause-new
-open-requires-clause-new g c = let any = rw c.in-Opened.is at c.requires.next in any_not_there c.args.self.now _ c.in-Opened.x c.in-Opened.c c.in-Opened.need c.in-Opened.request any
+open-requires-clause-new g c = let any = rw c.in-Opened.is at c.requires.next in
+    any_not_there c.args.self.now _ c.in-Opened.x c.in-Opened.c c.in-Opened.need c.in-Opened.request any
 
 pub open-requires-clause-fresh : goal.open-requires-clause-fresh
-open-requires-clause-fresh g c = let any = rw c.in-Opened.is at c.requires.next in any_fresh c.args.self.now _ c.in-Opened.x c.in-Opened.c c.in-Opened.need c.in-Opened.request any
+open-requires-clause-fresh g c = let any = rw c.in-Opened.is at c.requires.next in
+    any_fresh c.args.self.now _ c.in-Opened.x c.in-Opened.c c.in-Opened.need c.in-Opened.request any
 
 pub open-requires-clause-target : goal.open-requires-clause-target
-open-requires-clause-target g c = let any = rw c.in-Opened.is at c.requires.next in any_target c.args.self.now _ c.in-Opened.x c.in-Opened.c c.in-Opened.need c.in-Opened.request any
+open-requires-clause-target g c = let any = rw c.in-Opened.is at c.requires.next in
+    any_target c.args.self.now _ c.in-Opened.x c.in-Opened.c c.in-Opened.need c.in-Opened.request any
 
 pub returns-in_err-ask-in-Ask-clause-err : goal.returns-in_err-ask-in-Ask-clause-err
 returns-in_err-ask-in-Ask-clause-err g c = λ t p log acts h on. on_err c.from_residual.result _ (fails_before t c.args.self.now p c.args.act acts log _ _ on h)
@@ -29,21 +32,26 @@ returns-in_err-answer-in_default g c = record {
 pub returns-in-Opened-clause-ok : goal.returns-in-Opened-clause-ok
 returns-in-Opened-clause-ok g c = λ t p log acts h on.
     let h' = rw c.in-Opened.is at h in
-    ok-map c.open.result _ _ (λ o. rw c.in-Opened.is (opens_goes t c.args.self.now c.open.new.upstreams p acts c.in-Opened.x c.in-Opened.c c.in-Opened.need c.in-Opened.request log _ _ _ _ o h' on)) c.open.ensures.ok
+    ok-map c.open.result _ _
+    (λ o. rw c.in-Opened.is (opens_goes t c.args.self.now c.open.new.upstreams p acts c.in-Opened.x c.in-Opened.c c.in-Opened.need c.in-Opened.request log
+    _ _ _ _ o h' on)) c.open.ensures.ok
 
 pub returns-in-Opened-clause-err : goal.returns-in-Opened-clause-err
 returns-in-Opened-clause-err g c = λ t p log acts h on.
     let h' = rw c.in-Opened.is at h in
-    err-map c.open.result _ _ (λ d. fails_opening t c.args.self.now p acts c.in-Opened.x c.in-Opened.c c.in-Opened.need c.in-Opened.request log _ _ _ _ on h' d) c.open.ensures.err
+    err-map c.open.result _ _
+    (λ d. fails_opening t c.args.self.now p acts c.in-Opened.x c.in-Opened.c c.in-Opened.need c.in-Opened.request log _ _ _ _ on h' d) c.open.ensures.err
 
 pub returns-in_ok-ask-in-Ask-clause-ok : goal.returns-in_ok-ask-in-Ask-clause-ok
 returns-in_ok-ask-in-Ask-clause-ok g c = λ t p log acts h on.
     let h' = rw c.in-Ask.is at h in
     rw c.in-Ask.is (stays_on t _ p (act.Ask c.in-Ask.x) acts log _ _ on
-    (ask_goes t c.args.self.now p acts c.ask.new.self c.in-Ask.x c.in_ok-ask-in-Ask.ensures.ok c.in_ok-ask-in-Ask.ensures.news c.in_ok-ask-in-Ask.ensures.touched h'))
+    (ask_goes t c.args.self.now p acts c.ask.new.self c.in-Ask.x c.in_ok-ask-in-Ask.ensures.ok c.in_ok-ask-in-Ask.ensures.news
+    c.in_ok-ask-in-Ask.ensures.touched h'))
 
 pub returns-in_err-hang_up-in-Close-clause-err : goal.returns-in_err-hang_up-in-Close-clause-err
-returns-in_err-hang_up-in-Close-clause-err g c = λ t p log acts h on. on_err c.from_residual-in_err-hang_up-in-Close.result _ (fails_before t c.args.self.now p c.args.act acts log _ _ on h)
+returns-in_err-hang_up-in-Close-clause-err g c =
+    λ t p log acts h on. on_err c.from_residual-in_err-hang_up-in-Close.result _ (fails_before t c.args.self.now p c.args.act acts log _ _ on h)
 
 pub returns-in_ok-hang_up-in-Close-clause-ok : goal.returns-in_ok-hang_up-in-Close-clause-ok
 returns-in_ok-hang_up-in-Close-clause-ok g c = λ t p log acts h on.
@@ -55,7 +63,9 @@ pub returns-in_ok-answer-in_default : goal.returns-in_ok-answer-in_default
 returns-in_ok-answer-in_default g c = record {
   ok = λ t p log acts h on.
       stays_on t _ p c.args.act acts log _ _ on
-      (answer_goes t c.args.self.now p acts c.answer.new.self c.args.act (received_of t c.args.self.now p acts c.args.act c.in_default.not-Opened c.in_default.not-Ask c.in_default.not-Close) c.in_ok-answer-in_default.ensures h);
+      (answer_goes t c.args.self.now p acts c.answer.new.self c.args.act
+      (received_of t c.args.self.now p acts c.args.act c.in_default.not-Opened c.in_default.not-Ask c.in_default.not-Close)
+      c.in_ok-answer-in_default.ensures h);
   err = λ t p log acts h on. tt;
   cache = refl;
   events = refl;

@@ -5,7 +5,8 @@ use Rattle.hc_proxy.proofs.proxy.Proxy.close.Goals as goal
 pub unreachable-requires : goal.unreachable-requires
 unreachable-requires g c =
     c.in_default.not-NoMemory
-    (only_memory c.args.x c.args.self.now.upstreams c.take.new.self c.take.result c.in-Err.e c.requires.waits c.take.ensures.some (λ none. (c.take.ensures.none none).0) c.in-Err.is)
+    (only_memory c.args.x c.args.self.now.upstreams c.take.new.self c.take.result c.in-Err.e c.requires.waits c.take.ensures.some
+    (λ none. (c.take.ensures.none none).0) c.in-Err.is)
 
 pub fail-requires-clause-stands : goal.fail-requires-clause-stands
 fail-requires-clause-stands g c = here_stands c.args.x c.args.self.now _ refl refl refl refl c.requires.at
@@ -20,7 +21,8 @@ pub happen-requires-clause-spelled : goal.happen-requires-clause-spelled
 happen-requires-clause-spelled g c = here_small c.args.x c.args.self.now c.requires.at c.requires.few
 
 pub happen-requires-clause-small : goal.happen-requires-clause-small
-happen-requires-clause-small g c = few_bytes c.args.self.now (here_stands c.args.x c.args.self.now c.args.self.now refl refl refl refl c.requires.at) 0 (omega arith)
+happen-requires-clause-small g c =
+    few_bytes c.args.self.now (here_stands c.args.x c.args.self.now c.args.self.now refl refl refl refl c.requires.at) 0 (omega arith)
 
 pub returns-then-not-finish-clause-goes : goal.returns-then-not-finish-clause-goes
 returns-then-not-finish-clause-goes g c = λ t p h on ended.

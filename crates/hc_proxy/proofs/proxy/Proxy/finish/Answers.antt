@@ -25,15 +25,18 @@ pub fail-requires-clause-few : goal.fail-requires-clause-few
 fail-requires-clause-few g c =
     let x = c.args.self.now in
     let said : c.is_open.result ≡ true = search (rules, c.if-not-is_open.false) in
-    let few : steps x.cache + 1 ≤ 2 ^ 60 = may_few 1 c.args.x x c.requires.may (λ t p h. open_is t.frame x p h.cache c.args.x c.is_open.result c.is_open.ensures ∙ said) in
+    let few : steps x.cache + 1 ≤ 2 ^ 60 =
+    may_few 1 c.args.x x c.requires.may (λ t p h. open_is t.frame x p h.cache c.args.x c.is_open.result c.is_open.ensures ∙ said) in
     omega arith
 
 pub fail-requires-clause-small : goal.fail-requires-clause-small
 fail-requires-clause-small g c =
     let x = c.args.self.now in
     let said : c.is_open.result ≡ true = search (rules, c.if-not-is_open.false) in
-    let few : steps x.cache + 1 ≤ 2 ^ 60 = may_few 1 c.args.x x c.requires.may (λ t p h. open_is t.frame x p h.cache c.args.x c.is_open.result c.is_open.ensures ∙ said) in
-    here_small c.args.x x (may_here 1 c.args.x x c.requires.may (λ t p h. open_is t.frame x p h.cache c.args.x c.is_open.result c.is_open.ensures ∙ said)) (omega arith)
+    let few : steps x.cache + 1 ≤ 2 ^ 60 =
+    may_few 1 c.args.x x c.requires.may (λ t p h. open_is t.frame x p h.cache c.args.x c.is_open.result c.is_open.ensures ∙ said) in
+    here_small c.args.x x (may_here 1 c.args.x x c.requires.may (λ t p h. open_is t.frame x p h.cache c.args.x c.is_open.result c.is_open.ensures ∙ said))
+    (omega arith)
 
 pub close-requires-clause-at : goal.close-requires-clause-at
 close-requires-clause-at g c =
@@ -48,7 +51,8 @@ pub close-requires-clause-few : goal.close-requires-clause-few
 close-requires-clause-few g c =
     let x = c.args.self.now in
     let said : c.is_open.result ≡ true = search (rules, c.if-not-is_open.false) in
-    let few : steps x.cache + 1 ≤ 2 ^ 60 = may_few 1 c.args.x x c.requires.may (λ t p h. open_is t.frame x p h.cache c.args.x c.is_open.result c.is_open.ensures ∙ said) in
+    let few : steps x.cache + 1 ≤ 2 ^ 60 =
+    may_few 1 c.args.x x c.requires.may (λ t p h. open_is t.frame x p h.cache c.args.x c.is_open.result c.is_open.ensures ∙ said) in
     omega arith
 
 pub returns-in-Part-clause-goes : goal.returns-in-Part-clause-goes

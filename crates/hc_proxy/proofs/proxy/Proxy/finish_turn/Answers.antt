@@ -13,13 +13,16 @@ use Rattle.hc_record.proofs.JoiningLemmas.{on_err}
 pub returns-in_err-write-clause-err : goal.returns-in_err-write-clause-err
 returns-in_err-write-clause-err g c = λ t p before k on.
     on_err c.from_residual.result _
-    (cut_writing t p before c.args.self.now k (g.W.Wire.log c.args.wire.now) (g.W.Wire.stages c.args.wire.now) on (g.K.Sink.taken c.args.log.now) (g.K.Sink.taken c.write.new.log) c.in_err-write.ensures.front)
+    (cut_writing t p before c.args.self.now k (g.W.Wire.log c.args.wire.now) (g.W.Wire.stages c.args.wire.now) on (g.K.Sink.taken c.args.log.now)
+    (g.K.Sink.taken c.write.new.log) c.in_err-write.ensures.front)
 
 pub returns-in_err-write-clause-causes : goal.returns-in_err-write-clause-causes
 returns-in_err-write-clause-causes g c =
     let e = c.in_err-write.field-0.0 in
-    subst (HasCauses (g.W.Wire.faults c.args.wire.now) (g.W.Wire.faults c.args.wire.now) (g.K.Sink.faults c.args.log.now) (g.K.Sink.faults c.write.new.log)) (sym (err_is c.from_residual.result (of_sink e) c.from_residual.ensures.1))
-    (by_sink (g.W.Wire.faults c.args.wire.now) (g.K.Sink.faults c.args.log.now) (g.K.Sink.faults c.write.new.log) e c.in_err-write.ensures.cause (λ is. c.in_err-write.ensures.no_fault (ap Err is)))
+    subst (HasCauses (g.W.Wire.faults c.args.wire.now) (g.W.Wire.faults c.args.wire.now) (g.K.Sink.faults c.args.log.now)
+    (g.K.Sink.faults c.write.new.log)) (sym (err_is c.from_residual.result (of_sink e) c.from_residual.ensures.1))
+    (by_sink (g.W.Wire.faults c.args.wire.now) (g.K.Sink.faults c.args.log.now) (g.K.Sink.faults c.write.new.log) e c.in_err-write.ensures.cause
+    (λ is. c.in_err-write.ensures.no_fault (ap Err is)))
 
 pub carry_out-requires : goal.carry_out-requires
 carry_out-requires g c = record {
@@ -40,14 +43,17 @@ returns-in_err-carry_out-clause-err g c = λ t p before k on.
     let k' = written_keeps t p y k c.write.new.self c.in_ok-write.ensures.empty c.in_ok-write.ensures.last in
     let on' = written_wire t (text_of y.record) before reported stages on in
     on_err c.from_residual-in_err-carry_out.result _
-    (cut_carrying t p before y k reported stages on (g.K.Sink.taken c.args.log.now) (g.K.Sink.taken c.write.new.log) c.in_ok-write.ensures.ok (g.W.Wire.log c.carry_out.new.wire) (g.W.Wire.stages c.carry_out.new.wire)
+    (cut_carrying t p before y k reported stages on (g.K.Sink.taken c.args.log.now) (g.K.Sink.taken c.write.new.log) c.in_ok-write.ensures.ok
+    (g.W.Wire.log c.carry_out.new.wire) (g.W.Wire.stages c.carry_out.new.wire)
     (c.in_err-carry_out.ensures.err (writing t (text_of y.record)) p before k' on'))
 
 pub returns-in_err-carry_out-clause-causes : goal.returns-in_err-carry_out-clause-causes
 returns-in_err-carry_out-clause-causes g c =
     let e = c.in_err-carry_out.field-0.0 in
-    subst (HasCauses (g.W.Wire.faults c.args.wire.now) (g.W.Wire.faults c.carry_out.new.wire) (g.K.Sink.faults c.args.log.now) (g.K.Sink.faults c.write.new.log)) (sym (err_is c.from_residual-in_err-carry_out.result e c.from_residual-in_err-carry_out.ensures.1))
-    (by_wire (g.W.Wire.faults c.args.wire.now) (g.W.Wire.faults c.carry_out.new.wire) (g.K.Sink.faults c.args.log.now) (g.K.Sink.faults c.write.new.log) e c.in_err-carry_out.ensures.cause c.in_ok-write.ensures.calm)
+    subst (HasCauses (g.W.Wire.faults c.args.wire.now) (g.W.Wire.faults c.carry_out.new.wire) (g.K.Sink.faults c.args.log.now)
+    (g.K.Sink.faults c.write.new.log)) (sym (err_is c.from_residual-in_err-carry_out.result e c.from_residual-in_err-carry_out.ensures.1))
+    (by_wire (g.W.Wire.faults c.args.wire.now) (g.W.Wire.faults c.carry_out.new.wire) (g.K.Sink.faults c.args.log.now) (g.K.Sink.faults c.write.new.log) e
+    c.in_err-carry_out.ensures.cause c.in_ok-write.ensures.calm)
 
 pub returns-in_err-send-clause-err : goal.returns-in_err-send-clause-err
 returns-in_err-send-clause-err g c = λ t p before k on.
@@ -64,14 +70,18 @@ returns-in_err-send-clause-err g c = λ t p before k on.
     let co = c.in_ok-carry_out.ensures.ok (writing t (text_of y.record)) p before k' on' in
     on_err c.from_residual-in_err-send.result _
     (cut_sending t p before y k reported stages on out out' takes reported1 stages1 c.carry_out.new.self co (g.W.Wire.log c.send.new.wire)
-    (c.in_err-send.ensures.err (behind t p before y k reported stages on out out' takes reported1 stages1 c.carry_out.new.self co) (carried p) co.log' co.keeps co.on_wire))
+    (c.in_err-send.ensures.err (behind t p before y k reported stages on out out' takes reported1 stages1 c.carry_out.new.self co) (carried p) co.log'
+    co.keeps co.on_wire))
 
 pub returns-in_err-send-clause-causes : goal.returns-in_err-send-clause-causes
 returns-in_err-send-clause-causes g c =
     let e = c.in_err-send.field-0.0 in
-    subst (HasCauses (g.W.Wire.faults c.args.wire.now) (g.W.Wire.faults c.send.new.wire) (g.K.Sink.faults c.args.log.now) (g.K.Sink.faults c.write.new.log)) (sym (err_is c.from_residual-in_err-send.result e c.from_residual-in_err-send.ensures.1))
-    (subst (λ w. HasCauses {T = Bool} w (g.W.Wire.faults c.send.new.wire) (g.K.Sink.faults c.args.log.now) (g.K.Sink.faults c.write.new.log) (Err e)) c.in_ok-carry_out.ensures.cause.calm
-    (by_wire (g.W.Wire.faults c.carry_out.new.wire) (g.W.Wire.faults c.send.new.wire) (g.K.Sink.faults c.args.log.now) (g.K.Sink.faults c.write.new.log) e c.in_err-send.ensures.cause c.in_ok-write.ensures.calm))
+    subst (HasCauses (g.W.Wire.faults c.args.wire.now) (g.W.Wire.faults c.send.new.wire) (g.K.Sink.faults c.args.log.now)
+    (g.K.Sink.faults c.write.new.log)) (sym (err_is c.from_residual-in_err-send.result e c.from_residual-in_err-send.ensures.1))
+    (subst (λ w. HasCauses {T = Bool} w (g.W.Wire.faults c.send.new.wire) (g.K.Sink.faults c.args.log.now) (g.K.Sink.faults c.write.new.log) (Err e))
+    c.in_ok-carry_out.ensures.cause.calm
+    (by_wire (g.W.Wire.faults c.carry_out.new.wire) (g.W.Wire.faults c.send.new.wire) (g.K.Sink.faults c.args.log.now) (g.K.Sink.faults c.write.new.log) e
+    c.in_err-send.ensures.cause c.in_ok-write.ensures.calm))
 
 pub returns-clause-ok : goal.returns-clause-ok
 returns-clause-ok g c = λ t p before k on.

@@ -23,13 +23,15 @@ returns-in-Broke-clause-goes g c = λ t p h.
     (λ go. subst (λ q. Goes (KeepsQuiet t) (faults_in c.args.self.now.cache) c.broke.new.self q) (sym (handled_is t c.args.self.now p _ c.args.slice.now b)) go)
 
 pub client_comes-requires : goal.client_comes-requires
-client_comes-requires g c = record { begun = ∥∥₁_map c.requires.begun (λ s. (c.args.slice.now, subst (λ e. IsBegun c.args.self.now e c.args.slice.now) c.in-Accepted.is s)) }
+client_comes-requires g c =
+    record { begun = ∥∥₁_map c.requires.begun (λ s. (c.args.slice.now, subst (λ e. IsBegun c.args.self.now e c.args.slice.now) c.in-Accepted.is s)) }
 
 pub returns-in-Accepted-clause-goes : goal.returns-in-Accepted-clause-goes
 returns-in-Accepted-clause-goes g c = λ t p h.
     let b = subst (λ e. Begun t c.args.self.now p e c.args.slice.now) c.in-Accepted.is h in
     on_both c.client_comes.result _ _ (c.client_comes.ensures.goes t p c.args.slice.now b)
-    (λ go. subst (λ q. Goes (KeepsQuiet t) (faults_in c.args.self.now.cache) c.client_comes.new.self q) (sym (handled_is t c.args.self.now p _ c.args.slice.now b)) go)
+    (λ go. subst (λ q. Goes (KeepsQuiet t) (faults_in c.args.self.now.cache) c.client_comes.new.self q)
+    (sym (handled_is t c.args.self.now p _ c.args.slice.now b)) go)
 
 pub returns-in-Got-clause-goes : goal.returns-in-Got-clause-goes
 returns-in-Got-clause-goes g c = λ t p h.
@@ -38,7 +40,9 @@ returns-in-Got-clause-goes g c = λ t p h.
     (λ go. subst (λ q. Goes (KeepsQuiet t) (faults_in c.args.self.now.cache) c.got.new.self q) (sym (handled_is t c.args.self.now p _ c.args.slice.now b)) go)
 
 pub returns-in-Room-clause-goes : goal.returns-in-Room-clause-goes
-returns-in-Room-clause-goes g c t p h = room_goes t c.args.self.now p _ c.args.slice.now (subst (λ e. Begun t c.args.self.now p e c.args.slice.now) c.in-Room.is h)
+returns-in-Room-clause-goes g c t p h =
+    room_goes t c.args.self.now p _ c.args.slice.now (subst (λ e. Begun t c.args.self.now p e c.args.slice.now) c.in-Room.is h)
 
 pub returns-in-Quiet-clause-goes : goal.returns-in-Quiet-clause-goes
-returns-in-Quiet-clause-goes g c t p h = quiet_goes t c.args.self.now p c.args.slice.now (subst (λ e. Begun t c.args.self.now p e c.args.slice.now) c.in-Quiet.is h)
+returns-in-Quiet-clause-goes g c t p h =
+    quiet_goes t c.args.self.now p c.args.slice.now (subst (λ e. Begun t c.args.self.now p e c.args.slice.now) c.in-Quiet.is h)

@@ -27,4 +27,5 @@ returns-clause-goes g c t p b =
     let h = c.in_ok-handle.ensures.goes t p b in
     let n = c.in_ok-network.ensures.goes t h.q h.keeps in
     let r = c.in_ok-starts.ensures.goes t n.q n.keeps in
-    ok-map c.polls.result _ _ (λ l. happens_goes t c.args.self.now c.handle.new.self c.network.new.self c.starts.new.self c.polls.new.self p h n r l) (c.polls.ensures.goes t r.q r.keeps)
+    ok-map c.polls.result _ _ (λ l. happens_goes t c.args.self.now c.handle.new.self c.network.new.self c.starts.new.self c.polls.new.self p h n r l)
+    (c.polls.ensures.goes t r.q r.keeps)

@@ -19,7 +19,8 @@ loop-i-preserved g c f p log r y there =
     let n : c.len-i-end.result ≡ length r0 = omega (arith, c.len-i-end.ensures, c.list_news.new.to.ok.0) in
     let lt : c.loop-i.i < length r0 = (let test : c.loop-i.i < c.len-i-end.result = c.loop-i-test.true in omega arith) in
     let at : k0 ≡ get_or r0 c.loop-i.i k0 = c.index-x.ensures in
-    let more : take (c.loop-i.i + 1) r0 ≡ take c.loop-i.i r0 ++ k0 ∷ [] = take_more r0 c.loop-i.i k0 lt ∙ ap (λ (m : ℕ). take c.loop-i.i r0 ++ m ∷ []) (sym at) in
+    let more : take (c.loop-i.i + 1) r0 ≡ take c.loop-i.i r0 ++ k0 ∷ [] = take_more r0 c.loop-i.i k0 lt ∙
+    ap (λ (m : ℕ). take c.loop-i.i r0 ++ m ∷ []) (sym at) in
     let off : brings p k0 ≡ false =
     sym (brings_same f x p log r k0)
     ∙ (sym (c.in_ok-hears.ensures f p (cache_moves f x (record x { round = c.list_news.new.to }) p refl refl refl refl r.cache)) ∙ c.if-branch.false) in

@@ -22,7 +22,8 @@ hear-requires-clause-may g c =
     let at : k0 ≡ get_or r0 c.loop-i.i k0 = c.index-x.ensures ∙ ap (λ v. get_or v.items c.loop-i.i k0) c.loop-i.invariant.round in
     let is : r0 ≡ news_of x.upstreams = c.in_ok-list_news.ensures.listed ∙ ap (λ (xs : List ℕ). xs ++ news_of x.upstreams) c.clear.ensures.items in
     let order : IsStrictlySortedBy nat_cmp r0 = subst (IsStrictlySortedBy nat_cmp) (sym is) c.list_news.ensures.ordered in
-    subst (λ (z : ℕ). ∥ MayStep 2 z c.loop-i.self ∥₁) (sym at) (may_there x c.loop-i.self r0 c.loop-i.i k0 lt order c.loop-i.invariant.heard c.requires.stands c.requires.few)
+    subst (λ (z : ℕ). ∥ MayStep 2 z c.loop-i.self ∥₁) (sym at)
+    (may_there x c.loop-i.self r0 c.loop-i.i k0 lt order c.loop-i.invariant.heard c.requires.stands c.requires.few)
 
 pub hear-requires-clause-listed : goal.hear-requires-clause-listed
 hear-requires-clause-listed g c =
@@ -49,7 +50,8 @@ loop-i-preserved g c =
     record {
       heard =
           at_next x c.loop-i.self r0 c.loop-i.i k0 lt order c.loop-i.invariant.heard c.hear.new.self
-          (λ t q kq. subst (λ (z : ℕ). Goes (HasHeard z t q (steps c.loop-i.self.cache)) (faults_in c.loop-i.self.cache) c.hear.new.self (closed t.frame.limits z (handed t.frame.limits z q))) at (c.in_ok-hear.ensures.goes t q kq))
+          (λ t q kq. subst (λ (z : ℕ). Goes (HasHeard z t q (steps c.loop-i.self.cache)) (faults_in c.loop-i.self.cache) c.hear.new.self
+          (closed t.frame.limits z (handed t.frame.limits z q))) at (c.in_ok-hear.ensures.goes t q kq))
           (subst (λ (z : ℕ). NewsOff z c.loop-i.self c.hear.new.self) at c.in_ok-hear.ensures.news);
       round = c.in_ok-hear.ensures.round ∙ c.loop-i.invariant.round;
     }

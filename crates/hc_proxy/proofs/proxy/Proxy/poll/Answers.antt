@@ -13,7 +13,8 @@ step-requires-clause-small g c = ∥∥₁_elim c.requires.stands le_prop (λ s.
 
 pub pends-requires : goal.pends-requires
 pends-requires g c = ∥∥₁_elim c.requires.stands le_prop (λ s.
-    let made = c.in_ok-first.ensures.stepped s.0 s.1 s.2 (let small : unread s.1 + bytes_received c.args.self.now.cache ≤ s.0.bytes = s.2.small in omega arith) in
+    let made = c.in_ok-first.ensures.stepped s.0 s.1 s.2
+    (let small : unread s.1 + bytes_received c.args.self.now.cache ≤ s.0.bytes = s.2.small in omega arith) in
     let first : c.in_ok-first.first ≡ length (act_list c.args.self.now.acts) = c.in_ok-first.ensures.first in
     let all : length (act_list c.step.new.self.acts) ≡ length (act_list c.args.self.now.acts) + length made.e.acts =
     ap length made.acts ∙ length-append (act_list c.args.self.now.acts) made.e.acts in
@@ -23,14 +24,16 @@ pub returns-then-pends-clause-polled : goal.returns-then-pends-clause-polled
 returns-then-pends-clause-polled g c f p h =
     let made = c.in_ok-first.ensures.stepped f p h (let small : unread p + bytes_received c.args.self.now.cache ≤ f.bytes = h.small in omega arith) in
     let waits : pends made.e.acts ≡ true =
-    ap pends (sym (appended _ (act_list c.args.self.now.acts) (act_list c.step.new.self.acts) made.e.acts c.in_ok-first.ensures.first made.acts)) ∙ (sym c.pends.ensures ∙ c.if-pends.true) in
+    ap pends (sym (appended _ (act_list c.args.self.now.acts) (act_list c.step.new.self.acts) made.e.acts c.in_ok-first.ensures.first made.acts)) ∙
+    (sym c.pends.ensures ∙ c.if-pends.true) in
     polled_waits f c.args.self.now c.step.new.self c.args.c p made c.in_ok-first.ensures.moved waits
 
 pub returns-clause-polled : goal.returns-clause-polled
 returns-clause-polled g c f p h =
     let made = c.in_ok-first.ensures.stepped f p h (let small : unread p + bytes_received c.args.self.now.cache ≤ f.bytes = h.small in omega arith) in
     let goes_on : pends made.e.acts ≡ false =
-    ap pends (sym (appended _ (act_list c.args.self.now.acts) (act_list c.step.new.self.acts) made.e.acts c.in_ok-first.ensures.first made.acts)) ∙ (sym c.pends.ensures ∙ c.if-pends.false) in
+    ap pends (sym (appended _ (act_list c.args.self.now.acts) (act_list c.step.new.self.acts) made.e.acts c.in_ok-first.ensures.first made.acts)) ∙
+    (sym c.pends.ensures ∙ c.if-pends.false) in
     polled_moves f c.args.self.now c.step.new.self c.args.c p made goes_on
 
 pub returns-clause-rest : goal.returns-clause-rest

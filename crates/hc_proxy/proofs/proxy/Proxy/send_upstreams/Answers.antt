@@ -5,18 +5,21 @@ use Rattle.hc_proxy.proofs.proxy.Proxy.send_upstreams.Goals as goal
 use Rattle.hc_record.proofs.JoiningLemmas.{on_err}
 
 pub returns-in_err-list_touched-clause-err : goal.returns-in_err-list_touched-clause-err
-returns-in_err-list_touched-clause-err g c = λ f p log cache has clients follows. on_err c.from_residual.result _ (fails_here p log (g.W.Wire.log c.args.wire.now) follows.reported_is)
+returns-in_err-list_touched-clause-err g c =
+    λ f p log cache has clients follows. on_err c.from_residual.result _ (fails_here p log (g.W.Wire.log c.args.wire.now) follows.reported_is)
 
 pub returns-clause-ok : goal.returns-clause-ok
 returns-clause-ok g c = λ f p log cache has clients follows.
     let listed : c.as_slice.result.now ≡ touched_of c.args.self.now.upstreams =
     c.as_slice.ensures.value ∙ (c.in_ok-list_touched.ensures.listed ∙ ap (λ (ks : List ℕ). ks ++ touched_of c.args.self.now.upstreams) c.clear.ensures.items) in
     c.offer_upstreams.ensures.ok p log c.args.self.now.clients cache.stands cache.same
-    (origins_begin p log c.args.self.now.clients c.args.self.now.upstreams (g.W.Wire.log c.args.wire.now) (g.W.Wire.stages c.args.wire.now) c.as_slice.result.now listed has clients follows)
+    (origins_begin p log c.args.self.now.clients c.args.self.now.upstreams (g.W.Wire.log c.args.wire.now) (g.W.Wire.stages c.args.wire.now)
+    c.as_slice.result.now listed has clients follows)
 
 pub returns-clause-err : goal.returns-clause-err
 returns-clause-err g c = λ f p log cache has clients follows.
     let listed : c.as_slice.result.now ≡ touched_of c.args.self.now.upstreams =
     c.as_slice.ensures.value ∙ (c.in_ok-list_touched.ensures.listed ∙ ap (λ (ks : List ℕ). ks ++ touched_of c.args.self.now.upstreams) c.clear.ensures.items) in
     c.offer_upstreams.ensures.err p log c.args.self.now.clients cache.stands cache.same
-    (origins_begin p log c.args.self.now.clients c.args.self.now.upstreams (g.W.Wire.log c.args.wire.now) (g.W.Wire.stages c.args.wire.now) c.as_slice.result.now listed has clients follows)
+    (origins_begin p log c.args.self.now.clients c.args.self.now.upstreams (g.W.Wire.log c.args.wire.now) (g.W.Wire.stages c.args.wire.now)
+    c.as_slice.result.now listed has clients follows)

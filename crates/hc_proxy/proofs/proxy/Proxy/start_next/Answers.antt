@@ -34,7 +34,8 @@ returns-in-Nobody-clause-goes g c t p h =
 
 pub returns-in-Nothing-clause-next : goal.returns-in-Nothing-clause-next
 returns-in-Nothing-clause-next g c =
-    one_less (c.args.self.now.starts + 1) c.args.self.now.clients c.hear_next.new.self reported.Nothing (λ same. let never : reported.Nothing ≡ reported.Nobody = same in cc)
+    one_less (c.args.self.now.starts + 1) c.args.self.now.clients c.hear_next.new.self reported.Nothing
+    (λ same. let never : reported.Nothing ≡ reported.Nobody = same in cc)
     (subst (HearsNext (c.args.self.now.starts + 1) c.args.self.now.clients c.hear_next.new.self) c.in-Nothing.is c.in_ok-hear_next.ensures)
 
 pub returns-in-Nothing-clause-goes : goal.returns-in-Nothing-clause-goes

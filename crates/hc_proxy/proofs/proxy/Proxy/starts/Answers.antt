@@ -29,7 +29,8 @@ loop-preserved g c =
       counted =
           let one : steps c.start_next.new.self.cache ≤ steps c.loop.self.cache + 1 = c.in_ok-start_next.ensures.steps in
           let less : length (ready_of c.loop.self.clients) ≡ length (next.0 ∷ ready_of c.start_next.new.self.clients) = ap length next.1 in
-          let counted : steps c.loop.self.cache + length (ready_of c.loop.self.clients) ≤ steps x.cache + length (ready_of x.clients) = c.loop.invariant.counted in
+          let counted : steps c.loop.self.cache + length (ready_of c.loop.self.clients) ≤ steps x.cache + length (ready_of x.clients) =
+          c.loop.invariant.counted in
           omega arith;
     }
 

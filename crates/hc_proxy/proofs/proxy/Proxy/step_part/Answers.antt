@@ -16,7 +16,8 @@ pub happen-requires-in-Piece-clause-spelled : goal.happen-requires-in-Piece-clau
 happen-requires-in-Piece-clause-spelled g c = (c.requires.small, subst IsFit c.in-Piece.is c.requires.fit, search rules)
 
 pub happen-requires-in-Piece-clause-small : goal.happen-requires-in-Piece-clause-small
-happen-requires-in-Piece-clause-small g c = few_bytes c.args.self.now (take_stands c.args.part c.args.self.now c.requires.may) _ (subst IsFit c.in-Piece.is c.requires.fit)
+happen-requires-in-Piece-clause-small g c =
+    few_bytes c.args.self.now (take_stands c.args.part c.args.self.now c.requires.may) _ (subst IsFit c.in-Piece.is c.requires.fit)
 
 pub happen-requires-in-End-clause-stands : goal.happen-requires-in-End-clause-stands
 happen-requires-in-End-clause-stands g c = take_stands c.args.part c.args.self.now c.requires.may

@@ -3,10 +3,12 @@ use Rattle.hc_record.proofs.cursor.Cursor.take_bytes.Goals as goal
 
 pub returns-in_err-rest-clause-taken : goal.returns-in_err-rest-clause-taken
 returns-in_err-rest-clause-taken c = rw c.from_residual.ensures (λ after same.
-    let none = rw c.in_err-rest.was at (strip_prefix_is Decides-eqb c.self.inside.rest.now c.args.bytes.now c.strip_prefix.result c.strip_prefix.ensures.cases) in
+    let none = rw c.in_err-rest.was at
+    (strip_prefix_is Decides-eqb c.self.inside.rest.now c.args.bytes.now c.strip_prefix.result c.strip_prefix.ensures.cases) in
     none after (c.self.view_is ∙ sym same))
 
 pub returns-clause-taken : goal.returns-clause-taken
 returns-clause-taken c =
-    let some = rw c.in_ok-rest.was at (strip_prefix_is Decides-eqb c.self.inside.rest.now c.args.bytes.now c.strip_prefix.result c.strip_prefix.ensures.cases) in
+    let some = rw c.in_ok-rest.was at
+    (strip_prefix_is Decides-eqb c.self.inside.rest.now c.args.bytes.now c.strip_prefix.result c.strip_prefix.ensures.cases) in
     sym some ∙ c.self.view_is

@@ -10,7 +10,9 @@ returns-in_err-end_line-clause-feeds c =
     let e = c.in_err-end_line.field-0.0 in
     let same : c.from_residual.result ≡ Err e = search rules in
     let found = c.in-Some.ensures.found in
-    Still-fails _ c.args.piece.now _ p c.end_line.new.self.place line c.in-Some.line.now c.in-Some.behind.now c.loop-line.rest.now c.loop-line.out.items c.end_line.new.out.items e c.end_line.result c.from_residual.result _ c.loop-line.invariant.still found.0 c.loop-line.invariant.within.line found.1 c.end_line.ensures.takes c.in_err-end_line.was same
+    Still-fails _ c.args.piece.now _ p c.end_line.new.self.place line c.in-Some.line.now c.in-Some.behind.now c.loop-line.rest.now c.loop-line.out.items
+    c.end_line.new.out.items e c.end_line.result c.from_residual.result _ c.loop-line.invariant.still found.0 c.loop-line.invariant.within.line found.1
+    c.end_line.ensures.takes c.in_err-end_line.was same
 
 pub loop-line-preserved : goal.loop-line-preserved
 loop-line-preserved c =
@@ -24,7 +26,8 @@ loop-line-preserved c =
     let empty : c.end_line.new.self.line.items ≡ [] = c.in_ok-end_line.ensures.line in
     let more = c.in_ok-end_line.ensures.count in
     record {
-      still = rw empty (Still-next _ c.args.piece.now _ p c.end_line.new.self.place line seg rest text.now c.loop-line.out.items c.end_line.new.out.items c.loop-line.invariant.still found.0 c.loop-line.invariant.within.line found.1 does);
+      still = rw empty (Still-next _ c.args.piece.now _ p c.end_line.new.self.place line seg rest text.now c.loop-line.out.items c.end_line.new.out.items
+          c.loop-line.invariant.still found.0 c.loop-line.invariant.within.line found.1 does);
       within = c.end_line.ensures.within;
       few = omega (arith, c.loop-line.invariant.few, more, length-append seg (10 ∷ rest), ap length found.1);
     }

@@ -8,5 +8,6 @@ returns-in-Some-clause-some c =
     let reported = c.in-Some.ensures in
     record {
       past = reported.0;
-      all = all-claimed (marks c.args.self.now.blocks) tail.at tail.len tail.x tail.from c.args.p c.in-Some.end (reported.1 (marks c.args.self.now.blocks) c.args.self.now.had);
+      all = all-claimed (marks c.args.self.now.blocks) tail.at tail.len tail.x tail.from c.args.p c.in-Some.end
+          (reported.1 (marks c.args.self.now.blocks) c.args.self.now.had);
     }

@@ -19,4 +19,5 @@ invariant_of-self-2-clause-had c =
     let old = marks c.args.self.now.blocks in
     let new = marks c.put_part.new.blocks in
     let own = c.in_ok-put_part.ensures.ok in
-    c.add.ensures.had new (had-more c.args.self.now.spans.begins old new tail.at c.part_len-len.result tail.x tail.from own c.args.self.now.had) (own-had old new tail.at c.part_len-len.result tail.x tail.from own)
+    c.add.ensures.had new (had-more c.args.self.now.spans.begins old new tail.at c.part_len-len.result tail.x tail.from own c.args.self.now.had)
+    (own-had old new tail.at c.part_len-len.result tail.x tail.from own)

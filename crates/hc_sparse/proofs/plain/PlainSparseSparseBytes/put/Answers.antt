@@ -13,4 +13,6 @@ overflow_add-self c =
 pub invariant_of-self-2-clause-counts : goal.invariant_of-self-2-clause-counts
 invariant_of-self-2-clause-counts c =
     let count : c.args.self.now.count ≡ size (cells_of c.args.self.now.runs.items) = c.args.self.now.counts in
-    ap (λ n. n + length c.args.bytes.now) count ∙ sym (size-put (cells_of c.args.self.now.runs.items) (cells_of c.put_run.new.runs.items) c.args.at c.args.x c.args.bytes.now c.in_ok-put_run.ensures.ok c.requires.absent c.requires.end)
+    ap (λ n. n + length c.args.bytes.now) count ∙
+    sym (size-put (cells_of c.args.self.now.runs.items) (cells_of c.put_run.new.runs.items) c.args.at c.args.x c.args.bytes.now c.in_ok-put_run.ensures.ok
+    c.requires.absent c.requires.end)

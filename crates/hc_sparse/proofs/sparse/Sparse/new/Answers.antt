@@ -7,4 +7,5 @@ pub invariant_of-result-clause-within : goal.invariant_of-result-clause-within
 invariant_of-result-clause-within c = λ p. rw (c.new.ensures p) refl
 
 pub invariant_of-result-clause-counts : goal.invariant_of-result-clause-counts
-invariant_of-result-clause-counts c = ap length c.new-2.ensures ∙ sym (size-none (cells_by (marks_at c.new.result) c.new-2.result) (λ p. ap (cell_of c.new-2.result) (c.new.ensures p)))
+invariant_of-result-clause-counts c = ap length c.new-2.ensures ∙
+    sym (size-none (cells_by (marks_at c.new.result) c.new-2.result) (λ p. ap (cell_of c.new-2.result) (c.new.ensures p)))

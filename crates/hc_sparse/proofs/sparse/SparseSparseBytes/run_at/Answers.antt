@@ -18,4 +18,6 @@ pub returns-clause-ok : goal.returns-clause-ok
 unfolding sparse_cells
 returns-clause-ok c =
     let cells = cells_by (marks_at c.args.self.now.places) c.args.self.now.bytes in
-    rw c.in_ok-bytes.ensures (sym (stretch-only cells c.args.p c.args.want _ (whole-longest (marks_at c.args.self.now.places) c.args.self.now.bytes c.args.p c.args.want c.in-Some.whole c.args.self.now.within c.in-Some.ensures)))
+    rw c.in_ok-bytes.ensures
+    (sym (stretch-only cells c.args.p c.args.want _
+    (whole-longest (marks_at c.args.self.now.places) c.args.self.now.bytes c.args.p c.args.want c.in-Some.whole c.args.self.now.within c.in-Some.ensures)))

@@ -13,6 +13,7 @@ overflow_add-self c = let fits = c.is_full.ensures.fits c.if-is_full.false in se
 
 pub invariant_of-self-2 : goal.invariant_of-self-2
 invariant_of-self-2 c =
-    let more = weight-put (slots_of c.args.self.now.entries) (slots_of c.put_in.new.entries) c.args.slot.n c.args.at c.args.x c.args.bytes.now c.args.last c.put_in.ensures.number c.requires.live c.requires.absent c.requires.end c.in_ok-put_in.ensures.ok in
+    let more = weight-put (slots_of c.args.self.now.entries) (slots_of c.put_in.new.entries) c.args.slot.n c.args.at c.args.x c.args.bytes.now c.args.last
+    c.put_in.ensures.number c.requires.live c.requires.absent c.requires.end c.in_ok-put_in.ensures.ok in
     let was : c.args.self.now.used ≡ weight (slots_of c.args.self.now.entries) = c.args.self.now.weighs in
     record { weighs = ap (λ k. k + length c.args.bytes.now) was ∙ sym more }

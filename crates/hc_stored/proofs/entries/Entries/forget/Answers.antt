@@ -8,7 +8,8 @@ pub invariant_of-self-clause-shelved : goal.invariant_of-self-clause-shelved
 invariant_of-self-clause-shelved g c =
     let e = c.args.self.now in
     let r = c.args.r in
-    let slot = slot-before going (λ a. refl) (rows_of e.rows r) (rows_of c.go_in.new.rows r) c.drop_in-slot.result.n (row-after (rows_of e.rows) r going c.go_in.ensures) c.drop_in-slot.ensures.slot in
+    let slot = slot-before going (λ a. refl) (rows_of e.rows r) (rows_of c.go_in.new.rows r) c.drop_in-slot.result.n
+    (row-after (rows_of e.rows) r going c.go_in.ensures) c.drop_in-slot.ensures.slot in
     let drops = gone-after (rows_of e.rows) r going c.go_in.ensures c.drop_in-slot.ensures.changes in
     rw c.take_out.ensures (dropped-shelved e.shelved r c.drop_in-slot.result.n slot drops (λ m. ap (λ (s : Slots). s m) c.drop_slot.ensures.dropped)
     (ordered-out e.shelved r None drops refl))

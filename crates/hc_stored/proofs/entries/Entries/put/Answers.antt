@@ -25,5 +25,7 @@ returns-clause-used g c =
     let e = c.args.self.now in
     let a = c.args in
     let slots = g.B.Backend.slots e.store in
-    weight-put slots (g.B.Backend.slots c.put.new.self) c.slot_in.result.n a.at a.x a.bytes.now a.last (slot-number e.shelved a.r c.slot_in.result.n c.slot_in.ensures) (live-slot e.shelved a.r c.slot_in.result.n c.slot_in.ensures)
-    (λ p le lt. cells-kept slots (rows_of e.rows a.r) c.slot_in.result.n c.slot_in.ensures p ∙ c.requires.absent p le lt) c.requires.end (λ m. ap (λ (s : Slots). s m) c.in_ok-put.ensures.ok)
+    weight-put slots (g.B.Backend.slots c.put.new.self) c.slot_in.result.n a.at a.x a.bytes.now a.last
+    (slot-number e.shelved a.r c.slot_in.result.n c.slot_in.ensures) (live-slot e.shelved a.r c.slot_in.result.n c.slot_in.ensures)
+    (λ p le lt. cells-kept slots (rows_of e.rows a.r) c.slot_in.result.n c.slot_in.ensures p ∙ c.requires.absent p le lt) c.requires.end
+    (λ m. ap (λ (s : Slots). s m) c.in_ok-put.ensures.ok)

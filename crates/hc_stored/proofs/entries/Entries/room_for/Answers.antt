@@ -32,7 +32,8 @@ loop-r-preserved-then-is_unused g c =
     let ends = idle-last test c.loop-r.r-iterator.iter rest r tt c.in-Some.ensures.steps passes in
     let weight : c.from-then-is_unused.result ≡ weight_at (shelf_of e) r =
     c.from-then-is_unused.ensures ∙ (c.used_by-weight.ensures ∙ weight-there slots (rows_of e.rows r) c.slot_in.result.n c.slot_in.ensures) in
-    let less : c.saturating_sub-left.result ≡ c.loop-r.left - weight_at (shelf_of e) r = c.saturating_sub-left.ensures ∙ ap (λ (n : ℕ). c.loop-r.left - n) weight in
+    let less : c.saturating_sub-left.result ≡ c.loop-r.left - weight_at (shelf_of e) r = c.saturating_sub-left.ensures ∙
+    ap (λ (n : ℕ). c.loop-r.left - n) weight in
     let count = c.loop-r.count in
     let most = c.from-most.result in
     let left = c.loop-r.left in

@@ -13,7 +13,8 @@ invariant_of-self-clause-shelved g c =
     let r = c.args.r in
     let f = unused_by c.args.c in
     let over = sym c.is_over.ensures ∙ c.if-is_over.true in
-    let slot = slot-before f (λ a. refl) (rows_of e.rows r) (rows_of c.unbind_in-left.new.rows r) c.drop_in-slot.result.n (row-after (rows_of e.rows) r f c.unbind_in-left.ensures.rows) c.drop_in-slot.ensures.slot in
+    let slot = slot-before f (λ a. refl) (rows_of e.rows r) (rows_of c.unbind_in-left.new.rows r) c.drop_in-slot.result.n
+    (row-after (rows_of e.rows) r f c.unbind_in-left.ensures.rows) c.drop_in-slot.ensures.slot in
     let drops = gone-after (rows_of e.rows) r f c.unbind_in-left.ensures.rows c.drop_in-slot.ensures.changes in
     dropped-shelved e.shelved r c.drop_in-slot.result.n slot drops (λ m. ap (λ (s : Slots). s m) c.drop_slot.ensures.dropped)
     (ordered-left e.shelved r None drops (gone-left (rows_of e.rows) r c.args.c c.unbind_in-left.ensures.rows over) refl)

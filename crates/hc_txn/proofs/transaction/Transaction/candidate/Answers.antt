@@ -9,4 +9,5 @@ pub allowed_to-requires-clause-capped : goal.allowed_to-requires-clause-capped
 allowed_to-requires-clause-capped g c =
     let k = c.args.self.now in
     let all = capped (elements_in (codes "cache-control") k.request.fields) in
-    subst IsCapped (sym (ap (λ (f : RequestFacts). f.directives) k.reported)) (record { max_age = all.max_age; min_fresh = all.min_fresh; max_stale = all.max_stale })
+    subst IsCapped (sym (ap (λ (f : RequestFacts). f.directives) k.reported))
+    (record { max_age = all.max_age; min_fresh = all.min_fresh; max_stale = all.max_stale })

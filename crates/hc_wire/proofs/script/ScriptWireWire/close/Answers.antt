@@ -4,4 +4,5 @@ use Rattle.hc_wire.proofs.LogLemmas.{stages-changed, stage_shut}
 use Rattle.hc_wire.proofs.script.ScriptWireWire.close.Goals as goal
 
 pub returns-clause-stages : goal.returns-clause-stages
-returns-clause-stages c = λ j. ap (λ (cs : List Taker). stage_in cs j) c.shut_in.ensures ∙ stages-changed c.args.k shut (λ d. refl) closed_of refl stage_shut c.args.self.now.connections.items j
+returns-clause-stages c = λ j. ap (λ (cs : List Taker). stage_in cs j) c.shut_in.ensures ∙
+    stages-changed c.args.k shut (λ d. refl) closed_of refl stage_shut c.args.self.now.connections.items j

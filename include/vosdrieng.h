@@ -167,7 +167,7 @@ void vosdrieng_free(vosdrieng_cache *cache);
 */
 #define VOSDRIENG_NORMAL 0   /* as RFC 9111 allows a private cache */
 #define VOSDRIENG_VALIDATE 1 /* never without a validation */
-#define VOSDRIENG_BYPASS 2   /* past the cache, and what was stored is forgotten */
+#define VOSDRIENG_BYPASS 2   /* past what is stored, which is forgotten; the answer may be stored */
 #define VOSDRIENG_SKIP 3     /* also a stale answer */
 #define VOSDRIENG_ONLY 4     /* only from the cache */
 #define VOSDRIENG_DISABLE 5  /* as if there were no cache */
@@ -246,7 +246,7 @@ typedef struct vosdrieng_act {
 /* why an exchange is opened */
 #define VOSDRIENG_NEED_DISABLED 1    /* the request is none that the cache serves */
 #define VOSDRIENG_NEED_TIMED_OUT 2   /* the consumer waited for 20 seconds */
-#define VOSDRIENG_NEED_BYPASS 3      /* the request goes past the cache */
+#define VOSDRIENG_NEED_BYPASS 3      /* the request goes past what is stored */
 #define VOSDRIENG_NEED_MISS 4        /* nothing is stored */
 #define VOSDRIENG_NEED_VARY 5        /* what is stored answers other request fields */
 #define VOSDRIENG_NEED_VALIDATE 6    /* what is stored is to be validated */

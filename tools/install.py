@@ -19,7 +19,7 @@ from crates import CRATES, TOP
 PROGRAM = CRATES / "hc_app" / "out" / "hc_app"
 BUILT = TOP / "out" / "library"
 PICTURE = TOP / "tools" / "picture"
-DOCUMENTS = ["README.md", "LICENSE", *(f"docs/{name}" for name in ("FORMATS.md", "GLOSSARY.md", "PICTURE.md", "RULES.md", "resumed-download.png"))]
+DOCUMENTS = ["README.md", "LICENSE", *(f"docs/{name}" for name in ("USING.md", "FORMATS.md", "GLOSSARY.md", "PICTURE.md", "RULES.md", "resumed-download.png"))]
 SHARED, TOLD = "share/vosdrieng", "share/doc/vosdrieng"
 LIST, COMMAND, PKG_CONFIG = f"{SHARED}/installed", "bin/vosdrieng", "lib/pkgconfig/vosdrieng.pc"
 

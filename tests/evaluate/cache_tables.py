@@ -26,7 +26,7 @@ is_conditional = definition("HeadCases.is_conditional", "hc_rules")
 defined_plan = definition("Plans.plan_of", "hc_rules")
 read_step = definition("Readings.read_step", "hc_rules")
 room_of = definition("Rooms.room_of", "hc_rules")
-survivor_at = definition("Survivors.survivor_at", "hc_rules")
+survivor_at = definition("Admissions.survivor_at", "hc_rules")
 
 
 def wishing(number, request, **more):
@@ -162,7 +162,7 @@ def _candidate(stored, request, now):
     is_writing_alone = stored.exclusive is not None and _hole(stored, (0, stored.total)) is not None
     return record(
         allowed=http_tables.allowed(head, asked, now), vary=http_tables.matches_vary(head, asked), span=want, hole=some(hole),
-        writing=stored.shared is not None, exclusive=some(stored.exclusive if is_writing_alone else None),
+        writer_group=stored.shared is not None, exclusive=some(stored.exclusive if is_writing_alone else None),
         least_bound=some(min(stored.bound, default=None)),
     )
 

@@ -15,7 +15,7 @@ contents_left = definition("Contents.contents_of")
 may_begin = definition("Beginnings.may_begin")
 act_text = definition("Report.act_text", "hc_sched")
 handed = definition("Fronts.handed", "hc_front")
-told = definition("Fronts.told", "hc_front")
+told = definition("Fronts.reported", "hc_front")
 front_after = definition("Fronts.front_after", "hc_front")
 front_begun = definition("Fronts.front_begun", "hc_front")
 

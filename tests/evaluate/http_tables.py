@@ -39,7 +39,7 @@ updated_fields = definition("Updates.updated_fields", "hc_validate")
 shown_response = definition("Showing.shown_response", "hc_validate")
 is_external = definition("External.is_external", "hc_condition")
 is_not_modified = definition("NotModified.is_not_modified", "hc_condition")
-told_fields = definition("NotModified.told_fields", "hc_condition")
+told_fields = definition("NotModified.fields_of_304", "hc_condition")
 
 
 # Texts

@@ -12,7 +12,7 @@ pub enum Need {
     Disabled,
     /// The consumer waited for 20 seconds.
     TimedOut,
-    /// The request goes past the cache.
+    /// The request goes past what is stored. Its answer may be stored.
     Bypass,
     /// Nothing is stored.
     Miss,

@@ -6,6 +6,4 @@ mod contents;
 #[cfg(test)]
 mod hostile;
 #[cfg(test)]
-mod recoveries;
-#[cfg(test)]
 mod reports;

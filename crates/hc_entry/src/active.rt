@@ -172,7 +172,7 @@ impl ActiveEntry {
         self.bind(BoundKind::Shared, c);
     }
 
-    /// The exclusive writer resumes the writing, which is shared from now on.
+    /// The exclusive writer resumes the writer group, which is shared from now on.
     pub fn resume_shared(&mut self, c: u64)
         requires { is_bound_as way.Exclusive c self.old ≡ true }
         ensures { self.new ≡ rebound way.Shared c self.old }

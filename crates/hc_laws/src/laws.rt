@@ -309,7 +309,7 @@ pub fn endings_are_known()
 {}
 
 /// Each open exchange is somebody's, in every run: of no representation, it is the own one of its consumer, which
-/// waits for its head or reads it; else it is that of the writing for several, or the own one of one who is bound to
+/// waits for its head or reads it; else it is that of the writer group, or the own one of one who is bound to
 /// what it brings, for whom it was opened or the detached reader. Who owns an open one stands where it may, about
 /// what nobody is bound to none is open, and what is written is of the key of who asked for it.
 pub fn exchanges_are_somebodys()
@@ -350,7 +350,7 @@ pub fn few_are_live()
 {}
 
 /// No more exchanges are open than consumers are live, in every run: each open one is that from which a live
-/// consumer reads, as its own or as a member of the writing for several, and nobody reads from two.
+/// consumer reads, as its own or as a member of the writer group, and nobody reads from two.
 pub fn few_are_open()
     ensures { OfRuns FewOpen }
 {}

@@ -24,7 +24,7 @@ pub record FewLive (t : Tables) : Type 0 where
 abbrev pub open_now : Tables → ℕ
 open_now t = length (filter (λ x. is_open (t.exchange x)) t.openings)
 
--- a live consumer reads from x: it is its own, or that of the writing for several of which it is a member
+-- a live consumer reads from x: it is its own, or that of the writer group of which it is a member
 pub record IsReader (t : Tables) (x c : ℕ) : Type 0 where
   pub k : Consumer
   pub row : t.consumer c ≡ Some k

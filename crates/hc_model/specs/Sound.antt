@@ -102,14 +102,14 @@ pub data IsExclusiveWriter (t : Tables) (r : ℕ) (v : Representation) (c : ℕ)
   first : v.is_lost ≡ false → IsFirst t r c → IsExclusiveWriter t r v c
   alone : v.is_lost ≡ true → v.alone ≡ Some c → IsExclusiveWriter t r v c
 
--- a bound consumer to which no failure is due reads with others from a writing that is on, is the exclusive writer, or needs nothing more
+-- a bound consumer to which no failure is due reads with others in a writer group that is on, is the exclusive writer, or needs nothing more
 pub data IsServed (t : Tables) (r : ℕ) (v : Representation) (c : ℕ) (k : Consumer) : Type 0 where
   shares : is_written t v ≡ true → IsServed t r v c k
   writes : IsExclusiveWriter t r v c → IsServed t r v c k
   reads : (hi : ℕ) → hi_of t k.place ≡ Some hi → Covers v.stored (offset t k) hi →
       IsServed t r v c k
 
--- whose an open exchange about r is: the writing's, or the exclusive writer's, is bound to r and has nothing due
+-- whose an open exchange about r is: the writer group's, or the exclusive writer's, is bound to r and has nothing due
 pub data IsHad (t : Tables) (r : ℕ) (v : Representation) (x : ℕ) : Type 0 where
   shared : is_written t v ≡ true → v.writer ≡ Some x → IsHad t r v x
   own : (c : ℕ) (k : Consumer) → IsBound t r c k → own_open t k ≡ Some x → k.due ≡ None →
@@ -141,7 +141,7 @@ end_from from (Some n) = Some (from + n)
 abbrev pub promised_end : Exchange → Option ℕ
 promised_end w = end_from (base w) (promised_bytes w)
 
--- while the writing is on, just what its exchange has brought up to its front is stored, and it promises all that is missing
+-- while the writer group is on, just what its exchange has brought up to its front is stored, and it promises all that is missing
 pub record IsGrowing (t : Tables) (r : ℕ) (v : Representation) (x : ℕ) (w : Exchange) : Type 0 where
   pub row : t.exchange x ≡ Some w
   pub family_is : family x w ≡ r

@@ -20,7 +20,7 @@ pub data IsOwner (t : Tables) (x : ℕ) (w : Exchange) (c : ℕ) : Type 0 where
   alone : (v : Representation) → t.representation (family x w) ≡ Some v → v.alone ≡ Some c →
       IsOwner t x w c
 
--- whose an open exchange is: its consumer's, where it is of no representation; else that of the writing for several, or of
+-- whose an open exchange is: its consumer's, where it is of no representation; else that of the writer group, or of
 -- one who is bound to what it brings
 pub data IsSomebodys (t : Tables) (x : ℕ) (w : Exchange) : Type 0 where
   own : (k : Consumer) → t.representation (family x w) ≡ None → t.consumer w.c ≡ Some k →

@@ -101,7 +101,7 @@ fn report_offsets<B: Backend>(
         let c = entries.bound(r)[i];
         if let Some(consumer) = consumers.get(&c) {
             let offset = consumer.lo.saturating_add(consumer.given);
-            entries.note(r, c, offset);
+            entries.set_offset(r, c, offset);
         }
     }
 }

@@ -11,7 +11,7 @@ use Rattle.hc_rules.specs.declared.plan.Plan.TheVariants as plan
 use Rattle.hc_rules.specs.declared.plan.Candidate.{Candidate}
 use Rattle.hc_rules.specs.declared.plan.PlanView.{PlanView}
 
--- rows "total unknown" and "waits for the writing": no consumer has the number 0
+-- rows "total unknown" and "waits for the writer group": no consumer has the number 0
 abbrev pub busy : PlanView → Option ℕ → Plan
 busy v least = plan.Busy (unwrap_or least 0) v.kept
 
@@ -34,14 +34,14 @@ by_exclusive v s why span None = by_hole v s why span s.hole
 abbrev pub alone_on : PlanView → Candidate → Why → Span → Plan
 alone_on v s why span = by_exclusive v s why span s.exclusive
 
--- rows "total unknown", "unsatisfiable" and "waits for the writing"
+-- rows "total unknown", "unsatisfiable" and "waits for the writer group"
 abbrev pub by_wanted : PlanView → Candidate → Why → Wanted → Plan
 by_wanted v s why wants.TotalUnknown = busy v s.least_bound
 by_wanted v s why wants.Unsatisfiable = plan.Direct need.Unsatisfied
 by_wanted v s why (wants.Interval span) =
     if s.writer_group then busy v s.least_bound else alone_on v s why span
 
--- row "joins the writing": without a range, so none of the rows above it apply
+-- row "joins the writer group": without a range, so none of the rows above it apply
 abbrev pub plan_on : PlanView → Candidate → Why → Plan
 plan_on v s why =
     if is_none v.class.range && s.writer_group then plan.Bind why None

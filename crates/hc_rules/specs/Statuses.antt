@@ -1,4 +1,4 @@
--- The statuses of answers that may be stored. Nothing else says which they are: to store one more, it is said here.
+-- The statuses of answers that may be stored. RULES, FORMATS and the models name them too (CONTRIBUTING tells where).
 use Rattle.std.specs.Prelude.{ℕ, ◌==◌, Bool}
 
 -- An answer of this status brings a whole body, which may be stored (RFC 9110 section 15.3.1, RFC 9111 section 3).

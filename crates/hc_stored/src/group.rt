@@ -67,7 +67,7 @@ pub(crate) fn grow(group: &mut Option<Writers>, count: u64)
 }
 
 /// One stands there, if it reads along.
-pub(crate) fn note(group: &mut Option<Writers>, c: u64, offset: u64)
+pub(crate) fn set_offset(group: &mut Option<Writers>, c: u64, offset: u64)
     ensures { group.new ≡ option_map (moved_if_member c offset) group.old }
 {
     if let Some(writers) = group {

@@ -12,7 +12,7 @@ ghost use Rattle.hc_writers.specs.Group.{survivor};
 ghost use Rattle.std.specs.Option.{option_and_then};
 
 use crate::entry::Entry;
-use crate::group::{begin, exchange, grow, join, leave, lose, note};
+use crate::group::{begin, exchange, grow, join, leave, lose, set_offset};
 use crate::summary::HeadSummary;
 use crate::view::EntryView;
 use hc_record::{Kind, StoredHead};
@@ -139,12 +139,12 @@ impl Entry {
     }
 
     /// A consumer that reads along stands there.
-    pub(crate) fn note(&mut self, c: u64, offset: u64)
+    pub(crate) fn set_offset(&mut self, c: u64, offset: u64)
         ensures row { row_of self.new ≡ row_of self.old }
         ensures group { self.new.writers
             ≡ option_map (moved_if_member c offset) self.old.writers }
     {
-        note(&mut self.writers, c, offset);
+        set_offset(&mut self.writers, c, offset);
     }
 
     /// A write of it was refused while several read along. Who goes on, if anybody.

@@ -187,7 +187,7 @@ pub(crate) fn stand_in(rows: &mut HashMap<u64, Entry>, r: u64, c: u64, offset: u
         ≡ option_map (moved_if_member c offset) (group_at rows.old r) }
 {
     if let Some(entry) = rows.get_mut(&r) {
-        entry.note(c, offset);
+        entry.set_offset(c, offset);
     }
 }
 

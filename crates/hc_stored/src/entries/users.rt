@@ -92,7 +92,7 @@ impl<B: Backend> Entries<B> {
     }
 
     /// A consumer that reads the representation along stands there.
-    pub fn note(&mut self, r: u64, c: u64, offset: u64)
+    pub fn set_offset(&mut self, r: u64, c: u64, offset: u64)
         ensures stays { Stays (shelf_of self.old) (shelf_of self.new) }
         ensures faults { (shelf_of self.new).faults ≡ (shelf_of self.old).faults }
         ensures group { group_of self.new r

@@ -25,11 +25,11 @@ loop-i-preserved g c =
           let offset = w.saturating_add-offset.result in
           let at = subst (λ (xs : List ℕ). get nat_eq consumers (get_or xs i 0) ≡ Some k) bound_is
           (lent c.get.result (get nat_eq consumers (get_or cs i 0)) w.in-Some.consumer c.get.ensures.value w.in-Some.is) in
-          let reported = subst (λ (xs : List ℕ). group_of w.note.new.self r ≡ option_map (moved_if_member (get_or xs i 0) offset) (group_of mid r))
-          bound_is w.note.ensures.group in
+          let reported = subst (λ (xs : List ℕ). group_of w.set_offset.new.self r ≡ option_map (moved_if_member (get_or xs i 0) offset) (group_of mid r))
+          bound_is w.set_offset.ensures.group in
           subst (λ z. ReportedSoFar old z consumers r (i + 1)) (sym w.entries-is)
-          (reported_next old consumers r i 0 mid w.note.new.self within
-          before w.note.ensures.stays w.note.ensures.faults k offset at w.saturating_add-offset.ensures reported)
+          (reported_next old consumers r i 0 mid w.set_offset.new.self within
+          before w.set_offset.ensures.stays w.set_offset.ensures.faults k offset at w.saturating_add-offset.ensures reported)
       | in_default w ↦
           let gone = subst (λ (xs : List ℕ). get nat_eq consumers (get_or xs i 0) ≡ None) bound_is
           (sym c.get.ensures.value ∙ ap option_copied (none_is c.get.result w.in_default.not-Some)) in

@@ -1,5 +1,5 @@
 use Rattle.hc_stored.proofs.GroupLemmas.{reported_grouped}
-use Rattle.hc_stored.proofs.entry.Entry.note.Goals as goal
+use Rattle.hc_stored.proofs.entry.Entry.set_offset.Goals as goal
 
 pub invariant_of-self : goal.invariant_of-self
 invariant_of-self c =
@@ -7,5 +7,5 @@ invariant_of-self c =
     record {
       within = e.within;
       grouped =
-          λ on. rw (c.note.ensures) (reported_grouped e.lost c.args.c c.args.offset e.bound.items e.reach e.writers e.grouped on);
+          λ on. rw (c.set_offset.ensures) (reported_grouped e.lost c.args.c c.args.offset e.bound.items e.reach e.writers e.grouped on);
     }

@@ -78,7 +78,7 @@ pub record HasStored (t : Tables) (r p : ℕ) (cell : Cell) : Type 0 where
   pub row : t.representation r ≡ Some v
   pub stored : v.stored p ≡ Some cell
 
--- what is stored stays
+-- what the tables tell of a representation stays (what the store gave up too: that has no cell of a store here)
 abbrev pub GrowsStored : Tables → Tables → Type 0
 GrowsStored old new = (r p : ℕ) (cell : Cell) → HasStored old r p cell → HasStored new r p cell
 

@@ -19,7 +19,7 @@ use Rattle.hc_state.specs.{declared.{rows.Rows.{Rows}, founded.Founding.{Foundin
 use Rattle.hc_txn.specs.declared.transaction.Transaction.{Transaction as Consumer}
 use Rattle.hc_on_leave.proofs.{AnswerHandler.{reader_kept}, FoundHandler.{fallback, first, second, es, m, may_fallback, may_first, make_second, one_way, m_unfounded, m_asker, read_alone, founds_answered, lost_answered, full_reported}, HeardRows.{Asker, Headless, asker, headless_of, heard_row, runs_as}}
 use Rattle.hc_on_head.proofs.HeadReported.{past_of_runs}
-use Rattle.hc_state.proofs.{Maps.{known_of, merely_below, merely_false}, ReaderSteps.{stands_read}, Rooms.{room_is}}
+use Rattle.hc_state.proofs.{Maps.{known_of, merely_below, merely_false}, ReaderSteps.{stands_read}, Rooms.{room_is}, Classes.{class_is}}
 
 class_range : (request : Request) → (class_of request).range ≡ range_of request
 unfolding class_of
@@ -154,7 +154,7 @@ module _ {B : Type 0} {b : Ghosts B} (r r1 r2 r3 : Rows B b) (now x c : ℕ) (go
           founds_answered limits t facts now x response goes w its.v its.awaits g founds is gone same u n before mid (gives t facts stands w row) z
           reader.0 its.k h.o f reader.1
           (ap (λ (e : Exchanges). (table_of e x).running) u_exchanges ∙ h.there)
-          (ap (λ (e : RequestClass). e.range) its.is.class_is ∙ class_range its.v.request) made_it
+          (ap (λ (e : RequestClass). e.range) (class_is its.is) ∙ class_range its.v.request) made_it
           (subst (λ (d : ℕ). BeginsFounding u z x d f response) (sym (for_it t facts stands w row)) begins)
           (subst (λ (l : Limits). (shelf_of u.entries).used + 32768 ≤ l.max_total) (gives t facts stands w row).rows.limits fits)
 

@@ -23,7 +23,7 @@ use Rattle.hc_effects.proofs.{Bounded.{range_order}, Joining.{filling}, Exclusiv
 use Rattle.hc_state.specs.{declared.rows.Rows.{Rows}, Facts.{Facts}, Heads.{aim_in, kept_at, joins_kept, heard_view}, Kept.{IsRunning, KeepsConsumer, role_awaited}, Stands.{RowsStand}, Stored.{KeepsEntry, IsEntry, KnowsLength, reported, unreported}}
 use Rattle.hc_txn.specs.declared.transaction.Transaction.{Transaction as Consumer}
 use Rattle.hc_on_leave.proofs.{HeadCases.{case_same}, HeardRows.{Asker, runs_as}}
-use Rattle.hc_state.proofs.{Maps.{merely_true}, Ties.{kept_row}}
+use Rattle.hc_state.proofs.{Maps.{merely_true}, Ties.{kept_row}, Classes.{class_is}}
 
 -- THE RANGE
 
@@ -46,7 +46,7 @@ pub range_ordered : {B : Type 0} {g : Ghosts B} {limits : Limits} (r : Rows B g)
 unfolding class_of
 range_ordered r t c k at stands =
     let found = kept_row t k (t.consumer c) (subst (λ o. KeepsConsumer t o (t.consumer c)) at (stands.consumers c)) in
-    subst (λ (z : RequestClass). IfSome z.range IsInOrder) (sym found.2.class_is) (request_ordered found.0.request (range_of found.0.request) refl)
+    subst (λ (z : RequestClass). IfSome z.range IsInOrder) (sym (class_is found.2)) (request_ordered found.0.request (range_of found.0.request) refl)
 
 -- THE HOLE
 
@@ -185,7 +185,7 @@ module _ {B : Type 0} {g : Ghosts B} {limits : Limits} (r : Rows B g) (t : Table
 
   fits_is : fits_to_found a.k.class.range response ≡ fits_asker (t.consumer w.c) response
   unfolding class_of
-  fits_is = ap (λ (z : RequestClass). fits_to_found z.range response) a.is.class_is ∙
+  fits_is = ap (λ (z : RequestClass). fits_to_found z.range response) (class_is a.is) ∙
       sym (ap (λ (z : Option rows.Consumer). fits_asker z response) a.awaits.asker)
 
   -- but for whether a 304 selects what is stored

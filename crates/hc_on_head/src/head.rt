@@ -26,10 +26,10 @@ use crate::turn::validate;
 use crate::unstored::{answer_past, close_hole, go_past, put_down, start_anew};
 use hc_event::{Acts, Cause, Need, Response, is_safe};
 use hc_exch::Role;
+use hc_partial::{HoleAnswer, accepts};
 use hc_range::Span;
 use hc_rules::{
-    HeadCase, HeadView, HoleAnswer, fits_to_found, head_case, hole_answer, is_conditional,
-    is_storable, length_of,
+    HeadCase, HeadView, fits_to_found, head_case, is_conditional, is_storable, length_of,
 };
 use hc_state::Rows;
 use hc_store::Backend;
@@ -164,7 +164,7 @@ fn joins_hole<B: Backend>(rows: &Rows<B>, need: Need, aim: Option<u64>, response
     let (Some(tag), Some(total)) = (rows.entries.tag(r), entry.total) else {
         return false;
     };
-    let answer = hole_answer(tag, total, Span { lo: from, hi: to }, response);
+    let answer = accepts(tag, total, Span { lo: from, hi: to }, response);
     matches!(answer, HoleAnswer::Joins)
 }
 

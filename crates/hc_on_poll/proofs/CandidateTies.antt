@@ -21,7 +21,7 @@ use Rattle.hc_model.specs.Rows as rows
 use Rattle.hc_effects.proofs.{Bounded.{range_order}, Tests.{none_some}}
 use Rattle.hc_state.specs.{declared.rows.Rows.{Rows}, Candidates.{hole_in, AllowedIs}, Facts.{Facts}, Kept.{IsKept}, Leaving.{writer_group_of}, Stands.{RowsStand}, Stored.{IsEntry}}
 use Rattle.hc_txn.specs.declared.transaction.Transaction.{Transaction as Consumer}
-use Rattle.hc_state.proofs.{CurrentTies.{stored_ends, stays_stored, total_reported, entry_at}, LeftRows.{group_as}, TurnTies.{least_alike, filter_in, among_in}}
+use Rattle.hc_state.proofs.{CurrentTies.{stored_ends, stays_stored, total_reported, entry_at}, LeftRows.{group_as}, TurnTies.{least_alike, filter_in, among_in}, Classes.{class_is}}
 use Rattle.hc_on_poll.proofs.HoleTies.{hole_as}
 
 -- AGES
@@ -67,7 +67,7 @@ head_at_is o e head at is = some_is e.head (plain head) (sym (ap (option_map (λ
 
 -- the range that is kept of a request is in order
 pub in_order : (t : Tables) (k : Consumer) (v : rows.Consumer) → IsKept t k v → (asked : RangeSpec) → k.class.range ≡ Some asked → IsInOrder asked
-in_order t k v kept asked is = range_order v.request asked (sym (ap (λ (z : RequestClass). z.range) kept.class_is ∙ range_of_class v.request) ∙ is)
+in_order t k v kept asked is = range_order v.request asked (sym (ap (λ (z : RequestClass). z.range) (class_is kept) ∙ range_of_class v.request) ∙ is)
 
 -- WHO IS BOUND FIRST
 
@@ -164,7 +164,7 @@ module _ {B : Type 0} {g : Ghosts B} {limits : Limits} (r : Rows B g) (t : Table
       → seen ≡ candidate t now q v.request p
   seen_as seen view head allows viewed head_is varies wants hole_is writes alone least_is =
       let span : seen.span ≡ wanted_of (range_of v.request) p.head.total =
-      wants ∙ (ap (λ (z : RequestClass). wanted_of z.range view.total) is_kept.class_is
+      wants ∙ (ap (λ (z : RequestClass). wanted_of z.range view.total) (class_is is_kept)
       ∙ (ap (λ (o : Option RangeSpec). wanted_of o view.total) (range_of_class v.request)
       ∙ ap (wanted_of (range_of v.request)) (ap (λ (z : EntryView). z.total) (sym viewed) ∙ total_reported t q e p is stays))) in
       let allowed_is : seen.allowed ≡ allowed p.head v.request now =

@@ -20,7 +20,7 @@ use Rattle.hc_model.specs.Rows as rows
 use Rattle.hc_effects.proofs.{HoleEffects.{fills_first}, Tests.{and_false}}
 use Rattle.hc_state.specs.{declared.rows.Rows.{Rows}, Changes.{Numbered, ChangesAt, BecomesAt}, Kept.{IsKept, IsRunning, KeepsConsumer, KeepsExchange, KeepsRunning, answer_for, held_for}, Lines.{KeepsKey, is_away}, Plans.{is_idle_at, HasCurrent}, Stands.{Answered, RowsStand}}
 use Rattle.hc_txn.specs.{declared.transaction.Transaction.{Transaction as Consumer}, Transactions.{bound_first}}
-use Rattle.hc_state.proofs.{Answering.{does_answered}, Fallbacks.{answer_fallback}, FallbackSteps.{length_same, live_same}, ConsumerSteps.{keys_with}, Counting.{stands_counted}, CurrentTies.{IsNow, now_kept}, KeySteps.{not_lined, says_elsewhere, away_key}, OneOfEach.{stands_then}, QueueHandler.{becomes_by}, Ties.{key_same, overs_opened}}
+use Rattle.hc_state.proofs.{Answering.{does_answered}, Fallbacks.{answer_fallback}, FallbackSteps.{length_same, live_same}, ConsumerSteps.{keys_with}, Counting.{stands_counted}, CurrentTies.{IsNow, now_kept}, KeySteps.{not_lined, says_elsewhere, away_key}, OneOfEach.{stands_then}, QueueHandler.{becomes_by}, Ties.{key_same, overs_opened}, Classes.{class_is}}
 use Rattle.hc_on_poll.proofs.{BoundHandler.{held_bound, entry_first, entries_bound}, CandidateTies.{range_of_class}, OpenHandler.{unread_yet}, OpenKeys.{key_with_opening}, OpenKinds.{kinds_opened}, PassesHandler.{current_as}, PastHandler.{idle_reads, idle_lives}}
 
 -- nobody came to it alone
@@ -200,7 +200,7 @@ module _ {B : Type 0} {g : Ghosts B} {limits : Limits} (r : Rows B g) (e : Excha
       Answered limits faults u t before out now (event.Poll c want)
   filling_answered faults want before out from to hole total same_total wants is reported =
       let same : Opens x n request ≡ Opens x (need.Hole from to) request = ap (λ (y : Need). Opens x y request) hole in
-      let range : k.class.range ≡ range_of v.request = ap (λ (y : RequestClass). y.range) kept.class_is ∙ range_of_class v.request in
+      let range : k.class.range ≡ range_of v.request = ap (λ (y : RequestClass). y.range) (class_is kept) ∙ range_of_class v.request in
       let wanted_is : wanted_of (range_of v.request) at.p.head.total ≡ wanted.Interval span =
       ap (λ (y : Option RangeSpec). wanted_of y at.p.head.total) (sym range) ∙ (ap (wanted_of k.class.range) (sym (same_total ∙ ap total_in at.row)) ∙ wants) in
       does_answered limits faults u t (with_event now (event.Poll c want) s) before out (acts_of c (Opens x n request)) now (event.Poll c want)

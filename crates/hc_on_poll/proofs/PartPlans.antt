@@ -20,7 +20,7 @@ use Rattle.hc_state.specs.{declared.rows.Rows.{Rows}, Facts.{Facts}, Kept.{IsKep
 use Rattle.hc_txn.specs.{declared.transaction.Transaction.{Transaction as Consumer}, Transactions.{queues}}
 use Rattle.hc_on_poll.specs.Ready.{MayPass}
 use Rattle.hc_on_poll.proofs.{CandidateTies.{head_at_is, in_order, range_of_class}, HoleTies.{hole_inside}, PassesHandler.{current_as}, PlanHandlers.{found, waits_there, current_admits, plan_answers}}
-use Rattle.hc_state.proofs.{CurrentTies.{IsNow, now_kept, stays_stored, stored_ends, total_reported}, Maps.{known_of, some_that, merely_true, merely_within}, Ties.{kept_row}, TurnTies.{least_none, among_in, filter_in}, Words.{few_received}}
+use Rattle.hc_state.proofs.{CurrentTies.{IsNow, now_kept, stays_stored, stored_ends, total_reported}, Maps.{known_of, some_that, merely_true, merely_within}, Ties.{kept_row}, TurnTies.{least_none, among_in, filter_in}, Words.{few_received}, Classes.{class_is}}
 
 -- who fills a hole may ask the origin
 fills_asks : (view : PlanView) (span hole : Span) → plan_of view ≡ plan.FirstHole span hole → view.class.only ≡ false
@@ -65,7 +65,7 @@ module _ {B : Type 0} {g : Ghosts B} {limits : Limits} (r : Rows B g) (t : Table
   fields_are = sym (ap (λ (h : Head). h.fields) at.is.head) ∙ ap (λ (h : Head). h.fields) same_head
 
   pub range_is : k.class.range ≡ range_of v.request
-  range_is = ap (λ (z : RequestClass). z.range) kept.class_is ∙ range_of_class v.request
+  range_is = ap (λ (z : RequestClass). z.range) (class_is kept) ∙ range_of_class v.request
 
   -- a part of it that begins before it ends, by where what is wanted ends
   within : Numbers t → t.received < 2 ^ 62 → (span part : Span) → wanted_of (range_of v.request) at.p.head.total ≡ wanted.Interval span →
@@ -110,7 +110,7 @@ module _ {B : Type 0} {g : Ghosts B} {limits : Limits} (r : Rows B g) (t : Table
   module _ (span hole : Span) (f : IsFilling span hole) where
     -- it waits with others
     pub filling_queues : queues k ≡ true
-    filling_queues = ap (λ (z : RequestClass). not z.disabled && not z.only) kept.class_is ∙ rw (f.cached, f.asks) refl
+    filling_queues = ap (λ (z : RequestClass). not z.disabled && not z.only) (class_is kept) ∙ rw (f.cached, f.asks) refl
 
     pub filling_within : Numbers t → t.received < 2 ^ 62 → IsSomeAnd head.total (IsWithin hole)
     filling_within numbers few =

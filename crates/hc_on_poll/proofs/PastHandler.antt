@@ -15,7 +15,7 @@ use Rattle.hc_model.specs.Rows as rows
 use Rattle.hc_effects.proofs.PastEffects.{passes_by}
 use Rattle.hc_state.specs.{declared.rows.Rows.{Rows}, Handlers.{IsLeft, LeftIf, LeavesLine}, Changes.{Numbered, ChangesAt}, Kept.{IsKept, KeepsConsumer}, Lines.{KeepsKey}, Plans.{is_idle_at}, Stands.{Answered, RowsStand}}
 use Rattle.hc_txn.specs.{declared.transaction.Transaction.{Transaction as Consumer}, Transactions.{queues, reading_past}}
-use Rattle.hc_state.proofs.{Answering.{does_answered}, ConsumerSteps.{keys_with, key_with, key_stays}, Counting.{stands_counted}, KeySteps.{IsUnsaid, leaves_key, says_elsewhere, says_none, apart_unsaid, unqueued_unsaid}, Maps.{known_of}, QueueHandler.{becomes_by}}
+use Rattle.hc_state.proofs.{Answering.{does_answered}, ConsumerSteps.{keys_with, key_with, key_stays}, Counting.{stands_counted}, KeySteps.{IsUnsaid, leaves_key, says_elsewhere, says_none, apart_unsaid, unqueued_unsaid}, Maps.{known_of}, QueueHandler.{becomes_by}, Classes.{class_is}}
 use Rattle.hc_on_poll.proofs.{OpenHandler.{past}, OpenKeys.{key_opened}, OpenStands.{stands_opened}}
 
 -- WHO IS IDLE
@@ -34,7 +34,7 @@ idle_lives _ idle = false_true idle
 -- what is kept of its class says whether it waits with others
 pub queues_as : (t : Tables) (k : Consumer) (v : rows.Consumer) → IsKept t k v → queues k ≡ (not (is_disabled v.request) && not (is_only v.request))
 unfolding class_of
-queues_as t k v kept = ap (λ (z : RequestClass). not z.disabled && not z.only) kept.class_is
+queues_as t k v kept = ap (λ (z : RequestClass). not z.disabled && not z.only) (class_is kept)
 
 -- WHAT IS KEPT BY KEY
 

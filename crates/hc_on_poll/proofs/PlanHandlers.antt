@@ -28,7 +28,7 @@ use Rattle.hc_txn.specs.{declared.transaction.Transaction.{Transaction as Consum
 use Rattle.hc_state.specs.Reads as reads
 use Rattle.hc_on_poll.specs.Ready.{IsCurrentWith, MayAsk, MayLeaveLine, MayPass, MayQueue}
 use Rattle.hc_on_poll.proofs.{Accepted.{poll_lives}, CandidateTies.{head_at_is}, PassesHandler.{current_as}, PastHandler.{queues_as}, PlanTies.{plans_are, unlooked}, WaitHandlers.{plans_move}}
-use Rattle.hc_state.proofs.{CurrentTies.{now_kept, total_reported}, KeySteps.{lined}, Maps.{known_of, some_that, merely_true, merely_number}, ReaderSteps.{stands_read}, Ties.{kept_row}, TurnTies.{turn_with_is}, Words.{there}}
+use Rattle.hc_state.proofs.{CurrentTies.{now_kept, total_reported}, KeySteps.{lined}, Maps.{known_of, some_that, merely_true, merely_number}, ReaderSteps.{stands_read}, Ties.{kept_row}, TurnTies.{turn_with_is}, Words.{there}, Classes.{class_is}}
 use Rattle.hc_rules.proofs.RangeReads.{bytes_eq-same}
 
 -- WHO WAITS FOR ITS KEY
@@ -171,7 +171,7 @@ module _ {B : Type 0} {g : Ghosts B} {limits : Limits} (r : Rows B g) (t : Table
       unpassed on = by_place v.place refl
         where
           v_bypassing : is_bypassing v.request ≡ true
-          v_bypassing = sym (bypassing_as v.request) ∙ (sym (ap (λ (z : RequestClass). z.bypassing) kept.class_is) ∙ on)
+          v_bypassing = sym (bypassing_as v.request) ∙ (sym (ap (λ (z : RequestClass). z.bypassing) (class_is kept)) ∙ on)
 
           by_place : (p : Place) → v.place ≡ p → has_passed k.place ≡ false
           by_place (place.Passed q how) at = false_true (sym (facts.law.owned.passed c q how v row at) ∙ v_bypassing)
@@ -268,7 +268,7 @@ shown_alike a b why span ranged total fields = rw (total, fields) refl
 
 ranged_as : (k : Consumer) (v : rows.Consumer) (t : Tables) → IsKept t k v → planning.is_ranged v ≡ is_some k.class.range
 unfolding class_of
-ranged_as k v t kept = sym (ap (λ (z : RequestClass). is_some z.range) kept.class_is)
+ranged_as k v t kept = sym (ap (λ (z : RequestClass). is_some z.range) (class_is kept))
 
 binds_shows : (t : Tables) (v : rows.Consumer) (q : ℕ) (p : Representation) (why : Why) (head : Head) (span : Option Span) (k : Consumer) →
     t.representation q ≡ Some p → p.head.total ≡ head.total → p.head.fields ≡ head.fields → planning.is_ranged v ≡ is_some k.class.range →

@@ -15,7 +15,7 @@ use Rattle.hc_model.specs.Planning as planning
 use Rattle.hc_model.specs.Rows as rows
 use Rattle.hc_state.specs.{declared.rows.Rows.{Rows}, Kept.{IsKept}, Plans.{plan_view, looks_at_stored}, Stands.{RowsStand}}
 use Rattle.hc_txn.specs.declared.transaction.Transaction.{Transaction as Consumer}
-use Rattle.hc_state.proofs.TurnTies.{turn_with_is}
+use Rattle.hc_state.proofs.{TurnTies.{turn_with_is}, Classes.{class_is}}
 
 -- SINCE WHEN IT WAITS
 
@@ -143,7 +143,7 @@ module _ {B : Type 0} {g : Ghosts B} {limits : Limits} (r : Rows B g) (t : Table
       plan_of (record (plan_view r now c k) { current = o }) ≡ plan_of (record (planning.plan_view t now c v) { current = o })
   plans_are o =
       let turn : ℕ = unwrap_or (turn_with c (line_of r.keys k.request.key)) c in
-      since_unread (view_as k.class now k.since c k.place turn o) k.since v.since (since_is k.class kept.class_is)
-      ∙ (ap (λ (class : RequestClass). plan_of (view_as class now v.since c k.place turn o)) kept.class_is
+      since_unread (view_as k.class now k.since c k.place turn o) k.since v.since (since_is k.class (class_is kept))
+      ∙ (ap (λ (class : RequestClass). plan_of (view_as class now v.since c k.place turn o)) (class_is kept)
       ∙ (ap (λ (p : Place). plan_of (view_as (class_of v.request) now v.since c p turn o)) kept.place
       ∙ ap (λ (n : ℕ). plan_of (view_as (class_of v.request) now v.since c v.place n o)) turns_are))

@@ -22,7 +22,7 @@ use Rattle.hc_model.specs.Sound as sound
 use Rattle.hc_effects.proofs.{ShowEffects.{shows_reader}, Tests.{none_some}, Basics.{some_row}}
 use Rattle.hc_state.specs.{declared.rows.Rows.{Rows}, Changes.{ChangesAt}, Facts.{Facts}, Kept.{IsKept, answer_at, KeepsConsumer, KeepsExchange, KeepsRunning, held_for}, Leaving.{IsUserAt}, Reads.{IsUnshownBy, is_headless_open, waits_for_first, may_be_part, is_part, why_shown}, Stands.{RowsStand, Stands, Answered}, Stored.{IsEntry, KnowsLength, reported, unreported, KeepsEntry, is_first}}
 use Rattle.hc_txn.specs.{declared.transaction.Transaction.{Transaction as Consumer}, Transactions.{once_shown}}
-use Rattle.hc_state.proofs.{Answering.{does_answered}, Counting.{stands_counted}, QueueHandler.{becomes_by}, ReaderSteps.{held_same, exchange_reading, stands_reading}, Ties.{kept_row}, Unbinding.{user_kept}, Words.{few_received}}
+use Rattle.hc_state.proofs.{Answering.{does_answered}, Counting.{stands_counted}, QueueHandler.{becomes_by}, ReaderSteps.{held_same, exchange_reading, stands_reading}, Ties.{kept_row}, Unbinding.{user_kept}, Words.{few_received}, Classes.{class_is}}
 use Rattle.hc_on_poll.proofs.{ReadLemmas.{first_is, second_is}, WaitHandlers.{head_waits}}
 
 -- WHO IS BOUND
@@ -200,7 +200,7 @@ module _ (t : Tables) {limits : _} (facts : Facts limits t) (c q : ℕ) (how : B
         both false b h = false_true h
 
         ranged : is_ranged rd.v ≡ true
-        ranged = ap (λ (z : RequestClass). is_some z.range) (sym rd.kept.class_is) ∙ (both (is_some k.class.range) (may_be_part how e.head.status) on).0
+        ranged = ap (λ (z : RequestClass). is_some z.range) (sym (class_is rd.kept)) ∙ (both (is_some k.class.range) (may_be_part how e.head.status) on).0
 
         known : rd.p.head.total ≡ Some n
         known = sym (total_is unshown) ∙ total
@@ -374,7 +374,7 @@ module _ {B : Type 0} {g : Ghosts B} {limits : Limits} (r : Rows B g) (t : Table
 
     ranged_is : is_some k.class.range ≡ is_ranged rd.v
     unfolding class_of
-    ranged_is = ap (λ (z : RequestClass). is_some z.range) rd.kept.class_is
+    ranged_is = ap (λ (z : RequestClass). is_some z.range) (class_is rd.kept)
 
     begins_at : k.lo ≡ rd.lo
     begins_at = rd.kept.begins ∙ ap (lo_of t) rd.at

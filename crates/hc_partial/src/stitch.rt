@@ -1,5 +1,5 @@
 //! A span that is read in part from the store and in part from the origin.
-ghost use Rattle.std.specs.Prelude.{◌≡◌, Ok};
+ghost use Rattle.std.specs.Prelude.{◌≡◌};
 ghost use Rattle.hc_etag.specs.Tags.{value_of};
 ghost use Rattle.hc_rules.specs.Joins.{hole_answer};
 ghost use Rattle.hc_partial.specs.Parts.{next_part};
@@ -10,7 +10,6 @@ use hc_event::Response;
 use hc_range::Span;
 use hc_rules::{HoleAnswer, hole_answer};
 use hc_sparse::Presence;
-use hc_text::NoMemory;
 
 /// How far a span is read. Positions are those of its representation.
 #[derive(Clone, Copy, Debug, PartialEq, Eq)]
@@ -56,9 +55,9 @@ pub fn next<P: Presence>(stitch: &Stitch, store: &P) -> Part
 }
 
 /// What the answer is to the hole of a representation with this tag, whose whole length is `total`
-/// bytes (RFC 9110 section 15.3.7.3). It needs no memory.
-pub fn accepts(tag: &Tag, total: u64, hole: Span, answer: &Response) -> Result<HoleAnswer, NoMemory>
-    ensures { result ≡ Ok (hole_answer (value_of tag.now) total hole answer.now) }
+/// bytes (RFC 9110 section 15.3.7.3).
+pub fn accepts(tag: &Tag, total: u64, hole: Span, answer: &Response) -> HoleAnswer
+    ensures { result ≡ hole_answer (value_of tag.now) total hole answer.now }
 {
-    Ok(hole_answer(tag, total, hole, answer))
+    hole_answer(tag, total, hole, answer)
 }

@@ -1,3 +1,4 @@
+pub mod Classes
 pub mod Words
 pub mod Beside
 pub mod Ties

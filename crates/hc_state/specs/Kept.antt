@@ -1,7 +1,7 @@
 -- What is kept of consumers and exchanges is what the tables say of them.
 use Rattle.std.specs.Prelude.{◌≡◌, ℕ, ◌-◌, List, [], length, drop, Bool, true, false, Option, Some, None, is_some, is_none, if◌then◌else◌, ◌==◌, ◌&&◌}
 use Rattle.hc_event.specs.declared.event.Response.{Response}
-use Rattle.hc_rules.specs.Requests.{class_of, is_disabled, is_only}
+use Rattle.hc_rules.specs.Requests.{is_disabled, is_only}
 use Rattle.hc_event.specs.declared.place.Place.{Place}
 use Rattle.hc_event.specs.declared.place.Place.TheVariants as place
 use Rattle.hc_model.specs.Rows as rows
@@ -39,7 +39,6 @@ answer_for t v = if v.shown then None else answer_at t v.place
 pub record IsKept (t : Tables) (k : Consumer) (v : rows.Consumer) : Type 0 where
   pub is_there : is_live_place v.place ≡ true
   pub request : k.request ≡ v.request
-  pub class_is : k.class ≡ class_of v.request
   pub since : is_disabled v.request ≡ false → is_only v.request ≡ false → k.since ≡ v.since
   pub place : k.place ≡ v.place
   pub own : k.own ≡ v.own

@@ -33,5 +33,5 @@ fn report_answer(v: &Vector, to: &mut String) -> Result<(), Fault> {
     };
     let tag = read_tag(v.alloc(), v.text(3))?.ok_or(Fault::NoSuchCall)?;
     let answer = response_of(v.number(4), v, 5)?;
-    note(&accepts(&tag, v.number(2), hole, &answer)?, to)
+    note(&accepts(&tag, v.number(2), hole, &answer), to)
 }

@@ -1,5 +1,5 @@
 -- A transaction, and how it changes.
-use Rattle.std.specs.Prelude.{ℕ, ◌+◌, refl, Bool, true, false, Option, Some, None, is_some, if◌then◌else◌, ◌==◌, ◌&&◌, not}
+use Rattle.std.specs.Prelude.{ℕ, ◌+◌, refl, Bool, true, false, Option, Some, None, is_some, if◌then◌else◌, ◌&&◌, not}
 use Rattle.std.specs.Option.{option_or}
 use Rattle.hc_range.specs.declared.range.Span.{Span}
 use Rattle.hc_rules.specs.Requests.{class_of}
@@ -28,6 +28,7 @@ begun request now = record {
   hi = None;
   given = 0;
   due = None;
+  classed = refl;
   reported = refl;
 }
 
@@ -42,9 +43,6 @@ has_passed _ = false
 abbrev pub kept_by : Place → Option ℕ
 kept_by (place.Passed r kept) = kept
 kept_by _ = None
-
-abbrev pub stands_at : ℕ → Transaction → Bool
-stands_at end k = k.lo + k.given == end
 
 -- HOW IT CHANGES
 

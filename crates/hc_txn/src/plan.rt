@@ -4,10 +4,9 @@ ghost use Rattle.hc_range.specs.Spans.{IsInOrder};
 ghost use Rattle.hc_record.specs.Plain.{plain};
 ghost use Rattle.hc_fresh.specs.Facts.{head_facts};
 ghost use Rattle.hc_rules.specs.Plans.{plan_of};
-ghost use Rattle.hc_txn.specs.Views.{users_of, candidate_by, hole_in, plan_view_by};
+ghost use Rattle.hc_txn.specs.Views.{candidate_by, hole_in, plan_view_by};
 
 use crate::transaction::Transaction;
-use hc_entry::ActiveEntry;
 use hc_fresh::{HeadFacts, allowed_to, vary_matches};
 use hc_partial::first_hole;
 use hc_range::Span;
@@ -24,19 +23,6 @@ pub struct Users {
     pub exclusive: Option<u64>,
     /// The least consumer that is bound to it.
     pub least_bound: Option<u64>,
-}
-
-impl Users {
-    /// Those of an entry.
-    pub fn of(entry: &ActiveEntry) -> Users
-        ensures { result ≡ users_of entry.now }
-    {
-        Users {
-            writer_group: entry.is_group(),
-            exclusive: entry.exclusive(),
-            least_bound: entry.least_bound(),
-        }
-    }
 }
 
 impl Transaction {

@@ -1,6 +1,7 @@
 //! What is kept of a live consumer.
 ghost use Rattle.std.specs.Prelude.{◌≡◌, ◌+◌, ◌<◌, ◌^◌, IfOk};
 ghost use Rattle.hc_fresh.specs.Facts.{request_facts};
+ghost use Rattle.hc_rules.specs.Requests.{class_of};
 
 use hc_event::{Cause, Place, Request, Response};
 use hc_fresh::RequestFacts;
@@ -33,11 +34,12 @@ pub struct Transaction {
     pub given: u64,
     /// The failure that is due.
     pub due: Option<Cause>,
+    ghost classed: { class ≡ class_of request },
     ghost reported: { facts ≡ request_facts request },
 }
 
 impl Transaction {
-    ghost use Rattle.hc_txn.specs.Transactions.{begun, queues, has_passed, kept_by, stands_at};
+    ghost use Rattle.hc_txn.specs.Transactions.{begun, queues, has_passed, kept_by};
 
     /// It stands in line, or reads nothing yet.
     pub fn new(request: &Request, now: u64) -> Result<Transaction, NoMemory>
@@ -90,12 +92,5 @@ impl Transaction {
         ensures { result ≡ self.now.lo + self.now.given }
     {
         self.lo + self.given
-    }
-
-    /// Whether it stands there in what it reads.
-    pub fn stands_at(&self, end: u64) -> bool
-        ensures { result ≡ stands_at end self.now }
-    {
-        self.lo <= end && self.given == end - self.lo
     }
 }

@@ -9,7 +9,7 @@ returns-in-Joins g c =
     let b = c.in-Some-Some in
     joins_at (shelf_of c.args.rows.now.entries) c.args.need c.args.aim a.from a.to a.r c.args.response.now _ a.is-0 a.is-1
     (joins_of_kept _ a.from a.to b.total c.in-Some.entry b.tag.now c.args.response.now _ c.in-Some.ensures b.ensures.value b.ensures.strong b.is-1
-    (joins_reported _ b.total _ c.args.response.now (sym c.hole_answer-answer.ensures ∙ c.in-Joins.is)))
+    (joins_reported _ b.total _ c.args.response.now (sym c.accepts-answer.ensures ∙ c.in-Joins.is)))
 
 pub returns-in_default-matches : goal.returns-in_default-matches
 returns-in_default-matches g c =
@@ -17,4 +17,4 @@ returns-in_default-matches g c =
     let b = c.in-Some-Some in
     joins_at (shelf_of c.args.rows.now.entries) c.args.need c.args.aim a.from a.to a.r c.args.response.now _ a.is-0 a.is-1
     (joins_of_kept _ a.from a.to b.total c.in-Some.entry b.tag.now c.args.response.now _ c.in-Some.ensures b.ensures.value b.ensures.strong b.is-1
-    (joins_not _ b.total _ c.args.response.now (λ is. c.in_default-matches.not-Joins (c.hole_answer-answer.ensures ∙ is))))
+    (joins_not _ b.total _ c.args.response.now (λ is. c.in_default-matches.not-Joins (c.accepts-answer.ensures ∙ is))))

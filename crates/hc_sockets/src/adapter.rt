@@ -4,7 +4,8 @@ ghost use Rattle.hc_wire.specs.Events.{Unseen, IsOfOpen, FitsIn, stages_after};
 ghost use Rattle.hc_wire.specs.Wires.{HasRisen};
 ghost use Rattle.hc_sockets.specs.Sockets.{stage_at, life, event_or_quiet, IsBelow, accepts};
 
-use crate::socket::Socket;
+use crate::patience::Patience;
+use crate::socket::{Side, Socket};
 use crate::table::Table;
 use hc_text::Bytes;
 use hc_wire::{Address, MOST_EVENTS, Wire, WireError, WireEvent};
@@ -15,7 +16,7 @@ use std::io;
 use std::io::ErrorKind;
 use std::net::{Ipv4Addr, Net, SocketAddr};
 use std::rt::Clock;
-use std::time::{Duration, SystemTime, UNIX_EPOCH};
+use std::time::{Duration, Instant, SystemTime, UNIX_EPOCH};
 
 /// The token of the listener. Connections have their numbers, from 0, which are below it.
 const LISTENER: Token = Token(usize::MAX);
@@ -43,6 +44,8 @@ struct Bound {
     ready: Events,
     listener: Option<TcpListener>,
     origin: Option<Address>,
+    /// When that was.
+    since: Instant,
 }
 
 /// What came of a try to accept a client.
@@ -60,6 +63,7 @@ enum Accept {
 #[derive(Drop)]
 pub struct MioWire<R: Net + Clock + AllocGlobal + Drop> {
     rt: R,
+    patience: Patience,
     bound: Option<Bound>,
     /// Clients may wait to be accepted.
     acceptable: bool,
@@ -77,14 +81,23 @@ pub struct MioWire<R: Net + Clock + AllocGlobal + Drop> {
 }
 
 impl<R: Net + Clock + AllocGlobal + Drop> MioWire<R> {
-    /// Opens nothing: `bind` does.
+    /// Opens nothing: `bind` does. It waits for ever.
     pub fn new(rt: R) -> MioWire<R>
+        ensures faults { ⟦<MioWire<R> as Wire>⟧.faults result ≡ 0 }
+        ensures unseen { (k : ℕ) → ⟦<MioWire<R> as Wire>⟧.stages result k ≡ Unseen }
+    {
+        MioWire::with_patience(rt, Patience::endless())
+    }
+
+    /// Opens nothing: `bind` does. Whom it waits for too long is told to be broken.
+    pub fn with_patience(rt: R, patience: Patience) -> MioWire<R>
         ensures faults { ⟦<MioWire<R> as Wire>⟧.faults result ≡ 0 }
         ensures unseen { (k : ℕ) → ⟦<MioWire<R> as Wire>⟧.stages result k ≡ Unseen }
     {
         let table = Table::new(rt.alloc());
         MioWire {
             rt,
+            patience,
             bound: None,
             acceptable: false,
             table,
@@ -125,7 +138,8 @@ impl<R: Net + Clock + AllocGlobal + Drop> MioWire<R> {
         let Some(bound) = &self.bound else {
             return Ok(None);
         };
-        if self.acceptable && self.next < u64::MAX {
+        let open = self.acceptable && self.next < u64::MAX;
+        if open && self.table.makes_way(self.patience.clients) {
             match accept_from(bound, self.rt.alloc(), &mut self.table, self.next)? {
                 Accept::One => {
                     let k = self.next;
@@ -153,6 +167,9 @@ impl<R: Net + Clock + AllocGlobal + Drop> MioWire<R> {
         let limit = Duration::from_millis(if wait { WAIT } else { 0 });
         if bound.poll.poll(&mut bound.ready, Some(limit)).is_err() {
             return false;
+        }
+        if let Ok(passed) = bound.since.elapsed(&self.rt) {
+            self.table.pass(passed.as_secs(), &self.patience);
         }
         if mark_all(&bound.ready, &mut self.table) {
             self.acceptable = true;
@@ -239,7 +256,7 @@ impl<R: Net + Clock + AllocGlobal + Drop> Wire for MioWire<R> {
             return Err(self.fail());
         };
         let stream = registered(bound, k, TcpStream::connect(&self.rt, socket_of(origin)));
-        let socket = Socket::new(self.rt.alloc(), stream);
+        let socket = Socket::new(self.rt.alloc(), stream, Side::Origin, self.table.now());
         self.table.insert(k, socket)?;
         self.next += 1;
         Ok(k)
@@ -290,12 +307,13 @@ fn socket_of(address: Address) -> SocketAddr {
 }
 
 /// Nothing is told yet.
-fn open<R: Net>(rt: &R, ready: Events) -> io::Result<Bound> {
+fn open<R: Net + Clock>(rt: &R, ready: Events) -> io::Result<Bound> {
     Ok(Bound {
         poll: Poll::new(rt)?,
         ready,
         listener: None,
         origin: None,
+        since: Instant::now(rt)?,
     })
 }
 
@@ -346,7 +364,8 @@ fn accept_from(
     };
     match listener.accept() {
         Ok((stream, _)) => {
-            let socket = Socket::new(alloc, registered(bound, k, Ok(stream)));
+            let stream = registered(bound, k, Ok(stream));
+            let socket = Socket::new(alloc, stream, Side::Client, table.now());
             table.insert(k, socket)?;
             Ok(Accept::One)
         }

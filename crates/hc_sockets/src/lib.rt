@@ -3,7 +3,9 @@
 
 mod adapter;
 mod held;
+mod patience;
 mod socket;
 mod table;
 
 pub use adapter::MioWire;
+pub use patience::Patience;

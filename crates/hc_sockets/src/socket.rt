@@ -4,6 +4,7 @@ ghost use Rattle.hc_wire.specs.Events.{FitsIn};
 ghost use Rattle.hc_sockets.specs.Sockets.{IsOf, KeepsStage, ends_by};
 
 use crate::held::Held;
+use crate::patience::Patience;
 use hc_text::{Bytes, NoMemory};
 use hc_wire::WireEvent;
 use mio::event::Event;
@@ -19,7 +20,12 @@ const HOLD: usize = 65_536;
 pub(crate) struct Socket {
     /// None where it could not be made.
     stream: Option<TcpStream>,
+    side: Side,
     held: Held,
+    /// The second from which on it is waited for.
+    since: u64,
+    /// Bytes of it came since its reading was turned on.
+    begun: bool,
     /// The system may have bytes of it.
     readable: bool,
     /// The other side has told its end.
@@ -47,6 +53,15 @@ pub(crate) struct Socket {
     pub(crate) closed: bool,
 }
 
+/// Who made a connection.
+#[derive(Clone, Copy, Debug, PartialEq, Eq)]
+pub(crate) enum Side {
+    /// The other side: a client was accepted.
+    Client,
+    /// This side dialled.
+    Origin,
+}
+
 /// What is to be noted of a connection.
 #[derive(Clone, Copy)]
 pub(crate) struct News {
@@ -63,8 +78,8 @@ pub(crate) const NO_NEWS: News = News {
 };
 
 impl Socket {
-    /// A connection that isn't closed. Without a stream it is broken.
-    pub(crate) fn new(alloc: Global, stream: Option<TcpStream>) -> Socket
+    /// A connection that isn't closed, made in this second. Without a stream it is broken.
+    pub(crate) fn new(alloc: Global, stream: Option<TcpStream>, side: Side, now: u64) -> Socket
         ensures closed { result.closed ≡ false }
         ensures reads { result.reads ≡ true }
         ensures ended { result.ended ≡ false }
@@ -72,7 +87,10 @@ impl Socket {
         let broken = stream.is_none();
         Socket {
             stream,
+            side,
             held: Held::new(alloc),
+            since: now,
+            begun: false,
             readable: false,
             ending: false,
             at_end: false,
@@ -90,10 +108,14 @@ impl Socket {
         }
     }
 
-    /// What the system tells of it.
-    pub(crate) fn mark(&mut self, event: &Event)
+    /// What the system tells of it in this second.
+    pub(crate) fn mark(&mut self, event: &Event, now: u64)
         ensures { KeepsStage self.old self.new }
     {
+        // What a client has begun may come a byte at a time, and still has one limit.
+        if self.side == Side::Origin || !self.begun {
+            self.since = now;
+        }
         if event.is_readable() || event.is_read_closed() || event.is_error() {
             self.readable = true;
         }
@@ -176,6 +198,52 @@ impl Socket {
         self.short && !self.blocked && self.is_sent() && !self.broken
     }
 
+    /// Whether it was waited for too long by this second.
+    pub(crate) fn is_late(&self, now: u64, patience: &Patience) -> bool {
+        let limit = match self.side {
+            Side::Origin => patience.origin,
+            Side::Client if self.begun => patience.head,
+            Side::Client => patience.idle,
+        };
+        self.is_awaited() && now.saturating_sub(self.since) >= limit
+    }
+
+    /// Whether the next bytes are to come from the other side.
+    fn is_awaited(&self) -> bool {
+        self.reads
+            && !self.ended
+            && !self.broken
+            && !self.closed
+            && (self.side == Side::Origin || self.held.is_empty())
+    }
+
+    /// Whether it is a client, from whose connecting on until it is closed.
+    pub(crate) fn is_client(&self) -> bool {
+        self.side == Side::Client && !self.closed
+    }
+
+    /// Whether it is a client that has no request under way.
+    pub(crate) fn is_idle(&self) -> bool {
+        self.side == Side::Client && !self.begun && self.is_awaited()
+    }
+
+    /// Whether it is a client that is broken, and isn't closed yet.
+    pub(crate) fn is_leaving(&self) -> bool {
+        self.broken && self.is_client()
+    }
+
+    /// The second from which on it is waited for.
+    pub(crate) fn since(&self) -> u64 {
+        self.since
+    }
+
+    /// It isn't waited for any more.
+    pub(crate) fn give_up(&mut self)
+        ensures { KeepsStage self.old self.new }
+    {
+        self.broken = true;
+    }
+
     /// Whether it is closed, and has nothing to send.
     pub(crate) fn is_over(&self) -> bool
         ensures { result ≡ true → self.now.closed ≡ true }
@@ -208,7 +276,10 @@ impl Socket {
                     self.ended = true;
                     return Some(WireEvent::Ended(k));
                 }
-                Some(n) => return Some(WireEvent::Got(k, n)),
+                Some(n) => {
+                    self.begun = true;
+                    return Some(WireEvent::Got(k, n));
+                }
                 None => {}
             }
         }
@@ -329,12 +400,16 @@ impl Socket {
         }
     }
 
-    /// Reading is on or off.
-    pub(crate) fn set_reading(&mut self, on: bool)
+    /// Reading is on or off, from this second on.
+    pub(crate) fn set_reading(&mut self, on: bool, now: u64)
         ensures closed { self.new.closed ≡ self.old.closed }
         ensures reads { self.new.reads ≡ on }
         ensures ended { self.new.ended ≡ self.old.ended }
     {
+        if on != self.reads {
+            self.since = now;
+            self.begun = false;
+        }
         self.reads = on;
         self.look_for_end();
     }

@@ -4,6 +4,7 @@ ghost use Rattle.std.specs.Prelude.{◌≡◌, ◌<◌, ◌≤◌, ◌==◌, ℕ
 ghost use Rattle.hc_wire.specs.Events.{Closed, Fresh, FitsIn, with_stage, closed_of, reading_of};
 ghost use Rattle.hc_sockets.specs.Sockets.{life, life_of, lives_after, IsOfLive};
 
+use crate::patience::Patience;
 use crate::socket::{NO_NEWS, News, Socket};
 use hc_text::{Bytes, NoMemory};
 use hc_wire::WireEvent;
@@ -30,6 +31,8 @@ pub(crate) struct Table {
     unsent: VecDeque<Unsent>,
     /// How many calls of `next` there were.
     calls: u64,
+    /// How many seconds have passed.
+    now: u64,
 }
 
 impl Table {
@@ -43,6 +46,7 @@ impl Table {
             missed: false,
             unsent: VecDeque::new(alloc),
             calls: 0,
+            now: 0,
         }
     }
 
@@ -61,6 +65,84 @@ impl Table {
         Ok(())
     }
 
+    /// How many seconds have passed.
+    pub(crate) fn now(&self) -> u64 {
+        self.now
+    }
+
+    /// So many seconds have passed: who was waited for too long is taken for broken.
+    pub(crate) fn pass(&mut self, now: u64, patience: &Patience)
+        ensures { (j : ℕ) → life self.new.sockets j ≡ life self.old.sockets j }
+    {
+        if now <= self.now {
+            return;
+        }
+        self.now = now;
+        for _ in 0..u64::MAX {
+            let Some(k) = self.late_one(patience) else {
+                break;
+            };
+            self.give_up(k);
+        }
+    }
+
+    /// One that was waited for too long.
+    fn late_one(&self, patience: &Patience) -> Option<u64> {
+        let now = self.now;
+        let (k, _) = self
+            .sockets
+            .iter()
+            .find(|entry| entry.1.is_late(now, patience))?;
+        Some(*k)
+    }
+
+    /// It is taken for broken.
+    fn give_up(&mut self, k: u64)
+        ensures { (j : ℕ) → life self.new.sockets j ≡ life self.old.sockets j }
+    {
+        let due = give_up_in(&mut self.sockets, k);
+        self.queue(k, due);
+    }
+
+    /// Whether one more client may be accepted. Where as many are connected as may be, the idlest is taken
+    /// for broken, and one more is accepted once that is closed. Where none is idle, one more may come too.
+    pub(crate) fn makes_way(&mut self, most: usize) -> bool
+        ensures { (j : ℕ) → life self.new.sockets j ≡ life self.old.sockets j }
+    {
+        if self.sockets.len() < most || self.clients() < most {
+            return true;
+        }
+        if self.sockets.values().any(|socket| socket.is_leaving()) {
+            return false;
+        }
+        match self.idlest() {
+            Some(k) => {
+                self.give_up(k);
+                false
+            }
+            None => true,
+        }
+    }
+
+    /// How many clients are connected.
+    fn clients(&self) -> usize {
+        self.sockets
+            .values()
+            .filter(|socket| socket.is_client())
+            .count()
+    }
+
+    /// The client without a request under way that is waited for longest.
+    fn idlest(&self) -> Option<u64> {
+        let mut found: Option<(u64, u64)> = None;
+        for (k, socket) in self.sockets.iter() {
+            if socket.is_idle() && found.is_none_or(|least| socket.since() < least.0) {
+                found = Some((socket.since(), *k));
+            }
+        }
+        Some(found?.1)
+    }
+
     /// Lists the connection where an event of it is due.
     fn queue(&mut self, k: u64, due: bool)
         ensures { self.new.sockets ≡ self.old.sockets }
@@ -74,7 +156,7 @@ impl Table {
     pub(crate) fn mark(&mut self, k: u64, event: &Event)
         ensures { (j : ℕ) → life self.new.sockets j ≡ life self.old.sockets j }
     {
-        let due = mark_in(&mut self.sockets, k, event);
+        let due = mark_in(&mut self.sockets, k, event, self.now);
         self.queue(k, due);
     }
 
@@ -203,7 +285,7 @@ impl Table {
         ensures { (j : ℕ) → life self.new.sockets j
             ≡ with_stage k (reading_of on (life self.old.sockets k)) (life self.old.sockets) j }
     {
-        let due = read_in(&mut self.sockets, k, on);
+        let due = read_in(&mut self.sockets, k, on, self.now);
         self.queue(k, due);
     }
 
@@ -218,17 +300,28 @@ impl Table {
 }
 
 /// What the system tells of it. Whether an event of it is due that isn't noted yet. Then it is noted.
-fn mark_in(sockets: &mut HashMap<u64, Socket>, k: u64, event: &Event) -> bool
+fn mark_in(sockets: &mut HashMap<u64, Socket>, k: u64, event: &Event, now: u64) -> bool
     ensures { (j : ℕ) → life sockets.new j ≡ life sockets.old j }
 {
     let Some(socket) = sockets.get_mut(&k) else {
         return false;
     };
-    socket.mark(event);
+    socket.mark(event, now);
     if socket.is_over() {
         sockets.remove(&k);
         return false;
     }
+    socket.note_due()
+}
+
+/// It is taken for broken. Whether an event of it is due that isn't noted yet. Then it is noted.
+fn give_up_in(sockets: &mut HashMap<u64, Socket>, k: u64) -> bool
+    ensures { (j : ℕ) → life sockets.new j ≡ life sockets.old j }
+{
+    let Some(socket) = sockets.get_mut(&k) else {
+        return false;
+    };
+    socket.give_up();
     socket.note_due()
 }
 
@@ -316,14 +409,14 @@ fn flush_in(sockets: &mut HashMap<u64, Socket>, k: u64) -> bool
 
 /// Reading of the connection is on or off. Whether an event of it is due that isn't noted yet. Then it
 /// is noted.
-fn read_in(sockets: &mut HashMap<u64, Socket>, k: u64, on: bool) -> bool
+fn read_in(sockets: &mut HashMap<u64, Socket>, k: u64, on: bool, now: u64) -> bool
     ensures { (j : ℕ) → life sockets.new j
         ≡ with_stage k (reading_of on (life sockets.old k)) (life sockets.old) j }
 {
     let Some(socket) = sockets.get_mut(&k) else {
         return false;
     };
-    socket.set_reading(on);
+    socket.set_reading(on, now);
     socket.note_due()
 }
 

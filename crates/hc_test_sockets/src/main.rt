@@ -7,6 +7,7 @@ mod end;
 mod fault;
 mod held;
 mod hidden;
+mod patience;
 mod pattern;
 mod quiet;
 mod refused;
@@ -28,5 +29,6 @@ fn main(rt: HostRuntime) -> Result<(), Fault> {
     hidden::flood(&rt)?;
     reset::cut_unread(&rt)?;
     end::end_unread(&rt)?;
+    patience::lose(&rt)?;
     refused::dial_in_vain(&rt)
 }

@@ -2,7 +2,7 @@
 ghost use Rattle.std.specs.Prelude.{◌<◌, length};
 
 use crate::fault::Fault;
-use hc_sockets::MioWire;
+use hc_sockets::{MioWire, Patience};
 use hc_wire::{Address, Wire, WireEvent};
 use std::net::Net;
 use std::rt::Clock;
@@ -13,13 +13,23 @@ const PORTS: u16 = 1_000;
 /// How many events are waited for, each a while.
 const EVENTS: u32 = 100;
 
-/// A wire that listens, at a port from this one on, and one whose origin that is.
+/// A wire that listens, at a port from this one on, and one whose origin that is. Both wait for ever.
 pub(crate) fn bound<R: Net + Clock + AllocGlobal + Clone + Drop>(
     rt: &R,
     first: u16,
 ) -> Result<(MioWire<R>, MioWire<R>), Fault> {
-    let mut near = MioWire::new(rt.clone()?);
-    let mut far = MioWire::new(rt.clone()?);
+    between(rt, first, Patience::endless(), Patience::endless())
+}
+
+/// The same with so much patience.
+pub(crate) fn between<R: Net + Clock + AllocGlobal + Clone + Drop>(
+    rt: &R,
+    first: u16,
+    of_near: Patience,
+    of_far: Patience,
+) -> Result<(MioWire<R>, MioWire<R>), Fault> {
+    let mut near = MioWire::with_patience(rt.clone()?, of_near);
+    let mut far = MioWire::with_patience(rt.clone()?, of_far);
     let address = listen(&mut near, first)?;
     far.bind(None, Some(address))?;
     Ok((near, far))

@@ -19,7 +19,7 @@ use Rattle.hc_effects.proofs.FoundBy as cases
 use Rattle.hc_state.specs.{declared.rows.Rows.{Rows}, Handlers.{IsInKey}, Facts.{Facts}, Founding.{MayFound}, Heads.{aim_in, kept_at, heard_view, changes_by, is_past_case, is_bad_case, IsPastStore, puts_down, goes_past, starts_anew, let_go_by, goes_with}, Kept.{IsRunning}, Lines.{is_away, is_away_at}, Stands.{RowsStand, Stands}}
 use Rattle.hc_txn.specs.declared.transaction.Transaction.{Transaction as Consumer}
 use Rattle.hc_on_leave.proofs.{HeadCases.{it_is}, HeardRows.{Asker, Headless, asker, headless_of, heard_row, runs_as}, UnstoredHandlers.{awaits_viewed}}
-use Rattle.hc_on_head.specs.Comings.{MayCome, IsPast}
+use Rattle.hc_on_head.specs.Comings.{MayCome, IsPast, is_unused}
 use Rattle.hc_on_head.proofs.HeadViews.{case_is, aim_is, view_is as views_as}
 use Rattle.hc_state.proofs.{KeySteps.{lined}, Maps.{merely_true, some_that}}
 
@@ -370,3 +370,8 @@ heard_now r now x found v accepted viewed some some_past = record {
   asker = λ o there. sym (ap (λ (z : ExchangeView). z.c) (viewed_as x (table_of r.exchanges x).running o found v there viewed some));
   live = live_now r x found v accepted viewed some some_past;
 }
+
+pub unused_case : (k : HeadCase) →
+    (k ≡ case.DirectBad) ⊎ ((k ≡ case.TurnBad) ⊎ ((k ≡ case.FirstBad) ⊎ ((k ≡ case.FirstChanged) ⊎ ((k ≡ case.LaterBad) ⊎ (k ≡ case.LaterChanged))))) →
+    is_unused k ≡ true
+unused_case k it1 = grind (arith, nat_tests)

@@ -1,5 +1,5 @@
 -- A head that comes: for whom it is, and what is known of it by its case.
-use Rattle.std.specs.Prelude.{◌≡◌, ℕ, true, false, Some, None, nat_eq, is_some, IsSomeAnd}
+use Rattle.std.specs.Prelude.{◌≡◌, ℕ, Bool, true, false, ◌||◌, Some, None, nat_eq, is_some, IsSomeAnd}
 use Rattle.std.specs.HashMap.{get}
 use Rattle.hc_store.specs.declared.backend.Backend.{Ghosts}
 use Rattle.hc_event.specs.declared.event.Response.{Response}
@@ -15,7 +15,7 @@ use Rattle.hc_model.specs.Cases.{is_founding}
 use Rattle.hc_state.specs.declared.rows.Rows.{Rows}
 use Rattle.hc_state.specs.Handlers.{IsInKey}
 use Rattle.hc_state.specs.Founding.{MayFound}
-use Rattle.hc_state.specs.Heads.{IsAskedBy, IsPastStore, IsTimely, is_bad_case, is_past_case, starts_anew}
+use Rattle.hc_state.specs.Heads.{IsAskedBy, IsPastStore, IsTimely, breaks_off, is_bad_case, is_past_case, puts_down, starts_anew}
 use Rattle.hc_state.specs.Joining.{IsAbout, IsAboutKept, joins_hole}
 use Rattle.hc_state.specs.Stands.{Stands, open_at}
 use Rattle.hc_on_head.specs.declared.arrival.Arrival.{Arrival}
@@ -39,6 +39,11 @@ pub record FitsCase {B : Type 0} {g : Ghosts B} (r : Rows B g) (h : Arrival) (k 
       IsAboutKept (shelf_of r.entries) (table_of r.exchanges h.x).running
   pub selected : k ≡ case.Validated → ⊥
   pub validated : k ≡ case.NotValidated → ⊥
+
+-- by this case nothing of the answer is used, and its exchange is closed
+abbrev pub is_unused : HeadCase → Bool
+is_unused case.FirstChanged = true
+is_unused k = puts_down k || breaks_off k
 
 -- the head came past the store, and is good unless its case says otherwise
 pub record IsPast {B : Type 0} {g : Ghosts B} (r : Rows B g) (h : Arrival) (k : HeadCase) (response : Response) : Type 0 where

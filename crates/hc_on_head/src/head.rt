@@ -15,7 +15,7 @@ ghost use Rattle.hc_model.specs.Live.{most_live};
 ghost use Rattle.hc_txn.specs.declared.transaction.Transaction.{Transaction as Consumer};
 ghost use Rattle.hc_state.specs.Heads.{IsTimely, aim_in, kept_at, joins_kept, heard_view, let_go_by, is_past_case, changes_by};
 ghost use Rattle.hc_state.specs.Stands.{Answers, AnswersCase, Stands, open_at};
-ghost use Rattle.hc_on_head.specs.Comings.{FitsCase, MayCome};
+ghost use Rattle.hc_on_head.specs.Comings.{FitsCase, MayCome, is_unused};
 ghost use Rattle.hc_state.specs.Frames.{KeepsFaults};
 
 use crate::arrival::Arrival;
@@ -86,27 +86,11 @@ fn take_case<B: Backend>(
     ensures kept { KeepsFaults result rows.old rows.new (act_list out.old) (act_list out.new) }
 {
     match case {
-        HeadCase::DirectBad | HeadCase::TurnBad | HeadCase::FirstBad => {
-            put_down(rows, heard, response, out);
-            Ok(())
-        }
         HeadCase::DirectTaken => answer_past(rows, heard, response),
         HeadCase::TurnServerError
         | HeadCase::PassesBy
         | HeadCase::FirstServerError
         | HeadCase::FirstPassesBy => go_past(rows, heard, response, goes),
-        HeadCase::FirstChanged => {
-            start_anew(rows, heard, response, goes, out);
-            Ok(())
-        }
-        HeadCase::LaterBad => {
-            close_hole(rows, heard, response, Cause::BadHead(heard.x), goes, out);
-            Ok(())
-        }
-        HeadCase::LaterChanged => {
-            close_hole(rows, heard, response, Cause::Changed(heard.x), goes, out);
-            Ok(())
-        }
         HeadCase::FoundsWhole | HeadCase::FoundsRange | HeadCase::FirstReplaced => {
             found(rows, case, heard, response, goes, out)
         }
@@ -114,8 +98,51 @@ fn take_case<B: Backend>(
             let role = rows.exchanges.view(heard.x).unwrap().role;
             join(rows, heard, response, aim_of(role).unwrap(), out)
         }
+        HeadCase::DirectBad
+        | HeadCase::TurnBad
+        | HeadCase::FirstBad
+        | HeadCase::FirstChanged
+        | HeadCase::LaterBad
+        | HeadCase::LaterChanged => {
+            close_unused(rows, case, heard, response, goes, out);
+            Ok(())
+        }
         // What a 304 selects was looked at before.
         HeadCase::Validated | HeadCase::NotValidated => unreachable!(),
+    }
+}
+
+/// An answer that isn't used: its exchange is closed. With it this isn't used any more.
+fn close_unused<B: Backend>(
+    rows: &mut Rows<B>,
+    case: HeadCase,
+    heard: Arrival,
+    response: &Response,
+    goes: Option<u64>,
+    out: &mut Acts,
+)
+    requires comes { MayCome rows.old heard }
+    requires fits { FitsCase rows.old heard case response.now }
+    requires unused { is_unused case ≡ true }
+    requires room { 1 ≤ spare out.old }
+    ensures answers { AnswersCase rows.old rows.new (act_list out.old)
+        (act_list out.new) heard.now heard.x response.now case goes }
+    ensures faults { (shelf_of rows.new.entries).faults ≡ (shelf_of rows.old.entries).faults }
+{
+    match case {
+        HeadCase::DirectBad | HeadCase::TurnBad | HeadCase::FirstBad => {
+            put_down(rows, heard, response, out);
+        }
+        HeadCase::FirstChanged => start_anew(rows, heard, response, goes, out),
+        HeadCase::LaterBad => {
+            let cause = Cause::BadHead(heard.x);
+            close_hole(rows, heard, response, cause, goes, out);
+        }
+        HeadCase::LaterChanged => {
+            let cause = Cause::Changed(heard.x);
+            close_hole(rows, heard, response, cause, goes, out);
+        }
+        _ => unreachable!(),
     }
 }
 

@@ -4,7 +4,7 @@
 -- (`some_plan_at`). By the effects of their moves, who asks with the turn is next in line, and who waits for another
 -- waits with others (`next_by`, `busy_by`). For each plan a lemma `.._answers` joins its move with the handler's
 -- answer. A head that is read changes no rows, or only counts a fault.
-use Rattle.std.{proofs.{Math.Logic.{∥∥₁_map}, Common.{◌≡◌, ◌≢◌, ℕ, ◌+◌, ◌<◌, ◌≤◌, arith, List, Bool, true, false, Option, Some, None, Result, Err, refl, ap, sym, ◌∙◌, subst}}, specs.{Prelude.{nat_eq, is_some, not, unwrap_or, IsSomeAnd, ◌&&◌, ◌||◌, if◌then◌else◌}, Option.{option_and_then, option_map}, HashMap.{get}}}
+use Rattle.std.{proofs.{Math.Logic.{∥∥₁_map}, Common.{◌≡◌, ◌≢◌, ℕ, ◌+◌, ◌<◌, ◌≤◌, arith, List, Bool, true, false, Option, Some, None, Result, Err, refl, ap, sym, ◌∙◌, subst}}, specs.{Prelude.{nat_eq, is_some, not, unwrap_or, IfSome, IsSomeAnd, ◌&&◌, ◌||◌, if◌then◌else◌}, Option.{option_and_then, option_map}, HashMap.{get}}}
 use Rattle.hc_text.proofs.Basics.{false_true}
 use Rattle.hc_effects.proofs.Vocabulary.{Limits, Act, Need, Why, Response, Request, Route, Candidate, Plan, PlanView, least, lesser, route_of, plan_of, bare_plan, from_store, in_time, by_current, RequestClass, class_of, is_bypassing, is_disabled, is_only, Place, current, row_of, denial, gate, is_live, is_in_line, Move, Opens, Fails, Shows, span_to, plan_move, has_passed, candidate, candidate_at, move_of, is_bound, is_bound_place, Tables, Representation, need, event, route, plan, place, cause, wait}
 use Rattle.hc_store.specs.{declared.{backend.Backend.{Ghosts}, error.StoreError.{StoreError, TheVariants.{the_data as errors}}}, Causes.{HasNoLimit}}
@@ -20,13 +20,13 @@ use Rattle.hc_model.specs.Lines as lines
 use Rattle.hc_model.specs.Moves.{Waits, opens}
 use Rattle.hc_model.specs.Planning as planning
 use Rattle.hc_model.specs.Rows as rows
-use Rattle.hc_effects.proofs.{Asked.{Asked, AskedBy, plan_asks}, Joining.{mix}, PlanBy.{PlanBy, plan_by}, TurnMoves.{Does, Queues, does_polled}, Tests.{none_some}, OpenedAs.{bypassing_is as bypassing_as}}
+use Rattle.hc_effects.proofs.{Joining.{mix}, PlanBy.{PlanBy, plan_by}, TurnMoves.{Does, Queues, does_polled}, Tests.{none_some}, OpenedAs.{bypassing_is as bypassing_as}}
 use Rattle.hc_effects.proofs.PlanBy as plans
 use Rattle.hc_effects.proofs.TurnMoves as does
 use Rattle.hc_state.specs.{declared.rows.Rows.{Rows}, Facts.{Facts}, Good.{StandsBy}, Kept.{IsKept, KeepsConsumer}, Lines.{is_passed}, Plans.{plan_view, looks_at_stored, is_idle_at, IsIdle, IsLookedAt, IsNext, IsWaiting, IsKeptPassed, HasCurrent, IsPlanOf, shows_part, AnswersShowing, AnswersOpening, AnswersValidating, AnswersPoll}, Reads.{AnswersMisread}, Stands.{Answered, Answers, AnswersMove, RowsStand, Stands}}
 use Rattle.hc_txn.specs.{declared.transaction.Transaction.{Transaction as Consumer}, Transactions.{queues}}
 use Rattle.hc_state.specs.Reads as reads
-use Rattle.hc_on_poll.specs.Ready.{IsCurrentWith, MayAsk, MayLeaveLine, MayPass, MayQueue}
+use Rattle.hc_on_poll.specs.{declared.carry.Stored.{Stored}, Ready.{IsCurrentWith, MayAsk, MayLeaveLine, MayPass, MayQueue, uses_stored}}
 use Rattle.hc_on_poll.proofs.{Accepted.{poll_lives}, CandidateTies.{head_at_is}, PassesHandler.{current_as}, PastHandler.{queues_as}, PlanTies.{plans_are, unlooked}, WaitHandlers.{plans_move}}
 use Rattle.hc_state.proofs.{CurrentTies.{now_kept, total_reported}, KeySteps.{lined}, Maps.{known_of, some_that, merely_true, merely_number}, ReaderSteps.{stands_read}, Ties.{kept_row}, TurnTies.{turn_with_is}, Words.{there}, Classes.{class_is}}
 use Rattle.hc_rules.proofs.RangeReads.{bytes_eq-same}
@@ -432,48 +432,38 @@ module _ {B : Type 0} {g : Ghosts B} (r : Rows B g) (some : ∥ Stands r ∥₁)
 pub plan_same : {B : Type 0} {g : Ghosts B} (r : Rows B g) (now c : ℕ) (p q : Plan) → IsPlanOf r now c p → p ≡ q → IsPlanOf r now c q
 plan_same r now c p q is same = λ limits t v facts stands row. is _ t v facts stands row ∙ same
 
--- a plan that looks at nothing stored neither asks whether that still holds, nor reads it
-pub bare_validates : (view : PlanView) (n : Need) → view.current ≡ None → plan_of view ≡ plan.Fetch n → n ≢ need.Validate
-bare_validates view n bare is at = by_asked (plan_of view) is (plan_asks view)
-  where
-    by_asked : (p : Plan) → p ≡ plan.Fetch n → AskedBy view p → ⊥
-    by_asked (plan.Fetch m) same asks = by_some (let one : need.Validate ≡ m = (let two : m ≡ n = cc in sym at ∙ sym two) in subst (Asked view) (sym one) asks)
-      where
-        by_some : Asked view need.Validate → ⊥
-        by_some has = none_some has.0 (sym bare ∙ has.1)
-    by_asked _ same asks = cc
-
-abbrev pub is_bare : Plan → Bool
-is_bare (plan.Bind why span) = false
-is_bare (plan.FirstHole span hole) = false
-is_bare (plan.Busy d how) = false
-is_bare _ = true
-
-pub bare_uses : (view : PlanView) → view.current ≡ None → is_bare (plan_of view) ≡ true
+-- a plan that looks at nothing stored needs none of that
+pub bare_uses : (view : PlanView) → view.current ≡ None → uses_stored (plan_of view) ≡ false
 unfolding plan_of
-bare_uses view bare = mix (λ p. is_bare p ≡ true) view.class.only (from_store (bare_plan view)) (in_time view (bare_plan view))
+bare_uses view bare = mix (λ p. uses_stored p ≡ false) view.class.only (from_store (bare_plan view)) (in_time view (bare_plan view))
     (stored (bare_plan view) bare_all) (timed (bare_plan view) bare_all)
   where
-    by_now : (o : Option Candidate) → o ≡ None → is_bare (by_current view o) ≡ true
+    by_now : (o : Option Candidate) → o ≡ None → uses_stored (by_current view o) ≡ false
     by_now None none = refl
     by_now (Some seen) none = none_some seen (sym none)
 
-    bare_all : is_bare (bare_plan view) ≡ true
+    bare_all : uses_stored (bare_plan view) ≡ false
     bare_all =
-        mix (λ p. is_bare p ≡ true) view.class.disabled (plan.Direct need.Disabled) _ refl
-        (mix (λ p. is_bare p ≡ true) (rules.queues view) (plan.Turn view.turn) _ refl
-        (mix (λ p. is_bare p ≡ true) view.class.bypassing (plan.Fetch need.Bypass) (by_current view view.current) refl (by_now view.current bare)))
+        mix (λ p. uses_stored p ≡ false) view.class.disabled (plan.Direct need.Disabled) _ refl
+        (mix (λ p. uses_stored p ≡ false) (rules.queues view) (plan.Turn view.turn) _ refl
+        (mix (λ p. uses_stored p ≡ false) view.class.bypassing (plan.Fetch need.Bypass) (by_current view view.current) refl (by_now view.current bare)))
 
-    stored : (p : Plan) → is_bare p ≡ true → is_bare (from_store p) ≡ true
-    stored (plan.Bind why span) on = on
-    stored _ on = refl
+    stored : (p : Plan) → uses_stored p ≡ false → uses_stored (from_store p) ≡ false
+    stored (plan.Bind why span) off = off
+    stored _ off = refl
 
-    timed : (p : Plan) → is_bare p ≡ true → is_bare (in_time view p) ≡ true
-    timed (plan.Turn d) on = mix (λ p. is_bare p ≡ true) _ (plan.Direct need.TimedOut) (plan.Turn d) refl refl
-    timed (plan.Bind why span) on = on
-    timed (plan.FirstHole span hole) on = on
-    timed (plan.Busy d how) on = false_true on
-    timed _ on = refl
+    timed : (p : Plan) → uses_stored p ≡ false → uses_stored (in_time view p) ≡ false
+    timed (plan.Turn d) off = mix (λ p. uses_stored p ≡ false) _ (plan.Direct need.TimedOut) (plan.Turn d) refl refl
+    timed (plan.Busy d how) off = false_true (sym off)
+    timed (plan.Fetch n) off = off
+    timed (plan.Bind why span) off = off
+    timed (plan.FirstHole span hole) off = off
+    timed _ off = refl
+
+-- what is passed with it is current
+pub passed_current : {B : Type 0} {g : Ghosts B} (r : Rows B g) (c : ℕ) (o : Option Stored) (s : Stored) → o ≡ Some s →
+    IfSome o (λ (z : Stored). IsCurrentWith r c z.r (plain z.head)) → IsCurrentWith r c s.r (plain s.head)
+passed_current r c o s is all = subst (λ (z : Option Stored). IfSome z (λ (y : Stored). IsCurrentWith r c y.r (plain y.head))) is all
 
 -- of what is read, only the store's own failure is left
 pub fault_only : {T : Type 0} (result : Result T StoreError) (e : StoreError) → result ≡ Err e → HasNoLimit result → e ≢ errors.NoMemory →

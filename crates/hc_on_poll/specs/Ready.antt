@@ -1,6 +1,10 @@
 -- What a handler of a poll finds: who may wait, leave its line or ask the origin, and what is current.
-use Rattle.std.specs.Prelude.{◌≡◌, ◌<◌, ◌^◌, ℕ, nat_eq, Some, IsSomeAnd}
+use Rattle.std.specs.Prelude.{◌≡◌, ◌<◌, ◌^◌, ℕ, nat_eq, Bool, true, false, Some, IsSomeAnd}
 use Rattle.std.specs.HashMap.{get}
+use Rattle.hc_event.specs.declared.act.Need.{Need}
+use Rattle.hc_event.specs.declared.act.Need.TheVariants as need
+use Rattle.hc_rules.specs.declared.plan.Plan.{Plan}
+use Rattle.hc_rules.specs.declared.plan.Plan.TheVariants as plan
 use Rattle.hc_store.specs.declared.backend.Backend.{Ghosts}
 use Rattle.hc_record.specs.Head.{Head}
 use Rattle.hc_stored.specs.Entries.{shelf_of}
@@ -47,3 +51,17 @@ pub record IsCurrentWith {B : Type 0} {g : Ghosts B} (r : Rows B g) (c q : ℕ) 
     Type 0 where
   pub current : IsSomeAnd (get nat_eq r.consumers c) (HasCurrent r.keys q)
   pub head : head_at (shelf_of r.entries) q ≡ Some stored
+
+-- WHAT A PLAN NEEDS
+
+abbrev pub is_validating : Need → Bool
+is_validating need.Validate = true
+is_validating _ = false
+
+-- it is carried out with the stored head of what is current, or names that
+abbrev pub uses_stored : Plan → Bool
+uses_stored (plan.Fetch n) = is_validating n
+uses_stored (plan.Bind why span) = true
+uses_stored (plan.FirstHole span hole) = true
+uses_stored (plan.Busy d kept) = true
+uses_stored _ = false

@@ -1,14 +1,13 @@
 //! What is done for a consumer that reads nothing yet: its plan.
-ghost use Rattle.std.specs.Prelude.{◌≡◌, ◌≤◌, ◌<◌, ◌^◌, Some, None, nat_eq, IsSomeAnd, OnOk};
+ghost use Rattle.std.specs.Prelude.{◌≡◌, ◌≤◌, ◌<◌, ◌^◌, true, is_some, nat_eq, IfSome, IsSomeAnd, OnOk};
 ghost use Rattle.std.specs.HashMap.{get};
 ghost use Rattle.hc_event.specs.Acts.{act_list, spare};
 ghost use Rattle.hc_record.specs.Plain.{plain};
-ghost use Rattle.hc_rules.specs.Plans.{plan_of};
 ghost use Rattle.hc_exch.specs.Exchanges.{next_of};
 ghost use Rattle.hc_state.specs.Good.{StandsBy};
 ghost use Rattle.hc_state.specs.Plans.{PlanViewIs, IsLookedAt, looks_at_stored, IsIdle, IsPlanOf, AnswersPoll};
 ghost use Rattle.hc_state.specs.Frames.{KeepsFaults};
-ghost use Rattle.hc_on_poll.specs.Ready.{IsCurrentWith, MayOpen};
+ghost use Rattle.hc_on_poll.specs.Ready.{IsCurrentWith, MayOpen, uses_stored};
 
 use crate::candidate::{candidate, decide};
 use crate::hole::open_first_hole;
@@ -43,13 +42,13 @@ pub(crate) fn carry_out<B: Backend>(
     let consumer = rows.consumers.get(&c).unwrap();
     let looked = look_up(rows, now, c, consumer);
     let Some(r) = looked.current else {
-        return carry_out_bare(rows, now, c, &looked.view, out);
+        return carry_out_plan(rows, now, c, plan_of(&looked.view), None, out);
     };
     match rows.entries.head(r) {
         Ok(head) => {
             let current = candidate(rows, now, c, r, &head);
             let plan = decide(rows, now, c, looked.view.turn, current);
-            carry_out_plan(rows, now, c, r, head, plan, out)
+            carry_out_plan(rows, now, c, plan, Some(Stored { r, head }), out)
         }
         Err(error) => misread_by(rows, now, c, r, error, out),
     }
@@ -92,20 +91,27 @@ fn look_up<B: Backend>(rows: &Rows<B>, now: u64, c: u64, consumer: &Transaction)
     LookUp { view, current }
 }
 
-/// A plan is carried out, with the stored head of what is current.
+/// What is current for the key of a consumer, with its stored head.
+#[derive(Drop)]
+struct Stored {
+    r: u64,
+    head: StoredHead,
+}
+
+/// A plan is carried out. Where it depends on what is current, that is passed.
 fn carry_out_plan<B: Backend>(
     rows: &mut Rows<B>,
     now: u64,
     c: u64,
-    r: u64,
-    head: StoredHead,
     plan: Plan,
+    stored: Option<Stored>,
     out: &mut Acts,
 ) -> Result<(), NoMemory>
     requires opens { MayOpen rows.old }
     requires idle { IsSomeAnd (get nat_eq rows.old.consumers c) IsIdle }
-    requires current { IsCurrentWith rows.old c r (plain head) }
     requires plan { IsPlanOf rows.old now c plan }
+    requires used { uses_stored plan ≡ true → is_some stored ≡ true }
+    requires current { IfSome stored (λ s. IsCurrentWith rows.old c s.r (plain s.head)) }
     requires room { 3 ≤ spare out.old }
     ensures answers { OnOk result
         (AnswersPoll rows.old rows.new (act_list out.old) (act_list out.new) now c) }
@@ -118,57 +124,26 @@ fn carry_out_plan<B: Backend>(
             Ok(())
         }
         Plan::Fetch(need) => match need {
-            Need::Validate => revalidate(rows, now, c, &head, out),
+            Need::Validate => revalidate(rows, now, c, &stored.unwrap().head, out),
             Need::Bypass => bypass(rows, now, c, out),
             _ => fetch(rows, now, c, need, out),
         },
-        Plan::Bind { why, span } => bind(rows, c, r, head, why, span, out),
+        Plan::Bind { why, span } => {
+            let stored = stored.unwrap();
+            bind(rows, c, stored.r, stored.head, why, span, out)
+        }
         Plan::FirstHole { span, hole } => {
-            open_first_hole(rows, now, c, r, &head, span, hole, out)
+            let stored = stored.unwrap();
+            open_first_hole(rows, now, c, stored.r, &stored.head, span, hole, out)
         }
         Plan::Busy { d, .. } => {
-            wait_for_use(rows, c, r, d, out);
+            wait_for_use(rows, c, stored.unwrap().r, d, out);
             Ok(())
         }
         Plan::Miss => {
             fail(rows, now, c, Cause::Miss, out);
             Ok(())
         }
-    }
-}
-
-/// A plan that nothing stored matters to.
-fn carry_out_bare<B: Backend>(
-    rows: &mut Rows<B>,
-    now: u64,
-    c: u64,
-    view: &PlanView,
-    out: &mut Acts,
-) -> Result<(), NoMemory>
-    requires opens { MayOpen rows.old }
-    requires idle { IsSomeAnd (get nat_eq rows.old.consumers c) IsIdle }
-    requires plan { IsPlanOf rows.old now c (plan_of view.now) }
-    requires bare { view.now.current ≡ None }
-    requires room { 3 ≤ spare out.old }
-    ensures answers { OnOk result
-        (AnswersPoll rows.old rows.new (act_list out.old) (act_list out.new) now c) }
-    ensures kept { KeepsFaults result rows.old rows.new (act_list out.old) (act_list out.new) }
-{
-    match plan_of(view) {
-        Plan::Direct(need) => open_past(rows, now, c, need, out),
-        Plan::Turn(d) => {
-            wait_for_turn(rows, c, d, out);
-            Ok(())
-        }
-        Plan::Fetch(need) => match need {
-            Need::Bypass => bypass(rows, now, c, out),
-            _ => fetch(rows, now, c, need, out),
-        },
-        Plan::Miss => {
-            fail(rows, now, c, Cause::Miss, out);
-            Ok(())
-        }
-        Plan::Bind { .. } | Plan::FirstHole { .. } | Plan::Busy { .. } => unreachable!(),
     }
 }
 

@@ -1,8 +1,8 @@
-use Rattle.std.proofs.Common.{Some, inr, ap, sym, ◌∙◌}
+use Rattle.std.proofs.Common.{Some, ap, sym, ◌∙◌}
 use Rattle.hc_effects.proofs.Vocabulary.{act_list, HeadCase, doomed_by_case}
-use Rattle.hc_state.specs.Heads.{is_bad_case, breaks_off, broken_by}
+use Rattle.hc_state.specs.Heads.{is_bad_case}
 use Rattle.hc_on_leave.proofs.{HeardRows.{asker_of, asked_by}, UnstoredHandlers.{alone_taken, taken_answered}}
-use Rattle.hc_on_head.proofs.{HeadReported.{down_case, past_case, good_past, anew_case, downs_none}, JoinHeads.{aim_some, kept_this, about_this, join_case, good_join}}
+use Rattle.hc_on_head.proofs.{HeadReported.{past_case, good_past, unused_case}, JoinHeads.{aim_some, kept_this, about_this, join_case, good_join}}
 use Rattle.hc_state.proofs.Words.{ok_then}
 use Rattle.hc_on_head.proofs.head.take_case.Goals as goal
 
@@ -11,14 +11,6 @@ answer_past-requires-clause-good g c = c.requires.fits.good (ap is_bad_case c.in
 
 pub go_past-requires-clause-good : goal.go_past-requires-clause-good
 go_past-requires-clause-good g c = c.requires.fits.good (good_past c.args.case c.in-TurnServerError.is)
-
-pub start_anew-requires-clause-waits : goal.start_anew-requires-clause-waits
-start_anew-requires-clause-waits g c = c.requires.fits.waits (anew_case c.args.case (inr c.in-FirstChanged.is))
-
-pub returns-in-DirectBad-clause-answers : goal.returns-in-DirectBad-clause-answers
-returns-in-DirectBad-clause-answers g c = λ limits t w facts stands goes row is doomless same.
-    let on = down_case c.args.case c.in-DirectBad.is in
-    c.put_down.ensures.answers c.args.case on _ t w facts stands goes row is doomless (downs_none t w c.args.response.now c.args.case on)
 
 pub returns-in-DirectTaken-clause-answers : goal.returns-in-DirectTaken-clause-answers
 returns-in-DirectTaken-clause-answers g c = ok_then
@@ -39,17 +31,6 @@ pub returns-in-TurnServerError-clause-answers : goal.returns-in-TurnServerError-
 returns-in-TurnServerError-clause-answers g c = ok_then
     c.go_past.result c.go_past.ensures.answers (λ answers. answers c.args.case (act_list c.args.out.now) (past_case c.args.case c.in-TurnServerError.is))
 
-pub returns-in-FirstChanged-clause-answers : goal.returns-in-FirstChanged-clause-answers
-returns-in-FirstChanged-clause-answers g c = c.start_anew.ensures.answers c.args.case (anew_case c.args.case (inr c.in-FirstChanged.is))
-
-pub returns-in-LaterBad-clause-answers : goal.returns-in-LaterBad-clause-answers
-returns-in-LaterBad-clause-answers g c =
-    c.close_hole.ensures.answers c.args.case (ap breaks_off c.in-LaterBad.is) (ap (broken_by c.args.heard.x) (sym c.in-LaterBad.is))
-
-pub returns-in-LaterChanged-clause-answers : goal.returns-in-LaterChanged-clause-answers
-returns-in-LaterChanged-clause-answers g c =
-    c.close_hole-in-LaterChanged.ensures.answers c.args.case (ap breaks_off c.in-LaterChanged.is) (ap (broken_by c.args.heard.x) (sym c.in-LaterChanged.is))
-
 pub unwrap-requires : goal.unwrap-requires
 unwrap-requires g c = aim_some c.args.rows.now c.args.heard.x c.view.result c.unwrap-role.result c.aim_of.result c.args.response.now
     c.requires.comes.accepted c.view.ensures c.unwrap-role.ensures c.aim_of.ensures (c.requires.fits.joins (join_case c.args.case c.in-FirstJoins.is))
@@ -68,3 +49,6 @@ join-requires-clause-good g c = c.requires.fits.good (good_join c.args.case c.in
 pub returns-in-FirstJoins-clause-answers : goal.returns-in-FirstJoins-clause-answers
 returns-in-FirstJoins-clause-answers g c = ok_then
     c.join.result c.join.ensures.answers (λ answers. answers c.args.case c.args.goes (join_case c.args.case c.in-FirstJoins.is))
+
+pub close_unused-requires-clause-unused : goal.close_unused-requires-clause-unused
+close_unused-requires-clause-unused g c = unused_case c.args.case c.in-DirectBad.is

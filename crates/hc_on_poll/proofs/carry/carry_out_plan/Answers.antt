@@ -7,7 +7,8 @@
 use Rattle.std.proofs.Common.{◌≡◌, ap, ◌∙◌}
 use Rattle.hc_effects.proofs.Vocabulary.{act_list, need as needs, plan}
 use Rattle.hc_state.specs.Plans.{IsIdle}
-use Rattle.hc_on_poll.proofs.{PlanHandlers.{planned_asks, planned_past, planned_route, may_leave_line, may_queue, may_pass, current_admits, plan_same, direct_answers, turn_answers, fetch_answers, validate_answers, busy_answers, bind_answers, miss_answers}, PartPlans.{filling_passes, filling_hole, filling_alone, filling_answers, part_there}, Polled.{limits_there}}
+use Rattle.hc_on_poll.specs.Ready.{uses_stored}
+use Rattle.hc_on_poll.proofs.{PlanHandlers.{passed_current, planned_asks, planned_past, planned_route, may_leave_line, may_queue, may_pass, current_admits, plan_same, direct_answers, turn_answers, fetch_answers, validate_answers, busy_answers, bind_answers, miss_answers}, PartPlans.{filling_passes, filling_hole, filling_alone, filling_answers, part_there}, Polled.{limits_there}}
 use Rattle.hc_on_poll.proofs.carry.carry_out_plan.Goals as goal
 use Rattle.hc_state.proofs.Words.{ok_then}
 
@@ -43,12 +44,17 @@ pub bind-requires-clause-leaves : goal.bind-requires-clause-leaves
 bind-requires-clause-leaves g c = may_leave_line c.args.rows.now c.requires.opens.stands c.args.now c.args.c c.requires.idle
 
 pub bind-requires-clause-admits : goal.bind-requires-clause-admits
-bind-requires-clause-admits g c = current_admits c.args.rows.now c.requires.opens.stands c.args.now c.args.c c.requires.idle c.args.r c.requires.current.current
+bind-requires-clause-admits g c =
+    let u = c.unwrap-stored.result in
+    let now_current = passed_current c.args.rows.now c.args.c c.args.stored u c.unwrap-stored.ensures c.requires.current in
+    current_admits c.args.rows.now c.requires.opens.stands c.args.now c.args.c c.requires.idle u.r now_current.current
 
 pub bind-requires-clause-part : goal.bind-requires-clause-part
 bind-requires-clause-part g c =
+    let u = c.unwrap-stored.result in
+    let now_current = passed_current c.args.rows.now c.args.c c.args.stored u c.unwrap-stored.ensures c.requires.current in
     let r = c.args.rows.now in
-    part_there r c.requires.opens.stands c.args.now c.args.c c.requires.idle c.args.r c.args.head c.requires.current.current c.requires.current.head
+    part_there r c.requires.opens.stands c.args.now c.args.c c.requires.idle u.r u.head now_current.current now_current.head
     c.in-Bind.why c.in-Bind.span
     (plan_same r c.args.now c.args.c _ (plan.Bind c.in-Bind.why c.in-Bind.span) c.requires.plan c.in-Bind.is)
 
@@ -57,22 +63,28 @@ open_first_hole-requires-clause-within_limits g c = limits_there c.args.rows.now
 
 pub open_first_hole-requires-clause-passes : goal.open_first_hole-requires-clause-passes
 open_first_hole-requires-clause-passes g c =
+    let u = c.unwrap-stored-in-FirstHole.result in
+    let now_current = passed_current c.args.rows.now c.args.c c.args.stored u c.unwrap-stored-in-FirstHole.ensures c.requires.current in
     let r = c.args.rows.now in
-    filling_passes r c.requires.opens.stands c.args.now c.args.c c.requires.idle c.args.r c.args.head c.requires.current.current c.requires.current.head
+    filling_passes r c.requires.opens.stands c.args.now c.args.c c.requires.idle u.r u.head now_current.current now_current.head
     c.in-FirstHole.span c.in-FirstHole.hole
     (plan_same r c.args.now c.args.c _ (plan.FirstHole c.in-FirstHole.span c.in-FirstHole.hole) c.requires.plan c.in-FirstHole.is)
 
 pub open_first_hole-requires-clause-admits : goal.open_first_hole-requires-clause-admits
 open_first_hole-requires-clause-admits g c =
+    let u = c.unwrap-stored-in-FirstHole.result in
+    let now_current = passed_current c.args.rows.now c.args.c c.args.stored u c.unwrap-stored-in-FirstHole.ensures c.requires.current in
     let r = c.args.rows.now in
-    filling_alone r c.requires.opens.stands c.args.now c.args.c c.requires.idle c.args.r c.args.head c.requires.current.current c.requires.current.head
+    filling_alone r c.requires.opens.stands c.args.now c.args.c c.requires.idle u.r u.head now_current.current now_current.head
     c.in-FirstHole.span c.in-FirstHole.hole
     (plan_same r c.args.now c.args.c _ (plan.FirstHole c.in-FirstHole.span c.in-FirstHole.hole) c.requires.plan c.in-FirstHole.is)
 
 pub open_first_hole-requires-clause-hole : goal.open_first_hole-requires-clause-hole
 open_first_hole-requires-clause-hole g c =
+    let u = c.unwrap-stored-in-FirstHole.result in
+    let now_current = passed_current c.args.rows.now c.args.c c.args.stored u c.unwrap-stored-in-FirstHole.ensures c.requires.current in
     let r = c.args.rows.now in
-    filling_hole r c.requires.opens.stands c.args.now c.args.c c.requires.idle c.args.r c.args.head c.requires.current.current c.requires.current.head
+    filling_hole r c.requires.opens.stands c.args.now c.args.c c.requires.idle u.r u.head now_current.current now_current.head
     c.in-FirstHole.span c.in-FirstHole.hole
     (plan_same r c.args.now c.args.c _ (plan.FirstHole c.in-FirstHole.span c.in-FirstHole.hole) c.requires.plan c.in-FirstHole.is)
 
@@ -98,11 +110,13 @@ returns-in-Turn-clause-answers g c =
 
 pub returns-in-Validate-clause-answers : goal.returns-in-Validate-clause-answers
 returns-in-Validate-clause-answers g c =
+    let u = c.unwrap.result in
+    let now_current = passed_current c.args.rows.now c.args.c c.args.stored u c.unwrap.ensures c.requires.current in
     let r = c.args.rows.now in
     let is = plan_same r c.args.now c.args.c _ (plan.Fetch needs.Validate) c.requires.plan (c.in-Fetch.is ∙ ap plan.Fetch c.in-Validate.is) in
     ok_then c.revalidate.result c.revalidate.ensures.answers
     (validate_answers r c.requires.opens.stands c.args.now c.args.c c.requires.idle c.revalidate.new.rows (act_list c.args.out.now)
-    (act_list c.revalidate.new.out) c.args.r c.args.head c.requires.current.current c.requires.current.head is)
+    (act_list c.revalidate.new.out) u.r u.head now_current.current now_current.head is)
 
 pub returns-in-Bypass-clause-answers : goal.returns-in-Bypass-clause-answers
 returns-in-Bypass-clause-answers g c =
@@ -112,8 +126,8 @@ returns-in-Bypass-clause-answers g c =
     (fetch_answers r c.requires.opens.stands c.args.now c.args.c c.requires.idle c.bypass.new.rows (act_list c.args.out.now) (act_list c.bypass.new.out)
     needs.Bypass (λ same. let never : needs.Bypass ≡ needs.Validate = same in cc) is)
 
-pub returns-in-Fetch-clause-answers : goal.returns-in-Fetch-clause-answers
-returns-in-Fetch-clause-answers g c =
+pub returns-in_default-clause-answers : goal.returns-in_default-clause-answers
+returns-in_default-clause-answers g c =
     let r = c.args.rows.now in
     let is = plan_same r c.args.now c.args.c _ (plan.Fetch c.in-Fetch.need) c.requires.plan c.in-Fetch.is in
     ok_then c.fetch.result c.fetch.ensures.answers
@@ -127,9 +141,8 @@ returns-in-Busy-clause-answers g c =
     busy_answers r c.requires.opens.stands c.args.now c.args.c c.requires.idle c.wait_for_use.new.rows (act_list c.args.out.now)
     (act_list c.wait_for_use.new.out) c.in-Busy.d c.in-Busy.kept is c.wait_for_use.ensures.answers
 
--- where its plan is to fail
-pub returns-clause-answers : goal.returns-clause-answers
-returns-clause-answers g c =
+pub returns-in-Miss-clause-answers : goal.returns-in-Miss-clause-answers
+returns-in-Miss-clause-answers g c =
     let r = c.args.rows.now in
     let is = plan_same r c.args.now c.args.c _ plan.Miss c.requires.plan c.in-Miss.is in
     miss_answers r c.requires.opens.stands c.args.now c.args.c c.requires.idle c.fail.new.rows (act_list c.args.out.now) (act_list c.fail.new.out) is
@@ -137,16 +150,45 @@ returns-clause-answers g c =
 
 pub returns-in-Bind-clause-answers : goal.returns-in-Bind-clause-answers
 returns-in-Bind-clause-answers g c =
+    let u = c.unwrap-stored.result in
+    let now_current = passed_current c.args.rows.now c.args.c c.args.stored u c.unwrap-stored.ensures c.requires.current in
     let r = c.args.rows.now in
     let is = plan_same r c.args.now c.args.c _ (plan.Bind c.in-Bind.why c.in-Bind.span) c.requires.plan c.in-Bind.is in
     ok_then c.bind.result c.bind.ensures.answers
     (bind_answers r c.requires.opens.stands c.args.now c.args.c c.requires.idle c.bind.new.rows (act_list c.args.out.now) (act_list c.bind.new.out)
-    c.in-Bind.why c.in-Bind.span c.args.r c.args.head c.requires.current.current c.requires.current.head is)
+    c.in-Bind.why c.in-Bind.span u.r u.head now_current.current now_current.head is)
 
 pub returns-in-FirstHole-clause-answers : goal.returns-in-FirstHole-clause-answers
 returns-in-FirstHole-clause-answers g c =
+    let u = c.unwrap-stored-in-FirstHole.result in
+    let now_current = passed_current c.args.rows.now c.args.c c.args.stored u c.unwrap-stored-in-FirstHole.ensures c.requires.current in
     let r = c.args.rows.now in
     let is = plan_same r c.args.now c.args.c _ (plan.FirstHole c.in-FirstHole.span c.in-FirstHole.hole) c.requires.plan c.in-FirstHole.is in
     ok_then c.open_first_hole.result c.open_first_hole.ensures.answers
-    (filling_answers r c.requires.opens.stands c.args.now c.args.c c.requires.idle c.args.r c.args.head c.requires.current.current c.requires.current.head
+    (filling_answers r c.requires.opens.stands c.args.now c.args.c c.requires.idle u.r u.head now_current.current now_current.head
     c.in-FirstHole.span c.in-FirstHole.hole is c.open_first_hole.new.rows (act_list c.args.out.now) (act_list c.open_first_hole.new.out))
+
+pub unwrap-requires : goal.unwrap-requires
+unwrap-requires g c = c.requires.used (ap uses_stored (c.in-Fetch.is ∙ ap plan.Fetch c.in-Validate.is))
+
+pub unwrap-stored-requires : goal.unwrap-stored-requires
+unwrap-stored-requires g c = c.requires.used (ap uses_stored c.in-Bind.is)
+
+pub unwrap-stored-requires-in-FirstHole : goal.unwrap-stored-requires-in-FirstHole
+unwrap-stored-requires-in-FirstHole g c = c.requires.used (ap uses_stored c.in-FirstHole.is)
+
+pub unwrap-requires-in-Busy : goal.unwrap-requires-in-Busy
+unwrap-requires-in-Busy g c = c.requires.used (ap uses_stored c.in-Busy.is)
+
+pub wait_for_use-requires-clause-current : goal.wait_for_use-requires-clause-current
+wait_for_use-requires-clause-current g c =
+    let u = c.unwrap-in-Busy.result in
+    (passed_current c.args.rows.now c.args.c c.args.stored u c.unwrap-in-Busy.ensures c.requires.current).current
+
+pub bind-requires-clause-current : goal.bind-requires-clause-current
+bind-requires-clause-current g c =
+    passed_current c.args.rows.now c.args.c c.args.stored c.unwrap-stored.result c.unwrap-stored.ensures c.requires.current
+
+pub open_first_hole-requires-clause-current : goal.open_first_hole-requires-clause-current
+open_first_hole-requires-clause-current g c =
+    passed_current c.args.rows.now c.args.c c.args.stored c.unwrap-stored-in-FirstHole.result c.unwrap-stored-in-FirstHole.ensures c.requires.current

@@ -18,7 +18,7 @@ ghost use Rattle.hc_state.specs.Handlers.{most, given_acts, asks_or_waits, asked
 ghost use Rattle.hc_state.specs.Reads.{headless_own, held_own};
 ghost use Rattle.hc_state.specs.Frames.{KeepsFaults};
 ghost use Rattle.hc_on_poll.specs.Ready.{MayOpen};
-ghost use Rattle.hc_on_poll.specs.Readers.{reader_of, NextReadIs, Reads, ReadsUnstored, UnstoredAheadIs};
+ghost use Rattle.hc_on_poll.specs.Readers.{is_held, reader_of, NextReadIs, Reads, ReadsUnstored};
 
 use crate::hole::open_later_hole;
 use crate::shown::is_headless;
@@ -33,7 +33,6 @@ use hc_state::{Rows, Transaction, count_given};
 use hc_store::Backend;
 use hc_stored::EntryView;
 use hc_text::{Bytes, NoMemory};
-use hc_txn::Ahead;
 
 /// Who reads what is stored and was shown its head, as the reading looks at it.
 #[derive(Clone, Copy)]
@@ -156,24 +155,21 @@ fn next_read<B: Backend>(rows: &Rows<B>, reader: Reader) -> ReadStep
     requires reads { IsSomeAnd (get nat_eq rows.now.consumers reader.c)
         (ReadsUnstored rows.now reader) }
     requires small { reader.offset < 2 ^ 63 }
-    ensures { NextReadIs rows.now reader result }
+    ensures { IsSomeAnd (get nat_eq rows.now.consumers reader.c)
+        (NextReadIs rows.now reader result) }
 {
-    let ahead = ahead(rows, reader);
-    rows.consumers.get(&reader.c).unwrap().read_by(&ahead)
+    let consumer = rows.consumers.get(&reader.c).unwrap();
+    let entry = rows.entries.entry(reader.r).unwrap();
+    let held = is_held(rows, &entry, reader);
+    let source = source(rows, &entry, reader.own);
+    consumer.next_read(&rows.entries.bytes(reader.r), held, source)
 }
 
-/// What stands ahead of the transaction, where nothing is stored.
-fn ahead<B: Backend>(rows: &Rows<B>, reader: Reader) -> Ahead
-    requires { is_kept (shelf_of rows.now.entries) reader.r ≡ true }
-    ensures { UnstoredAheadIs rows.now reader result }
+/// Whether bytes are held for the consumer, which goes on alone with what is lost.
+fn is_held<B: Backend>(rows: &Rows<B>, entry: &EntryView, reader: Reader) -> bool
+    ensures { result ≡ is_held (table_of rows.now.exchanges) entry.now reader }
 {
-    let entry = rows.entries.entry(reader.r).unwrap();
-    Ahead {
-        stored: None,
-        held: goes_alone(&entry, reader.c) && held_own(rows, reader.own) > 0,
-        source: source(rows, &entry, reader.own),
-        next_stored: rows.entries.next_present(reader.r, reader.offset),
-    }
+    goes_alone(entry, reader.c) && held_own(rows, reader.own) > 0
 }
 
 /// The consumer goes on alone with the representation, which is lost.

@@ -1,5 +1,5 @@
 //! Where what is stored ends, and where a hole does.
-ghost use Rattle.std.specs.Prelude.{◌≡◌, ◌≤◌, ◌<◌, ◌^◌, is_some, IsTrue};
+ghost use Rattle.std.specs.Prelude.{◌≡◌, ◌≤◌};
 ghost use Rattle.hc_partial.specs.Holes.{absent_from, present_from, first_hole};
 
 use hc_range::Span;
@@ -35,16 +35,6 @@ pub fn hole_end<P: Presence>(store: &P, from: u64, hi: u64) -> u64
         Some(next) => next.min(hi),
         None => hi,
     }
-}
-
-/// Whether a byte is stored at the position.
-pub fn is_stored<P: Presence>(store: &P, position: u64) -> bool
-    ensures stored { result ≡ is_some (P.cells store.now position) }
-
-    // Nothing is at 2^62 or past it.
-    ensures below { IsTrue result → position < 2 ^ 62 }
-{
-    store.next_present(position) == Some(position)
 }
 
 /// The first hole of the span in what is stored. None where all of it is.

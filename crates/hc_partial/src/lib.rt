@@ -5,5 +5,5 @@ mod holes;
 mod stitch;
 
 pub use hc_rules::{HoleAnswer, ReadStep};
-pub use holes::{first_hole, hole_end, is_stored, stored_end};
-pub use stitch::{Part, Stitch, accepts, next};
+pub use holes::{first_hole, hole_end, stored_end};
+pub use stitch::{Part, accepts, next};

@@ -2,56 +2,57 @@
 ghost use Rattle.std.specs.Prelude.{◌≡◌};
 ghost use Rattle.hc_etag.specs.Tags.{value_of};
 ghost use Rattle.hc_rules.specs.Joins.{hole_answer};
-ghost use Rattle.hc_partial.specs.Parts.{next_part};
+ghost use Rattle.hc_partial.specs.Parts.{IsNextPart, stored_to, hole_to};
 
-use crate::holes::{hole_end, is_stored, stored_end};
+use crate::holes::stored_end;
 use hc_etag::Tag;
 use hc_event::Response;
 use hc_range::Span;
 use hc_rules::{HoleAnswer, hole_answer};
 use hc_sparse::Presence;
 
-/// How far a span is read. Positions are those of its representation.
-#[derive(Clone, Copy, Debug, PartialEq, Eq)]
-pub struct Stitch {
-    /// What is to be read.
-    pub span: Span,
-    /// What is read next.
-    pub offset: u64,
-    /// Whether its head was shown.
-    pub shown: bool,
-}
-
-/// What comes next.
+/// What stands next from a position on.
 #[derive(Clone, Copy, Debug, PartialEq, Eq)]
 pub enum Part {
     /// Stored bytes, up to this position.
     Stored { upto: u64 },
-    /// Bytes that aren't stored.
-    Hole(Span),
-    /// Nothing: the span is read.
-    Done,
+    /// A hole, up to the next stored byte, if there is one.
+    Hole { upto: Option<u64> },
 }
 
-/// What comes next: stored bytes up to the first that isn't, or a hole up to the next stored byte,
-/// and neither past the end of the span.
-#[tactic(auto, unfolding(crate::specs::Parts::next_part))]
-pub fn next<P: Presence>(stitch: &Stitch, store: &P) -> Part
-    ensures { result ≡ next_part (P.cells store.now) stitch.now }
+impl Part {
+    /// Where the stored bytes end.
+    pub fn stored_to(self) -> Option<u64>
+        ensures { result ≡ stored_to self }
+    {
+        match self {
+            Part::Stored { upto } => Some(upto),
+            Part::Hole { .. } => None,
+        }
+    }
+
+    /// The next stored byte behind a hole.
+    pub fn hole_to(self) -> Option<u64>
+        ensures { result ≡ hole_to self }
+    {
+        match self {
+            Part::Stored { .. } => None,
+            Part::Hole { upto } => upto,
+        }
+    }
+}
+
+/// What comes next: stored bytes up to the first that isn't, or a hole up to the next stored byte.
+pub fn next<P: Presence>(store: &P, position: u64) -> Part
+    ensures { IsNextPart (P.cells store.now) position result }
 {
-    let lo = stitch.offset;
-    let hi = stitch.span.hi;
-    if lo >= hi {
-        return Part::Done;
+    match store.next_present(position) {
+        // Nothing is at 2^62 or past it.
+        Some(present) if present == position => Part::Stored {
+            upto: stored_end(store, position, 1 << 62),
+        },
+        upto => Part::Hole { upto },
     }
-    if is_stored(store, lo) {
-        let upto = stored_end(store, lo, hi);
-        return Part::Stored { upto };
-    }
-    Part::Hole(Span {
-        lo,
-        hi: hole_end(store, lo, hi),
-    })
 }
 
 /// What the answer is to the hole of a representation with this tag, whose whole length is `total`

@@ -1,25 +1,19 @@
 //! Calls of stitching, over bytes that are kept.
 use crate::samples::response_of;
 use hc_etag::read_tag;
-use hc_partial::{Stitch, accepts, first_hole, next};
+use hc_partial::{accepts, first_hole, next};
 use hc_range::Span;
 use hc_sparse::Presence;
 use hc_test_frame::{Fault, Vector, note};
 
 /// Makes the call.
 pub(crate) fn call<P: Presence>(store: &P, v: &Vector, to: &mut String) -> Result<(), Fault> {
-    let lo = v.number(0);
-    let hi = v.number(1);
     match v.call() {
-        "next_part nn" => {
-            let stitch = Stitch {
-                span: Span { lo: 0, hi },
-                offset: lo,
-                shown: true,
-            };
-            note(&next(&stitch, store), to)
+        "next_part n" => note(&next(store, v.number(0)), to),
+        "first_hole nn" => {
+            let (lo, hi) = (v.number(0), v.number(1));
+            note(&first_hole(store, Span { lo, hi }), to)
         }
-        "first_hole nn" => note(&first_hole(store, Span { lo, hi }), to),
         "accepts nnntnt" => report_answer(v, to),
         _ => Err(Fault::NoSuchCall),
     }

@@ -6,7 +6,7 @@
 -- `upstreams_move` and `wire_moves`.
 use Rattle.std.{proofs.Common.{◌≡◌, ◌⊎◌, inl, inr, ◌≤◌, ◌<◌, ℕ, List, ◌+◌, ◌++◌, Option, Some, None, ap, sym, ◌∙◌, subst}, specs.Prelude.{Contains, IsSome}}
 use Rattle.hc_core.specs.Steps.{StandsFor, last_moment, limits_in, bytes_received}
-use Rattle.hc_effects.proofs.Vocabulary.{Act, no_contents}
+use Rattle.hc_effects.proofs.Vocabulary.{Act}
 use Rattle.hc_peers.specs.{Clients.{client_of}, Upstreams.{upstream_of, is_news, is_touched}, declared.clients.Clients.{Clients}}
 use Rattle.hc_peers.specs.declared.upstream.Upstream as origin
 use Rattle.hc_store.specs.declared.backend.Backend.{Ghosts}
@@ -20,7 +20,8 @@ module _ {B : Type 0} {g : Ghosts B} where
   pub cache_moves : (f : Frame) (x x' : loop.Proxy B g) (p : Proxy) → x'.cache ≡ x.cache → x'.record ≡ x.record → x'.now ≡ x.now → x'.starts ≡ x.starts →
       HasCache f x p → HasCache f x' p
   cache_moves f x x' p cache text now starts h = record {
-    stands = subst (λ c. StandsFor c no_contents p.history) (sym cache) h.stands;
+    contents = h.contents;
+    stands = subst (λ c. StandsFor c p.contents p.history) (sym cache) h.stands;
     same = h.same;
     limits = ap limits_in cache ∙ h.limits;
     now = now ∙ h.now;
@@ -35,6 +36,7 @@ module _ {B : Type 0} {g : Ghosts B} where
     headed = h.headed;
     small = subst (λ c. unread p + bytes_received c ≤ f.bytes) (sym cache) h.small;
     bounded = h.bounded;
+    room = h.room;
     targets = h.targets;
   }
 
@@ -42,6 +44,7 @@ module _ {B : Type 0} {g : Ghosts B} where
   pub cache_with : (f : Frame) (x : loop.Proxy B g) (p : Proxy) (all : ℕ → Option Client) (ks : List ℕ) → HasCache f x p →
       HasCache f x (record p { client = all; accepted = ks })
   cache_with f x p all ks h = record {
+    contents = h.contents;
     stands = h.stands;
     same = h.same;
     limits = h.limits;
@@ -57,6 +60,7 @@ module _ {B : Type 0} {g : Ghosts B} where
     headed = h.headed;
     small = h.small;
     bounded = h.bounded;
+    room = h.room;
     targets = h.targets;
   }
 
@@ -65,6 +69,7 @@ module _ {B : Type 0} {g : Ghosts B} where
       AreHeaded (record p { upstream = rows }) → unread (record p { upstream = rows }) + bytes_received x.cache ≤ f.bytes → HasCache f x p →
       HasCache f x (record p { upstream = rows })
   cache_rows f x p rows unopened headed small h = record {
+    contents = h.contents;
     stands = h.stands;
     same = h.same;
     limits = h.limits;
@@ -80,6 +85,7 @@ module _ {B : Type 0} {g : Ghosts B} where
     headed = headed;
     small = small;
     bounded = h.bounded;
+    room = h.room;
     targets = h.targets;
   }
 

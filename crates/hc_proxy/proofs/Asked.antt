@@ -12,7 +12,7 @@ use Rattle.hc_msg.specs.{NextParts.{IsReadOn}, Reading.{Reading, Requests, Token
 use Rattle.hc_msg.proofs.Leading.{leads_on}
 use Rattle.hc_wire.specs.Logs.{Called}
 use Rattle.hc_wire.specs.declared.event.WireEvent.TheVariants as wire
-use Rattle.hc_proxy.specs.{Asked.{got_by, got_from, is_at, started_by, starts_of, count_by, starts_in, IsNextStart, AreClients}, Connections.{place_from, exchange_of}, Invariants.{IsOfRequests}, Rows.{Client, with}, Starts.{read_to}}
+use Rattle.hc_proxy.specs.{Asked.{got_by, got_from, is_at, started_by, starts_of, count_by, starts_in, IsNextStart, AreClients}, Connections.{is_dialled, place_from, exchange_of}, Invariants.{IsOfRequests}, Rows.{Client, with}, Starts.{read_to}}
 use Rattle.hc_proxy.proofs.NetworkKeeps.{is_of_exchange}
 
 -- EVENTS
@@ -90,16 +90,16 @@ module _ (holder : ℕ → Option ℕ) (c z : ℕ) where
   next_kept n (event.Cancel d) next lt = tt
   next_kept n (event.Doom d) next lt = tt
 
-  pub starts_kept : (k : ℕ) (h : History) → AreClients holder h → starts_in h < c → starts_of (with c z holder) k h ≡ starts_of holder k h
-  starts_kept k [] are lt = refl
-  starts_kept k (e ∷ h) are lt =
-      let rest : starts_of (with c z holder) k h ≡ starts_of holder k h = starts_kept k h are.1 (omega arith) in
-      let last : started_by (with c z holder) k e.event ≡ started_by holder k e.event = event_kept k (starts_in h) e.event are.0 lt in
-      rw (rest, last) refl
+  pub starts_kept : (last k : ℕ) (h : History) → AreClients last holder h → last + starts_in h < c → starts_of (with c z holder) k h ≡ starts_of holder k h
+  starts_kept last k [] are lt = refl
+  starts_kept last k (e ∷ h) are lt =
+      let rest : starts_of (with c z holder) k h ≡ starts_of holder k h = starts_kept last k h are.1 (omega arith) in
+      let newest : started_by (with c z holder) k e.event ≡ started_by holder k e.event = event_kept k (last + starts_in h) e.event are.0 (omega arith) in
+      rw (rest, newest) refl
 
-  pub clients_kept : (h : History) → AreClients holder h → starts_in h < c → AreClients (with c z holder) h
-  clients_kept [] are lt = tt
-  clients_kept (e ∷ h) are lt = (next_kept (starts_in h) e.event are.0 lt, clients_kept h are.1 (omega arith))
+  pub clients_kept : (last : ℕ) (h : History) → AreClients last holder h → last + starts_in h < c → AreClients last (with c z holder) h
+  clients_kept last [] are lt = tt
+  clients_kept last (e ∷ h) are lt = (next_kept (last + starts_in h) e.event are.0 (omega arith), clients_kept last h are.1 (omega arith))
 
 -- WHAT CAME
 
@@ -108,11 +108,11 @@ got_more k [] call = append-nil (got_by k call.event call.bytes)
 got_more k (first ∷ calls) call = ap (λ (xs : List ℕ). got_by k first.event first.bytes ++ xs) (got_more k calls call) ∙
     sym (append_assoc (got_by k first.event first.bytes) (got_from k calls) (got_by k call.event call.bytes))
 
-pub place_shorter : (i k m n : ℕ) (ks : List ℕ) → m ≤ n → place_from i k (take n ks) ≡ None → place_from i k (take m ks) ≡ None
+pub place_shorter : (i k m n : ℕ) (ks : List (Option ℕ)) → m ≤ n → place_from i k (take n ks) ≡ None → place_from i k (take m ks) ≡ None
 place_shorter i k zero n ks le none = refl
 place_shorter i k (suc m) n [] le none = refl
 place_shorter i k (suc m) zero (j ∷ ks) le none = absurd (omega arith)
-place_shorter i k (suc m) (suc n) (j ∷ ks) le none = by_test (nat_eq j k) none (λ is. place_shorter (i + 1) k m n ks (omega arith) is)
+place_shorter i k (suc m) (suc n) (j ∷ ks) le none = by_test (is_dialled k j) none (λ is. place_shorter (i + 1) k m n ks (omega arith) is)
   where
     by_test : (b : Bool) → (if b then Some i else place_from (i + 1) k (take n ks)) ≡ None →
         (place_from (i + 1) k (take n ks) ≡ None → place_from (i + 1) k (take m ks) ≡ None) → (if b then Some i else place_from (i + 1) k (take m ks)) ≡ None
@@ -126,7 +126,7 @@ module _ (k : ℕ) where
   abbrev pub IsAccepted : List Called → List Called → Type 0
   IsAccepted calls behind = (before : List Called) × (call : Called) × (calls ≡ before ++ call ∷ behind) × (call.event ≡ wire.Accepted k)
 
-  pub record IsRead (ds : List ℕ) (calls : List Called) (client : Client) (requests : List Request) (asked : List WireRequest) : Type 0 where
+  pub record IsRead (ds : List (Option ℕ)) (calls : List Called) (client : Client) (requests : List Request) (asked : List WireRequest) : Type 0 where
     pub behind : List Called
     pub accepted : IsAccepted calls behind
     pub front : List ℕ
@@ -145,7 +145,7 @@ module _ (k : ℕ) where
   pub later : (calls behind : List Called) (call : Called) → IsAccepted calls behind → IsAccepted (more_calls calls call) (more_calls behind call)
   later calls behind call is = (is.0, is.1, ap (λ (cs : List Called). cs ++ call ∷ []) is.2 ∙ append_assoc is.0 (is.1 ∷ behind) (call ∷ []), is.3)
 
-  module _ (ds : List ℕ) (calls : List Called) (call : Called) where
+  module _ (ds : List (Option ℕ)) (calls : List Called) (call : Called) where
     abbrev pub got : List ℕ
     got = got_by k call.event call.bytes
 
@@ -189,7 +189,7 @@ module _ (k : ℕ) where
 
   -- CHANGES
 
-  module _ (ds : List ℕ) (calls : List Called) where
+  module _ (ds : List (Option ℕ)) (calls : List Called) where
     -- one that keeps what waits, where it is read, and who is gone
     pub alike : (new old : Client) (requests : List Request) (asked : List WireRequest) → new.input ≡ old.input → new.reading ≡ old.reading →
         (new.gone ≡ false → old.gone ≡ false) → IsRead ds calls old requests asked → IsRead ds calls new requests asked

@@ -135,7 +135,7 @@ module _ (limits : Limits) (call : Called) (k : ℕ) where
   broke_by z None p = leaves_by z (p.client z) p
   broke_by z (Some x) p = either (is_open (p.tables.exchange x)) p (stepped limits (event.Fault x) p) (stepped_same (event.Fault x) p)
 
-  by_event : (dialled bytes : List ℕ) (w : WireEvent) (p : Proxy) → Before p (handled_by limits dialled bytes w p)
+  by_event : (dialled : List (Option ℕ)) (bytes : List ℕ) (w : WireEvent) (p : Proxy) → Before p (handled_by limits dialled bytes w p)
   by_event dialled bytes (wire.Accepted z) p = comes z p
   by_event dialled bytes (wire.Got z n) p = sends_by z bytes (exchange_of dialled z) p
   by_event dialled bytes (wire.Ended z) p = ends_by z (exchange_of dialled z) p
@@ -143,7 +143,7 @@ module _ (limits : Limits) (call : Called) (k : ℕ) where
   by_event dialled bytes (wire.Room z) p = same p p refl
   by_event dialled bytes wire.Quiet p = same p p refl
 
-  pub handled_before : (dialled : List ℕ) (p : Proxy) → Before p (handled limits dialled call p)
+  pub handled_before : (dialled : List (Option ℕ)) (p : Proxy) → Before p (handled limits dialled call p)
   unfolding handled
   handled_before dialled p = by_event dialled call.bytes call.event p
 

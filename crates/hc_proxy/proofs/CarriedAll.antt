@@ -3,13 +3,13 @@
 -- What was carried out so far leads to tables behind which the acts that are left lead to the same. Where something
 -- fails, as many connections were dialled as exchanges were opened at most. Behind the last act, each exchange has its
 -- connection. Those that are closed then are of nobody who is kept, so closing them changes nothing of what is kept.
-use Rattle.std.{proofs.{Common.{◌≡◌, ◌⊎◌, inl, inr, ℕ, List, [], ◌∷◌, ◌++◌, Bool, true, false, Option, Some, None, refl, ap, sym, ◌∙◌, subst, arith, length, append_assoc}, lemmas.{List.{append-nil, Elements.{Contains-append_cases}}, Map.Views.{Contains-from_any, list_any-from_Contains}}, Math.Logic.{∥∥₁_map}}, specs.{Prelude.{nat_eq, Contains, if◌then◌else◌}, List.{list_any}, Cmp.{nat_eq_equiv}}}
+use Rattle.std.{proofs.{Common.{◌≡◌, ◌⊎◌, inl, inr, ℕ, List, [], ◌∷◌, ◌++◌, Bool, true, false, Option, Some, None, refl, ap, sym, ◌∙◌, subst, arith, length, append_assoc}, lemmas.{List.{append-nil, map-append, Elements.{Contains-append_cases}}, Map.Views.{Contains-from_any, list_any-from_Contains}}, Math.Logic.{∥∥₁_map}}, specs.{Prelude.{nat_eq, map, Contains, if◌then◌else◌}, List.{list_any}, Cmp.{nat_eq_equiv}}}
 use Rattle.hc_text.proofs.Basics.{eq_reports as same_of}
 use Rattle.hc_effects.proofs.Vocabulary.{act_list, Act, Tables}
 use Rattle.hc_store.specs.declared.backend.Backend.{Ghosts}
 use Rattle.hc_wire.specs.{Events.{Stage, Unseen, Open, Closed, IsOpen, closed_of}, Logs.{Log, stage_in, sent_in}}
 use Rattle.hc_proxy.specs.declared.proxy.Proxy as loop
-use Rattle.hc_proxy.specs.{Carrying.{acts_in, carried_out, carried}, Keeping.{Turn, AtWire, KeepsPolled}, Connections.{taken_at}, Logging.{Dials}, Resting.{KeepsCarried}, Rows.{Proxy}, TurnSteps.{CarriedOut, CarriedSome}, Underway.{Closes, KeepsUnderway, OnWire, GoesOn, IsNext, IsPolledOn, IsUnderway, dialling}}
+use Rattle.hc_proxy.specs.{Carrying.{acts_in, carried_out, carried}, Keeping.{Turn, AtWire, KeepsPolled}, Connections.{dials_from, taken_at}, Logging.{Dials}, Resting.{KeepsCarried}, Rows.{Proxy}, TurnSteps.{CarriedOut, CarriedSome}, Underway.{Closes, KeepsUnderway, OnWire, GoesOn, IsNext, IsPolledOn, IsUnderway, dialling}}
 use mathlib.Core.Path.{fun_ext}
 use Rattle.hc_proxy.proofs.Sendings as sent
 use Rattle.hc_proxy.proofs.{Holders.{HeldBy, held_of}, CarriedOut.{same_tables, all_live, rests_of}, Closings.{dials_none}}
@@ -29,6 +29,9 @@ dials_both one two a b c first second = record {
   unseen = λ k is. first.unseen k (second.unseen k is);
 }
 
+joined : (before : List (Option ℕ)) (one two : List ℕ) → (before ++ map Some one) ++ map Some two ≡ before ++ map Some (one ++ two)
+joined before one two = append_assoc before (map Some one) (map Some two) ∙ ap (λ (os : List (Option ℕ)). before ++ os) (sym (map-append Some one two))
+
 module _ {B : Type 0} {g : Ghosts B} (t : Turn) (p : Proxy) (log : Log) where
   -- ONE MORE
 
@@ -37,7 +40,7 @@ module _ {B : Type 0} {g : Ghosts B} (t : Turn) (p : Proxy) (log : Log) where
     pub goes_underway : GoesOn (dialling u.more before t) a acts u.p' u.log' x' reported' after → IsUnderway t p log acts x' reported' after
     goes_underway go =
         let turns : dialling go.more after (dialling u.more before t) ≡ dialling (u.more ++ go.more) after t =
-        ap (λ (ks : List ℕ). let r : Turn = record t { dialled = ks; stages = after } in r) (append_assoc t.dialled u.more go.more) in
+        ap (λ (ks : List (Option ℕ)). let r : Turn = record t { dialled = ks; stages = after } in r) (joined t.dialled u.more go.more) in
         record {
           log' = go.log';
           more = u.more ++ go.more;
@@ -56,7 +59,7 @@ module _ {B : Type 0} {g : Ghosts B} (t : Turn) (p : Proxy) (log : Log) where
       follows = s.follows;
       dials = dials_both u.more s.more log u.log' s.log' u.dials s.dials;
       opened =
-          let same = ap length (append_assoc t.dialled u.more s.more) in
+          let same = ap length (joined t.dialled u.more s.more) in
           let opened_same = ap (λ (r : Tables). r.opened) u.tables in
           let le = s.opened in omega arith;
     }
@@ -137,6 +140,7 @@ module _ {B : Type 0} {g : Ghosts B} (t : Turn) (p : Proxy) (log : Log) where
     keeps : KeepsCarried r x' u.p'
     keeps = record {
       cache = record {
+        contents = u.keeps.cache.contents;
         stands = u.keeps.cache.stands;
         same = u.keeps.cache.same;
         limits = u.keeps.cache.limits;
@@ -152,6 +156,7 @@ module _ {B : Type 0} {g : Ghosts B} (t : Turn) (p : Proxy) (log : Log) where
         headed = u.keeps.cache.headed;
         small = u.keeps.cache.small;
         bounded = u.keeps.cache.bounded;
+        room = u.keeps.cache.room;
         targets = u.keeps.cache.targets;
       };
       acts = empty;
@@ -185,14 +190,15 @@ module _ {B : Type 0} {g : Ghosts B} (t : Turn) (p : Proxy) (log : Log) where
       on_wire = record {
         follows = c.follows;
         stands = λ k. refl;
-        dialled = c.dials.dialled ∙ (append-nil u.log'.dialled ∙ (u.on_wire.dialled ∙ sym (ap (λ (ks : List ℕ). t.dialled ++ ks) (append-nil u.more))));
+        dialled = ap (dials_from t.frame.contents) (c.dials.dialled ∙ append-nil u.log'.dialled)
+            ∙ (u.on_wire.dialled ∙ sym (ap (λ (ks : List ℕ). t.dialled ++ map Some ks) (append-nil u.more)));
         taken = λ k. by_taken k (u.on_wire.taken k);
       };
       opened = λ le.
-          let same = ap (λ (ks : List ℕ). length (t.dialled ++ ks)) (append-nil u.more) in
+          let same = ap (λ (ks : List ℕ). length (t.dialled ++ map Some ks)) (append-nil u.more) in
           let tables = ap (λ (rows : Tables). rows.opened) u.tables in
-          let all : length (t.dialled ++ u.more) ≡ u.p'.tables.opened = u.keeps.upstreams.opens in omega arith;
-      keeps = subst (λ (ks : List ℕ). KeepsCarried (record t { dialled = t.dialled ++ ks; stages = after }) x' (carried p)) (sym (append-nil u.more))
+          let all : length (t.dialled ++ map Some u.more) ≡ u.p'.tables.opened = u.keeps.upstreams.opens in omega arith;
+      keeps = subst (λ (ks : List ℕ). KeepsCarried (record t { dialled = t.dialled ++ map Some ks; stages = after }) x' (carried p)) (sym (append-nil u.more))
           (subst (λ (q : Proxy). KeepsCarried r x' q) u.same keeps);
     }
       where
@@ -220,6 +226,7 @@ module _ {B : Type 0} {g : Ghosts B} (t : Turn) (p : Proxy) (log : Log) (reporte
   begun_keeps : KeepsPolled t x p → KeepsUnderway t (acts_in p.part) (record x { acts = y.acts }) p
   begun_keeps k = record {
     cache = record {
+      contents = k.keeps.cache.contents;
       stands = k.keeps.cache.stands;
       same = k.keeps.cache.same;
       limits = k.keeps.cache.limits;
@@ -235,6 +242,7 @@ module _ {B : Type 0} {g : Ghosts B} (t : Turn) (p : Proxy) (log : Log) (reporte
       headed = k.keeps.cache.headed;
       small = k.keeps.cache.small;
       bounded = k.keeps.cache.bounded;
+      room = k.keeps.cache.room;
       targets = k.keeps.cache.targets;
     };
     moved = k.moved;
@@ -268,7 +276,8 @@ module _ {B : Type 0} {g : Ghosts B} (t : Turn) (p : Proxy) (log : Log) (reporte
   unfolding carried
   begins acts these k on =
       let turns : dialling [] stages t ≡ t =
-      sent.both (λ (ks : List ℕ) (f : ℕ → Stage). let u : Turn = record t { dialled = ks; stages = f } in u) (append-nil t.dialled) (fun_ext on.stands) in
+      sent.both (λ (ks : List (Option ℕ)) (f : ℕ → Stage). let u : Turn = record t { dialled = ks; stages = f } in u) (append-nil t.dialled)
+      (fun_ext on.stands) in
       let all : acts_in p.part ≡ acts = sym (these ∙ k.keeps.acts) in
       subst (λ (left : List Act). IsUnderway t p log left (record x { acts = y.acts }) reported stages) all (record {
         log' = log;

@@ -32,7 +32,8 @@ module _ {B : Type 0} {g : Ghosts B} (t : Turn) (x : loop.Proxy B g) (p : Proxy)
   pub stays_on : OnWire t log reported stages → KeepsUnderway t acts x (carried_out a p) → GoesOn t a acts p log x reported stages
   stays_on on keeps =
       let turns : dialling [] stages t ≡ t =
-      sent.both (λ (ks : List ℕ) (f : ℕ → Stage). let u : Turn = record t { dialled = ks; stages = f } in u) (append-nil t.dialled) (fun_ext on.stands) in
+      sent.both (λ (ks : List (Option ℕ)) (f : ℕ → Stage). let u : Turn = record t { dialled = ks; stages = f } in u) (append-nil t.dialled)
+      (fun_ext on.stands) in
       record {
         log' = log;
         more = [];
@@ -61,7 +62,7 @@ fails_opening t x p acts y c need request log reported reported' before after on
   more = k ∷ [];
   follows = follows_dialled k log reported reported' before after on.follows d;
   dials = dials_one k log reported reported' before after on.follows d;
-  opened = let size = length-append t.dialled (k ∷ []) in let le = up_grows acts (length t.dialled + 1) p.tables.opened h.upstreams.opens.1 in omega arith;
+  opened = let size = length-append t.dialled (Some k ∷ []) in let le = up_grows acts (length t.dialled + 1) p.tables.opened h.upstreams.opens.1 in omega arith;
 }
 fails_opening t x p acts y c need request log reported reported' before after on h (none same stays) = record {
   log' = log;

@@ -22,7 +22,7 @@ no_poll (event.Fault x) is = refl
 no_poll (event.Cancel c) is = absurd (let never : false ≡ true = is in cc)
 no_poll (event.Doom key) is = absurd (let never : false ≡ true = is in cc)
 
-module _ (limits : Limits) (h : History) (k : ℕ) (ds : List ℕ) where
+module _ (limits : Limits) (h : History) (k : ℕ) (ds : List (Option ℕ)) where
   -- a row that keeps what is read, owed and waited for, where no client comes back
   pub kept_row : (calls : List Called) (p : Proxy) (new old : Client) → new.input ≡ old.input → new.reading ≡ old.reading → new.owed ≡ old.owed →
       new.reply ≡ old.reply → new.consumer ≡ old.consumer → new.closing ≡ old.closing

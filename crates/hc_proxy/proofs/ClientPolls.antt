@@ -5,9 +5,9 @@
 -- consumer of this client is sent to the one that it waits for, while it is here, and its answer goes on by that
 -- (`owes_last`). Who is live behind the turn was live before the polls and isn't told that it is over: so it is still
 -- waited for.
-use Rattle.std.{proofs.{Common.{◌≡◌, ◌⊎◌, inl, inr, ◌≤◌, ◌<◌, ℕ, List, [], ◌∷◌, ◌++◌, Bool, true, false, Option, Some, None, refl, ap, sym, ◌∙◌, subst, arith, append_assoc, append-nil}, lemmas.{Bool.Decides.{nat_tests}, List.Elements.{filter-append}}}, specs.Prelude.{◌&&◌, ◌||◌, not, nat_eq, filter, option_map, if◌then◌else◌}}
+use Rattle.std.{proofs.{Common.{◌≡◌, ◌⊎◌, inl, inr, ◌≤◌, ◌<◌, ◌+◌, ℕ, List, [], ◌∷◌, ◌++◌, Bool, true, false, Option, Some, None, refl, ap, sym, ◌∙◌, subst, arith, append_assoc, append-nil}, lemmas.{Bool.Decides.{nat_tests}, List.Elements.{filter-append}}}, specs.Prelude.{◌&&◌, ◌||◌, not, nat_eq, filter, option_map, if◌then◌else◌}}
 use Rattle.hc_text.proofs.Basics.{some_inj as some_is}
-use Rattle.hc_effects.proofs.Vocabulary.{leaves_in, Act, Request, is_live, Entry, History, Tables, IsOwed, owed, Limits, event}
+use Rattle.hc_effects.proofs.Vocabulary.{leaves_in, Act, Request, is_live, Contents, Entry, History, Tables, IsOwed, owed, Limits, event}
 use Rattle.hc_head.specs.declared.message.WireRequest.{WireRequest}
 use Rattle.hc_peers.specs.Renderings.{reply_to}
 use Rattle.hc_wire.specs.Logs.{Called}
@@ -42,10 +42,11 @@ module _ (limits : Limits) (call : Called) (k : ℕ) (q : Proxy) where
     pub client : p.client ≡ q.client
     pub holder : p.holder ≡ q.holder
     pub starts : p.starts ≡ q.starts
+    pub contents : p.contents ≡ q.contents
     pub stands : Stands limits p
     pub over : HasOver p
     pub count : starts_in p.history ≡ starts_in q.history
-    pub clients : AreClients p.holder p.history
+    pub clients : AreClients p.contents.last_consumer p.holder p.history
     pub requests : starts_of p.holder k p.history ≡ starts_of q.holder k q.history
     pub consumers : consumers_of p.holder k p.history ≡ consumers_of q.holder k q.history
     pub less : (d : ℕ) → is_live (p.tables.consumer d) ≡ true → is_live (q.tables.consumer d) ≡ true
@@ -64,6 +65,7 @@ module _ (limits : Limits) (call : Called) (k : ℕ) (q : Proxy) where
         client = s.client;
         holder = s.holder;
         starts = s.starts;
+        contents = s.contents;
         stands = (goes_on limits (event.Poll c 16384) p s.stands).stands;
         over = over_here limits (event.Poll c 16384) p s.stands s.over;
         count = let was : starts_in p.history ≡ starts_in q.history = s.count in omega arith;
@@ -72,7 +74,8 @@ module _ (limits : Limits) (call : Called) (k : ℕ) (q : Proxy) where
         consumers = append-nil (consumers_of p.holder k p.history) ∙ s.consumers;
         less = λ d live. s.less d (other_live limits (event.Poll c 16384) p s.stands tt d live);
         acts = may_both (acts_in p.part) e.acts s.acts
-            (to_may c e.acts may (polls_alone limits p.history s.stands.run e (subst (λ (t : Tables). IsOwed limits t e) s.stands.same is) c 16384 refl));
+            (to_may c e.acts may (polls_alone limits p.contents p.history s.stands.begins s.stands.run e
+            (subst (λ (t : Tables). IsOwed limits t e) s.stands.same is) c 16384 refl));
       }
 
   one_on : (c : ℕ) (p : Proxy) → is_live (q.tables.consumer c) ≡ true → IsPolled p → IsPolled (polled limits call c p)
@@ -180,16 +183,16 @@ answer_part d (e ∷ es) h =
 
 -- BETWEEN TURNS
 
-pub record Rested (limits : Limits) (k : ℕ) (ds : List ℕ) (calls : List Called) (p : Proxy) : Type 0 where
-  pub count : p.starts ≡ starts_in p.history
-  pub clients : AreClients p.holder p.history
+pub record Rested (limits : Limits) (k : ℕ) (ds : List (Option ℕ)) (calls : List Called) (p : Proxy) : Type 0 where
+  pub count : p.starts ≡ p.contents.last_consumer + starts_in p.history
+  pub clients : AreClients p.contents.last_consumer p.holder p.history
   pub stands : Stands limits p
   pub named : (d j : ℕ) → p.holder d ≡ Some j → d ≤ p.starts
   pub fresh : (d : ℕ) → p.starts < d → answer_to d p.history ≡ []
   pub row : IsRow limits p.history k ds calls p (p.client k)
 
 -- h was carried out before the turn, q stands before its polls, and p behind them
-module _ (limits : Limits) (h : History) (k : ℕ) (ds : List ℕ) (calls : List Called) (call : Called) (q p : Proxy) (f : Follows limits h k ds calls q)
+module _ (limits : Limits) (h : History) (k : ℕ) (ds : List (Option ℕ)) (calls : List Called) (call : Called) (q p : Proxy) (f : Follows limits h k ds calls q)
     (s : IsPolled limits call k q p) (base : p.history ≡ p.part ++ h) where
   abbrev acts : List Act
   acts = acts_in p.part
@@ -278,8 +281,16 @@ module _ (limits : Limits) (h : History) (k : ℕ) (ds : List ℕ) (calls : List
 
   pub carries_on : Rested limits k ds calls p'
   carries_on = record {
-    count = same.starts ∙ (s.starts ∙ (f.all.count ∙ (sym s.count ∙ ap starts_in (sym same.history))));
-    clients = subst (λ (x : ℕ → Option ℕ). AreClients x p'.history) (sym same.holder) (subst (AreClients p.holder) (sym same.history) s.clients);
+    count =
+        let starts : p'.starts ≡ q.starts = same.starts ∙ s.starts in
+        let before : q.starts ≡ q.contents.last_consumer + starts_in q.history = f.all.count in
+        let count : starts_in p'.history ≡ starts_in q.history = ap starts_in same.history ∙ s.count in
+        let first : p'.contents.last_consumer ≡ q.contents.last_consumer = ap (λ (x : Contents). x.last_consumer) (same.contents ∙ s.contents) in
+        omega arith;
+    clients =
+        subst (λ (x : Contents). AreClients x.last_consumer p'.holder p'.history) (sym same.contents)
+        (subst (λ (x : ℕ → Option ℕ). AreClients p.contents.last_consumer x p'.history) (sym same.holder)
+        (subst (AreClients p.contents.last_consumer p.holder) (sym same.history) s.clients));
     stands = stands_now;
     named = λ d j at.
         let le : d ≤ q.starts = f.all.named d j (sym (ap (λ (x : ℕ → Option ℕ). x d) (same.holder ∙ s.holder)) ∙ at) in
@@ -301,7 +312,8 @@ module _ (limits : Limits) (h : History) (k : ℕ) (ds : List ℕ) (calls : List
 
 -- BEFORE THE POLLS, AND BEHIND THEM
 
-pub polls_on : (limits : Limits) (h : History) (k : ℕ) (ds : List ℕ) (calls : List Called) (call : Called) (q : Proxy) → Follows limits h k ds calls q →
+pub polls_on : (limits : Limits) (h : History) (k : ℕ) (ds : List (Option ℕ)) (calls : List Called) (call : Called) (q : Proxy) →
+    Follows limits h k ds calls q →
     IsPolled limits call k q (polled_all limits call q)
 unfolding polled_all
 polls_on limits h k ds calls call q f =
@@ -309,6 +321,7 @@ polls_on limits h k ds calls call q f =
       client = refl;
       holder = refl;
       starts = refl;
+      contents = refl;
       stands = f.all.stands;
       over = f.all.over;
       count = refl;

@@ -61,7 +61,8 @@ module _ (limits : Limits) (h : History) (k : ℕ) where
   abbrev pub Holds : Proxy → ℕ → Type 0
   Holds p d = (is_live (p.tables.consumer d) ≡ true) × (p.holder d ≡ Some k)
 
-  pub record IsFollowed (ds : List ℕ) (calls : List Called) (client : Client) (requests : List Request) (cs : List ℕ) (holds : ℕ → Type 0) : Type 0 where
+  pub record IsFollowed (ds : List (Option ℕ)) (calls : List Called) (client : Client) (requests : List Request) (cs : List ℕ) (holds : ℕ → Type 0) : Type
+      0 where
     pub asked : List WireRequest
     pub read : IsRead k ds calls client requests asked
     pub owes : Owes h cs asked client
@@ -72,26 +73,26 @@ module _ (limits : Limits) (h : History) (k : ℕ) where
     pub nobody : cs ≡ []
     pub unheld : (d : ℕ) → holds d → ⊥
 
-  abbrev pub HasRow : List ℕ → List Called → Option Client → List Request → List ℕ → (ℕ → Type 0) → Type 0
+  abbrev pub HasRow : List (Option ℕ) → List Called → Option Client → List Request → List ℕ → (ℕ → Type 0) → Type 0
   HasRow ds calls None requests cs holds = IsAbsent requests cs holds
   HasRow ds calls (Some client) requests cs holds = IsFollowed ds calls client requests cs holds
 
   -- this is its row, by who was started
-  abbrev pub IsRow : List ℕ → List Called → Proxy → Option Client → Type 0
+  abbrev pub IsRow : List (Option ℕ) → List Called → Proxy → Option Client → Type 0
   IsRow ds calls p o = HasRow ds calls o (starts_of p.holder k p.history) (consumers_of p.holder k p.history) (Holds p)
 
   -- ALL OF THEM, before the polls
 
   pub record Stays (p : Proxy) : Type 0 where
-    pub count : p.starts ≡ starts_in p.history
-    pub clients : AreClients p.holder p.history
+    pub count : p.starts ≡ p.contents.last_consumer + starts_in p.history
+    pub clients : AreClients p.contents.last_consumer p.holder p.history
     pub stands : Stands limits p
     pub named : (d j : ℕ) → p.holder d ≡ Some j → d ≤ p.starts
     pub fresh : (d : ℕ) → p.starts < d → answer_to d h ≡ []
     pub over : HasOver p
     pub quiet : AreQuiet (acts_in p.part)
 
-  pub record Follows (ds : List ℕ) (calls : List Called) (p : Proxy) : Type 0 where
+  pub record Follows (ds : List (Option ℕ)) (calls : List Called) (p : Proxy) : Type 0 where
     pub all : Stays p
     pub row : IsRow ds calls p (p.client k)
 
@@ -101,14 +102,14 @@ module _ (limits : Limits) (h : History) (k : ℕ) where
   put_all accepted rows up p a = record {
     count = a.count;
     clients = a.clients;
-    stands = record { run = a.stands.run; same = a.stands.same; later = a.stands.later };
+    stands = record { begins = a.stands.begins; run = a.stands.run; same = a.stands.same; later = a.stands.later };
     named = a.named;
     fresh = a.fresh;
     over = a.over;
     quiet = a.quiet;
   }
 
-  pub row_less : (ds : List ℕ) (calls : List Called) (o : Option Client) (requests requests' : List Request) (cs cs' : List ℕ)
+  pub row_less : (ds : List (Option ℕ)) (calls : List Called) (o : Option Client) (requests requests' : List Request) (cs cs' : List ℕ)
       (holds holds' : ℕ → Type 0) → requests' ≡ requests → cs' ≡ cs → ((d : ℕ) → holds' d → holds d)
       → HasRow ds calls o requests cs holds → HasRow ds calls o requests' cs' holds'
   row_less ds calls None requests requests' cs cs' holds holds' same these less r =
@@ -120,7 +121,7 @@ module _ (limits : Limits) (h : History) (k : ℕ) where
     live = λ d is here. r.live d (less d is) here;
   }
 
-  module _ (ds : List ℕ) (calls : List Called) where
+  module _ (ds : List (Option ℕ)) (calls : List Called) where
     abbrev S : Proxy → Type 0
     S p = Follows ds calls p
 
@@ -136,8 +137,9 @@ module _ (limits : Limits) (h : History) (k : ℕ) where
         let a : Stays p = s.all in
         record {
           all = record {
-            count = let none : count_by ev ≡ 0 = other_count ev off in let is : p.starts ≡ starts_in p.history = a.count in omega arith;
-            clients = (other_next p.holder (starts_in p.history) ev off, a.clients);
+            count = let none : count_by ev ≡ 0 = other_count ev off in let is : p.starts ≡ p.contents.last_consumer + starts_in p.history = a.count in
+                omega arith;
+            clients = (other_next p.holder (p.contents.last_consumer + starts_in p.history) ev off, a.clients);
             stands = (goes_on limits ev p a.stands).stands;
             named = a.named;
             fresh = a.fresh;
@@ -168,13 +170,13 @@ module _ (limits : Limits) (h : History) (k : ℕ) where
       held = with_holder c z p
 
       held_stands : Stands limits held
-      held_stands = record { run = a.stands.run; same = a.stands.same; later = a.stands.later }
+      held_stands = record { begins = a.stands.begins; run = a.stands.run; same = a.stands.same; later = a.stands.later }
 
       itself : with c z p.holder c ≡ Some z
       itself = let same : nat_eq c c ≡ true = grind (arith, nat_tests) in rw same refl
 
-      lt : starts_in p.history < c
-      lt = let is : p.starts ≡ starts_in p.history = a.count in omega arith
+      lt : p.contents.last_consumer + starts_in p.history < c
+      lt = let is : p.starts ≡ p.contents.last_consumer + starts_in p.history = a.count in omega arith
 
       named_on : (d j : ℕ) → with c z p.holder d ≡ Some j → d ≤ c
       named_on d j is = by_test (nat_eq d c) refl is
@@ -212,10 +214,10 @@ module _ (limits : Limits) (h : History) (k : ℕ) where
       unfolding with_entry owed
       start_on row = record {
         all = record {
-          count = let is : p.starts ≡ starts_in p.history = a.count in omega arith;
+          count = let is : p.starts ≡ p.contents.last_consumer + starts_in p.history = a.count in omega arith;
           clients = (
-            (let is : p.starts ≡ starts_in p.history = a.count in omega arith, subst (λ (o : Option ℕ). IsSome o) (sym itself) refl),
-            clients_kept p.holder c z p.history a.clients lt,
+            (let is : p.starts ≡ p.contents.last_consumer + starts_in p.history = a.count in omega arith, subst (λ (o : Option ℕ). IsSome o) (sym itself) refl),
+            clients_kept p.holder c z p.contents.last_consumer p.history a.clients lt,
           );
           stands = (goes_on limits (event.Start c request) held held_stands).stands;
           named = named_on;
@@ -230,9 +232,10 @@ module _ (limits : Limits) (h : History) (k : ℕ) where
             (consumers_of (with c z p.holder) k p.history ++ (if is_at k (with c z p.holder c) then c ∷ [] else []))
             (HoldsOr p z) (Holds (stepped limits (event.Start c request) held))
             (ap (λ (o : Option ℕ). starts_of (with c z p.holder) k p.history ++ (if is_at k o then request ∷ [] else [])) itself
-            ∙ ap (λ (xs : List Request). xs ++ (if nat_eq k z then request ∷ [] else [])) (starts_kept p.holder c z k p.history a.clients lt))
+            ∙ ap (λ (xs : List Request). xs ++ (if nat_eq k z then request ∷ [] else []))
+            (starts_kept p.holder c z p.contents.last_consumer k p.history a.clients lt))
             (ap (λ (o : Option ℕ). consumers_of (with c z p.holder) k p.history ++ (if is_at k o then c ∷ [] else [])) itself
-            ∙ ap (λ (xs : List ℕ). xs ++ (if nat_eq k z then c ∷ [] else [])) (consumers_kept p.holder c z k p.history a.clients lt))
+            ∙ ap (λ (xs : List ℕ). xs ++ (if nat_eq k z then c ∷ [] else [])) (consumers_kept p.holder c z p.contents.last_consumer k p.history a.clients lt))
             holds_less row;
       }
 
@@ -317,7 +320,8 @@ module _ (limits : Limits) (h : History) (k : ℕ) where
                 (reads_on k ds calls client requests r.asked (request ∷ []) next.front rest t next.whole
                 (reports_leads client.reading next.front (Asks request) t next.reports) (of_head t asked) r.read);
             owes = owes_asks h cs r.asked (read_to t rest client) c request open_still (a.fresh c (omega arith))
-                (consumers_below p.holder k c p.history a.clients (let is : p.starts ≡ starts_in p.history = a.count in omega arith))
+                (consumers_below p.holder k p.contents.last_consumer c p.history a.clients
+                (let is : p.starts ≡ p.contents.last_consumer + starts_in p.history = a.count in omega arith))
                 (owes_read h cs r.asked client t rest open_still (no_error t asked) r.owes);
             live = live_now;
           })))

@@ -5,16 +5,17 @@
 -- was carried out before it (`turn_part`). Behind the last call its row says which requests its first bytes asked for,
 -- that its consumers were started for just these, and that it is owed the answers to them, and an error answer behind
 -- them where the reading failed.
-use Rattle.std.proofs.Common.{◌≡◌, ℕ, List, [], ◌∷◌, ◌++◌, false, true, Option, Some, None, refl, ap, sym, ◌∙◌, subst, append_assoc, append-nil}
-use Rattle.hc_effects.proofs.Vocabulary.{Request, Entry, Limits}
+use Rattle.std.proofs.Common.{◌≡◌, ℕ, List, [], ◌∷◌, ◌++◌, false, true, Option, Some, None, refl, ap, sym, ◌∙◌, subst, arith, append_assoc, append-nil}
+use Rattle.hc_effects.proofs.Vocabulary.{Request, Contents, may_begin, Entry, Limits}
 use Rattle.hc_wire.specs.Logs.{Called, Log}
-use Rattle.hc_proxy.specs.{Asked.{got_from, starts_of, HasAsked, IsAsked, nothing, since, StartsAreAsked}, Connections.{exchange_of}, Handling.{begun, handled}, Network.{heard}, Rendered.{IsAnswered, AnswersAreOwed}, Rows.{Client, Proxy, unused}, Starts.{started_all}, Turns.{so_far, happened, turned, turned_by, behind_all}}
-use Rattle.hc_proxy.proofs.{Asked.{more_calls, place_shorter, IsRead}, ClientEvents.{seen_row, before_polls}, ClientPolls.{Rested, polls_on, carries_on}, ClientSteps.{IsRow, Follows, row_on}, Later.{carried_is_same}, Parts.{turn_part}, Stands.{begins_turn, turn_goes, unused_stands}}
+use Rattle.hc_proxy.specs.{Asked.{got_from, starts_of, HasAsked, IsAsked, nothing, since, AreClients, StartsAreAsked}, Connections.{dials_from, exchange_of}, Handling.{begun, handled}, Network.{heard}, Rendered.{IsAnswered, AnswersAreOwed}, Rows.{Client, Proxy, unused}, Starts.{started_all}, Turns.{so_far, happened, turned, turned_by, behind_all}}
+use Rattle.hc_proxy.proofs.{Asked.{more_calls, place_shorter, IsRead}, ClientEvents.{seen_row, before_polls}, ClientPolls.{Rested, polls_on, carries_on}, ClientSteps.{IsRow, Follows, row_on}, Later.{carried_is_same}, Parts.{turn_part}, Stands.{begins_turn, turn_goes, unused_stands, contents_stay}}
 
 -- A TURN
 
 module _ (limits : Limits) (k : ℕ) where
-  begins_on : (ds : List ℕ) (calls : List Called) (call : Called) (p : Proxy) → Rested limits k ds calls p → Follows limits p.history k ds calls (begun call p)
+  begins_on : (ds : List (Option ℕ)) (calls : List Called) (call : Called) (p : Proxy) → Rested limits k ds calls p →
+      Follows limits p.history k ds calls (begun call p)
   begins_on ds calls call p s = record {
     all = record {
       count = s.count;
@@ -28,7 +29,7 @@ module _ (limits : Limits) (k : ℕ) where
     row = row_on limits p.history k ds calls p _ (seen_row limits p.history k ds calls call p) (p.client k) s.row;
   }
 
-  module _ (dialled : List ℕ) where
+  module _ (dialled : List (Option ℕ)) where
     -- the events of a turn stand before the history of those before
     turn_base : (call : Called) (p : Proxy) → let q : Proxy = happened limits (so_far p dialled) call (begun call p) in q.history ≡ q.part ++ p.history
     unfolding turned
@@ -41,14 +42,15 @@ module _ (limits : Limits) (k : ℕ) where
         Rested limits k (so_far p dialled) (more_calls k calls call) (turned limits dialled call p)
     unfolding turned
     turned_on calls call p s =
-        let ds : List ℕ = so_far p dialled in
+        let ds : List (Option ℕ) = so_far p dialled in
         let q : Proxy = started_all limits call (heard limits (handled limits ds call (begun call p))) in
         let f : Follows limits p.history k ds (more_calls k calls call) q =
         before_polls limits p.history k ds calls call (begun call p) (begins_on ds calls call p s) in
         carries_on limits p.history k ds (more_calls k calls call) call q (happened limits ds call (begun call p)) f
         (polls_on limits p.history k ds (more_calls k calls call) call q f) (turn_base call p)
 
-    weaker : (ds more : List ℕ) (calls : List Called) (p : Proxy) → (exchange_of more k ≡ None → exchange_of ds k ≡ None) → Rested limits k ds calls p →
+    weaker : (ds more : List (Option ℕ)) (calls : List Called) (p : Proxy) → (exchange_of more k ≡ None → exchange_of ds k ≡ None) →
+        Rested limits k ds calls p →
         Rested limits k more calls p
     weaker ds more calls p less s =
         record { count = s.count; clients = s.clients; stands = s.stands; named = s.named; fresh = s.fresh; row = by_row (p.client k) s.row }
@@ -76,7 +78,7 @@ module _ (limits : Limits) (k : ℕ) where
 
     turn_on : (calls : List Called) (call : Called) (p : Proxy) → Now calls p → Now (more_calls k calls call) (turned limits dialled call p)
     turn_on calls call p s =
-        let ds : List ℕ = so_far p dialled in
+        let ds : List (Option ℕ) = so_far p dialled in
         let q : Proxy = turned limits dialled call p in
         weaker ds (so_far q dialled) (more_calls k calls call) q
         (place_shorter 1 k p.tables.opened q.tables.opened dialled (turn_goes limits dialled call p s.stands).opened) (turned_on calls call p s)
@@ -87,27 +89,30 @@ module _ (limits : Limits) (k : ℕ) where
         subst (λ (cs : List Called). Now cs (turned_by limits dialled rest (turned limits dialled call p))) (append_assoc calls (call ∷ []) rest)
         (turns_on rest (more_calls k calls call) (turned limits dialled call p) (turn_on calls call p s))
 
-    begins : Now [] unused
-    begins = record {
-      count = refl;
+    begins : (c : Contents) → may_begin limits c ≡ true → Now [] (unused c)
+    begins c may = record {
+      count = omega arith;
       clients = tt;
-      stands = unused_stands limits;
+      stands = unused_stands limits c may;
       named = λ d j is. absurd (let never : None ≡ Some j = is in cc);
       fresh = λ d lt. refl;
       row = record { none = refl; nobody = refl; unheld = λ d is. let never : None ≡ Some k = is.1 in cc };
     }
 
-  rested_all : (log : Log) → Rested limits k (so_far (behind_all limits log) log.dialled) log.calls (behind_all limits log)
-  rested_all log = turns_on log.dialled log.calls [] unused (begins log.dialled)
+  rested_all : (c : Contents) (log : Log) → may_begin limits c ≡ true →
+      Rested limits k (so_far (behind_all limits c log) (dials_from c log.dialled)) log.calls (behind_all limits c log)
+  rested_all c log may =
+      let dialled : List (Option ℕ) = dials_from c log.dialled in
+      turns_on dialled log.calls [] (unused c) (begins dialled c may)
 
 -- THE LAWS
 
-module _ (limits : Limits) (log : Log) (k : ℕ) where
+module _ (limits : Limits) (c : Contents) (log : Log) (k : ℕ) where
   abbrev p : Proxy
-  p = behind_all limits log
+  p = behind_all limits c log
 
-  abbrev ds : List ℕ
-  ds = so_far p log.dialled
+  abbrev ds : List (Option ℕ)
+  ds = so_far p (dials_from c log.dialled)
 
   abbrev OfRow : Option Client → Type 0
   OfRow o = IsRow limits p.history k ds log.calls p o
@@ -139,15 +144,16 @@ module _ (limits : Limits) (log : Log) (k : ℕ) where
   }
 
 pub starts_are_asked : StartsAreAsked
-starts_are_asked limits log =
-    let p : Proxy = behind_all limits log in
+starts_are_asked limits c log may =
+    let p : Proxy = behind_all limits c log in
     record {
-      clients = (rested_all limits 0 log).clients;
-      each = λ k. is_asked limits log k (p.client k) (rested_all limits k log).row;
+      clients = subst (λ (d : Contents). AreClients d.last_consumer p.holder p.history) (contents_stay limits c log may)
+          (rested_all limits 0 c log may).clients;
+      each = λ k. is_asked limits c log k (p.client k) (rested_all limits k c log may).row;
     }
 
 pub answers_are_owed : AnswersAreOwed
-answers_are_owed limits log k client at =
-    let p : Proxy = behind_all limits log in
-    is_answered limits log k client
-    (subst (λ (o : Option Client). IsRow limits p.history k (so_far p log.dialled) log.calls p o) at (rested_all limits k log).row)
+answers_are_owed limits c log k client may at =
+    let p : Proxy = behind_all limits c log in
+    is_answered limits c log k client
+    (subst (λ (o : Option Client). IsRow limits p.history k (so_far p (dials_from c log.dialled)) log.calls p o) at (rested_all limits k c log may).row)

@@ -29,12 +29,13 @@ module _ (holder : ℕ → Option ℕ) (c z : ℕ) where
   event_kept k n (event.Cancel d) next lt = refl
   event_kept k n (event.Doom d) next lt = refl
 
-  pub consumers_kept : (k : ℕ) (h : History) → AreClients holder h → starts_in h < c → consumers_of (with c z holder) k h ≡ consumers_of holder k h
-  consumers_kept k [] are lt = refl
-  consumers_kept k (e ∷ h) are lt =
-      let rest : consumers_of (with c z holder) k h ≡ consumers_of holder k h = consumers_kept k h are.1 (omega arith) in
-      let last : consumer_by (with c z holder) k e.event ≡ consumer_by holder k e.event = event_kept k (starts_in h) e.event are.0 lt in
-      rw (rest, last) refl
+  pub consumers_kept : (last k : ℕ) (h : History) → AreClients last holder h → last + starts_in h < c →
+      consumers_of (with c z holder) k h ≡ consumers_of holder k h
+  consumers_kept last k [] are lt = refl
+  consumers_kept last k (e ∷ h) are lt =
+      let rest : consumers_of (with c z holder) k h ≡ consumers_of holder k h = consumers_kept last k h are.1 (omega arith) in
+      let newest : consumer_by (with c z holder) k e.event ≡ consumer_by holder k e.event = event_kept k (last + starts_in h) e.event are.0 (omega arith) in
+      rw (rest, newest) refl
 
 module _ (holder : ℕ → Option ℕ) (k : ℕ) where
   -- THEY ARE ITS OWN
@@ -84,8 +85,8 @@ module _ (holder : ℕ → Option ℕ) (k : ℕ) where
   below_by n m (event.Cancel c) next lt = tt
   below_by n m (event.Doom c) next lt = tt
 
-  pub consumers_below : (m : ℕ) (h : History) → AreClients holder h → starts_in h < m → AreBelow m (consumers_of holder k h)
-  consumers_below m [] are lt = tt
-  consumers_below m (e ∷ h) are lt =
-      below_both m (consumers_of holder k h) (consumer_by holder k e.event) (consumers_below m h are.1 (omega arith))
-      (below_by (starts_in h) m e.event are.0 lt)
+  pub consumers_below : (last m : ℕ) (h : History) → AreClients last holder h → last + starts_in h < m → AreBelow m (consumers_of holder k h)
+  consumers_below last m [] are lt = tt
+  consumers_below last m (e ∷ h) are lt =
+      below_both m (consumers_of holder k h) (consumer_by holder k e.event) (consumers_below last m h are.1 (omega arith))
+      (below_by (last + starts_in h) m e.event are.0 (omega arith))

@@ -17,7 +17,7 @@ use Rattle.hc_peers.specs.{Origins.{new_upstream}, Renderings.{is_head}, Clients
 use Rattle.hc_peers.specs.declared.upstream.Upstream as origin
 use Rattle.hc_proxy.specs.declared.proxy.Proxy as loop
 use Rattle.hc_proxy.specs.{Carrying.{opened, text_by, sent_request}, Connections.{first_of, connection_of, exchange_of, taken_at}, Headed.{IsReadAs, AreHeaded}, Invariants.{OpensUp, is_due_by, is_part, unread_of, IsHeardOut}, Keeping.{Turn, HasCache, HasUpstreams, IsUpstream, IsUpstreamAt, AtWire}, Logging.{Follows, Dials, AreApart}, Network.{next_of}, Rows.{Upstream, Proxy, with}, Underway.{DialsOne, Opens, KeepsUnderway, OnWire, GoesOn, IsNext, dialling}}
-use Rattle.hc_proxy.proofs.{CarriedOut.{act_keeps}, Closings.{reported_on}, MoreConnections.{connection_stays, connection_comes, nobodys_stays, names_more}, Followed.{unseen_none as nobody_yet}, OpensUp.{up_grows as ups}}
+use Rattle.hc_proxy.proofs.{CarriedOut.{act_keeps}, Closings.{reported_on}, MoreConnections.{dials_more, connection_stays, connection_comes, nobodys_stays, names_more}, Followed.{unseen_none as nobody_yet}, OpensUp.{up_grows as ups}}
 
 -- THE LOG
 
@@ -77,13 +77,13 @@ module _ (k : ℕ) (log : Log) (reported reported' : Option Log) (before after :
 
 -- NUMBERS
 
-none_past : (n : ℕ) (ks : List ℕ) → length ks ≤ n → first_of (drop n ks) ≡ None
+none_past : (n : ℕ) (ks : List (Option ℕ)) → length ks ≤ n → first_of (drop n ks) ≡ None
 none_past zero [] le = refl
 none_past (suc n) [] le = refl
 none_past zero (k ∷ ks) le = absurd (omega arith)
 none_past (suc n) (k ∷ ks) le = none_past n ks (omega arith)
 
-unconnected : (dialled : List ℕ) (y : ℕ) → y ≡ length dialled + 1 → connection_of dialled y ≡ None
+unconnected : (dialled : List (Option ℕ)) (y : ℕ) → y ≡ length dialled + 1 → connection_of dialled y ≡ None
 unconnected dialled y next =
     let some : nat_eq y 0 ≡ false = grind (arith, nat_tests) in
     rw some (none_past (y - 1) dialled (omega arith))
@@ -192,8 +192,8 @@ module _ {B : Type 0} {g : Ghosts B} (t : Turn) (x : loop.Proxy B g) (up : Upstr
   next : y ≡ length t.dialled + 1
   next = h.upstreams.opens.0
 
-  longer : length (t.dialled ++ k ∷ []) ≡ length t.dialled + 1
-  longer = length-append t.dialled (k ∷ [])
+  longer : length (t.dialled ++ Some k ∷ []) ≡ length t.dialled + 1
+  longer = length-append t.dialled (Some k ∷ [])
 
   unseen : t.stages k ≡ Unseen
   unseen = sym (on.stands k) ∙ o.dials.new
@@ -251,19 +251,20 @@ module _ {B : Type 0} {g : Ghosts B} (t : Turn) (x : loop.Proxy B g) (up : Upstr
     strangers = λ j some. nobodys_stays t.dialled k j (h.upstreams.strangers j some) (stranger j some);
   }
     where
-      rows_by : (z : ℕ) → is_open (p.tables.exchange z) ≡ true → z ≤ length (t.dialled ++ k ∷ []) → (b : Bool) → nat_eq z y ≡ b →
+      rows_by : (z : ℕ) → is_open (p.tables.exchange z) ≡ true → z ≤ length (t.dialled ++ Some k ∷ []) → (b : Bool) → nat_eq z y ≡ b →
           IsUpstreamAt (taken_at t.call) (upstream_of up z) (with y (opened request) p.upstream z)
       rows_by z live le true is = rw (row_at z is, is) is_new
       rows_by z live le false is =
           let less : z ≤ length t.dialled = let size = longer in let at = next in grind (arith, nat_tests) in
           rw (row_off z is, is) (h.upstreams.rows z live less)
 
-      numbers_by : (z : ℕ) (u : origin.Upstream) → upstream_of up z ≡ Some u → (b : Bool) → nat_eq z y ≡ b → connection_of (t.dialled ++ k ∷ []) z ≡ Some u.k
+      numbers_by : (z : ℕ) (u : origin.Upstream) → upstream_of up z ≡ Some u → (b : Bool) → nat_eq z y ≡ b →
+          connection_of (t.dialled ++ Some k ∷ []) z ≡ Some u.k
       numbers_by z u at true is =
           let same : new ≡ u = some_is new u (sym (row_at z is) ∙ at) in
           let place : z ≡ length t.dialled + 1 = let at' = next in grind (arith, nat_tests) in
-          ap (connection_of (t.dialled ++ k ∷ [])) place ∙ (connection_comes t.dialled k ∙ ap (λ (v : origin.Upstream). Some v.k) same)
-      numbers_by z u at false is = connection_stays t.dialled (k ∷ []) z u.k (h.upstreams.numbers z u (sym (row_off z is) ∙ at))
+          ap (connection_of (t.dialled ++ Some k ∷ [])) place ∙ (connection_comes t.dialled k ∙ ap (λ (v : origin.Upstream). Some v.k) same)
+      numbers_by z u at false is = connection_stays t.dialled (Some k ∷ []) z u.k (h.upstreams.numbers z u (sym (row_off z is) ∙ at))
 
       over_by : (z : ℕ) → IsSome (upstream_of up z) → (b : Bool) → nat_eq z y ≡ b → (is_open (p.tables.exchange z) ≡ true) ⊎ (closes_in z acts ≡ true)
       over_by z some true is = let place : y ≡ z = grind (arith, nat_tests) in
@@ -339,6 +340,7 @@ module _ {B : Type 0} {g : Ghosts B} (t : Turn) (x : loop.Proxy B g) (up : Upstr
 
   cache : HasCache t.frame x' p'
   cache = record {
+    contents = h.cache.contents;
     stands = h.cache.stands;
     same = h.cache.same;
     limits = h.cache.limits;
@@ -355,6 +357,7 @@ module _ {B : Type 0} {g : Ghosts B} (t : Turn) (x : loop.Proxy B g) (up : Upstr
     small = let fewer = sum_le (λ z. unread_of (p'.upstream z)) (λ z. unread_of (p.upstream z)) less p.tables.openings in let was = h.cache.small in
         omega arith;
     bounded = h.cache.bounded;
+    room = h.cache.room;
     targets = h.cache.targets;
   }
     where
@@ -382,7 +385,7 @@ module _ {B : Type 0} {g : Ghosts B} (t : Turn) (x : loop.Proxy B g) (up : Upstr
     on_wire = record {
       follows = follows_dialled k log reported reported' before after on.follows o.dials;
       stands = λ j. refl;
-      dialled = ap (λ (ks : List ℕ). ks ++ k ∷ []) on.dialled;
+      dialled = dials_more t.frame.contents log.dialled (k ∷ []) ∙ ap (λ (os : List (Option ℕ)). os ++ Some k ∷ []) on.dialled;
       taken = λ j. by_taken j (on.taken j);
     };
     keeps = record {
@@ -420,7 +423,7 @@ module _ {B : Type 0} {g : Ghosts B} (t : Turn) (x : loop.Proxy B g) (up : Upstr
       known_by j among gone true is = fresh_seen j is gone
       known_by j among gone false is = h.known j among (sym (stays j is) ∙ gone)
 
-      seen_by : (j : ℕ) → after j ≡ Unseen → (b : Bool) → nat_eq j k ≡ b → (p.client j ≡ None) × (exchange_of (t.dialled ++ k ∷ []) j ≡ None) ×
+      seen_by : (j : ℕ) → after j ≡ Unseen → (b : Bool) → nat_eq j k ≡ b → (p.client j ≡ None) × (exchange_of (t.dialled ++ Some k ∷ []) j ≡ None) ×
           (Contains p.accepted j → ⊥)
       seen_by j gone true is = absurd (fresh_seen j is gone)
       seen_by j gone false is =

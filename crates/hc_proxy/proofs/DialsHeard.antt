@@ -10,25 +10,28 @@ use Rattle.hc_head.specs.declared.message.MsgError.TheVariants as error
 use Rattle.hc_msg.specs.{Reading.{Reading, Heading, Counts, Runs, Sizing, Chunk, ChunkEnd, ChunkReturn, Trailing, Whole, Done, Failed}, Taking.{ending}, declared.message.WirePart.{WirePart}}
 use Rattle.hc_msg.specs.declared.message.WirePart.TheVariants as part
 use Rattle.hc_wire.specs.Logs.{Called}
-use Rattle.hc_proxy.specs.{Asked.{got_by, got_from}, Connections.{place_from, exchange_of, first_of, connection_of}, Rows.{Upstream, Proxy}, Steps.{with_entry, stepped}, Ended.{is_end_of, has_ended}}
+use Rattle.hc_proxy.specs.{Asked.{got_by, got_from}, Connections.{is_dialled, place_from, exchange_of, first_of, connection_of}, Rows.{Upstream, Proxy}, Steps.{with_entry, stepped}, Ended.{is_end_of, has_ended}}
 use Rattle.hc_proxy.proofs.{Asked.{got_more}, Turning.{IsKept}}
 
 -- PLACES
 
+dialled_is : (k : ℕ) (o : Option ℕ) → is_dialled k o ≡ true → o ≡ Some k
+dialled_is k None is = absurd (let never : false ≡ true = is in cc)
+dialled_is k (Some j) is = let number : j ≡ k = grind (arith, nat_tests) in ap Some number
+
 -- the connection whose place is x
-pub place_at : (i k x m : ℕ) (ks : List ℕ) → place_from i k (take m ks) ≡ Some x → (i ≤ x) × (first_of (drop (x - i) ks) ≡ Some k)
+pub place_at : (i k x m : ℕ) (ks : List (Option ℕ)) → place_from i k (take m ks) ≡ Some x → (i ≤ x) × (first_of (drop (x - i) ks) ≡ Some k)
 place_at i k x zero ks is = absurd (let never : None ≡ Some x = is in cc)
 place_at i k x (suc m) [] is = absurd (let never : None ≡ Some x = is in cc)
-place_at i k x (suc m) (j ∷ ks) is = by_test (nat_eq j k) refl is (λ more. place_at (i + 1) k x m ks more)
+place_at i k x (suc m) (j ∷ ks) is = by_test (is_dialled k j) refl is (λ more. place_at (i + 1) k x m ks more)
   where
-    by_test : (b : Bool) → nat_eq j k ≡ b → (if b then Some i else place_from (i + 1) k (take m ks)) ≡ Some x
+    by_test : (b : Bool) → is_dialled k j ≡ b → (if b then Some i else place_from (i + 1) k (take m ks)) ≡ Some x
         → (place_from (i + 1) k (take m ks) ≡ Some x → (i + 1 ≤ x) × (first_of (drop (x - (i + 1)) ks) ≡ Some k)) → (i ≤ x) ×
         (first_of (drop (x - i) (j ∷ ks)) ≡ Some k)
     by_test true same here more =
         let at : i ≡ x = cc in
-        let number : j ≡ k = grind (arith, nat_tests) in
         let none : x - i ≡ 0 = omega arith in
-        (omega arith, ap (λ (n : ℕ). first_of (drop n (j ∷ ks))) none ∙ ap Some number)
+        (omega arith, ap (λ (n : ℕ). first_of (drop n (j ∷ ks))) none ∙ dialled_is k j same)
     by_test false same later more =
         let rest = more later in
         let low : i + 1 ≤ x = rest.0 in
@@ -36,11 +39,11 @@ place_at i k x (suc m) (j ∷ ks) is = by_test (nat_eq j k) refl is (λ more. pl
         (omega arith, ap (λ (n : ℕ). first_of (drop n (j ∷ ks))) one ∙ rest.1)
 
 -- and it is there among the first that reach so far
-pub place_before : (i k x m n : ℕ) (ks : List ℕ) → x < i + m → place_from i k (take n ks) ≡ Some x → place_from i k (take m ks) ≡ Some x
+pub place_before : (i k x m n : ℕ) (ks : List (Option ℕ)) → x < i + m → place_from i k (take n ks) ≡ Some x → place_from i k (take m ks) ≡ Some x
 place_before i k x m zero ks lt is = absurd (let never : None ≡ Some x = is in cc)
 place_before i k x m (suc n) [] lt is = absurd (let never : None ≡ Some x = is in cc)
 place_before i k x zero (suc n) (j ∷ ks) lt is = let low = place_at i k x (suc n) (j ∷ ks) is in let le : i ≤ x = low.0 in absurd (omega arith)
-place_before i k x (suc m) (suc n) (j ∷ ks) lt is = by_test (nat_eq j k) is (λ more. place_before (i + 1) k x m n ks (omega arith) more)
+place_before i k x (suc m) (suc n) (j ∷ ks) lt is = by_test (is_dialled k j) is (λ more. place_before (i + 1) k x m n ks (omega arith) more)
   where
     by_test : (b : Bool) → (if b then Some i else place_from (i + 1) k (take n ks)) ≡ Some x →
         (place_from (i + 1) k (take n ks) ≡ Some x → place_from (i + 1) k (take m ks) ≡ Some x) →
@@ -49,11 +52,11 @@ place_before i k x (suc m) (suc n) (j ∷ ks) lt is = by_test (nat_eq j k) is (�
     by_test false later more = more later
 
 -- and among more of them
-pub place_after : (i k x m n : ℕ) (ks : List ℕ) → m ≤ n → place_from i k (take m ks) ≡ Some x → place_from i k (take n ks) ≡ Some x
+pub place_after : (i k x m n : ℕ) (ks : List (Option ℕ)) → m ≤ n → place_from i k (take m ks) ≡ Some x → place_from i k (take n ks) ≡ Some x
 place_after i k x zero n ks le is = absurd (let never : None ≡ Some x = is in cc)
 place_after i k x (suc m) n [] le is = absurd (let never : None ≡ Some x = is in cc)
 place_after i k x (suc m) zero (j ∷ ks) le is = absurd (omega arith)
-place_after i k x (suc m) (suc n) (j ∷ ks) le is = by_test (nat_eq j k) is (λ more. place_after (i + 1) k x m n ks (omega arith) more)
+place_after i k x (suc m) (suc n) (j ∷ ks) le is = by_test (is_dialled k j) is (λ more. place_after (i + 1) k x m n ks (omega arith) more)
   where
     by_test : (b : Bool) → (if b then Some i else place_from (i + 1) k (take m ks)) ≡ Some x →
         (place_from (i + 1) k (take m ks) ≡ Some x → place_from (i + 1) k (take n ks) ≡ Some x) →
@@ -61,7 +64,7 @@ place_after i k x (suc m) (suc n) (j ∷ ks) le is = by_test (nat_eq j k) is (λ
     by_test true here more = here
     by_test false later more = more later
 
-pub connection_at : (k x m : ℕ) (ks : List ℕ) → exchange_of (take m ks) k ≡ Some x → connection_of ks x ≡ Some k
+pub connection_at : (k x m : ℕ) (ks : List (Option ℕ)) → exchange_of (take m ks) k ≡ Some x → connection_of ks x ≡ Some k
 connection_at k x m ks is =
     let at = place_at 1 k x m ks is in
     let low : 1 ≤ x = at.0 in

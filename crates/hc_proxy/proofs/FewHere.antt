@@ -6,9 +6,9 @@
 -- list that has each of it. In every run no more exchanges are open than consumers are live.
 use Rattle.std.{proofs.Common.{◌≡◌, ◌⊎◌, inl, inr, ◌≤◌, ◌<◌, ℕ, zero, suc, ◌+◌, List, [], ◌∷◌, length, map, true, Option, Some, None, refl, ap, ◌∙◌, arith}, specs.Prelude.{Contains, IsSome, filter, unwrap_or, if◌then◌else◌}}
 use Rattle.hc_text.proofs.Basics.{map_long}
-use Rattle.hc_effects.proofs.Vocabulary.{Limits, is_live, live, History, no_contents, Lawful, open_now, IsRun, Among, tables}
+use Rattle.hc_effects.proofs.Vocabulary.{Limits, is_live, live, History, Contents, may_begin, Lawful, open_now, IsRun, Among, tables}
 use Rattle.hc_effects.proofs.{Closed.{among_filter}, HasBound.{among_passes}}
-use Rattle.hc_laws.proofs.{OpenRuns.{open_in_runs, among_mapped, filter_falls, no_more}, FromNothing.{begins_well}}
+use Rattle.hc_laws.proofs.{OpenRuns.{open_in_runs, among_mapped, filter_falls, no_more}}
 use Rattle.hc_proxy.specs.{Handling.{clients_here, is_client}, Invariants.{IsHolder, HasConsumers}, Rows.{Client, Proxy}}
 
 -- HOW MANY
@@ -53,12 +53,12 @@ module _ (p : Proxy) (law : Lawful p.tables) (h : HasConsumers p) (listed : (k :
       omega arith
 
   -- nor exchanges open
-  pub few_open : (limits : Limits) (hist : History) → IsRun limits no_contents hist → p.tables ≡ tables no_contents hist →
+  pub few_open : (limits : Limits) (c : Contents) (hist : History) → may_begin limits c ≡ true → IsRun limits c hist → p.tables ≡ tables c hist →
       open_now p.tables ≤ length (clients_here p)
-  few_open limits hist run same =
+  few_open limits c hist begins run same =
       let fewer : open_now p.tables ≤ live p.tables = subst_few in
       let few : live p.tables ≤ length (clients_here p) = few_live in
       omega arith
     where
       subst_few : open_now p.tables ≤ live p.tables
-      subst_few = rw same (open_in_runs limits no_contents hist (begins_well limits) run).few
+      subst_few = rw same (open_in_runs limits c hist begins run).few

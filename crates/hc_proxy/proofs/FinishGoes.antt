@@ -4,14 +4,14 @@
 -- send nothing, and what is sent then is a first part of what is owed. So the turn may be cut short anywhere.
 -- `written_keeps` is of the record, `cut_sending` of a turn that is cut short while it sends, and `finishes` of one
 -- that is made.
-use Rattle.std.{proofs.Common.{◌≡◌, ◌≤◌, ℕ, List, [], ◌∷◌, ◌++◌, Bool, true, false, Option, None, refl, ap, sym, ◌∙◌, arith, append-nil, length-append}, specs.Prelude.{nat_eq, length, map, reverse, option_map, if◌then◌else◌}}
+use Rattle.std.{proofs.Common.{◌≡◌, ◌≤◌, ℕ, List, [], ◌∷◌, ◌++◌, Bool, true, false, Option, None, Some, refl, ap, sym, ◌∙◌, subst, arith, append-nil, length-append}, specs.Prelude.{nat_eq, length, map, option_map, if◌then◌else◌}}
 use Rattle.hc_io.specs.Sink.{Takes, TakesPrefix}
-use Rattle.hc_effects.proofs.Vocabulary.{History}
+use Rattle.hc_effects.proofs.Vocabulary.{Contents}
 use Rattle.hc_store.specs.declared.backend.Backend.{Ghosts}
 use Rattle.hc_wire.specs.{Events.{Stage, Unseen}, Logs.{Log, stage_in}}
 use Rattle.hc_proxy.specs.declared.proxy.Proxy as loop
-use Rattle.hc_proxy.specs.{declared.record.Record.{Record}, Carrying.{answered, carried, acts_in}, Endings.{SentOn}, Keeping.{Turn, HasCache, KeepsPolled}, Logging.{Dials, AreApart}, Records.{text_of, last_of}, Resting.{Rests}, Rows.{Client, Proxy}, Serving.{FinishesTurn, CutsTurn}, TurnSteps.{CarriedOut, CarriedSome, SentAll, SentSome}, Turns.{timed_of, text_behind}, Underway.{OnWire}, Waiting.{waits}}
-use Rattle.hc_proxy.proofs.{DialsSent.{dials_sent}, Later.{carried_is_same}, OpensUp.{up_grows}, Turning.{IsCarried, open_any, carried_keeps}}
+use Rattle.hc_proxy.specs.{Connections.{dials_from, dials_in}, declared.record.Record.{Record}, Carrying.{answered, carried, acts_in}, Endings.{SentOn}, Keeping.{Turn, HasCache, KeepsPolled}, Logging.{Dials, AreApart}, Records.{text_of, last_of}, Resting.{Rests}, Rows.{Client, Proxy}, Serving.{FinishesTurn, CutsTurn}, TurnSteps.{CarriedOut, CarriedSome, SentAll, SentSome}, Underway.{OnWire}, Waiting.{waits}}
+use Rattle.hc_proxy.proofs.{DialsSent.{dials_sent}, Later.{record_carried}, MoreConnections.{dials_more}, OpensUp.{up_grows}, Turning.{IsCarried, open_any, carried_keeps}}
 
 -- WHERE NO CLIENT WAS, none is behind the acts
 
@@ -48,6 +48,7 @@ module _ {B : Type 0} {g : Ghosts B} (t : Turn) (q : Proxy) (y : loop.Proxy B g)
   written_cache =
       let c = k.keeps.cache in
       record {
+        contents = c.contents;
         stands = c.stands;
         same = c.same;
         limits = c.limits;
@@ -63,6 +64,7 @@ module _ {B : Type 0} {g : Ghosts B} (t : Turn) (q : Proxy) (y : loop.Proxy B g)
         headed = c.headed;
         small = c.small;
         bounded = c.bounded;
+        room = c.room;
         targets = c.targets;
       }
 
@@ -124,8 +126,14 @@ module _ {B : Type 0} {g : Ghosts B} (t : Turn) (q : Proxy) (log : Log) (y : loo
   nobody : (j : ℕ) → stage_in log.takers j ≡ Unseen → (carried q).client j ≡ None
   nobody j is = none_carried j q (k.keeps.seen j (sym (on.stands j) ∙ (on.follows.stands j ∙ is))).0
 
-  few_dials : length log.dialled ≤ q.tables.opened
-  few_dials = let le = up_grows (acts_in q.part) (length t.dialled) q.tables.opened k.keeps.upstreams.opens in let same = ap length on.dialled in omega arith
+  before_is : dials_in q log ≡ t.dialled
+  before_is = ap (λ (c : Contents). dials_from c log.dialled) k.keeps.cache.contents ∙ on.dialled
+
+  few_dialled : length t.dialled ≤ q.tables.opened
+  few_dialled = up_grows (acts_in q.part) (length t.dialled) q.tables.opened k.keeps.upstreams.opens
+
+  few_dials : length (dials_in q log) ≤ q.tables.opened
+  few_dials = subst (λ (ks : List (Option ℕ)). length ks ≤ q.tables.opened) (sym before_is) few_dialled
 
   dialled_sent : (more : List ℕ) (log' : Log) → Dials more log log' → AreApart log'.takers → SentOn (carried q) log log'
   dialled_sent more log' d apart sent = dials_sent (carried q) more log log' d apart nobody sent
@@ -156,20 +164,26 @@ module _ {B : Type 0} {g : Ghosts B} (t : Turn) (q : Proxy) (log : Log) (y : loo
         calls = s.dials.calls;
         bound = s.dials.bound;
         dialled = s.dials.dialled;
-        few = let le = s.opened in let same = ap length s.dials.dialled in let a = length-append log.dialled s.more in let b =
-            length-append t.dialled s.more in let d = ap length on.dialled in omega arith;
+        few = subst (λ (ks : List (Option ℕ)). length ks ≤ q.tables.opened) (sym more_is) s.opened;
         sent = dialled_sent s.more s.log' s.dials s.follows.apart;
       }
+        where
+          more_is : dials_in q s.log' ≡ t.dialled ++ map Some s.more
+          more_is = ap (dials_from q.contents) s.dials.dialled
+              ∙ (dials_more q.contents log.dialled s.more ∙ ap (λ (ks : List (Option ℕ)). ks ++ map Some s.more) before_is)
 
       module _ (y2 : loop.Proxy B g) (c : CarriedOut (writing t (text_of y.record)) q log y2 reported1 stages1) where
         -- the turn behind the acts
         abbrev pub behind : Turn
-        behind = record (writing t (text_of y.record)) { dialled = t.dialled ++ c.more; stages = stages1 }
+        behind = record (writing t (text_of y.record)) { dialled = t.dialled ++ map Some c.more; stages = stages1 }
 
-        all_dialled : length c.log'.dialled ≡ q.tables.opened
-        all_dialled =
-            let few : length t.dialled ≤ q.tables.opened = (let le = few_dials in let same = ap length on.dialled in omega arith) in
-            ap length c.on_wire.dialled ∙ c.opened few
+        all_dialled : length (dials_in q c.log') ≡ q.tables.opened
+        all_dialled = ap (λ (d : Contents). length (dials_from d c.log'.dialled)) k.keeps.cache.contents ∙ (ap length c.on_wire.dialled ∙ c.opened few_dialled)
+
+        few_now : (log' : Log) → log'.dialled ≡ c.log'.dialled → length (dials_in q log') ≤ q.tables.opened
+        few_now log' same =
+            let is : length (dials_in q log') ≡ q.tables.opened = ap (λ (ks : List ℕ). length (dials_from q.contents ks)) same ∙ all_dialled in
+            omega arith
 
         carried_sent : SentOn (carried q) log c.log'
         carried_sent = dialled_sent c.more c.log' c.dials c.on_wire.follows.apart
@@ -183,7 +197,7 @@ module _ {B : Type 0} {g : Ghosts B} (t : Turn) (q : Proxy) (log : Log) (y : loo
           calls = s.calls ∙ c.dials.calls;
           bound = s.bound ∙ c.dials.bound;
           dialled = s.dialled ∙ c.dials.dialled;
-          few = let same = ap length s.dialled in let all = all_dialled in omega arith;
+          few = few_now s.log' s.dialled;
           sent = λ sent. s.sent (carried_sent sent);
         }
 
@@ -197,7 +211,7 @@ module _ {B : Type 0} {g : Ghosts B} (t : Turn) (q : Proxy) (log : Log) (y : loo
             calls = a.calls ∙ c.dials.calls;
             bound = a.bound ∙ c.dials.bound;
             dialled = a.dialled ∙ c.dials.dialled;
-            few = let same = ap length a.dialled in let all = all_dialled in omega arith;
+            few = few_now a.log' a.dialled;
             sent = λ sent. a.sent (carried_sent sent);
           }
 
@@ -212,7 +226,7 @@ module _ {B : Type 0} {g : Ghosts B} (t : Turn) (q : Proxy) (log : Log) (y : loo
             follows = a.follows;
             takes = takes;
             written = left_none (t.frame.written ++ text_of y.record) (text_of y4.record)
-                (sym rests.cache.text ∙ (ap (λ (h : History). text_behind 0 (map timed_of (reverse h))) (carried_is_same q).history ∙ k.keeps.cache.text));
+                (sym rests.cache.text ∙ (record_carried q ∙ k.keeps.cache.text));
             again_is = waits_so;
             calls = a.calls ∙ c.dials.calls;
             bound = a.bound ∙ c.dials.bound;

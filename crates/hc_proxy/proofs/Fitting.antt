@@ -12,7 +12,7 @@ use Rattle.hc_peers.specs.declared.upstream.Upstream as origin
 use Rattle.hc_store.specs.declared.backend.Backend.{Ghosts}
 use Rattle.hc_wire.specs.{Events.{Stage, Open, IsOpen}, Logs.{Log, Taker, Called, is_numbered, is_at_end, standings_in, stage_in, sent_in}, declared.connection.Standing.{Standing}}
 use Rattle.hc_proxy.specs.declared.proxy.Proxy as loop
-use Rattle.hc_proxy.specs.{Connections.{exchange_of, stands, taken_at, has_unsent}, Keeping.{Frame, IsClient, IsUpstream, IsUpstreamAt, HasUpstreams}, Listening.{is_read, reads_right}, Logging.{AreApart, short_from, is_short}, Loops.{Fits}, Network.{open_exchanges}, Resting.{IsRestingClient, IsRestingAt, Rests, resting_call}, Rows.{Client, Upstream, Proxy}, Sending.{owed_by, owed_to, is_sent, sends_right}, Standings.{Whose, OfClient, OfExchange, OfNobody, whose_by, whose, may_stand, is_right, client_stands, number_stands, exchange_stands, stand_right}, Turns.{so_far}, Waiting.{waits}}
+use Rattle.hc_proxy.specs.{Connections.{dials_in, exchange_of, stands, taken_at, has_unsent}, Keeping.{Frame, IsClient, IsUpstream, IsUpstreamAt, HasUpstreams}, Listening.{is_read, reads_right}, Logging.{AreApart, short_from, is_short}, Loops.{Fits}, Network.{open_exchanges}, Resting.{IsRestingClient, IsRestingAt, Rests, resting_call}, Rows.{Client, Upstream, Proxy}, Sending.{owed_by, owed_to, is_sent, sends_right}, Standings.{Whose, OfClient, OfExchange, OfNobody, whose_by, whose, may_stand, is_right, client_stands, number_stands, exchange_stands, stand_right}, Turns.{so_far}, Waiting.{waits}}
 use Rattle.hc_proxy.proofs.{KeepsOn.{dialled_within}, Rows.{sent_all}, Stands.{is_sound}, StepOn.{stands_of}, TakersStand.{found_number, taken_found, stands_found, stands_missing, standings_all, taker_stage, sent_found, open_taker}}
 use Rattle.hc_state.proofs.LeftRows.{all_passing}
 
@@ -60,7 +60,7 @@ module _ {B : Type 0} {g : Ghosts B} (f : Frame) (x : loop.Proxy B g) (p : Proxy
     row : Client
     row_is : p.client c.k ≡ Some row
     rests : IsRestingClient log c.k w row
-    whose_is : exchange_of log.dialled c.k ≡ None
+    whose_is : exchange_of (dials_in p log) c.k ≡ None
     reads : c.reads ≡ w.reading
 
   record IsOfExchange (c : Taker) : Type 0 where
@@ -69,13 +69,13 @@ module _ {B : Type 0} {g : Ghosts B} (f : Frame) (x : loop.Proxy B g) (p : Proxy
     at : upstream_of x.upstreams y ≡ Some u
     number : u.k ≡ c.k
     live : is_open (p.tables.exchange y) ≡ true
-    whose_is : exchange_of log.dialled c.k ≡ Some y
+    whose_is : exchange_of (dials_in p log) c.k ≡ Some y
     row : Upstream
     row_is : p.upstream y ≡ Some row
     is : IsUpstream (taken_at call c.k) u row
     reads : c.reads ≡ u.reading
 
-  ups : HasUpstreams (record { frame = f; call = resting_call log call; dialled = log.dialled; stages = stage_in log.takers }) x p []
+  ups : HasUpstreams (record { frame = f; call = resting_call log call; dialled = dials_in p log; stages = stage_in log.takers }) x p []
   ups = r.upstreams call (stage_in log.takers)
 
   taken_same : (k : ℕ) → taken_at (resting_call log call) k ≡ taken_at call k
@@ -111,11 +111,11 @@ module _ {B : Type 0} {g : Ghosts B} (f : Frame) (x : loop.Proxy B g) (p : Proxy
       live : is_open (p.tables.exchange y) ≡ true
       live = no_close (is_open (p.tables.exchange y)) (ups.over y (ap is_some at))
 
-      within : y ≤ length log.dialled
-      within = dialled_within log.dialled y u.k (ups.numbers y u at)
+      within : y ≤ length (dials_in p log)
+      within = dialled_within (dials_in p log) y u.k (ups.numbers y u at)
 
-      whose_it : exchange_of log.dialled c.k ≡ Some y
-      whose_it = subst (λ n. exchange_of log.dialled n ≡ Some y) number (ups.names y u.k (ups.numbers y u at))
+      whose_it : exchange_of (dials_in p log) c.k ≡ Some y
+      whose_it = subst (λ n. exchange_of (dials_in p log) n ≡ Some y) number (ups.names y u.k (ups.numbers y u at))
 
       by_row : (o : Option origin.Upstream) (s : Option Upstream) → o ≡ Some u → p.upstream y ≡ s → IsUpstreamAt (taken_at (resting_call log call)) o s →
           IsOfExchange c
@@ -160,14 +160,14 @@ module _ {B : Type 0} {g : Ghosts B} (f : Frame) (x : loop.Proxy B g) (p : Proxy
 
   -- WHOSE THEY ARE
 
-  client_whose : (c : Taker) (w : IsOfClient c) → whose log.dialled p c.k ≡ OfClient w.row
+  client_whose : (c : Taker) (w : IsOfClient c) → whose (dials_in p log) p c.k ≡ OfClient w.row
   client_whose c w = ap (whose_by p c.k) w.whose_is ∙ ap client_or w.row_is
     where
       client_or : Option Client → Whose
       client_or None = OfNobody
       client_or (Some client) = OfClient client
 
-  exchange_whose : (c : Taker) (w : IsOfExchange c) → whose log.dialled p c.k ≡ OfExchange w.y
+  exchange_whose : (c : Taker) (w : IsOfExchange c) → whose (dials_in p log) p c.k ≡ OfExchange w.y
   exchange_whose c w = ap (whose_by p c.k) w.whose_is
 
   -- WHO MAY STAND
@@ -181,10 +181,10 @@ module _ {B : Type 0} {g : Ghosts B} (f : Frame) (x : loop.Proxy B g) (p : Proxy
       all_taken (length (sent_in log.takers c.k)) w.w w.row w.rests.is_client
       ∙ ap (λ n. not (nat_lt n (length w.row.owed))) (sym (client_taken c found live))
 
-  one_right : (c : Taker) → find (is_numbered c.k) log.takers ≡ Some c → c.live ≡ true → may_stand call p c.k (whose log.dialled p c.k) ≡ true
+  one_right : (c : Taker) → find (is_numbered c.k) log.takers ≡ Some c → c.live ≡ true → may_stand call p c.k (whose (dials_in p log) p c.k) ≡ true
   one_right c found live = by_who (who_stands c found live)
     where
-      by_who : IsOfClient c ⊎ IsOfExchange c → may_stand call p c.k (whose log.dialled p c.k) ≡ true
+      by_who : IsOfClient c ⊎ IsOfExchange c → may_stand call p c.k (whose (dials_in p log) p c.k) ≡ true
       by_who (inl w) =
           ap (may_stand call p c.k) (client_whose c w)
           ∙ may_client w.row.gone w.row.closing (has_unsent call c.k w.row) w.rests.is_client.here
@@ -194,10 +194,11 @@ module _ {B : Type 0} {g : Ghosts B} (f : Frame) (x : loop.Proxy B g) (p : Proxy
 
   -- WHO IS READ
 
-  one_read : (c : Taker) → find (is_numbered c.k) log.takers ≡ Some c → c.live ≡ true → is_same c.reads (is_read call p c.k (whose log.dialled p c.k)) ≡ true
+  one_read : (c : Taker) → find (is_numbered c.k) log.takers ≡ Some c → c.live ≡ true →
+      is_same c.reads (is_read call p c.k (whose (dials_in p log) p c.k)) ≡ true
   one_read c found live = by_who (who_stands c found live)
     where
-      by_who : IsOfClient c ⊎ IsOfExchange c → is_same c.reads (is_read call p c.k (whose log.dialled p c.k)) ≡ true
+      by_who : IsOfClient c ⊎ IsOfExchange c → is_same c.reads (is_read call p c.k (whose (dials_in p log) p c.k)) ≡ true
       by_who (inl w) =
           ap (is_same c.reads) (ap (is_read call p c.k) (client_whose c w) ∙ sym idle)
           ∙ (ap (λ b. is_same b (is_idle w.w)) w.reads ∙ w.rests.reads)
@@ -219,7 +220,7 @@ module _ {B : Type 0} {g : Ghosts B} (f : Frame) (x : loop.Proxy B g) (p : Proxy
   short_first false b is = absurd (let never : false ≡ true = is in cc)
 
   one_sent : (c : Taker) → find (is_numbered c.k) log.takers ≡ Some c → c.live ≡ true →
-      (is_at_end c.short (length log.calls) || not (nat_lt (length c.sent) (owed_to p (whose log.dialled p c.k)))) ≡ true
+      (is_at_end c.short (length log.calls) || not (nat_lt (length c.sent) (owed_to p (whose (dials_in p log) p c.k)))) ≡ true
   one_sent c found live = by_who (who_stands c found live)
     where
       taken : taken_at call c.k ≡ length c.sent
@@ -245,11 +246,11 @@ module _ {B : Type 0} {g : Ghosts B} (f : Frame) (x : loop.Proxy B g) (p : Proxy
           none_lacks (is_at_end c.short (length log.calls)) true (length w.u.unsent) (length c.sent) (length w.row.owed) (empty_length w.u.unsent none)
           (sent_all (taken_at call c.k) w.row.owed w.u.unsent w.is.within w.is.unsent ∙ ap (λ n. not (nat_lt n (length w.row.owed))) taken)
 
-      owed_row : (w : IsOfExchange c) → owed_to p (whose log.dialled p c.k) ≡ length w.row.owed
+      owed_row : (w : IsOfExchange c) → owed_to p (whose (dials_in p log) p c.k) ≡ length w.row.owed
       owed_row w = ap (owed_to p) (exchange_whose c w) ∙ ap owed_by w.row_is
 
       by_who : IsOfClient c ⊎ IsOfExchange c →
-          (is_at_end c.short (length log.calls) || not (nat_lt (length c.sent) (owed_to p (whose log.dialled p c.k)))) ≡ true
+          (is_at_end c.short (length log.calls) || not (nat_lt (length c.sent) (owed_to p (whose (dials_in p log) p c.k)))) ≡ true
       by_who (inl w) = ap (λ n. is_at_end c.short (length log.calls) || not (nat_lt (length c.sent) n)) (ap (owed_to p) (client_whose c w)) ∙
           client_by w w.rests.lacks
       by_who (inr w) = ap (λ n. is_at_end c.short (length log.calls) || not (nat_lt (length c.sent) n)) (owed_row w) ∙
@@ -296,7 +297,7 @@ module _ {B : Type 0} {g : Ghosts B} (f : Frame) (x : loop.Proxy B g) (p : Proxy
     where
       by_who : (c : Taker) → c.k ≡ k → IsOfClient c ⊎ IsOfExchange c → ⊥
       by_who c number (inl w) = let never : None ≡ Some w.w = sym none ∙ (ap (client_of x.clients) (sym number) ∙ w.at) in cc
-      by_who c number (inr w) = let never : None ≡ Some w.y = sym (ups.strangers k some) ∙ (ap (exchange_of log.dialled) (sym number) ∙ w.whose_is) in cc
+      by_who c number (inr w) = let never : None ≡ Some w.y = sym (ups.strangers k some) ∙ (ap (exchange_of (dials_in p log)) (sym number) ∙ w.whose_is) in cc
 
       by_live : (c : Taker) → find (is_numbered k) log.takers ≡ Some c → (b : Bool) → c.live ≡ b → c.live ≡ false
       by_live c found false live = live
@@ -308,11 +309,11 @@ module _ {B : Type 0} {g : Ghosts B} (f : Frame) (x : loop.Proxy B g) (p : Proxy
       by_found None found = stands_missing log call reported apart k found
       by_found (Some c) found = stands_found log call reported apart k c found ∙ by_live c found c.live refl
 
-  exchange_there_stands : (y : ℕ) → is_open (p.tables.exchange y) ≡ true → y ≤ p.tables.opened → exchange_stands call log.dialled y ≡ true
+  exchange_there_stands : (y : ℕ) → is_open (p.tables.exchange y) ≡ true → y ≤ p.tables.opened → exchange_stands call (dials_in p log) y ≡ true
   exchange_there_stands y live within = by_row (upstream_of x.upstreams y) (p.upstream y) refl (ups.rows y live (subst (λ n. y ≤ n) (sym r.opened) within))
     where
       by_row : (o : Option origin.Upstream) (s : Option Upstream) → upstream_of x.upstreams y ≡ o → IsUpstreamAt (taken_at (resting_call log call)) o s →
-          exchange_stands call log.dialled y ≡ true
+          exchange_stands call (dials_in p log) y ≡ true
       by_row None s at is = absurd is
       by_row (Some u) None at is = absurd is
       by_row (Some u) (Some row) at is = ap (number_stands call) (ups.numbers y u at) ∙
@@ -324,8 +325,8 @@ module _ {B : Type 0} {g : Ghosts B} (f : Frame) (x : loop.Proxy B g) (p : Proxy
   all_hold test [] each = refl
   all_hold test (k ∷ ks) each = both_hold (test k) (list_all test ks) (each k) (all_hold test ks each)
 
-  pub dialled_all : so_far p log.dialled ≡ log.dialled
-  dialled_all = ap (λ n. take n log.dialled) (sym r.opened) ∙ take-length log.dialled
+  pub dialled_all : so_far p (dials_in p log) ≡ (dials_in p log)
+  dialled_all = ap (λ n. take n (dials_in p log)) (sym r.opened) ∙ take-length (dials_in p log)
 
   pub opened_within : (y : ℕ) → is_open (p.tables.exchange y) ≡ true → y ≤ p.tables.opened
   opened_within y live = by_test (nat_lt p.tables.opened y) refl
@@ -339,27 +340,27 @@ module _ {B : Type 0} {g : Ghosts B} (f : Frame) (x : loop.Proxy B g) (p : Proxy
           let none : p.tables.exchange y ≡ None = sound.numbered.lists.new_exchanges y (grind (arith, nat_tests)) in
           absurd (let never : false ≡ true = sym (ap is_open none) ∙ live in cc)
 
-  all_open : list_all (exchange_stands call log.dialled) (open_exchanges p.tables) ≡ true
-  all_open = all_reversed (exchange_stands call log.dialled) (filter (λ y. is_open (p.tables.exchange y)) p.tables.openings)
-      (all_passing (exchange_stands call log.dialled) (λ y. is_open (p.tables.exchange y)) p.tables.openings
+  all_open : list_all (exchange_stands call (dials_in p log)) (open_exchanges p.tables) ≡ true
+  all_open = all_reversed (exchange_stands call (dials_in p log)) (filter (λ y. is_open (p.tables.exchange y)) p.tables.openings)
+      (all_passing (exchange_stands call (dials_in p log)) (λ y. is_open (p.tables.exchange y)) p.tables.openings
       (λ y live. exchange_there_stands y live (opened_within y live)))
 
-  pub fits_now : length call.bytes ≤ 16384 → call.wait ≡ waits f.limits p → Fits f.limits log.dialled p call
+  pub fits_now : length call.bytes ≤ 16384 → call.wait ≡ waits f.limits p → Fits f.limits (dials_in p log) p call
   fits_now few wait = record {
     few = few;
     wait = wait;
     stands =
         ap (λ ks. stand_right call ks p) dialled_all
-        ∙ both_hold (list_all (is_right call log.dialled p) call.standings && list_all (λ k. client_stands call p k (p.client k)) p.accepted)
-        (list_all (exchange_stands call log.dialled) (open_exchanges p.tables))
-        (both_hold (list_all (is_right call log.dialled p) call.standings) (list_all (λ k. client_stands call p k (p.client k)) p.accepted)
-        (standings_all log call reported apart (is_right call log.dialled p) one_right)
+        ∙ both_hold (list_all (is_right call (dials_in p log) p) call.standings && list_all (λ k. client_stands call p k (p.client k)) p.accepted)
+        (list_all (exchange_stands call (dials_in p log)) (open_exchanges p.tables))
+        (both_hold (list_all (is_right call (dials_in p log) p) call.standings) (list_all (λ k. client_stands call p k (p.client k)) p.accepted)
+        (standings_all log call reported apart (is_right call (dials_in p log) p) one_right)
         (all_hold (λ k. client_stands call p k (p.client k)) p.accepted client_there_stands))
         all_open;
     reads =
         ap (λ ks. reads_right call ks p) dialled_all
-        ∙ standings_all log call reported apart (λ (s : Standing). is_same s.reads (is_read call p s.k (whose log.dialled p s.k))) one_read;
+        ∙ standings_all log call reported apart (λ (s : Standing). is_same s.reads (is_read call p s.k (whose (dials_in p log) p s.k))) one_read;
     sends =
         ap (λ ks. sends_right call ks p) dialled_all
-        ∙ standings_all log call reported apart (is_sent log.dialled p) one_sent;
+        ∙ standings_all log call reported apart (is_sent (dials_in p log) p) one_sent;
   }

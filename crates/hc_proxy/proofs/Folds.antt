@@ -1,10 +1,10 @@
 -- One call more at the end of a log.
-use Rattle.std.proofs.Common.{◌≡◌, ℕ, List, [], ◌∷◌, ◌++◌, refl}
+use Rattle.std.proofs.Common.{◌≡◌, ℕ, List, [], ◌∷◌, ◌++◌, Option, refl}
 use Rattle.hc_effects.proofs.Vocabulary.{Limits}
 use Rattle.hc_wire.specs.Logs.{Called}
 use Rattle.hc_proxy.specs.{Loops.{Fits, AllFit}, Rows.{Proxy}, Turns.{turned, turned_by}}
 
-module _ (limits : Limits) (dialled : List ℕ) where
+module _ (limits : Limits) (dialled : List (Option ℕ)) where
   -- the tables behind it are those of its turn, behind the calls before it
   pub turned_more : (calls : List Called) (call : Called) (p : Proxy) →
       turned_by limits dialled (calls ++ call ∷ []) p ≡ turned limits dialled call (turned_by limits dialled calls p)

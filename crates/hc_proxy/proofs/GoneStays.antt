@@ -85,7 +85,7 @@ module _ (limits : Limits) (call : Called) (k : ℕ) (r : Client) (gone : r.gone
   broke_has z None p has = leaves_has z (p.client z) p refl has
   broke_has z (Some x) p has = still (is_open (p.tables.exchange x)) p (stepped limits (event.Fault x) p) has (step_has (event.Fault x) p has)
 
-  by_event : (dialled bytes : List ℕ) (w : WireEvent) (p : Proxy) → Has p → Has (handled_by limits dialled bytes w p)
+  by_event : (dialled : List (Option ℕ)) (bytes : List ℕ) (w : WireEvent) (p : Proxy) → Has p → Has (handled_by limits dialled bytes w p)
   by_event dialled bytes (wire.Accepted z) p has = comes_has z p has
   by_event dialled bytes (wire.Got z n) p has = sends_has z bytes (exchange_of dialled z) p has
   by_event dialled bytes (wire.Ended z) p has = ends_has z (exchange_of dialled z) p has
@@ -140,7 +140,7 @@ module _ (limits : Limits) (call : Called) (k : ℕ) (r : Client) (gone : r.gone
 
   -- ALL THAT HAPPENS
 
-  pub happened_has : (dialled : List ℕ) (p : Proxy) → Has p → Has (happened limits dialled call p)
+  pub happened_has : (dialled : List (Option ℕ)) (p : Proxy) → Has p → Has (happened limits dialled call p)
   unfolding handled
   happened_has dialled p has =
       let q = handled limits dialled call p in

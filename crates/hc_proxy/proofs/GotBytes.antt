@@ -5,7 +5,7 @@
 -- exchange; `end_goes` and `break_goes` are of its end and its break.
 use Rattle.std.{proofs.{Common.{◌≡◌, inl, inr, ◌≤◌, ◌<◌, ℕ, ◌+◌, List, [], ◌++◌, length, Bool, true, false, Option, Some, None, refl, ap, sym, ◌∙◌, subst, arith}, Math.{Bridge.{le_prop}, Logic.{∥∥₁_map, ∥∥₁_elim}}, lemmas.{Bool.Decides.{nat_tests}, List.{length-append}}}, specs.{Prelude.{◌^◌, nat_lt, not, option_map, if◌then◌else◌, IsSome, Contains}, Option.{is_some}}}
 use Rattle.hc_text.proofs.Basics.{none_some, eq_itself as same_number, some_inj, true_false}
-use Rattle.hc_core.specs.Steps.{faults_in, steps, bytes_received}
+use Rattle.hc_core.specs.Steps.{faults_in, steps, bytes_received, limits_in}
 use Rattle.hc_effects.proofs.Vocabulary.{asks_in, closes_in, is_open, is_wanted, Exchange, after, Lawful, event}
 use Rattle.hc_peers.specs.{Agreement.{is_at}, Clients.{client_of}, Peers.{is_same}, Upstreams.{upstream_of, is_news, is_touched, Becomes, Marks}, declared.{clients.Clients.{Clients}, upstreams.Upstreams.{Upstreams}}}
 use Rattle.hc_peers.specs.Clients as clients
@@ -17,7 +17,7 @@ use Rattle.hc_proxy.specs.declared.proxy.Proxy as loop
 use Rattle.hc_proxy.specs.{Carrying.{acts_in}, Connections.{exchange_of, taken_at}, Handling.{is_client, client_sends, origin_sends, origin_ends, sends, ends, broke}, Invariants.{IsHolder, unread, unread_of}, Keeping.{Turn, HasCache, IsClientAt, Frame, AtEvent, IsAtEvent, StandsForSome, KeepsBut, KeepsQuiet, HangsUp, Stepped, RestStays, Goes}, Rows.{Client, Upstream, Proxy, with_client, with_upstream}, Steps.{with_entry}}
 use Rattle.hc_proxy.specs.Steps as steps_of
 use Rattle.hc_laws.proofs.Accepted.{fault_closes}
-use Rattle.hc_proxy.proofs.{Alike.{cache_moves, cache_with, upstreams_move}, DoneFor.{but_it, IsDone, done_all, but_stepped}, HandedOn.{open_number}, HangsOff.{has_row}, Holders.{held_of, of_held, change_keeps, sends_keep}, HungUp.{hung_up}, OriginRows.{row_changed}, RowChanges.{ChangesClient, changed_clients, row_was, wire_same, seen_still, upstreams_with}, StepOn.{law_of}, Unread.{unread_grows}}
+use Rattle.hc_proxy.proofs.{Alike.{cache_moves, cache_with, upstreams_move}, DoneFor.{but_it, IsDone, done_all, but_stepped}, HandedOn.{open_number}, HangsOff.{has_row}, Holders.{held_of, of_held, change_keeps, sends_keep}, HungUp.{hung_up}, OriginRows.{row_changed}, RowChanges.{ChangesClient, changed_clients, row_was, wire_same, seen_still, upstreams_with}, Stands.{few_exchanges}, StepOn.{law_of}, Unread.{unread_grows}}
 
 at_number : (k : ℕ) (u : origin.Upstream) → is_at k (Some u) ≡ true → u.k ≡ k
 at_number k u h = grind (arith, nat_tests)
@@ -320,12 +320,14 @@ module _ {B : Type 0} {g : Ghosts B} (x : loop.Proxy B g) (k : ℕ) where
   small_consumer some few client c is waits = ∥∥₁_elim some le_prop (λ s.
       let w = holder_of s.0 s.1 c client (client_of x.clients k) (s.1.client k) (s.2.quiet.keeps.clients.rows k) refl is waits in
       let a : c ≤ s.1.starts = s.2.quiet.keeps.consumers.started k c w in
-      let b : s.1.starts ≤ steps x.cache = s.2.quiet.keeps.numbers in
+      let b : s.1.starts ≤ s.1.contents.last_consumer + steps x.cache = s.2.quiet.keeps.numbers in
+      let room : s.1.contents.last_consumer < 2 ^ 61 = s.2.quiet.keeps.cache.room in
       omega arith)
 
   pub small_exchange : ∥ IsAtEvent x k ∥₁ → steps x.cache < 2 ^ 60 → (z : ℕ) → is_at k (upstream_of x.upstreams z) ≡ true → z < 2 ^ 62
   small_exchange some few z there = ∥∥₁_elim some le_prop (λ s.
       let on = open_one s.0 x s.1 k s.2 z (numbered k (upstream_of x.upstreams z) there) in
       let a : z ≤ s.1.tables.opened = open_number s.1.tables (law_of s.0.frame x s.1 s.2.quiet.keeps.cache) z on (nat_lt s.1.tables.opened z) refl in
-      let b : s.1.tables.opened ≤ steps x.cache = s.2.quiet.keeps.opened in
+      let b : s.1.tables.opened ≤ s.1.contents.next_exchange + steps x.cache = s.2.quiet.keeps.opened in
+      let few_before : s.1.contents.next_exchange ≤ 2 ^ 60 = few_exchanges (limits_in x.cache) s.1.contents s.2.quiet.keeps.cache.stands.begins in
       omega arith)

@@ -275,8 +275,10 @@ module _ {B : Type 0} {g : Ghosts B} where
         waits_goes taken = record {
           q = with_upstream z (read_to taken.reading []) p;
           keeps = record {
-            keeps = read_keeps taken.reading [] s (now_is taken.reading [] taken.now) lists (omega arith)
-                (answers_next (Waits taken.reading) taken.next, λ begun. headed_was (begun_waits 16384 rows.u.reader rows.u.input taken.reading taken.next begun));
+            keeps = read_keeps taken.reading [] s (now_is taken.reading [] taken.now) lists (omega arith) (
+              answers_next (Waits taken.reading) taken.next,
+              λ begun. headed_was (begun_waits 16384 rows.u.reader rows.u.input taken.reading taken.next begun),
+            );
             apart = apart_row z (read_to taken.reading []) p;
             most = omega arith;
             once = λ on. omega arith;

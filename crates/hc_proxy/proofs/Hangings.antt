@@ -2,7 +2,7 @@
 --
 -- The exchange is over behind the turn. No act behind this one closes it again, and it holds for the others what held
 -- before.
-use Rattle.std.{proofs.{Common.{◌≡◌, ◌⊎◌, inl, inr, ◌≤◌, ℕ, List, ◌∷◌, Bool, true, false, Some, None, refl, sym, ◌∙◌, subst, arith}, lemmas.Bool.Decides.{nat_tests}}, specs.Prelude.{nat_eq, ◌||◌, IsSome}}
+use Rattle.std.{proofs.{Common.{◌≡◌, ◌⊎◌, inl, inr, ◌≤◌, ℕ, ◌+◌, List, ◌∷◌, Bool, true, false, Some, None, refl, sym, ◌∙◌, subst, arith}, lemmas.Bool.Decides.{nat_tests}}, specs.Prelude.{nat_eq, ◌||◌, IsSome}}
 use Rattle.hc_text.proofs.Basics.{eq_itself as same_number}
 use Rattle.hc_core.specs.Steps.{steps}
 use Rattle.hc_effects.proofs.Vocabulary.{closes_in, Act, is_open, act}
@@ -74,7 +74,7 @@ module _ {B : Type 0} {g : Ghosts B} (t : Turn) (z : ℕ) (acts : List Act) (x x
     heard = h.heard;
     wire = wire_left t z x x' p shut u h.clients ups.numbers ups.names ups.strangers h.wire;
     known = known_left t z x x' p shut u h.clients ups.numbers ups.names ups.strangers h.wire h.known;
-    numbers = subst (λ c. p.starts ≤ steps c) (sym u.cache) h.numbers;
-    opened = subst (λ c. p.tables.opened ≤ steps c) (sym u.cache) h.opened;
+    numbers = subst (λ c. p.starts ≤ p.contents.last_consumer + steps c) (sym u.cache) h.numbers;
+    opened = subst (λ c. p.tables.opened ≤ p.contents.next_exchange + steps c) (sym u.cache) h.opened;
     seen = h.seen;
   }

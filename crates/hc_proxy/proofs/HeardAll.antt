@@ -14,7 +14,7 @@ use Rattle.hc_peers.specs.{Upstreams.{is_news, news_of}, declared.upstreams.Upst
 use Rattle.hc_store.specs.declared.backend.Backend.{Ghosts}
 use Rattle.hc_proxy.specs.declared.proxy.Proxy as loop
 use Rattle.hc_proxy.specs.{Carrying.{acts_in}, Handling.{clients_here}, Hearing.{HasHeard, MayStep}, Invariants.{is_due, is_due_by, is_part}, Keeping.{Turn, KeepsQuiet, KeepsHeard, Goes}, Network.{has_news, next_of, open_exchanges, handed, closed, each_heard, heard}, Rows.{Upstream, Proxy}}
-use Rattle.hc_proxy.proofs.{Alike.{cache_moves, clients_move}, Ascending.{opens_ascend, opens_are}, DoneFor.{but_it}, FewHere.{few_open}, IdleExchanges.{Idle, heard_one, is_skipped, is_each}, Marked.{keys_among, sorted_ascends, passed_among}, QuietActs.{quiet_asks_none}, SkippedSteps.{among, Ascends, same_each}, Stands.{Stands}, StepOn.{stands_of, law_of, run_of}, UpShort.{up_short, filter_up, filter_both, passes_one}}
+use Rattle.hc_proxy.proofs.{Alike.{cache_moves, clients_move}, Ascending.{opens_ascend, opens_are}, DoneFor.{but_it}, FewHere.{few_open}, IdleExchanges.{Idle, heard_one, is_skipped, is_each}, Marked.{keys_among, sorted_ascends, passed_among}, QuietActs.{quiet_asks_none}, SkippedSteps.{among, Ascends, same_each}, Stands.{Stands}, StepOn.{stands_of, law_of, run_of, begins_of}, UpShort.{up_short, filter_up, filter_both, passes_one}}
 
 -- who stands in the list of the news
 pub news_among : (s : Upstreams) (y : ℕ) → among y (news_of s) ≡ is_news s y
@@ -50,7 +50,8 @@ module _ {B : Type 0} {g : Ghosts B} where
     few_opened : open_now p.tables ≤ 512
     few_opened =
         let a : open_now p.tables ≤ length (clients_here p) =
-        few_open p law k.keeps.consumers k.keeps.clients.listed t.frame.limits p.history (run_of t.frame x p k.keeps.cache) k.keeps.cache.same in
+        few_open p law k.keeps.consumers k.keeps.clients.listed t.frame.limits p.contents p.history
+        (begins_of t.frame x p k.keeps.cache) (run_of t.frame x p k.keeps.cache) k.keeps.cache.same in
         let b : length (clients_here p) ≤ 512 = k.keeps.clients.few in
         omega arith
 

@@ -5,15 +5,15 @@
 -- have it. Its acts begin behind those before, so whether it was denied is told by the acts from there on; and a fault
 -- behind a denied piece is stepped over the tables behind that piece.
 use Rattle.std.{proofs.{Common.{◌≡◌, inl, inr, ◌≤◌, ◌<◌, ℕ, ◌+◌, List, length, length-append, drop, Bool, true, false, refl, ap, sym, ◌∙◌, subst, arith}, Math.{Bridge.{le_prop}, Logic.{∥∥₁_elim, ∥∥₁_map}}}, specs.Prelude.{◌^◌, nat_lt}}
-use Rattle.hc_core.specs.Steps.{StandsFor, steps, bytes_received}
-use Rattle.hc_effects.proofs.Vocabulary.{act_list, is_denied, History, Contents, no_contents, is_open, Tables, tables, event}
+use Rattle.hc_core.specs.Steps.{StandsFor, limits_in, steps, bytes_received}
+use Rattle.hc_effects.proofs.Vocabulary.{act_list, is_denied, History, Contents, is_open, Tables, tables, event}
 use Rattle.hc_msg.specs.declared.message.WirePart.{WirePart}
 use Rattle.hc_msg.specs.declared.message.WirePart.TheVariants as part
 use Rattle.hc_peers.specs.{Upstreams.{is_news}, declared.upstreams.Upstreams.{Upstreams}}
 use Rattle.hc_store.specs.declared.backend.Backend.{Ghosts}
 use Rattle.hc_proxy.specs.declared.proxy.Proxy as loop
 use Rattle.hc_proxy.specs.{Hearing.{length_of, PartStepped, MayTake, MayStep, IsOpenHere}, Invariants.{unread}, Keeping.{Frame, Turn, HasCache, StandsForSome, Stepped, RestStays, KeepsBut}, Rows.{Proxy}, Steps.{with_entry}}
-use Rattle.hc_proxy.proofs.{Alike.{cache_moves}, HandedOn.{open_number}, PollOne.{appended}, StepOn.{law_of}}
+use Rattle.hc_proxy.proofs.{Alike.{cache_moves}, HandedOn.{open_number}, PollOne.{appended}, Stands.{few_exchanges}, StepOn.{law_of}}
 
 module _ {B : Type 0} {g : Ghosts B} where
   -- so few bytes more are received
@@ -33,14 +33,18 @@ module _ {B : Type 0} {g : Ghosts B} where
   here_stands z x x' cache text now starts some = ∥∥₁_map some (λ s. (s.0.frame, s.1, cache_moves s.0.frame x x' s.1 cache text now starts s.2.cache))
 
   -- an open exchange has a number that was given out
-  number_of : (z : ℕ) (t : Turn) (x : loop.Proxy B g) (p : Proxy) → KeepsBut z t x p → is_open (p.tables.exchange z) ≡ true → z ≤ steps x.cache
+  number_of : (z : ℕ) (t : Turn) (x : loop.Proxy B g) (p : Proxy) → KeepsBut z t x p → is_open (p.tables.exchange z) ≡ true →
+      z ≤ p.contents.next_exchange + steps x.cache
   number_of z t x p h on =
       let a : z ≤ p.tables.opened = open_number p.tables (law_of t.frame x p h.cache) z on (nat_lt p.tables.opened z) refl in
-      let b : p.tables.opened ≤ steps x.cache = h.opened in
+      let b : p.tables.opened ≤ p.contents.next_exchange + steps x.cache = h.opened in
       omega arith
 
   pub here_small : (z : ℕ) (x : loop.Proxy B g) → ∥ IsOpenHere z x ∥₁ → steps x.cache < 2 ^ 60 → z < 2 ^ 62
-  here_small z x some few = ∥∥₁_elim some le_prop (λ s. let a : z ≤ steps x.cache = number_of z s.0 x s.1 s.2 s.3 in omega arith)
+  here_small z x some few = ∥∥₁_elim some le_prop (λ s.
+      let a : z ≤ s.1.contents.next_exchange + steps x.cache = number_of z s.0 x s.1 s.2 s.3 in
+      let b : s.1.contents.next_exchange ≤ 2 ^ 60 = few_exchanges (limits_in x.cache) s.1.contents s.2.cache.stands.begins in
+      omega arith)
 
   -- where the code says that it is open
   pub may_here : (n z : ℕ) (x : loop.Proxy B g) → ∥ MayStep n z x ∥₁ →
@@ -55,7 +59,7 @@ module _ {B : Type 0} {g : Ghosts B} where
 
   pub open_is : (f : Frame) (x : loop.Proxy B g) (p : Proxy) → HasCache f x p → (z : ℕ) (b : Bool) →
       ((contents : Contents) (h : History) → StandsFor x.cache contents h → b ≡ is_open ((tables contents h).exchange z)) → is_open (p.tables.exchange z) ≡ b
-  open_is f x p h z b says = ap (λ (t : Tables). is_open (t.exchange z)) h.same ∙ sym (says no_contents p.history h.stands)
+  open_is f x p h z b says = ap (λ (t : Tables). is_open (t.exchange z)) h.same ∙ sym (says p.contents p.history h.stands)
 
   -- over other tables of connections
   pub cache_over : (f : Frame) (x : loop.Proxy B g) (p : Proxy) (s : Upstreams) → HasCache f x p → HasCache f (record x { upstreams = s }) p

@@ -7,7 +7,7 @@
 -- connection has ended and all that came was read.
 use Rattle.std.{proofs.{Common.{◌≡◌, ◌≤◌, ◌<◌, ◌⊎◌, inl, inr, ℕ, ◌+◌, List, [], ◌∷◌, ◌++◌, Bool, true, false, Option, Some, None, refl, ap, sym, ◌∙◌, subst, arith, append_assoc, append-nil}, lemmas.Bool.Decides.{nat_tests}}, specs.Prelude.{◌&&◌, nat_eq, nat_lt, length, take, is_none, Result, Ok, Err, if◌then◌else◌, option_map, Contains}}
 use Rattle.hc_text.proofs.Basics.{false_true as never_true}
-use Rattle.hc_effects.proofs.Vocabulary.{Act, Need, Event, Request, History, is_open, is_wanted, Tables, owed, Limits, act, event}
+use Rattle.hc_effects.proofs.Vocabulary.{Act, Need, Contents, Event, Request, History, is_open, is_wanted, Tables, owed, Limits, act, event}
 use Rattle.hc_head.specs.declared.message.{MsgError.{MsgError}, WireRequest.{WireRequest}}
 use Rattle.hc_msg.specs.{Inputs.{Next, Waits, Reports, Brings, Ends, Fails, next_in}, NextParts.{StandsNext, IsReadOn}, Reading.{Reading, Responses, Whole, Done, Failed, Token, Asks, Answers, Byte, Leads, heading}, Taking.{byte_tokens, ending}, declared.message.WirePart.{WirePart}}
 use Rattle.hc_msg.specs.declared.message.WirePart.TheVariants as part
@@ -19,11 +19,11 @@ use Rattle.hc_proxy.specs.{Asked.{got_by}, Carrying.{answers, opened, carried_ou
 use Rattle.hc_proxy.specs.Starts as starts
 use Rattle.hc_proxy.proofs.{AnswerNext.{IsAnswerNext, answer_next}, Folds.{turned_more}, Later.{carried_is_same}, OpenEnded.{never_done}, Openings.{StandsKnown, open_more, turn_opens, turns_know, unused_known}, Turning.{OpenOnly, with_new, with_opened, happened_keeps}, DialsHeard.{no_row, place_before, place_after, connection_at, came_by, new_by, came_more, ended_by, any_last, ended_more, is_end, end_is, none_came, among_all, IsCutBy}}
 
-module _ (limits : Limits) (dialled : List ℕ) (x : ℕ) where
+module _ (limits : Limits) (began : Contents) (dialled : List (Option ℕ)) (x : ℕ) where
   abbrev pub came : List Called → List ℕ
   came calls = came_by (connection_of dialled x) calls
 
-  abbrev new_of : Called → List ℕ
+  abbrev pub new_of : Called → List ℕ
   new_of call = new_by (connection_of dialled x) call
 
   -- ITS ROW
@@ -34,11 +34,11 @@ module _ (limits : Limits) (dialled : List ℕ) (x : ℕ) where
     pub call : Called
     pub request : Request
     pub calls_are : calls ≡ before ++ call ∷ behind
-    pub opens : IsOpenedFor x request (acts_in (turned limits dialled call (turned_by limits dialled before unused)).part)
+    pub opens : IsOpenedFor x request (acts_in (turned limits dialled call (turned_by limits dialled before (unused began))).part)
     pub kind : no_body ≡ is_head request
 
   -- its first bytes were read and told this, the others wait
-  pub record IsReading (ds : List ℕ) (behind : List Called) (v : Upstream) (tokens : List Token) : Type 0 where
+  pub record IsReading (ds : List (Option ℕ)) (behind : List Called) (v : Upstream) (tokens : List Token) : Type 0 where
     pub front : List ℕ
     pub rest : List ℕ
     pub whole : front ++ (v.input ++ rest) ≡ came behind
@@ -58,12 +58,12 @@ module _ (limits : Limits) (dialled : List ℕ) (x : ℕ) where
     pub answered : IsAnswered behind v.no_body tokens
 
   -- its connection has ended
-  pub record IsShut (ds : List ℕ) (behind : List Called) : Type 0 where
+  pub record IsShut (ds : List (Option ℕ)) (behind : List Called) : Type 0 where
     pub k : ℕ
     pub at : exchange_of ds k ≡ Some x
     pub over : ended_by (connection_of dialled x) behind ≡ true
 
-  pub record IsHeard (ds : List ℕ) (calls : List Called) (v : Upstream) (tokens : List Token) : Type 0 where
+  pub record IsHeard (ds : List (Option ℕ)) (calls : List Called) (v : Upstream) (tokens : List Token) : Type 0 where
     pub behind : List Called
     pub opens : IsOpened calls behind v.no_body
     pub sent : HasSent v.no_body (came behind) tokens
@@ -82,23 +82,24 @@ module _ (limits : Limits) (dialled : List ℕ) (x : ℕ) where
   HasEnds calls [] = Unit {0}
   HasEnds calls (e ∷ h) = (is_end x e.event ≡ true → IsEnd calls (received_of x h)) × HasEnds calls h
 
-  abbrev pub HasHeard : List ℕ → List Called → Option Upstream → List Token → Type 0
+  abbrev pub HasHeard : List (Option ℕ) → List Called → Option Upstream → List Token → Type 0
   HasHeard ds calls None tokens = tokens ≡ []
   HasHeard ds calls (Some v) tokens = IsHeard ds calls v tokens
 
-  abbrev pub Follows : List ℕ → List Called → Proxy → Type 0
+  abbrev pub Follows : List (Option ℕ) → List Called → Proxy → Type 0
   Follows ds calls p = HasHeard ds calls (p.upstream x) (received_of x p.history) × HasEnds calls p.history
 
   -- the bytes that were read
-  sent_of : (ds : List ℕ) (behind : List Called) (v : Upstream) (tokens : List Token) → IsReading ds behind v tokens → HasSent v.no_body (came behind) tokens
+  sent_of : (ds : List (Option ℕ)) (behind : List Called) (v : Upstream) (tokens : List Token) → IsReading ds behind v tokens →
+      HasSent v.no_body (came behind) tokens
   sent_of ds behind v tokens r = record { front = r.front; rest = v.input ++ r.rest; reading = v.reading; whole = r.whole; reads = r.reads }
 
   -- A CALL MORE
 
-  abbrev more_calls : List Called → Called → List Called
+  abbrev pub more_calls : List Called → Called → List Called
   more_calls calls call = calls ++ call ∷ []
 
-  later : (calls behind : List Called) (no_body : Bool) (call : Called) → IsOpened calls behind no_body →
+  pub later : (calls behind : List Called) (no_body : Bool) (call : Called) → IsOpened calls behind no_body →
       IsOpened (more_calls calls call) (more_calls behind call) no_body
   later calls behind no_body call is = record {
     before = is.before;
@@ -109,7 +110,7 @@ module _ (limits : Limits) (dialled : List ℕ) (x : ℕ) where
     kind = is.kind;
   }
 
-  more_sent : (behind : List Called) (call : Called) (no_body : Bool) (tokens : List Token) → HasSent no_body (came behind) tokens →
+  pub more_sent : (behind : List Called) (call : Called) (no_body : Bool) (tokens : List Token) → HasSent no_body (came behind) tokens →
       HasSent no_body (came (more_calls behind call)) tokens
   more_sent behind call no_body tokens s = record {
     front = s.front;
@@ -138,13 +139,13 @@ module _ (limits : Limits) (dialled : List ℕ) (x : ℕ) where
         ends = c.ends;
       })
 
-  more_over : (behind : List Called) (call : Called) (v : Upstream) (tokens : List Token) → IsOver behind v tokens → IsOver (more_calls behind call) v tokens
+  pub more_over : (behind : List Called) (call : Called) (v : Upstream) (tokens : List Token) → IsOver behind v tokens → IsOver (more_calls behind call) v tokens
   more_over behind call v tokens o = record { done = o.done; answered = more_answered behind call v.no_body tokens o.answered }
 
-  more_shut : (ds : List ℕ) (behind : List Called) (call : Called) → IsShut ds behind → IsShut ds (more_calls behind call)
+  pub more_shut : (ds : List (Option ℕ)) (behind : List Called) (call : Called) → IsShut ds behind → IsShut ds (more_calls behind call)
   more_shut ds behind call s = record { k = s.k; at = s.at; over = ended_more (connection_of dialled x) behind call s.over }
 
-  more_ends : (calls : List Called) (call : Called) (h : History) → HasEnds calls h → HasEnds (more_calls calls call) h
+  pub more_ends : (calls : List Called) (call : Called) (h : History) → HasEnds calls h → HasEnds (more_calls calls call) h
   more_ends calls call [] ends = tt
   more_ends calls call (e ∷ h) ends = (λ on. later_end (ends.0 on), more_ends calls call h ends.1)
     where
@@ -157,9 +158,9 @@ module _ (limits : Limits) (dialled : List ℕ) (x : ℕ) where
             more_answered n.behind call n.no_body (received_of x h) n.answered;
       }
 
-  module _ (ds : List ℕ) (calls : List Called) (call : Called) where
+  module _ (ds : List (Option ℕ)) (calls : List Called) (call : Called) where
     -- none that are its own come
-    passes : (v : Upstream) (tokens : List Token) → ((k : ℕ) → exchange_of ds k ≡ Some x → new_of call ≡ []) → IsHeard ds calls v tokens →
+    unfoldable pub passes : (v : Upstream) (tokens : List Token) → ((k : ℕ) → exchange_of ds k ≡ Some x → new_of call ≡ []) → IsHeard ds calls v tokens →
         IsHeard ds (more_calls calls call) v tokens
     passes v tokens none s = record {
       behind = more_calls s.behind call;
@@ -189,7 +190,7 @@ module _ (limits : Limits) (dialled : List ℕ) (x : ℕ) where
         by_place (inr r) = inr (reading_on r)
 
     -- or they wait
-    waits : (v : Upstream) (tokens : List Token) (k : ℕ) → exchange_of ds k ≡ Some x → IsHeard ds calls v tokens →
+    pub waits : (v : Upstream) (tokens : List Token) (k : ℕ) → exchange_of ds k ≡ Some x → IsHeard ds calls v tokens →
         IsHeard ds (more_calls calls call) (origin_sends (new_of call) v) tokens
     waits v tokens k at s = record {
       behind = more_calls s.behind call;
@@ -222,14 +223,14 @@ module _ (limits : Limits) (dialled : List ℕ) (x : ℕ) where
 
   -- CHANGES
 
-  module _ (ds : List ℕ) (calls : List Called) where
+  module _ (ds : List (Option ℕ)) (calls : List Called) where
     abbrev S : Proxy → Type 0
     S p = Follows ds calls p
 
     abbrev Row : Option Upstream → List Token → Type 0
     Row o tokens = HasHeard ds calls o tokens
 
-    still : (b : Bool) (p q : Proxy) → S p → S q → S (if b then q else p)
+    pub still : (b : Bool) (p q : Proxy) → S p → S q → S (if b then q else p)
     still true p q a b = b
     still false p q a b = a
 
@@ -244,7 +245,7 @@ module _ (limits : Limits) (dialled : List ℕ) (x : ℕ) where
     end_on z p end s = step_on (event.End z) p [] refl (subst (Row (p.upstream x)) (sym (append-nil (received_of x p.history))) s.0) (λ on. end) s.1
 
     -- or nothing of x
-    other_on : (ev : Event) (p : Proxy) → received_by x ev ≡ [] → is_end x ev ≡ false → S p → S (stepped limits ev p)
+    pub other_on : (ev : Event) (p : Proxy) → received_by x ev ≡ [] → is_end x ev ≡ false → S p → S (stepped limits ev p)
     other_on ev p reports off s =
         step_on ev p [] reports (subst (Row (p.upstream x)) (sym (append-nil (received_of x p.history))) s.0) (λ on. never_true (sym off ∙ on)) s.1
 
@@ -493,7 +494,7 @@ module _ (limits : Limits) (dialled : List ℕ) (x : ℕ) where
         let q : Proxy = handed limits z p in
         each_on zs (closed limits z q) (closed_on z (q.upstream z) q refl (handed_on z (p.upstream z) p refl s))
 
-    hears_on : (p : Proxy) → S p → S (heard limits p)
+    pub hears_on : (p : Proxy) → S p → S (heard limits p)
     unfolding heard
     hears_on p s = each_on (open_exchanges p.tables) p s
 
@@ -525,7 +526,7 @@ module _ (limits : Limits) (dialled : List ℕ) (x : ℕ) where
       each_asks [] p s = s
       each_asks (k ∷ ks) p s = each_asks ks (hears_if limits call k (p.client k) p) (client_on k (p.client k) p s)
 
-      all_ask : (p : Proxy) → S p → S (started_all limits call p)
+      pub all_ask : (p : Proxy) → S p → S (started_all limits call p)
       unfolding started_all
       all_ask p s = each_asks (clients_here p) p s
 
@@ -534,11 +535,11 @@ module _ (limits : Limits) (dialled : List ℕ) (x : ℕ) where
       polls_on (c ∷ cs) p s = polls_on cs (polled limits call c p)
           (still (may_be_polled call p (p.holder c)) p (stepped limits (event.Poll c 16384) p) s (other_on (event.Poll c 16384) p refl refl s))
 
-      all_polled : (p : Proxy) → S p → S (polled_all limits call p)
+      pub all_polled : (p : Proxy) → S p → S (polled_all limits call p)
       unfolding polled_all
       all_polled p s = polls_on (live_consumers p.tables) p s
 
-    leaves_on : (k : ℕ) (o : Option Client) (p : Proxy) → S p → S (leaves limits k o p)
+    pub leaves_on : (k : ℕ) (o : Option Client) (p : Proxy) → S p → S (leaves limits k o p)
     leaves_on k None p s = s
     leaves_on k (Some client) p s = still client.gone (with_client k left (cancelled limits client.consumer p)) p (cancels client.consumer) s
       where
@@ -546,7 +547,7 @@ module _ (limits : Limits) (dialled : List ℕ) (x : ℕ) where
         cancels None = s
         cancels (Some c) = other_on (event.Cancel c) p refl refl s
 
-    comes_on : (k : ℕ) (p : Proxy) → S p → S (client_comes k p)
+    pub comes_on : (k : ℕ) (p : Proxy) → S p → S (client_comes k p)
     comes_on k p s = still (is_none (p.client k) && nat_lt (length (clients_here p)) 512) p (with_new k p) s s
 
     -- CARRYING OUT, where exchanges are opened of which nothing was told
@@ -555,12 +556,12 @@ module _ (limits : Limits) (dialled : List ℕ) (x : ℕ) where
     answers_on None a p s = s
     answers_on (Some k) a p s = s
 
-  module _ (ds : List ℕ) (before : List Called) (call : Called) where
+  module _ (ds : List (Option ℕ)) (before : List Called) (call : Called) where
     abbrev calls : List Called
     calls = more_calls before call
 
     abbrev first : Proxy
-    first = turned_by limits dialled before unused
+    first = turned_by limits dialled before (unused began)
 
     abbrev all : List Act
     all = acts_in (turned limits dialled call first).part
@@ -643,225 +644,6 @@ module _ (limits : Limits) (dialled : List ℕ) (x : ℕ) where
         let next = act_on a acts p (subst (λ (acts_all : List Act). Contains acts_all a) is (among_all done acts a)) only old s in
         acts_on (done ++ a ∷ []) acts (carried_out a p) (append_assoc done (a ∷ []) acts ∙ is) next.1 (act_old a p old) next.0
 
-    carries_on : (p : Proxy) → acts_in p.part ≡ all → NewOnly (acts_in p.part) → IsOld p → Follows ds calls p → Follows ds calls (carried p)
+    pub carries_on : (p : Proxy) → acts_in p.part ≡ all → NewOnly (acts_in p.part) → IsOld p → Follows ds calls p → Follows ds calls (carried p)
     unfolding carried
     carries_on p is only old s = acts_on [] (acts_in p.part) p is only old s
-
-  -- THE EVENT OF A CALL
-
-  module _ (ds : List ℕ) (m : ℕ) (so : ds ≡ take m dialled) (calls : List Called) (call : Called) where
-    abbrev more : List Called
-    more = more_calls calls call
-
-    abbrev Before : Proxy → Type 0
-    Before p = Follows ds calls p
-
-    abbrev Behind : Proxy → Type 0
-    Behind p = Follows ds more p
-
-    -- a connection that is x's
-    its_own : (k : ℕ) → exchange_of ds k ≡ Some x → connection_of dialled x ≡ Some k
-    its_own k at = connection_at k x m dialled (ap (λ (ks : List ℕ). exchange_of ks k) (sym so) ∙ at)
-
-    got_of : (k : ℕ) → connection_of dialled x ≡ Some k → new_of call ≡ got_by k call.event call.bytes
-    got_of k at = ap (λ (o : Option ℕ). new_by o call) at
-
-    abbrev Misses : Type 0
-    Misses = (k : ℕ) → exchange_of ds k ≡ Some x → new_of call ≡ []
-
-    row_passes : Misses → (o : Option Upstream) (tokens : List Token) → HasHeard ds calls o tokens → HasHeard ds more o tokens
-    row_passes none None tokens row = row
-    row_passes none (Some v) tokens row = passes ds calls call v tokens none row
-
-    all_pass : Misses → (p : Proxy) → Before p → Behind p
-    all_pass none p s = (row_passes none (p.upstream x) (received_of x p.history) s.0, more_ends calls call p.history s.1)
-
-    -- nothing came of any
-    no_bytes : ((k : ℕ) → got_by k call.event call.bytes ≡ []) → Misses
-    no_bytes none k at = got_of k (its_own k at) ∙ none k
-
-    -- bytes of an exchange came
-    module _ (z n : ℕ) (is : call.event ≡ wire.Got z n) where
-      got_is : (k : ℕ) (b : Bool) → nat_eq k z ≡ b → got_by k call.event call.bytes ≡ (if b then call.bytes else [])
-      got_is k b at = ap (λ (w : WireEvent). got_by k w call.bytes) is ∙ ap (λ (t : Bool). if t then call.bytes else []) at
-
-      -- of another
-      misses : (exchange_of ds z ≡ Some x → ⊥) → Misses
-      misses off k at = got_of k (its_own k at) ∙ by_number (nat_eq k z) refl
-        where
-          by_number : (b : Bool) → nat_eq k z ≡ b → got_by k call.event call.bytes ≡ []
-          by_number false apart = got_is k false apart
-          by_number true on = let same : z ≡ k = grind (arith, nat_tests) in absurd (off (ap (exchange_of ds) same ∙ at))
-
-      -- of this one
-      row_waits : exchange_of ds z ≡ Some x → (o : Option Upstream) (tokens : List Token) → HasHeard ds calls o tokens →
-          HasHeard ds more (option_map (origin_sends call.bytes) o) tokens
-      row_waits at None tokens row = row
-      row_waits at (Some v) tokens row =
-          let same : nat_eq z z ≡ true = grind (arith, nat_tests) in
-          let bytes : new_of call ≡ call.bytes = got_of z (its_own z at) ∙ got_is z true same in
-          subst (λ (xs : List ℕ). IsHeard ds more (origin_sends xs v) tokens) bytes (waits ds calls call v tokens z at row)
-
-      none_is : exchange_of ds z ≡ None → exchange_of ds z ≡ Some x → ⊥
-      none_is at here = let never : None ≡ Some x = sym at ∙ here in cc
-
-      other_is : (y : ℕ) → nat_eq x y ≡ false → exchange_of ds z ≡ Some y → exchange_of ds z ≡ Some x → ⊥
-      other_is y apart at here =
-          let one : Some y ≡ Some x = sym at ∙ here in
-          let same : y ≡ x = cc in
-          let on : nat_eq x y ≡ true = grind (arith, nat_tests) in
-          let never : true ≡ false = sym on ∙ apart in
-          cc
-
-      got_on : (o : Option ℕ) (p : Proxy) → exchange_of ds z ≡ o → Before p → Behind (sends o z call.bytes p)
-      got_on None p at s = all_pass (misses (none_is at)) p s
-      got_on (Some y) p at s = (by_number (nat_eq x y) refl, more_ends calls call p.history s.1)
-        where
-          by_number : (b : Bool) → nat_eq x y ≡ b →
-              HasHeard ds more (if b then option_map (origin_sends call.bytes) (p.upstream x) else p.upstream x) (received_of x p.history)
-          by_number false apart = row_passes (misses (other_is y apart at)) (p.upstream x) (received_of x p.history) s.0
-          by_number true on = let same : y ≡ x = grind (arith, nat_tests) in row_waits (at ∙ ap Some same) (p.upstream x) (received_of x p.history) s.0
-
-    -- its connection ends
-    module _ (z : ℕ) (is : call.event ≡ wire.Ended z) where
-      no_got : Misses
-      no_got = no_bytes (λ k. ap (λ (w : WireEvent). got_by k w call.bytes) is)
-
-      row_ends : exchange_of ds z ≡ Some x → (o : Option Upstream) (tokens : List Token) → HasHeard ds calls o tokens →
-          HasHeard ds more (option_map origin_ends o) tokens
-      unfolding passes
-      row_ends at None tokens row = row
-      row_ends at (Some v) tokens row =
-          let r : IsHeard ds more v tokens = passes ds calls call v tokens no_got row in
-          let its : connection_of dialled x ≡ Some z = its_own z at in
-          let end : is_end_of z call.event ≡ true = (let same : nat_eq z z ≡ true = grind (arith, nat_tests) in ap (is_end_of z) is ∙ same) in
-          let over_now : ended_by (connection_of dialled x) (more_calls row.behind call) ≡ true =
-          ap (λ (o : Option ℕ). ended_by o (more_calls row.behind call)) its ∙ any_last z row.behind call end in
-          record {
-            behind = r.behind;
-            opens = r.opens;
-            sent = r.sent;
-            answer = r.answer;
-            on = ended_place r.behind r.on;
-            shut =
-                λ on. record { k = z; at = at; over = over_now };
-          }
-        where
-          ended_place : (behind : List Called) → IsOver behind v tokens ⊎ IsReading ds behind v tokens →
-              IsOver behind (origin_ends v) tokens ⊎ IsReading ds behind (origin_ends v) tokens
-          ended_place behind (inl o) = inl (record { done = o.done; answered = o.answered })
-          ended_place behind (inr g) = inr (record { front = g.front; rest = g.rest; whole = g.whole; reads = g.reads; all = g.all })
-
-      ends_on : (o : Option ℕ) (p : Proxy) → exchange_of ds z ≡ o → Before p → Behind (ends limits o z p)
-      ends_on None p at s = leaves_on ds more z (p.client z) p (all_pass no_got p s)
-      ends_on (Some y) p at s = (by_number (nat_eq x y) refl, more_ends calls call p.history s.1)
-        where
-          by_number : (b : Bool) → nat_eq x y ≡ b →
-              HasHeard ds more (if b then option_map origin_ends (p.upstream x) else p.upstream x) (received_of x p.history)
-          by_number false apart = row_passes no_got (p.upstream x) (received_of x p.history) s.0
-          by_number true on = let same : y ≡ x = grind (arith, nat_tests) in row_ends (at ∙ ap Some same) (p.upstream x) (received_of x p.history) s.0
-
-    broke_on : (z : ℕ) (o : Option ℕ) (p : Proxy) → Behind p → Behind (broke limits o z p)
-    broke_on z None p s = leaves_on ds more z (p.client z) p s
-    broke_on z (Some y) p s =
-        still ds more (is_open (p.tables.exchange y)) p (stepped limits (event.Fault y) p) s (other_on ds more (event.Fault y) p refl refl s)
-
-    quiet : (w : WireEvent) → ((k : ℕ) → got_by k w call.bytes ≡ []) → call.event ≡ w → Misses
-    quiet w none is = no_bytes (λ k. ap (λ (v : WireEvent). got_by k v call.bytes) is ∙ none k)
-
-    by_event : (w : WireEvent) (p : Proxy) → call.event ≡ w → Before p → Behind (handled_by limits ds call.bytes w p)
-    by_event (wire.Accepted z) p is s = comes_on ds more z p (all_pass (quiet (wire.Accepted z) (λ k. refl) is) p s)
-    by_event (wire.Got z n) p is s = got_on z n is (exchange_of ds z) p refl s
-    by_event (wire.Ended z) p is s = ends_on z is (exchange_of ds z) p refl s
-    by_event (wire.Broke z) p is s = broke_on z (exchange_of ds z) p (all_pass (quiet (wire.Broke z) (λ k. refl) is) p s)
-    by_event (wire.Room z) p is s = all_pass (quiet (wire.Room z) (λ k. refl) is) p s
-    by_event wire.Quiet p is s = all_pass (quiet wire.Quiet (λ k. refl) is) p s
-
-    handled_on : (p : Proxy) → Before p → Behind (handled limits ds call p)
-    unfolding handled
-    handled_on p s = by_event call.event p refl s
-
-    happened_on : (p : Proxy) → Before p → Behind (happened limits ds call p)
-    happened_on p s =
-        let q : Proxy = heard limits (handled limits ds call p) in
-        all_polled ds more call (started_all limits call q) (all_ask ds more call q (hears_on ds more (handled limits ds call p) (handled_on p s)))
-
-  -- TURNS
-
-  abbrev pub Now : List Called → Proxy → Type 0
-  Now calls p = Follows (so_far p dialled) calls p
-
-  -- where it has a row it was dialled among the first, or never
-  weaker : (m n : ℕ) (calls : List Called) (o : Option Upstream) (tokens : List Token) → m ≤ n → ((v : Upstream) → o ≡ Some v → x ≤ m) →
-      HasHeard (take m dialled) calls o tokens → HasHeard (take n dialled) calls o tokens
-  weaker m n calls None tokens le low row = row
-  weaker m n calls (Some v) tokens le low r =
-      record { behind = r.behind; opens = r.opens; sent = r.sent; answer = r.answer; on = by_place r.on; shut = λ on. shut_on (r.shut on) }
-    where
-      by_place : IsOver r.behind v tokens ⊎ IsReading (take m dialled) r.behind v tokens →
-          IsOver r.behind v tokens ⊎ IsReading (take n dialled) r.behind v tokens
-      by_place (inl o) = inl o
-      by_place (inr g) =
-          let few : x ≤ m = low v refl in
-          inr (record {
-            front = g.front;
-            rest = g.rest;
-            whole = g.whole;
-            reads = g.reads;
-            all =
-                λ k at. g.all k (place_before 1 k x m n dialled (omega arith) at);
-          })
-
-      shut_on : IsShut (take m dialled) r.behind → IsShut (take n dialled) r.behind
-      shut_on s = record { k = s.k; at = place_after 1 s.k x m n dialled le s.at; over = s.over }
-
-  abbrev pub tables_behind : List Called → Proxy
-  tables_behind calls = turned_by limits dialled calls unused
-
-  turn_on : (calls : List Called) (call : Called) → Now calls (tables_behind calls) →
-      Now (more_calls calls call) (turned limits dialled call (tables_behind calls))
-  unfolding turned
-  turn_on calls call s =
-      let p : Proxy = tables_behind calls in
-      let known : StandsKnown limits p = turns_know limits dialled calls unused (unused_known limits) in
-      let ds : List ℕ = so_far p dialled in
-      let h : Proxy = happened limits ds call (begun call p) in
-      let now : Follows ds (more_calls calls call) h = happened_on ds p.tables.opened refl calls call (begun call p) s in
-      let off : p.upstream x ≡ None → h.upstream x ≡ None =
-      happened_keeps limits (λ q r. q.upstream x ≡ None → r.upstream x ≡ None) (no_row limits x) ds call (begun call p) in
-      let opens : (p.tables.opened ≤ h.tables.opened) × OpenOnly (λ y. (p.tables.opened < y) × (y ≤ h.tables.opened)) (acts_in h.part) =
-      turn_opens limits ds call p known.stands in
-      let grows : p.tables.opened ≤ (carried h).tables.opened = subst (λ (t : Tables). p.tables.opened ≤ t.opened) (sym (carried_is_same h).tables) opens.0 in
-      let dialled_so : Follows (so_far (carried h) dialled) (more_calls calls call) h = (
-        weaker p.tables.opened (carried h).tables.opened (more_calls calls call) (h.upstream x) (received_of x h.history) grows (low p known h off) now.0,
-        now.1,
-      ) in
-      carries_on (so_far (carried h) dialled) calls call h
-      (ap acts_in (sym (carried_is_same h).part))
-      (open_more (λ y. (p.tables.opened < y) × (y ≤ h.tables.opened)) (λ y. p.tables.opened < y) (λ y f. f.0) (acts_in h.part) opens.1)
-      (old ds (more_calls calls call) p known h off now) dialled_so
-    where
-      by_row : (p : Proxy) → StandsKnown limits p → (o : Option Upstream) → p.upstream x ≡ o → (p.upstream x ≡ None) ⊎ (x ≤ p.tables.opened)
-      by_row p known None at = inl at
-      by_row p known (Some u) at = inr (known.known x u at)
-
-      low : (p : Proxy) → StandsKnown limits p → (h : Proxy) → (p.upstream x ≡ None → h.upstream x ≡ None) → (v : Upstream) → h.upstream x ≡ Some v →
-          x ≤ p.tables.opened
-      low p known h off v at = elim (by_row p known (p.upstream x) refl) [
-        | inl none ↦ absurd (let never : None ≡ Some v = sym (off none) ∙ at in cc)
-        | inr le ↦ le
-      ]
-
-      old : (ds : List ℕ) (cs : List Called) (p : Proxy) → StandsKnown limits p → (h : Proxy) → (p.upstream x ≡ None → h.upstream x ≡ None) →
-          Follows ds cs h → p.tables.opened < x → received_of x h.history ≡ []
-      old ds cs p known h off now above = elim (by_row p known (p.upstream x) refl) [
-        | inl none ↦ subst (λ (o : Option Upstream). HasHeard ds cs o (received_of x h.history)) (off none) now.0
-        | inr le ↦ absurd (omega arith)
-      ]
-
-  pub turns_on : (rest calls : List Called) → Now calls (tables_behind calls) → Now (calls ++ rest) (tables_behind (calls ++ rest))
-  turns_on [] calls s = subst (λ (cs : List Called). Now cs (tables_behind cs)) (sym (append-nil calls)) s
-  turns_on (call ∷ rest) calls s =
-      let next : Now (more_calls calls call) (tables_behind (more_calls calls call)) =
-      subst (Now (more_calls calls call)) (sym (turned_more limits dialled calls call unused)) (turn_on calls call s) in
-      subst (λ (cs : List Called). Now cs (tables_behind cs)) (append_assoc calls (call ∷ []) rest) (turns_on rest (more_calls calls call) next)

@@ -13,7 +13,7 @@ use Rattle.hc_store.specs.declared.backend.Backend.{Ghosts}
 use Rattle.hc_wire.specs.{Events.{Unseen}, Logs.{Log, Called}}
 use Rattle.hc_wire.specs.declared.event.WireEvent.TheVariants as wire
 use Rattle.hc_proxy.specs.declared.proxy.Proxy as loop
-use Rattle.hc_proxy.specs.{Hearing.{has_next}, Invariants.{is_due_by, is_part}, Keeping.{Frame, HasUpstreams, IsUpstreamAt}, Network.{has_news, next_of, open_exchanges}, Resting.{Rests, resting_call}, Rows.{Upstream, Proxy}, Waiting.{hears_nothing}}
+use Rattle.hc_proxy.specs.{Connections.{dials_in}, Hearing.{has_next}, Invariants.{is_due_by, is_part}, Keeping.{Frame, HasUpstreams, IsUpstreamAt}, Network.{has_news, next_of, open_exchanges}, Resting.{Rests, resting_call}, Rows.{Upstream, Proxy}, Waiting.{hears_nothing}}
 use Rattle.hc_proxy.proofs.{Ascending.{opens_ascend, opens_are}, HeardAll.{news_among}, SkippedSteps.{among}, StepOn.{law_of}, TakenParts.{news_same, next_same}, Waited.{brings_by, brings, nothing_brought}, HandedOn.{wanted_open}}
 
 -- LISTS
@@ -90,17 +90,17 @@ module _ {B : Type 0} {g : Ghosts B} (f : Frame) (x : loop.Proxy B g) (p : Proxy
   law : Lawful p.tables
   law = law_of f x p r.cache
 
-  ups : HasUpstreams (record { frame = f; call = resting_call log any_call; dialled = log.dialled; stages = λ k. Unseen }) x p []
+  ups : HasUpstreams (record { frame = f; call = resting_call log any_call; dialled = dials_in p log; stages = λ k. Unseen }) x p []
   ups = r.upstreams any_call (λ k. Unseen)
 
   -- what is open was dialled
-  within : (y : ℕ) → is_open (p.tables.exchange y) ≡ true → (b : Bool) → nat_lt p.tables.opened y ≡ b → y ≤ length log.dialled
+  within : (y : ℕ) → is_open (p.tables.exchange y) ≡ true → (b : Bool) → nat_lt p.tables.opened y ≡ b → y ≤ length (dials_in p log)
   within y on true past =
       let none : p.tables.exchange y ≡ None = law.sound.numbered.lists.new_exchanges y (grind (arith, nat_tests)) in
       true_false (sym on ∙ ap is_open none)
   within y on false past =
       let le : y ≤ p.tables.opened = grind (arith, nat_tests) in
-      let same : length log.dialled ≡ p.tables.opened = r.opened in
+      let same : length (dials_in p log) ≡ p.tables.opened = r.opened in
       omega arith
 
   pub brings_same : (y : ℕ) →

@@ -1,5 +1,5 @@
 -- A connection that is hung up in a turn, of an exchange that isn't open any more: what the loop keeps behind it.
-use Rattle.std.{proofs.Common.{◌≡◌, ◌⊎◌, ◌≤◌, ℕ, true, false, refl, ap, sym, ◌∙◌, subst}, specs.Prelude.{nat_eq, IsSome}}
+use Rattle.std.{proofs.Common.{◌≡◌, ◌⊎◌, ◌≤◌, ℕ, ◌+◌, true, false, refl, ap, sym, ◌∙◌, subst}, specs.Prelude.{nat_eq, IsSome}}
 use Rattle.hc_core.specs.Steps.{steps}
 use Rattle.hc_effects.proofs.Vocabulary.{act_list, closes_in, is_open}
 use Rattle.hc_peers.specs.Upstreams.{upstream_of}
@@ -43,8 +43,8 @@ module _ {B : Type 0} {g : Ghosts B} (t : Turn) (z : ℕ) (x x' : loop.Proxy B g
       consumers = h.consumers;
       upstreams = hung_upstreams;
       wire = wire_left t z x x' p shut u h.clients ups.numbers ups.names ups.strangers h.wire;
-      numbers = subst (λ c. p.starts ≤ steps c) (sym u.cache) h.numbers;
-      opened = subst (λ c. p.tables.opened ≤ steps c) (sym u.cache) h.opened;
+      numbers = subst (λ c. p.starts ≤ p.contents.last_consumer + steps c) (sym u.cache) h.numbers;
+      opened = subst (λ c. p.tables.opened ≤ p.contents.next_exchange + steps c) (sym u.cache) h.opened;
       seen = h.seen;
       shut = h.shut;
       known = known_left t z x x' p shut u h.clients ups.numbers ups.names ups.strangers h.wire h.known;

@@ -72,7 +72,7 @@ module _ (limits : Limits) where
 
   reads : (x z : ℕ) → nat_eq x z ≡ false → (change : Upstream → Upstream) (p : Proxy) → ApartOn x p (with_upstream z change p)
   reads x z off change p s = record {
-    stands = record { run = s.run; same = s.same; later = s.later };
+    stands = record { begins = s.begins; run = s.run; same = s.same; later = s.later };
     opens = λ h. h;
     wants = λ h. h;
     row = rw off refl;

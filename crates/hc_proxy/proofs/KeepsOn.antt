@@ -33,13 +33,13 @@ asks_both x (act.Evicted r ∷ xs) ys = asks_both x xs ys
 
 -- A CONNECTION IS ONE THAT WAS DIALLED
 
-dropped_within : (n : ℕ) (ks : List ℕ) (k : ℕ) → first_of (drop n ks) ≡ Some k → n < length ks
+dropped_within : (n : ℕ) (ks : List (Option ℕ)) (k : ℕ) → first_of (drop n ks) ≡ Some k → n < length ks
 dropped_within zero [] k is = absurd (let never : None ≡ Some k = is in cc)
 dropped_within zero (j ∷ ks) k is = omega arith
 dropped_within (suc n) [] k is = absurd (let never : None ≡ Some k = is in cc)
 dropped_within (suc n) (j ∷ ks) k is = let rest : n < length ks = dropped_within n ks k is in omega arith
 
-pub dialled_within : (dialled : List ℕ) (y k : ℕ) → connection_of dialled y ≡ Some k → y ≤ length dialled
+pub dialled_within : (dialled : List (Option ℕ)) (y k : ℕ) → connection_of dialled y ≡ Some k → y ≤ length dialled
 dialled_within dialled y k is = by_test (nat_eq y 0) refl is
   where
     by_test : (b : Bool) → nat_eq y 0 ≡ b → (if b then None else first_of (drop (y - 1) dialled)) ≡ Some k → y ≤ length dialled
@@ -169,8 +169,8 @@ module _ {B : Type 0} {g : Ghosts B} where
   pub keeps_on : (t : Turn) (x x' : loop.Proxy B g) (ev : Event) (p : Proxy) → Stands t.frame.limits p →
       ((y : ℕ) → p.tables.opened < y → p.upstream y ≡ None) → HasActs x p → HasClients t x p → HasUpstreams t x p (acts_in p.part) → AtWire t.stages x →
       AreSeen t p → AreClosed (acts_in p.part) p.tables → AreKnown t x → (s : Stepped t.frame x x' ev p) → RestStays x x' →
-      ((y : ℕ) → Stops y s.e.event → ⊥) → HasConsumers (with_entry s.e p) → p.starts ≤ steps x'.cache → p.tables.opened + 1 ≤ steps x'.cache →
-      Keeps t x' (with_entry s.e p)
+      ((y : ℕ) → Stops y s.e.event → ⊥) → HasConsumers (with_entry s.e p) → p.starts ≤ p.contents.last_consumer + steps x'.cache →
+      p.tables.opened + 1 ≤ p.contents.next_exchange + steps x'.cache → Keeps t x' (with_entry s.e p)
   unfolding with_entry
   keeps_on t x x' ev p stands unopened acts clients upstreams wire seen shut known s rest none consumers numbers opened =
       let on = upstreams_on t x p (acts_in p.part) stands unopened upstreams s.e s.is_owed none in

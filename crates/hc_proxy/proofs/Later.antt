@@ -3,11 +3,11 @@
 -- Each change of a client's row appends, or leaves what is owed as it is. A new client replaces no row, since
 -- its number is new. The rows of connections to the origin are owed their request from the first on, and only an
 -- exchange that is opened replaces a row. So for those it is asked which exchanges the acts open.
-use Rattle.std.{proofs.{Common.{◌≡◌, ℕ, Bool, true, false, List, [], ◌∷◌, ◌++◌, Option, Some, None, refl, ap, sym, ◌∙◌, arith, length, append_assoc, append-nil}, lemmas.Bool.Decides.{nat_tests}}, specs.Prelude.{nat_eq, ◌||◌, if◌then◌else◌, option_map}}
-use Rattle.hc_effects.proofs.Vocabulary.{Act, Entry, Limits}
+use Rattle.std.{proofs.{Common.{◌≡◌, ℕ, Bool, true, false, List, [], ◌∷◌, ◌++◌, Option, Some, None, refl, ap, sym, ◌∙◌, arith, length, append_assoc, append-nil}, lemmas.Bool.Decides.{nat_tests}}, specs.Prelude.{nat_eq, map, reverse, ◌||◌, if◌then◌else◌, option_map}}
+use Rattle.hc_effects.proofs.Vocabulary.{Act, Contents, Entry, History, Limits}
 use Rattle.hc_peers.specs.Renderings.{rendering, empty_answer, error_status, form_behind, is_last, closes}
 use Rattle.hc_wire.specs.Logs.{Called}
-use Rattle.hc_proxy.specs.{Carrying.{answered, carried, acts_in}, Connections.{stands}, Handling.{begun, seen_at}, Rows.{Client, Upstream, Proxy}, Steps.{with_entry}, Turns.{so_far, happened, turned, turned_by}}
+use Rattle.hc_proxy.specs.{Carrying.{answered, carried, acts_in}, Connections.{stands}, Handling.{begun, seen_at}, Rows.{Client, Upstream, Proxy}, Steps.{with_entry}, Turns.{so_far, happened, turned, turned_by, record_of, timed_of, text_behind}}
 use Rattle.hc_proxy.proofs.Turning.{IsChange, IsOriginChange, IsKept, IsCarried, OpenOnly, carried_keeps, open_any, turned_keeps}
 use Rattle.hc_proxy.proofs.Turning as kinds
 
@@ -122,13 +122,13 @@ module _ (limits : Limits) (k : ℕ) where
   }
 
   -- In a turn, and in all turns.
-  pub client_grows : (dialled : List ℕ) (call : Called) (p : Proxy) → ClientGrows k p (turned limits dialled call p)
+  pub client_grows : (dialled : List (Option ℕ)) (call : Called) (p : Proxy) → ClientGrows k p (turned limits dialled call p)
   client_grows dialled call p =
       turned_keeps limits (λ x. Unit {0}) (ClientGrows k) clients_grow clients_grow_out dialled call p
       (open_any (acts_in (happened limits (so_far p dialled) call (begun call p)).part))
       (λ old row. record { new = seen_at call k old; row = ap (option_map (seen_at call k)) row; later = seen_later call k old })
 
-  pub client_grows_on : (dialled : List ℕ) (calls : List Called) (p : Proxy) → ClientGrows k p (turned_by limits dialled calls p)
+  pub client_grows_on : (dialled : List (Option ℕ)) (calls : List Called) (p : Proxy) → ClientGrows k p (turned_by limits dialled calls p)
   client_grows_on dialled [] p = λ old row. record { new = old; row = row; later = later_same old }
   client_grows_on dialled (call ∷ calls) p =
       both_rows p (turned limits dialled call p) (turned_by limits dialled calls (turned limits dialled call p)) (client_grows dialled call p)
@@ -138,6 +138,7 @@ module _ (limits : Limits) (k : ℕ) where
 
 -- all but rows of clients and of connections to the origin
 pub record IsSame (p q : Proxy) : Type 0 where
+  pub contents : q.contents ≡ p.contents
   pub tables : q.tables ≡ p.tables
   pub history : q.history ≡ p.history
   pub part : q.part ≡ p.part
@@ -148,6 +149,7 @@ pub record IsSame (p q : Proxy) : Type 0 where
 
 same_both : (p q r : Proxy) → IsSame p q → IsSame q r → IsSame p r
 same_both p q r a b = record {
+  contents = b.contents ∙ a.contents;
   tables = b.tables ∙ a.tables;
   history = b.history ∙ a.history;
   part = b.part ∙ a.part;
@@ -159,14 +161,31 @@ same_both p q r a b = record {
 
 kept_out : IsCarried (λ x. Unit {0}) IsSame
 kept_out = record {
-  none = λ p. record { tables = refl; history = refl; part = refl; moment = refl; starts = refl; accepted = refl; holder = refl };
+  none = λ p. record { contents = refl; tables = refl; history = refl; part = refl; moment = refl; starts = refl; accepted = refl; holder = refl };
   both = same_both;
-  answers = λ k a p. record { tables = refl; history = refl; part = refl; moment = refl; starts = refl; accepted = refl; holder = refl };
-  opens = λ x request p may. record { tables = refl; history = refl; part = refl; moment = refl; starts = refl; accepted = refl; holder = refl };
+  answers = λ k a p. record { contents = refl; tables = refl; history = refl; part = refl; moment = refl; starts = refl; accepted = refl; holder = refl };
+  opens = λ x request p may. record {
+    contents = refl;
+    tables = refl;
+    history = refl;
+    part = refl;
+    moment = refl;
+    starts = refl;
+    accepted = refl;
+    holder =
+        refl;
+  };
 }
 
 pub carried_is_same : (p : Proxy) → IsSame p (carried p)
 carried_is_same p = carried_keeps (λ x. Unit {0}) IsSame kept_out p (open_any (acts_in p.part))
+
+-- and the record
+pub record_carried : (q : Proxy) → record_of (carried q) ≡ record_of q
+record_carried q =
+    let same = carried_is_same q in
+    ap (λ (d : Contents). text_behind d.now (map timed_of (reverse (carried q).history))) same.contents
+    ∙ ap (λ (h : History). text_behind q.contents.now (map timed_of (reverse h))) same.history
 
 -- CONNECTIONS TO THE ORIGIN
 
@@ -224,7 +243,7 @@ module _ (limits : Limits) (x : ℕ) where
   }
 
   -- In a turn whose acts don't open x.
-  pub origin_stays : (dialled : List ℕ) (call : Called) (p : Proxy) →
+  pub origin_stays : (dialled : List (Option ℕ)) (call : Called) (p : Proxy) →
       OpenOnly (OtherThan x) (acts_in (happened limits (so_far p dialled) call (begun call p)).part) → OriginStays x p (turned limits dialled call p)
   origin_stays dialled call p only =
       turned_keeps limits (OtherThan x) (OriginStays x) origins_stay origins_stay_out dialled call p only

@@ -215,8 +215,10 @@ module _ {B : Type 0} {g : Ghosts B} (t : Turn) (x : loop.Proxy B g) (p : Proxy)
                   (row_was t x p k None left s becomes (left_change (taken_at t.call k) (client_of x.clients k) (p.client k)) j some);
             };
             wire = gone_wire mid cs us vs;
-            numbers = (let a : p.starts ≤ steps x.cache = h.quiet.keeps.numbers in let b : steps mid.cache ≡ steps x.cache + 1 = one in omega arith);
-            opened = (let a : p.tables.opened ≤ steps x.cache = h.quiet.keeps.opened in let b : steps mid.cache ≡ steps x.cache + 1 = one in
+            numbers = (let a : p.starts ≤ p.contents.last_consumer + steps x.cache = h.quiet.keeps.numbers in
+                let b : steps mid.cache ≡ steps x.cache + 1 = one in omega arith);
+            opened = (let a : p.tables.opened ≤ p.contents.next_exchange + steps x.cache = h.quiet.keeps.opened in
+                let b : steps mid.cache ≡ steps x.cache + 1 = one in
                 let d : (after p.tables st.e).opened ≡ p.tables.opened =
                 opened_same 0 t x still p (event.Cancel c) (but_it 0 t x p h.quiet) st_still rest_still refl (λ y stops. absurd stops) in omega arith);
             seen = seen_still t x p k None left s becomes (left_change (taken_at t.call k) (client_of x.clients k) (p.client k)) t.stages t.dialled
@@ -272,8 +274,8 @@ module _ {B : Type 0} {g : Ghosts B} (t : Turn) (x : loop.Proxy B g) (p : Proxy)
             (λ j some. row_was t x p k None left s becomes (left_change (taken_at t.call k) (client_of x.clients k) (p.client k)) j some)
             h.quiet.keeps.upstreams);
         wire = gone_wire x' cs us vs;
-        numbers = subst (λ c. p.starts ≤ steps c) (sym cache_is) h.quiet.keeps.numbers;
-        opened = subst (λ c. p.tables.opened ≤ steps c) (sym cache_is) h.quiet.keeps.opened;
+        numbers = subst (λ c. p.starts ≤ p.contents.last_consumer + steps c) (sym cache_is) h.quiet.keeps.numbers;
+        opened = subst (λ c. p.tables.opened ≤ p.contents.next_exchange + steps c) (sym cache_is) h.quiet.keeps.opened;
         seen = seen_still t x p k None left s becomes (left_change (taken_at t.call k) (client_of x.clients k) (p.client k)) t.stages t.dialled
             h.quiet.keeps.seen;
         shut = h.quiet.keeps.shut;

@@ -5,7 +5,7 @@
 -- another.
 use Rattle.std.{proofs.Common.{◌≡◌, ℕ, Bool, true, false, List, [], ◌∷◌, ◌++◌, length, Option, Some, None, refl, ap, sym, ◌∙◌}, specs.Prelude.{nat_eq, ◌||◌, if◌then◌else◌, option_map}}
 use Rattle.hc_text.proofs.Basics.{some_inj as some_is}
-use Rattle.hc_effects.proofs.Vocabulary.{Act, Entry, Limits}
+use Rattle.hc_effects.proofs.Vocabulary.{Act, Entry, Limits, Contents}
 use Rattle.hc_peers.specs.Renderings.{rendering, form_behind, is_last, closes}
 use Rattle.hc_wire.specs.Logs.{Called}
 use Rattle.hc_proxy.specs.{Carrying.{answered, carried, acts_in}, Connections.{stands}, Handling.{begun, seen_at}, Rows.{Client, Proxy, new_client, unused}, Steps.{with_entry}, Turns.{so_far, happened, turned, turned_by}}
@@ -103,7 +103,7 @@ module _ (limits : Limits) (k : ℕ) where
     opens = λ x request p may new row is. itself (p.client k) new row is;
   }
 
-  pub turn_lets_go : (dialled : List ℕ) (call : Called) (p : Proxy) → LetsGo k (begun call p) (turned limits dialled call p)
+  pub turn_lets_go : (dialled : List (Option ℕ)) (call : Called) (p : Proxy) → LetsGo k (begun call p) (turned limits dialled call p)
   unfolding turned
   turn_lets_go dialled call p =
       let h = happened limits (so_far p dialled) call (begun call p) in
@@ -127,14 +127,14 @@ begun_gone call p gone k r row is = by_row (p.client k) refl row
     by_row None at made = absurd (let never : None ≡ Some r = made in cc)
     by_row (Some old) at made = by_seen old at (old.gone || stands call k) (some_is (seen_at call k old) r made)
 
-pub turn_gone : (limits : Limits) (dialled : List ℕ) (call : Called) (p : Proxy) → AreGone p → AreGone (turned limits dialled call p)
+pub turn_gone : (limits : Limits) (dialled : List (Option ℕ)) (call : Called) (p : Proxy) → AreGone p → AreGone (turned limits dialled call p)
 turn_gone limits dialled call p gone k r row is =
     let was = turn_lets_go limits k dialled call p r row is in
     was.gone (begun_gone call p gone k was.old was.row was.let_go)
 
-pub turns_gone : (limits : Limits) (dialled : List ℕ) (calls : List Called) (p : Proxy) → AreGone p → AreGone (turned_by limits dialled calls p)
+pub turns_gone : (limits : Limits) (dialled : List (Option ℕ)) (calls : List Called) (p : Proxy) → AreGone p → AreGone (turned_by limits dialled calls p)
 turns_gone limits dialled [] p gone = gone
 turns_gone limits dialled (call ∷ calls) p gone = turns_gone limits dialled calls (turned limits dialled call p) (turn_gone limits dialled call p gone)
 
-pub unused_gone : AreGone unused
-unused_gone k r row is = absurd (let never : None ≡ Some r = row in cc)
+pub unused_gone : (c : Contents) → AreGone (unused c)
+unused_gone c k r row is = absurd (let never : None ≡ Some r = row in cc)

@@ -52,7 +52,7 @@ mod PollOne
 mod NextSpelled
 mod StartsOn
 mod NextAsks
-mod FromNothing
+mod FromContents
 mod StartOne
 mod StartNext
 mod Takers
@@ -109,4 +109,5 @@ pub mod ClientTurns
 mod OpenEnded
 mod DialsHeard
 mod HeardRows
+mod HeardTurns
 pub mod Received

@@ -4,12 +4,13 @@
 -- made goes on so. One that is cut short ends the loop; so does the closing of all connections behind the last turn,
 -- which sends nothing. That all was sent then is read off what rests behind the last turn (`client_sent`,
 -- `exchange_sent`).
-use Rattle.std.{proofs.{Common.{◌≡◌, ◌⊎◌, inl, inr, ◌≤◌, ◌<◌, ℕ, ◌+◌, ◌-◌, List, [], ◌∷◌, ◌++◌, Bool, true, false, Option, Some, None, Ok, Err, refl, ap, sym, ◌∙◌, subst, arith, append-nil, take_all}, lemmas.{Bool.Decides.{nat_tests}, List.{length-drop}}}, specs.{Prelude.{◌&&◌, ◌||◌, not, nat_eq, nat_lt, find, filter, map, drop, length, option_map, IfSome, Result, IsErrAnd, if◌then◌else◌}, List.{list_all}}}
+use Rattle.std.{proofs.{Common.{◌≡◌, ◌⊎◌, inl, inr, ◌≤◌, ◌<◌, ◌^◌, ℕ, ◌+◌, ◌-◌, List, [], ◌∷◌, ◌++◌, Bool, true, false, Option, Some, None, Ok, Err, refl, ap, sym, ◌∙◌, subst, arith, append-nil, take_all}, lemmas.{Bool.Decides.{nat_tests}, List.{length-drop}}}, specs.{Prelude.{◌&&◌, ◌||◌, not, nat_eq, nat_lt, find, filter, map, drop, length, option_map, IfSome, Result, IsErrAnd, if◌then◌else◌}, List.{list_all}}}
 use Rattle.hc_text.proofs.Basics.{both_true as both_hold, or_left, or_right}
-use Rattle.hc_core.specs.Steps.{steps, faults_in}
+use Rattle.hc_core.specs.declared.cache.Cache.{Cache}
+use Rattle.hc_core.specs.Steps.{steps, faults_in, limits_in, bytes_received}
 use Rattle.hc_io.specs.Sink.{Takes, TakesPrefix}
 use Rattle.hc_io.proofs.Takings.{takes_more as takes_both, takes_none}
-use Rattle.hc_effects.proofs.Vocabulary.{is_open, tables, Limits}
+use Rattle.hc_effects.proofs.Vocabulary.{Contents, may_begin, is_open, tables, Limits}
 use Rattle.hc_peers.specs.{Clients.{client_of}, Upstreams.{upstream_of}}
 use Rattle.hc_peers.specs.declared.client.Client as peer
 use Rattle.hc_peers.specs.declared.upstream.Upstream as origin
@@ -19,7 +20,7 @@ use Rattle.hc_store.specs.declared.backend.Backend.{Ghosts}
 use Rattle.hc_wire.specs.{Events.{Stage, Unseen}, Logs.{Log, Taker, Called, empty_log, is_numbered, is_at_end, shut, standings_in, stage_from, stage_in, sent_in}}
 use Rattle.hc_wire.specs.declared.event.WireEvent.TheVariants as event
 use Rattle.hc_proxy.specs.declared.proxy.Proxy as loop
-use Rattle.hc_proxy.specs.{declared.stop.Stop.{Stop}, Connections.{connection_of, taken_at}, Endings.{IsLog, IsFresh, Serves, TakesTurns, was_sent}, Keeping.{Frame, HasUpstreams, IsUpstream, IsUpstreamAt}, Logging.{AreApart, short_from, is_short}, Loops.{AllFit}, Network.{open_exchanges, heard}, Records.{text_of}, Resting.{IsRestingClient, IsRestingAt, Rests}, Rows.{Client, Upstream, Proxy, unused}, Sending.{owed_by, is_taken, client_is_sent, taker_of, exchange_is_sent, all_is_sent}, Serving.{IsOfLoop, IsCutShort, IsStill, Begins, TurnsTo, TurnStops, EndsBy, IsClosed, all_closed}, Stops.{ended_as, ended_by}, Turns.{turned_by, behind_all, behind_calls, record_of}, Waiting.{waits}, Served.{ServesAs}}
+use Rattle.hc_proxy.specs.{declared.stop.Stop.{Stop}, Connections.{dials_from, dials_in, connection_of, taken_at}, Endings.{IsLog, IsFresh, Serves, TakesTurns, was_sent}, Keeping.{Frame, IsStocked, IsUnused, HasUpstreams, IsUpstream, IsUpstreamAt}, Logging.{AreApart, short_from, is_short}, Loops.{AllFit}, Network.{open_exchanges, heard}, Records.{text_of}, Resting.{IsRestingClient, IsRestingAt, Rests}, Rows.{Client, Upstream, Proxy, unused}, Sending.{owed_by, is_taken, client_is_sent, taker_of, exchange_is_sent, all_is_sent}, Serving.{IsOfLoop, IsCutShort, IsStill, Begins, TurnsTo, TurnStops, EndsBy, IsClosed, all_closed}, Stops.{ended_as, ended_by}, Turns.{turned_by, behind_all, behind_calls, record_of}, Waiting.{waits}, Served.{ServesWith}}
 use Rattle.hc_proxy.specs.declared.stop.Stop.TheVariants as stop
 use Rattle.hc_proxy.proofs.{Fitting.{all_reversed, opened_within}, Rows.{sent_all}, Stands.{loops_are_runs}, TakersStand.{open_taker, sent_found, taken_found}}
 use Rattle.hc_state.proofs.LeftRows.{all_passing}
@@ -27,10 +28,11 @@ use Rattle.hc_state.proofs.LeftRows.{all_passing}
 -- WHAT A SINK TOOK
 
 -- all of the record was taken, and nothing is lacking of the last turn's
-whole_turns : (limits : Limits) (log : Log) (out out' : Option (List ℕ)) → Takes out out' (record_of (behind_all limits log)) → TakesTurns limits log out out'
-whole_turns limits log out out' takes =
-    let all : behind_calls limits log (length log.calls) ≡ behind_all limits log =
-    ap (λ cs. turned_by limits log.dialled cs unused) (take_all (length log.calls) log.calls (omega arith)) in
+whole_turns : (limits : Limits) (c : Contents) (log : Log) (out out' : Option (List ℕ)) → Takes out out' (record_of (behind_all limits c log)) →
+    TakesTurns limits c log out out'
+whole_turns limits c log out out' takes =
+    let all : behind_calls limits c log (length log.calls) ≡ behind_all limits c log =
+    ap (λ cs. turned_by limits (dials_from c log.dialled) cs (unused c)) (take_all (length log.calls) log.calls (omega arith)) in
     record {
       turns = length log.calls;
       all_but_one = omega arith;
@@ -38,12 +40,12 @@ whole_turns limits log out out' takes =
       earlier = subst (λ (p : Proxy). Takes out out' (record_of p)) (sym all) takes;
       last = [];
       part = record { front = []; rest = []; whole = refl; takes = takes_none out' };
-      record_is = ap record_of (sym all) ∙ sym (append-nil (record_of (behind_calls limits log (length log.calls))));
+      record_is = ap record_of (sym all) ∙ sym (append-nil (record_of (behind_calls limits c log (length log.calls))));
     }
 
 -- BETWEEN TURNS
 
-pub record IsTurning {B : Type 0} {g : Ghosts B} (n m : ℕ) (limits : Limits) (before : Log) (x : loop.Proxy B g) (reported : Option Log)
+pub record IsTurning {B : Type 0} {g : Ghosts B} (n m : ℕ) (limits : Limits) (contents : Contents) (before : Log) (x : loop.Proxy B g) (reported : Option Log)
     (stages : ℕ → Stage) (out out' : Option (List ℕ)) (wait : Bool) : Type 0 where
   pub f : Frame
   pub p : Proxy
@@ -51,45 +53,47 @@ pub record IsTurning {B : Type 0} {g : Ghosts B} (n m : ℕ) (limits : Limits) (
   pub still : IsStill n f x p log reported stages
   pub wait_is : wait ≡ waits f.limits p
   pub limits_are : f.limits ≡ limits
+  pub contents_are : f.contents ≡ contents
   pub takes : Takes out out' f.written
   pub bound : log.bound ≡ before.bound
   pub calls : length log.calls ≡ m
-  pub of_loop : IsOfLoop f.limits log p
+  pub of_loop : IsOfLoop f.limits f.contents log p
 
 -- nothing happened yet, so the first call waits
-pub first_waits : (limits : Limits) → true ≡ waits limits unused
+pub first_waits : (limits : Limits) (c : Contents) → true ≡ waits limits (unused c)
 unfolding heard tables
-first_waits limits = refl
+first_waits limits c = refl
 
-fresh_of_loop : (limits : Limits) (log : Log) → IsFresh log → IsOfLoop limits log unused
-fresh_of_loop limits log fresh = record {
-  fit = subst (AllFit limits log.dialled unused) (sym fresh.calls) tt;
-  tables = sym (ap (λ cs. turned_by limits log.dialled cs unused) fresh.calls);
-  sent = ap (list_all (was_sent log.dialled unused)) fresh.takers;
+fresh_of_loop : (limits : Limits) (c : Contents) (log : Log) → IsFresh log → IsOfLoop limits c log (unused c)
+fresh_of_loop limits c log fresh = record {
+  fit = subst (AllFit limits (dials_from c log.dialled) (unused c)) (sym fresh.calls) tt;
+  tables = sym (ap (λ cs. turned_by limits (dials_from c log.dialled) cs (unused c)) fresh.calls);
+  sent = ap (list_all (was_sent (dials_from c log.dialled) (unused c))) fresh.takers;
 }
 
 module _ {B : Type 0} {g : Ghosts B} where
   pub turning_begins : (n : ℕ) (f : Frame) (x : loop.Proxy B g) (before : Log) (reported : Option Log) (stages : ℕ → Stage) (out : Option (List ℕ)) →
-      Begins n f x before reported stages → IsTurning n 0 f.limits before x reported stages out out true
+      Begins n f x before reported stages → IsTurning n 0 f.limits f.contents before x reported stages out out true
   turning_begins n f x before reported stages out b = record {
     f = f;
-    p = unused;
+    p = unused f.contents;
     log = before;
     still = b.still;
-    wait_is = first_waits f.limits;
+    wait_is = first_waits f.limits f.contents;
     limits_are = refl;
+    contents_are = refl;
     takes = subst (Takes out out) (sym b.unwritten) (takes_none out);
     bound = refl;
     calls = ap length b.fresh.calls;
-    of_loop = fresh_of_loop f.limits before b.fresh;
+    of_loop = fresh_of_loop f.limits f.contents before b.fresh;
   }
 
-  module _ (n m : ℕ) (limits : Limits) (before : Log) (x : loop.Proxy B g) (reported : Option Log) (stages : ℕ → Stage) (out out' : Option (List ℕ))
-      (wait : Bool) (t : IsTurning n m limits before x reported stages out out' wait) where
+  module _ (n m : ℕ) (limits : Limits) (contents : Contents) (before : Log) (x : loop.Proxy B g) (reported : Option Log) (stages : ℕ → Stage)
+      (out out' : Option (List ℕ)) (wait : Bool) (t : IsTurning n m limits contents before x reported stages out out' wait) where
     -- one more turn
     pub turning_on : (n' : ℕ) (x' : loop.Proxy B g) (reported' : Option Log) (stages' : ℕ → Stage) (new : Option (List ℕ)) (again : Bool) →
         TurnsTo n' t.f t.p t.log x x' reported' stages' out' new again → faults_in x'.cache ≡ faults_in x.cache
-        → IsTurning n' (m + 1) limits before x' reported' stages' out new again
+        → IsTurning n' (m + 1) limits contents before x' reported' stages' out new again
     turning_on n' x' reported' stages' new again to none = record {
       f = to.f';
       p = to.p';
@@ -97,10 +101,13 @@ module _ {B : Type 0} {g : Ghosts B} where
       still = to.still;
       wait_is = to.again_is ∙ ap (λ l. waits l to.p') (sym to.limits);
       limits_are = to.limits ∙ t.limits_are;
+      contents_are = to.contents ∙ t.contents_are;
       takes = subst (Takes out new) (sym to.written) (takes_both out out' new t.f.written to.text t.takes to.takes);
       bound = to.bound ∙ t.bound;
       calls = let a = to.calls in let b = t.calls in omega arith;
-      of_loop = subst (λ l. IsOfLoop l to.log' to.p') (sym to.limits) (to.goes none t.of_loop);
+      of_loop =
+          subst (λ (d : Contents). IsOfLoop to.f'.limits d to.log' to.p') (sym to.contents)
+          (subst (λ l. IsOfLoop l t.f.contents to.log' to.p') (sym to.limits) (to.goes none t.of_loop));
     }
 
     record_so : record_of t.p ≡ t.f.written
@@ -108,8 +115,8 @@ module _ {B : Type 0} {g : Ghosts B} where
 
     -- WHERE IT ENDS
 
-    by_stop : (turns : ℕ) (log : Log) (new : Option (List ℕ)) (e : Stop) → IsLog limits log → length log.calls ≤ turns → TakesTurns limits log out new →
-        Serves limits turns log out new (ended_by e)
+    by_stop : (turns : ℕ) (log : Log) (new : Option (List ℕ)) (e : Stop) → IsLog limits contents log → length log.calls ≤ turns →
+        TakesTurns limits contents log out new → Serves limits contents turns log out new (ended_by e)
     by_stop turns log new stop.SinkFailed is few front = Serves.unwritten is few front
     by_stop turns log new stop.WireFailed is few front = Serves.unwired is few front
     by_stop turns log new stop.NoMemory is few front = Serves.wanting is few front
@@ -118,11 +125,13 @@ module _ {B : Type 0} {g : Ghosts B} where
     pub turning_stops : (turns : ℕ) (x' : loop.Proxy B g) (reported' : Option Log) (new : Option (List ℕ)) (P : Stop → Type 0)
         (result : Result (Unit {0}) Stop) → IsErrAnd result P → m < turns → TurnStops t.f t.p t.log x x' reported' out' new → faults_in
         x'.cache ≡ faults_in x.cache
-        → EndsBy limits turns before reported' out new (ended_as result)
+        → EndsBy limits contents turns before reported' out new (ended_as result)
     turning_stops turns x' reported' new P (Ok done) stops less cut none = absurd stops
     turning_stops turns x' reported' new P (Err e) stops less cut none =
         let c = cut.goes none t.of_loop in
-        let c' : IsCutShort limits cut.log' t.f.written out' new = subst (λ l. IsCutShort l cut.log' t.f.written out' new) t.limits_are c in
+        let c' : IsCutShort limits contents cut.log' t.f.written out' new =
+        subst (λ (d : Contents). IsCutShort limits d cut.log' t.f.written out' new) t.contents_are
+        (subst (λ l. IsCutShort l t.f.contents cut.log' t.f.written out' new) t.limits_are c) in
         record {
           log' = cut.log';
           reported_is = cut.reported_is;
@@ -140,28 +149,36 @@ module _ {B : Type 0} {g : Ghosts B} where
               });
         }
 
-    is_log_now : IsLog limits t.log
-    is_log_now = subst (λ l. IsLog l t.log) t.limits_are (record {
+    places_now : length (dials_from t.f.contents t.log.dialled) ≡ t.p.tables.opened
+    places_now = ap (λ (d : Contents). length (dials_from d t.log.dialled)) (sym t.still.rests.cache.contents) ∙ t.still.rests.opened
+
+    is_log_so : IsLog t.f.limits t.f.contents t.log
+    is_log_so = record {
       fit = t.of_loop.fit;
-      sent = subst (λ (r : Proxy). list_all (was_sent t.log.dialled r) t.log.takers ≡ true) t.of_loop.tables t.of_loop.sent;
-      dialled = let same = t.still.rests.opened in subst (λ (r : Proxy). length t.log.dialled ≤ r.tables.opened) t.of_loop.tables (omega arith);
-    })
+      sent = subst (λ (r : Proxy). list_all (was_sent (dials_from t.f.contents t.log.dialled) r) t.log.takers ≡ true) t.of_loop.tables t.of_loop.sent;
+      dialled =
+          let same = places_now in
+          subst (λ (r : Proxy). length (dials_from t.f.contents t.log.dialled) ≤ r.tables.opened) t.of_loop.tables (omega arith);
+    }
 
-    tables_now : t.p ≡ behind_all limits t.log
-    tables_now = t.of_loop.tables ∙ ap (λ l. behind_all l t.log) t.limits_are
+    is_log_now : IsLog limits contents t.log
+    is_log_now = subst (λ (d : Contents). IsLog limits d t.log) t.contents_are (subst (λ l. IsLog l t.f.contents t.log) t.limits_are is_log_so)
 
-    all_taken : Takes out out' (record_of (behind_all limits t.log))
+    tables_now : t.p ≡ behind_all limits contents t.log
+    tables_now = t.of_loop.tables ∙ (ap (λ l. behind_all l t.f.contents t.log) t.limits_are ∙ ap (λ (d : Contents). behind_all limits d t.log) t.contents_are)
+
+    all_taken : Takes out out' (record_of (behind_all limits contents t.log))
     all_taken = subst (Takes out out') (sym record_so ∙ ap record_of tables_now) t.takes
 
     -- memory was refused behind the last turn
     pub turning_wants : (turns : ℕ) (reported' : Option Log) (P : Stop → Type 0) (result : Result (Unit {0}) Stop) → IsErrAnd result P → m ≤ turns →
-        reported' ≡ reported → EndsBy limits turns before reported' out out' (ended_as result)
+        reported' ≡ reported → EndsBy limits contents turns before reported' out out' (ended_as result)
     turning_wants turns reported' P (Ok done) stops few same = absurd stops
     turning_wants turns reported' P (Err e) stops few same = record {
       log' = t.log;
       reported_is = subst (λ (z : Option Log). (z ≡ None) ⊎ (z ≡ Some t.log)) (sym same) t.still.follows.reported_is;
       bound = t.bound;
-      serves = by_stop turns t.log out' e is_log_now (let b = t.calls in omega arith) (whole_turns limits t.log out out' all_taken);
+      serves = by_stop turns t.log out' e is_log_now (let b = t.calls in omega arith) (whole_turns limits contents t.log out out' all_taken);
     }
 
 -- ALL ARE CLOSED
@@ -258,10 +275,10 @@ module _ {B : Type 0} {g : Ghosts B} (f : Frame) (x : loop.Proxy B g) (p : Proxy
     exchange_sent : (y : ℕ) → is_open (p.tables.exchange y) ≡ true → exchange_is_sent log p y ≡ true
     exchange_sent y live = by_row (upstream_of x.upstreams y) (p.upstream y) refl refl (ups.rows y live within)
       where
-        ups : HasUpstreams (record { frame = f; call = any_call; dialled = log.dialled; stages = stage_in log.takers }) x p []
+        ups : HasUpstreams (record { frame = f; call = any_call; dialled = dials_in p log; stages = stage_in log.takers }) x p []
         ups = r.upstreams any_call (stage_in log.takers)
 
-        within : y ≤ length log.dialled
+        within : y ≤ length (dials_in p log)
         within = let le = opened_within f x p log r apart any_call refl y live in let same = r.opened in omega arith
 
         by_row : (o : Option origin.Upstream) (s : Option Upstream) → upstream_of x.upstreams y ≡ o → p.upstream y ≡ s →
@@ -271,7 +288,7 @@ module _ {B : Type 0} {g : Ghosts B} (f : Frame) (x : loop.Proxy B g) (p : Proxy
         by_row (Some u) (Some row) at at' is =
             let open_now = r.wire.upstreams y u at in
             let o = open_taker u.k u.reading open_now.0 log.takers open_now.1 in
-            ap (λ (n : ℕ). is_taken (length log.calls) n (taker_of log (connection_of log.dialled y))) (ap owed_by at')
+            ap (λ (n : ℕ). is_taken (length log.calls) n (taker_of log (connection_of (dials_in p log) y))) (ap owed_by at')
             ∙ (ap (λ (c : Option ℕ). is_taken (length log.calls) (length row.owed) (taker_of log c)) (ups.numbers y u at)
             ∙ taken_by u.k (length row.owed) o.c o.found (origin_lacks u row o.c o.found o.live is (r.resting y u at).lacks))
 
@@ -289,7 +306,7 @@ client_shut log k (Some row) =
     shut_taken (length log.calls) (length row.owed) (find (is_numbered k) log.takers))
 
 exchange_shut : (log : Log) (p : Proxy) (y : ℕ) → exchange_is_sent (all_closed log) p y ≡ exchange_is_sent log p y
-exchange_shut log p y = by_number (connection_of log.dialled y)
+exchange_shut log p y = by_number (connection_of (dials_in p log) y)
   where
     by_number : (o : Option ℕ) →
         is_taken (length log.calls) (owed_by (p.upstream y)) (taker_of (all_closed log) o) ≡ is_taken (length log.calls) (owed_by (p.upstream y))
@@ -309,13 +326,13 @@ all_shut log p =
     ∙ ap (λ b. list_all (λ k. client_is_sent log k (p.client k)) p.accepted && b)
     (each_same (exchange_is_sent (all_closed log) p) (exchange_is_sent log p) (exchange_shut log p) (open_exchanges p.tables))
 
-module _ {B : Type 0} {g : Ghosts B} (n m : ℕ) (limits : Limits) (before : Log) (x : loop.Proxy B g) (reported : Option Log) (stages : ℕ → Stage)
-    (out out' : Option (List ℕ)) (wait : Bool) (t : IsTurning n m limits before x reported stages out out' wait) where
+module _ {B : Type 0} {g : Ghosts B} (n m : ℕ) (limits : Limits) (contents : Contents) (before : Log) (x : loop.Proxy B g) (reported : Option Log)
+    (stages : ℕ → Stage) (out out' : Option (List ℕ)) (wait : Bool) (t : IsTurning n m limits contents before x reported stages out out' wait) where
   -- all turns were made, and all connections are closed
-  pub turning_ends : (reported' : Option Log) → IsClosed t.log reported' → EndsBy limits m before reported' out out' ended.Done
+  pub turning_ends : (reported' : Option Log) → IsClosed t.log reported' → EndsBy limits contents m before reported' out out' ended.Done
   turning_ends reported' closed =
-      let now = is_log_now n m limits before x reported stages out out' wait t in
-      let same = tables_now n m limits before x reported stages out out' wait t in
+      let now = is_log_now n m limits contents before x reported stages out out' wait t in
+      let same = tables_now n m limits contents before x reported stages out out' wait t in
       record {
         log' = all_closed t.log;
         reported_is = closed;
@@ -324,17 +341,17 @@ module _ {B : Type 0} {g : Ghosts B} (n m : ℕ) (limits : Limits) (before : Log
             Serves.done
             (record {
               fit = now.fit;
-              sent = shut_sent (was_sent t.log.dialled (behind_all limits t.log)) (λ c. refl) t.log.takers ∙ now.sent;
+              sent = shut_sent (was_sent (dials_from contents t.log.dialled) (behind_all limits contents t.log)) (λ c. refl) t.log.takers ∙ now.sent;
               dialled = now.dialled;
             })
             t.calls
             (record {
               sent = subst (λ (r : Proxy). all_is_sent (all_closed t.log) r ≡ true) same
                   (all_shut t.log t.p ∙ all_sent t.f x t.p t.log t.still.rests t.still.follows.apart);
-              dialled = t.still.rests.opened ∙ ap (λ (r : Proxy). r.tables.opened) same;
+              dialled = subst (λ (r : Proxy). length (dials_in r t.log) ≡ r.tables.opened) same t.still.rests.opened;
               closed = shut_closed t.log.takers;
             })
-            (all_taken n m limits before x reported stages out out' wait t);
+            (all_taken n m limits contents before x reported stages out out' wait t);
       }
 
 -- BEFORE THE FIRST TURN
@@ -352,13 +369,26 @@ fresh_first : (reported : Option Log) → IfSome reported IsFresh → IsFresh (l
 fresh_first None fresh = record { calls = refl; dialled = refl; takers = refl }
 fresh_first (Some log) fresh = fresh
 
-abbrev pub frame_of : Limits → Frame
-frame_of limits = record { limits = limits; written = []; bytes = 0 }
+abbrev pub frame_of : Limits → Contents → Frame
+frame_of limits contents = record { limits = limits; contents = contents; written = []; bytes = 0 }
 
-module _ {B : Type 0} {g : Ghosts B} (n : ℕ) (limits : Limits) (x : loop.Proxy B g) (reported : Option Log) (stages : ℕ → Stage)
+-- a cache that is stocked with these contents is unused
+pub unused_so : {B : Type 0} {g : Ghosts B} (limits : Limits) (contents : Contents) (cache : Cache B g) (last : ℕ) → IsStocked contents cache last →
+    limits_in cache ≡ limits → steps cache + bytes_received cache ≡ 0 → last < 2 ^ 61 → IsUnused (frame_of limits contents) cache
+unused_so limits contents cache last s same none few = record {
+  stands = s.stands;
+  room = (let is : last ≡ contents.last_consumer = s.last_is in omega arith);
+  limits = same;
+  received = omega arith;
+  written = refl;
+  bounded = omega arith;
+}
+
+module _ {B : Type 0} {g : Ghosts B} (n : ℕ) (limits : Limits) (contents : Contents) (x : loop.Proxy B g) (reported : Option Log) (stages : ℕ → Stage)
     (fresh : IfSome reported IsFresh) (unseen : (k : ℕ) → stages k ≡ Unseen)
-    (rests : (log : Log) → IsFresh log → Rests (frame_of limits) x unused log) (none : steps x.cache ≡ 0) (written : text_of x.record ≡ []) where
-  pub loop_begins : Begins n (frame_of limits) x (log_of reported) reported stages
+    (rests : (log : Log) → IsFresh log → Rests (frame_of limits contents) x (unused contents) log) (none : steps x.cache ≡ 0)
+    (written : text_of x.record ≡ []) where
+  pub loop_begins : Begins n (frame_of limits contents) x (log_of reported) reported stages
   loop_begins =
       let is = fresh_first reported fresh in
       record {
@@ -377,10 +407,12 @@ module _ {B : Type 0} {g : Ghosts B} (n : ℕ) (limits : Limits) (x : loop.Proxy
       }
 
 -- what the wire tells
-pub reported_ends : (limits : Limits) (turns : ℕ) (log : Log) (reported reported' : Option Log) (out out' : Option (List ℕ)) (end : Ended) →
-    (reported ≡ None) ⊎ (reported ≡ Some log) → EndsBy limits turns log reported' out out' end → ServesAs limits turns reported reported' out out' end
-reported_ends limits turns log reported None out out' end is e = tt
-reported_ends limits turns log reported (Some l) out out' end is e = by_reported e.reported_is
+pub reported_ends : (limits : Limits) (contents : Contents) → may_begin limits contents ≡ true →
+    (turns : ℕ) (log : Log) (reported reported' : Option Log) (out out' : Option (List ℕ)) (end : Ended) →
+    (reported ≡ None) ⊎ (reported ≡ Some log) → EndsBy limits contents turns log reported' out out' end →
+    ServesWith limits contents turns reported reported' out out' end
+reported_ends limits contents may turns log reported None out out' end is e = tt
+reported_ends limits contents may turns log reported (Some l) out out' end is e = by_reported e.reported_is
   where
     some_is : (a b : Log) → Some a ≡ Some b → a ≡ b
     some_is a b h = cc
@@ -390,9 +422,9 @@ reported_ends limits turns log reported (Some l) out out' end is e = by_reported
     by_old (Some old) (inl none) l' same = absurd (let never : Some old ≡ None = none in cc)
     by_old (Some old) (inr it) l' same = same ∙ ap (λ (z : Log). z.bound) (sym (some_is old log it))
 
-    by_reported : (Some l ≡ None) ⊎ (Some l ≡ Some e.log') → ServesAs limits turns reported (Some l) out out' end
+    by_reported : (Some l ≡ None) ⊎ (Some l ≡ Some e.log') → ServesWith limits contents turns reported (Some l) out out' end
     by_reported (inl none) = absurd (let never : Some l ≡ None = none in cc)
     by_reported (inr same) =
         let it : l ≡ e.log' = some_is l e.log' same in
-        subst (λ (z : Log). ServesAs limits turns reported (Some z) out out' end) (sym it)
-        (e.serves, loops_are_runs limits e.log', by_old reported is e.log' e.bound)
+        subst (λ (z : Log). ServesWith limits contents turns reported (Some z) out out' end) (sym it)
+        (e.serves, loops_are_runs limits contents e.log' may, by_old reported is e.log' e.bound)

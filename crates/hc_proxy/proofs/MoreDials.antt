@@ -3,13 +3,13 @@
 -- A turn looks only at the dials of the exchanges that were opened before it. Exchanges are only added, so where
 -- there are as many dials as exchanges behind all turns, there were before each of them. What is dialled
 -- behind those isn't looked at.
-use Rattle.std.proofs.{Common.{◌≡◌, ◌≤◌, ℕ, List, [], ◌∷◌, ◌++◌, length, refl, ap, sym, ◌∙◌, subst, arith}, lemmas.List.{take-append-le}}
+use Rattle.std.proofs.{Common.{◌≡◌, ◌≤◌, ℕ, List, [], ◌∷◌, ◌++◌, length, Option, refl, ap, sym, ◌∙◌, subst, arith}, lemmas.List.{take-append-le}}
 use Rattle.hc_effects.proofs.Vocabulary.{Limits}
 use Rattle.hc_wire.specs.Logs.{Called}
 use Rattle.hc_proxy.specs.{Carrying.{carried}, Handling.{begun}, Listening.{reads_right}, Loops.{Fits, AllFit}, Rows.{Proxy}, Sending.{sends_right}, Standings.{stand_right}, Turns.{so_far, happened, turned, turned_by}}
 use Rattle.hc_proxy.proofs.Stands.{Stands, turn_goes, turns_go}
 
-module _ (limits : Limits) (dialled more : List ℕ) where
+module _ (limits : Limits) (dialled more : List (Option ℕ)) where
   dials_same : (p : Proxy) → p.tables.opened ≤ length dialled → so_far p (dialled ++ more) ≡ so_far p dialled
   dials_same p enough = take-append-le p.tables.opened dialled more enough
 

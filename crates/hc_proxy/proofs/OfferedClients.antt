@@ -11,7 +11,7 @@ use Rattle.hc_peers.specs.{Clients.{client_of, Becomes}, Offering.{reading_repor
 use Rattle.hc_peers.specs.declared.client.Client as peer
 use Rattle.hc_peers.specs.declared.upstream.Upstream as origin
 use Rattle.hc_peers.proofs.Rows.{same-itself}
-use Rattle.hc_proxy.specs.{Connections.{exchange_of, connection_of}, Keeping.{IsClient, IsUpstream, IsUpstreamAt}, Invariants.{NamesOne}, Logging.{Follows, short_from, is_short}, Rows.{Client, Upstream, Proxy}, TurnSteps.{SentSome}, Unsent.{taken_in, IsKnownAt, HasConnections, IsSentAt, Sends}}
+use Rattle.hc_proxy.specs.{Connections.{dials_from, dials_in, exchange_of, connection_of}, Keeping.{IsClient, IsUpstream, IsUpstreamAt}, Invariants.{NamesOne}, Logging.{Follows, short_from, is_short}, Rows.{Client, Upstream, Proxy}, TurnSteps.{SentSome}, Unsent.{taken_in, IsKnownAt, HasConnections, IsSentAt, Sends}}
 use Rattle.hc_proxy.proofs.{Followed.{follows_sent, follows_closed, follows_reading}, Taken.{MovesAt, client_front, moves_sent, moves_closed, moves_reading, none_front, some_sent}, Closings.{reported_on}}
 
 pub none_some : {A : Type 0} {X : Type 0} (v : A) → None ≡ Some v → X
@@ -91,7 +91,7 @@ module _ (p : Proxy) (cl : Clients) (up : Upstreams) (log : Log) (h : HasConnect
   is_client : IsClient (taken_in log k) c r
   is_client = row.2
 
-  stranger : exchange_of log.dialled k ≡ None
+  stranger : exchange_of (dials_in p log) k ≡ None
   stranger = h.strangers k (subst IsSome (sym row.1) refl)
 
   pub opens : (ended : Bool) × (stage_in log.takers k ≡ Open c.reading ended)
@@ -105,7 +105,7 @@ module _ (p : Proxy) (cl : Clients) (up : Upstreams) (log : Log) (h : HasConnect
       by_test false is = refl
       by_test true is =
           let number : u.k ≡ k = grind (arith, nat_tests) in
-          none_some y (sym stranger ∙ (ap (exchange_of log.dialled) (sym number) ∙ h.names y u.k (h.numbers y u its)))
+          none_some y (sym stranger ∙ (ap (exchange_of (dials_in p log)) (sym number) ∙ h.names y u.k (h.numbers y u its)))
 
   pub client_moves : (n : ℕ) (less : Bool) → MovesAt p k (take n c.unsent) less (Open c.reading opens.0) log (with_sent k (take n c.unsent) less log)
   client_moves n less = moves_sent p k (take n c.unsent) less log c.reading opens.0 opens.1
@@ -221,14 +221,14 @@ module _ (p : Proxy) (cl : Clients) (up : Upstreams) (log : Log) (h : HasConnect
           clients = λ j. clients_by j (nat_eq j k) refl;
           rows = λ y live le. upstream_same (taken_in log) (taken_in log') (upstream_of up y) (p.upstream y)
               (λ u its. taken_off p k _ _ stage' log log' m u.k (apart y u its))
-              (h.rows y live (subst (λ (ks : List ℕ). y ≤ length ks) m.sends.dialled le));
-          numbers = λ y u its. ap (λ (ks : List ℕ). connection_of ks y) m.sends.dialled ∙ h.numbers y u its;
+              (h.rows y live (subst (λ (ks : List ℕ). y ≤ length (dials_from p.contents ks)) m.sends.dialled le));
+          numbers = λ y u its. ap (λ (ks : List ℕ). connection_of (dials_from p.contents ks) y) m.sends.dialled ∙ h.numbers y u its;
           over = h.over;
-          within = λ y some. subst (λ (ks : List ℕ). y ≤ length ks) (sym m.sends.dialled) (h.within y some);
+          within = λ y some. subst (λ (ks : List ℕ). y ≤ length (dials_from p.contents ks)) (sym m.sends.dialled) (h.within y some);
           news = h.news;
           touched = h.touched;
-          names = subst NamesOne (sym m.sends.dialled) h.names;
-          strangers = λ j some. ap (λ (ks : List ℕ). exchange_of ks j) m.sends.dialled ∙ h.strangers j some;
+          names = subst (λ (ks : List ℕ). NamesOne (dials_from p.contents ks)) (sym m.sends.dialled) h.names;
+          strangers = λ j some. ap (λ (ks : List ℕ). exchange_of (dials_from p.contents ks) j) m.sends.dialled ∙ h.strangers j some;
           read_clients = λ j u its. read_by j u its (nat_eq j k) refl;
           read_upstreams = λ y u its. let was = h.read_upstreams y u its in (was.0, stage_off p k _ _ stage' log log' m u.k (apart y u its) ∙ was.1);
           all = λ j live. all_by j live (nat_eq j k) refl;

@@ -11,7 +11,7 @@ use Rattle.hc_peers.specs.{Clients.{client_of}, Offering.{reading_reported, sent
 use Rattle.hc_peers.specs.declared.client.Client as peer
 use Rattle.hc_peers.specs.declared.upstream.Upstream as origin
 use Rattle.hc_peers.proofs.Rows.{same-itself}
-use Rattle.hc_proxy.specs.{Connections.{exchange_of, connection_of}, Invariants.{NamesOne}, Keeping.{IsUpstream, IsUpstreamAt}, Logging.{Follows, is_short}, Resting.{IsRestingUpstream}, Rows.{Client, Upstream, Proxy}, TurnSteps.{SentSome}, Unsent.{taken_in, IsKnownAt, HasConnections, IsSentAt, AreSent, IsSentOriginAt, Sends}}
+use Rattle.hc_proxy.specs.{Connections.{dials_from, dials_in, exchange_of, connection_of}, Invariants.{NamesOne}, Keeping.{IsUpstream, IsUpstreamAt}, Logging.{Follows, is_short}, Resting.{IsRestingUpstream}, Rows.{Client, Upstream, Proxy}, TurnSteps.{SentSome}, Unsent.{taken_in, IsKnownAt, HasConnections, IsSentAt, AreSent, IsSentOriginAt, Sends}}
 use Rattle.hc_proxy.proofs.{Followed.{follows_sent, follows_reading}, Taken.{MovesAt, origin_front, moves_sent, moves_reading, none_front, some_sent}, OfferedClients.{drop_more, was_same, known_same, sent_same, upstream_same, taken_off, stage_off, short_off, none_some, sends_none}, Closings.{reported_on}}
 
 -- nobody is known of whom the tables tell nothing
@@ -45,7 +45,7 @@ module _ (p : Proxy) (cl : Clients) (up : Upstreams) (log : Log) (h : HasConnect
   is_upstream : IsUpstream (taken_in log u.k) u v
   is_upstream = row.2
 
-  its : exchange_of log.dialled u.k ≡ Some y
+  its : exchange_of (dials_in p log) u.k ≡ Some y
   its = h.names y u.k (h.numbers y u at)
 
   pub opens : (ended : Bool) × (stage_in log.takers u.k ≡ Open u.reading ended)
@@ -58,7 +58,7 @@ module _ (p : Proxy) (cl : Clients) (up : Upstreams) (log : Log) (h : HasConnect
       by_test false off = refl
       by_test true on =
           let number : j ≡ u.k = grind (arith, nat_tests) in
-          none_some y (sym (h.strangers j is) ∙ (ap (exchange_of log.dialled) number ∙ its))
+          none_some y (sym (h.strangers j is) ∙ (ap (exchange_of (dials_in p log)) number ∙ its))
 
   client_there : (j : ℕ) (c : peer.Client) → client_of cl j ≡ Some c → nat_eq j u.k ≡ false
   client_there j c is = no_client j (known_some log j c (p.client j) (subst (λ (o : Option peer.Client). IsKnownAt log j o (p.client j)) is (h.clients j)))
@@ -70,7 +70,7 @@ module _ (p : Proxy) (cl : Clients) (up : Upstreams) (log : Log) (h : HasConnect
       by_test false off = refl
       by_test true on =
           let number : w.k ≡ u.k = grind (arith, nat_tests) in
-          let one : z ≡ y = some_is z y (sym (h.names z w.k (h.numbers z w is)) ∙ (ap (exchange_of log.dialled) number ∙ its)) in
+          let one : z ≡ y = some_is z y (sym (h.names z w.k (h.numbers z w is)) ∙ (ap (exchange_of (dials_in p log)) number ∙ its)) in
           absurd (let never : true ≡ false = sym (same_number z) ∙ (ap (nat_eq z) one ∙ other) in cc)
 
   pub origin_moves : (n : ℕ) (less : Bool) → MovesAt p u.k (take n u.unsent) less (Open u.reading opens.0) log (with_sent u.k (take n u.unsent) less log)
@@ -119,7 +119,7 @@ module _ (p : Proxy) (cl : Clients) (up : Upstreams) (log : Log) (h : HasConnect
       clients_by j None is known = known_none log log' j (client_of cl j) known
       clients_by j (Some r) is known = known_same log log' j (client_of cl j) (Some r) (taken_other j (no_client j (subst IsSome (sym is) refl))) known
 
-      rows_by : (z : ℕ) → is_open (p.tables.exchange z) ≡ true → z ≤ length log.dialled → (b : Bool) → nat_eq z y ≡ b →
+      rows_by : (z : ℕ) → is_open (p.tables.exchange z) ≡ true → z ≤ length (dials_in p log) → (b : Bool) → nat_eq z y ≡ b →
           IsUpstreamAt (taken_in log') (upstream_of up' z) (p.upstream z)
       rows_by z live le true on_it =
           let number : z ≡ y = grind (arith, nat_tests) in
@@ -137,8 +137,8 @@ module _ (p : Proxy) (cl : Clients) (up : Upstreams) (log : Log) (h : HasConnect
           let number : z ≡ y = grind (arith, nat_tests) in
           (number, some_is u' w (sym row_on ∙ (ap (upstream_of up') (sym number) ∙ is)))
 
-      numbers_by : (z : ℕ) (w : origin.Upstream) → upstream_of up' z ≡ Some w → (b : Bool) → nat_eq z y ≡ b → connection_of log.dialled z ≡ Some w.k
-      numbers_by z w is true on_it = let both = it_is z w is on_it in ap (connection_of log.dialled) both.0 ∙
+      numbers_by : (z : ℕ) (w : origin.Upstream) → upstream_of up' z ≡ Some w → (b : Bool) → nat_eq z y ≡ b → connection_of (dials_in p log) z ≡ Some w.k
+      numbers_by z w is true on_it = let both = it_is z w is on_it in ap (connection_of (dials_in p log)) both.0 ∙
           (h.numbers y u at ∙ ap (λ (o : origin.Upstream). Some o.k) both.1)
       numbers_by z w is false off = h.numbers z w (sym (row_off z off) ∙ is)
 
@@ -203,14 +203,14 @@ module _ (p : Proxy) (cl : Clients) (up : Upstreams) (log : Log) (h : HasConnect
       pub origin_has : HasConnections p cl up' log'
       origin_has = record {
         clients = λ j. clients_by j (p.client j) refl (h.clients j);
-        rows = λ z live le. rows_by z live (subst (λ (ks : List ℕ). z ≤ length ks) m.sends.dialled le) (nat_eq z y) refl;
-        numbers = λ z w is. ap (λ (ks : List ℕ). connection_of ks z) m.sends.dialled ∙ numbers_by z w is (nat_eq z y) refl;
+        rows = λ z live le. rows_by z live (subst (λ (ks : List ℕ). z ≤ length (dials_from p.contents ks)) m.sends.dialled le) (nat_eq z y) refl;
+        numbers = λ z w is. ap (λ (ks : List ℕ). connection_of (dials_from p.contents ks) z) m.sends.dialled ∙ numbers_by z w is (nat_eq z y) refl;
         over = λ z is. h.over z (there_by z is (nat_eq z y) refl);
-        within = λ z is. subst (λ (ks : List ℕ). z ≤ length ks) (sym m.sends.dialled) (h.within z (there_by z is (nat_eq z y) refl));
+        within = λ z is. subst (λ (ks : List ℕ). z ≤ length (dials_from p.contents ks)) (sym m.sends.dialled) (h.within z (there_by z is (nat_eq z y) refl));
         news = λ z live unheard. h.news z live (sym (news z) ∙ unheard);
         touched = λ z w is untouched. touched_by z w is untouched (nat_eq z y) refl;
-        names = subst NamesOne (sym m.sends.dialled) h.names;
-        strangers = λ j is. ap (λ (ks : List ℕ). exchange_of ks j) m.sends.dialled ∙ h.strangers j is;
+        names = subst (λ (ks : List ℕ). NamesOne (dials_from p.contents ks)) (sym m.sends.dialled) h.names;
+        strangers = λ j is. ap (λ (ks : List ℕ). exchange_of (dials_from p.contents ks) j) m.sends.dialled ∙ h.strangers j is;
         read_clients = λ j c is. let was = h.read_clients j c is in (was.0, stage_other j (client_there j c is) ∙ was.1);
         read_upstreams = λ z w is. read_by z w is (nat_eq z y) refl;
         all = λ j live. all_by j live (nat_eq j u.k) refl;

@@ -4,7 +4,7 @@
 -- opens one that is new in this turn, and counted behind it. A row of a connection to the origin is one of an
 -- exchange that was opened. So no such row is replaced, and what it is owed stays as it was.
 use Rattle.std.{proofs.{Common.{◌≡◌, ◌≤◌, ◌<◌, ℕ, ◌+◌, Bool, true, false, List, [], ◌∷◌, ◌++◌, Option, Some, None, refl, ap, sym, ◌∙◌, subst, arith}, lemmas.Bool.Decides.{nat_tests}}, specs.Prelude.{nat_eq, if◌then◌else◌, map, option_map}}
-use Rattle.hc_effects.proofs.Vocabulary.{Opening, opening_in, is_denied, Act, Need, Event, Request, Limits, accepted_acts, answer_acts, poll_acts, loss_acts, close_acts, closing, Entry, Flaw, NoFlaw, Loses, Misreads, flaw_in, Move, Nothing, Asks, Opens, Shows, Gives, Ends, Fails, acts_of, poll_move, Tables, IsOwed, owed, Sound, after, opened_after, evicted, act}
+use Rattle.hc_effects.proofs.Vocabulary.{Opening, opening_in, is_denied, Act, Need, Event, Request, Limits, accepted_acts, answer_acts, poll_acts, loss_acts, close_acts, closing, Entry, Flaw, NoFlaw, Loses, Misreads, flaw_in, Move, Nothing, Asks, Opens, Shows, Gives, Ends, Fails, acts_of, poll_move, Tables, IsOwed, owed, Sound, after, opened_after, evicted, act, Contents, may_begin}
 use Rattle.hc_event.specs.declared.event.Event.TheVariants as event
 use Rattle.hc_model.specs.Moves as moves
 use Rattle.hc_effects.proofs.{NumbersKeep.{opens_next}, Owed.{goes, acts_are, is_denial, IsDenied, denied}}
@@ -189,7 +189,7 @@ module _ (limits : Limits) (n : ℕ) where
   }
 
 -- The acts of a turn open exchanges behind those before it, and these are counted behind it.
-pub turn_opens : (limits : Limits) (dialled : List ℕ) (call : Called) (p : Proxy) → Stands limits p →
+pub turn_opens : (limits : Limits) (dialled : List (Option ℕ)) (call : Called) (p : Proxy) → Stands limits p →
     (let h = happened limits dialled call (begun call p) in (p.tables.opened ≤ h.tables.opened) ×
     OpenOnly (λ x. (p.tables.opened < x) × (x ≤ h.tables.opened)) (acts_in h.part))
 turn_opens limits dialled call p s =
@@ -248,7 +248,7 @@ pub record StandsKnown (limits : Limits) (p : Proxy) : Type 0 where
   pub known : (x : ℕ) (u : Upstream) → p.upstream x ≡ Some u → x ≤ p.tables.opened
 
 -- So it is behind each turn, and what a connection to the origin is owed stays as it was.
-module _ (limits : Limits) (dialled : List ℕ) (call : Called) (p : Proxy) (s : StandsKnown limits p) where
+module _ (limits : Limits) (dialled : List (Option ℕ)) (call : Called) (p : Proxy) (s : StandsKnown limits p) where
   abbrev h : Proxy
   h = happened limits (so_far p dialled) call (begun call p)
 
@@ -276,16 +276,16 @@ module _ (limits : Limits) (dialled : List ℕ) (call : Called) (p : Proxy) (s :
       (open_more _ _ (λ y f same. let high : p.tables.opened < y = f.0 in absurd (omega arith)) (acts_in h.part) opens_new.1)
       old row
 
-pub unused_known : (limits : Limits) → StandsKnown limits unused
-unused_known limits = record { stands = unused_stands limits; known = λ x u row. absurd (let never : None ≡ Some u = row in cc) }
+pub unused_known : (limits : Limits) (c : Contents) → may_begin limits c ≡ true → StandsKnown limits (unused c)
+unused_known limits c begins = record { stands = unused_stands limits c begins; known = λ x u row. absurd (let never : None ≡ Some u = row in cc) }
 
 -- Behind all turns.
-pub turns_know : (limits : Limits) (dialled : List ℕ) (calls : List Called) (p : Proxy) → StandsKnown limits p →
+pub turns_know : (limits : Limits) (dialled : List (Option ℕ)) (calls : List Called) (p : Proxy) → StandsKnown limits p →
     StandsKnown limits (turned_by limits dialled calls p)
 turns_know limits dialled [] p s = s
 turns_know limits dialled (call ∷ calls) p s = turns_know limits dialled calls (turned limits dialled call p) (turn_knows limits dialled call p s)
 
-pub origin_grows_on : (limits : Limits) (dialled : List ℕ) (calls : List Called) (p : Proxy) → StandsKnown limits p → (x : ℕ) →
+pub origin_grows_on : (limits : Limits) (dialled : List (Option ℕ)) (calls : List Called) (p : Proxy) → StandsKnown limits p → (x : ℕ) →
     OriginStays x p (turned_by limits dialled calls p)
 origin_grows_on limits dialled [] p s x = λ old row. record { new = old; row = row; owed = refl }
 origin_grows_on limits dialled (call ∷ calls) p s x =

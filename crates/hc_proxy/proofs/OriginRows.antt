@@ -134,7 +134,8 @@ module _ {B : Type 0} {g : Ghosts B} (z : ℕ) (t : Turn) (x : loop.Proxy B g) (
                 (λ _. IsSome (client_of x.clients j) ⊎ ((y : ℕ) × (v : origin.Upstream) × (upstream_of s y ≡ Some v) × (v.k ≡ j)) ⊎ Contains x.closed.items j) [
                   | inr there ↦ inr (inr there)
                   | inl up ↦ elim (eq_cases up.0 z) as
-                      (λ _. IsSome (client_of x.clients j) ⊎ ((y : ℕ) × (v : origin.Upstream) × (upstream_of s y ≡ Some v) × (v.k ≡ j)) ⊎ Contains x.closed.items j) [
+                      (λ _. IsSome (client_of x.clients j) ⊎ ((y : ℕ) × (v : origin.Upstream) × (upstream_of s y ≡ Some v) × (v.k ≡ j)) ⊎ Contains
+                      x.closed.items j) [
                         | inr off ↦ inr (inl (up.0, up.1, off_row up.0 off.0 ∙ up.2, up.3))
                         | inl here ↦ inr (inl (
                           z,

@@ -1,5 +1,5 @@
 -- The entries of a turn stand first in the history, the newest first, and each is at the moment of the turn.
-use Rattle.std.{proofs.Common.{◌≡◌, ℕ, List, [], ◌∷◌, ◌++◌, refl, ap, sym, ◌∙◌, subst}, specs.Prelude.{max}}
+use Rattle.std.{proofs.Common.{◌≡◌, ℕ, List, [], ◌∷◌, ◌++◌, Option, refl, ap, sym, ◌∙◌, subst}, specs.Prelude.{max}}
 use Rattle.hc_effects.proofs.Vocabulary.{Event, Limits, Entry, History, owed}
 use Rattle.hc_wire.specs.Logs.{Called}
 use Rattle.hc_proxy.specs.{Handling.{begun}, Rows.{Proxy}, Steps.{with_entry, stepped}, Turns.{so_far, happened, turned}}
@@ -35,7 +35,8 @@ module _ (limits : Limits) (base : History) (now : ℕ) where
   }
 
 -- So it is behind a turn, whose moment is the greatest so far.
-pub turn_part : (limits : Limits) (dialled : List ℕ) (call : Called) (p : Proxy) → IsPart p.history (max p.moment call.moment) (turned limits dialled call p)
+pub turn_part : (limits : Limits) (dialled : List (Option ℕ)) (call : Called) (p : Proxy) →
+    IsPart p.history (max p.moment call.moment) (turned limits dialled call p)
 unfolding turned
 turn_part limits dialled call p =
     let h = happened limits (so_far p dialled) call (begun call p) in

@@ -36,6 +36,7 @@ module _ {B : Type 0} {g : Ghosts B} (f : Frame) (x x' : loop.Proxy B g) (c : â„
       is_owed = s.is_owed;
       acts = s.acts;
       cache = record {
+        contents = s.cache.contents;
         stands = s.cache.stands;
         same = s.cache.same;
         limits = s.cache.limits;
@@ -51,6 +52,7 @@ module _ {B : Type 0} {g : Ghosts B} (f : Frame) (x x' : loop.Proxy B g) (c : â„
         headed = s.cache.headed;
         small = s.cache.small;
         bounded = s.cache.bounded;
+        room = s.cache.room;
         targets = s.cache.targets;
       };
       later = s.later;

@@ -4,10 +4,10 @@
 -- consumer at most, its own (a law of the cache). So the acts that are sent to consumers stand in ascending order.
 -- `one_up` is of the acts of one poll, `reports_both` joins lists, and `polls_add` is the induction.
 use Rattle.std.{proofs.{Common.{◌≡◌, ◌⊎◌, inl, inr, ◌≤◌, ℕ, ◌+◌, List, [], ◌∷◌, ◌++◌, Bool, true, false, Option, Some, None, refl, ap, sym, ◌∙◌, subst, arith, append_assoc, append-nil}, lemmas.Bool.Decides.{nat_tests}}, specs.Prelude.{is_some, nat_eq, ◌||◌, if◌then◌else◌}}
-use Rattle.hc_effects.proofs.Vocabulary.{is_denied, Act, Limits, Entry, no_contents, IsRun, IsOwed, tables, after, recipient, consumer_acts, IsOneTo, AnswersBy, act, event}
+use Rattle.hc_effects.proofs.Vocabulary.{is_denied, Act, Limits, Entry, IsRun, IsOwed, tables, after, recipient, consumer_acts, IsOneTo, AnswersBy, act, event}
 use Rattle.hc_model.specs.ConsumerActs as reports
 use Rattle.hc_wire.specs.Logs.{Called}
-use Rattle.hc_laws.proofs.{WhoIsAnswered.{reported_in_runs}, FromNothing.{begins_well}}
+use Rattle.hc_laws.proofs.WhoIsAnswered.{reported_in_runs}
 use Rattle.hc_proxy.specs.{Carrying.{acts_in}, Invariants.{addressee}, Polls.{may_be_polled}, Rows.{Proxy}, Steps.{with_entry}}
 use Rattle.hc_proxy.proofs.{ServedActs.{IsReceived, ReportsUp, UpBy}, SkippedSteps.{Ascends, among}, Stands.{Stands, moment_by}}
 
@@ -151,6 +151,7 @@ module _ (limits : Limits) (call : Called) where
   pub entry_stands : (p : Proxy) (e : Entry) → Stands limits p → IsOwed limits p.tables e → e.now ≡ p.moment → Stands limits (with_entry e p)
   unfolding with_entry tables after
   entry_stands p e s o now = record {
+    begins = s.begins;
     run = (s.run, subst (λ t. IsOwed limits t e) s.same o);
     same = ap (λ t. after t e) s.same;
     later = let at : (after p.tables e).moment ≡ e.now = moment_by p.tables e (is_denied e.acts) refl in omega arith;
@@ -158,8 +159,8 @@ module _ (limits : Limits) (call : Called) where
 
   reports_one : (p : Proxy) (e : Entry) (c : ℕ) → Stands limits p → IsPollOf limits p e c → IsOneTo c (consumer_acts e.acts)
   reports_one p e c s is =
-      let run : IsRun limits no_contents (e ∷ p.history) = (s.run, subst (λ t. IsOwed limits t e) s.same is.is_owed) in
-      let law : AnswersBy e.event e.acts = reported_in_runs limits no_contents (e ∷ p.history) (begins_well limits) run in
+      let run : IsRun limits p.contents (e ∷ p.history) = (s.run, subst (λ t. IsOwed limits t e) s.same is.is_owed) in
+      let law : AnswersBy e.event e.acts = reported_in_runs limits p.contents (e ∷ p.history) s.begins run in
       (subst (λ ev. AnswersBy ev e.acts) is.event_is law).one
 
   -- what polls add to the acts of the turn

@@ -1,8 +1,8 @@
 -- A poll of a live consumer is accepted, and tells nobody anything but that consumer.
-use Rattle.std.{proofs.Common.{◌≡◌, ℕ, List, [], ◌∷◌, Option, Some, None, refl, sym, ◌∙◌, subst}, specs.Prelude.{is_some, if◌then◌else◌}}
-use Rattle.hc_effects.proofs.Vocabulary.{Act, Event, Limits, Entry, History, no_contents, IsOwed, IsRun, tables, recipient, consumer_acts, IsOneTo, AnswersOne, AnswersBy, event}
+use Rattle.std.{proofs.Common.{◌≡◌, ℕ, List, [], ◌∷◌, true, Option, Some, None, refl, sym, ◌∙◌, subst}, specs.Prelude.{is_some, if◌then◌else◌}}
+use Rattle.hc_effects.proofs.Vocabulary.{Act, Event, Limits, Entry, History, Contents, may_begin, IsOwed, IsRun, tables, recipient, consumer_acts, IsOneTo, AnswersOne, AnswersBy, event}
 use Rattle.hc_model.specs.ConsumerActs as reports
-use Rattle.hc_laws.proofs.{WhoIsAnswered.{reported_in_runs}, FromNothing.{begins_well}}
+use Rattle.hc_laws.proofs.WhoIsAnswered.{reported_in_runs}
 
 -- TOLD
 
@@ -38,9 +38,10 @@ one_to c (a ∷ acts) is = by_reported (recipient a) refl (one_to c acts) is
         (λ b says. some_is c b (recipient a) first.0 says, none_to c acts first.1)
 
 -- of a run
-module _ (limits : Limits) (h : History) (run : IsRun limits no_contents h) (e : Entry) (is : IsOwed limits (tables no_contents h) e) where
+module _ (limits : Limits) (contents : Contents) (h : History) (begins : may_begin limits contents ≡ true) (run : IsRun limits contents h) (e : Entry)
+    (is : IsOwed limits (tables contents h) e) where
   pub reports_by : AnswersBy e.event e.acts
-  reports_by = reported_in_runs limits no_contents (e ∷ h) (begins_well limits) (run, is)
+  reports_by = reported_in_runs limits contents (e ∷ h) begins (run, is)
 
   module _ (c want : ℕ) (at : e.event ≡ event.Poll c want) where
     -- one thing at most, and what is to be waited for last

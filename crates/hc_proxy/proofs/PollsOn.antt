@@ -4,11 +4,11 @@
 -- act tells anybody that it is over: so these are the live ones of the tables. Each poll is one of the definitions',
 -- over a store that may fail. It changes no client: so who may be polled stays so. What the polls add tells each its
 -- own consumer.
-use Rattle.std.{proofs.{Common.{◌≡◌, inl, inr, ◌≤◌, ℕ, ◌+◌, Bool, true, false, List, [], ◌∷◌, ◌++◌, Option, Some, None, refl, ap, sym, ◌∙◌, subst, arith}, Math.{Bridge.{le_prop}, Logic.{∥∥₁_elim}}, lemmas.List.Kept.{IsStrictlySortedBy-filter}}, specs.{Prelude.{◌||◌, ◌&&◌, not, filter, is_some, length, Contains, IsSome, ◌↔◌, if◌then◌else◌}, List.{list_all, Sorted.{IsStrictlySortedBy}}, Ordering.{nat_cmp}}}
+use Rattle.std.{proofs.{Common.{◌≡◌, inl, inr, ◌≤◌, ◌<◌, ◌^◌, ℕ, ◌+◌, Bool, true, false, List, [], ◌∷◌, ◌++◌, Option, Some, None, refl, ap, sym, ◌∙◌, subst, arith}, Math.{Bridge.{le_prop}, Logic.{∥∥₁_elim}}, lemmas.List.Kept.{IsStrictlySortedBy-filter}}, specs.{Prelude.{◌||◌, ◌&&◌, not, filter, is_some, length, Contains, IsSome, ◌↔◌, if◌then◌else◌}, List.{list_all, Sorted.{IsStrictlySortedBy}}, Ordering.{nat_cmp}}}
 use Rattle.std.specs.BTreeMap as tree
 use Rattle.hc_text.proofs.Basics.{filter_short}
 use Rattle.hc_core.specs.Steps.{faults_in, steps}
-use Rattle.hc_effects.proofs.Vocabulary.{Event, Limits, is_live, Entry, no_contents, owed, RequestsAreForTargets, event}
+use Rattle.hc_effects.proofs.Vocabulary.{Event, Limits, is_live, Entry, owed, RequestsAreForTargets, event}
 use Rattle.hc_laws.proofs.{RunsWithinLimits.{requests_are_for_targets}, LiveAfter.{Starts}}
 use Rattle.hc_peers.specs.Clients.{client_of, consumers_of}
 use Rattle.hc_peers.specs.Clients as peers
@@ -59,7 +59,7 @@ no_cancel c d ev is at = let never : true ≡ false = ap is_poll (sym is ∙ at)
 module _ {B : Type 0} {g : Ghosts B} where
   -- each consumer asks for a target
   asked_of : (f : Frame) (x : loop.Proxy B g) (p : Proxy) → HasCache f x p → RequestsAreForTargets p.tables
-  asked_of f x p h = subst RequestsAreForTargets (sym h.same) (requests_are_for_targets no_contents p.history h.targets)
+  asked_of f x p h = subst RequestsAreForTargets (sym h.same) (requests_are_for_targets p.contents p.history h.targets)
 
   -- THE LOOP
 
@@ -86,6 +86,7 @@ module _ {B : Type 0} {g : Ghosts B} where
         quiet = record {
           keeps = record {
             cache = record {
+              contents = h.cache.contents;
               stands = h.cache.stands;
               same = h.cache.same;
               limits = h.cache.limits;
@@ -101,6 +102,7 @@ module _ {B : Type 0} {g : Ghosts B} where
               headed = h.cache.headed;
               small = h.cache.small;
               bounded = h.cache.bounded;
+              room = h.cache.room;
               targets = h.cache.targets;
             };
             acts = h.acts;
@@ -165,7 +167,7 @@ module _ {B : Type 0} {g : Ghosts B} where
       entry_keeps t.frame.limits q s.e law s.is_owed to.keeps.consumers (λ d at. no_cancel c d s.e.event s.event_is at)
       (λ d at. no_start c d s.e.event s.event_is at) in
       let waits : is_poll s.e.event ≡ true = ap is_poll s.event_is in
-      let number : q.starts ≤ steps x.cache = to.keeps.numbers in
+      let number : q.starts ≤ q.contents.last_consumer + steps x.cache = to.keeps.numbers in
       let counted : steps x'.cache ≡ steps x.cache + 1 = count in
       let before : faults_in old.cache ≤ faults_in x.cache = to.later in
       let behind : faults_in x.cache ≤ faults_in x'.cache = s.later in
@@ -173,7 +175,7 @@ module _ {B : Type 0} {g : Ghosts B} where
         q = with_entry s.e q;
         keeps = keeps_on t x x' (event.Poll c 16384) q (stands_of t.frame x q h) h.unopened to.keeps.acts to.keeps.clients to.keeps.upstreams
             to.keeps.wire to.keeps.seen to.keeps.shut to.keeps.known s rest (λ y at. no_stop c y s.e.event s.event_is at) consumers (omega arith)
-            (let le : q.tables.opened ≤ steps x.cache = to.keeps.opened in omega arith);
+            (let le : q.tables.opened ≤ q.contents.next_exchange + steps x.cache = to.keeps.opened in omega arith);
         moved =
             made.moved ∙ (ap (λ (b : Bool). b || not (pends s.e.acts)) to.moved
             ∙ (moved_more (list_all is_waiting q.part) (pends s.e.acts)
@@ -308,8 +310,9 @@ module _ {B : Type 0} {g : Ghosts B} where
   few_of x some order count all few = ∥∥₁_elim some le_prop (λ s. round_few s.0 x s.1 s.2 order count all few)
 
   pub small_of : (x : loop.Proxy B g) → ∥ IsHeard x ∥₁ → IsStrictlySortedBy nat_cmp (consumers_of x.clients) → (c : ℕ) →
-      among c (filter (peers.takes_more x.clients) (consumers_of x.clients)) ≡ true → c ≤ steps x.cache
+      among c (filter (peers.takes_more x.clients) (consumers_of x.clients)) ≡ true → c < 2 ^ 61 + steps x.cache
   small_of x some order c there = ∥∥₁_elim some le_prop (λ s.
       let a : c ≤ s.1.starts = round_started s.0 x s.1 s.2 order c there in
-      let b : s.1.starts ≤ steps x.cache = s.2.quiet.keeps.numbers in
+      let b : s.1.starts ≤ s.1.contents.last_consumer + steps x.cache = s.2.quiet.keeps.numbers in
+      let room : s.1.contents.last_consumer < 2 ^ 61 = s.2.quiet.keeps.cache.room in
       omega arith)

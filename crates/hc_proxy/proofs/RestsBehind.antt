@@ -5,14 +5,14 @@
 -- sent since then. Offers change the tables of connections and the log alone. Of an open connection the log and its
 -- standings say the same.
 use Rattle.std.{proofs.{Common.{◌≡◌, ◌⊎◌, inl, inr, ℕ, zero, suc, ◌-◌, ◌≤◌, ◌<◌, List, [], ◌∷◌, Bool, true, false, Option, Some, None, refl, ap, sym, ◌∙◌, subst, arith, length, drop, eqb}, lemmas.Bool.{cases_Bool}}, specs.Prelude.{nat_eq, map, filter, find, IsSome, Contains, if◌then◌else◌}}
-use Rattle.hc_effects.proofs.Vocabulary.{is_open, is_wanted}
+use Rattle.hc_effects.proofs.Vocabulary.{is_open, is_wanted, Contents}
 use Rattle.hc_store.specs.declared.backend.Backend.{Ghosts}
 use Rattle.hc_wire.specs.{Events.{Stage, Unseen, Open, Closed, IsOpen}, Logs.{Log, Taker, Called, stage_in, sent_in, standing_of, is_taking}}
 use Rattle.hc_peers.specs.{Clients.{client_of}, Upstreams.{upstream_of}}
 use Rattle.hc_peers.specs.declared.client.Client as peer
 use Rattle.hc_peers.specs.declared.upstream.Upstream as origin
 use Rattle.hc_proxy.specs.declared.proxy.Proxy as loop
-use Rattle.hc_proxy.specs.{Connections.{exchange_of, connection_of, first_of, is_of, taken_by, taken_at}, Invariants.{NamesOne}, Keeping.{Frame, Turn, HasCache, HasUpstreams, IsClient, IsClientAt}, Resting.{KeepsCarried, IsRestingAt, IsRestingUpstream, resting_call, Rests}, Rows.{Client, Proxy}, TurnSteps.{SentAll}, Underway.{OnWire}, Unsent.{taken_in, IsKnownAt, HasConnections, IsSentAt, IsSentOriginAt, SendsToClients, SendsToOrigins, OthersStay}}
+use Rattle.hc_proxy.specs.{Connections.{dials_from, dials_in, exchange_of, connection_of, first_of, is_of, taken_by, taken_at}, Invariants.{NamesOne}, Keeping.{Frame, Turn, HasCache, HasUpstreams, IsClient, IsClientAt}, Resting.{KeepsCarried, IsRestingAt, IsRestingUpstream, resting_call, Rests}, Rows.{Client, Proxy}, TurnSteps.{SentAll}, Underway.{OnWire}, Unsent.{taken_in, IsKnownAt, HasConnections, IsSentAt, IsSentOriginAt, SendsToClients, SendsToOrigins, OthersStay}}
 use Rattle.hc_proxy.proofs.{Alike.{cache_moves}, OfferedAll.{sends_both}, OfferedClients.{upstream_same, none_some}}
 
 none_in : (k : ℕ) (ks : List ℕ) → ks ≡ [] → Contains ks k → ⊥
@@ -42,13 +42,13 @@ standing_taken n k (c ∷ cs) reads ended opens = elim (cases_Bool (eqb c.k k)) 
 
 -- NUMBERS
 
-place_within : (n k : ℕ) (ks : List ℕ) → first_of (drop n ks) ≡ Some k → n < length ks
+place_within : (n k : ℕ) (ks : List (Option ℕ)) → first_of (drop n ks) ≡ Some k → n < length ks
 place_within zero k [] is = none_some k is
 place_within zero k (j ∷ ks) is = omega arith
 place_within (suc n) k [] is = none_some k is
 place_within (suc n) k (j ∷ ks) is = let lt : n < length ks = place_within n k ks is in omega arith
 
-number_within : (y k : ℕ) (dialled : List ℕ) → connection_of dialled y ≡ Some k → y ≤ length dialled
+number_within : (y k : ℕ) (dialled : List (Option ℕ)) → connection_of dialled y ≡ Some k → y ≤ length dialled
 number_within y k dialled is = by_test (nat_eq y 0) refl is
   where
     by_test : (b : Bool) → nat_eq y 0 ≡ b → (if b then None else first_of (drop (y - 1) dialled)) ≡ Some k → y ≤ length dialled
@@ -101,6 +101,9 @@ module _ {B : Type 0} {g : Ghosts B} where
 
 module _ {B : Type 0} {g : Ghosts B} (t : Turn) (x : loop.Proxy B g) (p : Proxy) (log : Log) (reported : Option Log) (stages : ℕ → Stage)
     (keeps : KeepsCarried t x p) (on : OnWire t log reported stages) where
+  dials_are : dials_in p log ≡ t.dialled
+  dials_are = ap (λ (c : Contents). dials_from c log.dialled) keeps.cache.contents ∙ on.dialled
+
   stage_is : (k : ℕ) → stage_in log.takers k ≡ t.stages k
   stage_is k = sym (on.follows.stands k) ∙ on.stands k
 
@@ -132,15 +135,15 @@ module _ {B : Type 0} {g : Ghosts B} (t : Turn) (x : loop.Proxy B g) (p : Proxy)
         (λ c is. let open_now = keeps.wire.clients k c is in taken_open k c.reading open_now.0 open_now.1) (keeps.clients.rows k);
     rows = λ y live le. upstream_same (taken_at t.call) (taken_in log) (upstream_of x.upstreams y) (p.upstream y)
         (λ u is. let open_now = keeps.wire.upstreams y u is in sym (taken_open u.k u.reading open_now.0 open_now.1))
-        (keeps.upstreams.rows y live (subst (λ (ks : List ℕ). y ≤ length ks) on.dialled le));
-    numbers = λ y u is. ap (λ (ks : List ℕ). connection_of ks y) on.dialled ∙ keeps.upstreams.numbers y u is;
+        (keeps.upstreams.rows y live (subst (λ (ks : List (Option ℕ)). y ≤ length ks) dials_are le));
+    numbers = λ y u is. ap (λ (ks : List (Option ℕ)). connection_of ks y) dials_are ∙ keeps.upstreams.numbers y u is;
     over = λ y some. let it = some_open y some in upstream_open y it.0 it.1;
     within = λ y some. let it = some_open y some in number_within
-        y it.0.k log.dialled (ap (λ (ks : List ℕ). connection_of ks y) on.dialled ∙ keeps.upstreams.numbers y it.0 it.1);
+        y it.0.k (dials_in p log) (ap (λ (ks : List (Option ℕ)). connection_of ks y) dials_are ∙ keeps.upstreams.numbers y it.0 it.1);
     news = λ y live unheard. keeps.upstreams.news y live unheard refl;
     touched = λ y u is untouched. keeps.upstreams.touched y u is (upstream_open y u is) untouched refl;
-    names = subst NamesOne (sym on.dialled) keeps.upstreams.names;
-    strangers = λ k some. ap (λ (ks : List ℕ). exchange_of ks k) on.dialled ∙ keeps.upstreams.strangers k some;
+    names = subst NamesOne (sym dials_are) keeps.upstreams.names;
+    strangers = λ k some. ap (λ (ks : List (Option ℕ)). exchange_of ks k) dials_are ∙ keeps.upstreams.strangers k some;
     read_clients = λ k c is. let was = keeps.wire.clients k c is in (was.0, stage_is k ∙ was.1);
     read_upstreams = λ y u is. let was = keeps.wire.upstreams y u is in (was.0, stage_is u.k ∙ was.1);
     all = λ k live. elim (keeps.wire.all k (subst IsOpen (stage_is k) live)) as (λ _. Whose k) [
@@ -164,14 +167,14 @@ module _ {B : Type 0} {g : Ghosts B} (t : Turn) (x : loop.Proxy B g) (p : Proxy)
         taken_at (resting_call s.log' call) k ≡ taken_in s.log' k
     taken_resting call k reads ended opens = standing_taken (length s.log'.calls) k s.log'.takers reads ended opens
 
-    dialled_is : s.log'.dialled ≡ t.dialled
-    dialled_is = s.sends.dialled ∙ on.dialled
+    dialled_is : dials_in p s.log' ≡ t.dialled
+    dialled_is = ap (dials_from p.contents) s.sends.dialled ∙ dials_are
 
-    opened_is : length s.log'.dialled ≡ p.tables.opened
+    opened_is : length (dials_in p s.log') ≡ p.tables.opened
     opened_is = ap length dialled_is ∙ keeps.upstreams.opens
 
     upstreams_here : (call : Called) (after : ℕ → Stage) →
-        HasUpstreams (record { frame = t.frame; call = resting_call s.log' call; dialled = s.log'.dialled; stages = after }) (with_tables x x') p []
+        HasUpstreams (record { frame = t.frame; call = resting_call s.log' call; dialled = dials_in p s.log'; stages = after }) (with_tables x x') p []
     upstreams_here call after = record {
       rows = λ y live le. upstream_same (taken_in s.log') (taken_at (resting_call s.log' call)) (upstream_of x'.upstreams y) (p.upstream y)
           (λ u is. let open_now = s.has.read_upstreams y u is in taken_resting call u.k u.reading open_now.0 open_now.1) (s.has.rows y live le);
@@ -218,7 +221,7 @@ module _ {B : Type 0} {g : Ghosts B} (t : Turn) (x : loop.Proxy B g) (p : Proxy)
       numbers = keeps.numbers;
       opened_by = keeps.opened;
       seen = λ k is. let was = keeps.seen k (seen_before k is) in
-          (was.0, ap (λ (ks : List ℕ). exchange_of ks k) dialled_is ∙ was.1, was.2);
+          (was.0, ap (λ (ks : List (Option ℕ)). exchange_of ks k) dialled_is ∙ was.1, was.2);
     }
 
     pub sent_all : SentAll t p log x' reported' stages'

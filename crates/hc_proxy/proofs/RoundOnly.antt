@@ -1,12 +1,12 @@
 -- What rests between turns does so whatever list a step goes over; and whether the next turn waits.
-use Rattle.std.{proofs.Common.{◌≡◌, ◌≤◌, [], Bool, true, false, refl, ap, sym, ◌∙◌, subst}, specs.{Prelude.{◌&&◌, not}, List.{list_all}}}
+use Rattle.std.{proofs.Common.{◌≡◌, ◌≤◌, ◌+◌, [], Bool, true, false, refl, ap, sym, ◌∙◌, subst}, specs.{Prelude.{◌&&◌, not}, List.{list_all}}}
 use Rattle.hc_core.specs.Steps.{steps}
 use Rattle.hc_effects.proofs.Vocabulary.{act_list, Limits}
 use Rattle.hc_peers.specs.{Clients.{client_of}, Upstreams.{upstream_of}}
 use Rattle.hc_store.specs.declared.backend.Backend.{Ghosts}
 use Rattle.hc_wire.specs.Logs.{Log, stage_in}
 use Rattle.hc_proxy.specs.declared.proxy.Proxy as loop
-use Rattle.hc_proxy.specs.{Hearing.{OnlyRound}, Keeping.{Frame}, Resting.{IsRestingAt, Rests, resting_call}, Rows.{Proxy}, Waiting.{is_waiting, hears_nothing, waits}}
+use Rattle.hc_proxy.specs.{Connections.{dials_in}, Hearing.{OnlyRound}, Keeping.{Frame}, Resting.{IsRestingAt, Rests, resting_call}, Rows.{Proxy}, Waiting.{is_waiting, hears_nothing, waits}}
 use Rattle.hc_proxy.proofs.Alike.{cache_moves, upstreams_move, wire_moves}
 
 module _ {B : Type 0} {g : Ghosts B} (f : Frame) (x x' : loop.Proxy B g) (p : Proxy) (log : Log) where
@@ -21,15 +21,15 @@ module _ {B : Type 0} {g : Ghosts B} (f : Frame) (x x' : loop.Proxy B g) (p : Pr
     few = r.few;
     consumers = r.consumers;
     alive = r.alive;
-    upstreams = λ call stages. upstreams_move (record { frame = f; call = resting_call log call; dialled = log.dialled; stages = stages }) x x' p []
+    upstreams = λ call stages. upstreams_move (record { frame = f; call = resting_call log call; dialled = dials_in p log; stages = stages }) x x' p []
         o.upstreams (r.upstreams call stages);
     resting = λ y u at. r.resting y u (sym (ap (λ s. upstream_of s y) o.upstreams) ∙ at);
     opened = r.opened;
     heard = r.heard;
     wire = wire_moves (stage_in log.takers) x x' o.clients o.upstreams o.closed r.wire;
     closed = ap (λ v. v.items) o.closed ∙ r.closed;
-    numbers = subst (λ c. p.starts ≤ steps c) (sym o.cache) r.numbers;
-    opened_by = subst (λ c. p.tables.opened ≤ steps c) (sym o.cache) r.opened_by;
+    numbers = subst (λ c. p.starts ≤ p.contents.last_consumer + steps c) (sym o.cache) r.numbers;
+    opened_by = subst (λ c. p.tables.opened ≤ p.contents.next_exchange + steps c) (sym o.cache) r.opened_by;
     seen = r.seen;
   }
 

@@ -89,7 +89,8 @@ module _ {B : Type 0} {g : Ghosts B} where
         order = h.order;
         listed = λ j some. h.listed j (row_was j some);
         few = (let a : length (clients_here q) ≤ length (clients_here p) =
-            fewer (λ j. is_client (p.client j)) (λ j. is_client (q.client j)) p.accepted here_was in let b : length (clients_here p) ≤ 512 = h.few in omega arith);
+            fewer (λ j. is_client (p.client j)) (λ j. is_client (q.client j)) p.accepted here_was in let b : length (clients_here p) ≤ 512 = h.few in
+            omega arith);
       }
 
     pub reads_as : (stages : ℕ → Stage) → AtWire stages x → (j : ℕ) (d : peer.Client) → client_of s j ≡ Some d → (ended : Bool) ×
@@ -133,7 +134,7 @@ module _ {B : Type 0} {g : Ghosts B} where
               (subst IsSome (sym client_here) (still (subst (λ n. IsSome (client_of x.clients n)) here.1 there)))
         ]
 
-    pub seen_still : (stages : ℕ → Stage) (dialled : List ℕ) →
+    pub seen_still : (stages : ℕ → Stage) (dialled : List (Option ℕ)) →
         ((j : ℕ) → stages j ≡ Unseen → (p.client j ≡ None) × (exchange_of dialled j ≡ None) × (Contains p.accepted j → ⊥)) → (j : ℕ) → stages j ≡ Unseen →
         ((with_client k change p).client j ≡ None) × (exchange_of dialled j ≡ None) × (Contains p.accepted j → ⊥)
     seen_still stages dialled seen j unseen = (none_row (q.client j) refl, (seen j unseen).1, (seen j unseen).2)

@@ -3,14 +3,14 @@
 -- Each call fits the tables before it, so a test over all of its standings, clients or open exchanges holds of each one
 -- of them. The record: a turn adds its events to the history, so those of all turns are joined turn by turn. The dials:
 -- an entry opens the next exchange or none, so the number of the last exchange counts the Opened acts of the run.
-use Rattle.std.{proofs.{Common.{◌≡◌, ◌≤◌, ◌<◌, ℕ, zero, suc, ◌+◌, List, [], ◌∷◌, ◌++◌, Bool, true, false, Option, Some, None, refl, ap, sym, ◌∙◌, subst, arith}, lemmas.{Bool.Decides.{nat_tests}, List.{take_all, map-append, reverse-append}}}, specs.{Prelude.{◌&&◌, ◌||◌, nat_lt, not, length, take, map, reverse, find, Contains}, List.{list_all}}}
+use Rattle.std.{proofs.{Common.{◌≡◌, ◌≤◌, ◌<◌, ℕ, zero, suc, ◌+◌, ◌-◌, List, [], ◌∷◌, ◌++◌, Bool, true, false, Option, Some, None, refl, ap, sym, ◌∙◌, subst, arith}, lemmas.{Bool.Decides.{nat_tests}, List.{take_all, map-append, reverse-append}}}, specs.{Prelude.{◌&&◌, ◌||◌, nat_lt, not, length, take, map, reverse, find, Contains}, List.{list_all}}}
 use Rattle.hc_text.proofs.Basics.{and_left, and_right, both_false as both_off, not_true as not_false}
 use Rattle.hc_effects.proofs.Runs.{by_entries}
-use Rattle.hc_effects.proofs.Vocabulary.{Act, Limits, History, no_contents, Tables, IsRun, tables, after, act}
+use Rattle.hc_effects.proofs.Vocabulary.{Act, Limits, Contents, may_begin, History, Tables, IsRun, tables, after, act}
 use Rattle.hc_wire.specs.{declared.connection.Standing.{Standing}, Logs.{Called, Log, Taker, is_at_end, is_numbered}}
 use Rattle.hc_peers.specs.Peers.{is_same}
-use Rattle.hc_proxy.specs.{Connections.{connection_of, has_unsent, stands}, Invariants.{OpensUp}, Listening.{is_read}, Loops.{Fits, AllFit}, Network.{open_exchanges}, Rows.{Client, Proxy, unused}, Sending.{owed_by, owed_to, is_sent, is_taken, client_is_sent, taker_of, exchange_is_sent}, Sentences.{IsCallAsSaid, LogsAreAsSaid, EndsAreAsSaid, MayStand, whose_at, events_till, opened_in, opened_by}, Standings.{Whose, OfClient, OfExchange, OfNobody, is_right, may_stand, client_stands, number_stands, exchange_stands}, Turns.{so_far, turned, turned_by, behind_all, behind_calls, part_of, events_of, record_of, text_behind, timed_of}}
-use Rattle.hc_proxy.proofs.{Folds.{turned_more}, OfferedClients.{was_same}, OpensUp.{entry_opens}, Parts.{turn_part}, Stands.{Stands, loops_are_runs}}
+use Rattle.hc_proxy.specs.{Connections.{connection_of, dials_from, dials_in, has_unsent, stands}, Invariants.{OpensUp}, Listening.{is_read}, Loops.{Fits, AllFit}, Network.{open_exchanges}, Rows.{Client, Proxy, unused}, Sending.{owed_by, owed_to, is_sent, is_taken, client_is_sent, taker_of, exchange_is_sent}, Sentences.{IsCallAsSaid, LogsAreAsSaid, EndsAreAsSaid, MayStand, whose_at, events_till, opened_in, opened_by}, Standings.{Whose, OfClient, OfExchange, OfNobody, is_right, may_stand, client_stands, number_stands, exchange_stands}, Turns.{so_far, turned, turned_by, behind_all, behind_calls, part_of, events_of, record_of, text_behind, timed_of}}
+use Rattle.hc_proxy.proofs.{Folds.{turned_more}, MoreConnections.{dials_length}, OfferedClients.{was_same}, OpensUp.{entry_opens}, Parts.{turn_part}, Stands.{Stands, loops_are_runs, contents_stay, turns_go, unused_stands}}
 
 -- LISTS AND TESTS
 
@@ -32,7 +32,7 @@ is_less m n lt = let on : nat_lt m n ≡ true = grind (arith, nat_tests) in ap n
 
 -- A CALL
 
-fit_at : (limits : Limits) (dialled : List ℕ) (before after : List Called) (call : Called) (p : Proxy) →
+fit_at : (limits : Limits) (dialled : List (Option ℕ)) (before after : List Called) (call : Called) (p : Proxy) →
     AllFit limits dialled p (before ++ call ∷ after) → Fits limits dialled (turned_by limits dialled before p) call
 fit_at limits dialled [] after call p all = all.0
 fit_at limits dialled (first ∷ before) after call p all = fit_at limits dialled before after call (turned limits dialled first p) all.1
@@ -61,9 +61,9 @@ client_stays call p k client (Some r) at is here stays =
     some_is : (a b : Client) → Some a ≡ Some b → a ≡ b
     some_is a b h = cc
 
-call_said : (limits : Limits) (log : Log) (call : Called) (p : Proxy) → Fits limits log.dialled p call → IsCallAsSaid limits log call p
+call_said : (limits : Limits) (log : Log) (call : Called) (p : Proxy) → Fits limits (dials_in p log) p call → IsCallAsSaid limits log call p
 call_said limits log call p fits =
-    let dialled = so_far p log.dialled in
+    let dialled = so_far p (dials_in p log) in
     let each = list_all (is_right call dialled p) call.standings in
     let clients = list_all (λ k. client_stands call p k (p.client k)) p.accepted in
     let exchanges = list_all (exchange_stands call dialled) (open_exchanges p.tables) in
@@ -88,30 +88,34 @@ take_next n [] lt = absurd (omega arith)
 take_next zero (x ∷ xs) lt = (x, refl)
 take_next (suc n) (x ∷ xs) lt = let more = take_next n xs (omega arith) in (more.0, ap (λ ys. x ∷ ys) more.1)
 
-module _ (limits : Limits) (log : Log) where
-  events_more : (call : Called) (p : Proxy) → events_of (turned limits log.dialled call p) ≡ events_of p ++ part_of (turned limits log.dialled call p)
+module _ (limits : Limits) (c : Contents) (log : Log) (may : may_begin limits c ≡ true) where
+  abbrev dials : List (Option ℕ)
+  dials = dials_from c log.dialled
+
+  events_more : (call : Called) (p : Proxy) → events_of (turned limits dials call p) ≡ events_of p ++ part_of (turned limits dials call p)
   events_more call p =
-      let q = turned limits log.dialled call p in
-      ap (λ (h : History). map timed_of (reverse h)) (turn_part limits log.dialled call p).first
+      let q = turned limits dials call p in
+      ap (λ (h : History). map timed_of (reverse h)) (turn_part limits dials call p).first
       ∙ (ap (map timed_of) (reverse-append q.part p.history) ∙ map-append timed_of (reverse p.history) (reverse q.part))
 
-  events_are : (n : ℕ) → n ≤ length log.calls → events_of (behind_calls limits log n) ≡ events_till limits log n
+  events_are : (n : ℕ) → n ≤ length log.calls → events_of (behind_calls limits c log n) ≡ events_till limits c log n
   events_are zero le = refl
   events_are (suc n) le =
       let next = take_next n log.calls (omega arith) in
-      let before = behind_calls limits log n in
-      let turns : behind_calls limits log (suc n) ≡ turned limits log.dialled next.0 before = ap (λ cs. turned_by limits log.dialled cs unused) next.1 ∙
-      turned_more limits log.dialled (take n log.calls) next.0 unused in
-      let rest : events_of before ≡ events_till limits log n = events_are n (omega arith) in
+      let before = behind_calls limits c log n in
+      let turns : behind_calls limits c log (suc n) ≡ turned limits dials next.0 before = ap (λ cs. turned_by limits dials cs (unused c)) next.1 ∙
+      turned_more limits dials (take n log.calls) next.0 (unused c) in
+      let rest : events_of before ≡ events_till limits c log n = events_are n (omega arith) in
       ap events_of turns
       ∙ (events_more next.0 before
-      ∙ (ap (λ es. es ++ part_of (turned limits log.dialled next.0 before)) rest
-      ∙ ap (λ (q : Proxy). events_till limits log n ++ part_of q) (sym turns)))
+      ∙ (ap (λ es. es ++ part_of (turned limits dials next.0 before)) rest
+      ∙ ap (λ (q : Proxy). events_till limits c log n ++ part_of q) (sym turns)))
 
-  text_said : record_of (behind_all limits log) ≡ text_behind 0 (events_till limits log (length log.calls))
+  text_said : record_of (behind_all limits c log) ≡ text_behind c.now (events_till limits c log (length log.calls))
   text_said =
-      ap (text_behind 0)
-      (ap (λ cs. events_of (turned_by limits log.dialled cs unused)) (sym (take_all (length log.calls) log.calls (omega arith)))
+      ap (λ (d : Contents). text_behind d.now (events_of (behind_all limits c log))) (contents_stay limits c log may)
+      ∙ ap (text_behind c.now)
+      (ap (λ cs. events_of (turned_by limits dials cs (unused c))) (sym (take_all (length log.calls) log.calls (omega arith)))
       ∙ events_are (length log.calls) (omega arith))
 
 -- THE DIALS
@@ -131,29 +135,39 @@ counted (act.Pending c wait ∷ acts) n m up = counted acts n m up
 counted (act.Lost r kind ∷ acts) n m up = counted acts n m up
 counted (act.Evicted r ∷ acts) n m up = counted acts n m up
 
-opened_are : (limits : Limits) (h : History) → IsRun limits no_contents h → (tables no_contents h).opened ≡ opened_by h
+opened_are : (limits : Limits) (c : Contents) → may_begin limits c ≡ true → (h : History) → IsRun limits c h →
+    (tables c h).opened ≡ (c.next_exchange - 1) + opened_by h
 unfolding tables
-opened_are limits = by_entries limits no_contents (λ h. (tables no_contents h).opened ≡ opened_by h) refl (λ h e run before.
-    let t = tables no_contents h in
-    let p : Proxy = record unused { tables = t; history = h; moment = t.moment } in
-    let s : Stands limits p = record { run = run.0; same = refl; later = omega arith } in
+opened_are limits c may = by_entries limits c (λ h. (tables c h).opened ≡ (c.next_exchange - 1) + opened_by h) (omega arith) (λ h e run before.
+    let t = tables c h in
+    let p : Proxy = record (unused c) { tables = t; history = h; moment = t.moment } in
+    let s : Stands limits p = record { begins = may; run = run.0; same = refl; later = omega arith } in
     let up : OpensUp t.opened e.acts (after t e).opened = entry_opens limits p s e run.1 t.opened [] refl in
     let more : (after t e).opened ≡ t.opened + opened_in e.acts = counted e.acts t.opened (after t e).opened up in
-    more ∙ ap (λ n. n + opened_in e.acts) before)
+    omega arith)
 
-opened_said : (limits : Limits) (log : Log) → (behind_all limits log).tables.opened ≡ opened_by (behind_all limits log).history
-opened_said limits log =
-    let r = loops_are_runs limits log in
-    ap (λ (t : Tables). t.opened) r.behind ∙ opened_are limits (behind_all limits log).history r.run
+opened_said : (limits : Limits) (c : Contents) (log : Log) → may_begin limits c ≡ true →
+    (behind_all limits c log).tables.opened ≡ (c.next_exchange - 1) + opened_by (behind_all limits c log).history
+opened_said limits c log may =
+    let r = loops_are_runs limits c log may in
+    ap (λ (t : Tables). t.opened) r.behind ∙ opened_are limits c may (behind_all limits c log).history r.run
 
 pub logs_said : LogsAreAsSaid
-logs_said limits log l = record {
+logs_said limits c log may l = record {
   calls = λ call p at.
-      let fits : Fits limits log.dialled (turned_by limits log.dialled at.before unused) call =
-      fit_at limits log.dialled at.before at.after call unused (subst (AllFit limits log.dialled unused) at.calls l.fit) in
-      call_said limits log call p (subst (λ (q : Proxy). Fits limits log.dialled q call) (sym at.tables) fits);
-  text = text_said limits log;
-  dials = subst (λ n. length log.dialled ≤ n) (opened_said limits log) l.dialled;
+      let dials = dials_from c log.dialled in
+      let q = turned_by limits dials at.before (unused c) in
+      let fits : Fits limits dials q call =
+      fit_at limits dials at.before at.after call (unused c) (subst (AllFit limits dials (unused c)) at.calls l.fit) in
+      let began : q.contents ≡ c = (turns_go limits dials at.before (unused c) (unused_stands limits c may)).contents in
+      let fits_so : Fits limits (dials_in q log) q call = subst (λ (d : Contents). Fits limits (dials_from d log.dialled) q call) (sym began) fits in
+      call_said limits log call p (subst (λ (r : Proxy). Fits limits (dials_in r log) r call) (sym at.tables) fits_so);
+  text = text_said limits c log may;
+  dials =
+      let few : length (dials_from c log.dialled) ≤ (behind_all limits c log).tables.opened = l.dialled in
+      let size = dials_length c log.dialled in
+      let all = opened_said limits c log may in
+      omega arith;
 }
 
 -- BEHIND THE LAST TURN
@@ -173,12 +187,17 @@ short_at calls n taker (Some c) at is lt =
     by_short (Some m) on = let same : m ≡ calls = grind (arith, nat_tests) in ap Some same
 
 pub ends_said : EndsAreAsSaid
-ends_said limits log l f =
-    let p = behind_all limits log in
+ends_said limits c log may l f =
+    let p = behind_all limits c log in
     let clients = list_all (λ k. client_is_sent log k (p.client k)) p.accepted in
     let exchanges = list_all (exchange_is_sent log p) (open_exchanges p.tables) in
     record {
-      dials = f.dialled ∙ opened_said limits log;
+      dials =
+          let same : length (dials_from c log.dialled) ≡ p.tables.opened =
+          ap (λ (d : Contents). length (dials_from d log.dialled)) (sym (contents_stay limits c log may)) ∙ f.dialled in
+          let size = dials_length c log.dialled in
+          let all = opened_said limits c log may in
+          omega arith;
       closed = λ taker there. not_false taker.live (all_of (λ (c : Taker). not c.live) log.takers taker f.closed there);
       clients = λ k client taker there at here found lt.
           let sent : client_is_sent log k (Some client) ≡ true =
@@ -188,5 +207,5 @@ ends_said limits log l f =
           (or_second client.gone (is_taken (length log.calls) (length client.owed) (find (is_numbered k) log.takers)) sent here) lt;
       exchanges = λ x k taker there at found lt.
           let sent : exchange_is_sent log p x ≡ true = all_of (exchange_is_sent log p) (open_exchanges p.tables) x (and_right clients exchanges f.sent) there in
-          short_at (length log.calls) (owed_by (p.upstream x)) taker (taker_of log (connection_of log.dialled x)) (ap (taker_of log) at ∙ found) sent lt;
+          short_at (length log.calls) (owed_by (p.upstream x)) taker (taker_of log (connection_of (dials_in p log) x)) (ap (taker_of log) at ∙ found) sent lt;
     }

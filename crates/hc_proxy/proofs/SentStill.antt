@@ -9,7 +9,7 @@ use Rattle.hc_text.proofs.Basics.{all_three, both_of, some_inj as some_is}
 use Rattle.hc_effects.proofs.Vocabulary.{Limits}
 use Rattle.hc_wire.specs.{Logs.{Log, Taker, Called, is_numbered, sent_in, sent_from, with_call}, declared.event.WireEvent.{WireEvent}}
 use Rattle.hc_wire.specs.declared.event.WireEvent.TheVariants as event
-use Rattle.hc_proxy.specs.{Carrying.{carried, acts_in}, Connections.{exchange_of, stands, taken_at}, Endings.{is_prefix, client_was_sent, upstream_was_sent, sent_by, was_sent}, Handling.{begun, seen_at, handled}, Invariants.{AreServed}, Logging.{AreApart}, Network.{heard}, Rows.{Client, Upstream, Proxy}, Starts.{started_all}, Turns.{so_far, happened, turned}}
+use Rattle.hc_proxy.specs.{Carrying.{carried, acts_in}, Connections.{dials_in, exchange_of, stands, taken_at}, Endings.{is_prefix, client_was_sent, upstream_was_sent, sent_by, was_sent}, Handling.{begun, seen_at, handled}, Invariants.{AreServed}, Logging.{AreApart}, Network.{heard}, Rows.{Client, Upstream, Proxy}, Starts.{started_all}, Turns.{so_far, happened, turned}}
 use Rattle.hc_proxy.proofs.BeforeTaken as before
 use Rattle.hc_proxy.proofs.{DialsSent.{all_give, origin_unsent}, GoneStays.{happened_has, carried_has}, Later.{client_grows}, LetGo.{AreGone, turn_lets_go}, NetworkKeeps.{same_clients}, Openings.{StandsKnown, origin_grows}, TakersStand.{all_found, found_number, sent_found, taken_within, taken_missing}, TurnBegins.{called, sent_by_call}}
 
@@ -59,29 +59,29 @@ module _ (limits : Limits) (log : Log) (apart : AreApart log.takers) (p : Proxy)
   call = called log wait moment what bytes
 
   abbrev q : Proxy
-  q = turned limits log.dialled call p
+  q = turned limits (dials_in p log) call p
 
   abbrev log' : Log
   log' = with_call wait moment what bytes log
 
   module _ (known : StandsKnown limits p) (gone : AreGone p)
-      (served : AreServed call (happened limits (so_far p log.dialled) call (begun call p))
-      (acts_in (happened limits (so_far p log.dialled) call (begun call p)).part))
+      (served : AreServed call (happened limits (so_far p (dials_in p log)) call (begun call p))
+      (acts_in (happened limits (so_far p (dials_in p log)) call (begun call p)).part))
       (ended : (k : ℕ) (r : Client) → p.client k ≡ Some r → (r.gone ≡ true) ⊎ (stands call k ≡ true) ⊎ (length r.owed ≤ length (sent_in log.takers k)))
-      (sent : list_all (was_sent log.dialled p) log.takers ≡ true) where
+      (sent : list_all (was_sent (dials_in p log) p) log.takers ≡ true) where
     h : Proxy
-    h = happened limits (so_far p log.dialled) call (begun call p)
+    h = happened limits (so_far p (dials_in p log)) call (begun call p)
 
     -- what stands before the last act
     before_taken : (k : ℕ) → before.Before limits call k (begun call p) q
     unfolding turned
     before_taken k =
         let b = begun call p in
-        let one = handled limits (so_far p log.dialled) call b in
+        let one = handled limits (so_far p (dials_in p log)) call b in
         let two = heard limits one in
         let three = started_all limits call two in
-        let four = happened limits (so_far p log.dialled) call b in
-        before.both limits call k b one (carried four) (before.handled_before limits call k (so_far p log.dialled) b)
+        let four = happened limits (so_far p (dials_in p log)) call b in
+        before.both limits call k b one (carried four) (before.handled_before limits call k (so_far p (dials_in p log)) b)
         (before.both limits call k one two (carried four) (before.same limits call k one two (ap (λ (f : ℕ → Option Client). f k) (same_clients limits one).0))
         (before.both limits call k two three (carried four) (before.started_before limits call k two)
         (before.both limits call k three four (carried four) (before.polled_before limits call k three)
@@ -91,8 +91,8 @@ module _ (limits : Limits) (log : Log) (apart : AreApart log.takers) (p : Proxy)
     gone_stays : (k : ℕ) (r : Client) → (begun call p).client k ≡ Some r → r.gone ≡ true → q.client k ≡ Some r
     unfolding turned
     gone_stays k r row is =
-        carried_has limits call k r is (happened limits (so_far p log.dialled) call (begun call p))
-        (happened_has limits call k r is (so_far p log.dialled) (begun call p) row)
+        carried_has limits call k r is (happened limits (so_far p (dials_in p log)) call (begun call p))
+        (happened_has limits call k r is (so_far p (dials_in p log)) (begun call p) row)
 
     -- A CLIENT, which has taken these bytes
 
@@ -111,7 +111,7 @@ module _ (limits : Limits) (log : Log) (apart : AreApart log.takers) (p : Proxy)
 
           not_gone : (new : Client) → q.client k ≡ Some new → new.let_go ≡ true → length taken ≡ length new.owed
           not_gone new row is =
-              let was = turn_lets_go limits k log.dialled call p new row is in
+              let was = turn_lets_go limits k (dials_in p log) call p new row is in
               absurd (let never : None ≡ Some was.old = sym none_begun ∙ was.row in cc)
 
           by_row : (o : Option Client) → q.client k ≡ o → client_was_sent taken o ≡ true
@@ -124,7 +124,7 @@ module _ (limits : Limits) (log : Log) (apart : AreApart log.takers) (p : Proxy)
       old_client : (old : Client) → p.client k ≡ Some old → client_was_sent taken (Some old) ≡ true → client_was_sent taken (q.client k) ≡ true
       old_client old at is =
           let parts = both_of (is_prefix taken old.owed) (nat_le old.before (length taken)) (not old.let_go || nat_eq (length taken) (length old.owed)) is in
-          let later = client_grows limits k log.dialled call p old at in
+          let later = client_grows limits k (dials_in p log) call p old at in
           ap (client_was_sent taken) later.row
           ∙ all_three (is_prefix taken later.new.owed) (nat_le later.new.before (length taken))
           (not later.new.let_go || nat_eq (length taken) (length later.new.owed))
@@ -157,7 +157,7 @@ module _ (limits : Limits) (log : Log) (apart : AreApart log.takers) (p : Proxy)
           all_by : (new : Client) → q.client k ≡ Some new → is_prefix taken old.owed ≡ true →
               (not old.let_go || nat_eq (length taken) (length old.owed)) ≡ true → new.let_go ≡ true → length taken ≡ length new.owed
           all_by new row front was go =
-              let earlier = turn_lets_go limits k log.dialled call p new row go in
+              let earlier = turn_lets_go limits k (dials_in p log) call p new row go in
               let same : earlier.old ≡ seen_at call k old = some_is earlier.old (seen_at call k old) (sym earlier.row ∙ begun_row) in
               let went : (seen_at call k old).let_go ≡ true = ap (λ (c : Client). c.let_go) (sym same) ∙ earlier.let_go in
               let stays : new ≡ seen_at call k old =
@@ -203,7 +203,7 @@ module _ (limits : Limits) (log : Log) (apart : AreApart log.takers) (p : Proxy)
     connection_still k taken in_log at_call o client_so origin_so = (
       (λ none. by_client (p.client k) refl (client_so none)),
       (λ x is. origin_still taken (p.upstream x) (q.upstream x)
-          (λ v row. let grows = origin_grows limits log.dialled call p known x v row in (grows.new, grows.row, grows.owed)) (origin_so x is)),
+          (λ v row. let grows = origin_grows limits (dials_in p log) call p known x v row in (grows.new, grows.row, grows.owed)) (origin_so x is)),
     )
       where
         by_client : (c : Option Client) → p.client k ≡ c → client_was_sent taken c ≡ true → client_was_sent taken (q.client k) ≡ true
@@ -214,8 +214,9 @@ module _ (limits : Limits) (log : Log) (apart : AreApart log.takers) (p : Proxy)
 
     pub sent_still : AreApart log'.takers → ((j : ℕ) → what ≡ event.Accepted j → find (is_numbered j) log.takers ≡ None) →
         ((j : ℕ) → find (is_numbered j) log.takers ≡ None → p.client j ≡ None)
-        → list_all (was_sent log'.dialled q) log'.takers ≡ true
-    sent_still apart' new nobody = all_found (was_sent log.dialled q) log'.takers apart' (λ c found. by_found c found (find (is_numbered c.k) log.takers) refl)
+        → list_all (was_sent (dials_in p log') q) log'.takers ≡ true
+    sent_still apart' new nobody =
+        all_found (was_sent (dials_in p log) q) log'.takers apart' (λ c found. by_found c found (find (is_numbered c.k) log.takers) refl)
       where
         sent_as : (c : Taker) → find (is_numbered c.k) log'.takers ≡ Some c → sent_in log.takers c.k ≡ c.sent
         sent_as c found = sym (sent_by_call c.k what log.takers new) ∙ sent_found c.k c log'.takers found
@@ -225,7 +226,7 @@ module _ (limits : Limits) (log : Log) (apart : AreApart log.takers) (p : Proxy)
         by_whose c None is = is.0 refl
         by_whose c (Some x) is = is.1 x refl
 
-        sent_so : (c e : Taker) → e.k ≡ c.k → c.sent ≡ e.sent → (o : Option ℕ) → exchange_of log.dialled e.k ≡ o → sent_by p e o ≡ true
+        sent_so : (c e : Taker) → e.k ≡ c.k → c.sent ≡ e.sent → (o : Option ℕ) → exchange_of (dials_in p log) e.k ≡ o → sent_by p e o ≡ true
             → (o ≡ None → client_was_sent c.sent (p.client c.k) ≡ true) × ((x : ℕ) → o ≡ Some x → upstream_was_sent c.sent (p.upstream x) ≡ true)
         sent_so c e number same None at is = (
           (λ none. ap (λ s. client_was_sent s (p.client c.k)) same ∙ (ap (λ n. client_was_sent e.sent (p.client n)) (sym number) ∙ is)),
@@ -244,17 +245,17 @@ module _ (limits : Limits) (log : Log) (apart : AreApart log.takers) (p : Proxy)
         )
 
         by_found : (c : Taker) → find (is_numbered c.k) log'.takers ≡ Some c → (o : Option Taker) → find (is_numbered c.k) log.takers ≡ o →
-            was_sent log.dialled q c ≡ true
+            was_sent (dials_in p log) q c ≡ true
         by_found c found None was =
             let taken : taken_at call c.k ≡ 0 = taken_missing log call refl apart c.k was in
-            by_whose c (exchange_of log.dialled c.k)
-            (let so = unsent_so c (sym (sent_as c found) ∙ ap sent_from was) (nobody c.k was) (exchange_of log.dialled c.k) in
-            connection_still c.k c.sent (sent_as c found) (omega arith) (exchange_of log.dialled c.k) so.0 so.1)
+            by_whose c (exchange_of (dials_in p log) c.k)
+            (let so = unsent_so c (sym (sent_as c found) ∙ ap sent_from was) (nobody c.k was) (exchange_of (dials_in p log) c.k) in
+            connection_still c.k c.sent (sent_as c found) (omega arith) (exchange_of (dials_in p log) c.k) so.0 so.1)
         by_found c found (Some e) was =
             let number : e.k ≡ c.k = found_number c.k e log.takers was in
             let same : c.sent ≡ e.sent = sym (sent_as c found) ∙ sent_found c.k e log.takers was in
             let le : taken_at call c.k ≤ length e.sent = taken_within log call refl apart c.k e was in
             let le' : taken_at call c.k ≤ length c.sent = subst (λ (s : List ℕ). taken_at call c.k ≤ length s) (sym same) le in
-            let so = sent_so c e number same (exchange_of log.dialled c.k) (ap (exchange_of log.dialled) number)
-            (ap (λ n. sent_by p e (exchange_of log.dialled n)) (sym number) ∙ all_give (was_sent log.dialled p) c.k e log.takers sent was) in
-            by_whose c (exchange_of log.dialled c.k) (connection_still c.k c.sent (sent_as c found) le' (exchange_of log.dialled c.k) so.0 so.1)
+            let so = sent_so c e number same (exchange_of (dials_in p log) c.k) (ap (exchange_of (dials_in p log)) number)
+            (ap (λ n. sent_by p e (exchange_of (dials_in p log) n)) (sym number) ∙ all_give (was_sent (dials_in p log) p) c.k e log.takers sent was) in
+            by_whose c (exchange_of (dials_in p log) c.k) (connection_still c.k c.sent (sent_as c found) le' (exchange_of (dials_in p log) c.k) so.0 so.1)

@@ -84,7 +84,7 @@ module _ (k : ℕ) (change : Client → Client) (p : Proxy) where
 
   pub change_held : (limits : Limits) → ((r : Client) → p.client k ≡ Some r → KeepsWho r (change r)) → WellHeld limits p → WellHeld limits q
   change_held limits keeps w = record {
-    stands = record { run = w.stands.run; same = w.stands.same; later = w.stands.later };
+    stands = record { begins = w.stands.begins; run = w.stands.run; same = w.stands.same; later = w.stands.later };
     holders = of_held q (change_keeps (acts_in p.part) k change p keeps (held_of p w.holders));
     last = w.last;
     listed = λ j some. w.listed j (some_was j some);
@@ -99,7 +99,7 @@ module _ (k : ℕ) (change : Client → Client) (p : Proxy) where
 
 origin_held : (limits : Limits) (x : ℕ) (change : Upstream → Upstream) (p : Proxy) → WellHeld limits p → WellHeld limits (with_upstream x change p)
 origin_held limits x change p w = record {
-  stands = record { run = w.stands.run; same = w.stands.same; later = w.stands.later };
+  stands = record { begins = w.stands.begins; run = w.stands.run; same = w.stands.same; later = w.stands.later };
   holders = origin_keeps x change p w.holders;
   last = w.last;
   listed = w.listed;
@@ -171,7 +171,7 @@ module _ (limits : Limits) where
   -- one comes whose number was handed out to nobody
   come_held : (k : ℕ) (p : Proxy) → p.client k ≡ None → among k p.accepted ≡ false → length (clients_here p) < 512 → Held p (with_new k p)
   come_held k p none off less w = record {
-    stands = record { run = w.stands.run; same = w.stands.same; later = w.stands.later };
+    stands = record { begins = w.stands.begins; run = w.stands.run; same = w.stands.same; later = w.stands.later };
     holders = of_held (with_new k p) (comes_keeps (acts_in p.part) k p none (held_of p w.holders));
     last = w.last;
     listed = λ j some. elim (eq_cases j k) as (λ _. Contains (inserted k p.accepted) j) [
@@ -197,7 +197,7 @@ module _ (limits : Limits) where
   -- a client leaves
   idle_left : (k : ℕ) (r : Client) (p : Proxy) → p.client k ≡ Some r → r.consumer ≡ None → Held p (with_client k left p)
   idle_left k r p row none w = record {
-    stands = record { run = w.stands.run; same = w.stands.same; later = w.stands.later };
+    stands = record { begins = w.stands.begins; run = w.stands.run; same = w.stands.same; later = w.stands.later };
     holders = idle_leave_keeps k r p row none w.holders;
     last = w.last;
     listed = λ j some. w.listed j (some_was k left p j some);
@@ -212,7 +212,7 @@ module _ (limits : Limits) where
   busy_left : (k c : ℕ) (p : Proxy) → IsHolder p k c → Held p (with_client k left (stepped limits (event.Cancel c) p))
   unfolding with_entry
   busy_left k c p holder w = record {
-    stands = let s = (goes_on limits (event.Cancel c) p w.stands).stands in record { run = s.run; same = s.same; later = s.later };
+    stands = let s = (goes_on limits (event.Cancel c) p w.stands).stands in record { begins = s.begins; run = s.run; same = s.same; later = s.later };
     holders = leave_keeps limits p (owed limits p.tables p.moment (event.Cancel c)) (law_of limits p w.stands) (e_owed limits (event.Cancel c) p w) k c
         holder (event_is limits (event.Cancel c) p w) w.holders;
     last = start_by p.tables (owed limits p.tables p.moment (event.Cancel c)) p.starts w.last
@@ -250,7 +250,7 @@ module _ (limits : Limits) where
   broke_held k None p w = leaves_held k (p.client k) p refl w
   broke_held k (Some x) p w = either_held (is_open (p.tables.exchange x)) p (stepped limits (event.Fault x) p) (step_held limits (event.Fault x) p refl) w
 
-  by_event : (dialled bytes : List ℕ) (what : WireEvent) (p : Proxy) → ((k : ℕ) → what ≡ wire.Accepted k → among k p.accepted ≡ false) →
+  by_event : (dialled : List (Option ℕ)) (bytes : List ℕ) (what : WireEvent) (p : Proxy) → ((k : ℕ) → what ≡ wire.Accepted k → among k p.accepted ≡ false) →
       Held p (handled_by limits dialled bytes what p)
   by_event dialled bytes (wire.Accepted k) p new w = comes_held k p (new k refl) w
   by_event dialled bytes (wire.Got k n) p new w = sends_held k bytes (exchange_of dialled k) p w
@@ -259,7 +259,7 @@ module _ (limits : Limits) where
   by_event dialled bytes (wire.Room k) p new w = w
   by_event dialled bytes wire.Quiet p new w = w
 
-  handled_held : (dialled : List ℕ) (call : Called) (p : Proxy) → ((k : ℕ) → call.event ≡ wire.Accepted k → among k p.accepted ≡ false) →
+  handled_held : (dialled : List (Option ℕ)) (call : Called) (p : Proxy) → ((k : ℕ) → call.event ≡ wire.Accepted k → among k p.accepted ≡ false) →
       Held p (handled limits dialled call p)
   unfolding handled
   handled_held dialled call p new w = by_event dialled call.bytes call.event p new w
@@ -311,7 +311,7 @@ module _ (limits : Limits) where
       asked = with_holder (p.starts + 1) k (with_client k (asks (p.starts + 1) request) p)
 
       asked_stands : Stands limits (with_holder (p.starts + 1) k (with_client k (asks (p.starts + 1) request) p))
-      asked_stands = record { run = w.stands.run; same = w.stands.same; later = w.stands.later }
+      asked_stands = record { begins = w.stands.begins; run = w.stands.run; same = w.stands.same; later = w.stands.later }
 
       few_now : live p.tables < 1024
       few_now =
@@ -401,7 +401,7 @@ module _ (limits : Limits) where
 
   -- A TURN
 
-  pub happened_served : (dialled : List ℕ) (call : Called) (p : Proxy) → ((k : ℕ) → call.event ≡ wire.Accepted k → among k p.accepted ≡ false) →
+  pub happened_served : (dialled : List (Option ℕ)) (call : Called) (p : Proxy) → ((k : ℕ) → call.event ≡ wire.Accepted k → among k p.accepted ≡ false) →
       WellHeld limits p → AreServed call (happened limits dialled call p) (acts_in (happened limits dialled call p).part)
   happened_served dialled call p new w =
       polled_served call (started_all limits call (heard limits (handled limits dialled call p)))

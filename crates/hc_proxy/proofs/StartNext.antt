@@ -71,10 +71,11 @@ start_event c old new k r small (clients.somebody w) = by_next (next_in 1 w.clie
 module _ {B : Type 0} {g : Ghosts B} where
   -- WHAT IS ASKED FOR
 
-  pub few_starts : (x : loop.Proxy B g) → ∥ IsHeard x ∥₁ → x.starts ≤ steps x.cache
+  pub few_starts : (x : loop.Proxy B g) → ∥ IsHeard x ∥₁ → x.starts < 2 ^ 61 + steps x.cache
   few_starts x some = ∥∥₁_elim some le_prop (λ s.
       let a : x.starts ≡ s.1.starts = s.2.quiet.keeps.cache.starts in
-      let b : s.1.starts ≤ steps x.cache = s.2.quiet.keeps.numbers in
+      let b : s.1.starts ≤ s.1.contents.last_consumer + steps x.cache = s.2.quiet.keeps.numbers in
+      let room : s.1.contents.last_consumer < 2 ^ 61 = s.2.quiet.keeps.cache.room in
       omega arith)
 
   pub few_bytes : (x : loop.Proxy B g) → ∥ IsHeard x ∥₁ → bytes_received x.cache + 0 < 2 ^ 61
@@ -100,6 +101,7 @@ module _ {B : Type 0} {g : Ghosts B} where
         w.0.frame,
         record w.1 { starts = w.1.starts + 1 },
         record {
+          contents = z.contents;
           stands = z.stands;
           same = z.same;
           limits = z.limits;
@@ -115,6 +117,7 @@ module _ {B : Type 0} {g : Ghosts B} where
           headed = z.headed;
           small = z.small;
           bounded = z.bounded;
+          room = z.room;
           targets = z.targets;
         },
       ))

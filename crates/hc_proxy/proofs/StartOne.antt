@@ -249,7 +249,8 @@ module _ {B : Type 0} {g : Ghosts B} (t : Turn) (x : loop.Proxy B g) (p : Proxy)
               clients = clients_now;
               consumers = of_held (with_client k change p) (change_keeps (acts_in p.part) k change p who (held_of p keeps.consumers));
               upstreams = upstreams_move t x (record x { clients = s }) (with_client k change p) (acts_in p.part) refl
-                  (upstreams_with k t x p (with_client k change p).client (λ j some. row_was t x p k (Some now) change s becomes change_is j some) keeps.upstreams);
+                  (upstreams_with k t x p (with_client k change p).client (λ j some. row_was t x p k (Some now) change s becomes change_is j some)
+                  keeps.upstreams);
               wire = wire_now;
               numbers = keeps.numbers;
               opened = keeps.opened;
@@ -330,6 +331,7 @@ module _ {B : Type 0} {g : Ghosts B} (t : Turn) (x : loop.Proxy B g) (p : Proxy)
       asked_cache =
           let z = keeps.cache in
           record {
+            contents = z.contents;
             stands = z.stands;
             same = z.same;
             limits = z.limits;
@@ -345,6 +347,7 @@ module _ {B : Type 0} {g : Ghosts B} (t : Turn) (x : loop.Proxy B g) (p : Proxy)
             headed = z.headed;
             small = z.small;
             bounded = z.bounded;
+            room = z.room;
             targets = z.targets;
           }
 
@@ -417,8 +420,9 @@ module _ {B : Type 0} {g : Ghosts B} (t : Turn) (x : loop.Proxy B g) (p : Proxy)
             keeps_on t mid x' (event.Start (x.starts + 1) r) asked (stands_of t.frame mid asked asked_cache) keeps.cache.unopened keeps.acts asked_clients
             asked_upstreams asked_wire asked_seen
             keeps.shut keeps.known st stay stops_none consumers
-            (let le : p.starts ≤ steps x.cache = keeps.numbers in let n1 : steps x'.cache ≡ steps x.cache + 1 = count in omega arith)
-            (let le : p.tables.opened ≤ steps x.cache = keeps.opened in let n1 : steps x'.cache ≡ steps x.cache + 1 = count in omega arith)
+            (let le : p.starts ≤ p.contents.last_consumer + steps x.cache = keeps.numbers in let n1 : steps x'.cache ≡ steps x.cache + 1 = count in omega arith)
+            (let le : p.tables.opened ≤ p.contents.next_exchange + steps x.cache = keeps.opened in let n1 : steps x'.cache ≡ steps x.cache + 1 = count in
+            omega arith)
 
         asked_heard : KeepsHeard t x' (with_entry st.e asked)
         unfolding with_entry

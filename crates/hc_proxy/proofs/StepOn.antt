@@ -6,10 +6,10 @@
 -- behind that of those before.
 use Rattle.std.{proofs.Common.{◌≡◌, ◌≤◌, ℕ, ◌+◌, Bool, true, false, List, ◌∷◌, ◌++◌, Option, Some, None, refl, ap, sym, ◌∙◌, subst, arith, append_assoc}, specs.Prelude.{if◌then◌else◌}}
 use Rattle.hc_core.specs.Steps.{StandsFor, Steps, faults_in, last_moment, limits_in, bytes_received}
-use Rattle.hc_effects.proofs.Vocabulary.{act_list, Opening, opening_in, is_denied, IsEventWithinLimits, Event, Entry, no_contents, flaw_in, failures_in, Lawful, Tables, IsRun, IsOwed, owed, tables, after, after_accepted, after_denied, opened_after, last_start_after, received_in, HasTarget, Limits}
+use Rattle.hc_effects.proofs.Vocabulary.{act_list, Opening, opening_in, is_denied, IsEventWithinLimits, Event, Entry, may_begin, flaw_in, failures_in, Lawful, Tables, IsRun, IsOwed, owed, tables, after, after_accepted, after_denied, opened_after, last_start_after, received_in, HasTarget, Limits}
 use Rattle.hc_event.specs.declared.event.Event.TheVariants as event
 use Rattle.hc_effects.proofs.{NumbersKeep.{opens_next}, Owed.{goes, acts_are, denied_opens}}
-use Rattle.hc_laws.proofs.{Faultless.{faultless_are_owed}, LawfulRuns.{lawful_in_runs}, FromNothing.{begins_well}}
+use Rattle.hc_laws.proofs.{Faultless.{faultless_are_owed}, LawfulRuns.{lawful_in_runs}}
 use Rattle.hc_sched.specs.Schedule.{IsEvent, timed_text}
 use Rattle.hc_store.specs.declared.backend.Backend.{Ghosts}
 use Rattle.hc_proxy.specs.declared.proxy.Proxy as loop
@@ -89,22 +89,26 @@ start_by t e starts le is false accepted = rw accepted (started_by e.event t.las
 module _ {B : Type 0} {g : Ghosts B} where
   -- WHAT THE CACHE STANDS FOR
 
-  pub run_of : (f : Frame) (x : loop.Proxy B g) (p : Proxy) → HasCache f x p → IsRun f.limits no_contents p.history
-  run_of f x p h = subst (λ (l : Limits). IsRun l no_contents p.history) h.limits h.stands.run
+  pub run_of : (f : Frame) (x : loop.Proxy B g) (p : Proxy) → HasCache f x p → IsRun f.limits p.contents p.history
+  run_of f x p h = subst (λ (l : Limits). IsRun l p.contents p.history) h.limits h.stands.run
+
+  pub begins_of : (f : Frame) (x : loop.Proxy B g) (p : Proxy) → HasCache f x p → may_begin f.limits p.contents ≡ true
+  begins_of f x p h = subst (λ (l : Limits). may_begin l p.contents ≡ true) h.limits h.stands.begins
 
   pub stands_of : (f : Frame) (x : loop.Proxy B g) (p : Proxy) → HasCache f x p → Stands f.limits p
   stands_of f x p h = record {
+    begins = begins_of f x p h;
     run = run_of f x p h;
     same = h.same;
     later =
-        let a : last_moment x.cache ≡ (tables no_contents p.history).moment = h.stands.moment in
-        let b : p.tables.moment ≡ (tables no_contents p.history).moment = ap (λ (t : Tables). t.moment) h.same in
+        let a : last_moment x.cache ≡ (tables p.contents p.history).moment = h.stands.moment in
+        let b : p.tables.moment ≡ (tables p.contents p.history).moment = ap (λ (t : Tables). t.moment) h.same in
         let le : last_moment x.cache ≤ p.moment = h.last in
         omega arith;
   }
 
   pub law_of : (f : Frame) (x : loop.Proxy B g) (p : Proxy) → HasCache f x p → Lawful p.tables
-  law_of f x p h = subst Lawful (sym h.same) (lawful_in_runs f.limits no_contents p.history (begins_well f.limits) (run_of f x p h))
+  law_of f x p h = subst Lawful (sym h.same) (lawful_in_runs f.limits p.contents p.history (begins_of f x p h) (run_of f x p h))
 
   -- ONE STEP
 
@@ -114,19 +118,19 @@ module _ {B : Type 0} {g : Ghosts B} where
     abbrev pub entry : Entry
     entry = record { now = x.now; event = ev; acts = s.acts }
 
-    behind : StandsFor x'.cache no_contents (entry ∷ p.history)
-    behind = s.answered.stands no_contents p.history h.stands
+    behind : StandsFor x'.cache p.contents (entry ∷ p.history)
+    behind = s.answered.stands p.contents p.history h.stands
 
     limits_are : limits_in x'.cache ≡ f.limits
     limits_are = s.answered.limits ∙ h.limits
 
-    runs : IsRun (limits_in x'.cache) no_contents (entry ∷ p.history)
+    runs : IsRun (limits_in x'.cache) p.contents (entry ∷ p.history)
     runs = behind.run
 
     is_owed : IsOwed f.limits p.tables entry
     is_owed =
         subst (λ (t : Tables). IsOwed f.limits t entry) (sym h.same)
-        (subst (λ (l : Limits). IsOwed l (tables no_contents p.history) entry) limits_are runs.1)
+        (subst (λ (l : Limits). IsOwed l (tables p.contents p.history) entry) limits_are runs.1)
 
     stands : Stands f.limits p
     stands = stands_of f x p h
@@ -151,15 +155,16 @@ module _ {B : Type 0} {g : Ghosts B} where
       text_is : record_of (with_entry entry p) ≡ f.written ++ text_of x'.record
       unfolding with_entry
       text_is =
-          record_more entry p.history
-          ∙ (ap (λ (z : List ℕ). z ++ timed_text (last_event p.history) (record { now = x.now; event = ev })) h.text
-          ∙ (append_assoc f.written (text_of x.record) (timed_text (last_event p.history) (record { now = x.now; event = ev }))
+          record_more p.contents.now entry p.history
+          ∙ (ap (λ (z : List ℕ). z ++ timed_text (last_event p.contents.now p.history) (record { now = x.now; event = ev })) h.text
+          ∙ (append_assoc f.written (text_of x.record) (timed_text (last_event p.contents.now p.history) (record { now = x.now; event = ev }))
           ∙ ap (λ (z : List ℕ). f.written ++ z)
           (ap (λ (n : ℕ). text_of x.record ++ timed_text n (record { now = x.now; event = ev })) (sym h.recorded) ∙ sym text)))
 
       has_cache : HasCache f x' (with_entry entry p)
       unfolding with_entry tables
       has_cache = record {
+        contents = h.contents;
         stands = behind;
         same = ap (λ (t : Tables). after t entry) h.same;
         limits = limits_are;
@@ -180,6 +185,7 @@ module _ {B : Type 0} {g : Ghosts B} where
             let le : unread p + bytes_received x.cache + received_in ev ≤ f.bytes = room in
             omega arith;
         bounded = h.bounded;
+        room = h.room;
         targets = (h.targets, target_of ev spelled);
       }
 

@@ -10,7 +10,7 @@ use Rattle.hc_rules.proofs.RangeReads.{bytes_eq-same, same_bytes}
 use Rattle.hc_wire.specs.{Events.{Stage, Unseen, Open, Closed, reading_of}, Logs.{Log, Taker, is_numbered, is_at_end, stage_of, stage_from, sent_from, stage_in, sent_in, changed_at, taking, reading, shut, with_sent, with_reading, with_closed}}
 use Rattle.hc_wire.proofs.LogLemmas.{stages-same}
 use Rattle.hc_peers.specs.Offers.{OffersSome}
-use Rattle.hc_proxy.specs.{Connections.{exchange_of}, Endings.{is_prefix, client_was_sent, upstream_was_sent, sent_by, was_sent}, Logging.{short_from, is_short}, Rows.{Client, Upstream, Proxy}, TurnSteps.{SentSome}, Unsent.{Sends}}
+use Rattle.hc_proxy.specs.{Connections.{dials_in, exchange_of}, Endings.{is_prefix, client_was_sent, upstream_was_sent, sent_by, was_sent}, Logging.{short_from, is_short}, Rows.{Client, Upstream, Proxy}, TurnSteps.{SentSome}, Unsent.{Sends}}
 use Rattle.hc_proxy.proofs.{Followed.{KeepsNumber, found}, Closings.{reported_on}}
 
 -- FIRST PARTS
@@ -87,15 +87,15 @@ all_changed k change test (c ∷ cs) does all = elim (cases_Bool (eqb c.k k)) [
 ]
 
 -- of a client
-module _ (p : Proxy) (log : Log) (k : ℕ) (r : Client) (at : p.client k ≡ Some r) (stranger : exchange_of log.dialled k ≡ None) where
-  of_client : (d : Taker) → d.k ≡ k → was_sent log.dialled p d ≡ client_was_sent d.sent (Some r)
+module _ (p : Proxy) (log : Log) (k : ℕ) (r : Client) (at : p.client k ≡ Some r) (stranger : exchange_of (dials_in p log) k ≡ None) where
+  of_client : (d : Taker) → d.k ≡ k → was_sent (dials_in p log) p d ≡ client_was_sent d.sent (Some r)
   of_client d number =
-      ap (λ (o : Option ℕ). sent_by p d o) (ap (exchange_of log.dialled) number ∙ stranger)
+      ap (λ (o : Option ℕ). sent_by p d o) (ap (exchange_of (dials_in p log)) number ∙ stranger)
       ∙ ap (client_was_sent d.sent) (ap p.client number ∙ at)
 
   pub client_front : (unsent : List ℕ) (n : ℕ) (less : Bool) → unsent ≡ drop (length (sent_in log.takers k)) r.owed
-      → (d : Taker) → find (is_numbered k) log.takers ≡ Some d → was_sent log.dialled p d ≡ true →
-      was_sent log.dialled p (taking (take n unsent) less (length log.calls) d) ≡ true
+      → (d : Taker) → find (is_numbered k) log.takers ≡ Some d → was_sent (dials_in p log) p d ≡ true →
+      was_sent (dials_in p log) p (taking (take n unsent) less (length log.calls) d) ≡ true
   client_front unsent n less left d is was =
       let number = found_number k log.takers d is in
       let its : sent_in log.takers k ≡ d.sent = ap sent_from is in
@@ -103,15 +103,15 @@ module _ (p : Proxy) (log : Log) (k : ℕ) (r : Client) (at : p.client k ≡ Som
       ∙ client_more d.sent unsent r n (left ∙ ap (λ xs. drop (length xs) r.owed) its) (sym (of_client d number) ∙ was)
 
 -- of a connection to the origin
-module _ (p : Proxy) (log : Log) (k y : ℕ) (v : Upstream) (at : p.upstream y ≡ Some v) (its : exchange_of log.dialled k ≡ Some y) where
-  of_origin : (d : Taker) → d.k ≡ k → was_sent log.dialled p d ≡ is_prefix d.sent v.owed
+module _ (p : Proxy) (log : Log) (k y : ℕ) (v : Upstream) (at : p.upstream y ≡ Some v) (its : exchange_of (dials_in p log) k ≡ Some y) where
+  of_origin : (d : Taker) → d.k ≡ k → was_sent (dials_in p log) p d ≡ is_prefix d.sent v.owed
   of_origin d number =
-      ap (λ (o : Option ℕ). sent_by p d o) (ap (exchange_of log.dialled) number ∙ its)
+      ap (λ (o : Option ℕ). sent_by p d o) (ap (exchange_of (dials_in p log)) number ∙ its)
       ∙ ap (upstream_was_sent d.sent) at
 
   pub origin_front : (unsent : List ℕ) (n : ℕ) (less : Bool) → unsent ≡ drop (length (sent_in log.takers k)) v.owed
-      → (d : Taker) → find (is_numbered k) log.takers ≡ Some d → was_sent log.dialled p d ≡ true →
-      was_sent log.dialled p (taking (take n unsent) less (length log.calls) d) ≡ true
+      → (d : Taker) → find (is_numbered k) log.takers ≡ Some d → was_sent (dials_in p log) p d ≡ true →
+      was_sent (dials_in p log) p (taking (take n unsent) less (length log.calls) d) ≡ true
   origin_front unsent n less left d is was =
       let number = found_number k log.takers d is in
       let same : sent_in log.takers k ≡ d.sent = ap sent_from is in
@@ -133,8 +133,8 @@ never_unseen None reads ended is = absurd (let never : Unseen ≡ Open reads end
 never_unseen (Some d) reads ended is = (d, refl)
 
 module _ (p : Proxy) (k : ℕ) (bytes : List ℕ) (less : Bool) (log : Log) (reads ended : Bool) (opens : stage_in log.takers k ≡ Open reads ended)
-    (front : (d : Taker) → find (is_numbered k) log.takers ≡ Some d → was_sent log.dialled p d ≡ true →
-    was_sent log.dialled p (taking bytes less (length log.calls) d) ≡ true) where
+    (front : (d : Taker) → find (is_numbered k) log.takers ≡ Some d → was_sent (dials_in p log) p d ≡ true →
+    was_sent (dials_in p log) p (taking bytes less (length log.calls) d) ≡ true) where
   abbrev change : Taker → Taker
   change = taking bytes less (length log.calls)
 
@@ -155,7 +155,7 @@ module _ (p : Proxy) (k : ℕ) (bytes : List ℕ) (less : Bool) (log : Log) (rea
           calls = refl;
           bound = refl;
           dialled = refl;
-          sent = λ all. all_changed k change (was_sent log.dialled p) log.takers front all;
+          sent = λ all. all_changed k change (was_sent (dials_in p log) p) log.takers front all;
           unseen = λ j is. sym (same_stage j) ∙ is;
         };
         others = λ j off. let other : nat_eq k j ≡ false = grind (arith, nat_tests) in found change (λ c. refl) k j log.takers ∙ rw other refl;
@@ -171,7 +171,7 @@ module _ (p : Proxy) (k : ℕ) (bytes : List ℕ) (less : Bool) (log : Log) (rea
 -- and then something is told of it, which sends nothing
 module _ (p : Proxy) (k : ℕ) (bytes : List ℕ) (less : Bool) (log mid : Log) (reads ended : Bool) (m : MovesAt p k bytes less (Open reads ended) log mid) where
   moves_on : (change : Taker → Taker) → KeepsNumber change → ((c : Taker) → (change c).sent ≡ c.sent) → ((c : Taker) → (change c).short ≡ c.short)
-      → ((c : Taker) → was_sent mid.dialled p (change c) ≡ was_sent mid.dialled p c)
+      → ((c : Taker) → was_sent (dials_in p mid) p (change c) ≡ was_sent (dials_in p mid) p c)
       → (stage : Stage) → ((d : Taker) → stage_of d ≡ Open reads ended → stage_of (change d) ≡ stage) → (stage ≡ Unseen → ⊥)
       → MovesAt p k bytes less stage log (record mid { takers = changed_at k change mid.takers })
   moves_on change keeps same short same_test stage stages seen =
@@ -180,7 +180,7 @@ module _ (p : Proxy) (k : ℕ) (bytes : List ℕ) (less : Bool) (log mid : Log) 
           calls = m.sends.calls;
           bound = m.sends.bound;
           dialled = m.sends.dialled;
-          sent = λ all. all_changed k change (was_sent mid.dialled p) mid.takers (λ d is was. same_test d ∙ was) (m.sends.sent all);
+          sent = λ all. all_changed k change (was_sent (dials_in p mid) p) mid.takers (λ d is was. same_test d ∙ was) (m.sends.sent all);
           unseen = λ j is. unseen_by j (nat_eq j k) refl is;
         };
         others = others_on;
@@ -226,9 +226,9 @@ module _ (p : Proxy) (k : ℕ) (bytes : List ℕ) (less : Bool) (log mid : Log) 
 -- WHAT FAILS IN THE MIDDLE
 
 -- of nothing nothing is taken
-pub none_front : (p : Proxy) (log : Log) (k n : ℕ) (less : Bool) → list_all (was_sent log.dialled p) log.takers ≡ true
-    → list_all (was_sent log.dialled p) (with_sent k (take n []) less log).takers ≡ true
-none_front p log k n less all = all_changed k (taking (take n []) less (length log.calls)) (was_sent log.dialled p) log.takers same all
+pub none_front : (p : Proxy) (log : Log) (k n : ℕ) (less : Bool) → list_all (was_sent (dials_in p log) p) log.takers ≡ true
+    → list_all (was_sent (dials_in p log) p) (with_sent k (take n []) less log).takers ≡ true
+none_front p log k n less all = all_changed k (taking (take n []) less (length log.calls)) (was_sent (dials_in p log) p) log.takers same all
   where
     none : take {A = ℕ} n [] ≡ []
     none = take_none n
@@ -237,15 +237,15 @@ none_front p log k n less all = all_changed k (taking (take n []) less (length l
         take_none zero = refl
         take_none (suc m) = refl
 
-    same : (d : Taker) → find (is_numbered k) log.takers ≡ Some d → was_sent log.dialled p d ≡ true →
-        was_sent log.dialled p (taking (take n []) less (length log.calls) d) ≡ true
+    same : (d : Taker) → find (is_numbered k) log.takers ≡ Some d → was_sent (dials_in p log) p d ≡ true →
+        was_sent (dials_in p log) p (taking (take n []) less (length log.calls) d) ≡ true
     same d is was =
-        ap (λ (xs : List ℕ). was_sent log.dialled p (let t : Taker = record d { sent = xs } in t)) (ap (λ xs. d.sent ++ xs) none ∙ append-nil d.sent) ∙ was
+        ap (λ (xs : List ℕ). was_sent (dials_in p log) p (let t : Taker = record d { sent = xs } in t)) (ap (λ xs. d.sent ++ xs) none ∙ append-nil d.sent) ∙ was
 
 pub some_sent : (p : Proxy) (log : Log) (k : ℕ) (reported reported' : Option Log) (unsent : List ℕ) → (o : OffersSome k unsent reported reported') →
     (reported ≡ None) ⊎ (reported ≡ Some log)
-    → ((n : ℕ) (less : Bool) → list_all (was_sent log.dialled p) log.takers ≡ true →
-    list_all (was_sent log.dialled p) (with_sent k (take n unsent) less log).takers ≡ true)
+    → ((n : ℕ) (less : Bool) → list_all (was_sent (dials_in p log) p) log.takers ≡ true →
+    list_all (was_sent (dials_in p log) p) (with_sent k (take n unsent) less log).takers ≡ true)
     → SentSome p log reported'
 some_sent p log k reported reported' unsent o is front = record {
   log' = with_sent k (take o.n unsent) o.short log;

@@ -22,13 +22,14 @@ text_more n (s ∷ ts) t =
 turned_more : (e : Entry) (h : History) → map timed_of (reverse (e ∷ h)) ≡ map timed_of (reverse h) ++ timed_of e ∷ []
 turned_more e h = ap (map timed_of) (reverse-append (e ∷ []) h) ∙ map-append timed_of (reverse h) (e ∷ [])
 
-ends_at : (h : History) → end_of 0 (map timed_of (reverse h)) ≡ last_event h
-ends_at [] = refl
-ends_at (e ∷ h) = ap (end_of 0) (turned_more e h) ∙ end_more 0 (map timed_of (reverse h)) (timed_of e)
+module _ (n : ℕ) where
+  ends_at : (h : History) → end_of n (map timed_of (reverse h)) ≡ last_event n h
+  ends_at [] = refl
+  ends_at (e ∷ h) = ap (end_of n) (turned_more e h) ∙ end_more n (map timed_of (reverse h)) (timed_of e)
 
-pub record_more : (e : Entry) (h : History) → text_behind 0 (map timed_of (reverse (e ∷ h))) ≡ text_behind 0 (map timed_of (reverse h)) ++
-    timed_text (last_event h) (timed_of e)
-record_more e h =
-    ap (text_behind 0) (turned_more e h)
-    ∙ (text_more 0 (map timed_of (reverse h)) (timed_of e)
-    ∙ ap (λ (n : ℕ). text_behind 0 (map timed_of (reverse h)) ++ timed_text n (timed_of e)) (ends_at h))
+  pub record_more : (e : Entry) (h : History) → text_behind n (map timed_of (reverse (e ∷ h))) ≡ text_behind n (map timed_of (reverse h)) ++
+      timed_text (last_event n h) (timed_of e)
+  record_more e h =
+      ap (text_behind n) (turned_more e h)
+      ∙ (text_more n (map timed_of (reverse h)) (timed_of e)
+      ∙ ap (λ (m : ℕ). text_behind n (map timed_of (reverse h)) ++ timed_text m (timed_of e)) (ends_at h))

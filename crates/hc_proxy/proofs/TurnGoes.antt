@@ -7,74 +7,94 @@
 use Rattle.std.{proofs.{Common.{◌≡◌, ◌⊎◌, ◌≤◌, ◌<◌, ◌^◌, ℕ, ◌+◌, List, [], ◌∷◌, ◌++◌, Bool, true, false, Option, Some, None, refl, ap, sym, ◌∙◌, subst, arith, append_assoc, append-nil, take_all}, lemmas.List.{length-append, take-append-le}}, specs.{Prelude.{length, map, take, max, reverse, find, Result, IfOk, OnErr}, List.{list_all}}}
 use Rattle.hc_core.specs.Steps.{steps, faults_in}
 use Rattle.hc_io.proofs.Takings.{takes_none}
-use Rattle.hc_effects.proofs.Vocabulary.{Entry, History, Limits}
+use Rattle.hc_effects.proofs.Vocabulary.{Contents, may_begin, Entry, History, Limits, Tables}
 use Rattle.hc_store.specs.declared.backend.Backend.{Ghosts}
 use Rattle.hc_sched.specs.Schedule.{timed_text}
 use Rattle.hc_wire.specs.{Events.{Stage, Unseen, IsOfOpen, FitsIn, stages_after, got_bytes}, Logs.{Log, Called, Reports, is_numbered, stage_from, with_call}, declared.event.WireEvent.{WireEvent}}
 use Rattle.hc_wire.specs.declared.event.WireEvent.TheVariants as event
 use Rattle.hc_proxy.specs.declared.proxy.Proxy as loop
-use Rattle.hc_proxy.specs.{declared.stop.Stop.{Stop}, Carrying.{acts_in, carried}, Endings.{was_sent}, Handling.{begun}, Invariants.{AreServed, last_event}, Keeping.{Frame, Turn, Begun, KeepsPolled, Goes}, Loops.{Fits, AllFit}, Records.{text_of}, Rows.{Proxy, unused}, Serving.{IsOfLoop, IsCutShort, IsStill, FinishesTurn, CutsTurn, TurnsTo, TurnStops}, Turns.{so_far, happened, turned, turned_by, behind_all, behind_calls, record_of, timed_of, text_behind}, Underway.{OnWire, IsPolledOn}, Waiting.{waits}}
-use Rattle.hc_proxy.proofs.{Fitting.{dialled_all, fits_now}, Folds.{turned_more, fit_more}, Later.{carried_is_same}, LetGo.{AreGone, turns_gone, unused_gone}, Marked.{contained_among}, MoreDials.{turn_same, turns_same, fits_same, all_fit}, Openings.{StandsKnown, unused_known, turns_know}, Parts.{turn_part}, SentStill.{sent_still}, ServedTurn.{WellHeld, happened_served}, SkippedSteps.{among}, Stands.{turn_goes, unused_stands}, StepOn.{stands_of}, Texts.{record_more}}
+use Rattle.hc_proxy.specs.{declared.stop.Stop.{Stop}, Carrying.{acts_in, carried}, Connections.{dials_from, dials_in}, Endings.{SentOn, was_sent}, Handling.{begun}, Invariants.{AreServed, last_event}, Keeping.{Frame, Turn, Begun, KeepsPolled, Goes}, Loops.{Fits, AllFit}, Records.{text_of}, Rows.{Proxy, unused}, Serving.{IsOfLoop, IsCutShort, IsStill, FinishesTurn, CutsTurn, TurnsTo, TurnStops}, Turns.{so_far, happened, turned, turned_by, behind_all, behind_calls, record_of, timed_of, text_behind}, Underway.{OnWire, IsPolledOn}, Waiting.{waits}}
+use Rattle.hc_proxy.proofs.{Fitting.{dialled_all, fits_now}, Folds.{turned_more, fit_more}, Later.{carried_is_same, record_carried}, LetGo.{AreGone, turns_gone, unused_gone}, Marked.{contained_among}, MoreConnections.{dials_more}, MoreDials.{turn_same, turns_same, fits_same, all_fit}, Openings.{StandsKnown, unused_known, turns_know}, Parts.{turn_part}, SentStill.{sent_still}, ServedTurn.{WellHeld, happened_served}, SkippedSteps.{among}, Stands.{turn_goes, unused_stands}, StepOn.{stands_of, begins_of}, Texts.{record_more}}
 use Rattle.hc_proxy.proofs.TurnBegins as begins
 use Rattle.hc_peers.proofs.Outcomes.{err-map, if_ok-map}
 
 -- THE RECORD grows
 
-grown : (es : List Entry) (h : History) → (more : List ℕ) ×
-    (text_behind 0 (map timed_of (reverse (es ++ h))) ≡ text_behind 0 (map timed_of (reverse h)) ++ more)
-grown [] h = ([], sym (append-nil (text_behind 0 (map timed_of (reverse h)))))
-grown (e ∷ es) h =
-    let rest = grown es h in
-    let text = timed_text (last_event (es ++ h)) (timed_of e) in (
+grown : (n : ℕ) (es : List Entry) (h : History) → (more : List ℕ) ×
+    (text_behind n (map timed_of (reverse (es ++ h))) ≡ text_behind n (map timed_of (reverse h)) ++ more)
+grown n [] h = ([], sym (append-nil (text_behind n (map timed_of (reverse h)))))
+grown n (e ∷ es) h =
+    let rest = grown n es h in
+    let text = timed_text (last_event n (es ++ h)) (timed_of e) in (
       rest.0 ++ text,
-      record_more e (es ++ h) ∙ (ap (λ (z : List ℕ). z ++ text) rest.1 ∙ append_assoc (text_behind 0 (map timed_of (reverse h))) rest.0 text),
+      record_more n e (es ++ h) ∙ (ap (λ (z : List ℕ). z ++ text) rest.1 ∙ append_assoc (text_behind n (map timed_of (reverse h))) rest.0 text),
     )
 
 -- THE LOG, with one more call and more dials
 
-module _ (limits : Limits) (log : Log) (p : Proxy) (call : Called) (l : IsOfLoop limits log p) (enough : p.tables.opened ≤ length log.dialled)
-    (fits : Fits limits log.dialled p call) where
-  abbrev q : Proxy
-  q = turned limits log.dialled call p
+module _ (limits : Limits) (c : Contents) (may : may_begin limits c ≡ true) (log : Log) (p : Proxy) (call : Called) (l : IsOfLoop limits c log p)
+    (enough : p.tables.opened ≤ length (dials_from c log.dialled)) (fits : Fits limits (dials_from c log.dialled) p call) where
+  abbrev ds : List (Option ℕ)
+  ds = dials_from c log.dialled
 
-  behind_here : turned_by limits log.dialled log.calls unused ≡ p
+  abbrev q : Proxy
+  q = turned limits (dials_from c log.dialled) call p
+
+  behind_here : turned_by limits ds log.calls (unused c) ≡ p
   behind_here = sym l.tables
 
-  enough_behind : (turned_by limits log.dialled log.calls unused).tables.opened ≤ length log.dialled
-  enough_behind = subst (λ (r : Proxy). r.tables.opened ≤ length log.dialled) l.tables enough
+  enough_behind : (turned_by limits ds log.calls (unused c)).tables.opened ≤ length ds
+  enough_behind = subst (λ (r : Proxy). r.tables.opened ≤ length ds) l.tables enough
 
   module _ (more : List ℕ) (log' : Log) (calls : log'.calls ≡ log.calls ++ call ∷ []) (dialled : log'.dialled ≡ log.dialled ++ more) where
-    behind_same : turned_by limits (log.dialled ++ more) log.calls unused ≡ p
-    behind_same = turns_same limits log.dialled more log.calls unused (unused_stands limits) enough_behind ∙ behind_here
+    abbrev later : List (Option ℕ)
+    later = dials_from c log.dialled ++ map Some more
 
-    pub tables_on : behind_all limits log' ≡ q
+    dials_are : dials_from c log'.dialled ≡ later
+    dials_are = ap (dials_from c) dialled ∙ dials_more c log.dialled more
+
+    behind_same : turned_by limits later log.calls (unused c) ≡ p
+    behind_same = turns_same limits ds (map Some more) log.calls (unused c) (unused_stands limits c may) enough_behind ∙ behind_here
+
+    pub tables_on : behind_all limits c log' ≡ q
     tables_on =
-        ap (λ ks. turned_by limits ks log'.calls unused) dialled
-        ∙ (ap (λ cs. turned_by limits (log.dialled ++ more) cs unused) calls
-        ∙ (turned_more limits (log.dialled ++ more) log.calls call unused
-        ∙ (ap (turned limits (log.dialled ++ more) call) behind_same ∙ turn_same limits log.dialled more call p enough)))
+        ap (λ ks. turned_by limits ks log'.calls (unused c)) dials_are
+        ∙ (ap (λ cs. turned_by limits later cs (unused c)) calls
+        ∙ (turned_more limits later log.calls call (unused c)
+        ∙ (ap (turned limits later call) behind_same ∙ turn_same limits ds (map Some more) call p enough)))
 
     -- the turns before are those of the log as it was
-    pub before_on : behind_calls limits log' (length log.calls) ≡ p
+    pub before_on : behind_calls limits c log' (length log.calls) ≡ p
     before_on =
-        ap (λ ks. turned_by limits ks (take (length log.calls) log'.calls) unused) dialled
-        ∙ (ap (λ cs. turned_by limits (log.dialled ++ more) cs unused)
+        ap (λ ks. turned_by limits ks (take (length log.calls) log'.calls) (unused c)) dials_are
+        ∙ (ap (λ cs. turned_by limits later cs (unused c))
         (ap (take (length log.calls)) calls ∙
         (take-append-le (length log.calls) log.calls (call ∷ []) (omega arith) ∙ take_all (length log.calls) log.calls (omega arith)))
         ∙ behind_same)
 
-    pub fit_on : AllFit limits log'.dialled unused log'.calls
+    pub fit_on : AllFit limits (dials_from c log'.dialled) (unused c) log'.calls
     fit_on =
-        subst (λ ks. AllFit limits ks unused log'.calls) (sym dialled)
-        (subst (AllFit limits (log.dialled ++ more) unused) (sym calls)
-        (fit_more limits (log.dialled ++ more) log.calls call unused
-        (all_fit limits log.dialled more log.calls unused (unused_stands limits) enough_behind l.fit)
-        (subst (λ (r : Proxy). Fits limits (log.dialled ++ more) r call) (sym behind_same) (fits_same limits log.dialled more call p enough fits))))
+        subst (λ ks. AllFit limits ks (unused c) log'.calls) (sym dials_are)
+        (subst (AllFit limits later (unused c)) (sym calls)
+        (fit_more limits later log.calls call (unused c)
+        (all_fit limits ds (map Some more) log.calls (unused c) (unused_stands limits c may) enough_behind l.fit)
+        (subst (λ (r : Proxy). Fits limits later r call) (sym behind_same) (fits_same limits ds (map Some more) call p enough fits))))
 
 -- BETWEEN TURNS
 
 module _ {B : Type 0} {g : Ghosts B} (n : ℕ) (f : Frame) (x : loop.Proxy B g) (p : Proxy) (log : Log) (reported : Option Log) (stages : ℕ → Stage)
     (s : IsStill n f x p log reported stages) where
+  -- the store may have begun so
+  may_so : may_begin f.limits f.contents ≡ true
+  may_so = subst (λ (d : Contents). may_begin f.limits d ≡ true) s.rests.cache.contents (begins_of f x p s.rests.cache)
+
+  -- each exchange has its place among the dials
+  dials_so_far : dials_in p log ≡ dials_from f.contents log.dialled
+  dials_so_far = ap (λ (d : Contents). dials_from d log.dialled) s.rests.cache.contents
+
+  places_so : length (dials_from f.contents log.dialled) ≡ p.tables.opened
+  places_so = ap length (sym dials_so_far) ∙ s.rests.opened
+
   -- what is written is the record of the turns before
   written_so : f.written ≡ record_of p
   written_so = sym (s.rests.cache.text ∙ (ap (λ (z : List ℕ). f.written ++ z) s.written ∙ append-nil f.written))
@@ -89,13 +109,14 @@ module _ {B : Type 0} {g : Ghosts B} (n : ℕ) (f : Frame) (x : loop.Proxy B g) 
     goes = λ none l. record {
       is_log = record {
         fit = l.fit;
-        sent = subst (λ (r : Proxy). list_all (was_sent log.dialled r) log.takers ≡ true) l.tables l.sent;
-        dialled = let same = s.rests.opened in subst (λ (r : Proxy). length log.dialled ≤ r.tables.opened) l.tables (omega arith);
+        sent = subst (λ (r : Proxy). list_all (was_sent (dials_from f.contents log.dialled) r) log.takers ≡ true) l.tables l.sent;
+        dialled = let same = places_so in subst (λ (r : Proxy). length (dials_from f.contents log.dialled) ≤ r.tables.opened) l.tables (omega arith);
       };
       turns = length log.calls;
       all_but_one = omega arith;
       written_is = written_so ∙
-          ap record_of (l.tables ∙ sym (ap (λ cs. turned_by f.limits log.dialled cs unused) (take_all (length log.calls) log.calls (omega arith))));
+          ap record_of (l.tables ∙
+          sym (ap (λ cs. turned_by f.limits (dials_from f.contents log.dialled) cs (unused f.contents)) (take_all (length log.calls) log.calls (omega arith))));
       text = [];
       takes = record { front = []; rest = []; whole = refl; takes = takes_none out };
       record_is = ap record_of (sym l.tables) ∙ (s.rests.cache.text ∙ ap (λ (z : List ℕ). f.written ++ z) s.written);
@@ -129,18 +150,27 @@ module _ {B : Type 0} {g : Ghosts B} (n : ℕ) (f : Frame) (x : loop.Proxy B g) 
 
   -- the tables that the definitions owe before the acts are carried out
   abbrev pub owed_by : Proxy
-  owed_by = happened f.limits log.dialled call (begun call p)
+  owed_by = happened f.limits (dials_in p log) call (begun call p)
 
-  dials_so : so_far p log.dialled ≡ log.dialled
+  abbrev now : List (Option ℕ)
+  now = dials_from f.contents log.dialled
+
+  now_is : dials_in p log ≡ now
+  now_is = dials_so_far n f x p log reported stages s
+
+  may : may_begin f.limits f.contents ≡ true
+  may = may_so n f x p log reported stages s
+
+  dials_so : so_far p (dials_in p log) ≡ dials_in p log
   dials_so = dialled_all f x p log s.rests s.follows.apart call refl
 
-  turned_is : turned f.limits log.dialled call p ≡ carried owed_by
+  turned_is : turned f.limits now call p ≡ carried owed_by
   unfolding turned
-  turned_is = ap (λ ks. carried (happened f.limits ks call (begun call p))) dials_so
+  turned_is = ap (λ ks. turned f.limits ks call p) (sym now_is) ∙ ap (λ ks. carried (happened f.limits ks call (begun call p))) dials_so
 
-  call_fits : Fits f.limits log.dialled p call
-  call_fits = fits_now f x p log s.rests s.follows.apart call refl
-      (begins.few_bytes n f x p log reported reported' stages stages' s wait moment what slice of_open stand fits early many) waits_so
+  call_fits : Fits f.limits now p call
+  call_fits = subst (λ ks. Fits f.limits ks p call) now_is (fits_now f x p log s.rests s.follows.apart call refl
+      (begins.few_bytes n f x p log reported reported' stages stages' s wait moment what slice of_open stand fits early many) waits_so)
 
   -- WHO IS SERVED
 
@@ -164,56 +194,62 @@ module _ {B : Type 0} {g : Ghosts B} (n : ℕ) (f : Frame) (x : loop.Proxy B g) 
     quiet = refl;
   }
 
-  served : (ks : List ℕ) → AreServed call (happened f.limits ks call (begun call p)) (acts_in (happened f.limits ks call (begun call p)).part)
+  served : (ks : List (Option ℕ)) → AreServed call (happened f.limits ks call (begun call p)) (acts_in (happened f.limits ks call (begun call p)).part)
   served ks = happened_served f.limits ks call (begun call p) new_there held
 
   -- THE LOG OF THE LOOP GOES ON
 
-  enough : p.tables.opened ≤ length log.dialled
-  enough = let is = s.rests.opened in omega arith
+  enough : p.tables.opened ≤ length now
+  enough = let is = places_so n f x p log reported stages s in omega arith
 
   written_now : f.written ≡ record_of p
   written_now = written_so n f x p log reported stages s
 
-  module _ (l : IsOfLoop f.limits log p) where
+  module _ (l : IsOfLoop f.limits f.contents log p) where
     known : StandsKnown f.limits p
-    known = subst (StandsKnown f.limits) (sym l.tables) (turns_know f.limits log.dialled log.calls unused (unused_known f.limits))
+    known = subst (StandsKnown f.limits) (sym l.tables) (turns_know f.limits now log.calls (unused f.contents) (unused_known f.limits f.contents may))
 
     gone : AreGone p
-    gone = subst AreGone (sym l.tables) (turns_gone f.limits log.dialled log.calls unused unused_gone)
+    gone = subst AreGone (sym l.tables) (turns_gone f.limits now log.calls (unused f.contents) (unused_gone f.contents))
 
-    sent_turned : list_all (was_sent log'.dialled (turned f.limits log.dialled call p)) log'.takers ≡ true
+    sent_turned : list_all (was_sent now (turned f.limits now call p)) log'.takers ≡ true
     sent_turned =
-        sent_still f.limits log s.follows.apart p wait moment what (got_bytes what slice) known gone (served (so_far p log.dialled))
-        (begins.ended n f x p log reported reported' stages stages' s wait moment what slice of_open stand fits early many) l.sent on_wire.follows.apart
+        subst (λ ks. list_all (was_sent ks (turned f.limits ks call p)) log'.takers ≡ true) now_is
+        (sent_still f.limits log s.follows.apart p wait moment what (got_bytes what slice) known gone (served (so_far p (dials_in p log)))
+        (begins.ended n f x p log reported reported' stages stages' s wait moment what slice of_open stand fits early many)
+        (subst (λ ks. list_all (was_sent ks p) log.takers ≡ true) (sym now_is) l.sent) on_wire.follows.apart
         (begins.new_one n f x p log reported reported' stages stages' s wait moment what slice of_open stand fits early many)
-        (λ j none. (s.rests.seen j (ap stage_from none)).0)
+        (λ j none. (s.rests.seen j (ap stage_from none)).0))
 
     -- where it was cut short behind the call, and nothing was written
-    pub cut_early : (out : Option (List ℕ)) → IsCutShort f.limits log' f.written out out
+    pub cut_early : (out : Option (List ℕ)) → IsCutShort f.limits f.contents log' f.written out out
     cut_early out =
-        let q = turned f.limits log.dialled call p in
-        let is : behind_all f.limits log' ≡ q = tables_on f.limits log p call l enough call_fits [] log' refl (sym (append-nil log.dialled)) in
-        let part = turn_part f.limits log.dialled call p in
-        let more = grown q.part p.history in
+        let q = turned f.limits now call p in
+        let is : behind_all f.limits f.contents log' ≡ q =
+        tables_on f.limits f.contents may log p call l enough call_fits [] log' refl (sym (append-nil log.dialled)) in
+        let part = turn_part f.limits now call p in
+        let turn_on = turn_goes f.limits now call p known.stands in
+        let more = grown p.contents.now q.part p.history in
         record {
           is_log = record {
-            fit = fit_on f.limits log p call l enough call_fits [] log' refl (sym (append-nil log.dialled));
-            sent = subst (λ (r : Proxy). list_all (was_sent log'.dialled r) log'.takers ≡ true) (sym is) sent_turned;
+            fit = fit_on f.limits f.contents may log p call l enough call_fits [] log' refl (sym (append-nil log.dialled));
+            sent = subst (λ (r : Proxy). list_all (was_sent now r) log'.takers ≡ true) (sym is) sent_turned;
             dialled =
-                let grows : p.tables.opened ≤ q.tables.opened = (turn_goes f.limits log.dialled call p known.stands).opened in
-                let same = s.rests.opened in
-                subst (λ (r : Proxy). length log.dialled ≤ r.tables.opened) (sym is) (omega arith);
+                let grows : p.tables.opened ≤ q.tables.opened = turn_on.opened in
+                let same = places_so n f x p log reported stages s in
+                subst (λ (r : Proxy). length now ≤ r.tables.opened) (sym is) (omega arith);
           };
           turns = length log.calls;
           all_but_one = let is = length-append log.calls (call ∷ []) in omega arith;
-          written_is = written_now ∙ ap record_of (sym (before_on f.limits log p call l enough call_fits [] log' refl (sym (append-nil log.dialled))));
+          written_is = written_now ∙
+              ap record_of (sym (before_on f.limits f.contents may log p call l enough call_fits [] log' refl (sym (append-nil log.dialled))));
           text = more.0;
           takes = record { front = []; rest = more.0; whole = refl; takes = takes_none out };
           record_is =
               ap record_of is
-              ∙ (ap (λ (h : History). text_behind 0 (map timed_of (reverse h))) part.first
-              ∙ (more.1 ∙ ap (λ (z : List ℕ). z ++ more.0) (s.rests.cache.text ∙ (ap (λ (z : List ℕ). f.written ++ z) s.written ∙ append-nil f.written))));
+              ∙ (ap (λ (d : Contents). text_behind d.now (map timed_of (reverse q.history))) turn_on.contents
+              ∙ (ap (λ (h : History). text_behind p.contents.now (map timed_of (reverse h))) part.first
+              ∙ (more.1 ∙ ap (λ (z : List ℕ). z ++ more.0) (s.rests.cache.text ∙ (ap (λ (z : List ℕ). f.written ++ z) s.written ∙ append-nil f.written)))));
         }
 
   -- memory was wanting before anything was written
@@ -229,8 +265,21 @@ module _ {B : Type 0} {g : Ghosts B} (n : ℕ) (f : Frame) (x : loop.Proxy B g) 
   -- WHAT HAPPENED, as the cache answered
 
   module _ (y : loop.Proxy B g) (goes : Goes (KeepsPolled turn) (faults_in x.cache) y owed_by) where
-    same_tables : faults_in y.cache ≡ faults_in x.cache → carried goes.q ≡ turned f.limits log.dialled call p
+    same_tables : faults_in y.cache ≡ faults_in x.cache → carried goes.q ≡ turned f.limits now call p
     same_tables none = ap carried (goes.same none) ∙ sym turned_is
+
+    -- it began with the same
+    contents_same : (carried goes.q).contents ≡ f.contents
+    contents_same = (carried_is_same goes.q).contents ∙ goes.keeps.keeps.cache.contents
+
+    sent_as : (l' : Log) → list_all (was_sent (dials_in (carried goes.q) l') (carried goes.q)) l'.takers
+        ≡ list_all (was_sent (dials_from f.contents l'.dialled) (carried goes.q)) l'.takers
+    sent_as l' = ap (λ (d : Contents). list_all (was_sent (dials_from d l'.dialled) (carried goes.q)) l'.takers) contents_same
+
+    sent_later : (l' : Log) → SentOn (carried goes.q) log' l' → faults_in y.cache ≡ faults_in x.cache → IsOfLoop f.limits f.contents log p →
+        list_all (was_sent (dials_from f.contents l'.dialled) (carried goes.q)) l'.takers ≡ true
+    sent_later l' on none l =
+        sym (sent_as l') ∙ on (sent_as log' ∙ subst (λ (r : Proxy). list_all (was_sent now r) log'.takers ≡ true) (sym (same_tables none)) (sent_turned l))
 
     calls_on : (l' : Log) → l'.calls ≡ log'.calls → length l'.calls ≡ length log.calls + 1
     calls_on l' same = ap length same ∙ length-append log.calls (call ∷ [])
@@ -246,26 +295,27 @@ module _ {B : Type 0} {g : Ghosts B} (n : ℕ) (f : Frame) (x : loop.Proxy B g) 
       goes = λ none l. by_loop (ap faults_in (sym cache) ∙ none) l;
     }
       where
-        by_loop : faults_in y.cache ≡ faults_in x.cache → IsOfLoop f.limits log p → IsCutShort f.limits c.log' f.written out out'
+        by_loop : faults_in y.cache ≡ faults_in x.cache → IsOfLoop f.limits f.contents log p → IsCutShort f.limits f.contents c.log' f.written out out'
         by_loop none l =
-            let is : behind_all f.limits c.log' ≡ carried goes.q = tables_on f.limits log p call l enough call_fits c.more c.log' c.calls c.dialled ∙
-            sym (same_tables none) in
+            let is : behind_all f.limits f.contents c.log' ≡ carried goes.q =
+            tables_on f.limits f.contents may log p call l enough call_fits c.more c.log' c.calls c.dialled ∙ sym (same_tables none) in
             let same = carried_is_same goes.q in
-            let sent_here : list_all (was_sent log'.dialled (carried goes.q)) log'.takers ≡ true =
-            subst (λ (r : Proxy). list_all (was_sent log'.dialled r) log'.takers ≡ true) (sym (same_tables none)) (sent_turned l) in
+            let few : length (dials_from f.contents c.log'.dialled) ≤ goes.q.tables.opened =
+            subst (λ (d : Contents). length (dials_from d c.log'.dialled) ≤ goes.q.tables.opened) goes.keeps.keeps.cache.contents c.few in
             record {
               is_log = record {
-                fit = fit_on f.limits log p call l enough call_fits c.more c.log' c.calls c.dialled;
-                sent = subst (λ (r : Proxy). list_all (was_sent c.log'.dialled r) c.log'.takers ≡ true) (sym is) (c.sent sent_here);
-                dialled = subst (λ (r : Proxy). length c.log'.dialled ≤ r.tables.opened) (sym is)
-                    (let le = c.few in let t = ap (λ (u : _). u.opened) same.tables in omega arith);
+                fit = fit_on f.limits f.contents may log p call l enough call_fits c.more c.log' c.calls c.dialled;
+                sent = subst (λ (r : Proxy). list_all (was_sent (dials_from f.contents c.log'.dialled) r) c.log'.takers ≡ true) (sym is)
+                    (sent_later c.log' c.sent none l);
+                dialled = subst (λ (r : Proxy). length (dials_from f.contents c.log'.dialled) ≤ r.tables.opened) (sym is)
+                    (subst (λ (u : Tables). length (dials_from f.contents c.log'.dialled) ≤ u.opened) (sym same.tables) few);
               };
               turns = length log.calls;
               all_but_one = let is = calls_on c.log' c.calls in omega arith;
-              written_is = written_now ∙ ap record_of (sym (before_on f.limits log p call l enough call_fits c.more c.log' c.calls c.dialled));
+              written_is = written_now ∙ ap record_of (sym (before_on f.limits f.contents may log p call l enough call_fits c.more c.log' c.calls c.dialled));
               text = text_of y.record;
               takes = c.takes;
-              record_is = ap record_of is ∙ (ap (λ (h : History). text_behind 0 (map timed_of (reverse h))) same.history ∙ goes.keeps.keeps.cache.text);
+              record_is = ap record_of is ∙ (record_carried goes.q ∙ goes.keeps.keeps.cache.text);
             }
 
     -- it was made
@@ -286,6 +336,7 @@ module _ {B : Type 0} {g : Ghosts B} (n : ℕ) (f : Frame) (x : loop.Proxy B g) 
         written = e.written;
       };
       limits = refl;
+      contents = refl;
       text = text_of y.record;
       takes = e.takes;
       written = refl;
@@ -295,11 +346,11 @@ module _ {B : Type 0} {g : Ghosts B} (n : ℕ) (f : Frame) (x : loop.Proxy B g) 
       goes = λ none l. by_loop (ap faults_in (sym cache) ∙ none) l;
     }
       where
-        by_loop : faults_in y.cache ≡ faults_in x.cache → IsOfLoop f.limits log p → IsOfLoop f.limits e.log' (carried goes.q)
+        by_loop : faults_in y.cache ≡ faults_in x.cache → IsOfLoop f.limits f.contents log p → IsOfLoop f.limits f.contents e.log' (carried goes.q)
         by_loop none l = record {
-          fit = fit_on f.limits log p call l enough call_fits e.more e.log' e.calls e.dialled;
-          tables = sym (tables_on f.limits log p call l enough call_fits e.more e.log' e.calls e.dialled ∙ sym (same_tables none));
-          sent = e.sent (subst (λ (r : Proxy). list_all (was_sent log'.dialled r) log'.takers ≡ true) (sym (same_tables none)) (sent_turned l));
+          fit = fit_on f.limits f.contents may log p call l enough call_fits e.more e.log' e.calls e.dialled;
+          tables = sym (tables_on f.limits f.contents may log p call l enough call_fits e.more e.log' e.calls e.dialled ∙ sym (same_tables none));
+          sent = sent_later e.log' e.sent none l;
         }
 
   -- the turn begins at the greater moment

@@ -103,7 +103,7 @@ module _ (limits : Limits) (R : Proxy → Proxy → Type 0) (kept : IsKept limit
   broke_by None k p = leaves_by k (p.client k) p
   broke_by (Some x) k p = breaks_by x p
 
-  by_event : (dialled bytes : List ℕ) (w : WireEvent) (p : Proxy) → R p (handled_by limits dialled bytes w p)
+  by_event : (dialled : List (Option ℕ)) (bytes : List ℕ) (w : WireEvent) (p : Proxy) → R p (handled_by limits dialled bytes w p)
   by_event dialled bytes (wire.Accepted k) p = comes_by k (p.client k) p refl (nat_lt (length (clients_here p)) 512)
   by_event dialled bytes (wire.Got k n) p = sends_by (exchange_of dialled k) k bytes p
   by_event dialled bytes (wire.Ended k) p = ends_by (exchange_of dialled k) k p
@@ -111,7 +111,7 @@ module _ (limits : Limits) (R : Proxy → Proxy → Type 0) (kept : IsKept limit
   by_event dialled bytes (wire.Room k) p = kept.none p
   by_event dialled bytes wire.Quiet p = kept.none p
 
-  pub handled_keeps : (dialled : List ℕ) (call : Called) (p : Proxy) → R p (handled limits dialled call p)
+  pub handled_keeps : (dialled : List (Option ℕ)) (call : Called) (p : Proxy) → R p (handled limits dialled call p)
   unfolding handled
   handled_keeps dialled call p = by_event dialled call.bytes call.event p
 
@@ -215,7 +215,7 @@ module _ (limits : Limits) (R : Proxy → Proxy → Type 0) (kept : IsKept limit
 
   -- A TURN that has begun, before its acts are carried out
 
-  pub happened_keeps : (dialled : List ℕ) (call : Called) (p : Proxy) → R p (happened limits dialled call p)
+  pub happened_keeps : (dialled : List (Option ℕ)) (call : Called) (p : Proxy) → R p (happened limits dialled call p)
   happened_keeps dialled call p =
       kept.both p _ _ (handled_keeps dialled call p)
       (kept.both (handled limits dialled call p) _ _ (heard_keeps (handled limits dialled call p))
@@ -269,7 +269,7 @@ open_any (act.Evicted r ∷ acts) = open_any acts
 -- A TURN
 
 module _ (limits : Limits) (MayOpen : ℕ → Type 0) (R : Proxy → Proxy → Type 0) (kept : IsKept limits R) (out : IsCarried MayOpen R) where
-  pub turned_keeps : (dialled : List ℕ) (call : Called) (p : Proxy) →
+  pub turned_keeps : (dialled : List (Option ℕ)) (call : Called) (p : Proxy) →
       OpenOnly MayOpen (acts_in (happened limits (so_far p dialled) call (begun call p)).part) → R p (begun call p) → R p (turned limits dialled call p)
   unfolding turned
   turned_keeps dialled call p only begins =

@@ -1,10 +1,11 @@
 -- What the consumers of each client are started for: the first requests that are read out of what came of it.
-use Rattle.std.specs.Prelude.{◌≡◌, ℕ, ◌+◌, ◌==◌, List, [], ◌∷◌, ◌++◌, map, Bool, false, Option, Some, None, IsSome, if◌then◌else◌}
+use Rattle.std.specs.Prelude.{◌≡◌, ℕ, ◌+◌, ◌==◌, List, [], ◌∷◌, ◌++◌, map, Bool, true, false, Option, Some, None, IsSome, if◌then◌else◌}
 use Rattle.hc_event.specs.declared.event.Event.{Event}
 use Rattle.hc_event.specs.declared.event.Event.TheVariants as event
 use Rattle.hc_event.specs.declared.event.Request.{Request}
 use Rattle.hc_head.specs.declared.message.WireRequest.{WireRequest}
-use Rattle.hc_model.specs.Entries.{History}
+use Rattle.hc_model.specs.Beginnings.{may_begin}
+use Rattle.hc_model.specs.Entries.{Contents, History}
 use Rattle.hc_msg.specs.Reading.{Reading, Requests, Asks, Leads, heading}
 use Rattle.hc_rules.specs.declared.room.Limits.{Limits}
 use Rattle.hc_wire.specs.declared.event.WireEvent.{WireEvent}
@@ -65,10 +66,11 @@ abbrev pub IsNextStart : (ℕ → Option ℕ) → ℕ → Event → Type 0
 IsNextStart holder n (event.Start c request) = (c ≡ n + 1) × IsSome (holder c)
 IsNextStart holder n _ = Unit {0}
 
--- consumers are started one after another, each for a client
-abbrev pub AreClients : (ℕ → Option ℕ) → History → Type 0
-AreClients holder [] = Unit {0}
-AreClients holder (e ∷ h) = IsNextStart holder (starts_in h) e.event × AreClients holder h
+-- behind the last one before, consumers are started one after another, each for a client
+abbrev pub AreClients : ℕ → (ℕ → Option ℕ) → History → Type 0
+AreClients last holder [] = Unit {0}
+AreClients last holder (e ∷ h) =
+    IsNextStart holder (last + starts_in h) e.event × AreClients last holder h
 
 -- BOTH
 
@@ -78,12 +80,14 @@ pub data IsAsked (k : ℕ) (calls : List Called) (requests : List Request) : Typ
   since : (before after : List Called) (call : Called) → calls ≡ before ++ call ∷ after →
       call.event ≡ wire.Accepted k → HasAsked (got_from k after) requests → IsAsked k calls requests
 
-pub record AreAsked (calls : List Called) (p : Proxy) : Type 0 where
-  -- The n-th consumer that is started has number n, and is a client's.
-  pub clients : AreClients p.holder p.history
+pub record AreAsked (contents : Contents) (calls : List Called) (p : Proxy) : Type 0 where
+  -- The n-th consumer that is started has the n-th number behind the last one of the contents, and is a client's.
+  pub clients : AreClients contents.last_consumer p.holder p.history
   -- Those of a client were started for its first requests, each once and in their order.
   pub each : (k : ℕ) → IsAsked k calls (starts_of p.holder k p.history)
 
 -- So it is whatever a log says.
 abbrev pub StartsAreAsked : Type 0
-StartsAreAsked = (limits : Limits) (log : Log) → AreAsked log.calls (behind_all limits log)
+StartsAreAsked =
+    (limits : Limits) (contents : Contents) (log : Log) → may_begin limits contents ≡ true →
+    AreAsked contents log.calls (behind_all limits contents log)

@@ -1,26 +1,41 @@
 -- Whose a connection is, and how it stood at a call.
-use Rattle.std.specs.Prelude.{ℕ, ◌+◌, ◌-◌, ◌==◌, nat_lt, List, [], ◌∷◌, length, drop, find, Bool, Option, Some, None, if◌then◌else◌}
+use Rattle.std.specs.Prelude.{ℕ, ◌+◌, ◌-◌, ◌==◌, nat_lt, List, [], ◌∷◌, ◌++◌, length, drop, find, map, replicate, Bool, false, Option, Some, None, if◌then◌else◌}
 use Rattle.std.specs.List.{list_any}
+use Rattle.hc_model.specs.Entries.{Contents}
 use Rattle.hc_wire.specs.declared.connection.Standing.{Standing}
-use Rattle.hc_wire.specs.Logs.{Called}
-use Rattle.hc_proxy.specs.Rows.{Client}
+use Rattle.hc_wire.specs.Logs.{Called, Log}
+use Rattle.hc_proxy.specs.Rows.{Client, Proxy}
+
+-- THE DIALS, by exchange
+
+-- Each dial is for the next exchange. Those that were opened before the store began have no connection.
+abbrev pub dials_from : Contents → List ℕ → List (Option ℕ)
+dials_from contents dialled = replicate (contents.next_exchange - 1) None ++ map Some dialled
+
+-- by what the store of these tables began with
+abbrev pub dials_in : Proxy → Log → List (Option ℕ)
+dials_in p log = dials_from p.contents log.dialled
 
 -- WHOSE
 
-abbrev pub place_from : ℕ → ℕ → List ℕ → Option ℕ
-place_from n k [] = None
-place_from n k (j ∷ ks) = if j == k then Some n else place_from (n + 1) k ks
+abbrev pub is_dialled : ℕ → Option ℕ → Bool
+is_dialled k None = false
+is_dialled k (Some j) = j == k
 
--- the exchange of a connection: exchange x has the one that was dialled as the x-th
-abbrev pub exchange_of : List ℕ → ℕ → Option ℕ
+abbrev pub place_from : ℕ → ℕ → List (Option ℕ) → Option ℕ
+place_from n k [] = None
+place_from n k (o ∷ os) = if is_dialled k o then Some n else place_from (n + 1) k os
+
+-- the exchange of a connection: exchange x has the one that was dialled for it
+abbrev pub exchange_of : List (Option ℕ) → ℕ → Option ℕ
 exchange_of dialled k = place_from 1 k dialled
 
-abbrev pub first_of : List ℕ → Option ℕ
+abbrev pub first_of : List (Option ℕ) → Option ℕ
 first_of [] = None
-first_of (k ∷ ks) = Some k
+first_of (o ∷ os) = o
 
 -- the connection of an exchange; these are numbered from 1
-abbrev pub connection_of : List ℕ → ℕ → Option ℕ
+abbrev pub connection_of : List (Option ℕ) → ℕ → Option ℕ
 connection_of dialled x = if x == 0 then None else first_of (drop (x - 1) dialled)
 
 -- AT A CALL

@@ -2,7 +2,8 @@
 use Rattle.std.specs.Prelude.{◌≡◌, ◌⊎◌, ℕ, ◌==◌, List, ◌∷◌, ◌++◌, Bool, true, false, Ok}
 use Rattle.std.specs.List.{list_any}
 use Rattle.hc_event.specs.declared.event.Event.TheVariants as event
-use Rattle.hc_model.specs.Entries.{Entry, History}
+use Rattle.hc_model.specs.Beginnings.{may_begin}
+use Rattle.hc_model.specs.Entries.{Contents, Entry, History}
 use Rattle.hc_msg.specs.declared.message.WirePart.TheVariants as part
 use Rattle.hc_msg.specs.Reading.{Reading, Whole, Token}
 use Rattle.hc_msg.specs.Taking.{ending}
@@ -33,14 +34,14 @@ pub record IsClosed (k : ℕ) (calls : List Called) (front : List ℕ) (reading 
   pub ends : ending reading ≡ Ok part.End
 
 -- What was told is that of a whole answer.
-pub record IsWhole (limits : Limits) (log : Log) (x : ℕ) (tokens : List Token) : Type 0 where
-  pub reported : IsSent limits log x tokens
+pub record IsWhole (limits : Limits) (contents : Contents) (log : Log) (x : ℕ) (tokens : List Token) : Type 0 where
+  pub reported : IsSent limits contents log x tokens
   pub whole : (reported.sent.reading ≡ Whole)
       ⊎ IsClosed reported.k reported.at.after reported.sent.front reported.sent.reading
 
 -- So it is of what was told of an exchange before an end, whatever a log says.
 abbrev pub EndsAreReceived : Type 0
 EndsAreReceived =
-    (limits : Limits) (log : Log) (x : ℕ) (later earlier : History) (e : Entry) →
-    (behind_all limits log).history ≡ later ++ e ∷ earlier → e.event ≡ event.End x →
-    IsWhole limits log x (received_of x earlier)
+    (limits : Limits) (contents : Contents) (log : Log) (x : ℕ) (later earlier : History) (e : Entry) →
+    may_begin limits contents ≡ true → (behind_all limits contents log).history ≡ later ++ e ∷ earlier → e.event ≡ event.End x →
+    IsWhole limits contents log x (received_of x earlier)

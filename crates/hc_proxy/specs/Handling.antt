@@ -90,7 +90,7 @@ broke limits None k p = client_leaves limits k p
 broke limits (Some x) k p = breaks limits x p
 
 -- by the event, where these connections were dialled
-abbrev pub handled_by : Limits → List ℕ → List ℕ → WireEvent → Proxy → Proxy
+abbrev pub handled_by : Limits → List (Option ℕ) → List ℕ → WireEvent → Proxy → Proxy
 handled_by limits dialled bytes (wire.Accepted k) p = client_comes k p
 handled_by limits dialled bytes (wire.Got k n) p = sends (exchange_of dialled k) k bytes p
 handled_by limits dialled bytes (wire.Ended k) p = ends limits (exchange_of dialled k) k p
@@ -98,5 +98,5 @@ handled_by limits dialled bytes (wire.Broke k) p = broke limits (exchange_of dia
 handled_by limits dialled bytes (wire.Room k) p = p
 handled_by limits dialled bytes wire.Quiet p = p
 
-unfoldable pub handled : Limits → List ℕ → Called → Proxy → Proxy
+unfoldable pub handled : Limits → List (Option ℕ) → Called → Proxy → Proxy
 handled limits dialled call p = handled_by limits dialled call.bytes call.event p

@@ -72,7 +72,7 @@ abbrev pub is_due : Proxy → ℕ → Bool
 is_due p x = is_due_by (is_wanted (p.tables.exchange x)) (p.upstream x)
 
 -- each number of a connection names one exchange
-abbrev pub NamesOne : List ℕ → Type 0
+abbrev pub NamesOne : List (Option ℕ) → Type 0
 NamesOne dialled =
     (x k : ℕ) → connection_of dialled x ≡ Some k → exchange_of dialled k ≡ Some x
 
@@ -98,10 +98,10 @@ unread_of (Some upstream) = length upstream.input
 abbrev pub unread : Proxy → ℕ
 unread p = sum_by (λ x. unread_of (p.upstream x)) p.tables.openings
 
--- the moment of the last event
-abbrev pub last_event : History → ℕ
-last_event [] = 0
-last_event (e ∷ h) = e.now
+-- the moment of the last event; before the first, this one
+abbrev pub last_event : ℕ → History → ℕ
+last_event moment [] = moment
+last_event moment (e ∷ h) = e.now
 
 -- WHO IS SENT SOMETHING
 

@@ -13,7 +13,7 @@ use Rattle.hc_event.specs.Filters.{asks_in, closes_in}
 use Rattle.hc_event.specs.declared.act.Act.{Act}
 use Rattle.hc_event.specs.declared.event.Event.{Event}
 use Rattle.hc_event.specs.declared.event.Event.TheVariants as event
-use Rattle.hc_model.specs.Entries.{Entry, no_contents}
+use Rattle.hc_model.specs.Entries.{Entry, Contents}
 use Rattle.hc_model.specs.Exchanges.{is_open, is_wanted}
 use Rattle.hc_model.specs.Runs.{IsOwed, owed}
 use Rattle.hc_model.specs.Tables.{tables}
@@ -40,17 +40,18 @@ use Rattle.hc_proxy.specs.Steps.{with_entry}
 use Rattle.hc_proxy.specs.Turns.{record_of}
 use Rattle.hc_proxy.specs.Waiting.{pends, is_waiting}
 
--- What stays as it is within a turn: the limits of the store, the record that was written, and how many bytes came at most;
+-- What stays as it is within a turn: the limits of the store, what that began with, the record that was written, and how many bytes came at most;
 -- the call that began it, the connections that were dialled before, and how each connection stands behind the call.
 pub record Frame : Type 0 where
   pub limits : Limits
+  pub contents : Contents
   pub written : List ℕ
   pub bytes : ℕ
 
 pub record Turn : Type 0 where
   pub frame : Frame
   pub call : Called
-  pub dialled : List ℕ
+  pub dialled : List (Option ℕ)
   pub stages : ℕ → Stage
 
 -- THE NEXT CLIENT of those whose next request is to be read
@@ -73,8 +74,9 @@ IsNumbered starts _ = Unit {0}
 
 module _ {B : Type 0} {g : Ghosts B} where
   pub record HasCache (f : Frame) (x : loop.Proxy B g) (p : Proxy) : Type 0 where
-    pub stands : StandsFor x.cache no_contents p.history
-    pub same : p.tables ≡ tables no_contents p.history
+    pub contents : p.contents ≡ f.contents
+    pub stands : StandsFor x.cache p.contents p.history
+    pub same : p.tables ≡ tables p.contents p.history
     pub limits : limits_in x.cache ≡ f.limits
     pub now : x.now ≡ p.moment
     pub early : p.moment < 2 ^ 62
@@ -82,25 +84,42 @@ module _ {B : Type 0} {g : Ghosts B} where
     pub starts : x.starts ≡ p.starts
     pub last_start : p.tables.last_start ≤ p.starts
     pub text : record_of p ≡ f.written ++ text_of x.record
-    pub recorded : last_of x.record ≡ last_event p.history
-    pub before : last_event p.history ≤ p.moment
+    pub recorded : last_of x.record ≡ last_event p.contents.now p.history
+    pub before : last_event p.contents.now p.history ≤ p.moment
     pub unopened : (y : ℕ) → p.tables.opened < y → p.upstream y ≡ None
     pub headed : AreHeaded p
     pub small : unread p + bytes_received x.cache ≤ f.bytes
     pub bounded : f.bytes ≤ 2 ^ 60
+    pub room : p.contents.last_consumer < 2 ^ 61
     pub targets : StartsHaveTargets p.history
 
   -- the acts are those of the turn
   abbrev pub HasActs : loop.Proxy B g → Proxy → Type 0
   HasActs x p = act_list x.acts ≡ acts_in p.part
 
+  -- how many consumers and exchanges there are at most: a step brings one more of each
+  abbrev pub most_starts : loop.Proxy B g → Proxy → ℕ
+  most_starts x p = p.contents.last_consumer + steps x.cache
+
+  abbrev pub most_opened : loop.Proxy B g → Proxy → ℕ
+  most_opened x p = p.contents.next_exchange + steps x.cache
+
   -- something happened beside polls whose consumers wait
   abbrev pub HasMoved : loop.Proxy B g → Proxy → Type 0
   HasMoved x p = x.moved ≡ not (list_all is_waiting p.part)
 
--- nothing happened yet, over an empty store, and nothing is counted
+-- the cache began with these contents, whose last consumer has this number, and nothing happened yet
+pub record IsStocked {B : Type 0} {g : Ghosts B} (contents : Contents) (cache : Cache B g) (last : ℕ) : Type 0 where
+  pub stands : StandsFor cache contents []
+  pub last_is : last ≡ contents.last_consumer
+
+abbrev pub IsStockedSome : {B : Type 0} {g : Ghosts B} → Cache B g → ℕ → Type 0
+IsStockedSome cache last = (contents : Contents) × IsStocked contents cache last
+
+-- nothing happened yet, and nothing is counted
 pub record IsUnused {B : Type 0} {g : Ghosts B} (f : Frame) (cache : Cache B g) : Type 0 where
-  pub stands : StandsFor cache no_contents []
+  pub stands : StandsFor cache f.contents []
+  pub room : f.contents.last_consumer < 2 ^ 61
   pub limits : limits_in cache ≡ f.limits
   pub received : bytes_received cache ≡ 0
   pub written : f.written ≡ []
@@ -219,8 +238,8 @@ module _ {B : Type 0} {g : Ghosts B} where
     pub consumers : HasConsumers p
     pub upstreams : HasUpstreams t x p (acts_in p.part)
     pub wire : AtWire t.stages x
-    pub numbers : p.starts ≤ steps x.cache
-    pub opened : p.tables.opened ≤ steps x.cache
+    pub numbers : p.starts ≤ most_starts x p
+    pub opened : p.tables.opened ≤ most_opened x p
     pub seen : AreSeen t p
     pub shut : AreClosed (acts_in p.part) p.tables
     pub known : AreKnown t x
@@ -239,8 +258,8 @@ module _ {B : Type 0} {g : Ghosts B} where
     pub consumers : HasConsumers p
     pub upstreams : HasUpstreamsBut z t x p (acts_in p.part)
     pub wire : AtWire t.stages x
-    pub numbers : p.starts ≤ steps x.cache
-    pub opened : p.tables.opened ≤ steps x.cache
+    pub numbers : p.starts ≤ most_starts x p
+    pub opened : p.tables.opened ≤ most_opened x p
     pub seen : AreSeen t p
     pub shut : AreClosed (acts_in p.part) p.tables
     pub known : AreKnown t x

@@ -1,7 +1,8 @@
 -- What the serving loop comes to, in the terms of the cache's laws.
-use Rattle.std.specs.Prelude.{◌≡◌}
+use Rattle.std.specs.Prelude.{◌≡◌, true}
 use Rattle.hc_rules.specs.declared.room.Limits.{Limits}
-use Rattle.hc_model.specs.Entries.{no_contents}
+use Rattle.hc_model.specs.Beginnings.{may_begin}
+use Rattle.hc_model.specs.Entries.{Contents}
 use Rattle.hc_model.specs.Reads.{ReadsWhole}
 use Rattle.hc_model.specs.Runs.{IsRun}
 use Rattle.hc_model.specs.Tables.{tables}
@@ -9,13 +10,15 @@ use Rattle.hc_wire.specs.Logs.{Log}
 use Rattle.hc_proxy.specs.Rows.{Proxy}
 use Rattle.hc_proxy.specs.Turns.{behind_all}
 
--- What was stepped is a run of a store that begins empty, and the tables are those behind it. Each
+-- What was stepped is a run of a store that begins with these contents, and the tables are those behind it. Each
 -- consumer reads one answer whole.
-pub record IsRunOfLoop (limits : Limits) (p : Proxy) : Type 0 where
-  pub run : IsRun limits no_contents p.history
-  pub behind : p.tables ≡ tables no_contents p.history
-  pub whole : ReadsWhole no_contents p.history
+pub record IsRunOfLoop (limits : Limits) (contents : Contents) (p : Proxy) : Type 0 where
+  pub run : IsRun limits contents p.history
+  pub behind : p.tables ≡ tables contents p.history
+  pub whole : ReadsWhole contents p.history
 
--- So it is whatever a log says.
+-- So it is whatever a log says, from all contents with which a store may begin.
 abbrev pub LoopsAreRuns : Type 0
-LoopsAreRuns = (limits : Limits) (log : Log) → IsRunOfLoop limits (behind_all limits log)
+LoopsAreRuns =
+    (limits : Limits) (contents : Contents) (log : Log) → may_begin limits contents ≡ true →
+    IsRunOfLoop limits contents (behind_all limits contents log)

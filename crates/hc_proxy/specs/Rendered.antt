@@ -1,12 +1,13 @@
 -- What a client is owed: the answers to its own requests, as bytes, one after another; and an error answer where no
 -- request follows.
-use Rattle.std.specs.Prelude.{◌≡◌, ℕ, ◌==◌, List, [], ◌∷◌, ◌++◌, filter, Bool, false, Option, Some, if◌then◌else◌}
+use Rattle.std.specs.Prelude.{◌≡◌, ℕ, ◌==◌, List, [], ◌∷◌, ◌++◌, filter, Bool, true, false, Option, Some, if◌then◌else◌}
 use Rattle.hc_event.specs.declared.act.Act.{Act}
 use Rattle.hc_event.specs.declared.act.Act.TheVariants as act
 use Rattle.hc_event.specs.declared.event.Event.{Event}
 use Rattle.hc_event.specs.declared.event.Event.TheVariants as event
 use Rattle.hc_head.specs.declared.message.WireRequest.{WireRequest}
-use Rattle.hc_model.specs.Entries.{History}
+use Rattle.hc_model.specs.Beginnings.{may_begin}
+use Rattle.hc_model.specs.Entries.{Contents, History}
 use Rattle.hc_peers.specs.declared.reply.Reply.{Reply}
 use Rattle.hc_peers.specs.Renderings.{rendering, form_behind, reply_to, empty_answer, error_status}
 use Rattle.hc_msg.specs.Reading.{Reading, Failed}
@@ -81,6 +82,7 @@ pub record IsAnswered (k : ℕ) (calls : List Called) (p : Proxy) (client : Clie
 -- So it is of each client, here or gone, whatever a log says.
 abbrev pub AnswersAreOwed : Type 0
 AnswersAreOwed =
-    (limits : Limits) (log : Log) (k : ℕ) (client : Client) →
-    (behind_all limits log).client k ≡ Some client →
-    IsAnswered k log.calls (behind_all limits log) client
+    (limits : Limits) (contents : Contents) (log : Log) (k : ℕ) (client : Client) →
+    may_begin limits contents ≡ true →
+    (behind_all limits contents log).client k ≡ Some client →
+    IsAnswered k log.calls (behind_all limits contents log) client

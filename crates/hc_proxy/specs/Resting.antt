@@ -16,11 +16,11 @@ use Rattle.hc_store.specs.declared.backend.Backend.{Ghosts}
 use Rattle.hc_wire.specs.Events.{Stage, Unseen}
 use Rattle.hc_wire.specs.Logs.{Log, Called, stage_in, sent_in, standings_in}
 use Rattle.hc_proxy.specs.declared.proxy.Proxy as loop
-use Rattle.hc_proxy.specs.Connections.{exchange_of}
+use Rattle.hc_proxy.specs.Connections.{exchange_of, dials_in}
 use Rattle.hc_proxy.specs.Handling.{clients_here}
 use Rattle.hc_proxy.specs.Invariants.{HasConsumers, IsHolder, IsHeardOut}
 use Rattle.hc_proxy.specs.Logging.{is_short}
-use Rattle.hc_proxy.specs.Keeping.{Frame, Turn, HasCache, HasMoved, HasUpstreams, HasClients, AtWire, AreSeen, IsClient}
+use Rattle.hc_proxy.specs.Keeping.{Frame, Turn, HasCache, HasMoved, HasUpstreams, HasClients, AtWire, AreSeen, IsClient, most_starts, most_opened}
 use Rattle.hc_proxy.specs.Rows.{Client, Proxy}
 
 -- WHEN ALL IS CARRIED OUT
@@ -37,8 +37,8 @@ module _ {B : Type 0} {g : Ghosts B} where
     pub heard : IsHeardOut p
     pub wire : AtWire t.stages x
     pub closed : x.closed.items ≡ []
-    pub numbers : p.starts ≤ steps x.cache
-    pub opened : p.tables.opened ≤ steps x.cache
+    pub numbers : p.starts ≤ most_starts x p
+    pub opened : p.tables.opened ≤ most_opened x p
     pub seen : AreSeen t p
 
   abbrev pub IsCarried : loop.Proxy B g → Type 0
@@ -82,17 +82,17 @@ module _ {B : Type 0} {g : Ghosts B} where
     pub consumers : HasConsumers p
     pub alive : (k c : ℕ) → IsHolder p k c → is_live (p.tables.consumer c) ≡ true
     pub upstreams : (call : Called) (stages : ℕ → Stage) →
-        HasUpstreams (record { frame = f; call = resting_call log call; dialled = log.dialled; stages = stages }) x p []
+        HasUpstreams (record { frame = f; call = resting_call log call; dialled = dials_in p log; stages = stages }) x p []
     pub resting : (y : ℕ) (u : origin.Upstream) → upstream_of x.upstreams y ≡ Some u →
         IsRestingUpstream log (is_wanted (p.tables.exchange y)) u
-    pub opened : length log.dialled ≡ p.tables.opened
+    pub opened : length (dials_in p log) ≡ p.tables.opened
     pub heard : IsHeardOut p
     pub wire : AtWire (stage_in log.takers) x
     pub closed : x.closed.items ≡ []
-    pub numbers : p.starts ≤ steps x.cache
-    pub opened_by : p.tables.opened ≤ steps x.cache
+    pub numbers : p.starts ≤ most_starts x p
+    pub opened_by : p.tables.opened ≤ most_opened x p
     pub seen : (k : ℕ) → stage_in log.takers k ≡ Unseen →
-        (p.client k ≡ None) × (exchange_of log.dialled k ≡ None) × (Contains p.accepted k → ⊥)
+        (p.client k ≡ None) × (exchange_of (dials_in p log) k ≡ None) × (Contains p.accepted k → ⊥)
 
   -- so many events were handed out: each brought so many bytes at most, and so many events were stepped by it at most
   pub record IsWithin (n : ℕ) (f : Frame) (x : loop.Proxy B g) : Type 0 where

@@ -1,6 +1,6 @@
 -- The tables of the proxy: what the calls so far say of each client and of each connection to the origin.
 use Rattle.std.specs.Prelude.{ℕ, List, [], Bool, false, Option, None, Some, option_map, ◌==◌, if◌then◌else◌}
-use Rattle.hc_model.specs.Entries.{Entry, History, no_contents}
+use Rattle.hc_model.specs.Entries.{Entry, History, Contents}
 use Rattle.hc_model.specs.Rows.{Tables}
 use Rattle.hc_model.specs.Tables.{tables}
 use Rattle.hc_msg.specs.Reading.{Reading, Requests, heading}
@@ -29,6 +29,7 @@ pub record Upstream : Type 0 where
   pub ended : Bool  -- no more comes of it
 
 pub record Proxy : Type 0 where
+  pub contents : Contents  -- what the store began with
   pub tables : Tables
   pub history : History
   pub part : List Entry  -- the entries of the last turn, the newest first
@@ -53,14 +54,15 @@ new_client = record {
   let_go = false;
 }
 
--- before the first call
-abbrev pub unused : Proxy
-unused = record {
-  tables = tables no_contents [];
+-- before the first call, where the store begins with these contents
+abbrev pub unused : Contents → Proxy
+unused contents = record {
+  contents = contents;
+  tables = tables contents [];
   history = [];
   part = [];
-  moment = 0;
-  starts = 0;
+  moment = contents.now;
+  starts = contents.last_consumer;
   accepted = [];
   client = λ k. None;
   holder = λ c. None;

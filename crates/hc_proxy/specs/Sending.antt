@@ -3,7 +3,7 @@ use Rattle.std.specs.Prelude.{ℕ, ◌&&◌, ◌||◌, not, nat_lt, List, length
 use Rattle.std.specs.List.{list_all}
 use Rattle.hc_wire.specs.declared.connection.Standing.{Standing}
 use Rattle.hc_wire.specs.Logs.{Called, Log, Taker, is_at_end, is_numbered}
-use Rattle.hc_proxy.specs.Connections.{connection_of}
+use Rattle.hc_proxy.specs.Connections.{connection_of, dials_in}
 use Rattle.hc_proxy.specs.Network.{open_exchanges}
 use Rattle.hc_proxy.specs.Rows.{Client, Upstream, Proxy}
 use Rattle.hc_proxy.specs.Standings.{Whose, OfClient, OfExchange, OfNobody, whose}
@@ -20,10 +20,10 @@ owed_to p (OfClient client) = length client.owed
 owed_to p (OfExchange x) = owed_by (p.upstream x)
 owed_to p OfNobody = 0
 
-abbrev pub is_sent : List ℕ → Proxy → Standing → Bool
+abbrev pub is_sent : List (Option ℕ) → Proxy → Standing → Bool
 is_sent dialled p s = s.short || not (nat_lt s.taken (owed_to p (whose dialled p s.k)))
 
-abbrev pub sends_right : Called → List ℕ → Proxy → Bool
+abbrev pub sends_right : Called → List (Option ℕ) → Proxy → Bool
 sends_right call dialled p = list_all (is_sent dialled p) call.standings
 
 -- BEHIND THE LAST TURN
@@ -45,7 +45,7 @@ taker_of log (Some k) = find (is_numbered k) log.takers
 abbrev pub exchange_is_sent : Log → Proxy → ℕ → Bool
 exchange_is_sent log p x =
     is_taken (length log.calls) (owed_by (p.upstream x))
-    (taker_of log (connection_of log.dialled x))
+    (taker_of log (connection_of (dials_in p log) x))
 
 abbrev pub all_is_sent : Log → Proxy → Bool
 all_is_sent log p =

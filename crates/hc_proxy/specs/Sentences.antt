@@ -4,12 +4,13 @@ use Rattle.std.specs.Prelude.{◌≡◌, ◌≤◌, ◌<◌, ◌+◌, ◌++◌, 
 use Rattle.hc_event.specs.declared.act.Act.{Act}
 use Rattle.hc_event.specs.declared.act.Act.TheVariants as act
 use Rattle.hc_rules.specs.declared.room.Limits.{Limits}
-use Rattle.hc_model.specs.Entries.{History}
+use Rattle.hc_model.specs.Beginnings.{may_begin}
+use Rattle.hc_model.specs.Entries.{Contents, History}
 use Rattle.hc_model.specs.Exchanges.{is_open}
 use Rattle.hc_sched.specs.declared.schedule.Timed.{Timed}
 use Rattle.hc_wire.specs.declared.connection.Standing.{Standing}
 use Rattle.hc_wire.specs.Logs.{Called, Log, Taker, is_numbered}
-use Rattle.hc_proxy.specs.Connections.{connection_of, has_unsent, stands}
+use Rattle.hc_proxy.specs.Connections.{connection_of, dials_from, dials_in, has_unsent, stands}
 use Rattle.hc_proxy.specs.Endings.{IsFinished, IsLog}
 use Rattle.hc_proxy.specs.Listening.{is_read}
 use Rattle.hc_proxy.specs.Network.{open_exchanges}
@@ -21,15 +22,15 @@ use Rattle.hc_proxy.specs.Waiting.{waits}
 
 -- A CALL of `next`, and the tables behind the turns before it
 
-pub record IsCall (limits : Limits) (log : Log) (call : Called) (p : Proxy) : Type 0 where
+pub record IsCall (limits : Limits) (contents : Contents) (log : Log) (call : Called) (p : Proxy) : Type 0 where
   pub before : List Called
   pub after : List Called
   pub calls : log.calls ≡ before ++ call ∷ after
-  pub tables : p ≡ turned_by limits log.dialled before unused
+  pub tables : p ≡ turned_by limits (dials_from contents log.dialled) before (unused contents)
 
 -- whose a connection is then
 abbrev pub whose_at : Log → Proxy → ℕ → Whose
-whose_at log p k = whose (so_far p log.dialled) p k
+whose_at log p k = whose (so_far p (dials_in p log)) p k
 
 -- a client that isn't gone, and still lacks bytes if it is to be closed; or an open exchange
 abbrev pub MayStand : Called → Proxy → ℕ → Whose → Type 0
@@ -51,7 +52,8 @@ pub record IsCallAsSaid (limits : Limits) (log : Log) (call : Called) (p : Proxy
       s.taken < owed_to p (whose_at log p s.k) → s.short ≡ true
   -- Each open exchange has the connection that was dialled for it, which stands.
   pub dials : (x : ℕ) → Contains (open_exchanges p.tables) x →
-      (k : ℕ) × (connection_of (so_far p log.dialled) x ≡ Some k) × (stands call k ≡ true)
+      (k : ℕ) × (connection_of (so_far p (dials_in p log)) x ≡ Some k)
+      × (stands call k ≡ true)
   -- Each client stands that isn't gone and isn't to be closed.
   pub stays : (k : ℕ) (client : Client) → Contains p.accepted k → p.client k ≡ Some client →
       client.gone ≡ false → client.closing ≡ false → stands call k ≡ true
@@ -61,9 +63,10 @@ pub record IsCallAsSaid (limits : Limits) (log : Log) (call : Called) (p : Proxy
 -- THE LOG
 
 -- the events of the first n turns, those of one turn behind those of another
-abbrev pub events_till : Limits → Log → ℕ → List Timed
-events_till limits log zero = []
-events_till limits log (suc n) = events_till limits log n ++ due_events limits log (suc n)
+abbrev pub events_till : Limits → Contents → Log → ℕ → List Timed
+events_till limits contents log zero = []
+events_till limits contents log (suc n) =
+    events_till limits contents log n ++ due_events limits contents log (suc n)
 
 -- how many exchanges acts open, and a history
 abbrev pub opened_in : List Act → ℕ
@@ -75,18 +78,20 @@ abbrev pub opened_by : History → ℕ
 opened_by [] = 0
 opened_by (e ∷ h) = opened_by h + opened_in e.acts
 
-pub record IsLogAsSaid (limits : Limits) (log : Log) : Type 0 where
-  pub calls : (call : Called) (p : Proxy) → IsCall limits log call p →
+pub record IsLogAsSaid (limits : Limits) (contents : Contents) (log : Log) : Type 0 where
+  pub calls : (call : Called) (p : Proxy) → IsCall limits contents log call p →
       IsCallAsSaid limits log call p
-  -- The record is the text of the events of all turns, from moment 0 on.
-  pub text : record_of (behind_all limits log)
-      ≡ text_behind 0 (events_till limits log (length log.calls))
+  -- The record is the text of the events of all turns, from the moment of the contents on.
+  pub text : record_of (behind_all limits contents log)
+      ≡ text_behind contents.now (events_till limits contents log (length log.calls))
   -- No more connections are dialled than exchanges are opened.
-  pub dials : length log.dialled ≤ opened_by (behind_all limits log).history
+  pub dials : length log.dialled ≤ opened_by (behind_all limits contents log).history
 
 -- So it is of each log of the loop.
 abbrev pub LogsAreAsSaid : Type 0
-LogsAreAsSaid = (limits : Limits) (log : Log) → IsLog limits log → IsLogAsSaid limits log
+LogsAreAsSaid =
+    (limits : Limits) (contents : Contents) (log : Log) → may_begin limits contents ≡ true →
+    IsLog limits contents log → IsLogAsSaid limits contents log
 
 -- BEHIND THE LAST TURN
 
@@ -102,11 +107,12 @@ pub record IsEndAsSaid (log : Log) (p : Proxy) : Type 0 where
       length taker.sent < length client.owed → taker.short ≡ Some (length log.calls)
   -- And so does the connection of an open exchange.
   pub exchanges : (x k : ℕ) (taker : Taker) → Contains (open_exchanges p.tables) x →
-      connection_of log.dialled x ≡ Some k → find (is_numbered k) log.takers ≡ Some taker →
+      connection_of (dials_in p log) x ≡ Some k → find (is_numbered k) log.takers ≡ Some taker →
       length taker.sent < owed_by (p.upstream x) → taker.short ≡ Some (length log.calls)
 
 -- So it is of each log behind which nothing is lacking.
 abbrev pub EndsAreAsSaid : Type 0
 EndsAreAsSaid =
-    (limits : Limits) (log : Log) → IsLog limits log → IsFinished log (behind_all limits log) →
-    IsEndAsSaid log (behind_all limits log)
+    (limits : Limits) (contents : Contents) (log : Log) → may_begin limits contents ≡ true →
+    IsLog limits contents log → IsFinished log (behind_all limits contents log) →
+    IsEndAsSaid log (behind_all limits contents log)

@@ -4,6 +4,7 @@ use Rattle.std.specs.List.{list_all}
 use Rattle.hc_core.specs.Steps.{faults_in}
 use Rattle.hc_io.specs.Faults as sink
 use Rattle.hc_io.specs.Sink.{Takes, TakesPrefix}
+use Rattle.hc_model.specs.Entries.{Contents}
 use Rattle.hc_rules.specs.declared.room.Limits.{Limits}
 use Rattle.hc_sched.specs.declared.schedule.Ended.{Ended}
 use Rattle.hc_store.specs.declared.backend.Backend.{Ghosts}
@@ -15,6 +16,7 @@ use Rattle.hc_proxy.specs.declared.stop.Stop.{Stop}
 use Rattle.hc_proxy.specs.declared.stop.Stop.TheVariants as stop
 use Rattle.hc_proxy.specs.Endings.{IsFresh, IsLog, Serves, SentOn, was_sent}
 use Rattle.hc_proxy.specs.Carrying.{carried}
+use Rattle.hc_proxy.specs.Connections.{dials_from, dials_in}
 use Rattle.hc_proxy.specs.Keeping.{Frame, Turn}
 use Rattle.hc_proxy.specs.Logging.{Follows}
 use Rattle.hc_proxy.specs.Loops.{AllFit}
@@ -27,21 +29,21 @@ use Rattle.hc_proxy.specs.Waiting.{waits}
 -- THE LOG
 
 -- Between turns: its calls fit, the tables are those behind them, and each connection has taken a first part of what it is owed.
-pub record IsOfLoop (limits : Limits) (log : Log) (p : Proxy) : Type 0 where
-  pub fit : AllFit limits log.dialled unused log.calls
-  pub tables : p ≡ behind_all limits log
-  pub sent : list_all (was_sent log.dialled p) log.takers ≡ true
+pub record IsOfLoop (limits : Limits) (contents : Contents) (log : Log) (p : Proxy) : Type 0 where
+  pub fit : AllFit limits (dials_from contents log.dialled) (unused contents) log.calls
+  pub tables : p ≡ behind_all limits contents log
+  pub sent : list_all (was_sent (dials_from contents log.dialled) p) log.takers ≡ true
 
 -- The last turn was cut short: what was written before it is the record of the turns before, and some first part of the
 -- rest was written since.
-pub record IsCutShort (limits : Limits) (log : Log) (written : List ℕ) (out out' : Option (List ℕ)) : Type 0 where
-  pub is_log : IsLog limits log
+pub record IsCutShort (limits : Limits) (contents : Contents) (log : Log) (written : List ℕ) (out out' : Option (List ℕ)) : Type 0 where
+  pub is_log : IsLog limits contents log
   pub turns : ℕ
   pub all_but_one : length log.calls ≤ turns + 1
-  pub written_is : written ≡ record_of (behind_calls limits log turns)
+  pub written_is : written ≡ record_of (behind_calls limits contents log turns)
   pub text : List ℕ
   pub takes : TakesPrefix out out' text
-  pub record_is : record_of (behind_all limits log) ≡ written ++ text
+  pub record_is : record_of (behind_all limits contents log) ≡ written ++ text
 
 -- all its connections are closed, if the wire tells it
 abbrev pub all_closed : Log → Log
@@ -76,7 +78,7 @@ module _ {B : Type 0} {g : Ghosts B} where
 
   -- before the first
   pub record Begins (n : ℕ) (f : Frame) (x : loop.Proxy B g) (log : Log) (reported : Option Log) (stages : ℕ → Stage) : Type 0 where
-    pub still : IsStill n f x unused log reported stages
+    pub still : IsStill n f x (unused f.contents) log reported stages
     pub fresh : IsFresh log
     pub unwritten : f.written ≡ []
 
@@ -109,7 +111,7 @@ module _ {B : Type 0} {g : Ghosts B} where
     pub calls : log'.calls ≡ log.calls
     pub bound : log'.bound ≡ log.bound
     pub dialled : log'.dialled ≡ log.dialled ++ more
-    pub few : length log'.dialled ≤ p.tables.opened
+    pub few : length (dials_in p log') ≤ p.tables.opened
     pub sent : SentOn (carried p) log log'
 
   -- A TURN
@@ -122,13 +124,14 @@ module _ {B : Type 0} {g : Ghosts B} where
     pub log' : Log
     pub still : IsStill n f' x' p' log' reported stages
     pub limits : f'.limits ≡ f.limits
+    pub contents : f'.contents ≡ f.contents
     pub text : List ℕ
     pub takes : Takes out out' text
     pub written : f'.written ≡ f.written ++ text
     pub again_is : again ≡ waits f.limits p'
     pub bound : log'.bound ≡ log.bound
     pub calls : length log'.calls ≡ length log.calls + 1
-    pub goes : faults_in x'.cache ≡ faults_in x.cache → IsOfLoop f.limits log p → IsOfLoop f.limits log' p'
+    pub goes : faults_in x'.cache ≡ faults_in x.cache → IsOfLoop f.limits f.contents log p → IsOfLoop f.limits f.contents log' p'
 
   -- It was cut short.
   pub record TurnStops (f : Frame) (p : Proxy) (log : Log) (x x' : loop.Proxy B g) (reported : Option Log) (out out' : Option (List ℕ)) : Type 0 where
@@ -136,13 +139,13 @@ module _ {B : Type 0} {g : Ghosts B} where
     pub reported_is : (reported ≡ None) ⊎ (reported ≡ Some log')
     pub bound : log'.bound ≡ log.bound
     pub calls : length log'.calls ≤ length log.calls + 1
-    pub goes : faults_in x'.cache ≡ faults_in x.cache → IsOfLoop f.limits log p → IsCutShort f.limits log' f.written out out'
+    pub goes : faults_in x'.cache ≡ faults_in x.cache → IsOfLoop f.limits f.contents log p → IsCutShort f.limits f.contents log' f.written out out'
 
 -- ALL OF IT
 
 -- how it ends, for some log that the wire tells if it tells one
-pub record EndsBy (limits : Limits) (turns : ℕ) (log : Log) (reported : Option Log) (out out' : Option (List ℕ)) (end : Ended) : Type 0 where
+pub record EndsBy (limits : Limits) (contents : Contents) (turns : ℕ) (log : Log) (reported : Option Log) (out out' : Option (List ℕ)) (end : Ended) : Type 0 where
   pub log' : Log
   pub reported_is : (reported ≡ None) ⊎ (reported ≡ Some log')
   pub bound : log'.bound ≡ log.bound
-  pub serves : Serves limits turns log' out out' end
+  pub serves : Serves limits contents turns log' out out' end

@@ -24,7 +24,7 @@ whose_by p k (Some x) = OfExchange x
 whose_by p k None = of_client (p.client k)
 
 -- by the connections that were dialled
-abbrev pub whose : List ℕ → Proxy → ℕ → Whose
+abbrev pub whose : List (Option ℕ) → Proxy → ℕ → Whose
 whose dialled p k = whose_by p k (exchange_of dialled k)
 
 -- WHO MAY STAND
@@ -36,7 +36,7 @@ may_stand call p k (OfClient client) =
 may_stand call p k (OfExchange x) = is_open (p.tables.exchange x)
 may_stand call p k OfNobody = false
 
-abbrev pub is_right : Called → List ℕ → Proxy → Standing → Bool
+abbrev pub is_right : Called → List (Option ℕ) → Proxy → Standing → Bool
 is_right call dialled p standing = may_stand call p standing.k (whose dialled p standing.k)
 
 -- WHO STANDS
@@ -51,12 +51,12 @@ number_stands call None = false
 number_stands call (Some k) = stands call k
 
 -- an exchange
-abbrev pub exchange_stands : Called → List ℕ → ℕ → Bool
+abbrev pub exchange_stands : Called → List (Option ℕ) → ℕ → Bool
 exchange_stands call dialled x = number_stands call (connection_of dialled x)
 
 -- JUST THESE
 
-abbrev pub stand_right : Called → List ℕ → Proxy → Bool
+abbrev pub stand_right : Called → List (Option ℕ) → Proxy → Bool
 stand_right call dialled p =
     list_all (is_right call dialled p) call.standings
     && list_all (λ k. client_stands call p k (p.client k)) p.accepted

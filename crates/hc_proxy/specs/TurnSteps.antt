@@ -1,5 +1,5 @@
 -- What comes of the steps of a turn that call the wire, and of a whole turn.
-use Rattle.std.specs.Prelude.{◌≡◌, ◌⊎◌, ◌≤◌, ℕ, List, ◌++◌, length, Option, Some, None, Result, OnOk, IsErrOf}
+use Rattle.std.specs.Prelude.{◌≡◌, ◌⊎◌, ◌≤◌, ℕ, List, ◌++◌, length, map, Option, Some, None, Result, OnOk, IsErrOf}
 use Rattle.hc_store.specs.declared.backend.Backend.{Ghosts}
 use Rattle.hc_wire.specs.Events.{Stage}
 use Rattle.hc_wire.specs.Logs.{Log}
@@ -31,9 +31,9 @@ module _ {B : Type 0} {g : Ghosts B} where
     pub log' : Log
     pub more : List ℕ
     pub dials : Dials more log log'
-    pub on_wire : OnWire (record t { dialled = t.dialled ++ more; stages = stages }) log' reported stages
-    pub opened : length t.dialled ≤ p.tables.opened → length (t.dialled ++ more) ≡ p.tables.opened
-    pub keeps : KeepsCarried (record t { dialled = t.dialled ++ more; stages = stages }) x (carried p)
+    pub on_wire : OnWire (record t { dialled = t.dialled ++ map Some more; stages = stages }) log' reported stages
+    pub opened : length t.dialled ≤ p.tables.opened → length (t.dialled ++ map Some more) ≡ p.tables.opened
+    pub keeps : KeepsCarried (record t { dialled = t.dialled ++ map Some more; stages = stages }) x (carried p)
 
 -- Some are.
 pub record CarriedSome (t : Turn) (p : Proxy) (log : Log) (reported : Option Log) (stages : ℕ → Stage) : Type 0 where
@@ -41,7 +41,7 @@ pub record CarriedSome (t : Turn) (p : Proxy) (log : Log) (reported : Option Log
   pub more : List ℕ
   pub follows : Follows reported stages log'
   pub dials : Dials more log log'
-  pub opened : length (t.dialled ++ more) ≤ p.tables.opened
+  pub opened : length (t.dialled ++ map Some more) ≤ p.tables.opened
 
 -- SEND
 

@@ -1,11 +1,12 @@
 -- The turns of the serving loop: the tables behind each, and the record.
-use Rattle.std.specs.Prelude.{ℕ, List, [], ◌∷◌, ◌++◌, map, reverse, take}
+use Rattle.std.specs.Prelude.{ℕ, List, [], ◌∷◌, ◌++◌, map, reverse, take, Option}
 use Rattle.hc_sched.specs.declared.schedule.Timed.{Timed}
 use Rattle.hc_sched.specs.Schedule.{timed_text}
 use Rattle.hc_wire.specs.Logs.{Called, Log}
 use Rattle.hc_rules.specs.declared.room.Limits.{Limits}
-use Rattle.hc_model.specs.Entries.{Entry}
+use Rattle.hc_model.specs.Entries.{Entry, Contents}
 use Rattle.hc_proxy.specs.Carrying.{carried}
+use Rattle.hc_proxy.specs.Connections.{dials_from}
 use Rattle.hc_proxy.specs.Handling.{begun, handled}
 use Rattle.hc_proxy.specs.Network.{heard}
 use Rattle.hc_proxy.specs.Polls.{polled_all}
@@ -13,29 +14,31 @@ use Rattle.hc_proxy.specs.Rows.{Proxy, unused}
 use Rattle.hc_proxy.specs.Starts.{started_all}
 
 -- of all connections that are dialled, those of the exchanges so far: the dials before the next call
-abbrev pub so_far : Proxy → List ℕ → List ℕ
+abbrev pub so_far : Proxy → List (Option ℕ) → List (Option ℕ)
 so_far p dialled = take p.tables.opened dialled
 
 -- what happens in a turn that has begun
-abbrev pub happened : Limits → List ℕ → Called → Proxy → Proxy
+abbrev pub happened : Limits → List (Option ℕ) → Called → Proxy → Proxy
 happened limits dialled call p =
     polled_all limits call (started_all limits call (heard limits (handled limits dialled call p)))
 
 -- what a call of `next` makes of the tables
-unfoldable pub turned : Limits → List ℕ → Called → Proxy → Proxy
+unfoldable pub turned : Limits → List (Option ℕ) → Called → Proxy → Proxy
 turned limits dialled call p = carried (happened limits (so_far p dialled) call (begun call p))
 
-abbrev pub turned_by : Limits → List ℕ → List Called → Proxy → Proxy
+abbrev pub turned_by : Limits → List (Option ℕ) → List Called → Proxy → Proxy
 turned_by limits dialled [] p = p
 turned_by limits dialled (call ∷ calls) p =
     turned_by limits dialled calls (turned limits dialled call p)
 
--- the tables behind all calls of a log, and behind the first n
-abbrev pub behind_all : Limits → Log → Proxy
-behind_all limits log = turned_by limits log.dialled log.calls unused
+-- the tables behind all calls of a log, and behind the first n, where the store begins with these contents
+abbrev pub behind_all : Limits → Contents → Log → Proxy
+behind_all limits contents log =
+    turned_by limits (dials_from contents log.dialled) log.calls (unused contents)
 
-abbrev pub behind_calls : Limits → Log → ℕ → Proxy
-behind_calls limits log n = turned_by limits log.dialled (take n log.calls) unused
+abbrev pub behind_calls : Limits → Contents → Log → ℕ → Proxy
+behind_calls limits contents log n =
+    turned_by limits (dials_from contents log.dialled) (take n log.calls) (unused contents)
 
 -- THE PARTS AND THE RECORD
 
@@ -55,10 +58,10 @@ abbrev pub text_behind : ℕ → List Timed → List ℕ
 text_behind last [] = []
 text_behind last (timed ∷ events) = timed_text last timed ++ text_behind timed.now events
 
--- the record
+-- the record, which goes on from the moment of the contents
 abbrev pub record_of : Proxy → List ℕ
-record_of p = text_behind 0 (events_of p)
+record_of p = text_behind p.contents.now (events_of p)
 
 -- the part of turn n, from 1
-abbrev pub due_events : Limits → Log → ℕ → List Timed
-due_events limits log n = part_of (behind_calls limits log n)
+abbrev pub due_events : Limits → Contents → Log → ℕ → List Timed
+due_events limits contents log n = part_of (behind_calls limits contents log n)

@@ -1,5 +1,5 @@
 -- While the acts of a turn are carried out: what the loop keeps, and how the wire stands.
-use Rattle.std.specs.Prelude.{◌≡◌, ◌≢◌, Contains, ◌⊎◌, ◌≤◌, ◌<◌, ℕ, List, [], ◌∷◌, ◌++◌, length, nat_eq, true, Option, Some, None, if◌then◌else◌}
+use Rattle.std.specs.Prelude.{◌≡◌, ◌≢◌, Contains, ◌⊎◌, ◌≤◌, ◌<◌, ℕ, List, [], ◌∷◌, ◌++◌, length, map, nat_eq, true, Option, Some, None, if◌then◌else◌}
 use Rattle.std.specs.List.{list_any}
 use Rattle.hc_core.specs.Steps.{steps}
 use Rattle.hc_event.specs.Filters.{leaves_in}
@@ -15,9 +15,9 @@ use Rattle.hc_wire.specs.Events.{Stage, Unseen, Closed, Fresh, with_stage, close
 use Rattle.hc_wire.specs.Logs.{Log, Taker, Reports, changed_at, sent_in, shut, with_dialled}
 use Rattle.hc_proxy.specs.declared.proxy.Proxy as loop
 use Rattle.hc_proxy.specs.Carrying.{carried_out, all_carried_out, carried, sent_request}
-use Rattle.hc_proxy.specs.Connections.{taken_at}
+use Rattle.hc_proxy.specs.Connections.{dials_from, taken_at}
 use Rattle.hc_proxy.specs.Invariants.{IsHolder, AreServed, AreOver, AreShut, ArePlain, IsHeardOut}
-use Rattle.hc_proxy.specs.Keeping.{Turn, HasCache, HasMoved, HasUpstreams, HasClients, AtWire, AreSeen, KeepsPolled}
+use Rattle.hc_proxy.specs.Keeping.{Turn, HasCache, HasMoved, HasUpstreams, HasClients, AtWire, AreSeen, KeepsPolled, most_starts, most_opened}
 use Rattle.hc_proxy.specs.Logging.{Follows, Dials}
 use Rattle.hc_proxy.specs.Rows.{Client, Proxy}
 
@@ -83,20 +83,20 @@ module _ {B : Type 0} {g : Ghosts B} where
     pub heard : IsHeardOut p
     pub wire : AtWire t.stages x
     pub known : (k : ℕ) → Contains x.closed.items k → t.stages k ≢ Unseen
-    pub numbers : p.starts ≤ steps x.cache
-    pub opened : p.tables.opened ≤ steps x.cache
+    pub numbers : p.starts ≤ most_starts x p
+    pub opened : p.tables.opened ≤ most_opened x p
     pub seen : AreSeen t p
 
 -- the wire stands as the turn says, and what was taken is what was taken at the call, but of those that are closed
 pub record OnWire (t : Turn) (log : Log) (reported : Option Log) (stages : ℕ → Stage) : Type 0 where
   pub follows : Follows reported stages log
   pub stands : (k : ℕ) → stages k ≡ t.stages k
-  pub dialled : log.dialled ≡ t.dialled
+  pub dialled : dials_from t.frame.contents log.dialled ≡ t.dialled
   pub taken : (k : ℕ) → (t.stages k ≡ Closed) ⊎ (taken_at t.call k ≡ length (sent_in log.takers k))
 
 -- where so many more were dialled
 abbrev pub dialling : List ℕ → (ℕ → Stage) → Turn → Turn
-dialling more stages t = record t { dialled = t.dialled ++ more; stages = stages }
+dialling more stages t = record t { dialled = t.dialled ++ map Some more; stages = stages }
 
 module _ {B : Type 0} {g : Ghosts B} where
   -- An act is carried out, before these.

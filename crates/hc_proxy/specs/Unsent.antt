@@ -13,7 +13,7 @@ use Rattle.hc_store.specs.declared.backend.Backend.{Ghosts}
 use Rattle.hc_wire.specs.Events.{Stage, Unseen, Open, IsOpen}
 use Rattle.hc_wire.specs.Logs.{Log, sent_in, stage_in}
 use Rattle.hc_proxy.specs.declared.proxy.Proxy as loop
-use Rattle.hc_proxy.specs.Connections.{exchange_of, connection_of}
+use Rattle.hc_proxy.specs.Connections.{exchange_of, connection_of, dials_in}
 use Rattle.hc_proxy.specs.Endings.{SentOn}
 use Rattle.hc_proxy.specs.Invariants.{is_due, NamesOne}
 use Rattle.hc_proxy.specs.Keeping.{IsClient, IsUpstreamAt}
@@ -38,17 +38,17 @@ IsKnownAt log k (Some c) (Some r) = IsClient (taken_in log k) c r
 -- What is unsent is what was owed and wasn't taken, and each connection is read as its row says.
 pub record HasConnections (p : Proxy) (cl : Clients) (up : Upstreams) (log : Log) : Type 0 where
   pub clients : (k : ℕ) → IsKnownAt log k (client_of cl k) (p.client k)
-  pub rows : (y : ℕ) → is_open (p.tables.exchange y) ≡ true → y ≤ length log.dialled →
+  pub rows : (y : ℕ) → is_open (p.tables.exchange y) ≡ true → y ≤ length (dials_in p log) →
       IsUpstreamAt (taken_in log) (upstream_of up y) (p.upstream y)
   pub numbers : (y : ℕ) (u : origin.Upstream) → upstream_of up y ≡ Some u →
-      connection_of log.dialled y ≡ Some u.k
+      connection_of (dials_in p log) y ≡ Some u.k
   pub over : (y : ℕ) → IsSome (upstream_of up y) → is_open (p.tables.exchange y) ≡ true
-  pub within : (y : ℕ) → IsSome (upstream_of up y) → y ≤ length log.dialled
+  pub within : (y : ℕ) → IsSome (upstream_of up y) → y ≤ length (dials_in p log)
   pub news : (y : ℕ) → is_open (p.tables.exchange y) ≡ true → is_news up y ≡ false → is_due p y ≡ false
   pub touched : (y : ℕ) (u : origin.Upstream) → upstream_of up y ≡ Some u → is_touched up y ≡ false →
       (u.unsent ≡ []) × (is_same u.reading (is_wanted (p.tables.exchange y)) ≡ true)
-  pub names : NamesOne log.dialled
-  pub strangers : (k : ℕ) → IsSome (p.client k) → exchange_of log.dialled k ≡ None
+  pub names : NamesOne (dials_in p log)
+  pub strangers : (k : ℕ) → IsSome (p.client k) → exchange_of (dials_in p log) k ≡ None
   pub read_clients : (k : ℕ) (c : peer.Client) → client_of cl k ≡ Some c →
       (ended : Bool) × (stage_in log.takers k ≡ Open c.reading ended)
   pub read_upstreams : (y : ℕ) (u : origin.Upstream) → upstream_of up y ≡ Some u →

@@ -6,14 +6,14 @@ ghost use Rattle.hc_proxy.specs.Rendered.{AnswersAreOwed};
 ghost use Rattle.hc_proxy.specs.Sentences.{LogsAreAsSaid, EndsAreAsSaid};
 ghost use Rattle.hc_proxy.specs.Received.{EventsAreReceived};
 
-/// Whatever a log says, the events that the loop steps are a run of a store that begins empty, and
-/// the tables are those behind it. Each consumer reads one answer whole.
+/// Whatever a log says, the events that the loop steps are a run from the contents with which its store
+/// began, and the tables are those behind it. Each consumer reads one answer whole.
 pub fn loops_are_runs()
     ensures { LoopsAreRuns }
 {}
 
-/// What `serve_on` says of a log, as sentences: when each call waits, who is read, who lacks bytes,
-/// who stands and who is closed, and that the record is the text of all turns.
+/// What the loop says of a log, as sentences: when each call waits, who is read, who lacks bytes, who
+/// stands and who is closed, and that the record is the text of all turns.
 pub fn logs_are_as_said()
     ensures { LogsAreAsSaid }
 {}
@@ -24,8 +24,9 @@ pub fn ends_are_as_said()
     ensures { EndsAreAsSaid }
 {}
 
-/// Whatever a log says, consumers are started for what clients asked. Each is a client's. Those of one
-/// client were started for its first requests, each once and in their order.
+/// Whatever a log says, consumers are started for what clients asked, and their numbers go on behind
+/// those of the contents. Each is a client's. Those of one client were started for its first requests,
+/// each once and in their order.
 pub fn starts_are_asked()
     ensures { StartsAreAsked }
 {}

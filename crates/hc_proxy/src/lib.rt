@@ -17,4 +17,4 @@ pub use laws::{
     answers_are_owed, ends_are_as_said, ends_are_received, events_are_received, logs_are_as_said,
     loops_are_runs, starts_are_asked,
 };
-pub use serve::serve_on;
+pub use serve::{serve_from, serve_on};

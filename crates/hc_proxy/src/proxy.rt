@@ -45,19 +45,22 @@ pub(crate) struct Proxy<B: Backend> {
 }
 
 impl<B: Backend> Proxy<B> {
-    /// Over a new cache, with nobody connected.
-    pub(crate) fn new(alloc: Global, cache: Cache<B>) -> Proxy<B>
+    /// Over a cache that stepped no event yet, with nobody connected. The last consumer of the contents
+    /// that it began with has the number `last`.
+    pub(crate) fn new(alloc: Global, cache: Cache<B>, last: u64) -> Proxy<B>
         ensures cache { result.cache ≡ cache }
         ensures written { text_of result.«record» ≡ [] }
-        ensures rests { (f : Frame) (log : Log) → IsUnused f cache → IsFresh log
-            → Rests f result unused log }
+        ensures rests { (f : Frame) (log : Log) → IsUnused f cache
+            → last ≡ f.contents.last_consumer → IsFresh log
+            → Rests f result (unused f.contents) log }
     {
+        let now = cache.last_moment();
         Proxy {
             cache,
-            record: Record::new(alloc),
+            record: Record::new(alloc, now),
             acts: Acts::new(alloc),
-            now: 0,
-            starts: 0,
+            now,
+            starts: last,
             moved: false,
             clients: Clients::new(alloc),
             upstreams: Upstreams::new(alloc),

@@ -13,19 +13,19 @@ use std::alloc::Global;
 #[derive(Drop)]
 pub(crate) struct Record {
     text: Vec<u8>,
-    /// The moment of the last event.
+    /// The moment of the last event; before the first, that behind which it stands.
     last: u64,
 }
 
 impl Record {
-    /// Of no event.
-    pub(crate) fn new(alloc: Global) -> Record
+    /// Of no event, behind a moment.
+    pub(crate) fn new(alloc: Global, moment: u64) -> Record
         ensures text { text_of result ≡ [] }
-        ensures last { last_of result ≡ 0 }
+        ensures last { last_of result ≡ moment }
     {
         Record {
             text: Vec::new(alloc),
-            last: 0,
+            last: moment,
         }
     }
 

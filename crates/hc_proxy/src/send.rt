@@ -1,7 +1,6 @@
 //! The step *send*: what is unsent is offered, and the wire is told whose bytes may come.
 ghost use Rattle.std.specs.Prelude.{◌≡◌, [], OnOk, OnErr};
 ghost use Rattle.hc_core.specs.Steps.{StandsFor};
-ghost use Rattle.hc_model.specs.Entries.{no_contents};
 ghost use Rattle.hc_model.specs.Tables.{tables};
 ghost use Rattle.hc_peers.specs.declared.clients.Clients.{Clients};
 ghost use Rattle.hc_peers.specs.declared.upstreams.Upstreams.{Upstreams};
@@ -114,12 +113,12 @@ fn offer_upstreams<B: Backend, W: Wire>(
     wire: &mut W,
 ) -> Result<(), Stop>
     ensures ok { (p : rows.Proxy) (log : Log) (cl : Clients)
-        → StandsFor cache.now no_contents p.history → p.tables ≡ tables no_contents p.history
+        → StandsFor cache.now p.contents p.history → p.tables ≡ tables p.contents p.history
         → SendsToOrigins p log xs.now cl upstreams.old (W.log wire.old) (W.stages wire.old)
         → OnOk result (SendsToOrigins p log [] cl upstreams.new (W.log wire.new)
         (W.stages wire.new)) }
     ensures err { (p : rows.Proxy) (log : Log) (cl : Clients)
-        → StandsFor cache.now no_contents p.history → p.tables ≡ tables no_contents p.history
+        → StandsFor cache.now p.contents p.history → p.tables ≡ tables p.contents p.history
         → SendsToOrigins p log xs.now cl upstreams.old (W.log wire.old) (W.stages wire.old)
         → OnErr result (SentSome p log (W.log wire.new)) }
     ensures events { W.events wire.new ≡ W.events wire.old }

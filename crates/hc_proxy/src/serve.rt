@@ -1,19 +1,19 @@
 //! The serving loop.
-ghost use Rattle.std.specs.Prelude.{◌≡◌, ◌≢◌, ◌+◌, ◌≤◌, ◌^◌, ℕ, false, [], length, IfOk, IfSome, OnOk, OnErr};
+ghost use Rattle.std.specs.Prelude.{◌≡◌, ◌≢◌, ◌+◌, ◌<◌, ◌≤◌, ◌^◌, ℕ, false, [], length, IfOk, IfSome, OnOk, OnErr};
 ghost use Rattle.hc_core.specs.Steps.{StandsFor, bytes_received, faults_in, limits_in, steps};
 ghost use Rattle.hc_io.specs.Faults as sink;
-ghost use Rattle.hc_model.specs.Entries.{no_contents};
+ghost use Rattle.hc_model.specs.Entries.{Contents, no_contents};
 ghost use Rattle.hc_sched.specs.declared.schedule.Ended.TheVariants as ended;
 ghost use Rattle.hc_wire.specs.Events.{FitsIn, Unseen};
 ghost use Rattle.hc_wire.specs.Logs as logs;
 ghost use Rattle.hc_wire.specs.Wires.{HasRisen};
 ghost use Rattle.hc_proxy.specs.Endings.{IsFresh, MayEnd};
-ghost use Rattle.hc_proxy.specs.Keeping.{Frame, Turn, Begun, IsBegun, KeepsPolled, Goes};
+ghost use Rattle.hc_proxy.specs.Keeping.{Frame, Turn, IsStocked, IsStockedSome, Begun, IsBegun, KeepsPolled, Goes};
 ghost use Rattle.hc_proxy.specs.Logging.{Follows};
 ghost use Rattle.hc_proxy.specs.Resting.{Rests};
 ghost use Rattle.hc_proxy.specs.Rows as rows;
 ghost use Rattle.hc_proxy.specs.Serving.{Begins, EndsBy, HasCauses, IsBeginning, IsClosed, IsReady, IsStill, TurnStops, TurnsTo, FinishesTurn, CutsTurn};
-ghost use Rattle.hc_proxy.specs.Served.{ServesAs};
+ghost use Rattle.hc_proxy.specs.Served.{ServesAs, ServesWith};
 ghost use Rattle.hc_proxy.specs.Stops.{ended_as};
 ghost use Rattle.hc_proxy.specs.Turns.{happened};
 ghost use Rattle.hc_proxy.specs.Underway.{IsPolledOn, OnWire};
@@ -66,7 +66,42 @@ pub fn serve_on<B: Backend + Drop, W: Wire, K: Sink>(
         → sink.HasRisen (K.faults log.old) (K.faults log.new) }
     ensures sink_calm { result ≢ ended.SinkFailed → K.faults log.new ≡ K.faults log.old }
 {
-    let mut proxy = Proxy::new(alloc, cache);
+    serve_from(alloc, cache, 0, wire, log, turns)
+}
+
+/// The same from a cache that began with contents, and stepped no event yet. What is stored there is
+/// served at once. `last` is the number of their last consumer: those of the clients go on behind it,
+/// exchanges behind theirs, and the moments from theirs on. So does the record, which is a schedule
+/// that goes on from their image.
+pub fn serve_from<B: Backend + Drop, W: Wire, K: Sink>(
+    alloc: Global,
+    cache: Cache<B>,
+    last: u64,
+    wire: &mut W,
+    log: &mut K,
+    turns: u64,
+) -> Ended
+    requires stocked { ∥ IsStockedSome cache last ∥₁ }
+    // Numbers below 2 ^ 62 have a spelling, so there is one for each consumer that comes.
+    requires few { last < 2 ^ 61 }
+    requires unused { steps cache + bytes_received cache ≡ 0 }
+    requires fresh { IfSome (W.log wire.old) IsFresh }
+    requires unseen { (k : ℕ) → W.stages wire.old k ≡ Unseen }
+
+    // Over a store whose count of failures is constant.
+    ensures serves { ((a b : B) → B.faults a ≡ B.faults b) → (contents : Contents)
+        → IsStocked contents cache last → ServesWith (limits_in cache) contents turns
+        (W.log wire.old) (W.log wire.new) (K.taken log.old) (K.taken log.new) result }
+
+    // How it ends, over any store.
+    ensures ends { MayEnd result }
+    ensures wire { result ≡ ended.WireFailed → HasRisen (W.faults wire.old) (W.faults wire.new) }
+    ensures wire_calm { result ≢ ended.WireFailed → W.faults wire.new ≡ W.faults wire.old }
+    ensures sink { result ≡ ended.SinkFailed
+        → sink.HasRisen (K.faults log.old) (K.faults log.new) }
+    ensures sink_calm { result ≢ ended.SinkFailed → K.faults log.new ≡ K.faults log.old }
+{
+    let mut proxy = Proxy::new(alloc, cache, last);
     match proxy.serve(wire, log, turns) {
         Ok(()) => Ended::Done,
         Err(stop) => stop.ended(),
@@ -80,8 +115,8 @@ impl<B: Backend> Proxy<B> {
             self.old ∥₁ }
         ensures serves { ((a b : B) → B.faults a ≡ B.faults b) → (f : Frame) (before : logs.Log)
             → Begins (W.events wire.old) f self.old before (W.log wire.old) (W.stages wire.old)
-            → EndsBy f.limits turns before (W.log wire.new) (K.taken log.old) (K.taken log.new)
-            (ended_as result) }
+            → EndsBy f.limits f.contents turns before (W.log wire.new) (K.taken log.old)
+            (K.taken log.new) (ended_as result) }
         ensures causes { HasCauses (W.faults wire.old) (W.faults wire.new)
             (K.faults log.old) (K.faults log.new) result }
     {

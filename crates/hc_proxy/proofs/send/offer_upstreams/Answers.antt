@@ -1,5 +1,5 @@
 use Rattle.std.proofs.{Common.{rules, ◌≡◌, ◌∙◌, refl, ap, sym, subst, ℕ, List, ◌+◌, ◌<◌, ◌≤◌, length, drop, get_or}, lemmas.List.{drop_all}}
-use Rattle.hc_effects.proofs.Vocabulary.{no_contents, is_wanted, Tables}
+use Rattle.hc_effects.proofs.Vocabulary.{is_wanted, Tables}
 use Rattle.hc_proxy.specs.Unsent.{SendsToOrigins}
 use Rattle.hc_proxy.proofs.OfferedAll.{next_left, origins_next, origins_fail}
 use Rattle.hc_proxy.proofs.send.offer_upstreams.Goals as goal
@@ -15,7 +15,7 @@ loop-x-preserved g c = record {
       let i = c.loop-x.x-index in
       let lt : i < length xs = let on = c.loop-x-test.true in search rules in
       let y = get_or xs i 0 in
-      let wanted : c.wants-on.result ≡ is_wanted (p.tables.exchange y) = c.wants-on.ensures no_contents p.history stands ∙
+      let wanted : c.wants-on.result ≡ is_wanted (p.tables.exchange y) = c.wants-on.ensures p.contents p.history stands ∙
       ap (λ (t : Tables). is_wanted (t.exchange y)) (sym same) in
       origins_next p log cl g.W.Wire.stages g.W.Wire.log c.loop-x.wire c.offer.new.wire c.loop-x.upstreams c.offer.new.self y c.wants-on.result
       (drop (i + 1) xs)

@@ -62,7 +62,7 @@ poll-requires-clause-numbered g c =
     ap (λ (xs : List ℕ). xs ++ filter (takes_more c.args.self.now.clients) (consumers_of c.args.self.now.clients)) c.clear.ensures.items in
     let there : among k0 (filter (takes_more x.clients) (consumers_of x.clients)) ≡ true =
     subst (λ (xs : List ℕ). among k0 xs ≡ true) is (subst (λ (m : ℕ). among m r0 ≡ true) (sym at) (among_at r0 c.loop-i.i k0 lt)) in
-    let small : k0 ≤ steps x.cache = small_of x c.requires.stands c.len-count.ensures.live_order k0 there in
+    let small : k0 < 2 ^ 61 + steps x.cache = small_of x c.requires.stands c.len-count.ensures.live_order k0 there in
     let few : steps x.cache + 512 ≤ 2 ^ 60 = c.requires.few in
     omega arith
 

@@ -1,4 +1,4 @@
-use Rattle.std.proofs.Common.{◌≡◌, ◌≤◌, ◌+◌, ◌^◌, length, subst, arith}
+use Rattle.std.proofs.Common.{◌≡◌, ◌≤◌, ◌<◌, ◌+◌, ◌^◌, length, subst, arith}
 use Rattle.hc_core.specs.Steps.{steps}
 use Rattle.hc_peers.specs.Clients.{ready_of, HearsNext}
 use Rattle.hc_peers.specs.declared.clients.NextRequest.TheVariants as reported
@@ -7,7 +7,7 @@ use Rattle.hc_proxy.proofs.proxy.Proxy.start_next.Goals as goal
 
 pub overflow_add-c : goal.overflow_add-c
 overflow_add-c g c =
-    let given : c.args.self.now.starts ≤ steps c.args.self.now.cache = few_starts c.args.self.now c.requires.stands in
+    let given : c.args.self.now.starts < 2 ^ 61 + steps c.args.self.now.cache = few_starts c.args.self.now c.requires.stands in
     let few : steps c.args.self.now.cache + length (ready_of c.args.self.now.clients) ≤ 2 ^ 60 = c.requires.few in
     omega (arith, given, few)
 
@@ -19,7 +19,7 @@ happen-requires-clause-stands g c = next_cache c.args.self.now c.hear_next.new.s
 
 pub happen-requires-clause-spelled : goal.happen-requires-clause-spelled
 happen-requires-clause-spelled g c =
-    let given : c.args.self.now.starts ≤ steps c.args.self.now.cache = few_starts c.args.self.now c.requires.stands in
+    let given : c.args.self.now.starts < 2 ^ 61 + steps c.args.self.now.cache = few_starts c.args.self.now c.requires.stands in
     let few : steps c.args.self.now.cache + length (ready_of c.args.self.now.clients) ≤ 2 ^ 60 = c.requires.few in
     start_event (c.args.self.now.starts + 1) c.args.self.now.clients c.hear_next.new.self c.in-Asks.field-0 c.in-Asks.request (omega arith)
     (subst (HearsNext (c.args.self.now.starts + 1) c.args.self.now.clients c.hear_next.new.self) c.in-Asks.is c.in_ok-hear_next.ensures)

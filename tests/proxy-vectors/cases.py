@@ -4,10 +4,10 @@ MOMENT = 1000
 
 
 class Case:
-    """Events of a wire in their order, who takes how many bytes and then none, and how many turns are made."""
+    """Events of a wire in their order, who takes how many bytes and then none, how many turns are made, and the image begun with."""
 
-    def __init__(self, title, *events, turns=None, stalls=(), told=None):
-        self.title, self.stalls, self.told = title, dict(stalls), told
+    def __init__(self, title, *events, turns=None, stalls=(), told=None, image=b""):
+        self.title, self.stalls, self.told, self.image = title, dict(stalls), told, image
         self.events = [it for event in events for it in (event if isinstance(event, list) else [event])]
         self.turns = len(self.events) + 3 if turns is None else turns
         assert all(bytes_ for _, word, _, bytes_ in self.events if word == "got"), title
@@ -363,6 +363,29 @@ MANY = [
 ]
 
 
+IMAGE = b"""image 1
+990 7 5 1
+item http://a.test/x 3 1
+record 2
+W 00000000000000000002
+200 990 990 0 1
+tag -
+cache-control: max-age=60
+run 3 0 2
+hi
+"""
+
+BEGUN = [
+    Case("From an image: what is stored is a hit at once, by the next consumer.", asks(GET), quiet(3), image=IMAGE),
+    Case(
+        "From an image: what isn't stored is asked for by the next exchange, and then it is a hit.",
+        asks(request("/y")), got(2, HI), quiet(2), got(1, request("/y") + GET), quiet(4), image=IMAGE,
+    ),
+    Case("From an image: what is stored is too old, and asked for anew.", asks(GET), got(2, HI), quiet(3), image=IMAGE.replace(b"=60", b"=09")),
+    Case("From an image: a moment before that of the image doesn't count.", accepted(1, at=5), got(1, GET, at=6), quiet(3, at=7), image=IMAGE),
+]
+
+
 def breaks():
     """A break of either connection at each turn of the row."""
     for k, whose in ((1, "client"), (2, "origin")):
@@ -371,4 +394,4 @@ def breaks():
             yield Case(title, ROW[:place], broke(k), ROW[place:], turns=len(ROW) + 2)
 
 
-CASES = [*WHOLE, *CUT, *BAD_ANSWERS, *CHUNKS, *REQUESTS, *REFUSED, *STORE, *STALLS, *breaks(), *MANY]
+CASES = [*WHOLE, *CUT, *BAD_ANSWERS, *CHUNKS, *REQUESTS, *REFUSED, *STORE, *STALLS, *BEGUN, *breaks(), *MANY]

@@ -1,7 +1,7 @@
 """The serving loop over a wire that follows a script, written apart from the program.
 
-The cache behind it is a command that reads a schedule and writes its report, as the program does by its word `replay`. It is asked
-anew for each event: the schedule so far, the event, and probes. These are events that are always denied, and change nothing. By
+The cache behind it is a command that reads a schedule and writes its report, as the program does by its word `replay`, or by `open`
+behind an image. It is asked anew for each event: the schedule so far, the event, and probes. These are events that are always denied, and change nothing. By
 the number of its denial one tells whether an exchange is open and wanted, or a consumer live.
 """
 import subprocess
@@ -64,10 +64,11 @@ class Wire:
 
 
 class Core:
-    """What the cache answers, by its report."""
+    """What the cache answers, by its report, behind an image where there is one."""
 
-    def __init__(self, command):
-        self.command, self.text, self.count, self.moment = command, b"", 0, 0
+    def __init__(self, command, image=b""):
+        self.command, self.image, self.text, self.count = command, image, b"", 0
+        self.moment, self.last = (int(word) for word in image.split(b"\n")[1].split()[:2]) if image else (0, 0)
         self.exchanges, self.consumers = {}, {}
 
     def step(self, moment, event):
@@ -87,7 +88,7 @@ class Core:
 
     def report(self, exchanges, consumers):
         probes = b"".join(b"piece %d -\n" % x for x in exchanges) + b"".join(b"poll %d 0\n" % c for c in consumers)
-        ran = subprocess.run(self.command, input=self.text + probes, stdout=subprocess.PIPE, check=True)
+        ran = subprocess.run(self.command, input=self.image + self.text + probes, stdout=subprocess.PIPE, check=True)
         entries = read_report(ran.stdout)
         told = [int(entry[0][0][1]) for entry in entries[self.count :]]
         return entries[self.count - 1], (dict(zip(exchanges, told)), dict(zip(consumers, told[len(exchanges) :])))
@@ -138,7 +139,7 @@ class Upstream:
 class Loop:
     def __init__(self, wire, core):
         self.wire, self.core = wire, core
-        self.moment, self.starts = 0, 0
+        self.moment, self.starts = core.moment, core.last
         self.clients, self.upstreams, self.owners = {}, {}, {}
 
     def run(self, turns):

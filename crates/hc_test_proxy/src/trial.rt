@@ -5,9 +5,11 @@ ghost use Rattle.hc_wire.specs.Scripts.{IsScript};
 ghost use Rattle.hc_proxy.specs.Endings.{IsFresh};
 
 use crate::runs::quote_runs;
+use hc_contents::Contents;
 use hc_core::Cache;
+use hc_image::read_image;
 use hc_io::MemorySink;
-use hc_proxy::serve_on;
+use hc_proxy::{serve_from, serve_on};
 use hc_rules::Limits;
 use hc_sched::Ended;
 use hc_store::Memory;
@@ -23,6 +25,9 @@ const LIMITS: Limits = Limits {
     max_total: 268_435_456,
 };
 
+/// The last consumer of an image has a lower number, so that numbers are left.
+const TOO_MANY: u64 = 1 << 61;
+
 /// A connection takes so many bytes, and then none.
 #[derive(Clone, Copy)]
 struct Stall {
@@ -30,10 +35,12 @@ struct Stall {
     after: usize,
 }
 
-/// The script of the next run, and what the last one came to.
+/// The script of the next run and the image that it begins with, none where that is empty; and what
+/// the last one came to.
 #[derive(Drop)]
 pub(crate) struct Trial {
     alloc: Global,
+    image: Vec<u8>,
     script: Vec<Scripted>,
     stalls: Vec<Stall>,
     wire: ScriptWire,
@@ -45,6 +52,7 @@ impl Trial {
     pub(crate) fn new(alloc: Global) -> Trial {
         Trial {
             alloc,
+            image: Vec::new(alloc),
             script: Vec::new(alloc),
             stalls: Vec::new(alloc),
             wire: ScriptWire::new(alloc, Vec::new(alloc), Vec::new(alloc)),
@@ -75,6 +83,7 @@ impl Trial {
     /// Makes so many turns on the script, which is over then. How the loop ends.
     fn serve(&mut self, turns: u64) -> Result<Ended, Fault> {
         let alloc = self.alloc;
+        let image = mem::replace(&mut self.image, Vec::new(alloc));
         let script = mem::replace(&mut self.script, Vec::new(alloc));
         let stalls = mem::replace(&mut self.stalls, Vec::new(alloc));
         if !is_script(script.as_slice()) {
@@ -82,8 +91,13 @@ impl Trial {
         }
         let mut wire = wire_of(alloc, script, stalls.as_slice())?;
         let mut record = MemorySink::new(alloc, Vec::new(alloc));
-        let cache = Cache::new(Memory::new(alloc, LIMITS), LIMITS, alloc)?;
-        let ended = serve_on(alloc, cache, &mut wire, &mut record, turns);
+        let ended = if image.is_empty() {
+            let cache = Cache::new(Memory::new(alloc, LIMITS), LIMITS, alloc)?;
+            serve_on(alloc, cache, &mut wire, &mut record, turns)
+        } else {
+            let contents = contents_of(alloc, image.as_slice())?;
+            go_on(alloc, contents, &mut wire, &mut record, turns)?
+        };
         self.wire = wire;
         self.record = record;
         Ok(ended)
@@ -96,11 +110,42 @@ impl Calls for Trial {
             "serve n" => return note(&self.serve(v.number(0))?, value),
             "record" => return quote_runs(self.alloc, self.record.taken(), value),
             "sent n" => return quote_runs(self.alloc, self.wire.sent(v.number(0)), value),
+            "image t" => self.image = v.text(0).to_vec(self.alloc)?,
             "stall nn" => self.stall(v)?,
             "accepted nnn" => self.accept_all(v)?,
             _ => self.script.push(event_of(v)?)?,
         }
         note(&self.script.len(), value)
+    }
+}
+
+/// What the image has.
+fn contents_of(alloc: Global, image: &[u8]) -> Result<Contents, Fault> {
+    match read_image(alloc, image)? {
+        Some(read) => Ok(read.contents),
+        None => Err(Fault::NoSuchCall),
+    }
+}
+
+/// Makes so many turns over a cache that begins with these contents.
+fn go_on(
+    alloc: Global,
+    contents: Contents,
+    wire: &mut ScriptWire,
+    record: &mut MemorySink,
+    turns: u64,
+) -> Result<Ended, Fault>
+    requires fresh { IfSome (⟦<ScriptWire as Wire>⟧.log wire.old) IsFresh }
+    requires unseen { (k : ℕ) → ⟦<ScriptWire as Wire>⟧.stages wire.old k ≡ Unseen }
+{
+    let last = contents.last_consumer;
+    if last >= TOO_MANY {
+        return Err(Fault::NoSuchCall);
+    }
+    let store = Memory::new(alloc, LIMITS);
+    match Cache::with_contents(store, LIMITS, &contents, alloc) {
+        Ok(cache) => Ok(serve_from(alloc, cache, last, wire, record, turns)),
+        Err(_) => Err(Fault::NoSuchCall),
     }
 }
 

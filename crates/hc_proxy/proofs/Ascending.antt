@@ -3,7 +3,7 @@
 -- In the tables of a run the numbers of who started fall, and so do those of what was opened. A part of a list that
 -- falls, chosen by a test, falls too, and turned round it ascends. Whoever has a row is in the list. So in the part is
 -- whoever passes the test, and nobody else.
-use Rattle.std.{proofs.{Common.{◌≡◌, inl, inr, ◌≤◌, ◌<◌, ℕ, ◌+◌, List, [], ◌∷◌, Bool, true, false, Option, Some, None, refl, ap, sym, ◌∙◌, arith}, lemmas.Bool.Decides.{nat_tests}}, specs.Prelude.{◌||◌, filter, is_some, nat_eq, reverse, if◌then◌else◌}}
+use Rattle.std.{proofs.{Common.{◌≡◌, inl, inr, ◌<◌, ℕ, ◌+◌, List, [], ◌∷◌, Bool, true, false, Option, Some, None, refl, ap, sym, ◌∙◌, arith}, lemmas.Bool.Decides.{nat_tests}}, specs.Prelude.{◌||◌, filter, is_some, nat_eq, reverse, if◌then◌else◌}}
 use mathlib.Core.List.{reverse_aux}
 use Rattle.hc_text.proofs.Basics.{or_false as or_none}
 use Rattle.hc_effects.proofs.Vocabulary.{is_live, is_open, Lawful, Descends, Tables, Exchange, Consumer, Among}

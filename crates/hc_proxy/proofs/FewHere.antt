@@ -4,11 +4,11 @@
 -- Each live consumer is that of a client which is here. So it is among the consumers of these clients, and there are no
 -- more of those than clients. The numbers of who is live fall, so each stands once: and what falls is no longer than a
 -- list that has each of it. In every run no more exchanges are open than consumers are live.
-use Rattle.std.{proofs.Common.{◌≡◌, ◌⊎◌, inl, inr, ◌≤◌, ◌<◌, ℕ, zero, suc, ◌+◌, List, [], ◌∷◌, length, map, true, Option, Some, None, refl, ap, ◌∙◌, arith}, specs.Prelude.{Contains, IsSome, filter, unwrap_or, if◌then◌else◌}}
+use Rattle.std.{proofs.Common.{◌≡◌, inl, inr, ◌≤◌, ℕ, zero, suc, ◌+◌, List, [], ◌∷◌, length, map, true, Option, Some, None, refl, ap, ◌∙◌, arith}, specs.Prelude.{Contains, IsSome, filter, unwrap_or}}
 use Rattle.hc_text.proofs.Basics.{map_long}
 use Rattle.hc_effects.proofs.Vocabulary.{Limits, is_live, live, History, Contents, may_begin, Lawful, open_now, IsRun, Among, tables}
 use Rattle.hc_effects.proofs.{Closed.{among_filter}, HasBound.{among_passes}}
-use Rattle.hc_laws.proofs.{OpenRuns.{open_in_runs, among_mapped, filter_falls, no_more}}
+use Rattle.hc_laws.proofs.OpenRuns.{open_in_runs, among_mapped, filter_falls, no_more}
 use Rattle.hc_proxy.specs.{Handling.{clients_here, is_client}, Invariants.{IsHolder, HasConsumers}, Rows.{Client, Proxy}}
 
 -- HOW MANY

@@ -3,7 +3,7 @@
 -- Each connection that is open is that of a client or of an exchange (`who_stands`). Of it the wire was told whether it
 -- is read, and it lacks something only where it took less than it was offered. The other way round, each client that
 -- isn't to be closed and each open exchange has a connection, which is open.
-use Rattle.std.{proofs.{Common.{◌≡◌, ◌⊎◌, inl, inr, ◌≤◌, ℕ, List, [], ◌∷◌, ◌++◌, Bool, true, false, Option, Some, None, refl, ap, sym, ◌∙◌, subst, arith}, lemmas.{Bool.Decides.{nat_tests}, List.{reverse-append}}, Math.Seq.{take-length}}, specs.{Prelude.{◌&&◌, ◌||◌, not, nat_eq, nat_lt, is_none, is_some, find, length, take, filter, reverse, Contains, IsSome, if◌then◌else◌}, List.{list_all}}}
+use Rattle.std.{proofs.{Common.{◌≡◌, ◌⊎◌, inl, inr, ◌≤◌, ℕ, List, [], ◌∷◌, ◌++◌, Bool, true, false, Option, Some, None, refl, ap, sym, ◌∙◌, subst, arith}, lemmas.{Bool.Decides.{nat_tests}, List.{reverse-append}}, Math.Seq.{take-length}}, specs.{Prelude.{◌&&◌, ◌||◌, not, nat_eq, nat_lt, is_none, is_some, find, length, take, filter, reverse, Contains, IsSome}, List.{list_all}}}
 use Rattle.hc_text.proofs.Basics.{and_left, and_right, both_true as both_hold, some_inj as some_is}
 use Rattle.hc_effects.proofs.Vocabulary.{is_open, is_wanted, Sound}
 use Rattle.hc_peers.specs.{Clients.{client_of}, Peers.{is_idle, is_same}, Upstreams.{upstream_of}}

@@ -4,10 +4,9 @@
 -- the code are empty too, and so is the log. Most fields speak of a row that is there, of which there is none. The
 -- numbers go on behind those of the contents, and so do the moments.
 -- `rests_first` joins the cache, the connections and the wire.
-use Rattle.std.{proofs.Common.{◌≡◌, ◌<◌, ◌^◌, ℕ, ◌+◌, ◌-◌, List, [], ◌++◌, length, drop, Bool, true, false, Option, Some, None, refl, ap, sym, ◌∙◌, subst, arith}, specs.Prelude.{IsSome, Contains}}
+use Rattle.std.{proofs.Common.{◌≡◌, ◌<◌, ◌^◌, ℕ, ◌+◌, ◌-◌, List, [], ◌++◌, length, true, false, Some, None, refl, ap, sym, ◌∙◌, subst, arith}, specs.Prelude.{IsSome, Contains}}
 use Rattle.hc_text.proofs.Basics.{false_true, none_some}
-use Rattle.hc_core.specs.declared.cache.Cache.{Cache}
-use Rattle.hc_core.specs.Steps.{last_moment, limits_in, bytes_received}
+use Rattle.hc_core.specs.{declared.cache.Cache.{Cache}, Steps.{last_moment, limits_in, bytes_received}}
 use Rattle.hc_effects.proofs.Vocabulary.{act_list, is_live, Contents, is_open, tables}
 use Rattle.hc_peers.specs.{Clients.{client_of}, Upstreams.{upstream_of}}
 use Rattle.hc_peers.specs.declared.client.Client as peer

@@ -4,20 +4,13 @@
 -- kept in the row. What a turn does beside that leaves the row, but for what it hands on (`happened_on`). Then its acts
 -- are carried out, which open the exchange at most once. Among more dials a row is followed as before, since its
 -- connection was dialled among the first (`weaker`).
-use Rattle.std.{proofs.{Common.{◌≡◌, ◌≤◌, ◌<◌, ◌⊎◌, inl, inr, ℕ, ◌+◌, List, [], ◌∷◌, ◌++◌, Bool, true, false, Option, Some, None, refl, ap, sym, ◌∙◌, subst, arith, append_assoc, append-nil}, lemmas.Bool.Decides.{nat_tests}}, specs.Prelude.{◌&&◌, nat_eq, nat_lt, length, take, is_none, Result, Ok, Err, if◌then◌else◌, option_map, Contains}}
-use Rattle.hc_text.proofs.Basics.{false_true as never_true}
-use Rattle.hc_effects.proofs.Vocabulary.{Act, Contents, may_begin, Event, Request, History, is_open, is_wanted, Tables, owed, Limits, act, event}
-use Rattle.hc_head.specs.declared.message.{MsgError.{MsgError}, WireRequest.{WireRequest}}
-use Rattle.hc_msg.specs.{Inputs.{Next, Waits, Reports, Brings, Ends, Fails, next_in}, NextParts.{StandsNext, IsReadOn}, Reading.{Reading, Responses, Whole, Done, Failed, Token, Asks, Answers, Byte, Leads, heading}, Taking.{byte_tokens, ending}, declared.message.WirePart.{WirePart}}
-use Rattle.hc_msg.specs.declared.message.WirePart.TheVariants as part
-use Rattle.hc_msg.proofs.{Inputs.{done_takes}, Leading.{leads_on, reports_leads}, NextParts.{stands_next}}
-use Rattle.hc_peers.specs.Renderings.{is_head}
+use Rattle.std.{proofs.{Common.{◌≡◌, ◌≤◌, ◌<◌, ◌⊎◌, inl, inr, ℕ, List, [], ◌∷◌, ◌++◌, Bool, true, false, Option, Some, None, refl, ap, sym, ◌∙◌, subst, arith, append_assoc, append-nil}, lemmas.Bool.Decides.{nat_tests}}, specs.Prelude.{nat_eq, take, if◌then◌else◌, option_map}}
+use Rattle.hc_effects.proofs.Vocabulary.{Contents, may_begin, is_open, Tables, Limits, event}
+use Rattle.hc_msg.specs.Reading.{Token}
 use Rattle.hc_wire.specs.{Logs.{Called}, declared.event.WireEvent.{WireEvent}}
 use Rattle.hc_wire.specs.declared.event.WireEvent.TheVariants as wire
-use Rattle.hc_proxy.specs.{Asked.{got_by}, Carrying.{answers, opened, carried_out, all_carried_out, carried, acts_in}, Connections.{exchange_of, connection_of}, Handling.{begun, clients_here, client_comes, left, cancelled, leaves, origin_sends, origin_ends, sends, ends, broke, handled_by, handled}, Headed.{is_answer}, Network.{open_exchanges, has_news, next_of, read_to, is_last_denied, unless_denied, hands_head, hands, hands_if, event_at_close, closes, closes_if, handed, closed, each_heard, heard}, Polls.{polled_all, each_polled, polled, may_be_polled, live_consumers}, Rows.{Client, Upstream, Proxy, unused, with_client, with_upstream}, Starts.{asks, with_holder, started, hears_request, hears, hears_if, is_ready, started_all}, Steps.{with_entry, stepped}, Received.{received_by, received_of, HasSent, IsOpenedFor}, Ended.{is_end_of}, Turns.{so_far, happened, turned, turned_by}}
-use Rattle.hc_proxy.specs.Starts as starts
-use Rattle.hc_proxy.proofs.{AnswerNext.{IsAnswerNext, answer_next}, Folds.{turned_more}, Later.{carried_is_same}, OpenEnded.{never_done}, Openings.{StandsKnown, open_more, turn_opens, turns_know, unused_known}, Turning.{OpenOnly, with_new, with_opened, happened_keeps}, DialsHeard.{no_row, place_before, place_after, connection_at, came_by, new_by, came_more, ended_by, any_last, ended_more, is_end, end_is, none_came, among_all, IsCutBy}}
-use Rattle.hc_proxy.proofs.HeardRows.{Follows, HasHeard, IsHeard, IsOver, IsReading, IsShut, all_ask, all_polled, carries_on, comes_on, hears_on, leaves_on, more_calls, more_ends, new_of, other_on, passes, still, waits}
+use Rattle.hc_proxy.specs.{Asked.{got_by}, Carrying.{carried, acts_in}, Connections.{exchange_of, connection_of}, Handling.{begun, origin_sends, origin_ends, sends, ends, broke, handled_by, handled}, Network.{heard}, Rows.{Upstream, Proxy, unused}, Starts.{started_all}, Steps.{stepped}, Received.{received_of}, Ended.{is_end_of}, Turns.{so_far, happened, turned, turned_by}}
+use Rattle.hc_proxy.proofs.{Folds.{turned_more}, Later.{carried_is_same}, Openings.{StandsKnown, open_more, turn_opens, turns_know, unused_known}, Turning.{OpenOnly, happened_keeps}, DialsHeard.{no_row, place_before, place_after, connection_at, new_by, ended_by, any_last}, HeardRows.{Follows, HasHeard, IsHeard, IsOver, IsReading, IsShut, all_ask, all_polled, carries_on, comes_on, hears_on, leaves_on, more_calls, more_ends, new_of, other_on, passes, still, waits}}
 
 module _ (limits : Limits) (began : Contents) (dialled : List (Option ℕ)) (x : ℕ) where
   -- THE EVENT OF A CALL

@@ -6,9 +6,8 @@
 -- `exchange_sent`).
 use Rattle.std.{proofs.{Common.{◌≡◌, ◌⊎◌, inl, inr, ◌≤◌, ◌<◌, ◌^◌, ℕ, ◌+◌, ◌-◌, List, [], ◌∷◌, ◌++◌, Bool, true, false, Option, Some, None, Ok, Err, refl, ap, sym, ◌∙◌, subst, arith, append-nil, take_all}, lemmas.{Bool.Decides.{nat_tests}, List.{length-drop}}}, specs.{Prelude.{◌&&◌, ◌||◌, not, nat_eq, nat_lt, find, filter, map, drop, length, option_map, IfSome, Result, IsErrAnd, if◌then◌else◌}, List.{list_all}}}
 use Rattle.hc_text.proofs.Basics.{both_true as both_hold, or_left, or_right}
-use Rattle.hc_core.specs.declared.cache.Cache.{Cache}
-use Rattle.hc_core.specs.Steps.{steps, faults_in, limits_in, bytes_received}
-use Rattle.hc_io.specs.Sink.{Takes, TakesPrefix}
+use Rattle.hc_core.specs.{declared.cache.Cache.{Cache}, Steps.{steps, faults_in, limits_in, bytes_received}}
+use Rattle.hc_io.specs.Sink.{Takes}
 use Rattle.hc_io.proofs.Takings.{takes_more as takes_both, takes_none}
 use Rattle.hc_effects.proofs.Vocabulary.{Contents, may_begin, is_open, tables, Limits}
 use Rattle.hc_peers.specs.{Clients.{client_of}, Upstreams.{upstream_of}}

@@ -4,7 +4,7 @@
 -- The exchange of a connection is the place at which that first stands in the list, and the connection of an exchange
 -- is what stands there. What is appended changes no place before it. One more connection stands at the next place, and
 -- nowhere before, since its number is new: so each number still names one exchange.
-use Rattle.std.{proofs.{Common.{◌≡◌, ◌⊎◌, inl, inr, ℕ, zero, suc, ◌+◌, ◌-◌, List, [], ◌∷◌, ◌++◌, length, drop, Bool, true, false, Option, Some, None, refl, ap, sym, ◌∙◌, subst, arith, append_assoc}, lemmas.{Bool.Decides.{nat_tests}, List.{map-append, length-append}}}, specs.Prelude.{nat_eq, map, replicate, if◌then◌else◌}}
+use Rattle.std.{proofs.{Common.{◌≡◌, ◌⊎◌, inl, inr, ℕ, zero, suc, ◌+◌, ◌-◌, List, [], ◌∷◌, ◌++◌, length, drop, Bool, true, false, Option, Some, None, refl, ap, sym, ◌∙◌, subst, arith, append_assoc}, lemmas.{Bool.Decides.{nat_tests}, List.{map-append}}}, specs.Prelude.{nat_eq, map, replicate, if◌then◌else◌}}
 use Rattle.hc_effects.proofs.Vocabulary.{Contents}
 use Rattle.hc_text.proofs.Basics.{eq_itself as same_number, some_same}
 use Rattle.hc_proxy.specs.{Connections.{dials_from, is_dialled, place_from, exchange_of, first_of, connection_of}, Invariants.{NamesOne}}

@@ -4,7 +4,7 @@
 -- act tells anybody that it is over: so these are the live ones of the tables. Each poll is one of the definitions',
 -- over a store that may fail. It changes no client: so who may be polled stays so. What the polls add tells each its
 -- own consumer.
-use Rattle.std.{proofs.{Common.{◌≡◌, inl, inr, ◌≤◌, ◌<◌, ◌^◌, ℕ, ◌+◌, Bool, true, false, List, [], ◌∷◌, ◌++◌, Option, Some, None, refl, ap, sym, ◌∙◌, subst, arith}, Math.{Bridge.{le_prop}, Logic.{∥∥₁_elim}}, lemmas.List.Kept.{IsStrictlySortedBy-filter}}, specs.{Prelude.{◌||◌, ◌&&◌, not, filter, is_some, length, Contains, IsSome, ◌↔◌, if◌then◌else◌}, List.{list_all, Sorted.{IsStrictlySortedBy}}, Ordering.{nat_cmp}}}
+use Rattle.std.{proofs.{Common.{◌≡◌, inl, inr, ◌≤◌, ◌<◌, ◌^◌, ℕ, ◌+◌, Bool, true, false, List, [], ◌∷◌, ◌++◌, Option, Some, None, refl, ap, sym, ◌∙◌, subst, arith}, Math.{Bridge.{le_prop}, Logic.{∥∥₁_elim}}, lemmas.List.Kept.{IsStrictlySortedBy-filter}}, specs.{Prelude.{◌||◌, ◌&&◌, not, filter, is_some, length, Contains, IsSome, ◌↔◌}, List.{list_all, Sorted.{IsStrictlySortedBy}}, Ordering.{nat_cmp}}}
 use Rattle.std.specs.BTreeMap as tree
 use Rattle.hc_text.proofs.Basics.{filter_short}
 use Rattle.hc_core.specs.Steps.{faults_in, steps}

@@ -4,7 +4,7 @@
 -- Both are one client: the act finds a client that was served, and nobody else waits for its consumer. What that client
 -- has taken is a first part of what it was owed, so the bytes behind it are the same ones on both sides. All other
 -- clients stay, and so do the tables, the connections to the origin and the wire.
-use Rattle.std.{proofs.{Common.{◌≡◌, inl, inr, ℕ, ◌≤◌, List, [], ◌∷◌, ◌++◌, Bool, true, false, Option, Some, None, refl, ap, sym, ◌∙◌, subst, arith, length, length-append}, lemmas.{Bool.Decides.{nat_tests}, List.{drop-append-le}}}, specs.Prelude.{nat_eq, not, ◌||◌, option_map, IsSome, if◌then◌else◌}}
+use Rattle.std.{proofs.{Common.{◌≡◌, inl, inr, ℕ, ◌≤◌, List, ◌++◌, Bool, true, false, Option, Some, None, refl, ap, sym, ◌∙◌, subst, arith, length, length-append}, lemmas.{Bool.Decides.{nat_tests}, List.{drop-append-le}}}, specs.Prelude.{nat_eq, not, ◌||◌, option_map, IsSome, if◌then◌else◌}}
 use Rattle.hc_text.proofs.Basics.{filter_same, eq_itself as same_number, some_inj as some_is}
 use Rattle.hc_effects.proofs.Vocabulary.{Act}
 use Rattle.hc_store.specs.declared.backend.Backend.{Ghosts}

@@ -4,7 +4,7 @@
 -- What is owed only grows, by appending. What stands before the last act or error answer is what stood there before the
 -- turn, or was taken at the call. Who was let go before stays as it is. Who is let go now was to be closed, and has
 -- taken all; and what it is owed stays as it is, since it is gone.
-use Rattle.std.{proofs.{Common.{◌≡◌, ◌⊎◌, inl, inr, ◌≤◌, ℕ, List, [], ◌∷◌, ◌++◌, Bool, true, false, Option, Some, None, refl, ap, sym, ◌∙◌, subst, arith}, lemmas.{Bool.Decides.{nat_tests}, List.{take-append-le, length-take}, Slice.Eq.{bytes_eq-Decides}}}, specs.{Prelude.{◌&&◌, ◌||◌, not, nat_eq, nat_le, min, find, length, take, option_map, if◌then◌else◌}, List.{list_all}}}
+use Rattle.std.{proofs.{Common.{◌≡◌, ◌⊎◌, inl, inr, ◌≤◌, ℕ, List, [], ◌∷◌, ◌++◌, Bool, true, false, Option, Some, None, refl, ap, sym, ◌∙◌, subst, arith}, lemmas.{Bool.Decides.{nat_tests}, List.{take-append-le, length-take}, Slice.Eq.{bytes_eq-Decides}}}, specs.{Prelude.{◌||◌, not, nat_eq, nat_le, min, find, length, take, option_map, if◌then◌else◌}, List.{list_all}}}
 use Rattle.hc_text.proofs.Basics.{all_three, both_of, some_inj as some_is}
 use Rattle.hc_effects.proofs.Vocabulary.{Limits}
 use Rattle.hc_wire.specs.{Logs.{Log, Taker, Called, is_numbered, sent_in, sent_from, with_call}, declared.event.WireEvent.{WireEvent}}

@@ -1,7 +1,7 @@
 -- Who was told in a turn that it is over is over, behind each entry of the turn.
 use Rattle.std.proofs.Common.{◌≡◌, inl, inr, ℕ, true, false, Option, Some, None, refl, ap, sym, ◌∙◌}
 use Rattle.hc_text.proofs.Basics.{or_cases}
-use Rattle.hc_effects.proofs.Vocabulary.{leaves_in, Limits, consumer_after, consumer_settled, consumer_acted, consumer_heard, is_live, Entry, Lawful, Tables, Consumer, IsOwed, after, place}
+use Rattle.hc_effects.proofs.Vocabulary.{leaves_in, Limits, consumer_after, consumer_settled, consumer_acted, consumer_heard, is_live, Entry, Lawful, Tables, Consumer, IsOwed, after}
 use Rattle.hc_proxy.specs.{Carrying.{acts_in}, Rows.{Proxy}, Steps.{with_entry}, Invariants.{AreOver}}
 use Rattle.hc_proxy.proofs.Holders.{leaves_append}
 use Rattle.hc_laws.proofs.{LiveAfter.{consumer_behind, dead_stays}, WhoLeaves.{reported_over, reported_live}}

@@ -4,7 +4,7 @@
 -- read. Each of these changes the one row of the log that has its number: all others are found as before. What it has
 -- taken was a first part of what it is owed, and what it takes comes next there, so it still has a first part. A log
 -- that follows the wire without being told shows how the connections stand behind each change.
-use Rattle.std.{proofs.{Common.{◌≡◌, ◌⊎◌, inl, inr, ℕ, zero, suc, ◌+◌, List, [], ◌∷◌, ◌++◌, Bool, true, false, Option, Some, None, refl, ap, sym, ◌∙◌, arith, length, take, drop, eqb, length-append}, Math.Seq.{take-append-add, drop-nil}, lemmas.{Bool.{cases_Bool, Decides.{nat_tests}}, List.{take-append-drop, length-take, take_min, append-nil}}}, specs.{Prelude.{nat_eq, nat_le, ◌&&◌, ◌||◌, ◌==◌, not, find, option_map, if◌then◌else◌}, List.{list_all}}}
+use Rattle.std.{proofs.{Common.{◌≡◌, ◌⊎◌, inl, inr, ℕ, zero, suc, ◌+◌, List, [], ◌∷◌, ◌++◌, Bool, true, false, Option, Some, None, refl, ap, sym, ◌∙◌, arith, length, take, drop, eqb, length-append}, Math.Seq.{take-append-add, drop-nil}, lemmas.{Bool.{cases_Bool, Decides.{nat_tests}}, List.{take-append-drop, length-take, take_min, append-nil}}}, specs.{Prelude.{nat_eq, nat_le, ◌||◌, ◌==◌, not, find, option_map, if◌then◌else◌}, List.{list_all}}}
 use Rattle.hc_text.proofs.Basics.{all_three, and_left as and_first, and_right as and_second, eq_itself as same_number, both_of as three}
 use Rattle.hc_rules.proofs.RangeReads.{bytes_eq-same, same_bytes}
 use Rattle.hc_wire.specs.{Events.{Stage, Unseen, Open, Closed, reading_of}, Logs.{Log, Taker, is_numbered, is_at_end, stage_of, stage_from, sent_from, stage_in, sent_in, changed_at, taking, reading, shut, with_sent, with_reading, with_closed}}

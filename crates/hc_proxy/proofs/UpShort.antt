@@ -1,5 +1,5 @@
 -- Of two lists that ascend, one that stands in the other is no longer.
-use Rattle.std.{proofs.{Common.{◌≡◌, ◌≤◌, ◌<◌, ℕ, ◌+◌, List, [], ◌∷◌, ◌++◌, length, Bool, true, false, refl, sym, ◌∙◌, arith}, lemmas.Bool.Decides.{nat_tests}}, specs.Prelude.{◌||◌, nat_eq, nat_lt, filter, if◌then◌else◌}}
+use Rattle.std.{proofs.{Common.{◌≡◌, ◌≤◌, ◌<◌, ℕ, ◌+◌, List, [], ◌∷◌, ◌++◌, length, Bool, true, false, refl, sym, ◌∙◌, arith}, lemmas.Bool.Decides.{nat_tests}}, specs.Prelude.{nat_eq, nat_lt, filter, if◌then◌else◌}}
 use Rattle.hc_text.proofs.Basics.{or_right as either_right, true_false}
 use Rattle.hc_proxy.proofs.SkippedSteps.{among, Ascends, weaken, not_below}
 

@@ -1,7 +1,6 @@
 -- While the acts of a turn are carried out: what the loop keeps, and how the wire stands.
 use Rattle.std.specs.Prelude.{◌≡◌, ◌≢◌, Contains, ◌⊎◌, ◌≤◌, ◌<◌, ℕ, List, [], ◌∷◌, ◌++◌, length, map, nat_eq, true, Option, Some, None, if◌then◌else◌}
 use Rattle.std.specs.List.{list_any}
-use Rattle.hc_core.specs.Steps.{steps}
 use Rattle.hc_event.specs.Filters.{leaves_in}
 use Rattle.hc_event.specs.declared.act.Act.{Act}
 use Rattle.hc_event.specs.declared.event.Request.{Request}

@@ -1,4 +1,4 @@
-use Rattle.std.proofs.Common.{refl, ap, sym, ◌∙◌}
+use Rattle.std.proofs.Common.{refl, ◌∙◌}
 use Rattle.hc_proxy.proofs.FromContents.{rests_first, moment_is}
 use Rattle.hc_proxy.proofs.proxy.Proxy.new.Goals as goal
 

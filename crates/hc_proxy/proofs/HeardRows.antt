@@ -138,7 +138,8 @@ module _ (limits : Limits) (began : Contents) (dialled : List (Option ℕ)) (x :
         ends = c.ends;
       })
 
-  pub more_over : (behind : List Called) (call : Called) (v : Upstream) (tokens : List Token) → IsOver behind v tokens → IsOver (more_calls behind call) v tokens
+  pub more_over : (behind : List Called) (call : Called) (v : Upstream) (tokens : List Token) → IsOver behind v tokens →
+      IsOver (more_calls behind call) v tokens
   more_over behind call v tokens o = record { done = o.done; answered = more_answered behind call v.no_body tokens o.answered }
 
   pub more_shut : (ds : List (Option ℕ)) (behind : List Called) (call : Called) → IsShut ds behind → IsShut ds (more_calls behind call)

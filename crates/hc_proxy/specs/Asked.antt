@@ -81,7 +81,8 @@ pub data IsAsked (k : ℕ) (calls : List Called) (requests : List Request) : Typ
       call.event ≡ wire.Accepted k → HasAsked (got_from k after) requests → IsAsked k calls requests
 
 pub record AreAsked (contents : Contents) (calls : List Called) (p : Proxy) : Type 0 where
-  -- The n-th consumer that is started has the n-th number behind the last one of the contents, and is a client's.
+  -- The n-th consumer that is started has the n-th number behind the last one of the contents,
+  -- and is a client's.
   pub clients : AreClients contents.last_consumer p.holder p.history
   -- Those of a client were started for its first requests, each once and in their order.
   pub each : (k : ℕ) → IsAsked k calls (starts_of p.holder k p.history)

@@ -8,7 +8,7 @@ use Rattle.hc_proxy.specs.Rows.{Client, Proxy}
 
 -- THE DIALS, by exchange
 
--- Each dial is for the next exchange. Those that were opened before the store began have no connection.
+-- Each dial is for the next exchange. Those that were opened before have no connection.
 abbrev pub dials_from : Contents → List ℕ → List (Option ℕ)
 dials_from contents dialled = replicate (contents.next_exchange - 1) None ++ map Some dialled
 

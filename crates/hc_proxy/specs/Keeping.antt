@@ -40,7 +40,8 @@ use Rattle.hc_proxy.specs.Steps.{with_entry}
 use Rattle.hc_proxy.specs.Turns.{record_of}
 use Rattle.hc_proxy.specs.Waiting.{pends, is_waiting}
 
--- What stays as it is within a turn: the limits of the store, what that began with, the record that was written, and how many bytes came at most;
+-- What stays as it is within a turn: the limits of the store, what that began with, the record that was written, and how
+-- many bytes came at most;
 -- the call that began it, the connections that were dialled before, and how each connection stands behind the call.
 pub record Frame : Type 0 where
   pub limits : Limits
@@ -108,11 +109,12 @@ module _ {B : Type 0} {g : Ghosts B} where
   abbrev pub HasMoved : loop.Proxy B g → Proxy → Type 0
   HasMoved x p = x.moved ≡ not (list_all is_waiting p.part)
 
--- the cache began with these contents, whose last consumer has this number, and nothing happened yet
+-- The cache began with these contents, whose last consumer has this number, and nothing happened yet.
 pub record IsStocked {B : Type 0} {g : Ghosts B} (contents : Contents) (cache : Cache B g) (last : ℕ) : Type 0 where
   pub stands : StandsFor cache contents []
   pub last_is : last ≡ contents.last_consumer
 
+-- so it is for some contents
 abbrev pub IsStockedSome : {B : Type 0} {g : Ghosts B} → Cache B g → ℕ → Type 0
 IsStockedSome cache last = (contents : Contents) × IsStocked contents cache last
 

@@ -77,11 +77,11 @@ typedef uint32_t vosdrieng_answer;
 #define VOSDRIENG_OK 0
 /* The handle has no cache: none was made, it was freed, or making it failed. */
 #define VOSDRIENG_NO_HANDLE 1
-/* Memory was refused. After an event was answered so, each later event and vosdrieng_image are answered so too. Then no act is told, none
-** has bytes, and vosdrieng_moment and vosdrieng_live are 0. vosdrieng_free works, and so does making a new cache with the handle. Where
+/* Memory was refused. After an event or a text was answered so, each later event, each text and vosdrieng_image are answered so too. Then no
+** act is told, none has bytes, there is no report, and vosdrieng_moment and vosdrieng_live are 0. vosdrieng_free works, and so does making a new cache with the handle. Where
 ** only vosdrieng_image was answered so, what the cache has stays. */
 #define VOSDRIENG_NO_MEMORY 2
-/* The cache has taken 2^59 events, or 2^60 bytes of pieces. */
+/* The cache has taken 2^59 events, or 2^60 bytes of pieces or of a text. */
 #define VOSDRIENG_EXHAUSTED 3
 /* The moment is before that of the last event, or is 2^62 or later. */
 #define VOSDRIENG_BAD_MOMENT 4
@@ -102,6 +102,10 @@ typedef uint32_t vosdrieng_answer;
 #define VOSDRIENG_BAD_CONTENT 11
 /* What the image has weighs more than `max_total`. */
 #define VOSDRIENG_FULL 12
+/* A text comes behind an event of another call. */
+#define VOSDRIENG_LATE 13
+/* A line of the text is refused. */
+#define VOSDRIENG_BAD_TEXT 14
 
 /*
 ** FIELDS cross as lines, each a name, a colon, a space, a value and a line feed:
@@ -294,6 +298,42 @@ typedef struct vosdrieng_act {
 
 uint32_t vosdrieng_next_act(vosdrieng_cache *cache, vosdrieng_act *act);
 size_t vosdrieng_act_bytes(vosdrieng_cache *cache, uint8_t *into, size_t room);
+
+/*
+** A SCHEDULE AS TEXT
+**
+** In place of the calls above, events may be handed in as the text of a schedule, which docs/FORMATS.md has. They are answered by the
+** text of their report. A text begins before any other event of a cache.
+**
+** vosdrieng_schedule reads a further piece of the text, cut anywhere: a line, and an item, may go on in the next piece. The events whose
+** items end in it are answered, up to a line that is refused. Lines and entries are numbered from 1 on over all pieces, and the
+** text begins at the moment of the cache. However the text is cut, the reports of its pieces, one after another, are the report
+** that `vosdrieng replay` writes of it; behind vosdrieng_open they go on with the image.
+** At BAD_TEXT `line` is the number of the line that is refused, and `why` is VOSDRIENG_LINE_BAD and so on. At any other answer neither is
+** written. The events before that line were answered, and their report is there. From then on each piece is answered BAD_TEXT, with
+** that line, and changes nothing. A call above ends the text where it is answered OK: a piece behind it is LATE.
+** At NO_MEMORY, EXHAUSTED and LATE nothing of the piece was read or answered, but that NO_MEMORY may come within it: then there is no
+** report, and nothing is answered any more.
+** Answers: OK, NO_HANDLE, NO_MEMORY, EXHAUSTED (2^60 bytes of text), LATE, BAD_TEXT.
+**
+** vosdrieng_schedule_end tells that the text ends here. It is BAD_TEXT, with `line` and `why` as above, where the text was refused, or a
+** line or field lines are missing. It takes no memory, and leaves the report as it is. Behind OK the text may go on.
+** Answers: OK, NO_HANDLE, NO_MEMORY, LATE, BAD_TEXT.
+**
+** vosdrieng_report copies the first `room` bytes of the report of the last piece, or all where there are fewer, and returns how many the
+** report has; nothing is written behind them. It may be copied again, until the next piece, or an event by a call above. Then the library
+** lets it go. It needs no memory. Of a text no act is told.
+*/
+#define VOSDRIENG_LINE_BAD 1         /* the line is off the grammar */
+#define VOSDRIENG_LINE_TOO_LONG 2    /* it has more than 140,000 bytes */
+#define VOSDRIENG_LINE_BAD_TARGET 3  /* its target is none */
+#define VOSDRIENG_LINE_MOMENT_BACK 4 /* its moment is below the one that was set before */
+#define VOSDRIENG_LINE_CUT_SHORT 5   /* the text ends within it, or before it where it is a field line */
+
+vosdrieng_answer vosdrieng_schedule(vosdrieng_cache *cache, const uint8_t *text, size_t len,
+                                    uint64_t *line, uint32_t *why);
+vosdrieng_answer vosdrieng_schedule_end(vosdrieng_cache *cache, uint64_t *line, uint32_t *why);
+size_t vosdrieng_report(vosdrieng_cache *cache, uint8_t *into, size_t room);
 
 /*
 ** WHAT THE STORE HAS

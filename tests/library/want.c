@@ -46,14 +46,43 @@ static int run(void) {
     return refused;
 }
 
-int main(void) {
-    left = 0;
-    if (run() != 0) return 1;
+/* The same of a text in two pieces. Behind a call that was refused memory there is no report. */
+static int run_text(void) {
+    static const char schedule[] = "at 5\nstart 1 GET normal http://a.test/film 1\naccept: x\npoll 1 9\nhead 1 200 1\n"
+                                   "content-length: 6\npoll 1 9\npiece 1 616263646566\nend 1\npoll 1 9\ncancel 1\n";
+    vosdrieng_cache c = {0};
+    vosdrieng_answer answers[4] = {0};
+    uint64_t line;
+    uint32_t why;
+    int refused = 0;
+    answers[0] = vosdrieng_new(&c, 1 << 20, 1 << 24);
+    answers[1] = vosdrieng_schedule(&c, text(schedule), 40, &line, &why);
+    answers[2] = vosdrieng_schedule(&c, text(schedule + 40), strlen(schedule) - 40, &line, &why);
+    answers[3] = vosdrieng_schedule_end(&c, &line, &why);
+    size_t len = vosdrieng_report(&c, (uint8_t *)"", 0);
+    vosdrieng_free(&c);
+    for (int i = 0; i < 4; i++) {
+        if (answers[i] == VOSDRIENG_NO_MEMORY || (answers[0] && answers[i] == VOSDRIENG_NO_HANDLE)) refused++;
+        else if (refused || answers[i] != VOSDRIENG_OK) return -1;
+    }
+    return (refused == 0) == (len > 0) ? refused : -1;
+}
+
+/* Refuses each allocation of a run in turn: how many there are, or 0 where a call behind one wasn't answered as it is to be. */
+static long refuse_each(int (*one)(void)) {
+    left = asked = 0;
+    if (one() != 0) return 0;
     long all = asked;
     for (long n = 1; n <= all; n++) {
         left = n;
-        if (run() < 0) return printf("the call behind allocation %ld\n", n), 1;
+        if (one() < 0) return printf("the call behind allocation %ld\n", n), 0;
     }
-    printf("%ld allocations refused in turn\n", all);
+    return all;
+}
+
+int main(void) {
+    long events = refuse_each(run), texts = refuse_each(run_text);
+    if (events == 0 || texts == 0) return 1;
+    printf("%ld allocations refused in turn\n", events + texts);
     return 0;
 }

@@ -2,12 +2,13 @@
 from __future__ import annotations
 
 import os
+import pathlib
 import unittest
 
 from ways import LIBRARY, PROGRAM, ways
 
 import rows
-from vosdrieng import BadImage, Cache, Denied, Gone, Refused, Shown
+from vosdrieng import BadImage, BadText, Cache, Denied, Gone, Refused, Shown
 
 URL = "http://a.test/film"
 HEAD = [("ETag", '"a"'), ("Content-Length", "6"), ("Cache-Control", "max-age=60")]
@@ -101,6 +102,28 @@ class CacheTest(unittest.TestCase):
 class LibraryTest(unittest.TestCase):
     def test_no_library(self) -> None:
         self.assertRaises(OSError, Cache.library, "/no/such/library.so")
+
+    def test_a_text(self) -> None:
+        first = pathlib.Path(__file__).resolve().parents[3] / "examples" / "first.schedule"
+        schedule, due = first.read_bytes(), first.with_suffix(".report").read_bytes()
+        for most in (1, 7, len(schedule)):
+            with self.subTest(most=most), Cache.library(LIBRARY) as cache:
+                report = b"".join(cache.schedule(schedule[at:at + most]) for at in range(0, len(schedule), most))
+                cache.schedule_end()
+                self.assertEqual(report, due)
+
+    def test_a_refused_line(self) -> None:
+        with Cache.library(LIBRARY) as cache:
+            with self.assertRaises(BadText) as told:
+                cache.schedule(b"at 5\ncancel 1\nfilm\n")
+            self.assertEqual((told.exception.line, told.exception.report[:4]), (3, b"> 1\n"))
+            self.assertRaises(BadText, cache.schedule, b"cancel 1\n")
+            self.assertRaises(BadText, cache.schedule_end)
+
+    def test_a_late_text(self) -> None:
+        with Cache.library(LIBRARY) as cache:
+            cache.end(1, 7)
+            self.assertRaises(Refused, cache.schedule, b"at 5\n")
 
 
 @unittest.skipUnless(PROGRAM, "the program isn't here")

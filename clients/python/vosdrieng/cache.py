@@ -3,9 +3,12 @@ from __future__ import annotations
 
 import abc
 import os
-from typing import BinaryIO
+from typing import TYPE_CHECKING, BinaryIO
 
 from .acts import Act, Fields
+
+if TYPE_CHECKING:
+    from .library import LibraryCache
 
 LARGEST_BODY = 16 << 20
 LARGEST_STORE = 256 << 20
@@ -27,10 +30,11 @@ class Cache(abc.ABC):
 
     @staticmethod
     def library(path: str | os.PathLike[str] | None = None, *, max_body: int = LARGEST_BODY, max_total: int = LARGEST_STORE,
-                image: bytes | None = None) -> "Cache":
+                image: bytes | None = None) -> "LibraryCache":
         """A cache in this process, over the shared library at `path`, which begins with what `image` has.
 
-        Raises OSError where the library can't be loaded, `BadImage` where no cache may begin with the image, and MemoryError.
+        It takes the text of a schedule too (`schedule`), in place of events. Raises OSError where the library can't be loaded, `BadImage`
+        where no cache may begin with the image, and MemoryError.
         """
         from .library import LibraryCache
         return LibraryCache(path, max_body, max_total, image)

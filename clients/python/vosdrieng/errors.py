@@ -9,6 +9,14 @@ class Refused(CacheError, ValueError):
     """An event that can't be said to a cache: a bad target, field, number or moment. Nothing has changed."""
 
 
+class BadText(CacheError, ValueError):
+    """A line of a schedule is refused. What stands before it was answered: `report` is the report of the last piece up to there."""
+
+    def __init__(self, line: int, why: str, report: bytes) -> None:
+        super().__init__(f"line {line}: {why}")
+        self.line, self.why, self.report = line, why, report
+
+
 class Gone(CacheError):
     """The cache answers nothing any more: its process ended, its memory ran out, or it was closed."""
 

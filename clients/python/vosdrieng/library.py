@@ -10,12 +10,12 @@ from typing import Callable
 
 from .acts import Act, Ask, Close, Data, Denied, Ended, Evicted, Failed, Fields, Lost, Open, Pending, Shown
 from .cache import Cache
-from .errors import BadImage, Gone, Refused
+from .errors import BadImage, BadText, Gone, Refused
 from .text import field_of
 
 VERSION = 1000
 ROOM, HEAD_ROOM = 65536, 64  # bytes that an image has beside those of bodies: of its heads, and of each run
-OK, NO_HANDLE, NO_MEMORY, EXHAUSTED, LIVE, BAD_IMAGE, FULL = 0, 1, 2, 3, 9, 10, 12
+OK, NO_HANDLE, NO_MEMORY, EXHAUSTED, LIVE, BAD_IMAGE, FULL, LATE, BAD_TEXT = 0, 1, 2, 3, 9, 10, 12, 13, 14
 ANSWERS = {
     4: "the moment is below the last one, or is no number below 2^62",
     5: "a number or a length is outside of its limits",
@@ -23,7 +23,10 @@ ANSWERS = {
     7: "the target is none in the spelling of the URL Standard",
     8: "the fields are none that a cache takes",
     LIVE: "consumers are live",
+    LATE: "a text comes behind an event of another call",
 }
+LINES = ("", "it is off the grammar", "it has more than 140,000 bytes", "its target is none", "its moment is below the one before",
+         "the text ends too early")
 MOST_ROOM = 16 << 20  # bytes that are offered for an image before its size is known
 LOADS = {"normal": 0, "validate": 1, "bypass": 2, "skip": 3, "only": 4, "disable": 5}
 NEEDS = ("", "disabled", "timed-out", "bypass", "miss", "vary", "validate", "hole", "unsatisfied")
@@ -63,6 +66,9 @@ CALLS = {
     "next_act": (c_uint32, [POINTER(_Handle), POINTER(_Act)]),
     "act_bytes": (c_size_t, [POINTER(_Handle), c_void_p, c_size_t]),
     "image": (c_uint32, [POINTER(_Handle), c_void_p, c_size_t, POINTER(c_size_t)]),
+    "schedule": (c_uint32, [POINTER(_Handle), *_BYTES, POINTER(c_uint64), POINTER(c_uint32)]),
+    "schedule_end": (c_uint32, [POINTER(_Handle), POINTER(c_uint64), POINTER(c_uint32)]),
+    "report": (c_size_t, [POINTER(_Handle), c_void_p, c_size_t]),
     "moment": (c_uint64, [POINTER(_Handle)]),
     "live": (c_uint64, [POINTER(_Handle)]),
 }
@@ -158,6 +164,33 @@ class LibraryCache(Cache):
 
     def fault(self, now: int, exchange: int) -> list[Act]:
         return self._step(self._library.vosdrieng_fault, now, exchange)
+
+    def schedule(self, text: bytes) -> bytes:
+        """Reads a further piece of the text of a schedule, cut anywhere, and returns the report of the events whose items end in it.
+
+        However the text is cut, the reports one after another are that of the whole text, as `vosdrieng replay` writes it. A text
+        begins before any other event. Raises `BadText` at a line that is refused, then at each later piece, and `Refused`.
+        """
+        self._handed_in += len(text) + HEAD_ROOM
+        line, why = c_uint64(), c_uint32()
+        answer = self._library.vosdrieng_schedule(self._at, text, len(text), byref(line), byref(why))
+        return self._reported(answer, line.value, why.value)
+
+    def schedule_end(self) -> None:
+        """Tells that the text ends here. Raises `BadText` where a line or field lines are missing, or the text was refused."""
+        line, why = c_uint64(), c_uint32()
+        self._reported(self._library.vosdrieng_schedule_end(self._at, byref(line), byref(why)), line.value, why.value)
+
+    def _reported(self, answer: int, line: int, why: int) -> bytes:
+        if answer not in (OK, BAD_TEXT):
+            self._hold(answer)
+        length = self._library.vosdrieng_report(self._at, b"", 0)
+        report = _new_bytes(None, length)
+        if length:
+            self._library.vosdrieng_report(self._at, report, length)
+        if answer == BAD_TEXT:
+            raise BadText(line, LINES[why], report)
+        return report
 
     def image(self) -> bytes:
         """As of each cache. Each call of the library makes it anew, so room for what was handed in is offered at once."""

@@ -119,6 +119,44 @@ impl Cache {
         self.bytes.truncate(at + copied);
     }
 
+    /// Reads a further piece of the text of a schedule, cut anywhere, and answers the report of the events
+    /// whose items end in it. However the text is cut, the reports one after another are that of the
+    /// whole text, as `vosdrieng replay` writes it. A text begins before any event of [`Cache::step`].
+    ///
+    /// At [`Error::BadText`] the events before the refused line were answered: [`Cache::report`] has their
+    /// report.
+    pub fn schedule(&mut self, text: &[u8]) -> Result<&[u8], Error> {
+        let (mut line, mut why) = (0, 0);
+        let handle = &mut self.handle;
+        // The pointer is to as many bytes, which are read in the call alone.
+        let answer =
+            unsafe { raw::vosdrieng_schedule(handle, text.as_ptr(), text.len(), &mut line, &mut why) };
+        Error::told_of_text(answer, line, why)?;
+        self.report()
+    }
+
+    /// Tells that the text ends here: at [`Error::BadText`] a line or field lines are missing, or the text
+    /// was refused.
+    pub fn schedule_end(&mut self) -> Result<(), Error> {
+        let (mut line, mut why) = (0, 0);
+        let answer = raw::vosdrieng_schedule_end(&mut self.handle, &mut line, &mut why);
+        Error::told_of_text(answer, line, why)
+    }
+
+    /// The report of the last piece of a text.
+    pub fn report(&mut self) -> Result<&[u8], Error> {
+        self.acts.clear();
+        self.bytes.clear();
+        let handle = &mut self.handle;
+        // The pointer is to no bytes.
+        let len = unsafe { raw::vosdrieng_report(handle, self.bytes.as_mut_ptr(), 0) };
+        self.bytes.try_reserve(len).map_err(|_| Error::NoMemory)?;
+        self.bytes.resize(len, 0);
+        // The pointer is to as many bytes, which are written in the call alone.
+        unsafe { raw::vosdrieng_report(handle, self.bytes.as_mut_ptr(), len) };
+        Ok(&self.bytes)
+    }
+
     /// The image of what the store has, with which [`Cache::open`] begins. Nobody may be live.
     pub fn image(&mut self) -> Result<Vec<u8>, Error> {
         let mut image = Vec::new();

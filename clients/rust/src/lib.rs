@@ -34,6 +34,6 @@ mod raw;
 
 pub use act::{Act, Acts, Cause, Denial, Loss, Need, Wait, Why};
 pub use cache::{Cache, Limits};
-pub use error::Error;
+pub use error::{Error, LineError};
 pub use event::{Event, Load, Request};
 pub use fields::Fields;

@@ -82,6 +82,15 @@ unsafe extern "C" {
     pub(crate) safe fn vosdrieng_next_act(cache: &mut Handle, act: &mut Numbers) -> u32;
     pub(crate) fn vosdrieng_act_bytes(cache: &mut Handle, into: *mut u8, room: usize) -> usize;
     pub(crate) fn vosdrieng_image(cache: &mut Handle, into: *mut u8, room: usize, len: &mut usize) -> u32;
+    pub(crate) fn vosdrieng_schedule(
+        cache: &mut Handle,
+        text: *const u8,
+        len: usize,
+        line: &mut u64,
+        why: &mut u32,
+    ) -> u32;
+    pub(crate) safe fn vosdrieng_schedule_end(cache: &mut Handle, line: &mut u64, why: &mut u32) -> u32;
+    pub(crate) fn vosdrieng_report(cache: &mut Handle, into: *mut u8, room: usize) -> usize;
     pub(crate) safe fn vosdrieng_faults(cache: &mut Handle) -> u64;
     pub(crate) safe fn vosdrieng_moment(cache: &mut Handle) -> u64;
     pub(crate) safe fn vosdrieng_live(cache: &mut Handle) -> u64;

@@ -1,6 +1,6 @@
 //! What the calls answer, and what they leave.
 use std::thread;
-use vosdrieng::{Act, Cache, Denial, Error, Event, Limits, Load, Request};
+use vosdrieng::{Act, Cache, Denial, Error, Event, LineError, Limits, Load, Request};
 
 const LIMITS: Limits = Limits { max_entry: 1 << 24, max_total: 1 << 28 };
 const TARGET: &[u8] = b"http://a.test/film";
@@ -89,4 +89,42 @@ fn a_denied_event_is_an_act() {
 fn a_cache_goes_to_another_thread() {
     let mut cache = filled();
     assert_eq!(thread::spawn(move || given(&mut cache, 2)).join().expect("it ends"), b"hello");
+}
+
+#[test]
+fn a_text_is_answered_by_its_report_however_it_is_cut() {
+    let top = concat!(env!("CARGO_MANIFEST_DIR"), "/../../examples/first");
+    let schedule = std::fs::read(format!("{top}.schedule")).expect("the schedule");
+    let due = std::fs::read(format!("{top}.report")).expect("the report");
+    for most in [1, 7, schedule.len()] {
+        let mut cache = Cache::new(LIMITS).expect("a cache");
+        let mut report = Vec::new();
+        for piece in schedule.chunks(most) {
+            report.extend_from_slice(cache.schedule(piece).expect("it is read"));
+        }
+        cache.schedule_end().expect("it is whole");
+        assert!(report == due, "in pieces of {most}");
+    }
+}
+
+#[test]
+fn a_refused_line_is_told_and_stays_so() {
+    let mut cache = Cache::new(LIMITS).expect("a cache");
+    let refused = Err(Error::BadText { line: 3, why: LineError::Bad });
+    assert_eq!(cache.schedule(b"at 5\ncancel 1\nfilm\n").map(<[u8]>::len), refused.map(|()| 0));
+    assert!(cache.report().expect("it is told").starts_with(b"> 1\n"));
+    assert_eq!(cache.schedule(b"cancel 1\n").map(<[u8]>::len), refused.map(|()| 0));
+    assert_eq!(cache.report().expect("it is told"), b"");
+    assert_eq!(cache.schedule_end(), refused);
+    assert_eq!(cache.moment(), 5);
+}
+
+#[test]
+fn a_text_begins_before_any_other_event() {
+    let mut cache = Cache::new(LIMITS).expect("a cache");
+    cache.step(1, &Event::End { exchange: 7 }).expect("it is answered");
+    assert_eq!(cache.schedule(b"at 5\n").err(), Some(Error::Late));
+    let mut cache = Cache::new(LIMITS).expect("a cache");
+    cache.schedule(b"at 5\nend").expect("it is read");
+    assert_eq!(cache.schedule_end().err(), Some(Error::BadText { line: 2, why: LineError::CutShort }));
 }

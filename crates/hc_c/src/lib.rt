@@ -5,7 +5,7 @@ ghost use Rattle.std.specs.Prelude.{◌≡◌, ◌≢◌, None};
 ghost use Rattle.hc_binary.specs.Copies.{HoldsPrefix};
 ghost use Rattle.hc_binary.specs.Events.{numbered, start_made, poll_made, head_made, piece_made, doom_made};
 ghost use Rattle.hc_event.specs.declared.event.Event.TheVariants as event;
-ghost use Rattle.hc_handle.specs.Calls.{Comes, IsBegun, IsOpened, IsClosed, HasNext, NoNext, bytes_in_handle, ArePictured, AllStay, moment_in, live_in_handle};
+ghost use Rattle.hc_handle.specs.Calls.{Comes, IsBegun, IsOpened, IsClosed, HasNext, NoNext, bytes_in_handle, ArePictured, AllStay, Reads, Finishes, IsTold, HasReport, told_at, refused_in_handle, report_in_handle, moment_in, live_in_handle};
 
 use hc_binary::{ActNumbers, Asked};
 use hc_handle::calls;
@@ -227,6 +227,47 @@ pub extern "C" fn vosdrieng_image(
     ensures stays { AllStay handle.old.pointer.session handle.new.pointer.session }
 {
     calls::image(alloc, handle, into, len)
+}
+
+/// Reads a further piece of a text: the cache is stepped by the events that it brings, up to a line that is refused. Their report is
+/// made. At 14 `line` is the line that is refused, from 1, and `why` the number of the reason.
+#[unsafe(no_mangle)]
+pub extern "C" fn vosdrieng_schedule(
+    alloc: Global,
+    handle: &mut Handle,
+    text: &[u8],
+    line: &mut u64,
+    why: &mut u32,
+) -> u32
+    ensures read { Reads handle.old.pointer.session handle.new.pointer.session text.now result }
+    ensures told { IsTold (told_at result (refused_in_handle handle.new.pointer.session))
+        line.old line.new why.old why.new }
+{
+    calls::schedule(alloc, handle, text, line, why)
+}
+
+/// The text ends here. At 14 a line or field lines are missing, and `line` and `why` are as above.
+#[unsafe(no_mangle)]
+pub extern "C" fn vosdrieng_schedule_end(
+    alloc: Global,
+    handle: &mut Handle,
+    line: &mut u64,
+    why: &mut u32,
+) -> u32
+    ensures finished { Finishes handle.old.pointer.session handle.new.pointer.session result }
+    ensures told { IsTold (told_at result (refused_in_handle handle.new.pointer.session))
+        line.old line.new why.old why.new }
+{
+    calls::schedule_end(alloc, handle, line, why)
+}
+
+/// Copies the first bytes of the report of the last piece, as many as fit, and says how many it has in all.
+#[unsafe(no_mangle)]
+pub extern "C" fn vosdrieng_report(alloc: Global, handle: &mut Handle, into: &mut [u8]) -> usize
+    ensures report { HasReport (report_in_handle handle.old.pointer.session) into.new result }
+    ensures same { handle.new.pointer.session ≡ handle.old.pointer.session }
+{
+    calls::report(alloc, handle, into)
 }
 
 /// How often the store failed. One in memory never does.

@@ -3,3 +3,4 @@ pub mod Dropped
 pub mod Steps
 pub mod Coming
 pub mod Larger
+pub mod TextPieces

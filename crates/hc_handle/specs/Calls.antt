@@ -1,15 +1,19 @@
 -- What a call on a handle leads to: what the handle had and has, and the code that is answered.
-use Rattle.std.specs.Prelude.{◌≡◌, ◌≢◌, ℕ, List, [], Option, Some, None, Result, Ok, Err}
+use Rattle.std.specs.Prelude.{◌≡◌, ◌≢◌, ℕ, ◌==◌, List, [], length, Option, Some, None, Result, Ok, Err, if◌then◌else◌}
 use Rattle.std.specs.List.{slice_get}
 use Rattle.hc_binary.specs.Events.{Made}
 use Rattle.hc_binary.specs.Refusals.{code_of}
 use Rattle.hc_binary.specs.declared.act.ActNumbers.{ActNumbers}
+use Rattle.hc_binary.specs.Copies.{HoldsPrefix}
 use Rattle.hc_binary.specs.declared.refused.CallRefusal.{CallRefusal}
+use Rattle.hc_binary.specs.declared.refused.CallRefusal.TheVariants as refused
 use Rattle.hc_event.specs.Acts.{act_list}
 use Rattle.hc_rules.specs.declared.room.Limits.{Limits}
+use Rattle.hc_sched.specs.declared.schedule.Refused.{Refused}
 use Rattle.hc_handle.specs.declared.session.Session.{Session}
 use Rattle.hc_handle.specs.Images.{Stays}
 use Rattle.hc_handle.specs.Sessions.{Begins, BeginsWith, IsUnopened, HasAnswered, HasImage, IsNext, IsSilent, refused_at, bytes_reported, moment_reported, live_reported}
+use Rattle.hc_handle.specs.Texts.{IsRead, IsFinished, refused_in, number_of, report_at}
 
 -- CODES
 
@@ -34,7 +38,7 @@ abbrev pub AreAnswered : Option Session → Option Session → ℕ → Made → 
 AreAnswered (Some s) (Some u) now made = HasAnswered s u now made
 AreAnswered _ _ now made = ⊥
 
--- nothing is answered any more, and there is no act to tell
+-- nothing is answered any more, and there is no act and no report to tell
 abbrev pub IsSpent : Option Session → Type 0
 IsSpent (Some s) = IsSilent s
 IsSpent None = ⊥
@@ -102,6 +106,56 @@ AllStay None u = u ≡ None
 AllStay (Some s) None = ⊥
 AllStay (Some s) (Some u) =
     Stays s.cache u.cache × (u.spent ≡ s.spent) × (act_list u.acts ≡ act_list s.acts) × (u.reported ≡ s.reported)
+    × (u.schedule ≡ s.schedule)
+
+-- A TEXT
+
+abbrev pub AreRead : Option Session → Option Session → List ℕ → Result (Unit {0}) CallRefusal → Type 0
+AreRead None u text result = (result ≡ Err refused.NoHandle) × (u ≡ None)
+AreRead (Some s) None text result = ⊥
+AreRead (Some s) (Some u) text result = IsRead s u text result
+
+-- What comes of a further piece of a text.
+pub record Reads (s u : Option Session) (text : List ℕ) (code : ℕ) : Type 0 where
+  pub result : Result (Unit {0}) CallRefusal
+  pub read : AreRead s u text result
+  pub code_is : code ≡ answer_code result
+
+abbrev pub AreFinished : Option Session → Option Session → Result (Unit {0}) CallRefusal → Type 0
+AreFinished None u result = (result ≡ Err refused.NoHandle) × (u ≡ None)
+AreFinished (Some s) None result = ⊥
+AreFinished (Some s) (Some u) result = IsFinished s u result
+
+-- What comes of the end of a text.
+pub record Finishes (s u : Option Session) (code : ℕ) : Type 0 where
+  pub result : Result (Unit {0}) CallRefusal
+  pub finished : AreFinished s u result
+  pub code_is : code ≡ answer_code result
+
+-- where the text is refused, if it is
+abbrev pub refused_in_handle : Option Session → Option Refused
+refused_in_handle None = None
+refused_in_handle (Some s) = refused_in s
+
+-- at 14 alone it is told
+abbrev pub told_at : ℕ → Option Refused → Option Refused
+told_at code refused = if code == 14 then refused else None
+
+-- the line and the number of the reason are written, or both are as they were
+abbrev pub IsTold : Option Refused → ℕ → ℕ → ℕ → ℕ → Type 0
+IsTold None line line' why why' = (line' ≡ line) × (why' ≡ why)
+IsTold (Some r) line line' why why' = (line' ≡ r.line) × (why' ≡ number_of r.why)
+
+-- the report of the last piece
+abbrev pub report_in_handle : Option Session → List ℕ
+report_in_handle None = []
+report_in_handle (Some s) = report_at s
+
+-- how many bytes a report has, and a room has the first of them
+pub record HasReport (report room : List ℕ) (len : ℕ) : Type 0 where
+  pub length_is : len ≡ length report
+  pub count : ℕ
+  pub front : HoldsPrefix room count report
 
 -- VIEWS
 

@@ -1,5 +1,5 @@
 -- A session, and what a call leads to.
-use Rattle.std.specs.Prelude.{◌≡◌, ◌≢◌, ℕ, ◌+◌, ◌-◌, ◌<◌, ◌^◌, ◌||◌, nat_le, nat_lt, List, [], length, true, false, Option, Some, None, Result, Ok, Err, if◌then◌else◌}
+use Rattle.std.specs.Prelude.{◌≡◌, ◌≢◌, ℕ, ◌+◌, ◌-◌, ◌<◌, ◌^◌, ◌||◌, nat_le, nat_lt, List, [], length, Bool, is_some, true, false, Option, Some, None, Result, Ok, Err, if◌then◌else◌}
 use Rattle.std.specs.List.{slice_get}
 use Rattle.hc_binary.specs.Copies.{HoldsPrefix}
 use Rattle.hc_binary.specs.Events.{Made}
@@ -18,6 +18,10 @@ use Rattle.hc_rules.specs.declared.room.Limits.{Limits}
 use Rattle.hc_handle.specs.declared.session.Session.{Session}
 use Rattle.hc_handle.specs.Images.{IsRead, IsUnread, Begun, IsUnbegun, IsImageOf, Stays}
 
+-- events came as the text of a schedule, and by no other call
+abbrev pub has_text : Session → Bool
+has_text s = is_some s.schedule
+
 -- A SESSION BEGINS
 
 -- with nothing
@@ -26,6 +30,7 @@ pub record Begins (limits : Limits) (s : Session) : Type 0 where
   pub limited : limits_in s.cache ≡ limits
   pub ready : s.spent ≡ false
   pub unused : core.steps s.cache + bytes_received s.cache ≡ 0
+  pub no_text : has_text s ≡ false
 
 -- with what an image has
 pub record BeginsWith (limits : Limits) (image : List ℕ) (s : Session) : Type 0 where
@@ -33,6 +38,7 @@ pub record BeginsWith (limits : Limits) (image : List ℕ) (s : Session) : Type 
   pub read : IsRead image contents
   pub begun : Begun limits contents s.cache
   pub ready : s.spent ≡ false
+  pub no_text : has_text s ≡ false
 
 -- or the text is no image, or its contents are refused, or memory was
 pub data IsUnopened (limits : Limits) (image : List ℕ) (e : CallRefusal) : Type 0 where
@@ -49,13 +55,14 @@ refused_at s now =
     else if nat_lt now (last_moment s.cache) || nat_le (2 ^ 62) now then Some refused.BadMoment
     else None
 
--- An event was answered at a moment: the acts are those of one entry more, and none of them was told.
+-- An event was answered at a moment: the acts are those of one entry more, and none of them was told. No text goes on behind it.
 pub record Answered (s u : Session) (now : ℕ) (event : Event) : Type 0 where
   pub answers : Answers s.cache u.cache now event (act_list u.acts)
   pub unreported : u.reported ≡ 0
   pub moment : last_moment u.cache ≡ now
   pub received : bytes_received u.cache ≡ bytes_received s.cache + received_in event
   pub ready : u.spent ≡ false
+  pub no_text : has_text u ≡ false
 
 -- the event that was made was answered
 abbrev pub HasAnswered : Session → Session → ℕ → Made → Type 0
@@ -68,9 +75,9 @@ IsOwed (Some why) made e = e ≡ why
 IsOwed None (Err why) e = e ≡ why
 IsOwed None (Ok event) e = e ≡ refused.NoMemory
 
--- nothing is answered any more, and there is no act to tell
+-- nothing is answered any more, and there is no act and no report to tell
 abbrev pub IsSilent : Session → Type 0
-IsSilent s = (s.spent ≡ true) × (act_list s.acts ≡ []) × (s.reported ≡ 0)
+IsSilent s = (s.spent ≡ true) × (act_list s.acts ≡ []) × (s.reported ≡ 0) × (has_text s ≡ false)
 
 -- why it isn't: where memory was refused nothing is answered any more, and else nothing has changed
 pub record IsRefused (s u : Session) (now : ℕ) (made : Made) (e : CallRefusal) : Type 0 where
@@ -90,6 +97,7 @@ IsNext s u None = (slice_get (act_list s.acts) s.reported ≡ None) × (u ≡ s)
 IsNext s u (Some numbers) =
     (act : Act) × (slice_get (act_list s.acts) s.reported ≡ Some act) × (numbers ≡ numbers_of act)
     × (u.reported ≡ s.reported + 1) × (act_list u.acts ≡ act_list s.acts) × (u.cache ≡ s.cache) × (u.spent ≡ s.spent)
+    × (u.schedule ≡ s.schedule)
 
 -- the bytes of an act, if there is one
 abbrev pub bytes_in : Option Act → List ℕ
@@ -136,3 +144,4 @@ pub record IsCopied (s u : Session) (room : List ℕ) (result : Result ℕ CallR
   pub spent : u.spent ≡ s.spent
   pub acts : act_list u.acts ≡ act_list s.acts
   pub reported : u.reported ≡ s.reported
+  pub text : u.schedule ≡ s.schedule

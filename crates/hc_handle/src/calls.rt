@@ -4,14 +4,19 @@ ghost use Rattle.hc_binary.specs.Copies.{HoldsPrefix};
 ghost use Rattle.hc_binary.specs.Events.{Made, Makes, numbered, start_made, poll_made, head_made, piece_made, doom_made};
 ghost use Rattle.hc_event.specs.WithinLimits.{IsEventWithinLimits};
 ghost use Rattle.hc_event.specs.declared.event.Event.TheVariants as event;
-ghost use Rattle.hc_handle.specs.Calls.{answer_code, Comes, IsBegun, IsOpened, IsClosed, HasNext, NoNext, bytes_in_handle, ArePictured, AllStay, moment_in, live_in_handle};
+ghost use Rattle.hc_handle.specs.Calls.{answer_code, Comes, IsBegun, IsOpened, IsClosed, HasNext, NoNext, bytes_in_handle, ArePictured, AllStay, Reads, Finishes, IsTold, HasReport, told_at, refused_in_handle, report_in_handle, moment_in, live_in_handle};
+ghost use Rattle.hc_handle.specs.Texts.{number_of};
 
 use crate::handle::Handle;
 use crate::session::Session;
 use hc_binary::{ActNumbers, Asked, CallRefusal};
 use hc_event::Event;
 use hc_rules::Limits;
+use hc_sched::{Refused, SchedRefusal};
 use std::alloc::Global;
+
+/// The code of a text that is refused.
+const BAD_TEXT: u32 = 14;
 
 /// The code of an answer.
 fn code_of(answered: Result<(), CallRefusal>) -> u32
@@ -206,6 +211,88 @@ pub fn image(alloc: Global, handle: &mut Handle, into: &mut [u8], len: &mut usiz
         }
         Err(why) => why.code(),
     }
+}
+
+/// The number of a reason, as `replay` tells it.
+fn number_of(why: SchedRefusal) -> u32
+    ensures { result ≡ number_of why }
+{
+    match why {
+        SchedRefusal::BadLine => 1,
+        SchedRefusal::LineTooLong => 2,
+        SchedRefusal::BadTarget => 3,
+        SchedRefusal::MomentBack { .. } => 4,
+        SchedRefusal::CutShort => 5,
+    }
+}
+
+/// Where a text is refused, which is told at its code alone.
+fn told_at(code: u32, refused: Option<Refused>) -> Option<Refused>
+    ensures { result ≡ told_at code refused }
+{
+    if code == BAD_TEXT { refused } else { None }
+}
+
+/// Writes the line that is refused and the number of the reason, if one is.
+fn write_refused(refused: Option<Refused>, line: &mut u64, why: &mut u32)
+    ensures { IsTold refused line.old line.new why.old why.new }
+{
+    if let Some(refused) = refused {
+        *line = refused.line;
+        *why = number_of(refused.why);
+    }
+}
+
+/// Reads a further piece of a text: the cache is stepped by the events that it brings, up to a line that is refused. Their report is
+/// made. At 14 `line` is the line that is refused, from 1, and `why` the number of the reason.
+pub fn schedule(
+    alloc: Global,
+    handle: &mut Handle,
+    text: &[u8],
+    line: &mut u64,
+    why: &mut u32,
+) -> u32
+    ensures read { Reads handle.old.pointer.session handle.new.pointer.session text.now result }
+    ensures told { IsTold (told_at result (refused_in_handle handle.new.pointer.session))
+        line.old line.new why.old why.new }
+{
+    let Some(mut session) = handle.take(alloc) else {
+        return 1;
+    };
+    let code = code_of(session.read_on(alloc, text));
+    let refused = told_at(code, session.refused());
+    *handle = Handle::of(session);
+    write_refused(refused, line, why);
+    code
+}
+
+/// The text ends here. At 14 a line or field lines are missing, and `line` and `why` are as above.
+pub fn schedule_end(alloc: Global, handle: &mut Handle, line: &mut u64, why: &mut u32) -> u32
+    ensures finished { Finishes handle.old.pointer.session handle.new.pointer.session result }
+    ensures told { IsTold (told_at result (refused_in_handle handle.new.pointer.session))
+        line.old line.new why.old why.new }
+{
+    let Some(mut session) = handle.take(alloc) else {
+        return 1;
+    };
+    let code = code_of(session.finish());
+    let refused = told_at(code, session.refused());
+    *handle = Handle::of(session);
+    write_refused(refused, line, why);
+    code
+}
+
+/// Copies the first bytes of the report of the last piece, as many as fit, and says how many it has in all.
+pub fn report(alloc: Global, handle: &mut Handle, into: &mut [u8]) -> usize
+    ensures report { HasReport (report_in_handle handle.old.pointer.session) into.new result }
+    ensures same { handle.new.pointer.session ≡ handle.old.pointer.session }
+{
+    let Some(session) = handle.take(alloc) else {
+        return hc_binary::put(b"", into, 0);
+    };
+    let len = session.copy_report(into);
+    *handle = Handle::of(session);
+    len
 }
 
 /// How often the store failed. One in memory never does.

@@ -3,6 +3,11 @@
 
 pub mod calls;
 pub mod handle;
+mod laws;
 mod picture;
 pub mod pointer;
 pub mod session;
+mod stepping;
+mod texts;
+
+pub use laws::texts_are_replayed;

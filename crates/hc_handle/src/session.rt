@@ -1,13 +1,15 @@
 //! A cache, and what its last event led to.
-ghost use Rattle.std.specs.Prelude.{◌≡◌, ◌≢◌, [], Option, Some, None, true, false, IfOk, IfErr, IfSome, OnOk, OnErr};
+ghost use Rattle.std.specs.Prelude.{◌≡◌, ◌≢◌, ◌<◌, ◌^◌, [], Option, Some, None, true, false, is_some, IfOk, IfErr, IfSome, OnOk, OnErr};
 ghost use Rattle.std.proofs.Props.{props};
-ghost use Rattle.hc_core.specs.Steps.{has_failed};
+ghost use Rattle.hc_core.specs.Steps.{has_failed, last_moment, steps, bytes_received};
 ghost use Rattle.hc_event.specs.Acts.{act_list};
+ghost use Rattle.hc_handle.specs.Readings.{MayReadOn};
 
 use crate::picture::{begin_with, image_of, read_whole};
 use hc_binary::{ActNumbers, CallRefusal, copy_act, numbers_of, put};
 use hc_core::Cache;
 use hc_event::{Acts, Event};
+use hc_piecewise::Schedule;
 use hc_rules::Limits;
 use hc_store::Memory;
 use std::alloc::Global;
@@ -31,9 +33,15 @@ pub struct Session {
     pub(crate) acts: Acts,
     /// How many of them were told.
     pub(crate) reported: usize,
+    /// That of the text that is handed in, if events come by it.
+    pub(crate) schedule: Option<Schedule>,
     ghost tied: { spent ≡ false → has_failed cache ≡ false } by { Prim.hlevel props },
     ghost silent: { spent ≡ true → act_list acts ≡ [] } by { Prim.hlevel props },
     ghost unreported: { spent ≡ true → reported ≡ 0 } by { Prim.hlevel props },
+    ghost no_text: { spent ≡ true → is_some schedule ≡ false } by { Prim.hlevel props },
+    ghost early: { spent ≡ false → last_moment cache < 2 ^ 62 } by { Prim.hlevel props },
+    ghost goes_on: { ∥ (spent ≡ false
+        → MayReadOn schedule (last_moment cache) (steps cache) (bytes_received cache)) ∥₁ },
 }
 
 impl Session {
@@ -53,6 +61,7 @@ impl Session {
             cache,
             acts: Acts::new(alloc),
             reported: 0,
+            schedule: None,
         })
     }
 
@@ -68,6 +77,7 @@ impl Session {
             cache,
             acts: Acts::new(alloc),
             reported: 0,
+            schedule: None,
         })
     }
 
@@ -89,10 +99,11 @@ impl Session {
     }
 
     /// Memory was refused.
-    fn spend(&mut self)
+    pub(crate) fn spend(&mut self)
         ensures { IsSilent self.new }
     {
         self.spent = true;
+        self.schedule = None;
         self.acts.clear();
         self.reported = 0;
     }
@@ -120,7 +131,7 @@ impl Session {
         }
     }
 
-    /// Steps the cache by an event.
+    /// Steps the cache by an event. No text goes on behind it.
     fn step(&mut self, now: u64, event: &Event) -> Result<(), CallRefusal>
         requires admitted { refused_at self.old now ≡ None }
         requires within_limits { IsEventWithinLimits event.now }
@@ -128,6 +139,7 @@ impl Session {
         ensures memory { IfErr result (λ e. e ≡ CallRefusal.NoMemory) }
         ensures spent { OnErr result (IsSilent self.new) }
     {
+        self.schedule = None;
         self.acts.clear();
         self.reported = 0;
         self.spent = true;

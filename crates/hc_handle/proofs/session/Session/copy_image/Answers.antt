@@ -1,6 +1,20 @@
-use Rattle.std.proofs.Common.{refl, arith, rules}
+use Rattle.std.proofs.Common.{refl, ◌∙◌, arith, rules}
 use Rattle.hc_binary.proofs.Rooms.{holds_from}
+use Rattle.hc_handle.proofs.TextPieces.{keeps_same}
 use Rattle.hc_handle.proofs.session.Session.copy_image.Goals as goal
+
+pub invariant_of-self : goal.invariant_of-self
+invariant_of-self c =
+    let s = c.args.self.now in
+    let stays = c.image_of.ensures.stays in
+    record {
+      tied = λ ready. stays.failed ∙ s.tied ready;
+      silent = s.silent;
+      unreported = s.unreported;
+      no_text = s.no_text;
+      early = λ ready. let at = stays.moment in let before = s.early ready in omega (arith, at, before);
+      goes_on = keeps_same s.schedule _ _ _ _ _ _ s.spent stays.moment stays.steps stays.received s.goes_on;
+    }
 
 pub returns : goal.returns
 returns c = record {
@@ -16,4 +30,5 @@ returns c = record {
   spent = refl;
   acts = refl;
   reported = refl;
+  text = refl;
 }

@@ -12,4 +12,5 @@ returns c =
       refl,
       refl,
       refl,
+      refl,
     )

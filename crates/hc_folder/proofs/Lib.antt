@@ -6,3 +6,4 @@ pub mod Seals
 pub mod Renewals
 pub mod Unread
 pub mod Saying
+pub mod Recorded

@@ -8,17 +8,17 @@ use Rattle.hc_folder.proofs.Taking.{long_block}
 
 -- ONE MORE
 
-blocks-more : (sum : List ℕ) (texts : List (List ℕ)) (t : List ℕ) → blocks sum (texts ++ t ∷ []) ≡ blocks sum texts ++ block (sum_through sum texts) t
+pub blocks-more : (sum : List ℕ) (texts : List (List ℕ)) (t : List ℕ) → blocks sum (texts ++ t ∷ []) ≡ blocks sum texts ++ block (sum_through sum texts) t
 blocks-more sum [] t = append-nil (block sum t)
 blocks-more sum (a ∷ texts) t =
     ap (λ l. block sum a ++ l) (blocks-more (sum_after sum a) texts t) ∙
     sym (append_assoc (block sum a) (blocks (sum_after sum a) texts) (block (sum_through (sum_after sum a) texts) t))
 
-sum_through-more : (sum : List ℕ) (texts : List (List ℕ)) (t : List ℕ) → sum_through sum (texts ++ t ∷ []) ≡ sum_after (sum_through sum texts) t
+pub sum_through-more : (sum : List ℕ) (texts : List (List ℕ)) (t : List ℕ) → sum_through sum (texts ++ t ∷ []) ≡ sum_after (sum_through sum texts) t
 sum_through-more sum [] t = refl
 sum_through-more sum (a ∷ texts) t = sum_through-more (sum_after sum a) texts t
 
-short-more : (texts : List (List ℕ)) (t : List ℕ) → AreShort texts → IsShort t → AreShort (texts ++ t ∷ [])
+pub short-more : (texts : List (List ℕ)) (t : List ℕ) → AreShort texts → IsShort t → AreShort (texts ++ t ∷ [])
 short-more [] t all one = (one, tt)
 short-more (a ∷ texts) t all one = (all.0, short-more texts t all.1 one)
 

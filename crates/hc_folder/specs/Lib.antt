@@ -5,3 +5,4 @@ pub mod Files
 pub mod Causes
 pub mod Records
 pub mod Says
+pub mod Recording

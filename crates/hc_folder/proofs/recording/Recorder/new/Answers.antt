@@ -1,0 +1,10 @@
+use Rattle.std.proofs.Common.{refl}
+use Rattle.hc_folder.proofs.Recorded.{begun}
+use Rattle.hc_folder.proofs.recording.Recorder.new.Goals as goal
+
+pub returns-clause-recorded : goal.returns-clause-recorded
+returns-clause-recorded g c =
+    begun _ c.args.file c.args.number c.args.sum 0 c.new-waiting.result.items (g.F.Folder.files c.args.folder) refl refl c.new-waiting.ensures.items
+
+pub returns-clause-folder : goal.returns-clause-folder
+returns-clause-folder g c = refl

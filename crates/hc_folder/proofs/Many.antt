@@ -1,10 +1,7 @@
 -- Blocks one behind the other.
-use Rattle.std.proofs.{Common.{◌≡◌, ℕ, ◌+◌, ◌<◌, ◌≤◌, ◌^◌, List, [], ◌∷◌, ◌++◌, length, refl, ap, sym, subst, ◌∙◌, arith, length-append, append_assoc}, lemmas.{List.{append-nil}, List.Folds.{concat-append}}}
-use Rattle.std.specs.List.{concat}
+use Rattle.std.{proofs.{Common.{◌≡◌, ℕ, ◌+◌, ◌<◌, ◌≤◌, ◌^◌, List, [], ◌∷◌, ◌++◌, length, refl, ap, sym, subst, ◌∙◌, arith, length-append, append_assoc}, lemmas.List.{append-nil, Folds.{concat-append}}}, specs.List.{concat}}
 use Rattle.hc_folder.specs.Blocks.{head_of, block, blocks, sum_after, sum_through, IsShort, AreShort, IsCut, IsBroken, IsReadTo, HasText, IsBrokenAt}
-use Rattle.hc_folder.proofs.Lengths.{length-head}
-use Rattle.hc_folder.proofs.Once.{block_once}
-use Rattle.hc_folder.proofs.Taking.{long_block}
+use Rattle.hc_folder.proofs.{Lengths.{length-head}, Once.{block_once}, Taking.{long_block}}
 
 -- ONE MORE
 

@@ -4,11 +4,8 @@
 -- (`torn_behind`), and one that is made has a block more (`put_behind`). Of what calls do to the files, what was written is
 -- taken from before to after (`carried`): an image is put or owed still (`owed_put`, `owed_left`), and what waits is put or
 -- waits still (`waiting_put`, `waiting_left`).
-use Rattle.std.{proofs.{Common.{◌≡◌, ◌⊎◌, ℕ, ◌+◌, ◌<◌, ◌≤◌, ◌^◌, List, [], ◌∷◌, ◌++◌, length, take, Option, Some, None, Result, Err, refl, ap, sym, ◌∙◌, subst, inl, inr, arith, le_refl, length-append, append_assoc}, lemmas.{List.{append-nil}, List.Folds.{concat-append}}, Math.Seq.{take-append_seam}}, specs.{Global.{Global}, List.{concat}, Prelude.{Vec, Ok, IfSome, OnOk, OnErr, unwrap_or}, Result.{IsErrAnd}}}
-use Rattle.hc_folder.specs.Blocks.{block, blocks, sum_after, sum_through, IsShort, AreShort}
-use Rattle.hc_folder.specs.Files.{Files, OnFiles, bytes_in, IsImagePut, IsImagePutOrLeft, IsRenewed, IsPartlyRenewed, IsRenewedOrLeft, IsRecordPut, IsRecordTorn, HasPart}
-use Rattle.hc_folder.specs.Recording.{IsBlockPart, IsRecordOf, IsOwedOrThere, AreWritten, HasRecorded}
-use Rattle.hc_folder.specs.declared.recording.Recorder.{Recorder}
+use Rattle.std.{proofs.{Common.{◌≡◌, ◌⊎◌, ℕ, ◌+◌, ◌<◌, ◌≤◌, ◌^◌, List, [], ◌∷◌, ◌++◌, length, take, Option, Some, None, Result, Err, refl, ap, sym, ◌∙◌, subst, inl, inr, arith, le_refl, length-append, append_assoc}, lemmas.List.{append-nil, Folds.{concat-append}}, Math.Seq.{take-append_seam}}, specs.{Global.{Global}, List.{concat}, Prelude.{Vec, Ok, IfSome, OnOk, OnErr, unwrap_or}, Result.{IsErrAnd}}}
+use Rattle.hc_folder.specs.{Blocks.{block, blocks, sum_after, sum_through, IsShort, AreShort}, Files.{Files, OnFiles, bytes_in, IsImagePut, IsImagePutOrLeft, IsRenewed, IsPartlyRenewed, IsRenewedOrLeft, IsRecordPut, IsRecordTorn, HasPart}, Recording.{IsBlockPart, IsRecordOf, IsOwedOrThere, AreWritten, HasRecorded}, declared.recording.Recorder.{Recorder}}
 use Rattle.hc_folder.proofs.Many.{blocks-more, sum_through-more, short-more}
 
 -- from what the files held to what they hold

@@ -1,7 +1,6 @@
 -- An image is put, and then records are removed.
 use Rattle.std.{proofs.Common.{◌≡◌, ◌⊎◌, ℕ, List, Option, Some, None, Result, Err, refl, ap, sym, ◌∙◌, subst, inl, inr}, specs.{Prelude.{Ok, OnOk, OnErr}, Result.{IsErrAnd}}}
-use Rattle.hc_folder.specs.declared.folder.FolderError.{FolderError}
-use Rattle.hc_folder.specs.Files.{Files, OnFiles, IsImagePut, IsImagePutOrLeft, AreRemoved, AreSomeRemoved, IsRenewed, IsPartlyRenewed, IsRenewedOrLeft}
+use Rattle.hc_folder.specs.{declared.folder.FolderError.{FolderError}, Files.{Files, OnFiles, IsImagePut, IsImagePutOrLeft, AreRemoved, AreSomeRemoved, IsRenewed, IsPartlyRenewed, IsRenewedOrLeft}}
 
 -- a relation of two steps
 two_steps : (R S T : Files → Files → Type 0) → ((a b c : Files) → R a b → S b c → T a c) → (a b c : Option Files) →

@@ -1,10 +1,8 @@
 -- A file is of one image.
 use Rattle.std.proofs.{Common.{◌≡◌, ◌≢◌, ℕ, ◌+◌, ◌-◌, ◌<◌, ◌≤◌, ◌^◌, List, [], ◌++◌, length, take, refl, ap, sym, ◌∙◌, arith, length-append, append_assoc}, Math.Seq.{take-append_seam}}
 use Rattle.md5.specs.Md5.{md5}
-use Rattle.hc_folder.specs.Sums.{number_bytes}
-use Rattle.hc_folder.specs.Sealed.{numbered, sealed, image_sum, IsUnsealed, HasSeal}
-use Rattle.hc_folder.proofs.Lengths.{length-number_bytes, number_once, length-md5}
-use Rattle.hc_folder.proofs.Once.{halves_once}
+use Rattle.hc_folder.specs.{Sums.{number_bytes}, Sealed.{numbered, sealed, image_sum, IsUnsealed, HasSeal}}
+use Rattle.hc_folder.proofs.{Lengths.{length-number_bytes, number_once, length-md5}, Once.{halves_once}}
 
 pub length-numbered : (image : List ℕ) (n : ℕ) → length (numbered image n) ≡ length image + 8
 length-numbered image n = omega (arith, length-append image (number_bytes n), length-number_bytes n)

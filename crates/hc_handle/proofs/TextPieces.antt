@@ -8,8 +8,7 @@
 use Rattle.std.{proofs.{Common.{◌≡◌, ℕ, ◌+◌, ◌<◌, ◌≤◌, ◌^◌, ◌||◌, List, [], Bool, Option, Some, None, Ok, Err, length, true, false, refl, sym, ap, subst, ◌∙◌, arith}, lemmas.Bool.{and_parts, Decides.{nat_tests}}, Math.Logic.{∥∥₁_map}}, specs.Prelude.{nat_lt, is_some, if◌then◌else◌}}
 use Rattle.hc_binary.specs.{Refusals.{code_of}, declared.refused.CallRefusal.{CallRefusal}}
 use Rattle.hc_binary.specs.declared.refused.CallRefusal.TheVariants as refused
-use Rattle.hc_core.specs.declared.cache.Cache.{Cache}
-use Rattle.hc_core.specs.Steps.{StandsFor, has_failed, last_moment, bytes_received}
+use Rattle.hc_core.specs.{declared.cache.Cache.{Cache}, Steps.{StandsFor, has_failed, last_moment, bytes_received}}
 use Rattle.hc_core.specs.Steps as core
 use Rattle.hc_event.specs.Acts.{act_list}
 use Rattle.hc_model.specs.{Beginnings.{may_begin}, Entries.{Contents}, Tables.{tables}}
@@ -20,8 +19,7 @@ use Rattle.hc_sched.specs.{declared.schedule.Refused.{Refused}, Reading.{Progres
 use Rattle.hc_sched.specs.declared.schedule.Ended.TheVariants as ended
 use Rattle.hc_store.specs.declared.backend.Backend.{Ghosts}
 use Rattle.hc_handle.specs.Readings as readings
-use Rattle.hc_handle.specs.{declared.session.Session.{Session}, Readings.{MayReadOn}, Sessions.{IsSilent, has_text}, TextLaws.{AreTextsAsOne, AreReplayed}}
-use Rattle.hc_handle.specs.Texts.{CacheBrings, HasEndCause, HasTextCause, IsEnded, IsIdle, IsRead, IsReadOn, IsReported, IsTaken, IsUnended, AnswersInText, entries_at, given_at, progress_at, report_at, text_refusal_at}
+use Rattle.hc_handle.specs.{declared.session.Session.{Session}, Readings.{MayReadOn}, Sessions.{IsSilent, has_text}, TextLaws.{AreTextsAsOne, AreReplayed}, Texts.{CacheBrings, HasEndCause, HasTextCause, IsEnded, IsIdle, IsRead, IsReadOn, IsReported, IsTaken, IsUnended, AnswersInText, entries_at, given_at, progress_at, report_at, text_refusal_at}}
 
 -- a cache that begins with contents comes from an early moment
 pub early_of : {B : Type 0} {g : Ghosts B} (s : Cache B g) (contents : Contents) → StandsFor s contents [] → last_moment s < 2 ^ 62

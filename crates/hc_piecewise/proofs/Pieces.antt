@@ -9,9 +9,8 @@ use Rattle.hc_event.specs.declared.{event.Event.{Event}, act.Act.{Act}}
 use Rattle.hc_sched.specs.{declared.{place.Place.{Place}, schedule.{Refused.{Refused}, Timed.{Timed}}}, Reading.{Progress, Reads, Stopped, Spent, after, events_in, beginning, is_between, refusal_at}, Feeding.{lines_in, ending, progress_at_end}, Laws.{AreTimed}}
 use Rattle.hc_sched.specs.declared.schedule.FeedError.TheVariants as error
 use Rattle.hc_sched.proofs.{FeedLemmas.{after-stopped, events_in-stopped, events_in-append}, OneReading.{brings_timed}}
-use Rattle.hc_driver.specs.declared.stop.Stop.{Stop}
+use Rattle.hc_driver.specs.{declared.stop.Stop.{Stop}, Counting.{size_of, last_moment}, Endings.{IsReading, Wholly}, Pieces.{Passes}, Stepping.{Reports, never}}
 use Rattle.hc_driver.specs.declared.stop.Stop.TheVariants as stop
-use Rattle.hc_driver.specs.{Counting.{size_of, last_moment}, Endings.{IsReading, Wholly}, Pieces.{Passes}, Stepping.{Reports, never}}
 use Rattle.hc_driver.specs.Courses as courses
 use Rattle.hc_driver.specs.Stepping as steps
 use Rattle.hc_driver.proofs.{Sizes.{size_of-append, brought_small, brought_few}, Timings.{timed_from, timed_back}}

@@ -1,7 +1,5 @@
 -- That events are timed has one proof at most.
-use Rattle.std.specs.Coded.{Unit-prop}
-use Rattle.std.proofs.Props.{props}
-use Rattle.std.proofs.Common.{ℕ, List, [], ◌∷◌}
+use Rattle.std.{specs.Coded.{Unit-prop}, proofs.{Props.{props}, Common.{ℕ, List, [], ◌∷◌}}}
 use Rattle.hc_event.specs.declared.event.Event.{Event}
 use Rattle.hc_event.specs.declared.event.Event.TheVariants as event
 use Rattle.hc_sched.specs.{declared.schedule.Timed.{Timed}, Laws.{AreTimed}, Schedule.{IsEvent}}

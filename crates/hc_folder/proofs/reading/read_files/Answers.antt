@@ -1,6 +1,5 @@
 use Rattle.std.{proofs.Common.{◌≡◌, ◌≤◌, arith, subst, ◌∙◌}, specs.Prelude.{IfSome}}
-use Rattle.hc_folder.specs.Says.{IsSmall, HasFilesCause, ReadsBehind}
-use Rattle.hc_folder.specs.{Files.{Files}, declared.folder.ImageFound.{ImageFound}}
+use Rattle.hc_folder.specs.{Says.{IsSmall, HasFilesCause, ReadsBehind}, Files.{Files}, declared.folder.ImageFound.{ImageFound}}
 use Rattle.hc_folder.proofs.Saying.{folder_ends, folder_cause, no_value, lost, nothing, broken_file, older, behind_image}
 use Rattle.hc_folder.proofs.reading.read_files.Goals as goal
 

@@ -1,6 +1,5 @@
 use Rattle.std.proofs.Common.{None}
-use Rattle.hc_folder.specs.Files.{IsRenewed, IsRenewedOrLeft}
-use Rattle.hc_folder.specs.Recording.{AreWritten}
+use Rattle.hc_folder.specs.{Files.{IsRenewed, IsRenewedOrLeft}, Recording.{AreWritten}}
 use Rattle.hc_folder.proofs.Recorded.{carried, owed_left, owed_put, no_more}
 use Rattle.hc_folder.proofs.recording.Recorder.put_owed.Goals as goal
 

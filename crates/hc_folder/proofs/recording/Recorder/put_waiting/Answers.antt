@@ -1,7 +1,5 @@
 use Rattle.std.proofs.Common.{◌≡◌, ◌+◌, ◌++◌, ◌∙◌, [], length, ap, arith, length-append}
-use Rattle.hc_folder.specs.Blocks.{block, sum_after, IsShort}
-use Rattle.hc_folder.specs.Files.{IsRecordPut, IsRecordTorn}
-use Rattle.hc_folder.specs.Recording.{AreWritten}
+use Rattle.hc_folder.specs.{Blocks.{block, sum_after, IsShort}, Files.{IsRecordPut, IsRecordTorn}, Recording.{AreWritten}}
 use Rattle.hc_folder.proofs.{Taking.{length-block}, Recorded.{carried, waiting_left, waiting_put, no_more}}
 use Rattle.hc_folder.proofs.recording.Recorder.put_waiting.Goals as goal
 

@@ -232,17 +232,6 @@ impl KeyLine {
         self.in_line.set(seat.place, None);
         self.holder = released(self.holder, c);
     }
-
-    /// The consumer of the place stands in it no more.
-    pub fn leave_at(&mut self, place: Seat)
-        requires { is_some (consumer_at self.old place.key) ≡ true }
-        ensures { IfSome (consumer_at self.old place.key) (λ c. self.new ≡ left_by c self.old) }
-    {
-        let Some(c) = self.places.get(place.key).copied() else {
-            unreachable!()
-        };
-        self.leave(c);
-    }
 }
 
 /// The consumer stands there from now on. Its place, which stays, is answered.

@@ -9,16 +9,6 @@ use hc_cachectl::read_delta_seconds;
 use hc_fields::Fields;
 use hc_record::StoredHead;
 
-/// How many seconds old the head is at the moment `now` (RFC 9111 section 4.2.3).
-pub fn age(head: &StoredHead, now: u64) -> u64
-    requires came { head.now.requested ≤ head.now.answered }
-    requires later { head.now.answered ≤ now }
-    requires small { now < 2 ^ 62 }
-    ensures { result ≡ age (plain head.now) now }
-{
-    corrected_initial_age(head) + (now - head.answered)
-}
-
 /// How many seconds old the head was when it came.
 #[tactic(auto, unfolding(crate::specs::Ages::corrected_initial_age))]
 pub(crate) fn corrected_initial_age(head: &StoredHead) -> u64

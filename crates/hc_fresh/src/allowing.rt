@@ -12,18 +12,8 @@ use crate::facts::{HeadFacts, RequestFacts};
 use hc_event::{Load, Request, Why};
 use hc_record::StoredHead;
 
-/// Why the stored head may be used for the request at the moment `now`, without validation; None
-/// where it may not (RFC 9111 sections 4 and 5.2).
-pub fn allowed(head: &StoredHead, request: &Request, now: u64) -> Option<Why>
-    requires came { head.now.requested ≤ head.now.answered }
-    requires later { head.now.answered ≤ now }
-    requires small { now < 2 ^ 62 }
-    ensures { result ≡ allowed (plain head.now) request.now now }
-{
-    allowed_to(&HeadFacts::of(head), &RequestFacts::of(request), now)
-}
-
-/// The same, by facts that were told before.
+/// Why a stored head may be used for a request at the moment `now`, without validation, by what they
+/// say of it; None where it may not (RFC 9111 sections 4 and 5.2).
 pub fn allowed_to(head: &HeadFacts, request: &RequestFacts, now: u64) -> Option<Why>
     requires later { head.now.answered ≤ now }
     requires small { now < 2 ^ 62 }
@@ -31,7 +21,7 @@ pub fn allowed_to(head: &HeadFacts, request: &RequestFacts, now: u64) -> Option<
     requires capped { IsCapped request.now.directives }
     ensures value { result ≡ allowed_to head.now request.now now }
 
-    // It answers as `allowed` does.
+    // It is what the head and the request themselves allow.
     ensures alike { (plain : Head) (asked : Asked) → head.now ≡ head_facts plain
         → request.now ≡ request_facts asked → result ≡ allowed plain asked now }
 {

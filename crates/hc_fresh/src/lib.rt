@@ -10,10 +10,8 @@ mod laws;
 mod lifetimes;
 mod vary;
 
-pub use ages::age;
-pub use allowing::{allowed, allowed_to};
+pub use allowing::allowed_to;
 pub use dates::date_in;
 pub use facts::{HeadFacts, RequestFacts};
 pub use laws::uses_are_right;
-pub use lifetimes::lifetime;
 pub use vary::vary_matches;

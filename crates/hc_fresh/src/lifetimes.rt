@@ -13,19 +13,10 @@ use hc_record::StoredHead;
 /// A guessed lifetime is a week at most.
 const WEEK: u64 = 604_800;
 
-/// For how many seconds the head is fresh (RFC 9111 section 4.2.1): by `max-age`, else by Expires,
-/// else a tenth of the time since its Last-Modified, a week at most (section 4.2.2).
+/// For how many seconds the head is fresh (RFC 9111 section 4.2.1): by this `max-age`, which is its own,
+/// else by Expires, else a tenth of the time since its Last-Modified, a week at most (section 4.2.2).
 ///
 /// It is 0 where Expires can't be read or is past, and where nothing tells.
-#[tactic(auto, unfolding(crate::specs::Lifetimes::lifetime))]
-pub fn lifetime(head: &StoredHead) -> u64
-    ensures value { result ≡ lifetime (plain head.now) }
-    ensures small { result < 2 ^ 62 }
-{
-    lifetime_by(read_response(&head.fields).max_age, head)
-}
-
-/// The same, where `max-age` is told apart.
 pub(crate) fn lifetime_by(max_age: Option<u64>, head: &StoredHead) -> u64
     requires { ForSome max_age (λ seconds. seconds ≤ 2 ^ 31) }
     ensures value { result ≡ lifetime_by max_age (plain head.now) }

@@ -33,6 +33,6 @@ pub use range_text::content_range_of;
 pub use reading::{ReadStep, ReadView, read_step};
 pub use refusal::{Gate, OpenExchange, exchange_refusal, refusal_of};
 pub use request::{RequestClass, Wanted, class_of, wanted_of};
-pub use room::{Limits, Room, SLOT_WEIGHT, Write, room_of, weight_of};
+pub use room::{Limits, Room, SLOT_WEIGHT, Write};
 pub use status::{brings_part, brings_whole};
-pub use survivor::{Member, survivor_at};
+pub use survivor::Member;

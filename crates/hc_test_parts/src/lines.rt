@@ -1,13 +1,12 @@
 //! Calls of the line of a key.
-use hc_entry::{KeyLine, Seat};
+use hc_entry::KeyLine;
 use hc_test_frame::{Fault, Vector, note};
 use std::alloc::Global;
 
-/// A line, and the place of who entered last.
+/// A line.
 #[derive(Drop)]
 pub(crate) struct Line {
     line: KeyLine,
-    last: Seat,
 }
 
 impl Line {
@@ -15,7 +14,6 @@ impl Line {
     pub(crate) fn new(alloc: Global) -> Line {
         Line {
             line: KeyLine::new(alloc),
-            last: Seat { key: 0 },
         }
     }
 
@@ -35,9 +33,8 @@ impl Line {
         let c = v.number(0);
         match v.call() {
             "line_new" => self.begin(v.alloc()),
-            "line_enter n" if !self.line.is_in(c) => self.last = self.line.enter(c)?,
-            "line_leave_at_last" if self.line.seated(self.last.key).is_some() => {
-                self.line.leave_at(self.last);
+            "line_enter n" if !self.line.is_in(c) => {
+                self.line.enter(c)?;
             }
             _ => return self.step(c, v),
         }

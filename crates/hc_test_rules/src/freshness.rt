@@ -3,9 +3,7 @@ ghost use Rattle.std.specs.Prelude.{◌≤◌};
 
 use crate::given::{CAME, fields_at, head_at, head_of, request_at};
 use hc_event::{Request, is_safe};
-use hc_fresh::{
-    HeadFacts, RequestFacts, age, allowed, allowed_to, date_in, lifetime, vary_matches,
-};
+use hc_fresh::{HeadFacts, RequestFacts, allowed_to, date_in, vary_matches};
 use hc_record::StoredHead;
 use hc_test_frame::{Fault, Vector, note};
 use hc_text::MethodName;
@@ -34,7 +32,8 @@ fn report_date(v: &Vector, to: &mut String) -> Result<(), Fault> {
 }
 
 fn report_lifetime(v: &Vector, to: &mut String) -> Result<(), Fault> {
-    note(&lifetime(&head_at(v, 0)?), to)
+    let head = head_at(v, 0)?;
+    note(&HeadFacts::of(&head).lifetime, to)
 }
 
 /// Writes how old a head is that was asked for and came at the first two moments, at the third.
@@ -49,7 +48,8 @@ fn report_age_at(head: &StoredHead, now: u64, to: &mut String) -> Result<(), Fau
     if head.answered > now || now >= 1 << 62 {
         return Err(Fault::NoSuchCall);
     }
-    note(&age(head, now), to)
+    let facts = HeadFacts::of(head);
+    note(&(facts.initial_age + (now - head.answered)), to)
 }
 
 fn report_allowed(v: &Vector, to: &mut String) -> Result<(), Fault> {
@@ -58,7 +58,7 @@ fn report_allowed(v: &Vector, to: &mut String) -> Result<(), Fault> {
     report_allowed_to(&head, &request, v.number(0), to)
 }
 
-/// Writes why the head may be used, and also what is told by facts, where that is another answer.
+/// Writes why the head may be used.
 fn report_allowed_to(
     head: &StoredHead,
     request: &Request,
@@ -70,13 +70,8 @@ fn report_allowed_to(
     if head.answered > now || now >= 1 << 62 {
         return Err(Fault::NoSuchCall);
     }
-    let by_head = allowed(head, request, now);
-    let by_facts = allowed_to(&HeadFacts::of(head), &RequestFacts::of(request), now);
-    if by_facts == by_head {
-        note(&by_head, to)
-    } else {
-        note(&(by_head, by_facts), to)
-    }
+    let facts = HeadFacts::of(head);
+    note(&allowed_to(&facts, &RequestFacts::of(request), now), to)
 }
 
 /// Writes whether the head with the first fields, for a request with the second, answers the request too.

@@ -1,20 +1,17 @@
 //! Calls of `hc_rules` on views.
 use crate::given::{is_yes, range_at};
-use crate::words::{bound_at, cause_at, parts_at, span_at, wanted_at, why_at};
+use crate::words::{bound_at, cause_at, span_at, wanted_at, why_at};
 use hc_rules::{
-    Bound, Candidate, Limits, Member, PlanView, ReadView, RequestClass, Write, admission_of,
-    least_bound, lesser, plan_of, read_step, room_of, survivor_at, weight_of,
+    Bound, Candidate, PlanView, ReadView, RequestClass, admission_of, least_bound, lesser, plan_of,
+    read_step,
 };
 use hc_test_frame::{Fault, Vector, note};
-use hc_text::NoMemory;
-use std::alloc::Global;
 
 /// Writes the value of the call. `NoSuchCall` where it is none of these.
 pub(crate) fn call(v: &Vector, to: &mut String) -> Result<(), Fault> {
     match v.call() {
         "read_step nnnwnnn" | "read_step nnnwwnn" => report_step(v, to),
         "lesser nn" => note(&lesser(v.option(0), v.number(1)), to),
-        "weight_of n" => report_weight(v, to),
         _ => call_of_any_count(v, to),
     }
 }
@@ -25,8 +22,6 @@ fn call_of_any_count(v: &Vector, to: &mut String) -> Result<(), Fault> {
         "plan_of" => report_plan(v, to),
         "admission_of" => report_admission(v, to),
         "least_bound" => report_least(v, to),
-        "room_of" => report_room(v, to),
-        "survivor_at" => report_survivor(v, to),
         _ => Err(Fault::NoSuchCall),
     }
 }
@@ -130,68 +125,6 @@ fn bound_from(v: &Vector, from: usize) -> Result<Vec<Bound>, Fault> {
 fn add_bound(v: &Vector, from: usize, bound: &mut Vec<Bound>) -> Result<(), Fault> {
     for at in from..v.argument_count() {
         bound.push(bound_at(v, at)?)?;
-    }
-    Ok(())
-}
-
-fn report_weight(v: &Vector, to: &mut String) -> Result<(), Fault> {
-    let stored = v.number(0);
-    if stored >= 1 << 62 {
-        return Err(Fault::NoSuchCall);
-    }
-    note(&weight_of(stored), to)
-}
-
-/// Writes whether there is room: the limits, how much is used, the write, and what the idle ones weigh.
-fn report_room(v: &Vector, to: &mut String) -> Result<(), Fault> {
-    let limits = Limits {
-        max_entry: v.number(0),
-        max_total: v.number(1),
-    };
-    let used = v.number(2);
-    let (name, [stored, count, _]) = parts_at(v, 3)?;
-    if used >= 1 << 62 || count >= 1 << 62 {
-        return Err(Fault::NoSuchCall);
-    }
-    let write = match name {
-        "slot" => Write::Slot,
-        "piece" => Write::Piece { stored, count },
-        _ => return Err(Fault::NoSuchCall),
-    };
-    note(&room_of(&limits, used, write, &numbers_from(v, 4)?), to)
-}
-
-/// The numbers from this place on.
-fn numbers_from(v: &Vector, from: usize) -> Result<Vec<u64>, NoMemory> {
-    let mut numbers = Vec::new(v.alloc());
-    for at in from..v.argument_count() {
-        numbers.push(v.number(at))?;
-    }
-    Ok(numbers)
-}
-
-/// Writes who stands at the end of what is stored: each member, with where it stands.
-fn report_survivor(v: &Vector, to: &mut String) -> Result<(), Fault> {
-    let members = members_of(v.alloc(), &numbers_from(v, 1)?)?;
-    note(&survivor_at(v.number(0), &members), to)
-}
-
-/// The members that stand in a row, the number and the offset of each.
-fn members_of(alloc: Global, numbers: &[u64]) -> Result<Vec<Member>, Fault> {
-    if numbers.len() % 2 != 0 {
-        return Err(Fault::NoSuchCall);
-    }
-    let mut members = Vec::new(alloc);
-    add_members(numbers, &mut members)?;
-    Ok(members)
-}
-
-fn add_members(numbers: &[u64], members: &mut Vec<Member>) -> Result<(), NoMemory> {
-    for member in numbers.chunks_exact(2) {
-        members.push(Member {
-            c: member[0],
-            offset: member[1],
-        })?;
     }
     Ok(())
 }

@@ -1,19 +1,18 @@
 -- A writer group: the exchange that brings a representation for several, who reads along, and what becomes of them.
-use Rattle.std.specs.Prelude.{◌≡◌, ℕ, ◌+◌, ◌≤◌, List, [], ◌∷◌, length, map, Bool, true, false, Option, Some, None, if◌then◌else◌, not, ◌&&◌}
+use Rattle.std.specs.Prelude.{◌≡◌, ℕ, ◌+◌, ◌≤◌, List, [], ◌∷◌, length, map, Bool, true, false, Option, Some, None, if◌then◌else◌}
 use Rattle.hc_text.specs.Sorted.{is_sorted, has, with_item, without, with_replacement}
 use Rattle.hc_rules.specs.declared.survivor.Member.{Member}
 use Rattle.hc_rules.specs.Admissions.{survivor_at}
 use Rattle.hc_writers.specs.declared.writers.Left.{Left}
 use Rattle.hc_writers.specs.declared.writers.Left.TheVariants as left
 
--- The exchange, the members by number, each with the position at which it stands, where what is stored ends, whether nothing
--- more is stored (then one member at most goes on with what comes), and whether the exchange is over.
+-- The exchange, the members by number, each with the position at which it stands, where what is stored ends, and whether
+-- nothing more is stored: then one member at most goes on with what comes.
 pub record Group : Type 0 where
   pub exchange : ℕ
   pub members : List Member
   pub end : ℕ
   pub alone : Bool
-  pub over : Bool
 
 abbrev pub consumer_of : Member → ℕ
 consumer_of m = m.c
@@ -23,7 +22,7 @@ standing_at c offset = record { c = c; offset = offset }
 
 -- one reads along, from the beginning
 abbrev pub begun : ℕ → ℕ → ℕ → Group
-begun x c end = record { exchange = x; members = standing_at c 0 ∷ []; end = end; alone = false; over = false }
+begun x c end = record { exchange = x; members = standing_at c 0 ∷ []; end = end; alone = false }
 
 abbrev pub at_first : ℕ → Member
 at_first c = standing_at c 0
@@ -31,7 +30,7 @@ at_first c = standing_at c 0
 -- these read along, from the beginning
 abbrev pub resumed : ℕ → List ℕ → ℕ → Group
 resumed x cs end =
-    record { exchange = x; members = map at_first cs; end = end; alone = false; over = false }
+    record { exchange = x; members = map at_first cs; end = end; alone = false }
 
 -- their numbers
 abbrev pub numbers : Group → List ℕ
@@ -51,13 +50,6 @@ grown_by n w = record w { end = w.end + n }
 
 abbrev pub without_member : ℕ → Group → Group
 without_member c w = record w { members = without consumer_of c w.members }
-
-abbrev pub finished : Group → Group
-finished w = record w { over = true }
-
--- what comes is stored for all members
-abbrev pub is_on : Group → Bool
-is_on w = not w.alone && not w.over
 
 -- WHO GOES ON
 

@@ -6,7 +6,7 @@ use crate::rules::two_heads::TwoHeads;
 use crate::rules::validation::bare_request;
 use hc_cachectl::Directives;
 use hc_event::{Load, Request, Why};
-use hc_fresh::{HeadFacts, RequestFacts, allowed, allowed_to};
+use hc_fresh::{HeadFacts, RequestFacts, allowed_to};
 use std::alloc::Global;
 
 /// For how many seconds the heads are fresh.
@@ -23,7 +23,7 @@ pub(super) fn keep_facts(heads: &TwoHeads, times: u64) -> Result<(), BenchError>
     Ok(())
 }
 
-/// `allowed` of a stored head and a request without fields, at the moment at which the head came.
+/// `allowed_to` of a stored head and a request without fields, at the moment at which the head came.
 pub(super) fn allow(alloc: Global, heads: &TwoHeads, times: u64) -> Result<(), BenchError> {
     let request = bare_request(alloc)?;
     allow_often(heads, &request, times)
@@ -32,11 +32,12 @@ pub(super) fn allow(alloc: Global, heads: &TwoHeads, times: u64) -> Result<(), B
 fn allow_often(heads: &TwoHeads, request: &Request, times: u64) -> Result<(), BenchError> {
     for round in 0..times {
         let head = heads.at(round);
-        if head.requested > head.answered
-            || !is_fresh_or_none(allowed(head, request, head.answered))
-        {
+        if head.requested > head.answered {
             return Err(BenchError::Wrong);
         }
+        let facts = HeadFacts::of(head);
+        let why = allowed_to(&facts, &RequestFacts::of(request), head.answered);
+        expect(is_fresh_or_none(why))?;
     }
     Ok(())
 }

@@ -9,7 +9,7 @@ use Rattle.hc_text.proofs.Basics.{either, leb-lt}
 use Rattle.hc_range.specs.declared.range.Span.{Span}
 use Rattle.hc_event.specs.declared.act.Why.{Why}
 use Rattle.hc_rules.specs.declared.need.Route.TheVariants as route
-use Rattle.hc_rules.specs.{declared.{request.Wanted.{Wanted}, plan.{Plan.{Plan, TheVariants.{Direct, Turn, Fetch, Bind, FirstHole, Busy, Miss}}, Candidate.{Candidate}, PlanView.{PlanView}}}, Needs.{route_of}, Plans.{plan_of, bare_plan, by_current, by_why, by_wanted, by_exclusive, by_hole, by_bound, why_by, allowed_by, in_time, from_store}, Laws.{IsRightPlan, HasTurn, MayRead, PlansAreRight}}
+use Rattle.hc_rules.specs.{declared.{request.Wanted.{Wanted}, plan.{Plan.{Plan, TheVariants.{Direct, Turn, Fetch, Bind, FirstHole, Busy, Miss}}, Candidate.{Candidate}, PlanView.{PlanView}}}, Needs.{route_of}, Plans.{plan_of, bare_plan, by_current, by_why, by_wanted, by_exclusive, by_hole, by_bound, why_by, allowed_by, longest_wait, in_time, from_store}, Laws.{IsRightPlan, HasTurn, MayRead, PlansAreRight}}
 use Rattle.hc_rules.specs.declared.request.Wanted.TheVariants as wants
 
 -- what the first row that applies says, before the exceptions
@@ -79,7 +79,7 @@ timed-right v (Bind why span) plain h = h
 timed-right v (FirstHole span hole) plain h = (plain, h plain)
 timed-right v Miss plain h = absurd h
 timed-right v _ plain h =
-    either (IsRightPlan v) (leb (v.since + 20) v.moment) _ _ (λ _. (plain, refl)) (λ early. (plain, h, leb-lt (v.since + 20) v.moment early))
+    either (IsRightPlan v) (leb (v.since + longest_wait) v.moment) _ _ (λ _. (plain, refl)) (λ early. (plain, h, leb-lt (v.since + longest_wait) v.moment early))
 
 stored-right : (v : PlanView) (p : Plan) → v.class.only ≡ true → IsBare v p → IsRightPlan v (from_store p)
 stored-right v (Bind why span) only h = h

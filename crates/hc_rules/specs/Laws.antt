@@ -45,7 +45,7 @@ use Rattle.hc_rules.specs.declared.survivor.Member.{Member}
 use Rattle.hc_rules.specs.Needs.{route_of}
 use Rattle.hc_rules.specs.Refusals.{refusal_of}
 use Rattle.hc_rules.specs.HeadCases.{head_case}
-use Rattle.hc_rules.specs.Plans.{plan_of, plan_on, why_by, allowed_by}
+use Rattle.hc_rules.specs.Plans.{longest_wait, plan_of, plan_on, why_by, allowed_by}
 use Rattle.hc_rules.specs.Readings.{read_step}
 use Rattle.hc_rules.specs.Rooms.{gives_way}
 use Rattle.hc_rules.specs.Admissions.{admission_of, is_of, numbers, least_of, least_bound, survivor_at, stands_at}
@@ -238,9 +238,9 @@ HasTurn v = (v.turn ≡ v.c) ⊎ ((v.passed ≡ true) × IsSome (why_by v.kept (
 abbrev pub MayRead : PlanView → Why → Type 0
 MayRead v why = why_by v.kept (allowed_by v.current) ≡ Some why
 
--- it hasn't waited for 20 seconds
+-- it hasn't waited for so long that it goes past the store
 abbrev pub MayWait : PlanView → Type 0
-MayWait v = v.moment < v.since + 20
+MayWait v = v.moment < v.since + longest_wait
 
 -- what a plan says of its view
 abbrev pub IsRightPlan : PlanView → Plan → Type 0

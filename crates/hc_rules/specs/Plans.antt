@@ -83,10 +83,14 @@ bare_plan v =
     else if v.class.bypassing then plan.Fetch need.Bypass
     else by_current v v.current
 
--- whoever waited for 20 seconds goes past the store
+-- after so many seconds nobody waits for another any more
+abbrev pub longest_wait : ℕ
+longest_wait = 20
+
+-- whoever waited so long goes past the store
 abbrev pub in_time : PlanView → Plan → Plan
-in_time v (plan.Turn d) = if nat_le (v.since + 20) v.moment then plan.Direct need.TimedOut else plan.Turn d
-in_time v (plan.Busy d kept) = if nat_le (v.since + 20) v.moment then plan.Direct need.TimedOut else plan.Busy d kept
+in_time v (plan.Turn d) = if nat_le (v.since + longest_wait) v.moment then plan.Direct need.TimedOut else plan.Turn d
+in_time v (plan.Busy d kept) = if nat_le (v.since + longest_wait) v.moment then plan.Direct need.TimedOut else plan.Busy d kept
 in_time v p = p
 
 -- without asking the origin

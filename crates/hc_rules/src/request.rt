@@ -1,10 +1,11 @@
 //! What a request is to the cache.
 ghost use Rattle.std.specs.Prelude.{◌≡◌, IfSome};
 ghost use Rattle.hc_range.specs.Spans.{IsInOrder};
-ghost use Rattle.hc_rules.specs.Requests.{class_of, wanted_of, has_condition, ranges_read, ranges_in};
+ghost use Rattle.hc_cachectl.specs.Directives.{of_request};
+ghost use Rattle.hc_rules.specs.Requests.{class_of, is_disabled, is_only, is_bypassing, range_of, wanted_of, has_condition, ranges_read, ranges_in};
 
 use crate::range_text::asked_in;
-use hc_cachectl::read_request;
+use hc_cachectl::{Directives, read_request};
 use hc_event::{Load, Request};
 use hc_fields::{Fields, has_field};
 use hc_range::{RangeSpec, Span, resolve};
@@ -34,28 +35,65 @@ pub enum Wanted {
 }
 
 /// What the request asks of the cache (RFC 9111 sections 5.2.1 and 5.4, RFC 9110 sections 13.1
-/// and 14.2).
-///
-/// It is disabled where its method isn't GET, its load is Disable, it has a condition of its own or
-/// `no-store`, or a Range that stands twice or isn't one that is read.
-#[tactic(auto, unfolding(crate::specs::Requests::class_of, crate::specs::Requests::is_disabled, crate::specs::Requests::is_only, crate::specs::Requests::is_bypassing, crate::specs::Requests::range_of))]
+/// and 14.2). Its directives are read once.
+#[tactic(auto, unfolding(crate::specs::Requests::class_of))]
 pub fn class_of(request: &Request) -> RequestClass
     ensures class { result ≡ class_of request.now }
     ensures ordered { IfSome result.range IsInOrder }
 {
     let said = read_request(&request.fields);
-    let range = read_ranges(&request.fields);
-    let disabled = request.method.bytes.as_slice() != b"GET".as_slice()
+    let disabled = is_disabled(request, &said);
+    RequestClass {
+        disabled,
+        only: is_only(request, &said),
+        bypassing: is_bypassing(request, &said),
+        range: range_of(request, disabled),
+    }
+}
+
+/// Whether it goes past the cache: its method isn't GET, its load is Disable, it has a condition of
+/// its own or `no-store`, or a Range that stands twice or isn't one that is read.
+#[tactic(auto, unfolding(crate::specs::Requests::is_disabled))]
+fn is_disabled(request: &Request, said: &Directives) -> bool
+    requires { said.now ≡ of_request request.now.fields }
+    ensures { result ≡ is_disabled request.now }
+{
+    request.method.bytes.as_slice() != b"GET".as_slice()
         || request.load == Load::Disable
         || has_condition(&request.fields)
         || said.no_store
-        || range.is_none();
-    RequestClass {
-        disabled,
-        only: request.load == Load::Only || said.only_if_cached,
-        bypassing: request.load == Load::Bypass || said.no_cache,
-        range: if disabled { None } else { range.flatten() },
+        || read_ranges(&request.fields).is_none()
+}
+
+/// Whether it is for what is stored alone.
+#[tactic(auto, unfolding(crate::specs::Requests::is_only))]
+fn is_only(request: &Request, said: &Directives) -> bool
+    requires { said.now ≡ of_request request.now.fields }
+    ensures { result ≡ is_only request.now }
+{
+    request.load == Load::Only || said.only_if_cached
+}
+
+/// Whether it goes past what is stored, which is then forgotten.
+#[tactic(auto, unfolding(crate::specs::Requests::is_bypassing))]
+fn is_bypassing(request: &Request, said: &Directives) -> bool
+    requires { said.now ≡ of_request request.now.fields }
+    ensures { result ≡ is_bypassing request.now }
+{
+    request.load == Load::Bypass || said.no_cache
+}
+
+/// The range that it asks the cache for. A request that goes past the cache asks it for none.
+#[tactic(auto, unfolding(crate::specs::Requests::range_of))]
+fn range_of(request: &Request, disabled: bool) -> Option<RangeSpec>
+    requires { disabled ≡ is_disabled request.now }
+    ensures value { result ≡ range_of request.now }
+    ensures ordered { IfSome result IsInOrder }
+{
+    if disabled {
+        return None;
     }
+    read_ranges(&request.fields).flatten()
 }
 
 /// The range that the fields ask for, if any. None where Range stands twice or isn't one that is read.

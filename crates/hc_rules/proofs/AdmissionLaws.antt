@@ -2,24 +2,12 @@
 use Rattle.std.{proofs.{lemmas.Bool.Decides.{nat_tests}, Common.{arith, ◌≡◌, ℕ, Bool, cond, Option, Some, None, ap, ◌∙◌}}, specs.Prelude.{◌&&◌, is_some, is_none}}
 use Rattle.hc_range.specs.declared.range.{RangeSpec.{RangeSpec}, Span.{Span}}
 use Rattle.hc_event.specs.declared.act.Why.{Why}
-use Rattle.hc_rules.specs.{declared.{request.Wanted.{Wanted}, plan.{Plan.{Plan, TheVariants.{Bind}}, Candidate.{Candidate}, PlanView.{PlanView}}, admission.Admission.{Admission, TheVariants.{Reader}}}, Plans.{by_wanted, by_exclusive, by_hole, by_bound, busy}, Admissions.{admission_of, beside_group, beside_exclusive, with_holes, least_of}, Laws.{carried_out, AdmitsAsPlanned}}
+use Rattle.hc_rules.specs.{declared.{request.Wanted.{Wanted}, plan.{Plan.{Plan, TheVariants.{Bind}}, Candidate.{Candidate}, PlanView.{PlanView}}, admission.Admission.{Admission, TheVariants.{Reader}}}, Plans.{by_wanted, by_exclusive, busy}, Admissions.{admission_of, beside_group, beside_exclusive, with_holes, least_of}, Laws.{carried_out, AdmitsAsPlanned}}
 use Rattle.hc_rules.specs.declared.admission.BoundKind.TheVariants as kind
-
-bound-planned : (v : PlanView) (why : Why) (span hole : Span) (least : Option ℕ) →
-    by_bound v span hole least ≡ carried_out v why span (Some hole) (with_holes least)
-bound-planned v why span hole least = grind (arith, nat_tests)
-
-hole-planned : (v : PlanView) (s : Candidate) (why : Why) (span : Span) (hole : Option Span) →
-    by_hole v s why span hole ≡ carried_out v why span hole (cond (is_some hole) (with_holes s.least_bound) Reader)
-hole-planned v s why span hole = grind (arith, nat_tests)
 
 -- beside the exclusive writer, if there is one
 abbrev others : Candidate → Option ℕ → Admission
 others s exclusive = beside_exclusive exclusive (cond (is_some s.hole) (with_holes s.least_bound) Reader)
-
-exclusive-planned : (v : PlanView) (s : Candidate) (why : Why) (span : Span) (d : Option ℕ) →
-    by_exclusive v s why span d ≡ carried_out v why span s.hole (others s d)
-exclusive-planned v s why span d = grind (arith, nat_tests)
 
 writer_group-planned : (v : PlanView) (s : Candidate) (why : Why) (span : Span) (range : Option RangeSpec) (writer_group : Bool) (shared : Option ℕ) →
     writer_group ≡ is_some shared

@@ -1,9 +1,6 @@
 -- The least of a list, taken element by element.
-use Rattle.std.{proofs.{lemmas.{Bool.{cases_Bool, Decides.{nat_tests}}, List.{take_more, map-append, append-nil, Elements.{filter-append}}}, Common.{◌≡◌, ℕ, ◌+◌, ◌<◌, Bool, true, false, cond, List, [], ◌∷◌, ◌++◌, length, take, map, get_or, Option, refl, ap, ◌∙◌, inl, inr, arith}}, specs.Prelude.{filter, min}}
+use Rattle.std.{proofs.{lemmas.{Bool.{cases_Bool, Decides.{nat_tests}}, List.{take_more, map-append, append-nil, Elements.{filter-append}}}, Common.{◌≡◌, ℕ, ◌+◌, ◌<◌, Bool, true, false, cond, List, [], ◌∷◌, ◌++◌, length, take, map, get_or, Option, refl, ap, ◌∙◌, inl, inr, arith}}, specs.Prelude.{filter}}
 use Rattle.hc_rules.specs.Admissions.{lesser, least}
-
-min_swap : (a x y : ℕ) → min (min a x) y ≡ min (min a y) x
-min_swap a x y = omega arith
 
 lesser_swap : (a : Option ℕ) (x y : ℕ) → lesser (lesser a x) y ≡ lesser (lesser a y) x
 lesser_swap a x y = grind (arith, nat_tests)

@@ -9,7 +9,7 @@ use Rattle.hc_text.proofs.Basics.{either, leb-lt}
 use Rattle.hc_range.specs.declared.range.Span.{Span}
 use Rattle.hc_event.specs.declared.act.Why.{Why}
 use Rattle.hc_rules.specs.declared.need.Route.TheVariants as route
-use Rattle.hc_rules.specs.{declared.{request.Wanted.{Wanted}, plan.{Plan.{Plan, TheVariants.{Direct, Turn, Fetch, Bind, FirstHole, Busy, Miss}}, Candidate.{Candidate}, PlanView.{PlanView}}}, Needs.{route_of}, Plans.{plan_of, bare_plan, by_current, by_why, by_wanted, by_exclusive, by_hole, by_bound, why_by, allowed_by, longest_wait, in_time, from_store}, Laws.{IsRightPlan, HasTurn, MayRead, PlansAreRight}}
+use Rattle.hc_rules.specs.{declared.{request.Wanted.{Wanted}, plan.{Plan.{Plan, TheVariants.{Direct, Turn, Fetch, Bind, FirstHole, Busy, Miss}}, Candidate.{Candidate}, PlanView.{PlanView}}}, Needs.{route_of}, Plans.{plan_of, bare_plan, by_current, by_why, by_wanted, by_exclusive, why_by, allowed_by, longest_wait, in_time, from_store}, Laws.{IsRightPlan, HasTurn, MayRead, PlansAreRight}}
 use Rattle.hc_rules.specs.declared.request.Wanted.TheVariants as wants
 
 -- what the first row that applies says, before the exceptions
@@ -44,13 +44,6 @@ turn_held false false kept allowed turn c plain h = elim (cases_Bool (eqb turn c
 
 turn_other : (waits : Bool) (turn c : ℕ) (only : Bool) → (waits && not (eqb turn c) && not only) ≡ true → turn ≢ c
 turn_other waits turn c only h same = grind (arith, nat_tests)
-
-bound-right : (v : PlanView) (span hole : Span) (least : Option ℕ) → (v.class.only ≡ false → HasTurn v) → IsBare v (by_bound v span hole least)
-bound-right v span hole least turn = grind (arith, nat_tests)
-
-hole-right : (v : PlanView) (s : Candidate) (why : Why) (span : Span) (hole : Option Span) → (v.class.only ≡ false → HasTurn v) → MayRead v why →
-    IsBare v (by_hole v s why span hole)
-hole-right v s why span hole turn may = grind (arith, nat_tests)
 
 exclusive-right : (v : PlanView) (s : Candidate) (why : Why) (span : Span) (d : Option ℕ) → (v.class.only ≡ false → HasTurn v) → MayRead v why →
     IsBare v (by_exclusive v s why span d)

@@ -12,7 +12,7 @@ def of(option):
 
 TURNS = ("Bypass", "Miss", "Vary", "Validate")
 CONSTANTS = {"Exchanges": "base promised_bytes front", "Currents": "current", "Reading": "is_written bound offset hi_of own_open source",
-             "Writers": "came_alone exclusive", "Dooms": "doomed_key_of", "Lines": "turn", "Weights": "weights", "Polls": "move_of has_joined", "Steps": "run_held_for",
+             "Writers": "came_alone exclusive has_more", "Dooms": "doomed_key_of", "Lines": "turn", "Weights": "weights", "Polls": "move_of has_joined", "Steps": "run_held_for",
              "Keys": "concerns_exchange concerns_representation concerns_consumer loses", "ConsumerRows": "back_in_line",
              "Evictions": "evict_all unevicting", "Tables": "after_accepted", "StartingOver": "starts_over", "Flaws": "flaw_in",
              "Frames": "speaks_of speaks_of_exchange is_event_for beside",
@@ -90,6 +90,7 @@ class Facts:
             self.one_key(old, t, entry)
             self.evictions(old, t, entry)
             self.frames(old, t, entry)
+        self.rests_on(old)
         self.entries.insert(0, entry)
 
     def writes(self, entry):
@@ -484,6 +485,21 @@ class Facts:
                     hi, offset = of(self.hi_of(t, k.place)), self.offset(t, k)
                     lacks = any(of(v.stored(p)) is None for p in range(offset, hi))
                     self.holds("alone: writes", (c == d) == (of(self.own_open(t, k)) is not None or lacks))
+
+    def rests_on(self, old):
+        """Until it is lost: whoever came alone and has nothing more to come has nothing more ever after. What somebody is bound to and
+        nobody writes alone, nobody writes alone ever after."""
+        t = self.t
+        for r, v in self.V.items():
+            was = of(old.representation(r))
+            if was is None or v.is_lost:
+                continue
+            if self.bound(old, r) and of(self.exclusive(old, r, was)) is None:
+                self.holds("rests: nobody writes alone", of(self.exclusive(t, r, v)) is None)
+            for c in self.bound_to(r):
+                k, before = self.K[c], of(old.consumer(c))
+                if c in self.bound(old, r) and self.came_alone(old, before.place) and of(k.due) is None and not self.has_more(old, was, before):
+                    self.holds("rests: has nothing more", not self.has_more(t, v, k))
 
     def known_lengths(self):
         """What isn't gone has a known length, or is being written."""

@@ -152,3 +152,5 @@ pub mod StopEffects
 pub mod StopSeals
 pub mod DoomEffects
 pub mod Step
+pub mod OpensLater
+pub mod RestsOn

@@ -6,12 +6,12 @@
 -- Who is exclusive lacks something, and the other way (`writes_by`).
 use Rattle.std.{proofs.Common.{◌≡◌, ◌<◌, inl, inr, ℕ, ◌+◌, List, [], ◌∷◌, Bool, true, false, Option, Some, None, refl, ap, sym, ◌∙◌, arith}, specs.Prelude.{◌↔◌, filter, is_some, is_none}}
 use Rattle.hc_text.proofs.Basics.{all_three, bool_cases, not_some as none_some, same_some as same_row}
-use Rattle.hc_effects.proofs.Vocabulary.{Cause, Entry, covers, OfRuns, Descends, InOrder, is_written, is_bound, is_bound_place, bound, offset, Tables, Representation, Consumer, Sound, Among, IsBound, IsFirst, tables, after_denied, came_alone, exclusive, has_more, place}
+use Rattle.hc_effects.proofs.Vocabulary.{Cause, Entry, OfRuns, Descends, InOrder, is_written, is_bound, is_bound_place, bound, Tables, Representation, Consumer, Sound, Among, IsBound, IsFirst, tables, after_denied, came_alone, exclusive, has_more, place}
 use Rattle.hc_sparse.specs.Cells.{EndsBy}
 use Rattle.hc_model.specs.Alone.{Alone, IsOnly}
 use Rattle.hc_model.specs.Sound as sound
-use Rattle.hc_effects.proofs.{Basics.{false_true}, Exclusives.{IsExclusive, exclusive_parts}, HasBound.{bound_row}, HoleLemmas.{covers_yes}, HolesOpened.{stored_ends}, Losses.{exclusive_is}, ExclusiveWriters.{eq-refl}, PieceKeeps.{eq_cases}, OfConsumers.{all_below}, Step.{step_of}}
-use Rattle.hc_laws.proofs.{DeniedKeeps.{written_same}, Lone.{AreLone, IsResting, lone_kept}, OrderRuns.{order_in_runs}, RunFacts.{in_runs}, SoundRuns.{carried}}
+use Rattle.hc_effects.proofs.{Basics.{false_true}, Exclusives.{IsExclusive, exclusive_parts}, HasBound.{bound_row}, HolesOpened.{stored_ends}, Losses.{exclusive_is}, ExclusiveWriters.{eq-refl}, PieceKeeps.{eq_cases}, OfConsumers.{all_below}, RestsOn.{IsResting, none_more}, Step.{step_of}}
+use Rattle.hc_laws.proofs.{DeniedKeeps.{written_same}, Lone.{AreLone, lone_kept}, OrderRuns.{order_in_runs}, RunFacts.{in_runs}, SoundRuns.{carried}}
 
 lone_denied : (t : Tables) (e : Entry) → AreLone t → AreLone (after_denied t e)
 lone_denied t e was = record { lone = by_first }
@@ -56,9 +56,7 @@ one_passes test n c (d ∷ ds) down one passes (inr there) = elim (bool_cases (t
 module _ (t : Tables) (s : Sound t) (lone : AreLone t) (order : InOrder t) where
   -- who rests writes nothing
   resting_not : (v : Representation) (k : Consumer) → EndsBy v.reach v.stored → IsResting t v k → has_more t v k ≡ true → ⊥
-  resting_not v k ends i more =
-      let enough : covers v.stored v.reach (offset t k) i.rest.hi ≡ true = covers_yes v.stored v.reach (offset t k) i.rest.hi ends i.rest.covered in
-      false_true (sym (rw (i.unowned, i.rest.end, enough) refl) ∙ more)
+  resting_not v k ends i more = false_true (sym (none_more t v k ends i) ∙ more)
 
   -- nobody else is
   others_not : (r c d : ℕ) (v : Representation) → t.representation r ≡ Some v → v.is_lost ≡ false → IsExclusive t r c v → (u : Consumer) →

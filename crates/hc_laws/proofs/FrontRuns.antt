@@ -10,9 +10,9 @@ use Rattle.hc_effects.proofs.Vocabulary.{Opening, opening_in, Response, Limits, 
 use Rattle.hc_model.specs.Fronts.{Fronts}
 use Rattle.hc_model.specs.Owners as owners
 use Rattle.hc_model.specs.Sound as sound
-use Rattle.hc_effects.proofs.{Forward.{is_on, IsOn}, AboutKeeps.{own_open_is}, Basics.{false_true, some_row}, Beside.{IsBeside}, BoundFrom.{BoundFrom, IsRow, IsFounded, IsFirstHole, IsShown, bound_from, place_inj}, BoundKeeps.{planned_at, opens_none}, Covers.{headed_at, bare_at, none_before}, ExchangeFrom.{IsSame, IsHeaded}, Fills.{Brings, brings, length_same}, FirstKeeps.{is_new, is_opener}, HeadTo.{reported_is, joined, length_is}, HeadedAs.{unmet}, LossBy.{IsReal}, OwnFrom.{OwnFrom, IsLeft, own_from}, OwnersKeep.{is_opened, new_number}, Said.{ShowsBy, showing_by}, ShownFrom.{IsPlanned}, Survives.{survivor_offset}, ToBeShown.{heard_place}, Waiters.{IsWaiter, waiter_of}, Step.{Step, step_of}}
+use Rattle.hc_effects.proofs.{Forward.{is_on, IsOn}, AboutKeeps.{own_open_is}, Basics.{false_true, some_row}, Beside.{IsBeside}, BoundFrom.{BoundFrom, IsRow, IsFounded, IsFirstHole, IsShown, bound_from, place_inj}, BoundKeeps.{planned_at, opens_none}, Covers.{headed_at, bare_at, none_before}, ExchangeFrom.{IsSame, IsHeaded}, Fills.{Brings, brings, length_same}, FirstKeeps.{is_new}, HeadTo.{reported_is, joined, length_is}, HeadedAs.{unmet}, LossBy.{IsReal}, OwnFrom.{OwnFrom, IsLeft, own_from}, OwnersKeep.{is_opened}, Said.{ShowsBy, showing_by}, ShownFrom.{IsPlanned}, Survives.{survivor_offset}, ToBeShown.{heard_place}, Waiters.{IsWaiter, waiter_of}, Step.{Step, step_of}, OpensLater.{opens_later}}
 use Rattle.hc_effects.proofs.BoundFrom as from
-use Rattle.hc_laws.proofs.{CoversKept.{own_opened, opened_row}, CoversNew.{founds_from, hole_begins}, OpensLater.{opens_later}, RunFacts.{in_runs}}
+use Rattle.hc_laws.proofs.{CoversKept.{own_opened, opened_row}, CoversNew.{founds_from, hole_begins}, RunFacts.{in_runs}}
 use Rattle.hc_effects.proofs.Fills as fills_by
 use Rattle.hc_effects.proofs.OwnFrom as own
 use Rattle.hc_effects.proofs.PartReported as reported

@@ -10,9 +10,9 @@ use Rattle.hc_sparse.specs.Cells.{Cells, Covers, cells_with}
 use Rattle.hc_sparse.proofs.CellLemmas.{inside-past}
 use Rattle.hc_effects.proofs.Vocabulary.{Opening, opening_in, Act, Response, HeadCase, BoundBy, Showing, showing_in, loses_in, has_loss, case_at, is_joining, consumer_heard, consumer_acted, by_opening, waiting, becomes_shared, is_resumed, row_of, Entry, base, front, length_by, stop_cause, cause_of_head, covers, entry_of, Measures, is_written, own_open, if_open, bound_to, offset, hi_of, reads, resumes, Tables, Exchange, Representation, Consumer, Sound, IsBound, IsAlone, IsExclusiveWriter, IsHad, after_accepted, brings_body, has_more, lacks_some, act, event, case, place}
 use Rattle.hc_model.specs.Sound as sound
-use Rattle.hc_effects.proofs.{Forward.{is_on}, AboutKeeps.{own_open_of}, Basics.{or_false, false_true, true_false, some_row}, Beside.{IsBeside, goes_on_at}, BoundFrom.{BoundFrom, IsRow, IsShown, bound_from}, BoundKeeps.{planned_at}, Covers.{headed_at, offset_more}, Dues.{due_before, due_none, undue_of, stop_none, loss_at}, EventsKeep.{deliveries_are_kept}, ExchangeFrom.{IsSame, IsHeaded}, Exclusives.{IsExclusive}, Fills.{Fills, fills, Brings, brings}, FirstKeeps.{is_new, is_opener}, HoleLemmas.{covers_yes}, HolesOpened.{stored_ends}, LossBy.{IsReal}, Losses.{HasRest}, MeasuresKeep.{IsHeld, held, piece_taken}, OwnFrom.{OwnFrom, own_from}, OwnersKeep.{is_opened, there_kept}, ExclusiveWriters.{one_exclusive_writer, has_exclusive_writer}, PollKeeps.{current_stays, not_come}, RepFrom.{RepFrom, rep_from, IsKept}, Said.{ShowsBy, showing_by}, ShownFrom.{ShownAs, IsPlanned}, Survives.{goes_on}, ToBeShown.{heard_place}, Step.{Step}}
+use Rattle.hc_effects.proofs.{Forward.{is_on}, AboutKeeps.{own_open_of}, Basics.{or_false, false_true, true_false, some_row}, Beside.{IsBeside, goes_on_at}, BoundFrom.{BoundFrom, IsRow, IsShown, bound_from}, BoundKeeps.{planned_at}, Covers.{headed_at, offset_more}, Dues.{due_before, due_none, undue_of, stop_none, loss_at}, EventsKeep.{deliveries_are_kept}, ExchangeFrom.{IsSame, IsHeaded}, Exclusives.{IsExclusive}, Fills.{Fills, fills, Brings, brings}, FirstKeeps.{is_new, is_opener}, HoleLemmas.{covers_yes}, HolesOpened.{stored_ends}, LossBy.{IsReal}, Losses.{HasRest}, MeasuresKeep.{IsHeld, held, piece_taken}, OwnFrom.{OwnFrom, own_from}, OwnersKeep.{is_opened, there_kept}, ExclusiveWriters.{one_exclusive_writer, has_exclusive_writer}, PollKeeps.{current_stays, not_come}, RepFrom.{RepFrom, rep_from, IsKept}, Said.{ShowsBy, showing_by}, ShownFrom.{ShownAs, IsPlanned}, Survives.{goes_on}, ToBeShown.{heard_place}, Step.{Step}, OpensLater.{OpensLater, opens_later}}
 use Rattle.hc_effects.proofs.BoundFrom as from
-use Rattle.hc_laws.proofs.{CoversKept.{covered_kept, not_alone}, OpensLater.{OpensLater, opens_later}, OwnNone.{IsShared, own_none}, ExclusiveWriterFrom.{ExclusiveWriterFrom, alone_from}, SoundKept.{GoAlone}, StoreKeeps.{stores_are_kept}}
+use Rattle.hc_laws.proofs.{CoversKept.{covered_kept, not_alone}, OwnNone.{IsShared, own_none}, ExclusiveWriterFrom.{ExclusiveWriterFrom, alone_from}, SoundKept.{GoAlone}, StoreKeeps.{stores_are_kept}}
 use Rattle.hc_effects.proofs.Fills as fills_by
 use Rattle.hc_effects.proofs.OwnFrom as own
 use Rattle.hc_laws.proofs.ExclusiveWriterFrom as exclusive_writers

@@ -101,6 +101,7 @@ pub mod GivenRuns
 pub mod NumberRuns
 pub mod Lone
 pub mod AloneRuns
+pub mod RestRuns
 pub mod GrowingRuns
 pub mod BringsRuns
 pub mod Tails
@@ -109,7 +110,6 @@ pub mod LossRuns
 pub mod LawfulRuns
 pub mod LiveRuns
 pub mod OpenRuns
-pub mod OpensLater
 pub mod PartRuns
 pub mod AimRuns
 pub mod FrontRuns

@@ -9,8 +9,8 @@ use Rattle.hc_text.proofs.Basics.{and_left, and_right, not_some as none_some, ne
 use Rattle.hc_effects.proofs.Vocabulary.{Opening, closes_in, opening_in, Event, Response, is_same_number, BoundBy, case_at, must_close, is_refused, brings_head, is_doomed, has_no_survivor, is_left, leaver, leaver_by, consumer_heard, consumer_acted, is_number, Unended, Entry, exchange_acted, exchange_heard, with_piece, exchange_in, family, is_open, is_reached, promised_bytes, becomes_due, stop_cause, entry_of, OfRuns, Measures, IsMeasured, is_written, own_open, shared_exchange, source, reads, Tables, Exchange, Representation, Consumer, IsBound, IsFirst, IsGrowing, after_accepted, brings_body, came_alone, loses_group, survivor, cause, event, place}
 use Rattle.hc_model.specs.Measures as measures
 use Rattle.hc_model.specs.Sound as sound
-use Rattle.hc_effects.proofs.{AboutKeeps.{IsOwn, own_open_of, own_open_is}, ApartKeeps.{is_on}, Basics.{false_true}, Beside.{IsBeside}, BoundFrom.{IsRow}, Closed.{before}, Dues.{due_before, undue_parts}, FirstKeeps.{is_new}, Forward.{after_is}, LossBy.{IsReal}, OwnFrom.{OwnFrom, own_from}, ExclusiveWriters.{writer_some}, PieceKeeps.{eq_cases}, RepFrom.{IsKept, IsEnded}, Said.{leaving_by}, SaidActs.{leaver_leaves}, Stops.{source_is}, Survives.{goes_on}, ToBeShown.{heard_place}, Unclosed.{had_to}, Waiters.{unleft, waiter_as}, GroupStops.{ended_total}, WriterEnds.{none_of}, Step.{Step, step_of}}
-use Rattle.hc_laws.proofs.{GoAlone.{lost_of, was_there, left_loses, unwritten_lost}, OpensLater.{opens_later}, OwnNone.{IsShared, own_none}, ExclusiveWriterFrom.{ExclusiveWriterFrom, alone_from}, RunFacts.{in_runs}}
+use Rattle.hc_effects.proofs.{AboutKeeps.{IsOwn, own_open_of, own_open_is}, ApartKeeps.{is_on}, Basics.{false_true}, Beside.{IsBeside}, BoundFrom.{IsRow}, Closed.{before}, Dues.{due_before, undue_parts}, FirstKeeps.{is_new}, Forward.{after_is}, LossBy.{IsReal}, OwnFrom.{OwnFrom, own_from}, ExclusiveWriters.{writer_some}, PieceKeeps.{eq_cases}, RepFrom.{IsKept, IsEnded}, Said.{leaving_by}, SaidActs.{leaver_leaves}, Stops.{source_is}, Survives.{goes_on}, ToBeShown.{heard_place}, Unclosed.{had_to}, Waiters.{unleft, waiter_as}, GroupStops.{ended_total}, WriterEnds.{none_of}, Step.{Step, step_of}, OpensLater.{opens_later}}
+use Rattle.hc_laws.proofs.{GoAlone.{lost_of, was_there, left_loses, unwritten_lost}, OwnNone.{IsShared, own_none}, ExclusiveWriterFrom.{ExclusiveWriterFrom, alone_from}, RunFacts.{in_runs}}
 use Rattle.hc_effects.proofs.OwnFrom as own
 use Rattle.hc_laws.proofs.ExclusiveWriterFrom as exclusive_writers
 

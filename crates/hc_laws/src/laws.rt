@@ -21,6 +21,7 @@ ghost use Rattle.hc_model.specs.WithinLimits.{RequestsStayWithinLimits, HeadsCom
 ghost use Rattle.hc_model.specs.Numbers.{NumbersInRuns};
 ghost use Rattle.hc_model.specs.Orders.{InOrder};
 ghost use Rattle.hc_model.specs.Origins.{Origins};
+ghost use Rattle.hc_model.specs.Resting.{RestsInRuns};
 ghost use Rattle.hc_model.specs.Sizes.{Sizes};
 ghost use Rattle.hc_model.specs.StoredHeads.{StoredHeads, Tags};
 ghost use Rattle.hc_model.specs.Parts.{Parts};
@@ -409,6 +410,13 @@ pub fn parts_have_bytes()
 /// an exchange of its own, or a hole ahead.
 pub fn writers_are_alone()
     ensures { OfRuns Alone }
+{}
+
+/// Whoever came alone to a representation and has nothing more to come has nothing more ever after, as long as no
+/// failure is due to it and the representation isn't lost, at each entry of a run. While somebody is bound to it and
+/// nobody writes it alone, nobody writes it alone after the next entry.
+pub fn who_rests_rests_on()
+    ensures { RestsInRuns }
 {}
 
 /// One open exchange at most brings a representation, in every run, and what isn't gone has a known length, or is

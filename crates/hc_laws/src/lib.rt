@@ -15,5 +15,5 @@ pub use laws::{
     readers_are_bound, readers_are_served, requests_stay_within_limits, runs_are_sound,
     runs_read_whole, some_go_on, stores_begin_again, stores_begin_sound, stores_keep_what_came,
     survivors_go_on, truncated_is_a_prefix, what_is_not_spoken_of_stays, who_leaves_goes,
-    who_polls_is_answered, whole_is_whole, writers_are_alone,
+    who_polls_is_answered, who_rests_rests_on, whole_is_whole, writers_are_alone,
 };

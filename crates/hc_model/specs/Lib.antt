@@ -52,6 +52,7 @@ pub mod Passed
 pub mod Given
 pub mod Aims
 pub mod Alone
+pub mod Resting
 pub mod Growing
 pub mod Losses
 pub mod Live

@@ -87,9 +87,6 @@ never_port text m plain off n port =
     by_side same (inl zero) = let some : 0 < n = port.0 in omega arith
     by_side same (inr more) = let most : n ≤ 65535 = port.1 in omega arith
 
-pub no_plain_port : (text : List ℕ) → ((n : ℕ) → IsPlain text n → ⊥) → (n : ℕ) → IsPort text n → ⊥
-no_plain_port text none n port = none n (let most : n ≤ 65535 = port.1 in omega arith, port.2)
-
 -- AN ADDRESS
 
 dot : (◌≡◌ {A = ℕ} 46 46) ⊎ (◌≡◌ {A = ℕ} 46 58)

@@ -13,7 +13,7 @@ use Rattle.hc_sched.specs.{declared.schedule.{Ended.{Ended}, Refused.{Refused}, 
 use Rattle.hc_sched.specs.declared.schedule.Ended.TheVariants as ended
 use Rattle.hc_driver.specs.Endings.{Reach, ToEnd, SoFar, IsRead, IsSteppedAtOnce}
 use Rattle.hc_model.specs.Entries.{History}
-use Rattle.hc_fetch.specs.{declared.{ended.FetchEnded.{FetchEnded}, plan.FetchPlan.{FetchPlan}}, Bounds.{IsPlan}, Deciding.{by_failure, by_heads, by_head, by_other, decided_by, fits}, Endings.{IsWholeBody, WritesAll, WritesSome, Fetches}, Fetches.{ended_with, is_done_by}, Gathering.{written_of, written_before, written_last}, Heads.{Head, first_head, first_in, heads_in}}
+use Rattle.hc_fetch.specs.{declared.{ended.FetchEnded.{FetchEnded}, plan.FetchPlan.{FetchPlan}}, Deciding.{by_failure, by_heads, by_head, by_other, decided_by, fits}, Endings.{IsWholeBody, WritesAll, WritesSome, Fetches}, Fetches.{ended_with, is_done_by}, Gathering.{written_of, written_before, written_last}, Heads.{Head, first_head, first_in, heads_in}}
 use Rattle.hc_fetch.specs.declared.ended.FetchEnded.TheVariants as fetched
 use Rattle.hc_fetch.specs.Endings as endings
 use Rattle.hc_event.specs.declared.act.Act.{Act}
@@ -71,12 +71,6 @@ module _ (word target first second : List ℕ) where
           subst (λ (w : List ℕ). IsPlanOf w target first second plan) one
           (subst (λ (w : List ℕ). IsPlanOf a w first second plan) two
           (subst (λ (w : List ℕ). IsPlanOf a b w second plan) three (subst (λ (w : List ℕ). IsPlanOf a b c w plan) four planned)))
-
-pub fetch_count : (words : List (List ℕ)) → (length words ≡ 4 → ⊥) → NoFetch words
-fetch_count words not_four plan is = not_four (ap length is.are)
-
-pub plan_fits : (words : List (List ℕ)) (plan : FetchPlan) → IsFetch words plan → IsPlan plan
-plan_fits words plan is = is.plan_is.fits
 
 -- HOW IT IS TOLD
 

@@ -1,20 +1,12 @@
 -- How the serving loop ended, and what was bound for it.
-use Rattle.std.{proofs.Common.{◌≡◌, ◌≢◌, ℕ, List, Option, None, Some, refl, sym, subst}, specs.Prelude.{IfSome}}
-use Rattle.hc_proxy.specs.Endings.{IsFresh}
-use Rattle.hc_origin.specs.Endings as origin
+use Rattle.std.{proofs.Common.{◌≡◌, ◌≢◌, ℕ, List, Option, refl}}
 use Rattle.hc_sched.specs.declared.schedule.Ended.{Ended}
 use Rattle.hc_sched.specs.declared.schedule.Ended.TheVariants as ended
-use Rattle.hc_wire.specs.{Logs.{Log, Reports, with_binding}, declared.event.{Address.{Address}, WireError.{WireError}}}
+use Rattle.hc_wire.specs.{Logs.{Log}, declared.event.{Address.{Address}, WireError.{WireError}}}
 use Rattle.hc_wire.specs.declared.event.WireError.TheVariants as wire
 use Rattle.hc_app.specs.{declared.status.Status.{Status}, Serving.{IsServedAs, ServesFrom, done, unwired, unwritten, wanting}, Statuses.{unbound_as}}
 use Rattle.hc_app.specs.declared.status.Status.TheVariants as status
 use Rattle.hc_app.specs.Serving as serving
-
-pub fresh_served : (old new : Option Log) (listen from : Address) → Reports old new (with_binding (Some listen) (Some from)) → IfSome old origin.IsFresh →
-    IfSome new IsFresh
-fresh_served None new listen from reports fresh = subst (λ (o : Option Log). IfSome o IsFresh) (sym reports) tt
-fresh_served (Some log) new listen from reports fresh =
-    subst (λ (o : Option Log). IfSome o IsFresh) (sym reports) (record { calls = fresh.uncalled; dialled = fresh.undialled; takers = fresh.untaken })
 
 pub never_source : (e : Ended) (s : Status) → IsServedAs e s → s ≢ status.SourceFailed
 never_source _ _ done = λ is. cc

@@ -4,7 +4,7 @@
 -- (`is_replay`, `is_save`). The others must be its numbers and addresses (`is_generation`, `is_origin`, `is_serving`).
 -- For each word that isn't what it should be there is a lemma that this is no such command. Three words are none where
 -- they are neither a generation nor an origin (`neither`).
-use Rattle.std.{proofs.{Common.{◌≡◌, ℕ, ◌<◌, ◌≤◌, List, [], ◌∷◌, length, get_or, Global, true, false, refl, ap, sym, ◌∙◌, subst, arith}, lemmas.{Fmt.{decimal_injective}, Slice.Eq.{bytes_eq-Decides}}}, specs.{Prelude.{codes, bytes_eq}, declared.string.String.{String}}}
+use Rattle.std.{proofs.{Common.{◌≡◌, ℕ, ◌<◌, ◌≤◌, List, [], ◌∷◌, length, get_or, Global, true, false, ap, sym, ◌∙◌, subst, arith}, lemmas.{Fmt.{decimal_injective}, Slice.Eq.{bytes_eq-Decides}}}, specs.{Prelude.{codes, bytes_eq}, declared.string.String.{String}}}
 use Rattle.hc_text.specs.Numbers.{IsPlain}
 use Rattle.hc_app.specs.declared.command.Command.TheVariants as command
 use Rattle.hc_wire.specs.declared.event.Address.{Address}
@@ -16,14 +16,6 @@ pub one_of : (words : List (String Global)) (word : String Global) → length wo
 one_of [] word one is = absurd (omega (arith, one))
 one_of (first ∷ []) word one is = ap (λ (w : String Global). w ∷ []) is
 one_of (first ∷ second ∷ more) word one is = absurd (omega (arith, one))
-
-pub three_of : (words : List (String Global)) (a b c : String Global) → length words ≡ 3 → a ≡ get_or words 0 a → b ≡ get_or words 1 b →
-    c ≡ get_or words 2 c → a ∷ b ∷ c ∷ [] ≡ words
-three_of [] a b c three a_is b_is c_is = absurd (omega (arith, three))
-three_of (x ∷ []) a b c three a_is b_is c_is = absurd (omega (arith, three))
-three_of (x ∷ y ∷ []) a b c three a_is b_is c_is = absurd (omega (arith, three))
-three_of (x ∷ y ∷ z ∷ []) a b c three a_is b_is c_is = rw (a_is, b_is, c_is) refl
-three_of (x ∷ y ∷ z ∷ w ∷ more) a b c three a_is b_is c_is = absurd (omega (arith, three))
 
 -- neither one nor three nor four
 pub other_count : (words : List (List ℕ)) → (length words ≡ 1 → ⊥) → (length words ≡ 3 → ⊥) → (length words ≡ 4 → ⊥) → IsNoCommand words
@@ -63,20 +55,6 @@ is_open word is = reopen (ap (λ (w : List ℕ). w ∷ []) (same_text word (code
 
 pub is_conditional : (word : List ℕ) → bytes_eq word (codes "conditional") ≡ true → IsCommand (word ∷ []) command.Conditional
 is_conditional word is = conditional (ap (λ (w : List ℕ). w ∷ []) (same_text word (codes "conditional") is))
-
-pub no_word : (word : List ℕ) → bytes_eq word (codes "replay") ≡ false → bytes_eq word (codes "save") ≡ false → bytes_eq word (codes "open") ≡ false →
-    bytes_eq word (codes "conditional") ≡ false → IsNoCommand (word ∷ [])
-no_word word off_replay off_save off_open off_conditional _ (replay is) = other_text word (codes "replay") off_replay (head_of word (codes "replay") [] [] is)
-no_word word off_replay off_save off_open off_conditional _ (save is) = other_text word (codes "save") off_save (head_of word (codes "save") [] [] is)
-no_word word off_replay off_save off_open off_conditional _ (reopen is) = other_text word (codes "open") off_open (head_of word (codes "open") [] [] is)
-no_word word off_replay off_save off_open off_conditional _ (conditional is) =
-    other_text word (codes "conditional") off_conditional (head_of word (codes "conditional") [] [] is)
-no_word word off_replay off_save off_open off_conditional _ (generate first second seed count is first_is second_is few) =
-    absurd (let never : 1 ≡ 3 = ap length is in cc)
-no_word word off_replay off_save off_open off_conditional _ (origin first second listen turns is first_is second_is) =
-    absurd (let never : 1 ≡ 3 = ap length is in cc)
-no_word word off_replay off_save off_open off_conditional _ (serve first second third listen from turns is first_is second_is third_is) =
-    absurd (let never : 1 ≡ 4 = ap length is in cc)
 
 module _ (word first second : List ℕ) where
   abbrev words : List (List ℕ)

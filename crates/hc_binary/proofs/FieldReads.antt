@@ -53,9 +53,6 @@ next_cut fs rest line after is =
           rw first at (rw second at (next_is fs rest some.0 some.1))
     ]
 
-pub rest_first : (text : List ℕ) (fs : Fields) → fs ≡ [] → IsRest text fs text
-rest_first text fs none = subst (λ (l : Fields). fields_of text ≡ read_on l [] text) (sym none) refl
-
 -- a line more is read
 pub rest_more : (text : List ℕ) (fs all : Fields) (rest line after : List ℕ) → IsRest text fs rest → cut 10 rest ≡ Some (line, after)
     → line_behind fs line ≡ Some all → IsRest text all after

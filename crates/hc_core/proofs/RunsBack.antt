@@ -6,10 +6,6 @@ use Rattle.hc_effects.proofs.Vocabulary.{run_from, with_cell, with_place, runs_f
 
 -- ONE MORE IN FRONT
 
--- it is there
-first_cell : (p : ℕ) (cell : Cell) (bytes : List ℕ) (runs : List Run) → cells_of (run_from p cell bytes ∷ runs) p ≡ Some cell
-first_cell p cell bytes runs = grind (arith, nat_tests)
-
 -- alone it says nothing of any other place
 lone_rest : (p q : ℕ) (cell : Cell) (runs : List Run) → p ≢ q → cells_of (run_from p cell [] ∷ runs) q ≡ cells_of runs q
 lone_rest p q cell runs ne = grind (arith, nat_tests)

@@ -57,7 +57,3 @@ last_piece t r x total bytes v w g known reached q lo lt = by_promise (promised_
           | inl before ↦ rw (inside-before (front w) (length bytes) q before) (g.whole q lo (let b : q < front w = before in omega arith))
           | inr past ↦ rw (inside-yes (front w) (length bytes) q past (omega arith)) refl
         ]
-
--- at a clean end of a body whose length wasn't told, each position below what came is stored
-pub clean_end : (t : Tables) (r x : ℕ) (v : Representation) (w : Exchange) → IsGrowing t r v x w → Covers v.stored 0 (length w.body)
-clean_end t r x v w g q lo lt = let front_is : front w ≡ v.reach = g.front_is in g.whole q lo (omega arith)

@@ -66,10 +66,3 @@ lowered_other name bytes k lt other =
     false_from_ne_true _ (λ e.
     let same : bytes ≡ lowercase name = (bytes_eq-Decides bytes (lowercase name)).0 e in
     other (sym (get_or-map to_ascii_lowercase name k 0 0 lt) ∙ ap (λ (l : List ℕ). get_or l k 0) (sym same)))
-
--- and neither are so many more or fewer
-pub lowered_apart : (name bytes : List ℕ) → length name ≢ length bytes → bytes_eq bytes (lowercase name) ≡ false
-lowered_apart name bytes other =
-    false_from_ne_true _ (λ e.
-    let same : bytes ≡ lowercase name = (bytes_eq-Decides bytes (lowercase name)).0 e in
-    other (sym (length-map name to_ascii_lowercase) ∙ ap length (sym same)))

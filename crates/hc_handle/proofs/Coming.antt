@@ -2,8 +2,7 @@
 use Rattle.std.proofs.Common.{◌≡◌, ℕ, List, Option, Some, None, Result, Ok, Err, refl, sym, ap, subst, ◌∙◌, arith}
 use Rattle.hc_binary.specs.{Events.{Made, Makes}, Refusals.{code_of}, declared.refused.CallRefusal.{CallRefusal}}
 use Rattle.hc_binary.specs.declared.refused.CallRefusal.TheVariants as refused
-use Rattle.hc_handle.specs.{declared.session.Session.{Session}, Sessions.{IsAnswered, IsOwed, HasAnswered, refused_at}, Texts.{IsRead, IsFinished, refused_in}, Calls.{Comes, Reads, Finishes, IsTold, answer_code, owed_in, told_at, refused_in_handle}}
-use Rattle.hc_sched.specs.declared.schedule.Refused.{Refused}
+use Rattle.hc_handle.specs.{declared.session.Session.{Session}, Sessions.{IsAnswered, IsOwed, HasAnswered, refused_at}, Calls.{Comes, Reads, Finishes, answer_code, owed_in}}
 
 pub code_some : (e : CallRefusal) → code_of e ≡ 0 → ⊥
 code_some refused.NoHandle is = omega (arith, is)
@@ -59,36 +58,14 @@ comes_some s u now made given (Err e) makes h = record {
   kept = λ some other. ap Some (h.kept (λ is. other (ap code_of is)));
 }
 
-pub comes_none : (now : ℕ) (made : Made) → Comes None None now made 1
-comes_none now made = record {
-  done = λ zero. absurd (omega (arith, zero));
-  owed = λ other. refl;
-  spent = λ two. absurd (omega (arith, two));
-  kept = λ some other. refl;
-}
-
 pub comes_at : (s s' u u' : Option Session) (now : ℕ) (made : Made) (code code' : ℕ) → s ≡ s' → u ≡ u' → code ≡ code' → Comes s' u' now made code' →
     Comes s u now made code
 comes_at s s' u u' now made code code' s_is u_is code_is h = rw (s_is, u_is, code_is) h
 
 -- A TEXT
 
-pub reads_at : (s u : Option Session) (t v : Session) (text : List ℕ) (result : Result (Unit {0}) CallRefusal) (code : ℕ) → s ≡ Some t → u ≡ Some v →
-    code ≡ answer_code result → IsRead t v text result → Reads s u text code
-reads_at s u t v text result code s_is u_is code_is h = record { result = result; read = rw (s_is, u_is) h; code_is = code_is }
-
 pub reads_none : (s u : Option Session) (text : List ℕ) → s ≡ None → u ≡ None → Reads s u text 1
 reads_none s u text s_is u_is = record { result = Err refused.NoHandle; read = rw s_is (refl, u_is); code_is = refl }
 
-pub finishes_at : (s u : Option Session) (t v : Session) (result : Result (Unit {0}) CallRefusal) (code : ℕ) → s ≡ Some t → u ≡ Some v →
-    code ≡ answer_code result → IsFinished t v result → Finishes s u code
-finishes_at s u t v result code s_is u_is code_is h = record { result = result; finished = rw (s_is, u_is) h; code_is = code_is }
-
 pub finishes_none : (s u : Option Session) → s ≡ None → u ≡ None → Finishes s u 1
 finishes_none s u s_is u_is = record { result = Err refused.NoHandle; finished = rw s_is (refl, u_is); code_is = refl }
-
--- the line is that of the session
-pub told_by : (s : Option Session) (t : Session) (found : Option Refused) (code : ℕ) (line line' why why' : ℕ) → s ≡ Some t →
-    found ≡ told_at code (refused_in t) →
-    IsTold found line line' why why' → IsTold (told_at code (refused_in_handle s)) line line' why why'
-told_by s t found code line line' why why' s_is found_is h = rw s_is (rw (sym found_is) h)

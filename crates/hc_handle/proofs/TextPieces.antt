@@ -153,13 +153,6 @@ unread s text why is silent = record {
   kept = λ memory bad. refl;
 }
 
-pub unread_spent : (s u : Session) (text : List ℕ) → text_refusal_at s (length text) ≡ None → IsSilent u → IsRead s u text (Err refused.NoMemory)
-unread_spent s u text none silent = record {
-  cause = subst (λ (o : Option CallRefusal). HasTextCause o s u text refused.NoMemory) (sym none) tt;
-  spent = λ memory. silent;
-  kept = λ other. absurd (other refl);
-}
-
 -- THE LAWS
 
 pub texts_as_one : AreTextsAsOne

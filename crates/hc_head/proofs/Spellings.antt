@@ -10,8 +10,8 @@ use Rattle.httparse.specs.Grammar as grammar
 use Rattle.httparse.specs.{Grammar.{Field, status_code, print_request, print_response}, Spans.{name_and_value}}
 use Rattle.hc_fields.specs.FieldList.{IsField, IsFieldList, field_list_with, size_of}
 use Rattle.hc_fields.proofs.{Kept.{IsField-lowered, length-lowercase}, Edits.{length-put, size_of-put, IsFieldList-put}, Ends.{IsFieldList-nil}}
-use Rattle.hc_head.specs.{declared.{fields.Leaving.{Leaving, TheVariants.{Address}}, framing.Framing.{Framing}, message.{MsgError.{MsgError, TheVariants.{BadHead, BadLength, UnsupportedMethod}}, WireRequest.{WireRequest}}}, Rules.{lowercase_field, fields_of, is_within_limits, is_kept, put_all, kept_of}, Requests.{Grants, Denies, asked_text, asked_of, own_key, key_in, key_of, may_have_body, request_of, with_key, IsAskedBy}, Responses.{Skips, Shows, Refuses, left_out, with_framing, heard_of, IsHeardIn}, Spellings.{AreSpelledFields, IsSpelledRequest, IsSpelledResponse}}
-use Rattle.url.specs.{Parts.{Parts, serialize}, Parser.{Parsed, parse_url}}
+use Rattle.hc_head.specs.{declared.{fields.Leaving.{Leaving, TheVariants.{Address}}, framing.Framing.{Framing}, message.{MsgError.{MsgError, TheVariants.{BadHead, BadLength, UnsupportedMethod}}, WireRequest.{WireRequest}}}, Rules.{lowercase_field, fields_of, is_within_limits, is_kept, put_all, kept_of}, Requests.{Grants, Denies, asked_text, asked_of, key_in, key_of, may_have_body, request_of, with_key, IsAskedBy}, Responses.{Shows, Refuses, left_out, with_framing, heard_of, IsHeardIn}, Spellings.{AreSpelledFields, IsSpelledRequest, IsSpelledResponse}}
+use Rattle.url.specs.{Parts.{Parts}, Parser.{Parsed, parse_url}}
 use Rattle.hc_event.specs.declared.event.Response.{Response}
 use Rattle.hc_target.specs.Targets.{is_target}
 use Rattle.hc_rules.proofs.RangeReads.{if_passes}
@@ -73,12 +73,6 @@ none_some found key is h = cc
 
 refused_granted : (e : MsgError) (request : WireRequest) → Grants request ≡ Denies e → ⊥
 refused_granted e request h = cc
-
-own_key_target : (url : Parts) (key : List ℕ) → own_key url ≡ Some key → is_target key ≡ true
-own_key_target url key h =
-    let hit = if_passes (is_target (serialize url)) (Some (serialize url)) key h in
-    let equal : serialize url ≡ key = cc hit.1 in
-    rw (← equal) hit.0
 
 key_in_target : (read : Parsed Parts) (key : List ℕ) → key_in read ≡ Some key → is_target key ≡ true
 key_in_target read key h = grind (arith, nat_tests)
@@ -159,9 +153,6 @@ framed : (status : ℕ) (fields : List (List ℕ × List ℕ)) (response : Respo
     Shows response framing ≡ with_framing status fields found
     → response ≡ record { status = status; fields = kept_of (left_out framing) fields }
 framed status fields response framing found h = grind (arith, nat_tests)
-
-skipped_shown : (response : Response) (framing : Framing) → Shows response framing ≡ Skips → ⊥
-skipped_shown response framing h = cc
 
 shown_by : (reported : Bool) (status : ℕ) (fields : List (List ℕ × List ℕ)) (response : Response) (framing : Framing) →
     Shows response framing ≡ heard_of reported status fields → IsShown reported status fields response framing

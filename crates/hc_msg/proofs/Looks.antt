@@ -1,11 +1,10 @@
 -- What a look shows is what stands next.
-use Rattle.std.{proofs.{lemmas.Bool.Decides.{nat_tests}, Common.{◌≡◌, ℕ, ◌<◌, Bool, true, false, true≢false, List, [], ◌∷◌, length, refl, sym, ap, subst, arith}}, specs.Prelude.{IfOk, Some, None, Result, Ok, Err}}
+use Rattle.std.{proofs.{lemmas.Bool.Decides.{nat_tests}, Common.{◌≡◌, ℕ, ◌<◌, Bool, true, false, true≢false, List, [], ◌∷◌, length, refl, sym, subst, arith}}, specs.Prelude.{IfOk, Some, None, Result, Ok, Err}}
 use Rattle.hc_head.specs.declared.message.MsgError.{MsgError}
 use Rattle.hc_text.specs.declared.memory.NoMemory.{NoMemory}
 use Rattle.hc_msg.specs.{declared.{answer.State.{State}, message.{Look.{Look}, Taken.{Taken}, WirePart.{WirePart}}}, Reading.{Reading}, Taking.{reading_by, IsSoundAt, IsKeptAt, goes_on, Takes}, Inputs.{Next, stopped, is_in_body, next_in, IsNextError, IsNextPart, look_of}}
 use Rattle.hc_msg.specs.declared.answer.State.TheVariants as state
 use Rattle.hc_msg.specs.declared.message.Look.TheVariants as look
-use Rattle.hc_msg.specs.declared.message.WirePart.TheVariants as part
 use Rattle.hc_msg.proofs.Inputs.{takes_next}
 
 -- BEFORE ANYTHING IS READ
@@ -32,10 +31,6 @@ kept_sound nb (state.Failed e) held on h = absurd (true≢false (sym on))
 kept_sound nb _ held on h = h
 
 -- BY WHAT A COPY TAKES
-
-some_looks : (next : Next) (piece : List ℕ) (used : ℕ) (p : WirePart) (t : Reading) → IsNextPart next piece used (Some p) t → look.Part ≡ look_of next
-some_looks next piece used (part.Head response) t h = ap look_of (sym h)
-some_looks next piece used _ t h = ap look_of (sym h)
 
 pub part_looks : (s copy : Reading) (piece : List ℕ) (taken : Taken WirePart) (p : WirePart) (t : Reading) → copy ≡ s → taken.got ≡ Some p →
     Takes copy piece 1 (Ok taken) t → look.Part ≡ look_of (next_in 1 s piece)

@@ -4,10 +4,10 @@
 -- where it tells nothing the rest of the input says what stands next (`passes_stands`), and where it tells something
 -- that stands next. Within a body the bytes that stand together lead on by the laws of bodies.
 use Rattle.std.{proofs.{lemmas.{Bool.{cases_Bool, ltb-true, Decides.{nat_tests}}, List.{take-append-drop}}, Common.{◌≡◌, ℕ, ◌+◌, ◌-◌, ◌<◌, ◌≤◌, ◌==◌, Bool, true, false, List, [], ◌∷◌, ◌++◌, length, take, drop, refl, sym, ap, subst, ◌∙◌, inl, inr, arith, length-take}}, specs.Prelude.{not, nat_lt, min, if◌then◌else◌, Option}}
-use Rattle.hc_head.specs.{declared.framing.Framing.{Framing}, Decoding.{asked_in, heard_in}, Requests.{Asked}, Responses.{HeadOutcome, Shows}, Scans.{scan_byte, is_open}}
+use Rattle.hc_head.specs.{declared.framing.Framing.{Framing}, Decoding.{asked_in, heard_in}, Scans.{scan_byte, is_open}}
 use Rattle.hc_head.specs.declared.framing.Framing.TheVariants as framing
 use Rattle.hc_head.proofs.Decoding.{asked_in_is, heard_in_is}
-use Rattle.hc_msg.specs.{declared.trailer.Trails.{Trails, TheVariants.{On}}, Chunks.{trail}, Sizes.{size_in}, Reading.{Kind, Requests, Responses, Reading, Heading, Counts, Runs, Sizing, Chunk, ChunkEnd, ChunkReturn, Trailing, Whole, Done, Failed, Token, Byte, Step, Move, Goes, EndsHead, EndsLine, Stays, quiet, counts, chunk, body, after_asked, after_heard, after_line, after_trail, begins_head, move_of, Makes, Leads}, Taking.{stretch, goes_on, byte_tokens}, Inputs.{Next, Waits, Reports, Brings, Ends, Fails, step_of, body_behind, brought, reported_or, next_in}, NextParts.{StandsNext}}
+use Rattle.hc_msg.specs.{declared.trailer.Trails.{Trails, TheVariants.{On}}, Chunks.{trail}, Sizes.{size_in}, Reading.{Kind, Requests, Responses, Reading, Heading, Counts, Runs, Sizing, Chunk, ChunkEnd, ChunkReturn, Trailing, Whole, Done, Failed, Token, Byte, Step, Move, Goes, EndsHead, EndsLine, Stays, quiet, counts, chunk, body, after_line, after_trail, begins_head, move_of, Makes, Leads}, Taking.{stretch, goes_on, byte_tokens}, Inputs.{Next, Waits, Reports, Brings, Ends, Fails, step_of, body_behind, brought, reported_or, next_in}, NextParts.{StandsNext}}
 use Rattle.hc_msg.proofs.{Leading.{leads_on, leads_byte, stays_failed, reports_on}, Sizes.{size_in_is}, Bytes.{counts_some, counts_on, chunk_on, runs_on}}
 
 -- STEPS
@@ -52,13 +52,6 @@ chunk_before left = choice IsBefore (left == 0) ChunkEnd (Chunk left) tt tt
 body_before : (f : Framing) → IsBefore (body f)
 body_before (framing.Counted n) = counts_before n
 body_before _ = tt
-
-asked_fair : (asked : Asked) → IsFair (after_asked asked)
-asked_fair asked = grind (arith, nat_tests)
-
-heard_fair : (nb : Bool) (heard : HeadOutcome) → IsFair (after_heard nb heard)
-heard_fair nb (Shows response f) = record { short = tt; before = body_before f }
-heard_fair nb _ = record { short = tt; before = tt }
 
 line_fair : (size : Option ℕ) → IsFair (after_line size)
 line_fair size = grind (arith, nat_tests)

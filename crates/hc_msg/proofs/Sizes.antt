@@ -4,7 +4,7 @@
 -- begins with another byte, so each run ends where it was put (`run_len`). The other way, what was cut is a line that
 -- prints as the text (`size_makes`), which is the longer half: the test of the line is taken apart, and its parts are
 -- put together again. `size_in_is` joins both.
-use Rattle.std.{proofs.{lemmas.{Bool.{cases_Bool, and_parts, eqb-true, ltb-true, lt-ltb, leb-true, le-leb, Decides.{nat_tests}}, List.{append-nil, take_at, drop_at, take-append-drop, Sums.{AllPass-from_list_all, list_all-from_AllPass}}, Slice.Eq.{bytes_eq-Decides}}, Common.{◌≡◌, ℕ, suc, ◌+◌, ◌-◌, ◌^◌, ◌<◌, ◌==◌, Bool, true, false, List, [], ◌∷◌, ◌++◌, length, take, drop, refl, sym, ap, subst, ◌∙◌, inl, inr, arith, append_assoc, length-append}}, specs.{Prelude.{◌&&◌, nat_lt, nat_le, bytes_eq, Option, Some, None, if◌then◌else◌}, List.{list_all, prefix_len}, Char.{is_ascii_hexdigit}, Str.Parse.{digits_value}}}
+use Rattle.std.{proofs.{lemmas.{Bool.{cases_Bool, and_parts, eqb-true, ltb-true, lt-ltb, leb-true, le-leb, Decides.{nat_tests}}, List.{append-nil, take_at, drop_at, take-append-drop, Sums.{AllPass-from_list_all, list_all-from_AllPass}}, Slice.Eq.{bytes_eq-Decides}}, Common.{◌≡◌, ℕ, suc, ◌+◌, ◌-◌, ◌^◌, ◌<◌, ◌==◌, Bool, true, List, [], ◌∷◌, ◌++◌, length, take, drop, refl, sym, ap, subst, ◌∙◌, inl, inr, arith, append_assoc, length-append}}, specs.{Prelude.{◌&&◌, nat_lt, nat_le, bytes_eq, Option, Some, None, if◌then◌else◌}, List.{list_all, prefix_len}, Char.{is_ascii_hexdigit}, Str.Parse.{digits_value}}}
 use Rattle.hc_text.proofs.Basics.{not_some, some_inj as some_same}
 use Rattle.httparse.specs.Grammar.{ChunkLine, IsChunkLine, print_chunk_line, print_extension, IsExtension, chunk_size, is_ows, is_extension_byte}
 use Rattle.hc_msg.specs.{Chunks.{IsLineOf, LineSays}, Sizes.{digits_in, behind_digits, behind_pad, is_extension, is_chunk_line, size_by, size_in}}
@@ -22,9 +22,6 @@ run_all test (b ∷ text) = elim (cases_Bool (test b)) [
   | inl hit ↦ (let next : 1 + prefix_len test text ≡ suc (prefix_len test text) = omega arith in rw (hit, next, hit) (run_all test text))
   | inr miss ↦ rw miss refl
 ]
-
-ows_no_digit : (b : ℕ) → is_ows b ≡ true → is_ascii_hexdigit b ≡ false
-ows_no_digit b h = grind (arith, nat_tests)
 
 extension_no_digit : (extension : Option (List ℕ)) → prefix_len is_ascii_hexdigit (print_extension extension) ≡ 0
 extension_no_digit extension = grind (arith, nat_tests)

@@ -7,7 +7,7 @@
 use Rattle.std.{proofs.{lemmas.{Bool.{cases_Bool, ltb-true, Decides.{nat_tests}}, List.Elements.{All-cons, All-head, All-append}}, Common.{◌≡◌, ℕ, ◌≤◌, ◌==◌, Bool, List, [], ◌∷◌, ◌++◌, length, sym, subst, inl, inr, arith, length-append}}, specs.Prelude.{nat_lt, All, IfSome, if◌then◌else◌, Option, Some, None, Result, Ok, Err}}
 use Rattle.hc_head.specs.{declared.{message.{MsgError.{MsgError}, WireRequest.{WireRequest}}, scan.Scan.{Scan}}, Scans.{scan_byte, is_open}, Requests.{Asked, Grants, Denies, IsAskedBy}, Responses.{HeadOutcome, Shows, IsHeardIn}}
 use Rattle.hc_head.proofs.Spellings.{granted_spelled, shown_spelled}
-use Rattle.hc_msg.specs.{declared.{message.{Taken.{Taken}, WirePart.{WirePart}}, trailer.Trails.{Trails, TheVariants.{On}}}, Chunks.{trail}, Reading.{Kind, Requests, Responses, Reading, Heading, Sizing, ChunkEnd, ChunkReturn, Trailing, Whole, Done, Failed, Token, Asks, Answers, Byte, Step, Goes, after_asked, after_heard, after_line, after_trail, begins_head, move_of, HeadMakes, Makes, Leads}, Asking.{TakesRequest, CompletesRequest}, Taking.{Takes, Completes}, Spelled.{IsSpelled, IsSpelledPart, GivesSpelled}}
+use Rattle.hc_msg.specs.{declared.{message.{Taken.{Taken}, WirePart.{WirePart}}, trailer.Trails.{Trails, TheVariants.{On}}}, Chunks.{trail}, Reading.{Kind, Requests, Responses, Reading, Heading, Sizing, ChunkEnd, ChunkReturn, Trailing, Whole, Done, Failed, Token, Asks, Answers, Byte, Step, Goes, after_asked, after_heard, after_trail, begins_head, move_of, HeadMakes, Makes, Leads}, Asking.{TakesRequest, CompletesRequest}, Taking.{Takes, Completes}, Spelled.{IsSpelled, IsSpelledPart, GivesSpelled}}
 use Rattle.hc_msg.specs.declared.message.WirePart.TheVariants as part
 use Rattle.hc_msg.proofs.Leading.{reports_leads}
 
@@ -32,9 +32,6 @@ head_spelled (Responses no_body) text step short h = subst (λ (s : Step). All I
 -- a step that is known
 goes_spelled : (made step : Step) → All IsSpelled made.tokens → Makes (Goes made) step → All IsSpelled step.tokens
 goes_spelled made step h is = subst (λ (s : Step). All IsSpelled s.tokens) (sym is) h
-
-line_spelled : (size : Option ℕ) → All IsSpelled (after_line size).tokens
-line_spelled size = grind (arith, nat_tests)
 
 trail_spelled : (trails : Trails) → All IsSpelled (after_trail trails).tokens
 trail_spelled (On place count) = none_spelled

@@ -6,7 +6,7 @@
 -- a head was brought nothing. `DoomHandler` joins `all_consumers` and `exchange_shut`.
 use Rattle.std.{proofs.{lemmas.Bool.Decides.{nat_tests}, Common.{arith, ◌≡◌, ℕ, zero, suc, ◌+◌, List, [], ◌∷◌, drop, Bool, true, false, eqb, Option, Some, None, refl, ap, sym, ◌∙◌, subst}}, specs.{Prelude.{nat_eq, bytes_eq, option_map, ◌&&◌, ◌||◌, if◌then◌else◌}, HashMap.{get}}}
 use Rattle.hc_text.proofs.Basics.{false_true, same_some as same_row, some_inj as some_is}
-use Rattle.hc_effects.proofs.Vocabulary.{Limits, Response, is_disabled, is_only, Place, back_in_line, is_number, over, woken, family, promised_bytes, is_open, Lawful, lo_of, hi_of, base_in, end_in, end_of_direct, is_bound_place, Tables, Exchange, Representation, waits_at, by, reads, place}
+use Rattle.hc_effects.proofs.Vocabulary.{Limits, Response, is_disabled, is_only, Place, back_in_line, is_number, over, woken, family, promised_bytes, is_open, Lawful, lo_of, hi_of, base_in, end_of_direct, is_bound_place, Tables, Exchange, Representation, waits_at, by, reads, place}
 use Rattle.hc_store.specs.declared.backend.Backend.{Ghosts}
 use Rattle.hc_entry.specs.{Keys.{line_of}, Lines.{is_in}}
 use Rattle.hc_text.specs.Sorted.{is_among}
@@ -33,15 +33,12 @@ module _ (b : Bool) where
   abbrev if_over : Option Exchange → Option Exchange
   if_over z = if b then option_map over z else z
 
--- its head, where it begins and where it ends are the same
+-- its head, and where it begins, are the same
 head_if : (b : Bool) (z : Option Exchange) → head_in (if_over b z) ≡ head_in z
 head_if b z = grind (arith, nat_tests)
 
 base_if : (b : Bool) (z : Option Exchange) → base_in (if_over b z) ≡ base_in z
 base_if b z = grind (arith, nat_tests)
-
-end_if : (b : Bool) (z : Option Exchange) → end_in (if_over b z) ≡ end_in z
-end_if b z = grind (arith, nat_tests)
 
 drop_none : (n : ℕ) → drop {A = ℕ} n [] ≡ []
 drop_none n = grind (arith, nat_tests)

@@ -4,7 +4,7 @@
 -- only the exchange changes (`past_answered`). Else the stored head is renewed, and `JoinRows` has the rest. Its
 -- consumer reads it alone, or shares it if it resumes a download (`stands_alone`, `stands_shared`). Where the renewal
 -- fails, it is lost to this consumer, its exclusive writer (`lost_answered`). `join` uses all.
-use Rattle.std.{proofs.{lemmas.{Bool.Decides.{nat_tests}, List.{append-nil}}, Common.{arith, ◌≡◌, ◌≢◌, inl, inr, ℕ, ◌+◌, ◌<◌, List, [], ◌∷◌, ◌++◌, Bool, true, false, Option, Some, None, refl, ap, ap₂, sym, ◌∙◌, subst}}, specs.{Prelude.{is_some, IsSomeAnd, nat_eq, not, option_map, ◌||◌, ◌==◌, if◌then◌else◌}, HashMap.{get, hash_map_len}}}
+use Rattle.std.{proofs.{lemmas.{Bool.Decides.{nat_tests}, List.{append-nil}}, Common.{arith, ◌≡◌, ◌≢◌, inl, inr, ℕ, ◌+◌, ◌<◌, List, [], ◌∷◌, ◌++◌, Bool, true, false, Option, Some, None, refl, ap, ap₂, sym, ◌∙◌, subst}}, specs.{Prelude.{IsSomeAnd, nat_eq, not, option_map, ◌||◌, if◌then◌else◌}, HashMap.{get, hash_map_len}}}
 use mathlib.Core.Path.{fun_ext}
 use Rattle.hc_text.proofs.Basics.{eqb-other, eqb-same, false_true, same_or}
 use Rattle.hc_effects.proofs.Vocabulary.{Limits, Act, Event, Response, HeadCase, head_case, head_refusal, has_loss, head_view, case_at, is_founding, is_joining, is_number, denial, is_live_place, with_event, let_go, lost_to, as_gone, with_answer, with_consumer, with_representation, promise_in, is_reached, Loses, updated_head, entry_of, Lawful, bound, is_bound, is_bound_place, resumes, Tables, Exchange, Representation, is_kept, exclusive, written_representation, head_writes, may_validate, lossless, act, kind, need, event}
@@ -272,10 +272,6 @@ join_of r t facts stands now x c q response w row k joins goes is accepted asks 
       reported = reported_of r t facts x response w a view q aim e.0 p.0 p.1 p.2;
       hole = need_is r t facts x response w a view;
     }
-
--- what is kept, and changed in place, is kept still
-some_still : (q : ℕ) (old new : Option Kept) (f : Kept → Kept) (e : Kept) → new ≡ (if q == q then option_map f old else old) → old ≡ Some e → is_some new ≡ true
-some_still q old new f e becomes at = grind (arith, nat_tests)
 
 -- what is renewed is kept still
 pub kept_growing : {B : Type 0} {g : Ghosts B} (r mid brought : Rows B g) (now x q : ℕ) (response : Response) → head_refusal (open_at r x) ≡ None →

@@ -15,7 +15,7 @@ use Rattle.hc_exch.specs.{Exchanges.{table_of}, Known.{Table, is_open}}
 use Rattle.hc_exch.specs.Known as known
 use Rattle.hc_model.specs.Laws as laws
 use Rattle.hc_model.specs.Rows as rows
-use Rattle.hc_state.specs.{declared.rows.Rows.{Rows}, Handlers.{IsInKey}, Facts.{Facts}, Heads.{AwaitsHead, IsAskedBy}, Leaving.{if_running, writer_group_of}, Lines.{is_passed, is_away, is_away_at}, Stands.{RowsStand, Stands, open_at}, Stored.{KeepsEntry, is_usable_kept}}
+use Rattle.hc_state.specs.{declared.rows.Rows.{Rows}, Handlers.{IsInKey}, Facts.{Facts}, Heads.{AwaitsHead, IsAskedBy}, Leaving.{writer_group_of}, Lines.{is_passed, is_away, is_away_at}, Stands.{RowsStand, Stands, open_at}, Stored.{KeepsEntry, is_usable_kept}}
 use Rattle.hc_on_leave.proofs.{AnswerHandler.{known_other}, HeardRows.{Asker, asker, asked_by, headless_of, heard_row}, LoseTurn.{grows}}
 use Rattle.hc_state.proofs.{CurrentTies.{entry_row}, KeySteps.{not_lined}, Maps.{known_of, merely_true}}
 use Rattle.hc_on_head.proofs.HeadReported.{past_of_runs}
@@ -51,9 +51,6 @@ module _ {B : Type 0} {g : Ghosts B} {limits : Limits} (r : Rows B g) (t : Table
           by_how _ is = refl
 
 -- WHAT IS OPEN
-
-running_some : (table : Table) (o : Option ℕ) (y : ℕ) → if_running table o ≡ Some y → is_open y table ≡ true
-running_some table o y is = grind (arith, nat_tests)
 
 pub group_open : (table : Table) (o : Option Kept) (y : ℕ) → writer_group_of table o ≡ Some y → is_open y table ≡ true
 group_open table o y is = grind (arith, nat_tests)

@@ -1,5 +1,5 @@
 -- What is denied is what the tables say, and a denial changes the moment alone.
-use Rattle.std.{proofs.{lemmas.Bool.Decides.{nat_tests}, Common.{arith, ◌≡◌, ℕ, false, Option, Some, None, refl, ap}}, specs.{Prelude.{option_map, nat_eq}, Option.{option_and_then}, HashMap.{get}}}
+use Rattle.std.{proofs.{lemmas.Bool.Decides.{nat_tests}, Common.{arith, ◌≡◌, ℕ, Option, Some, refl, ap}}, specs.{Prelude.{option_map, nat_eq}, Option.{option_and_then}, HashMap.{get}}}
 use Rattle.hc_effects.proofs.Vocabulary.{Limits, Event, Gate, refusal_of, denial, gate, as_open, exchange_in, Tables, Exchange, event}
 use Rattle.hc_store.specs.declared.backend.Backend.{Ghosts}
 use Rattle.hc_exch.specs.{Exchanges.{table_of}, Known.{open_view}, declared.row.Open.{Open}}
@@ -10,9 +10,6 @@ use Rattle.hc_state.proofs.Ties.{kept_lives}
 -- an open exchange is seen as the tables have it
 seen_as : (t : Tables) (x : ℕ) (o : Open) (w : Exchange) → IsRunning t x o w → Some (open_view o) ≡ as_open (Some w)
 seen_as t x o w is = rw is.is_open (ap Some (rw (is.headed, is.asked, is.delivered, is.promised_is) refl))
-
-closed_as : (row : Option Exchange) → Rattle.hc_model.specs.Exchanges.is_open row ≡ false → None ≡ as_open row
-closed_as row is = grind (arith, nat_tests)
 
 sees : (t : Tables) (x : ℕ) (o : Option Open) (row : Option Exchange) → KeepsRunning t x o row → option_map open_view o ≡ as_open row
 sees t x o row keeps = grind (arith, nat_tests)

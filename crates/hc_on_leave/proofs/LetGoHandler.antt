@@ -6,7 +6,7 @@
 -- is bound. `stands_without` joins this; `let_go` uses the last two lemmas, for what is usable and for what isn't.
 use Rattle.std.{proofs.{Common.{◌≡◌, ℕ, List, Bool, true, false, cond, Option, Some, None, refl, ap, sym, ◌∙◌, subst, arith, []}, lemmas.Bool.Decides.{nat_tests}}, specs.{Prelude.{is_some, nat_eq, bytes_eq, option_map, option_and_then, not, ◌&&◌, ◌||◌, ◌==◌, if◌then◌else◌}, HashMap.{get}}}
 use Rattle.hc_text.proofs.Basics.{eqb-same, false_true, mapped, some_inj as some_is, and_off as then_false}
-use Rattle.hc_effects.proofs.Vocabulary.{Limits, Place, back_in_line, current, is_usable, total_in, is_live, as_gone, let_go, unless_it, family, MayLetGo, is_in_line, holds_turn, Queues, has_passed, Tables, Exchange, Representation, status_in, bound, kind_of, place}
+use Rattle.hc_effects.proofs.Vocabulary.{Limits, Place, back_in_line, current, is_usable, total_in, is_live, as_gone, let_go, unless_it, family, MayLetGo, is_in_line, holds_turn, Queues, has_passed, Tables, Exchange, Representation, bound, kind_of, place}
 use Rattle.hc_store.specs.declared.backend.Backend.{Ghosts}
 use Rattle.hc_stored.specs.{Entries.{shelf_of}, Kept.{Kept, is_nobody}, Views.{key_in}, Shelf.{taken_out}}
 use Rattle.hc_text.specs.Sorted.{itself, is_among, without}
@@ -28,9 +28,6 @@ use Rattle.hc_state.proofs.{Fallbacks.{IsAlike, same, fallback, held_gone, users
 
 gone_total : (b : Bool) (z : Option Representation) → total_in (if b then option_map as_gone z else z) ≡ total_in z
 gone_total b z = grind (arith, nat_tests)
-
-gone_status : (b : Bool) (z : Option Representation) → status_in (if b then option_map as_gone z else z) ≡ status_in z
-gone_status b z = grind (arith, nat_tests)
 
 gone_there : (b : Bool) (z : Option Representation) → is_some (if b then option_map as_gone z else z) ≡ is_some z
 gone_there b z = grind (arith, nat_tests)

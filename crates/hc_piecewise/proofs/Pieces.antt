@@ -6,7 +6,7 @@
 -- what its events lead to, one after another (`stepped_on`).
 use Rattle.std.{proofs.{Common.{◌≡◌, ℕ, ◌+◌, ◌<◌, ◌≤◌, ◌^◌, List, [], ◌++◌, length, Option, Some, None, Result, Ok, Err, true, false, refl, sym, ap, subst, ◌∙◌, inl, inr, arith, length-append}, lemmas.Bool.{cases_Bool}, Math.{Bridge.{le_prop}, Logic.{∥∥₁_elim}}, Props.{props}}, specs.Prelude.{is_some}}
 use Rattle.hc_event.specs.declared.{event.Event.{Event}, act.Act.{Act}}
-use Rattle.hc_sched.specs.{declared.{place.Place.{Place}, schedule.{Refused.{Refused}, Timed.{Timed}}}, Reading.{Progress, Reads, Stopped, Spent, after, events_in, beginning, is_between, refusal_at}, Feeding.{lines_in, ending, progress_at_end}, Laws.{AreTimed}}
+use Rattle.hc_sched.specs.{declared.{place.Place.{Place}, schedule.{Refused.{Refused}, Timed.{Timed}}}, Reading.{Progress, Reads, Stopped, Spent, after, events_in, beginning, is_between}, Feeding.{lines_in, ending, progress_at_end}, Laws.{AreTimed}}
 use Rattle.hc_sched.specs.declared.schedule.FeedError.TheVariants as error
 use Rattle.hc_sched.proofs.{FeedLemmas.{after-stopped, events_in-stopped, events_in-append}, OneReading.{brings_timed}}
 use Rattle.hc_driver.specs.{declared.stop.Stop.{Stop}, Counting.{size_of, last_moment}, Endings.{IsReading, Wholly}, Pieces.{Passes}, Stepping.{Reports, never}}
@@ -144,23 +144,6 @@ reads_in moment steps received s may none =
 
 pub stopped_in : (s : Schedule) (r : Refused) → refusal_in s ≡ Some r → progress_in s ≡ Stopped r
 stopped_in s r is = ap (λ (o : Option Refused). progress_of o s.feed) is
-
--- a text that is refused where it ends stands there
-pub stopped_at_end : (p : Progress) (r : Refused) → refusal_at p ≡ Some r → progress_at_end p ≡ Stopped r
-stopped_at_end (Reads place line) r is = elim (cases_Bool (is_between place line)) [
-  | inl rest ↦ absurd (let never : false ≡ true = ap is_some (rw rest at is) in cc)
-  | inr more ↦ rw more (ap (stopped_of (Reads place line)) (rw more at is))
-]
-  where
-    stopped_of : Progress → Option Refused → Progress
-    stopped_of p None = p
-    stopped_of p (Some r) = Stopped r
-stopped_at_end (Stopped q) r is = ap stopped_of is
-  where
-    stopped_of : Option Refused → Progress
-    stopped_of None = Spent
-    stopped_of (Some r) = Stopped r
-stopped_at_end Spent r is = absurd (let never : false ≡ true = ap is_some is in cc)
 
 -- WHAT WAS STEPPED
 

@@ -4,7 +4,7 @@
 -- each for what it was stepped by (`on`), and what it leaves once all have left is left behind each (`left_behind`,
 -- `recovered`). The whole events of a text are what its reading brings, whatever stands behind them (`whole_events`).
 -- What refuses the record refuses each text that it begins, so no first part of a schedule is refused (`always_taken`).
-use Rattle.std.{proofs.{Common.{◌≡◌, ◌≤◌, ◌<◌, ◌^◌, ◌+◌, ℕ, List, [], ◌++◌, length, take, drop, true, Option, Some, None, Result, Err, refl, ap, sym, ◌∙◌, subst, arith, append_assoc}, lemmas.List.{append-nil, length-drop, take-append-drop, take_all}}, specs.{Prelude.{Ok, IfErr}, Result.{IsErrAnd}}}
+use Rattle.std.{proofs.{Common.{◌≡◌, ◌≤◌, ◌<◌, ◌^◌, ◌+◌, ℕ, List, [], ◌++◌, length, take, drop, true, Option, Some, None, Result, Err, refl, ap, sym, ◌∙◌, subst, arith, append_assoc}, lemmas.List.{append-nil, length-drop, take-append-drop}}, specs.{Prelude.{Ok, IfErr}, Result.{IsErrAnd}}}
 use Rattle.hc_io.specs.Source.{Gives, GivesAll}
 use Rattle.hc_io.proofs.Givings.{gives_none}
 use Rattle.hc_sched.specs.{declared.schedule.{Refused.{Refused}, Timed.{Timed}}, Reading.{events_in, Progress, beginning, refusal_of}, Laws.{AreTimed}, Schedule.{Item, Spells}}
@@ -138,10 +138,6 @@ none_within text used contents front less other is =
     let left = length-drop used text in
     let none : length (drop used text) ≡ 0 = ap length once.1 in
     omega (arith, left, none, less)
-
--- all of the text is the image
-pub image_whole : (text : List ℕ) (used : ℕ) (contents : Contents) → SpellsImage (take used text) contents → length text ≤ used → SpellsImage text contents
-image_whole text used contents front most = subst (λ (l : List ℕ). SpellsImage l contents) (take_all used text most) front
 
 -- memory was refused
 pub unread_lacking : {T : Type 0} (image : Option (List ℕ)) (result : Result T RecoverError) →

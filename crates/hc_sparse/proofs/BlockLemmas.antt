@@ -55,9 +55,6 @@ same-cells f g bytes same q = ap (cell_of bytes) (same q)
 pub same-within : (f g : Marks) (count : ℕ) → ((q : ℕ) → g q ≡ f q) → AreWithin f count → AreWithin g count
 same-within f g count same within q = rw (same q) (within q)
 
-some-number : (m : BTreeMap ℕ Block) (n : ℕ) (b : Block) → AreBelow m → get nat_cmp m n ≡ Some b → n < 2 ^ 50
-some-number m n b below there = grind (arith, nat_tests)
-
 -- Whose a byte is.
 abbrev x_of : Option Cell → ℕ
 x_of None = 0

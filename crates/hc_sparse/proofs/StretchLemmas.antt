@@ -30,11 +30,6 @@ pub record IsPrefix (f : Cells) (x p n : ℕ) (bytes : List ℕ) : Type 0 where
 cell-of : (cell : Cell) (x : ℕ) → cell.x ≡ x → cell ≡ record { byte = cell.byte; x = x }
 cell-of cell x same = rw (← same) refl
 
-each-of : (f : Cells) (x p : ℕ) (rest : List ℕ) (cell : Cell) → f p ≡ Some (record { byte = cell.byte; x = x }) →
-    ((i : ℕ) → i < length rest → f (p + 1 + i) ≡ Some (record { byte = get_or rest i 0; x = x })) → (i : ℕ) → i < suc (length rest) →
-    f (p + i) ≡ Some (record { byte = get_or (cell.byte ∷ rest) i 0; x = x })
-each-of f x p rest cell here each i lt = grind (arith, nat_tests)
-
 front-of : (f : Cells) (x p n : ℕ) (rest : List ℕ) → IsPrefix f x (p + 1) n rest → (o : Option Cell) → f p ≡ o → IsPrefix f x p (suc n) (goes_on x o rest)
 front-of f x p n rest front o e = grind (arith, nat_tests)
 

@@ -24,10 +24,6 @@ extents-join f p e next is on follows =
       ];
     }
 
--- The first positions of an extent.
-pub extent-first : (f : Marks) (p n : ℕ) (e : Extent) → IsExtentAt f p e → 0 < n → n ≤ e.len → IsExtentAt f p (record e { len = n })
-extent-first f p n e is some most = omega arith
-
 -- Whose a position is.
 abbrev mark_x : Option Mark → ℕ
 mark_x None = 0

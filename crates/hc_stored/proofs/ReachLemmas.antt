@@ -1,10 +1,7 @@
 -- Where the last byte ends once bytes are written.
 use Rattle.std.{proofs.{Common.{◌≡◌, ℕ, ◌+◌, ◌-◌, ◌<◌, ◌≤◌, ◌⊎◌, List, length, true, false, eqb, leb, refl, ◌∙◌, inl, inr, arith}, lemmas.Bool.{cases_Bool, Decides.{nat_tests}}}, specs.Prelude.{is_some, max, ◌||◌}}
-use Rattle.hc_sparse.specs.Cells.{Cells, inside, cells_with, nothing, EndsBy}
+use Rattle.hc_sparse.specs.Cells.{Cells, inside, cells_with, EndsBy}
 use Rattle.hc_stored.specs.Shelved.{Reaches}
-
-pub reaches-nothing : Reaches nothing 0
-reaches-nothing = record { ends = λ p le. refl; last = refl }
 
 module _ (at x : ℕ) (bytes : List ℕ) (cells : Cells) (reach : ℕ) (some : 0 < length bytes) where
   beyond : (p : ℕ) → at + length bytes ≤ p → cells_with at x bytes cells p ≡ cells p

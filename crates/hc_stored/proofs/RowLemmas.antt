@@ -4,7 +4,7 @@
 -- the summary and the reach (`shelved-filled`, `shelved-sealed`). Neither kind nor total tells how fresh a head is
 -- (`lifetime-sealed`), so the summary still follows. Consumers change who is bound: that still ascends, and where the
 -- row is gone somebody is left (`shelved-bound`, `shelved-left`). A founded row has its consumer.
-use Rattle.std.{proofs.{Common.{◌≡◌, ℕ, ◌+◌, ◌<◌, ◌^◌, List, [], ◌∷◌, length, Bool, true, false, not, eqb, cond, Option, Some, None, refl, ap, ◌∙◌, arith}, lemmas.Bool.Decides.{nat_tests}}, specs.Prelude.{option_map, ◌&&◌}}
+use Rattle.std.{proofs.{Common.{◌≡◌, ℕ, ◌+◌, ◌<◌, ◌^◌, List, [], ◌∷◌, length, Bool, true, false, not, eqb, Option, Some, None, refl, ap, ◌∙◌, arith}, lemmas.Bool.Decides.{nat_tests}}, specs.Prelude.{option_map, ◌&&◌}}
 use Rattle.hc_text.proofs.{Basics.{or_right}, SortedLemmas.{is_sorted-with, is_sorted-filter, has-with, has-without}}
 use Rattle.hc_text.specs.Sorted.{has, with_item, without, itself}
 use Rattle.hc_record.specs.{declared.kind.Kind.{Kind}, Head.{Head, sealed_head}}
@@ -114,9 +114,6 @@ pub shelved-written : (x : ℕ) (a : Row) (b : Held) → IsShelved (Some b) a �
 shelved-written x a b h = search arith
 
 -- FOUNDED
-
-among-first : (c : ℕ) (is_first : Bool) → is_among (cond is_first (Some c) None) (c ∷ []) ≡ true
-among-first c is_first = grind (arith, nat_tests)
 
 pub shelved-founded : (key : List ℕ) (n : ℕ) (head : Head) (c : ℕ) (is_first : Bool) (writer : Option ℕ) → n < 2 ^ 64
     → IsShelved (Some (bare head)) (founded_row key n (summary_of head) c is_first writer)

@@ -55,10 +55,6 @@ pub cut_on : (text : List ℕ) (start at to : ℕ) (first place next : Place) �
     → cut_pieces first (drop start text) ≡ begin_with (slice_range text start to) (cut_pieces next (drop to text))
 cut_on text start at to first place next from on so_far more = search (arith, begin_with-begin_with, slices_join)
 
--- a blank or a comma in front is no part of an element
-trimmed-blank : (b : ℕ) (bytes : List ℕ) → is_blank b ≡ true → trimmed_text (b ∷ bytes) ≡ trimmed_text bytes
-trimmed-blank b bytes blank = ap trim_end (cond-true (is_blank b) (skip_blanks bytes) (b ∷ bytes) blank)
-
 abbrev keeps : List ℕ → Bool
 keeps piece = not (eqb (length piece) 0)
 

@@ -3,6 +3,7 @@ use Rattle.std.{proofs.{Common.{◌≡◌, ℕ, ◌≤◌, true, false, Bool, �
 use Rattle.http_header.specs.Token.{IsToken, is_token_byte, lowercase}
 use Rattle.hc_fields.specs.{FieldList.{field_list_with, size_of, is_own_value, IsAllowed, IsWithinLimits, Refuses}, declared.error.FieldError.{FieldError}}
 use Rattle.hc_fields.specs.declared.error.FieldError.TheVariants as error
+use Rattle.hc_text.proofs.Basics.{never_true}
 use Rattle.hc_fields.proofs.{Edits.{length-put, size_of-put}, Kept.{length-lowercase}}
 use Rattle.hc_sched.specs.{Words.{◌>>=◌}, FieldLines.{field_parts}}
 use Rattle.hc_binary.specs.FieldTexts.{is_field, are_within_limits, with_field, line_behind}
@@ -13,10 +14,6 @@ Pair = List ℕ × List ℕ
 -- the list with the field
 abbrev put : List Pair → List ℕ → List ℕ → List Pair
 put fs name value = field_list_with (lowercase name) value fs
-
-not_so : (b : Bool) → (b ≡ true → ⊥) → b ≡ false
-not_so true lacking = absurd (lacking refl)
-not_so false lacking = refl
 
 some_if : (b : Bool) (fs : List Pair) → b ≡ true → (if b then Some fs else None) ≡ Some fs
 some_if true fs is = refl
@@ -68,13 +65,13 @@ with_allowed fs name value allowed within =
 pub with_beyond : (fs : List Pair) (name value : List ℕ) → (IsWithinLimits (put fs name value) → ⊥) → with_field fs (name, value) ≡ None
 with_beyond fs name value beyond =
     none_if (is_field (name, value) && are_within_limits (put fs name value)) (put fs name value)
-    (not_so _ (λ is. beyond (are_within (put fs name value) (and_parts (is_field (name, value)) (are_within_limits (put fs name value)) is).1)))
+    (never_true _ (λ is. beyond (are_within (put fs name value) (and_parts (is_field (name, value)) (are_within_limits (put fs name value)) is).1)))
 
 -- nor one that fails the test
 with_no_field : (fs : List Pair) (name value : List ℕ) → (Passes name value → ⊥) → with_field fs (name, value) ≡ None
 with_no_field fs name value lacking =
     none_if (is_field (name, value) && are_within_limits (put fs name value)) (put fs name value)
-    (not_so _ (λ is. lacking (passes name value (and_parts (is_field (name, value)) (are_within_limits (put fs name value)) is).0)))
+    (never_true _ (λ is. lacking (passes name value (and_parts (is_field (name, value)) (are_within_limits (put fs name value)) is).0)))
 
 -- nor one that is refused
 pub with_refused : (e : FieldError) (fs : List Pair) (name value : List ℕ) → Refuses e fs name value → with_field fs (name, value) ≡ None

@@ -7,10 +7,8 @@
 use Rattle.std.{proofs.{Common.{◌≡◌, ◌⊎◌, inl, inr, ℕ, zero, suc, ◌+◌, ◌-◌, ◌<◌, ◌≤◌, Bool, true, false, Option, None, sym, arith, min}, lemmas.Bool.Decides.{nat_tests}}, specs.Prelude.{is_some, is_none}}
 use Rattle.hc_text.proofs.Basics.{bool_cases, lt_cases}
 use Rattle.hc_sparse.specs.Cells.{Cells, Cell, EndsBy, Covers}
+use Rattle.hc_sparse.proofs.OpLemmas.{absent-is}
 use Rattle.hc_effects.proofs.Vocabulary.{first_place, absent_from, covers, hole_at}
-
-pub none_of : (o : Option Cell) → is_some o ≡ false → o ≡ None
-none_of o h = grind (arith, nat_tests)
 
 pub some_of : (o : Option Cell) → is_none o ≡ false → is_some o ≡ true
 some_of o h = grind (arith, nat_tests)
@@ -102,11 +100,11 @@ hole_absent f reach p hi q ends le lt =
     elim (end_cases f reach p hi) [
       | inl near ↦
           let less : q < min hi (first_place is_some f p (reach - p)) = rw near.0 at lt in
-          none_of (f q) (first_before is_some f p (reach - p) q le (omega arith))
+          absent-is (f q) (first_before is_some f p (reach - p) q le (omega arith))
       | inr far ↦
           elim (lt_cases q reach) [
             | inr past ↦ ends q past.1
-            | inl within ↦ none_of (f q) (first_before is_some f p (reach - p) q le (omega arith))
+            | inl within ↦ absent-is (f q) (first_before is_some f p (reach - p) q le (omega arith))
           ]
     ]
 

@@ -4,9 +4,10 @@ use Rattle.hc_text.proofs.Basics.{both_true as and_both, and_left, and_right, bo
 use Rattle.hc_record.specs.declared.kind.Kind.{Kind}
 use Rattle.hc_record.specs.declared.kind.Kind.TheVariants as kind
 use Rattle.hc_sparse.specs.Cells.{Cells, Covers, EndsBy, size_below}
+use Rattle.hc_sparse.proofs.SizeLemmas.{below-le}
 use Rattle.hc_effects.proofs.Vocabulary.{kind_of_runs, same_kind, runs_from, covers, last_end, bytes_in}
 use Rattle.hc_effects.proofs.{Basics.{false_true}, HoleLemmas.{covers_all, covers_yes}}
-use Rattle.hc_laws.proofs.{Positions.{below_full, below_most, full_below, no_other_below}, RunsFrom.{bytes_from, end_is}}
+use Rattle.hc_laws.proofs.{Positions.{below_full, full_below, no_other_below}, RunsFrom.{bytes_from, end_is}}
 
 same_self : (k : Kind) → same_kind k k ≡ true
 same_self kind.Growing = refl
@@ -70,7 +71,7 @@ module _ (f : Cells) (reach total : ℕ) (ends : EndsBy reach f) (tight : (m : �
           let some : nat_lt 0 size ≡ true = and_left (nat_lt 0 size) (covers f reach 0 size) h in
           let a : last ≡ reach = last_is in
           let b : bytes ≡ size_below f reach = count_is in
-          let most : size_below f reach ≤ reach = below_most f reach in
+          let most : size_below f reach ≤ reach = below-le f reach in
           let up : reach ≤ size = by_reach (covers_all f reach 0 size (and_right (nat_lt 0 size) (covers f reach 0 size) h)) in
           and_both _ _ (let over : 0 < size = grind (arith, nat_tests) in let less : 0 < bytes = omega arith in grind (arith, nat_tests))
           (eq_yes last bytes (omega arith))

@@ -1,13 +1,13 @@
 -- At how many positions below a place something is.
 --
 -- All go by induction over positions. Past the end of what is there none is counted (`below_past`). Bytes that are
--- written where nothing is add as many as they are (`below_written`, `below_put`); so runs that rise count as many
--- positions as they have bytes (`bytes_below`). No more are counted than there are (`below_most`). All are exactly
+-- written where nothing is add as many as they are (`below-written`, `below_put`); so runs that rise count as many
+-- positions as they have bytes (`bytes_below`). No more are counted than there are (`below-le`). All are exactly
 -- where each is there (`full_below`, `below_full`), and then no other is (`no_other_below`).
-use Rattle.std.{proofs.{Common.{◌≡◌, inl, inr, ℕ, zero, suc, ◌+◌, ◌-◌, ◌<◌, ◌≤◌, List, [], ◌∷◌, length, true, false, cond, None, refl, ap, sym, ◌∙◌, arith, min, max}, lemmas.{Bool.Decides.{nat_tests}, List.Sums.{sum_by-cons}}}, specs.Prelude.{is_some, nat_le, nat_lt}}
+use Rattle.std.{proofs.{Common.{◌≡◌, inl, inr, ℕ, zero, suc, ◌+◌, ◌-◌, ◌<◌, ◌≤◌, List, [], ◌∷◌, length, true, false, cond, None, refl, ap, sym, ◌∙◌, arith, max}, lemmas.{Bool.Decides.{nat_tests}, List.Sums.{sum_by-cons}}}, specs.Prelude.{is_some, nat_le, nat_lt}}
 use Rattle.hc_text.proofs.Basics.{and_left, and_right, bool_cases}
 use Rattle.hc_sparse.specs.{Cells.{Cells, Covers, EndsBy, AreAbsent, cells_with, size_below}, Runs.{cells_of, end_of}, declared.run.Run.{Run}}
-use Rattle.hc_sparse.proofs.CellLemmas.{inside-cases, inside-before}
+use Rattle.hc_sparse.proofs.{CellLemmas.{inside-before}, SizeLemmas.{below-le, below-written}}
 use Rattle.hc_effects.proofs.Vocabulary.{ascend_from, last_end, bytes_in}
 use Rattle.hc_laws.proofs.Begins.{ends_all}
 
@@ -26,21 +26,10 @@ below_past f n (suc m) ends le = elim (bool_cases (nat_le n m)) [
   | inr over ↦ let same : n ≡ suc m = (let past : m < n = grind (arith, nat_tests) in omega arith) in rw same refl
 ]
 
-pub below_written : (f : Cells) (from x : ℕ) (bytes : List ℕ) (n : ℕ) → AreAbsent f from (from + length bytes) →
-    size_below (cells_with from x bytes f) n ≡ size_below f n + (min n (from + length bytes) - from)
-unfolding size_below
-below_written f from x bytes zero absent = omega arith
-below_written f from x bytes (suc n) absent =
-    let rest = below_written f from x bytes n absent in
-    elim (inside-cases from (length bytes) n) [
-      | inl here ↦ rw (here.0, absent n here.1 here.2) (omega arith)
-      | inr off ↦ rw off.0 (omega arith)
-    ]
-
 -- written where nothing was, up to the farther of both ends
 pub below_put : (f : Cells) (from x n : ℕ) (bytes : List ℕ) → EndsBy n f → AreAbsent f from (from + length bytes) →
     size_below (cells_with from x bytes f) (max n (from + length bytes)) ≡ size_below f n + length bytes
-below_put f from x n bytes ends absent = grind (arith, nat_tests, below_written, length, below_past)
+below_put f from x n bytes ends absent = grind (arith, nat_tests, below-written, length, below_past)
 
 -- RUNS THAT RISE
 
@@ -68,12 +57,6 @@ bytes_below n x (run ∷ runs) good =
 
 -- AS MANY AS THERE MAY BE
 
-pub below_most : (f : Cells) (n : ℕ) → size_below f n ≤ n
-unfolding size_below
-below_most f zero = omega arith
-below_most f (suc n) = let rest = below_most f n in
-    elim (is_some (f n)) as (λ b. cond b 1 0 + size_below f n ≤ suc n) [ true ↦ omega arith | false ↦ omega arith ]
-
 -- where each is there, all count
 pub full_below : (f : Cells) (n : ℕ) → Covers f 0 n → size_below f n ≡ n
 unfolding size_below
@@ -94,7 +77,7 @@ below_full f (suc n) all p lo hi = elim (bool_cases (is_some (f n))) [
         | inr past ↦ let same : p ≡ n = (let over : n ≤ p = grind (arith, nat_tests) in omega arith) in rw same here
       ]
   | inr off ↦
-      let most : size_below f n ≤ n = below_most f n in
+      let most : size_below f n ≤ n = below-le f n in
       let is : 0 + size_below f n ≡ suc n = rw off at all in
       absurd (omega arith)
 ]

@@ -5,7 +5,8 @@ use Rattle.hc_sparse.specs.Cells.{Cells, Cell, AreAbsent, cells_with}
 use Rattle.hc_effects.proofs.Vocabulary.{is_denied, Event, Limits, loses_in, denial, Entry, History, Contents, front, Flaw, flaw_in, entry_of, OfHistories, Tables, Exchange, Representation, IsOwed, Sound, IsStored, tables, after_accepted, after_denied}
 use Rattle.hc_model.specs.Laws.{HasStored, GrowsStored, StoresGrow}
 use Rattle.hc_laws.proofs.{Barred.{next_tables, denied_tables}, SoundRuns.{runs_are_sound}}
-use Rattle.hc_effects.proofs.{Basics.{false_true, some_row}, Fills.{still, more, Fills, IsPiece, fills}, HoleLemmas.{none_of}, OfEntries.{of_real}, Once.{delivers_once}, RepFrom.{RepFrom, IsKept, rep_from}, Stays.{stays_written}}
+use Rattle.hc_sparse.proofs.OpLemmas.{absent-is}
+use Rattle.hc_effects.proofs.{Basics.{false_true, some_row}, Fills.{still, more, Fills, IsPiece, fills}, OfEntries.{of_real}, Once.{delivers_once}, RepFrom.{RepFrom, IsKept, rep_from}, Stays.{stays_written}}
 use Rattle.hc_effects.proofs.RepFrom as rep
 
 module _ (limits : Limits) (t : Tables) (now : ℕ) (flaw : Flaw) (s : Sound t) (ev : Event) (goes : denial t ev ≡ None) where
@@ -23,7 +24,7 @@ module _ (limits : Limits) (t : Tables) (now : ℕ) (flaw : Flaw) (s : Sound t) 
     absent : (x : ℕ) (bytes : List ℕ) (w : Exchange) → IsPiece t e r x bytes w → AreAbsent v.stored (front w) (front w + length bytes)
     absent x bytes w is q le lt =
         let none : v.body q ≡ None = delivers_once t s x bytes w v (sym (ap (denial t) is.at) ∙ goes) is.row (ap t.representation is.of_r ∙ kept.row) q le lt in
-        none_of (v.stored q) (not_so (is_some (v.stored q))
+        absent-is (v.stored q) (not_so (is_some (v.stored q))
         (λ some. false_true (sym (ap (λ (z : Option Cell). is_some z) (store.some_stored q some ∙ none)) ∙ some)))
 
     still_stored : Fills t e r v u → u.stored p ≡ Some cell

@@ -4,15 +4,16 @@
 -- (`room_same`, `gives_same`). What an open exchange brings is read by somebody, so it isn't idle (`spared`). That room
 -- may be made is a fact of the run (`may_make_room`). Where the store took the bytes there was room, since they fit the
 -- limits (`room_there`). `StoreHandler`, `GrowHandler` and `FoundHandler` use these.
-use Rattle.std.{proofs.{Common.{◌≡◌, ◌≢◌, inl, inr, ℕ, zero, suc, ◌+◌, ◌≤◌, List, [], ◌∷◌, length, take, Bool, true, false, Option, Some, None, refl, ap, sym, ◌∙◌, arith}, lemmas.Bool.Decides.{nat_tests}}, specs.{Prelude.{is_some, nat_eq, nat_le, nat_lt, filter, map, reverse, not, ◌==◌, ◌&&◌, ◌||◌, if◌then◌else◌}, List.{sum_by}}}
+use Rattle.std.{proofs.{Common.{◌≡◌, ◌≢◌, inl, inr, ℕ, zero, suc, ◌+◌, ◌≤◌, List, [], ◌∷◌, length, take, Bool, true, false, Option, Some, None, refl, ap, sym, ◌∙◌, arith}, lemmas.Bool.Decides.{nat_tests}}, specs.{Prelude.{is_some, nat_eq, nat_lt, filter, map, reverse, not, ◌==◌, ◌&&◌, ◌||◌, if◌then◌else◌}, List.{sum_by}}}
 use mathlib.Core.Path.{fun_ext}
 use Rattle.hc_text.proofs.Basics.{and_true, eqb-other, false_true, or_off_left as or_first, same_or, and_off as then_false}
-use Rattle.hc_effects.proofs.Vocabulary.{event, room, write, Limits, Room, Write, room_of, gives_way, weight_of, idle_now, is_current, denial, Entry, entry_without_acts, outlasts, outlasts_row, family, NoFlaw, goes_itself, becomes_gone, Lawful, MayMakeRoom, weight_now, room_now, giving_way, bound, Tables, Exchange, Representation, has_room, weight, idle, evicted, room_for, room_by, write_in, stays_bound}
+use Rattle.hc_effects.proofs.Vocabulary.{event, room, write, Limits, Room, Write, room_of, weight_of, idle_now, is_current, denial, Entry, entry_without_acts, outlasts, outlasts_row, family, NoFlaw, goes_itself, becomes_gone, Lawful, MayMakeRoom, weight_now, room_now, giving_way, bound, Tables, Exchange, Representation, has_room, weight, idle, evicted, room_for, room_by, write_in, stays_bound}
 use Rattle.hc_model.specs.Contents as contents
 use Rattle.hc_model.specs.LettingGo as going
 use Rattle.hc_model.specs.Sound as sound
 use Rattle.hc_model.specs.Weights as weights
 use Rattle.hc_effects.proofs.{IdleNow.{idle_but_gone, bound_is}, LettingGo.{may_let_go}, SameTables.{is_in}, Tests.{none_some}, PieceEffects.{piece_goes}}
+use Rattle.hc_rules.proofs.RoomFolds.{none_gives_way}
 use Rattle.hc_state.specs.Facts.{Facts}
 
 -- LISTS
@@ -117,12 +118,8 @@ module _ (limits : Limits) (t : Tables) (law : Lawful t) (now x : ℕ) (bytes : 
 
 -- WHERE THE STORE TOOK IT
 
-gives_first : (most sum : ℕ) (ws : List ℕ) → sum ≤ most → gives_way most sum ws ≡ Some 0
-gives_first most sum [] le = (let on : nat_le sum most ≡ true = grind (arith, nat_tests, le) in rw on refl)
-gives_first most sum (x ∷ ws) le = (let on : nat_le sum most ≡ true = grind (arith, nat_tests, le) in rw on refl)
-
 -- there was room, where the write is within the limits
 pub room_there : (limits : Limits) (sum size n : ℕ) (ws : List ℕ) → size + n ≤ limits.max_entry →
     (room_of limits sum (write.Piece size n) ws ≡ room.Full → sum + n ≤ limits.max_total) → has_room (room_of limits sum (write.Piece size n) ws) ≡ true
 unfolding room_of
-room_there limits sum size n ws small full = grind (arith, nat_tests, none_some, gives_first)
+room_there limits sum size n ws small full = grind (arith, nat_tests, none_some, none_gives_way)

@@ -7,7 +7,7 @@
 use Rattle.std.{proofs.{Common.{◌≡◌, ◌≢◌, ℕ, ◌+◌, ◌<◌, ◌≤◌, ◌^◌, List, [], ◌++◌, length, max, Bool, true, false, Option, Some, None, refl, ap, sym, ◌∙◌, subst, arith}, Math.{Logic.{∥∥₁_elim}, Seq.{take-append_seam}}, lemmas.Bool.Decides.{nat_tests}}, specs.Prelude.{is_some, not, map, option_map, ◌&&◌, if◌then◌else◌, take}}
 use Rattle.hc_store.specs.declared.backend.Backend.{Ghosts}
 use Rattle.hc_sparse.specs.Cells.{Cell, Cells, AreAbsent, EndsBy, cells_with, size}
-use Rattle.hc_sparse.proofs.SizeLemmas.{size-same}
+use Rattle.hc_sparse.proofs.{OpLemmas.{absent-is}, SizeLemmas.{size-same}}
 use Rattle.hc_record.specs.declared.kind.Kind.{Kind}
 use Rattle.hc_effects.proofs.Vocabulary.{Act, piece_refusal, room_of, Limits, Room, denial, let_all_go, with_piece, family, front, promised_bytes, is_reached, IsInUse, MayMakeRoom, giving_way, room_now, weight_now, weights_now, idle_now, bound, with_stored_bytes, Tables, Exchange, Representation, has_room, room_for, LostKind, Write, may_lose, event, room, write, act, kind as kinds}
 use Rattle.hc_rules.specs.Refusals as refusals
@@ -19,7 +19,7 @@ use Rattle.hc_exch.specs.{Exchanges.{table_of}, Known.{is_open, is_last_of, open
 use Rattle.hc_exch.specs.Known as known
 use Rattle.hc_model.specs.LettingGo as going
 use Rattle.hc_model.specs.Sound as sound
-use Rattle.hc_effects.proofs.{HoleLemmas.{none_of}, Once.{IsTaken, delivers_once}, SameTables.{is_in, without, all_go_is}, WeightsLeft.{fits_after}, Tests.{none_some}}
+use Rattle.hc_effects.proofs.{Once.{IsTaken, delivers_once}, SameTables.{is_in, without, all_go_is}, WeightsLeft.{fits_after}, Tests.{none_some}}
 use Rattle.hc_state.specs.{declared.rows.Rows.{Rows}, Facts.{Facts}, Pieces.{unless_lost, stored_at, stored_by, larger_view, IsLastKind, PutsPiece}, Room.{GivesWay}, Stands.{Answered, Answers, RowsStand, Stands, open_at}, Stops.{brought_by, IsViewOf}, Stored.{IsEntry, KeepsEntry}, Refused.{Refuses}}
 use Rattle.hc_on_leave.proofs.{PieceHandler.{Brought, brought_of, Runs, runs_of, brings_it, not_too_long}, PieceRoom.{may_make_room, room_same, gives_same, spared, room_there}, Gates.{denies_as}, PieceKinds.{outside_behind}, PieceRows.{IsLike, like_same, last_is}, StoredPiece.{written_alike, reports, stored_stands, stored_answered}, FoundHandler.{bound_without, make_gone}, RefusedPiece.{Refused, too_large, not_large}, Sets.{acts_set}}
 use Rattle.hc_state.proofs.{Maps.{merely_true, merely_false}, Rooms.{used_is}, ReaderSteps.{stands_read}}
@@ -334,7 +334,7 @@ module _ {B : Type 0} {g : Ghosts B} (r mid : Rows B g) (now x q : ℕ) (bytes :
 
   pub absent_mid : (o : Open) → (table_of mid.exchanges x).running ≡ Some o →
       AreAbsent (cells_at (shelf_of mid.entries) q) (o.base + o.delivered) (o.base + o.delivered + length bytes)
-  absent_mid o running n low high = none_of (cells_at (shelf_of mid.entries) q n) (merely_false (is_some (cells_at (shelf_of mid.entries) q n)) some (λ p.
+  absent_mid o running n low high = absent-is (cells_at (shelf_of mid.entries) q n) (merely_false (is_some (cells_at (shelf_of mid.entries) q n)) some (λ p.
       let t = p.t in
       let facts = p.facts in
       let stands = p.rows in

@@ -1,11 +1,8 @@
 -- A plain number before the first of some byte.
-use Rattle.std.{proofs.{Common.{◌≡◌, ℕ, suc, ◌+◌, ◌-◌, ◌<◌, ◌≤◌, ◌^◌, Bool, true, List, ◌∷◌, ◌++◌, length, take, drop, get_or, sym, ap, ◌∙◌, inl, inr, arith, rules}, Math.Seq.{take-append-add}, lemmas.{Bool.{cases_lt, and_parts}, Fmt.{decimal_is_IsNumeral, decimal-digits_value}, List.{take-append-drop, take-append-le, Folds.{list_all-append}}, Str.Parse.{IsNumeralModel, numerals_by_value, digits_value-take-le}}}, specs.{Char.{is_ascii_digit}, Fmt.{decimal}, List.{list_all}, Str.Parse.{digits_value}}}
+use Rattle.std.{proofs.{Common.{◌≡◌, ℕ, suc, ◌+◌, ◌-◌, ◌<◌, ◌≤◌, ◌^◌, Bool, true, List, ◌∷◌, ◌++◌, length, take, drop, get_or, sym, ap, ◌∙◌, inl, inr, arith}, Math.Seq.{take-append-add}, lemmas.{Bool.{cases_lt, and_parts}, Fmt.{decimal_is_IsNumeral, decimal-digits_value}, List.{take-append-drop, take-append-le, Folds.{list_all-append}}, Str.Parse.{digits_value-take-le}}}, specs.{Char.{is_ascii_digit}, Fmt.{decimal}, List.{list_all}, Str.Parse.{digits_value}}}
 use Rattle.hc_text.specs.{Numbers.{IsPlain}, Texts.{lacks}}
-use Rattle.hc_text.proofs.{NumberLemmas.{tested-AllDigits}, Cuts.{cut_once, lacks-decimal, lacks-not}}
+use Rattle.hc_text.proofs.{NumberLemmas.{tested, tested-AllDigits}, Cuts.{cut_once, lacks-decimal, lacks-not}}
 use Rattle.hc_record.specs.Lines.{IsSmall}
-
-pub tested : IsNumeralModel (λ ds. list_all is_ascii_digit ds ≡ true) (digits_value 10)
-tested = numerals_by_value _ (search rules)
 
 pub plain_is : (ds : List ℕ) (n : ℕ) → list_all is_ascii_digit ds ≡ true → n ≡ digits_value 10 ds → 0 < length ds → (get_or ds 0 0 ≡ 48 → length ds ≡ 1) →
     n < 2 ^ 62 → IsPlain ds n

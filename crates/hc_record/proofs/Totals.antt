@@ -1,7 +1,8 @@
 -- The 20 bytes of a total.
-use Rattle.std.{proofs.{Common.{◌≡◌, ℕ, zero, suc, ◌-◌, ◌<◌, ◌≤◌, ◌^◌, List, [], ◌∷◌, ◌++◌, length, take, drop, Option, Some, None, refl, sym, ap, ◌∙◌, inl, inr, arith, length-append}, lemmas.{Bool.{cases_eq}, Option.{same_Some}, Fmt.{length-decimal-le, decimal_is_IsNumeral, decimal-digits_value}, Str.Parse.{IsNumeralModel, numerals_by_value, tells_digits}, List.{length-replicate, append_assoc, drop_at, drop-drop}}}, specs.{Prelude.{replicate}, List.{replace_range}, Fmt.{decimal}, Str.Parse.{AllDigits, digits_value}}}
+use Rattle.std.{proofs.{Common.{◌≡◌, ℕ, zero, suc, ◌-◌, ◌<◌, ◌≤◌, ◌^◌, List, [], ◌∷◌, ◌++◌, length, take, drop, Option, Some, None, refl, sym, ap, ◌∙◌, inl, inr, arith, length-append}, lemmas.{Bool.{cases_eq}, Option.{same_Some}, Fmt.{length-decimal-le, decimal_is_IsNumeral, decimal-digits_value}, List.{length-replicate, append_assoc, drop_at, drop-drop}}}, specs.{Prelude.{replicate}, List.{replace_range}, Fmt.{decimal}, Str.Parse.{AllDigits, digits_value}}}
 use borrow.Rule.Slice.PartMut.{put_mid}
 use Rattle.hc_text.specs.Numbers.{IsNumber}
+use Rattle.hc_text.proofs.NumberLemmas.{own}
 use Rattle.hc_record.specs.{declared.{kind.Kind.{Kind}, version.Version.{Version, TheVariants.{First, Second}}}, Head.{Head, sealed_head}, Lines.{IsSmall, IsSmallTotal, total_text, sealed_record}, Record.{later_lines, spelling}}
 
 pub length-decimal : (n : ℕ) → IsSmall n → length (decimal n) ≤ 20
@@ -56,9 +57,6 @@ IsNumber-total n text small is =
       omega (arith, len),
       digits_value-zeros (20 - length (decimal n)) (decimal n) ∙ written.1,
     )
-
-own : IsNumeralModel (AllDigits 10) (digits_value 10)
-own = numerals_by_value _ tells_digits
 
 -- digits are the plain number behind zeros
 abbrev IsPadded : List ℕ → Type 0

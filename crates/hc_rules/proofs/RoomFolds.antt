@@ -4,7 +4,7 @@ use Rattle.hc_text.proofs.Basics.{le-leb}
 use Rattle.hc_rules.specs.Rooms.{gives_way}
 
 -- where the sum fits, none gives way
-none_gives_way : (most sum : ℕ) (idle : List ℕ) → sum ≤ most → gives_way most sum idle ≡ Some 0
+pub none_gives_way : (most sum : ℕ) (idle : List ℕ) → sum ≤ most → gives_way most sum idle ≡ Some 0
 none_gives_way most sum [] fits = rw (le-leb sum most fits) refl
 none_gives_way most sum (weight ∷ idle) fits = rw (le-leb sum most fits) refl
 

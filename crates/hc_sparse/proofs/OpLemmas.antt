@@ -3,7 +3,7 @@ use Rattle.std.{proofs.{lemmas.Bool.Decides.{nat_tests}, Common.{◌≡◌, inl,
 use Rattle.hc_text.proofs.Basics.{le_or as le_cases, never_true as one-of, lt_or as split}
 use Rattle.hc_sparse.specs.{Cells.{Cells, Cell, AreAbsent, IsNext}, Ops.{are_absent, after, cells_after, IsAnswer, AreAnswers, HasAnswered}, declared.ops.{SparseOp.{SparseOp}, SparseAnswer.{SparseAnswer}}}
 
-absent-is : (o : Option Cell) → is_some o ≡ false → o ≡ None
+pub absent-is : (o : Option Cell) → is_some o ≡ false → o ≡ None
 absent-is o is = grind (arith, nat_tests)
 
 -- The test says what it is named for.

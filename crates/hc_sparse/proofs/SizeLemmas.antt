@@ -15,7 +15,7 @@ size-none f h = below-none f (2 ^ 62) h
 pub size-same : (f g : Cells) → ((p : ℕ) → f p ≡ g p) → size f ≡ size g
 size-same f g h = ap size (fun_ext h)
 
-below-le : (f : Cells) (n : ℕ) → size_below f n ≤ n
+pub below-le : (f : Cells) (n : ℕ) → size_below f n ≤ n
 unfolding size_below
 below-le f zero = omega arith
 below-le f (suc n) = let rest = below-le f n in elim (is_some (f n)) as (λ b. cond b 1 0 + size_below f n ≤ suc n) [ true ↦ omega arith | false ↦ omega arith ]
@@ -24,7 +24,7 @@ pub size-le : (f : Cells) → size f ≤ 2 ^ 62
 unfolding size
 size-le f = below-le f (2 ^ 62)
 
-below-written : (f : Cells) (from x : ℕ) (bytes : List ℕ) (n : ℕ) → AreAbsent f from (from + length bytes) →
+pub below-written : (f : Cells) (from x : ℕ) (bytes : List ℕ) (n : ℕ) → AreAbsent f from (from + length bytes) →
     size_below (cells_with from x bytes f) n ≡ size_below f n + (min n (from + length bytes) - from)
 unfolding size_below
 below-written f from x bytes zero absent = omega arith

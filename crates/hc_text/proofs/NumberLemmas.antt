@@ -28,7 +28,7 @@ pub IsPlain-number : (text : List ℕ) (n : ℕ) → IsNumber text n → (get_or
 IsPlain-number text n h first =
     (h.0, sym (ap decimal (sym h.3) ∙ decimal-digits_value own text h.1.1 h.1.0 first (omega (arith, h.0, h.3))))
 
-tested : IsNumeralModel (λ ds. list_all is_ascii_digit ds ≡ true) (digits_value 10)
+pub tested : IsNumeralModel (λ ds. list_all is_ascii_digit ds ≡ true) (digits_value 10)
 tested = numerals_by_value _ (search rules)
 
 pub tested-AllDigits : (text : List ℕ) → AllDigits 10 text → list_all is_ascii_digit text ≡ true

@@ -1,8 +1,8 @@
 -- A field that isn't refused, and how much longer the list is with it.
-use Rattle.std.{proofs.{Common.{◌≡◌, ℕ, ◌+◌, ◌≤◌, ◌<◌, true, List, length, inl, inr, arith}, lemmas.{Bool.{both_ways}, List.{length-map}}}, specs.Char.{to_ascii_lowercase}}
+use Rattle.std.{proofs.{Common.{◌≡◌, ℕ, ◌+◌, ◌≤◌, ◌<◌, true, List, length, inl, inr, arith}, lemmas.Bool.{both_ways}}}
 use Rattle.http_header.specs.Token.{IsToken, lowercase}
 use Rattle.hc_fields.specs.{declared.error.FieldError.{FieldError, TheVariants.{BadName, BadValue, TooMany, TooLong, NoMemory}}, FieldList.{Refuses, is_own_value, size_of, without}}
-use Rattle.hc_fields.proofs.Edits.{length-parts, length-put, size_of-parts, size_of-put}
+use Rattle.hc_fields.proofs.{Edits.{length-parts, length-put, size_of-parts, size_of-put}, Kept.{length-lowercase}}
 use Rattle.hc_validate.specs.Updates.{FieldPairs, with_one}
 
 pub length-without : (name : List ℕ) (fields : FieldPairs) → length (without name fields) ≤ length fields
@@ -13,9 +13,6 @@ size_of-without name fields = omega (arith, size_of-parts name fields)
 
 pub length-with_one : (name value : List ℕ) (fields : FieldPairs) → length (with_one name value fields) ≤ length fields + 1
 length-with_one name value fields = omega (arith, length-put name value (without name fields), length-without name fields)
-
-length-lowercase : (name : List ℕ) → length (lowercase name) ≡ length name
-length-lowercase name = length-map name to_ascii_lowercase
 
 pub size_of-with_one : (name value : List ℕ) (fields : FieldPairs)
     → size_of (with_one (lowercase name) value fields) ≤ size_of fields + (length name + length value)

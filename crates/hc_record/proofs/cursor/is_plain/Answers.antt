@@ -1,6 +1,6 @@
 use Rattle.std.{proofs.{Common.{◌≡◌, ℕ, ◌<◌, ◌==◌, true, false, List, [], ◌∷◌, length, refl, sym, ◌∙◌, arith}, lemmas.{Bool.{both_ways, false≢true, eqb-true, eq-eqb, lt-ltb, Decides.{nat_tests}}, Str.Parse.{digits_value_short}}}, specs.Prelude.{nat_lt}}
-use Rattle.hc_text.proofs.NumberLemmas.{IsNumber-plain, plain_first}
-use Rattle.hc_record.proofs.NumberCuts.{plain_is, tested}
+use Rattle.hc_text.proofs.NumberLemmas.{IsNumber-plain, plain_first, tested}
+use Rattle.hc_record.proofs.NumberCuts.{plain_is}
 use Rattle.hc_record.proofs.cursor.is_plain.Goals as goal
 
 pub returns-then-is_empty : goal.returns-then-is_empty

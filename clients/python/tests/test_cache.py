@@ -112,6 +112,22 @@ class LibraryTest(unittest.TestCase):
                 cache.schedule_end()
                 self.assertEqual(report, due)
 
+    def test_who_started_last_by_a_text(self) -> None:
+        film = b"start %d GET normal http://a.test/film %d\n"
+        text = b"at 5\n" + film % (3, 0) + film % (2, 0) + b"poll 3 1\nhead 1 200 1\na: start 9\n" + film % (7, 1) + b"a: b\n" + film % (8, 1)
+        for most in (1, 7, len(text)):
+            with self.subTest(most=most), Cache.library(LIBRARY) as cache:
+                for at in range(0, len(text), most):
+                    cache.schedule(text[at:at + most])
+                self.assertEqual(cache.last_consumer, 7)
+                cache.schedule(b"a: b\n")
+                self.assertEqual((cache.last_consumer, cache.start(5, 9, "GET", URL)), (8, []))
+
+    def test_who_started_last_before_a_refused_line(self) -> None:
+        with Cache.library(LIBRARY) as cache:
+            self.assertRaises(BadText, cache.schedule, b"start 1 GET normal http://a.test/ 0\nstart\nstart 5 GET normal http://a.test/ 0\n")
+            self.assertEqual(cache.last_consumer, 1)
+
     def test_a_refused_line(self) -> None:
         with Cache.library(LIBRARY) as cache:
             with self.assertRaises(BadText) as told:

@@ -11,7 +11,7 @@ from typing import Callable
 from .acts import Act, Ask, Close, Data, Denied, Ended, Evicted, Failed, Fields, Lost, Open, Pending, Shown
 from .cache import Cache
 from .errors import BadImage, BadText, Gone, Refused
-from .text import field_of
+from .text import LastStart, field_of
 
 VERSION = 1000
 ROOM, HEAD_ROOM = 65536, 64  # bytes that an image has beside those of bodies: of its heads, and of each run
@@ -122,7 +122,7 @@ class LibraryCache(Cache):
         self._begin(max_body, max_total, image)
 
     def _begin(self, max_body: int, max_total: int, image: bytes | None) -> None:
-        self.last_consumer, self._handed_in = 0, ROOM + len(image or b"")
+        self.last_consumer, self._handed_in, self._last_start = 0, ROOM + len(image or b""), LastStart()
         if image is None:
             answer = self._library.vosdrieng_new(self._at, max_body, max_total)
         else:
@@ -174,22 +174,28 @@ class LibraryCache(Cache):
         self._handed_in += len(text) + HEAD_ROOM
         line, why = c_uint64(), c_uint32()
         answer = self._library.vosdrieng_schedule(self._at, text, len(text), byref(line), byref(why))
-        return self._reported(answer, line.value, why.value)
+        report = self._reported(answer)
+        self.last_consumer = self._last_start.behind(text, report, self.last_consumer)
+        if answer == BAD_TEXT:
+            raise BadText(line.value, LINES[why.value], report)
+        return report
 
     def schedule_end(self) -> None:
         """Tells that the text ends here. Raises `BadText` where a line or field lines are missing, or the text was refused."""
         line, why = c_uint64(), c_uint32()
-        self._reported(self._library.vosdrieng_schedule_end(self._at, byref(line), byref(why)), line.value, why.value)
+        answer = self._library.vosdrieng_schedule_end(self._at, byref(line), byref(why))
+        report = self._reported(answer)
+        if answer == BAD_TEXT:
+            raise BadText(line.value, LINES[why.value], report)
 
-    def _reported(self, answer: int, line: int, why: int) -> bytes:
+    def _reported(self, answer: int) -> bytes:
+        """The report of the last piece. Raises what an answer means that isn't OK or BAD_TEXT."""
         if answer not in (OK, BAD_TEXT):
             self._hold(answer)
         length = self._library.vosdrieng_report(self._at, b"", 0)
         report = _new_bytes(None, length)
         if length:
             self._library.vosdrieng_report(self._at, report, length)
-        if answer == BAD_TEXT:
-            raise BadText(line, LINES[why], report)
         return report
 
     def image(self) -> bytes:

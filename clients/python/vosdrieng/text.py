@@ -12,6 +12,7 @@ LOADS = frozenset({"normal", "validate", "bypass", "skip", "only", "disable"})
 METHOD = re.compile(r"[!#$%&'*+\-.^_`|~0-9A-Za-z]{1,15}\Z")
 NAME = re.compile(r"[!#$%&'*+\-.^_`|~0-9a-z]+\Z")
 VALUE = re.compile(r"(?:[\x21-\x7e\x80-\xff](?:[\t\x20-\x7e\x80-\xff]*[\x21-\x7e\x80-\xff])?)?\Z")
+ENTRY = re.compile(rb"(?m)^> [0-9]+\n")
 MOST_FIELDS, MOST_VALUE, MOST_BYTES, MOST_PIECE = 64, 8192, 32768, 65536
 
 
@@ -127,3 +128,39 @@ def line_of(act: Act) -> str:
         case Pending(it, word) | Lost(it, word):
             return f"{type(act).__name__.lower()} {it} {word}\n"
     raise TypeError(act)
+
+
+def _count(word: bytes) -> int:
+    return int(word) if word.isdigit() else 0
+
+
+class LastStart:
+    """Who started last by the text of a schedule, which comes by pieces."""
+
+    def __init__(self) -> None:
+        self._line, self._who, self._missing = b"", 0, 0  # of the item that isn't whole: its last line, who starts, and its field lines
+
+    def behind(self, text: bytes, report: bytes, last: int) -> int:
+        """Who started last behind this piece, of which this is the report, and `last` before it. Nothing is told of one who starts."""
+        events = self._events(text)
+        for entry in ENTRY.split(report)[1:]:
+            who = next(events, 0)
+            last = last if entry else who or last
+        for _ in events:
+            pass
+        return last
+
+    def _events(self, text: bytes) -> Iterator[int]:
+        """Who starts by each event whose item ends in this piece, or 0."""
+        *lines, self._line = (self._line + text).split(b"\n")
+        for line in lines:
+            words = line.split(b" ")
+            if self._missing:
+                self._missing -= 1
+            elif words[0] == b"at":
+                continue
+            else:
+                self._who = _count(words[1]) if words[0] == b"start" and len(words) > 1 else 0
+                self._missing = _count(words[-1]) if words[0] in (b"start", b"head") else 0
+            if not self._missing:
+                yield self._who

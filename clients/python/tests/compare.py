@@ -35,7 +35,7 @@ FRESH = [("Cache-Control", "max-age=600")]
 PAST = [("Cache-Control", "max-age=10"), ("Age", "11")]
 
 
-@dataclass
+@dataclass(frozen=True)
 class Peer:
     """A cache: how a session of it is made over a folder, as code too, and whether it keeps a file."""
 
@@ -521,44 +521,55 @@ def table(found: list[Peer]) -> bool:
 # Times
 
 
-def _cost(call: Callable[[], object], count: int) -> float:
-    """Microseconds of processor time of one call, the least of five rounds."""
-    best = float("inf")
-    for _ in range(5):
-        began = time.process_time()
-        for _ in range(count):
-            call()
-        best = min(best, (time.process_time() - began) / count)
-    return best * 1e6
+@dataclass
+class Timed:
+    """A session of a cache, and a request of it that is a hit."""
+
+    session: requests.Session
+    url: str
+
+    def __post_init__(self) -> None:
+        self.session.get(self.url)
+        self.request = self.session.prepare_request(requests.Request("GET", self.url))
+        self.adapter = self.session.get_adapter(self.url)
 
 
-def _times(peer: Peer, origin: Origin) -> list[str]:
-    folder = tempfile.mkdtemp()
-    session = peer.session(folder)
-    told = []
-    try:
-        for size in (100, 1_000_000):
-            origin.put(f"/{size}", bytes(size), fields=[("Cache-Control", "max-age=6000")])
-            url = origin.url(f"/{size}")
-            session.get(url)
-            told.append(f"{_cost(lambda: session.get(url).content, 60):,.0f}")
-        request = session.prepare_request(requests.Request("GET", origin.url("/100")))
-        adapter = session.get_adapter(request.url)
-        told.append("-" if "requests_cache" in peer.code else f"{_cost(lambda: adapter.send(request), 300):,.0f}")
-    finally:
-        session.close()
-        shutil.rmtree(folder, ignore_errors=True)
-    return told
+ROUNDS = 25
+CALLS = 50  # of a round
+# Of each row its words, how many bytes are hit, whether it is asked of those whose adapter caches alone, and the call.
+ROWS: tuple[tuple[str, int, bool, Callable[[Timed], object]], ...] = (
+    ("`session.get`, a hit of 100 bytes", 100, False, lambda it: it.session.get(it.url).content),
+    ("`session.get`, a hit of 1,000,000 bytes", 1_000_000, False, lambda it: it.session.get(it.url).content),
+    ("`send` of the adapter, a hit of 100 bytes", 100, True, lambda it: it.adapter.send(it.request)),
+    ("`send` of the adapter and its body, a hit of 100 bytes", 100, True, lambda it: it.adapter.send(it.request).content),
+)
+
+
+def _costs(timed: list[Timed], call: Callable[[Timed], object]) -> list[float]:
+    """Microseconds of processor time of one call of each, the least of the rounds, in which they are asked by turns."""
+    best = [float("inf")] * len(timed)
+    for _ in range(ROUNDS):
+        for place, it in enumerate(timed):
+            began = time.process_time()
+            for _ in range(CALLS):
+                call(it)
+            best[place] = min(best[place], (time.process_time() - began) / CALLS)
+    return [it * 1e6 for it in best]
 
 
 def times(found: list[Peer]) -> None:
     print("| µs of processor time |", " | ".join(peer.name for peer in found), "|")
-    print("|---|", "|".join("---:" for _ in found), "|")
-    with Origin() as origin:
-        told = [_times(peer, origin) for peer in found]
-    rows = ("`session.get`, a hit of 100 bytes", "`session.get`, a hit of 1,000,000 bytes", "`send` of the adapter, a hit of 100 bytes")
-    for place, words in enumerate(rows):
-        print("|", words, "|", " | ".join(it[place] for it in told), "|")
+    print("|---|" + "---:|" * len(found))
+    with Origin() as origin, tempfile.TemporaryDirectory() as folder:
+        sessions = {peer: peer.session(tempfile.mkdtemp(dir=folder)) for peer in found}
+        for words, size, is_of_adapter, call in ROWS:
+            origin.put(f"/{size}", bytes(size), fields=[("Cache-Control", "max-age=6000")])
+            asked = {peer.name: session for peer, session in sessions.items() if not is_of_adapter or "requests_cache" not in peer.code}
+            costs = dict(zip(asked, _costs([Timed(session, origin.url(f"/{size}")) for session in asked.values()], call)))
+            told = (f"{costs[peer.name]:,.0f}" if peer.name in costs else "-" for peer in found)
+            print("|", words, "|", " | ".join(told), "|", flush=True)
+        for session in sessions.values():
+            session.close()
 
 
 def main(words: list[str]) -> int:

@@ -107,7 +107,13 @@ def lines_of(fields: tuple[tuple[str, str], ...]) -> bytes:
 
 
 def fields_of(lines: bytes) -> list[tuple[str, str]]:
-    return [field_of(line) for line in lines.decode("latin-1").split("\n")[:-1]]
+    return list(_fields_of(lines))
+
+
+@functools.lru_cache(256)
+def _fields_of(lines: bytes) -> tuple[tuple[str, str], ...]:
+    """(Hits of one second have the same.)"""
+    return tuple([field_of(line) for line in lines.decode("latin-1").split("\n")[:-1]])
 
 
 class LibraryCache(Cache):

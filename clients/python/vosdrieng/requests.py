@@ -9,11 +9,11 @@ README.md beside this package tells what it does, and what it leaves to the orig
 from __future__ import annotations
 
 import collections
-import contextlib
 import email.message
 import functools
 import gc
 import http.client
+import http.cookiejar
 import io
 import os
 import time
@@ -24,7 +24,8 @@ from typing import Any, Callable, Mapping
 import requests
 import urllib3
 from requests.adapters import HTTPAdapter
-from requests.cookies import extract_cookies_to_jar
+from requests.cookies import RequestsCookieJar, extract_cookies_to_jar
+from requests.structures import CaseInsensitiveDict
 from requests.utils import get_encoding_from_headers
 
 from . import text
@@ -43,6 +44,11 @@ MOST_TIMES = 3  # how often a body is begun that changes in mid-download
 CONDITIONS = ("if-none-match", "if-modified-since", "if-range", "range")
 NETWORK = (requests.RequestException, urllib3.exceptions.HTTPError, http.client.HTTPException, OSError)
 
+
+BLANK = vars(requests.Response())
+POLICY = http.cookiejar.DefaultCookiePolicy()  # that of each response's cookies, as `requests` makes it for each
+Lines = tuple[tuple[str, str], ...]
+Headers = CaseInsensitiveDict[str]
 
 COLLECTING: list[bool] = []  # not empty while garbage is collected
 
@@ -100,7 +106,7 @@ class Adapter(HTTPAdapter):
         if self._process != os.getpid():
             self._begin_in_child()
         self.drain()
-        name = name_of(as_text(request.url), request.headers.get("Authorization"))
+        name = name_by(request.url, header_lines(request))
         answer = self._answer(name, request, stream, {"timeout": timeout, "verify": verify, "cert": cert, "proxies": proxies})
         if request.method not in SAFE and answer.status_code < 400:
             self._pool.doom_others(name)
@@ -166,9 +172,21 @@ def as_text(it: str | bytes) -> str:
     return it.decode("latin-1") if isinstance(it, bytes) else it
 
 
+def header_lines(request: requests.PreparedRequest) -> tuple[tuple[str | bytes, str | bytes], ...]:
+    """The lines of the header of a request, with names in lower case."""
+    headers = request.headers
+    return tuple(headers.lower_items() if isinstance(headers, CaseInsensitiveDict) else [(name.lower(), headers[name]) for name in headers])
+
+
+@functools.lru_cache(1024)
+def name_by(url: str | bytes, lines: tuple[tuple[str | bytes, str | bytes], ...]) -> str:
+    """The name of the resource for which a request with such a header asks."""
+    return name_of(as_text(url), dict(lines).get("authorization"))
+
+
 @functools.lru_cache(1024)
 def told_fields(lines: tuple[tuple[str | bytes, str | bytes], ...]) -> tuple[tuple[str, str], ...]:
-    """The header of a request as a cache is told it. Raises Refused where it can't be. (Most requests of a session have the same.)"""
+    """These lines as a cache is told them. Raises Refused where it can't be. (Most requests of a session have the same.)"""
     return tuple(text.sorted_fields([(as_text(name), as_text(value)) for name, value in lines]))
 
 
@@ -218,12 +236,15 @@ class Pump:
         self.is_closed = self.is_reading = False
         self.times = 1
         self.duties: list[Duty] = []
-        timeout = words["timeout"]
-        timeout = timeout[1] if isinstance(timeout, tuple) else getattr(timeout, "read_timeout", timeout)
-        self.patience = timeout if isinstance(timeout, (int, float)) else float("inf")
-        self.glance = min(LOOK_AGAIN, max(self.patience, 0.01))
         with resource.lock:
-            self.reader: Reader = resource.reader(request.method or "GET", told_fields(tuple(request.headers.items())))
+            self.reader: Reader = resource.reader(request.method or "GET", told_fields(header_lines(request)))
+
+    @property
+    def patience(self) -> float:
+        """How many seconds this call waits for what another's download brings."""
+        timeout = self.words["timeout"]
+        timeout = timeout[1] if isinstance(timeout, tuple) else getattr(timeout, "read_timeout", timeout)
+        return timeout if isinstance(timeout, (int, float)) else float("inf")
 
     def next(self, want: int = WANT) -> Shown | bytes | None:
         """The head, then bytes, and None at the end. Raises what `Reader.poll` does, or ReadTimeout."""
@@ -234,7 +255,8 @@ class Pump:
                 reader.is_polled = True
                 answer = reader.poll(want, self.duties)
                 if answer is WAITING and not self.duties:
-                    waited = 0.0 if lock.wait(self.glance) else waited + self.glance
+                    glance = min(LOOK_AGAIN, max(self.patience, 0.01))
+                    waited = 0.0 if lock.wait(glance) else waited + glance
                 reader.is_polled = self.is_reading or isinstance(answer, Sign)
             if not isinstance(answer, Sign):
                 return answer
@@ -288,11 +310,13 @@ class Pump:
             return
         self.is_closed = True
         try:
-            with self.resource.lock, contextlib.suppress(Gone, MemoryError):
+            with self.resource.lock:
                 self.reader.is_polled = False
                 for duty in self.duties:
                     self.resource.failed(duty.exchange, InterruptedError())
                 self.reader.leave()
+        except (Gone, MemoryError):
+            pass
         finally:
             self.adapter._pool.give_back(self.resource)
 
@@ -312,7 +336,7 @@ class Pump:
         shown = self.reader.head
         self.close()
         response = self._answer(shown)
-        response.raw = LazyRaw(self, shown, body, response)
+        response.raw = LazyRaw(self, response.status_code, response.reason, body)
         response._content, response._content_consumed = decoded(body, response), True
         return response
 
@@ -322,7 +346,7 @@ class Pump:
         if self.times > MOST_TIMES:
             return False
         with self.resource.lock:
-            self.reader = self.resource.reader("GET", told_fields(tuple(self.request.headers.items())))
+            self.reader = self.resource.reader("GET", told_fields(header_lines(self.request)))
         return True
 
     def _whole(self) -> bytes:
@@ -365,7 +389,7 @@ class Pump:
             return self._passed(passed, True)
         self.reader.is_delivered = True
         response = self._answer(self.reader.head)
-        response.raw = self.raw(response, Body(self, first))
+        response.raw = self.raw(response.status_code, response.reason, Body(self, first))
         return response
 
     def _passed(self, passed: Passed, stream: bool) -> requests.Response:
@@ -382,27 +406,28 @@ class Pump:
         if failed.cause == "miss" and not is_begun:
             shown = Shown(0, 0, "miss", 504, 0, 0, [("content-length", "0")])
             response = self._answer(shown)
-            response.raw, response._content, response._content_consumed = LazyRaw(self, shown, b"", response), b"", True
+            response.raw, response._content, response._content_consumed = LazyRaw(self, 504, response.reason, b""), b"", True
             return response
         kind = requests.exceptions.ChunkedEncodingError if is_begun else requests.exceptions.ConnectionError
         raise kind(f"the download failed: {failed.cause}", request=self.request) from failed
 
-    def _lines(self, shown: Shown) -> tuple[list[tuple[str, str]], bool]:
+    def _lines(self, shown: Shown) -> tuple[Lines, bool]:
         """The lines of the head, in the order and case in which they came, and whether this call brought it itself."""
         brought = self.reader.brought
-        return (list(brought.answer.fields), True) if brought else (spelled(shown.fields, self.resource.keeper.spelling), False)
+        if brought:
+            return tuple(brought.answer.fields), True
+        return spelled(tuple(shown.fields), tuple(self.resource.keeper.spelling)), False
 
     def _answer(self, shown: Shown) -> requests.Response:
-        """A response without its body. (HTTPAdapter.build_response needs four times as long.)"""
-        response, brought, (lines, is_own) = requests.Response(), self.reader.brought, self._lines(shown)
-        headers = response.headers
-        for name, value in lines:
-            headers[name] = f"{headers[name]}, {value}" if name in headers else value
-        response.status_code, response.encoding = shown.status, get_encoding_from_headers(headers)
+        """A response without its body."""
+        response, brought, (lines, is_own) = blank(), self.reader.brought, self._lines(shown)
+        head = told_head(lines)
+        response.headers, response.encoding = copied(head.headers), head.encoding
+        response.status_code = shown.status
         response.reason = brought.answer.reason if brought else http.client.responses.get(shown.status, "")
         response.url, response.request, response.connection = as_text(self.request.url), self.request, self.adapter
         response.from_cache, response.cache_reason = not is_own, shown.why
-        if "set-cookie" in headers:
+        if "set-cookie" in head.names:
             extract_cookies_to_jar(response.cookies, self.request, _HasCookies(lines))
         return response
 
@@ -411,14 +436,14 @@ class Pump:
         exchange = self.reader.brought or self.reader.exchange
         return Message(exchange.source.answer.msg) if exchange is not None and exchange.source is not None else None
 
-    def raw(self, response: requests.Response, body: Any) -> urllib3.HTTPResponse:
+    def raw(self, status: int, reason: str, body: Any) -> urllib3.HTTPResponse:
         headers, shown = urllib3._collections.HTTPHeaderDict(), self.reader.shown
         for name, value in self._lines(shown)[0] if shown else []:
             headers.add(name, value)
         if shown and shown.high is None:
             # (urllib3 hands on each piece of such a body as it comes, and fills up those of others)
             headers["Transfer-Encoding"] = "chunked"
-        return urllib3.HTTPResponse(body=body, headers=headers, status=response.status_code, version=11, reason=response.reason,
+        return urllib3.HTTPResponse(body=body, headers=headers, status=status, version=11, reason=reason,
                                     preload_content=False, decode_content=False, original_response=self.message(),
                                     request_method=self.request.method)
 
@@ -426,7 +451,7 @@ class Pump:
 class _HasCookies:
     """Shaped as `extract_cookies_to_jar` takes it."""
 
-    def __init__(self, lines: list[tuple[str, str]]) -> None:
+    def __init__(self, lines: Lines) -> None:
         message = email.message.Message()
         for name, value in lines:
             if name.lower() == "set-cookie":
@@ -527,8 +552,8 @@ class Chunks:
 class LazyRaw:
     """What stands as `raw` beside a body that was read: made where somebody asks for it."""
 
-    def __init__(self, pump: Pump, shown: Shown, body: bytes, response: requests.Response) -> None:
-        self._made = lambda: pump.raw(response, io.BytesIO(body))
+    def __init__(self, pump: Pump, status: int, reason: str, body: bytes) -> None:
+        self._made = lambda: pump.raw(status, reason, io.BytesIO(body))
         self._original_response = pump.message()
 
     def __getattr__(self, name: str) -> Any:
@@ -557,11 +582,45 @@ def decoded(body: bytes, response: requests.Response) -> bytes:
         raise requests.exceptions.ContentDecodingError(fault, response=response) from fault
 
 
-def spelled(fields: Fields, spelling: list[str]) -> list[tuple[str, str]]:
+def blank() -> requests.Response:
+    """A response without headers. (`requests.Response()` looks for cookies in an empty jar, with a policy of its own.)"""
+    response = object.__new__(requests.Response)
+    response.__dict__.update(BLANK)
+    response.history, response.cookies = [], RequestsCookieJar(POLICY)
+    return response
+
+
+@dataclass(slots=True)
+class Head:
+    """A head as `requests` tells it: a line for each name, with all of its values. `names` are in lower case."""
+
+    headers: Headers
+    encoding: str | None
+    names: frozenset[str]
+
+
+@functools.lru_cache(256)
+def told_head(lines: Lines) -> Head:
+    """The head of these lines. (Hits of one second have the same.)"""
+    headers: Headers = CaseInsensitiveDict()
+    for name, value in lines:
+        headers[name] = f"{headers[name]}, {value}" if name in headers else value
+    return Head(headers, get_encoding_from_headers(headers), frozenset(name.lower() for name in headers))
+
+
+def copied(headers: Headers) -> Headers:
+    """The same lines in a dictionary of its own. (Its `copy` sets one line after the other.)"""
+    copy: Headers = object.__new__(CaseInsensitiveDict)
+    copy.__dict__.update((name, value.copy()) for name, value in headers.__dict__.items())
+    return copy
+
+
+@functools.lru_cache(256)
+def spelled(fields: Lines, spelling: tuple[str, ...]) -> Lines:
     """The fields in the order and case in which they came first, and behind them those that are new."""
     values = by_name(fields)
     known = [(name, values[name.lower()].pop(0)) for name in spelling if values.get(name.lower())]
-    return known + [(name.title(), value) for name, left in values.items() for value in left]
+    return (*known, *((name.title(), value) for name, left in values.items() for value in left))
 
 
 def by_name(fields: Fields) -> dict[str, list[str]]:

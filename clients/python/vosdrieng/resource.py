@@ -57,15 +57,16 @@ class Reader:
     and what broke the exchange that was opened for it, where no head was shown.
     """
 
+    shown: Shown | None = None
+    low = at = base = offset = tries = 0
+    is_over, is_resuming, is_direct, is_delivered, is_polled = True, False, False, False, False
+    last_polled = 0.0
+    exchange: Exchange | None = None  # the last that was opened for it
+    brought: Exchange | None = None  # the one whose head it is shown
+    owner: object = None  # the driver's own
+
     def __init__(self, resource: "Resource", method: str, fields: Fields, load: str) -> None:
         self.resource, self.method, self.fields, self.load = resource, method, fields, load
-        self.shown: Shown | None = None
-        self.low = self.at = self.base = self.offset = self.tries = 0
-        self.is_over, self.is_resuming, self.is_direct, self.is_delivered = True, False, False, False
-        self.is_polled, self.last_polled = False, 0.0
-        self.exchange: Exchange | None = None  # the last that was opened for it
-        self.brought: Exchange | None = None  # the one whose head it is shown
-        self.owner: object = None  # the driver's own
         self.consumer = self._start(self.fields, load)
 
     def _start(self, fields: Fields, load: str) -> int:
@@ -328,9 +329,11 @@ class Resource:
         acts = self.cache.poll(self.now(), reader.consumer, want)
         if len(acts) == 1 and type(acts[0]) is Data:
             return acts[0]
+        told = None
         for act in acts:
             self._take(act, reader, duties)
-        told = next((act for act in acts if isinstance(act, TOLD)), None)
+            if told is None and isinstance(act, TOLD):
+                told = act
         if len(self.readers) > 1 and not isinstance(told, Pending):
             # (whoever waited for this reader may go on)
             self.hooks.changed()
@@ -386,13 +389,15 @@ class Resource:
     @staticmethod
     def offset(reader: Reader, act: Shown) -> int:
         """Where a part past the store begins in its body. The cache counts its bytes from 0."""
-        ranges = values_of(act.fields, "content-range")
-        part = PART.match(ranges[0]) if act.status == 206 and len(ranges) == 1 else None
+        ranges = values_of(act.fields, "content-range") if act.status == 206 else []
+        part = PART.match(ranges[0]) if len(ranges) == 1 else None
         is_past = reader.brought is not None and reader.brought.need in PAST_STORE
         return int(part[1]) if part and is_past else 0
 
     def _take(self, act: Act, reader: Reader, duties: list[Duty]) -> None:
         match act:
+            case Shown():
+                self.keeper.show(act)
             case Open(x, _, need, method, _, fields):
                 reader.exchange = self.exchanges[x] = Exchange(x, need, method, fields, self.moment, reader)
                 duties.append(Duty("open", self.exchanges[x]))
@@ -406,8 +411,6 @@ class Resource:
             case Lost(r):
                 self.lost.add(r)
                 self.keeper.doubt()
-            case Shown():
-                self.keeper.show(act)
 
     # What the network tells
 

@@ -1,6 +1,5 @@
 /* Four readers share one download by libcurl. One leaves, and where the origin breaks the rest goes on behind what is stored.
-**     gcc -Wall -Wextra -Werror -I$LIB examples/share.c $LIB/libvosdrieng.a -lcurl -o share && ./share http://127.0.0.1:8000/film
-*/
+**     gcc -Wall -Wextra -Werror -I$LIB examples/share.c $LIB/libvosdrieng.a -lcurl -o share && ./share http://127.0.0.1:8000/film */
 #include <curl/curl.h>
 #include <stdio.h>
 #include <stdlib.h>
@@ -114,8 +113,7 @@ static void open_exchange(const vosdrieng_act *act, uint8_t *bytes, size_t n) {
 static void start(reader *r) {
     char range[64] = "";
     if (r->at > 0) snprintf(range, sizeof range, "range: bytes=%llu-\n", (unsigned long long)r->at);
-    r->consumer = ++last;
-    r->live = 1;
+    r->consumer = ++last, r->live = 1;
     need(vosdrieng_start(&cache, now(), r->consumer, text("GET"), 3, VOSDRIENG_NORMAL, text(url), strlen(url),
                          text(range), strlen(range)) == VOSDRIENG_OK, "the URL is none in its one spelling");
 }
@@ -123,14 +121,11 @@ static void start(reader *r) {
 static void tell(const vosdrieng_act *act, const uint8_t *bytes) {
     for (reader *r = readers; r < readers + READERS; r++) {
         if (!r->live || r->consumer != act->consumer) continue;
-        if (act->kind == VOSDRIENG_ACT_DATA) {
-            for (uint64_t i = 0; i < act->length; i++) r->sum = r->sum * 31 + bytes[i];
-            r->at += act->length;
-        } else if (act->kind == VOSDRIENG_ACT_ENDED) {
-            r->live = 0;
-        } else if (act->kind == VOSDRIENG_ACT_FAILED) {
-            r->live = r->tries-- > 0 ? 2 : 0; /* 2: it begins again behind its last byte */
-        }
+        if (act->kind == VOSDRIENG_ACT_ENDED) r->live = 0;
+        if (act->kind == VOSDRIENG_ACT_FAILED) r->live = r->tries-- > 0 ? 2 : 0; /* 2: it begins again behind its last byte */
+        if (act->kind != VOSDRIENG_ACT_DATA) continue;
+        for (uint64_t i = 0; i < act->length; i++) r->sum = r->sum * 31 + bytes[i];
+        r->at += act->length;
     }
 }
 
@@ -155,8 +150,7 @@ static void work(void) {
         if (!x->easy) continue;
         if (x->over) {
             curl_multi_remove_handle(multi, x->easy);
-            curl_easy_cleanup(x->easy);
-            curl_slist_free_all(x->lines);
+            curl_easy_cleanup(x->easy), curl_slist_free_all(x->lines);
             x->easy = NULL;
         } else {
             curl_multi_add_handle(multi, x->easy);
@@ -200,7 +194,6 @@ int main(int count, char **words) {
         printf("reader %d: %llu bytes, sum %llu\n", i + 1, (unsigned long long)readers[i].at, (unsigned long long)readers[i].sum);
     printf("%d requests\n", (int)requests);
     vosdrieng_free(&cache);
-    curl_multi_cleanup(multi);
-    curl_global_cleanup();
+    curl_multi_cleanup(multi), curl_global_cleanup();
     return 0;
 }

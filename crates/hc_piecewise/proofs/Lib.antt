@@ -1,3 +1,4 @@
 pub mod Props
 pub mod Texts
 pub mod Pieces
+pub mod Refusals

@@ -3,6 +3,7 @@ use Rattle.std.specs.Prelude.{◌≡◌, ℕ, ◌+◌, List, [], ◌∷◌, ◌+
 use Rattle.hc_event.specs.declared.event.Event.{Event}
 use Rattle.hc_event.specs.declared.act.Act.{Act}
 use Rattle.hc_sched.specs.declared.schedule.Ended.TheVariants as ended
+use Rattle.hc_sched.specs.declared.schedule.Refused.{Refused}
 use Rattle.hc_sched.specs.Reading.{Progress, Reads, beginning, after, events_in, refusal_at}
 use Rattle.hc_sched.specs.Report.{entry_text}
 use Rattle.hc_driver.specs.Endings.{Ends}
@@ -40,3 +41,11 @@ abbrev pub IsSteppedThrough : {A : Type 0} → (A → ℕ → Event → List Act
 IsSteppedThrough {A} answers spent =
     (moment m : ℕ) (q : Progress) (text report : List ℕ) (a b : A) → Brings answers 0 m (beginning moment) q text report a b → refusal_at q ≡ None →
     Ends (Steps answers spent a b (Some []) (Some report)) moment (Some text) (Some []) ended.Done
+
+-- What a text brings from its beginning on that is refused: it is stepped through up to the line that is refused, or to its end where
+-- it is cut short there. All of its report is taken, and some rest of the text is left.
+abbrev pub IsSteppedToRefusal : {A : Type 0} → (A → ℕ → Event → List Act → A → Type 0) → (A → A → Type 0) → Type 0
+IsSteppedToRefusal {A} answers spent =
+    (moment m : ℕ) (q : Progress) (refused : Refused) (text report : List ℕ) (a b : A) → Brings answers 0 m (beginning moment) q text report a b →
+    refusal_at q ≡ Some refused →
+    (rest : List ℕ) × Ends (Steps answers spent a b (Some []) (Some report)) moment (Some text) (Some rest) (ended.Refused refused)

@@ -112,11 +112,12 @@ impl Cache {
             return;
         }
         let at = self.bytes.len();
-        self.bytes.resize(at + length, 0);
-        let room = &mut self.bytes[at..];
-        // The pointer is to as many bytes, which are written in the call alone.
-        let copied = unsafe { raw::vosdrieng_act_bytes(&mut self.handle, room.as_mut_ptr(), room.len()) };
-        self.bytes.truncate(at + copied);
+        let room = &mut self.bytes.spare_capacity_mut()[..length];
+        // The pointer is to as many bytes, which are written in the call alone. Those that it copied are there then.
+        unsafe {
+            let copied = raw::vosdrieng_act_bytes(&mut self.handle, room.as_mut_ptr().cast(), length);
+            self.bytes.set_len(at + copied);
+        }
     }
 
     /// Reads a further piece of the text of a schedule, cut anywhere, and answers the report of the events

@@ -1,5 +1,5 @@
 #!/usr/bin/env python3
-"""Proves and builds the program: each crate as soon as those that it stands on are done, several side by side.
+"""Proves and builds the programs: each crate as soon as those that it stands on are done, several side by side.
 
 usage: tools/build.py [AT_ONCE]
 
@@ -18,7 +18,7 @@ import time
 sys.dont_write_bytecode = True
 from crates import CRATES, TOP, below, crate_lines
 
-PROGRAM = "hc_app"
+PROGRAMS = ("hc_app", "hc_keep_app")
 PARTS = ("src", "specs", "proofs")
 KEPT = TOP / "tools" / "out" / "build-times.json"
 # Memory of a check, in bytes: so many are made side by side as memory has room for.
@@ -56,14 +56,14 @@ def at_once():
 
 def build(crate):
     """Proves and builds one crate. What the toolchain said, where it isn't proved."""
-    program = CRATES / PROGRAM / "out" / PROGRAM
+    program = CRATES / crate / "out" / crate
     words = ["rt", "lib"]
-    if crate == PROGRAM:
+    if crate in PROGRAMS:
         program.unlink(missing_ok=True)
         words = ["rt", "run", "--", "--help"]
     ran = subprocess.run(words, cwd=CRATES / crate, stdin=subprocess.DEVNULL, stdout=subprocess.PIPE, stderr=subprocess.STDOUT, text=True, errors="replace")
-    # (the program answers these words with its usage, and 2)
-    is_built = program.exists() if crate == PROGRAM else ran.returncode == 0
+    # (a program answers these words with its usage, and one of them with 2)
+    is_built = program.exists() if crate in PROGRAMS else ran.returncode == 0
     return None if is_built else ran.stdout
 
 
@@ -146,7 +146,7 @@ def build_all(crates, most):
 
 
 def main(words):
-    lines, crates = crate_lines(), below([PROGRAM])
+    lines, crates = crate_lines(), below(PROGRAMS)
     fault = build_all({crate: [it for it in lines[crate] if it in crates] for crate in crates}, int(words[0]) if words else at_once())
     if fault:
         print("vosdrieng: " + "\n".join(fault.splitlines()[:1] + fault.splitlines()[-40:]), file=sys.stderr)

@@ -3,7 +3,7 @@
 
 usage: tools/install.py install|uninstall [PREFIX]
 
-PREFIX is /usr/local where none is named. The launcher goes to PREFIX/bin, the program and the library to PREFIX/lib, what draws
+PREFIX is /usr/local where none is named. The launcher goes to PREFIX/bin, the programs and the library to PREFIX/lib, the gateway and what draws
 runs to PREFIX/share/vosdrieng, and the documents for users to PREFIX/share/doc/vosdrieng. Each path that is written is told. The
 list of them stands in PREFIX/share/vosdrieng/installed, and by it they are removed. A file that no such list has is never replaced.
 """
@@ -17,6 +17,7 @@ import library
 from crates import CRATES, TOP
 
 PROGRAM = CRATES / "hc_app" / "out" / "hc_app"
+KEEPER = CRATES / "hc_keep_app" / "out" / "hc_keep_app"
 BUILT = TOP / "out" / "library"
 PICTURE = TOP / "tools" / "picture"
 DOCUMENTS = ["README.md", "LICENSE", *(f"docs/{name}" for name in ("USING.md", "FORMATS.md", "GLOSSARY.md", "PICTURE.md", "RULES.md", "resumed-download.png"))]
@@ -31,6 +32,9 @@ class Refused(Exception):
 def files():
     """What is copied: its place below the prefix, and the file."""
     found = {"lib/vosdrieng/vosdrieng": PROGRAM, f"{SHARED}/vosdrieng": TOP / "vosdrieng"}
+    if KEEPER.exists():
+        found["lib/vosdrieng/proxy"] = KEEPER
+    found[f"{SHARED}/tools/gateway"] = TOP / "tools" / "gateway"
     for path in [*PICTURE.glob("*.py"), *(PICTURE / "view").iterdir()]:
         found[f"{SHARED}/tools/picture/{path.relative_to(PICTURE)}"] = path
     found |= {f"{TOLD}/{name}": TOP / name for name in DOCUMENTS}

@@ -3,7 +3,7 @@
 
 usage: tools/release.py [FOLDER]
 
-FOLDER is out/release where none is named. Both hold what is installed, stripped, with a unit for systemd and a file RELEASE that tells
+FOLDER is out/release where none is named. Both hold what is installed, stripped, with units for systemd and a file RELEASE that tells
 what was packed. RELEASE has the gate's last line where out/gate has it: './check | tail -n 1 > out/gate'. Each is unpacked into an
 empty root with the C library and the loader alone: there the first example must give its report, and `serve` before `origin` must serve
 curl, which stands outside of that root. A tool that isn't here is named, and what takes it is left out. The same program and commit
@@ -29,6 +29,7 @@ import library
 from crates import TOP
 
 PROGRAM = "lib/vosdrieng/vosdrieng"
+KEEPER = "lib/vosdrieng/proxy"
 SECONDS = 20
 TURNS = "1000000"
 LOADER = "/lib64/ld-linux-x86-64.so.2"
@@ -46,6 +47,25 @@ ExecStart={prefix}/lib/vosdrieng/vosdrieng serve ${{LISTEN}} ${{ORIGIN}} 4611686
 # The record of what the cache stepped.
 StandardOutput=null
 Restart=on-failure
+NoNewPrivileges=yes
+
+[Install]
+WantedBy=default.target
+"""
+KEEPER_UNIT = """\
+[Unit]
+Description=An HTTP cache that keeps its store
+Documentation=file:{prefix}/share/doc/vosdrieng/USING.md
+
+[Service]
+# The words stand in ~/.config/vosdrieng/proxy, a line each, as ORIGIN=127.0.0.1:8081, or ORIGIN=any for every host.
+Environment=LISTEN=127.0.0.1:8080
+EnvironmentFile=%E/vosdrieng/proxy
+StateDirectory=vosdrieng
+ExecStart={prefix}/bin/vosdrieng proxy ${{LISTEN}} ${{ORIGIN}} %S/vosdrieng
+Restart=on-failure
+# Wrong words, and a file of the store that is refused, stay as they are.
+RestartPreventExitStatus=2 7
 NoNewPrivileges=yes
 
 [Install]
@@ -122,7 +142,7 @@ def add(path, text):
 
 def stripped(top):
     if has("strip", "nothing is stripped"):
-        for place in (PROGRAM, "lib/libvosdrieng.so"):
+        for place in (PROGRAM, KEEPER, "lib/libvosdrieng.so"):
             path = top / place
             if path.exists() and path.read_bytes().startswith(b"\x7fELF"):
                 subprocess.run(["strip", "--strip-unneeded", path], check=True)
@@ -138,7 +158,10 @@ def stage(top, prefix, of_library, told):
     install.install(top, of_library)
     (top / install.LIST).unlink()
     stripped(top)
-    add(top / "lib" / "systemd" / "user" / "vosdrieng.service", UNIT.format(prefix=prefix))
+    units = top / "lib" / "systemd" / "user"
+    add(units / "vosdrieng.service", UNIT.format(prefix=prefix))
+    if (top / KEEPER).exists():
+        add(units / "vosdrieng-proxy.service", KEEPER_UNIT.format(prefix=prefix))
     add(top / install.TOLD / "RELEASE", told)
     paths = [str(path.relative_to(top)) for path in top.rglob("*") if path.is_file() and not path.is_symlink()]
     add(top / install.TOLD / "SHA256SUMS", sums(top, paths))
@@ -164,7 +187,7 @@ def archive(room, name, moment):
 
 def depends(top):
     """The C library of the newest symbols that the program and the library take."""
-    texts = [path.read_bytes() for path in (top / PROGRAM, top / "lib" / "libvosdrieng.so") if path.exists()]
+    texts = [path.read_bytes() for path in (top / PROGRAM, top / KEEPER, top / "lib" / "libvosdrieng.so") if path.exists()]
     found = [tuple(map(int, it)) for text in texts for it in re.findall(rb"GLIBC_(\d+)\.(\d+)", text)]
     return "libc6 (>= {}.{})".format(*max(found)) if found else "libc6"
 

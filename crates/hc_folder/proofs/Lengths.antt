@@ -1,5 +1,5 @@
 -- How long sums and numbers are, and that texts are told apart by them.
-use Rattle.std.{proofs.{Common.{◌≡◌, ℕ, ◌+◌, ◌<◌, ◌≤◌, ◌^◌, List, [], ◌∷◌, ◌++◌, length, take, drop, refl, ap, sym, ◌∙◌, arith, length-append}, lemmas.{List.{take-append-le, drop-append-le, take_all, drop_all}, Nat.{from_le_bytes-to_le_bytes_8}}}, specs.Int.{w64, from_le_bytes}}
+use Rattle.std.{proofs.{Common.{◌≡◌, ℕ, ◌<◌, ◌^◌, List, [], length, refl, ap, sym, ◌∙◌, arith, length-append}, lemmas.Nat.{from_le_bytes-to_le_bytes_8}}, specs.Int.{w64, from_le_bytes}}
 use Rattle.md5.specs.Md5.{md5, digest_bytes}
 use Rattle.hc_folder.specs.{Sums.{number_bytes, sum_behind}, Blocks.{head_of}}
 

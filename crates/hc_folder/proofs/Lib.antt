@@ -2,7 +2,7 @@ pub mod Lengths
 pub mod Once
 pub mod Taking
 pub mod Many
-pub mod Seals
+pub mod Ends
 pub mod Renewals
 pub mod Unread
 pub mod Saying

@@ -1,7 +1,7 @@
 -- Blocks one behind the other.
-use Rattle.std.{proofs.{Common.{◌≡◌, ℕ, ◌+◌, ◌<◌, ◌≤◌, ◌^◌, List, [], ◌∷◌, ◌++◌, length, refl, ap, sym, subst, ◌∙◌, arith, length-append, append_assoc}, lemmas.List.{append-nil, Folds.{concat-append}}}, specs.List.{concat}}
-use Rattle.hc_folder.specs.Blocks.{head_of, block, blocks, sum_after, sum_through, IsShort, AreShort, IsCut, IsBroken, IsReadTo, HasText, IsBrokenAt}
-use Rattle.hc_folder.proofs.{Lengths.{length-head}, Once.{block_once}, Taking.{long_block}}
+use Rattle.std.{proofs.{Common.{◌≡◌, ℕ, List, [], ◌∷◌, ◌++◌, length, refl, ap, sym, subst, ◌∙◌, arith, append_assoc}, lemmas.List.{append-nil, Folds.{concat-append}}}, specs.List.{concat}}
+use Rattle.hc_folder.specs.Blocks.{block, blocks, sum_after, sum_through, IsShort, AreShort, IsBroken, IsReadTo}
+use Rattle.hc_folder.proofs.{Once.{block_once}, Taking.{long_block}}
 
 -- ONE MORE
 
@@ -36,7 +36,7 @@ one_more sum file text sum' rest t text' sum'' rest' q is after short more = rec
 -- WHAT WAS WRITTEN
 
 -- a block stands before nothing
-no_block : (sum t rest : List ℕ) → ¬ (block sum t ++ rest ≡ [])
+pub no_block : (sum t rest : List ℕ) → ¬ (block sum t ++ rest ≡ [])
 no_block sum t rest is = let long = long_block sum t rest in let same = ap length is in omega (arith, long, same)
 
 -- where blocks are both a first part of a file and all of one that goes on

@@ -1,6 +1,6 @@
 -- A text begins with one block at most.
-use Rattle.std.proofs.Common.{◌≡◌, ℕ, ◌+◌, ◌<◌, ◌≤◌, ◌^◌, List, [], ◌∷◌, ◌++◌, length, drop, get_or, refl, ap, sym, ◌∙◌, arith, append_assoc}
-use Rattle.hc_folder.specs.{Sums.{number_bytes, sum_behind}, Blocks.{head_of, block, sum_after}}
+use Rattle.std.proofs.Common.{◌≡◌, ℕ, ◌<◌, ◌^◌, List, [], ◌∷◌, ◌++◌, length, drop, get_or, refl, ap, sym, ◌∙◌, arith, append_assoc}
+use Rattle.hc_folder.specs.{Sums.{number_bytes}, Blocks.{head_of, block, sum_after}}
 use Rattle.hc_folder.proofs.Lengths.{length-number_bytes, number_once, length-sum, length-head}
 
 -- what stands before and behind a place

@@ -2,11 +2,13 @@
 --
 -- A record is blocks, and maybe a first part of another (`IsRecordOf`). A write that is refused leaves such a one
 -- (`torn_behind`), and one that is made has a block more (`put_behind`). Of what calls do to the files, what was written is
--- taken from before to after (`carried`): an image is put or owed still (`owed_put`, `owed_left`), and what waits is put or
--- waits still (`waiting_put`, `waiting_left`).
-use Rattle.std.{proofs.{Common.{◌≡◌, ◌⊎◌, ℕ, ◌+◌, ◌<◌, ◌≤◌, ◌^◌, List, [], ◌∷◌, ◌++◌, length, take, Option, Some, None, Result, Err, refl, ap, sym, ◌∙◌, subst, inl, inr, arith, le_refl, length-append, append_assoc}, lemmas.List.{append-nil, Folds.{concat-append}}, Math.Seq.{take-append_seam}}, specs.{Global.{Global}, List.{concat}, Prelude.{Vec, Ok, IfSome, OnOk, OnErr, unwrap_or}, Result.{IsErrAnd}}}
-use Rattle.hc_folder.specs.{Blocks.{block, blocks, sum_after, sum_through, IsShort, AreShort}, Files.{Files, OnFiles, bytes_in, IsImagePut, IsImagePutOrLeft, IsRenewed, IsPartlyRenewed, IsRenewedOrLeft, IsRecordPut, IsRecordTorn, HasPart}, Recording.{IsBlockPart, IsRecordOf, IsOwedOrThere, AreWritten, HasRecorded}, declared.recording.Recorder.{Recorder}}
-use Rattle.hc_folder.proofs.Many.{blocks-more, sum_through-more, short-more}
+-- taken from before to after (`carried`): an image is put or owed still (`owed_put`, `owed_left`), and the block that comes
+-- next is put or comes next still (`block_put`, `block_left`). What waits becomes such a block (`block_made`).
+use Rattle.std.{proofs.{Common.{◌≡◌, ◌⊎◌, ℕ, zero, suc, Bool, true, false, ◌+◌, ◌<◌, ◌^◌, List, [], ◌∷◌, ◌++◌, length, take, Option, Some, None, Result, Err, refl, ap, sym, ◌∙◌, subst, inl, inr, arith, le_refl, length-append, append_assoc}, lemmas.{Bool.{eqb-true, eq-eqb}, List.{append-nil, nil_from_length, Folds.{concat-append}}}, Math.Seq.{take-append_seam}}, specs.{Global.{Global}, List.{concat}, Prelude.{◌==◌, Vec, vec_len, Ok, IfSome, OnOk, OnErr, unwrap_or}, Result.{IsErrAnd, result_err}}}
+use Rattle.hc_folder.specs.{Blocks.{block, blocks, sum_after, IsShort}, Files.{Files, OnFiles, bytes_in, IsRenewed, IsRenewedOrLeft, IsRecordPut, IsRecordTorn, HasPart}, Causes.{HasFolderCause}, Unwritten.{of_folder}, Recording.{IsRecordOf, IsOwedOrThere, IsBlockOf, IsDue, AreWritten, HasRecorded, StaysRecorded, IsNew, IsWritten, HasCause, HasUnwrittenCause, IsToldAs}, declared.{folder.FolderError.{FolderError}, recording.{Recorder.{Recorder}, Unwritten.{Unwritten}}}}
+use Rattle.hc_folder.specs.declared.folder.FolderError.TheVariants as folder
+use Rattle.hc_folder.specs.declared.recording.Unwritten.TheVariants as why
+use Rattle.hc_folder.proofs.Many.{blocks-more, sum_through-more, short-more, no_block}
 
 -- from what the files held to what they hold
 pub carried : (R : Files → Files → Type 0) (P Q : Files → Type 0) → ((x y : Files) → R x y → P x → Q y) → (a b : Option Files) → OnFiles R a b
@@ -46,6 +48,10 @@ module _ (texts : List (List ℕ)) (seed old sum : List ℕ) (at : ℕ) (q : IsR
         part = record { text = []; more = block (sum_after sum text) []; short = omega arith; part_is = refl };
       }
 
+-- the text of one block more
+one_more_text : (texts : List (List ℕ)) (text : List ℕ) → concat texts ++ text ≡ concat (texts ++ text ∷ [])
+one_more_text texts text = ap (λ l. concat texts ++ l) (sym (append-nil text)) ∙ sym (concat-append texts (text ∷ []))
+
 pub new_record : (sum : List ℕ) → IsRecordOf [] sum [] sum 0
 new_record sum =
     record {
@@ -59,101 +65,132 @@ new_record sum =
 
 -- WHAT CALLS LEAVE
 
-pub begun : (owed : Option (Vec ℕ Global)) (v : Vec ℕ Global) (n : ℕ) (sum : List ℕ) (at : ℕ) (waiting : List ℕ) (o : Option Files) → owed ≡ Some v →
-    at ≡ 0 → waiting ≡ [] → IfSome o (λ (f : Files). f.records n ≡ None → AreWritten v.items sum [] owed n sum at waiting f)
-begun owed v n sum at waiting None is start none = tt
-begun owed v n sum at waiting (Some f) is start none = λ new. record {
+pub begun : (owed : Option (Vec ℕ Global)) (v : Vec ℕ Global) (n : ℕ) (sum : List ℕ) (at : ℕ) (bytes next waiting : List ℕ) (o : Option Files) → owed ≡ Some v →
+    at ≡ 0 → bytes ≡ [] → waiting ≡ [] → IfSome o (λ (f : Files). f.records n ≡ None → AreWritten v.items sum [] owed n sum at bytes next waiting f)
+begun owed v n sum at bytes next waiting None is start no_block none = tt
+begun owed v n sum at bytes next waiting (Some f) is start no_block none = λ new. record {
   image = subst (λ (w : Option (Vec ℕ Global)). IsOwedOrThere v.items w f) (sym is) refl;
   texts = [];
   record_is = subst (λ (k : ℕ). IsRecordOf [] sum (bytes_in f n) sum k) (sym start)
       (subst (λ (l : List ℕ). IsRecordOf [] sum l sum 0) (sym (ap (λ (r : Option (List ℕ)). unwrap_or r []) new)) (new_record sum));
+  due = [];
+  due_is = inl (no_block, refl);
   text_is = sym none;
 }
 
-module _ (file seed text : List ℕ) (n : ℕ) (sum : List ℕ) (at : ℕ) (waiting : List ℕ) where
+module _ (file seed text : List ℕ) (n : ℕ) (sum : List ℕ) (at : ℕ) (bytes next waiting : List ℕ) where
   -- the record of this number is as it was
   kept : (owed owed' : Option (Vec ℕ Global)) (x y : Files) → y.records n ≡ x.records n → IsOwedOrThere file owed' y
-      → AreWritten file seed text owed n sum at waiting x → AreWritten file seed text owed' n sum at waiting y
+      → AreWritten file seed text owed n sum at bytes next waiting x → AreWritten file seed text owed' n sum at bytes next waiting y
   kept owed owed' x y same image w = record {
     image = image;
     texts = w.texts;
     record_is = subst (λ (l : List ℕ). IsRecordOf w.texts seed l sum at) (sym (same_record x y n same)) w.record_is;
+    due = w.due;
+    due_is = w.due_is;
     text_is = w.text_is;
   }
 
-  module _ (owed : Option (Vec ℕ Global)) (v : Vec ℕ Global) (is : owed ≡ Some v) (bytes : List ℕ) (bytes_are : bytes ≡ v.items) where
+  module _ (owed : Option (Vec ℕ Global)) (v : Vec ℕ Global) (is : owed ≡ Some v) (put : List ℕ) (put_is : put ≡ v.items) where
     image_is : (f : Files) → IsOwedOrThere file owed f → v.items ≡ file
     image_is f image = subst (λ (w : Option (Vec ℕ Global)). IsOwedOrThere file w f) is image
 
     still : (x y : Files) → IsOwedOrThere file owed x → IsOwedOrThere file owed y
     still x y image = subst (λ (w : Option (Vec ℕ Global)). IsOwedOrThere file w y) (sym is) (image_is x image)
 
-    pub owed_left : (x y : Files) → IsRenewedOrLeft bytes n x y → AreWritten file seed text owed n sum at waiting x
-        → AreWritten file seed text owed n sum at waiting y
+    pub owed_left : (x y : Files) → IsRenewedOrLeft put n x y → AreWritten file seed text owed n sum at bytes next waiting x
+        → AreWritten file seed text owed n sum at bytes next waiting y
     owed_left x y (inl q) w = kept owed owed x y (q.others n (le_refl n)) (still x y w.image) w
     owed_left x y (inr (inl q)) w = kept owed owed x y (ap (λ r. r n) q.records) (still x y w.image) w
-    owed_left x y (inr (inr same)) w = subst (AreWritten file seed text owed n sum at waiting) (sym same) w
+    owed_left x y (inr (inr same)) w = subst (AreWritten file seed text owed n sum at bytes next waiting) (sym same) w
 
-    pub owed_put : (x y : Files) → IsRenewed bytes n x y → AreWritten file seed text owed n sum at waiting x
-        → AreWritten file seed text None n sum at waiting y
-    owed_put x y q w = kept owed None x y (q.others n (le_refl n)) (q.image_is ∙ ap Some (bytes_are ∙ image_is x w.image)) w
+    pub owed_put : (x y : Files) → IsRenewed put n x y → AreWritten file seed text owed n sum at bytes next waiting x
+        → AreWritten file seed text None n sum at bytes next waiting y
+    owed_put x y q w = kept owed None x y (q.others n (le_refl n)) (q.image_is ∙ ap Some (put_is ∙ image_is x w.image)) w
 
   -- the image is as it was
   same_image : (owed : Option (Vec ℕ Global)) (x y : Files) → y.image ≡ x.image → IsOwedOrThere file owed x → IsOwedOrThere file owed y
   same_image None x y same image = same ∙ image
   same_image (Some v) x y same image = image
 
-  module _ (owed : Option (Vec ℕ Global)) (bytes : List ℕ) (bytes_are : bytes ≡ block sum waiting) (short : IsShort waiting) where
-    pub waiting_left : (x y : Files) → IsRecordTorn n at bytes x y → AreWritten file seed text owed n sum at waiting x
-        → AreWritten file seed text owed n sum at waiting y
-    waiting_left x y q w = by_cause q.there
+  module _ (owed : Option (Vec ℕ Global)) (put : List ℕ) (put_is : put ≡ bytes) (some : 0 < length bytes) where
+    -- where a block comes next
+    due_block : (due : List ℕ) → IsDue sum bytes next due → IsBlockOf sum bytes next due
+    due_block due (inl q) = absurd (let none = ap length q.0 in omega (arith, none, some))
+    due_block due (inr q) = q
+
+    pub block_left : (x y : Files) → IsRecordTorn n at put x y → AreWritten file seed text owed n sum at bytes next waiting x
+        → AreWritten file seed text owed n sum at bytes next waiting y
+    block_left x y q w = by_cause q.there
       where
-        by_cause : (y.records n ≡ x.records n) ⊎ HasPart n at bytes x y → AreWritten file seed text owed n sum at waiting y
+        by_cause : (y.records n ≡ x.records n) ⊎ HasPart n at put x y → AreWritten file seed text owed n sum at bytes next waiting y
         by_cause (inl same) = kept owed owed x y same (same_image owed x y q.image w.image) w
-        by_cause (inr p) = record {
+        by_cause (inr p) = (let b = due_block w.due w.due_is in record {
           image = same_image owed x y q.image w.image;
           texts = w.texts;
           record_is = subst (λ (l : List ℕ). IsRecordOf w.texts seed l sum at) (sym (ap (λ (r : Option (List ℕ)). unwrap_or r []) p.there))
-              (torn_behind w.texts seed (bytes_in x n) sum at w.record_is waiting p.part p.rest short (p.part_is ∙ bytes_are));
+              (torn_behind w.texts seed (bytes_in x n) sum at w.record_is w.due p.part p.rest b.short (p.part_is ∙ put_is ∙ b.bytes_are));
+          due = w.due;
+          due_is = w.due_is;
           text_is = w.text_is;
-        }
+        })
 
-    pub waiting_put : (sum' : List ℕ) (at' : ℕ) (waiting' : List ℕ) → sum' ≡ sum_after sum waiting → at' ≡ at + length bytes → waiting' ≡ [] →
-        (x y : Files) → IsRecordPut n at bytes x y → AreWritten file seed text owed n sum at waiting x → AreWritten file seed text owed n sum' at' waiting' y
-    waiting_put sum' at' waiting' sum_is at_is none x y q w =
-        let bytes_in_is : bytes_in y n ≡ take at (bytes_in x n) ++ block sum waiting =
-        ap (λ (r : Option (List ℕ)). unwrap_or r []) q.there ∙ ap (λ l. take at (bytes_in x n) ++ l) bytes_are in
-        let put = put_behind w.texts seed (bytes_in x n) sum at w.record_is waiting short in
+    pub block_put : (sum' : List ℕ) (at' : ℕ) (bytes' : List ℕ) → sum' ≡ next → at' ≡ at + length bytes → bytes' ≡ [] →
+        (x y : Files) → IsRecordPut n at put x y → AreWritten file seed text owed n sum at bytes next waiting x
+        → AreWritten file seed text owed n sum' at' bytes' next waiting y
+    block_put sum' at' bytes' sum_is at_is none x y q w =
+        let b = due_block w.due w.due_is in
+        let bytes_in_is : bytes_in y n ≡ take at (bytes_in x n) ++ block sum w.due =
+        ap (λ (r : Option (List ℕ)). unwrap_or r []) q.there ∙ ap (λ l. take at (bytes_in x n) ++ l) (put_is ∙ b.bytes_are) in
+        let behind = put_behind w.texts seed (bytes_in x n) sum at w.record_is w.due b.short in
         record {
           image = same_image owed x y q.image w.image;
-          texts = w.texts ++ waiting ∷ [];
-          record_is = subst (λ (l : List ℕ). IsRecordOf (w.texts ++ waiting ∷ []) seed l sum' at') (sym bytes_in_is)
-              (subst (λ (k : ℕ). IsRecordOf (w.texts ++ waiting ∷ []) seed (take at (bytes_in x n) ++ block sum waiting) sum' k)
-              (sym (at_is ∙ ap (λ l. at + length l) bytes_are))
+          texts = w.texts ++ w.due ∷ [];
+          record_is = subst (λ (l : List ℕ). IsRecordOf (w.texts ++ w.due ∷ []) seed l sum' at') (sym bytes_in_is)
+              (subst (λ (k : ℕ). IsRecordOf (w.texts ++ w.due ∷ []) seed (take at (bytes_in x n) ++ block sum w.due) sum' k)
+              (sym (at_is ∙ ap (λ l. at + length l) b.bytes_are))
               (subst (λ (l : List ℕ).
-              IsRecordOf (w.texts ++ waiting ∷ []) seed (take at (bytes_in x n) ++ block sum waiting) l (at + length (block sum waiting)))
-              (sym sum_is) put));
-          text_is = w.text_is ∙ ap (λ l. concat w.texts ++ l) (sym (append-nil waiting)) ∙ sym (concat-append w.texts (waiting ∷ [])) ∙
-              sym (append-nil (concat (w.texts ++ waiting ∷ []))) ∙ ap (λ l. concat (w.texts ++ waiting ∷ []) ++ l) (sym none);
+              IsRecordOf (w.texts ++ w.due ∷ []) seed (take at (bytes_in x n) ++ block sum w.due) l (at + length (block sum w.due)))
+              (sym (sum_is ∙ b.next_is)) behind));
+          due = [];
+          due_is = inl (none, refl);
+          text_is = w.text_is ∙ sym (append_assoc (concat w.texts) w.due waiting) ∙ ap (λ l. l ++ waiting) (one_more_text w.texts w.due);
         }
 
+  pub block_made : (owed : Option (Vec ℕ Global)) (bytes' next' waiting' : List ℕ) → bytes ≡ [] → IsBlockOf sum bytes' next' waiting → waiting' ≡ [] →
+      (x : Files) → AreWritten file seed text owed n sum at bytes next waiting x → AreWritten file seed text owed n sum at bytes' next' waiting' x
+  block_made owed bytes' next' waiting' empty made none x w = record {
+    image = w.image;
+    texts = w.texts;
+    record_is = w.record_is;
+    due = waiting;
+    due_is = inr made;
+    text_is = w.text_is ∙ (λ i. concat w.texts ++ (no_due w.due w.due_is i ++ waiting)) ∙
+        ap (λ l. concat w.texts ++ l) (sym (append-nil waiting) ∙ ap (λ l. waiting ++ l) (sym none));
+  }
+    where
+      no_due : (due : List ℕ) → IsDue sum bytes next due → due ≡ []
+      no_due due (inl q) = q.1
+      no_due due (inr q) = absurd (no_block sum due [] (append-nil (block sum due) ∙ sym q.bytes_are ∙ empty))
+
   pub more_waits : (owed : Option (Vec ℕ Global)) (from waiting' : List ℕ) → waiting' ≡ waiting ++ from → (x : Files) →
-      AreWritten file seed text owed n sum at waiting x → AreWritten file seed (text ++ from) owed n sum at waiting' x
+      AreWritten file seed text owed n sum at bytes next waiting x → AreWritten file seed (text ++ from) owed n sum at bytes next waiting' x
   more_waits owed from waiting' is x w = record {
     image = w.image;
     texts = w.texts;
     record_is = w.record_is;
-    text_is = ap (λ l. l ++ from) w.text_is ∙ append_assoc (concat w.texts) waiting from ∙ ap (λ l. concat w.texts ++ l) (sym is);
+    due = w.due;
+    due_is = w.due_is;
+    text_is = ap (λ l. l ++ from) w.text_is ∙ append_assoc (concat w.texts) (w.due ++ waiting) from ∙
+        ap (λ l. concat w.texts ++ l) (append_assoc w.due waiting from ∙ ap (λ l. w.due ++ l) (sym is));
   }
 
-  pub same_waits : (owed : Option (Vec ℕ Global)) (waiting' : List ℕ) → waiting' ≡ waiting → (x : Files) → AreWritten file seed text owed n sum at waiting x
-      → AreWritten file seed text owed n sum at waiting' x
-  same_waits owed waiting' is x w = record {
-    image = w.image;
-    texts = w.texts;
-    record_is = w.record_is;
-    text_is = w.text_is ∙ ap (λ l. concat w.texts ++ l) (sym is);
-  }
+  pub same_waits : (owed : Option (Vec ℕ Global)) (bytes' next' waiting' : List ℕ) → bytes' ≡ bytes → next' ≡ next → waiting' ≡ waiting → (x : Files) →
+      AreWritten file seed text owed n sum at bytes next waiting x → AreWritten file seed text owed n sum at bytes' next' waiting' x
+  same_waits owed bytes' next' waiting' bytes_are next_is is x w =
+      subst (λ (l : List ℕ). AreWritten file seed text owed n sum at l next' waiting' x) (sym bytes_are)
+      (subst (λ (l : List ℕ). AreWritten file seed text owed n sum at bytes l waiting' x) (sym next_is)
+      (subst (λ (l : List ℕ). AreWritten file seed text owed n sum at bytes next l x) (sym is) w))
 
 -- each of the files
 pub each : (o : Option Files) (P Q : Files → Type 0) → ((f : Files) → P f → Q f) → IfSome o P → IfSome o Q
@@ -175,3 +212,102 @@ none_ok Q P (Err e) is = tt
 pub in_err : {T E : Type 0} (P : Type 0) (r : Result T E) → P → OnErr r P
 in_err P (Ok x) is = tt
 in_err P (Err e) is = is
+
+-- one call behind another
+pub on_recorded : {F : Type 0} (r s t : Recorder F) (a b c : Option Files) → StaysRecorded [] r a s b → StaysRecorded [] s b t c → StaysRecorded [] r a t c
+on_recorded r s t a b c first second = λ file seed text told.
+    second file seed text (less_more (λ l. HasRecorded file seed l s) text b (first file seed text told))
+
+-- WHAT WAITS
+
+-- whether a list is empty, by its length
+pub is_none : (items : List ℕ) (len : ℕ) (b : Bool) → len ≡ length items → b ≡ (len == 0) → b ≡ true → items ≡ []
+is_none items len b is test on = nil_from_length items (let none : len ≡ 0 = eqb-true len 0 (sym test ∙ on) in omega (arith, none, is))
+
+positive : (n : ℕ) → ¬ (n ≡ 0) → 0 < n
+positive zero some = absurd (some refl)
+positive (suc n) some = omega arith
+
+pub is_some : (items : List ℕ) (len : ℕ) (b : Bool) → len ≡ length items → b ≡ (len == 0) → b ≡ false → 0 < length items
+is_some items len b is test off =
+    let more = positive len (λ none. absurd (let never : true ≡ false = sym (eq-eqb len 0 none) ∙ sym test ∙ off in cc)) in
+    omega (arith, more, is)
+
+pub all_written : {F T E : Type 0} (r : Recorder F) (result : Result T E) → r.owed ≡ None → r.waiting.items ≡ [] → OnOk result (r.block.items ≡ [])
+    → OnOk result (IsWritten r)
+all_written r (Ok x) owed waiting block = record { owed = owed; block = block; waiting = waiting }
+all_written r (Err e) owed waiting block = tt
+
+module _ {F T : Type 0} (a b : ℕ) (r : Recorder F) (result : Result T Unwritten) where
+  pub told_cause : (e : Unwritten) → IsErrAnd result (λ (x : Unwritten). x ≡ e) → HasCause a b r e → HasUnwrittenCause a b r result
+  told_cause e is cause = by_result result is
+    where
+      by_result : (q : Result T Unwritten) → IsErrAnd q (λ (x : Unwritten). x ≡ e) → HasUnwrittenCause a b r q
+      by_result (Ok x) is = absurd is
+      by_result (Err x) is = subst (HasCause a b r) (sym is) cause
+
+  -- the folder doesn't do what it is asked
+  pub folder_cause : (e : FolderError) → IsErrAnd result (λ (x : Unwritten). x ≡ of_folder e) → HasFolderCause {T = ℕ} a b (Err e)
+      → HasUnwrittenCause a b r result
+  folder_cause folder.Failed is cause = told_cause why.Failed is cause
+  folder_cause folder.NoMemory is cause = told_cause why.NoMemory is cause
+
+-- what is told of a call behind it
+module _ {F : Type 0} (a b : ℕ) (r s : Recorder F) (owed : s.owed ≡ r.owed) (block : s.block ≡ r.block) (waiting : s.waiting ≡ r.waiting) (at : s.at ≡ r.at) where
+  pub same_cause : (e : Unwritten) → HasCause a b r e → HasCause a b s e
+  same_cause why.Failed cause = cause
+  same_cause why.Full cause = (cause.0, subst (λ (k : ℕ). 2 ^ 60 < k) (λ i. sym at i + vec_len (sym block i)) cause.1)
+  same_cause why.NoMemory cause = cause
+
+  told_by : {T : Type 0} (result : Result T Unwritten) → OnOk result (IsWritten r) → HasUnwrittenCause a b r result → IsToldAs a b s (result_err result)
+  told_by (Ok x) written cause = (
+    record {
+      owed = owed ∙ written.owed;
+      block = ap (λ (v : Vec ℕ Global). v.items) block ∙ written.block;
+      waiting = ap (λ (v : Vec ℕ Global). v.items) waiting ∙ written.waiting;
+    },
+    cause,
+  )
+  told_by (Err e) written cause = same_cause e cause
+
+  pub told : {T : Type 0} (result : Result T Unwritten) (o : Option Unwritten) → o ≡ result_err result → OnOk result (IsWritten r) → HasUnwrittenCause a b r result
+      → IsToldAs a b s o
+  told result o is written cause = subst (IsToldAs a b s) (sym is) (told_by result written cause)
+
+-- A BEGINNING
+
+pub begun_recorded : {F : Type 0} (file seed : List ℕ) (n : ℕ) (r s : Recorder F) (a a' b : Option Files) → a' ≡ a →
+    IfSome a (λ (f : Files). f.records n ≡ None → HasRecorded file seed [] r f) → StaysRecorded [] r a' s b →
+    IfSome a (λ (f : Files). f.records n ≡ None → IfSome b (HasRecorded file seed [] s))
+begun_recorded file seed n r s a a' b same first stays = by_files a first (subst (λ (x : Option Files). StaysRecorded [] r x s b) same stays)
+  where
+    by_files : (x : Option Files) → IfSome x (λ (f : Files). f.records n ≡ None → HasRecorded file seed [] r f) → StaysRecorded [] r x s b →
+        IfSome x (λ (f : Files). f.records n ≡ None → IfSome b (HasRecorded file seed [] s))
+    by_files None first stays = tt
+    by_files (Some f) first stays = λ new. stays file seed [] (first new)
+
+pub begun_renewed : (v : Vec ℕ Global) (n k : ℕ) (owed : Option (Vec ℕ Global)) (a a' b : Option Files) → owed ≡ Some v → k ≡ n → a' ≡ a →
+    IfSome owed (λ w. OnFiles (IsRenewedOrLeft w.items k) a' b) → OnFiles (IsRenewedOrLeft v.items n) a b
+begun_renewed v n k owed a a' b is number same q =
+    subst (λ (x : Option Files). OnFiles (IsRenewedOrLeft v.items n) x b) same
+    (subst (λ (m : ℕ). OnFiles (IsRenewedOrLeft v.items m) a' b) number
+    (subst (λ (o : Option (Vec ℕ Global)). IfSome o (λ w. OnFiles (IsRenewedOrLeft w.items k) a' b)) is q))
+
+-- the image was put
+pub begun_told : {F : Type 0} (a a' b : ℕ) (file : Vec ℕ Global) (n : ℕ) (r s : Recorder F) → a' ≡ a → IsNew file n r → b ≡ a' → s.owed ≡ None →
+    s.block ≡ r.block → s.waiting ≡ r.waiting → s.unwritten ≡ r.unwritten → IsToldAs a b s s.unwritten
+begun_told a a' b file n r s same new calm owed block waiting unwritten =
+    subst (IsToldAs a b s) (sym (unwritten ∙ new.told)) (
+      record {
+        owed = owed;
+        block = ap (λ (v : Vec ℕ Global). v.items) block ∙ new.block;
+        waiting = ap (λ (v : Vec ℕ Global). v.items) waiting ∙ new.waiting;
+      },
+      calm ∙ same,
+    )
+
+-- the folder didn't do what it was asked
+pub begun_owed : {F : Type 0} (a a' b : ℕ) (r : Recorder F) (e : FolderError) (w : Unwritten) → a' ≡ a → w ≡ of_folder e →
+    HasFolderCause {T = ℕ} a' b (Err e) → HasCause a b r w
+begun_owed a a' b r folder.Failed w same is cause = subst (λ x. HasCause x b r w) same (subst (HasCause a' b r) (sym is) cause)
+begun_owed a a' b r folder.NoMemory w same is cause = subst (λ x. HasCause x b r w) same (subst (HasCause a' b r) (sym is) cause)

@@ -1,6 +1,6 @@
 -- An image is put, and then records are removed.
-use Rattle.std.{proofs.Common.{◌≡◌, ◌⊎◌, ℕ, List, Option, Some, None, Result, Err, refl, ap, sym, ◌∙◌, subst, inl, inr}, specs.{Prelude.{Ok, OnOk, OnErr}, Result.{IsErrAnd}}}
-use Rattle.hc_folder.specs.{declared.folder.FolderError.{FolderError}, Files.{Files, OnFiles, IsImagePut, IsImagePutOrLeft, AreRemoved, AreSomeRemoved, IsRenewed, IsPartlyRenewed, IsRenewedOrLeft}}
+use Rattle.std.{proofs.Common.{◌≡◌, ◌⊎◌, ℕ, List, Option, Some, None, Result, Err, ap, ◌∙◌, subst, inl, inr}, specs.{Prelude.{Ok, OnOk, OnErr}, Result.{IsErrAnd}}}
+use Rattle.hc_folder.specs.{declared.folder.FolderError.{FolderError}, Files.{Files, OnFiles, IsImagePut, IsImagePutOrLeft, AreRemoved, AreSomeRemoved, IsRenewed, IsRenewedOrLeft}}
 
 -- a relation of two steps
 two_steps : (R S T : Files → Files → Type 0) → ((a b c : Files) → R a b → S b c → T a c) → (a b c : Option Files) →
@@ -30,6 +30,13 @@ module _ (image : List ℕ) (n : ℕ) where
 
   pub left_as_was : (a b : Option Files) → OnFiles (IsImagePutOrLeft image) a b → OnFiles (IsRenewedOrLeft image n) a b
   left_as_was = weaken (IsImagePutOrLeft image) (IsRenewedOrLeft image n) (λ x y q. inr q)
+
+  pub renewed_whole : (a b : Option Files) → OnFiles (IsRenewed image n) a b → OnFiles (IsRenewedOrLeft image n) a b
+  renewed_whole = weaken (IsRenewed image n) (IsRenewedOrLeft image n) (λ x y q. inl (record {
+    image_is = q.image_is;
+    below = (λ k less. inl (q.below k less));
+    others = q.others;
+  }))
 
 -- WHAT COMES OF IT
 

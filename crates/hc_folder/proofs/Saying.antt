@@ -5,7 +5,7 @@
 -- no image (`lost`, `nothing`), a file that is none (`broken_file`), an image of before the newest record (`older`), and what
 -- stands behind the image (`behind_text`, `behind_broken`, `behind_lacking`, `behind_image`).
 use Rattle.std.{specs.{Global.{Global}, Prelude.{Ok, IfOk, IfSome, Vec}, Option.{option_map}, Result.{IsErrAnd}}, proofs.Common.{◌≡◌, ℕ, ◌<◌, ◌≤◌, ◌^◌, List, [], Option, Some, None, Result, Err, refl, ap, sym, ◌∙◌, subst, arith}}
-use Rattle.hc_folder.specs.{declared.{folder.FolderError.{FolderError}, blocks.RecordError.{RecordError}, sealing.Sealed.{Sealed}, reading.{FilesError.{FilesError}, Said.{Said}}}, Blocks.{HasText, IsBrokenAt}, Causes.{HasFolderCause}, Files.{Files, IsFound, IsNewest, bytes_in}, Records.{IsUnread}, Sealed.{IsSealed, IsUnsealed, sealed, image_sum}, Says.{HasFilesCause, Says, Reads, ReadsBehind, of_folder}}
+use Rattle.hc_folder.specs.{declared.{folder.FolderError.{FolderError}, image.ImageFile.{ImageFile}, reading.{FilesError.{FilesError}, Said.{Said}}}, Blocks.{HasText, IsBrokenAt}, Causes.{HasFolderCause}, Files.{Files, IsFound, IsNewest, bytes_in}, Records.{IsUnread}, ImageFiles.{IsImageFile, IsNoImageFile, image_file, image_sum}, Says.{HasFilesCause, Says, Reads, ReadsBehind, of_folder}}
 use Rattle.hc_folder.specs.declared.folder.FolderError.TheVariants as folder
 use Rattle.hc_folder.specs.declared.blocks.RecordError.TheVariants as unread
 use Rattle.hc_folder.specs.declared.reading.FilesError.TheVariants as error
@@ -39,7 +39,7 @@ module _ (o : Option Files) (result : Result Said FilesError) where
   folder_ends folder.NoMemory is =
       always o (λ (f : Files). Reads f result) (λ f. subst (Reads f) (sym (named error.NoMemory result is)) says.lacking)
 
-  pub behind_ends : (s : Sealed) (e : FolderError) → IsErrAnd result (λ (x : FilesError). x ≡ of_folder e) →
+  pub behind_ends : (s : ImageFile) (e : FolderError) → IsErrAnd result (λ (x : FilesError). x ≡ of_folder e) →
       IfSome o (λ (f : Files). ReadsBehind s f result)
   behind_ends s folder.Failed is =
       always o (λ (f : Files). ReadsBehind s f result) (λ f. subst (ReadsBehind s f) (sym (named error.FolderFailed result is)) says.unreadable_behind)
@@ -60,7 +60,7 @@ no_value P e (Err x) is = tt
 unread_broken : {sum file : List ℕ} {at : ℕ} → IsUnread sum file (unread.Broken at) → IsBrokenAt sum file at
 unread_broken (records.broken at q) = q
 
-module _ (o : Option Files) (s : Sealed) (bytes file : List ℕ) (same : file ≡ bytes) (told : IfSome o (λ (f : Files). bytes ≡ bytes_in f s.number)) where
+module _ (o : Option Files) (s : ImageFile) (bytes file : List ℕ) (same : file ≡ bytes) (told : IfSome o (λ (f : Files). bytes ≡ bytes_in f s.number)) where
   pub behind_text : (text : Vec ℕ Global) → HasText s.sum file text.items →
       IfSome o (λ (f : Files). ReadsBehind s f (Ok (record { image = Some s.image; number = s.number; text = text })))
   behind_text text has =
@@ -74,7 +74,7 @@ module _ (o : Option Files) (s : Sealed) (bytes file : List ℕ) (same : file �
       each o (λ (f : Files). bytes ≡ bytes_in f s.number) (λ (f : Files). ReadsBehind s f (Err (error.BrokenRecord s.number at)))
       (λ f is. says.broken at (subst (λ (l : List ℕ). IsBrokenAt s.sum l at) (same ∙ is) (unread_broken why))) told
 
-pub behind_lacking : (o : Option Files) (s : Sealed) → IfSome o (λ (f : Files). ReadsBehind s f (Err error.NoMemory))
+pub behind_lacking : (o : Option Files) (s : ImageFile) → IfSome o (λ (f : Files). ReadsBehind s f (Err error.NoMemory))
 behind_lacking o s = always o (λ (f : Files). ReadsBehind s f (Err error.NoMemory)) (λ f. says.lacking_behind)
 
 -- THE IMAGE
@@ -85,7 +85,7 @@ none_there f file newest q none = sym q.image ∙ ap (option_map (λ (v : Vec �
 some_there : (f : Files) (file : Option (Vec ℕ Global)) (newest : ℕ) (v : Vec ℕ Global) → IsFound file newest f → file ≡ Some v → f.image ≡ Some v.items
 some_there f file newest v q some = sym q.image ∙ ap (option_map (λ (w : Vec ℕ Global). w.items)) some
 
-joined : (f : Files) (s : Sealed) (newest : ℕ) → s.number < 2 ^ 62 → f.image ≡ Some (sealed s.image.items s.number) →
+joined : (f : Files) (s : ImageFile) (newest : ℕ) → s.number < 2 ^ 62 → f.image ≡ Some (image_file s.image.items s.number) →
     s.sum ≡ image_sum s.image.items s.number → IsNewest f newest → newest ≤ s.number →
     (result : Result Said FilesError) → ReadsBehind s f result → Reads f result
 joined f s newest small at sum_is last most _ (says.behind r image_is number_is has) =
@@ -112,12 +112,12 @@ module _ (o : Option Files) (file : Option (Vec ℕ Global)) (newest : ℕ) (tol
       (says.nothing (none_there f file newest q none) (subst (IsNewest f) (let zero : newest ≡ 0 = omega (arith, none_newer) in zero) q.newest_is)))) told
 
   module _ (v : Vec ℕ Global) (some : file ≡ Some v) where
-    pub broken_file : IsUnsealed v.items → IfSome o (λ (f : Files). Reads f (Err error.BrokenImage))
+    pub broken_file : IsNoImageFile v.items → IfSome o (λ (f : Files). Reads f (Err error.BrokenImage))
     broken_file none =
         each o (IsFound file newest) (λ (f : Files). Reads f (Err error.BrokenImage))
         (λ f q. says.broken_image v.items (some_there f file newest v q some) none) told
 
-    module _ (s : Sealed) (is : IsSealed v.items s) where
+    module _ (s : ImageFile) (is : IsImageFile v.items s) where
       pub older : s.number < newest → IfSome o (λ (f : Files). Reads f (Err (error.LostImage newest)))
       older less =
           each o (IsFound file newest) (λ (f : Files). Reads f (Err (error.LostImage newest)))

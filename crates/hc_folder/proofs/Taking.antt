@@ -1,6 +1,6 @@
 -- What stands first in a file.
 use Rattle.std.proofs.Common.{◌≡◌, ◌≢◌, ℕ, ◌+◌, ◌<◌, ◌≤◌, ◌^◌, List, [], ◌++◌, length, refl, ap, sym, ◌∙◌, arith, length-append, append_assoc, inl, inr}
-use Rattle.hc_folder.specs.{Sums.{number_bytes, sum_behind}, Blocks.{head_of, block, sum_after, IsShort, IsCut, IsBroken}}
+use Rattle.hc_folder.specs.{Sums.{number_bytes, sum_behind}, Blocks.{head_of, block, sum_after, IsCut, IsBroken}}
 use Rattle.hc_folder.proofs.{Lengths.{length-number_bytes, number_once, length-sum, length-head}, Once.{halves_once, behind_head}}
 
 -- a block is longer than its head

@@ -1,6 +1,6 @@
 -- What a store's folder holds, and what calls do to it. Where it doesn't tell its files, nothing is claimed of them.
 use Rattle.std.specs.Global.{Global}
-use Rattle.std.specs.Prelude.{◌≡◌, ◌⊎◌, ℕ, ◌<◌, ◌≤◌, ◌==◌, List, [], ◌++◌, length, take, Vec, Option, Some, None, IsSome, IfSome, unwrap_or, if◌then◌else◌}
+use Rattle.std.specs.Prelude.{◌≡◌, ◌⊎◌, ℕ, ◌<◌, ◌≤◌, List, [], ◌++◌, take, Vec, Option, Some, None, IsSome, unwrap_or}
 use Rattle.std.specs.Option.{option_map}
 
 -- the file of the image, and the records by their numbers

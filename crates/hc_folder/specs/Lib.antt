@@ -1,8 +1,9 @@
 pub mod Sums
-pub mod Sealed
+pub mod ImageFiles
 pub mod Blocks
 pub mod Files
 pub mod Causes
 pub mod Records
 pub mod Says
+pub mod Unwritten
 pub mod Recording

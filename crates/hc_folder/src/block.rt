@@ -1,6 +1,6 @@
 //! One block of a record.
 ghost use Rattle.std.specs.Prelude.{◌≡◌, ◌++◌, vec_len, take, length, IfOk, OnOk, OnErr};
-ghost use Rattle.hc_folder.specs.Blocks.{block, head_of, sum_after, IsTaken};
+ghost use Rattle.hc_folder.specs.Blocks.{block, head_of, sum_after, IsShort, IsTaken};
 
 use crate::sum::{Sum, append, bytes_of, is_sum, number_in, sum_of_more};
 use hc_text::NoMemory;
@@ -71,6 +71,7 @@ fn take_text<'a>(sum: &Sum, n: u64, behind: &'a [u8]) -> Taken<'a>
 pub fn write_block(sum: &Sum, text: &[u8], to: &mut Vec<u8>) -> Result<Sum, NoMemory>
     ensures ok { OnOk result (to.new.items ≡ to.old.items ++ block sum.now text.now) }
     ensures sum { IfOk result (λ after. after ≡ sum_after sum.now text.now) }
+    ensures short { OnOk result (IsShort text.now) }
     ensures err { OnErr result (to.new.items ≡ to.old.items) }
 {
     let start = to.len();
@@ -85,6 +86,7 @@ pub fn write_block(sum: &Sum, text: &[u8], to: &mut Vec<u8>) -> Result<Sum, NoMe
 fn write_parts(sum: &Sum, text: &[u8], to: &mut Vec<u8>) -> Result<Sum, NoMemory>
     ensures ok { OnOk result (to.new.items ≡ to.old.items ++ block sum.now text.now) }
     ensures sum { IfOk result (λ after. after ≡ sum_after sum.now text.now) }
+    ensures short { OnOk result (IsShort text.now) }
     ensures err { OnErr result (take (vec_len to.old) to.new.items ≡ to.old.items) }
 {
     let n = text.len() as u64;

@@ -4,17 +4,17 @@
 mod block;
 mod blocks;
 mod folder;
+mod image;
 mod reading;
 mod recording;
 mod renewing;
-mod sealing;
 mod sum;
 
 pub use block::write_block;
 pub use blocks::{RecordError, read_record};
 pub use folder::{Folder, FolderError, ImageFound};
+pub use image::{ImageFile, make_image_file, read_image_file};
 pub use reading::{FilesError, Said, read_files};
-pub use recording::Recorder;
+pub use recording::{Recorder, Unwritten};
 pub use renewing::renew;
-pub use sealing::{Sealed, seal, unseal};
 pub use sum::Sum;

@@ -4,7 +4,7 @@ ghost use Rattle.hc_folder.specs.Says.{HasFilesCause, IsSmall, Reads, ReadsBehin
 
 use crate::blocks::{RecordError, read_record};
 use crate::folder::{Folder, FolderError};
-use crate::sealing::{Sealed, unseal};
+use crate::image::{ImageFile, read_image_file};
 use std::alloc::Global;
 
 /// What the files of a folder say: an image, and the text of the record behind it. A new folder has
@@ -69,30 +69,34 @@ pub fn read_files<F: Folder>(alloc: Global, folder: &mut F) -> Result<Said, File
             text,
         });
     };
-    let Some(sealed) = unseal(file) else {
+    let Some(image) = read_image_file(file) else {
         return Err(FilesError::BrokenImage);
     };
-    let number = sealed.number;
+    let number = image.number;
     if newest > number {
         return Err(FilesError::LostImage { number: newest });
     }
-    read_behind(alloc, sealed, folder)
+    read_behind(alloc, image, folder)
 }
 
 /// What the record behind an image says.
 #[tactic(none)]
-fn read_behind<F: Folder>(alloc: Global, sealed: Sealed, folder: &mut F) -> Result<Said, FilesError>
-    requires { sealed.number < 2 ^ 62 }
-    ensures reads { IfSome (F.files folder.old) (λ files. ReadsBehind sealed files result) }
+fn read_behind<F: Folder>(
+    alloc: Global,
+    image: ImageFile,
+    folder: &mut F,
+) -> Result<Said, FilesError>
+    requires { image.number < 2 ^ 62 }
+    ensures reads { IfSome (F.files folder.old) (λ files. ReadsBehind image files result) }
     ensures small { IfOk result IsSmall }
     ensures same { F.files folder.new ≡ F.files folder.old }
     ensures cause { HasFilesCause (F.faults folder.old) (F.faults folder.new) result }
 {
-    let number = sealed.number;
+    let number = image.number;
     let file = folder.read_record(number)?;
-    match read_record(alloc, sealed.sum, file.as_slice()) {
+    match read_record(alloc, image.sum, file.as_slice()) {
         Ok(text) => Ok(Said {
-            image: Some(sealed.image),
+            image: Some(image.image),
             number,
             text,
         }),

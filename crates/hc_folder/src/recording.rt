@@ -2,23 +2,61 @@
 ghost use Rattle.std.specs.Prelude.{◌≡◌, ◌≢◌, ◌<◌, ◌≤◌, [], None, Err, length, IfOk, IfSome, OnOk, OnErr};
 ghost use Rattle.hc_io.specs.Sink.{HasSinkCause};
 ghost use Rattle.hc_io.specs.declared.sink.SinkError.TheVariants as error;
-ghost use Rattle.hc_folder.specs.Recording.{HasRecorded, StaysRecorded};
+ghost use Rattle.hc_folder.specs.Causes.{HasFolderCause};
+ghost use Rattle.hc_folder.specs.Files.{OnFiles, IsRenewedOrLeft};
+ghost use Rattle.hc_folder.specs.Recording.{HasRecorded, HasUnwrittenCause, IsAsTold, IsNew, IsWritten, StaysRecorded};
 
 use crate::block::write_block;
 use crate::folder::{Folder, FolderError};
 use crate::renewing::renew;
 use crate::sum::Sum;
 use hc_io::{Sink, SinkError};
+use hc_text::NoMemory;
 use std::alloc::Global;
 
-/// A record of more bytes than this is written no further.
+/// A record has so many bytes, at most.
 const MOST: u64 = 1 << 60;
+
+/// Why something isn't in the folder.
+#[derive(Clone, Copy, Debug, PartialEq, Eq)]
+pub enum Unwritten {
+    /// The folder failed, and counted that.
+    Failed,
+    /// The record would have more than 2^60 bytes.
+    Full,
+    /// There was not enough memory.
+    NoMemory,
+}
+
+impl From<FolderError> for Unwritten {
+    ghost use Rattle.std.specs.Prelude.{◌≡◌};
+    ghost use Rattle.hc_folder.specs.Unwritten.{of_folder};
+
+    ghost from_gives = { λ e why. why ≡ of_folder e };
+
+    fn from(e: FolderError) -> Self {
+        match e {
+            FolderError::Failed => Unwritten::Failed,
+            FolderError::NoMemory => Unwritten::NoMemory,
+        }
+    }
+}
+
+impl From<NoMemory> for Unwritten {
+    ghost use Rattle.std.specs.Prelude.{◌≡◌};
+    ghost use Rattle.hc_folder.specs.declared.recording.Unwritten.TheVariants as why;
+
+    ghost from_gives = { λ _ e. e ≡ why.NoMemory };
+
+    fn from(_: NoMemory) -> Self {
+        Unwritten::NoMemory
+    }
+}
 
 /// Writes what it takes into a folder, as the record behind an image. What can't be written waits, and
 /// is tried again with what comes next.
 #[derive(Drop)]
 pub struct Recorder<F> {
-    alloc: Global,
     folder: F,
     /// The file of the image, where it isn't in the folder yet.
     owed: Option<Vec<u8>>,
@@ -28,46 +66,98 @@ pub struct Recorder<F> {
     sum: Sum,
     /// So many bytes of the record are whole blocks.
     at: u64,
-    /// What was taken and isn't in the record yet.
+    /// The block that comes next in the record, or nothing. It is made once, however often it is tried.
+    block: Vec<u8>,
+    /// The sum behind that block.
+    next: Sum,
+    /// What was taken and is in no block yet.
     waiting: Vec<u8>,
+    /// Why something waits, where something does behind the last call.
+    unwritten: Option<Unwritten>,
 }
 
 impl<F: Folder> Recorder<F> {
-    /// A recorder that took nothing yet. This image is owed to the folder, and a record of this number
-    /// is to stand behind it.
+    /// A recorder that took nothing yet. This file of an image is put at once, and a record of this number
+    /// is to stand behind it. Where it can't be put, it is owed, and tried again with what comes next.
     #[tactic(none)]
-    pub fn new(alloc: Global, folder: F, file: Vec<u8>, number: u64, sum: Sum) -> Self
+    pub fn begin(alloc: Global, folder: F, file: Vec<u8>, number: u64, sum: Sum) -> Self
+        ensures recorded { IfSome (F.files folder) (λ files. files.records number ≡ None
+            → IfSome (F.files result.folder) (HasRecorded file.items sum [] result)) }
+
+        // A record is gone only where the image is there.
+        ensures renewed { OnFiles (IsRenewedOrLeft file.items number) (F.files folder)
+            (F.files result.folder) }
+        ensures told { IsAsTold (F.faults folder) (F.faults result.folder) result }
+    {
+        let mut recorder = Recorder::new(alloc, folder, file, number, sum);
+        match recorder.put_owed() {
+            Ok(()) => recorder,
+            Err(e) => {
+                recorder.unwritten = Some(Unwritten::from(e));
+                recorder
+            }
+        }
+    }
+
+    /// The same before the image is tried.
+    #[tactic(none)]
+    fn new(alloc: Global, folder: F, file: Vec<u8>, number: u64, sum: Sum) -> Self
         ensures recorded { IfSome (F.files folder) (λ files. files.records number ≡ None
             → HasRecorded file.items sum [] result files) }
         ensures folder { result.folder ≡ folder }
+        ensures new { IsNew file number result }
     {
+        let block = Vec::new(alloc);
         let waiting = Vec::new(alloc);
         Recorder {
-            alloc,
             folder,
             owed: Some(file),
             number,
             sum,
             at: 0,
+            block,
+            next: sum,
             waiting,
+            unwritten: None,
         }
     }
 
-    /// Puts what is owed, and then what waits.
+    /// Why something that was taken isn't in the folder behind the last call, if something isn't.
+    pub fn unwritten(&self) -> Option<Unwritten>
+        ensures { result ≡ self.now.unwritten }
+    {
+        self.unwritten
+    }
+
+    /// Puts the image that is owed, and then all that waits. What can't be put waits on.
     #[tactic(none)]
-    fn keep_up(&mut self) -> Result<(), FolderError>
-        ensures { StaysRecorded [] self.old (F.files self.old.folder)
+    pub fn put_all(&mut self) -> Result<(), Unwritten>
+        ensures recorded { StaysRecorded [] self.old (F.files self.old.folder)
             self.new (F.files self.new.folder) }
+        ensures ok { OnOk result (IsWritten self.new) }
+        ensures cause { HasUnwrittenCause (F.faults self.old.folder) (F.faults self.new.folder)
+            self.new result }
     {
         self.put_owed()?;
-        self.put_waiting()
+        self.put_block()?;
+        self.make_block()?;
+        self.put_block()
     }
 
     /// Puts the image that is owed.
     #[tactic(none)]
     fn put_owed(&mut self) -> Result<(), FolderError>
-        ensures { StaysRecorded [] self.old (F.files self.old.folder)
+        ensures recorded { StaysRecorded [] self.old (F.files self.old.folder)
             self.new (F.files self.new.folder) }
+        ensures renewed { IfSome self.old.owed (λ file. OnFiles
+            (IsRenewedOrLeft file.items self.old.number) (F.files self.old.folder)
+            (F.files self.new.folder)) }
+        ensures ok { OnOk result (self.new.owed ≡ None) }
+        ensures block { self.new.block ≡ self.old.block }
+        ensures waiting { self.new.waiting ≡ self.old.waiting }
+        ensures told { self.new.unwritten ≡ self.old.unwritten }
+        ensures cause { HasFolderCause (F.faults self.old.folder) (F.faults self.new.folder)
+            result }
     {
         let Some(file) = &self.owed else {
             return Ok(());
@@ -77,25 +167,47 @@ impl<F: Folder> Recorder<F> {
         Ok(())
     }
 
-    /// Puts what waits, as one block.
+    /// Puts the block that comes next, if one does.
     #[tactic(none)]
-    fn put_waiting(&mut self) -> Result<(), FolderError>
-        ensures { StaysRecorded [] self.old (F.files self.old.folder)
+    fn put_block(&mut self) -> Result<(), Unwritten>
+        ensures recorded { StaysRecorded [] self.old (F.files self.old.folder)
             self.new (F.files self.new.folder) }
+        ensures ok { OnOk result (self.new.block.items ≡ []) }
+        ensures owed { self.new.owed ≡ self.old.owed }
+        ensures waiting { self.new.waiting ≡ self.old.waiting }
+        ensures cause { HasUnwrittenCause (F.faults self.old.folder) (F.faults self.new.folder)
+            self.new result }
     {
-        let mut block = Vec::new(self.alloc);
-        let sum = write_block(&self.sum, self.waiting.as_slice(), &mut block)?;
-        let size = block.len() as u64;
-        if self.at > MOST {
+        if self.block.is_empty() {
             return Ok(());
         }
-        if size > MOST {
-            return Ok(());
+        let size = self.block.len() as u64;
+        if self.at.saturating_add(size) > MOST {
+            return Err(Unwritten::Full);
         }
         self.folder
-            .put_record(self.number, self.at, block.as_slice())?;
-        self.sum = sum;
+            .put_record(self.number, self.at, self.block.as_slice())?;
         self.at += size;
+        self.sum = self.next;
+        self.block.clear();
+        Ok(())
+    }
+
+    /// Makes a block of what waits, if something does.
+    #[tactic(none)]
+    fn make_block(&mut self) -> Result<(), NoMemory>
+        requires { self.old.block.items ≡ [] }
+        ensures recorded { StaysRecorded [] self.old (F.files self.old.folder)
+            self.new (F.files self.new.folder) }
+        ensures ok { OnOk result (self.new.waiting.items ≡ []) }
+        ensures owed { self.new.owed ≡ self.old.owed }
+        ensures folder { self.new.folder ≡ self.old.folder }
+    {
+        if self.waiting.is_empty() {
+            return Ok(());
+        }
+        let next = write_block(&self.sum, self.waiting.as_slice(), &mut self.block)?;
+        self.next = next;
         self.waiting.clear();
         Ok(())
     }
@@ -118,10 +230,15 @@ impl<F: Folder> Sink for Recorder<F> {
             self.new (F.files self.new.folder)) }
         ensures err { OnErr result (StaysRecorded [] self.old (F.files self.old.folder)
             self.new (F.files self.new.folder)) }
+
+        // Nothing waits but by a fault of the folder in this call, a full record, or want of memory.
+        ensures told { OnOk result (IsAsTold (F.faults self.old.folder) (F.faults self.new.folder)
+            self.new) }
+        ensures folder { OnErr result (self.new.folder ≡ self.old.folder) }
     {
         self.waiting.extend_from_slice(from)?;
         // What can't be put now is tried again with what comes next.
-        let _kept = self.keep_up();
+        self.unwritten = self.put_all().err();
         Ok(from.len())
     }
 }

@@ -1,4 +1,4 @@
-use Rattle.std.proofs.Common.{◌≡◌, ◌+◌, ◌<◌, length, arith, sym, ◌∙◌, subst, ◌^◌}
+use Rattle.std.proofs.Common.{arith, sym, ◌∙◌}
 use Rattle.hc_folder.specs.Sums.{sum_behind}
 use Rattle.hc_folder.proofs.Taking.{cut_text, right_text, wrong_text}
 use Rattle.hc_folder.proofs.block.take_text.Goals as goal

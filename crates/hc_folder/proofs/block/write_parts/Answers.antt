@@ -1,4 +1,4 @@
-use Rattle.std.proofs.Common.{◌≡◌, ◌++◌, ◌∙◌}
+use Rattle.std.proofs.Common.{◌++◌, ◌∙◌}
 use Rattle.hc_folder.specs.Blocks.{head_of}
 use Rattle.hc_folder.proofs.Taking.{parts_written}
 use Rattle.hc_folder.proofs.block.write_parts.Goals as goal

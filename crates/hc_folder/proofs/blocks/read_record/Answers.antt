@@ -1,4 +1,4 @@
-use Rattle.std.proofs.Common.{◌≡◌, ◌+◌, length, ap, sym, subst, arith, length-append}
+use Rattle.std.proofs.Common.{length, ap, sym, subst, arith, length-append}
 use Rattle.hc_folder.specs.Blocks.{IsReadTo}
 use Rattle.hc_folder.specs.Records as records
 use Rattle.hc_folder.proofs.{Many.{none_yet, one_more, read_first, read_on}, Taking.{length-block}, Unread.{unread_lacking}}

@@ -1,4 +1,4 @@
-use Rattle.std.{proofs.Common.{◌≡◌, ◌≤◌, arith, subst, ◌∙◌}, specs.Prelude.{IfSome}}
+use Rattle.std.{proofs.Common.{arith, subst, ◌∙◌}, specs.Prelude.{IfSome}}
 use Rattle.hc_folder.specs.{Says.{IsSmall, HasFilesCause, ReadsBehind}, Files.{Files}, declared.folder.ImageFound.{ImageFound}}
 use Rattle.hc_folder.proofs.Saying.{folder_ends, folder_cause, no_value, lost, nothing, broken_file, older, behind_image}
 use Rattle.hc_folder.proofs.reading.read_files.Goals as goal
@@ -36,24 +36,24 @@ returns-in_default-clause-small g c = (let len = c.new-text.ensures.len in recor
 
 -- THERE IS ONE
 
-pub returns-in_default-unseal-clause-reads : goal.returns-in_default-unseal-clause-reads
-returns-in_default-unseal-clause-reads g c =
+pub returns-in_default-read_image_file-clause-reads : goal.returns-in_default-read_image_file-clause-reads
+returns-in_default-read_image_file-clause-reads g c =
     broken_file (g.F.Folder.files c.args.folder.now) c.in_ok-found.found.file c.in_ok-found.found.newest c.in_ok-found.ensures.found
-    c.in-Some.file c.in-Some.is c.in_default-unseal.ensures
+    c.in-Some.file c.in-Some.is c.in_default-read_image_file.ensures
 
 pub returns-then-newest-number-clause-reads : goal.returns-then-newest-number-clause-reads
 returns-then-newest-number-clause-reads g c =
     older (g.F.Folder.files c.args.folder.now) c.in_ok-found.found.file c.in_ok-found.found.newest c.in_ok-found.ensures.found
-    c.in-Some.file c.in-Some.is c.in-Some-unseal.sealed c.in-Some-unseal.ensures c.if-newest-number.true
+    c.in-Some.file c.in-Some.is c.in-Some-read_image_file.image c.in-Some-read_image_file.ensures c.if-newest-number.true
 
 pub read_behind-requires : goal.read_behind-requires
-read_behind-requires g c = c.in-Some-unseal.ensures.small
+read_behind-requires g c = c.in-Some-read_image_file.ensures.small
 
 pub returns-clause-reads : goal.returns-clause-reads
 returns-clause-reads g c =
     behind_image (g.F.Folder.files c.args.folder.now) c.in_ok-found.found.file c.in_ok-found.found.newest c.in_ok-found.ensures.found
-    c.in-Some.file c.in-Some.is c.in-Some-unseal.sealed c.in-Some-unseal.ensures c.read_behind.result c.if-newest-number.false
-    (subst (λ o. IfSome o (λ (f : Files). ReadsBehind c.in-Some-unseal.sealed f c.read_behind.result)) c.in_ok-found.ensures.same c.read_behind.ensures.reads)
+    c.in-Some.file c.in-Some.is c.in-Some-read_image_file.image c.in-Some-read_image_file.ensures c.read_behind.result c.if-newest-number.false
+    (subst (λ o. IfSome o (λ (f : Files). ReadsBehind c.in-Some-read_image_file.image f c.read_behind.result)) c.in_ok-found.ensures.same c.read_behind.ensures.reads)
 
 pub returns-clause-small : goal.returns-clause-small
 returns-clause-small g c = c.read_behind.ensures.small
@@ -81,14 +81,14 @@ returns-in_default-clause-same g c = c.in_ok-found.ensures.same
 pub returns-in_default-clause-cause : goal.returns-in_default-clause-cause
 returns-in_default-clause-cause g c = c.in_ok-found.ensures.cause
 
-pub returns-in_default-unseal-clause-small : goal.returns-in_default-unseal-clause-small
-returns-in_default-unseal-clause-small g c = tt
+pub returns-in_default-read_image_file-clause-small : goal.returns-in_default-read_image_file-clause-small
+returns-in_default-read_image_file-clause-small g c = tt
 
-pub returns-in_default-unseal-clause-same : goal.returns-in_default-unseal-clause-same
-returns-in_default-unseal-clause-same g c = c.in_ok-found.ensures.same
+pub returns-in_default-read_image_file-clause-same : goal.returns-in_default-read_image_file-clause-same
+returns-in_default-read_image_file-clause-same g c = c.in_ok-found.ensures.same
 
-pub returns-in_default-unseal-clause-cause : goal.returns-in_default-unseal-clause-cause
-returns-in_default-unseal-clause-cause g c = c.in_ok-found.ensures.cause
+pub returns-in_default-read_image_file-clause-cause : goal.returns-in_default-read_image_file-clause-cause
+returns-in_default-read_image_file-clause-cause g c = c.in_ok-found.ensures.cause
 
 pub returns-then-newest-number-clause-small : goal.returns-then-newest-number-clause-small
 returns-then-newest-number-clause-small g c = tt

@@ -1,5 +1,5 @@
-use Rattle.std.proofs.Common.{Err, sym, subst}
-use Rattle.hc_folder.specs.{Causes.{HasFolderCause}, Files.{OnFiles, IsImagePut, IsImagePutOrLeft, AreRemoved, AreSomeRemoved, IsRenewed, IsRenewedOrLeft}}
+use Rattle.std.proofs.Common.{sym, subst}
+use Rattle.hc_folder.specs.Causes.{HasFolderCause}
 use Rattle.hc_folder.proofs.Renewals.{renewed, partly_renewed, left_as_was, by_ok, by_err, as_err}
 use Rattle.hc_folder.proofs.renewing.renew.Goals as goal
 

@@ -1,4 +1,4 @@
-use Rattle.std.proofs.Common.{◌≡◌, ◌++◌, ◌∙◌}
+use Rattle.std.proofs.Common.{◌++◌, ◌∙◌}
 use Rattle.md5.specs.Md5.{md5}
 use Rattle.hc_folder.specs.Sums.{sum_behind}
 use Rattle.hc_folder.proofs.sum.sum_of_more.Goals as goal

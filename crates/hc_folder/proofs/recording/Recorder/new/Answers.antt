@@ -4,7 +4,17 @@ use Rattle.hc_folder.proofs.recording.Recorder.new.Goals as goal
 
 pub returns-clause-recorded : goal.returns-clause-recorded
 returns-clause-recorded g c =
-    begun _ c.args.file c.args.number c.args.sum 0 c.new-waiting.result.items (g.F.Folder.files c.args.folder) refl refl c.new-waiting.ensures.items
+    begun _ c.args.file c.args.number c.args.sum 0 c.new-block.result.items c.args.sum c.new-waiting.result.items (g.F.Folder.files c.args.folder) refl refl
+    c.new-block.ensures.items c.new-waiting.ensures.items
 
 pub returns-clause-folder : goal.returns-clause-folder
 returns-clause-folder g c = refl
+
+pub returns-clause-new : goal.returns-clause-new
+returns-clause-new g c = record {
+  owed = refl;
+  number = refl;
+  block = c.new-block.ensures.items;
+  waiting = c.new-waiting.ensures.items;
+  told = refl;
+}

@@ -1,27 +1,107 @@
-use Rattle.std.proofs.Common.{None}
-use Rattle.hc_folder.specs.{Files.{IsRenewed, IsRenewedOrLeft}, Recording.{AreWritten}}
-use Rattle.hc_folder.proofs.Recorded.{carried, owed_left, owed_put, no_more}
+use Rattle.std.{proofs.Common.{ℕ, List, Option, None, refl, sym, subst}, specs.{Global.{Global}, Prelude.{Vec, IfSome}}}
+use Rattle.hc_folder.specs.{Causes.{HasFolderCause}, Files.{OnFiles, IsRenewed, IsRenewedOrLeft}, Recording.{AreWritten}}
+use Rattle.hc_folder.proofs.{Renewals.{as_err, renewed_whole}, Recorded.{carried, owed_left, owed_put, no_more, none_ok}}
 use Rattle.hc_folder.proofs.recording.Recorder.put_owed.Goals as goal
 
-pub returns-in_default : goal.returns-in_default
-returns-in_default g c = λ file seed text told.
+pub returns-in_default-clause-recorded : goal.returns-in_default-clause-recorded
+returns-in_default-clause-recorded g c = λ file seed text told.
     let r = c.args.self.now in
-    no_more (λ t. AreWritten file seed t r.owed r.number r.sum r.at r.waiting.items) text (g.F.Folder.files r.folder) told
+    no_more (λ t. AreWritten file seed t r.owed r.number r.sum r.at r.block.items r.next r.waiting.items) text (g.F.Folder.files r.folder) told
 
-pub returns-in_err-renew : goal.returns-in_err-renew
-returns-in_err-renew g c = λ file seed text told.
+pub returns-in_err-renew-clause-recorded : goal.returns-in_err-renew-clause-recorded
+returns-in_err-renew-clause-recorded g c = λ file seed text told.
     let r = c.args.self.now in
-    no_more (λ t. AreWritten file seed t r.owed r.number r.sum r.at r.waiting.items) text (g.F.Folder.files c.renew.new.folder)
-    (carried (IsRenewedOrLeft c.as_slice.result.now r.number)
-    (AreWritten file seed text r.owed r.number r.sum r.at r.waiting.items) (AreWritten file seed text r.owed r.number r.sum r.at r.waiting.items)
-    (owed_left file seed text r.number r.sum r.at r.waiting.items r.owed c.in-Some.file c.in-Some.is c.as_slice.result.now c.as_slice.ensures.value)
-    (g.F.Folder.files r.folder) (g.F.Folder.files c.renew.new.folder) c.in_err-renew.ensures.err told)
+    let P = AreWritten file seed text r.owed r.number r.sum r.at r.block.items r.next r.waiting.items in
+    no_more (λ t. AreWritten file seed t r.owed r.number r.sum r.at r.block.items r.next r.waiting.items) text (g.F.Folder.files c.renew.new.folder)
+    (carried (IsRenewedOrLeft c.as_slice.result.now r.number) P P
+    (owed_left file seed text r.number r.sum r.at r.block.items r.next r.waiting.items r.owed c.in-Some.file c.in-Some.is c.as_slice.result.now
+    c.as_slice.ensures.value) (g.F.Folder.files r.folder) (g.F.Folder.files c.renew.new.folder) c.in_err-renew.ensures.err told)
 
-pub returns : goal.returns
-returns g c = λ file seed text told.
+pub returns-clause-recorded : goal.returns-clause-recorded
+returns-clause-recorded g c = λ file seed text told.
     let r = c.args.self.now in
-    no_more (λ t. AreWritten file seed t None r.number r.sum r.at r.waiting.items) text (g.F.Folder.files c.renew.new.folder)
+    no_more (λ t. AreWritten file seed t None r.number r.sum r.at r.block.items r.next r.waiting.items) text (g.F.Folder.files c.renew.new.folder)
     (carried (IsRenewed c.as_slice.result.now r.number)
-    (AreWritten file seed text r.owed r.number r.sum r.at r.waiting.items) (AreWritten file seed text None r.number r.sum r.at r.waiting.items)
-    (owed_put file seed text r.number r.sum r.at r.waiting.items r.owed c.in-Some.file c.in-Some.is c.as_slice.result.now c.as_slice.ensures.value)
-    (g.F.Folder.files r.folder) (g.F.Folder.files c.renew.new.folder) c.in_ok-renew.ensures.ok told)
+    (AreWritten file seed text r.owed r.number r.sum r.at r.block.items r.next r.waiting.items)
+    (AreWritten file seed text None r.number r.sum r.at r.block.items r.next r.waiting.items)
+    (owed_put file seed text r.number r.sum r.at r.block.items r.next r.waiting.items r.owed c.in-Some.file c.in-Some.is c.as_slice.result.now
+    c.as_slice.ensures.value) (g.F.Folder.files r.folder) (g.F.Folder.files c.renew.new.folder) c.in_ok-renew.ensures.ok told)
+
+-- THE IMAGE IS THERE
+
+pub returns-in_default-clause-ok : goal.returns-in_default-clause-ok
+returns-in_default-clause-ok g c = c.in_default.is
+
+pub returns-in_default-clause-cause : goal.returns-in_default-clause-cause
+returns-in_default-clause-cause g c = refl
+
+pub returns-in_err-renew-clause-ok : goal.returns-in_err-renew-clause-ok
+returns-in_err-renew-clause-ok g c = none_ok _ _ c.from_residual.result c.from_residual.ensures.1
+
+pub returns-in_err-renew-clause-cause : goal.returns-in_err-renew-clause-cause
+returns-in_err-renew-clause-cause g c =
+    subst (HasFolderCause (g.F.Folder.faults c.args.self.now.folder) (g.F.Folder.faults c.renew.new.folder))
+    (sym (as_err _ c.from_residual.result c.from_residual.ensures.1)) c.in_err-renew.ensures.cause
+
+pub returns-clause-ok : goal.returns-clause-ok
+returns-clause-ok g c = refl
+
+pub returns-clause-cause : goal.returns-clause-cause
+returns-clause-cause g c = c.in_ok-renew.ensures.cause
+
+-- WHAT BECOMES OF THE FILES
+
+pub returns-in_default-clause-renewed : goal.returns-in_default-clause-renewed
+returns-in_default-clause-renewed g c =
+    let r = c.args.self.now in
+    subst (λ (o : Option (Vec ℕ Global)).
+    IfSome o (λ file. OnFiles (IsRenewedOrLeft file.items r.number) (g.F.Folder.files r.folder) (g.F.Folder.files r.folder)))
+    (sym c.in_default.is) tt
+
+pub returns-in_err-renew-clause-renewed : goal.returns-in_err-renew-clause-renewed
+returns-in_err-renew-clause-renewed g c =
+    let r = c.args.self.now in
+    subst (λ (o : Option (Vec ℕ Global)).
+    IfSome o (λ file. OnFiles (IsRenewedOrLeft file.items r.number) (g.F.Folder.files r.folder) (g.F.Folder.files c.renew.new.folder)))
+    (sym c.in-Some.is)
+    (subst (λ (l : List ℕ). OnFiles (IsRenewedOrLeft l r.number) (g.F.Folder.files r.folder) (g.F.Folder.files c.renew.new.folder))
+    c.as_slice.ensures.value c.in_err-renew.ensures.err)
+
+pub returns-clause-renewed : goal.returns-clause-renewed
+returns-clause-renewed g c =
+    let r = c.args.self.now in
+    subst (λ (o : Option (Vec ℕ Global)).
+    IfSome o (λ file. OnFiles (IsRenewedOrLeft file.items r.number) (g.F.Folder.files r.folder) (g.F.Folder.files c.renew.new.folder)))
+    (sym c.in-Some.is)
+    (subst (λ (l : List ℕ). OnFiles (IsRenewedOrLeft l r.number) (g.F.Folder.files r.folder) (g.F.Folder.files c.renew.new.folder))
+    c.as_slice.ensures.value
+    (renewed_whole c.as_slice.result.now r.number (g.F.Folder.files r.folder) (g.F.Folder.files c.renew.new.folder) c.in_ok-renew.ensures.ok))
+
+-- WHAT STAYS
+
+pub returns-in_default-clause-block : goal.returns-in_default-clause-block
+returns-in_default-clause-block g c = refl
+
+pub returns-in_default-clause-waiting : goal.returns-in_default-clause-waiting
+returns-in_default-clause-waiting g c = refl
+
+pub returns-in_err-renew-clause-block : goal.returns-in_err-renew-clause-block
+returns-in_err-renew-clause-block g c = refl
+
+pub returns-in_err-renew-clause-waiting : goal.returns-in_err-renew-clause-waiting
+returns-in_err-renew-clause-waiting g c = refl
+
+pub returns-clause-block : goal.returns-clause-block
+returns-clause-block g c = refl
+
+pub returns-clause-waiting : goal.returns-clause-waiting
+returns-clause-waiting g c = refl
+
+pub returns-in_default-clause-told : goal.returns-in_default-clause-told
+returns-in_default-clause-told g c = refl
+
+pub returns-in_err-renew-clause-told : goal.returns-in_err-renew-clause-told
+returns-in_err-renew-clause-told g c = refl
+
+pub returns-clause-told : goal.returns-clause-told
+returns-clause-told g c = refl

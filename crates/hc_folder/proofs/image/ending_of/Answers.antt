@@ -1,6 +1,6 @@
-use Rattle.std.proofs.Common.{◌≡◌, length, arith, sym, ◌∙◌}
-use Rattle.hc_folder.proofs.Seals.{too_short, right_seal, wrong_sum, wrong_number}
-use Rattle.hc_folder.proofs.sealing.seal_of.Goals as goal
+use Rattle.std.proofs.Common.{◌≡◌, length, arith}
+use Rattle.hc_folder.proofs.Ends.{too_short, right_ending, wrong_sum, wrong_number}
+use Rattle.hc_folder.proofs.image.ending_of.Goals as goal
 
 pub returns-then-file-lt24 : goal.returns-then-file-lt24
 returns-then-file-lt24 c = too_short c.args.file.now c.if-file-lt24.true
@@ -17,7 +17,7 @@ pub returns-then-right : goal.returns-then-right
 returns-then-right c =
     let sixteen : length c.split_at.result.1.now ≡ 16 = omega (arith, c.split_at.ensures.back_len) in
     let eight : length c.split_at-2.result.1.now ≡ 8 = omega (arith, c.split_at-2.ensures.back_len) in
-    right_seal c.args.file.now c.split_at.result.0.now c.split_at-2.result.0.now c.split_at-2.result.1.now c.split_at.result.1.now c.number_in-number.result
+    right_ending c.args.file.now c.split_at.result.0.now c.split_at-2.result.0.now c.split_at-2.result.1.now c.split_at.result.1.now c.number_in-number.result
     c.split_at.ensures.by_index.0 c.split_at-2.ensures.by_index.0 sixteen eight c.number_in-number.ensures.bytes c.sum_of-due.result c.sum_of-due.ensures
     (c.is_sum-right.ensures.yes c.if-right.true) c.if-number-ge-NUMBERS.false
 

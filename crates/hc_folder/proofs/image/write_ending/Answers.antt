@@ -1,7 +1,7 @@
 use Rattle.std.proofs.Common.{◌≡◌, ◌++◌, ◌∙◌, ap}
 use Rattle.md5.specs.Md5.{md5}
-use Rattle.hc_folder.specs.Sealed.{numbered, image_sum}
-use Rattle.hc_folder.proofs.sealing.write_seal.Goals as goal
+use Rattle.hc_folder.specs.ImageFiles.{numbered, image_sum}
+use Rattle.hc_folder.proofs.image.write_ending.Goals as goal
 
 pub returns-clause-ok : goal.returns-clause-ok
 unfolding image_sum

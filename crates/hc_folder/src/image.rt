@@ -1,6 +1,6 @@
 //! An image as a file.
 ghost use Rattle.std.specs.Prelude.{◌≡◌, ◌<◌, ◌^◌, vec_len, take, IfOk, OnOk, OnErr, MatchOption};
-ghost use Rattle.hc_folder.specs.Sealed.{HasSeal, IsSealed, IsUnsealed, image_sum, sealed};
+ghost use Rattle.hc_folder.specs.ImageFiles.{IsImageFileOf, IsImageFile, IsNoImageFile, image_file, image_sum};
 
 use crate::sum::{Sum, append, bytes_of, is_sum, number_in, sum_of};
 use hc_text::NoMemory;
@@ -10,7 +10,7 @@ const NUMBERS: u64 = 1 << 62;
 
 /// An image, and what its file says besides.
 #[derive(Drop)]
-pub struct Sealed {
+pub struct ImageFile {
     pub image: Vec<u8>,
     /// The number of the record that stands behind it.
     pub number: u64,
@@ -19,24 +19,24 @@ pub struct Sealed {
 
 /// Makes a file of an image: the number of the record behind it comes last, and the sum of both, which
 /// is answered. After an error it is the image.
-pub fn seal(image: &mut Vec<u8>, number: u64) -> Result<Sum, NoMemory>
+pub fn make_image_file(image: &mut Vec<u8>, number: u64) -> Result<Sum, NoMemory>
     requires { number < 2 ^ 62 }
-    ensures ok { OnOk result (image.new.items ≡ sealed image.old.items number) }
+    ensures ok { OnOk result (image.new.items ≡ image_file image.old.items number) }
     ensures sum { IfOk result (λ sum. sum ≡ image_sum image.old.items number) }
     ensures err { OnErr result (image.new.items ≡ image.old.items) }
 {
     image.reserve(24)?;
     let start = image.len();
-    let sealed = write_seal(image, number);
-    if sealed.is_err() {
+    let written = write_ending(image, number);
+    if written.is_err() {
         image.truncate(start);
     }
-    sealed
+    written
 }
 
 /// Appends the number of the record and the sum, or a part of both.
-fn write_seal(image: &mut Vec<u8>, number: u64) -> Result<Sum, NoMemory>
-    ensures ok { OnOk result (image.new.items ≡ sealed image.old.items number) }
+fn write_ending(image: &mut Vec<u8>, number: u64) -> Result<Sum, NoMemory>
+    ensures ok { OnOk result (image.new.items ≡ image_file image.old.items number) }
     ensures sum { IfOk result (λ sum. sum ≡ image_sum image.old.items number) }
     ensures err { OnErr result (take (vec_len image.old) image.new.items ≡ image.old.items) }
 {
@@ -48,15 +48,15 @@ fn write_seal(image: &mut Vec<u8>, number: u64) -> Result<Sum, NoMemory>
 }
 
 /// The image that a file is of, or none where it is of none.
-pub fn unseal(file: Vec<u8>) -> Option<Sealed>
-    ensures { MatchOption result (IsUnsealed file.items) (IsSealed file.items) }
+pub fn read_image_file(file: Vec<u8>) -> Option<ImageFile>
+    ensures { MatchOption result (IsNoImageFile file.items) (IsImageFile file.items) }
 {
     let mut file = file;
-    let seal = seal_of(file.as_slice())?;
-    let (number, sum) = seal;
+    let ending = ending_of(file.as_slice())?;
+    let (number, sum) = ending;
     let end = file.len() - 24;
     file.truncate(end);
-    Some(Sealed {
+    Some(ImageFile {
         image: file,
         number,
         sum,
@@ -64,8 +64,9 @@ pub fn unseal(file: Vec<u8>) -> Option<Sealed>
 }
 
 /// The number and the sum that the file ends in, if they are right.
-fn seal_of(file: &[u8]) -> Option<(u64, Sum)>
-    ensures { MatchOption result (IsUnsealed file.now) (λ seal. HasSeal file.now seal.0 seal.1) }
+fn ending_of(file: &[u8]) -> Option<(u64, Sum)>
+    ensures { MatchOption result (IsNoImageFile file.now)
+        (λ ending. IsImageFileOf file.now ending.0 ending.1) }
 {
     if file.len() < 24 {
         return None;

@@ -6,6 +6,8 @@ use Rattle.hc_folder.specs.declared.reading.FilesError.{FilesError}
 use Rattle.hc_folder.specs.declared.reading.FilesError.TheVariants as files
 use Rattle.hc_keeping.specs.declared.keeping.KeepError.{KeepError}
 use Rattle.hc_keeping.specs.declared.keeping.KeepError.TheVariants as keeping
+use Rattle.hc_sched.specs.declared.schedule.Ended.{Ended}
+use Rattle.hc_sched.specs.declared.schedule.Ended.TheVariants as ended
 use Rattle.hc_keep_app.specs.declared.ending.Ending.{Ending}
 use Rattle.hc_keep_app.specs.declared.ending.Ending.TheVariants as ending
 
@@ -33,3 +35,9 @@ refused_as _ = ending.Refused
 abbrev pub unrecovered_as : KeepError → Ending
 unrecovered_as (keeping.Files why) = unread_as why
 unrecovered_as (keeping.Refused n why) = refused_as why
+
+-- how it ends behind the loop, which ends with no refused input and no failed record
+abbrev pub ending_of : Ended → Ending
+ending_of ended.Done = ending.Done
+ending_of ended.NoMemory = ending.NoMemory
+ending_of _ = ending.WireFailed

@@ -1,10 +1,11 @@
 //! How the program ends.
 ghost use Rattle.std.specs.Prelude.{◌≡◌};
-ghost use Rattle.hc_keep_app.specs.Endings.{code_of, refused_as, unread_as, unrecovered_as};
+ghost use Rattle.hc_keep_app.specs.Endings.{code_of, ending_of, refused_as, unread_as, unrecovered_as};
 
 use hc_folder::FilesError;
 use hc_keeping::KeepError;
 use hc_saving::RecoverError;
+use hc_sched::Ended;
 
 /// How the program ends.
 #[derive(Clone, Copy)]
@@ -67,5 +68,16 @@ fn refused(why: RecoverError) -> Ending
     match why {
         RecoverError::NoMemory => Ending::NoMemory,
         _ => Ending::Refused,
+    }
+}
+
+/// How it ends behind the loop, which reads no input. Its record doesn't fail.
+pub(crate) fn ended_as(ended: Ended) -> Ending
+    ensures { result ≡ ending_of ended }
+{
+    match ended {
+        Ended::Done => Ending::Done,
+        Ended::NoMemory => Ending::NoMemory,
+        _ => Ending::WireFailed,
     }
 }

@@ -5,6 +5,7 @@ mod ending;
 mod nowhere;
 mod proxy;
 mod say;
+mod serving;
 mod words;
 
 use ending::Ending;

@@ -19,6 +19,15 @@ pub(crate) struct Start {
 }
 
 impl Start {
+    /// One of an empty store that isn't kept.
+    pub(crate) fn empty() -> Start {
+        Start {
+            bodies: 0,
+            bytes: 0,
+            took: None,
+        }
+    }
+
     /// A start with these contents.
     pub(crate) fn new(contents: &Contents, took: Option<u128>) -> Start {
         let items = contents.items.as_slice();
@@ -69,6 +78,16 @@ pub(crate) fn say_unbound(rt: &HostRuntime, listen: Address) -> io::Result<()> {
     )
 }
 
+/// That what the folder keeps has no numbers left.
+pub(crate) fn say_used_up(rt: &HostRuntime, store: &str) -> io::Result<()> {
+    eprintln!(rt; "vosdrieng: {store} is refused: its numbers are used up")
+}
+
+/// That memory wants.
+pub(crate) fn say_no_memory(rt: &HostRuntime, store: &str) -> io::Result<()> {
+    eprintln!(rt; "vosdrieng: there is not enough memory for {store}")
+}
+
 /// What the words mean.
 pub(crate) fn say_help(rt: &HostRuntime) -> io::Result<()> {
     println!(rt; "usage: proxy LISTEN ORIGIN STORE [OPTION NUMBER]..")?;
@@ -114,9 +133,7 @@ fn say_unread(rt: &HostRuntime, store: &str, why: FilesError) -> io::Result<()> 
             "vosdrieng: {store}/record.{number} is refused: it was changed behind byte {at}"
         ),
         FilesError::FolderFailed => Ok(()),
-        FilesError::NoMemory => {
-            eprintln!(rt; "vosdrieng: there is not enough memory for {store}")
-        }
+        FilesError::NoMemory => say_no_memory(rt, store),
     }
 }
 
@@ -137,8 +154,6 @@ fn say_refused(rt: &HostRuntime, store: &str, number: u64, why: RecoverError) ->
             eprintln!(rt; "vosdrieng: {store}/record.{number} is refused: line {line} of its text")
         }
         RecoverError::SourceFailed => Ok(()),
-        RecoverError::NoMemory => {
-            eprintln!(rt; "vosdrieng: there is not enough memory for {store}")
-        }
+        RecoverError::NoMemory => say_no_memory(rt, store),
     }
 }

@@ -101,17 +101,21 @@ fn plan_of(listen: Address, origin: Address, store: &str) -> Plan<'_> {
 /// The plan with what the options behind the first three words change.
 fn take_options<'a>(words: &'a [String], plan: Plan<'a>) -> Result<Plan<'a>, Wrong<'a>> {
     let mut plan = plan;
-    let mut at = 3;
-    while at < words.len() {
-        let name = words[at].as_str();
-        let text = match words.get(at + 1) {
-            Some(word) => word.as_str(),
-            None => return Err(Wrong::Bare(name)),
-        };
-        take_option(name, text, &mut plan)?;
-        at += 2;
+    let mut option = None;
+    for i in 3..words.len() {
+        let word = words[i].as_str();
+        match option {
+            None => option = Some(word),
+            Some(name) => {
+                take_option(name, word, &mut plan)?;
+                option = None;
+            }
+        }
     }
-    Ok(plan)
+    match option {
+        Some(name) => Err(Wrong::Bare(name)),
+        None => Ok(plan),
+    }
 }
 
 /// Takes an option and its number.
@@ -125,7 +129,7 @@ fn take_option<'a>(name: &'a str, text: &'a str, plan: &mut Plan<'_>) -> Result<
         "--idle" => plan.patience.idle = n,
         "--head" => plan.patience.head = n,
         "--origin" => plan.patience.origin = n,
-        "--clients" => plan.patience.clients = n as usize,
+        "--clients" => plan.patience.clients = usize::try_from(n).unwrap_or(usize::MAX),
         "--turns" => plan.turns = n,
         _ => return Err(Wrong::Word(name, "no option")),
     }

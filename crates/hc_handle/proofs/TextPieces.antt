@@ -4,7 +4,7 @@
 -- a session that answers, and the first one is of a cache that has answered nothing (`few_given`, `unused_before`). What a schedule
 -- brings over sessions it brings over their caches (`in_cache`), and none of its events leaves an act to tell (`idle_after`). So a
 -- piece is read on (`read_on`), wholly (`read_wholly`) or up to a refused line (`read_to_refusal`). The laws of texts are those of
--- pieces at a cache (`texts_as_one`), and of a replay (`are_replayed`).
+-- pieces at a cache (`texts_as_one`), and of a replay (`are_replayed`, `are_refused_alike`).
 use Rattle.std.{proofs.{Common.{◌≡◌, ℕ, ◌+◌, ◌<◌, ◌≤◌, ◌^◌, ◌||◌, List, [], Bool, Option, Some, None, Ok, Err, length, true, false, refl, sym, ap, subst, ◌∙◌, arith}, lemmas.Bool.{and_parts, Decides.{nat_tests}}, Math.Logic.{∥∥₁_map}}, specs.Prelude.{nat_lt, is_some, if◌then◌else◌}}
 use Rattle.hc_binary.specs.{Refusals.{code_of}, declared.refused.CallRefusal.{CallRefusal}}
 use Rattle.hc_binary.specs.declared.refused.CallRefusal.TheVariants as refused
@@ -13,13 +13,13 @@ use Rattle.hc_core.specs.Steps as core
 use Rattle.hc_event.specs.Acts.{act_list}
 use Rattle.hc_model.specs.{Beginnings.{may_begin}, Entries.{Contents}, Tables.{tables}}
 use Rattle.hc_piecewise.specs.{declared.schedule.Schedule.{Schedule}, Schedules.{MayGoOn, IsStepped, progress_in, entries_in, report_in, given_in, refusal_in}, Texts.{is_reading}}
-use Rattle.hc_piecewise.proofs.{Pieces.{reads_in, stopped_in}, Texts.{pieces_as_one, stepped_through, brings_by, leads_keep}}
+use Rattle.hc_piecewise.proofs.{Pieces.{reads_in, stopped_in}, Refusals.{stepped_to_refusal}, Texts.{pieces_as_one, stepped_through, brings_by, leads_keep}}
 use Rattle.hc_replay.proofs.ReportSteps.{replays_all}
 use Rattle.hc_sched.specs.{declared.schedule.Refused.{Refused}, Reading.{Progress, refusal_at}, Feeding.{progress_at_end}}
 use Rattle.hc_sched.specs.declared.schedule.Ended.TheVariants as ended
 use Rattle.hc_store.specs.declared.backend.Backend.{Ghosts}
 use Rattle.hc_handle.specs.Readings as readings
-use Rattle.hc_handle.specs.{declared.session.Session.{Session}, Readings.{MayReadOn}, Sessions.{IsSilent, has_text}, TextLaws.{AreTextsAsOne, AreReplayed}, Texts.{CacheBrings, HasEndCause, HasTextCause, IsEnded, IsIdle, IsRead, IsReadOn, IsReported, IsTaken, IsUnended, AnswersInText, entries_at, given_at, progress_at, report_at, text_refusal_at}}
+use Rattle.hc_handle.specs.{declared.session.Session.{Session}, Readings.{MayReadOn}, Sessions.{IsSilent, has_text}, TextLaws.{AreTextsAsOne, AreReplayed, AreRefusedAlike}, Texts.{CacheBrings, HasEndCause, HasTextCause, IsEnded, IsIdle, IsRead, IsReadOn, IsReported, IsTaken, IsUnended, AnswersInText, entries_at, given_at, progress_at, report_at, text_refusal_at}}
 
 -- a cache that begins with contents comes from an early moment
 pub early_of : {B : Type 0} {g : Ghosts B} (s : Cache B g) (contents : Contents) → StandsFor s contents [] → last_moment s < 2 ^ 62
@@ -160,14 +160,26 @@ texts_as_one s t u text piece report one two =
     pieces_as_one _ (entries_at s) (entries_at t) (entries_at u) (progress_at s) (progress_at t) (progress_at u) text piece report (report_at u)
     s.cache t.cache u.cache one two.reported
 
+-- what a text of a session without one brought, it brought to the cache from its beginning on
+brought : (s u : Session) (text report : List ℕ) → has_text s ≡ false → IsReported s u text report →
+    CacheBrings s.cache u.cache 0 (entries_at u) (readings.progress_of (last_moment s.cache) None) (progress_at u) text report
+brought s u text report off reported =
+    subst (λ (o : Option Schedule). CacheBrings s.cache u.cache (readings.entries_of o) (entries_at u) (readings.progress_of (last_moment s.cache) o)
+    (progress_at u) text report) (none_of s.schedule off) reported
+
 pub are_replayed : AreReplayed
 are_replayed s u text report off reported none =
     replays_all s.cache u.cache (last_moment s.cache) (Some text) (Some []) (Some []) (Some report) ended.Done
-    (stepped_through _ (λ c d. has_failed d ≡ true) (last_moment s.cache) (entries_at u) (progress_at u) text report s.cache u.cache first none)
-  where
-    first : CacheBrings s.cache u.cache 0 (entries_at u) (readings.progress_of (last_moment s.cache) None) (progress_at u) text report
-    first = subst (λ (o : Option Schedule). CacheBrings s.cache u.cache (readings.entries_of o) (entries_at u)
-        (readings.progress_of (last_moment s.cache) o) (progress_at u) text report) (none_of s.schedule off) reported
+    (stepped_through _ (λ c d. has_failed d ≡ true) (last_moment s.cache) (entries_at u) (progress_at u) text report s.cache u.cache
+    (brought s u text report off reported) none)
+
+pub are_refused_alike : AreRefusedAlike
+are_refused_alike s u text report refused off reported is =
+    let stepped = stepped_to_refusal _ (λ c d. has_failed d ≡ true) (last_moment s.cache) (entries_at u) (progress_at u) refused text report s.cache u.cache
+    (brought s u text report off reported) is in (
+      stepped.0,
+      replays_all s.cache u.cache (last_moment s.cache) (Some text) (Some stepped.0) (Some []) (Some report) (ended.Refused refused) stepped.1,
+    )
 
 -- THE END
 

@@ -1,4 +1,5 @@
-pub mod UserLemmas
+pub mod AdmissionLemmas
+pub mod UsedLemmas
 pub mod LineLemmas
 pub mod TournamentLemmas
 pub mod SeatLemmas

@@ -3,8 +3,8 @@ use Rattle.std.{proofs.{Common.{◌≡◌, ℕ, List, [], ◌∷◌, true, false
 use Rattle.hc_text.specs.Sorted.{is_sorted, with_item, without, itself, is_among}
 use Rattle.hc_text.proofs.SortedLemmas.{has-with, has-without}
 use Rattle.hc_rules.specs.Admissions.{least}
-use Rattle.hc_entry.specs.{Users.{first_of}, Lines.{stands, holder_without, Line, holder_or, turn_with}}
-use Rattle.hc_entry.proofs.UserLemmas.{least-ascending}
+use Rattle.hc_entry.specs.{Used.{first_of}, Lines.{stands, holder_without, Line, holder_or, turn_with}}
+use Rattle.hc_entry.proofs.AdmissionLemmas.{least-ascending}
 
 left-other : (c d : ℕ) (cs : List ℕ) → eqb c d ≡ false → is_among d (without itself c cs) ≡ is_among d cs
 left-other c d cs off = rw (has-without itself d c cs, off) refl

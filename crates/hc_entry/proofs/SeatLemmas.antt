@@ -8,9 +8,9 @@ use Rattle.std.{proofs.{Common.{◌≡◌, ℕ, zero, suc, ◌<◌, ◌≤◌, �
 use Rattle.hc_text.proofs.{Basics.{same_consumer}, SortedLemmas.{is_sorted-above, has-above, has-with, has-without, is_sorted-with, is_sorted-filter, without-none}}
 use Rattle.hc_text.specs.Sorted.{above, is_sorted, is_at as numbered, with_item, without, itself, is_among}
 use Rattle.hc_rules.specs.Admissions.{least}
-use Rattle.hc_entry.specs.{declared.seat.{Seated.{Seated}, Stand.{Stand}}, Users.{first_of}, Tournaments.{at, IsLeastAt}, Seats.{is_same_stand, called_at, seat_of, standing, called_from, seat_in_line, moved_to, IsSeated}, Lines.{Line, holder_without, stands, left_by}}
+use Rattle.hc_entry.specs.{declared.seat.{Seated.{Seated}, Stand.{Stand}}, Used.{first_of}, Tournaments.{at, IsLeastAt}, Seats.{is_same_stand, called_at, seat_of, standing, called_from, seat_in_line, moved_to, IsSeated}, Lines.{Line, holder_without, stands, left_by}}
 use Rattle.hc_entry.specs.declared.seat.Stand.TheVariants as stand
-use Rattle.hc_entry.proofs.{UserLemmas.{least-ascending}, LineLemmas.{stands-left, stands-with}}
+use Rattle.hc_entry.proofs.{AdmissionLemmas.{least-ascending}, LineLemmas.{stands-left, stands-with}}
 
 -- two ascending lists with the same members are equal
 member_is : (n y : ℕ) (ys : List ℕ) → is_among n (y ∷ ys) ≡ true → (y ≡ n) ⊎ (is_among n ys ≡ true)

@@ -1,4 +1,5 @@
-pub mod Users
+pub mod Used
+pub mod ActiveEntries
 pub mod Lines
 pub mod Tournaments
 pub mod Seats

@@ -1,267 +1,218 @@
-//! Who is bound to a representation.
-ghost use Rattle.std.specs.Prelude.{◌≡◌, ◌≤◌, [], Ok, true, false, is_some, IfSome, OnOk, OnErr};
-ghost use Rattle.hc_rules.specs.declared.admission.BoundKind.TheVariants as way;
-ghost use Rattle.hc_rules.specs.Admissions.{admission_of, least_of, least_bound, is_same_kind};
-ghost use Rattle.hc_entry.specs.Users.{nobody, is_bound, is_bound_as, with_user, users_with, rebound, users_without_writer, all_unshared, left_by, are_all, first_of, admission_by, kind_by};
+//! Who uses a representation, and as what.
+ghost use Rattle.std.proofs.Props.{props};
+ghost use Rattle.std.specs.Prelude.{◌≡◌, ◌+◌, ◌≤◌, ◌^◌, true, false, option_map, IfOk, IfSome, OnOk, OnErr};
+ghost use Rattle.std.specs.Option.{option_and_then};
+ghost use Rattle.hc_text.specs.Sorted.{has, itself};
+ghost use Rattle.hc_rules.specs.Admissions.{admission_of, least_bound};
+ghost use Rattle.hc_writers.specs.Group.{survivor};
+ghost use Rattle.hc_entry.specs.Used.{IsUsed};
 
+use crate::way::{
+    Way, admission_by, alone, begin, grow, is_group, is_lost, join, leave, lose, set_offset, writer,
+};
 use hc_rules::{Admission, BoundKind};
 use hc_text::{NoMemory, has_item, put_reserved, take_out};
+use hc_writers::{Left, Writers};
 use std::alloc::Global;
-use std::marker::Model;
 
-/// The consumers that are bound to one representation: its exclusive writer, members of its writer
-/// group, or readers of what is stored.
+/// Who uses a representation: readers of what is stored, the members of a writer group, or those who
+/// are left after a write was refused. It is never two of these.
 #[derive(Drop)]
 pub struct ActiveEntry {
-    r: u64,
-    gone: bool,
-    // How all of them are bound.
-    kind: BoundKind,
-    consumers: Vec<u64>,
-}
-
-impl Model for ActiveEntry {
-    ghost use Rattle.std.specs.Prelude.{vec_len, vec_capacity, map, ◌-◌};
-    ghost use Rattle.hc_entry.specs.Users.{Users, bound_as, IsOneKind};
-
-    ghost Value = { Users };
-
-    ghost view = { λ e. record {
-      r = e.r;
-      bound = map (bound_as e.kind) e.consumers.items;
-      spare = vec_capacity e.consumers - vec_len e.consumers;
-      gone = e.gone;
-    } };
-
-    ghost invariant = { λ e. IsOneKind e.kind e.consumers.items (vec_len e.consumers) };
+    bound: Vec<u64>,
+    // Who of them came alone.
+    first: Option<u64>,
+    way: Way,
+    ghost used: { IsUsed bound.items way } by { Prim.hlevel props },
 }
 
 impl ActiveEntry {
-    /// Nobody is bound to the representation `r`.
-    pub fn new(alloc: Global, r: u64) -> ActiveEntry
-        ensures { result ≡ nobody r }
+    ghost use Rattle.hc_entry.specs.ActiveEntries.{used_of};
+    ghost use Rattle.hc_entry.specs.Used.{alone_in, bindings, first_of, founded_by, group_in, grown_way, is_lost_in, kind_of, left_answer, lost_by, moved_way, nobody, resumed_by, with_first, with_user, without_user, writer_in};
+
+    /// Nobody is bound.
+    pub fn new(alloc: Global) -> ActiveEntry
+        ensures { used_of result ≡ nobody }
     {
         ActiveEntry {
-            r,
-            gone: false,
-            kind: BoundKind::Reader,
-            consumers: Vec::new(alloc),
+            bound: Vec::new(alloc),
+            first: None,
+            way: Way::Readers,
         }
     }
 
-    /// The representation.
-    pub fn representation(&self) -> u64
-        ensures { result ≡ self.now.r }
+    /// One founds the representation, and comes alone or not. An exchange may write that for several.
+    pub fn founded(
+        alloc: Global,
+        c: u64,
+        first: bool,
+        writer: Option<u64>,
+    ) -> Result<ActiveEntry, NoMemory>
+        ensures { IfOk result (λ entry. used_of entry ≡ founded_by c first writer) }
     {
-        self.r
+        let way = begin(alloc, c, writer)?;
+        let mut bound = Vec::new(alloc);
+        bound.push(c)?;
+        Ok(ActiveEntry {
+            bound,
+            first: if first { Some(c) } else { None },
+            way,
+        })
     }
 
-    /// Whether the representation is gone.
-    pub fn is_gone(&self) -> bool
-        ensures { result ≡ self.now.gone }
+    /// Who is bound, by number.
+    pub fn bound(&self) -> &[u64]
+        ensures { result.now ≡ (used_of self.now).bound }
     {
-        self.gone
+        self.bound.as_slice()
     }
 
     /// Whether the consumer is bound.
     pub fn is_bound(&self, c: u64) -> bool
-        ensures { result ≡ is_bound c self.now }
+        ensures { result ≡ has itself c (used_of self.now).bound }
     {
-        has_item(self.consumers.as_slice(), c)
+        has_item(self.bound.as_slice(), c)
     }
 
-    /// Makes room: afterwards `spare` is at least 1.
-    pub fn reserve(&mut self) -> Result<(), NoMemory>
-        ensures ok { OnOk result (1 ≤ self.new.spare) }
-        ensures same { self.new ≡ record self.old { spare = self.new.spare } }
-        ensures room { self.old.spare ≤ self.new.spare }
-        ensures err { OnErr result (self.new ≡ self.old) }
+    /// Who of them came alone.
+    pub fn first(&self) -> Option<u64>
+        ensures { result ≡ (used_of self.now).first }
     {
-        self.consumers.reserve(1)?;
-        Ok(())
+        self.first
     }
 
-    /// For how many more there surely is room.
-    pub fn spare(&self) -> usize
-        ensures { result ≡ self.now.spare }
+    /// The exchange of the writer group, the last one.
+    pub fn writer(&self) -> Option<u64>
+        ensures { result ≡ writer_in (used_of self.now).way }
     {
-        self.consumers.capacity() - self.consumers.len()
+        writer(&self.way)
     }
 
-    /// How one more consumer may be bound, where it wants a range or not, and where what it wants
-    /// has holes or not.
-    pub fn admission(&self, _c: u64, ranged: bool, holes: bool) -> Admission
-        ensures { result ≡ admission_of self.now.bound ranged holes }
+    /// Whether a write was refused.
+    pub fn is_lost(&self) -> bool
+        ensures { result ≡ is_lost_in (used_of self.now).way }
     {
-        admission_by(
-            self.kind,
-            first_of(self.consumers.as_slice()),
-            ranged,
-            holes,
-        )
+        is_lost(&self.way)
+    }
+
+    /// Who goes on after that.
+    pub fn alone(&self) -> Option<u64>
+        ensures { result ≡ alone_in (used_of self.now).way }
+    {
+        alone(&self.way)
     }
 
     /// The least consumer that is bound.
     pub fn least_bound(&self) -> Option<u64>
-        ensures { result ≡ least_bound self.now.bound }
+        ensures { result ≡ first_of (used_of self.now).bound }
     {
-        first_of(self.consumers.as_slice())
+        self.bound.first().copied()
     }
 
-    /// Whether the writer group is on.
-    pub fn is_group(&self) -> bool
-        ensures { result ≡ is_some (least_of way.Shared self.now.bound) }
+    /// As what all are bound: `on` where the exchange of the writer group is open, `writes` where who
+    /// came alone has more to come.
+    pub fn kind(&self, on: bool, writes: bool) -> BoundKind
+        ensures { result ≡ kind_of on writes (used_of self.now) }
     {
-        is_shared(self.kind) && first_of(self.consumers.as_slice()).is_some()
-    }
-
-    /// The exclusive writer.
-    pub fn exclusive(&self) -> Option<u64>
-        ensures { result ≡ least_of way.Exclusive self.now.bound }
-    {
-        if is_exclusive(self.kind) {
-            first_of(self.consumers.as_slice())
+        if on && is_group(&self.way) {
+            BoundKind::Shared
+        } else if writes && self.first.is_some() {
+            BoundKind::Exclusive
         } else {
-            None
+            BoundKind::Reader
         }
     }
 
-    /// The consumer is bound as `admission` answers; where that is `Behind`, nothing changes.
-    pub fn admit(&mut self, c: u64, ranged: bool, holes: bool) -> Admission
-        requires room { 1 ≤ self.old.spare }
-        requires unbound { is_bound c self.old ≡ false }
-        ensures admission { result ≡ admission_of self.old.bound ranged holes }
-        ensures bound { self.new ≡ users_with result c self.old }
+    /// How one more consumer may be bound where all are bound so, where it wants a range or not, and
+    /// where what it wants has holes or not.
+    pub fn admission(&self, kind: BoundKind, ranged: bool, holes: bool) -> Admission
+        ensures { result ≡ admission_of (bindings kind (used_of self.now)) ranged holes }
     {
-        let admission = self.admission(c, ranged, holes);
-        if let Some(kind) = self.kind_for(ranged, holes) {
-            self.bind(kind, c);
-        }
-        admission
+        admission_by(kind, self.least_bound(), ranged, holes)
     }
 
-    /// How one more consumer is bound, if it is admitted: as all the others are, or alone.
-    fn kind_for(&self, ranged: bool, holes: bool) -> Option<BoundKind>
-        ensures kind { result ≡ kind_by (admission_of self.now.bound ranged holes) }
-        ensures same { IfSome result (λ kind. are_all kind self.now.bound ≡ true) }
-        ensures alone { IfSome result
-            (λ kind. is_same_kind kind way.Exclusive ≡ true → self.now.bound ≡ []) }
+    /// One more is bound, as all the others are.
+    pub fn bind(&mut self, c: u64) -> Result<(), NoMemory>
+        requires { has itself c (used_of self.old).bound ≡ false }
+        ensures ok { OnOk result (used_of self.new ≡ with_user c (used_of self.old)) }
+        ensures err { OnErr result (used_of self.new ≡ used_of self.old) }
     {
-        let least = first_of(self.consumers.as_slice());
-        kind_by(admission_by(self.kind, least, ranged, holes))
+        self.bound.reserve(1)?;
+        join(&mut self.way, c)?;
+        put_reserved(&mut self.bound, c);
+        Ok(())
     }
 
-    /// The consumer is bound as all the others are, or alone.
-    fn bind(&mut self, kind: BoundKind, c: u64)
-        requires room { 1 ≤ self.old.spare }
-        requires unbound { is_bound c self.old ≡ false }
-        requires same { are_all kind self.old.bound ≡ true }
-        requires alone { is_same_kind kind way.Exclusive ≡ true → self.old.bound ≡ [] }
-        ensures { self.new ≡ with_user kind c self.old }
+    /// One more is bound, which comes alone.
+    pub fn bind_first(&mut self, c: u64) -> Result<(), NoMemory>
+        requires { has itself c (used_of self.old).bound ≡ false }
+        ensures ok { OnOk result (used_of self.new ≡ with_first c (used_of self.old)) }
+        ensures err { OnErr result (used_of self.new ≡ used_of self.old) }
     {
-        put_reserved(&mut self.consumers, c);
-        self.kind = kind;
+        self.bind(c)?;
+        self.first = Some(c);
+        Ok(())
     }
 
-    /// The consumer founds a writer group, of which it is the first member.
-    pub fn found_shared(&mut self, c: u64)
-        requires room { 1 ≤ self.old.spare }
-        requires nobody { self.old.bound ≡ [] }
-        ensures { self.new ≡ with_user way.Shared c self.old }
+    /// The exchange writes for all who are bound from now on, where so much is stored.
+    pub fn resume(&mut self, x: u64, end: u64) -> Result<(), NoMemory>
+        requires { is_lost_in (used_of self.old).way ≡ false }
+        ensures ok { OnOk result (used_of self.new ≡ resumed_by x end (used_of self.old)) }
+        ensures err { OnErr result (used_of self.new ≡ used_of self.old) }
     {
-        self.bind(BoundKind::Shared, c);
+        let alloc = *self.bound.allocator();
+        let writers = Writers::of(alloc, x, self.bound.as_slice(), end)?;
+        self.way = Way::Writers(writers);
+        Ok(())
     }
 
-    /// The exclusive writer resumes the writer group, which is shared from now on.
-    pub fn resume_shared(&mut self, c: u64)
-        requires { is_bound_as way.Exclusive c self.old ≡ true }
-        ensures { self.new ≡ rebound way.Shared c self.old }
+    /// Whoever is bound stands there, where it is a member of the writer group.
+    pub fn set_offset(&mut self, c: u64, offset: u64)
+        ensures { used_of self.new
+            ≡ record (used_of self.old) { way = moved_way c offset (used_of self.old).way } }
     {
-        self.kind = BoundKind::Shared;
+        set_offset(&mut self.way, c, offset);
     }
 
-    /// Where the consumer is the exclusive writer it reads from now on. Else nothing changes.
-    pub fn settle(&mut self, c: u64)
-        requires { is_bound c self.old ≡ true }
-        ensures { self.new ≡ users_without_writer c self.old }
+    /// So many bytes more are stored.
+    pub fn arrived(&mut self, count: u64)
+        requires { IfSome (group_in (used_of self.old).way) (λ g. g.end + count ≤ 2 ^ 62) }
+        ensures { used_of self.new
+            ≡ record (used_of self.old) { way = grown_way count (used_of self.old).way } }
     {
-        if is_exclusive(self.kind) {
-            self.kind = BoundKind::Reader;
-        }
+        grow(&mut self.way, count);
     }
 
-    /// The writer group is over: its members read from now on.
-    pub fn end_shared(&mut self)
-        ensures { self.new ≡ all_unshared self.old }
+    /// A write was refused, and this one, if any, goes on. All stay bound.
+    pub fn lose(&mut self, alone: Option<u64>)
+        ensures { used_of self.new ≡ lost_by alone (used_of self.old) }
     {
-        if is_shared(self.kind) {
-            self.kind = BoundKind::Reader;
-        }
-    }
-
-    /// The consumer isn't bound any more.
-    pub fn leave(&mut self, c: u64)
-        requires { is_bound c self.old ≡ true }
-        ensures { self.new ≡ left_by c self.old }
-    {
-        take_out(&mut self.consumers, c);
-    }
-
-    /// The representation is gone. Those who are bound stay so.
-    pub fn doom(&mut self)
-        ensures { self.new ≡ record self.old { gone = true } }
-    {
-        self.gone = true;
-    }
-}
-
-/// The first consumer.
-fn first_of(consumers: &[u64]) -> Option<u64>
-    ensures { result ≡ first_of consumers.now }
-{
-    consumers.first().copied()
-}
-
-/// How one more may be bound where all are bound in this way, of whom this is the least.
-fn admission_by(kind: BoundKind, least: Option<u64>, ranged: bool, holes: bool) -> Admission
-    ensures { result ≡ admission_by kind least ranged holes }
-{
-    let Some(d) = least else {
-        return if holes {
-            Admission::Exclusive
-        } else {
-            Admission::Reader
+        self.way = Way::Lost {
+            alone,
+            writer: writer(&self.way),
         };
-    };
-    match kind {
-        BoundKind::Shared if !ranged => Admission::Shared,
-        BoundKind::Reader if !holes => Admission::Reader,
-        _ => Admission::Behind(d),
     }
-}
 
-/// How a consumer is bound that is admitted so.
-fn kind_by(admission: Admission) -> Option<BoundKind>
-    ensures { result ≡ kind_by admission }
-{
-    match admission {
-        Admission::Shared => Some(BoundKind::Shared),
-        Admission::Reader => Some(BoundKind::Reader),
-        Admission::Exclusive => Some(BoundKind::Exclusive),
-        Admission::Behind(_) => None,
+    /// A write was refused that is for several. Who of them goes on, if anybody. All stay bound.
+    pub fn lose_shared(&mut self) -> Option<u64>
+        ensures survivor { result
+            ≡ option_and_then survivor (group_in (used_of self.old).way) }
+        ensures lost { used_of self.new ≡ lost_by result (used_of self.old) }
+    {
+        lose(&mut self.way)
     }
-}
 
-/// Whether it is the way of an exclusive writer.
-fn is_exclusive(kind: BoundKind) -> bool
-    ensures { result ≡ is_same_kind kind way.Exclusive }
-{
-    matches!(kind, BoundKind::Exclusive)
-}
-
-/// Whether it is the way of a member.
-fn is_shared(kind: BoundKind) -> bool
-    ensures { result ≡ is_same_kind kind way.Shared }
-{
-    matches!(kind, BoundKind::Shared)
+    /// One isn't bound any more. What its writer group is then.
+    pub fn leave(&mut self, c: u64, keepable: bool) -> Option<Left>
+        requires { has itself c (used_of self.old).bound ≡ true }
+        ensures left { used_of self.new ≡ without_user c (used_of self.old) }
+        ensures answer { result
+            ≡ option_map (left_answer keepable c) (group_in (used_of self.old).way) }
+    {
+        take_out(&mut self.bound, c);
+        if self.first == Some(c) {
+            self.first = None;
+        }
+        leave(&mut self.way, c, keepable)
+    }
 }

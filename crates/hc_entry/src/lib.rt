@@ -1,4 +1,4 @@
-//! What is kept by key, the line of a key, and who is bound to a representation.
+//! What is kept by key, the line of a key, and who uses a representation.
 #![tactic(auto)]
 
 mod active;
@@ -7,6 +7,7 @@ mod line;
 mod rows;
 mod seat;
 mod tournament;
+mod way;
 
 pub use active::ActiveEntry;
 pub use hc_rules::{Admission, Plan};

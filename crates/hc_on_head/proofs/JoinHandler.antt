@@ -4,14 +4,14 @@
 -- only the exchange changes (`past_answered`). Else the stored head is renewed, and `JoinRows` has the rest. Its
 -- consumer reads it alone, or shares it if it resumes a download (`stands_alone`, `stands_shared`). Where the renewal
 -- fails, it is lost to this consumer, its exclusive writer (`lost_answered`). `join` uses all.
-use Rattle.std.{proofs.{lemmas.{Bool.Decides.{nat_tests}, List.{append-nil}}, Common.{arith, ◌≡◌, ◌≢◌, inl, inr, ℕ, ◌+◌, ◌<◌, List, [], ◌∷◌, ◌++◌, Bool, true, false, Option, Some, None, refl, ap, ap₂, sym, ◌∙◌, subst}}, specs.{Prelude.{IsSomeAnd, nat_eq, not, option_map, ◌||◌, if◌then◌else◌}, HashMap.{get, hash_map_len}}}
+use Rattle.std.{proofs.{lemmas.{Bool.Decides.{nat_tests}, List.{append-nil}}, Common.{arith, ◌≡◌, ◌≢◌, inl, inr, ℕ, ◌+◌, ◌<◌, List, [], ◌∷◌, ◌++◌, Bool, true, false, Option, Some, None, refl, ap, ap₂, sym, ◌∙◌, subst}}, specs.{Prelude.{IsSomeAnd, is_some, nat_eq, not, option_map, ◌||◌, if◌then◌else◌}, HashMap.{get, hash_map_len}}}
 use mathlib.Core.Path.{fun_ext}
 use Rattle.hc_text.proofs.Basics.{eqb-other, eqb-same, false_true, same_or}
 use Rattle.hc_effects.proofs.Vocabulary.{Limits, Act, Event, Response, HeadCase, head_case, head_refusal, has_loss, head_view, case_at, is_founding, is_joining, is_number, denial, is_live_place, with_event, let_go, lost_to, as_gone, with_answer, with_consumer, with_representation, promise_in, is_reached, Loses, updated_head, entry_of, Lawful, bound, is_bound, is_bound_place, resumes, Tables, Exchange, Representation, is_kept, exclusive, written_representation, head_writes, may_validate, lossless, act, kind, need, event}
 use Rattle.hc_store.specs.declared.backend.Backend.{Ghosts}
 use Rattle.hc_record.specs.{Head.{Head, sealed_head}, declared.kind.Kind.TheVariants.{the_data as kinds}}
 use Rattle.hc_validate.specs.Updates.{updated_fields}
-use Rattle.hc_stored.specs.{Entries.{shelf_of}, Kept.{Kept, with_head, written_by}, Shelf.{same_order}}
+use Rattle.hc_stored.specs.{Entries.{shelf_of}, Kept.{Kept, with_head, written_by}, Shelf.{same_order}, Views.{is_lost_at}}
 use Rattle.hc_stored.specs.Shelf as shelf
 use Rattle.hc_exch.specs.{declared.row.Open.{Open}, Exchanges.{table_of}}
 use Rattle.hc_exch.specs.Exchanges as exch
@@ -280,6 +280,21 @@ pub kept_growing : {B : Type 0} {g : Ghosts B} (r mid brought : Rows B g) (now x
 kept_growing r mid brought now x q response accepted kept grows same =
     let h = headless_of (table_of r.exchanges x).running accepted in
     grind (arith, nat_tests)
+
+-- and what wasn't lost isn't
+pub fresh_growing : {B : Type 0} {g : Ghosts B} (r mid brought : Rows B g) (now x q : ℕ) (response : Response) → head_refusal (open_at r x) ≡ None →
+    ((e : Kept) → (shelf_of r.entries).kept q ≡ Some e → e.is_lost ≡ false) → shelf.is_kept (shelf_of r.entries) q ≡ true →
+    IsGrowing r mid x now q response → brought.entries ≡ mid.entries → is_lost_at ((shelf_of brought.entries).kept q) ≡ false
+fresh_growing r mid brought now x q response accepted fresh kept grows same = by_kept ((shelf_of r.entries).kept q) refl kept
+  where
+    by_kept : (o : Option Kept) → (shelf_of r.entries).kept q ≡ o → is_some o ≡ true → is_lost_at ((shelf_of brought.entries).kept q) ≡ false
+    by_kept None at there = false_true there
+    by_kept (Some e) at there =
+        let h = headless_of (table_of r.exchanges x).running accepted in
+        let becomes = grows.head h.o e h.there at in
+        let now_at : (shelf_of mid.entries).kept q ≡ Some (with_head (renewed_head h.o.moment now response.fields (growing e.head)) e) =
+        becomes.kept q ∙ rw (eqb-same q, at) refl in
+        ap (λ z. is_lost_at ((shelf_of z).kept q)) same ∙ (ap is_lost_at now_at ∙ fresh e at)
 
 -- WHERE IT IS LOST
 

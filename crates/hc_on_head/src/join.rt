@@ -7,6 +7,7 @@ ghost use Rattle.hc_rules.specs.Refusals.{head_refusal};
 ghost use Rattle.hc_stored.specs.Entries.{shelf_of};
 ghost use Rattle.hc_stored.specs.Kept.{Kept};
 ghost use Rattle.hc_stored.specs.Shelf.{is_kept};
+ghost use Rattle.hc_stored.specs.Views.{is_lost_at};
 ghost use Rattle.hc_exch.specs.Exchanges.{table_of};
 ghost use Rattle.hc_exch.specs.Known.{is_open, length_by};
 ghost use Rattle.hc_state.specs.Heads.{IsTimely};
@@ -119,6 +120,7 @@ fn bring<B: Backend>(rows: &mut Rows<B>, heard: Arrival, response: &Response, r:
 /// The exchange writes the representation for several from now on.
 fn share<B: Backend>(rows: &mut Rows<B>, heard: Arrival, r: u64) -> Result<(), NoMemory>
     requires there { is_kept (shelf_of rows.old.entries) r ≡ true }
+    requires fresh { is_lost_at ((shelf_of rows.old.entries).kept r) ≡ false }
     ensures shares { OnOk result (Shares rows.old rows.new heard.c heard.x r) }
     ensures faults { (shelf_of rows.new.entries).faults ≡ (shelf_of rows.old.entries).faults }
 {

@@ -3,7 +3,7 @@
 -- A writer group that is on has a group, and whoever is bound is a member of that (`group_there`). So others stay in
 -- the group exactly where others are bound (`nobody_left`, `stays_as`), and the exchange of the writing is left where
 -- none do (`last_is`). `remove_consumer` uses this; `own_known` is for `leave`.
-use Rattle.std.{proofs.Common.{◌≡◌, ℕ, List, [], ◌∷◌, Bool, true, false, Option, Some, None, refl, ap, ap₂, sym, ◌∙◌, subst}, specs.{Prelude.{nat_eq, map, IfSome, IsSomeAnd, ◌==◌, if◌then◌else◌}, List.{list_all}, Option.{option_and_then, option_or}}}
+use Rattle.std.{proofs.Common.{◌≡◌, ℕ, List, [], ◌∷◌, Bool, true, false, Option, Some, None, refl, ap, ap₂, sym, ◌∙◌, subst}, specs.{Prelude.{nat_eq, map, option_map, IfSome, IsSomeAnd, ◌==◌, if◌then◌else◌}, List.{list_all}, Option.{option_or}}}
 use Rattle.hc_text.proofs.Basics.{false_true}
 use Rattle.hc_effects.proofs.Tests.{none_some}
 use Rattle.hc_event.specs.declared.place.Place.{Place}
@@ -11,14 +11,14 @@ use Rattle.hc_event.specs.declared.place.Place.TheVariants as place
 use Rattle.hc_exch.specs.{Exchanges.{table_of}, Known.{Table}}
 use Rattle.hc_model.specs.Currents.{is_number}
 use Rattle.hc_rules.specs.declared.survivor.Member.{Member}
-use Rattle.hc_text.specs.Sorted.{has, without, itself}
+use Rattle.hc_text.specs.Sorted.{without}
+use Rattle.hc_entry.specs.Used.{left_answer}
 use Rattle.hc_store.specs.declared.backend.Backend.{Ghosts}
-use Rattle.hc_stored.specs.{declared.entries.Entries.{Entries}, Entries.{shelf_of}, Grouped.{group_of}, Groups.{HasMembers, IsGroupOf, exchange_of, left_answer}, Kept.{Kept}, Views.{bound_in, has_user}}
+use Rattle.hc_stored.specs.{declared.entries.Entries.{Entries}, Entries.{shelf_of}, Grouped.{group_of}, Groups.{HasMembers, IsGroupOf, exchange_of}, Kept.{Kept}, Views.{bound_in, has_user}}
 use Rattle.hc_state.specs.{declared.rows.Rows.{Rows}, Leaving.{IsUserAt, if_running, last_read, left_of, writer_group_of}}
 use Rattle.hc_txn.specs.declared.transaction.Transaction.{Transaction as Consumer}
-use Rattle.hc_writers.specs.{Group.{Group, consumer_of, is_member, is_nobody, left_as, without_member}, declared.writers.Left.{Left}}
+use Rattle.hc_writers.specs.{Group.{Group, consumer_of, is_nobody, left_as, without_member}, declared.writers.Left.{Left}}
 use Rattle.hc_writers.specs.declared.writers.Left.TheVariants as left
-use Rattle.hc_writers.proofs.NumberLemmas.{has_numbers}
 use Rattle.hc_on_leave.specs.Groups.{IsGroupAt, LeavesGroup, is_keepable_at, left_at, unless_others, writer_group_at}
 
 -- THE GROUP
@@ -46,34 +46,31 @@ if_none table (Some y) x is = (y, refl)
 pub group_there : (table : Table) (k : Kept) (group : Option Group) (x : ℕ) → IsGroupOf group k → writer_group_of table (Some k) ≡ Some x → HasGroup k group
 group_there table k group x is on = by_lost k.is_lost refl on
   where
-    by_group : k.is_lost ≡ false → (o : Option Group) → group ≡ o → exchange_of o ≡ k.writer → if_running table k.writer ≡ Some x → HasGroup k group
-    by_group fresh None at named runs = none_some (if_none table k.writer x runs).0 (named ∙ (if_none table k.writer x runs).1)
-    by_group fresh (Some w) at named runs = record {
+    by_group : (o : Option Group) → group ≡ o → exchange_of o ≡ k.writer → if_running table k.writer ≡ Some x → HasGroup k group
+    by_group None at named runs = none_some (if_none table k.writer x runs).0 (named ∙ (if_none table k.writer x runs).1)
+    by_group (Some w) at named runs = record {
       w = w;
       is = at;
-      members = (subst (λ (o : Option Group). IfSome o (HasMembers k.bound k.reach)) at (is.members fresh)).members;
+      members = (subst (λ (o : Option Group). IfSome o (HasMembers k.bound k.reach)) at is.members).members;
     }
 
     by_lost : (b : Bool) → k.is_lost ≡ b → (if b then None else if_running table k.writer) ≡ Some x → HasGroup k group
     by_lost true lost runs = none_some x runs
-    by_lost false fresh runs = by_group fresh group refl is.exchange runs
+    by_lost false fresh runs = by_group group refl (is.exchange fresh) runs
 
-module _ (table : Table) (c : ℕ) (keepable : Bool) (k : Kept) (group : Option Group) (user : has itself c k.bound ≡ true) (is : IsGroupOf group k) (x : ℕ)
+module _ (table : Table) (c : ℕ) (keepable : Bool) (k : Kept) (group : Option Group) (is : IsGroupOf group k) (x : ℕ)
     (on : writer_group_of table (Some k) ≡ Some x) where
   there : HasGroup k group
   there = group_there table k group x is on
 
-  member : is_member c there.w ≡ true
-  member = has_numbers c there.w.members ∙ (ap (has itself c) there.members ∙ user)
-
-  answer_is : option_and_then (left_answer keepable c) group ≡ Some (left_as keepable (without_member c there.w))
-  answer_is = ap (option_and_then (left_answer keepable c)) there.is ∙ (let mine = member in rw mine refl)
+  answer_is : option_map (left_answer keepable c) group ≡ Some (left_as keepable (without_member c there.w))
+  answer_is = ap (option_map (left_answer keepable c)) there.is
 
   alone_is : is_nobody (without consumer_of c there.w.members) ≡ list_all (λ d. d == c) k.bound
   alone_is = nobody_left c there.w.members ∙ ap (list_all (λ d. d == c)) there.members
 
   -- whether others stay
-  pub stays_as : (y : Option ℕ) → unless_others (option_and_then (left_answer keepable c) group) y ≡ (if list_all (λ d. d == c) k.bound then y else None)
+  pub stays_as : (y : Option ℕ) → unless_others (option_map (left_answer keepable c) group) y ≡ (if list_all (λ d. d == c) k.bound then y else None)
   stays_as y = ap (λ o. unless_others o y) answer_is ∙
       (by_test (is_nobody (without consumer_of c there.w.members)) keepable ∙ ap (λ (b : Bool). if b then y else None) alone_is)
     where
@@ -87,11 +84,11 @@ module _ (table : Table) (c : ℕ) (keepable : Bool) (k : Kept) (group : Option 
 module _ {B : Type 0} {g : Ghosts B} (table : Table) (e : Entries B g) (c : ℕ) where
   last_of : (q : ℕ) (o : Option Kept) → has_user c o ≡ true → IfSome o (IsGroupOf (group_of e q)) → (y : Option ℕ) → writer_group_of table o ≡ y
       → (if list_all (λ d. d == c) (bound_in o) then writer_group_of table o else None) ≡ unless_others
-      (option_and_then (left_answer (is_keepable_at o) c) (group_of e q)) (writer_group_of table o)
+      (option_map (left_answer (is_keepable_at o) c) (group_of e q)) (writer_group_of table o)
   last_of q None mine group y on = false_true mine
-  last_of q (Some k) mine group (Some x) on = sym (stays_as table c (is_keepable_at (Some k)) k (group_of e q) mine group x on (writer_group_of table (Some k)))
+  last_of q (Some k) mine group (Some x) on = sym (stays_as table c (is_keepable_at (Some k)) k (group_of e q) group x on (writer_group_of table (Some k)))
   last_of q (Some k) mine group None on =
-      let answer : Option Left = option_and_then (left_answer (is_keepable_at (Some k)) c) (group_of e q) in
+      let answer : Option Left = option_map (left_answer (is_keepable_at (Some k)) c) (group_of e q) in
       ap (λ (z : Option ℕ). if list_all (λ d. d == c) k.bound then z else None) on ∙
       (by_test (list_all (λ d. d == c) k.bound) answer ∙ ap (unless_others answer) (sym on))
     where

@@ -293,7 +293,7 @@ loses_shared {B} {g} {limits} r u reported lost consumers t now q x v o may stan
         by_group : (e : Kept) → (shelf_of r.entries).kept q ≡ Some e → IsEntry t q e v → IsGroupOf (group_of reported q) e → (w : Option Group) →
             group_of r.entries q ≡ w → o ≡ survivor t q v
         by_group e at entry of_group w was =
-            let mine : exchange_of (group_of reported q) ≡ Some x = of_group.exchange ∙
+            let mine : exchange_of (group_of reported q) ≡ Some x = of_group.exchange (entry.is_lost ∙ may.kept) ∙
             writer_kept t x may.w e.writer v.writer entry.writer may.writes may.row may.opened in
             by_reported w (group ∙ ap₂ (λ (k : Option Kept) (n : Option Group). option_map (reported_among r.consumers (bound_in k)) n) at was) mine
           where
@@ -302,6 +302,6 @@ loses_shared {B} {g} {limits} r u reported lost consumers t now q x v o may stan
             by_reported None reported_as has_one = none_some x (sym (ap exchange_of reported_as) ∙ has_one)
             by_reported (Some n) reported_as has_one =
                 let members_are : HasMembers e.bound e.reach (reported_among r.consumers e.bound n) =
-                subst (λ (h : Option Group). IfSome h (HasMembers e.bound e.reach)) reported_as (of_group.members (entry.is_lost ∙ may.kept)) in
+                subst (λ (h : Option Group). IfSome h (HasMembers e.bound e.reach)) reported_as of_group.members in
                 answer ∙ (ap (option_and_then writer_group.survivor) reported_as ∙
                 survivor_is r t stands may.may q v may.there may.kept e at n members_are of_group.within)

@@ -9,7 +9,8 @@ use Rattle.hc_effects.proofs.Tests.{none_some}
 use Rattle.hc_rules.specs.declared.survivor.Member.{Member}
 use Rattle.hc_text.specs.Sorted.{has, with_replacement, itself}
 use Rattle.hc_store.specs.declared.backend.Backend.{Ghosts}
-use Rattle.hc_stored.specs.{declared.entries.Entries.{Entries}, Entries.{shelf_of}, Grouped.{group_of}, Groups.{moved_if_member}, Shelf.{Stays}, Views.{bound_in}}
+use Rattle.hc_entry.specs.Used.{moved_if_member}
+use Rattle.hc_stored.specs.{declared.entries.Entries.{Entries}, Entries.{shelf_of}, Grouped.{group_of}, Shelf.{Stays}, Views.{bound_in}}
 use Rattle.hc_state.specs.Changes.{Numbered}
 use Rattle.hc_txn.specs.declared.transaction.Transaction.{Transaction}
 use Rattle.hc_writers.specs.Group.{Group, consumer_of, is_member, moved_to, standing_at}

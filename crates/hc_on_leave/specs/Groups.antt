@@ -1,6 +1,5 @@
 -- What a writer group is once a consumer has left, and what nobody reads any more then.
-use Rattle.std.specs.Prelude.{◌≡◌, ℕ, Bool, false, Option, Some, None, IfSome}
-use Rattle.std.specs.Option.{option_and_then}
+use Rattle.std.specs.Prelude.{◌≡◌, ℕ, Bool, false, Option, Some, None, option_map, IfSome}
 use Rattle.hc_event.specs.declared.place.Place.{Place}
 use Rattle.hc_event.specs.declared.place.Place.TheVariants as place
 use Rattle.hc_exch.specs.Known.{Table}
@@ -8,7 +7,8 @@ use Rattle.hc_store.specs.declared.backend.Backend.{Ghosts}
 use Rattle.hc_stored.specs.declared.entries.Entries.{Entries}
 use Rattle.hc_stored.specs.Entries.{shelf_of}
 use Rattle.hc_stored.specs.Grouped.{group_of}
-use Rattle.hc_stored.specs.Groups.{IsGroupOf, left_answer}
+use Rattle.hc_entry.specs.Used.{left_answer}
+use Rattle.hc_stored.specs.Groups.{IsGroupOf}
 use Rattle.hc_stored.specs.Kept.{Kept}
 use Rattle.hc_stored.specs.Shelf.{Shelf}
 use Rattle.hc_stored.specs.Views.{view_of}
@@ -30,7 +30,7 @@ is_keepable_at (Some k) = may_complete (view_of k)
 
 abbrev pub left_at : {B : Type 0} {g : Ghosts B} → Place → ℕ → Entries B g → Option Left
 left_at (place.Bound r lo hi by) c e =
-    option_and_then (left_answer (is_keepable_at ((shelf_of e).kept r)) c) (group_of e r)
+    option_map (left_answer (is_keepable_at ((shelf_of e).kept r)) c) (group_of e r)
 left_at _ c e = None
 
 -- this, unless others read along still

@@ -8,7 +8,8 @@ use Rattle.std.{proofs.{Common.{◌≡◌, ◌≢◌, inl, inr, ℕ, List, [], �
 use Rattle.hc_text.proofs.{Basics.{eqb-other, eqb-same, false_true, same_or}, SortedLemmas.{has-without}}
 use Rattle.hc_text.specs.Sorted.{has, without, itself, is_among}
 use Rattle.hc_stored.specs.Kept as entry
-use Rattle.hc_stored.specs.{Kept.{Kept, is_nobody, unless_it, without_user}, Shelf.{Shelf, same_order}, Views.{bound_in}}
+use Rattle.hc_entry.specs.Used.{unless_it}
+use Rattle.hc_stored.specs.{Kept.{Kept, is_nobody, without_user}, Shelf.{Shelf, same_order}, Views.{bound_in}}
 use Rattle.hc_stored.specs.Shelf as shelf
 use Rattle.hc_effects.proofs.Vocabulary.{Place, BoundBy, is_number, with_consumer, kind_of, bound, is_bound, is_bound_place, Tables, Representation, Among, came_alone, place}
 use Rattle.hc_model.specs.Rows as rows

@@ -6,7 +6,7 @@
 -- row that isn't over has somebody or isn't gone (`kept-left`), and one that is over was gone (`gone-left`).
 use Rattle.std.{proofs.{Common.{◌≡◌, ℕ, List, ◌∷◌, true, false, not, eqb, Option, Some, None, refl, sym, ap, ◌∙◌, inl, inr, arith}, lemmas.Bool.{cases_Bool, and_parts, eqb-true, Decides.{nat_tests}}}, specs.Prelude.{is_some, is_none, option_map, ◌&&◌}}
 use Rattle.hc_text.proofs.{Basics.{not_true}, SortedLemmas.{has-without}}
-use Rattle.hc_text.specs.Sorted.{is_sorted, has, without, itself}
+use Rattle.hc_text.specs.Sorted.{has, without, itself}
 use Rattle.hc_store.specs.Slots.{Held, Slots}
 use Rattle.hc_stored.specs.{Kept.{Kept, is_nobody}, Rows.{Row, Rows, with_row, Changes, kept_of, kept_by, slot_at, users_at, unused_by, going, is_current, is_over}, Shelved.{IsShelved, AreShelved}, Views.{admits, admits_first, has_user}}
 
@@ -102,13 +102,6 @@ admits-from_first slots c o first = admits-too c (kept_by slots o) first
 pub user-slot : (slots : Slots) (c : ℕ) (o : Option Row) → has_user c (kept_by slots o) ≡ true → (n : ℕ) × (slot_at o ≡ Some n)
 user-slot slots c None has = absurd (let never : false ≡ true = has in cc)
 user-slot slots c (Some row) has = (row.slot, refl)
-
-users-rise : (slots : Slots) (o : Option Row) → ((row : Row) → o ≡ Some row → IsShelved (slots row.slot) row) → is_sorted itself (users_at o) ≡ true
-users-rise slots None each = refl
-users-rise slots (Some row) each = (each row refl).ascending
-
-pub ascending-users : {rows : Rows} {order : List ℕ} {slots : Slots} → AreShelved rows order slots → (r : ℕ) → is_sorted itself (users_at (rows r)) ≡ true
-ascending-users {rows} {order} {slots} good r = users-rise slots (rows r) (good.each r)
 
 pub absent-user : (c : ℕ) (o : Option Row) (a : Row) → o ≡ Some a → has itself c (users_at o) ≡ false → has itself c a.bound ≡ false
 absent-user c None a is absent = cc

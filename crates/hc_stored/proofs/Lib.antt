@@ -1,4 +1,4 @@
-pub mod GroupLemmas
+pub mod UserRows
 pub mod GroupTies
 pub mod OrderLemmas
 pub mod ElementLemmas

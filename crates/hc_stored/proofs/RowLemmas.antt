@@ -10,8 +10,9 @@ use Rattle.hc_text.specs.Sorted.{has, with_item, without, itself}
 use Rattle.hc_record.specs.{declared.kind.Kind.{Kind}, Head.{Head, sealed_head}}
 use Rattle.hc_fresh.specs.{Ages.{corrected_initial_age}, Facts.{head_facts}, Lifetimes.{lifetime, lifetime_by}}
 use Rattle.hc_cachectl.specs.Directives.{of_response}
+use Rattle.hc_entry.specs.Used.{unless_it}
 use Rattle.hc_store.specs.{Heads.{with_kind}, Slots.{Held, bare, rewrites, puts, seals}}
-use Rattle.hc_stored.specs.{Begun.{begun_row}, Heads.{Summary, summary_of}, Kept.{unless_it, is_nobody}, Rows.{Row, with_summary, with_last, reaching, sealed_as, used_by, used_first_by, unused_by, going, losing, written_in, founded_row}, Shelved.{is_among, IsShelved}}
+use Rattle.hc_stored.specs.{Begun.{begun_row}, Heads.{Summary, summary_of}, Kept.{is_nobody}, Rows.{Row, with_summary, with_last, reaching, sealed_as, used_by, used_first_by, unused_by, going, losing, written_in, founded_row}, Shelved.{is_among, IsShelved}}
 
 summary-is : (b : Held) (summary : Summary) → option_map (λ (h : Held). summary_of h.head) (Some b) ≡ Some summary → summary_of b.head ≡ summary
 summary-is b summary is = let e = is in cc

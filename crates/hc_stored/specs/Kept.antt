@@ -1,10 +1,11 @@
 -- What is kept of a representation, and how it changes.
-use Rattle.std.specs.Prelude.{ℕ, ◌+◌, ◌==◌, ◌&&◌, max, length, List, [], ◌∷◌, Bool, true, false, Option, Some, None, if◌then◌else◌}
+use Rattle.std.specs.Prelude.{ℕ, ◌+◌, ◌&&◌, max, length, List, [], ◌∷◌, Bool, true, false, Option, Some, None, if◌then◌else◌}
 use Rattle.hc_text.specs.Sorted.{with_item, without, itself}
 use Rattle.hc_sparse.specs.Cells.{Cells, nothing, cells_with}
 use Rattle.hc_record.specs.declared.kind.Kind.{Kind}
 use Rattle.hc_record.specs.Head.{Head, sealed_head}
 use Rattle.hc_store.specs.Heads.{with_kind}
+use Rattle.hc_entry.specs.Used.{unless_it}
 
 pub record Kept : Type 0 where
   pub key : List ℕ
@@ -64,10 +65,6 @@ with_user c k = record k { bound = with_item itself c k.bound }
 -- one that comes alone
 abbrev pub with_first : ℕ → Kept → Kept
 with_first c k = record k { bound = with_item itself c k.bound; first = Some c }
-
-abbrev pub unless_it : ℕ → Option ℕ → Option ℕ
-unless_it c None = None
-unless_it c (Some d) = if d == c then None else Some d
 
 abbrev pub without_user : ℕ → Kept → Kept
 without_user c k = record k { bound = without itself c k.bound; first = unless_it c k.first }

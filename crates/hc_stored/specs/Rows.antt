@@ -9,9 +9,10 @@ use Rattle.hc_record.specs.Head.{opaque_of}
 use Rattle.hc_store.specs.Slots.{Held, Slots}
 use Rattle.hc_stored.specs.declared.summary.HeadSummary.{HeadSummary}
 use Rattle.hc_stored.specs.declared.entry.Entry.{Entry}
-use Rattle.hc_stored.specs.Groups.{exchange_of}
+use Rattle.hc_entry.specs.ActiveEntries.{used_of}
+use Rattle.hc_entry.specs.Used.{Used, alone_in, is_lost_in, unless_it, writer_in}
 use Rattle.hc_stored.specs.Heads.{Summary}
-use Rattle.hc_stored.specs.Kept.{Kept, alone_if, unless_it, is_nobody}
+use Rattle.hc_stored.specs.Kept.{Kept, alone_if, is_nobody}
 
 pub record Row : Type 0 where
   pub key : List ℕ
@@ -37,19 +38,22 @@ summary_in summary = record {
   refuses_ranges = summary.refuses_ranges;
 }
 
-abbrev pub row_of : Entry → Row
-row_of e = record {
-  key = e.key;
-  slot = e.slot.n;
-  summary = summary_in e.summary;
-  reach = e.reach;
-  bound = e.bound.items;
-  first = e.first;
-  writer = exchange_of e.writers;
-  is_lost = e.lost;
-  alone = e.alone;
-  is_gone = e.gone;
+abbrev pub row_by : List ℕ → ℕ → Summary → ℕ → Used → Bool → Row
+row_by key slot summary reach users gone = record {
+  key = key;
+  slot = slot;
+  summary = summary;
+  reach = reach;
+  bound = users.bound;
+  first = users.first;
+  writer = writer_in users.way;
+  is_lost = is_lost_in users.way;
+  alone = alone_in users.way;
+  is_gone = gone;
 }
+
+abbrev pub row_of : Entry → Row
+row_of e = row_by e.key e.slot.n (summary_in e.summary) e.reach (used_of e.users) e.gone
 
 abbrev pub EntryMap : Type 0
 EntryMap = HashMap ℕ Entry (BuildHasherDefault FoldHasher)
@@ -149,6 +153,10 @@ slot_at row = option_map (λ (a : Row). a.slot) row
 abbrev pub users_at : Option Row → List ℕ
 users_at None = []
 users_at (Some row) = row.bound
+
+abbrev pub is_lost_row : Option Row → Bool
+is_lost_row None = false
+is_lost_row (Some row) = row.is_lost
 
 -- it is gone, and nobody is bound to it
 abbrev pub is_over : Option Row → Bool

@@ -40,6 +40,11 @@ abbrev pub bound_in : Option Kept → List ℕ
 bound_in None = []
 bound_in (Some k) = k.bound
 
+-- a write of it was refused
+abbrev pub is_lost_at : Option Kept → Bool
+is_lost_at None = false
+is_lost_at (Some k) = k.is_lost
+
 -- it isn't gone, and the consumer isn't bound to it
 abbrev pub admits : ℕ → Option Kept → Bool
 admits c None = false

@@ -3,7 +3,6 @@
 
 mod entries;
 mod entry;
-mod group;
 mod one;
 mod order;
 mod ranges;

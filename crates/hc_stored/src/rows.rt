@@ -1,11 +1,11 @@
 //! Entries by the numbers of their representations: one changes, and the others stay.
 ghost use Rattle.std.specs.Prelude.{◌≡◌, ◌≤◌, ◌^◌, ℕ, ◌∷◌, Some, None, is_some, option_map, true, false, OnOk, OnErr};
-ghost use Rattle.hc_text.specs.Sorted.{is_sorted, has, itself};
+ghost use Rattle.hc_text.specs.Sorted.{has, itself};
 ghost use Rattle.std.specs.Option.{option_and_then};
 ghost use Rattle.hc_writers.specs.Group.{survivor};
-ghost use Rattle.hc_stored.specs.Groups.{left_answer, moved_if_member};
+ghost use Rattle.hc_entry.specs.Used.{left_answer, moved_if_member};
 ghost use Rattle.hc_stored.specs.Grouped.{group_at};
-ghost use Rattle.hc_stored.specs.Rows.{row_of, rows_of, summary_in, with_row, Changes, with_summary, reaching, sealed_as, used_by, used_first_by, unused_by, going, losing, written_in, slot_at, users_at, is_over, is_unused_row};
+ghost use Rattle.hc_stored.specs.Rows.{row_of, rows_of, summary_in, with_row, Changes, with_summary, reaching, sealed_as, used_by, used_first_by, unused_by, going, losing, written_in, slot_at, users_at, is_lost_row, is_over, is_unused_row};
 
 use crate::entry::Entry;
 use crate::order::Order;
@@ -29,7 +29,7 @@ pub(crate) fn is_over(rows: &HashMap<u64, Entry>, r: u64) -> bool
     ensures { result ≡ is_over (rows_of rows.now r) }
 {
     match rows.get(&r) {
-        Some(entry) => entry.gone && entry.bound.is_empty(),
+        Some(entry) => entry.gone && entry.users.bound().is_empty(),
         None => false,
     }
 }
@@ -39,7 +39,7 @@ pub(crate) fn is_unused(rows: &HashMap<u64, Entry>, r: u64) -> bool
     ensures { result ≡ is_unused_row (rows_of rows.now r) }
 {
     match rows.get(&r) {
-        Some(entry) => entry.bound.is_empty(),
+        Some(entry) => entry.users.bound().is_empty(),
         None => false,
     }
 }
@@ -107,8 +107,7 @@ pub(crate) fn seal_in(rows: &mut HashMap<u64, Entry>, r: u64, kind: Kind, total:
 
 /// One more is bound to it.
 pub(crate) fn bind_in(rows: &mut HashMap<u64, Entry>, r: u64, c: u64) -> Result<(), NoMemory>
-    requires ascending { is_sorted itself (users_at (rows_of rows.old r)) ≡ true }
-    requires absent { has itself c (users_at (rows_of rows.old r)) ≡ false }
+    requires { has itself c (users_at (rows_of rows.old r)) ≡ false }
     ensures ok { OnOk result (Changes (used_by c) r (rows_of rows.old) (rows_of rows.new)) }
     ensures err { OnErr result ((q : ℕ) → rows_of rows.new q ≡ rows_of rows.old q) }
 {
@@ -120,14 +119,12 @@ pub(crate) fn bind_in(rows: &mut HashMap<u64, Entry>, r: u64, c: u64) -> Result<
 
 /// One more is bound to it, which comes alone.
 pub(crate) fn bind_first_in(rows: &mut HashMap<u64, Entry>, r: u64, c: u64) -> Result<(), NoMemory>
-    requires ascending { is_sorted itself (users_at (rows_of rows.old r)) ≡ true }
-    requires absent { has itself c (users_at (rows_of rows.old r)) ≡ false }
+    requires { has itself c (users_at (rows_of rows.old r)) ≡ false }
     ensures ok { OnOk result (Changes (used_first_by c) r (rows_of rows.old) (rows_of rows.new)) }
     ensures err { OnErr result ((q : ℕ) → rows_of rows.new q ≡ rows_of rows.old q) }
 {
     if let Some(entry) = rows.get_mut(&r) {
-        entry.bind(c)?;
-        entry.first = Some(c);
+        entry.bind_first(c)?;
     }
     Ok(())
 }
@@ -139,9 +136,9 @@ pub(crate) fn unbind_in(
     c: u64,
     keepable: bool,
 ) -> Option<Left>
-    requires { is_sorted itself (users_at (rows_of rows.old r)) ≡ true }
+    requires { has itself c (users_at (rows_of rows.old r)) ≡ true }
     ensures rows { Changes (unused_by c) r (rows_of rows.old) (rows_of rows.new) }
-    ensures left { result ≡ option_and_then (left_answer keepable c) (group_at rows.old r) }
+    ensures left { result ≡ option_map (left_answer keepable c) (group_at rows.old r) }
 {
     match rows.get_mut(&r) {
         Some(entry) => entry.unbind(c, keepable),
@@ -163,14 +160,13 @@ pub(crate) fn lose_in(rows: &mut HashMap<u64, Entry>, r: u64, alone: Option<u64>
     ensures { Changes (losing alone) r (rows_of rows.old) (rows_of rows.new) }
 {
     if let Some(entry) = rows.get_mut(&r) {
-        entry.lost = true;
-        entry.alone = alone;
+        entry.lose(alone);
     }
 }
 
 /// This exchange writes it for all who are bound to it.
 pub(crate) fn write_in(rows: &mut HashMap<u64, Entry>, r: u64, x: u64) -> Result<(), NoMemory>
-    requires { is_sorted itself (users_at (rows_of rows.old r)) ≡ true }
+    requires { is_lost_row (rows_of rows.old r) ≡ false }
     ensures ok { OnOk result (Changes (written_in x) r (rows_of rows.old) (rows_of rows.new)) }
     ensures err { OnErr result ((q : ℕ) → rows_of rows.new q ≡ rows_of rows.old q) }
 {

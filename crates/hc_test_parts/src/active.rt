@@ -1,33 +1,34 @@
-//! Calls of who is bound to a representation.
+//! Calls of who uses a representation.
 use hc_entry::{ActiveEntry, Admission};
+use hc_rules::BoundKind;
 use hc_test_frame::{Fault, Vector, note};
 use std::alloc::Global;
 
-/// A representation, and who is bound to it.
+/// Who uses a representation.
 #[derive(Drop)]
 pub(crate) struct Binding {
     entry: ActiveEntry,
+    // The exchange of its writer group is open.
+    on: bool,
+    // Who came alone has more to come.
+    writes: bool,
 }
 
 impl Binding {
     /// Nobody is bound.
     pub(crate) fn new(alloc: Global) -> Binding {
         Binding {
-            entry: ActiveEntry::new(alloc, 1),
+            entry: ActiveEntry::new(alloc),
+            on: false,
+            writes: false,
         }
     }
 
     /// Makes the call. One that may change something writes then who is bound with the least number,
     /// whether a writer group is on, and who writes alone.
     pub(crate) fn note(&mut self, v: &Vector, to: &mut String) -> Result<(), Fault> {
-        let entry = &self.entry;
         match v.call() {
-            "active_admission nww" => {
-                let admission = entry.admission(v.number(0), is_ranged(v), has_holes(v));
-                note(&admission, to)
-            }
-            "active_is_gone" => note(&entry.is_gone(), to),
-            "active_representation" => note(&entry.representation(), to),
+            "active_admission nww" => note(&self.admission(v), to),
             _ => {
                 self.change(v, to)?;
                 self.look(to)
@@ -37,25 +38,41 @@ impl Binding {
 
     fn change(&mut self, v: &Vector, to: &mut String) -> Result<(), Fault> {
         match v.call() {
-            "active_new n" => self.entry = ActiveEntry::new(v.alloc(), v.number(0)),
-            "active_founded nn" => self.entry = founded(v.alloc(), v.number(0), v.number(1))?,
-            "active_resumed nn" => self.entry = resumed(v.alloc(), v.number(0), v.number(1))?,
-            "active_end_shared" => self.entry.end_shared(),
-            "active_doom" => self.entry.doom(),
+            "active_new" => *self = Binding::new(v.alloc()),
+            "active_founded n" => *self = founded(v.alloc(), v.number(0))?,
+            "active_resumed n" => *self = resumed(v.alloc(), v.number(0))?,
+            "active_end_shared" => self.on = false,
             "active_admit nww" => return self.admit(v, to),
             _ => return self.settle_or_leave(v),
         }
         Ok(())
     }
 
+    /// How one more may be bound.
+    fn admission(&self, v: &Vector) -> Admission {
+        self.entry
+            .admission(self.kind(), is_ranged(v), has_holes(v))
+    }
+
+    fn kind(&self) -> BoundKind {
+        self.entry.kind(self.on, self.writes)
+    }
+
     /// Binds one more, and writes how.
     fn admit(&mut self, v: &Vector, to: &mut String) -> Result<(), Fault> {
         let c = v.number(0);
-        self.entry.reserve()?;
-        if self.entry.spare() == 0 || self.entry.is_bound(c) {
+        if self.entry.is_bound(c) {
             return Err(Fault::NoSuchCall);
         }
-        let admission = self.entry.admit(c, is_ranged(v), has_holes(v));
+        let admission = self.admission(v);
+        match admission {
+            Admission::Shared | Admission::Reader => self.entry.bind(c)?,
+            Admission::Exclusive => {
+                self.entry.bind_first(c)?;
+                self.writes = true;
+            }
+            Admission::Behind(_) => {}
+        }
         write!(to, "{admission:?}: ")?;
         Ok(())
     }
@@ -67,8 +84,10 @@ impl Binding {
             return Err(Fault::NoSuchCall);
         }
         match v.call() {
-            "active_settle n" => self.entry.settle(c),
-            "active_leave n" => self.entry.leave(c),
+            "active_settle n" => self.writes = false,
+            "active_leave n" => {
+                self.entry.leave(c, false);
+            }
             _ => return Err(Fault::NoSuchCall),
         }
         Ok(())
@@ -76,8 +95,11 @@ impl Binding {
 
     fn look(&self, to: &mut String) -> Result<(), Fault> {
         let least = self.entry.least_bound();
-        let writer_group = self.entry.is_group();
-        let alone = self.entry.exclusive();
+        let writer_group = matches!(self.kind(), BoundKind::Shared) && least.is_some();
+        let alone = match self.kind() {
+            BoundKind::Exclusive => self.entry.first(),
+            _ => None,
+        };
         write!(
             to,
             "least {least:?}, writing {writer_group}, alone {alone:?}"
@@ -94,20 +116,22 @@ fn has_holes(v: &Vector) -> bool {
     v.word(2) == "holes"
 }
 
-/// One that a consumer founded, whose writing is shared.
-fn founded(alloc: Global, r: u64, c: u64) -> Result<ActiveEntry, Fault> {
-    let mut entry = ActiveEntry::new(alloc, r);
-    entry.reserve()?;
-    entry.found_shared(c);
-    Ok(entry)
+/// One that a consumer founded, which an exchange writes for several.
+fn founded(alloc: Global, c: u64) -> Result<Binding, Fault> {
+    Ok(Binding {
+        entry: ActiveEntry::founded(alloc, c, false, Some(1))?,
+        on: true,
+        writes: false,
+    })
 }
 
-/// One that a consumer wrote alone, and whose writing is shared now.
-fn resumed(alloc: Global, r: u64, c: u64) -> Result<ActiveEntry, Fault> {
-    let mut entry = ActiveEntry::new(alloc, r);
-    entry.reserve()?;
-    if entry.admit(c, true, true) == Admission::Exclusive {
-        entry.resume_shared(c);
-    }
-    Ok(entry)
+/// One to which a consumer came alone, and which its exchange writes for several now.
+fn resumed(alloc: Global, c: u64) -> Result<Binding, Fault> {
+    let mut entry = ActiveEntry::founded(alloc, c, true, None)?;
+    entry.resume(1, 0)?;
+    Ok(Binding {
+        entry,
+        on: true,
+        writes: false,
+    })
 }

@@ -202,7 +202,10 @@ fn lose<B: Backend>(entries: &mut Entries<B>, r: u64, v: &Vector) -> Result<(), 
     match v.call() {
         "entries_forget n" => entries.forget(r),
         "entries_lose nn" => entries.lose(r, v.option(1)),
-        "entries_set_writer nn" => entries.set_writer(r, v.number(1))?,
+        "entries_set_writer nn" => match entries.entry(r) {
+            Some(entry) if !entry.is_lost => entries.set_writer(r, v.number(1))?,
+            _ => return Err(Fault::NoSuchCall),
+        },
         _ => return Err(Fault::NoSuchCall),
     }
     Ok(())

@@ -1,8 +1,8 @@
 //! Who is bound to representations, and what becomes of them.
-ghost use Rattle.std.specs.Prelude.{◌≡◌, ℕ, true, option_map, IfSome, OnOk, OnErr};
+ghost use Rattle.std.specs.Prelude.{◌≡◌, ℕ, true, false, option_map, IfSome, OnOk, OnErr};
 ghost use Rattle.std.specs.Option.{option_and_then};
 ghost use Rattle.hc_stored.specs.Kept.{with_user, with_first, left_by, kept_as_gone, kept_as_lost, written_by};
-ghost use Rattle.hc_stored.specs.Views.{admits, admits_first, has_user};
+ghost use Rattle.hc_stored.specs.Views.{admits, admits_first, has_user, is_lost_at};
 
 use super::Entries;
 use crate::rows::{
@@ -16,7 +16,8 @@ use hc_writers::Left;
 impl<B: Backend> Entries<B> {
     ghost use Rattle.hc_stored.specs.Entries.{shelf_of};
     ghost use Rattle.hc_stored.specs.Grouped.{group_of};
-    ghost use Rattle.hc_stored.specs.Groups.{left_answer, moved_if_member, IsGroupOf};
+    ghost use Rattle.hc_entry.specs.Used.{left_answer, moved_if_member};
+    ghost use Rattle.hc_stored.specs.Groups.{IsGroupOf};
     ghost use Rattle.hc_writers.specs.Group.{survivor};
     ghost use Rattle.hc_stored.specs.Shelf.{is_kept, same_order, moved_first, taken_out, Becomes, Stays};
 
@@ -52,7 +53,7 @@ impl<B: Backend> Entries<B> {
     pub fn unbind(&mut self, r: u64, c: u64, keepable: bool) -> Option<Left>
         requires { has_user c ((shelf_of self.old).kept r) ≡ true }
         ensures left { result
-            ≡ option_and_then (left_answer keepable c) (group_of self.old r) }
+            ≡ option_map (left_answer keepable c) (group_of self.old r) }
         ensures group { IfSome ((shelf_of self.old).kept r) (IsGroupOf (group_of self.old r)) }
         ensures changed { Becomes (option_and_then (left_by c)) same_order r
             (shelf_of self.old) (shelf_of self.new) }
@@ -114,9 +115,10 @@ impl<B: Backend> Entries<B> {
         lose_shared_in(&mut self.rows, r)
     }
 
-    /// This exchange writes the representation for all.
+    /// This exchange writes the representation for all, of which no write was refused.
     pub fn set_writer(&mut self, r: u64, x: u64) -> Result<(), NoMemory>
-        requires { is_kept (shelf_of self.old) r ≡ true }
+        requires there { is_kept (shelf_of self.old) r ≡ true }
+        requires fresh { is_lost_at ((shelf_of self.old).kept r) ≡ false }
         ensures ok { OnOk result (Becomes (option_map (written_by x)) same_order r
             (shelf_of self.old) (shelf_of self.new)) }
         ensures err { OnErr result (Stays (shelf_of self.old) (shelf_of self.new)) }

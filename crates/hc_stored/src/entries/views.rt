@@ -53,7 +53,7 @@ impl<B: Backend> Entries<B> {
         ensures { result.now ≡ bound_in ((shelf_of self.now).kept r) }
     {
         match self.rows.get(&r) {
-            Some(entry) => entry.bound.as_slice(),
+            Some(entry) => entry.users.bound(),
             None => &[],
         }
     }

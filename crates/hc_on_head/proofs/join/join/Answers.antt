@@ -3,7 +3,7 @@ use Rattle.hc_effects.proofs.Vocabulary.{act_list}
 use Rattle.hc_stored.specs.Entries.{shelf_of}
 use Rattle.hc_exch.specs.Exchanges.{table_of}
 use Rattle.hc_effects.proofs.LettingGo.{may_let_go}
-use Rattle.hc_on_head.proofs.{JoinHandler.{join_of, gone_joined, past_answered, stands_alone, stands_shared, joins_answered, holds_alone, kept_growing, brings_lost, lost_answered}, JoinReported.{joins_of}, TurnHandler.{stands_unrenewed}}
+use Rattle.hc_on_head.proofs.{JoinHandler.{join_of, gone_joined, past_answered, stands_alone, stands_shared, joins_answered, holds_alone, kept_growing, fresh_growing, brings_lost, lost_answered}, JoinReported.{joins_of}, TurnHandler.{stands_unrenewed}}
 use Rattle.hc_on_head.proofs.join.join.Goals as goal
 
 pub returns-then-is_lost-clause-answers : goal.returns-then-is_lost-clause-answers
@@ -25,6 +25,9 @@ pub share-requires : goal.share-requires
 share-requires g c = record {
   there = kept_growing c.args.rows.now c.renew_growing.new.rows c.bring-in-Ok.new.rows c.args.heard.now c.args.heard.x c.args.r c.args.response.now
       c.requires.comes.accepted c.requires.about.there c.in-Ok.ensures.ok c.bring-in-Ok.ensures.entries;
+  fresh = fresh_growing c.args.rows.now c.renew_growing.new.rows c.bring-in-Ok.new.rows c.args.heard.now c.args.heard.x c.args.r c.args.response.now
+      c.requires.comes.accepted (λ k at. sym (c.is_lost.ensures k at) ∙ c.if-is_lost.false) c.requires.about.there c.in-Ok.ensures.ok
+      c.bring-in-Ok.ensures.entries;
 }
 
 pub returns-in_ok-share-in-Ok-clause-answers : goal.returns-in_ok-share-in-Ok-clause-answers

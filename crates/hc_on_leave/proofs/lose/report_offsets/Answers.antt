@@ -1,6 +1,7 @@
 use Rattle.std.{proofs.Common.{◌≡◌, ◌+◌, ◌<◌, List, ℕ, Some, None, nat_eq, length, get_or, ap, sym, ◌∙◌, subst}, specs.{Prelude.{option_map}, HashMap.{get}, Option.{option_copied}}}
 use Rattle.hc_text.proofs.Basics.{none_or as none_is}
-use Rattle.hc_stored.specs.{Grouped.{group_of}, Groups.{moved_if_member}, Views.{bound_in}}
+use Rattle.hc_entry.specs.Used.{moved_if_member}
+use Rattle.hc_stored.specs.{Grouped.{group_of}, Views.{bound_in}}
 use Rattle.hc_state.proofs.Maps.{lent}
 use Rattle.hc_on_leave.proofs.{ReportOffsets.{ReportedSoFar, reported_none, reported_next, reported_skips}, lose.report_offsets.Goals.{in-Some, in_default}}
 use Rattle.hc_on_leave.proofs.lose.report_offsets.Goals as goal

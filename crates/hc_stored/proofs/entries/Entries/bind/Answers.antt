@@ -1,10 +1,7 @@
 use Rattle.std.proofs.Common.{refl}
 use Rattle.hc_stored.specs.Rows.{rows_of, used_by}
-use Rattle.hc_stored.proofs.{ShelfLemmas.{updated-shelved, kept-slots, same-shelved}, RowLemmas.{shelved-bound}, CurrentLemmas.{admits-row, ascending-users, absent-user, ordered-first}}
+use Rattle.hc_stored.proofs.{ShelfLemmas.{updated-shelved, kept-slots, same-shelved}, RowLemmas.{shelved-bound}, CurrentLemmas.{admits-row, absent-user, ordered-first}}
 use Rattle.hc_stored.proofs.entries.Entries.bind.Goals as goal
-
-pub bind_in-requires-clause-ascending : goal.bind_in-requires-clause-ascending
-bind_in-requires-clause-ascending g c = ascending-users c.args.self.now.shelved c.args.r
 
 pub invariant_of-self : goal.invariant_of-self
 invariant_of-self g c = let e = c.args.self.now in record { limited = e.limited; shelved = same-shelved e.shelved c.in_err-bind_in.ensures.err }

@@ -1,10 +1,7 @@
 use Rattle.std.proofs.Common.{refl}
 use Rattle.hc_stored.specs.Rows.{rows_of, used_first_by}
-use Rattle.hc_stored.proofs.{ShelfLemmas.{updated-shelved, kept-slots, same-shelved}, RowLemmas.{shelved-first}, CurrentLemmas.{admits-row, admits-from_first, ascending-users, absent-user, ordered-first}}
+use Rattle.hc_stored.proofs.{ShelfLemmas.{updated-shelved, kept-slots, same-shelved}, RowLemmas.{shelved-first}, CurrentLemmas.{admits-row, admits-from_first, absent-user, ordered-first}}
 use Rattle.hc_stored.proofs.entries.Entries.bind_first.Goals as goal
-
-pub bind_first_in-requires-clause-ascending : goal.bind_first_in-requires-clause-ascending
-bind_first_in-requires-clause-ascending g c = ascending-users c.args.self.now.shelved c.args.r
 
 pub invariant_of-self : goal.invariant_of-self
 invariant_of-self g c = let e = c.args.self.now in record { limited = e.limited; shelved = same-shelved e.shelved c.in_err-bind_first_in.ensures.err }

@@ -6,4 +6,4 @@ use Rattle.hc_stored.proofs.entries.Entries.bound.Goals as goal
 pub returns-in-Some : goal.returns-in-Some
 returns-in-Some g c =
     let there = ap (option_map row_of) (sym c.in-Some.ensures.value) in
-    rw (kept-there c.args.self.now.shelved c.args.r (row_of c.in-Some.entry.now) there) c.as_slice.ensures.value
+    rw (kept-there c.args.self.now.shelved c.args.r (row_of c.in-Some.entry.now) there) c.bound.ensures

@@ -1,11 +1,13 @@
 use Rattle.std.proofs.Common.{refl, sym, ap, ◌∙◌, None}
 use Rattle.hc_store.specs.Slots.{Slots}
 use Rattle.hc_stored.specs.Rows.{rows_of, unused_by}
-use Rattle.hc_stored.proofs.{GroupTies.{group_is}, ShelfLemmas.{updated-shelved, dropped-shelved, kept-slots}, RowLemmas.{shelved-left}, CurrentLemmas.{user-slot, ascending-users, slot-before, row-after, gone-after, kept-left, gone-left, ordered-same, ordered-left}}
+use Rattle.hc_stored.proofs.{GroupTies.{group_is}, ShelfLemmas.{updated-shelved, dropped-shelved, kept-slots}, RowLemmas.{shelved-left}, CurrentLemmas.{user-slot, slot-before, row-after, gone-after, kept-left, gone-left, ordered-same, ordered-left}, UserRows.{user-there}}
 use Rattle.hc_stored.proofs.entries.Entries.unbind.Goals as goal
 
 pub unbind_in-left-requires : goal.unbind_in-left-requires
-unbind_in-left-requires g c = ascending-users c.args.self.now.shelved c.args.r
+unbind_in-left-requires g c =
+    let e = c.args.self.now in
+    user-there (g.B.Backend.slots e.store) c.args.c (rows_of e.rows c.args.r) c.requires
 
 pub invariant_of-self-clause-shelved : goal.invariant_of-self-clause-shelved
 invariant_of-self-clause-shelved g c =

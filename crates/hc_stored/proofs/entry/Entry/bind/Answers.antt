@@ -1,16 +1,20 @@
-use Rattle.hc_stored.proofs.GroupLemmas.{may_join, joined_grouped}
+use Rattle.std.proofs.Common.{ap, ◌∙◌}
+use Rattle.hc_entry.specs.{ActiveEntries.{used_of}, Used.{Used}}
+use Rattle.hc_stored.specs.Rows.{row_by, summary_in}
+use Rattle.hc_stored.proofs.UserRows.{either_way, ends-as, ends-joined, row-bound}
 use Rattle.hc_stored.proofs.entry.Entry.bind.Goals as goal
 
-pub join-requires : goal.join-requires
-join-requires c = λ on. may_join
-    c.args.c c.args.self.now.bound.items c.args.self.now.reach c.args.self.now.writers c.requires.absent (c.args.self.now.grouped on)
-
-pub invariant_of-self-2 : goal.invariant_of-self-2
-invariant_of-self-2 c =
+pub invariant_of-self : goal.invariant_of-self
+invariant_of-self c =
     let e = c.args.self.now in
     record {
       within = e.within;
-      grouped =
-          λ on. rw (c.in_ok-join.ensures.ok, c.put_reserved.ensures.items, c.in_ok-reserve.ensures.items)
-          (joined_grouped e.lost c.args.c e.bound.items e.reach e.writers e.grouped on);
+      stored = either_way c.bind.result c.bind.ensures.ok c.bind.ensures.err
+          (λ done. ends-as e.reach done (ends-joined e.reach c.args.c e.users.way e.stored)) (λ same. ends-as e.reach same e.stored);
     }
+
+pub returns-clause-ok : goal.returns-clause-ok
+returns-clause-ok c =
+    let e = c.args.self.now in
+    ap (λ (u : Used). row_by e.key e.slot.n (summary_in e.summary) e.reach u e.gone) c.in_ok-bind.ensures.ok
+    ∙ row-bound e.key e.slot.n (summary_in e.summary) e.reach e.gone c.args.c (used_of e.users)

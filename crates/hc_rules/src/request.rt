@@ -1,8 +1,8 @@
 //! What a request is to the cache.
-ghost use Rattle.std.specs.Prelude.{◌≡◌, IfSome};
+ghost use Rattle.std.specs.Prelude.{◌≡◌, IfSome, is_none};
 ghost use Rattle.hc_range.specs.Spans.{IsInOrder};
 ghost use Rattle.hc_cachectl.specs.Directives.{of_request};
-ghost use Rattle.hc_rules.specs.Requests.{class_of, is_disabled, is_only, is_bypassing, range_of, wanted_of, has_condition, ranges_read, ranges_in};
+ghost use Rattle.hc_rules.specs.Requests.{class_of, is_disabled, is_only, is_bypassing, wanted_of, has_condition, ranges_read, ranges_in};
 
 use crate::range_text::asked_in;
 use hc_cachectl::{Directives, read_request};
@@ -35,34 +35,36 @@ pub enum Wanted {
 }
 
 /// What the request asks of the cache (RFC 9111 sections 5.2.1 and 5.4, RFC 9110 sections 13.1
-/// and 14.2). Its directives are read once.
-#[tactic(auto, unfolding(crate::specs::Requests::class_of))]
+/// and 14.2). Its directives and its ranges are read once.
+#[tactic(auto, unfolding(crate::specs::Requests::class_of, crate::specs::Requests::range_of))]
 pub fn class_of(request: &Request) -> RequestClass
     ensures class { result ≡ class_of request.now }
     ensures ordered { IfSome result.range IsInOrder }
 {
     let said = read_request(&request.fields);
-    let disabled = is_disabled(request, &said);
+    let ranges = read_ranges(&request.fields);
+    let disabled = is_disabled(request, &said, ranges.is_none());
     RequestClass {
         disabled,
         only: is_only(request, &said),
         bypassing: is_bypassing(request, &said),
-        range: range_of(request, disabled),
+        range: if disabled { None } else { ranges.flatten() },
     }
 }
 
 /// Whether it goes past the cache: its method isn't GET, its load is Disable, it has a condition of
 /// its own or `no-store`, or a Range that stands twice or isn't one that is read.
 #[tactic(auto, unfolding(crate::specs::Requests::is_disabled))]
-fn is_disabled(request: &Request, said: &Directives) -> bool
-    requires { said.now ≡ of_request request.now.fields }
+fn is_disabled(request: &Request, said: &Directives, has_unreadable_range: bool) -> bool
+    requires directives { said.now ≡ of_request request.now.fields }
+    requires range { has_unreadable_range ≡ is_none (ranges_read (ranges_in request.now.fields)) }
     ensures { result ≡ is_disabled request.now }
 {
     request.method.bytes.as_slice() != b"GET".as_slice()
         || request.load == Load::Disable
         || has_condition(&request.fields)
         || said.no_store
-        || read_ranges(&request.fields).is_none()
+        || has_unreadable_range
 }
 
 /// Whether it is for what is stored alone.
@@ -81,19 +83,6 @@ fn is_bypassing(request: &Request, said: &Directives) -> bool
     ensures { result ≡ is_bypassing request.now }
 {
     request.load == Load::Bypass || said.no_cache
-}
-
-/// The range that it asks the cache for. A request that goes past the cache asks it for none.
-#[tactic(auto, unfolding(crate::specs::Requests::range_of))]
-fn range_of(request: &Request, disabled: bool) -> Option<RangeSpec>
-    requires { disabled ≡ is_disabled request.now }
-    ensures value { result ≡ range_of request.now }
-    ensures ordered { IfSome result IsInOrder }
-{
-    if disabled {
-        return None;
-    }
-    read_ranges(&request.fields).flatten()
 }
 
 /// The range that the fields ask for, if any. None where Range stands twice or isn't one that is read.

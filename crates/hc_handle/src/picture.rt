@@ -10,7 +10,8 @@ use hc_contents::Contents;
 use hc_core::{Cache, ContentsError};
 use hc_image::{images_spell_contents_apart, read_image, write_image};
 use hc_rules::Limits;
-use hc_store::{Memory, StoreError};
+use hc_saving::kept_contents;
+use hc_store::Memory;
 use hc_text::NoMemory;
 use std::alloc::Global;
 
@@ -63,12 +64,6 @@ pub(crate) fn image_of(alloc: Global, cache: &mut Cache<Memory>) -> Result<Vec<u
     ensures image { IfOk result (λ image. IsImageOf cache.old image.items) }
     ensures stays { Stays cache.old cache.new }
 {
-    let contents = match cache.contents() {
-        Ok(contents) => contents,
-        Err(StoreError::NoMemory) => return Err(NoMemory),
-        Err(_) => unreachable!(),
-    };
-    let mut image = Vec::new(alloc);
-    write_image(&contents, &mut image)?;
-    Ok(image)
+    let contents = kept_contents(cache)?;
+    write_image(alloc, &contents)
 }

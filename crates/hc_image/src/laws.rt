@@ -17,7 +17,7 @@ pub fn images_spell_contents_apart()
     ensures written { AreWritten }
 {}
 
-/// Contents with which a store may begin have an image: what `write_image` appends of them is one, so
+/// Contents with which a store may begin have an image: what `write_image` makes of them is one, so
 /// that `read_image` gives them back as they are, good as they were.
 pub fn contents_have_images(contents: &Contents, limits: Limits)
     ensures has { may_begin limits (plain_contents contents.entry.now) ≡ true

@@ -1,5 +1,5 @@
 //! Writing images.
-ghost use Rattle.std.specs.Prelude.{◌≡◌, ◌++◌, take, vec_len, map, length, OnOk, OnErr};
+ghost use Rattle.std.specs.Prelude.{◌≡◌, ◌++◌, map, length, OnOk, IfOk};
 ghost use Rattle.hc_record.specs.Lines.{number_and_end};
 ghost use Rattle.hc_contents.specs.PlainContents.{plain_contents, plain_item};
 ghost use Rattle.hc_image.specs.Images.{image_of, first_lines, items_text, item_text, item_line, runs_text, run_text};
@@ -8,38 +8,24 @@ use hc_contents::{Content, Contents};
 use hc_record::write_record;
 use hc_sparse::Run;
 use hc_text::{NoMemory, write_number};
+use std::alloc::Global;
 
-/// Appends the image of the contents, its records in the second version. On an error nothing is
-/// appended. `read_image` reads it back where each key is a target and all numbers are below 2^62.
-pub fn write_image(contents: &Contents, to: &mut Vec<u8>) -> Result<(), NoMemory>
-    ensures ok { OnOk result
-        (to.new.items ≡ to.old.items ++ image_of (plain_contents contents.entry.now)) }
-    ensures err { OnErr result (to.new.items ≡ to.old.items) }
+/// The image of the contents, its records in the second version. `read_image` reads it back where each
+/// key is a target and all numbers are below 2^62.
+pub fn write_image(alloc: Global, contents: &Contents) -> Result<Vec<u8>, NoMemory>
+    ensures { IfOk result
+        (λ image. image.items ≡ image_of (plain_contents contents.entry.now)) }
 {
-    let start = to.len();
-    let written = write_parts(contents, to);
-    if written.is_err() {
-        to.truncate(start);
-    }
-    written
-}
-
-/// Appends the image of the contents, or a part of it.
-fn write_parts(contents: &Contents, to: &mut Vec<u8>) -> Result<(), NoMemory>
-    ensures ok { OnOk result
-        (to.new.items ≡ to.old.items ++ image_of (plain_contents contents.entry.now)) }
-    ensures err { OnErr result (take (vec_len to.old) to.new.items ≡ to.old.items) }
-{
-    write_first_lines(contents, to)?;
-    write_items(contents.items.as_slice(), to)?;
-    Ok(())
+    let mut image = Vec::new(alloc);
+    write_first_lines(contents, &mut image)?;
+    write_items(contents.items.as_slice(), &mut image)?;
+    Ok(image)
 }
 
 /// Appends the first two lines, or a part of them.
 fn write_first_lines(contents: &Contents, to: &mut Vec<u8>) -> Result<(), NoMemory>
-    ensures ok { OnOk result
+    ensures { OnOk result
         (to.new.items ≡ to.old.items ++ first_lines (plain_contents contents.entry.now)) }
-    ensures err { OnErr result (take (vec_len to.old) to.new.items ≡ to.old.items) }
 {
     write_bytes(b"image 1\n", to)?;
     write_ended(contents.now, b' ', to)?;
@@ -51,9 +37,8 @@ fn write_first_lines(contents: &Contents, to: &mut Vec<u8>) -> Result<(), NoMemo
 
 /// Appends the items, or a part of them.
 fn write_items(items: &[Content], to: &mut Vec<u8>) -> Result<(), NoMemory>
-    ensures ok { OnOk result
+    ensures { OnOk result
         (to.new.items ≡ to.old.items ++ items_text (map plain_item items.now)) }
-    ensures err { OnErr result (take (vec_len to.old) to.new.items ≡ to.old.items) }
 {
     for item in items {
         write_item(item, to)?;
@@ -63,8 +48,7 @@ fn write_items(items: &[Content], to: &mut Vec<u8>) -> Result<(), NoMemory>
 
 /// Appends an item, or a part of it.
 fn write_item(item: &Content, to: &mut Vec<u8>) -> Result<(), NoMemory>
-    ensures ok { OnOk result (to.new.items ≡ to.old.items ++ item_text (plain_item item.now)) }
-    ensures err { OnErr result (take (vec_len to.old) to.new.items ≡ to.old.items) }
+    ensures { OnOk result (to.new.items ≡ to.old.items ++ item_text (plain_item item.now)) }
 {
     write_item_line(item, to)?;
     write_record(&item.head, to)?;
@@ -74,9 +58,8 @@ fn write_item(item: &Content, to: &mut Vec<u8>) -> Result<(), NoMemory>
 
 /// Appends the line of an item, or a part of it.
 fn write_item_line(item: &Content, to: &mut Vec<u8>) -> Result<(), NoMemory>
-    ensures ok { OnOk result (to.new.items
+    ensures { OnOk result (to.new.items
         ≡ to.old.items ++ item_line item.now.key item.now.r (length item.now.runs)) }
-    ensures err { OnErr result (take (vec_len to.old) to.new.items ≡ to.old.items) }
 {
     write_bytes(b"item ", to)?;
     write_bytes(item.key.bytes.as_slice(), to)?;
@@ -88,8 +71,7 @@ fn write_item_line(item: &Content, to: &mut Vec<u8>) -> Result<(), NoMemory>
 
 /// Appends the runs, or a part of them.
 fn write_runs(runs: &[Run], to: &mut Vec<u8>) -> Result<(), NoMemory>
-    ensures ok { OnOk result (to.new.items ≡ to.old.items ++ runs_text runs.now) }
-    ensures err { OnErr result (take (vec_len to.old) to.new.items ≡ to.old.items) }
+    ensures { OnOk result (to.new.items ≡ to.old.items ++ runs_text runs.now) }
 {
     for run in runs {
         write_run(run, to)?;
@@ -99,8 +81,7 @@ fn write_runs(runs: &[Run], to: &mut Vec<u8>) -> Result<(), NoMemory>
 
 /// Appends a run, or a part of it.
 fn write_run(run: &Run, to: &mut Vec<u8>) -> Result<(), NoMemory>
-    ensures ok { OnOk result (to.new.items ≡ to.old.items ++ run_text run.now) }
-    ensures err { OnErr result (take (vec_len to.old) to.new.items ≡ to.old.items) }
+    ensures { OnOk result (to.new.items ≡ to.old.items ++ run_text run.now) }
 {
     let bytes = run.bytes.as_slice();
     write_bytes(b"run ", to)?;
@@ -114,8 +95,7 @@ fn write_run(run: &Run, to: &mut Vec<u8>) -> Result<(), NoMemory>
 
 /// Appends the plain number and the byte behind it, or a part of that.
 fn write_ended(n: u64, end: u8, to: &mut Vec<u8>) -> Result<(), NoMemory>
-    ensures ok { OnOk result (to.new.items ≡ to.old.items ++ number_and_end end n) }
-    ensures err { OnErr result (take (vec_len to.old) to.new.items ≡ to.old.items) }
+    ensures { OnOk result (to.new.items ≡ to.old.items ++ number_and_end end n) }
 {
     write_number(n, to)?;
     to.push(end)?;
@@ -124,8 +104,7 @@ fn write_ended(n: u64, end: u8, to: &mut Vec<u8>) -> Result<(), NoMemory>
 
 /// Appends the bytes, or nothing.
 fn write_bytes(bytes: &[u8], to: &mut Vec<u8>) -> Result<(), NoMemory>
-    ensures ok { OnOk result (to.new.items ≡ to.old.items ++ bytes.now) }
-    ensures err { OnErr result (take (vec_len to.old) to.new.items ≡ to.old.items) }
+    ensures { OnOk result (to.new.items ≡ to.old.items ++ bytes.now) }
 {
     to.extend_from_slice(bytes)?;
     Ok(())

@@ -21,8 +21,7 @@ pub fn new_image(alloc: Global, contents: &Contents, number: u64) -> Result<NewI
     requires { number < 2 ^ 62 }
     ensures { IfOk result (IsNewImage (plain_contents contents.entry.now) number) }
 {
-    let mut file = Vec::new(alloc);
-    write_image(contents, &mut file)?;
+    let mut file = write_image(alloc, contents)?;
     let sum = make_image_file(&mut file, number)?;
     Ok(NewImage { file, sum })
 }

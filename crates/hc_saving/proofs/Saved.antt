@@ -49,10 +49,9 @@ module _ (limits : Limits) (h : History) (found : Contents) (q : IsLeftBehind li
     spells = subst (SpellsImage (image_of found)) reported (written (fits next_few));
   }
 
-  -- its image is what was written, behind nothing
-  pub image_left : (image before : List ℕ) → before ≡ [] → image ≡ before ++ image_of found → IsLeft limits h image
-  image_left image before nothing written =
-      subst (IsLeft limits h) (sym (written ∙ ap (λ (l : List ℕ). l ++ image_of found) nothing)) is_left
+  -- its image is what was written
+  pub image_left : (image : List ℕ) → image ≡ image_of found → IsLeft limits h image
+  image_left image written = subst (IsLeft limits h) (sym written) is_left
 
 -- WHAT WAS STEPPED
 

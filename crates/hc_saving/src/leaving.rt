@@ -9,11 +9,12 @@ ghost use Rattle.hc_saving.specs.LeftCaches.{HasLeft, StandsForAny};
 ghost use Rattle.hc_saving.specs.Recovers.{IsLeftBehind};
 ghost use Rattle.hc_saving.specs.Saves.{IsLeft};
 
+use crate::kept::kept_contents;
 use hc_contents::Contents;
 use hc_core::Cache;
 use hc_event::{Acts, Event};
 use hc_image::write_image;
-use hc_store::{Memory, StoreError};
+use hc_store::Memory;
 use hc_text::NoMemory;
 use std::alloc::Global;
 
@@ -28,9 +29,7 @@ pub(crate) fn image_left(alloc: Global, cache: Cache<Memory>) -> Result<Vec<u8>,
 {
     // The cache is gone before the image takes as much memory.
     let contents = contents_left(alloc, cache)?;
-    let mut image = Vec::new(alloc);
-    write_image(&contents, &mut image)?;
-    Ok(image)
+    write_image(alloc, &contents)
 }
 
 /// What the cache leaves once all who are live have left.
@@ -47,11 +46,7 @@ pub(crate) fn contents_left(alloc: Global, cache: Cache<Memory>) -> Result<Conte
 {
     let mut cache = cache;
     leave_all(alloc, &mut cache)?;
-    match cache.contents() {
-        Ok(contents) => Ok(contents),
-        Err(StoreError::NoMemory) => Err(NoMemory),
-        Err(_) => unreachable!(),
-    }
+    kept_contents(&mut cache)
 }
 
 /// All who are live leave, the lowest number first, at the moment of the last event.

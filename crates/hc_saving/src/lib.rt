@@ -3,6 +3,7 @@
 #![tactic(auto)]
 
 mod begin;
+mod kept;
 mod leaving;
 mod nowhere;
 mod open;
@@ -11,6 +12,7 @@ mod reopening;
 mod saving;
 mod silent;
 
+pub use kept::kept_contents;
 pub use open::OpenEnded;
 pub use recovering::{RecoverError, recover};
 pub use reopening::reopen;

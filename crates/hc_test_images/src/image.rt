@@ -62,8 +62,7 @@ fn report_rewritten(v: &Vector, to: &mut String) -> Result<(), NoMemory> {
         to.push_str("None")?;
         return Ok(());
     };
-    let mut image = Vec::new(v.alloc());
-    write_image(&read.contents, &mut image)?;
+    let image = write_image(v.alloc(), &read.contents)?;
     write!(to, "{} bytes ", image.len())?;
     quote(&image, to)
 }

@@ -1,15 +1,15 @@
-use Rattle.std.proofs.Common.{◌≡◌, true, subst}
+use Rattle.std.proofs.{Common.{◌≡◌, true, subst}, lemmas.Result.{IfOk-weaker}}
 use Rattle.hc_contents.specs.PlainContents.{plain_contents}
 use Rattle.hc_effects.proofs.Vocabulary.{Limits, may_begin}
 use Rattle.hc_saving.proofs.Recovered.{left_behind}
 use Rattle.hc_saving.proofs.leaving.contents_left.Goals as goal
 
-pub returns-in-Ok-clause-left : goal.returns-in-Ok-clause-left
-returns-in-Ok-clause-left c = λ contents h stands.
+pub returns-clause-left : goal.returns-clause-left
+returns-clause-left c = IfOk-weaker c.kept_contents.result _ _ (λ found reported contents h stands.
     let q = c.in_ok-leave_all.ensures.left contents h stands in
     left_behind c.args.cache c.leave_all.new.cache contents h q c.in_ok-leave_all.ensures.limits c.in_ok-leave_all.ensures.nobody c.in_ok-leave_all.ensures.few
-    (plain_contents c.in-Ok.contents) (c.in-Ok.ensures.reported contents q.left q.stands)
+    (plain_contents found) (reported contents q.left q.stands)) c.kept_contents.ensures.reported
 
-pub returns-in-Ok-clause-fits : goal.returns-in-Ok-clause-fits
-returns-in-Ok-clause-fits c = λ few.
-    subst (λ (l : Limits). may_begin l (plain_contents c.in-Ok.contents) ≡ true) c.in_ok-leave_all.ensures.limits (c.in-Ok.ensures.fits few)
+pub returns-clause-fits : goal.returns-clause-fits
+returns-clause-fits c = IfOk-weaker c.kept_contents.result _ _ (λ found fits few.
+    subst (λ (l : Limits). may_begin l (plain_contents found) ≡ true) c.in_ok-leave_all.ensures.limits (fits few)) c.kept_contents.ensures.fits

@@ -63,8 +63,8 @@ fn recover_text(alloc: Global, limits: Limits, said: Said) -> Result<Kept, KeepE
     ensures { KeepsText limits (bytes_of said.image) said.number said.text.items result }
 {
     let number = said.number;
-    let mut record = PlainSource::new(said.text);
-    match recover(alloc, limits, said.image, &mut record) {
+    let mut behind = PlainSource::new(said.text);
+    match recover(alloc, limits, said.image, &mut behind) {
         Ok(contents) => Ok(Kept {
             contents,
             next: number + 1,

@@ -74,25 +74,25 @@ pub fn recover<S: Source>(
     alloc: Global,
     limits: Limits,
     image: Option<Vec<u8>>,
-    record: &mut S,
+    behind: &mut S,
 ) -> Result<Contents, RecoverError>
-    ensures recovers { Recovers limits (bytes_of image) (S.left record.old) (S.left record.new)
+    ensures recovers { Recovers limits (bytes_of image) (S.left behind.old) (S.left behind.new)
         result }
 
     // A first part of a schedule behind an image with which a store may begin is never refused.
     ensures taken { (contents : model.Contents) (text more : List ℕ) (items : List Item)
         → BeginsAs (bytes_of image) contents → may_begin limits contents ≡ true
-        → S.left record.old ≡ Some text → Spells contents.now (text ++ more) items
+        → S.left behind.old ≡ Some text → Spells contents.now (text ++ more) items
         → IsTaken result }
 
     // A fault comes only where one was counted, and none is counted where none comes.
     ensures source { IsErrOf result RecoverError.SourceFailed
-        → HasRisen (S.faults record.old) (S.faults record.new) }
+        → HasRisen (S.faults behind.old) (S.faults behind.new) }
     ensures source_calm { result ≢ Err error.SourceFailed
-        → S.faults record.new ≡ S.faults record.old }
+        → S.faults behind.new ≡ S.faults behind.old }
 {
     let contents = contents_in(alloc, image)?;
-    recover_from(alloc, limits, contents, record)
+    recover_from(alloc, limits, contents, behind)
 }
 
 /// What is left of these contents and of the record behind them.
@@ -101,18 +101,18 @@ fn recover_from<S: Source>(
     alloc: Global,
     limits: Limits,
     contents: Contents,
-    record: &mut S,
+    behind: &mut S,
 ) -> Result<Contents, RecoverError>
     ensures recovers { (image : Option (List ℕ)) → BeginsAs image (plain_contents contents)
-        → Recovers limits image (S.left record.old) (S.left record.new) result }
+        → Recovers limits image (S.left behind.old) (S.left behind.new) result }
     ensures source { IsErrOf result RecoverError.SourceFailed
-        → HasRisen (S.faults record.old) (S.faults record.new) }
+        → HasRisen (S.faults behind.old) (S.faults behind.new) }
     ensures source_calm { result ≢ Err error.SourceFailed
-        → S.faults record.new ≡ S.faults record.old }
+        → S.faults behind.new ≡ S.faults behind.old }
 {
     let moment = contents.now;
     let cache = begin(alloc, limits, contents)?;
-    let cache = step_whole(alloc, moment, cache, record)?;
+    let cache = step_whole(alloc, moment, cache, behind)?;
     Ok(contents_left(alloc, cache)?)
 }
 
@@ -144,23 +144,23 @@ fn step_whole<S: Source>(
     alloc: Global,
     moment: u64,
     cache: Cache<Memory>,
-    record: &mut S,
+    behind: &mut S,
 ) -> Result<Cache<Memory>, RecoverError>
     requires small { moment < 2 ^ 62 }
     requires at { last_moment cache ≡ moment }
     requires unused { steps cache + bytes_received cache ≡ 0 }
     ensures stepped { IfOk result
-        (IsStepped cache moment (S.left record.old) (S.left record.new)) }
-    ensures none { IfErr result (IsUnstepped moment (S.left record.old) (S.left record.new)) }
+        (IsStepped cache moment (S.left behind.old) (S.left behind.new)) }
+    ensures none { IfErr result (IsUnstepped moment (S.left behind.old) (S.left behind.new)) }
     ensures source { IsErrOf result RecoverError.SourceFailed
-        → HasRisen (S.faults record.old) (S.faults record.new) }
+        → HasRisen (S.faults behind.old) (S.faults behind.new) }
     ensures source_calm { result ≢ Err error.SourceFailed
-        → S.faults record.new ≡ S.faults record.old }
+        → S.faults behind.new ≡ S.faults behind.old }
     ensures few { IfOk result (λ cache. steps cache ≤ 2 ^ 59) }
     ensures little { IfOk result (λ cache. bytes_received cache ≤ 2 ^ 60) }
 {
     let mut silent = Silent { cache };
-    match go_through_prefix(alloc, moment, &mut silent, record, &mut Nowhere) {
+    match go_through_prefix(alloc, moment, &mut silent, behind, &mut Nowhere) {
         Ok(_) => Ok(silent.cache),
         Err(Stop::Refused(refused)) => Err(RecoverError::BadRecord(refused)),
         Err(Stop::SourceFailed) => Err(RecoverError::SourceFailed),

@@ -5,12 +5,12 @@ use Rattle.hc_saving.proofs.recovering.recover.Goals as goal
 
 pub returns-in_err-contents-clause-recovers : goal.returns-in_err-contents-clause-recovers
 returns-in_err-contents-clause-recovers g c =
-    unread_ends c.args.limits (bytes_of c.args.image) (g.S.Source.left c.args.record.now) c.from_residual.result c.in_err-contents.field-0.0
+    unread_ends c.args.limits (bytes_of c.args.image) (g.S.Source.left c.args.behind.now) c.from_residual.result c.in_err-contents.field-0.0
     c.from_residual.ensures.1 c.in_err-contents.ensures.none
 
 pub returns-in_err-contents-clause-taken : goal.returns-in_err-contents-clause-taken
 returns-in_err-contents-clause-taken g c =
-    always_taken c.args.limits (bytes_of c.args.image) (g.S.Source.left c.args.record.now) (g.S.Source.left c.args.record.now) c.from_residual.result
+    always_taken c.args.limits (bytes_of c.args.image) (g.S.Source.left c.args.behind.now) (g.S.Source.left c.args.behind.now) c.from_residual.result
     (returns-in_err-contents-clause-recovers g c)
 
 pub returns-in_err-contents-clause-source : goal.returns-in_err-contents-clause-source
@@ -26,7 +26,7 @@ returns-clause-recovers g c = c.recover_from.ensures.recovers (bytes_of c.args.i
 
 pub returns-clause-taken : goal.returns-clause-taken
 returns-clause-taken g c =
-    always_taken c.args.limits (bytes_of c.args.image) (g.S.Source.left c.args.record.now) (g.S.Source.left c.recover_from.new.record)
+    always_taken c.args.limits (bytes_of c.args.image) (g.S.Source.left c.args.behind.now) (g.S.Source.left c.recover_from.new.behind)
     c.recover_from.result (returns-clause-recovers g c)
 
 pub returns-clause-source : goal.returns-clause-source

@@ -12,7 +12,7 @@ use Rattle.hc_saving.proofs.recovering.recover_from.Goals as goal
 
 pub returns-in_err-cache-clause-recovers : goal.returns-in_err-cache-clause-recovers
 returns-in_err-cache-clause-recovers g c = λ image has.
-    unbegun_ends c.args.limits image (g.S.Source.left c.args.record.now) c.from_residual.result (plain_contents c.args.contents) c.in_err-cache.field-0.0
+    unbegun_ends c.args.limits image (g.S.Source.left c.args.behind.now) c.from_residual.result (plain_contents c.args.contents) c.in_err-cache.field-0.0
     has c.from_residual.ensures.1 c.in_err-cache.ensures.none
 
 pub returns-in_err-cache-clause-source : goal.returns-in_err-cache-clause-source
@@ -36,7 +36,7 @@ step_whole-requires-clause-unused g c = c.in_ok-cache.ensures.begun.unused
 
 pub returns-in_err-cache-2-clause-recovers : goal.returns-in_err-cache-2-clause-recovers
 returns-in_err-cache-2-clause-recovers g c = λ image has.
-    unstepped_ends c.args.limits image (g.S.Source.left c.args.record.now) c.from_residual-in_err-cache-2.result (g.S.Source.left c.step_whole.new.record)
+    unstepped_ends c.args.limits image (g.S.Source.left c.args.behind.now) c.from_residual-in_err-cache-2.result (g.S.Source.left c.step_whole.new.behind)
     (plain_contents c.args.contents) c.in_err-cache-2.field-0.0
     has c.in_ok-cache.ensures.begun.fits c.from_residual-in_err-cache-2.ensures.1 c.in_err-cache-2.ensures.none
 
@@ -80,8 +80,8 @@ contents_left-requires-clause-little g c = c.in_ok-cache-2.ensures.little
 pub returns-in_err-contents_left-clause-recovers : goal.returns-in_err-contents_left-clause-recovers
 returns-in_err-contents_left-clause-recovers g c = λ image has.
     let q = c.in_ok-cache-2.ensures.stepped in
-    unleft_ends c.args.limits image (g.S.Source.left c.args.record.now) c.from_residual-in_err-contents_left.result
-    (g.S.Source.left c.step_whole.new.record) q.text q.gives c.from_residual-in_err-contents_left.ensures.1
+    unleft_ends c.args.limits image (g.S.Source.left c.args.behind.now) c.from_residual-in_err-contents_left.result
+    (g.S.Source.left c.step_whole.new.behind) q.text q.gives c.from_residual-in_err-contents_left.ensures.1
 
 pub returns-in_err-contents_left-clause-source : goal.returns-in_err-contents_left-clause-source
 returns-in_err-contents_left-clause-source g c = λ failed.
@@ -97,7 +97,7 @@ returns-in_err-contents_left-clause-source_calm g c = λ calm.
 pub returns-clause-recovers : goal.returns-clause-recovers
 returns-clause-recovers g c = λ image has.
     let contents = plain_contents c.args.contents in
-    found_ends c.args.limits image (g.S.Source.left c.args.record.now) (g.S.Source.left c.step_whole.new.record) contents c.in_ok-cache.cache
+    found_ends c.args.limits image (g.S.Source.left c.args.behind.now) (g.S.Source.left c.step_whole.new.behind) contents c.in_ok-cache.cache
     c.in_ok-cache-2.cache c.in_ok-contents_left.field-0
     has c.in_ok-cache.ensures.begun (λ v. refl) c.in_ok-cache-2.ensures.stepped c.in_ok-contents_left.ensures.left c.in_ok-contents_left.ensures.fits
 

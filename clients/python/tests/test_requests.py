@@ -67,6 +67,22 @@ class RulesTest(Case):
         self.assertEqual([it.headers.get("Age") for it in (first, second, third)], [None, "0", "5"])
         self.assertEqual(len(self.origin.asked), 1)
 
+    def test_a_known_body_is_given_at_once_and_its_reader_has_left(self) -> None:
+        session = self.fresh()
+        self.origin.put("/a", SMALL, fields=[("Cache-Control", "max-age=10")])
+        url = self.origin.url("/a")
+        session.get(url)
+        slow = session.get(url, stream=True)
+        hits = [session.get(url) for _ in range(3)]
+        resource = next(iter(session.get_adapter(url)._pool.resources.values()))
+        self.assertEqual([(it.content, it.raw.headers["Cache-Control"], it.from_cache) for it in hits], [(SMALL, "max-age=10", True)] * 3)
+        self.assertEqual(slow.content, SMALL)
+        self.assertEqual((resource.readers, resource.users, len(self.origin.asked)), ({}, 0, 1))
+        self.now += 11
+        self.assertEqual(session.get(url).content, SMALL)
+        self.assertEqual(session.get(url, headers={"Cache-Control": "max-age=0, only-if-cached"}).status_code, 504)
+        self.assertEqual((resource.readers, resource.users), ({}, 0))
+
     def test_received_age_counts(self) -> None:
         session = self.fresh()
         self.origin.put("/a", SMALL, fields=[("Cache-Control", "max-age=10"), ("Age", "8")])

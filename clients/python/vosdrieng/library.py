@@ -5,7 +5,7 @@ import ctypes
 import ctypes.util
 import functools
 import os
-from ctypes import POINTER, byref, c_char_p, c_size_t, c_uint32, c_uint64, c_void_p
+from ctypes import POINTER, addressof, byref, c_char_p, c_size_t, c_uint32, c_uint64, c_void_p
 from typing import Callable
 
 from .acts import Act, Ask, Close, Data, Denied, Ended, Evicted, Failed, Fields, Lost, Open, Pending, Shown
@@ -27,6 +27,7 @@ ANSWERS = {
 }
 LINES = ("", "it is off the grammar", "it has more than 140,000 bytes", "its target is none", "its moment is below the one before",
          "the text ends too early")
+SMALL = 4096  # bytes of an act that are copied twice, which costs less than an object made by the library of C
 MOST_ROOM = 16 << 20  # bytes that are offered for an image before its size is known
 LOADS = {"normal": 0, "validate": 1, "bypass": 2, "skip": 3, "only": 4, "disable": 5}
 NEEDS = ("", "disabled", "timed-out", "bypass", "miss", "vary", "validate", "hole", "unsatisfied")
@@ -46,31 +47,32 @@ class _Act(ctypes.Structure):
                 ("status", c_uint32), ("has_end", c_uint32)]
 
 
+_AT = c_void_p  # an address as a number takes half the time of a pointer that is made for each call
 _BYTES = [c_char_p, c_size_t]
 _new_bytes = ctypes.pythonapi.PyBytes_FromStringAndSize
 _new_bytes.restype, _new_bytes.argtypes = ctypes.py_object, [c_void_p, ctypes.c_ssize_t]
-_EVENT = [POINTER(_Handle), c_uint64, c_uint64]
+_EVENT = [_AT, c_uint64, c_uint64]
 CALLS = {
     "version": (c_uint32, []),
-    "new": (c_uint32, [POINTER(_Handle), c_uint64, c_uint64]),
-    "open": (c_uint32, [POINTER(_Handle), c_uint64, c_uint64, *_BYTES]),
-    "free": (None, [POINTER(_Handle)]),
+    "new": (c_uint32, [_AT, c_uint64, c_uint64]),
+    "open": (c_uint32, [_AT, c_uint64, c_uint64, *_BYTES]),
+    "free": (None, [_AT]),
     "start": (c_uint32, [*_EVENT, *_BYTES, c_uint32, *_BYTES, *_BYTES]),
     "poll": (c_uint32, [*_EVENT, c_uint32]),
     "cancel": (c_uint32, _EVENT),
-    "doom": (c_uint32, [POINTER(_Handle), c_uint64, *_BYTES]),
+    "doom": (c_uint32, [_AT, c_uint64, *_BYTES]),
     "head": (c_uint32, [*_EVENT, c_uint32, *_BYTES]),
     "piece": (c_uint32, [*_EVENT, *_BYTES]),
     "end": (c_uint32, _EVENT),
     "fault": (c_uint32, _EVENT),
-    "next_act": (c_uint32, [POINTER(_Handle), POINTER(_Act)]),
-    "act_bytes": (c_size_t, [POINTER(_Handle), c_void_p, c_size_t]),
-    "image": (c_uint32, [POINTER(_Handle), c_void_p, c_size_t, POINTER(c_size_t)]),
-    "schedule": (c_uint32, [POINTER(_Handle), *_BYTES, POINTER(c_uint64), POINTER(c_uint32)]),
-    "schedule_end": (c_uint32, [POINTER(_Handle), POINTER(c_uint64), POINTER(c_uint32)]),
-    "report": (c_size_t, [POINTER(_Handle), c_void_p, c_size_t]),
-    "moment": (c_uint64, [POINTER(_Handle)]),
-    "live": (c_uint64, [POINTER(_Handle)]),
+    "next_act": (c_uint32, [_AT, _AT]),
+    "act_bytes": (c_size_t, [_AT, c_void_p, c_size_t]),
+    "image": (c_uint32, [_AT, c_void_p, c_size_t, POINTER(c_size_t)]),
+    "schedule": (c_uint32, [_AT, *_BYTES, POINTER(c_uint64), POINTER(c_uint32)]),
+    "schedule_end": (c_uint32, [_AT, POINTER(c_uint64), POINTER(c_uint32)]),
+    "report": (c_size_t, [_AT, c_void_p, c_size_t]),
+    "moment": (c_uint64, [_AT]),
+    "live": (c_uint64, [_AT]),
 }
 
 
@@ -122,8 +124,10 @@ class LibraryCache(Cache):
     def __init__(self, path: str | os.PathLike[str] | None, max_body: int, max_total: int, image: bytes | None) -> None:
         self._library = load(os.fspath(path) if path is not None else default_path())
         self._handle, self._act = _Handle(0, None), _Act()
-        self._at, self._told = byref(self._handle), byref(self._act)
-        self._next, self._bytes = self._library.vosdrieng_next_act, self._library.vosdrieng_act_bytes
+        self._at, self._room = addressof(self._handle), ctypes.create_string_buffer(SMALL)
+        self._next = functools.partial(self._library.vosdrieng_next_act, self._at, addressof(self._act))
+        self._copy = functools.partial(self._library.vosdrieng_act_bytes, self._at)
+        self._room_at = addressof(self._room)
         self._poll = self._library.vosdrieng_poll
         self._begin(max_body, max_total, image)
 
@@ -238,17 +242,18 @@ class LibraryCache(Cache):
             raise Refused(str(fault)) from fault
         if answer:
             self._hold(answer)
-        acts, told, at, room, more = [], self._act, self._at, self._told, self._next
-        while more(at, room):
-            acts.append(MAKERS[told.kind](self, told))
+        acts, act, more = [], self._act, self._next
+        while more():
+            acts.append(MAKERS[act.kind](self, act))
         return acts
 
     def _taken(self, length: int) -> bytes:
-        """The bytes of the act that was told last, copied once, into an object that nobody else has yet."""
-        taken = _new_bytes(None, length)
-        if length and self._bytes(self._at, taken, length) != length:
+        """The bytes of the act that was told last. Many are copied once, into an object that nobody else has yet."""
+        is_small = length <= SMALL
+        taken = self._room_at if is_small else _new_bytes(None, length)
+        if length and self._copy(taken, length) != length:
             raise Gone("the act has fewer bytes than it tells")
-        return taken
+        return self._room[:length] if is_small else taken
 
 
 def _opened(cache: LibraryCache, act: _Act) -> Act:

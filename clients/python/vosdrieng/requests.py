@@ -9,11 +9,9 @@ README.md beside this package tells what it does, and what it leaves to the orig
 from __future__ import annotations
 
 import collections
-import email.message
 import functools
 import gc
 import http.client
-import http.cookiejar
 import io
 import os
 import time
@@ -24,9 +22,7 @@ from typing import Any, Callable, Mapping
 import requests
 import urllib3
 from requests.adapters import HTTPAdapter
-from requests.cookies import RequestsCookieJar, extract_cookies_to_jar
 from requests.structures import CaseInsensitiveDict
-from requests.utils import get_encoding_from_headers
 
 from . import text
 from .acts import Fields, Shown
@@ -35,6 +31,7 @@ from .keeping import SAFE, Exchange
 from .names import name_of
 from .pool import Options, Pool
 from .resource import WAITING, Duty, Passed, Reader, Resource, Sign
+from .responses import Head, Lines, Message, Telling, as_text, spelled_head, told_head
 from .sources import Source
 
 LOOK_AGAIN = 1.0  # seconds after which who waits polls again: the moment may have changed what is due
@@ -43,12 +40,6 @@ AT_ONCE = 4 << 20
 MOST_TIMES = 3  # how often a body is begun that changes in mid-download
 CONDITIONS = ("if-none-match", "if-modified-since", "if-range", "range")
 NETWORK = (requests.RequestException, urllib3.exceptions.HTTPError, http.client.HTTPException, OSError)
-
-
-BLANK = vars(requests.Response())
-POLICY = http.cookiejar.DefaultCookiePolicy()  # that of each response's cookies, as `requests` makes it for each
-Lines = tuple[tuple[str, str], ...]
-Headers = CaseInsensitiveDict[str]
 
 COLLECTING: list[bool] = []  # not empty while garbage is collected
 
@@ -106,22 +97,31 @@ class Adapter(HTTPAdapter):
         if self._process != os.getpid():
             self._begin_in_child()
         self.drain()
-        name = name_by(request.url, header_lines(request))
-        answer = self._answer(name, request, stream, {"timeout": timeout, "verify": verify, "cert": cert, "proxies": proxies})
+        asked = asked_by(request.url, header_lines(request))
+        answer = self._answer(asked, request, stream, {"timeout": timeout, "verify": verify, "cert": cert, "proxies": proxies})
         if request.method not in SAFE and answer.status_code < 400:
-            self._pool.doom_others(name)
+            self._pool.doom_others(asked.name)
         return answer
 
-    def _answer(self, name: str, request: requests.PreparedRequest, stream: bool, words: dict[str, Any]) -> requests.Response:
-        resource = self._pool.take(name)
+    def _answer(self, asked: "Asked", request: requests.PreparedRequest, stream: bool, words: dict[str, Any]) -> requests.Response:
+        resource = self._pool.take(asked.name)
+        duties: list[Duty] = []
         try:
-            pump = Pump(self, resource, request, words)
+            if asked.fields is None:
+                raise Refused("the request has a line that a cache can't be told")
+            with resource.lock:
+                reader = resource.reader(request.method or "GET", asked.fields)
+                known = None if stream else resource.read_known(reader, duties)
         except Refused:
             return self._past(resource, request, stream, words)
         except BaseException as fault:
             self._drop_if_gone(resource, fault)
             self._pool.give_back(resource)
             raise
+        if known is not None:
+            self._pool.give_back(resource)
+            return Telling(self, request, known[0], stored_head(resource, known[0])).whole(known[1])
+        pump = Pump(self, resource, request, words, asked.fields, reader, duties)
         try:
             return pump.streamed() if stream else pump.read()
         except BaseException as fault:
@@ -168,40 +168,28 @@ def mount(session: requests.Session, store: str | os.PathLike[str] | None = None
     return adapter
 
 
-def as_text(it: str | bytes) -> str:
-    return it.decode("latin-1") if isinstance(it, bytes) else it
-
-
 def header_lines(request: requests.PreparedRequest) -> tuple[tuple[str | bytes, str | bytes], ...]:
     """The lines of the header of a request, with names in lower case."""
     headers = request.headers
     return tuple(headers.lower_items() if isinstance(headers, CaseInsensitiveDict) else [(name.lower(), headers[name]) for name in headers])
 
 
-@functools.lru_cache(1024)
-def name_by(url: str | bytes, lines: tuple[tuple[str | bytes, str | bytes], ...]) -> str:
-    """The name of the resource for which a request with such a header asks."""
-    return name_of(as_text(url), dict(lines).get("authorization"))
-
-
-@functools.lru_cache(1024)
-def told_fields(lines: tuple[tuple[str | bytes, str | bytes], ...]) -> tuple[tuple[str, str], ...]:
-    """These lines as a cache is told them. Raises Refused where it can't be. (Most requests of a session have the same.)"""
-    return tuple(text.sorted_fields([(as_text(name), as_text(value)) for name, value in lines]))
-
-
 @dataclass(slots=True)
-class Message:
-    """What `requests` takes cookies from."""
+class Asked:
+    """What a request asks for: the name of the resource, and its lines as a cache is told them, or None where it can't be."""
 
-    msg: Any
-    _method: str = "GET"
+    name: str
+    fields: Lines | None
 
-    def isclosed(self) -> bool:
-        return True
 
-    def close(self) -> None:
-        pass
+@functools.lru_cache(1024)
+def asked_by(url: str | bytes, lines: tuple[tuple[str | bytes, str | bytes], ...]) -> Asked:
+    """What a request with such a header asks for. (Most requests of a session have the same.)"""
+    name = name_of(as_text(url), dict(lines).get("authorization"))
+    try:
+        return Asked(name, tuple(text.sorted_fields([(as_text(name), as_text(value)) for name, value in lines])))
+    except Refused:
+        return Asked(name, None)
 
 
 class Answer(Source):
@@ -231,13 +219,13 @@ class Answer(Source):
 class Pump:
     """Drives one reader for one call of `send`: polls it, carries out its duties in this thread, and waits for other threads."""
 
-    def __init__(self, adapter: Adapter, resource: Resource, request: requests.PreparedRequest, words: dict[str, Any]) -> None:
-        self.adapter, self.resource, self.request, self.words = adapter, resource, request, words
-        self.is_closed = self.is_reading = False
-        self.times = 1
-        self.duties: list[Duty] = []
-        with resource.lock:
-            self.reader: Reader = resource.reader(request.method or "GET", told_fields(header_lines(request)))
+    is_closed = is_reading = False
+    times = 1
+
+    def __init__(self, adapter: Adapter, resource: Resource, request: requests.PreparedRequest, words: dict[str, Any],
+                 fields: Lines, reader: Reader, duties: list[Duty]) -> None:
+        self.adapter, self.resource, self.request, self.words, self.fields = adapter, resource, request, words, fields
+        self.reader, self.duties = reader, duties
 
     @property
     def patience(self) -> float:
@@ -310,15 +298,19 @@ class Pump:
             return
         self.is_closed = True
         try:
-            with self.resource.lock:
-                self.reader.is_polled = False
-                for duty in self.duties:
-                    self.resource.failed(duty.exchange, InterruptedError())
-                self.reader.leave()
+            if self.duties or not self.reader.is_over:
+                self._leave()
         except (Gone, MemoryError):
             pass
         finally:
             self.adapter._pool.give_back(self.resource)
+
+    def _leave(self) -> None:
+        with self.resource.lock:
+            self.reader.is_polled = False
+            for duty in self.duties:
+                self.resource.failed(duty.exchange, InterruptedError())
+            self.reader.leave()
 
     # Answers
 
@@ -333,12 +325,8 @@ class Pump:
             return self._failed(failed, self.reader.shown is not None)
         except Passed as passed:
             return self._passed(passed, False)
-        shown = self.reader.head
         self.close()
-        response = self._answer(shown)
-        response.raw = LazyRaw(self, response.status_code, response.reason, body)
-        response._content, response._content_consumed = decoded(body, response), True
-        return response
+        return self._telling(self.reader.head).whole(body)
 
     def _begins_again(self) -> bool:
         """What changed in mid-download is asked for anew, where nobody has seen any of it; not for ever."""
@@ -346,7 +334,7 @@ class Pump:
         if self.times > MOST_TIMES:
             return False
         with self.resource.lock:
-            self.reader = self.resource.reader("GET", told_fields(header_lines(self.request)))
+            self.reader = self.resource.reader("GET", self.fields)
         return True
 
     def _whole(self) -> bytes:
@@ -388,9 +376,7 @@ class Pump:
         except Passed as passed:
             return self._passed(passed, True)
         self.reader.is_delivered = True
-        response = self._answer(self.reader.head)
-        response.raw = self.raw(response.status_code, response.reason, Body(self, first))
-        return response
+        return self._telling(self.reader.head).streamed(Body(self, first))
 
     def _passed(self, passed: Passed, stream: bool) -> requests.Response:
         self.close()
@@ -404,59 +390,22 @@ class Pump:
         """A request for what is stored alone is answered (RFC 9111 section 5.2.1.7), and all else raises."""
         self.close()
         if failed.cause == "miss" and not is_begun:
-            shown = Shown(0, 0, "miss", 504, 0, 0, [("content-length", "0")])
-            response = self._answer(shown)
-            response.raw, response._content, response._content_consumed = LazyRaw(self, 504, response.reason, b""), b"", True
-            return response
+            return self._telling(Shown(0, 0, "miss", 504, 0, 0, [("content-length", "0")])).whole(b"")
         kind = requests.exceptions.ChunkedEncodingError if is_begun else requests.exceptions.ConnectionError
         raise kind(f"the download failed: {failed.cause}", request=self.request) from failed
 
-    def _lines(self, shown: Shown) -> tuple[Lines, bool]:
-        """The lines of the head, in the order and case in which they came, and whether this call brought it itself."""
+    def _telling(self, shown: Shown) -> Telling:
+        """What a response tells of what the reader is shown."""
         brought = self.reader.brought
-        if brought:
-            return tuple(brought.answer.fields), True
-        return spelled(tuple(shown.fields), tuple(self.resource.keeper.spelling)), False
-
-    def _answer(self, shown: Shown) -> requests.Response:
-        """A response without its body."""
-        response, brought, (lines, is_own) = blank(), self.reader.brought, self._lines(shown)
-        head = told_head(lines)
-        response.headers, response.encoding = copied(head.headers), head.encoding
-        response.status_code = shown.status
-        response.reason = brought.answer.reason if brought else http.client.responses.get(shown.status, "")
-        response.url, response.request, response.connection = as_text(self.request.url), self.request, self.adapter
-        response.from_cache, response.cache_reason = not is_own, shown.why
-        if "set-cookie" in head.names:
-            extract_cookies_to_jar(response.cookies, self.request, _HasCookies(lines))
-        return response
-
-    def message(self) -> Message | None:
-        """What the origin told this call, from which the session takes cookies. A hit sets none."""
-        exchange = self.reader.brought or self.reader.exchange
-        return Message(exchange.source.answer.msg) if exchange is not None and exchange.source is not None else None
-
-    def raw(self, status: int, reason: str, body: Any) -> urllib3.HTTPResponse:
-        headers, shown = urllib3._collections.HTTPHeaderDict(), self.reader.shown
-        for name, value in self._lines(shown)[0] if shown else []:
-            headers.add(name, value)
-        if shown and shown.high is None:
-            # (urllib3 hands on each piece of such a body as it comes, and fills up those of others)
-            headers["Transfer-Encoding"] = "chunked"
-        return urllib3.HTTPResponse(body=body, headers=headers, status=status, version=11, reason=reason,
-                                    preload_content=False, decode_content=False, original_response=self.message(),
-                                    request_method=self.request.method)
+        exchange = brought or self.reader.exchange
+        message = Message(exchange.source.answer.msg) if exchange is not None and exchange.source is not None else None
+        head = told_head(tuple(brought.answer.fields)) if brought else stored_head(self.resource, shown)
+        return Telling(self.adapter, self.request, shown, head, brought, message)
 
 
-class _HasCookies:
-    """Shaped as `extract_cookies_to_jar` takes it."""
-
-    def __init__(self, lines: Lines) -> None:
-        message = email.message.Message()
-        for name, value in lines:
-            if name.lower() == "set-cookie":
-                message[name] = value
-        self._original_response = Message(message)
+def stored_head(resource: Resource, shown: Shown) -> Head:
+    """The head of what came by no exchange of this call, with its lines in the order and case in which they came first."""
+    return spelled_head(tuple(shown.fields), tuple(resource.keeper.spelling))
 
 
 class Body(io.RawIOBase):
@@ -547,84 +496,3 @@ class Chunks:
         data = self.body.read(min(size, self.left))
         self.left -= len(data)
         return data
-
-
-class LazyRaw:
-    """What stands as `raw` beside a body that was read: made where somebody asks for it."""
-
-    def __init__(self, pump: Pump, status: int, reason: str, body: bytes) -> None:
-        self._made = lambda: pump.raw(status, reason, io.BytesIO(body))
-        self._original_response = pump.message()
-
-    def __getattr__(self, name: str) -> Any:
-        if name == "_real":
-            self._real = self._made()
-            return self._real
-        return getattr(self._real, name)
-
-    def __iter__(self) -> Any:
-        return iter(self._real)
-
-    def close(self) -> None:
-        pass
-
-    def release_conn(self) -> None:
-        pass
-
-
-def decoded(body: bytes, response: requests.Response) -> bytes:
-    """The body without its content coding. Raises ContentDecodingError."""
-    if not body or "content-encoding" not in response.headers:
-        return body
-    try:
-        return urllib3.HTTPResponse(body=io.BytesIO(body), headers=response.headers, preload_content=False).read(decode_content=True)
-    except urllib3.exceptions.DecodeError as fault:
-        raise requests.exceptions.ContentDecodingError(fault, response=response) from fault
-
-
-def blank() -> requests.Response:
-    """A response without headers. (`requests.Response()` looks for cookies in an empty jar, with a policy of its own.)"""
-    response = object.__new__(requests.Response)
-    response.__dict__.update(BLANK)
-    response.history, response.cookies = [], RequestsCookieJar(POLICY)
-    return response
-
-
-@dataclass(slots=True)
-class Head:
-    """A head as `requests` tells it: a line for each name, with all of its values. `names` are in lower case."""
-
-    headers: Headers
-    encoding: str | None
-    names: frozenset[str]
-
-
-@functools.lru_cache(256)
-def told_head(lines: Lines) -> Head:
-    """The head of these lines. (Hits of one second have the same.)"""
-    headers: Headers = CaseInsensitiveDict()
-    for name, value in lines:
-        headers[name] = f"{headers[name]}, {value}" if name in headers else value
-    return Head(headers, get_encoding_from_headers(headers), frozenset(name.lower() for name in headers))
-
-
-def copied(headers: Headers) -> Headers:
-    """The same lines in a dictionary of its own. (Its `copy` sets one line after the other.)"""
-    copy: Headers = object.__new__(CaseInsensitiveDict)
-    copy.__dict__.update((name, value.copy()) for name, value in headers.__dict__.items())
-    return copy
-
-
-@functools.lru_cache(256)
-def spelled(fields: Lines, spelling: tuple[str, ...]) -> Lines:
-    """The fields in the order and case in which they came first, and behind them those that are new."""
-    values = by_name(fields)
-    known = [(name, values[name.lower()].pop(0)) for name in spelling if values.get(name.lower())]
-    return (*known, *((name.title(), value) for name, left in values.items() for value in left))
-
-
-def by_name(fields: Fields) -> dict[str, list[str]]:
-    values: dict[str, list[str]] = {}
-    for name, value in fields:
-        values.setdefault(name, []).append(value)
-    return values

@@ -64,6 +64,7 @@ class Reader:
     exchange: Exchange | None = None  # the last that was opened for it
     brought: Exchange | None = None  # the one whose head it is shown
     owner: object = None  # the driver's own
+    told: Act | None = None  # what its first poll was answered by, until that is looked at
 
     def __init__(self, resource: "Resource", method: str, fields: Fields, load: str) -> None:
         self.resource, self.method, self.fields, self.load = resource, method, fields, load
@@ -89,7 +90,9 @@ class Reader:
         return self.shown
 
     def poll(self, want: int, duties: list[Duty]) -> Answer:
-        act = self.resource.poll(self, 1 if self.shown is None else want, duties)
+        act, self.told = self.told, None
+        if act is None:
+            act = self.resource.poll(self, 1 if self.shown is None else want, duties)
         match act:
             case Data():
                 return self._given(act)
@@ -280,7 +283,9 @@ class Resource:
         return self.made
 
     def now(self) -> int:
-        self.moment = max(self.moment, int(self.hooks.now()))
+        now = int(self.hooks.now())
+        if now > self.moment:
+            self.moment = now
         return self.moment
 
     def begin(self) -> None:
@@ -376,6 +381,18 @@ class Resource:
         number, body = self.known
         is_it = shown.representation == number and shown.status == 200 and not shown.why.startswith("fetched")
         return body if is_it and shown.high == len(body) else None
+
+    def read_known(self, reader: Reader, duties: list[Duty]) -> tuple[Shown, bytes] | None:
+        """The head and the body of a reader that began just now, where they are known: then it has left."""
+        if not self.known[1]:
+            return None
+        told = self.poll(reader, 1, duties)
+        if isinstance(told, Shown) and (body := self.known_body(told)) is not None:
+            reader.leave()
+            return told, body
+        # (what it is to wait for may come before it waits: then it is polled again)
+        reader.told = None if isinstance(told, Pending) else told
+        return None
 
     def is_idle(self, consumer: int) -> bool:
         reader = self.readers.get(consumer)

@@ -19,7 +19,7 @@ ghost use Rattle.hc_txn.specs.Transactions.{with_due};
 ghost use Rattle.hc_state.specs.Facts.{Facts};
 ghost use Rattle.hc_state.specs.Stands.{Answered, Answers, KeepsRest, RowsStand, Stands, open_at};
 ghost use Rattle.hc_state.specs.Stopped.{BrokeOff, IsBroken, Waited, SealedWhole, ReportsNoLength};
-ghost use Rattle.hc_state.specs.Stops.{readers_of, reads_from, goes_on, is_shown};
+ghost use Rattle.hc_state.specs.Stops.{alone_in, readers_of, reads_from, goes_on, is_shown};
 ghost use Rattle.hc_on_leave.specs.Leaves.{MayLeave};
 
 use hc_event::{Acts, Cause, LostKind};
@@ -166,10 +166,14 @@ fn readers<B: Backend>(rows: &Rows<B>, x: u64) -> Readers
     if writer_group(rows, r) == Some(x) {
         return Readers::All(r);
     }
-    match rows.entries.entry(r) {
-        Some(entry) => Readers::One(entry.alone.unwrap_or(c)),
-        None => Readers::One(c),
-    }
+    Readers::One(detached_reader(rows, r).unwrap_or(c))
+}
+
+/// Who goes on with what was lost of the representation, if anybody.
+fn detached_reader<B: Backend>(rows: &Rows<B>, r: u64) -> Option<u64>
+    ensures { result ≡ alone_in ((shelf_of rows.now.entries).kept r) }
+{
+    rows.entries.entry(r)?.alone
 }
 
 /// The failure is due to whoever reads, unless another one is.
